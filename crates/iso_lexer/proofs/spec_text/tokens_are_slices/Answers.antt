@@ -1,0 +1,5 @@
+use Rattle.iso_lexer.proofs.Slices.{are_slices}
+use Rattle.iso_lexer.proofs.spec_text.tokens_are_slices.Goals as goal
+
+pub returns : goal.returns
+returns c = are_slices

@@ -1,0 +1,129 @@
+//! What stands at the front of a text.
+
+ghost use Rattle.std.specs.Prelude.{◌≡◌, ◌<◌, length, false};
+ghost use Rattle.iso_lexer.specs.Bytes.{is_blank, is_name_start};
+ghost use Rattle.iso_lexer.specs.SpecText.{keyword_of, sign_of, front, quoted_front, quoted_from, block_front, word_front, sign_front, ascii_front};
+ghost use Rattle.iso_lexer.specs.Fronts.{front_view};
+
+use crate::fault::FaultKind;
+use crate::name::Name;
+use crate::quoted::{Quoted, quoted_end};
+use crate::runs::{Run, is_blank, is_name_start, split_run, trimmed};
+use crate::spec_token::{Keyword, Sign, SpecTok};
+use memchr::memchr;
+
+/// What stands at the front of a text, and what follows it.
+#[derive(Clone, Copy, Debug)]
+pub enum Piece<'a> {
+    Gap(&'a str),
+    Token(SpecTok<'a>, &'a str),
+    /// A fault, so many bytes on.
+    Fault(FaultKind, usize),
+}
+
+fn keyword_of(word: &str) -> Option<Keyword>
+    ensures { result ≡ keyword_of word.now }
+{
+    match word {
+        "permutation" => Some(Keyword::Permutation),
+        "session" => Some(Keyword::Session),
+        "setup" => Some(Keyword::Setup),
+        "step" => Some(Keyword::Step),
+        "teardown" => Some(Keyword::Teardown),
+        "notices" => Some(Keyword::Notices),
+        _ => None,
+    }
+}
+
+fn sign_of(b: u8) -> Option<Sign>
+    ensures { result ≡ sign_of b }
+{
+    match b {
+        b'(' => Some(Sign::Open),
+        b')' => Some(Sign::Close),
+        b',' => Some(Sign::Comma),
+        b'*' => Some(Sign::Star),
+        _ => None,
+    }
+}
+
+/// A quoted name, by the text behind its opening quote.
+fn quoted_front(text: &str) -> Piece<'_>
+    ensures { front_view result ≡ quoted_front (quoted_from false text.now) text.now }
+{
+    match quoted_end(text.as_bytes()) {
+        Quoted::Closed(len) => {
+            let (_, rest) = text.split_at(len);
+            let (name, _) = text.split_at(len - 1);
+            Piece::Token(SpecTok::Name(Name::Quoted(name)), rest)
+        }
+        Quoted::Broken(at) => Piece::Fault(FaultKind::NewlineInName, at + 1),
+        Quoted::Unclosed => Piece::Fault(FaultKind::UnterminatedName, 0),
+    }
+}
+
+/// A block, by the text behind its opening brace.
+fn block_front(text: &str) -> Piece<'_>
+    ensures { front_view result ≡ block_front text.now }
+{
+    match memchr(b'}', text.as_bytes()) {
+        None => Piece::Fault(FaultKind::UnterminatedBlock, 0),
+        Some(len) => {
+            let (block, _) = text.split_at(len);
+            let (_, rest) = text.split_at(len + 1);
+            Piece::Token(SpecTok::Block(trimmed(block)), rest)
+        }
+    }
+}
+
+/// A keyword or a plain name.
+fn word_front(text: &str) -> Piece<'_>
+    ensures { front_view result ≡ word_front text.now }
+{
+    let (word, rest) = split_run(Run::Word, text);
+    match keyword_of(word) {
+        Some(keyword) => Piece::Token(SpecTok::Keyword(keyword), rest),
+        None => Piece::Token(SpecTok::Name(Name::Plain(word)), rest),
+    }
+}
+
+fn sign_front(b: u8, rest: &str) -> Piece<'_>
+    ensures { front_view result ≡ sign_front (sign_of b) rest.now }
+{
+    match sign_of(b) {
+        Some(sign) => Piece::Token(SpecTok::Sign(sign), rest),
+        None => Piece::Fault(FaultKind::UnexpectedByte, 0),
+    }
+}
+
+/// What begins with an ASCII byte that begins no word; `rest` is what follows that byte.
+fn ascii_front<'a>(first: u8, text: &'a str, rest: &'a str) -> Piece<'a>
+    ensures { front_view result ≡ ascii_front first text.now rest.now }
+{
+    if is_blank(first) || first == b'\n' {
+        Piece::Gap(rest)
+    } else if first == b'#' {
+        Piece::Gap(split_run(Run::Comment, text).1)
+    } else if first.is_ascii_digit() {
+        let (digits, rest) = split_run(Run::Digits, text);
+        Piece::Token(SpecTok::Digits(digits), rest)
+    } else if first == b'"' {
+        quoted_front(rest)
+    } else if first == b'{' {
+        block_front(rest)
+    } else {
+        sign_front(first, rest)
+    }
+}
+
+pub fn front(text: &str) -> Piece<'_>
+    requires { 0 < length text.now }
+    ensures { front_view result ≡ front text.now }
+{
+    let first = text.as_bytes()[0];
+    if is_name_start(first) {
+        return word_front(text);
+    }
+    let (_, rest) = text.split_at(1);
+    ascii_front(first, text, rest)
+}

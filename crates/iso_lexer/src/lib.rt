@@ -1,0 +1,30 @@
+//! Tokens of spec files and of SQL text, names, and the devices that bytes come from and go to.
+#![tactic(auto)]
+
+mod device;
+mod fault;
+mod front;
+mod name;
+mod quoted;
+mod runs;
+mod same;
+mod spec_text;
+mod spec_token;
+mod sql_token;
+mod std_device;
+mod token;
+mod whole;
+
+pub use device::{DeviceFault, Sink, Source};
+pub use fault::{Fault, FaultKind, LexFault};
+pub use name::Name;
+pub use same::same_name;
+pub use spec_text::{one_reading, spec_tokens, tokens_are_slices};
+pub use spec_token::{Keyword, Sign, SpecTok};
+pub use sql_token::{SqlSign, SqlTok};
+pub use std_device::FromStd;
+pub use token::{At, Span};
+pub use whole::{ReadFault, read_all};
+
+#[cfg(test)]
+mod tests;

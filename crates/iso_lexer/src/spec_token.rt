@@ -1,0 +1,32 @@
+//! Tokens of spec files.
+
+use crate::name::Name;
+
+#[derive(Clone, Copy, Debug, PartialEq, Eq)]
+pub enum Keyword {
+    Permutation,
+    Session,
+    Setup,
+    Step,
+    Teardown,
+    Notices,
+}
+
+#[derive(Clone, Copy, Debug, PartialEq, Eq)]
+pub enum Sign {
+    Open,
+    Close,
+    Comma,
+    Star,
+}
+
+/// A token of a spec file, over slices of the file.
+#[derive(Clone, Copy, Debug)]
+pub enum SpecTok<'a> {
+    Keyword(Keyword),
+    Name(Name<'a>),
+    Digits(&'a str),
+    Sign(Sign),
+    /// What stands between the braces, without the blanks at both ends.
+    Block(&'a str),
+}
