@@ -11,7 +11,7 @@ use Rattle.memchr.specs.Find.{IsFirstByte, is_byte}
 use Rattle.iso_lexer.specs.declared.quoted.Quoted.{Quoted}
 use Rattle.iso_lexer.specs.declared.quoted.Quoted.TheVariants.{Closed, Broken, Unclosed}
 use Rattle.iso_lexer.specs.SpecTokens.{block}
-use Rattle.iso_lexer.specs.SpecText.{longer, quoted_from, front, word_front, ascii_front, block_front, token, fault}
+use Rattle.iso_lexer.specs.SpecText.{block_of, longer, quoted_from, front, word_front, ascii_front, block_front, token, fault}
 use Rattle.iso_lexer.specs.declared.fault.FaultKind.TheVariants.{UnterminatedBlock}
 use Rattle.iso_lexer.specs.Bytes.{is_name_start, trimmed}
 
@@ -156,7 +156,7 @@ front_is (b ∷ bs) lt = refl
 pub no_name_small : (b : ℕ) → is_name_start b ≡ false → b < 128
 no_name_small b h = grind (arith, nat_tests)
 
-block_some : (bs : List ℕ) (n : ℕ) → FirstAt 125 bs n → block_front bs ≡ token (block (trimmed (take n bs))) (drop (n + 1) bs)
+block_some : (bs : List ℕ) (n : ℕ) → FirstAt 125 bs n → block_front bs ≡ token (block_of (take n bs)) (drop (n + 1) bs)
 block_some bs n at = rw (at.place, ne_eqb n (length bs) (λ e. absurd (omega (arith, at.lt)))) refl
 
 -- the answers of a search for the brace, of a text seen as bytes
@@ -167,7 +167,7 @@ pub record Brace (bs : List ℕ) (n : ℕ) : Type 0 where
   pub lt : n < length bs
   pub before : IsCharBoundary bs n
   pub behind : IsCharBoundary bs (n + 1)
-  pub front : block_front bs ≡ token (block (trimmed (take n bs))) (drop (n + 1) bs)
+  pub front : block_front bs ≡ token (block_of (take n bs)) (drop (n + 1) bs)
 
 pub brace : (bs xs : List ℕ) (n : ℕ) → IsUtf8 bs → xs ≡ bs → IsFirstByte (is_byte 125) xs (Some n) → Brace bs n
 brace bs xs n utf8 same h =

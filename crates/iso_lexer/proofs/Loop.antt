@@ -9,7 +9,7 @@ use Rattle.std.proofs.lemmas.List.{append-nil, map-append}
 use Rattle.std.proofs.lemmas.List.Sums.{prefix_len-le-length}
 use Rattle.iso_lexer.specs.Bytes.{passes, is_blank, is_name_start, is_name_byte, is_line_end, after_run, trimmed}
 use Rattle.iso_lexer.specs.SpecTokens.{Token, block, at_view, at_views}
-use Rattle.iso_lexer.specs.SpecText.{Front, gap, token, fault, front, quoted_from, quoted_front, block_front, sign_front, sign_of, word_front, ascii_front, Reads, ends, takes, fails, in_front, between, Lexes}
+use Rattle.iso_lexer.specs.SpecText.{block_of, Front, gap, token, fault, front, quoted_from, quoted_front, block_front, sign_front, sign_of, word_front, ascii_front, Reads, ends, takes, fails, in_front, between, Lexes}
 use Rattle.iso_lexer.specs.SpecText.{passes as skips}
 use Rattle.iso_lexer.specs.declared.fault.Fault.{Fault}
 use Rattle.iso_lexer.specs.declared.fault.FaultKind.{FaultKind}
@@ -51,7 +51,7 @@ sign_shorter None bs = omega arith
 block_shorter : (bs : List ℕ) → Shorter (suc (length bs)) (block_front bs)
 block_shorter bs =
     let n = position_or_len (λ b. b == 125) bs in
-    either (Shorter (suc (length bs))) (n == length bs) (fault UnterminatedBlock 0) (token (block (trimmed (take n bs))) (drop (n + 1) bs)) (λ h. omega arith) (λ h. omega (arith, length-drop (n + 1) bs))
+    either (Shorter (suc (length bs))) (n == length bs) (fault UnterminatedBlock 0) (token (block_of (take n bs)) (drop (n + 1) bs)) (λ h. omega arith) (λ h. omega (arith, length-drop (n + 1) bs))
 
 gap_shorter : (bs : List ℕ) → length bs < suc (length bs)
 gap_shorter bs = omega arith

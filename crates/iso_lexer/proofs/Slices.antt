@@ -18,7 +18,7 @@ use Rattle.iso_lexer.specs.declared.quoted.Quoted.TheVariants.{Closed, Broken, U
 use Rattle.iso_lexer.specs.declared.runs.Run.TheVariants.{Comment, Word, Digits}
 use Rattle.iso_lexer.specs.Names.{plain, quoted}
 use Rattle.iso_lexer.specs.SpecTokens.{Token, keyword, name, digits, sign, block}
-use Rattle.iso_lexer.specs.SpecText.{Front, gap, token, fault, named, keyword_of, front, quoted_from, quoted_front, block_front, sign_front, sign_of, word_front, ascii_front, Reads, ends, takes, fails, in_front, between, Lexes}
+use Rattle.iso_lexer.specs.SpecText.{block_of, Front, gap, token, fault, named, keyword_of, front, quoted_from, quoted_front, block_front, sign_front, sign_of, word_front, ascii_front, Reads, ends, takes, fails, in_front, between, Lexes}
 use Rattle.iso_lexer.specs.SpecText.{passes as skips}
 use Rattle.iso_lexer.specs.SpecSpelling.{Spells, LiesAt}
 use Rattle.iso_lexer.proofs.Fronts.{closes, ClosedIn}
@@ -55,7 +55,7 @@ quoted_cut b bs (Closed n) is e =
 block_cut : (b : ℕ) (bs : List ℕ) → b ≡ 123 → CutBy (b ∷ bs) (block_front bs)
 block_cut b bs is =
     let n = position_or_len (λ c. c == 125) bs in
-    either (CutBy (b ∷ bs)) (n == length bs) (fault UnterminatedBlock 0) (token (block (trimmed (take n bs))) (drop (n + 1) bs)) (λ h. tt) (λ h.
+    either (CutBy (b ∷ bs)) (n == length bs) (fault UnterminatedBlock 0) (token (block_of (take n bs)) (drop (n + 1) bs)) (λ h. tt) (λ h.
     let le : n ≤ length bs = prefix_len-le-length _ bs in
     let ne = eqb-false n (length bs) h in
     let lt : n < length bs = omega (arith, ne, le) in

@@ -1,9 +1,8 @@
 -- Where a token of a spec file lies in its text.
 use Rattle.std.specs.Prelude.{◌≡◌, ℕ, ◌≤◌, List, [], ◌∷◌, ◌++◌, length, Some, slice_range}
-use Rattle.iso_lexer.specs.Bytes.{trimmed}
 use Rattle.iso_lexer.specs.Names.{Written, plain, quoted, folded}
 use Rattle.iso_lexer.specs.SpecTokens.{Token, keyword, name, digits, sign, block}
-use Rattle.iso_lexer.specs.SpecText.{keyword_of, sign_of}
+use Rattle.iso_lexer.specs.SpecText.{keyword_of, sign_of, block_of}
 use Rattle.iso_lexer.specs.declared.token.At.{At}
 
 abbrev pub NameSpells : Written → List ℕ → Type 0
@@ -17,7 +16,7 @@ Spells (keyword k) s = keyword_of s ≡ Some k
 Spells (name n) s = NameSpells n s
 Spells (digits d) s = s ≡ d
 Spells (sign g) s = (b : ℕ) × (s ≡ b ∷ []) × (sign_of b ≡ Some g)
-Spells (block b) s = (inner : List ℕ) × (s ≡ 123 ∷ (inner ++ 125 ∷ [])) × (b ≡ trimmed inner)
+Spells (block n b) s = (inner : List ℕ) × (s ≡ 123 ∷ (inner ++ 125 ∷ [])) × (block n b ≡ block_of inner)
 
 -- each token is the slice at its span
 abbrev pub LiesAt : List ℕ → At Token → Type 0

@@ -68,12 +68,16 @@ quoted_front (Closed n) bs = token (name (quoted (take (n - 1) bs))) (drop n bs)
 quoted_front (Broken n) bs = fault NewlineInName (n + 1)
 quoted_front Unclosed bs = fault UnterminatedName 0
 
+-- the token of a block, by what stands between its braces
+abbrev pub block_of : List ℕ → Token
+block_of inner = block (length (run_of Blanks inner)) (trimmed inner)
+
 -- the first closing brace ends a block
 abbrev pub block_front : List ℕ → Front
 block_front bs =
     let n = position_or_len (λ b. b == 125) bs in
     if n == length bs then fault UnterminatedBlock 0
-    else token (block (trimmed (take n bs))) (drop (n + 1) bs)
+    else token (block_of (take n bs)) (drop (n + 1) bs)
 
 abbrev pub sign_front : Option Sign → List ℕ → Front
 sign_front (Some s) bs = token (sign s) bs

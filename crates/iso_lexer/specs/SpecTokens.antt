@@ -13,14 +13,15 @@ pub data Token : Type 0 where
   name : Written → Token
   digits : List ℕ → Token
   sign : Sign → Token
-  block : List ℕ → Token
+  -- the blanks dropped behind the brace, and the text
+  block : ℕ → List ℕ → Token
 
 abbrev pub token_view : SpecTok → Token
 token_view (toks.Keyword k) = keyword k
 token_view (toks.Name n) = name (name_view n)
 token_view (toks.Digits s) = digits s.now
 token_view (toks.Sign s) = sign s
-token_view (toks.Block s) = block s.now
+token_view (toks.Block blanks s) = block blanks s.now
 
 abbrev pub at_view : At SpecTok → At Token
 at_view t = record { tok = token_view t.tok; span = t.span }

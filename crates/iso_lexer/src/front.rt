@@ -71,7 +71,12 @@ fn block_front(text: &str) -> Piece<'_>
         Some(len) => {
             let (block, _) = text.split_at(len);
             let (_, rest) = text.split_at(len + 1);
-            Piece::Token(SpecTok::Block(trimmed(block)), rest)
+            let (blanks, _) = split_run(Run::Blanks, block);
+            let token = SpecTok::Block {
+                blanks: blanks.len(),
+                sql: trimmed(block),
+            };
+            Piece::Token(token, rest)
         }
     }
 }

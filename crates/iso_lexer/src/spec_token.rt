@@ -27,6 +27,7 @@ pub enum SpecTok<'a> {
     Name(Name<'a>),
     Digits(&'a str),
     Sign(Sign),
-    /// What stands between the braces, without the blanks at both ends.
-    Block(&'a str),
+    /// What stands between the braces: so many blanks, which count for nothing, and then the text, without the
+    /// blanks at its end.
+    Block { blanks: usize, sql: &'a str },
 }

@@ -11,4 +11,4 @@ returns-in-None c = sym (no_brace c.args.text.now c.as_bytes.result.now c.as_byt
 pub returns-in-Some : goal.returns-in-Some
 returns-in-Some c =
     let found = brace c.args.text.now c.as_bytes.result.now c.in-Some.len c.utf8.text c.as_bytes.ensures.value c.in-Some.ensures in
-    rw (c.trimmed.ensures, c.split_at.ensures.front, c.split_at-in-Some.ensures.back) (sym found.front)
+    rw (c.trimmed.ensures, c.split_run.ensures.run, c.split_at.ensures.front, c.split_at-in-Some.ensures.back) (sym found.front)
