@@ -1,0 +1,113 @@
+//! The trees of statements.
+
+use crate::expr::{Agg, Expr};
+use crate::kind::{Dir, Kind};
+use iso_lexer::Name;
+
+/// An isolation level. Read Uncommitted is Read Committed.
+#[derive(Clone, Copy, Debug, PartialEq, Eq)]
+pub enum Level {
+    ReadCommitted,
+    RepeatableRead,
+}
+
+/// A column of CREATE TABLE. PRIMARY KEY, on the column or over it, makes it NOT NULL.
+#[derive(Clone, Copy, Debug)]
+pub struct Column<'a> {
+    pub name: Name<'a>,
+    pub kind: Kind,
+    pub not_null: bool,
+}
+
+/// A key of CREATE TABLE: its columns, by their places.
+#[derive(Debug, Drop)]
+pub struct Key {
+    pub primary: bool,
+    pub columns: Vec<u32>,
+}
+
+/// CREATE TABLE. The keys stand in their declared order: the primary key first, then the others in the order of the text.
+#[derive(Debug, Drop)]
+pub struct CreateTable<'a> {
+    pub name: Name<'a>,
+    pub columns: Vec<Column<'a>>,
+    pub keys: Vec<Key>,
+}
+
+#[derive(Debug, Drop)]
+pub struct DropTable<'a> {
+    pub if_exists: bool,
+    pub names: Vec<Name<'a>>,
+}
+
+/// INSERT. Without a list of columns the values go to the first columns of the table.
+#[derive(Debug, Drop)]
+pub struct Insert<'a> {
+    pub table: Name<'a>,
+    pub columns: Option<Vec<Name<'a>>>,
+    pub rows: Vec<Vec<Expr<'a>>>,
+}
+
+#[derive(Debug, Drop)]
+pub struct Update<'a> {
+    pub table: Name<'a>,
+    pub sets: Vec<(Name<'a>, Expr<'a>)>,
+    pub filter: Option<Expr<'a>>,
+}
+
+#[derive(Debug, Drop)]
+pub struct Delete<'a> {
+    pub table: Name<'a>,
+    pub filter: Option<Expr<'a>>,
+}
+
+/// An item of a SELECT, with the name given to it.
+#[derive(Debug, Drop)]
+pub enum Item<'a> {
+    /// `*`
+    All,
+    Expr(Expr<'a>, Option<Name<'a>>),
+    Agg(Agg<'a>, Option<Name<'a>>),
+}
+
+#[derive(Debug, Drop)]
+pub struct OrderKey<'a> {
+    pub expr: Expr<'a>,
+    pub dir: Dir,
+}
+
+/// What a SELECT locks its rows with.
+#[derive(Clone, Copy, Debug, PartialEq, Eq)]
+pub enum Lock {
+    Share,
+    Update,
+}
+
+#[derive(Debug, Drop)]
+pub struct Select<'a> {
+    pub items: Vec<Item<'a>>,
+    pub table: Option<Name<'a>>,
+    pub filter: Option<Expr<'a>>,
+    pub order: Vec<OrderKey<'a>>,
+    pub lock: Option<Lock>,
+}
+
+/// A statement.
+#[derive(Debug, Drop)]
+pub enum Stmt<'a> {
+    /// BEGIN or START TRANSACTION
+    Begin(Option<Level>),
+    /// COMMIT or END
+    Commit,
+    /// ROLLBACK or ABORT
+    Rollback,
+    SetTransaction(Level),
+    /// SET deadlock_timeout, which has no effect
+    SetDeadlockTimeout,
+    CreateTable(CreateTable<'a>),
+    DropTable(DropTable<'a>),
+    Insert(Insert<'a>),
+    Update(Update<'a>),
+    Delete(Delete<'a>),
+    Select(Select<'a>),
+}
