@@ -1,2 +1,4 @@
 pub mod Literals
 pub mod Steps
+pub mod Shown
+pub mod FileText
