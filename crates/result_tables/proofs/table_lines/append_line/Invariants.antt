@@ -1,0 +1,7 @@
+use Rattle.std.proofs.Common.{◌≡◌, ◌++◌, length, map, take}
+use Rattle.std.specs.List.{zip, join_with_byte}
+use Rattle.result_tables.specs.TableText.{padded_cells}
+use Rattle.result_tables.proofs.table_lines.append_line.Given as goal
+
+abbrev pub invariant-loop-k : goal.invariant-loop-k
+invariant-loop-k g l = l.line.items ≡ l.initial.line.items ++ join_with_byte 124 (take l.k (padded_cells l.columns (map g.C.Shown.shown l.cells)))

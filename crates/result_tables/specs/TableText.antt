@@ -1,0 +1,51 @@
+-- The text of a table, in the manner of libpq's PQprint with the separator `|`.
+use Rattle.std.specs.Prelude.{ℕ, ◌+◌, ◌-◌, ◌==◌, ◌&&◌, Bool, not, List, [], ◌∷◌, ◌++◌, length, map, fold, max, replicate, decimal, codes, flat_map, nat_lt, if◌then◌else◌}
+use Rattle.std.specs.List.{list_any, zip, range_with_len, slice_index_or, join_with_byte}
+use Rattle.result_tables.specs.declared.column.Column.{Column}
+use Rattle.result_tables.specs.Numeric.{is_numeric}
+
+-- the titles, and the printed values row by row
+pub record Table : Type 0 where
+  pub titles : List (List ℕ)
+  pub rows : List (List (List ℕ))
+
+-- the printed values of a column, from the top
+abbrev pub cells : List (List (List ℕ)) → ℕ → List (List ℕ)
+cells rows k = map (λ row. slice_index_or row k []) rows
+
+-- some text, and not a number
+abbrev pub is_word : List ℕ → Bool
+is_word text = nat_lt 0 (length text) && not (is_numeric text)
+
+-- as wide as the longest of the title and the values; aligned to the left where some value is a word
+abbrev pub column_of : List ℕ → List (List ℕ) → Column
+column_of title values = record { width = fold max 0 (map length (title ∷ values)); left = list_any is_word values }
+
+abbrev pub columns_of : Table → List Column
+columns_of t = map (λ k. column_of (slice_index_or t.titles k []) (cells t.rows k)) (range_with_len 0 (length t.titles))
+
+-- a cell, filled up with blanks to the column's width
+abbrev pub padded : Column → List ℕ → List ℕ
+padded c text = let blanks = replicate (c.width - length text) 32 in if c.left then text ++ blanks else blanks ++ text
+
+-- each text in its column
+abbrev pub padded_cells : List Column → List (List ℕ) → List (List ℕ)
+padded_cells columns texts = map (λ p. padded p.0 p.1) (zip columns texts)
+
+-- the cells of a line, with `|` between them
+abbrev pub table_line : List Column → List (List ℕ) → List ℕ
+table_line columns texts = join_with_byte 124 (padded_cells columns texts) ++ 10 ∷ []
+
+-- the rule below the titles: `-` as wide as each column, with `+` between them
+abbrev pub rule_line : List Column → List ℕ
+rule_line columns = join_with_byte 43 (map (λ c. replicate c.width 45) columns) ++ 10 ∷ []
+
+-- the number of rows, and an empty line
+abbrev pub foot : ℕ → List ℕ
+foot n = codes "(" ++ decimal n ++ (if n == 1 then codes " row)\n\n" else codes " rows)\n\n")
+
+-- the titles, the rule, the rows, and how many there are
+abbrev pub table_text : Table → List ℕ
+table_text t =
+    let columns = columns_of t in
+    table_line columns t.titles ++ rule_line columns ++ flat_map (table_line columns) t.rows ++ foot (length t.rows)

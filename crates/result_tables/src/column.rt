@@ -1,0 +1,61 @@
+//! How wide a column is, and how it is aligned.
+
+ghost use Rattle.std.specs.Prelude.{◌≡◌, ◌<◌, ◌||◌, length, map, max, All, IfOk};
+ghost use Rattle.result_tables.specs.Printed.{printed};
+ghost use Rattle.result_tables.specs.Titles.{title_text};
+ghost use Rattle.result_tables.specs.TableText.{is_word, cells, column_of, columns_of};
+ghost use Rattle.result_tables.specs.Results.{table_of};
+
+use crate::result_set::ResultSet;
+use crate::shown::{Shown, shows_word};
+use crate::title::Title;
+use sql_values::{Row, Value};
+use std::alloc::{AllocError, Global};
+
+/// A column's width in bytes, and whether it is aligned to the left.
+#[derive(Clone, Copy, Debug, PartialEq, Eq)]
+pub struct Column {
+    pub width: usize,
+    pub left: bool,
+}
+
+/// The column with one more value.
+fn with_value(column: Column, value: &Value) -> Column
+    ensures width { result.width ≡ max column.width (length (printed value.now)) }
+    ensures left { result.left ≡ (column.left || is_word (printed value.now)) }
+{
+    Column {
+        width: column.width.max(value.shown_len()),
+        left: column.left || shows_word(value),
+    }
+}
+
+/// Column `k` of a table.
+fn measured(title: &Title<'_>, rows: &[Row], k: usize) -> Column
+    requires { All (λ row. k < length row) rows.now }
+    ensures { result ≡ column_of (title_text title.now) (cells (map (map printed) rows.now) k) }
+{
+    let mut column = Column {
+        width: title.shown_len(),
+        left: false,
+    };
+    for row in rows {
+        let value = &row.values()[k];
+        column = with_value(column, value);
+    }
+    column
+}
+
+/// The columns of a result's table.
+pub fn measured_columns(alloc: Global, set: &ResultSet<'_>) -> Result<Vec<Column>, AllocError>
+    ensures { IfOk result (λ columns. columns.items ≡ columns_of (table_of set.now)) }
+{
+    let titles = set.titles();
+    let rows = set.rows();
+    let mut columns = Vec::new(alloc);
+    for k in 0..titles.len() {
+        let title = &titles[k];
+        columns.push(measured(title, rows, k))?;
+    }
+    Ok(columns)
+}
