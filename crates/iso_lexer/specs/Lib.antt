@@ -1,8 +1,13 @@
 pub mod Bytes
 pub mod Names
 pub mod SpecTokens
+pub mod SqlTokens
+pub mod Lexing
+pub mod Quotes
+pub mod Comments
 pub mod SpecText
 pub mod SpecSpelling
-pub mod SqlTokens
+pub mod SqlText
+pub mod SqlSpelling
 pub mod Fronts
 pub mod Devices

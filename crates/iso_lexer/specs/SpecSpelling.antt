@@ -1,8 +1,9 @@
 -- Where a token of a spec file lies in its text.
-use Rattle.std.specs.Prelude.{◌≡◌, ℕ, ◌≤◌, List, [], ◌∷◌, ◌++◌, length, Some, slice_range}
+use Rattle.std.specs.Prelude.{◌≡◌, ℕ, List, [], ◌∷◌, ◌++◌, Some}
 use Rattle.iso_lexer.specs.Names.{Written, plain, quoted, folded}
 use Rattle.iso_lexer.specs.SpecTokens.{Token, keyword, name, digits, sign, block}
 use Rattle.iso_lexer.specs.SpecText.{keyword_of, sign_of, block_of}
+use Rattle.iso_lexer.specs.Lexing.{SpelledAt}
 use Rattle.iso_lexer.specs.declared.token.At.{At}
 
 abbrev pub NameSpells : Written → List ℕ → Type 0
@@ -20,4 +21,4 @@ Spells (block n b) s = (inner : List ℕ) × (s ≡ 123 ∷ (inner ++ 125 ∷ []
 
 -- each token is the slice at its span
 abbrev pub LiesAt : List ℕ → At Token → Type 0
-LiesAt text t = (t.span.end ≤ length text) × Spells t.tok (slice_range text t.span.start t.span.end)
+LiesAt text t = SpelledAt Spells text t

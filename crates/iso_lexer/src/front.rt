@@ -1,25 +1,17 @@
-//! What stands at the front of a text.
+//! What stands at the front of a spec file.
 
-ghost use Rattle.std.specs.Prelude.{◌≡◌, ◌<◌, length, false};
+ghost use Rattle.std.specs.Prelude.{◌≡◌, ◌<◌, length};
 ghost use Rattle.iso_lexer.specs.Bytes.{is_blank, is_name_start};
-ghost use Rattle.iso_lexer.specs.SpecText.{keyword_of, sign_of, front, quoted_front, quoted_from, block_front, word_front, sign_front, ascii_front};
+ghost use Rattle.iso_lexer.specs.SpecText.{keyword_of, sign_of, front, name_front, block_front, word_front, sign_front, ascii_front};
 ghost use Rattle.iso_lexer.specs.Fronts.{front_view};
 
 use crate::fault::FaultKind;
 use crate::name::Name;
-use crate::quoted::{Quoted, quoted_end};
+use crate::piece::Piece;
+use crate::quoted::quoted_front;
 use crate::runs::{Run, is_blank, is_name_start, split_run, trimmed};
 use crate::spec_token::{Keyword, Sign, SpecTok};
 use memchr::memchr;
-
-/// What stands at the front of a text, and what follows it.
-#[derive(Clone, Copy, Debug)]
-pub enum Piece<'a> {
-    Gap(&'a str),
-    Token(SpecTok<'a>, &'a str),
-    /// A fault, so many bytes on.
-    Fault(FaultKind, usize),
-}
 
 fn keyword_of(word: &str) -> Option<Keyword>
     ensures { result ≡ keyword_of word.now }
@@ -48,22 +40,18 @@ fn sign_of(b: u8) -> Option<Sign>
 }
 
 /// A quoted name, by the text behind its opening quote.
-fn quoted_front(text: &str) -> Piece<'_>
-    ensures { front_view result ≡ quoted_front (quoted_from false text.now) text.now }
+fn name_front(text: &str) -> Piece<'_, SpecTok<'_>>
+    ensures { front_view result ≡ name_front text.now }
 {
-    match quoted_end(text.as_bytes()) {
-        Quoted::Closed(len) => {
-            let (_, rest) = text.split_at(len);
-            let (name, _) = text.split_at(len - 1);
-            Piece::Token(SpecTok::Name(Name::Quoted(name)), rest)
-        }
-        Quoted::Broken(at) => Piece::Fault(FaultKind::NewlineInName, at + 1),
-        Quoted::Unclosed => Piece::Fault(FaultKind::UnterminatedName, 0),
+    match quoted_front(b'"', true, FaultKind::UnterminatedName, text) {
+        Piece::Gap(rest) => Piece::Gap(rest),
+        Piece::Token(name, rest) => Piece::Token(SpecTok::Name(Name::Quoted(name)), rest),
+        Piece::Fault(kind, n) => Piece::Fault(kind, n),
     }
 }
 
 /// A block, by the text behind its opening brace.
-fn block_front(text: &str) -> Piece<'_>
+fn block_front(text: &str) -> Piece<'_, SpecTok<'_>>
     ensures { front_view result ≡ block_front text.now }
 {
     match memchr(b'}', text.as_bytes()) {
@@ -82,7 +70,7 @@ fn block_front(text: &str) -> Piece<'_>
 }
 
 /// A keyword or a plain name.
-fn word_front(text: &str) -> Piece<'_>
+fn word_front(text: &str) -> Piece<'_, SpecTok<'_>>
     ensures { front_view result ≡ word_front text.now }
 {
     let (word, rest) = split_run(Run::Word, text);
@@ -92,7 +80,7 @@ fn word_front(text: &str) -> Piece<'_>
     }
 }
 
-fn sign_front(b: u8, rest: &str) -> Piece<'_>
+fn sign_front(b: u8, rest: &str) -> Piece<'_, SpecTok<'_>>
     ensures { front_view result ≡ sign_front (sign_of b) rest.now }
 {
     match sign_of(b) {
@@ -102,7 +90,7 @@ fn sign_front(b: u8, rest: &str) -> Piece<'_>
 }
 
 /// What begins with an ASCII byte that begins no word; `rest` is what follows that byte.
-fn ascii_front<'a>(first: u8, text: &'a str, rest: &'a str) -> Piece<'a>
+fn ascii_front<'a>(first: u8, text: &'a str, rest: &'a str) -> Piece<'a, SpecTok<'a>>
     ensures { front_view result ≡ ascii_front first text.now rest.now }
 {
     if is_blank(first) || first == b'\n' {
@@ -113,7 +101,7 @@ fn ascii_front<'a>(first: u8, text: &'a str, rest: &'a str) -> Piece<'a>
         let (digits, rest) = split_run(Run::Digits, text);
         Piece::Token(SpecTok::Digits(digits), rest)
     } else if first == b'"' {
-        quoted_front(rest)
+        name_front(rest)
     } else if first == b'{' {
         block_front(rest)
     } else {
@@ -121,7 +109,7 @@ fn ascii_front<'a>(first: u8, text: &'a str, rest: &'a str) -> Piece<'a>
     }
 }
 
-pub fn front(text: &str) -> Piece<'_>
+pub fn front(text: &str) -> Piece<'_, SpecTok<'_>>
     requires { 0 < length text.now }
     ensures { front_view result ≡ front text.now }
 {

@@ -1,10 +1,12 @@
 //! Tokens of spec files and of SQL text, names, and the devices that bytes come from and go to.
 #![tactic(auto)]
 
+mod comment;
 mod device;
 mod fault;
 mod front;
 mod name;
+mod piece;
 mod quoted;
 mod runs;
 mod same;
@@ -15,9 +17,11 @@ mod std_device;
 mod token;
 mod whole;
 
+pub use comment::comments_nest;
 pub use device::{DeviceFault, Sink, Source};
 pub use fault::{Fault, FaultKind, LexFault};
 pub use name::Name;
+pub use quoted::quotes_go_on;
 pub use same::same_name;
 pub use spec_text::{one_reading, spec_tokens, tokens_are_slices};
 pub use spec_token::{Keyword, Sign, SpecTok};

@@ -7,7 +7,8 @@ ghost use Rattle.iso_lexer.specs.declared.fault.Fault.{Fault};
 ghost use Rattle.iso_lexer.specs.declared.token.At.{At};
 
 use crate::fault::{Fault, FaultKind, LexFault};
-use crate::front::{Piece, front};
+use crate::front::front;
+use crate::piece::Piece;
 use crate::spec_token::SpecTok;
 use crate::token::{At, Span};
 use std::alloc::Global;

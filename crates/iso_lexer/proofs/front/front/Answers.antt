@@ -1,7 +1,5 @@
-use Rattle.std.proofs.Common.{◌≡◌, Bool, true, false, cond, List, get_or, drop, length, sym, ap, ◌∙◌, arith, rules, refl, ℕ, ◌<◌}
-use Rattle.iso_lexer.specs.SpecText.{front, word_front, ascii_front, Front}
-use Rattle.iso_lexer.specs.Bytes.{is_name_start}
-use Rattle.iso_lexer.proofs.Fronts.{front_boundary, front_word, front_ascii}
+use Rattle.std.proofs.Common.{sym, ◌∙◌}
+use Rattle.iso_lexer.proofs.SpecFronts.{front_boundary, front_word, front_ascii}
 use Rattle.iso_lexer.proofs.front.front.Goals as goal
 
 pub returns-then-is_name_start : goal.returns-then-is_name_start

@@ -1,0 +1,69 @@
+-- Where blocks end, and the front of a spec file by its first byte.
+use Rattle.std.proofs.Common.{◌≡◌, ◌≢◌, ℕ, suc, zero, ◌+◌, ◌-◌, ◌<◌, ◌≤◌, Bool, true, false, cond, eqb, List, [], ◌∷◌, length, get_or, drop, take, sym, refl, ap, subst, ◌∙◌, arith, inl, inr, eq-eqb, IsUtf8, Option, Some, None}
+use Rattle.std.specs.Prelude.{◌==◌}
+use Rattle.std.specs.Str.{IsCharBoundary}
+use Rattle.std.specs.List.{position_or_len}
+use Rattle.std.proofs.lemmas.Bool.{ne_eqb, cases_eq, eqb-true}
+use Rattle.std.proofs.lemmas.List.Sums.{position_or_len_is}
+use Rattle.std.proofs.lemmas.Bool.Decides.{nat_tests}
+use Rattle.std.proofs.lemmas.Str.{IsCharBoundary-after_ascii, IsCharBoundary-before_ascii}
+use Rattle.memchr.specs.Find.{IsFirstByte, is_byte}
+use Rattle.iso_lexer.specs.SpecTokens.{block}
+use Rattle.iso_lexer.specs.Lexing.{token, fault}
+use Rattle.iso_lexer.specs.SpecText.{block_of, front, word_front, ascii_front, block_front}
+use Rattle.iso_lexer.specs.declared.fault.FaultKind.TheVariants.{UnterminatedBlock}
+use Rattle.iso_lexer.specs.Bytes.{is_name_start, trimmed}
+
+differs : (a c : ℕ) → (eqb a c ≡ true → ⊥) → eqb a c ≡ false
+differs a c h = ne_eqb a c (λ e. h (eq-eqb a c e))
+
+pub first_none : (c : ℕ) (bs : List ℕ) → IsFirstByte (is_byte c) bs None → position_or_len (λ b. b == c) bs ≡ length bs
+first_none c bs h = position_or_len_is (λ b. b == c) bs (length bs) 0 (omega arith) (λ k lt. differs _ c (h k (omega arith) lt)) (λ lt. absurd (omega arith))
+
+pub record FirstAt (c : ℕ) (bs : List ℕ) (n : ℕ) : Type 0 where
+  pub lt : n < length bs
+  pub place : position_or_len (λ b. b == c) bs ≡ n
+  pub is : get_or bs n 0 ≡ c
+
+pub first_some : (c : ℕ) (bs : List ℕ) (n : ℕ) → IsFirstByte (is_byte c) bs (Some n) → FirstAt c bs n
+first_some c bs n h = record {
+  lt = h.0.high;
+  place = position_or_len_is (λ b. b == c) bs n 0 (omega (arith, h.0.high)) (λ k lt. differs _ c (h.0.before k (omega arith) lt)) (λ lt. h.1);
+  is = eqb-true _ c h.1;
+}
+
+pub front_is : (text : List ℕ) → 0 < length text → front text ≡ cond (is_name_start (get_or text 0 0)) (word_front text) (ascii_front (get_or text 0 0) text (drop 1 text))
+unfolding front
+front_is [] lt = absurd (omega arith)
+front_is (b ∷ bs) lt = refl
+
+pub no_name_small : (b : ℕ) → is_name_start b ≡ false → b < 128
+no_name_small b h = grind (arith, nat_tests)
+
+block_some : (bs : List ℕ) (n : ℕ) → FirstAt 125 bs n → block_front bs ≡ token (block_of (take n bs)) (drop (n + 1) bs)
+block_some bs n at = rw (at.place, ne_eqb n (length bs) (λ e. absurd (omega (arith, at.lt)))) refl
+
+-- the answers of a search for the brace, of a text seen as bytes
+pub no_brace : (bs xs : List ℕ) → xs ≡ bs → IsFirstByte (is_byte 125) xs None → block_front bs ≡ fault UnterminatedBlock 0
+no_brace bs xs same h = rw (first_none 125 bs (rw same at h), eq-eqb (length bs) (length bs) refl) refl
+
+pub record Brace (bs : List ℕ) (n : ℕ) : Type 0 where
+  pub lt : n < length bs
+  pub before : IsCharBoundary bs n
+  pub behind : IsCharBoundary bs (n + 1)
+  pub front : block_front bs ≡ token (block_of (take n bs)) (drop (n + 1) bs)
+
+pub brace : (bs xs : List ℕ) (n : ℕ) → IsUtf8 bs → xs ≡ bs → IsFirstByte (is_byte 125) xs (Some n) → Brace bs n
+brace bs xs n utf8 same h =
+    let at = first_some 125 bs n (rw same at h) in
+    let small : get_or bs n 0 < 128 = omega (arith, at.is) in
+    record { lt = at.lt; before = IsCharBoundary-before_ascii bs n at.lt small; behind = IsCharBoundary-after_ascii bs n utf8 at.lt small; front = block_some bs n at }
+
+pub front_boundary : (bs xs : List ℕ) → IsUtf8 bs → xs ≡ bs → 0 < length bs → is_name_start (get_or xs 0 0) ≡ false → IsCharBoundary bs 1
+front_boundary bs xs utf8 same lt h = IsCharBoundary-after_ascii bs 0 utf8 lt (no_name_small _ (rw same at h))
+
+pub front_word : (bs xs : List ℕ) → xs ≡ bs → 0 < length bs → is_name_start (get_or xs 0 0) ≡ true → front bs ≡ word_front bs
+front_word bs xs same lt h = front_is bs lt ∙ rw (rw same at h) refl
+
+pub front_ascii : (bs xs rest : List ℕ) → xs ≡ bs → 0 < length bs → is_name_start (get_or xs 0 0) ≡ false → rest ≡ drop 1 bs → front bs ≡ ascii_front (get_or xs 0 0) bs rest
+front_ascii bs xs rest same lt h e = front_is bs lt ∙ rw (rw same at h, same, e) refl

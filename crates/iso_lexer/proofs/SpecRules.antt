@@ -1,0 +1,80 @@
+-- The rules of spec files: each piece takes something, and the whole file.
+use Rattle.std.proofs.Common.{◌≡◌, ℕ, suc, ◌+◌, ◌-◌, ◌<◌, ◌≤◌, length, drop, take, List, [], ◌∷◌, Result, Ok, Err, Bool, true, false, cond, eqb, refl, sym, ◌∙◌, arith, length-drop, Option, Some, None}
+use Rattle.std.specs.Prelude.{MatchBool, nat_lt, ◌==◌, ◌||◌}
+use Rattle.std.specs.List.{prefix_len, position_or_len}
+use Rattle.std.specs.Char.{is_ascii_digit}
+use Rattle.std.proofs.lemmas.Bool.{le-ltb, lt-ltb, eqb-true}
+use Rattle.iso_lexer.specs.Bytes.{passes, is_blank, is_name_start, is_name_byte, is_line_end, after_run}
+use Rattle.iso_lexer.specs.SpecTokens.{Token, name}
+use Rattle.iso_lexer.specs.Names.{quoted}
+use Rattle.iso_lexer.specs.Lexing.{Front, gap, token, fault, Reads}
+use Rattle.iso_lexer.specs.Quotes.{quoted_from, quoted_front}
+use Rattle.iso_lexer.specs.SpecText.{block_of, front, name_front, block_front, sign_front, sign_of, word_front, ascii_front, Lexes}
+use Rattle.iso_lexer.specs.declared.fault.Fault.{Fault}
+use Rattle.iso_lexer.specs.declared.fault.FaultKind.TheVariants.{FileTooLong, UnterminatedBlock, UnterminatedName}
+use Rattle.iso_lexer.specs.declared.token.At.{At}
+use Rattle.iso_lexer.specs.declared.spec_token.Sign.{Sign}
+use Rattle.iso_lexer.specs.declared.runs.Run.TheVariants.{Comment, Word, Digits}
+use Rattle.iso_lexer.proofs.Lexing.{either, Shorter, made_shorter, Rules, one_reading}
+use Rattle.iso_lexer.proofs.QuoteEnds.{quoted_shorter}
+
+pub after_shorter : (p : ℕ → Bool) (b : ℕ) (bs : List ℕ) → p b ≡ true → length (drop (prefix_len p (b ∷ bs)) (b ∷ bs)) < suc (length bs)
+after_shorter p b bs h =
+    let one : prefix_len p (b ∷ bs) ≡ 1 + prefix_len p bs = rw h refl in
+    omega (arith, one, length-drop (prefix_len p (b ∷ bs)) (b ∷ bs))
+
+name_shorter : (bs : List ℕ) → Shorter (suc (length bs)) (name_front bs)
+name_shorter bs =
+    let q = quoted_from 34 true false bs in
+    made_shorter (λ s. name (quoted s)) (suc (length bs)) (quoted_front UnterminatedName q bs) (quoted_shorter 34 true UnterminatedName q bs refl)
+
+sign_shorter : (s : Option Sign) (bs : List ℕ) → Shorter (suc (length bs)) (sign_front s bs)
+sign_shorter (Some s) bs = omega arith
+sign_shorter None bs = omega arith
+
+block_shorter : (bs : List ℕ) → Shorter (suc (length bs)) (block_front bs)
+block_shorter bs =
+    let n = position_or_len (λ b. b == 125) bs in
+    either (Shorter (suc (length bs))) (n == length bs) (fault UnterminatedBlock 0) (token (block_of (take n bs)) (drop (n + 1) bs)) (λ h. omega arith) (λ h. omega (arith, length-drop (n + 1) bs))
+
+pub gap_shorter : (bs : List ℕ) → length bs < suc (length bs)
+gap_shorter bs = omega arith
+
+pub name_byte : (b : ℕ) → is_name_start b ≡ true → is_name_byte b ≡ true
+name_byte b h = rw h refl
+
+comment_byte : (b : ℕ) → eqb b 35 ≡ true → passes Comment b ≡ true
+comment_byte b h = rw (eqb-true b 35 h) refl
+
+front_shorter : (text : List ℕ) → 0 < length text → Shorter (length text) (front text)
+unfolding front
+front_shorter [] lt = absurd (omega arith)
+front_shorter (b ∷ bs) lt =
+    let P : Front Token → Type 0 = Shorter (suc (length bs)) in
+    either P (is_name_start b) (word_front (b ∷ bs)) (ascii_front b (b ∷ bs) bs)
+    (λ h. after_shorter is_name_byte b bs (name_byte b h))
+    (λ h0. either P (is_blank b || b == 10) (gap bs) _
+    (λ h. gap_shorter bs)
+    (λ h1. either P _ _ _
+    (λ h. after_shorter (passes Comment) b bs (comment_byte b h))
+    (λ h2. either P _ _ _
+    (λ h. after_shorter is_ascii_digit b bs h)
+    (λ h3. either P (b == 34) (name_front bs) (cond (b == 123) (block_front bs) (sign_front (sign_of b) bs))
+    (λ h. name_shorter bs)
+    (λ h4. either P (b == 123) (block_front bs) (sign_front (sign_of b) bs) (λ h. block_shorter bs) (λ h5. sign_shorter (sign_of b) bs))))))
+
+pub spec_rules : Rules front
+unfolding front
+spec_rules = record { nothing = refl; shorter = front_shorter }
+
+-- ---- the whole file
+
+pub lexes : (text : List ℕ) (answer : Result (List (At Token)) Fault) → length text ≤ 1048576 → Reads front (length text) text answer → Lexes text answer
+lexes text answer le h = rw (le-ltb 1048576 (length text) le) h
+
+one_of_two : (b : Bool) (text : List ℕ) (f : Fault) (x y : Result (List (At Token)) Fault) → MatchBool b (x ≡ Err f) (Reads front (length text) text x) → MatchBool b (y ≡ Err f) (Reads front (length text) text y) → x ≡ y
+one_of_two true text f x y p q = p ∙ sym q
+one_of_two false text f x y p q = one_reading front (length text) text x y spec_rules.nothing p q
+
+pub one_lexing : (text : List ℕ) (x y : Result (List (At Token)) Fault) → Lexes text x → Lexes text y → x ≡ y
+one_lexing text x y p q = one_of_two (nat_lt 1048576 (length text)) text _ x y p q

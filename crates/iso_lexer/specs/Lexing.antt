@@ -1,0 +1,37 @@
+-- How a text splits into tokens, by rules for what stands at its front.
+use Rattle.std.specs.Prelude.{◌≡◌, ℕ, ◌+◌, ◌-◌, ◌<◌, ◌≤◌, List, [], ◌∷◌, ◌++◌, length, Result, Ok, Err, slice_range}
+use Rattle.iso_lexer.specs.declared.fault.FaultKind.{FaultKind}
+use Rattle.iso_lexer.specs.declared.fault.Fault.{Fault}
+use Rattle.iso_lexer.specs.declared.token.At.{At}
+
+-- What stands at the front of a text: nothing that counts, a token, or a fault so many bytes on.
+pub data Front (T : Type 0) : Type 0 where
+  gap : List ℕ → Front T
+  token : T → List ℕ → Front T
+  fault : FaultKind → ℕ → Front T
+
+-- the same, with another token made of its token
+abbrev pub made : {A B : Type 0} → (A → B) → Front A → Front B
+made make (gap rest) = gap rest
+made make (token t rest) = token (make t) rest
+made make (fault kind n) = fault kind n
+
+-- the token between two rests of a text of this many bytes
+abbrev pub between : {T : Type 0} → ℕ → List ℕ → T → List ℕ → At T
+between total text t rest = record { tok = t; span = record { start = total - length text; end = total - length rest } }
+
+-- an answer with tokens before it
+abbrev pub in_front : {T : Type 0} → List (At T) → Result (List (At T)) Fault → Result (List (At T)) Fault
+in_front ts (Ok us) = Ok (ts ++ us)
+in_front ts (Err f) = Err f
+
+-- What is left of a text of this many bytes reads, by these rules, as these tokens or as this first fault.
+pub data Reads {T : Type 0} (front : List ℕ → Front T) (total : ℕ) : List ℕ → Result (List (At T)) Fault → Type 0 where
+  ends : Reads front total [] (Ok [])
+  passes : {text : List ℕ} (rest : List ℕ) {answer : Result (List (At T)) Fault} → 0 < length text → front text ≡ gap rest → Reads front total rest answer → Reads front total text answer
+  takes : {text : List ℕ} (t : T) (rest : List ℕ) {more answer : Result (List (At T)) Fault} → front text ≡ token t rest → Reads front total rest more → answer ≡ in_front (between total text t rest ∷ []) more → Reads front total text answer
+  fails : {text : List ℕ} (kind : FaultKind) (n : ℕ) {answer : Result (List (At T)) Fault} → front text ≡ fault kind n → answer ≡ Err (record { kind = kind; at = total - length text + n }) → Reads front total text answer
+
+-- the slice of the text at the token's span is the token as it is spelled
+abbrev pub SpelledAt : {T : Type 0} → (T → List ℕ → Type 0) → List ℕ → At T → Type 0
+SpelledAt Spells text t = (t.span.end ≤ length text) × Spells t.tok (slice_range text t.span.start t.span.end)
