@@ -1,5 +1,5 @@
 -- The text that a spec file prints, as the README of PostgreSQL's src/test/isolation describes it.
-use Rattle.std.specs.Prelude.{ℕ, ◌-◌, ◌==◌, ◌&&◌, ◌||◌, Bool, true, false, not, List, [], ◌∷◌, ◌++◌, length, map, decimal, codes, flat_map, Option, Some, None, is_none, option_and_then, slice_get, if◌then◌else◌}
+use Rattle.std.specs.Prelude.{ℕ, ℤ, ◌-◌, ◌==◌, ◌&&◌, ◌||◌, Bool, true, false, not, List, [], ◌∷◌, ◌++◌, length, map, decimal, codes, flat_map, Option, Some, None, is_none, option_and_then, slice_get, if◌then◌else◌}
 use Rattle.std.specs.List.{list_all, range_with_len}
 use Rattle.std.specs.Option.{option_map_or}
 use Rattle.iso_lexer.specs.Names.{Written, decoded}
@@ -7,14 +7,14 @@ use Rattle.spec_parser.specs.Trees.{PartTree, StepTree, SessionTree, EntryTree, 
 use Rattle.permutations.specs.Shown.{shown}
 
 -- what a block shows, by its number: `blocks` has the numbers that each block of the file selects
-abbrev pub block_text : List (List ℕ) → PartTree → List ℕ
+abbrev pub block_text : List (List ℤ) → PartTree → List ℕ
 block_text blocks part = option_map_or shown (slice_get blocks part.block) []
 
-abbrev pub maybe_text : List (List ℕ) → Option PartTree → List ℕ
+abbrev pub maybe_text : List (List ℤ) → Option PartTree → List ℕ
 maybe_text blocks part = option_map_or (block_text blocks) part []
 
 -- a step's name and its SQL, and what its block shows
-abbrev pub step_text : List (List ℕ) → StepTree → List ℕ
+abbrev pub step_text : List (List ℤ) → StepTree → List ℕ
 step_text blocks s = codes "step " ++ decoded s.name ++ codes ": " ++ s.part.sql ++ 10 ∷ [] ++ block_text blocks s.part
 
 -- the step that an entry names: sessions are numbered from 1, steps from 0
@@ -24,7 +24,7 @@ step_of_session k s = slice_get s.steps k
 abbrev pub named_step : List SessionTree → EntryTree → Option StepTree
 named_step sessions e = option_and_then (step_of_session e.step) (slice_get sessions (e.session - 1))
 
-abbrev pub entry_text : List SessionTree → List (List ℕ) → EntryTree → List ℕ
+abbrev pub entry_text : List SessionTree → List (List ℤ) → EntryTree → List ℕ
 entry_text sessions blocks e = option_map_or (step_text blocks) (named_step sessions e) []
 
 -- a blank and a step's name
@@ -38,14 +38,14 @@ entry_name sessions e = option_map_or name_text (named_step sessions e) []
 abbrev pub starting_text : List SessionTree → List EntryTree → List ℕ
 starting_text sessions entries = codes "\nstarting permutation:" ++ flat_map (entry_name sessions) entries ++ 10 ∷ []
 
-abbrev pub setup_text : List (List ℕ) → SessionTree → List ℕ
+abbrev pub setup_text : List (List ℤ) → SessionTree → List ℕ
 setup_text blocks s = maybe_text blocks s.setup
 
-abbrev pub teardown_text : List (List ℕ) → SessionTree → List ℕ
+abbrev pub teardown_text : List (List ℤ) → SessionTree → List ℕ
 teardown_text blocks s = maybe_text blocks s.teardown
 
 -- the main setups, each session's setup, the steps, each session's teardown, the main teardown
-abbrev pub permutation_text : SpecTree → List (List ℕ) → List EntryTree → List ℕ
+abbrev pub permutation_text : SpecTree → List (List ℤ) → List EntryTree → List ℕ
 permutation_text spec blocks entries =
     starting_text spec.sessions entries
     ++ flat_map (block_text blocks) spec.setups
@@ -68,7 +68,7 @@ plain_entries s = map plain_entry (range_with_len 0 (length s.steps))
 abbrev pub permutations_of : SpecTree → List (List EntryTree)
 permutations_of spec = if length spec.perms == 0 then map plain_entries spec.sessions else spec.perms
 
-abbrev pub file_text : SpecTree → List (List ℕ) → List ℕ
+abbrev pub file_text : SpecTree → List (List ℤ) → List ℕ
 file_text spec blocks = first_line (length spec.sessions) ++ flat_map (permutation_text spec blocks) (permutations_of spec)
 
 -- ---- what runs by now

@@ -1,5 +1,5 @@
 -- Blocks of literals: nothing, or one SELECT of whole numbers.
-use Rattle.std.specs.Prelude.{◌≡◌, ℕ, ◌<◌, Bool, ◌||◌, ◌==◌, nat_le, nat_lt, List, [], ◌∷◌, length, take, drop, map, Result, Ok, Err, if◌then◌else◌, codes}
+use Rattle.std.specs.Prelude.{◌≡◌, ℕ, ℤ, pos, ◌<◌, Bool, ◌||◌, ◌==◌, nat_le, nat_lt, List, [], ◌∷◌, length, take, drop, map, Result, Ok, Err, if◌then◌else◌, codes}
 use Rattle.std.specs.List.{prefix_len}
 use Rattle.std.specs.Char.{is_ascii_digit, is_ascii_alphabetic, to_ascii_lowercase}
 use Rattle.std.specs.Str.Parse.{digits_value}
@@ -27,39 +27,39 @@ IsSelect word = map to_ascii_lowercase word ≡ codes "select"
 -- or a number, a comma and a rest.
 pub data Step : Type 0 where
   stops : List ℕ → Step
-  ends : ℕ → Step
-  goes : ℕ → List ℕ → Step
+  ends : ℤ → Step
+  goes : ℤ → List ℕ → Step
 
 -- nothing may stand behind the semicolon
-abbrev pub closed : ℕ → List ℕ → Step
+abbrev pub closed : ℤ → List ℕ → Step
 closed n [] = ends n
 closed n (b ∷ bs) = stops (b ∷ bs)
 
 -- what stands behind a number
-abbrev pub ended : ℕ → List ℕ → Step
+abbrev pub ended : ℤ → List ℕ → Step
 ended n [] = ends n
 ended n (b ∷ bs) = if b == 44 then goes n bs else (if b == 59 then closed n (behind is_space bs) else stops (b ∷ bs))
 
 -- a number is a run of digits of at most 2147483647
 abbrev pub numbered : List ℕ → List ℕ → List ℕ → Step
 numbered text [] rest = stops text
-numbered text (d ∷ ds) rest = if nat_lt 2147483647 (digits_value 10 (d ∷ ds)) then stops text else ended (digits_value 10 (d ∷ ds)) (behind is_space rest)
+numbered text (d ∷ ds) rest = if nat_lt 2147483647 (digits_value 10 (d ∷ ds)) then stops text else ended (pos (digits_value 10 (d ∷ ds))) (behind is_space rest)
 
 abbrev pub step_of : List ℕ → Step
 step_of text = let here = behind is_space text in numbered here (front_of is_ascii_digit here) (behind is_ascii_digit here)
 
-abbrev pub in_front : ℕ → Result (List ℕ) (List ℕ) → Result (List ℕ) (List ℕ)
+abbrev pub in_front : ℤ → Result (List ℤ) (List ℕ) → Result (List ℤ) (List ℕ)
 in_front n (Ok ns) = Ok (n ∷ ns)
 in_front n (Err rest) = Err rest
 
 -- What stands behind SELECT lists these numbers, or something there doesn't fit.
-pub data Lists : List ℕ → Result (List ℕ) (List ℕ) → Type 0 where
-  misfit : {text rest : List ℕ} {answer : Result (List ℕ) (List ℕ)} → step_of text ≡ stops rest → answer ≡ Err rest → Lists text answer
-  last : {text : List ℕ} {n : ℕ} {answer : Result (List ℕ) (List ℕ)} → step_of text ≡ ends n → answer ≡ Ok (n ∷ []) → Lists text answer
-  next : {text : List ℕ} (n : ℕ) (more : List ℕ) {others answer : Result (List ℕ) (List ℕ)} → step_of text ≡ goes n more → Lists more others → answer ≡ in_front n others → Lists text answer
+pub data Lists : List ℕ → Result (List ℤ) (List ℕ) → Type 0 where
+  misfit : {text rest : List ℕ} {answer : Result (List ℤ) (List ℕ)} → step_of text ≡ stops rest → answer ≡ Err rest → Lists text answer
+  last : {text : List ℕ} {n : ℤ} {answer : Result (List ℤ) (List ℕ)} → step_of text ≡ ends n → answer ≡ Ok (n ∷ []) → Lists text answer
+  next : {text : List ℕ} (n : ℤ) (more : List ℕ) {others answer : Result (List ℤ) (List ℕ)} → step_of text ≡ goes n more → Lists more others → answer ≡ in_front n others → Lists text answer
 
 -- A block reads as these numbers, none where it is empty, or something in it doesn't fit, at the front of this rest.
-pub data Reads : List ℕ → Result (List ℕ) (List ℕ) → Type 0 where
-  nothing : {text : List ℕ} {answer : Result (List ℕ) (List ℕ)} → behind is_space text ≡ [] → answer ≡ Ok [] → Reads text answer
-  select : {text here : List ℕ} {answer : Result (List ℕ) (List ℕ)} → behind is_space text ≡ here → IsSelect (front_of is_word_byte here) → Lists (behind is_word_byte here) answer → Reads text answer
-  other : {text here : List ℕ} {answer : Result (List ℕ) (List ℕ)} → behind is_space text ≡ here → 0 < length here → (IsSelect (front_of is_word_byte here) → ⊥) → answer ≡ Err here → Reads text answer
+pub data Reads : List ℕ → Result (List ℤ) (List ℕ) → Type 0 where
+  nothing : {text : List ℕ} {answer : Result (List ℤ) (List ℕ)} → behind is_space text ≡ [] → answer ≡ Ok [] → Reads text answer
+  select : {text here : List ℕ} {answer : Result (List ℤ) (List ℕ)} → behind is_space text ≡ here → IsSelect (front_of is_word_byte here) → Lists (behind is_word_byte here) answer → Reads text answer
+  other : {text here : List ℕ} {answer : Result (List ℤ) (List ℕ)} → behind is_space text ≡ here → 0 < length here → (IsSelect (front_of is_word_byte here) → ⊥) → answer ≡ Err here → Reads text answer

@@ -2,18 +2,16 @@
 
 ghost use Rattle.std.specs.Prelude.{◌≡◌, ◌++◌, ◌∷◌, [], OnOk, Option, option_map, map, length, flat_map, slice_get, is_some};
 ghost use Rattle.iso_lexer.specs.Names.{name_view, decoded};
-ghost use Rattle.spec_parser.specs.Trees.{part_view, step_view, session_view, entry_view, entries_view, spec_view};
+ghost use Rattle.spec_parser.specs.Trees.{part_view, step_view, session_view, entry_view, perm_view, spec_view};
 ghost use Rattle.permutations.specs.Shown.{shown};
 ghost use Rattle.permutations.specs.FileText.{block_text, maybe_text, step_text, named_step, entry_text, entry_name, starting_text, setup_text, teardown_text, permutation_text, first_line};
 
 use crate::page::Page;
+use crate::shown::push_shown;
 use iso_lexer::Name;
 use itoa::Buffer;
 use spec_parser::{Entry, Part, SessionPart, Spec, StepPart};
 use std::alloc::AllocError;
-
-/// The numbers that each block of the file selects, by the number of the block.
-type Blocks = Vec<Vec<u64>>;
 
 fn named_step<'s, 'a>(sessions: &'s [SessionPart<'a>], entry: &Entry) -> Option<&'s StepPart<'a>>
     ensures { option_map (λ s. step_view s.now) result ≡ named_step (map session_view sessions.now) (entry_view entry.now) }
@@ -31,13 +29,7 @@ fn push_name(page: &mut Page, name: &Name<'_>) -> Result<(), AllocError>
     }
 }
 
-fn push_shown(page: &mut Page, numbers: &[u64]) -> Result<(), AllocError>
-    ensures { OnOk result (page.new.bytes.items ≡ page.old.bytes.items ++ shown numbers.now) }
-{
-    Ok(())
-}
-
-fn push_block(page: &mut Page, blocks: &[Vec<u64>], part: &Part<'_>) -> Result<(), AllocError>
+fn push_block(page: &mut Page, blocks: &[Vec<i32>], part: &Part<'_>) -> Result<(), AllocError>
     ensures { OnOk result (page.new.bytes.items ≡ page.old.bytes.items ++ block_text (map (λ b. b.items) blocks.now) (part_view part.now)) }
 {
     match blocks.get(part.block as usize) {
@@ -48,7 +40,7 @@ fn push_block(page: &mut Page, blocks: &[Vec<u64>], part: &Part<'_>) -> Result<(
 
 fn push_maybe(
     page: &mut Page,
-    blocks: &[Vec<u64>],
+    blocks: &[Vec<i32>],
     part: &Option<Part<'_>>,
 ) -> Result<(), AllocError>
     ensures { OnOk result (page.new.bytes.items ≡ page.old.bytes.items ++ maybe_text (map (λ b. b.items) blocks.now) (option_map part_view part.now)) }
@@ -59,7 +51,7 @@ fn push_maybe(
     }
 }
 
-fn push_step(page: &mut Page, blocks: &[Vec<u64>], step: &StepPart<'_>) -> Result<(), AllocError>
+fn push_step(page: &mut Page, blocks: &[Vec<i32>], step: &StepPart<'_>) -> Result<(), AllocError>
     ensures { OnOk result (page.new.bytes.items ≡ page.old.bytes.items ++ step_text (map (λ b. b.items) blocks.now) (step_view step.now)) }
 {
     page.push(b"step ")?;
@@ -73,7 +65,7 @@ fn push_step(page: &mut Page, blocks: &[Vec<u64>], step: &StepPart<'_>) -> Resul
 fn push_entry(
     page: &mut Page,
     sessions: &[SessionPart<'_>],
-    blocks: &[Vec<u64>],
+    blocks: &[Vec<i32>],
     entry: &Entry,
 ) -> Result<(), AllocError>
     ensures { OnOk result (page.new.bytes.items ≡ page.old.bytes.items ++ entry_text (map session_view sessions.now) (map (λ b. b.items) blocks.now) (entry_view entry.now)) }
@@ -126,7 +118,7 @@ fn push_starting(
     Ok(())
 }
 
-fn push_blocks(page: &mut Page, blocks: &[Vec<u64>], parts: &[Part<'_>]) -> Result<(), AllocError>
+fn push_blocks(page: &mut Page, blocks: &[Vec<i32>], parts: &[Part<'_>]) -> Result<(), AllocError>
     ensures { OnOk result (page.new.bytes.items ≡ page.old.bytes.items ++ flat_map (block_text (map (λ b. b.items) blocks.now)) (map part_view parts.now)) }
 {
     for part in parts {
@@ -137,7 +129,7 @@ fn push_blocks(page: &mut Page, blocks: &[Vec<u64>], parts: &[Part<'_>]) -> Resu
 
 fn push_setups(
     page: &mut Page,
-    blocks: &[Vec<u64>],
+    blocks: &[Vec<i32>],
     sessions: &[SessionPart<'_>],
 ) -> Result<(), AllocError>
     ensures { OnOk result (page.new.bytes.items ≡ page.old.bytes.items ++ flat_map (setup_text (map (λ b. b.items) blocks.now)) (map session_view sessions.now)) }
@@ -150,7 +142,7 @@ fn push_setups(
 
 fn push_teardowns(
     page: &mut Page,
-    blocks: &[Vec<u64>],
+    blocks: &[Vec<i32>],
     sessions: &[SessionPart<'_>],
 ) -> Result<(), AllocError>
     ensures { OnOk result (page.new.bytes.items ≡ page.old.bytes.items ++ flat_map (teardown_text (map (λ b. b.items) blocks.now)) (map session_view sessions.now)) }
@@ -164,7 +156,7 @@ fn push_teardowns(
 fn push_entries(
     page: &mut Page,
     sessions: &[SessionPart<'_>],
-    blocks: &[Vec<u64>],
+    blocks: &[Vec<i32>],
     entries: &[Entry],
 ) -> Result<(), AllocError>
     ensures { OnOk result (page.new.bytes.items ≡ page.old.bytes.items ++ flat_map (entry_text (map session_view sessions.now) (map (λ b. b.items) blocks.now)) (map entry_view entries.now)) }
@@ -179,7 +171,7 @@ fn push_entries(
 pub fn push_permutation(
     page: &mut Page,
     spec: &Spec<'_>,
-    blocks: &[Vec<u64>],
+    blocks: &[Vec<i32>],
     entries: &[Entry],
 ) -> Result<(), AllocError>
     ensures { OnOk result (page.new.bytes.items ≡ page.old.bytes.items ++ permutation_text (spec_view spec.now) (map (λ b. b.items) blocks.now) (map entry_view entries.now)) }

@@ -4,3 +4,4 @@
 mod file_text;
 mod literals;
 mod page;
+mod shown;

@@ -1,6 +1,6 @@
 //! Blocks of literals: nothing, or one SELECT of whole numbers.
 
-ghost use Rattle.std.specs.Prelude.{◌≡◌, ◌<◌, ◌≤◌, ℕ, List, Result, length, take, min, IsTrue, ◌↔◌};
+ghost use Rattle.std.specs.Prelude.{◌≡◌, ◌<◌, ◌≤◌, ℕ, List, Result, length, take, min, IsTrue, OnOk, ◌↔◌, ◌++◌, ◌∷◌, []};
 ghost use Rattle.std.specs.List.{prefix_len, AllPass};
 ghost use Rattle.std.specs.Char.{is_ascii_digit};
 ghost use Rattle.std.specs.Str.Parse.{digits_value};
@@ -21,9 +21,9 @@ pub enum Step<'a> {
     /// Something that doesn't fit, at the front of this rest.
     Stops(&'a [u8]),
     /// The last number.
-    Ends(u64),
+    Ends(i32),
     /// A number with a comma behind it, and the rest.
-    Goes(u64, &'a [u8]),
+    Goes(i32, &'a [u8]),
 }
 
 fn is_space(b: u8) -> bool
@@ -79,7 +79,7 @@ fn capped_value(digits: &[u8]) -> u64
 }
 
 /// What stands behind a number.
-fn ended(n: u64, rest: &[u8]) -> Step<'_>
+fn ended(n: i32, rest: &[u8]) -> Step<'_>
     ensures { step_view result ≡ ended n rest.now }
 {
     match rest {
@@ -109,11 +109,11 @@ fn step_of(text: &[u8]) -> Step<'_>
     if value > MOST {
         return Step::Stops(here);
     }
-    ended(value, behind_spaces(rest))
+    ended(value as i32, behind_spaces(rest))
 }
 
 /// The numbers that a block of literals selects, none where it is empty; or the place of what doesn't fit.
-pub fn literals(alloc: Global, text: &[u8]) -> Result<Vec<u64>, LiteralFault>
+pub fn literals(alloc: Global, text: &[u8]) -> Result<Vec<i32>, LiteralFault>
     ensures { Answers text.now result }
 {
     let here = behind_spaces(text);
@@ -133,8 +133,14 @@ fn is_select(word: &[u8]) -> bool
     word.eq_ignore_ascii_case(b"select")
 }
 
+fn add(numbers: &mut Vec<i32>, n: i32) -> Result<(), AllocFailed<i32>>
+    ensures { OnOk result (numbers.new.items ≡ numbers.old.items ++ n ∷ []) }
+{
+    numbers.push(n)
+}
+
 /// The numbers behind SELECT, in a text of so many bytes.
-fn listed(alloc: Global, total: usize, text: &[u8]) -> Result<Vec<u64>, LiteralFault>
+fn listed(alloc: Global, total: usize, text: &[u8]) -> Result<Vec<i32>, LiteralFault>
     requires { length text.now ≤ total }
     ensures { ListAnswers total text.now result }
 {
@@ -144,11 +150,11 @@ fn listed(alloc: Global, total: usize, text: &[u8]) -> Result<Vec<u64>, LiteralF
         match step_of(rest) {
             Step::Stops(misfit) => return Err(LiteralFault::Misfit(total - misfit.len())),
             Step::Ends(n) => {
-                numbers.push(n)?;
+                add(&mut numbers, n)?;
                 return Ok(numbers);
             }
             Step::Goes(n, more) => {
-                numbers.push(n)?;
+                add(&mut numbers, n)?;
                 rest = more;
             }
         }

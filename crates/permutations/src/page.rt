@@ -22,6 +22,10 @@ impl Page {
         }
     }
 
+    pub fn alloc(&self) -> Global {
+        *self.bytes.allocator()
+    }
+
     pub fn bytes(&self) -> &[u8]
         ensures { result.now ≡ self.now.bytes.items }
     {
