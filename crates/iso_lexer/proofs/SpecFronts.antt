@@ -1,18 +1,17 @@
 -- Where blocks end, and the front of a spec file by its first byte.
-use Rattle.std.proofs.Common.{◌≡◌, ◌≢◌, ℕ, suc, zero, ◌+◌, ◌-◌, ◌<◌, ◌≤◌, Bool, true, false, cond, eqb, List, [], ◌∷◌, length, get_or, drop, take, sym, refl, ap, subst, ◌∙◌, arith, inl, inr, eq-eqb, IsUtf8, Option, Some, None}
+use Rattle.std.proofs.Common.{◌≡◌, ℕ, ◌+◌, ◌<◌, true, false, cond, eqb, List, [], ◌∷◌, length, get_or, drop, take, refl, ◌∙◌, arith, eq-eqb, IsUtf8, Some, None}
 use Rattle.std.specs.Prelude.{◌==◌}
 use Rattle.std.specs.Str.{IsCharBoundary}
 use Rattle.std.specs.List.{position_or_len}
-use Rattle.std.proofs.lemmas.Bool.{ne_eqb, cases_eq, eqb-true}
+use Rattle.std.proofs.lemmas.Bool.{ne_eqb, eqb-true}
 use Rattle.std.proofs.lemmas.List.Sums.{position_or_len_is}
 use Rattle.std.proofs.lemmas.Bool.Decides.{nat_tests}
 use Rattle.std.proofs.lemmas.Str.{IsCharBoundary-after_ascii, IsCharBoundary-before_ascii}
 use Rattle.memchr.specs.Find.{IsFirstByte, is_byte}
-use Rattle.iso_lexer.specs.SpecTokens.{block}
 use Rattle.iso_lexer.specs.Lexing.{token, fault}
 use Rattle.iso_lexer.specs.SpecText.{block_of, front, word_front, ascii_front, block_front}
 use Rattle.iso_lexer.specs.declared.fault.FaultKind.TheVariants.{UnterminatedBlock}
-use Rattle.iso_lexer.specs.Bytes.{is_name_start, trimmed}
+use Rattle.iso_lexer.specs.Bytes.{is_name_start}
 
 differs : (a c : ℕ) → (eqb a c ≡ true → ⊥) → eqb a c ≡ false
 differs a c h = ne_eqb a c (λ e. h (eq-eqb a c e))
