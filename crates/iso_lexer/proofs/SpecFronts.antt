@@ -19,6 +19,12 @@ differs a c h = ne_eqb a c (λ e. h (eq-eqb a c e))
 pub first_none : (c : ℕ) (bs : List ℕ) → IsFirstByte (is_byte c) bs None → position_or_len (λ b. b == c) bs ≡ length bs
 first_none c bs h = position_or_len_is (λ b. b == c) bs (length bs) 0 (omega arith) (λ k lt. differs _ c (h k (omega arith) lt)) (λ lt. absurd (omega arith))
 
+pub never : (c : ℕ) (bs : List ℕ) → IsFirstByte (is_byte c) bs None → (k : ℕ) → k < length bs → eqb (get_or bs k 0) c ≡ false
+never c bs h k lt = differs _ c (h k (omega arith) lt)
+
+pub before_first : (c : ℕ) (bs : List ℕ) (n : ℕ) → IsFirstByte (is_byte c) bs (Some n) → (k : ℕ) → k < n → eqb (get_or bs k 0) c ≡ false
+before_first c bs n h k lt = differs _ c (h.0.before k (omega arith) lt)
+
 pub record FirstAt (c : ℕ) (bs : List ℕ) (n : ℕ) : Type 0 where
   pub lt : n < length bs
   pub place : position_or_len (λ b. b == c) bs ≡ n

@@ -18,6 +18,7 @@ mod sql_token;
 mod std_device;
 mod token;
 mod whole;
+mod write;
 
 pub use comment::comments_nest;
 pub use device::{DeviceFault, Sink, Source};
@@ -31,7 +32,8 @@ pub use sql_text::{one_sql_reading, sql_tokens, sql_tokens_are_slices};
 pub use sql_token::{SqlSign, SqlTok};
 pub use std_device::FromStd;
 pub use token::{At, Span};
-pub use whole::{ReadFault, read_all};
+pub use whole::{LONGEST_FILE, ReadFault, read_all};
+pub use write::write_name;
 
 #[cfg(test)]
 mod tests;
