@@ -1,9 +1,9 @@
 -- A run ends between characters.
-use Rattle.std.proofs.Common.{◌≡◌, ℕ, ◌+◌, ◌-◌, ◌<◌, ◌≤◌, Bool, true, false, List, length, get_or, IsUtf8, sym, refl, ap, subst, ◌∙◌, arith, inl, inr}
-use Rattle.std.specs.Prelude.{not, ◌||◌, ◌==◌, nat_le, drop, reverse}
+use Rattle.std.proofs.Common.{◌≡◌, ℕ, ◌+◌, ◌-◌, ◌<◌, ◌≤◌, Bool, true, false, List, length, get_or, IsUtf8, subst, arith, inl, inr}
+use Rattle.std.specs.Prelude.{not, reverse}
 use Rattle.std.specs.List.{prefix_len, suffix_len}
 use Rattle.std.specs.Str.{IsCharBoundary}
-use Rattle.std.specs.Char.{is_ascii_digit, is_ascii_alphabetic}
+use Rattle.std.specs.Char.{is_ascii_digit}
 use Rattle.std.proofs.lemmas.Bool.{cases_lt}
 use Rattle.std.proofs.lemmas.Bool.Decides.{nat_tests}
 use Rattle.std.proofs.lemmas.Str.{IsCharBoundary-start, IsCharBoundary-after_ascii, IsCharBoundary-before_ascii, IsCharBoundary-end}
@@ -11,7 +11,7 @@ use Rattle.std.proofs.lemmas.List.{length-reverse, get_or-reverse}
 use Rattle.std.proofs.lemmas.List.Sums.{suffix_len-le-length, prefix_len-le-length, prefix_len_passes, prefix_len_stops}
 use Rattle.iso_lexer.specs.declared.runs.Run.{Run}
 use Rattle.iso_lexer.specs.declared.runs.Run.TheVariants.{Blanks, Comment, Word, Digits}
-use Rattle.iso_lexer.specs.Bytes.{is_blank, is_line_end, is_name_start, is_name_byte, passes}
+use Rattle.iso_lexer.specs.Bytes.{is_blank, is_line_end, is_name_byte, passes}
 
 blank_small : (b : ℕ) → is_blank b ≡ true → b < 128
 blank_small b h = grind (arith, nat_tests)

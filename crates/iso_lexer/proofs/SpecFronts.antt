@@ -1,24 +1,29 @@
 -- Where blocks end, and the front of a spec file by its first byte.
-use Rattle.std.proofs.Common.{◌≡◌, ◌≢◌, ℕ, suc, zero, ◌+◌, ◌-◌, ◌<◌, ◌≤◌, Bool, true, false, cond, eqb, List, [], ◌∷◌, length, get_or, drop, take, sym, refl, ap, subst, ◌∙◌, arith, inl, inr, eq-eqb, IsUtf8, Option, Some, None}
+use Rattle.std.proofs.Common.{◌≡◌, ℕ, ◌+◌, ◌<◌, true, false, cond, eqb, List, [], ◌∷◌, length, get_or, drop, take, refl, ◌∙◌, arith, eq-eqb, IsUtf8, Some, None}
 use Rattle.std.specs.Prelude.{◌==◌}
 use Rattle.std.specs.Str.{IsCharBoundary}
 use Rattle.std.specs.List.{position_or_len}
-use Rattle.std.proofs.lemmas.Bool.{ne_eqb, cases_eq, eqb-true}
+use Rattle.std.proofs.lemmas.Bool.{ne_eqb, eqb-true}
 use Rattle.std.proofs.lemmas.List.Sums.{position_or_len_is}
 use Rattle.std.proofs.lemmas.Bool.Decides.{nat_tests}
 use Rattle.std.proofs.lemmas.Str.{IsCharBoundary-after_ascii, IsCharBoundary-before_ascii}
 use Rattle.memchr.specs.Find.{IsFirstByte, is_byte}
-use Rattle.iso_lexer.specs.SpecTokens.{block}
 use Rattle.iso_lexer.specs.Lexing.{token, fault}
 use Rattle.iso_lexer.specs.SpecText.{block_of, front, word_front, ascii_front, block_front}
 use Rattle.iso_lexer.specs.declared.fault.FaultKind.TheVariants.{UnterminatedBlock}
-use Rattle.iso_lexer.specs.Bytes.{is_name_start, trimmed}
+use Rattle.iso_lexer.specs.Bytes.{is_name_start}
 
 differs : (a c : ℕ) → (eqb a c ≡ true → ⊥) → eqb a c ≡ false
 differs a c h = ne_eqb a c (λ e. h (eq-eqb a c e))
 
 pub first_none : (c : ℕ) (bs : List ℕ) → IsFirstByte (is_byte c) bs None → position_or_len (λ b. b == c) bs ≡ length bs
 first_none c bs h = position_or_len_is (λ b. b == c) bs (length bs) 0 (omega arith) (λ k lt. differs _ c (h k (omega arith) lt)) (λ lt. absurd (omega arith))
+
+pub never : (c : ℕ) (bs : List ℕ) → IsFirstByte (is_byte c) bs None → (k : ℕ) → k < length bs → eqb (get_or bs k 0) c ≡ false
+never c bs h k lt = differs _ c (h k (omega arith) lt)
+
+pub before_first : (c : ℕ) (bs : List ℕ) (n : ℕ) → IsFirstByte (is_byte c) bs (Some n) → (k : ℕ) → k < n → eqb (get_or bs k 0) c ≡ false
+before_first c bs n h k lt = differs _ c (h.0.before k (omega arith) lt)
 
 pub record FirstAt (c : ℕ) (bs : List ℕ) (n : ℕ) : Type 0 where
   pub lt : n < length bs

@@ -1,20 +1,20 @@
 -- The rules of spec files: each piece takes something, and the whole file.
-use Rattle.std.proofs.Common.{◌≡◌, ℕ, suc, ◌+◌, ◌-◌, ◌<◌, ◌≤◌, length, drop, take, List, [], ◌∷◌, Result, Ok, Err, Bool, true, false, cond, eqb, refl, sym, ◌∙◌, arith, length-drop, Option, Some, None}
+use Rattle.std.proofs.Common.{◌≡◌, ℕ, suc, ◌+◌, ◌<◌, ◌≤◌, length, drop, take, List, [], ◌∷◌, Result, Err, Bool, true, false, cond, eqb, refl, sym, ◌∙◌, arith, length-drop, Option, Some, None}
 use Rattle.std.specs.Prelude.{MatchBool, nat_lt, ◌==◌, ◌||◌}
 use Rattle.std.specs.List.{prefix_len, position_or_len}
 use Rattle.std.specs.Char.{is_ascii_digit}
-use Rattle.std.proofs.lemmas.Bool.{le-ltb, lt-ltb, eqb-true}
-use Rattle.iso_lexer.specs.Bytes.{passes, is_blank, is_name_start, is_name_byte, is_line_end, after_run}
+use Rattle.std.proofs.lemmas.Bool.{le-ltb, eqb-true}
+use Rattle.iso_lexer.specs.Bytes.{passes, is_blank, is_name_start, is_name_byte}
 use Rattle.iso_lexer.specs.SpecTokens.{Token, name}
 use Rattle.iso_lexer.specs.Names.{quoted}
 use Rattle.iso_lexer.specs.Lexing.{Front, gap, token, fault, Reads}
 use Rattle.iso_lexer.specs.Quotes.{quoted_from, quoted_front}
 use Rattle.iso_lexer.specs.SpecText.{block_of, front, name_front, block_front, sign_front, sign_of, word_front, ascii_front, Lexes}
 use Rattle.iso_lexer.specs.declared.fault.Fault.{Fault}
-use Rattle.iso_lexer.specs.declared.fault.FaultKind.TheVariants.{FileTooLong, UnterminatedBlock, UnterminatedName}
+use Rattle.iso_lexer.specs.declared.fault.FaultKind.TheVariants.{UnterminatedBlock, UnterminatedName}
 use Rattle.iso_lexer.specs.declared.token.At.{At}
 use Rattle.iso_lexer.specs.declared.spec_token.Sign.{Sign}
-use Rattle.iso_lexer.specs.declared.runs.Run.TheVariants.{Comment, Word, Digits}
+use Rattle.iso_lexer.specs.declared.runs.Run.TheVariants.{Comment}
 use Rattle.iso_lexer.proofs.Lexing.{either, Shorter, made_shorter, Rules, one_reading}
 use Rattle.iso_lexer.proofs.QuoteEnds.{quoted_shorter}
 

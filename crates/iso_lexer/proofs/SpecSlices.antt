@@ -1,21 +1,20 @@
 -- Each token of a spec file is the slice at its span.
-use Rattle.std.proofs.Common.{◌≡◌, ℕ, suc, ◌+◌, ◌-◌, ◌<◌, ◌≤◌, ◌++◌, length, drop, take, get_or, List, [], ◌∷◌, Result, Ok, Err, Bool, true, false, cond, eqb, refl, sym, ap, subst, ◌∙◌, arith, inl, inr, length-drop, Option, Some, None, add-one}
-use Rattle.std.specs.Prelude.{MatchBool, nat_lt, ◌==◌, ◌||◌, slice_range}
+use Rattle.std.proofs.Common.{◌≡◌, ℕ, suc, ◌+◌, ◌<◌, ◌≤◌, ◌++◌, length, drop, take, List, [], ◌∷◌, Result, Ok, Err, Bool, true, false, cond, refl, ap, ◌∙◌, arith, Option, Some, None, add-one}
+use Rattle.std.specs.Prelude.{MatchBool, nat_lt, ◌==◌, ◌||◌}
 use Rattle.std.specs.List.{prefix_len, position_or_len, AllByRecursion}
 use Rattle.std.specs.Char.{is_ascii_digit}
 use Rattle.std.proofs.Math.Seq.{take-suc}
-use Rattle.std.proofs.lemmas.Bool.{eqb-true, eqb-false, cases_lt}
-use Rattle.std.proofs.lemmas.List.{drop-drop}
+use Rattle.std.proofs.lemmas.Bool.{eqb-true, eqb-false}
 use Rattle.std.proofs.lemmas.List.Sums.{prefix_len-le-length, passes_at_first}
-use Rattle.iso_lexer.specs.Bytes.{passes, is_blank, is_name_start, trimmed, run_of, after_run}
+use Rattle.iso_lexer.specs.Bytes.{passes, is_blank, is_name_start, run_of, after_run}
 use Rattle.iso_lexer.specs.declared.fault.Fault.{Fault}
 use Rattle.iso_lexer.specs.declared.fault.FaultKind.TheVariants.{UnterminatedBlock, UnterminatedName}
 use Rattle.iso_lexer.specs.declared.token.At.{At}
 use Rattle.iso_lexer.specs.declared.spec_token.Keyword.{Keyword}
 use Rattle.iso_lexer.specs.declared.spec_token.Sign.{Sign}
 use Rattle.iso_lexer.specs.declared.runs.Run.TheVariants.{Comment, Word, Digits}
-use Rattle.iso_lexer.specs.Names.{plain, quoted}
-use Rattle.iso_lexer.specs.SpecTokens.{Token, keyword, name, digits, sign, block}
+use Rattle.iso_lexer.specs.Names.{quoted}
+use Rattle.iso_lexer.specs.SpecTokens.{Token, name, digits}
 use Rattle.iso_lexer.specs.Lexing.{Front, gap, token, fault, Reads}
 use Rattle.iso_lexer.specs.Quotes.{quoted_from}
 use Rattle.iso_lexer.specs.SpecText.{block_of, named, keyword_of, front, name_front, block_front, sign_front, sign_of, word_front, ascii_front, Lexes}

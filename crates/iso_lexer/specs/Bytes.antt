@@ -1,5 +1,5 @@
 -- Classes of bytes, and the runs that they make.
-use Rattle.std.specs.Prelude.{ℕ, Bool, ◌||◌, ◌&&◌, ◌==◌, nat_le, not, List, length, take, drop, ◌-◌}
+use Rattle.std.specs.Prelude.{ℕ, Bool, ◌||◌, ◌==◌, nat_le, not, List, length, take, drop, ◌-◌}
 use Rattle.std.specs.List.{prefix_len, suffix_len}
 use Rattle.std.specs.Char.{is_ascii_digit, is_ascii_alphabetic}
 use Rattle.iso_lexer.specs.declared.runs.Run.{Run}

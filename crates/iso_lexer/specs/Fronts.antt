@@ -1,5 +1,4 @@
 -- What stands at the front of a text, without where it lies in memory.
-use Rattle.std.specs.Prelude.{ℕ, List}
 use Rattle.iso_lexer.specs.declared.piece.Piece.{Piece}
 use Rattle.iso_lexer.specs.declared.piece.Piece.TheVariants as pieces
 use Rattle.iso_lexer.specs.declared.spec_token.SpecTok.{SpecTok}

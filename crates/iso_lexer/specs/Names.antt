@@ -1,5 +1,5 @@
 -- Names as they are written, and the bytes that they stand for.
-use Rattle.std.specs.Prelude.{◌≡◌, ℕ, ◌<◌, List, [], ◌∷◌, ◌++◌, length, map, if◌then◌else◌, ◌==◌}
+use Rattle.std.specs.Prelude.{◌≡◌, ℕ, ◌<◌, List, [], ◌∷◌, length, map, if◌then◌else◌, ◌==◌}
 use Rattle.std.specs.Char.{to_ascii_lowercase}
 use Rattle.iso_lexer.specs.declared.name.Name.{Name}
 use Rattle.iso_lexer.specs.declared.name.Name.TheVariants as names

@@ -1,6 +1,6 @@
 -- The tokens of SQL text, or its first fault. Words, quoted names, strings, numbers, signs and comments are those of
 -- PostgreSQL's manual, section "Lexical Structure".
-use Rattle.std.specs.Prelude.{◌≡◌, ℕ, Bool, true, false, ◌||◌, ◌&&◌, ◌==◌, List, [], ◌∷◌, length, drop, Option, Some, None, Result, Ok, Err, if◌then◌else◌, bytes_eq, codes, nat_lt, slice_index}
+use Rattle.std.specs.Prelude.{ℕ, false, ◌||◌, ◌&&◌, ◌==◌, List, [], ◌∷◌, length, drop, Option, Some, None, Result, Ok, Err, if◌then◌else◌, bytes_eq, codes, nat_lt, slice_index}
 use Rattle.std.specs.Global.{Vec}
 use Rattle.std.specs.Char.{is_ascii_digit}
 use Rattle.std.specs.Str.Parse.{digits_value}
@@ -19,15 +19,20 @@ use Rattle.iso_lexer.specs.Lexing.{Front, gap, token, fault, made, Reads}
 use Rattle.iso_lexer.specs.Quotes.{quoted_from, quoted_front}
 use Rattle.iso_lexer.specs.Comments.{after_comment}
 
--- the signs, as they are spelled
-abbrev pub spelled : List ℕ → Option SqlSign
-spelled s =
+-- the signs of two bytes, as they are spelled
+abbrev pub sign_of_two : List ℕ → Option SqlSign
+sign_of_two s =
     if bytes_eq s (codes "<>") || bytes_eq s (codes "!=") then Some NotEqual
     else (if bytes_eq s (codes "<=") then Some AtMost
     else (if bytes_eq s (codes ">=") then Some AtLeast
     else (if bytes_eq s (codes "||") then Some Concat
     else (if bytes_eq s (codes "::") then Some Cast
-    else (if bytes_eq s (codes "(") then Some Open
+    else None))))
+
+-- the signs of one byte
+abbrev pub sign_of_one : List ℕ → Option SqlSign
+sign_of_one s =
+    if bytes_eq s (codes "(") then Some Open
     else (if bytes_eq s (codes ")") then Some Close
     else (if bytes_eq s (codes ",") then Some Comma
     else (if bytes_eq s (codes ";") then Some Semicolon
@@ -40,7 +45,7 @@ spelled s =
     else (if bytes_eq s (codes "<") then Some Less
     else (if bytes_eq s (codes ">") then Some Greater
     else (if bytes_eq s (codes ".") then Some Dot
-    else None)))))))))))))))))
+    else None))))))))))))
 
 abbrev pub word_front : List ℕ → Front SqlToken
 word_front text = token (word (run_of Word text)) (after_run Word text)
@@ -76,7 +81,7 @@ abbrev pub pair_front : ℕ → ℕ → List ℕ → List ℕ → Front SqlToken
 pair_front b c text rest =
     if b == 45 && c == 45 then gap (after_run Comment text)
     else (if b == 47 && c == 42 then comment_front (after_comment 0 (drop 1 rest))
-    else sign_front (spelled (b ∷ c ∷ [])) (spelled (b ∷ [])) rest)
+    else sign_front (sign_of_two (b ∷ c ∷ [])) (sign_of_one (b ∷ [])) rest)
 
 -- a rule for each first byte b of ASCII that begins no word; rest is what follows it
 abbrev pub ascii_front : ℕ → List ℕ → List ℕ → Front SqlToken

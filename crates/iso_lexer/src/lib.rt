@@ -12,10 +12,13 @@ mod runs;
 mod same;
 mod spec_text;
 mod spec_token;
+mod sql_front;
+mod sql_text;
 mod sql_token;
 mod std_device;
 mod token;
 mod whole;
+mod write;
 
 pub use comment::comments_nest;
 pub use device::{DeviceFault, Sink, Source};
@@ -25,10 +28,12 @@ pub use quoted::quotes_go_on;
 pub use same::same_name;
 pub use spec_text::{one_reading, spec_tokens, tokens_are_slices};
 pub use spec_token::{Keyword, Sign, SpecTok};
+pub use sql_text::{one_sql_reading, sql_tokens, sql_tokens_are_slices};
 pub use sql_token::{SqlSign, SqlTok};
 pub use std_device::FromStd;
 pub use token::{At, Span};
-pub use whole::{ReadFault, read_all};
+pub use whole::{LONGEST_FILE, ReadFault, read_all};
+pub use write::write_name;
 
 #[cfg(test)]
 mod tests;

@@ -11,9 +11,8 @@ use crate::front::front;
 use crate::piece::Piece;
 use crate::spec_token::SpecTok;
 use crate::token::{At, Span};
+use crate::whole::LONGEST_FILE;
 use std::alloc::Global;
-
-const LONGEST_FILE: usize = 1_048_576;
 
 /// The tokens of a spec file, or its first fault.
 pub fn spec_tokens<'a>(alloc: Global, text: &'a str) -> Result<Vec<At<SpecTok<'a>>>, LexFault>

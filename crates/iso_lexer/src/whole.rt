@@ -1,9 +1,16 @@
-ghost use Rattle.std.specs.Prelude.{IfOk};
+//! Reading all of a source.
+
+ghost use Rattle.std.specs.Prelude.{◌≡◌, ◌<◌, true, IfOk, IsErrOf};
+ghost use Rattle.iso_lexer.specs.declared.whole.ReadFault.TheVariants.{Memory, Device};
 ghost use Rattle.iso_lexer.specs.Devices.{IsFront};
 
 use crate::device::{DeviceFault, Source};
 use std::alloc::{AllocError, Global};
 
+/// The most bytes that a spec file has.
+pub const LONGEST_FILE: usize = 1_048_576;
+
+/// Why a source was not read to its end.
 #[derive(Debug, Drop)]
 pub enum ReadFault {
     Memory,
@@ -11,24 +18,31 @@ pub enum ReadFault {
 }
 
 impl From<DeviceFault> for ReadFault {
+    ghost from_gives = { λ _ e. e ≡ Device };
+
     fn from(_e: DeviceFault) -> ReadFault {
         ReadFault::Device
     }
 }
 
 impl From<AllocError> for ReadFault {
+    ghost from_gives = { λ _ e. e ≡ Memory };
+
     fn from(_e: AllocError) -> ReadFault {
         ReadFault::Memory
     }
 }
 
-/// The bytes of a source, no more than `limit` of them.
+/// The bytes of a source, no more than `limit` of them. Its fault is answered exactly where it has failed.
 pub fn read_all<S: Source>(
     alloc: Global,
     source: &mut S,
     limit: usize,
 ) -> Result<Vec<u8>, ReadFault>
-    ensures { IfOk result (λ v. IsFront limit (S.left source.old) (S.left source.new) v.items) }
+    ensures bytes { IfOk result (λ v. IsFront limit (S.left source.old) (S.left source.new) v.items) }
+    ensures device { IsErrOf result ReadFault.Device → S.failed source.new ≡ true }
+    ensures failed { 0 < limit → S.failed source.new ≡ true → IsErrOf result ReadFault.Device }
+    ensures stays { S.failed source.old ≡ true → S.failed source.new ≡ true }
 {
     let mut bytes = Vec::new(alloc);
     let mut buffer = [0u8; 4096];

@@ -1,4 +1,4 @@
-use Rattle.std.proofs.Common.{◌≡◌, sym, ◌∙◌, arith}
+use Rattle.std.proofs.Common.{sym, ◌∙◌, arith}
 use Rattle.iso_lexer.proofs.Comments.{on_last_end, on_end, on_opening, on_other, on_nothing, last_slash}
 use Rattle.iso_lexer.proofs.comment.comment_end.Goals as goal
 

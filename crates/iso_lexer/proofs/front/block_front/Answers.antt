@@ -1,5 +1,5 @@
-use Rattle.std.proofs.Common.{◌≡◌, length, get_or, sym, ap, ◌∙◌, arith, rules, refl}
-use Rattle.iso_lexer.proofs.SpecFronts.{no_brace, brace, Brace}
+use Rattle.std.proofs.Common.{sym}
+use Rattle.iso_lexer.proofs.SpecFronts.{no_brace, brace}
 use Rattle.iso_lexer.proofs.front.block_front.Goals as goal
 
 pub split_at-requires-in-Some : goal.split_at-requires-in-Some

@@ -1,5 +1,3 @@
-use Rattle.std.proofs.Common.{sym, ◌∙◌, subst}
-use Rattle.std.specs.Str.{IsCharBoundary}
 use Rattle.iso_lexer.proofs.Boundaries.{run_boundary}
 use Rattle.iso_lexer.proofs.runs.split_run.Goals as goal
 

@@ -1,5 +1,3 @@
-use Rattle.std.proofs.Common.{sym, ◌∙◌, subst, arith}
-use Rattle.std.specs.Str.{IsCharBoundary}
 use Rattle.iso_lexer.specs.Bytes.{is_blank}
 use Rattle.std.proofs.lemmas.List.Sums.{suffix_len-le-length}
 use Rattle.iso_lexer.proofs.Boundaries.{suffix_boundary}

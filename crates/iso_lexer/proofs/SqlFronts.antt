@@ -1,0 +1,108 @@
+-- The front of SQL text by its first byte, its numbers and signs, and the places between characters.
+use Rattle.std.proofs.Common.{◌≡◌, ℕ, ◌+◌, ◌-◌, ◌<◌, ◌≤◌, Bool, true, false, cond, List, [], ◌∷◌, length, get_or, drop, take, sym, refl, ap, subst, ◌∙◌, arith, IsUtf8, Option, Some, None}
+use Rattle.std.specs.Prelude.{◌==◌, ◌&&◌, ◌||◌, slice_index, nat_lt, bytes_eq}
+use Rattle.std.specs.Str.{IsCharBoundary}
+use Rattle.std.specs.Str.Parse.{IsNumeral, digits_value}
+use Rattle.std.specs.List.{prefix_len}
+use Rattle.std.specs.Int.{IsInRange}
+use Rattle.std.specs.Char.{is_ascii_digit}
+use Rattle.std.proofs.lemmas.Bool.{eqb-true, and_parts, le-ltb}
+use Rattle.std.proofs.lemmas.Bool.Decides.{nat_tests}
+use Rattle.std.proofs.lemmas.List.{get_or-take}
+use Rattle.std.proofs.lemmas.List.Sums.{prefix_len_passes}
+use Rattle.std.proofs.lemmas.List.Folds.{length-prefix_len}
+use Rattle.std.proofs.lemmas.Str.{IsCharBoundary-after_ascii}
+use Rattle.std.proofs.lemmas.Str.Parse.{IsNumeralModel, numerals_by_value, tells_by_index}
+use Rattle.iso_lexer.specs.Bytes.{is_name_start, is_name_byte, run_of, after_run}
+use Rattle.iso_lexer.specs.Comments.{EndsAt}
+use Rattle.iso_lexer.specs.SqlTokens.{number}
+use Rattle.iso_lexer.specs.Lexing.{token, fault}
+use Rattle.iso_lexer.specs.SqlText.{sql_front, word_front, number_front, ascii_front, sign_of_two}
+use Rattle.iso_lexer.specs.declared.fault.FaultKind.TheVariants.{UnexpectedByte}
+use Rattle.iso_lexer.specs.declared.sql_token.SqlSign.{SqlSign}
+use Rattle.iso_lexer.specs.declared.runs.Run.TheVariants.{Digits}
+
+front_is : (text : List ℕ) → 0 < length text → sql_front text ≡ cond (is_name_start (get_or text 0 0)) (word_front text) (ascii_front (get_or text 0 0) text (drop 1 text))
+unfolding sql_front
+front_is [] lt = absurd (omega arith)
+front_is (b ∷ bs) lt = refl
+
+pub front_word : (bs xs : List ℕ) → xs ≡ bs → 0 < length bs → is_name_start (get_or xs 0 0) ≡ true → sql_front bs ≡ word_front bs
+front_word bs xs same lt h = front_is bs lt ∙ rw (rw same at h) refl
+
+pub front_ascii : (bs xs rest : List ℕ) → xs ≡ bs → 0 < length bs → is_name_start (get_or xs 0 0) ≡ false → rest ≡ drop 1 bs → sql_front bs ≡ ascii_front (get_or xs 0 0) bs rest
+front_ascii bs xs rest same lt h e = front_is bs lt ∙ rw (rw same at h, same, e) refl
+
+-- behind one byte of ASCII
+pub behind_one : (bs : List ℕ) (b : ℕ) → IsUtf8 bs → b ≡ get_or bs 0 0 → 0 < b → b < 128 → IsCharBoundary bs 1
+behind_one [] b utf8 is some small = absurd (omega (arith, is))
+behind_one (x ∷ xs) b utf8 is some small = IsCharBoundary-after_ascii (x ∷ xs) 0 utf8 (omega arith) (omega (arith, is))
+
+pub end_boundary : (bs xs : List ℕ) (n : ℕ) → IsUtf8 bs → xs ≡ bs → EndsAt xs n → IsCharBoundary bs n
+end_boundary bs xs n utf8 same ends =
+    let back : n - 1 + 1 ≡ n = omega (arith, ends.0) in
+    let within : n ≤ length bs = omega (arith, ends.1, ap length same) in
+    let slash : get_or bs (n - 1) 0 ≡ 47 = ap (λ x. get_or x (n - 1) 0) (sym same) ∙ ends.2 in
+    subst (IsCharBoundary bs) back (IsCharBoundary-after_ascii bs (n - 1) utf8 (omega (arith, ends.0)) (omega (arith, slash)))
+
+pub second_of_opening : (b c : ℕ) → (b == 47 && c == 42) ≡ true → (0 < c) × (c < 128)
+second_of_opening b c h =
+    let star : c ≡ 42 = eqb-true c 42 (and_parts (b == 47) (c == 42) h).1 in
+    (omega arith, omega arith)
+
+-- ---- signs of two bytes
+
+abbrev Small : ℕ → Option SqlSign → Type 0
+Small c o = (g : SqlSign) → o ≡ Some g → (0 < c) × (c < 128)
+
+one_of : (c : ℕ) (b : Bool) (x y : Option SqlSign) → (b ≡ true → (0 < c) × (c < 128)) → Small c y → Small c (cond b x y)
+one_of c true x y p q g e = p refl
+one_of c false x y p q g e = q g e
+
+none_small : (c : ℕ) → Small c None
+none_small c g e = absurd cc
+
+second_is : (b c x y : ℕ) → 0 < y → y < 128 → bytes_eq (b ∷ c ∷ []) (x ∷ y ∷ []) ≡ true → (0 < c) × (c < 128)
+second_is b c x y some small h =
+    let same : c ≡ y = eqb-true c y (and_parts (c == y) true (and_parts (b == x) (c == y && true) h).1).0 in
+    (omega arith, omega arith)
+
+either_is : (p q : Bool) (c : ℕ) → (p || q) ≡ true → (p ≡ true → (0 < c) × (c < 128)) → (q ≡ true → (0 < c) × (c < 128)) → (0 < c) × (c < 128)
+either_is true q c h l r = l refl
+either_is false q c h l r = r h
+
+pub second_of_two : (b c : ℕ) (g : SqlSign) → sign_of_two (b ∷ c ∷ []) ≡ Some g → (0 < c) × (c < 128)
+second_of_two b c =
+    let s : List ℕ = b ∷ c ∷ [] in
+    one_of c (bytes_eq s (60 ∷ 62 ∷ []) || bytes_eq s (33 ∷ 61 ∷ [])) _ _ (λ h. either_is _ _ c h (second_is b c 60 62 (omega arith) (omega arith)) (second_is b c 33 61 (omega arith) (omega arith)))
+    (one_of c (bytes_eq s (60 ∷ 61 ∷ [])) _ _ (second_is b c 60 61 (omega arith) (omega arith))
+    (one_of c (bytes_eq s (62 ∷ 61 ∷ [])) _ _ (second_is b c 62 61 (omega arith) (omega arith))
+    (one_of c (bytes_eq s (124 ∷ 124 ∷ [])) _ _ (second_is b c 124 124 (omega arith) (omega arith))
+    (one_of c (bytes_eq s (58 ∷ 58 ∷ [])) _ _ (second_is b c 58 58 (omega arith) (omega arith)) (none_small c)))))
+
+-- ---- numbers
+
+digit_range : (c : ℕ) → is_ascii_digit c ≡ true → IsInRange 48 57 c
+digit_range c h = (grind (arith, nat_tests), grind (arith, nat_tests))
+
+own : IsNumeralModel (λ ds. (i : ℕ) → i < length ds → IsInRange 48 57 (get_or ds i 0)) (digits_value 10)
+own = numerals_by_value _ tells_by_index
+
+pub digits_numeral : (text : List ℕ) → is_ascii_digit (slice_index text 0) ≡ true → IsNumeral 10 (run_of Digits text)
+digits_numeral [] h = absurd cc
+digits_numeral (b ∷ bs) h =
+    let text = b ∷ bs in
+    let n = prefix_len is_ascii_digit text in
+    let one : n ≡ 1 + prefix_len is_ascii_digit bs = rw h refl in
+    let len : length (take n text) ≡ n = length-prefix_len is_ascii_digit text in
+    (omega (arith, len, one), own.to (take n text) (λ i lt. let lt' : i < n = omega (arith, len) in rw (get_or-take n text i 0 lt') (digit_range _ (prefix_len_passes is_ascii_digit text i 0 lt'))))
+
+module _ (text ds rest : List ℕ) (n : ℕ) (de : ds ≡ run_of Digits text) (re : rest ≡ after_run Digits text) (is : n ≡ digits_value 10 ds) (le : n ≤ 9223372036854775807) where
+  fits : nat_lt 9223372036854775807 (digits_value 10 (run_of Digits text)) ≡ false
+  fits = le-ltb 9223372036854775807 (digits_value 10 (run_of Digits text)) (rw (← de, ← is) le)
+
+  pub number_cut_off : is_name_byte (slice_index rest 0) ≡ true → fault UnexpectedByte (length ds) ≡ number_front text
+  number_cut_off h = sym (rw (fits, ← re, h, ← de) refl)
+
+  pub number_whole : is_name_byte (slice_index rest 0) ≡ false → token (number n) rest ≡ number_front text
+  number_whole h = sym (rw (fits, ← re, h, ← de, ← is) refl)

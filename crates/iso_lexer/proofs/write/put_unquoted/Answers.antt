@@ -1,0 +1,20 @@
+use Rattle.std.proofs.Common.{rules, subst}
+use Rattle.std.specs.Io.KnownBytes.{Appends}
+use Rattle.iso_lexer.specs.Names.{unquoted}
+use Rattle.iso_lexer.proofs.Writing.{next_piece, up_to_quote, no_more_quotes, on_ok}
+use Rattle.iso_lexer.proofs.write.put_unquoted.Goals as goal
+
+pub loop-at-preserved : goal.loop-at-preserved
+loop-at-preserved g c =
+    let put = g.W.Sink.put_so_far in
+    record {
+      completes = next_piece (put c.args.out.now) (put c.loop-at.out) (put c.put.new.self) c.split_at.result.0.now (unquoted c.loop-at.rest.now) (unquoted c.split_at-in-Some.result.1.now) (unquoted c.args.text.now) c.loop-at.invariant.completes c.in_ok-put.ensures.bytes
+          (up_to_quote c.loop-at.rest.now c.split_at.result.0.now c.split_at.result.1.now c.split_at-in-Some.result.1.now c.in-Some.at c.min.result c.in-Some.ensures c.split_at.ensures.front c.split_at.ensures.back c.min.ensures c.split_at-in-Some.ensures.back);
+      stays = search rules;
+      within = search rules;
+    }
+
+pub returns-clause-bytes : goal.returns-clause-bytes
+returns-clause-bytes g c =
+    let put = g.W.Sink.put_so_far in
+    on_ok c.put-2.result c.put-2.ensures.bytes (λ h. c.loop-at.invariant.completes (put c.put-2.new.self) (subst (Appends (put c.loop-at.out) (put c.put-2.new.self)) (no_more_quotes c.loop-at.rest.now c.in_default.ensures) h))
