@@ -1,2 +1,5 @@
 pub mod Trees
 pub mod Statements
+pub mod Words
+pub mod Tokens
+pub mod Faults

@@ -1,5 +1,5 @@
 -- Trees of statements, without where they lie in memory: names stand decoded.
-use Rattle.std.specs.Prelude.{ℕ, Bool, List, [], ◌∷◌, map, Option, option_map}
+use Rattle.std.specs.Prelude.{ℕ, Bool, List, map, Option, option_map}
 use Rattle.std.specs.Global.{Vec}
 use Rattle.iso_lexer.specs.declared.name.Name.{Name}
 use Rattle.iso_lexer.specs.Names.{name_view, decoded}

@@ -2,12 +2,18 @@
 #![tactic(auto)]
 
 mod expr;
+mod fault;
 mod kind;
 mod stmt;
+mod token;
+mod word;
 
 pub use expr::{Agg, AggKind, Expr, Operator, Truth};
+pub use fault::SqlFault;
 pub use kind::{Dir, Kind};
 pub use stmt::{
     Column, CreateTable, Delete, DropTable, Insert, Item, Key, Level, Lock, OrderKey, Select, Stmt,
     Update,
 };
+pub use token::{Tok, classified};
+pub use word::{KEYWORDS, Word, word_of};

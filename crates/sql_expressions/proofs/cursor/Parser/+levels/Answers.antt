@@ -1,0 +1,75 @@
+use Rattle.std.proofs.Common.{refl, arith, rules, sym, ap, ◌∙◌, ℕ, ◌-◌}
+use Rattle.std.proofs.lemmas.Result.{err_from_is_err_and}
+use Rattle.sql_trees.specs.Tokens.{tok_views}
+use Rattle.sql_expressions.specs.Reading.{found, chain_op, chain_at, operand_at, inside, in_at}
+use Rattle.sql_expressions.proofs.Views.{in_tree}
+use Rattle.sql_expressions.proofs.Shortens.{shortens}
+use Rattle.sql_expressions.proofs.Chains.{passed_on, starts, starts_not, ends, no_room, no_operand, no_node, goes_on, list_starts, list_starts_not, list_ends, list_stops, list_next, comma_shortens, chain_at_is, opens}
+use Rattle.sql_expressions.proofs.cursor.Parser.+levels.Goals as goal
+
+pub chain-returns-in_err-left : goal.chain-returns-in_err-left
+chain-returns-in_err-left t c =
+    let p = err_from_is_err_and c.from_residual.result c.from_residual.ensures.1 in
+    rw (p.1, p.2, chain_at_is) (passed_on _ _ _ c.in_err-left.ensures (starts_not _ _ _))
+
+pub chain-loop-operator-init : goal.chain-loop-operator-init
+chain-loop-operator-init t c = rw chain_at_is (starts _ _ _ _ c.in_ok-left.ensures)
+
+pub chain-returns-in_err-deeper : goal.chain-returns-in_err-deeper
+chain-returns-in_err-deeper t c =
+    let p = err_from_is_err_and c.from_residual-in_err-deeper.result c.from_residual-in_err-deeper.ensures.1 in
+    rw (p.1, p.2) (passed_on _ _ _ c.in_err-deeper.ensures (λ f. no_room _ _ _ _ _ f c.loop-operator.invariant (sym c.in-Some.ensures)))
+
+pub chain-returns-in_err-right : goal.chain-returns-in_err-right
+chain-returns-in_err-right t c =
+    let p = err_from_is_err_and c.from_residual-in_err-right.result c.from_residual-in_err-right.ensures.1 in
+    rw (p.1, p.2) (passed_on _ _ _ c.in_err-right.ensures (λ f. no_operand _ _ _ _ _ _ f c.loop-operator.invariant (sym c.in-Some.ensures) c.in_ok-deeper.ensures))
+
+pub chain-returns-in_err-left-2 : goal.chain-returns-in_err-left-2
+chain-returns-in_err-left-2 t c =
+    let p = err_from_is_err_and c.from_residual-in_err-left-2.result c.from_residual-in_err-left-2.ensures.1 in
+    rw (p.1, p.2) (passed_on _ _ _ c.in_err-left-2.ensures.exact (λ f. no_node _ _ _ _ _ _ _ f c.loop-operator.invariant (sym c.in-Some.ensures) c.in_ok-deeper.ensures c.in_ok-right.ensures))
+
+pub chain-loop-operator-preserved : goal.chain-loop-operator-preserved
+chain-loop-operator-preserved t c = goes_on _ _ _ _ _ _ _ _ c.loop-operator.invariant (sym c.in-Some.ensures) c.in_ok-deeper.ensures c.in_ok-right.ensures c.in_ok-left-2.ensures.exact c.in_ok-left-2.ensures.deeper
+
+pub chain-returns : goal.chain-returns
+chain-returns t c = ends _ _ _ _ c.loop-operator.invariant (sym c.in_default.ensures)
+
+pub opened-returns-in-Whole : goal.opened-returns-in-Whole
+opened-returns-in-Whole t c = rw (opens c.args.self.text_len c.args.room c.args.level c.args.place (tok_views c.args.tokens.now) c.if-room-eq0.false, c.in-Whole.is) c.chain.ensures
+
+pub opened-returns-in-Unary : goal.opened-returns-in-Unary
+opened-returns-in-Unary t c = rw (opens c.args.self.text_len c.args.room c.args.level c.args.place (tok_views c.args.tokens.now) c.if-room-eq0.false, c.in-Unary.is) c.unary.ensures
+
+pub opened-returns-in-Negation : goal.opened-returns-in-Negation
+opened-returns-in-Negation t c = rw (opens c.args.self.text_len c.args.room c.args.level c.args.place (tok_views c.args.tokens.now) c.if-room-eq0.false, c.in-Negation.is) c.not.ensures
+
+pub contained-returns : goal.contained-returns
+unfolding in_at
+contained-returns t c = rw in_tree (search rules)
+
+pub list-returns-in_err-first : goal.list-returns-in_err-first
+list-returns-in_err-first t c =
+    let p = err_from_is_err_and c.from_residual.result c.from_residual.ensures.1 in
+    rw (p.1, p.2) (passed_on _ _ _ c.in_err-first.ensures (list_starts_not _ _))
+
+pub list-loop-after-init : goal.list-loop-after-init
+list-loop-after-init t c =
+    rw (c.in_ok-push.ensures.items, c.new-items.ensures.items) (list_starts _ _ _ _ c.in_ok-first.ensures refl (omega (arith, shortens _ _ _ _ _ _ c.in_ok-first.ensures)))
+
+pub list-returns-in_err-next : goal.list-returns-in_err-next
+list-returns-in_err-next t c =
+    let p = err_from_is_err_and c.from_residual-in_err-next.result c.from_residual-in_err-next.ensures.1 in
+    rw (p.1, p.2) (passed_on _ _ _ c.in_err-next.ensures (λ f. list_stops _ _ _ _ f c.loop-after.invariant (sym c.in-Some.ensures)))
+
+pub list-loop-after-smaller : goal.list-loop-after-smaller
+list-loop-after-smaller t c =
+    omega (arith, shortens _ _ _ _ _ _ c.in_ok-next.ensures, comma_shortens _ _ (sym c.in-Some.ensures))
+
+pub list-loop-after-preserved : goal.list-loop-after-preserved
+list-loop-after-preserved t c =
+    rw (c.in_ok-push-2.ensures.items, c.max-depth.ensures) (list_next _ c.loop-after.items.items c.loop-after.depth c.loop-after.rest.now _ _ c.in_ok-next.next c.in_ok-next.after.now c.loop-after.invariant (sym c.in-Some.ensures) c.in_ok-next.ensures (omega (arith, shortens _ _ _ _ _ _ c.in_ok-next.ensures, comma_shortens _ _ (sym c.in-Some.ensures))))
+
+pub list-returns : goal.list-returns
+list-returns t c = list_ends _ _ _ c.loop-after.invariant (sym c.in_default.ensures)

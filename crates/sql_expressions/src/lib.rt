@@ -1,0 +1,12 @@
+//! Expressions of SQL, read from tokens.
+#![tactic(auto)]
+
+mod cursor;
+mod expr;
+mod level;
+mod operator;
+mod parsed;
+
+pub use cursor::{Parser, Tokens, after_comma};
+pub use expr::{MAX_DEPTH, Read, parse_expr};
+pub use parsed::Parsed;

@@ -1,0 +1,8 @@
+use sql_trees::Expr;
+
+/// An expression, and its depth as it was written.
+#[derive(Debug, Drop)]
+pub struct Parsed<'a> {
+    pub expr: Expr<'a>,
+    pub depth: usize,
+}
