@@ -1,2 +1,4 @@
 pub mod Numbers
 pub mod Listing
+pub mod Reading
+pub mod FileLemmas

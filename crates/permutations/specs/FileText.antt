@@ -1,7 +1,7 @@
 -- The text that a spec file prints, as the README of PostgreSQL's src/test/isolation describes it.
 use Rattle.std.specs.Prelude.{ℕ, ℤ, ◌-◌, ◌==◌, ◌&&◌, ◌||◌, Bool, true, false, not, List, [], ◌∷◌, ◌++◌, length, map, decimal, codes, flat_map, Option, Some, None, is_none, option_and_then, slice_get, if◌then◌else◌}
-use Rattle.std.specs.List.{list_all, range_with_len}
-use Rattle.std.specs.Option.{option_map_or}
+use Rattle.std.specs.List.{list_all}
+use Rattle.std.specs.Option.{option_map_or, option_to_list}
 use Rattle.iso_lexer.specs.Names.{Written, decoded}
 use Rattle.spec_parser.specs.Trees.{PartTree, StepTree, SessionTree, EntryTree, SpecTree}
 use Rattle.permutations.specs.Shown.{shown}
@@ -17,26 +17,13 @@ maybe_text blocks part = option_map_or (block_text blocks) part []
 abbrev pub step_text : List (List ℤ) → StepTree → List ℕ
 step_text blocks s = codes "step " ++ decoded s.name ++ codes ": " ++ s.part.sql ++ 10 ∷ [] ++ block_text blocks s.part
 
--- the step that an entry names: sessions are numbered from 1, steps from 0
-abbrev pub step_of_session : ℕ → SessionTree → Option StepTree
-step_of_session k s = slice_get s.steps k
-
-abbrev pub named_step : List SessionTree → EntryTree → Option StepTree
-named_step sessions e = option_and_then (step_of_session e.step) (slice_get sessions (e.session - 1))
-
-abbrev pub entry_text : List SessionTree → List (List ℤ) → EntryTree → List ℕ
-entry_text sessions blocks e = option_map_or (step_text blocks) (named_step sessions e) []
-
 -- a blank and a step's name
 abbrev pub name_text : StepTree → List ℕ
 name_text s = 32 ∷ decoded s.name
 
-abbrev pub entry_name : List SessionTree → EntryTree → List ℕ
-entry_name sessions e = option_map_or name_text (named_step sessions e) []
-
 -- an empty line, and the names of the steps
-abbrev pub starting_text : List SessionTree → List EntryTree → List ℕ
-starting_text sessions entries = codes "\nstarting permutation:" ++ flat_map (entry_name sessions) entries ++ 10 ∷ []
+abbrev pub starting_text : List StepTree → List ℕ
+starting_text steps = codes "\nstarting permutation:" ++ flat_map name_text steps ++ 10 ∷ []
 
 abbrev pub setup_text : List (List ℤ) → SessionTree → List ℕ
 setup_text blocks s = maybe_text blocks s.setup
@@ -45,28 +32,39 @@ abbrev pub teardown_text : List (List ℤ) → SessionTree → List ℕ
 teardown_text blocks s = maybe_text blocks s.teardown
 
 -- the main setups, each session's setup, the steps, each session's teardown, the main teardown
-abbrev pub permutation_text : SpecTree → List (List ℤ) → List EntryTree → List ℕ
-permutation_text spec blocks entries =
-    starting_text spec.sessions entries
+abbrev pub permutation_text : SpecTree → List (List ℤ) → List StepTree → List ℕ
+permutation_text spec blocks steps =
+    starting_text steps
     ++ flat_map (block_text blocks) spec.setups
     ++ flat_map (setup_text blocks) spec.sessions
-    ++ flat_map (entry_text spec.sessions blocks) entries
+    ++ flat_map (step_text blocks) steps
     ++ flat_map (teardown_text blocks) spec.sessions
     ++ maybe_text blocks spec.teardown
 
 abbrev pub first_line : ℕ → List ℕ
 first_line n = codes "Parsed test spec with " ++ decimal n ++ codes " sessions\n"
 
--- all steps of the first session, in order
-abbrev pub plain_entry : ℕ → EntryTree
-plain_entry k = record { session = 1; step = k; markers = [] }
+-- ---- the permutations
 
-abbrev pub plain_entries : SessionTree → List EntryTree
-plain_entries s = map plain_entry (range_with_len 0 (length s.steps))
+-- the step that an entry names: sessions are numbered from 1, steps from 0
+abbrev pub step_of_session : ℕ → SessionTree → Option StepTree
+step_of_session k s = slice_get s.steps k
+
+abbrev pub named_step : List SessionTree → EntryTree → Option StepTree
+named_step sessions e = option_and_then (step_of_session e.step) (slice_get sessions (e.session - 1))
+
+abbrev pub steps_of_entry : List SessionTree → EntryTree → List StepTree
+steps_of_entry sessions e = option_to_list (named_step sessions e)
+
+abbrev pub named_steps : List SessionTree → List EntryTree → List StepTree
+named_steps sessions entries = flat_map (steps_of_entry sessions) entries
+
+abbrev pub own_steps : SessionTree → List StepTree
+own_steps s = s.steps
 
 -- the permutations of the file; without any, the steps of its one session in order
-abbrev pub permutations_of : SpecTree → List (List EntryTree)
-permutations_of spec = if length spec.perms == 0 then map plain_entries spec.sessions else spec.perms
+abbrev pub permutations_of : SpecTree → List (List StepTree)
+permutations_of spec = if length spec.perms == 0 then map own_steps spec.sessions else map (named_steps spec.sessions) spec.perms
 
 abbrev pub file_text : SpecTree → List (List ℤ) → List ℕ
 file_text spec blocks = first_line (length spec.sessions) ++ flat_map (permutation_text spec blocks) (permutations_of spec)

@@ -1,4 +1,9 @@
 pub mod Literals
 pub mod Steps
 pub mod Shown
+pub mod Blocks
 pub mod FileText
+pub mod Faults
+pub mod FileSays
+pub mod BlockAnswers
+pub mod Runs

@@ -1,36 +1,26 @@
 //! Writes what a spec file prints.
 
-ghost use Rattle.std.specs.Prelude.{◌≡◌, ◌++◌, ◌∷◌, [], OnOk, Option, option_map, map, length, flat_map, slice_get, is_some};
+ghost use Rattle.std.specs.Prelude.{◌≡◌, ◌++◌, OnOk, option_map, map, flat_map};
 ghost use Rattle.iso_lexer.specs.Names.{name_view, decoded};
-ghost use Rattle.spec_parser.specs.Trees.{part_view, step_view, session_view, entry_view, perm_view, spec_view};
-ghost use Rattle.permutations.specs.Shown.{shown};
-ghost use Rattle.permutations.specs.FileText.{block_text, maybe_text, step_text, named_step, entry_text, entry_name, starting_text, setup_text, teardown_text, permutation_text, first_line};
+ghost use Rattle.spec_parser.specs.Trees.{part_view, step_view, session_view, spec_view};
+ghost use Rattle.permutations.specs.BlockAnswers.{items_of};
+ghost use Rattle.permutations.specs.FileText.{block_text, maybe_text, step_text, name_text, starting_text, setup_text, teardown_text, permutation_text, first_line};
 
 use crate::page::Page;
 use crate::shown::push_shown;
-use iso_lexer::Name;
+use iso_lexer::{Name, write_name};
 use itoa::Buffer;
-use spec_parser::{Entry, Part, SessionPart, Spec, StepPart};
+use spec_parser::{Part, SessionPart, Spec, StepPart};
 use std::alloc::AllocError;
-
-fn named_step<'s, 'a>(sessions: &'s [SessionPart<'a>], entry: &Entry) -> Option<&'s StepPart<'a>>
-    ensures { option_map (λ s. step_view s.now) result ≡ named_step (map session_view sessions.now) (entry_view entry.now) }
-{
-    let session = sessions.get(entry.session.saturating_sub(1) as usize)?;
-    session.steps.get(entry.step as usize)
-}
 
 fn push_name(page: &mut Page, name: &Name<'_>) -> Result<(), AllocError>
     ensures { OnOk result (page.new.bytes.items ≡ page.old.bytes.items ++ decoded (name_view name.now)) }
 {
-    match name {
-        Name::Plain(s) => page.push(s.as_bytes()),
-        _ => Err(AllocError),
-    }
+    write_name(page, name).map_err(|_| AllocError)
 }
 
 fn push_block(page: &mut Page, blocks: &[Vec<i32>], part: &Part<'_>) -> Result<(), AllocError>
-    ensures { OnOk result (page.new.bytes.items ≡ page.old.bytes.items ++ block_text (map (λ b. b.items) blocks.now) (part_view part.now)) }
+    ensures { OnOk result (page.new.bytes.items ≡ page.old.bytes.items ++ block_text (map items_of blocks.now) (part_view part.now)) }
 {
     match blocks.get(part.block as usize) {
         Some(numbers) => push_shown(page, numbers),
@@ -43,7 +33,7 @@ fn push_maybe(
     blocks: &[Vec<i32>],
     part: &Option<Part<'_>>,
 ) -> Result<(), AllocError>
-    ensures { OnOk result (page.new.bytes.items ≡ page.old.bytes.items ++ maybe_text (map (λ b. b.items) blocks.now) (option_map part_view part.now)) }
+    ensures { OnOk result (page.new.bytes.items ≡ page.old.bytes.items ++ maybe_text (map items_of blocks.now) (option_map part_view part.now)) }
 {
     match part {
         Some(part) => push_block(page, blocks, part),
@@ -52,7 +42,7 @@ fn push_maybe(
 }
 
 fn push_step(page: &mut Page, blocks: &[Vec<i32>], step: &StepPart<'_>) -> Result<(), AllocError>
-    ensures { OnOk result (page.new.bytes.items ≡ page.old.bytes.items ++ step_text (map (λ b. b.items) blocks.now) (step_view step.now)) }
+    ensures { OnOk result (page.new.bytes.items ≡ page.old.bytes.items ++ step_text (map items_of blocks.now) (step_view step.now)) }
 {
     page.push(b"step ")?;
     push_name(page, &step.name)?;
@@ -62,64 +52,27 @@ fn push_step(page: &mut Page, blocks: &[Vec<i32>], step: &StepPart<'_>) -> Resul
     push_block(page, blocks, &step.part)
 }
 
-fn push_entry(
-    page: &mut Page,
-    sessions: &[SessionPart<'_>],
-    blocks: &[Vec<i32>],
-    entry: &Entry,
-) -> Result<(), AllocError>
-    ensures { OnOk result (page.new.bytes.items ≡ page.old.bytes.items ++ entry_text (map session_view sessions.now) (map (λ b. b.items) blocks.now) (entry_view entry.now)) }
+fn push_names(page: &mut Page, steps: &[StepPart<'_>]) -> Result<(), AllocError>
+    ensures { OnOk result (page.new.bytes.items ≡ page.old.bytes.items ++ flat_map name_text (map step_view steps.now)) }
 {
-    match named_step(sessions, entry) {
-        Some(step) => push_step(page, blocks, step),
-        None => Ok(()),
-    }
-}
-
-fn push_entry_name(
-    page: &mut Page,
-    sessions: &[SessionPart<'_>],
-    entry: &Entry,
-) -> Result<(), AllocError>
-    ensures { OnOk result (page.new.bytes.items ≡ page.old.bytes.items ++ entry_name (map session_view sessions.now) (entry_view entry.now)) }
-{
-    match named_step(sessions, entry) {
-        Some(step) => {
-            page.push(b" ")?;
-            push_name(page, &step.name)
-        }
-        None => Ok(()),
-    }
-}
-
-fn push_entry_names(
-    page: &mut Page,
-    sessions: &[SessionPart<'_>],
-    entries: &[Entry],
-) -> Result<(), AllocError>
-    ensures { OnOk result (page.new.bytes.items ≡ page.old.bytes.items ++ flat_map (entry_name (map session_view sessions.now)) (map entry_view entries.now)) }
-{
-    for entry in entries {
-        push_entry_name(page, sessions, entry)?;
+    for step in steps {
+        page.push(b" ")?;
+        push_name(page, &step.name)?;
     }
     Ok(())
 }
 
-fn push_starting(
-    page: &mut Page,
-    sessions: &[SessionPart<'_>],
-    entries: &[Entry],
-) -> Result<(), AllocError>
-    ensures { OnOk result (page.new.bytes.items ≡ page.old.bytes.items ++ starting_text (map session_view sessions.now) (map entry_view entries.now)) }
+fn push_starting(page: &mut Page, steps: &[StepPart<'_>]) -> Result<(), AllocError>
+    ensures { OnOk result (page.new.bytes.items ≡ page.old.bytes.items ++ starting_text (map step_view steps.now)) }
 {
     page.push(b"\nstarting permutation:")?;
-    push_entry_names(page, sessions, entries)?;
+    push_names(page, steps)?;
     page.push(b"\n")?;
     Ok(())
 }
 
 fn push_blocks(page: &mut Page, blocks: &[Vec<i32>], parts: &[Part<'_>]) -> Result<(), AllocError>
-    ensures { OnOk result (page.new.bytes.items ≡ page.old.bytes.items ++ flat_map (block_text (map (λ b. b.items) blocks.now)) (map part_view parts.now)) }
+    ensures { OnOk result (page.new.bytes.items ≡ page.old.bytes.items ++ flat_map (block_text (map items_of blocks.now)) (map part_view parts.now)) }
 {
     for part in parts {
         push_block(page, blocks, part)?;
@@ -132,7 +85,7 @@ fn push_setups(
     blocks: &[Vec<i32>],
     sessions: &[SessionPart<'_>],
 ) -> Result<(), AllocError>
-    ensures { OnOk result (page.new.bytes.items ≡ page.old.bytes.items ++ flat_map (setup_text (map (λ b. b.items) blocks.now)) (map session_view sessions.now)) }
+    ensures { OnOk result (page.new.bytes.items ≡ page.old.bytes.items ++ flat_map (setup_text (map items_of blocks.now)) (map session_view sessions.now)) }
 {
     for session in sessions {
         push_maybe(page, blocks, &session.setup)?;
@@ -145,7 +98,7 @@ fn push_teardowns(
     blocks: &[Vec<i32>],
     sessions: &[SessionPart<'_>],
 ) -> Result<(), AllocError>
-    ensures { OnOk result (page.new.bytes.items ≡ page.old.bytes.items ++ flat_map (teardown_text (map (λ b. b.items) blocks.now)) (map session_view sessions.now)) }
+    ensures { OnOk result (page.new.bytes.items ≡ page.old.bytes.items ++ flat_map (teardown_text (map items_of blocks.now)) (map session_view sessions.now)) }
 {
     for session in sessions {
         push_maybe(page, blocks, &session.teardown)?;
@@ -153,33 +106,32 @@ fn push_teardowns(
     Ok(())
 }
 
-fn push_entries(
+fn push_steps(
     page: &mut Page,
-    sessions: &[SessionPart<'_>],
     blocks: &[Vec<i32>],
-    entries: &[Entry],
+    steps: &[StepPart<'_>],
 ) -> Result<(), AllocError>
-    ensures { OnOk result (page.new.bytes.items ≡ page.old.bytes.items ++ flat_map (entry_text (map session_view sessions.now) (map (λ b. b.items) blocks.now)) (map entry_view entries.now)) }
+    ensures { OnOk result (page.new.bytes.items ≡ page.old.bytes.items ++ flat_map (step_text (map items_of blocks.now)) (map step_view steps.now)) }
 {
-    for entry in entries {
-        push_entry(page, sessions, blocks, entry)?;
+    for step in steps {
+        push_step(page, blocks, step)?;
     }
     Ok(())
 }
 
-/// The text of a permutation.
+/// The text of a permutation, by its steps.
 pub fn push_permutation(
     page: &mut Page,
     spec: &Spec<'_>,
     blocks: &[Vec<i32>],
-    entries: &[Entry],
+    steps: &[StepPart<'_>],
 ) -> Result<(), AllocError>
-    ensures { OnOk result (page.new.bytes.items ≡ page.old.bytes.items ++ permutation_text (spec_view spec.now) (map (λ b. b.items) blocks.now) (map entry_view entries.now)) }
+    ensures { OnOk result (page.new.bytes.items ≡ page.old.bytes.items ++ permutation_text (spec_view spec.now) (map items_of blocks.now) (map step_view steps.now)) }
 {
-    push_starting(page, &spec.sessions, entries)?;
+    push_starting(page, steps)?;
     push_blocks(page, blocks, &spec.setups)?;
     push_setups(page, blocks, &spec.sessions)?;
-    push_entries(page, &spec.sessions, blocks, entries)?;
+    push_steps(page, blocks, steps)?;
     push_teardowns(page, blocks, &spec.sessions)?;
     push_maybe(page, blocks, &spec.teardown)?;
     Ok(())

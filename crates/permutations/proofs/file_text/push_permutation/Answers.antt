@@ -3,5 +3,5 @@ use Rattle.permutations.proofs.file_text.push_permutation.Goals as goal
 
 pub returns : goal.returns
 returns c =
-    rw (c.in_ok-push_maybe.ensures, c.in_ok-push_teardowns.ensures, c.in_ok-push_entries.ensures, c.in_ok-push_setups.ensures, c.in_ok-push_blocks.ensures, c.in_ok-push_starting.ensures)
-    (simp (c.deref.ensures.value, c.deref-2.ensures.value, c.deref-3.ensures.value, c.deref-4.ensures.value, c.deref-5.ensures.value, append_assoc))
+    rw (c.in_ok-push_maybe.ensures, c.in_ok-push_teardowns.ensures, c.in_ok-push_steps.ensures, c.in_ok-push_setups.ensures, c.in_ok-push_blocks.ensures, c.in_ok-push_starting.ensures)
+    (simp (c.deref.ensures.value, c.deref-2.ensures.value, c.deref-3.ensures.value, append_assoc))

@@ -1,0 +1,22 @@
+-- How faults of the parts are told.
+use Rattle.iso_lexer.specs.declared.whole.ReadFault.{ReadFault}
+use Rattle.iso_lexer.specs.declared.whole.ReadFault.TheVariants as read_faults
+use Rattle.spec_parser.specs.declared.fault.SpecFault.{SpecFault}
+use Rattle.spec_parser.specs.declared.fault.SpecFault.TheVariants as spec_faults
+use Rattle.permutations.specs.declared.fault.RunFault.{RunFault}
+use Rattle.permutations.specs.declared.fault.RunFault.TheVariants as faults
+
+abbrev pub read_fault : ReadFault → RunFault
+read_fault read_faults.Memory = faults.Memory
+read_fault read_faults.Device = faults.Read
+
+-- a fault of the tokens is told as such
+abbrev pub spec_fault : SpecFault → RunFault
+spec_fault spec_faults.Memory = faults.Memory
+spec_fault (spec_faults.Lex f) = faults.Lex f
+spec_fault (spec_faults.Expected what at) = faults.Spec (spec_faults.Expected what at)
+spec_fault (spec_faults.DuplicateStep at) = faults.Spec (spec_faults.DuplicateStep at)
+spec_fault (spec_faults.UndefinedStep at) = faults.Spec (spec_faults.UndefinedStep at)
+spec_fault (spec_faults.UndefinedMarker at) = faults.Spec (spec_faults.UndefinedMarker at)
+spec_fault (spec_faults.NoticesLeftOut at) = faults.Spec (spec_faults.NoticesLeftOut at)
+spec_fault (spec_faults.Limit at) = faults.Spec (spec_faults.Limit at)
