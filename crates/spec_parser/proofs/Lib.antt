@@ -1,0 +1,6 @@
+pub mod Local
+pub mod Productions
+pub mod Loops
+pub mod Resolving
+pub mod TokenCount
+pub mod Whole

@@ -1,0 +1,362 @@
+-- The readings of the grammar's productions are local.
+use Rattle.std.proofs.Common.{◌≡◌, ◌<◌, ◌+◌, arith, length, ℕ, zero, suc, Bool, true, false, cond, List, [], ◌∷◌, ◌++◌, Option, Some, None, Result, Ok, Err, refl, sym, ap, subst, ◌∙◌, append_assoc}
+use Rattle.std.specs.Prelude.{unwrap_or, nat_lt}
+use Rattle.std.proofs.lemmas.List.{append-nil}
+use Rattle.iso_lexer.specs.declared.token.At.{At}
+use Rattle.iso_lexer.specs.declared.spec_token.Keyword.{Keyword}
+use Rattle.iso_lexer.specs.declared.spec_token.Keyword.TheVariants.{Permutation, Session, Setup, Step, Teardown, Notices}
+use Rattle.iso_lexer.specs.declared.spec_token.Sign.{Sign}
+use Rattle.iso_lexer.specs.declared.spec_token.Sign.TheVariants.{Open, Close, Comma, Star}
+use Rattle.iso_lexer.specs.Names.{plain}
+use Rattle.iso_lexer.specs.SpecTokens.{Token, keyword, name, digits, sign, block}
+use Rattle.spec_parser.specs.declared.fault.What.{What}
+use Rattle.spec_parser.specs.declared.fault.What.TheVariants as what
+use Rattle.spec_parser.specs.declared.fault.Stop.TheVariants.{Expected, NoticesLeftOut, OverLimit}
+use Rattle.spec_parser.specs.Trees.{PartTree, NameAt, NamedStep, NamedSession, MarkerTree, star, named, NamedEntry, FileTree}
+use Rattle.spec_parser.specs.Counts.{Counts, past, past_token}
+use Rattle.spec_parser.specs.Reading.{Rest, Read, ◌>>=◌, same_word, same_sign, is_word, is_sign, is_name, first_is, starts_word, starts_sign, starts_name, the_word, the_sign, the_name, the_block, word_at, sign_at, name_at, block_at, end_at, name_within, block_after, setup_at, teardown_at, setups_at, step_at, steps_at, session_at, sessions_at, no_notices, marker_at, next_marker_at, next_markers_at, markers_at, some_markers_at, entry_at, entries_at, perm_at, perms_at, file_at}
+use Rattle.spec_parser.specs.Grammar.{Grammar, gives, one, Maybe, Many, some, Either, first, second, block_behind, step, session, marker, markers, entry, perm, file}
+use Rattle.spec_parser.specs.Grammar.{◌>>=◌ as ◌▸◌}
+use Rattle.spec_parser.specs.Laws.{head}
+use Rattle.spec_parser.proofs.Local.{Local, AreLocal, Inhabited, Within, token_local, then, then_from, seq_inhabited, gives_inhabited, gives_local, by_head, choice, wider, at_once, maybe_local, maybe_inhabited, many_local, many_inhabited, some_local, some_inhabited, first_takes, shortens}
+
+-- ---- one token
+
+made : Token → At Token
+made t = record { tok = t; span = record { start = 0; end = 0 } }
+
+same_itself : (k : Keyword) → same_word k k ≡ true
+same_itself Permutation = refl
+same_itself Session = refl
+same_itself Setup = refl
+same_itself Step = refl
+same_itself Teardown = refl
+same_itself Notices = refl
+
+same_sign_itself : (g : Sign) → same_sign g g ≡ true
+same_sign_itself Open = refl
+same_sign_itself Close = refl
+same_sign_itself Comma = refl
+same_sign_itself Star = refl
+
+word_inhabited : (k : Keyword) → Inhabited (one (the_word k))
+unfolding made
+word_inhabited k c = (made (keyword k) ∷ [], tt, (made (keyword k), refl, rw (same_itself k) refl))
+
+sign_inhabited : (g : Sign) → Inhabited (one (the_sign g))
+unfolding made
+sign_inhabited g c = (made (sign g) ∷ [], tt, (made (sign g), refl, rw (same_sign_itself g) refl))
+
+name_inhabited : Inhabited (one the_name)
+unfolding made
+name_inhabited c = (made (name (plain [])) ∷ [], record { name = plain []; at = 0 }, (made (name (plain [])), refl, refl))
+
+block_inhabited : Inhabited (one the_block)
+unfolding made
+block_inhabited c = (made (block 0 []) ∷ [], record { sql = []; at = 1; block = c.blocks }, (made (block 0 []), refl, refl))
+
+word_local : (k : Keyword) (w : What) → AreLocal (one (the_word k)) (word_at k w)
+unfolding word_at
+word_local k w = token_local (the_word k) w (word_inhabited k)
+
+sign_local : (g : Sign) (w : What) → AreLocal (one (the_sign g)) (sign_at g w)
+unfolding sign_at
+sign_local g w = token_local (the_sign g) w (sign_inhabited g)
+
+name_local : (w : What) → AreLocal (one the_name) (name_at w)
+unfolding name_at
+name_local w = token_local the_name w name_inhabited
+
+block_local : AreLocal (one the_block) block_at
+unfolding block_at
+block_local = token_local the_block what.Block block_inhabited
+
+name_within_local : (before most : ℕ) → AreLocal (one the_name) (name_within before most)
+unfolding name_within
+name_within_local before most = choice (λ r. nat_lt before most) (name_at what.Name) _ (λ c d xs ys h. refl) (name_local what.Name)
+    (choice starts_name (λ r. (Err OverLimit, r)) (λ r. (Err (Expected what.Name), r)) (by_head is_name)
+    (λ c ts. at_once (one the_name) (Err OverLimit) c ts (name_inhabited c))
+    (λ c ts. at_once (one the_name) (Err (Expected what.Name)) c ts (name_inhabited c)))
+
+-- ---- blocks
+
+pub block_behind_inhabited : (k : Keyword) → Inhabited (block_behind k)
+block_behind_inhabited k = seq_inhabited (one (the_word k)) (λ _. one the_block) (word_inhabited k) (λ _. block_inhabited)
+
+pub block_after_local : (k : Keyword) → AreLocal (block_behind k) (block_after k)
+unfolding block_after
+block_after_local k = then {G = one (the_word k)} {H = λ _. one the_block} (word_at k what.Item) (λ key. block_at key.1) (word_local k what.Item) (λ _. block_inhabited) (λ _. block_local)
+
+pub setup_local : AreLocal (Maybe (block_behind Setup)) setup_at
+unfolding setup_at
+setup_local = maybe_local (block_behind Setup) (starts_word Setup) (block_after Setup) (by_head (is_word Setup)) (block_after_local Setup)
+
+pub teardown_local : AreLocal (Maybe (block_behind Teardown)) teardown_at
+unfolding teardown_at
+teardown_local = maybe_local (block_behind Teardown) (starts_word Teardown) (block_after Teardown) (by_head (is_word Teardown)) (block_after_local Teardown)
+
+pub setups_local : AreLocal (Many (block_behind Setup)) setups_at
+unfolding setups_at
+setups_local = many_local (block_behind Setup) (starts_word Setup) (λ k. block_after Setup) (by_head (is_word Setup)) (λ c. refl) (first_takes (the_word Setup) (λ _. one the_block)) (λ k. block_after_local Setup)
+
+-- ---- steps
+
+abbrev step_of : NameAt → PartTree → NamedStep
+step_of n b = record { name = n; part = b }
+
+step_end_inhabited : (n : NameAt) → Inhabited (one the_block ▸ λ b. gives (step_of n b))
+step_end_inhabited n = seq_inhabited (one the_block) (λ b. gives (step_of n b)) block_inhabited (λ b. gives_inhabited (step_of n b))
+
+after_step_inhabited : Inhabited (one the_name ▸ λ n. one the_block ▸ λ b. gives (step_of n b))
+after_step_inhabited = seq_inhabited (one the_name) (λ n. one the_block ▸ λ b. gives (step_of n b)) name_inhabited step_end_inhabited
+
+step_inhabited : Inhabited step
+step_inhabited = seq_inhabited (one (the_word Step)) (λ _. one the_name ▸ λ n. one the_block ▸ λ b. gives (step_of n b)) (word_inhabited Step) (λ _. after_step_inhabited)
+
+step_end_local : (n : NameAt) → AreLocal (one the_block ▸ λ b. gives (step_of n b)) (λ r. block_at r >>= λ b. (Ok (step_of n b.0), b.1))
+step_end_local n = then {G = one the_block} {H = λ b. gives (step_of n b)} block_at (λ b. (Ok (step_of n b.0), b.1)) block_local (λ b. gives_inhabited (step_of n b)) (λ b. gives_local (step_of n b))
+
+pub step_local : AreLocal step step_at
+unfolding step_at
+step_local = then_from {G = one (the_word Step)} {H = λ _. one the_name ▸ λ n. one the_block ▸ λ b. gives (step_of n b)} (word_at Step what.Item)
+    (λ d key. name_within d.steps 1000 key.1 >>= λ n. block_at n.1 >>= λ b. (Ok (step_of n.0 b.0), b.1)) (word_local Step what.Item) (λ _. after_step_inhabited)
+    (λ d _. then {G = one the_name} {H = λ n. one the_block ▸ λ b. gives (step_of n b)} (name_within d.steps 1000) (λ n. block_at n.1 >>= λ b. (Ok (step_of n.0 b.0), b.1)) (name_within_local d.steps 1000) step_end_inhabited step_end_local)
+
+pub steps_local : AreLocal (some step) steps_at
+unfolding steps_at
+steps_local = some_local step what.Step (starts_word Step) (λ k. step_at) step_inhabited (by_head (is_word Step)) (λ c. refl) (first_takes (the_word Step) (λ _. one the_name ▸ λ n. one the_block ▸ λ b. gives (step_of n b))) (λ k. step_local)
+
+-- ---- sessions
+
+abbrev session_of : NameAt → Option PartTree → List NamedStep → Option PartTree → NamedSession
+session_of n setup steps teardown = record { name = n.name; setup = setup; steps = steps; teardown = teardown }
+
+abbrev TornDown : NameAt → Option PartTree → List NamedStep → Grammar NamedSession
+TornDown n setup steps = Maybe (block_behind Teardown) ▸ λ teardown. gives (session_of n setup steps teardown)
+
+abbrev Stepped : NameAt → Option PartTree → Grammar NamedSession
+Stepped n setup = some step ▸ TornDown n setup
+
+abbrev SetUp : NameAt → Grammar NamedSession
+SetUp n = Maybe (block_behind Setup) ▸ Stepped n
+
+torn_inhabited : (n : NameAt) (setup : Option PartTree) (steps : List NamedStep) → Inhabited (TornDown n setup steps)
+torn_inhabited n setup steps = seq_inhabited (Maybe (block_behind Teardown)) (λ teardown. gives (session_of n setup steps teardown)) (maybe_inhabited (block_behind Teardown)) (λ teardown. gives_inhabited (session_of n setup steps teardown))
+
+stepped_inhabited : (n : NameAt) (setup : Option PartTree) → Inhabited (Stepped n setup)
+stepped_inhabited n setup = seq_inhabited (some step) (TornDown n setup) (some_inhabited step step_inhabited) (torn_inhabited n setup)
+
+set_up_inhabited : (n : NameAt) → Inhabited (SetUp n)
+set_up_inhabited n = seq_inhabited (Maybe (block_behind Setup)) (Stepped n) (maybe_inhabited (block_behind Setup)) (stepped_inhabited n)
+
+named_inhabited : Inhabited (one the_name ▸ SetUp)
+named_inhabited = seq_inhabited (one the_name) SetUp name_inhabited set_up_inhabited
+
+session_inhabited : Inhabited session
+session_inhabited = seq_inhabited (one (the_word Session)) (λ _. one the_name ▸ SetUp) (word_inhabited Session) (λ _. named_inhabited)
+
+torn_local : (n : NameAt) (setup : Option PartTree) (steps : List NamedStep) → AreLocal (TornDown n setup steps) (λ r. teardown_at r >>= λ teardown. (Ok (session_of n setup steps teardown.0), teardown.1))
+torn_local n setup steps = then {G = Maybe (block_behind Teardown)} {H = λ teardown. gives (session_of n setup steps teardown)} teardown_at (λ teardown. (Ok (session_of n setup steps teardown.0), teardown.1)) teardown_local (λ teardown. gives_inhabited (session_of n setup steps teardown)) (λ teardown. gives_local (session_of n setup steps teardown))
+
+stepped_local : (n : NameAt) (setup : Option PartTree) → AreLocal (Stepped n setup) (λ r. steps_at r >>= λ steps. teardown_at steps.1 >>= λ teardown. (Ok (session_of n setup steps.0 teardown.0), teardown.1))
+stepped_local n setup = then {G = some step} {H = TornDown n setup} steps_at (λ steps. teardown_at steps.1 >>= λ teardown. (Ok (session_of n setup steps.0 teardown.0), teardown.1)) steps_local (torn_inhabited n setup) (torn_local n setup)
+
+set_up_local : (n : NameAt) → AreLocal (SetUp n) (λ r. setup_at r >>= λ setup. steps_at setup.1 >>= λ steps. teardown_at steps.1 >>= λ teardown. (Ok (session_of n setup.0 steps.0 teardown.0), teardown.1))
+set_up_local n = then {G = Maybe (block_behind Setup)} {H = Stepped n} setup_at (λ setup. steps_at setup.1 >>= λ steps. teardown_at steps.1 >>= λ teardown. (Ok (session_of n setup.0 steps.0 teardown.0), teardown.1)) setup_local (stepped_inhabited n) (stepped_local n)
+
+pub session_local : AreLocal session session_at
+unfolding session_at
+session_local = then_from {G = one (the_word Session)} {H = λ _. one the_name ▸ SetUp} (word_at Session what.Item)
+    (λ d key. name_within d.sessions 64 key.1 >>= λ n. setup_at n.1 >>= λ setup. steps_at setup.1 >>= λ steps. teardown_at steps.1 >>= λ teardown. (Ok (session_of n.0 setup.0 steps.0 teardown.0), teardown.1)) (word_local Session what.Item) (λ _. named_inhabited)
+    (λ d _. then {G = one the_name} {H = SetUp} (name_within d.sessions 64) (λ n. setup_at n.1 >>= λ setup. steps_at setup.1 >>= λ steps. teardown_at steps.1 >>= λ teardown. (Ok (session_of n.0 setup.0 steps.0 teardown.0), teardown.1)) (name_within_local d.sessions 64) set_up_inhabited set_up_local)
+
+pub sessions_local : AreLocal (some session) sessions_at
+unfolding sessions_at
+sessions_local = some_local session what.Session (starts_word Session) (λ k. session_at) session_inhabited (by_head (is_word Session)) (λ c. refl) (first_takes (the_word Session) (λ _. one the_name ▸ SetUp)) (λ k. session_local)
+
+-- ---- markers
+
+no_notices_local : (n : NameAt) → AreLocal (gives (named n)) (no_notices n)
+unfolding no_notices
+no_notices_local n = choice (starts_word Notices) (λ r. (Err NoticesLeftOut, r)) (λ r. (Ok (named n), r)) (by_head (is_word Notices))
+    (λ c ts. at_once (gives (named n)) (Err NoticesLeftOut) c ts (gives_inhabited (named n) c))
+    (gives_local (named n))
+
+abbrev AStar : Grammar MarkerTree
+AStar = one (the_sign Star) ▸ λ _. gives star
+
+abbrev AName : Grammar MarkerTree
+AName = one the_name ▸ λ n. gives (named n)
+
+star_is : Within AStar marker
+star_is c ts x h = first h
+
+name_is : Within AName marker
+name_is c ts x h = second h
+
+marker_inhabited : Inhabited marker
+marker_inhabited c = let a = seq_inhabited (one (the_sign Star)) (λ _. gives star) (sign_inhabited Star) (λ _. gives_inhabited star) c in (a.0, a.1, first a.2)
+
+pub marker_local : AreLocal marker marker_at
+unfolding marker_at
+marker_local = choice (starts_sign Star) (λ r. sign_at Star what.Marker r >>= λ key. (Ok star, key.1)) (λ r. name_at what.Marker r >>= λ n. no_notices n.0 n.1) (by_head (is_sign Star))
+    (wider {G = AStar} {K = marker} (λ r. sign_at Star what.Marker r >>= λ key. (Ok star, key.1)) star_is (then {G = one (the_sign Star)} {H = λ _. gives star} (sign_at Star what.Marker) (λ key. (Ok star, key.1)) (sign_local Star what.Marker) (λ _. gives_inhabited star) (λ _. gives_local star)))
+    (wider {G = AName} {K = marker} (λ r. name_at what.Marker r >>= λ n. no_notices n.0 n.1) name_is (then {G = one the_name} {H = λ n. gives (named n)} (name_at what.Marker) (λ n. no_notices n.0 n.1) (name_local what.Marker) (λ n. gives_inhabited (named n)) no_notices_local))
+
+abbrev NextMarker : Grammar MarkerTree
+NextMarker = one (the_sign Comma) ▸ λ _. marker
+
+pub next_marker_local : AreLocal NextMarker next_marker_at
+unfolding next_marker_at
+next_marker_local = then {G = one (the_sign Comma)} {H = λ _. marker} (sign_at Comma what.CommaOrClose) (λ comma. marker_at comma.1) (sign_local Comma what.CommaOrClose) (λ _. marker_inhabited) (λ _. marker_local)
+
+pub next_markers_local : AreLocal (Many NextMarker) next_markers_at
+unfolding next_markers_at
+next_markers_local = many_local NextMarker (starts_sign Comma) (λ k. next_marker_at) (by_head (is_sign Comma)) (λ c. refl) (first_takes (the_sign Comma) (λ _. marker)) (λ k. next_marker_local)
+
+abbrev Closed : MarkerTree → List MarkerTree → Grammar (List MarkerTree)
+Closed m others = one (the_sign Close) ▸ λ _. gives (m ∷ others)
+
+abbrev Marked : MarkerTree → Grammar (List MarkerTree)
+Marked m = Many NextMarker ▸ Closed m
+
+closed_inhabited : (m : MarkerTree) (others : List MarkerTree) → Inhabited (Closed m others)
+closed_inhabited m others = seq_inhabited (one (the_sign Close)) (λ _. gives (m ∷ others)) (sign_inhabited Close) (λ _. gives_inhabited (m ∷ others))
+
+marked_inhabited : (m : MarkerTree) → Inhabited (Marked m)
+marked_inhabited m = seq_inhabited (Many NextMarker) (Closed m) (many_inhabited NextMarker) (closed_inhabited m)
+
+opened_inhabited : Inhabited (marker ▸ Marked)
+opened_inhabited = seq_inhabited marker Marked marker_inhabited marked_inhabited
+
+closed_local : (m : MarkerTree) (others : List MarkerTree) → AreLocal (Closed m others) (λ r. sign_at Close what.CommaOrClose r >>= λ closed. (Ok (m ∷ others), closed.1))
+closed_local m others = then {G = one (the_sign Close)} {H = λ _. gives (m ∷ others)} (sign_at Close what.CommaOrClose) (λ closed. (Ok (m ∷ others), closed.1)) (sign_local Close what.CommaOrClose) (λ _. gives_inhabited (m ∷ others)) (λ _. gives_local (m ∷ others))
+
+marked_local : (m : MarkerTree) → AreLocal (Marked m) (λ r. next_markers_at r >>= λ others. sign_at Close what.CommaOrClose others.1 >>= λ closed. (Ok (m ∷ others.0), closed.1))
+marked_local m = then {G = Many NextMarker} {H = Closed m} next_markers_at (λ others. sign_at Close what.CommaOrClose others.1 >>= λ closed. (Ok (m ∷ others.0), closed.1)) next_markers_local (closed_inhabited m) (closed_local m)
+
+pub markers_local : AreLocal markers markers_at
+unfolding markers_at
+markers_local = then {G = one (the_sign Open)} {H = λ _. marker ▸ Marked} (sign_at Open what.Item)
+    (λ opened. marker_at opened.1 >>= λ m. next_markers_at m.1 >>= λ others. sign_at Close what.CommaOrClose others.1 >>= λ closed. (Ok (m.0 ∷ others.0), closed.1)) (sign_local Open what.Item) (λ _. opened_inhabited)
+    (λ _. then {G = marker} {H = Marked} marker_at (λ m. next_markers_at m.1 >>= λ others. sign_at Close what.CommaOrClose others.1 >>= λ closed. (Ok (m.0 ∷ others.0), closed.1)) marker_local marked_inhabited marked_local)
+
+pub some_markers_local : AreLocal (Maybe markers) some_markers_at
+unfolding some_markers_at
+some_markers_local = maybe_local markers (starts_sign Open) markers_at (by_head (is_sign Open)) markers_local
+
+-- ---- permutations
+
+abbrev entry_of : NameAt → Option (List MarkerTree) → NamedEntry
+entry_of n ms = record { name = n; markers = unwrap_or ms [] }
+
+after_entry_inhabited : (n : NameAt) → Inhabited (Maybe markers ▸ λ ms. gives (entry_of n ms))
+after_entry_inhabited n = seq_inhabited (Maybe markers) (λ ms. gives (entry_of n ms)) (maybe_inhabited markers) (λ ms. gives_inhabited (entry_of n ms))
+
+entry_inhabited : Inhabited entry
+entry_inhabited = seq_inhabited (one the_name) (λ n. Maybe markers ▸ λ ms. gives (entry_of n ms)) name_inhabited after_entry_inhabited
+
+pub entry_local : (k : ℕ) → AreLocal entry (entry_at k)
+unfolding entry_at
+entry_local k = then {G = one the_name} {H = λ n. Maybe markers ▸ λ ms. gives (entry_of n ms)} (name_within k 1000) (λ n. some_markers_at n.1 >>= λ ms. (Ok (entry_of n.0 ms.0), ms.1)) (name_within_local k 1000) after_entry_inhabited
+    (λ n. then {G = Maybe markers} {H = λ ms. gives (entry_of n ms)} some_markers_at (λ ms. (Ok (entry_of n ms.0), ms.1)) some_markers_local (λ ms. gives_inhabited (entry_of n ms)) (λ ms. gives_local (entry_of n ms)))
+
+pub entries_local : AreLocal (some entry) entries_at
+unfolding entries_at
+entries_local = some_local entry what.Name starts_name entry_at entry_inhabited (by_head is_name) (λ c. refl) (first_takes the_name (λ n. Maybe markers ▸ λ ms. gives (entry_of n ms))) entry_local
+
+perm_inhabited : Inhabited perm
+perm_inhabited = seq_inhabited (one (the_word Permutation)) (λ _. some entry) (word_inhabited Permutation) (λ _. some_inhabited entry entry_inhabited)
+
+pub perm_local : AreLocal perm perm_at
+unfolding perm_at
+perm_local = then {G = one (the_word Permutation)} {H = λ _. some entry} (word_at Permutation what.Item) (λ key. entries_at key.1) (word_local Permutation what.Item) (λ _. some_inhabited entry entry_inhabited) (λ _. entries_local)
+
+pub perms_local : AreLocal (Many perm) perms_at
+unfolding perms_at
+perms_local = many_local perm (starts_word Permutation) (λ k. perm_at) (by_head (is_word Permutation)) (λ c. refl) (first_takes (the_word Permutation) (λ _. some entry)) (λ k. perm_local)
+
+-- ---- the file
+
+no_head : (t : At Token) → ◌≡◌ {A = Option (At Token)} (Some t) None → ⊥
+no_head t e = cc
+
+not_none : (t : At Token) → ◌≡◌ {A = Option (At Token)} None (Some t) → ⊥
+not_none t e = cc
+
+nothing_there : (c : Counts) (others : List (At Token)) → head others ≡ None → end_at (c, others) ≡ (Ok tt, (c, others))
+unfolding end_at
+nothing_there c [] h = refl
+nothing_there c (t ∷ others) h = absurd (no_head t h)
+
+something_there : (c : Counts) (t : At Token) (others : List (At Token)) → head others ≡ Some t → end_at (c, others) ≡ (Err (Expected what.Item), (c, others))
+unfolding end_at
+something_there c t [] h = absurd (not_none t h)
+something_there c t (s ∷ others) h = refl
+
+abbrev nothing : Grammar (Unit {0})
+nothing = gives {A = Unit {0}} tt
+
+end_local : AreLocal nothing end_at
+end_local c [] = record { out = Ok tt; front = []; rest = []; split = refl; local = λ others h. nothing_there c others h; means = (refl, refl) }
+end_local c (t ∷ ts) = record { out = Err (Expected what.Item); front = []; rest = t ∷ ts; split = refl; local = λ others h. something_there c t others h; means = gives_inhabited {A = Unit {0}} tt c }
+
+abbrev file_of : List PartTree → Option PartTree → List NamedSession → List (List NamedEntry) → FileTree
+file_of setups teardown sessions perms = record { setups = setups; teardown = teardown; sessions = sessions; perms = perms }
+
+abbrev Permuted : List PartTree → Option PartTree → List NamedSession → Grammar FileTree
+Permuted setups teardown sessions = Many perm ▸ λ perms. gives (file_of setups teardown sessions perms)
+
+abbrev Held : List PartTree → Option PartTree → Grammar FileTree
+Held setups teardown = some session ▸ Permuted setups teardown
+
+abbrev Ended : List PartTree → Grammar FileTree
+Ended setups = Maybe (block_behind Teardown) ▸ Held setups
+
+ended_is : (f : FileTree) → Within (nothing ▸ λ _. gives f) (gives f)
+ended_is f c ts x (u, xs, ys, e, (left, _), (right, is)) = (e ∙ (λ i. left i ++ right i), is)
+
+ended_local : (f : FileTree) → AreLocal (gives f) (λ r. end_at r >>= λ ended. (Ok f, ended.1))
+ended_local f = wider {G = nothing ▸ λ _. gives f} {K = gives f} (λ r. end_at r >>= λ ended. (Ok f, ended.1)) (ended_is f) (then {G = nothing} {H = λ _. gives f} end_at (λ ended. (Ok f, ended.1)) end_local (λ _. gives_inhabited f) (λ _. gives_local f))
+
+permuted_inhabited : (setups : List PartTree) (teardown : Option PartTree) (sessions : List NamedSession) → Inhabited (Permuted setups teardown sessions)
+permuted_inhabited setups teardown sessions = seq_inhabited (Many perm) (λ perms. gives (file_of setups teardown sessions perms)) (many_inhabited perm) (λ perms. gives_inhabited (file_of setups teardown sessions perms))
+
+held_inhabited : (setups : List PartTree) (teardown : Option PartTree) → Inhabited (Held setups teardown)
+held_inhabited setups teardown = seq_inhabited (some session) (Permuted setups teardown) (some_inhabited session session_inhabited) (permuted_inhabited setups teardown)
+
+torn_file_inhabited : (setups : List PartTree) → Inhabited (Ended setups)
+torn_file_inhabited setups = seq_inhabited (Maybe (block_behind Teardown)) (Held setups) (maybe_inhabited (block_behind Teardown)) (held_inhabited setups)
+
+permuted_local : (setups : List PartTree) (teardown : Option PartTree) (sessions : List NamedSession) → AreLocal (Permuted setups teardown sessions) (λ r. perms_at r >>= λ perms. end_at perms.1 >>= λ ended. (Ok (file_of setups teardown sessions perms.0), ended.1))
+permuted_local setups teardown sessions = then {G = Many perm} {H = λ perms. gives (file_of setups teardown sessions perms)} perms_at (λ perms. end_at perms.1 >>= λ ended. (Ok (file_of setups teardown sessions perms.0), ended.1)) perms_local (λ perms. gives_inhabited (file_of setups teardown sessions perms)) (λ perms. ended_local (file_of setups teardown sessions perms))
+
+held_local : (setups : List PartTree) (teardown : Option PartTree) → AreLocal (Held setups teardown) (λ r. sessions_at r >>= λ sessions. perms_at sessions.1 >>= λ perms. end_at perms.1 >>= λ ended. (Ok (file_of setups teardown sessions.0 perms.0), ended.1))
+held_local setups teardown = then {G = some session} {H = Permuted setups teardown} sessions_at (λ sessions. perms_at sessions.1 >>= λ perms. end_at perms.1 >>= λ ended. (Ok (file_of setups teardown sessions.0 perms.0), ended.1)) sessions_local (permuted_inhabited setups teardown) (permuted_local setups teardown)
+
+torn_file_local : (setups : List PartTree) → AreLocal (Ended setups) (λ r. teardown_at r >>= λ teardown. sessions_at teardown.1 >>= λ sessions. perms_at sessions.1 >>= λ perms. end_at perms.1 >>= λ ended. (Ok (file_of setups teardown.0 sessions.0 perms.0), ended.1))
+torn_file_local setups = then {G = Maybe (block_behind Teardown)} {H = Held setups} teardown_at (λ teardown. sessions_at teardown.1 >>= λ sessions. perms_at sessions.1 >>= λ perms. end_at perms.1 >>= λ ended. (Ok (file_of setups teardown.0 sessions.0 perms.0), ended.1)) teardown_local (held_inhabited setups) (held_local setups)
+
+pub file_local : AreLocal file file_at
+unfolding file_at
+file_local = then {G = Many (block_behind Setup)} {H = Ended} setups_at (λ setups. teardown_at setups.1 >>= λ teardown. sessions_at teardown.1 >>= λ sessions. perms_at sessions.1 >>= λ perms. end_at perms.1 >>= λ ended. (Ok (file_of setups.0 teardown.0 sessions.0 perms.0), ended.1)) setups_local torn_file_inhabited torn_file_local
+
+-- ---- what is read is shorter
+
+pub block_shorter : (k : Keyword) (r after : Rest) (b : PartTree) → block_after k r ≡ (Ok b, after) → length after.1 < length r.1
+block_shorter k = shortens (block_behind k) (block_after k) (first_takes (the_word k) (λ _. one the_block)) (block_after_local k)
+
+pub step_shorter : (r after : Rest) (s : NamedStep) → step_at r ≡ (Ok s, after) → length after.1 < length r.1
+step_shorter = shortens step step_at (first_takes (the_word Step) (λ _. one the_name ▸ λ n. one the_block ▸ λ b. gives (step_of n b))) step_local
+
+pub session_shorter : (r after : Rest) (s : NamedSession) → session_at r ≡ (Ok s, after) → length after.1 < length r.1
+session_shorter = shortens session session_at (first_takes (the_word Session) (λ _. one the_name ▸ SetUp)) session_local
+
+pub next_marker_shorter : (r after : Rest) (m : MarkerTree) → next_marker_at r ≡ (Ok m, after) → length after.1 < length r.1
+next_marker_shorter = shortens NextMarker next_marker_at (first_takes (the_sign Comma) (λ _. marker)) next_marker_local
+
+pub entry_shorter : (k : ℕ) (r after : Rest) (e : NamedEntry) → entry_at k r ≡ (Ok e, after) → length after.1 < length r.1
+entry_shorter k = shortens entry (entry_at k) (first_takes the_name (λ n. Maybe markers ▸ λ ms. gives (entry_of n ms))) (entry_local k)
+
+pub perm_shorter : (r after : Rest) (es : List NamedEntry) → perm_at r ≡ (Ok es, after) → length after.1 < length r.1
+perm_shorter = shortens perm perm_at (first_takes (the_word Permutation) (λ _. some entry)) perm_local

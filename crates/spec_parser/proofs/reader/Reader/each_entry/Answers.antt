@@ -1,0 +1,36 @@
+use Rattle.std.proofs.Common.{◌≡◌, [], length, ap, sym, subst, ◌∙◌, is_ok, map, refl, arith, ◌-◌}
+use Rattle.std.proofs.lemmas.Result.{err_from_is_err_and}
+use Rattle.std.proofs.ResultArms.{chosen}
+use Rattle.spec_parser.specs.Trees.{entry_name_view}
+use Rattle.spec_parser.specs.Reading.{starts_name, entry_at, all_at, is_name}
+use Rattle.spec_parser.specs.Readers.{FailsAs, rest_of}
+use Rattle.spec_parser.proofs.Loops.{SoFar, on_end, on_item, on_stop, behind_nothing, views_push, views_len, starts_nonempty}
+use Rattle.spec_parser.proofs.Productions.{entry_shorter}
+use Rattle.spec_parser.proofs.reader.Reader.each_entry.Goals as goal
+
+pub returns-in_err-item-clause-reads : goal.returns-in_err-item-clause-reads
+returns-in_err-item-clause-reads c =
+    let p = err_from_is_err_and c.from_residual.result c.from_residual.ensures.1 in
+    let inv = c.loop-alloc.invariant in
+    let k_is : length (map entry_name_view c.loop-alloc.items.items) - 0 ≡ c.len.result = omega (arith, views_len entry_name_view c.loop-alloc.items.items, c.len.ensures, c.loop-alloc.items.ok.0) in
+    rw (p.1, p.2) (subst (FailsAs c.args.self.now.end c.in_err-item.field-0.0) (behind_nothing (all_at starts_name entry_at (rest_of c.args.self.now))) (on_stop starts_name entry_at [] (rest_of c.args.self.now) (map entry_name_view c.loop-alloc.items.items) (rest_of c.loop-alloc.self) c.args.self.now.end c.in_err-item.field-0.0 (sym c.loop-alloc-test.ensures) (starts_nonempty (is_name) (rest_of c.loop-alloc.self) (sym c.loop-alloc-test.ensures)) (subst (λ k. FailsAs c.args.self.now.end c.in_err-item.field-0.0 (entry_at k (rest_of c.loop-alloc.self))) (sym k_is) (subst (λ e. FailsAs e c.in_err-item.field-0.0 (entry_at c.len.result (rest_of c.loop-alloc.self))) inv.same.end c.in_err-item.ensures.reads)) inv.so_far))
+
+pub loop-alloc-smaller : goal.loop-alloc-smaller
+loop-alloc-smaller c = entry_shorter c.len.result (rest_of c.loop-alloc.self) (rest_of c.entry.new.self) _ c.in_ok-item.ensures.reads
+
+pub loop-alloc-preserved : goal.loop-alloc-preserved
+loop-alloc-preserved c =
+    let inv = c.loop-alloc.invariant in
+    let k_is : length (map entry_name_view c.loop-alloc.items.items) - 0 ≡ c.len.result = omega (arith, views_len entry_name_view c.loop-alloc.items.items, c.len.ensures, c.loop-alloc.items.ok.0) in
+    let pushed = chosen _ _ _ _ c.push.ensures.items (ap is_ok c.in_ok-push.was) in
+    let shorter = entry_shorter c.len.result (rest_of c.loop-alloc.self) (rest_of c.entry.new.self) _ c.in_ok-item.ensures.reads in
+    let one = on_item starts_name entry_at [] (rest_of c.args.self.now) (map entry_name_view c.loop-alloc.items.items) (rest_of c.loop-alloc.self) (rest_of c.entry.new.self) (entry_name_view c.in_ok-item.item) (sym c.loop-alloc-test.ensures) (ap (λ k. entry_at k (rest_of c.loop-alloc.self)) k_is ∙ c.in_ok-item.ensures.reads) shorter inv.so_far in
+    record {
+      same = record { tokens = c.in_ok-item.ensures.same.tokens ∙ inv.same.tokens; end = c.in_ok-item.ensures.same.end ∙ inv.same.end };
+      so_far = subst (λ ts. SoFar starts_name entry_at [] (rest_of c.args.self.now) ts (rest_of c.entry.new.self)) (sym (views_push entry_name_view c.loop-alloc.items.items _ _ pushed)) one;
+    }
+
+pub returns-clause-reads : goal.returns-clause-reads
+returns-clause-reads c =
+    let inv = c.loop-alloc.invariant in
+    sym (behind_nothing (all_at starts_name entry_at (rest_of c.args.self.now))) ∙ on_end starts_name entry_at [] (rest_of c.args.self.now) (map entry_name_view c.loop-alloc.items.items) (rest_of c.loop-alloc.self) (sym c.loop-alloc-test.ensures) inv.so_far

@@ -1,0 +1,14 @@
+use Rattle.std.proofs.Common.{[], length}
+use Rattle.std.specs.Prelude.{map}
+use Rattle.iso_lexer.specs.declared.spec_token.Keyword.TheVariants.{Session}
+use Rattle.spec_parser.specs.Trees.{session_draft_view}
+use Rattle.spec_parser.specs.Reading.{starts_word, session_at}
+use Rattle.spec_parser.specs.Readers.{rest_of, Same}
+use Rattle.spec_parser.proofs.Loops.{SoFar}
+use Rattle.spec_parser.proofs.reader.Reader.each_session.Given as goal
+
+abbrev pub invariant-loop-alloc : goal.invariant-loop-alloc
+invariant-loop-alloc l = record { same : Same l.fn.self l.self; so_far : SoFar (starts_word Session) (λ k. session_at) [] (rest_of l.fn.self) (map session_draft_view l.items.items) (rest_of l.self) }
+
+abbrev pub decreases-loop-alloc : goal.decreases-loop-alloc
+decreases-loop-alloc l = length (rest_of l.self).1

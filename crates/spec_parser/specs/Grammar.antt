@@ -1,0 +1,107 @@
+-- The grammar of spec files (README of src/test/isolation, "Test specification"): one definition for each production.
+use Rattle.std.specs.Prelude.{◌≡◌, ℕ, ◌<◌, List, [], ◌∷◌, ◌++◌, length, Option, Some, None, unwrap_or}
+use Rattle.iso_lexer.specs.declared.token.At.{At}
+use Rattle.iso_lexer.specs.declared.spec_token.Keyword.{Keyword}
+use Rattle.iso_lexer.specs.declared.spec_token.Keyword.TheVariants.{Permutation, Session, Setup, Step, Teardown}
+use Rattle.iso_lexer.specs.declared.spec_token.Sign.{Sign}
+use Rattle.iso_lexer.specs.declared.spec_token.Sign.TheVariants.{Open, Close, Comma, Star}
+use Rattle.iso_lexer.specs.SpecTokens.{Token}
+use Rattle.spec_parser.specs.Trees.{PartTree, NameAt, NamedStep, NamedSession, MarkerTree, star, named, NamedEntry, FileTree}
+use Rattle.spec_parser.specs.Counts.{Counts, past}
+use Rattle.spec_parser.specs.Reading.{the_word, the_sign, the_name, the_block}
+
+-- that these tokens, behind what is counted, say this
+abbrev pub Grammar : Type 0 → Type 1
+Grammar A = Counts → List (At Token) → A → Type 0
+
+-- one thing and then another, which may depend on what the first says
+infixl 10 ◌>>=◌
+abbrev pub ◌>>=◌ : {A B : Type 0} → Grammar A → (A → Grammar B) → Grammar B
+◌>>=◌ {A} {B} G H c ts z = (x : A) × (xs : List (At Token)) × (ys : List (At Token)) × (ts ≡ xs ++ ys) × G c xs x × H x (past c xs) ys z
+
+-- no token
+abbrev pub gives : {A : Type 0} → A → Grammar A
+gives v c ts x = (ts ≡ []) × (x ≡ v)
+
+-- one token, which says this
+abbrev pub one : {A : Type 0} → (Counts → At Token → Option A) → Grammar A
+one f c ts x = (t : At Token) × (ts ≡ t ∷ []) × (f c t ≡ Some x)
+
+-- it, or no token
+pub data Maybe {A : Type 0} (G : Grammar A) (c : Counts) : List (At Token) → Option A → Type 0 where
+  left_out : Maybe G c [] None
+  given : {ts : List (At Token)} {x : A} → G c ts x → Maybe G c ts (Some x)
+
+-- so many, one after another
+pub data Many {A : Type 0} (G : Grammar A) : Counts → List (At Token) → List A → Type 0 where
+  none : {c : Counts} → Many G c [] []
+  more : {c : Counts} {ts : List (At Token)} {x : A} {others : List A} (xs ys : List (At Token)) → ts ≡ xs ++ ys → G c xs x → Many G (past c xs) ys others → Many G c ts (x ∷ others)
+
+-- one at least
+abbrev pub some : {A : Type 0} → Grammar A → Grammar (List A)
+some G c ts xs = Many G c ts xs × (0 < length xs)
+
+-- one or the other
+pub data Either {A : Type 0} (G H : Grammar A) (c : Counts) (ts : List (At Token)) (x : A) : Type 0 where
+  first : G c ts x → Either G H c ts x
+  second : H c ts x → Either G H c ts x
+
+-- ---- productions
+
+abbrev pub block_behind : Keyword → Grammar PartTree
+block_behind k = do
+  _ ← one (the_word k)
+  one the_block
+
+-- "step" name block
+abbrev pub step : Grammar NamedStep
+step = do
+  _ ← one (the_word Step)
+  n ← one the_name
+  b ← one the_block
+  gives (record { name = n; part = b })
+
+-- "session" name ["setup" block] step+ ["teardown" block]
+abbrev pub session : Grammar NamedSession
+session = do
+  _ ← one (the_word Session)
+  n ← one the_name
+  setup ← Maybe (block_behind Setup)
+  steps ← some step
+  teardown ← Maybe (block_behind Teardown)
+  gives (record { name = n.name; setup = setup; steps = steps; teardown = teardown })
+
+-- "*" | name
+abbrev pub marker : Grammar MarkerTree
+marker = Either (one (the_sign Star) >>= λ _. gives star) (one the_name >>= λ n. gives (named n))
+
+-- "(" marker {"," marker} ")"
+abbrev pub markers : Grammar (List MarkerTree)
+markers = do
+  _ ← one (the_sign Open)
+  m ← marker
+  others ← Many (one (the_sign Comma) >>= λ _. marker)
+  _ ← one (the_sign Close)
+  gives (m ∷ others)
+
+-- name [markers]
+abbrev pub entry : Grammar NamedEntry
+entry = do
+  n ← one the_name
+  ms ← Maybe markers
+  gives (record { name = n; markers = unwrap_or ms [] })
+
+-- "permutation" entry+
+abbrev pub perm : Grammar (List NamedEntry)
+perm = do
+  _ ← one (the_word Permutation)
+  some entry
+
+-- {"setup" block} ["teardown" block] session+ {perm}
+abbrev pub file : Grammar FileTree
+file = do
+  setups ← Many (block_behind Setup)
+  teardown ← Maybe (block_behind Teardown)
+  sessions ← some session
+  perms ← Many perm
+  gives (record { setups = setups; teardown = teardown; sessions = sessions; perms = perms })

@@ -1,0 +1,25 @@
+-- What contracts see of the steps by name, and of what was resolved.
+use Rattle.std.specs.Prelude.{◌≡◌, Result, Ok, Err}
+use Rattle.spec_parser.specs.declared.known.KnownStep.{KnownStep}
+use Rattle.spec_parser.specs.declared.fault.SpecFault.{SpecFault}
+use Rattle.spec_parser.specs.declared.fault.SpecFault.TheVariants as faults
+use Rattle.spec_parser.specs.Trees.{placed_view}
+use Rattle.spec_parser.specs.Names.{StepAt}
+
+abbrev pub known_view : KnownStep → StepAt
+known_view s = record { name = placed_view s.name; session = s.session; step = s.step }
+
+abbrev pub FailsWith : {Y : Type 0} → SpecFault → Result Y SpecFault → Type 0
+FailsWith faults.Memory wanted = Unit {0}
+FailsWith (faults.Lex f) wanted = wanted ≡ Err (faults.Lex f)
+FailsWith (faults.Expected w at) wanted = wanted ≡ Err (faults.Expected w at)
+FailsWith (faults.DuplicateStep at) wanted = wanted ≡ Err (faults.DuplicateStep at)
+FailsWith (faults.UndefinedStep at) wanted = wanted ≡ Err (faults.UndefinedStep at)
+FailsWith (faults.UndefinedMarker at) wanted = wanted ≡ Err (faults.UndefinedMarker at)
+FailsWith (faults.NoticesLeftOut at) wanted = wanted ≡ Err (faults.NoticesLeftOut at)
+FailsWith (faults.Limit at) wanted = wanted ≡ Err (faults.Limit at)
+
+-- what was returned, seen so, is this; or memory ran out
+abbrev pub IsAs : {X Y : Type 0} → (X → Y) → Result X SpecFault → Result Y SpecFault → Type 0
+IsAs view (Ok x) wanted = wanted ≡ Ok (view x)
+IsAs view (Err e) wanted = FailsWith e wanted

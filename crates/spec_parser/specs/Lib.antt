@@ -1,0 +1,11 @@
+pub mod Trees
+pub mod Faults
+pub mod Places
+pub mod Counts
+pub mod Reading
+pub mod Readers
+pub mod Grammar
+pub mod Laws
+pub mod Names
+pub mod Known
+pub mod SpecText

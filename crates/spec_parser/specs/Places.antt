@@ -1,0 +1,20 @@
+-- Where the text of a block begins.
+use Rattle.std.specs.Prelude.{◌≡◌, ℕ, ◌+◌, ◌<◌, ◌^◌, List, length, slice_index_or}
+use Rattle.iso_lexer.specs.declared.token.At.{At}
+use Rattle.iso_lexer.specs.declared.spec_token.SpecTok.{SpecTok}
+use Rattle.iso_lexer.specs.SpecTokens.{Token, keyword, name, digits, sign, block, at_view}
+
+abbrev pub text_start_of : Token → ℕ → ℕ
+text_start_of (block blanks sql) at = at + 1 + blanks
+text_start_of (keyword k) at = 0
+text_start_of (name n) at = 0
+text_start_of (digits d) at = 0
+text_start_of (sign s) at = 0
+
+-- the byte at which a block's text begins, behind the brace and its blanks
+abbrev pub text_start : At Token → ℕ
+text_start t = text_start_of t.tok t.span.start
+
+-- each of these places is a number of 64 bits
+abbrev pub FitsAll : List (At SpecTok) → Type 0
+FitsAll ts = (k : ℕ) (t : At SpecTok) → k < length ts → text_start (at_view (slice_index_or ts k t)) < 2 ^ 64

@@ -1,0 +1,31 @@
+//! Reads a file's parts in their order.
+
+use crate::draft::FileDraft;
+use crate::fault::Halt;
+use crate::reader::Reader;
+use std::alloc::Global;
+
+impl<'t, 'a> Reader<'t, 'a> {
+    ghost use Rattle.spec_parser.specs.Trees.{file_view};
+    ghost use Rattle.spec_parser.specs.Reading.{file_at};
+    ghost use Rattle.spec_parser.specs.Readers.{rest_of, Same, Gives};
+
+    /// The whole file.
+    #[tactic(auto, unfolding(crate::specs::Reading::file_at))]
+    pub fn file(&mut self, alloc: Global) -> Result<FileDraft<'a>, Halt>
+        ensures same { Same self.old self.new }
+        ensures reads { Gives self.old.end (λ x. (file_view x, rest_of self.new)) result (file_at (rest_of self.old)) }
+    {
+        let setups = self.setups(alloc)?;
+        let teardown = self.teardown()?;
+        let sessions = self.sessions(alloc)?;
+        let perms = self.perms(alloc)?;
+        self.end()?;
+        Ok(FileDraft {
+            setups,
+            teardown,
+            sessions,
+            perms,
+        })
+    }
+}

@@ -1,0 +1,21 @@
+//! Spec files: sessions, their steps, and the orders in which the steps are run, in the format of PostgreSQL's
+//! isolation tester (README of `src/test/isolation`).
+#![tactic(auto)]
+
+mod draft;
+mod fault;
+mod file;
+mod known;
+mod parse;
+mod perms;
+mod reader;
+mod resolve;
+mod session;
+mod tree;
+
+pub use fault::{SpecFault, What};
+pub use parse::parse_spec;
+pub use tree::{Entry, Marker, Part, SessionPart, Spec, StepPart};
+
+#[cfg(test)]
+mod tests;

@@ -1,0 +1,161 @@
+//! Reads blocks, steps and sessions.
+
+use crate::draft::{PlacedName, SessionDraft, StepDraft};
+use crate::fault::{Halt, Stop, What};
+use crate::reader::Reader;
+use crate::tree::Part;
+use iso_lexer::Keyword;
+use std::alloc::Global;
+
+const MOST_SESSIONS: usize = 64;
+
+const MOST_STEPS: usize = 1000;
+
+impl<'t, 'a> Reader<'t, 'a> {
+    ghost use Rattle.std.specs.Prelude.{◌<◌, ◌^◌, IfOk, vec_len, option_map, map};
+    ghost use Rattle.iso_lexer.specs.declared.spec_token.Keyword.TheVariants.{Session, Step};
+    ghost use Rattle.spec_parser.specs.Trees.{part_view, placed_view, draft_view, session_draft_view};
+    ghost use Rattle.spec_parser.specs.Reading.{name_within, block_after, setup_at, teardown_at, setups_at, step_at, steps_at, session_at, sessions_at, all_at, starts_word};
+    ghost use Rattle.spec_parser.specs.Readers.{rest_of, Same, Gives};
+
+    /// The name of a thing behind `before` others of its kind, of which there may be `most`.
+    #[tactic(auto, unfolding(crate::specs::Reading::name_within))]
+    pub fn name_within(&mut self, before: usize, most: usize) -> Result<PlacedName<'a>, Halt>
+        ensures same { Same self.old self.new }
+        ensures reads { Gives self.old.end (λ x. (placed_view x, rest_of self.new)) result (name_within before most (rest_of self.old)) }
+    {
+        if before < most {
+            self.name(What::Name)
+        } else if self.starts_name() {
+            Err(self.stop(Stop::OverLimit))
+        } else {
+            Err(self.stop(Stop::Expected(What::Name)))
+        }
+    }
+
+    #[tactic(auto, unfolding(crate::specs::Reading::block_after))]
+    fn block_after(&mut self, word: Keyword) -> Result<Part<'a>, Halt>
+        ensures same { Same self.old self.new }
+        ensures reads { Gives self.old.end (λ x. (part_view x, rest_of self.new)) result (block_after word (rest_of self.old)) }
+    {
+        self.word(word, What::Item)?;
+        self.block()
+    }
+
+    #[tactic(auto, unfolding(crate::specs::Reading::setup_at))]
+    fn setup(&mut self) -> Result<Option<Part<'a>>, Halt>
+        ensures same { Same self.old self.new }
+        ensures reads { Gives self.old.end (λ x. (option_map part_view x, rest_of self.new)) result (setup_at (rest_of self.old)) }
+    {
+        if !self.starts_word(Keyword::Setup) {
+            return Ok(None);
+        }
+        let part = self.block_after(Keyword::Setup)?;
+        Ok(Some(part))
+    }
+
+    #[tactic(auto, unfolding(crate::specs::Reading::teardown_at))]
+    pub fn teardown(&mut self) -> Result<Option<Part<'a>>, Halt>
+        ensures same { Same self.old self.new }
+        ensures reads { Gives self.old.end (λ x. (option_map part_view x, rest_of self.new)) result (teardown_at (rest_of self.old)) }
+    {
+        if !self.starts_word(Keyword::Teardown) {
+            return Ok(None);
+        }
+        let part = self.block_after(Keyword::Teardown)?;
+        Ok(Some(part))
+    }
+
+    pub fn setups(&mut self, alloc: Global) -> Result<Vec<Part<'a>>, Halt>
+        ensures same { Same self.old self.new }
+        ensures reads { Gives self.old.end (λ x. (map part_view x.items, rest_of self.new)) result (setups_at (rest_of self.old)) }
+    {
+        let mut items = Vec::new(alloc);
+        while self.starts_word(Keyword::Setup) {
+            let item = self.block_after(Keyword::Setup)?;
+            items.push(item)?;
+        }
+        Ok(items)
+    }
+
+    #[tactic(auto, unfolding(crate::specs::Reading::step_at))]
+    fn step(&mut self) -> Result<StepDraft<'a>, Halt>
+        ensures same { Same self.old self.new }
+        ensures reads { Gives self.old.end (λ x. (draft_view x, rest_of self.new)) result (step_at (rest_of self.old)) }
+    {
+        let before = self.steps_so_far();
+        self.word(Keyword::Step, What::Item)?;
+        let name = self.name_within(before, MOST_STEPS)?;
+        let part = self.block()?;
+        Ok(StepDraft { name, part })
+    }
+
+    #[tactic(auto, unfolding(crate::specs::Reading::steps_at))]
+    fn steps(&mut self, alloc: Global) -> Result<Vec<StepDraft<'a>>, Halt>
+        ensures same { Same self.old self.new }
+        ensures few { IfOk result (λ x. vec_len x < 2 ^ 32) }
+        ensures reads { Gives self.old.end (λ x. (map draft_view x.items, rest_of self.new)) result (steps_at (rest_of self.old)) }
+    {
+        if !self.starts_word(Keyword::Step) {
+            return Err(self.stop(Stop::Expected(What::Step)));
+        }
+        self.each_step(alloc)
+    }
+
+    fn each_step(&mut self, alloc: Global) -> Result<Vec<StepDraft<'a>>, Halt>
+        ensures same { Same self.old self.new }
+        ensures few { IfOk result (λ x. vec_len x < 2 ^ 32) }
+        ensures reads { Gives self.old.end (λ x. (map draft_view x.items, rest_of self.new)) result (all_at (starts_word Step) (λ k. step_at) (rest_of self.old)) }
+    {
+        let mut items = Vec::new(alloc);
+        while self.starts_word(Keyword::Step) {
+            let item = self.step()?;
+            items.push(item)?;
+        }
+        Ok(items)
+    }
+
+    #[tactic(auto, unfolding(crate::specs::Reading::session_at))]
+    fn session(&mut self, alloc: Global) -> Result<SessionDraft<'a>, Halt>
+        ensures same { Same self.old self.new }
+        ensures reads { Gives self.old.end (λ x. (session_draft_view x, rest_of self.new)) result (session_at (rest_of self.old)) }
+    {
+        let before = self.sessions_so_far();
+        self.word(Keyword::Session, What::Item)?;
+        let name = self.name_within(before, MOST_SESSIONS)?;
+        let setup = self.setup()?;
+        let steps = self.steps(alloc)?;
+        let teardown = self.teardown()?;
+        Ok(SessionDraft {
+            name: name.name,
+            setup,
+            steps,
+            teardown,
+        })
+    }
+
+    #[tactic(auto, unfolding(crate::specs::Reading::sessions_at))]
+    pub fn sessions(&mut self, alloc: Global) -> Result<Vec<SessionDraft<'a>>, Halt>
+        ensures same { Same self.old self.new }
+        ensures few { IfOk result (λ x. vec_len x < 2 ^ 32) }
+        ensures reads { Gives self.old.end (λ x. (map session_draft_view x.items, rest_of self.new)) result (sessions_at (rest_of self.old)) }
+    {
+        if !self.starts_word(Keyword::Session) {
+            return Err(self.stop(Stop::Expected(What::Session)));
+        }
+        self.each_session(alloc)
+    }
+
+    fn each_session(&mut self, alloc: Global) -> Result<Vec<SessionDraft<'a>>, Halt>
+        ensures same { Same self.old self.new }
+        ensures few { IfOk result (λ x. vec_len x < 2 ^ 32) }
+        ensures reads { Gives self.old.end (λ x. (map session_draft_view x.items, rest_of self.new)) result (all_at (starts_word Session) (λ k. session_at) (rest_of self.old)) }
+    {
+        let mut items = Vec::new(alloc);
+        while self.starts_word(Keyword::Session) {
+            let item = self.session(alloc)?;
+            items.push(item)?;
+        }
+        Ok(items)
+    }
+}

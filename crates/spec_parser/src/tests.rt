@@ -1,0 +1,212 @@
+//! Worked texts. Where any one allocation fails, each test passes too: the call answers Memory, and nothing else.
+
+use super::*;
+use iso_lexer::Name;
+use std::alloc::{AllocError, Global};
+use std::process::Abort;
+use std::test::*;
+
+/// What is printed of a text's fault; nothing where there is none.
+fn told(alloc: Global, text: &str) -> Result<String, AllocError> {
+    match parse_spec(alloc, text) {
+        Ok(_) => Ok(String::new(alloc)),
+        Err(fault) => format!(in alloc; "{fault}"),
+    }
+}
+
+/// The text is refused as this, or memory ran out.
+fn refuses(rt: &impl Abort, alloc: Global, text: &str, fault: &str) -> Result<(), Fail> {
+    let told = told(alloc, text)?;
+    assert!(rt;
+        told.as_str() == fault || told.as_str() == "Memory",
+        "{fault}"
+    );
+    Ok(())
+}
+
+#[test]
+fn refusals_and_their_places(rt: HostRuntime) -> Result<(), Fail> {
+    refuses(&rt, rt.alloc(), "", "S1 Expected Session at byte 0")?;
+    refuses(
+        &rt,
+        rt.alloc(),
+        "session s step a { SELECT 1",
+        "L1 UnterminatedBlock at byte 17",
+    )?;
+    refuses(
+        &rt,
+        rt.alloc(),
+        "session s step a { } step a { }",
+        "S2 DuplicateStep at byte 26",
+    )?;
+    refuses(
+        &rt,
+        rt.alloc(),
+        "session s step a { } step \"a\" { }",
+        "S2 DuplicateStep at byte 26",
+    )?;
+    refuses(
+        &rt,
+        rt.alloc(),
+        "session s step a { } permutation b",
+        "S3 UndefinedStep at byte 33",
+    )?;
+    refuses(
+        &rt,
+        rt.alloc(),
+        "session s step a { } permutation a(b)",
+        "S4 UndefinedMarker at byte 35",
+    )?;
+    refuses(
+        &rt,
+        rt.alloc(),
+        "session s step a { } permutation a(a notices 1)",
+        "S5 NoticesLeftOut at byte 37",
+    )?;
+    refuses(
+        &rt,
+        rt.alloc(),
+        "setup { } session s teardown { }",
+        "S1 Expected Step at byte 20",
+    )?;
+    refuses(
+        &rt,
+        rt.alloc(),
+        "session step a { }",
+        "S1 Expected Name at byte 8",
+    )?;
+    refuses(
+        &rt,
+        rt.alloc(),
+        "session s step a b",
+        "S1 Expected Block at byte 17",
+    )?;
+    refuses(
+        &rt,
+        rt.alloc(),
+        "session s step a { } permutation",
+        "S1 Expected Name at byte 32",
+    )?;
+    refuses(
+        &rt,
+        rt.alloc(),
+        "session s step a { } permutation a(1)",
+        "S1 Expected Marker at byte 35",
+    )?;
+    refuses(
+        &rt,
+        rt.alloc(),
+        "session s step a { } permutation a(a b)",
+        "S1 Expected CommaOrClose at byte 37",
+    )?;
+    refuses(
+        &rt,
+        rt.alloc(),
+        "session s step a { } permutation a *",
+        "S1 Expected Item at byte 35",
+    )?;
+    refuses(
+        &rt,
+        rt.alloc(),
+        "session s step a { } step a { } permutation b setup",
+        "S1 Expected Item at byte 46",
+    )?;
+    refuses(
+        &rt,
+        rt.alloc(),
+        "session s step a { } permutation c(b) b",
+        "S3 UndefinedStep at byte 33",
+    )?;
+    refuses(
+        &rt,
+        rt.alloc(),
+        "session s step a { } permutation a(*, b) b",
+        "S4 UndefinedMarker at byte 38",
+    )
+}
+
+#[test]
+fn most_steps(rt: HostRuntime) -> Result<(), Fail> {
+    let mut text = String::new(rt.alloc());
+    text.push_str("session s")?;
+    for i in 0..1000 {
+        let one = format!(in rt.alloc(); " step a{i} {{ }}")?;
+        text.push_str(one.as_str())?;
+    }
+    refuses(&rt, rt.alloc(), text.as_str(), "")?;
+    text.push_str(" step a1000 { }")?;
+    refuses(&rt, rt.alloc(), text.as_str(), "S6 Limit at byte 13905")
+}
+
+#[test]
+fn most_sessions(rt: HostRuntime) -> Result<(), Fail> {
+    let mut text = String::new(rt.alloc());
+    for i in 0..64 {
+        let one = format!(in rt.alloc(); "session s{i} step a{i} {{ }} ")?;
+        text.push_str(one.as_str())?;
+    }
+    refuses(&rt, rt.alloc(), text.as_str(), "")?;
+    text.push_str("session s64 step a64 { }")?;
+    refuses(&rt, rt.alloc(), text.as_str(), "S6 Limit at byte 1588")
+}
+
+#[test]
+fn most_entries(rt: HostRuntime) -> Result<(), Fail> {
+    let mut text = String::new(rt.alloc());
+    text.push_str("session s step a { } permutation")?;
+    for _ in 0..1000 {
+        text.push_str(" a")?;
+    }
+    refuses(&rt, rt.alloc(), text.as_str(), "")?;
+    text.push_str(" a")?;
+    refuses(&rt, rt.alloc(), text.as_str(), "S6 Limit at byte 2033")
+}
+
+#[test]
+fn a_whole_file(rt: HostRuntime) -> Result<(), Fail> {
+    let text =
+        "setup {  CREATE }\nsetup { x }\nteardown { DROP }\nsession s1 setup { BEGIN; } step a { A } step \"b\"\"c\" { B } \
+        teardown { COMMIT; }\nsession s2 step d { D }\npermutation d a(*, \"b\"\"c\", d) \"b\"\"c\"\npermutation a # end";
+    let spec = match parse_spec(rt.alloc(), text) {
+        Ok(spec) => spec,
+        Err(SpecFault::Memory) => return Ok(()),
+        Err(_) => {
+            assert!(rt; false, "refused");
+            return Ok(());
+        }
+    };
+    assert_eq!(rt; spec.setups.len(), 2);
+    assert_eq!(rt; spec.setups[0].sql, "CREATE");
+    assert_eq!(rt; spec.setups[0].at, 9);
+    assert_eq!(rt; spec.setups[1].block, 1);
+    assert!(rt; matches!(spec.teardown, Some(Part { block: 2, .. })));
+    assert_eq!(rt; spec.sessions.len(), 2);
+    let first = &spec.sessions[0];
+    assert!(rt; matches!(first.setup, Some(Part { block: 3, .. })));
+    assert!(rt; matches!(first.steps[1].name, Name::Quoted("b\"\"c")));
+    assert_eq!(rt; first.steps[1].part.block, 5);
+    assert!(rt; matches!(first.teardown, Some(Part { block: 6, .. })));
+    assert_eq!(rt; spec.sessions[1].steps[0].part.block, 7);
+    assert_eq!(rt; spec.perms.len(), 2);
+    let entries = &spec.perms[0];
+    assert_eq!(rt; entries[0].session, 2);
+    assert_eq!(rt; entries[0].step, 0);
+    assert_eq!(rt; entries[1].markers.len(), 3);
+    assert!(rt; entries[1].markers[0] == Marker::Star);
+    assert!(rt;
+        entries[1].markers[1]
+            == (Marker::Step {
+                session: 1,
+                step: 1
+            })
+    );
+    assert!(rt;
+        entries[1].markers[2]
+            == (Marker::Step {
+                session: 2,
+                step: 0
+            })
+    );
+    assert_eq!(rt; entries[2].step, 1);
+    Ok(())
+}
