@@ -1,3 +1,5 @@
+//! Where bytes come from and go to.
+
 ghost use Rattle.std.specs.Prelude.{◌≡◌, ◌≤◌, List, ℕ, Option, Bool, length, IfOk, OnOk};
 ghost use Rattle.std.specs.Io.KnownBytes.{ReadConsumes, Appends};
 ghost use Rattle.iso_lexer.specs.Devices.{FailsWith};

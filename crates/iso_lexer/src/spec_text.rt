@@ -1,3 +1,5 @@
+//! Spec files as tokens.
+
 ghost use Rattle.std.specs.Prelude.{◌≡◌, List, ℕ, Result, Ok};
 ghost use Rattle.std.specs.List.{AllByRecursion};
 ghost use Rattle.iso_lexer.specs.SpecSpelling.{LiesAt};

@@ -1,3 +1,5 @@
+//! SQL text as tokens.
+
 ghost use Rattle.std.specs.Prelude.{◌≡◌, List, ℕ, Result, Ok};
 ghost use Rattle.std.specs.List.{AllByRecursion};
 ghost use Rattle.iso_lexer.specs.SqlSpelling.{SqlLiesAt};
