@@ -16,3 +16,6 @@ pub use numeric::is_numeric;
 pub use result_set::ResultSet;
 pub use table::write_table;
 pub use title::{Title, TitleName};
+
+#[cfg(test)]
+mod tests;

@@ -51,16 +51,15 @@ impl<'a> ResultSet<'a> {
     pub fn copied(&self, alloc: Global) -> Result<ResultSet<'a>, AllocError>
         ensures { IfOk result (λ copy. copy ≡ self.now) }
     {
-        let titles = copied_titles(alloc, self.titles.as_slice())?;
-        let rows = copied_rows(alloc, self.rows.as_slice())?;
-        Ok(ResultSet { titles, rows })
+        let titles = copied_titles(alloc, self.titles())?;
+        let rows = copied_rows(alloc, self.rows())?;
+        Ok(ResultSet::new(titles, rows))
     }
 
     pub fn same(&self, other: &ResultSet<'_>) -> bool
         ensures { IsTrue result ↔ (self.now ≡ other.now) }
     {
-        same_titles(self.titles.as_slice(), other.titles.as_slice())
-            && same_rows(self.rows.as_slice(), other.rows.as_slice())
+        same_titles(self.titles(), other.titles()) && same_rows(self.rows(), other.rows())
     }
 }
 

@@ -9,7 +9,7 @@ use std::marker::Model;
 /// The name in a title, which contracts see as the bytes that it stands for.
 #[derive(Debug, Drop)]
 pub struct TitleName<'a> {
-    name: Name<'a>,
+    written: Name<'a>,
 }
 
 impl<'a> Model for TitleName<'a> {
@@ -18,34 +18,36 @@ impl<'a> Model for TitleName<'a> {
 
     ghost Value = { List ℕ };
 
-    ghost view = { λ t. decoded (name_view t.name) };
+    ghost view = { λ t. decoded (name_view t.written) };
 }
 
 impl<'a> TitleName<'a> {
     pub fn new(name: Name<'a>) -> TitleName<'a>
         ensures { result ≡ decoded (name_view name.entry) }
     {
-        TitleName { name }
+        TitleName { written: name }
     }
 
     pub fn name(&self) -> Name<'a>
         ensures { decoded (name_view result) ≡ self.now }
     {
-        self.name
+        self.written
     }
 
     /// The same name again.
     pub fn again(&self) -> TitleName<'a>
         ensures { result ≡ self.now }
     {
-        TitleName { name: self.name }
+        TitleName {
+            written: self.name(),
+        }
     }
 
     /// Whether both stand for the same bytes.
     pub fn same(&self, other: &TitleName<'_>) -> bool
         ensures { IsTrue result ↔ (self.now ≡ other.now) }
     {
-        same_name(&self.name, &other.name)
+        same_name(&self.name(), &other.name())
     }
 }
 
