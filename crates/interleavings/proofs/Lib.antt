@@ -1,0 +1,4 @@
+pub mod Behind
+pub mod Places
+pub mod Rising
+pub mod Members

@@ -1,0 +1,9 @@
+use Rattle.std.proofs.Common.{◌≡◌, ℕ, ◌≤◌, List}
+use Rattle.interleavings.specs.Prefixes.{from_session}
+use Rattle.interleavings.proofs.steps.least_from.Given as goal
+
+abbrev pub invariant-loop-session : goal.invariant-loop-session
+invariant-loop-session l = record {
+  above : l.from ≤ l.session;
+  same : (rest : List ℕ → List (List ℕ)) → from_session rest l.left l.from ≡ from_session rest l.left l.session;
+}
