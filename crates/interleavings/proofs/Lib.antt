@@ -2,3 +2,4 @@ pub mod Behind
 pub mod Places
 pub mod Rising
 pub mod Members
+pub mod Only

@@ -5,12 +5,12 @@ use Rattle.std.specs.Prelude.{◌≢◌, AllPairs, slice_index_or}
 use Rattle.interleavings.specs.Order.{IsBelow}
 
 -- a list comes before each of some
-abbrev IsBelowAll : List ℕ → List (List ℕ) → Type 0
+abbrev pub IsBelowAll : List ℕ → List (List ℕ) → Type 0
 IsBelowAll xs [] = Unit {0}
 IsBelowAll xs (l ∷ ls) = IsBelow xs l × IsBelowAll xs ls
 
 -- each list comes before each later one, by recursion
-abbrev IsRising : List (List ℕ) → Type 0
+abbrev pub IsRising : List (List ℕ) → Type 0
 IsRising [] = Unit {0}
 IsRising (l ∷ ls) = IsBelowAll l ls × IsRising ls
 
@@ -58,7 +58,7 @@ rising_each rest h c i (zero ∷ cs) = rising_each rest h c (i + 1) cs
 rising_each rest h c i (suc x ∷ cs) =
     rising_append i (rest (without c i)) (each_first rest c (i + 1) cs) (h (without c i)) (rising_each rest h c (i + 1) cs) (begin_each rest c (i + 1) (i + 1) cs (omega arith))
 
-rising : (n : ℕ) (c : List ℕ) → IsRising (of_length n c)
+pub rising : (n : ℕ) (c : List ℕ) → IsRising (of_length n c)
 rising zero c = (tt, tt)
 rising (suc n) c = rising_each (of_length n) (rising n) c 0 c
 
@@ -77,7 +77,7 @@ pub interleavings_rise : (counts : List ℕ) → AllPairs IsBelow (interleavings
 interleavings_rise counts = pairs (interleavings counts) (rising (sum counts) (0 ∷ counts))
 
 -- no list comes before itself
-not_below_itself : (l : List ℕ) → IsBelow l l → ⊥
+pub not_below_itself : (l : List ℕ) → IsBelow l l → ⊥
 not_below_itself [] h = h
 not_below_itself (x ∷ l) (inl less) = omega arith
 not_below_itself (x ∷ l) (inr same) = not_below_itself l same.1

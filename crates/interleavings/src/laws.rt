@@ -1,6 +1,6 @@
 //! Laws of the interleavings, as contracts of functions that do nothing.
 
-ghost use Rattle.std.specs.Prelude.{◌≢◌, ◌↔◌, ℕ, List, AllPairs, Contains};
+ghost use Rattle.std.specs.Prelude.{◌≡◌, ◌≢◌, ◌↔◌, ℕ, List, AllPairs, Contains};
 ghost use Rattle.interleavings.specs.Interleavings.{interleavings, IsInterleaving};
 ghost use Rattle.interleavings.specs.Order.{IsBelow};
 
@@ -17,4 +17,9 @@ pub fn interleavings_keep_counts()
 /// No interleaving is given twice.
 pub fn no_interleaving_twice()
     ensures { (counts : List ℕ) → AllPairs (λ one other. one ≢ other) (interleavings counts) }
+{}
+
+/// The interleavings are the only strictly rising list of just the lists that keep the counts.
+pub fn no_other_interleavings()
+    ensures { (counts : List ℕ) (lists : List (List ℕ)) → AllPairs IsBelow lists → ((list : List ℕ) → Contains lists list ↔ IsInterleaving counts list) → lists ≡ interleavings counts }
 {}

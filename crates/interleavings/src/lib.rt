@@ -9,7 +9,9 @@ ghost use Rattle.std.specs.Bool.{OnTrue, OnFalse};
 ghost use Rattle.interleavings.specs.Interleavings.{interleavings, of_length};
 ghost use Rattle.interleavings.specs.ToCome.{WantsRoom};
 
-pub use laws::{interleavings_keep_counts, interleavings_rise, no_interleaving_twice};
+pub use laws::{
+    interleavings_keep_counts, interleavings_rise, no_interleaving_twice, no_other_interleavings,
+};
 use std::alloc::{AllocError, Global};
 use std::marker::Model;
 use steps::{advance, fill};
