@@ -1,9 +1,9 @@
 -- One place of the list.
-use Rattle.std.proofs.Common.{◌≡◌, ℕ, zero, suc, ◌+◌, ◌-◌, ◌<◌, ◌≤◌, List, [], ◌∷◌, ◌++◌, length, map, take, set, sum, refl, ap, sym, ◌∙◌, subst, arith, get_or, get_or-set_same, fold, length-set}
+use Rattle.std.proofs.Common.{add-one, ◌≡◌, ℕ, zero, suc, ◌+◌, ◌-◌, ◌<◌, ◌≤◌, List, [], ◌∷◌, ◌++◌, length, map, take, set, sum, refl, ap, sym, ◌∙◌, subst, arith, get_or, get_or-set_same, get_or-set_other, ◌≢◌, ◌⊎◌, inl, inr, fold, length-set}
 use Rattle.std.proofs.lemmas.List.{take_more, set-get_or}
 use Rattle.interleavings.specs.Interleavings.{without, each_first, of_length}
-use Rattle.interleavings.specs.Prefixes.{from_session, behind, left_after, IsPath, IsLeast, IsNoneLeft, IsAt}
-use Rattle.interleavings.proofs.Behind.{left_push, fill, pop_none, pop_found}
+use Rattle.interleavings.specs.Prefixes.{from_session, behind, left_after, IsPath, IsLeast, IsNoneLeft, IsUsedUp, IsAt}
+use Rattle.interleavings.proofs.Behind.{skip, none_from, left_push, fill, pop_none, pop_found}
 
 fold_shift : (a b : ℕ) (cs : List ℕ) → fold ◌+◌ (a + b) cs ≡ a + fold ◌+◌ b cs
 fold_shift a b [] = refl
@@ -39,6 +39,34 @@ none_each c i (suc x ∷ cs) h = absurd (cons_nil h)
 
 pub none_sum : (left : List ℕ) → IsNoneLeft left 0 → sum left ≡ 0
 none_sum left h = none_each left 0 left (h nothing)
+
+within_or_past : (k n : ℕ) → (k < n) ⊎ (n ≤ k)
+within_or_past k zero = inr (omega arith)
+within_or_past zero (suc n) = inl (omega arith)
+within_or_past (suc k) (suc n) = elim (within_or_past k n) [ inl h ↦ inl (omega arith) | inr h ↦ inr (omega arith) ]
+
+-- sessions that have no turn left begin no list
+pub used_up : (rest : List ℕ → List (List ℕ)) (left : List ℕ) (k : ℕ) → IsUsedUp left k → from_session rest left 0 ≡ from_session rest left k
+used_up rest left zero none = refl
+used_up rest left (suc k) none =
+    let before : from_session rest left 0 ≡ from_session rest left k = used_up rest left k (λ i less. none i (omega arith)) in
+    before ∙ one (within_or_past k (length left)) ∙ ap (from_session rest left) (add-one k)
+  where
+    one : (k < length left) ⊎ (length left ≤ k) → from_session rest left k ≡ from_session rest left (k + 1)
+    one (inl less) = skip rest left k less (none k (omega arith))
+    one (inr over) = none_from rest left k over ∙ sym (none_from rest left (k + 1) (omega arith))
+
+pub least_of_all : (left : List ℕ) (k y : ℕ) → IsUsedUp left k → IsLeast left k y → IsLeast left 0 y
+least_of_all left k y none least = (omega arith, least.1, least.2, λ rest. used_up rest left k none ∙ least.3 rest)
+
+pub none_of_all : (left : List ℕ) (k : ℕ) → IsUsedUp left k → IsNoneLeft left k → sum left ≡ 0
+none_of_all left k none over = none_sum left (λ rest. used_up rest left k none ∙ over rest)
+
+pub used_up_to : (left : List ℕ) (k y : ℕ) → IsUsedUp left k → ((i : ℕ) → k ≤ i → i < y → get_or left i 0 ≡ 0) → IsUsedUp left y
+used_up_to left k y none between i less = elim (within_or_past i k) [ inl h ↦ none i h | inr h ↦ between i h less ]
+
+pub still_used_up : (left : List ℕ) (y : ℕ) → IsUsedUp left y → IsUsedUp (without left y) y
+still_used_up left y none i less = let other : i ≢ y = λ same. omega (arith, same, less) in get_or-set_other left y i (get_or left y 0 - 1) 0 other ∙ none i less
 
 pub path_push : (c p : List ℕ) (x : ℕ) → IsPath c p → x < length (left_after c p) → 0 < get_or (left_after c p) x 0 → IsPath c (p ++ x ∷ [])
 path_push c [] x h less some = (less, some, tt)

@@ -36,6 +36,10 @@ IsLeast left from y =
 abbrev pub IsNoneLeft : List ℕ → ℕ → Type 0
 IsNoneLeft left from = (rest : List ℕ → List (List ℕ)) → from_session rest left from ≡ []
 
+-- no session below this one has a turn left
+abbrev pub IsUsedUp : List ℕ → ℕ → Type 0
+IsUsedUp left session = (i : ℕ) → i < session → slice_index left i ≡ 0
+
 -- a list that lies on the way, and what is left after it
 pub record IsAt (counts list left : List ℕ) : Type 0 where
   pub path : IsPath counts list

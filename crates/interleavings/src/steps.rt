@@ -1,12 +1,13 @@
 //! From one list to the next, in place.
 
-ghost use Rattle.std.specs.Prelude.{true, false, ◌≡◌, ℕ, ◌+◌, ◌-◌, ◌^◌, ◌<◌, ◌≤◌, ◌∷◌, ◌++◌, [], length, take, sum, slice_index, slice_set, MatchOption};
+ghost use Rattle.std.specs.Prelude.{true, false, ◌≡◌, ℕ, ◌+◌, ◌-◌, ◌^◌, ◌<◌, ◌≤◌, ◌∷◌, ◌++◌, [], length, take, sum, slice_index, slice_set, MatchOption, IfSome};
 ghost use Rattle.interleavings.specs.Interleavings.{without, of_length};
-ghost use Rattle.interleavings.specs.Prefixes.{behind, later, IsLeast, IsNoneLeft, IsAt};
+ghost use Rattle.interleavings.specs.Prefixes.{behind, later, IsLeast, IsNoneLeft, IsUsedUp, IsAt};
 
 /// The least session from one on that has a turn left.
 fn least_from(left: &[u32], from: usize) -> Option<usize>
-    ensures { MatchOption result (IsNoneLeft left.now from) (λ y. IsLeast left.now from y) }
+    ensures least { MatchOption result (IsNoneLeft left.now from) (λ y. IsLeast left.now from y) }
+    ensures between { IfSome result (λ y. (i : ℕ) → from ≤ i → i < y → slice_index left.now i ≡ 0) }
 {
     for session in from..left.len() {
         if left[session] > 0 {
@@ -16,12 +17,14 @@ fn least_from(left: &[u32], from: usize) -> Option<usize>
     None
 }
 
-/// The least session that has a turn left.
-fn least(left: &[u32]) -> usize
-    requires { 0 < sum left.now }
-    ensures { IsLeast left.now 0 result }
+/// The least session that has a turn left, where those below one are known to have none.
+fn least(left: &[u32], from: usize) -> usize
+    requires some { 0 < sum left.now }
+    requires below { IsUsedUp left.now from }
+    ensures least { IsLeast left.now 0 result }
+    ensures below { IsUsedUp left.now result }
 {
-    match least_from(left, 0) {
+    match least_from(left, from) {
         Some(session) => session,
         None => unreachable!(),
     }
@@ -37,8 +40,9 @@ pub fn fill(counts: &[u32], left: &mut [u32], last: &mut [u32], from: usize)
     ensures at { IsAt counts.now last.new left.new }
     ensures sum { sum left.new ≡ 0 }
 {
+    let mut session = 0;
     for place in from..last.len() {
-        let session = least(left);
+        session = least(left, session);
         left[session] -= 1;
         last[place] = session as u32;
     }

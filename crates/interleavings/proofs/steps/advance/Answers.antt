@@ -9,7 +9,7 @@ returns-in-Some-clause-found c =
     let k = c.loop-place.place - 1 in
     let here : k + 1 ≡ c.loop-place.place = omega (arith, c.loop-place-test.true) in
     let less : k < length c.loop-place.last = omega (arith, here, c.loop-place.invariant.within) in
-    let least : IsLeast c.take_back-session.new.left (get_or c.loop-place.last k 0 + 1) c.in-Some.other = subst (λ (x : ℕ). IsLeast c.take_back-session.new.left (x + 1) c.in-Some.other) c.take_back-session.ensures.session c.in-Some.ensures in
+    let least : IsLeast c.take_back-session.new.left (get_or c.loop-place.last k 0 + 1) c.in-Some.other = subst (λ (x : ℕ). IsLeast c.take_back-session.new.left (x + 1) c.in-Some.other) c.take_back-session.ensures.session c.in-Some.ensures.least in
     c.loop-place.invariant.lists
     ∙ ap (λ (p : ℕ). behind c.args.counts.now (take p c.loop-place.last) (length c.loop-place.last - p) []) (sym here)
     ∙ found_step c.args.counts.now c.loop-place.last c.take_back-session.new.left k c.in-Some.other less c.take_back-session.ensures.at least
@@ -20,7 +20,7 @@ loop-place-preserved c =
     let k = c.loop-place.place - 1 in
     let here : k + 1 ≡ c.loop-place.place = omega (arith, c.loop-place-test.true) in
     let less : k < length c.loop-place.last = omega (arith, here, c.loop-place.invariant.within) in
-    let none : IsNoneLeft c.take_back-session.new.left (get_or c.loop-place.last k 0 + 1) = subst (λ (x : ℕ). IsNoneLeft c.take_back-session.new.left (x + 1)) c.take_back-session.ensures.session c.in-None.ensures in
+    let none : IsNoneLeft c.take_back-session.new.left (get_or c.loop-place.last k 0 + 1) = subst (λ (x : ℕ). IsNoneLeft c.take_back-session.new.left (x + 1)) c.take_back-session.ensures.session c.in-None.ensures.least in
     record {
       within = omega arith;
       at = c.take_back-session.ensures.at;

@@ -2,7 +2,7 @@ use Rattle.std.proofs.Common.{◌≡◌, ◌+◌, ◌-◌, ◌<◌, ◌≤◌, �
 use Rattle.std.proofs.lemmas.List.{take_more_set}
 use Rattle.std.proofs.lemmas.List.{take_all}
 use Rattle.interleavings.specs.Interleavings.{without}
-use Rattle.interleavings.proofs.Places.{at_push, fill_step, sum_less}
+use Rattle.interleavings.proofs.Places.{at_push, fill_step, sum_less, still_used_up}
 use Rattle.interleavings.proofs.Behind.{at_end}
 use Rattle.interleavings.proofs.steps.fill.Goals as goal
 
@@ -17,12 +17,13 @@ loop-place-preserved c =
     let less : p < n = omega (arith, c.loop-place-test.true, c.loop-place.auto.last) in
     let taken : take (p + 1) (set last p y) ≡ take p last ++ y ∷ [] = take_more_set last p y less in
     let long : length (set last p y) ≡ n = length-set last p y in
-    let fewer : sum (without left y) + 1 ≡ sum left = sum_less left y c.least-session.ensures.1 c.least-session.ensures.2 in
+    let fewer : sum (without left y) + 1 ≡ sum left = sum_less left y c.least-session.ensures.least.1 c.least-session.ensures.least.2 in
     let turns : n - p ≡ (n - (p + 1)) + 1 = omega arith in
     record {
-      at = rw taken (at_push counts (take p last) left 0 y c.loop-place.invariant.at c.least-session.ensures);
+      used = still_used_up left y c.least-session.ensures.below;
+      at = rw taken (at_push counts (take p last) left 0 y c.loop-place.invariant.at c.least-session.ensures.least);
       sum = omega (arith, fewer, long, c.loop-place.invariant.sum);
-      lists = rw (taken, long) (fill_step counts (take p last) left y (n - (p + 1)) (n - p) turns c.loop-place.invariant.at c.least-session.ensures ∙ c.loop-place.invariant.lists);
+      lists = rw (taken, long) (fill_step counts (take p last) left y (n - (p + 1)) (n - p) turns c.loop-place.invariant.at c.least-session.ensures.least ∙ c.loop-place.invariant.lists);
     }
 
 pub returns-clause-lists : goal.returns-clause-lists
