@@ -1,13 +1,15 @@
 -- How the lists behind a prefix change with its last session.
-use Rattle.std.proofs.Common.{◌≡◌, ℕ, suc, ◌+◌, ◌-◌, ◌<◌, ◌≤◌, List, [], ◌∷◌, ◌++◌, length, map, drop, refl, ap, sym, ◌∙◌, arith, length-append, get_or, drop-cons, add-one}
+use Rattle.std.proofs.Common.{◌≡◌, ℕ, ◌+◌, ◌<◌, ◌≤◌, List, [], ◌∷◌, ◌++◌, length, map, drop, refl, ap, sym, ◌∙◌, arith, length-append, get_or, drop-cons, add-one}
 use Rattle.std.proofs.lemmas.List.{drop_all}
 use Rattle.interleavings.specs.Interleavings.{without, each_first, of_length}
 use Rattle.interleavings.specs.Prefixes.{from_session, behind, left_after, later}
 
+-- what is left after one more session
 pub left_push : (c p : List ℕ) (x : ℕ) → left_after c (p ++ x ∷ []) ≡ without (left_after c p) x
 left_push c [] x = refl
 left_push c (y ∷ p) x = left_push (without c y) p x
 
+-- the lists behind a prefix of one more session
 pub behind_push : (c p : List ℕ) (x n : ℕ) (lists : List (List ℕ))
     → behind c (p ++ x ∷ []) n lists ≡ behind c p (n + 1) (map (λ (ys : List ℕ). x ∷ ys) lists ++ from_session (of_length n) (left_after c p) (x + 1))
 behind_push c [] x n lists = ap (λ (k : ℕ). map (λ (ys : List ℕ). x ∷ ys) lists ++ from_session (of_length k) c (x + 1)) (omega arith)
@@ -19,13 +21,7 @@ behind_push c (y ∷ p) x n lists =
 pub skip : (rest : List ℕ → List (List ℕ)) (c : List ℕ) (i : ℕ) → i < length c → get_or c i 0 ≡ 0 → from_session rest c i ≡ from_session rest c (i + 1)
 skip rest c i h none = rw (drop-cons c i 0 h, none) (ap (λ (k : ℕ). each_first rest c (i + 1) (drop k c)) (sym (add-one i)))
 
-pub take_session : (rest : List ℕ → List (List ℕ)) (c : List ℕ) (i : ℕ) → i < length c → 0 < get_or c i 0
-    → from_session rest c i ≡ map (λ (ys : List ℕ). i ∷ ys) (rest (without c i)) ++ from_session rest c (i + 1)
-take_session rest c i h some =
-    let is : get_or c i 0 ≡ suc (get_or c i 0 - 1) = omega arith in
-    ap (each_first rest c i)
-    (drop-cons c i 0 h ∙ ap (λ (v : ℕ). v ∷ drop (suc i) c) is ∙ ap (λ (k : ℕ). suc (get_or c i 0 - 1) ∷ drop k c) (sym (add-one i)))
-
+-- no list begins past the last session
 pub none_from : (rest : List ℕ → List (List ℕ)) (c : List ℕ) (i : ℕ) → length c ≤ i → from_session rest c i ≡ []
 none_from rest c i h = rw (drop_all i c h) refl
 

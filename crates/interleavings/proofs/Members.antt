@@ -30,6 +30,7 @@ record Begins (session : ℕ) (rests : List (List ℕ)) (list : List ℕ) : Type
   is : list ≡ session ∷ rest
   of : Has rests rest
 
+-- a list of those with one session in front, or of the others
 begins : (x : ℕ) (ms more : List (List ℕ)) (l : List ℕ) → Has (map (λ (xs : List ℕ). x ∷ xs) ms ++ more) l → Begins x ms l ⊎ Has more l
 begins x [] more l h = inr h
 begins x (m ∷ ms) more l (inl same) = inl (record { rest = m; is = sym same; of = inl refl })
@@ -63,6 +64,7 @@ further rest counts i c cs l s =
       of = subst (λ (k : ℕ). Has (rest (without counts k)) s.tail) e s.of;
     }
 
+-- each list is a session that has a turn left and a list of the turns then left
 splits : (rest : List ℕ → List (List ℕ)) (counts : List ℕ) (i : ℕ) (cs l : List ℕ) → Has (each_first rest counts i cs) l → Splits rest counts i cs l
 splits rest counts i [] l h = absurd h
 splits rest counts i (zero ∷ cs) l h = further rest counts i zero cs l (splits rest counts (i + 1) cs l h)
@@ -78,6 +80,7 @@ splits rest counts i (suc c ∷ cs) l h =
       | inr h ↦ further rest counts i (suc c) cs l (splits rest counts (i + 1) cs l h)
     ]
 
+-- a session that has a turn left and a list of the turns then left is one of the lists
 joins : (rest : List ℕ → List (List ℕ)) (counts : List ℕ) (i x k : ℕ) (cs l : List ℕ) → x ≡ i + k → 0 < get_or cs k 0 → Has (rest (without counts x)) l
     → Has (each_first rest counts i cs) (x ∷ l)
 joins rest counts i x k [] l e some h = absurd (omega arith)
@@ -123,6 +126,7 @@ within (c ∷ counts) (suc x) some = let h = within counts x some in omega (arit
 same_or_other : (s x : ℕ) → (s ≡ x) ⊎ (s ≢ x)
 same_or_other s x = elim (eqb_tells s x) [ inl equal ↦ inl equal.1 | inr differ ↦ inr differ.1 ]
 
+-- one more in front of a list of the turns that are left
 keeps_cons : (counts : List ℕ) (x : ℕ) (l : List ℕ) → 0 < get_or counts x 0 → Keeps (without counts x) l → Keeps counts (x ∷ l)
 keeps_cons counts x l some h s =
     elim (same_or_other s x) [
@@ -133,6 +137,7 @@ keeps_cons counts x l some h s =
       | inr other ↦ times_other s x l other ∙ h s ∙ get_or-set_other counts x s (get_or counts x 0 - 1) 0 other
     ]
 
+-- the rest of a list keeps the turns that are left
 keeps_tail : (counts : List ℕ) (x : ℕ) (l : List ℕ) → 0 < get_or counts x 0 → Keeps counts (x ∷ l) → Keeps (without counts x) l
 keeps_tail counts x l some h s =
     elim (same_or_other s x) [
@@ -144,6 +149,7 @@ keeps_tail counts x l some h s =
       | inr other ↦ sym (times_other s x l other) ∙ h s ∙ sym (get_or-set_other counts x s (get_or counts x 0 - 1) 0 other)
     ]
 
+-- the first of a list had a turn left
 keeps_some : (counts : List ℕ) (x : ℕ) (l : List ℕ) → Keeps counts (x ∷ l) → 0 < get_or counts x 0
 keeps_some counts x l h = let one : times x l + 1 ≡ get_or counts x 0 = sym (times_same x l) ∙ h x in omega (arith, one)
 
@@ -157,6 +163,7 @@ none_all : (counts : List ℕ) → ((s : ℕ) → get_or counts s 0 ≡ 0) → s
 none_all [] h = refl
 none_all (c ∷ counts) h = let first : c ≡ 0 = h 0 in let more : sum counts ≡ 0 = none_all counts (λ s. h (suc s)) in omega (arith, sum_cons c counts, first, more)
 
+-- each of the lists keeps the counts
 keeps : (n : ℕ) (counts l : List ℕ) → sum counts ≡ n → Has (of_length n counts) l → Keeps counts l
 keeps zero counts l long (inl same) s = subst (λ (m : List ℕ). times s m ≡ get_or counts s 0) same (sym (all_none counts long s))
 keeps zero counts l long (inr h) s = absurd h
@@ -169,6 +176,7 @@ keeps (suc n) counts l long h s =
     let all : Keeps counts (x ∷ p.tail) = keeps_cons counts x p.tail some (keeps n (without counts x) p.tail less p.of) in
     subst (λ (m : List ℕ). times s m ≡ get_or counts s 0) (sym p.is) (all s)
 
+-- each list that keeps the counts is one of the lists
 has : (n : ℕ) (counts l : List ℕ) → sum counts ≡ n → Keeps counts l → Has (of_length n counts) l
 has zero counts [] long h = inl refl
 has zero counts (x ∷ l) long h = let none = all_none counts long x in let some = keeps_some counts x l h in absurd (omega (arith, none, some))

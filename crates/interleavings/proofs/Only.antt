@@ -1,11 +1,12 @@
 -- Two strictly rising lists of the same members are one.
-use Rattle.std.proofs.Common.{◌≡◌, ◌⊎◌, ℕ, zero, suc, ◌+◌, ◌<◌, ◌≤◌, List, [], ◌∷◌, sum, length, refl, sym, subst, ap, ◌∙◌, arith, inl, inr}
+use Rattle.std.proofs.Common.{◌≡◌, ℕ, suc, ◌<◌, List, [], ◌∷◌, sum, length, refl, sym, subst, ◌∙◌, arith, inl, inr}
 use Rattle.std.specs.Prelude.{◌↔◌, AllPairs, Contains, slice_index_or}
 use Rattle.interleavings.specs.Interleavings.{interleavings, IsInterleaving}
 use Rattle.interleavings.specs.Order.{IsBelow}
 use Rattle.interleavings.proofs.Members.{Has, contains_from_has, has_from_contains, interleavings_keep_counts}
 use Rattle.interleavings.proofs.Rising.{IsBelowAll, IsRising, rising, not_below_itself}
 
+-- no two lists come before each other
 below_both : (xs ys : List ℕ) → IsBelow xs ys → IsBelow ys xs → ⊥
 below_both xs [] h k = h
 below_both [] (y ∷ ys) h k = k
@@ -18,6 +19,7 @@ all_from : (l : List ℕ) (ls : List (List ℕ)) → ((j : ℕ) (d : List ℕ) �
 all_from l [] h = tt
 all_from l (m ∷ ls) h = (h 0 [] (omega arith), all_from l ls (λ j d less. h (suc j) d (omega arith)))
 
+-- each comes before each later one, by recursion
 rising_from : (ls : List (List ℕ)) → AllPairs IsBelow ls → IsRising ls
 rising_from [] h = tt
 rising_from (l ∷ ls) h = (
@@ -34,15 +36,18 @@ below_has l (o ∷ ls) m h (inr k) = below_has l ls m h.1 k
 abbrev IsIn : List (List ℕ) → List (List ℕ) → Type 0
 IsIn xs ys = (l : List ℕ) → Has xs l → Has ys l
 
+-- their first lists are one
 same_first : (x y : List ℕ) (xs ys : List (List ℕ)) → IsBelowAll x xs → IsBelowAll y ys → Has (x ∷ xs) y → Has (y ∷ ys) x → x ≡ y
 same_first x y xs ys h k (inl same) of_x = same
 same_first x y xs ys h k (inr of_y) (inl same) = sym same
 same_first x y xs ys h k (inr of_y) (inr of_x) = absurd (below_both x y (below_has x xs y h of_y) (below_has y ys x k of_x))
 
+-- behind their first lists they have the same members
 in_rest : (x y l : List ℕ) (xs ys : List (List ℕ)) → x ≡ y → IsBelowAll x xs → Has xs l → Has (y ∷ ys) l → Has ys l
 in_rest x y l xs ys same h of (inl e) = absurd (not_below_itself l (subst (λ (m : List ℕ). IsBelow m l) (same ∙ e) (below_has x xs l h of)))
 in_rest x y l xs ys same h of (inr k) = k
 
+-- two rising lists with the same members are one
 same_rising : (xs ys : List (List ℕ)) → IsRising xs → IsRising ys → IsIn xs ys → IsIn ys xs → xs ≡ ys
 same_rising [] [] h k to from = refl
 same_rising [] (y ∷ ys) h k to from = absurd (from y (inl refl))

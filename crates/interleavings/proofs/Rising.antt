@@ -22,6 +22,7 @@ abbrev AllBegin : ℕ → List (List ℕ) → Type 0
 AllBegin j [] = Unit {0}
 AllBegin j (l ∷ ls) = Begins j l × AllBegin j ls
 
+-- one more session in front keeps the order
 below_map : (i : ℕ) (l : List ℕ) (ls : List (List ℕ)) → IsBelowAll l ls → IsBelowAll (i ∷ l) (map (λ (xs : List ℕ). i ∷ xs) ls)
 below_map i l [] h = tt
 below_map i l (m ∷ ls) h = (inr (refl, h.0), below_map i l ls h.1)
@@ -39,6 +40,7 @@ below_begins i l [] h = tt
 below_begins i l ([] ∷ ls) h = absurd h.0
 below_begins i l ((x ∷ m) ∷ ls) h = (let e : i + 1 ≤ x = h.0 in inl (omega arith), below_begins i l ls h.1)
 
+-- lists that begin with one session, and then lists that begin with later ones
 rising_append : (i : ℕ) (front bs : List (List ℕ)) → IsRising front → IsRising bs → AllBegin (i + 1) bs → IsRising (map (λ (xs : List ℕ). i ∷ xs) front ++ bs)
 rising_append i [] bs h k later = k
 rising_append i (a ∷ front) bs h k later = (below_append (i ∷ a) (map (λ (xs : List ℕ). i ∷ xs) front) bs (below_map i a front h.0) (below_begins i a bs later), rising_append i front bs h.1 k later)
@@ -47,6 +49,7 @@ begin_append : (j i : ℕ) (front bs : List (List ℕ)) → j ≤ i → AllBegin
 begin_append j i [] bs h k = k
 begin_append j i (a ∷ front) bs h k = (h, begin_append j i front bs h k)
 
+-- the lists from a session on begin with it or a later one
 begin_each : (rest : List ℕ → List (List ℕ)) (c : List ℕ) (j i : ℕ) (cs : List ℕ) → j ≤ i → AllBegin j (each_first rest c i cs)
 begin_each rest c j i [] h = tt
 begin_each rest c j i (zero ∷ cs) h = begin_each rest c j (i + 1) cs (omega arith)
@@ -58,6 +61,7 @@ rising_each rest h c i (zero ∷ cs) = rising_each rest h c (i + 1) cs
 rising_each rest h c i (suc x ∷ cs) =
     rising_append i (rest (without c i)) (each_first rest c (i + 1) cs) (h (without c i)) (rising_each rest h c (i + 1) cs) (begin_each rest c (i + 1) (i + 1) cs (omega arith))
 
+-- the lists of a length rise
 pub rising : (n : ℕ) (c : List ℕ) → IsRising (of_length n c)
 rising zero c = (tt, tt)
 rising (suc n) c = rising_each (of_length n) (rising n) c 0 c
@@ -67,6 +71,7 @@ below_at l [] h j d less = absurd (omega arith)
 below_at l (m ∷ ls) h zero d less = h.0
 below_at l (m ∷ ls) h (suc j) d less = below_at l ls h.1 j d (omega arith)
 
+-- each comes before each later one, by index
 pairs : (ls : List (List ℕ)) → IsRising ls → AllPairs IsBelow ls
 pairs [] h i j d before less = absurd (omega arith)
 pairs (l ∷ ls) h i zero d before less = absurd (omega arith)

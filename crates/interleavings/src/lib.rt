@@ -22,9 +22,12 @@ mod tests;
 /// The interleavings that are still to be given, in lexicographic order.
 #[derive(Drop)]
 pub struct Interleavings {
+    // How many steps each number has: none the number 0, and from 1 on the sessions.
     counts: Vec<u32>,
+    // How many of them are left after the next list, while it is worked on.
     left: Vec<u32>,
     next: Vec<u32>,
+    // All lists were given.
     over: bool,
 }
 
@@ -41,6 +44,7 @@ impl Model for Interleavings {
 
 impl Interleavings {
     /// All interleavings of sessions that have so many steps each; the first count is that of session 1.
+    /// Without counts they are the one empty list. Fails only where memory is refused.
     pub fn new(alloc: Global, counts: &[u32]) -> Result<Self, AllocError>
         requires few { length counts.now < 2 ^ 32 }
         ensures { IfOk result (λ i. i ≡ interleavings counts.now) }
@@ -75,7 +79,8 @@ impl Interleavings {
         }
     }
 
-    /// Gives the next list in `out` and answers true, or answers false where all were given.
+    /// Leaves the next list in `out` and answers true, or answers false where all were given.
+    /// Fails only where `out` has no room for the list and memory is refused; nothing has changed then.
     pub fn next(&mut self, out: &mut Vec<u32>) -> Result<bool, AllocError>
         ensures given { IfOk result (λ more. OnTrue more (self.old ≡ out.new.items ∷ self.new)) }
         ensures over { IfOk result (λ more. OnFalse more ((self.old ≡ []) × (self.new ≡ []) × (out.new.items ≡ out.old.items))) }
