@@ -1,0 +1,5 @@
+pub mod Behind
+pub mod Places
+pub mod Rising
+pub mod Members
+pub mod Only

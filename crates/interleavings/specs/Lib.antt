@@ -1,0 +1,5 @@
+pub mod Interleavings
+pub mod Order
+pub mod Prefixes
+pub mod ToCome
+pub mod Examples
