@@ -13,8 +13,8 @@ pub record Content : Type 0 where
   pub fates : List Fate
 
 -- no transaction has begun, and nothing was written
-abbrev pub empty : Content
-empty = record { log = []; fates = [] }
+abbrev pub empty_content : Content
+empty_content = record { log = []; fates = [] }
 
 -- the transaction's fate, if it has begun
 abbrev pub fate_of : List Fate → TxId → Option Fate
@@ -34,6 +34,10 @@ abbrev pub is_committed : Option Fate → Bool
 is_committed None = false
 is_committed (Some fate) = is_commit fate
 
+-- the transaction has committed
+abbrev pub has_committed : Content → TxId → Bool
+has_committed c tx = is_committed (fate_of c.fates tx)
+
 -- how many transactions have committed
 abbrev pub commit_count : Content → ℕ
 commit_count c = count_by is_commit c.fates
@@ -50,25 +54,25 @@ next_place c = length c.log
 abbrev pub new_row : Content → RowId
 new_row c = record { 0 = next_place c }
 
--- the next transaction begins
-abbrev pub begun : Content → Content
-begun c = record c { fates = c.fates ++ Open ∷ [] }
+-- what a begin leaves: the next transaction is open
+abbrev pub after_begin : Content → Content
+after_begin c = record c { fates = c.fates ++ Open ∷ [] }
 
--- the transaction ends so
-abbrev pub ended : Content → TxId → Fate → Content
-ended c tx fate = record c { fates = slice_set c.fates tx.0 fate }
+-- what an end leaves: this is the transaction's fate
+abbrev pub after_end : Content → TxId → Fate → Content
+after_end c tx fate = record c { fates = slice_set c.fates tx.0 fate }
 
--- the transaction commits: commits are numbered from 0
-abbrev pub committed : Content → TxId → Content
-committed c tx = ended c tx (Committed (commit_count c))
+-- what a commit leaves: commits are numbered from 0
+abbrev pub after_commit : Content → TxId → Content
+after_commit c tx = after_end c tx (Committed (commit_count c))
 
--- the transaction is rolled back: its writes stay in the log
-abbrev pub rolled_back : Content → TxId → Content
-rolled_back c tx = ended c tx RolledBack
+-- what a roll-back leaves: the transaction's writes stay in the log
+abbrev pub after_roll_back : Content → TxId → Content
+after_roll_back c tx = after_end c tx RolledBack
 
--- the write is made
-abbrev pub written : Content → Write → Content
-written c w = record c { log = c.log ++ w ∷ [] }
+-- what a write leaves: it is the last of the log
+abbrev pub after_write : Content → Write → Content
+after_write c w = record c { log = c.log ++ w ∷ [] }
 
 -- what the write at the place gave its row: nothing where it deletes the row, or where there is no such write
 abbrev pub values_at : Content → ℕ → Option (List Value)

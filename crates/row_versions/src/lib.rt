@@ -1,6 +1,7 @@
 //! The writes of all transactions, their fates, and the rows that a view shows.
 #![tactic(auto)]
 
+pub mod laws;
 mod list_store;
 mod names;
 mod versions;
@@ -10,3 +11,6 @@ pub use list_store::ListStore;
 pub use names::{RowId, TableId, TxId};
 pub use versions::Versions;
 pub use write::{Fate, Seen, View, Write};
+
+#[cfg(test)]
+mod tests;

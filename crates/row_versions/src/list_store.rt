@@ -1,7 +1,7 @@
 //! A store that keeps the log as one plain list.
 ghost use Rattle.std.specs.Prelude.{◌≡◌, IfOk, ◌+◌};
 ghost use Rattle.std.specs.List.{list_any};
-ghost use Rattle.row_versions.specs.Log.{Content, empty};
+ghost use Rattle.row_versions.specs.Log.{Content, empty_content};
 ghost use Rattle.row_versions.specs.View.{sees};
 ghost use Rattle.row_versions.specs.Rows.{is_shown, rows_from, replaces};
 ghost use Rattle.row_versions.specs.Newest.{is_version, newest_from};
@@ -29,7 +29,7 @@ impl Model for ListStore {
 impl ListStore {
     /// An empty store. It takes no memory.
     pub fn new(alloc: Global) -> ListStore
-        ensures { result ≡ empty }
+        ensures { result ≡ empty_content }
     {
         ListStore {
             log: Vec::new(alloc),

@@ -1,7 +1,7 @@
 //! What a store of versions does, whichever way it keeps them.
 ghost use Rattle.std.specs.Prelude.{◌≡◌, IfOk, OnOk, OnErr, IfErr, unwrap_or};
 ghost use Rattle.std.specs.Option.{option_copied};
-ghost use Rattle.row_versions.specs.Log.{Content, commit_count, IsOpen, begun, committed as commit_of, rolled_back, written, is_committed, fate_of, next_tx, new_row, values_at};
+ghost use Rattle.row_versions.specs.Log.{Content, commit_count, IsOpen, after_begin, after_commit, after_roll_back, after_write, has_committed, next_tx, new_row, values_at};
 ghost use Rattle.row_versions.specs.Rows.{rows_of};
 ghost use Rattle.row_versions.specs.Newest.{newest_of};
 
@@ -18,18 +18,18 @@ pub trait Versions: Drop {
     /// Begins a transaction, and makes the room in which it will end.
     fn begin(&mut self) -> Result<TxId, AllocError>
         ensures next { IfOk result (λ tx. tx ≡ next_tx (content self.old)) }
-        ensures ok { OnOk result (content self.new ≡ begun (content self.old)) }
+        ensures ok { OnOk result (content self.new ≡ after_begin (content self.old)) }
         ensures err { OnErr result (content self.new ≡ content self.old) };
 
     /// Commits an open transaction. It takes no memory.
     fn commit(&mut self, tx: TxId)
         requires { IsOpen (content self.old) tx }
-        ensures { content self.new ≡ commit_of (content self.old) tx };
+        ensures { content self.new ≡ after_commit (content self.old) tx };
 
     /// Rolls an open transaction back. It takes no memory.
     fn roll_back(&mut self, tx: TxId)
         requires { IsOpen (content self.old) tx }
-        ensures { content self.new ≡ rolled_back (content self.old) tx };
+        ensures { content self.new ≡ after_roll_back (content self.old) tx };
 
     /// Adds a write at the end of the log: of this row, or without one of a new row, which it answers. Without
     /// values it deletes the row. Where memory is refused it hands the values back, and nothing has changed.
@@ -43,7 +43,7 @@ pub trait Versions: Drop {
     ) -> Result<RowId, Option<Row>>
         ensures row { IfOk result (λ made. made ≡ unwrap_or row (new_row (content self.old))) }
         ensures ok { IfOk result (λ made. content self.new
-            ≡ written (content self.old) (record { tx = tx; command = command; table = table; row = made; values = values })) }
+            ≡ after_write (content self.old) (record { tx = tx; command = command; table = table; row = made; values = values })) }
         ensures err { OnErr result (content self.new ≡ content self.old) }
         ensures back { IfErr result (λ back. back ≡ values) };
 
@@ -62,7 +62,7 @@ pub trait Versions: Drop {
 
     /// Whether the transaction has committed. It takes no memory.
     fn has_committed(&self, tx: TxId) -> bool
-        ensures { result ≡ is_committed (fate_of (content self.now).fates tx) };
+        ensures { result ≡ has_committed (content self.now) tx };
 
     /// How many transactions have committed, which is the number of the next commit. It takes no memory.
     fn committed(&self) -> u64
