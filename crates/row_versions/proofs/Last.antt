@@ -1,7 +1,7 @@
 -- The newest version of a row, and the write that it comes from.
-use Rattle.std.proofs.Common.{◌≡◌, ℕ, zero, suc, ◌+◌, ◌<◌, ◌≤◌, Bool, true, false, ◌&&◌, ◌||◌, cond, ◌==◌, ◌⊎◌, inl, inr, List, [], ◌∷◌, Option, Some, None, slice_get, refl, sym, ◌∙◌, ap, arith}
+use Rattle.std.proofs.Common.{◌≡◌, ℕ, zero, suc, ◌+◌, ◌<◌, ◌≤◌, Bool, true, false, ◌||◌, cond, ◌==◌, ◌⊎◌, inl, inr, List, [], ◌∷◌, Option, Some, None, slice_get, refl, sym, ◌∙◌, ap, arith}
 use Rattle.std.specs.Option.{option_or}
-use Rattle.std.proofs.lemmas.Bool.{and_parts, and_from, and_cases, or_cases, or_parts, or_left, or_right, eqb-true, eqb-false, eq-eqb, both_ways, cases_Bool, false_from_ne_true}
+use Rattle.std.proofs.lemmas.Bool.{and_parts, and_from, or_cases, or_left, or_right, eqb-true, eq-eqb, both_ways, false_from_ne_true}
 use Rattle.std.proofs.lemmas.Option.{same_Some, cond_some}
 use Rattle.row_versions.specs.declared.names.TxId.{TxId}
 use Rattle.row_versions.specs.declared.names.RowId.{RowId}
@@ -10,7 +10,7 @@ use Rattle.row_versions.specs.declared.write.Seen.{Seen}
 use Rattle.row_versions.specs.declared.write.Fate.{Fate}
 use Rattle.row_versions.specs.Log.{Content, fate_of, is_committed}
 use Rattle.row_versions.specs.Newest.{is_version, newest_from, newest_of}
-use Rattle.row_versions.specs.Laws.{CountsFor, IsNewest, IsAt, NewestIsTheLast}
+use Rattle.row_versions.specs.Laws.{CountsFor, IsNewest, NewestIsTheLast}
 use Rattle.row_versions.proofs.Seeing.{same_tx, same_row}
 
 -- the version comes from the k-th write of the part of the log that begins at the place, and no later write is one

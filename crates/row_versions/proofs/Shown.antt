@@ -1,10 +1,9 @@
 -- The rows that a view shows, and the writes that they come from.
-use Rattle.std.proofs.Common.{◌≡◌, ◌≢◌, ℕ, zero, suc, ◌+◌, ◌-◌, ◌<◌, ◌≤◌, Bool, true, false, not, ◌&&◌, ◌||◌, cond, ◌==◌, ◌⊎◌, inl, inr, List, [], ◌∷◌, ◌++◌, length, get_or, drop, Option, Some, None, is_some, IsSome, slice_get, All, AllPairs, Contains, length-append, refl, sym, ◌∙◌, ap, arith}
+use Rattle.std.proofs.Common.{◌≡◌, ℕ, zero, suc, ◌+◌, ◌-◌, ◌<◌, ◌≤◌, Bool, true, false, not, ◌&&◌, ◌||◌, cond, ◌==◌, inl, inr, List, [], ◌∷◌, ◌++◌, length, get_or, drop, Some, is_some, IsSome, slice_get, All, AllPairs, Contains, length-append, refl, sym, ◌∙◌, ap, arith}
 use Rattle.std.specs.List.{list_any}
 use Rattle.std.proofs.lemmas.Bool.{and_parts, and_from, and_left, and_right, and_cases, or_parts, or_from, not-true, not_from_false, eqb-true, eqb-false, eq-eqb, both_ways, cond-false, cases_Bool, cases_eq}
 use Rattle.std.proofs.lemmas.List.Elements.{Contains-get_or}
 use Rattle.std.proofs.lemmas.Option.{same_Some, slice_get_within}
-use Rattle.row_versions.specs.declared.names.TxId.{TxId}
 use Rattle.row_versions.specs.declared.names.RowId.{RowId}
 use Rattle.row_versions.specs.declared.names.TableId.{TableId}
 use Rattle.row_versions.specs.declared.write.Write.{Write}
@@ -15,7 +14,7 @@ use Rattle.row_versions.specs.Log.{Content, after_write, next_place}
 use Rattle.row_versions.specs.View.{sees}
 use Rattle.row_versions.specs.Rows.{replaces, is_shown, rows_from, rows_of}
 use Rattle.row_versions.specs.Laws.{IsShown, IsAt, RowsAreTheShown, RowsFollowTheLog, EachRowOnce, ShowsOwnWrite}
-use Rattle.row_versions.proofs.Gets.{get-append_left, get-append_last, get-drop, member_cases, member_first, member_later, AllPairs-cond}
+use Rattle.row_versions.proofs.Gets.{get-append_last, get-drop, member_cases, member_first, member_later, AllPairs-cond}
 use Rattle.row_versions.proofs.Seeing.{same_row, same_table}
 
 -- the version comes from the k-th write of the part of the log that begins at the place

@@ -1,5 +1,5 @@
 -- What follows from the definitions, in the words of transactions and rows. Each law stands on the contract of a function of `laws`.
-use Rattle.std.specs.Prelude.{◌≡◌, ◌≢◌, ◌↔◌, ◌⊎◌, ℕ, ◌+◌, ◌<◌, ◌≤◌, false, AllPairs, Contains, IsTrue, IsSome, IsNone, Some, None, slice_get}
+use Rattle.std.specs.Prelude.{◌≡◌, ◌≢◌, ◌↔◌, ◌⊎◌, ℕ, ◌+◌, ◌<◌, ◌≤◌, false, AllPairs, Contains, IsTrue, IsSome, Some, None, slice_get}
 use Rattle.row_versions.specs.declared.names.TxId.{TxId}
 use Rattle.row_versions.specs.declared.names.RowId.{RowId}
 use Rattle.row_versions.specs.declared.names.TableId.{TableId}
@@ -19,7 +19,8 @@ IsAt c place w = slice_get c.log place ≡ Some w
 -- a view sees a write exactly where its transaction committed before the view, or is the view's own and made it in an earlier command
 abbrev pub ViewSeesCommittedAndOwn : Type 0
 ViewSeesCommittedAndOwn = (c : Content) (view : View) (w : Write) → IsTrue (sees c.fates view w)
-    ↔ (((k : ℕ) × (fate_of c.fates w.tx ≡ Some (Committed k)) × (k < view.commits)) ⊎ ((view.tx ≡ Some w.tx) × (w.command < view.command)))
+    ↔ (((k : ℕ) × (fate_of c.fates w.tx ≡ Some (Committed k)) × (k < view.commits))
+    ⊎ ((view.tx ≡ Some w.tx) × (w.command < view.command)))
 
 -- the version is one that the view shows in the table: it sees the write, which gave the row values, and it sees no later write of the row
 pub record IsShown (c : Content) (view : View) (table : TableId) (seen : Seen) : Type 0 where
@@ -33,7 +34,8 @@ pub record IsShown (c : Content) (view : View) (table : TableId) (seen : Seen) :
 
 -- the rows of a table in a view are the versions that it shows
 abbrev pub RowsAreTheShown : Type 0
-RowsAreTheShown = (c : Content) (view : View) (table : TableId) (seen : Seen) → Contains (rows_of c view table) seen ↔ IsShown c view table seen
+RowsAreTheShown = (c : Content) (view : View) (table : TableId) (seen : Seen)
+    → Contains (rows_of c view table) seen ↔ IsShown c view table seen
 
 -- they come in the order of the log
 abbrev pub RowsFollowTheLog : Type 0
@@ -51,15 +53,16 @@ OpenWritesOfOthersUnseen = (c : Content) (view : View) (table : TableId) (w : Wr
 -- after its own write of an earlier command a view shows that version of the row, and no other version of it
 pub record ShowsOwnWrite (c : Content) (view : View) (w : Write) : Type 0 where
   pub shown : IsSome w.values → Contains (rows_of (after_write c w) view w.table) (record { row = w.row; place = next_place c })
-  pub alone : (table : TableId) (seen : Seen) → Contains (rows_of (after_write c w) view table) seen → seen.row ≡ w.row → (seen.place ≡ next_place c) × IsSome w.values
+  pub alone : (table : TableId) (seen : Seen) → Contains (rows_of (after_write c w) view table) seen → seen.row ≡ w.row
+      → (seen.place ≡ next_place c) × IsSome w.values
 
 abbrev pub OwnWritesSeen : Type 0
 OwnWritesSeen = (c : Content) (view : View) (w : Write) → view.tx ≡ Some w.tx → w.command < view.command → ShowsOwnWrite c view w
 
 -- a view, but for its own transaction, shows no write that was rolled back
 abbrev pub RolledBackWritesUnseen : Type 0
-RolledBackWritesUnseen = (c : Content) (view : View) (table : TableId) (seen : Seen) (w : Write) → Contains (rows_of c view table) seen → IsAt c seen.place w
-    → view.tx ≢ Some w.tx → fate_of c.fates w.tx ≢ Some RolledBack
+RolledBackWritesUnseen = (c : Content) (view : View) (table : TableId) (seen : Seen) (w : Write) → Contains (rows_of c view table) seen
+    → IsAt c seen.place w → view.tx ≢ Some w.tx → fate_of c.fates w.tx ≢ Some RolledBack
 
 -- what a view shows is the same after a transaction begins, is rolled back, or commits after the view's commits
 pub record StaysAsItIs (c : Content) (view : View) (table : TableId) (tx : TxId) : Type 0 where

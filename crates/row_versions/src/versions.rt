@@ -33,6 +33,8 @@ pub trait Versions: Drop {
 
     /// Adds a write at the end of the log: of this row, or without one of a new row, which it answers. Without
     /// values it deletes the row. Where memory is refused it hands the values back, and nothing has changed.
+    /// It is meant for an open transaction, a row of that table which no other open transaction wrote, and values
+    /// where the row is new; what is promised here holds without that.
     fn write(
         &mut self,
         tx: TxId,
