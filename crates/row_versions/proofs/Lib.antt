@@ -1,0 +1,4 @@
+pub mod Gets
+pub mod Seeing
+pub mod Shown
+pub mod Last

@@ -1,0 +1,5 @@
+pub mod Log
+pub mod View
+pub mod Rows
+pub mod Newest
+pub mod Laws

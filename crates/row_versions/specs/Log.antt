@@ -1,0 +1,79 @@
+-- The log of all writes, and the fates of transactions.
+use Rattle.std.specs.Prelude.{◌≡◌, ℕ, Bool, true, false, List, [], ◌∷◌, ◌++◌, length, Option, Some, None, slice_get, slice_set, count_by, option_and_then}
+use Rattle.sql_values.specs.declared.value.Value.{Value}
+use Rattle.row_versions.specs.declared.names.TxId.{TxId}
+use Rattle.row_versions.specs.declared.names.RowId.{RowId}
+use Rattle.row_versions.specs.declared.write.Write.{Write}
+use Rattle.row_versions.specs.declared.write.Fate.{Fate}
+use Rattle.row_versions.specs.declared.write.Fate.TheVariants.{Open, RolledBack, Committed}
+
+-- all writes in the order made, and what has become of each transaction that has begun
+pub record Content : Type 0 where
+  pub log : List Write
+  pub fates : List Fate
+
+-- no transaction has begun, and nothing was written
+abbrev pub empty_content : Content
+empty_content = record { log = []; fates = [] }
+
+-- the transaction's fate, if it has begun
+abbrev pub fate_of : List Fate → TxId → Option Fate
+fate_of fates tx = slice_get fates tx.0
+
+-- the transaction has begun and has not ended
+abbrev pub IsOpen : Content → TxId → Type 0
+IsOpen c tx = fate_of c.fates tx ≡ Some Open
+
+abbrev pub is_commit : Fate → Bool
+is_commit Open = false
+is_commit RolledBack = false
+is_commit (Committed k) = true
+
+-- the fate, if there is one, is a commit
+abbrev pub is_committed : Option Fate → Bool
+is_committed None = false
+is_committed (Some fate) = is_commit fate
+
+-- the transaction has committed
+abbrev pub has_committed : Content → TxId → Bool
+has_committed c tx = is_committed (fate_of c.fates tx)
+
+-- how many transactions have committed
+abbrev pub commit_count : Content → ℕ
+commit_count c = count_by is_commit c.fates
+
+-- the transaction that begins next
+abbrev pub next_tx : Content → TxId
+next_tx c = record { 0 = length c.fates }
+
+-- the place in the log of the write that is made next
+abbrev pub next_place : Content → ℕ
+next_place c = length c.log
+
+-- the row that is made next: a row is named by the place of its first write
+abbrev pub new_row : Content → RowId
+new_row c = record { 0 = next_place c }
+
+-- what a begin leaves: the next transaction is open
+abbrev pub after_begin : Content → Content
+after_begin c = record c { fates = c.fates ++ Open ∷ [] }
+
+-- what an end leaves: this is the transaction's fate
+abbrev pub after_end : Content → TxId → Fate → Content
+after_end c tx fate = record c { fates = slice_set c.fates tx.0 fate }
+
+-- what a commit leaves: commits are numbered from 0
+abbrev pub after_commit : Content → TxId → Content
+after_commit c tx = after_end c tx (Committed (commit_count c))
+
+-- what a roll-back leaves: the transaction's writes stay in the log
+abbrev pub after_roll_back : Content → TxId → Content
+after_roll_back c tx = after_end c tx RolledBack
+
+-- what a write leaves: it is the last of the log
+abbrev pub after_write : Content → Write → Content
+after_write c w = record c { log = c.log ++ w ∷ [] }
+
+-- what the write at the place gave its row: nothing where it deletes the row, or where there is no such write
+abbrev pub values_at : Content → ℕ → Option (List Value)
+values_at c place = option_and_then (λ w. w.values) (slice_get c.log place)

@@ -1,0 +1,176 @@
+//! A store that keeps the log as one plain list.
+ghost use Rattle.std.specs.Prelude.{◌≡◌, IfOk, ◌+◌};
+ghost use Rattle.std.specs.List.{list_any};
+ghost use Rattle.row_versions.specs.Log.{Content, empty_content};
+ghost use Rattle.row_versions.specs.View.{sees};
+ghost use Rattle.row_versions.specs.Rows.{is_shown, rows_from, replaces};
+ghost use Rattle.row_versions.specs.Newest.{is_version, newest_from};
+
+use crate::names::{RowId, TableId, TxId};
+use crate::versions::Versions;
+use crate::write::{Fate, Seen, View, Write};
+use sql_values::Row;
+use std::alloc::{AllocError, Global};
+use std::marker::Model;
+
+/// The plain store: a list of all writes, searched anew at each question.
+#[derive(Debug, Drop)]
+pub struct ListStore {
+    log: Vec<Write>,
+    fates: Vec<Fate>,
+}
+
+impl Model for ListStore {
+    ghost Value = { Content };
+
+    ghost view = { λ s. record { log = s.log.items; fates = s.fates.items } };
+}
+
+impl ListStore {
+    /// An empty store. It takes no memory.
+    pub fn new(alloc: Global) -> ListStore
+        ensures { result ≡ empty_content }
+    {
+        ListStore {
+            log: Vec::new(alloc),
+            fates: Vec::new(alloc),
+        }
+    }
+}
+
+fn is_seen(fates: &[Fate], view: &View, write: &Write) -> bool
+    ensures { result ≡ sees fates.now view.now write.now }
+{
+    let by_commit = match fates.get(write.tx.0 as usize) {
+        Some(Fate::Committed(k)) => *k < view.commits,
+        _ => false,
+    };
+    let own = match view.tx {
+        Some(tx) => write.tx.0 == tx.0 && write.command < view.command,
+        None => false,
+    };
+    by_commit || own
+}
+
+fn is_replaced(fates: &[Fate], view: &View, row: RowId, later: &[Write]) -> bool
+    ensures { result ≡ list_any (replaces fates.now view.now row) later.now }
+{
+    later.iter().any(|write| write.row.0 == row.0 && is_seen(fates, view, write))
+}
+
+fn shows(fates: &[Fate], view: &View, table: TableId, write: &Write, later: &[Write]) -> bool
+    ensures { result ≡ is_shown fates.now view.now table write.now later.now }
+{
+    write.table.0 == table.0
+        && write.values.is_some()
+        && is_seen(fates, view, write)
+        && !is_replaced(fates, view, write.row, later)
+}
+
+fn shown_rows(
+    alloc: Global,
+    log: &[Write],
+    fates: &[Fate],
+    view: &View,
+    table: TableId,
+) -> Result<Vec<Seen>, AllocError>
+    ensures { IfOk result (λ rows. rows.items ≡ rows_from fates.now view.now table 0 log.now) }
+{
+    let mut rows = Vec::new(alloc);
+    for place in 0..log.len() {
+        let write = &log[place];
+        if shows(fates, view, table, write, &log[place + 1..]) {
+            rows.push(Seen {
+                row: write.row,
+                place: place as u64,
+            })?;
+        }
+    }
+    Ok(rows)
+}
+
+fn is_for(fates: &[Fate], row: RowId, tx: TxId, write: &Write) -> bool
+    ensures { result ≡ is_version fates.now row tx write.now }
+{
+    let committed = matches!(fates.get(write.tx.0 as usize), Some(Fate::Committed(_)));
+    write.row.0 == row.0 && (committed || write.tx.0 == tx.0)
+}
+
+fn newest_version(log: &[Write], fates: &[Fate], row: RowId, tx: TxId) -> Option<Seen>
+    ensures { result ≡ newest_from fates.now row tx 0 log.now }
+{
+    let mut newest = None;
+    for place in 0..log.len() {
+        if is_for(fates, row, tx, &log[place]) {
+            newest = Some(Seen {
+                row,
+                place: place as u64,
+            });
+        }
+    }
+    newest
+}
+
+impl Versions for ListStore {
+    ghost content = { λ s. s };
+
+    fn begin(&mut self) -> Result<TxId, AllocError> {
+        let tx = TxId(self.fates.len() as u64);
+        self.fates.push(Fate::Open)?;
+        Ok(tx)
+    }
+
+    fn commit(&mut self, tx: TxId) {
+        let number = self.committed();
+        self.fates[tx.0 as usize] = Fate::Committed(number);
+    }
+
+    fn roll_back(&mut self, tx: TxId) {
+        self.fates[tx.0 as usize] = Fate::RolledBack;
+    }
+
+    fn write(
+        &mut self,
+        tx: TxId,
+        command: u64,
+        table: TableId,
+        row: Option<RowId>,
+        values: Option<Row>,
+    ) -> Result<RowId, Option<Row>> {
+        let made = row.unwrap_or(RowId(self.log.len() as u64));
+        let write = Write {
+            tx,
+            command,
+            table,
+            row: made,
+            values,
+        };
+        match self.log.push(write) {
+            Ok(()) => Ok(made),
+            Err(failed) => Err(failed.value.values),
+        }
+    }
+
+    fn rows(&self, view: &View, table: TableId) -> Result<Vec<Seen>, AllocError> {
+        shown_rows(*self.log.allocator(), &self.log, &self.fates, view, table)
+    }
+
+    fn newest(&self, row: RowId, tx: TxId) -> Option<Seen> {
+        newest_version(&self.log, &self.fates, row, tx)
+    }
+
+    fn values(&self, seen: &Seen) -> Option<&Row> {
+        self.log.get(seen.place as usize)?.values.as_ref()
+    }
+
+    fn has_committed(&self, tx: TxId) -> bool {
+        matches!(self.fates.get(tx.0 as usize), Some(Fate::Committed(_)))
+    }
+
+    fn committed(&self) -> u64 {
+        self.fates
+            .iter()
+            .filter(|fate| matches!(fate, Fate::Committed(_)))
+            .count() as u64
+    }
+}
