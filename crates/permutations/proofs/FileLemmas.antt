@@ -1,5 +1,5 @@
 -- What the parts answer, put together.
-use Rattle.std.proofs.Common.{◌≡◌, ◌≢◌, ℕ, ◌≤◌, List, length, IsUtf8, Result, Ok, Err, refl, sym, subst, absurd}
+use Rattle.std.proofs.Common.{◌≡◌, ◌≢◌, ℕ, ◌≤◌, List, length, IsUtf8, Result, Ok, Err, refl, sym, subst}
 use Rattle.spec_parser.specs.declared.fault.SpecFault.{SpecFault}
 use Rattle.spec_parser.specs.declared.fault.SpecFault.TheVariants as faults
 use Rattle.spec_parser.specs.SpecText.{Answers, SpecReads}

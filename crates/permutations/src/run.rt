@@ -9,7 +9,7 @@ ghost use Rattle.spec_parser.specs.Trees.{entry_view, perm_view, step_view, sess
 ghost use Rattle.permutations.specs.BlockAnswers.{items_of};
 ghost use Rattle.permutations.specs.FileText.{is_plain, named_step, named_steps, own_steps, permutation_text, permutations_of, first_line, file_text, runs_by_now};
 ghost use Rattle.permutations.specs.FileSays.{FileSays};
-ghost use Rattle.permutations.specs.Runs.{is_refusal, TellsWrites};
+ghost use Rattle.permutations.specs.Runs.{is_refusal};
 
 use crate::blocks::{parts_of, read_blocks};
 use crate::fault::RunFault;
@@ -106,7 +106,7 @@ fn add_step<'a>(
     steps: &mut Vec<StepPart<'a>>,
     step: Option<StepPart<'a>>,
 ) -> Result<(), AllocFailed<StepPart<'a>>>
-    ensures { OnOk result (map step_view steps.new.items ≡ map step_view steps.old.items ++ option_to_list (option_map step_view step)) }
+    ensures { OnOk result (map step_view steps.new.items ≡ map step_view steps.old.items ++ option_to_list (option_map step_view step.entry)) }
 {
     match step {
         Some(step) => steps.push(step),
@@ -129,65 +129,44 @@ fn named_steps<'a>(
     Ok(steps)
 }
 
-/// Writes the text of a permutation, all of it at once.
-fn write_permutation<W: Sink>(
-    alloc: Global,
-    out: &mut W,
-    plan: &Plan<'_>,
-    steps: &[StepPart<'_>],
-) -> Result<(), RunFault>
-    ensures bytes { OnOk result (Appends (W.put_so_far out.old) (W.put_so_far out.new) (permutation_text (spec_view plan.now.spec) (map items_of plan.now.blocks.items) (map step_view steps.now))) }
-    ensures fails { TellsWrites (W.failed out.old) (W.failed out.new) result }
-{
-    let mut page = Page::new(alloc);
-    push_permutation(&mut page, &plan.spec, &plan.blocks, steps)?;
-    out.put(page.bytes())?;
-    Ok(())
-}
-
 /// Without permutation lines the steps of the one session run in order.
-fn write_sessions<W: Sink>(alloc: Global, out: &mut W, plan: &Plan<'_>) -> Result<(), RunFault>
-    ensures bytes { OnOk result (Appends (W.put_so_far out.old) (W.put_so_far out.new) (flat_map (permutation_text (spec_view plan.now.spec) (map items_of plan.now.blocks.items)) (map own_steps (spec_view plan.now.spec).sessions))) }
-    ensures fails { TellsWrites (W.failed out.old) (W.failed out.new) result }
+fn push_sessions(page: &mut Page, plan: &Plan<'_>) -> Result<(), AllocError>
+    ensures { OnOk result (page.new.bytes.items ≡ page.old.bytes.items ++ flat_map (permutation_text (spec_view plan.now.spec) (map items_of plan.now.blocks.items)) (map own_steps (spec_view plan.now.spec).sessions)) }
 {
     for session in &plan.spec.sessions {
-        write_permutation(alloc, out, plan, &session.steps)?;
+        push_permutation(page, &plan.spec, &plan.blocks, &session.steps)?;
     }
     Ok(())
 }
 
-fn write_lines<W: Sink>(alloc: Global, out: &mut W, plan: &Plan<'_>) -> Result<(), RunFault>
-    ensures bytes { OnOk result (Appends (W.put_so_far out.old) (W.put_so_far out.new) (flat_map (permutation_text (spec_view plan.now.spec) (map items_of plan.now.blocks.items)) (map (named_steps (spec_view plan.now.spec).sessions) (spec_view plan.now.spec).perms))) }
-    ensures fails { TellsWrites (W.failed out.old) (W.failed out.new) result }
+fn push_lines(alloc: Global, page: &mut Page, plan: &Plan<'_>) -> Result<(), AllocError>
+    ensures { OnOk result (page.new.bytes.items ≡ page.old.bytes.items ++ flat_map (permutation_text (spec_view plan.now.spec) (map items_of plan.now.blocks.items)) (map (named_steps (spec_view plan.now.spec).sessions) (spec_view plan.now.spec).perms)) }
 {
     for entries in &plan.spec.perms {
         let steps = named_steps(alloc, &plan.spec.sessions, entries)?;
-        write_permutation(alloc, out, plan, &steps)?;
+        push_permutation(page, &plan.spec, &plan.blocks, &steps)?;
     }
     Ok(())
 }
 
-fn write_first_line<W: Sink>(alloc: Global, out: &mut W, sessions: usize) -> Result<(), RunFault>
-    ensures bytes { OnOk result (Appends (W.put_so_far out.old) (W.put_so_far out.new) (first_line sessions)) }
-    ensures fails { TellsWrites (W.failed out.old) (W.failed out.new) result }
+fn push_permutations(alloc: Global, page: &mut Page, plan: &Plan<'_>) -> Result<(), AllocError>
+    ensures { OnOk result (page.new.bytes.items ≡ page.old.bytes.items ++ flat_map (permutation_text (spec_view plan.now.spec) (map items_of plan.now.blocks.items)) (permutations_of (spec_view plan.now.spec))) }
+{
+    if plan.spec.perms.is_empty() {
+        push_sessions(page, plan)
+    } else {
+        push_lines(alloc, page, plan)
+    }
+}
+
+/// All that the file prints.
+fn page_of(alloc: Global, plan: &Plan<'_>) -> Result<Page, AllocError>
+    ensures { IfOk result (λ page. page.bytes.items ≡ file_text (spec_view plan.now.spec) (map items_of plan.now.blocks.items)) }
 {
     let mut page = Page::new(alloc);
-    push_first_line(&mut page, sessions)?;
-    out.put(page.bytes())?;
-    Ok(())
-}
-
-/// Writes all that the file prints.
-fn write_file<W: Sink>(alloc: Global, out: &mut W, plan: &Plan<'_>) -> Result<(), RunFault>
-    ensures bytes { OnOk result (Appends (W.put_so_far out.old) (W.put_so_far out.new) (file_text (spec_view plan.now.spec) (map items_of plan.now.blocks.items))) }
-    ensures fails { TellsWrites (W.failed out.old) (W.failed out.new) result }
-{
-    write_first_line(alloc, out, plan.spec.sessions.len())?;
-    if plan.spec.perms.is_empty() {
-        write_sessions(alloc, out, plan)
-    } else {
-        write_lines(alloc, out, plan)
-    }
+    push_first_line(&mut page, plan.spec.sessions.len())?;
+    push_permutations(alloc, &mut page, plan)?;
+    Ok(page)
 }
 
 /// Reads a spec file, runs it, and writes what it prints. What a file prints is a function of its bytes. The file is
@@ -209,5 +188,7 @@ pub fn run_spec<S: Source, W: Sink>(
 {
     let bytes = read_all(alloc, input, LONGEST_FILE + 1)?;
     let plan = planned(alloc, &bytes)?;
-    write_file(alloc, out, &plan)
+    let page = page_of(alloc, &plan)?;
+    out.put(page.bytes())?;
+    Ok(())
 }

@@ -12,9 +12,11 @@ use Rattle.iso_lexer.specs.declared.fault.Fault.{Fault}
 use Rattle.iso_lexer.specs.Bytes.{run_of}
 use Rattle.iso_lexer.specs.declared.runs.Run.TheVariants.{Blanks}
 use Rattle.iso_lexer.specs.SpecTokens.{Token, keyword, name, digits, sign, block, at_view, at_views}
-use Rattle.iso_lexer.specs.SpecText.{Lexes, Reads, ends, passes, takes, fails, in_front, front, gap, token, block_of}
+use Rattle.iso_lexer.specs.Lexing.{Reads, ends, passes, takes, fails, in_front, gap, token}
+use Rattle.iso_lexer.specs.SpecText.{Lexes, front, block_of}
 use Rattle.iso_lexer.specs.SpecSpelling.{LiesAt, Spells}
-use Rattle.iso_lexer.proofs.Loop.{Shorter, shorter_at}
+use Rattle.iso_lexer.proofs.Lexing.{Shorter, shorter_at}
+use Rattle.iso_lexer.proofs.SpecRules.{spec_rules}
 use Rattle.spec_parser.specs.Places.{text_start, text_start_of, FitsAll}
 
 abbrev Few : ℕ → Result (List (At Token)) Fault → Type 0
@@ -38,16 +40,16 @@ nonempty [] t rest e = absurd (nothing_first t rest e)
 nonempty (b ∷ bs) t rest e = omega arith
 
 -- each token takes a byte at least
-few_read : (total : ℕ) (text : List ℕ) (answer : Result (List (At Token)) Fault) → Reads total text answer → Few (length text) answer
+few_read : (total : ℕ) (text : List ℕ) (answer : Result (List (At Token)) Fault) → Reads front total text answer → Few (length text) answer
 few_read total text answer ends = omega arith
-few_read total text answer (passes rest lt e h) = fewer (length rest) (length text) answer (shorter_at text (gap rest) lt (sym e)) (few_read total rest answer h)
-few_read total text answer (takes t rest {more = more} e h is) = rw is (one_more (length rest) (length text) _ more (shorter_at text (token t rest) (nonempty text t rest e) (sym e)) (few_read total rest more h))
+few_read total text answer (passes rest lt e h) = fewer (length rest) (length text) answer (shorter_at front spec_rules text (gap rest) lt (sym e)) (few_read total rest answer h)
+few_read total text answer (takes t rest {more = more} e h is) = rw is (one_more (length rest) (length text) _ more (shorter_at front spec_rules text (token t rest) (nonempty text t rest e) (sym e)) (few_read total rest more h))
 few_read total text answer (fails kind n e is) = rw is tt
 
 no_fault : (ts : List (At Token)) (f : Fault) → ◌≡◌ {A = Result (List (At Token)) Fault} (Ok ts) (Err f) → ⊥
 no_fault ts f e = cc
 
-few_of : (b : Bool) (text : List ℕ) (ts : List (At Token)) (f : Fault) → nat_lt 1048576 (length text) ≡ b → MatchBool b (◌≡◌ {A = Result (List (At Token)) Fault} (Ok ts) (Err f)) (Reads (length text) text (Ok ts)) → (length text ≤ 1048576) × (length ts ≤ length text)
+few_of : (b : Bool) (text : List ℕ) (ts : List (At Token)) (f : Fault) → nat_lt 1048576 (length text) ≡ b → MatchBool b (◌≡◌ {A = Result (List (At Token)) Fault} (Ok ts) (Err f)) (Reads front (length text) text (Ok ts)) → (length text ≤ 1048576) × (length ts ≤ length text)
 few_of true text ts f e h = absurd (no_fault ts f h)
 few_of false text ts f e h = (ltb-false 1048576 (length text) e, few_read (length text) text (Ok ts) h)
 
