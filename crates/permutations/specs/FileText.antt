@@ -32,7 +32,7 @@ abbrev pub teardown_text : List (List ℤ) → SessionTree → List ℕ
 teardown_text blocks s = maybe_text blocks s.teardown
 
 -- the main setups, each session's setup, the steps, each session's teardown, the main teardown
-abbrev pub permutation_text : SpecTree → List (List ℤ) → List StepTree → List ℕ
+unfoldable pub permutation_text : SpecTree → List (List ℤ) → List StepTree → List ℕ
 permutation_text spec blocks steps =
     starting_text steps
     ++ flat_map (block_text blocks) spec.setups
@@ -66,7 +66,7 @@ own_steps s = s.steps
 abbrev pub permutations_of : SpecTree → List (List StepTree)
 permutations_of spec = if length spec.perms == 0 then map own_steps spec.sessions else map (named_steps spec.sessions) spec.perms
 
-abbrev pub file_text : SpecTree → List (List ℤ) → List ℕ
+unfoldable pub file_text : SpecTree → List (List ℤ) → List ℕ
 file_text spec blocks = first_line (length spec.sessions) ++ flat_map (permutation_text spec blocks) (permutations_of spec)
 
 -- ---- what runs by now

@@ -88,7 +88,10 @@ fn planned<'a>(alloc: Global, bytes: &'a [u8]) -> Result<Plan<'a>, RunFault>
         Err(fault) => return Err(RunFault::from(fault)),
     };
     let parts = parts_of(alloc, &spec)?;
-    let blocks = read_blocks(alloc, &parts)?;
+    let blocks = match read_blocks(alloc, &parts) {
+        Ok(blocks) => blocks,
+        Err(fault) => return Err(fault),
+    };
     if !runs_by_now(&spec) {
         return Err(RunFault::NotYet);
     }
@@ -160,6 +163,7 @@ fn push_permutations(alloc: Global, page: &mut Page, plan: &Plan<'_>) -> Result<
 }
 
 /// All that the file prints.
+#[tactic(auto, unfolding(crate::specs::FileText::file_text))]
 fn page_of(alloc: Global, plan: &Plan<'_>) -> Result<Page, AllocError>
     ensures { IfOk result (λ page. page.bytes.items ≡ file_text (spec_view plan.now.spec) (map items_of plan.now.blocks.items)) }
 {
