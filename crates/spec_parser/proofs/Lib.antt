@@ -4,3 +4,4 @@ pub mod Loops
 pub mod Resolving
 pub mod TokenCount
 pub mod Whole
+pub mod WholeLaws
