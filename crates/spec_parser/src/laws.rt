@@ -1,6 +1,6 @@
 //! What is so of every text.
 
-ghost use Rattle.spec_parser.specs.Laws.{FaultsAreFirst, ReadsAreFiles, OneAnswer};
+ghost use Rattle.spec_parser.specs.Laws.{FaultsAreFirst, ReadsAreFiles, FilesAreRead, OneAnswer};
 
 /// A text says one thing, or has one fault.
 pub fn one_answer()
@@ -14,7 +14,12 @@ pub fn reads_are_files()
     ensures { ReadsAreFiles }
 {}
 
-/// The tokens before a stop begin a file of the grammar, and reading stops there whatever stands behind the next token.
+/// The tokens before a stop begin a file of the grammar; with the next token they begin none, or are at a limit.
 pub fn faults_are_first()
     ensures { FaultsAreFirst }
+{}
+
+/// A file of the grammar is read whole, or has something over a limit.
+pub fn files_are_read()
+    ensures { FilesAreRead }
 {}
