@@ -4,3 +4,5 @@ pub mod Loops
 pub mod Resolving
 pub mod TokenCount
 pub mod Whole
+pub mod Complete
+pub mod WholeLaws

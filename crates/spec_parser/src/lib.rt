@@ -6,6 +6,7 @@ mod draft;
 mod fault;
 mod file;
 mod known;
+mod laws;
 mod parse;
 mod perms;
 mod reader;
@@ -14,6 +15,7 @@ mod session;
 mod tree;
 
 pub use fault::{SpecFault, What};
+pub use laws::{faults_are_first, files_are_read, one_answer, reads_are_files};
 pub use parse::parse_spec;
 pub use tree::{Entry, Marker, Part, SessionPart, Spec, StepPart};
 

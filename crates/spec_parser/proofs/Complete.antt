@@ -1,0 +1,460 @@
+-- What is in the grammar is read, unless something is over a limit.
+use Rattle.std.proofs.Common.{◌≡◌, ◌<◌, ◌≤◌, ◌+◌, arith, length, ℕ, zero, suc, Bool, true, false, cond, List, [], ◌∷◌, ◌++◌, Option, Some, None, Result, Ok, Err, refl, sym, ap, subst, ◌∙◌, append_assoc, length-append}
+use Rattle.std.specs.Prelude.{unwrap_or, nat_lt}
+use Rattle.std.proofs.lemmas.List.{append-nil}
+use Rattle.iso_lexer.specs.declared.token.At.{At}
+use Rattle.iso_lexer.specs.declared.spec_token.Keyword.{Keyword}
+use Rattle.iso_lexer.specs.declared.spec_token.Keyword.TheVariants.{Permutation, Session, Setup, Step, Teardown, Notices}
+use Rattle.iso_lexer.specs.declared.spec_token.Sign.{Sign}
+use Rattle.iso_lexer.specs.declared.spec_token.Sign.TheVariants.{Open, Close, Comma, Star}
+use Rattle.iso_lexer.specs.Names.{Written}
+use Rattle.iso_lexer.specs.SpecTokens.{Token, keyword, name, digits, sign, block}
+use Rattle.spec_parser.specs.declared.fault.What.{What}
+use Rattle.spec_parser.specs.declared.fault.What.TheVariants as what
+use Rattle.spec_parser.specs.declared.fault.Stop.{Stop}
+use Rattle.spec_parser.specs.declared.fault.Stop.TheVariants.{Expected, NoticesLeftOut, OverLimit}
+use Rattle.spec_parser.specs.Trees.{PartTree, NameAt, NamedStep, NamedSession, MarkerTree, star, named, NamedEntry, FileTree}
+use Rattle.spec_parser.specs.Counts.{Counts, past, past_token}
+use Rattle.spec_parser.specs.Reading.{Rest, Read, ◌>>=◌, same_word, same_sign, is_word, is_sign, is_name, first_is, starts_word, starts_sign, starts_name, the_word, the_sign, the_name, the_block, name_in, token_at, many_at, all_at, some_at, maybe_at, word_at, sign_at, name_at, block_at, end_at, name_within, block_after, setup_at, teardown_at, setups_at, step_at, steps_at, session_at, sessions_at, no_notices, marker_at, next_marker_at, next_markers_at, markers_at, some_markers_at, entry_at, entries_at, perm_at, perms_at, file_at}
+use Rattle.spec_parser.specs.Grammar.{Grammar, gives, one, Maybe, left_out, given, Many, none, more, some, Either, first, second, block_behind, step, session, marker, markers, entry, perm, file}
+use Rattle.spec_parser.specs.Grammar.{◌>>=◌ as ◌▸◌}
+use Rattle.spec_parser.proofs.Local.{past_twice, stops_at, goes_on, goes, TakesOne, first_takes}
+
+pub data Again {A : Type 0} (x : A) (after : Rest) (read : Read A) : Type 0 where
+  whole : read ≡ (Ok x, after) → Again x after read
+  over : read.0 ≡ Err OverLimit → Again x after read
+
+-- a reading reads what is in the grammar, where such tokens follow
+abbrev pub Completes : {A : Type 0} → Grammar A → (Rest → Read A) → (List (At Token) → Type 0) → Type 0
+Completes {A} G p F = (c : Counts) (xs rest : List (At Token)) (x : A) → F rest → G c xs x → Again x (past c xs, rest) (p (c, xs ++ rest))
+
+abbrev Any : List (At Token) → Type 0
+Any rest = Unit {0}
+
+abbrev NotFirst : (Token → Bool) → List (At Token) → Type 0
+NotFirst p rest = first_is p rest ≡ false
+
+over_first : {A B : Type 0} (q : Read A) (f : A × Rest → Read B) → q.0 ≡ Err OverLimit → (q >>= f).0 ≡ Err OverLimit
+over_first (Ok x, rest) f e = absurd cc
+over_first (Err s, rest) f e = let same : s ≡ OverLimit = cc in ap Err same
+
+then_again : {A B : Type 0} (q : Read A) (f : A × Rest → Read B) (x : A) (mid : Rest) (z : B) (after : Rest) → Again x mid q → Again z after (f (x, mid)) → Again z after (q >>= f)
+then_again q f x mid z after (whole e) a = subst (λ r. Again z after (r >>= f)) (sym e) a
+then_again q f x mid z after (over e) a = over (over_first q f e)
+
+seq_from : {A B : Type 0} (G : Grammar A) (H : A → Grammar B) (p : Rest → Read A) (f : Counts → A × Rest → Read B) (F E : List (At Token) → Type 0) → Completes G p F → ((d : Counts) (x : A) → Completes (H x) (λ r. f d (x, r)) E)
+    → ((d : Counts) (x : A) (ys rest : List (At Token)) (z : B) → E rest → H x d ys z → F (ys ++ rest)) → Completes (G ▸ H) (λ r. p r >>= f r.0) E
+seq_from {B = B} G H p f F E reads next leads c ts rest z follows (x, xs, ys, e, g, h) =
+    let split : ts ++ rest ≡ xs ++ (ys ++ rest) = ap (λ (r : List (At Token)). r ++ rest) e ∙ append_assoc xs ys rest in
+    let after : past (past c xs) ys ≡ past c ts = sym (past_twice c xs ys) ∙ ap (past c) (sym e) in
+    let one = reads c xs (ys ++ rest) x (leads (past c xs) x ys rest z follows h) g in
+    let two = next c x (past c xs) ys rest z follows h in
+    subst (λ us. Again z (past c ts, rest) (p (c, us) >>= f c)) (sym split) (subst (λ d. Again z (d, rest) (p (c, xs ++ (ys ++ rest)) >>= f c)) after (then_again (p (c, xs ++ (ys ++ rest))) (f c) x (past c xs, ys ++ rest) z (past (past c xs) ys, rest) one two))
+
+seq : {A B : Type 0} (G : Grammar A) (H : A → Grammar B) (p : Rest → Read A) (f : A × Rest → Read B) (F E : List (At Token) → Type 0) → Completes G p F → ((x : A) → Completes (H x) (λ r. f (x, r)) E)
+    → ((d : Counts) (x : A) (ys rest : List (At Token)) (z : B) → E rest → H x d ys z → F (ys ++ rest)) → Completes (G ▸ H) (λ r. p r >>= f) E
+seq G H p f F E reads next leads = seq_from G H p (λ _. f) F E reads (λ _. next) leads
+
+gives_again : {A : Type 0} (v : A) (F : List (At Token) → Type 0) → Completes (gives v) (λ r. (Ok v, r)) F
+gives_again v F c xs rest x follows (nothing, is) = rw (nothing, is) (whole refl)
+
+token_again : {A : Type 0} (f : Counts → At Token → Option A) (w : What) → Completes (one f) (token_at f w) Any
+token_again f w c xs rest x follows (t, e, is) = rw e (whole (rw is refl))
+
+-- ---- the first token
+
+test_true : (b : Bool) (u : Unit {0}) → ◌≡◌ {A = Option (Unit {0})} (cond b (Some tt) None) (Some u) → b ≡ true
+test_true true u e = refl
+test_true false u e = absurd cc
+
+same_is : (j k : Keyword) → same_word j k ≡ true → j ≡ k
+same_is Permutation Permutation e = refl
+same_is Session Session e = refl
+same_is Setup Setup e = refl
+same_is Step Step e = refl
+same_is Teardown Teardown e = refl
+same_is Notices Notices e = refl
+same_is _ _ e = absurd cc
+
+same_sign_is : (j k : Sign) → same_sign j k ≡ true → j ≡ k
+same_sign_is Open Open e = refl
+same_sign_is Close Close e = refl
+same_sign_is Comma Comma e = refl
+same_sign_is Star Star e = refl
+same_sign_is _ _ e = absurd cc
+
+keyword_in : (k : Keyword) (t : Token) → is_word k t ≡ true → t ≡ keyword k
+keyword_in k (keyword j) e = ap keyword (same_is j k e)
+keyword_in k (name n) e = absurd cc
+keyword_in k (digits d) e = absurd cc
+keyword_in k (sign s) e = absurd cc
+keyword_in k (block n b) e = absurd cc
+
+sign_in : (g : Sign) (t : Token) → is_sign g t ≡ true → t ≡ sign g
+sign_in g (sign h) e = ap sign (same_sign_is h g e)
+sign_in g (keyword j) e = absurd cc
+sign_in g (name n) e = absurd cc
+sign_in g (digits d) e = absurd cc
+sign_in g (block n b) e = absurd cc
+
+named_in : (at : ℕ) (t : Token) (n : NameAt) → name_in at t ≡ Some n → (m : Written) × (t ≡ name m)
+named_in at (name m) n e = (m, refl)
+named_in at (keyword k) n e = absurd cc
+named_in at (digits d) n e = absurd cc
+named_in at (sign s) n e = absurd cc
+named_in at (block k b) n e = absurd cc
+
+begins : {A B : Type 0} (f : Counts → At Token → Option A) (H : A → Grammar B) (p : Token → Bool) (c : Counts) (ts rest : List (At Token)) (z : B) (b : Bool) → ((t : At Token) (x : A) → f c t ≡ Some x → p t.tok ≡ b) → (one f ▸ H) c ts z → first_is p (ts ++ rest) ≡ b
+begins f H p c ts rest z b says (x, xs, ys, e, (t, te, is), h) =
+    let front : ts ≡ (t ∷ []) ++ ys = e ∙ ap (λ (r : List (At Token)). r ++ ys) te in
+    ap (λ (r : List (At Token)). first_is p (r ++ rest)) front ∙ says t x is
+
+begins_word : {B : Type 0} (k : Keyword) (H : Unit {0} → Grammar B) (p : Token → Bool) (c : Counts) (ts rest : List (At Token)) (z : B) → (one (the_word k) ▸ H) c ts z → first_is p (ts ++ rest) ≡ p (keyword k)
+begins_word k H p c ts rest z h = begins (the_word k) H p c ts rest z (p (keyword k)) (λ t x is. ap p (keyword_in k t.tok (test_true (is_word k t.tok) x is))) h
+
+begins_sign : {B : Type 0} (g : Sign) (H : Unit {0} → Grammar B) (p : Token → Bool) (c : Counts) (ts rest : List (At Token)) (z : B) → (one (the_sign g) ▸ H) c ts z → first_is p (ts ++ rest) ≡ p (sign g)
+begins_sign g H p c ts rest z h = begins (the_sign g) H p c ts rest z (p (sign g)) (λ t x is. ap p (sign_in g t.tok (test_true (is_sign g t.tok) x is))) h
+
+begins_name : {B : Type 0} (H : NameAt → Grammar B) (p : Token → Bool) (b : Bool) → ((m : Written) → p (name m) ≡ b) → (c : Counts) (ts rest : List (At Token)) (z : B) → (one the_name ▸ H) c ts z → first_is p (ts ++ rest) ≡ b
+begins_name H p b of_names c ts rest z h = begins the_name H p c ts rest z b (λ t n is. let m = named_in t.span.start t.tok n is in ap p m.1 ∙ of_names m.0) h
+
+-- ---- one token, under a limit
+
+within_case : (b : Bool) (c : Counts) (t : At Token) (rest : List (At Token)) (n : NameAt) → the_name c t ≡ Some n → Again n (past_token t.tok c, rest) (cond b (token_at the_name what.Name (c, t ∷ rest)) (cond (is_name t.tok) (Err OverLimit, (c, t ∷ rest)) (Err (Expected what.Name), (c, t ∷ rest))))
+within_case true c t rest n is = whole (rw is refl)
+within_case false c t rest n is = let m = named_in t.span.start t.tok n is in over (rw m.1 refl)
+
+name_within_again : (before most : ℕ) → Completes (one the_name) (name_within before most) Any
+unfolding name_within name_at
+name_within_again before most c xs rest n follows (t, e, is) = rw e (within_case (nat_lt before most) c t rest n is)
+
+word_again : (k : Keyword) (w : What) → Completes (one (the_word k)) (word_at k w) Any
+unfolding word_at
+word_again k w = token_again (the_word k) w
+
+sign_again : (g : Sign) (w : What) → Completes (one (the_sign g)) (sign_at g w) Any
+unfolding sign_at
+sign_again g w = token_again (the_sign g) w
+
+name_again : (w : What) → Completes (one the_name) (name_at w) Any
+unfolding name_at
+name_again w = token_again the_name w
+
+block_again : Completes (one the_block) block_at Any
+unfolding block_at
+block_again = token_again the_block what.Block
+
+-- ---- one, or none
+
+abbrev Starts : {A : Type 0} → (Token → Bool) → Grammar A → Type 0
+Starts {A} p G = (c : Counts) (xs rest : List (At Token)) (x : A) → G c xs x → first_is p (xs ++ rest) ≡ true
+
+maybe_again : {A : Type 0} (G : Grammar A) (p : Token → Bool) (read : Rest → Read A) → Completes G read Any → Starts p G → Completes (Maybe G) (maybe_at (λ r. first_is p r.1) read) (NotFirst p)
+maybe_again G p read reads starts c xs rest o follows left_out = whole (rw follows refl)
+maybe_again G p read reads starts c xs rest o follows (given {x = x} g) =
+    rw (starts c xs rest x g) (then_again (read (c, xs ++ rest)) (λ one. (Ok (Some one.0), one.1)) x (past c xs, rest) (Some x) (past c xs, rest) (reads c xs rest x tt g) (whole refl))
+
+-- ---- many
+
+next_follows : {A : Type 0} (G : Grammar A) (F : List (At Token) → Type 0) → ((c : Counts) (xs rest : List (At Token)) (x : A) → G c xs x → F (xs ++ rest)) → (c : Counts) (ts rest : List (At Token)) (xs : List A) → F rest → Many G c ts xs → F (ts ++ rest)
+next_follows G F leads c ts rest all follows none = follows
+next_follows G F leads c ts rest all follows (more {x = x} xs ys e g others) = subst F (sym (ap (λ (r : List (At Token)). r ++ rest) e ∙ append_assoc xs ys rest)) (leads c xs (ys ++ rest) x g)
+
+many_again : {A : Type 0} (G : Grammar A) (p : Token → Bool) (item : ℕ → Rest → Read A) (F : List (At Token) → Type 0) → ((k : ℕ) → Completes G (item k) F) → Starts p G → TakesOne G → ((c : Counts) (xs rest : List (At Token)) (x : A) → G c xs x → F (xs ++ rest))
+    → (n k : ℕ) (c : Counts) (ts rest : List (At Token)) (xs : List A) → length (ts ++ rest) ≤ n → NotFirst p rest × F rest → Many G c ts xs → Again xs (past c ts, rest) (many_at (λ r. first_is p r.1) item k n (c, ts ++ rest))
+many_again G p item F reads starts takes leads n k c ts rest all le follows none = whole (stops_at (λ r. first_is p r.1) item k n c rest follows.0)
+many_again {A} G p item F reads starts takes leads zero k c ts rest all le follows (more {x = x} xs ys e g others) =
+    absurd (omega (arith, le, length-append ts rest, ap (λ (r : List (At Token)). length r) e, length-append xs ys, takes c xs x g))
+many_again {A} G p item F reads starts takes leads (suc n) k c ts rest all le follows (more {x = x} {others = ss} xs ys e g others) =
+    let split : ts ++ rest ≡ xs ++ (ys ++ rest) = ap (λ (r : List (At Token)). r ++ rest) e ∙ append_assoc xs ys rest in
+    let after : past (past c xs) ys ≡ past c ts = sym (past_twice c xs ys) ∙ ap (past c) (sym e) in
+    let test : Rest → Bool = λ r. first_is p r.1 in
+    let room : length (ys ++ rest) ≤ n = omega (arith, le, ap (λ (r : List (At Token)). length r) split, length-append xs (ys ++ rest), takes c xs x g) in
+    let one = reads k c xs (ys ++ rest) x (next_follows G F leads (past c xs) ys rest ss follows.1 others) g in
+    let two = many_again G p item F reads starts takes leads n (k + 1) (past c xs) ys rest ss room follows others in
+    let joined = then_again (many_at test item (k + 1) n (past c xs, ys ++ rest)) (λ os. (Ok (x ∷ os.0), os.1)) ss (past (past c xs) ys, rest) (x ∷ ss) (past (past c xs) ys, rest) two (whole refl) in
+    let both = then_again (item k (c, xs ++ (ys ++ rest))) (goes test item k n) x (past c xs, ys ++ rest) (x ∷ ss) (past (past c xs) ys, rest) one joined in
+    subst (λ us. Again (x ∷ ss) (past c ts, rest) (many_at test item k (suc n) (c, us))) (sym split)
+    (subst (λ d. Again (x ∷ ss) (d, rest) (many_at test item k (suc n) (c, xs ++ (ys ++ rest)))) after
+    (subst (Again (x ∷ ss) (past (past c xs) ys, rest)) (sym (goes_on test item k n c (xs ++ (ys ++ rest)) (starts c xs (ys ++ rest) x g))) both))
+
+all_again : {A : Type 0} (G : Grammar A) (p : Token → Bool) (item : ℕ → Rest → Read A) (F : List (At Token) → Type 0) → ((k : ℕ) → Completes G (item k) F) → Starts p G → TakesOne G → ((c : Counts) (xs rest : List (At Token)) (x : A) → G c xs x → F (xs ++ rest)) → Completes (Many G) (all_at (λ r. first_is p r.1) item) (λ rest. NotFirst p rest × F rest)
+all_again G p item F reads starts takes leads c ts rest xs follows h = many_again G p item F reads starts takes leads (length (ts ++ rest)) 0 c ts rest xs (omega arith) follows h
+
+some_starts : {A : Type 0} (G : Grammar A) (p : Token → Bool) → Starts p G → Starts p (some G)
+some_starts G p starts c ts rest all (none, lt) = absurd (omega arith)
+some_starts G p starts c ts rest all (more {x = x} xs ys e g others, lt) = ap (first_is p) (ap (λ (r : List (At Token)). r ++ rest) e ∙ append_assoc xs ys rest) ∙ starts c xs (ys ++ rest) x g
+
+some_again : {A : Type 0} (G : Grammar A) (w : What) (p : Token → Bool) (item : ℕ → Rest → Read A) (F : List (At Token) → Type 0) → ((k : ℕ) → Completes G (item k) F) → Starts p G → TakesOne G → ((c : Counts) (xs rest : List (At Token)) (x : A) → G c xs x → F (xs ++ rest)) → Completes (some G) (some_at w (λ r. first_is p r.1) item) (λ rest. NotFirst p rest × F rest)
+some_again G w p item F reads starts takes leads c ts rest xs follows h = rw (some_starts G p starts c ts rest xs h) (all_again G p item F reads starts takes leads c ts rest xs follows h.0)
+
+-- ---- what comes first
+
+abbrev Begins : {A : Type 0} → (Token → Bool) → Bool → Grammar A → Type 0
+Begins {A} p b G = (c : Counts) (xs rest : List (At Token)) (x : A) → G c xs x → first_is p (xs ++ rest) ≡ b
+
+some_begins : {A : Type 0} (G : Grammar A) (p : Token → Bool) (b : Bool) → Begins p b G → Begins p b (some G)
+some_begins G p b starts c ts rest all (none, lt) = absurd (omega arith)
+some_begins G p b starts c ts rest all (more {x = x} xs ys e g others, lt) = ap (first_is p) (ap (λ (r : List (At Token)). r ++ rest) e ∙ append_assoc xs ys rest) ∙ starts c xs (ys ++ rest) x g
+
+maybe_begins : {A : Type 0} (G : Grammar A) (p : Token → Bool) → Begins p false G → (c : Counts) (xs rest : List (At Token)) (o : Option A) → NotFirst p rest → Maybe G c xs o → NotFirst p (xs ++ rest)
+maybe_begins G p starts c xs rest o follows left_out = follows
+maybe_begins G p starts c xs rest o follows (given {x = x} g) = starts c xs rest x g
+
+-- a front in two parts
+regroup : (F : List (At Token) → Type 0) (ts xs ys rest : List (At Token)) → ts ≡ xs ++ ys → F (xs ++ (ys ++ rest)) → F (ts ++ rest)
+regroup F ts xs ys rest e h = subst F (sym (ap (λ (r : List (At Token)). r ++ rest) e ∙ append_assoc xs ys rest)) h
+
+-- nothing more
+stays : (F : List (At Token) → Type 0) (ts rest : List (At Token)) → ts ≡ [] → F rest → F (ts ++ rest)
+stays F ts rest e h = subst F (sym (ap (λ (r : List (At Token)). r ++ rest) e)) h
+
+-- ---- blocks and steps
+
+block_after_again : (k : Keyword) → Completes (block_behind k) (block_after k) Any
+unfolding block_after
+block_after_again k = seq (one (the_word k)) (λ _. one the_block) (word_at k what.Item) (λ key. block_at key.1) Any Any (word_again k what.Item) (λ _. block_again) (λ d x ys rest z f h. tt)
+
+setup_begins : (p : Token → Bool) → Begins p (p (keyword Setup)) (block_behind Setup)
+setup_begins p c xs rest x h = begins_word Setup (λ _. one the_block) p c xs rest x h
+
+teardown_begins : (p : Token → Bool) → Begins p (p (keyword Teardown)) (block_behind Teardown)
+teardown_begins p c xs rest x h = begins_word Teardown (λ _. one the_block) p c xs rest x h
+
+setup_again : Completes (Maybe (block_behind Setup)) setup_at (NotFirst (is_word Setup))
+unfolding setup_at
+setup_again = maybe_again (block_behind Setup) (is_word Setup) (block_after Setup) (block_after_again Setup) (setup_begins (is_word Setup))
+
+teardown_again : Completes (Maybe (block_behind Teardown)) teardown_at (NotFirst (is_word Teardown))
+unfolding teardown_at
+teardown_again = maybe_again (block_behind Teardown) (is_word Teardown) (block_after Teardown) (block_after_again Teardown) (teardown_begins (is_word Teardown))
+
+setups_again : Completes (Many (block_behind Setup)) setups_at (λ rest. NotFirst (is_word Setup) rest × Any rest)
+unfolding setups_at
+setups_again = all_again (block_behind Setup) (is_word Setup) (λ k. block_after Setup) Any (λ k. block_after_again Setup) (setup_begins (is_word Setup)) (first_takes (the_word Setup) (λ _. one the_block)) (λ c xs rest x g. tt)
+
+abbrev step_of : NameAt → PartTree → NamedStep
+step_of n b = record { name = n; part = b }
+
+step_end_again : (n : NameAt) → Completes (one the_block ▸ λ b. gives (step_of n b)) (λ r. block_at r >>= λ b. (Ok (step_of n b.0), b.1)) Any
+step_end_again n = seq (one the_block) (λ b. gives (step_of n b)) block_at (λ b. (Ok (step_of n b.0), b.1)) Any Any block_again (λ b. gives_again (step_of n b) Any) (λ d x ys rest z f h. tt)
+
+step_again : Completes step step_at Any
+unfolding step_at
+step_again = seq_from (one (the_word Step)) (λ _. one the_name ▸ λ n. one the_block ▸ λ b. gives (step_of n b)) (word_at Step what.Item)
+    (λ d key. name_within d.steps 1000 key.1 >>= λ n. block_at n.1 >>= λ b. (Ok (step_of n.0 b.0), b.1)) Any Any (word_again Step what.Item)
+    (λ d _. seq (one the_name) (λ n. one the_block ▸ λ b. gives (step_of n b)) (name_within d.steps 1000) (λ n. block_at n.1 >>= λ b. (Ok (step_of n.0 b.0), b.1)) Any Any (name_within_again d.steps 1000) step_end_again (λ e x ys rest z f h. tt))
+    (λ d x ys rest z f h. tt)
+
+step_begins : (p : Token → Bool) → Begins p (p (keyword Step)) step
+step_begins p c xs rest x h = begins_word Step (λ _. one the_name ▸ λ n. one the_block ▸ λ b. gives (step_of n b)) p c xs rest x h
+
+steps_again : Completes (some step) steps_at (λ rest. NotFirst (is_word Step) rest × Any rest)
+unfolding steps_at
+steps_again = some_again step what.Step (is_word Step) (λ k. step_at) Any (λ k. step_again) (step_begins (is_word Step)) (first_takes (the_word Step) (λ _. one the_name ▸ λ n. one the_block ▸ λ b. gives (step_of n b))) (λ c xs rest x g. tt)
+
+-- ---- sessions
+
+abbrev BehindSession : List (At Token) → Type 0
+BehindSession rest = NotFirst (is_word Step) rest × NotFirst (is_word Teardown) rest
+
+abbrev session_of : NameAt → Option PartTree → List NamedStep → Option PartTree → NamedSession
+session_of n setup steps teardown = record { name = n.name; setup = setup; steps = steps; teardown = teardown }
+
+abbrev TornDown : NameAt → Option PartTree → List NamedStep → Grammar NamedSession
+TornDown n setup steps = Maybe (block_behind Teardown) ▸ λ teardown. gives (session_of n setup steps teardown)
+
+abbrev Stepped : NameAt → Option PartTree → Grammar NamedSession
+Stepped n setup = some step ▸ TornDown n setup
+
+abbrev SetUp : NameAt → Grammar NamedSession
+SetUp n = Maybe (block_behind Setup) ▸ Stepped n
+
+torn_again : (n : NameAt) (setup : Option PartTree) (steps : List NamedStep) → Completes (TornDown n setup steps) (λ r. teardown_at r >>= λ teardown. (Ok (session_of n setup steps teardown.0), teardown.1)) BehindSession
+torn_again n setup steps = seq (Maybe (block_behind Teardown)) (λ teardown. gives (session_of n setup steps teardown)) teardown_at (λ teardown. (Ok (session_of n setup steps teardown.0), teardown.1)) (NotFirst (is_word Teardown)) BehindSession teardown_again (λ teardown. gives_again (session_of n setup steps teardown) BehindSession)
+    (λ d x ys rest z f h. stays (NotFirst (is_word Teardown)) ys rest h.0 f.1)
+
+no_step_first : (n : NameAt) (setup : Option PartTree) (steps : List NamedStep) (d : Counts) (ys rest : List (At Token)) (z : NamedSession) → BehindSession rest → TornDown n setup steps d ys z → NotFirst (is_word Step) (ys ++ rest)
+no_step_first n setup steps d ts rest z f (o, xs, ys, e, m, (nothing, is)) =
+    regroup (NotFirst (is_word Step)) ts xs ys rest e (maybe_begins (block_behind Teardown) (is_word Step) (teardown_begins (is_word Step)) d xs (ys ++ rest) o (stays (NotFirst (is_word Step)) ys rest nothing f.0) m)
+
+stepped_again : (n : NameAt) (setup : Option PartTree) → Completes (Stepped n setup) (λ r. steps_at r >>= λ steps. teardown_at steps.1 >>= λ teardown. (Ok (session_of n setup steps.0 teardown.0), teardown.1)) BehindSession
+stepped_again n setup = seq (some step) (TornDown n setup) steps_at (λ steps. teardown_at steps.1 >>= λ teardown. (Ok (session_of n setup steps.0 teardown.0), teardown.1)) (λ rest. NotFirst (is_word Step) rest × Any rest) BehindSession steps_again (torn_again n setup)
+    (λ d x ys rest z f h. (no_step_first n setup x d ys rest z f h, tt))
+
+no_setup_first : (n : NameAt) (setup : Option PartTree) (d : Counts) (ys rest : List (At Token)) (z : NamedSession) → Stepped n setup d ys z → NotFirst (is_word Setup) (ys ++ rest)
+no_setup_first n setup d ts rest z (ss, xs, ys, e, m, h) = regroup (NotFirst (is_word Setup)) ts xs ys rest e (some_begins step (is_word Setup) false (step_begins (is_word Setup)) d xs (ys ++ rest) ss m)
+
+set_up_again : (n : NameAt) → Completes (SetUp n) (λ r. setup_at r >>= λ setup. steps_at setup.1 >>= λ steps. teardown_at steps.1 >>= λ teardown. (Ok (session_of n setup.0 steps.0 teardown.0), teardown.1)) BehindSession
+set_up_again n = seq (Maybe (block_behind Setup)) (Stepped n) setup_at (λ setup. steps_at setup.1 >>= λ steps. teardown_at steps.1 >>= λ teardown. (Ok (session_of n setup.0 steps.0 teardown.0), teardown.1)) (NotFirst (is_word Setup)) BehindSession setup_again (stepped_again n)
+    (λ d x ys rest z f h. no_setup_first n x d ys rest z h)
+
+session_again : Completes session session_at BehindSession
+unfolding session_at
+session_again = seq_from (one (the_word Session)) (λ _. one the_name ▸ SetUp) (word_at Session what.Item)
+    (λ d key. name_within d.sessions 64 key.1 >>= λ n. setup_at n.1 >>= λ setup. steps_at setup.1 >>= λ steps. teardown_at steps.1 >>= λ teardown. (Ok (session_of n.0 setup.0 steps.0 teardown.0), teardown.1)) Any BehindSession (word_again Session what.Item)
+    (λ d _. seq (one the_name) SetUp (name_within d.sessions 64) (λ n. setup_at n.1 >>= λ setup. steps_at setup.1 >>= λ steps. teardown_at steps.1 >>= λ teardown. (Ok (session_of n.0 setup.0 steps.0 teardown.0), teardown.1)) Any BehindSession (name_within_again d.sessions 64) set_up_again (λ e x ys rest z f h. tt))
+    (λ d x ys rest z f h. tt)
+
+session_begins : (p : Token → Bool) → Begins p (p (keyword Session)) session
+session_begins p c xs rest x h = begins_word Session (λ _. one the_name ▸ SetUp) p c xs rest x h
+
+abbrev BehindSessions : List (At Token) → Type 0
+BehindSessions rest = NotFirst (is_word Session) rest × BehindSession rest
+
+sessions_again : Completes (some session) sessions_at BehindSessions
+unfolding sessions_at
+sessions_again = some_again session what.Session (is_word Session) (λ k. session_at) BehindSession (λ k. session_again) (session_begins (is_word Session)) (first_takes (the_word Session) (λ _. one the_name ▸ SetUp)) (λ c xs rest x g. (session_begins (is_word Step) c xs rest x g, session_begins (is_word Teardown) c xs rest x g))
+
+-- ---- markers
+
+abbrev BehindMarker : List (At Token) → Type 0
+BehindMarker rest = NotFirst (is_word Notices) rest
+
+no_notices_again : (n : NameAt) → Completes (gives (named n)) (no_notices n) BehindMarker
+unfolding no_notices
+no_notices_again n c xs rest x follows (nothing, is) = rw (nothing, is) (rw follows (whole refl))
+
+star_again : Completes (one (the_sign Star) ▸ λ _. gives star) (λ r. sign_at Star what.Marker r >>= λ key. (Ok star, key.1)) Any
+star_again = seq (one (the_sign Star)) (λ _. gives star) (sign_at Star what.Marker) (λ key. (Ok star, key.1)) Any Any (sign_again Star what.Marker) (λ _. gives_again star Any) (λ d x ys rest z f h. tt)
+
+named_again : Completes (one the_name ▸ λ n. gives (named n)) (λ r. name_at what.Marker r >>= λ n. no_notices n.0 n.1) BehindMarker
+named_again = seq (one the_name) (λ n. gives (named n)) (name_at what.Marker) (λ n. no_notices n.0 n.1) Any BehindMarker (name_again what.Marker) no_notices_again (λ d x ys rest z f h. tt)
+
+marker_again : Completes marker marker_at BehindMarker
+unfolding marker_at
+marker_again c xs rest x follows (first h) = rw (begins_sign Star (λ _. gives star) (is_sign Star) c xs rest x h) (star_again c xs rest x tt h)
+marker_again c xs rest x follows (second h) = rw (begins_name (λ n. gives (named n)) (is_sign Star) false (λ m. refl) c xs rest x h) (named_again c xs rest x follows h)
+
+abbrev NextMarker : Grammar MarkerTree
+NextMarker = one (the_sign Comma) ▸ λ _. marker
+
+next_marker_again : Completes NextMarker next_marker_at BehindMarker
+unfolding next_marker_at
+next_marker_again = seq (one (the_sign Comma)) (λ _. marker) (sign_at Comma what.CommaOrClose) (λ comma. marker_at comma.1) Any BehindMarker (sign_again Comma what.CommaOrClose) (λ _. marker_again) (λ d x ys rest z f h. tt)
+
+next_begins : (p : Token → Bool) → Begins p (p (sign Comma)) NextMarker
+next_begins p c xs rest x h = begins_sign Comma (λ _. marker) p c xs rest x h
+
+abbrev BehindMarkers : List (At Token) → Type 0
+BehindMarkers rest = NotFirst (is_sign Comma) rest × BehindMarker rest
+
+next_markers_again : Completes (Many NextMarker) next_markers_at BehindMarkers
+unfolding next_markers_at
+next_markers_again = all_again NextMarker (is_sign Comma) (λ k. next_marker_at) BehindMarker (λ k. next_marker_again) (next_begins (is_sign Comma)) (first_takes (the_sign Comma) (λ _. marker)) (next_begins (is_word Notices))
+
+abbrev Closed : MarkerTree → List MarkerTree → Grammar (List MarkerTree)
+Closed m others = one (the_sign Close) ▸ λ _. gives (m ∷ others)
+
+abbrev Marked : MarkerTree → Grammar (List MarkerTree)
+Marked m = Many NextMarker ▸ Closed m
+
+closed_begins : (m : MarkerTree) (others : List MarkerTree) (p : Token → Bool) → Begins p (p (sign Close)) (Closed m others)
+closed_begins m others p c xs rest x h = begins_sign Close (λ _. gives (m ∷ others)) p c xs rest x h
+
+closed_again : (m : MarkerTree) (others : List MarkerTree) → Completes (Closed m others) (λ r. sign_at Close what.CommaOrClose r >>= λ closed. (Ok (m ∷ others), closed.1)) Any
+closed_again m others = seq (one (the_sign Close)) (λ _. gives (m ∷ others)) (sign_at Close what.CommaOrClose) (λ closed. (Ok (m ∷ others), closed.1)) Any Any (sign_again Close what.CommaOrClose) (λ _. gives_again (m ∷ others) Any) (λ d x ys rest z f h. tt)
+
+marked_again : (m : MarkerTree) → Completes (Marked m) (λ r. next_markers_at r >>= λ others. sign_at Close what.CommaOrClose others.1 >>= λ closed. (Ok (m ∷ others.0), closed.1)) Any
+marked_again m = seq (Many NextMarker) (Closed m) next_markers_at (λ others. sign_at Close what.CommaOrClose others.1 >>= λ closed. (Ok (m ∷ others.0), closed.1)) BehindMarkers Any next_markers_again (closed_again m)
+    (λ d x ys rest z f h. (closed_begins m x (is_sign Comma) d ys rest z h, closed_begins m x (is_word Notices) d ys rest z h))
+
+no_notices_first : (m : MarkerTree) (d : Counts) (ys rest : List (At Token)) (z : List MarkerTree) → Marked m d ys z → BehindMarker (ys ++ rest)
+no_notices_first m d ts rest z (others, xs, ys, e, many, h) = regroup BehindMarker ts xs ys rest e (next_follows NextMarker BehindMarker (next_begins (is_word Notices)) d xs (ys ++ rest) others (closed_begins m others (is_word Notices) (past d xs) ys rest z h) many)
+
+markers_again : Completes markers markers_at Any
+unfolding markers_at
+markers_again = seq (one (the_sign Open)) (λ _. marker ▸ Marked) (sign_at Open what.Item)
+    (λ opened. marker_at opened.1 >>= λ m. next_markers_at m.1 >>= λ others. sign_at Close what.CommaOrClose others.1 >>= λ closed. (Ok (m.0 ∷ others.0), closed.1)) Any Any (sign_again Open what.Item)
+    (λ _. seq marker Marked marker_at (λ m. next_markers_at m.1 >>= λ others. sign_at Close what.CommaOrClose others.1 >>= λ closed. (Ok (m.0 ∷ others.0), closed.1)) BehindMarker Any marker_again marked_again (λ d x ys rest z f h. no_notices_first x d ys rest z h))
+    (λ d x ys rest z f h. tt)
+
+markers_begin : (p : Token → Bool) → Begins p (p (sign Open)) markers
+markers_begin p c xs rest x h = begins_sign Open (λ _. marker ▸ Marked) p c xs rest x h
+
+some_markers_again : Completes (Maybe markers) some_markers_at (NotFirst (is_sign Open))
+unfolding some_markers_at
+some_markers_again = maybe_again markers (is_sign Open) markers_at markers_again (markers_begin (is_sign Open))
+
+-- ---- permutations
+
+abbrev BehindEntry : List (At Token) → Type 0
+BehindEntry rest = NotFirst (is_sign Open) rest
+
+abbrev entry_of : NameAt → Option (List MarkerTree) → NamedEntry
+entry_of n ms = record { name = n; markers = unwrap_or ms [] }
+
+entry_again : (k : ℕ) → Completes entry (entry_at k) BehindEntry
+unfolding entry_at
+entry_again k = seq (one the_name) (λ n. Maybe markers ▸ λ ms. gives (entry_of n ms)) (name_within k 1000) (λ n. some_markers_at n.1 >>= λ ms. (Ok (entry_of n.0 ms.0), ms.1)) Any BehindEntry (name_within_again k 1000)
+    (λ n. seq (Maybe markers) (λ ms. gives (entry_of n ms)) some_markers_at (λ ms. (Ok (entry_of n ms.0), ms.1)) BehindEntry BehindEntry some_markers_again (λ ms. gives_again (entry_of n ms) BehindEntry) (λ d x ys rest z f h. stays BehindEntry ys rest h.0 f))
+    (λ d x ys rest z f h. tt)
+
+abbrev BehindEntries : List (At Token) → Type 0
+BehindEntries rest = NotFirst is_name rest × BehindEntry rest
+
+entries_again : Completes (some entry) entries_at BehindEntries
+unfolding entries_at
+entries_again = some_again entry what.Name is_name entry_at BehindEntry entry_again (begins_name (λ n. Maybe markers ▸ λ ms. gives (entry_of n ms)) is_name true (λ m. refl)) (first_takes the_name (λ n. Maybe markers ▸ λ ms. gives (entry_of n ms))) (begins_name (λ n. Maybe markers ▸ λ ms. gives (entry_of n ms)) (is_sign Open) false (λ m. refl))
+
+perm_again : Completes perm perm_at BehindEntries
+unfolding perm_at
+perm_again = seq (one (the_word Permutation)) (λ _. some entry) (word_at Permutation what.Item) (λ key. entries_at key.1) Any BehindEntries (word_again Permutation what.Item) (λ _. entries_again) (λ d x ys rest z f h. tt)
+
+perm_begins : (p : Token → Bool) → Begins p (p (keyword Permutation)) perm
+perm_begins p c xs rest x h = begins_word Permutation (λ _. some entry) p c xs rest x h
+
+abbrev BehindPerms : List (At Token) → Type 0
+BehindPerms rest = NotFirst (is_word Permutation) rest × BehindEntries rest
+
+perms_again : Completes (Many perm) perms_at BehindPerms
+unfolding perms_at
+perms_again = all_again perm (is_word Permutation) (λ k. perm_at) BehindEntries (λ k. perm_again) (perm_begins (is_word Permutation)) (first_takes (the_word Permutation) (λ _. some entry)) (λ c xs rest x g. (perm_begins is_name c xs rest x g, perm_begins (is_sign Open) c xs rest x g))
+
+-- ---- the file
+
+abbrev AtEnd : List (At Token) → Type 0
+AtEnd rest = rest ≡ []
+
+abbrev file_of : List PartTree → Option PartTree → List NamedSession → List (List NamedEntry) → FileTree
+file_of setups teardown sessions perms = record { setups = setups; teardown = teardown; sessions = sessions; perms = perms }
+
+abbrev Permuted : List PartTree → Option PartTree → List NamedSession → Grammar FileTree
+Permuted setups teardown sessions = Many perm ▸ λ perms. gives (file_of setups teardown sessions perms)
+
+abbrev Held : List PartTree → Option PartTree → Grammar FileTree
+Held setups teardown = some session ▸ Permuted setups teardown
+
+abbrev Ended : List PartTree → Grammar FileTree
+Ended setups = Maybe (block_behind Teardown) ▸ Held setups
+
+ended_again : (f : FileTree) → Completes (gives f) (λ r. end_at r >>= λ ended. (Ok f, ended.1)) AtEnd
+unfolding end_at
+ended_again f c xs rest x follows (nothing, is) = rw (nothing, is, follows) (whole refl)
+
+ends_so : (F : List (At Token) → Type 0) (ys rest : List (At Token)) → ys ≡ [] → rest ≡ [] → F [] → F (ys ++ rest)
+ends_so F ys rest e d h = stays F ys rest e (subst F (sym d) h)
+
+permuted_again : (setups : List PartTree) (teardown : Option PartTree) (sessions : List NamedSession) → Completes (Permuted setups teardown sessions) (λ r. perms_at r >>= λ perms. end_at perms.1 >>= λ ended. (Ok (file_of setups teardown sessions perms.0), ended.1)) AtEnd
+permuted_again setups teardown sessions = seq (Many perm) (λ perms. gives (file_of setups teardown sessions perms)) perms_at (λ perms. end_at perms.1 >>= λ ended. (Ok (file_of setups teardown sessions perms.0), ended.1)) BehindPerms AtEnd perms_again (λ perms. ended_again (file_of setups teardown sessions perms))
+    (λ d x ys rest z f h. ends_so BehindPerms ys rest h.0 f (refl, (refl, refl)))
+
+behind_sessions : (setups : List PartTree) (teardown : Option PartTree) (sessions : List NamedSession) (d : Counts) (ys rest : List (At Token)) (z : FileTree) → AtEnd rest → Permuted setups teardown sessions d ys z → BehindSessions (ys ++ rest)
+behind_sessions setups teardown sessions d ts rest z f (perms, xs, ys, e, many, h) =
+    regroup BehindSessions ts xs ys rest e (next_follows perm BehindSessions (λ c us vs x g. (perm_begins (is_word Session) c us vs x g, (perm_begins (is_word Step) c us vs x g, perm_begins (is_word Teardown) c us vs x g))) d xs (ys ++ rest) perms (ends_so BehindSessions ys rest h.0 f (refl, (refl, refl))) many)
+
+held_again : (setups : List PartTree) (teardown : Option PartTree) → Completes (Held setups teardown) (λ r. sessions_at r >>= λ sessions. perms_at sessions.1 >>= λ perms. end_at perms.1 >>= λ ended. (Ok (file_of setups teardown sessions.0 perms.0), ended.1)) AtEnd
+held_again setups teardown = seq (some session) (Permuted setups teardown) sessions_at (λ sessions. perms_at sessions.1 >>= λ perms. end_at perms.1 >>= λ ended. (Ok (file_of setups teardown sessions.0 perms.0), ended.1)) BehindSessions AtEnd sessions_again (permuted_again setups teardown) (λ d x ys rest z f h. behind_sessions setups teardown x d ys rest z f h)
+
+held_begins : (setups : List PartTree) (teardown : Option PartTree) (p : Token → Bool) → Begins p (p (keyword Session)) (Held setups teardown)
+held_begins setups teardown p c ts rest z (ss, xs, ys, e, m, h) = ap (first_is p) (ap (λ (r : List (At Token)). r ++ rest) e ∙ append_assoc xs ys rest) ∙ some_begins session p (p (keyword Session)) (session_begins p) c xs (ys ++ rest) ss m
+
+torn_file_again : (setups : List PartTree) → Completes (Ended setups) (λ r. teardown_at r >>= λ teardown. sessions_at teardown.1 >>= λ sessions. perms_at sessions.1 >>= λ perms. end_at perms.1 >>= λ ended. (Ok (file_of setups teardown.0 sessions.0 perms.0), ended.1)) AtEnd
+torn_file_again setups = seq (Maybe (block_behind Teardown)) (Held setups) teardown_at (λ teardown. sessions_at teardown.1 >>= λ sessions. perms_at sessions.1 >>= λ perms. end_at perms.1 >>= λ ended. (Ok (file_of setups teardown.0 sessions.0 perms.0), ended.1)) (NotFirst (is_word Teardown)) AtEnd teardown_again (held_again setups) (λ d x ys rest z f h. held_begins setups x (is_word Teardown) d ys rest z h)
+
+no_setup_ahead : (setups : List PartTree) (d : Counts) (ys rest : List (At Token)) (z : FileTree) → Ended setups d ys z → NotFirst (is_word Setup) (ys ++ rest)
+no_setup_ahead setups d ts rest z (o, xs, ys, e, m, h) = regroup (NotFirst (is_word Setup)) ts xs ys rest e (maybe_begins (block_behind Teardown) (is_word Setup) (teardown_begins (is_word Setup)) d xs (ys ++ rest) o (held_begins setups o (is_word Setup) (past d xs) ys rest z h) m)
+
+pub file_again : Completes file file_at AtEnd
+unfolding file_at
+file_again = seq (Many (block_behind Setup)) Ended setups_at (λ setups. teardown_at setups.1 >>= λ teardown. sessions_at teardown.1 >>= λ sessions. perms_at sessions.1 >>= λ perms. end_at perms.1 >>= λ ended. (Ok (file_of setups.0 teardown.0 sessions.0 perms.0), ended.1)) (λ rest. NotFirst (is_word Setup) rest × Any rest) AtEnd setups_again torn_file_again (λ d x ys rest z f h. (no_setup_ahead x d ys rest z h, tt))

@@ -1,0 +1,113 @@
+-- The laws of whole files.
+use Rattle.std.proofs.Common.{◌≡◌, ℕ, List, [], ◌∷◌, ◌++◌, length, Result, Ok, Err, refl, sym, ap, subst, ◌∙◌, ◌⊎◌, inl, inr}
+use Rattle.std.proofs.lemmas.List.{append-nil}
+use Rattle.iso_lexer.specs.declared.token.At.{At}
+use Rattle.iso_lexer.specs.declared.fault.Fault.{Fault}
+use Rattle.iso_lexer.specs.SpecTokens.{Token}
+use Rattle.iso_lexer.specs.SpecText.{Lexes}
+use Rattle.spec_parser.specs.declared.fault.Stop.{Stop}
+use Rattle.spec_parser.specs.declared.fault.Stop.TheVariants.{OverLimit}
+use Rattle.spec_parser.specs.declared.fault.SpecFault.{SpecFault}
+use Rattle.spec_parser.specs.declared.fault.SpecFault.TheVariants as faults
+use Rattle.spec_parser.specs.Trees.{FileTree, SpecTree}
+use Rattle.spec_parser.specs.Counts.{Counts, start, past}
+use Rattle.spec_parser.specs.Reading.{Rest, Read, ◌>>=◌, end_in, end_at, setups_at, teardown_at, sessions_at, perms_at, file_at}
+use Rattle.spec_parser.specs.Grammar.{file}
+use Rattle.spec_parser.specs.SpecText.{SpecReads, no_tokens, tokens, finished}
+use Rattle.spec_parser.specs.Laws.{head, StopsFirst}
+use Rattle.spec_parser.proofs.Local.{Local, Means, is_read}
+use Rattle.spec_parser.proofs.Productions.{file_local}
+use Rattle.spec_parser.proofs.Complete.{Again, whole, over, file_again}
+
+no_ok : {A : Type 0} (s : Stop) (x : A) → ◌≡◌ {A = Result A Stop} (Err s) (Ok x) → ⊥
+no_ok s x e = cc
+
+-- both parts of a reading that gives a value
+both : {A B : Type 0} (q : Read A) (f : A × Rest → Read B) (z : B) (after : Rest) → (q >>= f) ≡ (Ok z, after) → (x : A) × (mid : Rest) × (f (x, mid) ≡ (Ok z, after))
+both (Ok x, mid) f z after e = (x, mid, e)
+both {B = B} (Err s, mid) f z after e = absurd (no_ok s z (ap (λ (r : Read B). r.0) e))
+
+end_of : (c : Counts) (ts : List (At Token)) (f g : FileTree) (after : Rest) → (end_in c ts >>= λ ended. (Ok f, ended.1)) ≡ (Ok g, after) → after.1 ≡ []
+end_of c [] f g after e = sym (ap (λ (r : Read FileTree). r.1.1) e)
+end_of c (t ∷ ts) f g after e = absurd (no_ok _ g (ap (λ (r : Read FileTree). r.0) e))
+
+at_end : (r : Rest) (f g : FileTree) (after : Rest) → (end_at r >>= λ ended. (Ok f, ended.1)) ≡ (Ok g, after) → after.1 ≡ []
+unfolding end_at
+at_end r f g after e = end_of r.0 r.1 f g after e
+
+nothing_left : (r after : Rest) (g : FileTree) → file_at r ≡ (Ok g, after) → after.1 ≡ []
+unfolding file_at
+nothing_left r after g e =
+    let setups = both (setups_at r) _ g after e in
+    let teardown = both (teardown_at setups.1) _ g after setups.2 in
+    let sessions = both (sessions_at teardown.1) _ g after teardown.2 in
+    let perms = both (perms_at sessions.1) _ g after sessions.2 in
+    at_end perms.1 _ g after perms.2
+
+ok_same : (f g : FileTree) → ◌≡◌ {A = Result FileTree Stop} (Ok f) (Ok g) → f ≡ g
+ok_same f g e = cc
+
+err_same : (s t : Stop) → ◌≡◌ {A = Result FileTree Stop} (Err s) (Err t) → s ≡ t
+err_same s t e = cc
+
+whole_from : (ts front rest : List (At Token)) (out : Result FileTree Stop) (f : FileTree) → out ≡ Ok f → rest ≡ [] → ts ≡ front ++ rest → Means file out start front → file start ts f
+whole_from ts front rest (Ok g) f e nothing split is =
+    subst (file start ts) (ok_same g f e) (subst (λ us. file start us g) (sym (split ∙ ap (λ (r : List (At Token)). front ++ r) nothing ∙ append-nil front)) is)
+whole_from ts front rest (Err s) f e nothing split is = absurd (no_ok s f e)
+
+pub reads_are_files : (ts : List (At Token)) (f : FileTree) (rest : Rest) → file_at (start, ts) ≡ (Ok f, rest) → file start ts f
+reads_are_files ts f rest e =
+    let l = file_local start ts in
+    let same = sym (is_read file file_at start ts l) ∙ e in
+    whole_from ts l.front l.rest l.out f (ap (λ (r : Read FileTree). r.0) same) (ap (λ (r : Read FileTree). r.1.1) same ∙ nothing_left (start, ts) rest f e) l.split l.means
+
+read_or_over : (ts : List (At Token)) (f : FileTree) → file start ts f → Again f (past start ts, []) (file_at (start, ts))
+read_or_over ts f h = subst (λ us. Again f (past start ts, []) (file_at (start, us))) (append-nil ts) (file_again start ts [] f refl h)
+
+sides : (r : Read FileTree) (f : FileTree) (after : Rest) → Again f after r → (r ≡ (Ok f, after)) ⊎ (r.0 ≡ Err OverLimit)
+sides r f after (whole e) = inl e
+sides r f after (over e) = inr e
+
+pub files_are_read : (ts : List (At Token)) (f : FileTree) → file start ts f → (file_at (start, ts) ≡ (Ok f, (past start ts, []))) ⊎ ((file_at (start, ts)).0 ≡ Err OverLimit)
+files_are_read ts f h = sides (file_at (start, ts)) f (past start ts, []) (read_or_over ts f h)
+
+stopped_at : (r : Read FileTree) (f : FileTree) (after rest : Rest) (s : Stop) → r ≡ (Err s, rest) → Again f after r → s ≡ OverLimit
+stopped_at r f after rest s e (whole d) = absurd (no_ok s f (sym (ap (λ (q : Read FileTree). q.0) e) ∙ ap (λ (q : Read FileTree). q.0) d))
+stopped_at r f after rest s e (over d) = err_same s OverLimit (sym (ap (λ (q : Read FileTree). q.0) e) ∙ d)
+
+stops_from : (ts front rest after : List (At Token)) (out : Result FileTree Stop) (s : Stop) → out ≡ Err s → rest ≡ after → ts ≡ front ++ rest
+    → ((others : List (At Token)) → head others ≡ head rest → file_at (start, front ++ others) ≡ (out, (past start front, others))) → Means file out start front → StopsFirst ts s after
+stops_from ts front rest after (Ok g) s e is split local means = absurd (no_ok s g (sym e))
+stops_from ts front rest after (Err t) s e is split local means = record {
+  front = front;
+  split = split ∙ ap (λ (r : List (At Token)). front ++ r) is;
+  begins = means;
+  stuck = λ others f h in_grammar. sym (err_same t s e) ∙ stopped_at (file_at (start, front ++ others)) f (past start (front ++ others), []) (past start front, others) t (local others (h ∙ ap head (sym is))) (read_or_over (front ++ others) f in_grammar);
+  stays = λ others h. local others (h ∙ ap head (sym is)) ∙ ap (λ (u : Stop). (Err u, (past start front, others))) (err_same t s e);
+}
+
+pub stops_first : (ts : List (At Token)) (s : Stop) (rest : Rest) → file_at (start, ts) ≡ (Err s, rest) → StopsFirst ts s rest.1
+stops_first ts s rest e =
+    let l = file_local start ts in
+    let same = sym (is_read file file_at start ts l) ∙ e in
+    stops_from ts l.front l.rest rest.1 l.out s (ap (λ (r : Read FileTree). r.0) same) (ap (λ (r : Read FileTree). r.1.1) same) l.split l.local l.means
+
+-- ---- one answer
+
+abbrev pub OneLexing : Type 0
+OneLexing = (text : List ℕ) (x y : Result (List (At Token)) Fault) → Lexes text x → Lexes text y → x ≡ y
+
+same_fault : (f g : Fault) → ◌≡◌ {A = Result (List (At Token)) Fault} (Err f) (Err g) → f ≡ g
+same_fault f g e = cc
+
+same_tokens : (ts us : List (At Token)) → ◌≡◌ {A = Result (List (At Token)) Fault} (Ok ts) (Ok us) → ts ≡ us
+same_tokens ts us e = cc
+
+no_both : (f : Fault) (ts : List (At Token)) → ◌≡◌ {A = Result (List (At Token)) Fault} (Err f) (Ok ts) → ⊥
+no_both f ts e = cc
+
+pub one_answer : OneLexing → (text : List ℕ) (x y : Result SpecTree SpecFault) → SpecReads text x → SpecReads text y → x ≡ y
+one_answer one text x y (no_tokens f h) (no_tokens g k) = ap (λ (u : Fault). Err (faults.Lex u)) (same_fault f g (one text (Err f) (Err g) h k))
+one_answer one text x y (no_tokens f h) (tokens ts k e) = absurd (no_both f ts (one text (Err f) (Ok ts) h k))
+one_answer one text x y (tokens ts h e) (no_tokens f k) = absurd (no_both f ts (one text (Err f) (Ok ts) k h))
+one_answer one text x y (tokens ts h e) (tokens us k d) = e ∙ ap (λ (vs : List (At Token)). finished (length text) (file_at (start, vs))) (same_tokens ts us (one text (Ok ts) (Ok us) h k)) ∙ sym d
