@@ -10,3 +10,6 @@ mod parsed;
 pub use cursor::{Parser, Tokens, after_comma};
 pub use expr::{MAX_DEPTH, Read, parse_expr};
 pub use parsed::Parsed;
+
+#[cfg(test)]
+mod tests;
