@@ -5,3 +5,4 @@ pub mod Sound
 pub mod Levels
 pub mod Shortens
 pub mod Complete
+pub mod Lists

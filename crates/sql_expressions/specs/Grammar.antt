@@ -1,4 +1,4 @@
--- The grammar of expressions: which tokens spell which tree.
+-- The grammar of expressions: which tokens spell which tree (PostgreSQL manual, 4.1.6 for the order of operators, 9.1 to 9.3 and 9.25 for what they are).
 use Rattle.std.specs.Prelude.{◌≡◌, ℕ, suc, ◌+◌, ◌<◌, max, Bool, true, false, List, [], ◌∷◌, ◌++◌, Option, Some, None}
 use Rattle.iso_lexer.specs.declared.token.At.{At}
 use Rattle.iso_lexer.specs.declared.sql_token.SqlSign.TheVariants as signs

@@ -1,3 +1,4 @@
 pub mod Build
 pub mod Reading
 pub mod Grammar
+pub mod Lists

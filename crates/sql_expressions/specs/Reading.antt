@@ -1,9 +1,13 @@
 -- Reading an expression from left to right, with the first fault that is met.
 use Rattle.std.specs.Prelude.{◌≡◌, ℕ, zero, suc, ◌+◌, max, Bool, true, false, List, [], ◌∷◌, length, Option, Some, None, Result, Ok, Err, nat_lt, if◌then◌else◌}
 use Rattle.iso_lexer.specs.declared.token.At.{At}
+use Rattle.iso_lexer.specs.declared.sql_token.SqlSign.{SqlSign}
 use Rattle.iso_lexer.specs.declared.sql_token.SqlSign.TheVariants as signs
+use Rattle.iso_lexer.specs.contracts.sql_token.SqlSign as sql_sign
+use denote.Enum.Bare.{sameb}
 use Rattle.sql_trees.specs.declared.fault.SqlFault.{SqlFault}
 use Rattle.sql_trees.specs.declared.fault.SqlFault.TheVariants.{Memory, Syntax, LeftOut, TooDeep}
+use Rattle.sql_trees.specs.declared.word.Word.{Word}
 use Rattle.sql_trees.specs.declared.word.Word.TheVariants as words
 use Rattle.sql_trees.specs.declared.token.Tok.{Tok}
 use Rattle.sql_trees.specs.declared.expr.Expr.{Expr}
@@ -11,7 +15,7 @@ use Rattle.sql_trees.specs.declared.expr.Operator.{Operator}
 use Rattle.sql_trees.specs.declared.expr.Operator.TheVariants as op
 use Rattle.sql_trees.specs.declared.expr.Truth.{Truth}
 use Rattle.sql_trees.specs.declared.expr.Truth.TheVariants as truth
-use Rattle.sql_trees.specs.Words.{is_left_out, is_aggregate}
+use Rattle.sql_trees.specs.Words.{is_left_out, is_aggregate, same_word}
 use Rattle.sql_trees.specs.Tokens.{Token, Tokens, named, tok_views}
 use Rattle.sql_trees.specs.Tokens as tok
 use Rattle.sql_trees.specs.Trees.{Tree, Trees, none, more, Null, Flag, Number, Text, Column, Plus, Minus, Not, Binary, Is, In, Between, undoubled, tree_of, trees}
@@ -129,6 +133,16 @@ abbrev pub is_is : Token → Bool
 is_is (tok.word words.Is s) = true
 is_is _ = false
 
+-- the token is this keyword, in whatever letters
+abbrev pub is_word : Word → Token → Bool
+is_word w (tok.word v s) = same_word v w
+is_word w _ = false
+
+-- the token is this sign
+abbrev pub is_sign : SqlSign → Token → Bool
+is_sign s (tok.sign t) = sameb sql_sign.the_type t s
+is_sign s _ = false
+
 abbrev pub truth_of : Token → Option Truth
 truth_of (tok.word words.Null s) = Some truth.Null
 truth_of (tok.word words.True s) = Some truth.True
@@ -194,6 +208,11 @@ abbrev pub after_comma : Tokens → Option Tokens
 after_comma [] = None
 after_comma (t ∷ ts) = if is_comma t.tok then Some ts else None
 
+-- the tokens behind the next, if it is of this kind
+abbrev pub after : (Token → Bool) → Tokens → Option Tokens
+after is_it [] = None
+after is_it (t ∷ ts) = if is_it t.tok then Some ts else None
+
 abbrev pub list_turn : Reader → (Found_list → Result Found_list SqlFault) → Option Tokens → Found_list → Result Found_list SqlFault
 list_turn reader go None l = Ok l
 list_turn reader go (Some ts) l = do
@@ -240,6 +259,15 @@ module _ (last : ℕ) where
   abbrev pub column_first : Reader
   column_first [] = Err (misplaced [])
   column_first (t ∷ ts) = name_at (named t.tok) t ts
+
+  -- a name, where it stands, and the tokens after it
+  abbrev pub name_of : Option (List ℕ) → At Token → Tokens → Result (List ℕ × ℕ × Tokens) SqlFault
+  name_of None t ts = Err (misplaced (t ∷ ts))
+  name_of (Some n) t ts = Ok (n, t.span.start, ts)
+
+  abbrev pub name_next : Tokens → Result (List ℕ × ℕ × Tokens) SqlFault
+  name_next [] = Err (misplaced [])
+  name_next (t ∷ ts) = name_of (named t.tok) t ts
 
   abbrev pub is_node : Option Truth → Bool → ℕ → Tree → ℕ → At Token → Tokens → Result Found SqlFault
   is_node None negated place e depth t ts = Err (misplaced (t ∷ ts))

@@ -468,6 +468,22 @@ impl Parser {
     }
 }
 
+impl Parser {
+    /// The expression at the front of the tokens, and the tokens after it.
+    pub fn expression<'t, 'a>(self, tokens: Tokens<'t, 'a>) -> Read<'t, 'a>
+        // Which expression or fault it is.
+        ensures exact { Gives (λ x. found x.0 x.1.now) result (expr_at self.text_len (tok_views tokens.now)) }
+        // What is read is in the grammar.
+        ensures found { IfOk result (λ x. Begins (tok_views tokens.now) (found x.0 x.1.now)) }
+        // It takes a token at least.
+        ensures shorter { IfOk result (λ x. length (tok_views x.1.now) < length (tok_views tokens.now)) }
+        // What is in the grammar is read, where what follows does not go on with it.
+        ensures only { (front rest : Tokens) (e : Tree) (d : ℕ) → tok_views tokens.now ≡ front ++ rest → Spells 64 OR front e d → Ends rest → Gives (λ x. found x.0 x.1.now) result (Ok (record { tree = e; depth = d; rest = rest })) }
+    {
+        self.chain(Chain::Or, MAX_DEPTH, tokens)
+    }
+}
+
 /// The expression at the front of the tokens, and the tokens after it.
 pub fn parse_expr<'t, 'a>(
     alloc: Global,
@@ -482,5 +498,5 @@ pub fn parse_expr<'t, 'a>(
     ensures only { (front rest : Tokens) (e : Tree) (d : ℕ) → tok_views tokens.now ≡ front ++ rest → Spells 64 OR front e d → Ends rest → Gives (λ x. found x.0 x.1.now) result (Ok (record { tree = e; depth = d; rest = rest })) }
 {
     let parser = Parser { alloc, text_len };
-    parser.chain(Chain::Or, MAX_DEPTH, tokens)
+    parser.expression(tokens)
 }

@@ -7,6 +7,9 @@ mod level;
 mod operator;
 mod parsed;
 
-pub use cursor::{Parser, Tokens, after_comma};
+pub use cursor::{Parser, Tokens, after_comma, after_sign, after_word};
 pub use expr::{MAX_DEPTH, Read, parse_expr};
 pub use parsed::Parsed;
+
+#[cfg(test)]
+mod tests;

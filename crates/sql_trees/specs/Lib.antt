@@ -3,3 +3,4 @@ pub mod Statements
 pub mod Words
 pub mod Tokens
 pub mod Faults
+pub mod Same

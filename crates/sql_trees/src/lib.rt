@@ -4,6 +4,7 @@
 mod expr;
 mod fault;
 mod kind;
+mod same;
 mod stmt;
 mod token;
 mod word;
@@ -11,6 +12,7 @@ mod word;
 pub use expr::{Agg, AggKind, Expr, Operator, Truth};
 pub use fault::SqlFault;
 pub use kind::{Dir, Kind};
+pub use same::{same_expr, same_text};
 pub use stmt::{
     Column, CreateTable, Delete, DropTable, Insert, Item, Key, Level, Lock, OrderKey, Select, Stmt,
     Update,

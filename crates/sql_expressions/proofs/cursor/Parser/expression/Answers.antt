@@ -4,10 +4,14 @@ use Rattle.sql_expressions.specs.Reading.{Gives, found, expr_at}
 use Rattle.sql_expressions.proofs.Complete.{expr_complete}
 use Rattle.sql_expressions.proofs.Chains.{ok_gives}
 use Rattle.sql_expressions.proofs.Levels.{expr_begins}
-use Rattle.sql_expressions.proofs.expr.parse_expr.Goals as goal
+use Rattle.sql_expressions.proofs.Shortens.{expr_shortens}
+use Rattle.sql_expressions.proofs.cursor.Parser.expression.Goals as goal
 
 pub returns-clause-found : goal.returns-clause-found
 returns-clause-found c = ok_gives _ _ _ _ c.chain.ensures (λ x e. expr_begins _ _ _ e)
 
+pub returns-clause-shorter : goal.returns-clause-shorter
+returns-clause-shorter c = ok_gives _ _ _ _ c.chain.ensures (λ x e. expr_shortens _ _ _ e)
+
 pub returns-clause-only : goal.returns-clause-only
-returns-clause-only c = λ front rest e d h p s. subst (λ r. Gives (λ x. found x.0 x.1.now) c.chain.result r) (ap (expr_at c.args.text_len) h ∙ expr_complete c.args.text_len p rest s) c.chain.ensures
+returns-clause-only c = λ front rest e d h p s. subst (λ r. Gives (λ x. found x.0 x.1.now) c.chain.result r) (ap (expr_at c.args.self.text_len) h ∙ expr_complete c.args.self.text_len p rest s) c.chain.ensures
