@@ -7,3 +7,4 @@ pub mod Faults
 pub mod FileSays
 pub mod BlockAnswers
 pub mod Runs
+pub mod Laws

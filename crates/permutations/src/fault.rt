@@ -4,6 +4,7 @@ ghost use Rattle.std.specs.Prelude.{◌≡◌};
 ghost use Rattle.sql_trees.specs.Faults.{place};
 ghost use Rattle.permutations.specs.declared.fault.RunFault.TheVariants.{Write, Memory};
 ghost use Rattle.permutations.specs.Faults.{read_fault, spec_fault};
+ghost use Rattle.permutations.specs.Runs.{status_of};
 
 use iso_lexer::{DeviceFault, Fault, ReadFault};
 use spec_parser::SpecFault;
@@ -118,6 +119,22 @@ impl From<SpecFault> for RunFault {
             SpecFault::Memory => RunFault::Memory,
             SpecFault::Lex(fault) => RunFault::Lex(fault),
             other => RunFault::Spec(other),
+        }
+    }
+}
+
+impl RunFault {
+    /// The exit status of a program that meets the fault: 1 where the file is refused, 3 where the machine fails.
+    pub fn status(&self) -> u8
+        ensures { result ≡ status_of self.now }
+    {
+        match self {
+            RunFault::Read | RunFault::Write | RunFault::Memory => 3,
+            RunFault::Lex(_)
+            | RunFault::Spec(_)
+            | RunFault::Sql(_)
+            | RunFault::NotUtf8(_)
+            | RunFault::NotYet => 1,
         }
     }
 }

@@ -1,0 +1,111 @@
+//! Runs each example of the repository, and compares what it prints with what is expected. A plain example lies in
+//! `specs` and its text in `expected`; one that is refused lies in `faults`, beside its text, its line on standard error
+//! and its status.
+#![tactic(auto)]
+
+use anyhow::Result;
+use iso_lexer::FromStd;
+use permutations::run_spec;
+use std::alloc::Global;
+use std::fs;
+use std::process::ExitCode;
+use std::rt::Runtime;
+
+/// What a run of the program gives.
+#[derive(Drop)]
+struct Outcome {
+    out: Vec<u8>,
+    err: String,
+    status: u8,
+}
+
+fn outcome_of(alloc: Global, input: &[u8]) -> Result<Outcome> {
+    let mut source = FromStd::new(input);
+    let mut out = Vec::new(alloc);
+    let mut sink = FromStd::new(&mut out);
+    let (err, status) = match run_spec(alloc, &mut source, &mut sink) {
+        Ok(()) => (String::new(alloc), 0),
+        Err(fault) => {
+            let status = fault.status();
+            (format!(in alloc; "isolationtester: {fault}\n")?, status)
+        }
+    };
+    Ok(Outcome { out, err, status })
+}
+
+/// The bytes of a file, none where there is no such file.
+fn bytes_or_none<R: Runtime + AllocGlobal>(rt: &R, path: &str) -> Result<Vec<u8>> {
+    if fs::exists(rt, path)? {
+        Ok(fs::read(rt, path)?)
+    } else {
+        Ok(Vec::new(rt.alloc()))
+    }
+}
+
+/// The status in a file, 0 where there is no such file.
+fn status_or_zero<R: Runtime + AllocGlobal>(rt: &R, path: &str) -> Result<u8> {
+    if fs::exists(rt, path)? {
+        Ok(fs::read_to_string(rt, path)?.as_str().trim().parse::<u8>()?)
+    } else {
+        Ok(0)
+    }
+}
+
+/// The names of the spec files of a folder, without their ending.
+fn names_in<R: Runtime + AllocGlobal>(rt: &R, folder: &str) -> Result<Vec<String>> {
+    let mut names = Vec::new(rt.alloc());
+    for entry in fs::read_dir(rt, folder)? {
+        let entry = entry?;
+        if let Some(name) = entry.file_name().strip_suffix(".spec") {
+            names.push(String::from_str(rt.alloc(), name)?)?;
+        }
+    }
+    names.sort()?;
+    Ok(names)
+}
+
+/// Whether a plain example prints its text, and nothing on standard error.
+fn prints_its_text<R: Runtime + AllocGlobal>(rt: &R, name: &str) -> Result<bool> {
+    let alloc = rt.alloc();
+    let spec = fs::read(rt, format!(in alloc; "specs/{name}.spec")?.as_str())?;
+    let expected = fs::read(rt, format!(in alloc; "expected/{name}.out")?.as_str())?;
+    let outcome = outcome_of(alloc, &spec)?;
+    Ok(outcome.out == expected && outcome.err.is_empty() && outcome.status == 0)
+}
+
+/// Whether an example prints its text, its line on standard error, and ends with its status.
+fn is_refused_so<R: Runtime + AllocGlobal>(rt: &R, name: &str) -> Result<bool> {
+    let alloc = rt.alloc();
+    let spec = fs::read(rt, format!(in alloc; "faults/{name}.spec")?.as_str())?;
+    let out = bytes_or_none(rt, format!(in alloc; "faults/{name}.out")?.as_str())?;
+    let err = bytes_or_none(rt, format!(in alloc; "faults/{name}.err")?.as_str())?;
+    let status = status_or_zero(rt, format!(in alloc; "faults/{name}.status")?.as_str())?;
+    let outcome = outcome_of(alloc, &spec)?;
+    Ok(outcome.out == out && outcome.err.as_bytes() == err.as_slice() && outcome.status == status)
+}
+
+fn run<R: Runtime + AllocGlobal>(rt: &R) -> Result<bool> {
+    let mut all = true;
+    for name in &names_in(rt, "specs")? {
+        if !prints_its_text(rt, name.as_str())? {
+            all = false;
+            println!(rt; "differs: specs/{name}")?;
+        }
+    }
+    for name in &names_in(rt, "faults")? {
+        if !is_refused_so(rt, name.as_str())? {
+            all = false;
+            println!(rt; "differs: faults/{name}")?;
+        }
+    }
+    Ok(all)
+}
+
+fn main(rt: HostRuntime) -> Result<ExitCode> {
+    if run(&rt)? {
+        println!(rt; "Each example prints what is expected.")?;
+        Ok(ExitCode::SUCCESS)
+    } else {
+        Ok(ExitCode::FAILURE)
+    }
+}
