@@ -1,5 +1,5 @@
 -- The result of a query, as contracts see it.
-use Rattle.std.specs.Prelude.{◌≡◌, ℕ, List, length, map, All}
+use Rattle.std.specs.Prelude.{◌≡◌, List, length, map, All}
 use Rattle.sql_values.specs.declared.value.Value.{Value}
 use Rattle.result_tables.specs.declared.title.Title.{Title}
 use Rattle.result_tables.specs.Printed.{printed}

@@ -1,5 +1,5 @@
 -- The text of a table, in the manner of libpq's PQprint with the separator `|`.
-use Rattle.std.specs.Prelude.{ℕ, ◌+◌, ◌-◌, ◌==◌, ◌&&◌, Bool, not, List, [], ◌∷◌, ◌++◌, length, map, fold, max, replicate, decimal, codes, flat_map, nat_lt, if◌then◌else◌}
+use Rattle.std.specs.Prelude.{ℕ, ◌-◌, ◌==◌, ◌&&◌, Bool, not, List, [], ◌∷◌, ◌++◌, length, map, fold, max, replicate, decimal, codes, flat_map, nat_lt, if◌then◌else◌}
 use Rattle.std.specs.List.{list_any, zip, range_with_len, slice_index_or, join_with_byte}
 use Rattle.result_tables.specs.declared.column.Column.{Column}
 use Rattle.result_tables.specs.Numeric.{is_numeric}
@@ -21,6 +21,7 @@ is_word text = nat_lt 0 (length text) && not (is_numeric text)
 abbrev pub column_of : List ℕ → List (List ℕ) → Column
 column_of title values = record { width = fold max 0 (map length (title ∷ values)); left = list_any is_word values }
 
+-- a column for each title
 abbrev pub columns_of : Table → List Column
 columns_of t = map (λ k. column_of (slice_index_or t.titles k []) (cells t.rows k)) (range_with_len 0 (length t.titles))
 

@@ -70,8 +70,8 @@ pub fn append_rule(line: &mut Vec<u8>, columns: &[Column]) -> Result<(), AllocEr
 {
     for k in 0..columns.len() {
         append_separator(line, b'+', k)?;
-        let column = columns[k];
-        append_run(line, b'-', column.width)?;
+        let width = columns[k].width;
+        append_run(line, b'-', width)?;
     }
     line.push(b'\n')?;
     Ok(())

@@ -1,4 +1,4 @@
-use Rattle.std.proofs.Common.{rules, arith, ◌≡◌, ◌∙◌, sym, length, take}
+use Rattle.std.proofs.Common.{arith}
 use Rattle.std.proofs.lemmas.Grind.{common_steps}
 use Rattle.result_tables.proofs.ColumnLemmas.{columns_more, length-columns_of_set}
 use Rattle.result_tables.proofs.column.measured_columns.Goals as goal

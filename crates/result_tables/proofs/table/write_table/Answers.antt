@@ -1,4 +1,4 @@
-use Rattle.std.proofs.Common.{◌≡◌, ◌∙◌, sym, ap, length}
+use Rattle.std.proofs.Common.{◌∙◌, sym, ap, length}
 use Rattle.result_tables.proofs.ColumnLemmas.{length-columns_of_set}
 use Rattle.result_tables.proofs.table.write_table.Goals as goal
 

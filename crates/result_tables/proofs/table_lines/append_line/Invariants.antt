@@ -1,5 +1,5 @@
-use Rattle.std.proofs.Common.{◌≡◌, ◌++◌, length, map, take}
-use Rattle.std.specs.List.{zip, join_with_byte}
+use Rattle.std.proofs.Common.{◌≡◌, ◌++◌, map, take}
+use Rattle.std.specs.List.{join_with_byte}
 use Rattle.result_tables.specs.TableText.{padded_cells}
 use Rattle.result_tables.proofs.table_lines.append_line.Given as goal
 
