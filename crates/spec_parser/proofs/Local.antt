@@ -7,7 +7,7 @@ use Rattle.spec_parser.specs.declared.fault.What.{What}
 use Rattle.spec_parser.specs.declared.fault.Stop.{Stop}
 use Rattle.spec_parser.specs.declared.fault.Stop.TheVariants.{Expected}
 use Rattle.spec_parser.specs.Counts.{Counts, past, past_token}
-use Rattle.spec_parser.specs.Reading.{Rest, Read, ◌>>=◌, token_at, token_in, taken, first_is, many_at, all_at, some_at, maybe_at}
+use Rattle.spec_parser.specs.Reading.{Rest, Read, ◌>>=◌, token_at, first_is, many_at, all_at, some_at, maybe_at}
 use Rattle.spec_parser.specs.Grammar.{Grammar, gives, one, Maybe, left_out, given, Many, none, more, some}
 use Rattle.spec_parser.specs.Grammar.{◌>>=◌ as ◌▸◌}
 use Rattle.spec_parser.specs.Laws.{head}

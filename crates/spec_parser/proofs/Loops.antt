@@ -1,5 +1,5 @@
 -- The loops over things of one kind.
-use Rattle.std.proofs.Common.{◌≡◌, ℕ, zero, suc, ◌+◌, ◌-◌, ◌<◌, ◌≤◌, Bool, true, false, cond, List, [], ◌∷◌, ◌++◌, length, Result, Ok, Err, refl, sym, ap, subst, ◌∙◌, arith, append_assoc, length-append, length-drop, drop}
+use Rattle.std.proofs.Common.{◌≡◌, ℕ, suc, ◌+◌, ◌-◌, ◌<◌, ◌≤◌, Bool, true, false, List, [], ◌∷◌, ◌++◌, length, Result, Ok, Err, refl, sym, ap, ◌∙◌, arith, append_assoc, length-append, length-drop, drop}
 use Rattle.std.specs.Prelude.{map, ◌^◌}
 use Rattle.iso_lexer.specs.SpecTokens.{at_view}
 use Rattle.spec_parser.specs.declared.reader.Reader.{Reader}
@@ -7,7 +7,7 @@ use Rattle.std.proofs.lemmas.List.{append-nil, map-append, length-map}
 use Rattle.spec_parser.specs.declared.fault.Stop.{Stop}
 use Rattle.spec_parser.specs.declared.fault.Halt.{Halt}
 use Rattle.spec_parser.specs.declared.fault.Halt.TheVariants as halts
-use Rattle.spec_parser.specs.Reading.{Rest, Read, ◌>>=◌, first_is, many_at, all_at, place}
+use Rattle.spec_parser.specs.Reading.{Rest, Read, ◌>>=◌, first_is, many_at, all_at}
 use Rattle.iso_lexer.specs.SpecTokens.{Token}
 use Rattle.spec_parser.specs.Readers.{FailsAs, behind, rest_of}
 use Rattle.spec_parser.proofs.Local.{stops_at, goes_on, goes}

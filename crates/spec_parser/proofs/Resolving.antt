@@ -1,9 +1,7 @@
 -- The loops over what is looked up.
-use Rattle.std.proofs.Common.{◌≡◌, ℕ, suc, ◌+◌, ◌<◌, Bool, true, false, cond, List, [], ◌∷◌, ◌++◌, length, drop, get_or, Result, Ok, Err, refl, sym, ap, subst, ◌∙◌, arith, append_assoc, drop-cons}
-use Rattle.std.specs.Prelude.{map}
-use Rattle.std.proofs.lemmas.List.{append-nil, map-append}
+use Rattle.std.proofs.Common.{◌≡◌, ℕ, suc, ◌+◌, ◌<◌, List, [], ◌∷◌, ◌++◌, length, drop, get_or, Result, Ok, Err, refl, sym, ap, ◌∙◌, arith, append_assoc, drop-cons}
 use Rattle.spec_parser.specs.declared.fault.SpecFault.{SpecFault}
-use Rattle.spec_parser.specs.Names.{each, ◌>>=◌}
+use Rattle.spec_parser.specs.Names.{◌>>=◌}
 
 abbrev pub prepend : {B : Type 0} → List B → Result (List B) SpecFault → Result (List B) SpecFault
 prepend front (Ok ys) = Ok (front ++ ys)

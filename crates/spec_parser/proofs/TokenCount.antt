@@ -1,6 +1,6 @@
 -- What the tokens of a text are bounded by.
-use Rattle.std.proofs.Common.{◌≡◌, ℕ, zero, suc, ◌+◌, ◌-◌, ◌<◌, ◌≤◌, Bool, true, false, List, [], ◌∷◌, ◌++◌, length, take, drop, slice_index_or, Result, Ok, Err, refl, sym, ap, subst, ◌∙◌, arith, length-append, length-drop, length-take}
-use Rattle.std.specs.Prelude.{MatchBool, nat_lt, map, ◌^◌, slice_range}
+use Rattle.std.proofs.Common.{◌≡◌, ℕ, zero, suc, ◌-◌, ◌<◌, ◌≤◌, Bool, true, false, List, [], ◌∷◌, length, drop, Result, Ok, Err, refl, sym, ap, arith, length-append, length-drop, length-take}
+use Rattle.std.specs.Prelude.{MatchBool, nat_lt, ◌^◌, slice_range}
 use Rattle.std.specs.List.{AllByRecursion}
 use Rattle.std.proofs.lemmas.List.{length-map}
 use Rattle.std.proofs.lemmas.Bool.{ltb-false}
@@ -15,9 +15,9 @@ use Rattle.iso_lexer.specs.SpecTokens.{Token, keyword, name, digits, sign, block
 use Rattle.iso_lexer.specs.Lexing.{Reads, ends, passes, takes, fails, in_front, gap, token}
 use Rattle.iso_lexer.specs.SpecText.{Lexes, front, block_of}
 use Rattle.iso_lexer.specs.SpecSpelling.{LiesAt, Spells}
-use Rattle.iso_lexer.proofs.Lexing.{Shorter, shorter_at}
+use Rattle.iso_lexer.proofs.Lexing.{shorter_at}
 use Rattle.iso_lexer.proofs.SpecRules.{spec_rules}
-use Rattle.spec_parser.specs.Places.{text_start, text_start_of, FitsAll}
+use Rattle.spec_parser.specs.Places.{text_start_of, FitsAll}
 
 abbrev Few : ℕ → Result (List (At Token)) Fault → Type 0
 Few n (Ok ts) = length ts ≤ n

@@ -1,5 +1,5 @@
 -- A whole file.
-use Rattle.std.proofs.Common.{◌≡◌, ℕ, List, [], length, map, Option, Some, None, Result, Ok, Err, refl, sym, ap, subst, ◌∙◌}
+use Rattle.std.proofs.Common.{◌≡◌, ℕ, List, [], length, map, Some, None, Result, Ok, Err, refl, sym, ap, ◌∙◌}
 use Rattle.iso_lexer.specs.declared.token.At.{At}
 use Rattle.iso_lexer.specs.declared.fault.LexFault.{LexFault}
 use Rattle.iso_lexer.specs.declared.fault.LexFault.TheVariants as lexer
@@ -16,7 +16,7 @@ use Rattle.spec_parser.specs.Trees.{FileTree, SpecTree, EntryTree}
 use Rattle.spec_parser.specs.Counts.{start}
 use Rattle.spec_parser.specs.Reading.{Rest, Read, place, file_at}
 use Rattle.spec_parser.specs.Readers.{FailsAs}
-use Rattle.spec_parser.specs.Names.{StepAt, sessions_from, first_repeat, known_perms, session_tree, resolved, without_repeat, ◌>>=◌}
+use Rattle.spec_parser.specs.Names.{StepAt, sessions_from, first_repeat, known_perms, session_tree, resolved}
 use Rattle.spec_parser.specs.Known.{FailsWith}
 use Rattle.spec_parser.specs.SpecText.{SpecReads, no_tokens, tokens, finished, Answers}
 

@@ -15,7 +15,7 @@ use Rattle.spec_parser.specs.Reading.{Rest, Read, ◌>>=◌, end_in, end_at, set
 use Rattle.spec_parser.specs.Grammar.{file}
 use Rattle.spec_parser.specs.SpecText.{SpecReads, no_tokens, tokens, finished}
 use Rattle.spec_parser.specs.Laws.{head, StopsFirst}
-use Rattle.spec_parser.proofs.Local.{Local, Means, is_read}
+use Rattle.spec_parser.proofs.Local.{Means, is_read}
 use Rattle.spec_parser.proofs.Productions.{file_local}
 use Rattle.spec_parser.proofs.Complete.{Again, whole, over, file_again}
 

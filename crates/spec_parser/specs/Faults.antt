@@ -1,5 +1,4 @@
 -- How faults are passed on.
-use Rattle.std.specs.Prelude.{ℕ}
 use Rattle.iso_lexer.specs.declared.fault.LexFault.{LexFault}
 use Rattle.iso_lexer.specs.declared.fault.LexFault.TheVariants as lexer
 use Rattle.spec_parser.specs.declared.fault.Stop.TheVariants as stops

@@ -1,12 +1,11 @@
 -- The grammar of spec files (README of src/test/isolation, "Test specification"): one definition for each production.
-use Rattle.std.specs.Prelude.{◌≡◌, ℕ, ◌<◌, List, [], ◌∷◌, ◌++◌, length, Option, Some, None, unwrap_or}
+use Rattle.std.specs.Prelude.{◌≡◌, ◌<◌, List, [], ◌∷◌, ◌++◌, length, Option, Some, None, unwrap_or}
 use Rattle.iso_lexer.specs.declared.token.At.{At}
 use Rattle.iso_lexer.specs.declared.spec_token.Keyword.{Keyword}
 use Rattle.iso_lexer.specs.declared.spec_token.Keyword.TheVariants.{Permutation, Session, Setup, Step, Teardown}
-use Rattle.iso_lexer.specs.declared.spec_token.Sign.{Sign}
 use Rattle.iso_lexer.specs.declared.spec_token.Sign.TheVariants.{Open, Close, Comma, Star}
 use Rattle.iso_lexer.specs.SpecTokens.{Token}
-use Rattle.spec_parser.specs.Trees.{PartTree, NameAt, NamedStep, NamedSession, MarkerTree, star, named, NamedEntry, FileTree}
+use Rattle.spec_parser.specs.Trees.{PartTree, NamedStep, NamedSession, MarkerTree, star, named, NamedEntry, FileTree}
 use Rattle.spec_parser.specs.Counts.{Counts, past}
 use Rattle.spec_parser.specs.Reading.{the_word, the_sign, the_name, the_block}
 

@@ -1,5 +1,5 @@
 -- Where the text of a block begins.
-use Rattle.std.specs.Prelude.{◌≡◌, ℕ, ◌+◌, ◌<◌, ◌^◌, List, length, slice_index_or}
+use Rattle.std.specs.Prelude.{ℕ, ◌+◌, ◌<◌, ◌^◌, List, length, slice_index_or}
 use Rattle.iso_lexer.specs.declared.token.At.{At}
 use Rattle.iso_lexer.specs.declared.spec_token.SpecTok.{SpecTok}
 use Rattle.iso_lexer.specs.SpecTokens.{Token, keyword, name, digits, sign, block, at_view}

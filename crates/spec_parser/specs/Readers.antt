@@ -6,7 +6,6 @@ use Rattle.spec_parser.specs.declared.fault.Stop.{Stop}
 use Rattle.spec_parser.specs.declared.fault.Halt.{Halt}
 use Rattle.spec_parser.specs.declared.fault.Halt.TheVariants as halts
 use Rattle.spec_parser.specs.declared.reader.Reader.{Reader}
-use Rattle.spec_parser.specs.Counts.{Counts}
 use Rattle.spec_parser.specs.Places.{text_start}
 use Rattle.spec_parser.specs.Reading.{Rest, Read, place}
 

@@ -182,26 +182,31 @@ fn a_whole_file(rt: HostRuntime) -> Result<(), Fail> {
     assert!(rt; matches!(spec.teardown, Some(Part { block: 2, .. })));
     assert_eq!(rt; spec.sessions.len(), 2);
     let first = &spec.sessions[0];
+    assert_eq!(rt; first.steps.len(), 2);
     assert!(rt; matches!(first.setup, Some(Part { block: 3, .. })));
     assert!(rt; matches!(first.steps[1].name, Name::Quoted("b\"\"c")));
     assert_eq!(rt; first.steps[1].part.block, 5);
     assert!(rt; matches!(first.teardown, Some(Part { block: 6, .. })));
-    assert_eq!(rt; spec.sessions[1].steps[0].part.block, 7);
+    let second = &spec.sessions[1];
+    assert_eq!(rt; second.steps.len(), 1);
+    assert_eq!(rt; second.steps[0].part.block, 7);
     assert_eq!(rt; spec.perms.len(), 2);
     let entries = &spec.perms[0];
+    assert_eq!(rt; entries.len(), 3);
     assert_eq!(rt; entries[0].session, 2);
     assert_eq!(rt; entries[0].step, 0);
-    assert_eq!(rt; entries[1].markers.len(), 3);
-    assert!(rt; entries[1].markers[0] == Marker::Star);
+    let markers = &entries[1].markers;
+    assert_eq!(rt; markers.len(), 3);
+    assert!(rt; markers[0] == Marker::Star);
     assert!(rt;
-        entries[1].markers[1]
+        markers[1]
             == (Marker::Step {
                 session: 1,
                 step: 1
             })
     );
     assert!(rt;
-        entries[1].markers[2]
+        markers[2]
             == (Marker::Step {
                 session: 2,
                 step: 0

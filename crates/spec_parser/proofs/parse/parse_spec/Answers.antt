@@ -1,7 +1,7 @@
-use Rattle.std.proofs.Common.{◌≡◌, [], length, ap, subst, sym, ◌∙◌, map}
+use Rattle.std.proofs.Common.{[], length, ap, subst, sym, ◌∙◌, map}
 use Rattle.std.proofs.lemmas.Result.{err_from_is_err_and}
 use Rattle.iso_lexer.specs.SpecTokens.{at_views}
-use Rattle.spec_parser.specs.Trees.{SpecTree, file_view, part_view, perm_view, session_view, session_draft_view, perm_names_view, spec_view}
+use Rattle.spec_parser.specs.Trees.{file_view, perm_view, session_draft_view, perm_names_view}
 use Rattle.spec_parser.specs.Counts.{start}
 use Rattle.spec_parser.specs.Reading.{file_at}
 use Rattle.spec_parser.specs.Names.{sessions_from, first_repeat, known_perms, session_tree}

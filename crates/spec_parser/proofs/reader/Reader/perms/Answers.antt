@@ -1,11 +1,11 @@
-use Rattle.std.proofs.Common.{◌≡◌, [], length, ap, sym, subst, ◌∙◌, is_ok, map, refl, arith}
+use Rattle.std.proofs.Common.{[], ap, sym, subst, ◌∙◌, is_ok, map}
 use Rattle.std.proofs.lemmas.Result.{err_from_is_err_and}
 use Rattle.std.proofs.ResultArms.{chosen}
 use Rattle.iso_lexer.specs.declared.spec_token.Keyword.TheVariants.{Permutation}
 use Rattle.spec_parser.specs.Trees.{perm_names_view}
 use Rattle.spec_parser.specs.Reading.{starts_word, perm_at, perms_at, is_word}
 use Rattle.spec_parser.specs.Readers.{FailsAs, rest_of}
-use Rattle.spec_parser.proofs.Loops.{SoFar, on_end, on_item, on_stop, behind_nothing, views_push, views_len, starts_nonempty}
+use Rattle.spec_parser.proofs.Loops.{SoFar, on_end, on_item, on_stop, behind_nothing, views_push, starts_nonempty}
 use Rattle.spec_parser.proofs.Productions.{perm_shorter}
 use Rattle.spec_parser.proofs.reader.Reader.perms.Goals as goal
 
