@@ -1,0 +1,5 @@
+pub mod Columns
+pub mod Values
+pub mod Arithmetic
+pub mod Logic
+pub mod Expressions

@@ -1,10 +1,21 @@
-//! Values of the SQL subset, and rows of them.
+//! Values of the SQL subset, rows of them, and what expressions make of them.
 #![tactic(auto)]
 
+mod arithmetic;
+mod assignment;
+mod columns;
+mod comparison;
+mod fault;
+mod logic;
 mod row;
 mod text;
 mod value;
 
+pub use assignment::assign;
+pub use columns::Columns;
+pub use comparison::compare;
+pub use fault::{ColumnName, ValueFault};
 pub use row::{Row, copy_row};
+pub use sql_trees::{Dir, Kind};
 pub use text::Text;
 pub use value::Value;
