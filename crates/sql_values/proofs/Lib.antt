@@ -1,1 +1,3 @@
+pub mod Among
 pub mod Places
+pub mod Utf8

@@ -27,10 +27,20 @@ text s = if is_utf8 s then Ok (Text s) else Err TypeMismatch
 abbrev pub column : List ℕ → Cols → List Value → Answer
 column name cols row = ok_or (option_and_then (slice_get row) (position (λ c. bytes_eq name c.0) cols)) (NoColumn name)
 
--- a comparison of values that compare (9.2)
-abbrev pub comparison : (Ordering → Bool) → Option Ordering → Answer
-comparison holds None = Err TypeMismatch
-comparison holds (Some o) = Ok (Boolean (holds o))
+-- whether a comparison holds of an order (9.2); no other operator is one
+abbrev pub holds : Operator → Ordering → Bool
+holds Equal o = is_eq o
+holds NotEqual o = is_ne o
+holds Less o = is_lt o
+holds AtMost o = is_le o
+holds Greater o = is_gt o
+holds AtLeast o = is_ge o
+holds op o = false
+
+-- a comparison of values that compare
+abbrev pub comparison : Operator → Option Ordering → Answer
+comparison op None = Err TypeMismatch
+comparison op (Some o) = Ok (Boolean (holds op o))
 
 -- two texts, one after the other (9.4)
 abbrev pub concatenation : Value → Value → Answer
@@ -39,12 +49,12 @@ concatenation a b = Err TypeMismatch
 
 -- an operator on two values that aren't NULL
 abbrev pub operation : Operator → Value → Value → Answer
-operation Equal a b = comparison is_eq (compare a b)
-operation NotEqual a b = comparison is_ne (compare a b)
-operation Less a b = comparison is_lt (compare a b)
-operation AtMost a b = comparison is_le (compare a b)
-operation Greater a b = comparison is_gt (compare a b)
-operation AtLeast a b = comparison is_ge (compare a b)
+operation Equal a b = comparison Equal (compare a b)
+operation NotEqual a b = comparison NotEqual (compare a b)
+operation Less a b = comparison Less (compare a b)
+operation AtMost a b = comparison AtMost (compare a b)
+operation Greater a b = comparison Greater (compare a b)
+operation AtLeast a b = comparison AtLeast (compare a b)
 operation Concat a b = concatenation a b
 operation op a b = arithmetic op a b
 
