@@ -3,3 +3,5 @@ pub mod Values
 pub mod Arithmetic
 pub mod Logic
 pub mod Expressions
+pub mod Sorting
+pub mod Aggregates

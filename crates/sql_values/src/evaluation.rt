@@ -179,3 +179,20 @@ fn is_among<'a>(
     }
     Ok(if unknown { None } else { Some(false) })
 }
+
+/// Whether WHERE passes the row: its condition is true there, or it has none.
+pub fn passes<'a>(
+    alloc: Global,
+    filter: Option<&Expr<'a>>,
+    cols: &Columns<'_>,
+    row: &Row,
+) -> Result<bool, ValueFault<'a>>
+    requires { length row.now ≡ length cols.now }
+    ensures { Answers result (passes (option_map (λ expr. tree_of expr.now) filter.entry) cols.now row.now) }
+{
+    let Some(filter) = filter else {
+        return Ok(true);
+    };
+    let value = eval(alloc, filter, cols, row)?;
+    Ok(truth(&value)? == Some(true))
+}

@@ -40,14 +40,35 @@ impl<'a> ColumnName<'a> {
     }
 }
 
+/// The bytes that the name stands for.
 impl fmt::Display for ColumnName<'_> {
     fn fmt<W: fmt::Write>(&self, f: &mut fmt::Formatter<W>) -> fmt::Result {
         match self.name {
             Name::Plain(text) => f.write_str(text),
-            Name::Quoted(text) => f.write_str(text),
-            Name::Folded(text) => f.write_str(text),
+            Name::Quoted(text) => write_undoubled(text, f),
+            Name::Folded(text) => write_folded(text, f),
         }
     }
+}
+
+fn write_undoubled<W: fmt::Write>(text: &str, f: &mut fmt::Formatter<W>) -> fmt::Result {
+    let mut is_second = false;
+    for c in text.chars() {
+        if is_second {
+            is_second = false;
+        } else {
+            is_second = c == '"';
+            f.write_char(c)?;
+        }
+    }
+    Ok(())
+}
+
+fn write_folded<W: fmt::Write>(text: &str, f: &mut fmt::Formatter<W>) -> fmt::Result {
+    for c in text.chars() {
+        f.write_char(c.to_ascii_lowercase())?;
+    }
+    Ok(())
 }
 
 /// Why an expression has no value. The names V1 to V5 are those of the faults that the program reports.

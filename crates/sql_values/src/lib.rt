@@ -1,6 +1,7 @@
 //! Values of the SQL subset, rows of them, and what expressions make of them.
 #![tactic(auto)]
 
+mod aggregation;
 mod arithmetic;
 mod assignment;
 mod columns;
@@ -11,15 +12,21 @@ mod literal;
 mod logic;
 mod operation;
 mod row;
+mod sorting;
 mod text;
 mod value;
 
+pub use aggregation::aggregate;
 pub use assignment::assign;
 pub use columns::Columns;
 pub use comparison::compare;
-pub use evaluation::eval;
+pub use evaluation::{eval, passes};
 pub use fault::{ColumnName, ValueFault};
 pub use row::{Row, copy_row};
+pub use sorting::order;
 pub use sql_trees::{Dir, Kind};
 pub use text::Text;
 pub use value::Value;
+
+#[cfg(test)]
+mod tests;

@@ -13,7 +13,7 @@ use sql_trees::Operator;
 use std::alloc::{AllocError, Global};
 use std::cmp::Ordering;
 
-fn is_null(value: &Value) -> bool
+pub fn is_null(value: &Value) -> bool
     ensures { result ≡ is_null value.now }
 {
     matches!(value, Value::Null)
