@@ -45,7 +45,7 @@ row_order k (dir ∷ by) a b =
 abbrev pub keys_at : List (List Value) → ℕ → List Value
 keys_at keys p = slice_index_or keys p []
 
--- the row at p may stand before the row at q: by its keys, or where these are equal because it stood there
+-- the row at p may stand before the row at q: by its keys, or where these are equal by its old place
 abbrev pub MayPrecede : List Dir → List (List Value) → ℕ → ℕ → Type 0
 MayPrecede by keys p q = MatchOrdering (row_order 0 by (keys_at keys p) (keys_at keys q)) ⊤ (p ≤ q) ⊥
 

@@ -8,7 +8,7 @@ use crate::value::Value;
 use sql_trees::Kind;
 
 /// The value as a column of the kind takes it: NULL as it is, an integer as a bigint, a bigint as an integer where it has 32 bits, and otherwise a value of that kind alone.
-pub fn assign(value: Value, kind: Kind) -> Result<Value, ValueFault<'static>>
+pub fn assign<'a>(value: Value, kind: Kind) -> Result<Value, ValueFault<'a>>
     ensures { result ≡ assign value kind }
 {
     match (value, kind) {
