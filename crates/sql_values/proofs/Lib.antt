@@ -1,0 +1,9 @@
+pub mod Among
+pub mod Best
+pub mod Calls
+pub mod Extremes
+pub mod Gathered
+pub mod Keys
+pub mod Orders
+pub mod Places
+pub mod Utf8

@@ -1,0 +1,95 @@
+//! Arithmetic on whole numbers.
+
+ghost use Rattle.std.specs.Prelude.{◌≡◌};
+ghost use Rattle.sql_values.specs.Values.{integer, bigint};
+ghost use Rattle.sql_values.specs.Arithmetic.{calculate, arithmetic, plus, minus, number, signed};
+
+use crate::fault::ValueFault;
+use crate::value::Value;
+use sql_trees::Operator;
+
+/// The number as an integer, where it has 32 bits.
+fn integer<'a>(z: i128) -> Result<Value, ValueFault<'a>>
+    ensures { result ≡ integer z }
+{
+    match i32::try_from(z) {
+        Ok(n) => Ok(Value::Int(n)),
+        Err(_) => Err(ValueFault::IntegerRange),
+    }
+}
+
+/// The number as a bigint, where it has 64 bits.
+pub fn bigint<'a>(z: i128) -> Result<Value, ValueFault<'a>>
+    ensures { result ≡ bigint z }
+{
+    match i64::try_from(z) {
+        Ok(n) => Ok(Value::Big(n)),
+        Err(_) => Err(ValueFault::BigintRange),
+    }
+}
+
+/// The exact result.
+fn calculate<'a>(operator: Operator, a: i64, b: i64) -> Result<i128, ValueFault<'a>>
+    ensures { result ≡ calculate operator a b }
+{
+    let (a, b) = (a as i128, b as i128);
+    match operator {
+        Operator::Add => Ok(a + b),
+        Operator::Subtract => Ok(a - b),
+        Operator::Multiply => Ok(a * b),
+        Operator::Divide if b == 0 => Err(ValueFault::DivisionByZero),
+        Operator::Divide => Ok(a / b),
+        Operator::Remainder if b == 0 => Err(ValueFault::DivisionByZero),
+        Operator::Remainder => Ok(a % b),
+        _ => Err(ValueFault::TypeMismatch),
+    }
+}
+
+/// An arithmetic operator on two values: of two integers an integer, with a bigint a bigint.
+pub fn arithmetic<'a>(operator: Operator, a: &Value, b: &Value) -> Result<Value, ValueFault<'a>>
+    ensures { result ≡ arithmetic operator a.now b.now }
+{
+    match (a, b) {
+        (Value::Int(a), Value::Int(b)) => integer(calculate(operator, *a as i64, *b as i64)?),
+        (Value::Int(a), Value::Big(b)) => bigint(calculate(operator, *a as i64, *b)?),
+        (Value::Big(a), Value::Int(b)) => bigint(calculate(operator, *a, *b as i64)?),
+        (Value::Big(a), Value::Big(b)) => bigint(calculate(operator, *a, *b)?),
+        _ => Err(ValueFault::TypeMismatch),
+    }
+}
+
+/// The value behind a plus sign.
+pub fn plus<'a>(value: Value) -> Result<Value, ValueFault<'a>>
+    ensures { result ≡ plus value }
+{
+    match value {
+        Value::Null => Ok(Value::Null),
+        Value::Int(n) => Ok(Value::Int(n)),
+        Value::Big(n) => Ok(Value::Big(n)),
+        _ => Err(ValueFault::TypeMismatch),
+    }
+}
+
+/// The value behind a minus sign.
+pub fn minus<'a>(value: Value) -> Result<Value, ValueFault<'a>>
+    ensures { result ≡ minus value }
+{
+    match value {
+        Value::Null => Ok(Value::Null),
+        Value::Int(n) => integer(-(n as i128)),
+        Value::Big(n) => bigint(-(n as i128)),
+        _ => Err(ValueFault::TypeMismatch),
+    }
+}
+
+/// A literal, by its sign and its size.
+pub fn number<'a>(negative: bool, digits: u64) -> Result<Value, ValueFault<'a>>
+    ensures { result ≡ number (signed negative digits) }
+{
+    let size = digits as i128;
+    let z = if negative { -size } else { size };
+    match i32::try_from(z) {
+        Ok(n) => Ok(Value::Int(n)),
+        Err(_) => bigint(z),
+    }
+}

@@ -1,0 +1,198 @@
+//! The value of an expression at a row.
+
+ghost use Rattle.std.specs.Prelude.{◌≡◌, ◌≢◌, length, option_map, true, false, Ok};
+ghost use Rattle.iso_lexer.specs.Names.{name_view, decoded};
+ghost use Rattle.sql_trees.specs.Trees.{tree_of, trees};
+ghost use Rattle.sql_trees.specs.declared.expr.Operator.TheVariants.{AtMost};
+ghost use Rattle.sql_values.specs.Values.{Answers, if_ok};
+ghost use Rattle.sql_values.specs.Logic.{truth_of, and_of};
+ghost use Rattle.sql_values.specs.Expressions.{value, column, binary, compares, is_among, passes};
+
+use crate::arithmetic::{minus, number, plus};
+use crate::columns::Columns;
+use crate::fault::{ColumnName, ValueFault};
+use crate::literal::literal;
+use crate::logic::{and, boolean, is_test, not_if, or, truth};
+use crate::operation::operate;
+use crate::row::Row;
+use crate::value::Value;
+use iso_lexer::Name;
+use sql_trees::{Expr, Operator};
+use std::alloc::Global;
+
+/// The value of the first column of that name.
+fn column<'a>(
+    alloc: Global,
+    name: &Name<'a>,
+    cols: &Columns<'_>,
+    row: &Row,
+) -> Result<Value, ValueFault<'a>>
+    requires { length row.now ≡ length cols.now }
+    ensures { Answers result (column (decoded (name_view name.now)) cols.now row.now) }
+{
+    match cols.place(name) {
+        Some(i) => Ok(row.values()[i].copied(alloc)?),
+        None => Err(ValueFault::NoColumn(ColumnName::of(*name))),
+    }
+}
+
+/// The value of the expression at the row, which has the columns.
+#[cycle(eval)]
+pub fn eval<'a>(
+    alloc: Global,
+    expr: &Expr<'a>,
+    cols: &Columns<'_>,
+    row: &Row,
+) -> Result<Value, ValueFault<'a>>
+    requires { length row.now ≡ length cols.now }
+    ensures { Answers result (value (tree_of expr.now) cols.now row.now) }
+{
+    match expr {
+        Expr::Null => Ok(Value::Null),
+        Expr::Bool(b) => Ok(Value::Bool(*b)),
+        Expr::Number { negative, digits } => number(*negative, *digits),
+        Expr::Text(written) => literal(alloc, written),
+        Expr::Column(name) => column(alloc, name, cols, row),
+        Expr::Plus(a) => plus(eval(alloc, a, cols, row)?),
+        Expr::Minus(a) => minus(eval(alloc, a, cols, row)?),
+        Expr::Not(a) => {
+            let a = eval(alloc, a, cols, row)?;
+            Ok(boolean(not_if(true, truth(&a)?)))
+        }
+        Expr::Binary(operator, a, b) => {
+            let a = eval(alloc, a, cols, row)?;
+            binary(alloc, *operator, &a, b, cols, row)
+        }
+        Expr::Is(a, negated, asked) => {
+            let a = eval(alloc, a, cols, row)?;
+            Ok(boolean(not_if(*negated, is_test(*asked, &a)?)))
+        }
+        Expr::In(a, negated, items) => {
+            let a = eval(alloc, a, cols, row)?;
+            let among = is_among(alloc, &a, items, cols, row)?;
+            Ok(boolean(not_if(*negated, among)))
+        }
+        Expr::Between(a, negated, low, high) => {
+            let a = eval(alloc, a, cols, row)?;
+            let above = compares(alloc, Operator::AtLeast, &a, low, cols, row)?;
+            let between = is_at_most_too(alloc, above, &a, high, cols, row)?;
+            Ok(boolean(not_if(*negated, between)))
+        }
+    }
+}
+
+/// An operator on a value and on that of the expression, which is not evaluated where OR or AND is decided.
+#[cycle(eval)]
+fn binary<'a>(
+    alloc: Global,
+    operator: Operator,
+    left: &Value,
+    right: &Expr<'a>,
+    cols: &Columns<'_>,
+    row: &Row,
+) -> Result<Value, ValueFault<'a>>
+    requires { length row.now ≡ length cols.now }
+    ensures { Answers result (binary operator (Ok left.now) (value (tree_of right.now) cols.now row.now)) }
+{
+    match operator {
+        Operator::Or => {
+            let left = truth(left)?;
+            if let Some(true) = left {
+                return Ok(Value::Bool(true));
+            }
+            let right = eval(alloc, right, cols, row)?;
+            Ok(boolean(or(left, truth(&right)?)))
+        }
+        Operator::And => {
+            let left = truth(left)?;
+            if let Some(false) = left {
+                return Ok(Value::Bool(false));
+            }
+            let right = eval(alloc, right, cols, row)?;
+            Ok(boolean(and(left, truth(&right)?)))
+        }
+        _ => {
+            let right = eval(alloc, right, cols, row)?;
+            operate(alloc, operator, left, &right)
+        }
+    }
+}
+
+/// Whether the comparison holds of the value and of that of the expression.
+#[cycle(eval)]
+fn compares<'a>(
+    alloc: Global,
+    operator: Operator,
+    left: &Value,
+    right: &Expr<'a>,
+    cols: &Columns<'_>,
+    row: &Row,
+) -> Result<Option<bool>, ValueFault<'a>>
+    requires { length row.now ≡ length cols.now }
+    ensures { Answers result (compares operator left.now (value (tree_of right.now) cols.now row.now)) }
+{
+    let right = eval(alloc, right, cols, row)?;
+    truth(&operate(alloc, operator, left, &right)?)
+}
+
+/// Whether what is known holds and the value is at most that of the expression, which is not evaluated where that is decided.
+#[cycle(eval)]
+fn is_at_most_too<'a>(
+    alloc: Global,
+    above: Option<bool>,
+    left: &Value,
+    high: &Expr<'a>,
+    cols: &Columns<'_>,
+    row: &Row,
+) -> Result<Option<bool>, ValueFault<'a>>
+    requires { length row.now ≡ length cols.now }
+    ensures { Answers result (and_of (Ok above) (compares AtMost left.now (value (tree_of high.now) cols.now row.now))) }
+{
+    if let Some(false) = above {
+        return Ok(Some(false));
+    }
+    Ok(and(
+        above,
+        compares(alloc, Operator::AtMost, left, high, cols, row)?,
+    ))
+}
+
+/// Whether the value is equal to that of one of the expressions: it goes from the left, and stops at an equal one.
+#[cycle(eval)]
+fn is_among<'a>(
+    alloc: Global,
+    left: &Value,
+    items: &[Expr<'a>],
+    cols: &Columns<'_>,
+    row: &Row,
+) -> Result<Option<bool>, ValueFault<'a>>
+    requires { length row.now ≡ length cols.now }
+    ensures { Answers result (is_among (trees items.now) left.now cols.now row.now) }
+{
+    let mut unknown = false;
+    for item in items {
+        match compares(alloc, Operator::Equal, left, item, cols, row)? {
+            Some(true) => return Ok(Some(true)),
+            Some(false) => {}
+            None => unknown = true,
+        }
+    }
+    Ok(if unknown { None } else { Some(false) })
+}
+
+/// Whether WHERE passes the row: its condition is true there, or it has none.
+pub fn passes<'a>(
+    alloc: Global,
+    filter: Option<&Expr<'a>>,
+    cols: &Columns<'_>,
+    row: &Row,
+) -> Result<bool, ValueFault<'a>>
+    requires { length row.now ≡ length cols.now }
+    ensures { Answers result (passes (option_map (λ expr. tree_of expr.now) filter.entry) cols.now row.now) }
+{
+    let Some(filter) = filter else {
+        return Ok(true);
+    };
+    let value = eval(alloc, filter, cols, row)?;
+    Ok(truth(&value)? == Some(true))
+}

@@ -1,0 +1,81 @@
+//! Three-valued logic: what is known of a condition is true, false, or nothing.
+
+ghost use Rattle.std.specs.Prelude.{◌≡◌, ◌≢◌, Ok, Some, true, false};
+ghost use Rattle.sql_values.specs.Values.{is_null};
+ghost use Rattle.sql_values.specs.Logic.{truth, boolean, or_of, and_of, not_of, not_if, is_test, asks, condition};
+
+use crate::fault::ValueFault;
+use crate::value::Value;
+use sql_trees::Truth;
+
+/// A value as a condition: a boolean, or NULL.
+pub fn truth<'a>(value: &Value) -> Result<Option<bool>, ValueFault<'a>>
+    ensures { result ≡ truth value.now }
+{
+    match value {
+        Value::Null => Ok(None),
+        Value::Bool(b) => Ok(Some(*b)),
+        _ => Err(ValueFault::TypeMismatch),
+    }
+}
+
+pub fn boolean(known: Option<bool>) -> Value
+    ensures { result ≡ boolean known }
+{
+    match known {
+        None => Value::Null,
+        Some(b) => Value::Bool(b),
+    }
+}
+
+pub fn or(a: Option<bool>, b: Option<bool>) -> Option<bool>
+    ensures { or_of (Ok a) (Ok b) ≡ Ok result }
+{
+    match (a, b) {
+        (Some(true), _) | (_, Some(true)) => Some(true),
+        (Some(false), Some(false)) => Some(false),
+        _ => None,
+    }
+}
+
+pub fn and(a: Option<bool>, b: Option<bool>) -> Option<bool>
+    ensures { and_of (Ok a) (Ok b) ≡ Ok result }
+{
+    match (a, b) {
+        (Some(false), _) | (_, Some(false)) => Some(false),
+        (Some(true), Some(true)) => Some(true),
+        _ => None,
+    }
+}
+
+/// The negation where the flag says so.
+pub fn not_if(negated: bool, known: Option<bool>) -> Option<bool>
+    ensures { not_if negated (Ok known) ≡ Ok result }
+{
+    match known {
+        Some(b) => Some(b != negated),
+        None => None,
+    }
+}
+
+/// Whether `IS` finds in a condition what it asks for.
+fn asks(truth: Truth, known: Option<bool>) -> bool
+    ensures { result ≡ asks truth known }
+{
+    match (truth, known) {
+        (Truth::Null | Truth::Unknown, known) => known.is_none(),
+        (Truth::True, Some(b)) => b,
+        (Truth::False, Some(b)) => !b,
+        (Truth::True | Truth::False, None) => false,
+    }
+}
+
+/// What `IS` answers of a value: `IS NULL` of any, the others of a condition.
+pub fn is_test<'a>(asked: Truth, value: &Value) -> Result<Option<bool>, ValueFault<'a>>
+    ensures { result ≡ is_test asked value.now }
+{
+    match asked {
+        Truth::Null => Ok(Some(matches!(value, Value::Null))),
+        _ => Ok(Some(asks(asked, truth(value)?))),
+    }
+}
