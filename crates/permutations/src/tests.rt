@@ -112,6 +112,7 @@ fn what_is_no_block_of_literals_is_found_at_its_byte(rt: HostRuntime) -> Result<
 }
 
 /// Gives the literals a byte at a time, and fails at a call.
+#[derive(Drop)]
 struct FailingSource {
     given: usize,
     fails_at: usize,
@@ -139,6 +140,7 @@ impl Source for FailingSource {
 }
 
 /// Fails at a call.
+#[derive(Drop)]
 struct FailingSink {
     calls: usize,
     fails_at: usize,
