@@ -140,12 +140,25 @@ fn columns<'a>() -> [Column<'a>; 2] {
     ]
 }
 
-fn check(rt: &impl Abort, alloc: Global, table: &[(&str, &str)]) -> Result<(), Fail> {
-    for (text, wanted) in table {
-        let expr = tree(alloc, text)?;
-        let row = Row::from_vec(Vec::new(alloc));
-        let found = shown(alloc, eval(alloc, &expr, &Columns::of(&[]), &row))?;
-        assert_eq!(rt; found.as_str(), *wanted, "at {text}");
+/// A line of a table, before and behind its arrow.
+fn parts<'a>(line: &'a str) -> Result<(&'a str, &'a str), Fail> {
+    Ok(line.split_once(" => ").ok_or("a line without an arrow")?)
+}
+
+/// The value of an expression without columns, in words.
+fn evaluated(alloc: Global, text: &str) -> Result<String, Fail> {
+    let expr = tree(alloc, text)?;
+    let row = Row::from_vec(Vec::new(alloc));
+    shown(alloc, eval(alloc, &expr, &Columns::of(&[]), &row))
+}
+
+fn check(rt: &impl Abort, alloc: Global, table: &str) -> Result<(), Fail> {
+    for line in table.lines() {
+        if !line.trim().is_empty() {
+            let (text, wanted) = parts(line.trim())?;
+            let found = evaluated(alloc, text)?;
+            assert_eq!(rt; found.as_str(), wanted, "at {text}");
+        }
     }
     Ok(())
 }
@@ -155,41 +168,41 @@ fn arithmetic_of_integers(rt: HostRuntime) -> Result<(), Fail> {
     check(
         &rt,
         rt.alloc(),
-        &[
-            ("7 -2 /", "int -3"),
-            ("-7 2 %", "int -1"),
-            ("1 2 - 3 -", "int -4"),
-            ("2 3 4 * +", "int 14"),
-            ("null 'a +", "null"),
-            ("-2147483648 -1 /", "integer out of range"),
-            ("1 'a +", "type mismatch"),
-            ("2 3 +", "int 5"),
-            ("2 3 -", "int -1"),
-            ("2 3 *", "int 6"),
-            ("5 2 /", "int 2"),
-            ("-5 2 /", "int -2"),
-            ("5 4 %", "int 1"),
-            ("7 -2 %", "int 1"),
-            ("-7 -2 %", "int -1"),
-            ("-2147483648 -1 %", "int 0"),
-            ("2147483647 1 +", "integer out of range"),
-            ("-2147483648 1 -", "integer out of range"),
-            ("65536 65536 *", "integer out of range"),
-            ("0 0 /", "division by zero"),
-            ("1 0 %", "division by zero"),
-            ("null 0 /", "null"),
-            ("1 null *", "null"),
-            ("-2147483648 minus", "integer out of range"),
-            ("5 minus", "int -5"),
-            ("5 plus", "int 5"),
-            ("null minus", "null"),
-            ("'a minus", "type mismatch"),
-            ("true plus", "type mismatch"),
-            ("true 1 +", "type mismatch"),
-            ("'a 'b +", "type mismatch"),
-            ("1 'a + 1 0 / +", "type mismatch"),
-            ("'a 1 0 / +", "division by zero"),
-        ],
+        "
+         7 -2 / => int -3
+         -7 2 % => int -1
+         1 2 - 3 - => int -4
+         2 3 4 * + => int 14
+         null 'a + => null
+         -2147483648 -1 / => integer out of range
+         1 'a + => type mismatch
+         2 3 + => int 5
+         2 3 - => int -1
+         2 3 * => int 6
+         5 2 / => int 2
+         -5 2 / => int -2
+         5 4 % => int 1
+         7 -2 % => int 1
+         -7 -2 % => int -1
+         -2147483648 -1 % => int 0
+         2147483647 1 + => integer out of range
+         -2147483648 1 - => integer out of range
+         65536 65536 * => integer out of range
+         0 0 / => division by zero
+         1 0 % => division by zero
+         null 0 / => null
+         1 null * => null
+         -2147483648 minus => integer out of range
+         5 minus => int -5
+         5 plus => int 5
+         null minus => null
+         'a minus => type mismatch
+         true plus => type mismatch
+         true 1 + => type mismatch
+         'a 'b + => type mismatch
+         1 'a + 1 0 / + => type mismatch
+         'a 1 0 / + => division by zero
+        ",
     )
 }
 
@@ -198,24 +211,24 @@ fn arithmetic_of_bigints(rt: HostRuntime) -> Result<(), Fail> {
     check(
         &rt,
         rt.alloc(),
-        &[
-            ("9223372036854775807 1 +", "bigint out of range"),
-            ("2147483647", "int 2147483647"),
-            ("2147483648", "big 2147483648"),
-            ("-2147483648", "int -2147483648"),
-            ("-2147483649", "big -2147483649"),
-            ("9223372036854775807", "big 9223372036854775807"),
-            ("2147483648 minus", "big -2147483648"),
-            ("2147483648 1 -", "big 2147483647"),
-            ("1 2147483648 +", "big 2147483649"),
-            ("65536 4294967296 *", "big 281474976710656"),
-            ("4294967296 4294967296 *", "bigint out of range"),
-            ("-9223372036854775808 -1 /", "bigint out of range"),
-            ("-9223372036854775808 -1 %", "big 0"),
-            ("-9223372036854775808 minus", "bigint out of range"),
-            ("2147483648 2 /", "big 1073741824"),
-            ("2147483648 0 /", "division by zero"),
-        ],
+        "
+         9223372036854775807 1 + => bigint out of range
+         2147483647 => int 2147483647
+         2147483648 => big 2147483648
+         -2147483648 => int -2147483648
+         -2147483649 => big -2147483649
+         9223372036854775807 => big 9223372036854775807
+         2147483648 minus => big -2147483648
+         2147483648 1 - => big 2147483647
+         1 2147483648 + => big 2147483649
+         65536 4294967296 * => big 281474976710656
+         4294967296 4294967296 * => bigint out of range
+         -9223372036854775808 -1 / => bigint out of range
+         -9223372036854775808 -1 % => big 0
+         -9223372036854775808 minus => bigint out of range
+         2147483648 2 / => big 1073741824
+         2147483648 0 / => division by zero
+        ",
     )
 }
 
@@ -224,37 +237,37 @@ fn comparisons_and_texts(rt: HostRuntime) -> Result<(), Fail> {
     check(
         &rt,
         rt.alloc(),
-        &[
-            ("1 2 = is:null", "false"),
-            ("'a 'b ||", "text ab"),
-            ("1 2 <", "true"),
-            ("2 1 <", "false"),
-            ("2 2 <=", "true"),
-            ("3 2 >", "true"),
-            ("2 3 >=", "false"),
-            ("1 2 <>", "true"),
-            ("1 1 =", "true"),
-            ("1 2147483648 <", "true"),
-            ("'abc 'abd <", "true"),
-            ("'ab 'abc <", "true"),
-            ("'B 'a <", "true"),
-            ("'z '\u{e9} <", "true"),
-            ("'a 'a =", "true"),
-            ("false true <", "true"),
-            ("true true =", "true"),
-            ("null null =", "null"),
-            ("null 1 <>", "null"),
-            ("'a null <", "null"),
-            ("1 'a =", "type mismatch"),
-            ("true 1 =", "type mismatch"),
-            ("1 2 ||", "type mismatch"),
-            ("'a 1 ||", "type mismatch"),
-            ("'a null ||", "null"),
-            ("null 1 ||", "null"),
-            ("'it''s", "text it's"),
-            ("''' 'a ||", "text 'a"),
-            ("' 'a ||", "text a"),
-        ],
+        "
+         1 2 = is:null => false
+         'a 'b || => text ab
+         1 2 < => true
+         2 1 < => false
+         2 2 <= => true
+         3 2 > => true
+         2 3 >= => false
+         1 2 <> => true
+         1 1 = => true
+         1 2147483648 < => true
+         'abc 'abd < => true
+         'ab 'abc < => true
+         'B 'a < => true
+         'z '\u{e9} < => true
+         'a 'a = => true
+         false true < => true
+         true true = => true
+         null null = => null
+         null 1 <> => null
+         'a null < => null
+         1 'a = => type mismatch
+         true 1 = => type mismatch
+         1 2 || => type mismatch
+         'a 1 || => type mismatch
+         'a null || => null
+         null 1 || => null
+         'it''s => text it's
+         ''' 'a || => text 'a
+         ' 'a || => text a
+        ",
     )
 }
 
@@ -263,55 +276,55 @@ fn three_valued_logic(rt: HostRuntime) -> Result<(), Fail> {
     check(
         &rt,
         rt.alloc(),
-        &[
-            ("null false and", "false"),
-            ("null 1 1 = or", "true"),
-            ("false 1 0 / 0 = and", "false"),
-            ("true 1 0 / 0 = and", "division by zero"),
-            ("true true and", "true"),
-            ("true false and", "false"),
-            ("true null and", "null"),
-            ("false false and", "false"),
-            ("false null and", "false"),
-            ("null null and", "null"),
-            ("null true and", "null"),
-            ("true false or", "true"),
-            ("true null or", "true"),
-            ("false null or", "null"),
-            ("false false or", "false"),
-            ("null null or", "null"),
-            ("null true or", "true"),
-            ("null false or", "null"),
-            ("true not", "false"),
-            ("false not", "true"),
-            ("null not", "null"),
-            ("1 not", "type mismatch"),
-            ("1 true and", "type mismatch"),
-            ("1 1 0 / and", "type mismatch"),
-            ("true 1 and", "type mismatch"),
-            ("true 1 or", "true"),
-            ("false 1 and", "false"),
-            ("false 1 or", "type mismatch"),
-            ("null 1 0 / 0 = and", "division by zero"),
-            ("true 1 0 / 0 = or", "true"),
-            ("null is:null", "true"),
-            ("1 is:null", "false"),
-            ("1 isnot:null", "true"),
-            ("null isnot:null", "false"),
-            ("null is:true", "false"),
-            ("true is:true", "true"),
-            ("false is:true", "false"),
-            ("null isnot:true", "true"),
-            ("null is:unknown", "true"),
-            ("false is:unknown", "false"),
-            ("false is:false", "true"),
-            ("null is:false", "false"),
-            ("true isnot:false", "true"),
-            ("null isnot:unknown", "false"),
-            ("1 is:true", "type mismatch"),
-            ("1 is:unknown", "type mismatch"),
-            ("'a is:null", "false"),
-        ],
+        "
+         null false and => false
+         null 1 1 = or => true
+         false 1 0 / 0 = and => false
+         true 1 0 / 0 = and => division by zero
+         true true and => true
+         true false and => false
+         true null and => null
+         false false and => false
+         false null and => false
+         null null and => null
+         null true and => null
+         true false or => true
+         true null or => true
+         false null or => null
+         false false or => false
+         null null or => null
+         null true or => true
+         null false or => null
+         true not => false
+         false not => true
+         null not => null
+         1 not => type mismatch
+         1 true and => type mismatch
+         1 1 0 / and => type mismatch
+         true 1 and => type mismatch
+         true 1 or => true
+         false 1 and => false
+         false 1 or => type mismatch
+         null 1 0 / 0 = and => division by zero
+         true 1 0 / 0 = or => true
+         null is:null => true
+         1 is:null => false
+         1 isnot:null => true
+         null isnot:null => false
+         null is:true => false
+         true is:true => true
+         false is:true => false
+         null isnot:true => true
+         null is:unknown => true
+         false is:unknown => false
+         false is:false => true
+         null is:false => false
+         true isnot:false => true
+         null isnot:unknown => false
+         1 is:true => type mismatch
+         1 is:unknown => type mismatch
+         'a is:null => false
+        ",
     )
 }
 
@@ -320,125 +333,169 @@ fn in_and_between(rt: HostRuntime) -> Result<(), Fail> {
     check(
         &rt,
         rt.alloc(),
-        &[
-            ("1 2 null in2", "null"),
-            ("1 2 3 notin2", "true"),
-            ("1 1 2 in2", "true"),
-            ("3 1 2 in2", "false"),
-            ("null 1 2 in2", "null"),
-            ("1 1 null in2", "true"),
-            ("1 null 1 in2", "true"),
-            ("1 null 2 notin2", "null"),
-            ("1 1 null notin2", "false"),
-            ("1 1 1 0 / in2", "true"),
-            ("1 2 1 0 / in2", "division by zero"),
-            ("1 'a in", "type mismatch"),
-            ("1 1 'a in2", "true"),
-            ("1 2147483648 in", "false"),
-            ("1 0 / 1 in", "division by zero"),
-            ("2 1 3 between", "true"),
-            ("3 1 3 between", "true"),
-            ("1 1 3 between", "true"),
-            ("4 1 3 between", "false"),
-            ("0 1 3 notbetween", "true"),
-            ("null 1 3 between", "null"),
-            ("2 null 1 between", "false"),
-            ("2 null 3 between", "null"),
-            ("2 1 null between", "null"),
-            ("0 1 1 0 / between", "false"),
-            ("2 1 1 0 / between", "division by zero"),
-            ("'b 'a 'c between", "true"),
-            ("1 'a 2 between", "type mismatch"),
-            ("x", "column \"x\" does not exist"),
-        ],
+        "
+         1 2 null in2 => null
+         1 2 3 notin2 => true
+         1 1 2 in2 => true
+         3 1 2 in2 => false
+         null 1 2 in2 => null
+         1 1 null in2 => true
+         1 null 1 in2 => true
+         1 null 2 notin2 => null
+         1 1 null notin2 => false
+         1 1 1 0 / in2 => true
+         1 2 1 0 / in2 => division by zero
+         1 'a in => type mismatch
+         1 1 'a in2 => true
+         1 2147483648 in => false
+         1 0 / 1 in => division by zero
+         2 1 3 between => true
+         3 1 3 between => true
+         1 1 3 between => true
+         4 1 3 between => false
+         0 1 3 notbetween => true
+         null 1 3 between => null
+         2 null 1 between => false
+         2 null 3 between => null
+         2 1 null between => null
+         0 1 1 0 / between => false
+         2 1 1 0 / between => division by zero
+         'b 'a 'c between => true
+         1 'a 2 between => type mismatch
+         x => column \"x\" does not exist
+        ",
     )
+}
+
+/// A row of `a`, which is 7, and `b"B`, which is `x`.
+fn two_values(alloc: Global) -> Result<Row, Fail> {
+    let mut values = Vec::new(alloc);
+    values.push(Value::Int(7))?;
+    values.push(Value::Text(Text::from_string(String::from_str(alloc, "x")?)))?;
+    Ok(Row::from_vec(values))
+}
+
+/// The value of an expression at that row, in words.
+fn found(alloc: Global, expr: &Expr<'_>) -> Result<String, Fail> {
+    let columns = columns();
+    let cols = Columns::of(&columns);
+    let row = two_values(alloc)?;
+    if row.values().len() != cols.len() {
+        return Err(Fail::from("a row of another length"));
+    }
+    shown(alloc, eval(alloc, expr, &cols, &row))
 }
 
 #[test]
 fn columns_by_name(rt: HostRuntime) -> Result<(), Fail> {
     let alloc = rt.alloc();
-    let columns = columns();
-    let cols = Columns::of(&columns);
-    let text = Text::from_string(String::from_str(alloc, "x")?);
-    let row = Row::from_vec(vec![in alloc; Value::Int(7), Value::Text(text)]?);
-    assert_eq!(rt; row.values().len(), cols.len());
     let sum = tree(alloc, "a 1 +")?;
-    assert_eq!(rt;
-        shown(alloc, eval(alloc, &sum, &cols, &row))?.as_str(),
-        "int 8"
-    );
+    assert_eq!(rt; found(alloc, &sum)?.as_str(), "int 8");
     let quoted = Expr::Column(Name::Quoted("b\"\"B"));
-    assert_eq!(rt;
-        shown(alloc, eval(alloc, &quoted, &cols, &row))?.as_str(),
-        "text x"
-    );
+    assert_eq!(rt; found(alloc, &quoted)?.as_str(), "text x");
     let plain = Expr::Column(Name::Plain("b\"B"));
-    assert_eq!(rt;
-        shown(alloc, eval(alloc, &plain, &cols, &row))?.as_str(),
-        "text x"
-    );
+    assert_eq!(rt; found(alloc, &plain)?.as_str(), "text x");
     let missing = Expr::Column(Name::Quoted("A\"\"1"));
     assert_eq!(rt;
-        shown(alloc, eval(alloc, &missing, &cols, &row))?.as_str(),
+        found(alloc, &missing)?.as_str(),
         "column \"A\"1\" does not exist"
     );
     let folded = Expr::Column(Name::Folded("Bb"));
     assert_eq!(rt;
-        shown(alloc, eval(alloc, &folded, &cols, &row))?.as_str(),
+        found(alloc, &folded)?.as_str(),
         "column \"bb\" does not exist"
-    );
-    for (text, wanted) in [("a 7 =", true), ("a 8 =", false), ("null", false)] {
-        let filter = tree(alloc, text)?;
-        assert!(rt;
-            matches!(passes(alloc, Some(&filter), &cols, &row), Ok(found) if found == wanted),
-            "at {text}"
-        );
-    }
-    assert!(rt; matches!(passes(alloc, None, &cols, &row), Ok(true)));
-    let filter = tree(alloc, "a")?;
-    assert!(rt;
-        matches!(
-            passes(alloc, Some(&filter), &cols, &row),
-            Err(ValueFault::TypeMismatch)
-        )
     );
     Ok(())
 }
 
+/// What WHERE makes of the filter at that row.
+fn passed(alloc: Global, filter: Option<&Expr<'_>>) -> Result<Option<bool>, Fail> {
+    let columns = columns();
+    let cols = Columns::of(&columns);
+    let row = two_values(alloc)?;
+    if row.values().len() != cols.len() {
+        return Err(Fail::from("a row of another length"));
+    }
+    match passes(alloc, filter, &cols, &row) {
+        Ok(passed) => Ok(Some(passed)),
+        Err(ValueFault::TypeMismatch) => Ok(None),
+        Err(_) => Err(Fail::from("another fault")),
+    }
+}
+
+#[test]
+fn rows_that_pass(rt: HostRuntime) -> Result<(), Fail> {
+    let alloc = rt.alloc();
+    assert_eq!(rt; passed(alloc, None)?, Some(true));
+    assert_eq!(rt; passed(alloc, Some(&tree(alloc, "a 7 =")?))?, Some(true));
+    assert_eq!(rt; passed(alloc, Some(&tree(alloc, "a 8 =")?))?, Some(false));
+    assert_eq!(rt; passed(alloc, Some(&tree(alloc, "null")?))?, Some(false));
+    assert_eq!(rt; passed(alloc, Some(&tree(alloc, "a")?))?, None);
+    Ok(())
+}
+
+fn kind(word: &str) -> Kind {
+    match word {
+        "int" => Kind::Int,
+        "big" => Kind::Big,
+        "text" => Kind::Text,
+        _ => Kind::Bool,
+    }
+}
+
+/// A literal as a column of the kind takes it, in words.
+fn taken(alloc: Global, text: &str) -> Result<String, Fail> {
+    let (text, into) = text.split_once(' ').ok_or("no kind")?;
+    let expr = literal(text)?;
+    let row = Row::from_vec(Vec::new(alloc));
+    match eval(alloc, &expr, &Columns::of(&[]), &row) {
+        Ok(value) => shown(alloc, assign(value, kind(into))),
+        Err(_) => Err(Fail::from("no value")),
+    }
+}
+
 #[test]
 fn assigned(rt: HostRuntime) -> Result<(), Fail> {
-    let alloc = rt.alloc();
-    for (text, kind, wanted) in [
-        ("null", Kind::Int, "null"),
-        ("null", Kind::Bool, "null"),
-        ("1", Kind::Int, "int 1"),
-        ("1", Kind::Big, "big 1"),
-        ("2147483648", Kind::Big, "big 2147483648"),
-        ("2147483648", Kind::Int, "integer out of range"),
-        ("'a", Kind::Text, "text a"),
-        ("'a", Kind::Int, "type mismatch"),
-        ("1", Kind::Text, "type mismatch"),
-        ("1", Kind::Bool, "type mismatch"),
-        ("true", Kind::Bool, "true"),
-        ("true", Kind::Int, "type mismatch"),
-    ] {
-        let expr = tree(alloc, text)?;
-        let row = Row::from_vec(Vec::new(alloc));
-        match eval(alloc, &expr, &Columns::of(&[]), &row) {
-            Ok(value) => {
-                assert_eq!(rt;
-                    shown(alloc, assign(value, kind))?.as_str(),
-                    wanted,
-                    "at {text}"
-                );
-            }
-            Err(_) => return Err(Fail::from("no value")),
+    let table = "
+         null int => null
+         null bool => null
+         1 int => int 1
+         1 big => big 1
+         2147483648 big => big 2147483648
+         2147483648 int => integer out of range
+         'a text => text a
+         'a int => type mismatch
+         1 text => type mismatch
+         1 bool => type mismatch
+         true bool => true
+         true int => type mismatch
+    ";
+    for line in table.lines() {
+        if !line.trim().is_empty() {
+            let (text, wanted) = parts(line.trim())?;
+            assert_eq!(rt; taken(rt.alloc(), text)?.as_str(), wanted, "at {text}");
         }
     }
     assert!(rt; matches!(assign(Value::Big(-5), Kind::Int), Ok(Value::Int(-5))));
-    assert!(rt; compare(&Value::Int(2), &Value::Big(2)) == Some(Ordering::Equal));
-    assert!(rt; compare(&Value::Null, &Value::Null).is_none());
     Ok(())
+}
+
+#[test]
+fn compared(rt: HostRuntime) {
+    assert!(rt;
+        matches!(
+            compare(&Value::Int(2), &Value::Big(2)),
+            Some(Ordering::Equal)
+        )
+    );
+    assert!(rt;
+        matches!(
+            compare(&Value::Big(-3), &Value::Int(2)),
+            Some(Ordering::Less)
+        )
+    );
+    assert!(rt; compare(&Value::Null, &Value::Null).is_none());
+    assert!(rt; compare(&Value::Int(1), &Value::Bool(true)).is_none());
 }
 
 /// Rows of one value each; a word is an expression.
@@ -473,54 +530,56 @@ fn aggregated(alloc: Global, agg: &Agg<'_>, words: &str) -> Result<String, Fail>
     shown(alloc, aggregate(alloc, agg, &Columns::of(&column), &lent))
 }
 
+/// An aggregate of an expression over rows of one column `x`, in words: its kind, the expression and the rows stand between bars.
+fn summed_up(alloc: Global, text: &str) -> Result<String, Fail> {
+    let (kind, text) = text.split_once(" | ").ok_or("no kind")?;
+    let (expr, words) = text.split_once(" | ").ok_or("no rows")?;
+    let kind = match kind {
+        "count" => AggKind::Count,
+        "sum" => AggKind::Sum,
+        "min" => AggKind::Min,
+        _ => AggKind::Max,
+    };
+    aggregated(alloc, &Agg::Of(kind, tree(alloc, expr)?), words)
+}
+
 #[test]
 fn aggregates(rt: HostRuntime) -> Result<(), Fail> {
-    let alloc = rt.alloc();
-    for (kind, words, wanted) in [
-        (AggKind::Count, "", "big 0"),
-        (AggKind::Sum, "", "null"),
-        (AggKind::Min, "", "null"),
-        (AggKind::Max, "null null", "null"),
-        (AggKind::Count, "1 null 2 null", "big 2"),
-        (AggKind::Count, "true 'a 1", "big 3"),
-        (AggKind::Sum, "1 null 2", "big 3"),
-        (AggKind::Sum, "2147483647 2147483647 1", "big 4294967295"),
-        (AggKind::Sum, "-2147483648 -2147483648", "big -4294967296"),
-        (AggKind::Sum, "1 2147483648", "type mismatch"),
-        (AggKind::Sum, "1 'a", "type mismatch"),
-        (AggKind::Min, "3 1 null 2", "int 1"),
-        (AggKind::Max, "3 1 null 2", "int 3"),
-        (AggKind::Min, "2147483648 5 7", "int 5"),
-        (AggKind::Max, "5 2147483648 7", "big 2147483648"),
-        (AggKind::Min, "'b 'a 'ab", "text a"),
-        (AggKind::Max, "'b null 'ab", "text b"),
-        (AggKind::Min, "true false", "type mismatch"),
-        (AggKind::Max, "true", "type mismatch"),
-        (AggKind::Min, "1 'a", "type mismatch"),
-    ] {
-        let agg = Agg::Of(kind, tree(alloc, "x")?);
-        assert_eq!(rt;
-            aggregated(alloc, &agg, words)?.as_str(),
-            wanted,
-            "at {words}"
-        );
+    let table = "
+         count | x |  => big 0
+         sum | x |  => null
+         min | x |  => null
+         max | x | null null => null
+         count | x | 1 null 2 null => big 2
+         count | x | true 'a 1 => big 3
+         sum | x | 1 null 2 => big 3
+         sum | x | 2147483647 2147483647 1 => big 4294967295
+         sum | x | -2147483648 -2147483648 => big -4294967296
+         sum | x | 1 2147483648 => type mismatch
+         sum | x | 1 'a => type mismatch
+         min | x | 3 1 null 2 => int 1
+         max | x | 3 1 null 2 => int 3
+         min | x | 2147483648 5 7 => int 5
+         max | x | 5 2147483648 7 => big 2147483648
+         min | x | 'b 'a 'ab => text a
+         max | x | 'b null 'ab => text b
+         min | x | true false => type mismatch
+         max | x | true => type mismatch
+         min | x | 1 'a => type mismatch
+         sum | 1 x / | 1 -1 => big 0
+         sum | 1 x / | 1 0 -1 => division by zero
+         sum | 1 x / | 1 'a => type mismatch
+         count | y | 1 => column \"y\" does not exist
+         count | y |  => big 0
+    ";
+    for line in table.lines() {
+        if !line.trim().is_empty() {
+            let (text, wanted) = parts(line.trim())?;
+            assert_eq!(rt; summed_up(rt.alloc(), text)?.as_str(), wanted, "at {text}");
+        }
     }
-    assert_eq!(rt;
-        aggregated(alloc, &Agg::CountRows, "1 null 'a")?.as_str(),
-        "big 3"
-    );
-    let inverse = Agg::Of(AggKind::Sum, tree(alloc, "1 x /")?);
-    assert_eq!(rt; aggregated(alloc, &inverse, "1 -1")?.as_str(), "big 0");
-    assert_eq!(rt;
-        aggregated(alloc, &inverse, "1 0 -1")?.as_str(),
-        "division by zero"
-    );
-    let first = Agg::Of(AggKind::Count, tree(alloc, "y")?);
-    assert_eq!(rt;
-        aggregated(alloc, &first, "1")?.as_str(),
-        "column \"y\" does not exist"
-    );
-    assert_eq!(rt; aggregated(alloc, &first, "")?.as_str(), "big 0");
+    let all = aggregated(rt.alloc(), &Agg::CountRows, "1 null 'a")?;
+    assert_eq!(rt; all.as_str(), "big 3");
     Ok(())
 }
 
@@ -539,49 +598,41 @@ fn ordered(alloc: Global, words: &str, dir: Dir) -> Result<String, Fail> {
     }
 }
 
+/// A direction and where its NULLs stand, then the rows.
+fn ordered_by(alloc: Global, text: &str) -> Result<String, Fail> {
+    let (desc, text) = text.split_once(' ').ok_or("no direction")?;
+    let (nulls, words) = text.split_once(" | ").ok_or("no rows")?;
+    let dir = Dir {
+        desc: desc == "desc",
+        nulls_first: nulls == "first",
+    };
+    ordered(alloc, words, dir)
+}
+
 #[test]
 fn order_of_rows(rt: HostRuntime) -> Result<(), Fail> {
-    let alloc = rt.alloc();
-    let ascending = Dir {
-        desc: false,
-        nulls_first: false,
-    };
-    let descending = Dir {
-        desc: true,
-        nulls_first: true,
-    };
-    for (words, dir, wanted) in [
-        ("", ascending, "[]"),
-        ("3 1 2", ascending, "[1, 2, 0]"),
-        ("3 1 2", descending, "[0, 2, 1]"),
-        ("1 null 2", ascending, "[0, 2, 1]"),
-        ("1 null 2", descending, "[1, 2, 0]"),
-        (
-            "null 1 null 2",
-            Dir {
-                desc: false,
-                nulls_first: true,
-            },
-            "[0, 2, 1, 3]",
-        ),
-        (
-            "null 1 null 2",
-            Dir {
-                desc: true,
-                nulls_first: false,
-            },
-            "[3, 1, 0, 2]",
-        ),
-        ("2 1 2 1 2", ascending, "[1, 3, 0, 2, 4]"),
-        ("2 1 2 1 2", descending, "[0, 2, 4, 1, 3]"),
-        ("'b 'a 'ab 'B", ascending, "[3, 1, 2, 0]"),
-        ("true false null true", ascending, "[1, 0, 3, 2]"),
-        ("2147483648 1 -2147483649", ascending, "[2, 1, 0]"),
-        ("null null", ascending, "[0, 1]"),
-        ("1 null 'a", ascending, "type mismatch"),
-        ("null true 1", descending, "type mismatch"),
-    ] {
-        assert_eq!(rt; ordered(alloc, words, dir)?.as_str(), wanted, "at {words}");
+    let table = "
+         asc last |  => []
+         asc last | 3 1 2 => [1, 2, 0]
+         desc first | 3 1 2 => [0, 2, 1]
+         asc last | 1 null 2 => [0, 2, 1]
+         desc first | 1 null 2 => [1, 2, 0]
+         asc first | null 1 null 2 => [0, 2, 1, 3]
+         desc last | null 1 null 2 => [3, 1, 0, 2]
+         asc last | 2 1 2 1 2 => [1, 3, 0, 2, 4]
+         desc first | 2 1 2 1 2 => [0, 2, 4, 1, 3]
+         asc last | 'b 'a 'ab 'B => [3, 1, 2, 0]
+         asc last | true false null true => [1, 0, 3, 2]
+         asc last | 2147483648 1 -2147483649 => [2, 1, 0]
+         asc last | null null => [0, 1]
+         asc last | 1 null 'a => type mismatch
+         desc first | null true 1 => type mismatch
+    ";
+    for line in table.lines() {
+        if !line.trim().is_empty() {
+            let (text, wanted) = parts(line.trim())?;
+            assert_eq!(rt; ordered_by(rt.alloc(), text)?.as_str(), wanted, "at {text}");
+        }
     }
     Ok(())
 }
