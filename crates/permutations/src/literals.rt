@@ -5,8 +5,6 @@ ghost use Rattle.std.specs.List.{prefix_len, AllPass};
 ghost use Rattle.std.specs.Char.{is_ascii_digit};
 ghost use Rattle.std.specs.Str.Parse.{digits_value};
 ghost use Rattle.permutations.specs.Literals.{is_space, is_word_byte, IsSelect, behind, step_of, ended};
-
-
 ghost use Rattle.permutations.specs.Steps.{step_view, Answers, ListAnswers};
 ghost use Rattle.permutations.specs.declared.literals.LiteralFault.TheVariants.{Memory};
 

@@ -7,7 +7,8 @@ use std::test::*;
 
 const LITERALS: &str = "session s step a { SELECT 1; } step b { SELECT 22, 2147483647 }\n";
 
-const TEXT: &str = "Parsed test spec with 1 sessions\n\nstarting permutation: a b\nstep a: SELECT 1;\n?column?\n--------\n       1\n(1 row)\n\nstep b: SELECT 22, 2147483647\n?column?|  ?column?\n--------+----------\n      22|2147483647\n(1 row)\n\n";
+const TEXT: &str =
+    "Parsed test spec with 1 sessions\n\nstarting permutation: a b\nstep a: SELECT 1;\n?column?\n--------\n       1\n(1 row)\n\nstep b: SELECT 22, 2147483647\n?column?|  ?column?\n--------+----------\n      22|2147483647\n(1 row)\n\n";
 
 fn run_bytes(alloc: Global, input: &[u8], out: &mut Vec<u8>) -> Result<(), RunFault> {
     let mut source = FromStd::new(input);
@@ -46,15 +47,25 @@ fn longest_file_runs_and_one_byte_more_is_too_long(rt: HostRuntime) -> Result<()
     assert_eq!(rt; out.as_slice(), TEXT.as_bytes());
     out.clear();
     let longer = lengthened(rt.alloc(), &longest, LONGEST_FILE + 1)?;
-    assert!(rt; matches!(
-        run_bytes(rt.alloc(), &longer, &mut out),
-        Err(RunFault::Lex(Fault { kind: FaultKind::FileTooLong, at: 1_048_576 }))
-    ));
+    assert!(rt;
+        matches!(
+            run_bytes(rt.alloc(), &longer, &mut out),
+            Err(RunFault::Lex(Fault {
+                kind: FaultKind::FileTooLong,
+                at: 1_048_576
+            }))
+        )
+    );
     let no_text = lengthened(rt.alloc(), b"\xff", LONGEST_FILE + 1)?;
-    assert!(rt; matches!(
-        run_bytes(rt.alloc(), &no_text, &mut out),
-        Err(RunFault::Lex(Fault { kind: FaultKind::FileTooLong, at: 1_048_576 }))
-    ));
+    assert!(rt;
+        matches!(
+            run_bytes(rt.alloc(), &no_text, &mut out),
+            Err(RunFault::Lex(Fault {
+                kind: FaultKind::FileTooLong,
+                at: 1_048_576
+            }))
+        )
+    );
     assert!(rt; out.is_empty());
     Ok(())
 }
@@ -66,7 +77,12 @@ fn what_does_not_run_yet_is_said_before_any_output(rt: HostRuntime) -> Result<()
         "session s step a { } permutation a(*)",
         "session s step a { } session t step b { }",
     ] {
-        assert!(rt; matches!(run_bytes(rt.alloc(), file.as_bytes(), &mut out), Err(RunFault::NotYet)));
+        assert!(rt;
+            matches!(
+                run_bytes(rt.alloc(), file.as_bytes(), &mut out),
+                Err(RunFault::NotYet)
+            )
+        );
     }
     assert!(rt; out.is_empty());
     Ok(())
@@ -75,9 +91,11 @@ fn what_does_not_run_yet_is_said_before_any_output(rt: HostRuntime) -> Result<()
 #[test]
 fn setups_and_teardowns_of_literals_print_their_tables(rt: HostRuntime) -> Result<(), Fail> {
     let mut out = Vec::new(rt.alloc());
-    let file = "setup { SELECT 1 } teardown { SELECT 4 } session s setup { select 2 } step a { } teardown { Select 3; } permutation a";
+    let file =
+        "setup { SELECT 1 } teardown { SELECT 4 } session s setup { select 2 } step a { } teardown { Select 3; } permutation a";
     run_bytes(rt.alloc(), file.as_bytes(), &mut out)?;
-    let text = "Parsed test spec with 1 sessions\n\nstarting permutation: a\n?column?\n--------\n       1\n(1 row)\n\n?column?\n--------\n       2\n(1 row)\n\nstep a: \n?column?\n--------\n       3\n(1 row)\n\n?column?\n--------\n       4\n(1 row)\n\n";
+    let text =
+        "Parsed test spec with 1 sessions\n\nstarting permutation: a\n?column?\n--------\n       1\n(1 row)\n\n?column?\n--------\n       2\n(1 row)\n\nstep a: \n?column?\n--------\n       3\n(1 row)\n\n?column?\n--------\n       4\n(1 row)\n\n";
     assert_eq!(rt; out.as_slice(), text.as_bytes());
     Ok(())
 }
@@ -172,7 +190,12 @@ fn failing_reads_are_told_and_nothing_is_written(rt: HostRuntime) -> Result<(), 
         };
         let mut out = Vec::new(rt.alloc());
         let mut sink = FromStd::new(&mut out);
-        assert!(rt; matches!(run_spec(rt.alloc(), &mut source, &mut sink), Err(RunFault::Read)));
+        assert!(rt;
+            matches!(
+                run_spec(rt.alloc(), &mut source, &mut sink),
+                Err(RunFault::Read)
+            )
+        );
         assert!(rt; out.is_empty());
     }
     Ok(())
@@ -186,6 +209,11 @@ fn failing_writes_are_told(rt: HostRuntime) -> Result<(), Fail> {
         fails_at: 0,
         failed: false,
     };
-    assert!(rt; matches!(run_spec(rt.alloc(), &mut source, &mut sink), Err(RunFault::Write)));
+    assert!(rt;
+        matches!(
+            run_spec(rt.alloc(), &mut source, &mut sink),
+            Err(RunFault::Write)
+        )
+    );
     Ok(())
 }
