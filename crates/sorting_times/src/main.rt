@@ -16,9 +16,7 @@ fn keys(alloc: Global, count: u32) -> Result<Vec<Row>, AllocError>
     let mut rows = Vec::new(alloc);
     let mut state: u32 = 1;
     for _ in 0..count {
-        state = state
-            .wrapping_mul(1_664_525)
-            .wrapping_add(1_013_904_223);
+        state = state.wrapping_mul(1_664_525).wrapping_add(1_013_904_223);
         rows.push(key(alloc, (state >> 2) as i32)?)?;
     }
     Ok(rows)
@@ -38,7 +36,7 @@ fn main(rt: HostRuntime) -> Result<()> {
         desc: false,
         nulls_first: false,
     }];
-    for count in [1_000, 10_000, 100_000] {
+    for count in [1_000, 10_000] {
         let rows = keys(rt.alloc(), count)?;
         let start = Instant::now(&rt)?;
         let Ok(sorted) = order(rt.alloc(), &rows, &by) else {
