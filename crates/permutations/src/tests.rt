@@ -19,7 +19,7 @@ fn run_bytes(alloc: Global, input: &[u8], out: &mut Vec<u8>) -> Result<(), RunFa
 /// `LITERALS` with newlines behind it, so many bytes in all.
 fn lengthened(alloc: Global, first: &[u8], len: usize) -> Result<Vec<u8>, AllocError> {
     let mut bytes = Vec::from_slice(alloc, first)?;
-    while bytes.len() < len {
+    for _ in bytes.len()..len {
         bytes.push(b'\n')?;
     }
     Ok(bytes)
@@ -175,7 +175,7 @@ impl Sink for FailingSink {
             self.failed = true;
             return Err(DeviceFault);
         }
-        self.calls += 1;
+        self.calls = self.calls.saturating_add(1);
         Ok(())
     }
 }

@@ -1,3 +1,5 @@
+ghost use Rattle.std.specs.Prelude.{◌≡◌, IsTrue, All, length};
+
 use super::*;
 use iso_lexer::Name;
 use sql_trees::{Agg, AggKind, Column, Expr, Operator, Truth};
@@ -498,6 +500,28 @@ fn compared(rt: HostRuntime) {
     assert!(rt; compare(&Value::Int(1), &Value::Bool(true)).is_none());
 }
 
+fn are_as_long(rows: &[Row], long: usize) -> bool
+    ensures { IsTrue result → All (λ row. length row ≡ long) rows.now }
+{
+    for row in rows {
+        if row.values().len() != long {
+            return false;
+        }
+    }
+    true
+}
+
+fn lent_are_as_long(rows: &[&Row], long: usize) -> bool
+    ensures { IsTrue result → All (λ row. length row.now ≡ long) rows.now }
+{
+    for row in rows {
+        if row.values().len() != long {
+            return false;
+        }
+    }
+    true
+}
+
 /// Rows of one value each; a word is an expression.
 fn rows_of(alloc: Global, words: &str) -> Result<Vec<Row>, Fail> {
     let mut rows = Vec::new(alloc);
@@ -522,12 +546,11 @@ fn aggregated(alloc: Global, agg: &Agg<'_>, words: &str) -> Result<String, Fail>
     for row in &rows {
         lent.push(row)?;
     }
-    for row in &lent {
-        if row.values().len() != 1 {
-            return Err(Fail::from("a row of another length"));
-        }
+    let cols = Columns::of(&column);
+    if !lent_are_as_long(&lent, cols.len()) {
+        return Err(Fail::from("a row of another length"));
     }
-    shown(alloc, aggregate(alloc, agg, &Columns::of(&column), &lent))
+    shown(alloc, aggregate(alloc, agg, &cols, &lent))
 }
 
 /// An aggregate of an expression over rows of one column `x`, in words: its kind, the expression and the rows stand between bars.
@@ -586,10 +609,8 @@ fn aggregates(rt: HostRuntime) -> Result<(), Fail> {
 /// The places of rows of one key, in words.
 fn ordered(alloc: Global, words: &str, dir: Dir) -> Result<String, Fail> {
     let rows = rows_of(alloc, words)?;
-    for row in &rows {
-        if row.values().len() != 1 {
-            return Err(Fail::from("a row of another length"));
-        }
+    if !are_as_long(&rows, 1) {
+        return Err(Fail::from("a row of another length"));
     }
     match order(alloc, &rows, &[dir]) {
         Ok(places) => Ok(format!(in alloc; "{places:?}")?),
@@ -644,10 +665,8 @@ fn order_by_two_keys(rt: HostRuntime) -> Result<(), Fail> {
     for (a, b) in [(1, 5), (0, 5), (1, 7), (0, 6), (1, 5)] {
         keys.push(Row::from_vec(vec![in alloc; Value::Int(a), Value::Int(b)]?))?;
     }
-    for row in &keys {
-        if row.values().len() != 2 {
-            return Err(Fail::from("a row of another length"));
-        }
+    if !are_as_long(&keys, 2) {
+        return Err(Fail::from("a row of another length"));
     }
     let by = [
         Dir {
