@@ -26,7 +26,7 @@ pub use fault::{Fault, FaultKind, LexFault};
 pub use name::Name;
 pub use quoted::quotes_go_on;
 pub use same::same_name;
-pub use spec_text::{one_reading, spec_tokens, tokens_are_slices};
+pub use spec_text::{one_reading, spec_tokens, tokens_are_few, tokens_are_slices};
 pub use spec_token::{Keyword, Sign, SpecTok};
 pub use sql_text::{one_sql_reading, sql_tokens, sql_tokens_are_slices};
 pub use sql_token::{SqlSign, SqlTok};

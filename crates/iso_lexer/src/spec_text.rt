@@ -1,6 +1,6 @@
 //! Spec files as tokens.
 
-ghost use Rattle.std.specs.Prelude.{◌≡◌, List, ℕ, Result, Ok};
+ghost use Rattle.std.specs.Prelude.{◌≡◌, ◌≤◌, List, ℕ, Result, Ok, length};
 ghost use Rattle.std.specs.List.{AllByRecursion};
 ghost use Rattle.iso_lexer.specs.SpecSpelling.{LiesAt};
 ghost use Rattle.iso_lexer.specs.SpecTokens.{Token};
@@ -59,4 +59,9 @@ pub fn one_reading()
 /// Each token is the slice of the text at its span.
 pub fn tokens_are_slices()
     ensures { (text : List ℕ) (ts : List (At Token)) → Lexes text (Ok ts) → AllByRecursion (LiesAt text) ts }
+{}
+
+/// A file that has tokens is no longer than the longest, and has no more tokens than bytes.
+pub fn tokens_are_few()
+    ensures { (text : List ℕ) (ts : List (At Token)) → Lexes text (Ok ts) → (length text ≤ 1048576) × (length ts ≤ length text) }
 {}

@@ -9,3 +9,5 @@ pub mod Laws
 pub mod Names
 pub mod Known
 pub mod SpecText
+pub mod IsSpec
+pub mod Stands

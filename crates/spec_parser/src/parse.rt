@@ -7,7 +7,7 @@ use crate::known::{first_repeat, known_steps};
 use crate::reader::Reader;
 use crate::resolve::{known_perms, session_parts};
 use crate::tree::Spec;
-use iso_lexer::{spec_tokens, tokens_are_slices};
+use iso_lexer::{spec_tokens, tokens_are_few, tokens_are_slices};
 use std::alloc::Global;
 
 /// What a spec file says. Of several faults that of the tokens comes first, then the first that reading the tokens meets,
@@ -16,6 +16,7 @@ pub fn parse_spec<'a>(alloc: Global, text: &'a str) -> Result<Spec<'a>, SpecFaul
     ensures { Answers text.now result }
 {
     let tokens = spec_tokens(alloc, text)?;
+    tokens_are_few();
     tokens_are_slices();
     let mut reader = Reader::new(&tokens, text.len());
     let file = reader.file(alloc)?;

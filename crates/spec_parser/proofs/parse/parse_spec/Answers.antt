@@ -7,7 +7,7 @@ use Rattle.spec_parser.specs.Reading.{file_at}
 use Rattle.spec_parser.specs.Names.{sessions_from, first_repeat, known_perms, session_tree}
 use Rattle.spec_parser.specs.Readers.{rest_of, FailsAs}
 use Rattle.spec_parser.specs.Known.{known_view, FailsWith}
-use Rattle.spec_parser.proofs.TokenCount.{few_tokens, few_views, all_fit}
+use Rattle.spec_parser.proofs.TokenCount.{few_views, all_fit}
 use Rattle.spec_parser.proofs.Whole.{WasRead, on_lexer_fault, on_halt, on_repeat, on_undefined, on_spec}
 use Rattle.spec_parser.proofs.parse.parse_spec.Goals as goal
 
@@ -17,12 +17,14 @@ returns-in_err-tokens c =
     rw (p.1, p.2) (on_lexer_fault c.args.text.now c.in_err-tokens.field-0.0 c.in_err-tokens.ensures)
 
 pub new-reader-requires-clause-few : goal.new-reader-requires-clause-few
-new-reader-requires-clause-few c = rw c.deref.ensures.value (few_views c.args.text.now c.in_ok-tokens.tokens.items c.in_ok-tokens.ensures)
+new-reader-requires-clause-few c =
+    let few = c.tokens_are_few.ensures c.args.text.now (at_views c.in_ok-tokens.tokens.items) c.in_ok-tokens.ensures in
+    rw c.deref.ensures.value (few_views (length c.args.text.now) c.in_ok-tokens.tokens.items few.0 few.1)
 
 pub new-reader-requires-clause-fits : goal.new-reader-requires-clause-fits
 new-reader-requires-clause-fits c =
     let lexes = c.in_ok-tokens.ensures in
-    rw c.deref.ensures.value (all_fit c.args.text.now c.in_ok-tokens.tokens.items (few_tokens c.args.text.now (at_views c.in_ok-tokens.tokens.items) lexes).0 (c.tokens_are_slices.ensures c.args.text.now (at_views c.in_ok-tokens.tokens.items) lexes))
+    rw c.deref.ensures.value (all_fit c.args.text.now c.in_ok-tokens.tokens.items (c.tokens_are_few.ensures c.args.text.now (at_views c.in_ok-tokens.tokens.items) lexes).0 (c.tokens_are_slices.ensures c.args.text.now (at_views c.in_ok-tokens.tokens.items) lexes))
 
 pub returns-in_err-file : goal.returns-in_err-file
 returns-in_err-file c =
