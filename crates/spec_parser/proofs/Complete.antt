@@ -61,7 +61,7 @@ token_again f w c xs rest x follows (t, e, is) = rw e (whole (rw is refl))
 
 -- ---- the first token
 
-test_true : (b : Bool) (u : Unit {0}) → ◌≡◌ {A = Option (Unit {0})} (cond b (Some tt) None) (Some u) → b ≡ true
+pub test_true : (b : Bool) (u : Unit {0}) → ◌≡◌ {A = Option (Unit {0})} (cond b (Some tt) None) (Some u) → b ≡ true
 test_true true u e = refl
 test_true false u e = absurd cc
 
@@ -81,21 +81,21 @@ same_sign_is Comma Comma e = refl
 same_sign_is Star Star e = refl
 same_sign_is _ _ e = absurd cc
 
-keyword_in : (k : Keyword) (t : Token) → is_word k t ≡ true → t ≡ keyword k
+pub keyword_in : (k : Keyword) (t : Token) → is_word k t ≡ true → t ≡ keyword k
 keyword_in k (keyword j) e = ap keyword (same_is j k e)
 keyword_in k (name n) e = absurd cc
 keyword_in k (digits d) e = absurd cc
 keyword_in k (sign s) e = absurd cc
 keyword_in k (block n b) e = absurd cc
 
-sign_in : (g : Sign) (t : Token) → is_sign g t ≡ true → t ≡ sign g
+pub sign_in : (g : Sign) (t : Token) → is_sign g t ≡ true → t ≡ sign g
 sign_in g (sign h) e = ap sign (same_sign_is h g e)
 sign_in g (keyword j) e = absurd cc
 sign_in g (name n) e = absurd cc
 sign_in g (digits d) e = absurd cc
 sign_in g (block n b) e = absurd cc
 
-named_in : (at : ℕ) (t : Token) (n : NameAt) → name_in at t ≡ Some n → (m : Written) × (t ≡ name m)
+pub named_in : (at : ℕ) (t : Token) (n : NameAt) → name_in at t ≡ Some n → (m : Written) × (t ≡ name m)
 named_in at (name m) n e = (m, refl)
 named_in at (keyword k) n e = absurd cc
 named_in at (digits d) n e = absurd cc

@@ -6,3 +6,4 @@ pub mod TokenCount
 pub mod Whole
 pub mod Complete
 pub mod WholeLaws
+pub mod Gists
