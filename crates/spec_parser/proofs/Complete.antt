@@ -1,6 +1,7 @@
 -- What is in the grammar is read, unless something is over a limit.
-use Rattle.std.proofs.Common.{◌≡◌, ◌≤◌, ◌+◌, arith, length, ℕ, zero, suc, Bool, true, false, cond, List, [], ◌∷◌, ◌++◌, Option, Some, None, Ok, Err, refl, sym, ap, subst, ◌∙◌, append_assoc, length-append}
+use Rattle.std.proofs.Common.{◌≡◌, ◌≤◌, ◌<◌, ◌⊎◌, inl, inr, ◌+◌, arith, length, ℕ, zero, suc, Bool, true, false, cond, List, [], ◌∷◌, ◌++◌, Option, Some, None, Ok, Err, refl, sym, ap, subst, ◌∙◌, append_assoc, length-append}
 use Rattle.std.specs.Prelude.{unwrap_or, nat_lt}
+use Rattle.std.proofs.lemmas.Bool.{ltb-false}
 use Rattle.iso_lexer.specs.declared.token.At.{At}
 use Rattle.iso_lexer.specs.declared.spec_token.Keyword.{Keyword}
 use Rattle.iso_lexer.specs.declared.spec_token.Keyword.TheVariants.{Permutation, Session, Setup, Step, Teardown, Notices}
@@ -13,18 +14,53 @@ use Rattle.spec_parser.specs.declared.fault.What.TheVariants as what
 use Rattle.spec_parser.specs.declared.fault.Stop.TheVariants.{Expected, OverLimit}
 use Rattle.spec_parser.specs.Trees.{PartTree, NameAt, NamedStep, NamedSession, MarkerTree, star, named, NamedEntry, FileTree}
 use Rattle.spec_parser.specs.Counts.{Counts, past, past_token}
-use Rattle.spec_parser.specs.Reading.{Rest, Read, ◌>>=◌, same_word, same_sign, is_word, is_sign, is_name, first_is, the_word, the_sign, the_name, the_block, name_in, token_at, many_at, all_at, some_at, maybe_at, word_at, sign_at, name_at, block_at, end_at, name_within, block_after, setup_at, teardown_at, setups_at, step_at, steps_at, session_at, sessions_at, no_notices, marker_at, next_marker_at, next_markers_at, markers_at, some_markers_at, entry_at, entries_at, perm_at, perms_at, file_at}
+use Rattle.spec_parser.specs.Reading.{Rest, Read, ◌>>=◌, same_word, same_sign, is_word, is_sign, is_name, first_is, starts_name, the_word, the_sign, the_name, the_block, name_in, token_at, many_at, all_at, some_at, maybe_at, word_at, sign_at, name_at, block_at, end_at, name_within, block_after, setup_at, teardown_at, setups_at, step_at, steps_at, session_at, sessions_at, no_notices, marker_at, next_marker_at, next_markers_at, markers_at, some_markers_at, entry_at, entries_at, perm_at, perms_at, file_at}
 use Rattle.spec_parser.specs.Grammar.{Grammar, gives, one, Maybe, left_out, given, Many, none, more, some, first, second, block_behind, step, session, marker, markers, entry, perm, file}
 use Rattle.spec_parser.specs.Grammar.{◌>>=◌ as ◌▸◌}
+use Rattle.spec_parser.proofs.Tokens.{test_true, keyword_in, sign_in, named_in, word_past, grows}
 use Rattle.spec_parser.proofs.Local.{past_twice, stops_at, goes_on, goes, TakesOne, first_takes}
 
-pub data Again {A : Type 0} (x : A) (after : Rest) (read : Read A) : Type 0 where
-  whole : read ≡ (Ok x, after) → Again x after read
-  over : read.0 ≡ Err OverLimit → Again x after read
+-- what is over a limit: the sessions or steps up to a place, or what was read
+pub data IsOver {A : Type 0} (Long : A → Type 0) (d : Counts) (x : A) : Type 0 where
+  many_sessions : 64 < d.sessions → IsOver Long d x
+  many_steps : 1000 < d.steps → IsOver Long d x
+  long : Long x → IsOver Long d x
+
+pub data Again {A : Type 0} (Long : A → Type 0) (x : A) (after : Rest) (read : Read A) : Type 0 where
+  whole : read ≡ (Ok x, after) → Again Long x after read
+  over : read.0 ≡ Err OverLimit → IsOver Long after.0 x → Again Long x after read
 
 -- a reading reads what is in the grammar, where such tokens follow
+abbrev pub CompletesOr : {A : Type 0} → (A → Type 0) → Grammar A → (Rest → Read A) → (List (At Token) → Type 0) → Type 0
+CompletesOr {A} Long G p F = (c : Counts) (xs rest : List (At Token)) (x : A) → F rest → G c xs x → Again Long x (past c xs, rest) (p (c, xs ++ rest))
+
+abbrev Never : {A : Type 0} → A → Type 0
+Never x = ⊥
+
 abbrev pub Completes : {A : Type 0} → Grammar A → (Rest → Read A) → (List (At Token) → Type 0) → Type 0
-Completes {A} G p F = (c : Counts) (xs rest : List (At Token)) (x : A) → F rest → G c xs x → Again x (past c xs, rest) (p (c, xs ++ rest))
+Completes G p F = CompletesOr Never G p F
+
+-- over as before, and at a later place
+still_over : {A B : Type 0} (L : A → Type 0) (M : B → Type 0) (c : Counts) (ts : List (At Token)) (x : A) (z : B) → (L x → M z) → IsOver L c x → IsOver M (past c ts) z
+still_over L M c ts x z up (many_sessions lt) = many_sessions (omega (arith, lt, (grows c ts).0))
+still_over L M c ts x z up (many_steps lt) = many_steps (omega (arith, lt, (grows c ts).1))
+still_over L M c ts x z up (long h) = long (up h)
+
+still_again : {A : Type 0} (L M : A → Type 0) (x : A) (after : Rest) (read : Read A) → (IsOver L after.0 x → IsOver M after.0 x) → Again L x after read → Again M x after read
+still_again L M x after read up (whole e) = whole e
+still_again L M x after read up (over e o) = over e (up o)
+
+-- over at one place, by another word for what was read
+later_over : {A : Type 0} (L M : A → Type 0) (d : Counts) (x : A) → (L x → IsOver M d x) → IsOver L d x → IsOver M d x
+later_over L M d x up (many_sessions lt) = many_sessions lt
+later_over L M d x up (many_steps lt) = many_steps lt
+later_over L M d x up (long h) = up h
+
+reword : {A : Type 0} (L M : A → Type 0) (G : Grammar A) (p : Rest → Read A) (F : List (At Token) → Type 0) → ((x : A) → L x → M x) → CompletesOr L G p F → CompletesOr M G p F
+reword L M G p F up reads c xs rest x f g = still_again L M x (past c xs, rest) (p (c, xs ++ rest)) (still_over L M (past c xs) [] x x (up x)) (reads c xs rest x f g)
+
+weaken : {A : Type 0} (M : A → Type 0) (G : Grammar A) (p : Rest → Read A) (F : List (At Token) → Type 0) → Completes G p F → CompletesOr M G p F
+weaken M G p F reads = reword Never M G p F (λ x h. absurd h) reads
 
 abbrev Any : List (At Token) → Type 0
 Any rest = Unit {0}
@@ -36,71 +72,39 @@ over_first : {A B : Type 0} (q : Read A) (f : A × Rest → Read B) → q.0 ≡ 
 over_first (Ok x, rest) f e = absurd cc
 over_first (Err s, rest) f e = let same : s ≡ OverLimit = cc in ap Err same
 
-then_again : {A B : Type 0} (q : Read A) (f : A × Rest → Read B) (x : A) (mid : Rest) (z : B) (after : Rest) → Again x mid q → Again z after (f (x, mid)) → Again z after (q >>= f)
-then_again q f x mid z after (whole e) a = subst (λ r. Again z after (r >>= f)) (sym e) a
-then_again q f x mid z after (over e) a = over (over_first q f e)
+then_again : {A B : Type 0} (L : A → Type 0) (M : B → Type 0) (q : Read A) (f : A × Rest → Read B) (x : A) (mid : Rest) (z : B) (after : Rest) → (IsOver L mid.0 x → IsOver M after.0 z) → Again L x mid q → Again M z after (f (x, mid)) → Again M z after (q >>= f)
+then_again L M q f x mid z after up (whole e) a = subst (λ r. Again M z after (r >>= f)) (sym e) a
+then_again L M q f x mid z after up (over e o) a = over (over_first q f e) (up o)
 
-seq_from : {A B : Type 0} (G : Grammar A) (H : A → Grammar B) (p : Rest → Read A) (f : Counts → A × Rest → Read B) (F E : List (At Token) → Type 0) → Completes G p F → ((d : Counts) (x : A) → Completes (H x) (λ r. f d (x, r)) E)
-    → ((d : Counts) (x : A) (ys rest : List (At Token)) (z : B) → E rest → H x d ys z → F (ys ++ rest)) → Completes (G ▸ H) (λ r. p r >>= f r.0) E
-seq_from {B = B} G H p f F E reads next leads c ts rest z follows (x, xs, ys, e, g, h) =
+seq_from : {A B : Type 0} (L : A → Type 0) (N : Counts → B → Type 0) (M : B → Type 0) (G : Grammar A) (H : A → Grammar B) (p : Rest → Read A) (f : Counts → A × Rest → Read B) (F E : List (At Token) → Type 0)
+    → ((c : Counts) (x : A) (xs ys : List (At Token)) (z : B) → H x (past c xs) ys z → L x → M z)
+    → ((c : Counts) (x : A) (xs ys : List (At Token)) (z : B) → G c xs x → N c z → IsOver M (past (past c xs) ys) z)
+    → CompletesOr L G p F → ((d : Counts) (x : A) → CompletesOr (N d) (H x) (λ r. f d (x, r)) E)
+    → ((d : Counts) (x : A) (ys rest : List (At Token)) (z : B) → E rest → H x d ys z → F (ys ++ rest)) → CompletesOr M (G ▸ H) (λ r. p r >>= f r.0) E
+seq_from {B = B} L N M G H p f F E first_up next_up reads next leads c ts rest z follows (x, xs, ys, e, g, h) =
     let split : ts ++ rest ≡ xs ++ (ys ++ rest) = ap (λ (r : List (At Token)). r ++ rest) e ∙ append_assoc xs ys rest in
     let after : past (past c xs) ys ≡ past c ts = sym (past_twice c xs ys) ∙ ap (past c) (sym e) in
     let one = reads c xs (ys ++ rest) x (leads (past c xs) x ys rest z follows h) g in
-    let two = next c x (past c xs) ys rest z follows h in
-    subst (λ us. Again z (past c ts, rest) (p (c, us) >>= f c)) (sym split) (subst (λ d. Again z (d, rest) (p (c, xs ++ (ys ++ rest)) >>= f c)) after (then_again (p (c, xs ++ (ys ++ rest))) (f c) x (past c xs, ys ++ rest) z (past (past c xs) ys, rest) one two))
+    let two = still_again (N c) M z (past (past c xs) ys, rest) (f c (x, (past c xs, ys ++ rest))) (later_over (N c) M (past (past c xs) ys) z (next_up c x xs ys z g)) (next c x (past c xs) ys rest z follows h) in
+    subst (λ us. Again M z (past c ts, rest) (p (c, us) >>= f c)) (sym split) (subst (λ d. Again M z (d, rest) (p (c, xs ++ (ys ++ rest)) >>= f c)) after (then_again L M (p (c, xs ++ (ys ++ rest))) (f c) x (past c xs, ys ++ rest) z (past (past c xs) ys, rest) (still_over L M (past c xs) ys x z (first_up c x xs ys z h)) one two))
+
+seq_or : {A B : Type 0} (L : A → Type 0) (M : B → Type 0) (G : Grammar A) (H : A → Grammar B) (p : Rest → Read A) (f : A × Rest → Read B) (F E : List (At Token) → Type 0)
+    → ((c : Counts) (x : A) (ts : List (At Token)) (z : B) → H x c ts z → L x → M z)
+    → CompletesOr L G p F → ((x : A) → CompletesOr M (H x) (λ r. f (x, r)) E)
+    → ((d : Counts) (x : A) (ys rest : List (At Token)) (z : B) → E rest → H x d ys z → F (ys ++ rest)) → CompletesOr M (G ▸ H) (λ r. p r >>= f) E
+seq_or L M G H p f F E up reads next leads = seq_from L (λ _. M) M G H p (λ _. f) F E (λ c x xs ys z h. up (past c xs) x ys z h) (λ c x xs ys z g h. long h) reads (λ _. next) leads
 
 seq : {A B : Type 0} (G : Grammar A) (H : A → Grammar B) (p : Rest → Read A) (f : A × Rest → Read B) (F E : List (At Token) → Type 0) → Completes G p F → ((x : A) → Completes (H x) (λ r. f (x, r)) E)
     → ((d : Counts) (x : A) (ys rest : List (At Token)) (z : B) → E rest → H x d ys z → F (ys ++ rest)) → Completes (G ▸ H) (λ r. p r >>= f) E
-seq G H p f F E reads next leads = seq_from G H p (λ _. f) F E reads (λ _. next) leads
+seq G H p f F E reads next leads = seq_or Never Never G H p f F E (λ c x ts z h k. absurd k) reads next leads
 
-gives_again : {A : Type 0} (v : A) (F : List (At Token) → Type 0) → Completes (gives v) (λ r. (Ok v, r)) F
+gives_again : {A : Type 0} {L : A → Type 0} (v : A) (F : List (At Token) → Type 0) → CompletesOr L (gives v) (λ r. (Ok v, r)) F
 gives_again v F c xs rest x follows (nothing, is) = rw (nothing, is) (whole refl)
 
 token_again : {A : Type 0} (f : Counts → At Token → Option A) (w : What) → Completes (one f) (token_at f w) Any
 token_again f w c xs rest x follows (t, e, is) = rw e (whole (rw is refl))
 
 -- ---- the first token
-
-pub test_true : (b : Bool) (u : Unit {0}) → ◌≡◌ {A = Option (Unit {0})} (cond b (Some tt) None) (Some u) → b ≡ true
-test_true true u e = refl
-test_true false u e = absurd cc
-
-same_is : (j k : Keyword) → same_word j k ≡ true → j ≡ k
-same_is Permutation Permutation e = refl
-same_is Session Session e = refl
-same_is Setup Setup e = refl
-same_is Step Step e = refl
-same_is Teardown Teardown e = refl
-same_is Notices Notices e = refl
-same_is _ _ e = absurd cc
-
-same_sign_is : (j k : Sign) → same_sign j k ≡ true → j ≡ k
-same_sign_is Open Open e = refl
-same_sign_is Close Close e = refl
-same_sign_is Comma Comma e = refl
-same_sign_is Star Star e = refl
-same_sign_is _ _ e = absurd cc
-
-pub keyword_in : (k : Keyword) (t : Token) → is_word k t ≡ true → t ≡ keyword k
-keyword_in k (keyword j) e = ap keyword (same_is j k e)
-keyword_in k (name n) e = absurd cc
-keyword_in k (digits d) e = absurd cc
-keyword_in k (sign s) e = absurd cc
-keyword_in k (block n b) e = absurd cc
-
-pub sign_in : (g : Sign) (t : Token) → is_sign g t ≡ true → t ≡ sign g
-sign_in g (sign h) e = ap sign (same_sign_is h g e)
-sign_in g (keyword j) e = absurd cc
-sign_in g (name n) e = absurd cc
-sign_in g (digits d) e = absurd cc
-sign_in g (block n b) e = absurd cc
-
-pub named_in : (at : ℕ) (t : Token) (n : NameAt) → name_in at t ≡ Some n → (m : Written) × (t ≡ name m)
-named_in at (name m) n e = (m, refl)
-named_in at (keyword k) n e = absurd cc
-named_in at (digits d) n e = absurd cc
-named_in at (sign s) n e = absurd cc
-named_in at (block k b) n e = absurd cc
 
 begins : {A B : Type 0} (f : Counts → At Token → Option A) (H : A → Grammar B) (p : Token → Bool) (c : Counts) (ts rest : List (At Token)) (z : B) (b : Bool) → ((t : At Token) (x : A) → f c t ≡ Some x → p t.tok ≡ b) → (one f ▸ H) c ts z → first_is p (ts ++ rest) ≡ b
 begins f H p c ts rest z b says (x, xs, ys, e, (t, te, is), h) =
@@ -118,13 +122,13 @@ begins_name H p b of_names c ts rest z h = begins the_name H p c ts rest z b (λ
 
 -- ---- one token, under a limit
 
-within_case : (b : Bool) (c : Counts) (t : At Token) (rest : List (At Token)) (n : NameAt) → the_name c t ≡ Some n → Again n (past_token t.tok c, rest) (cond b (token_at the_name what.Name (c, t ∷ rest)) (cond (is_name t.tok) (Err OverLimit, (c, t ∷ rest)) (Err (Expected what.Name), (c, t ∷ rest))))
-within_case true c t rest n is = whole (rw is refl)
-within_case false c t rest n is = let m = named_in t.span.start t.tok n is in over (rw m.1 refl)
+within_case : (b : Bool) (before most : ℕ) (c : Counts) (t : At Token) (rest : List (At Token)) (n : NameAt) → nat_lt before most ≡ b → the_name c t ≡ Some n → Again (λ _. most ≤ before) n (past_token t.tok c, rest) (cond b (token_at the_name what.Name (c, t ∷ rest)) (cond (is_name t.tok) (Err OverLimit, (c, t ∷ rest)) (Err (Expected what.Name), (c, t ∷ rest))))
+within_case true before most c t rest n lt is = whole (rw is refl)
+within_case false before most c t rest n lt is = let m = named_in t.span.start t.tok n is in over (rw m.1 refl) (long (ltb-false before most lt))
 
-name_within_again : (before most : ℕ) → Completes (one the_name) (name_within before most) Any
+name_within_again : (before most : ℕ) → CompletesOr (λ _. most ≤ before) (one the_name) (name_within before most) Any
 unfolding name_within name_at
-name_within_again before most c xs rest n follows (t, e, is) = rw e (within_case (nat_lt before most) c t rest n is)
+name_within_again before most c xs rest n follows (t, e, is) = rw e (within_case (nat_lt before most) before most c t rest n refl is)
 
 word_again : (k : Keyword) (w : What) → Completes (one (the_word k)) (word_at k w) Any
 unfolding word_at
@@ -150,7 +154,7 @@ Starts {A} p G = (c : Counts) (xs rest : List (At Token)) (x : A) → G c xs x �
 maybe_again : {A : Type 0} (G : Grammar A) (p : Token → Bool) (read : Rest → Read A) → Completes G read Any → Starts p G → Completes (Maybe G) (maybe_at (λ r. first_is p r.1) read) (NotFirst p)
 maybe_again G p read reads starts c xs rest o follows left_out = whole (rw follows refl)
 maybe_again G p read reads starts c xs rest o follows (given {x = x} g) =
-    rw (starts c xs rest x g) (then_again (read (c, xs ++ rest)) (λ one. (Ok (Some one.0), one.1)) x (past c xs, rest) (Some x) (past c xs, rest) (reads c xs rest x tt g) (whole refl))
+    rw (starts c xs rest x g) (then_again Never Never (read (c, xs ++ rest)) (λ one. (Ok (Some one.0), one.1)) x (past c xs, rest) (Some x) (past c xs, rest) (still_over Never Never (past c xs) [] x (Some x) (λ h. h)) (reads c xs rest x tt g) (whole refl))
 
 -- ---- many
 
@@ -158,33 +162,45 @@ next_follows : {A : Type 0} (G : Grammar A) (F : List (At Token) → Type 0) →
 next_follows G F leads c ts rest all follows none = follows
 next_follows G F leads c ts rest all follows (more {x = x} xs ys e g others) = subst F (sym (ap (λ (r : List (At Token)). r ++ rest) e ∙ append_assoc xs ys rest)) (leads c xs (ys ++ rest) x g)
 
-many_again : {A : Type 0} (G : Grammar A) (p : Token → Bool) (item : ℕ → Rest → Read A) (F : List (At Token) → Type 0) → ((k : ℕ) → Completes G (item k) F) → Starts p G → TakesOne G → ((c : Counts) (xs rest : List (At Token)) (x : A) → G c xs x → F (xs ++ rest))
-    → (n k : ℕ) (c : Counts) (ts rest : List (At Token)) (xs : List A) → length (ts ++ rest) ≤ n → NotFirst p rest × F rest → Many G c ts xs → Again xs (past c ts, rest) (many_at (λ r. first_is p r.1) item k n (c, ts ++ rest))
-many_again G p item F reads starts takes leads n k c ts rest all le follows none = whole (stops_at (λ r. first_is p r.1) item k n c rest follows.0)
-many_again {A} G p item F reads starts takes leads zero k c ts rest all le follows (more {x = x} xs ys e g others) =
+many_or : {A : Type 0} (L : ℕ → A → Type 0) (M : ℕ → List A → Type 0) (G : Grammar A) (p : Token → Bool) (item : ℕ → Rest → Read A) (F : List (At Token) → Type 0)
+    → ((k : ℕ) (x : A) (xs : List A) → L k x → M k (x ∷ xs)) → ((k : ℕ) (x : A) (xs : List A) → M (k + 1) xs → M k (x ∷ xs))
+    → ((k : ℕ) → CompletesOr (L k) G (item k) F) → Starts p G → TakesOne G → ((c : Counts) (xs rest : List (At Token)) (x : A) → G c xs x → F (xs ++ rest))
+    → (n k : ℕ) (c : Counts) (ts rest : List (At Token)) (xs : List A) → length (ts ++ rest) ≤ n → NotFirst p rest × F rest → Many G c ts xs → Again (M k) xs (past c ts, rest) (many_at (λ r. first_is p r.1) item k n (c, ts ++ rest))
+many_or L M G p item F here there reads starts takes leads n k c ts rest all le follows none = whole (stops_at (λ r. first_is p r.1) item k n c rest follows.0)
+many_or {A} L M G p item F here there reads starts takes leads zero k c ts rest all le follows (more {x = x} xs ys e g others) =
     absurd (omega (arith, le, length-append ts rest, ap (λ (r : List (At Token)). length r) e, length-append xs ys, takes c xs x g))
-many_again {A} G p item F reads starts takes leads (suc n) k c ts rest all le follows (more {x = x} {others = ss} xs ys e g others) =
+many_or {A} L M G p item F here there reads starts takes leads (suc n) k c ts rest all le follows (more {x = x} {others = ss} xs ys e g others) =
     let split : ts ++ rest ≡ xs ++ (ys ++ rest) = ap (λ (r : List (At Token)). r ++ rest) e ∙ append_assoc xs ys rest in
     let after : past (past c xs) ys ≡ past c ts = sym (past_twice c xs ys) ∙ ap (past c) (sym e) in
     let test : Rest → Bool = λ r. first_is p r.1 in
     let room : length (ys ++ rest) ≤ n = omega (arith, le, ap (λ (r : List (At Token)). length r) split, length-append xs (ys ++ rest), takes c xs x g) in
     let one = reads k c xs (ys ++ rest) x (next_follows G F leads (past c xs) ys rest ss follows.1 others) g in
-    let two = many_again G p item F reads starts takes leads n (k + 1) (past c xs) ys rest ss room follows others in
-    let joined = then_again (many_at test item (k + 1) n (past c xs, ys ++ rest)) (λ os. (Ok (x ∷ os.0), os.1)) ss (past (past c xs) ys, rest) (x ∷ ss) (past (past c xs) ys, rest) two (whole refl) in
-    let both = then_again (item k (c, xs ++ (ys ++ rest))) (goes test item k n) x (past c xs, ys ++ rest) (x ∷ ss) (past (past c xs) ys, rest) one joined in
-    subst (λ us. Again (x ∷ ss) (past c ts, rest) (many_at test item k (suc n) (c, us))) (sym split)
-    (subst (λ d. Again (x ∷ ss) (d, rest) (many_at test item k (suc n) (c, xs ++ (ys ++ rest)))) after
-    (subst (Again (x ∷ ss) (past (past c xs) ys, rest)) (sym (goes_on test item k n c (xs ++ (ys ++ rest)) (starts c xs (ys ++ rest) x g))) both))
+    let two = many_or L M G p item F here there reads starts takes leads n (k + 1) (past c xs) ys rest ss room follows others in
+    let joined = then_again (M (k + 1)) (M k) (many_at test item (k + 1) n (past c xs, ys ++ rest)) (λ os. (Ok (x ∷ os.0), os.1)) ss (past (past c xs) ys, rest) (x ∷ ss) (past (past c xs) ys, rest) (still_over (M (k + 1)) (M k) (past (past c xs) ys) [] ss (x ∷ ss) (there k x ss)) two (whole refl) in
+    let both = then_again (L k) (M k) (item k (c, xs ++ (ys ++ rest))) (goes test item k n) x (past c xs, ys ++ rest) (x ∷ ss) (past (past c xs) ys, rest) (still_over (L k) (M k) (past c xs) ys x (x ∷ ss) (here k x ss)) one joined in
+    subst (λ us. Again (M k) (x ∷ ss) (past c ts, rest) (many_at test item k (suc n) (c, us))) (sym split)
+    (subst (λ d. Again (M k) (x ∷ ss) (d, rest) (many_at test item k (suc n) (c, xs ++ (ys ++ rest)))) after
+    (subst (Again (M k) (x ∷ ss) (past (past c xs) ys, rest)) (sym (goes_on test item k n c (xs ++ (ys ++ rest)) (starts c xs (ys ++ rest) x g))) both))
+
+all_or : {A : Type 0} (L : ℕ → A → Type 0) (M : ℕ → List A → Type 0) (G : Grammar A) (p : Token → Bool) (item : ℕ → Rest → Read A) (F : List (At Token) → Type 0)
+    → ((k : ℕ) (x : A) (xs : List A) → L k x → M k (x ∷ xs)) → ((k : ℕ) (x : A) (xs : List A) → M (k + 1) xs → M k (x ∷ xs))
+    → ((k : ℕ) → CompletesOr (L k) G (item k) F) → Starts p G → TakesOne G → ((c : Counts) (xs rest : List (At Token)) (x : A) → G c xs x → F (xs ++ rest)) → CompletesOr (M 0) (Many G) (all_at (λ r. first_is p r.1) item) (λ rest. NotFirst p rest × F rest)
+all_or L M G p item F here there reads starts takes leads c ts rest xs follows h = many_or L M G p item F here there reads starts takes leads (length (ts ++ rest)) 0 c ts rest xs (omega arith) follows h
 
 all_again : {A : Type 0} (G : Grammar A) (p : Token → Bool) (item : ℕ → Rest → Read A) (F : List (At Token) → Type 0) → ((k : ℕ) → Completes G (item k) F) → Starts p G → TakesOne G → ((c : Counts) (xs rest : List (At Token)) (x : A) → G c xs x → F (xs ++ rest)) → Completes (Many G) (all_at (λ r. first_is p r.1) item) (λ rest. NotFirst p rest × F rest)
-all_again G p item F reads starts takes leads c ts rest xs follows h = many_again G p item F reads starts takes leads (length (ts ++ rest)) 0 c ts rest xs (omega arith) follows h
+all_again G p item F reads starts takes leads = all_or (λ _. Never) (λ _. Never) G p item F (λ k x xs h. h) (λ k x xs h. h) reads starts takes leads
 
 some_starts : {A : Type 0} (G : Grammar A) (p : Token → Bool) → Starts p G → Starts p (some G)
 some_starts G p starts c ts rest all (none, lt) = absurd (omega arith)
 some_starts G p starts c ts rest all (more {x = x} xs ys e g others, lt) = ap (first_is p) (ap (λ (r : List (At Token)). r ++ rest) e ∙ append_assoc xs ys rest) ∙ starts c xs (ys ++ rest) x g
 
+some_or : {A : Type 0} (L : ℕ → A → Type 0) (M : ℕ → List A → Type 0) (G : Grammar A) (w : What) (p : Token → Bool) (item : ℕ → Rest → Read A) (F : List (At Token) → Type 0)
+    → ((k : ℕ) (x : A) (xs : List A) → L k x → M k (x ∷ xs)) → ((k : ℕ) (x : A) (xs : List A) → M (k + 1) xs → M k (x ∷ xs))
+    → ((k : ℕ) → CompletesOr (L k) G (item k) F) → Starts p G → TakesOne G → ((c : Counts) (xs rest : List (At Token)) (x : A) → G c xs x → F (xs ++ rest)) → CompletesOr (M 0) (some G) (some_at w (λ r. first_is p r.1) item) (λ rest. NotFirst p rest × F rest)
+some_or L M G w p item F here there reads starts takes leads c ts rest xs follows h = rw (some_starts G p starts c ts rest xs h) (all_or L M G p item F here there reads starts takes leads c ts rest xs follows h.0)
+
 some_again : {A : Type 0} (G : Grammar A) (w : What) (p : Token → Bool) (item : ℕ → Rest → Read A) (F : List (At Token) → Type 0) → ((k : ℕ) → Completes G (item k) F) → Starts p G → TakesOne G → ((c : Counts) (xs rest : List (At Token)) (x : A) → G c xs x → F (xs ++ rest)) → Completes (some G) (some_at w (λ r. first_is p r.1) item) (λ rest. NotFirst p rest × F rest)
-some_again G w p item F reads starts takes leads c ts rest xs follows h = rw (some_starts G p starts c ts rest xs h) (all_again G p item F reads starts takes leads c ts rest xs follows h.0)
+some_again G w p item F reads starts takes leads = some_or (λ _. Never) (λ _. Never) G w p item F (λ k x xs h. h) (λ k x xs h. h) reads starts takes leads
 
 -- ---- what comes first
 
@@ -237,12 +253,19 @@ step_of n b = record { name = n; part = b }
 step_end_again : (n : NameAt) → Completes (one the_block ▸ λ b. gives (step_of n b)) (λ r. block_at r >>= λ b. (Ok (step_of n b.0), b.1)) Any
 step_end_again n = seq (one the_block) (λ b. gives (step_of n b)) block_at (λ b. (Ok (step_of n b.0), b.1)) Any Any block_again (λ b. gives_again (step_of n b) Any) (λ d x ys rest z f h. tt)
 
+abbrev AfterStep : Grammar NamedStep
+AfterStep = one the_name ▸ λ n. one the_block ▸ λ b. gives (step_of n b)
+
+named_step_again : (d : Counts) → CompletesOr (λ _. 1000 ≤ d.steps) AfterStep (λ r. name_within d.steps 1000 r >>= λ n. block_at n.1 >>= λ b. (Ok (step_of n.0 b.0), b.1)) Any
+named_step_again d = seq_or (λ _. 1000 ≤ d.steps) (λ _. 1000 ≤ d.steps) (one the_name) (λ n. one the_block ▸ λ b. gives (step_of n b)) (name_within d.steps 1000) (λ n. block_at n.1 >>= λ b. (Ok (step_of n.0 b.0), b.1)) Any Any (λ c x ts z h k. k) (name_within_again d.steps 1000)
+    (λ n. weaken (λ _. 1000 ≤ d.steps) (one the_block ▸ λ b. gives (step_of n b)) (λ r. block_at r >>= λ b. (Ok (step_of n b.0), b.1)) Any (step_end_again n)) (λ e x ys rest z f h. tt)
+
 step_again : Completes step step_at Any
 unfolding step_at
-step_again = seq_from (one (the_word Step)) (λ _. one the_name ▸ λ n. one the_block ▸ λ b. gives (step_of n b)) (word_at Step what.Item)
-    (λ d key. name_within d.steps 1000 key.1 >>= λ n. block_at n.1 >>= λ b. (Ok (step_of n.0 b.0), b.1)) Any Any (word_again Step what.Item)
-    (λ d _. seq (one the_name) (λ n. one the_block ▸ λ b. gives (step_of n b)) (name_within d.steps 1000) (λ n. block_at n.1 >>= λ b. (Ok (step_of n.0 b.0), b.1)) Any Any (name_within_again d.steps 1000) step_end_again (λ e x ys rest z f h. tt))
-    (λ d x ys rest z f h. tt)
+step_again = seq_from Never (λ d _. 1000 ≤ d.steps) Never (one (the_word Step)) (λ _. AfterStep) (word_at Step what.Item)
+    (λ d key. name_within d.steps 1000 key.1 >>= λ n. block_at n.1 >>= λ b. (Ok (step_of n.0 b.0), b.1)) Any Any (λ c x xs ys z h k. absurd k)
+    (λ c x xs ys z w lt. many_steps (omega (arith, lt, ap (λ (d : Counts). d.steps) (word_past Step c xs x w), (grows (past c xs) ys).1)))
+    (word_again Step what.Item) (λ d _. named_step_again d) (λ d x ys rest z f h. tt)
 
 step_begins : (p : Token → Bool) → Begins p (p (keyword Step)) step
 step_begins p c xs rest x h = begins_word Step (λ _. one the_name ▸ λ n. one the_block ▸ λ b. gives (step_of n b)) p c xs rest x h
@@ -287,12 +310,16 @@ set_up_again : (n : NameAt) → Completes (SetUp n) (λ r. setup_at r >>= λ set
 set_up_again n = seq (Maybe (block_behind Setup)) (Stepped n) setup_at (λ setup. steps_at setup.1 >>= λ steps. teardown_at steps.1 >>= λ teardown. (Ok (session_of n setup.0 steps.0 teardown.0), teardown.1)) (NotFirst (is_word Setup)) BehindSession setup_again (stepped_again n)
     (λ d x ys rest z f h. no_setup_first n x d ys rest z h)
 
+named_session_again : (d : Counts) → CompletesOr (λ _. 64 ≤ d.sessions) (one the_name ▸ SetUp) (λ r. name_within d.sessions 64 r >>= λ n. setup_at n.1 >>= λ setup. steps_at setup.1 >>= λ steps. teardown_at steps.1 >>= λ teardown. (Ok (session_of n.0 setup.0 steps.0 teardown.0), teardown.1)) BehindSession
+named_session_again d = seq_or (λ _. 64 ≤ d.sessions) (λ _. 64 ≤ d.sessions) (one the_name) SetUp (name_within d.sessions 64) (λ n. setup_at n.1 >>= λ setup. steps_at setup.1 >>= λ steps. teardown_at steps.1 >>= λ teardown. (Ok (session_of n.0 setup.0 steps.0 teardown.0), teardown.1)) Any BehindSession (λ c x ts z h k. k) (name_within_again d.sessions 64)
+    (λ n. weaken (λ _. 64 ≤ d.sessions) (SetUp n) (λ r. setup_at r >>= λ setup. steps_at setup.1 >>= λ steps. teardown_at steps.1 >>= λ teardown. (Ok (session_of n setup.0 steps.0 teardown.0), teardown.1)) BehindSession (set_up_again n)) (λ e x ys rest z f h. tt)
+
 session_again : Completes session session_at BehindSession
 unfolding session_at
-session_again = seq_from (one (the_word Session)) (λ _. one the_name ▸ SetUp) (word_at Session what.Item)
-    (λ d key. name_within d.sessions 64 key.1 >>= λ n. setup_at n.1 >>= λ setup. steps_at setup.1 >>= λ steps. teardown_at steps.1 >>= λ teardown. (Ok (session_of n.0 setup.0 steps.0 teardown.0), teardown.1)) Any BehindSession (word_again Session what.Item)
-    (λ d _. seq (one the_name) SetUp (name_within d.sessions 64) (λ n. setup_at n.1 >>= λ setup. steps_at setup.1 >>= λ steps. teardown_at steps.1 >>= λ teardown. (Ok (session_of n.0 setup.0 steps.0 teardown.0), teardown.1)) Any BehindSession (name_within_again d.sessions 64) set_up_again (λ e x ys rest z f h. tt))
-    (λ d x ys rest z f h. tt)
+session_again = seq_from Never (λ d _. 64 ≤ d.sessions) Never (one (the_word Session)) (λ _. one the_name ▸ SetUp) (word_at Session what.Item)
+    (λ d key. name_within d.sessions 64 key.1 >>= λ n. setup_at n.1 >>= λ setup. steps_at setup.1 >>= λ steps. teardown_at steps.1 >>= λ teardown. (Ok (session_of n.0 setup.0 steps.0 teardown.0), teardown.1)) Any BehindSession (λ c x xs ys z h k. absurd k)
+    (λ c x xs ys z w lt. many_sessions (omega (arith, lt, ap (λ (d : Counts). d.sessions) (word_past Session c xs x w), (grows (past c xs) ys).0)))
+    (word_again Session what.Item) (λ d _. named_session_again d) (λ d x ys rest z f h. tt)
 
 session_begins : (p : Token → Bool) → Begins p (p (keyword Session)) session
 session_begins p c xs rest x h = begins_word Session (λ _. one the_name ▸ SetUp) p c xs rest x h
@@ -382,22 +409,33 @@ BehindEntry rest = NotFirst (is_sign Open) rest
 abbrev entry_of : NameAt → Option (List MarkerTree) → NamedEntry
 entry_of n ms = record { name = n; markers = unwrap_or ms [] }
 
-entry_again : (k : ℕ) → Completes entry (entry_at k) BehindEntry
+abbrev Marks : NameAt → Grammar NamedEntry
+Marks n = Maybe markers ▸ λ ms. gives (entry_of n ms)
+
+marks_again : (n : NameAt) → Completes (Marks n) (λ r. some_markers_at r >>= λ ms. (Ok (entry_of n ms.0), ms.1)) BehindEntry
+marks_again n = seq (Maybe markers) (λ ms. gives (entry_of n ms)) some_markers_at (λ ms. (Ok (entry_of n ms.0), ms.1)) BehindEntry BehindEntry some_markers_again (λ ms. gives_again (entry_of n ms) BehindEntry) (λ d x ys rest z f h. stays BehindEntry ys rest h.0 f)
+
+entry_again : (k : ℕ) → CompletesOr (λ _. 1000 ≤ k) entry (entry_at k) BehindEntry
 unfolding entry_at
-entry_again k = seq (one the_name) (λ n. Maybe markers ▸ λ ms. gives (entry_of n ms)) (name_within k 1000) (λ n. some_markers_at n.1 >>= λ ms. (Ok (entry_of n.0 ms.0), ms.1)) Any BehindEntry (name_within_again k 1000)
-    (λ n. seq (Maybe markers) (λ ms. gives (entry_of n ms)) some_markers_at (λ ms. (Ok (entry_of n ms.0), ms.1)) BehindEntry BehindEntry some_markers_again (λ ms. gives_again (entry_of n ms) BehindEntry) (λ d x ys rest z f h. stays BehindEntry ys rest h.0 f))
-    (λ d x ys rest z f h. tt)
+entry_again k = seq_or (λ _. 1000 ≤ k) (λ _. 1000 ≤ k) (one the_name) Marks (name_within k 1000) (λ n. some_markers_at n.1 >>= λ ms. (Ok (entry_of n.0 ms.0), ms.1)) Any BehindEntry (λ c x ts z h k. k) (name_within_again k 1000)
+    (λ n. weaken (λ _. 1000 ≤ k) (Marks n) (λ r. some_markers_at r >>= λ ms. (Ok (entry_of n ms.0), ms.1)) BehindEntry (marks_again n)) (λ d x ys rest z f h. tt)
 
 abbrev BehindEntries : List (At Token) → Type 0
 BehindEntries rest = NotFirst is_name rest × BehindEntry rest
 
-entries_again : Completes (some entry) entries_at BehindEntries
-unfolding entries_at
-entries_again = some_again entry what.Name is_name entry_at BehindEntry entry_again (begins_name (λ n. Maybe markers ▸ λ ms. gives (entry_of n ms)) is_name true (λ m. refl)) (first_takes the_name (λ n. Maybe markers ▸ λ ms. gives (entry_of n ms))) (begins_name (λ n. Maybe markers ▸ λ ms. gives (entry_of n ms)) (is_sign Open) false (λ m. refl))
+-- a permutation of more than 1,000 entries
+abbrev pub IsLong : List NamedEntry → Type 0
+IsLong es = 1000 < length es
 
-perm_again : Completes perm perm_at BehindEntries
+entries_again : CompletesOr IsLong (some entry) entries_at BehindEntries
+unfolding entries_at
+entries_again = reword (λ es. 1000 < 0 + length es) IsLong (some entry) (some_at what.Name starts_name entry_at) BehindEntries (λ es h. omega (arith, h))
+    (some_or (λ k _. 1000 ≤ k) (λ k es. 1000 < k + length es) entry what.Name is_name entry_at BehindEntry (λ k x xs h. omega (arith, h)) (λ k x xs h. omega (arith, h)) entry_again
+    (begins_name (λ n. Maybe markers ▸ λ ms. gives (entry_of n ms)) is_name true (λ m. refl)) (first_takes the_name (λ n. Maybe markers ▸ λ ms. gives (entry_of n ms))) (begins_name (λ n. Maybe markers ▸ λ ms. gives (entry_of n ms)) (is_sign Open) false (λ m. refl)))
+
+perm_again : CompletesOr IsLong perm perm_at BehindEntries
 unfolding perm_at
-perm_again = seq (one (the_word Permutation)) (λ _. some entry) (word_at Permutation what.Item) (λ key. entries_at key.1) Any BehindEntries (word_again Permutation what.Item) (λ _. entries_again) (λ d x ys rest z f h. tt)
+perm_again = seq_or Never IsLong (one (the_word Permutation)) (λ _. some entry) (word_at Permutation what.Item) (λ key. entries_at key.1) Any BehindEntries (λ c x ts z h k. absurd k) (word_again Permutation what.Item) (λ _. entries_again) (λ d x ys rest z f h. tt)
 
 perm_begins : (p : Token → Bool) → Begins p (p (keyword Permutation)) perm
 perm_begins p c xs rest x h = begins_word Permutation (λ _. some entry) p c xs rest x h
@@ -405,9 +443,14 @@ perm_begins p c xs rest x h = begins_word Permutation (λ _. some entry) p c xs 
 abbrev BehindPerms : List (At Token) → Type 0
 BehindPerms rest = NotFirst (is_word Permutation) rest × BehindEntries rest
 
-perms_again : Completes (Many perm) perms_at BehindPerms
+-- some permutation is too long
+abbrev pub SomeLong : List (List NamedEntry) → Type 0
+SomeLong [] = ⊥
+SomeLong (es ∷ ps) = IsLong es ⊎ SomeLong ps
+
+perms_again : CompletesOr SomeLong (Many perm) perms_at BehindPerms
 unfolding perms_at
-perms_again = all_again perm (is_word Permutation) (λ k. perm_at) BehindEntries (λ k. perm_again) (perm_begins (is_word Permutation)) (first_takes (the_word Permutation) (λ _. some entry)) (λ c xs rest x g. (perm_begins is_name c xs rest x g, perm_begins (is_sign Open) c xs rest x g))
+perms_again = all_or (λ _. IsLong) (λ _. SomeLong) perm (is_word Permutation) (λ k. perm_at) BehindEntries (λ k x xs h. inl h) (λ k x xs h. inr h) (λ k. perm_again) (perm_begins (is_word Permutation)) (first_takes (the_word Permutation) (λ _. some entry)) (λ c xs rest x g. (perm_begins is_name c xs rest x g, perm_begins (is_sign Open) c xs rest x g))
 
 -- ---- the file
 
@@ -426,33 +469,36 @@ Held setups teardown = some session ▸ Permuted setups teardown
 abbrev Ended : List PartTree → Grammar FileTree
 Ended setups = Maybe (block_behind Teardown) ▸ Held setups
 
-ended_again : (f : FileTree) → Completes (gives f) (λ r. end_at r >>= λ ended. (Ok f, ended.1)) AtEnd
+abbrev pub LongFile : FileTree → Type 0
+LongFile f = SomeLong f.perms
+
+ended_again : (f : FileTree) → CompletesOr LongFile (gives f) (λ r. end_at r >>= λ ended. (Ok f, ended.1)) AtEnd
 unfolding end_at
 ended_again f c xs rest x follows (nothing, is) = rw (nothing, is, follows) (whole refl)
 
 ends_so : (F : List (At Token) → Type 0) (ys rest : List (At Token)) → ys ≡ [] → rest ≡ [] → F [] → F (ys ++ rest)
 ends_so F ys rest e d h = stays F ys rest e (subst F (sym d) h)
 
-permuted_again : (setups : List PartTree) (teardown : Option PartTree) (sessions : List NamedSession) → Completes (Permuted setups teardown sessions) (λ r. perms_at r >>= λ perms. end_at perms.1 >>= λ ended. (Ok (file_of setups teardown sessions perms.0), ended.1)) AtEnd
-permuted_again setups teardown sessions = seq (Many perm) (λ perms. gives (file_of setups teardown sessions perms)) perms_at (λ perms. end_at perms.1 >>= λ ended. (Ok (file_of setups teardown sessions perms.0), ended.1)) BehindPerms AtEnd perms_again (λ perms. ended_again (file_of setups teardown sessions perms))
+permuted_again : (setups : List PartTree) (teardown : Option PartTree) (sessions : List NamedSession) → CompletesOr LongFile (Permuted setups teardown sessions) (λ r. perms_at r >>= λ perms. end_at perms.1 >>= λ ended. (Ok (file_of setups teardown sessions perms.0), ended.1)) AtEnd
+permuted_again setups teardown sessions = seq_or SomeLong LongFile (Many perm) (λ perms. gives (file_of setups teardown sessions perms)) perms_at (λ perms. end_at perms.1 >>= λ ended. (Ok (file_of setups teardown sessions perms.0), ended.1)) BehindPerms AtEnd (λ c ps ts z h k. subst LongFile (sym h.1) k) perms_again (λ perms. ended_again (file_of setups teardown sessions perms))
     (λ d x ys rest z f h. ends_so BehindPerms ys rest h.0 f (refl, (refl, refl)))
 
 behind_sessions : (setups : List PartTree) (teardown : Option PartTree) (sessions : List NamedSession) (d : Counts) (ys rest : List (At Token)) (z : FileTree) → AtEnd rest → Permuted setups teardown sessions d ys z → BehindSessions (ys ++ rest)
 behind_sessions setups teardown sessions d ts rest z f (perms, xs, ys, e, many, h) =
     regroup BehindSessions ts xs ys rest e (next_follows perm BehindSessions (λ c us vs x g. (perm_begins (is_word Session) c us vs x g, (perm_begins (is_word Step) c us vs x g, perm_begins (is_word Teardown) c us vs x g))) d xs (ys ++ rest) perms (ends_so BehindSessions ys rest h.0 f (refl, (refl, refl))) many)
 
-held_again : (setups : List PartTree) (teardown : Option PartTree) → Completes (Held setups teardown) (λ r. sessions_at r >>= λ sessions. perms_at sessions.1 >>= λ perms. end_at perms.1 >>= λ ended. (Ok (file_of setups teardown sessions.0 perms.0), ended.1)) AtEnd
-held_again setups teardown = seq (some session) (Permuted setups teardown) sessions_at (λ sessions. perms_at sessions.1 >>= λ perms. end_at perms.1 >>= λ ended. (Ok (file_of setups teardown sessions.0 perms.0), ended.1)) BehindSessions AtEnd sessions_again (permuted_again setups teardown) (λ d x ys rest z f h. behind_sessions setups teardown x d ys rest z f h)
+held_again : (setups : List PartTree) (teardown : Option PartTree) → CompletesOr LongFile (Held setups teardown) (λ r. sessions_at r >>= λ sessions. perms_at sessions.1 >>= λ perms. end_at perms.1 >>= λ ended. (Ok (file_of setups teardown sessions.0 perms.0), ended.1)) AtEnd
+held_again setups teardown = seq_or Never LongFile (some session) (Permuted setups teardown) sessions_at (λ sessions. perms_at sessions.1 >>= λ perms. end_at perms.1 >>= λ ended. (Ok (file_of setups teardown sessions.0 perms.0), ended.1)) BehindSessions AtEnd (λ c x ts z h k. absurd k) sessions_again (permuted_again setups teardown) (λ d x ys rest z f h. behind_sessions setups teardown x d ys rest z f h)
 
 held_begins : (setups : List PartTree) (teardown : Option PartTree) (p : Token → Bool) → Begins p (p (keyword Session)) (Held setups teardown)
 held_begins setups teardown p c ts rest z (ss, xs, ys, e, m, h) = ap (first_is p) (ap (λ (r : List (At Token)). r ++ rest) e ∙ append_assoc xs ys rest) ∙ some_begins session p (p (keyword Session)) (session_begins p) c xs (ys ++ rest) ss m
 
-torn_file_again : (setups : List PartTree) → Completes (Ended setups) (λ r. teardown_at r >>= λ teardown. sessions_at teardown.1 >>= λ sessions. perms_at sessions.1 >>= λ perms. end_at perms.1 >>= λ ended. (Ok (file_of setups teardown.0 sessions.0 perms.0), ended.1)) AtEnd
-torn_file_again setups = seq (Maybe (block_behind Teardown)) (Held setups) teardown_at (λ teardown. sessions_at teardown.1 >>= λ sessions. perms_at sessions.1 >>= λ perms. end_at perms.1 >>= λ ended. (Ok (file_of setups teardown.0 sessions.0 perms.0), ended.1)) (NotFirst (is_word Teardown)) AtEnd teardown_again (held_again setups) (λ d x ys rest z f h. held_begins setups x (is_word Teardown) d ys rest z h)
+torn_file_again : (setups : List PartTree) → CompletesOr LongFile (Ended setups) (λ r. teardown_at r >>= λ teardown. sessions_at teardown.1 >>= λ sessions. perms_at sessions.1 >>= λ perms. end_at perms.1 >>= λ ended. (Ok (file_of setups teardown.0 sessions.0 perms.0), ended.1)) AtEnd
+torn_file_again setups = seq_or Never LongFile (Maybe (block_behind Teardown)) (Held setups) teardown_at (λ teardown. sessions_at teardown.1 >>= λ sessions. perms_at sessions.1 >>= λ perms. end_at perms.1 >>= λ ended. (Ok (file_of setups teardown.0 sessions.0 perms.0), ended.1)) (NotFirst (is_word Teardown)) AtEnd (λ c x ts z h k. absurd k) teardown_again (held_again setups) (λ d x ys rest z f h. held_begins setups x (is_word Teardown) d ys rest z h)
 
 no_setup_ahead : (setups : List PartTree) (d : Counts) (ys rest : List (At Token)) (z : FileTree) → Ended setups d ys z → NotFirst (is_word Setup) (ys ++ rest)
 no_setup_ahead setups d ts rest z (o, xs, ys, e, m, h) = regroup (NotFirst (is_word Setup)) ts xs ys rest e (maybe_begins (block_behind Teardown) (is_word Setup) (teardown_begins (is_word Setup)) d xs (ys ++ rest) o (held_begins setups o (is_word Setup) (past d xs) ys rest z h) m)
 
-pub file_again : Completes file file_at AtEnd
+pub file_again : CompletesOr LongFile file file_at AtEnd
 unfolding file_at
-file_again = seq (Many (block_behind Setup)) Ended setups_at (λ setups. teardown_at setups.1 >>= λ teardown. sessions_at teardown.1 >>= λ sessions. perms_at sessions.1 >>= λ perms. end_at perms.1 >>= λ ended. (Ok (file_of setups.0 teardown.0 sessions.0 perms.0), ended.1)) (λ rest. NotFirst (is_word Setup) rest × Any rest) AtEnd setups_again torn_file_again (λ d x ys rest z f h. (no_setup_ahead x d ys rest z h, tt))
+file_again = seq_or Never LongFile (Many (block_behind Setup)) Ended setups_at (λ setups. teardown_at setups.1 >>= λ teardown. sessions_at teardown.1 >>= λ sessions. perms_at sessions.1 >>= λ perms. end_at perms.1 >>= λ ended. (Ok (file_of setups.0 teardown.0 sessions.0 perms.0), ended.1)) (λ rest. NotFirst (is_word Setup) rest × Any rest) AtEnd (λ c x ts z h k. absurd k) setups_again torn_file_again (λ d x ys rest z f h. (no_setup_ahead x d ys rest z h, tt))

@@ -25,7 +25,7 @@ use Rattle.spec_parser.specs.Grammar.{◌>>=◌ as ◌▸◌}
 use Rattle.spec_parser.specs.Names.{StepAt, steps_from, sessions_from, step_tree, session_tree}
 use Rattle.spec_parser.specs.Stands.{PartLies, NameLies, session_parts, session_names}
 use Rattle.spec_parser.proofs.Local.{past_twice}
-use Rattle.spec_parser.proofs.Complete.{test_true, keyword_in, sign_in, named_in}
+use Rattle.spec_parser.proofs.Tokens.{named_in, past_one, word_past, sign_past, name_past}
 
 -- ---- lists
 
@@ -97,18 +97,6 @@ pub quiet : (c : Counts) (ts : List (At Token)) → Moves c c ts nothing
 quiet c ts = record { blocks = omega arith; sessions = omega arith; steps = omega arith; numbered = refl; parts_lie = λ text all. tt; names_lie = λ text all. tt }
 
 -- ---- one token
-
-past_one : (c : Counts) (ts : List (At Token)) (t : At Token) (u : Token) → ts ≡ t ∷ [] → t.tok ≡ u → past c ts ≡ past_token u c
-past_one c ts t u e is = ap (past c) e ∙ ap (λ w. past_token w c) is
-
-pub word_past : (k : Keyword) (c : Counts) (ts : List (At Token)) (u : Unit {0}) → one (the_word k) c ts u → past c ts ≡ past_token (keyword k) c
-word_past k c ts u (t, e, is) = past_one c ts t (keyword k) e (keyword_in k t.tok (test_true (is_word k t.tok) u is))
-
-pub sign_past : (g : Sign) (c : Counts) (ts : List (At Token)) (u : Unit {0}) → one (the_sign g) c ts u → past c ts ≡ c
-sign_past g c ts u (t, e, is) = past_one c ts t (sign g) e (sign_in g t.tok (test_true (is_sign g t.tok) u is))
-
-pub name_past : (c : Counts) (ts : List (At Token)) (n : NameAt) → one the_name c ts n → past c ts ≡ c
-name_past c ts n (t, e, is) = let m = named_in t.span.start t.tok n is in past_one c ts t (name m.0) e m.1
 
 word_has : (k : Keyword) (c : Counts) (ts : List (At Token)) (u : Unit {0}) (g : Gist) → one (the_word k) c ts u → Moves c (past_token (keyword k) c) ts g → Moves c (past c ts) ts g
 word_has k c ts u g h m = subst (λ d. Moves c d ts g) (sym (word_past k c ts u h)) m

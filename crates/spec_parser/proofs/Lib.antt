@@ -7,3 +7,4 @@ pub mod Whole
 pub mod Complete
 pub mod WholeLaws
 pub mod Gists
+pub mod Tokens

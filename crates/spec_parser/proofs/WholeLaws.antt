@@ -17,7 +17,7 @@ use Rattle.spec_parser.specs.SpecText.{SpecReads, no_tokens, tokens, finished}
 use Rattle.spec_parser.specs.Laws.{head, StopsFirst}
 use Rattle.spec_parser.proofs.Local.{Means, is_read}
 use Rattle.spec_parser.proofs.Productions.{file_local}
-use Rattle.spec_parser.proofs.Complete.{Again, whole, over, file_again}
+use Rattle.spec_parser.proofs.Complete.{Again, whole, over, LongFile, file_again}
 
 no_ok : {A : Type 0} (s : Stop) (x : A) → ◌≡◌ {A = Result A Stop} (Err s) (Ok x) → ⊥
 no_ok s x e = cc
@@ -61,19 +61,19 @@ reads_are_files ts f rest e =
     let same = sym (is_read file file_at start ts l) ∙ e in
     whole_from ts l.front l.rest l.out f (ap (λ (r : Read FileTree). r.0) same) (ap (λ (r : Read FileTree). r.1.1) same ∙ nothing_left (start, ts) rest f e) l.split l.means
 
-read_or_over : (ts : List (At Token)) (f : FileTree) → file start ts f → Again f (past start ts, []) (file_at (start, ts))
-read_or_over ts f h = subst (λ us. Again f (past start ts, []) (file_at (start, us))) (append-nil ts) (file_again start ts [] f refl h)
+read_or_over : (ts : List (At Token)) (f : FileTree) → file start ts f → Again LongFile f (past start ts, []) (file_at (start, ts))
+read_or_over ts f h = subst (λ us. Again LongFile f (past start ts, []) (file_at (start, us))) (append-nil ts) (file_again start ts [] f refl h)
 
-sides : (r : Read FileTree) (f : FileTree) (after : Rest) → Again f after r → (r ≡ (Ok f, after)) ⊎ (r.0 ≡ Err OverLimit)
+sides : (r : Read FileTree) (f : FileTree) (after : Rest) → Again LongFile f after r → (r ≡ (Ok f, after)) ⊎ (r.0 ≡ Err OverLimit)
 sides r f after (whole e) = inl e
-sides r f after (over e) = inr e
+sides r f after (over e o) = inr e
 
 pub files_are_read : (ts : List (At Token)) (f : FileTree) → file start ts f → (file_at (start, ts) ≡ (Ok f, (past start ts, []))) ⊎ ((file_at (start, ts)).0 ≡ Err OverLimit)
 files_are_read ts f h = sides (file_at (start, ts)) f (past start ts, []) (read_or_over ts f h)
 
-stopped_at : (r : Read FileTree) (f : FileTree) (after rest : Rest) (s : Stop) → r ≡ (Err s, rest) → Again f after r → s ≡ OverLimit
+stopped_at : (r : Read FileTree) (f : FileTree) (after rest : Rest) (s : Stop) → r ≡ (Err s, rest) → Again LongFile f after r → s ≡ OverLimit
 stopped_at r f after rest s e (whole d) = absurd (no_ok s f (sym (ap (λ (q : Read FileTree). q.0) e) ∙ ap (λ (q : Read FileTree). q.0) d))
-stopped_at r f after rest s e (over d) = err_same s OverLimit (sym (ap (λ (q : Read FileTree). q.0) e) ∙ d)
+stopped_at r f after rest s e (over d o) = err_same s OverLimit (sym (ap (λ (q : Read FileTree). q.0) e) ∙ d)
 
 stops_from : (ts front rest after : List (At Token)) (out : Result FileTree Stop) (s : Stop) → out ≡ Err s → rest ≡ after → ts ≡ front ++ rest
     → ((others : List (At Token)) → head others ≡ head rest → file_at (start, front ++ others) ≡ (out, (past start front, others))) → Means file out start front → StopsFirst ts s after

@@ -1,0 +1,91 @@
+-- What one token is, and what stands before the place behind it.
+use Rattle.std.proofs.Common.{◌≡◌, ◌≤◌, ◌+◌, arith, ℕ, Bool, true, false, cond, List, [], ◌∷◌, Option, Some, None, refl, ap, ◌∙◌}
+use Rattle.iso_lexer.specs.declared.token.At.{At}
+use Rattle.iso_lexer.specs.declared.spec_token.Keyword.{Keyword}
+use Rattle.iso_lexer.specs.declared.spec_token.Keyword.TheVariants.{Permutation, Session, Setup, Step, Teardown, Notices}
+use Rattle.iso_lexer.specs.declared.spec_token.Sign.{Sign}
+use Rattle.iso_lexer.specs.declared.spec_token.Sign.TheVariants.{Open, Close, Comma, Star}
+use Rattle.iso_lexer.specs.Names.{Written}
+use Rattle.iso_lexer.specs.SpecTokens.{Token, keyword, name, digits, sign, block}
+use Rattle.spec_parser.specs.Trees.{NameAt}
+use Rattle.spec_parser.specs.Counts.{Counts, past, past_token}
+use Rattle.spec_parser.specs.Reading.{same_word, same_sign, is_word, is_sign, the_word, the_sign, the_name, name_in}
+use Rattle.spec_parser.specs.Grammar.{one}
+
+pub test_true : (b : Bool) (u : Unit {0}) → ◌≡◌ {A = Option (Unit {0})} (cond b (Some tt) None) (Some u) → b ≡ true
+test_true true u e = refl
+test_true false u e = absurd cc
+
+pub same_is : (j k : Keyword) → same_word j k ≡ true → j ≡ k
+same_is Permutation Permutation e = refl
+same_is Session Session e = refl
+same_is Setup Setup e = refl
+same_is Step Step e = refl
+same_is Teardown Teardown e = refl
+same_is Notices Notices e = refl
+same_is _ _ e = absurd cc
+
+same_sign_is : (j k : Sign) → same_sign j k ≡ true → j ≡ k
+same_sign_is Open Open e = refl
+same_sign_is Close Close e = refl
+same_sign_is Comma Comma e = refl
+same_sign_is Star Star e = refl
+same_sign_is _ _ e = absurd cc
+
+pub keyword_in : (k : Keyword) (t : Token) → is_word k t ≡ true → t ≡ keyword k
+keyword_in k (keyword j) e = ap keyword (same_is j k e)
+keyword_in k (name n) e = absurd cc
+keyword_in k (digits d) e = absurd cc
+keyword_in k (sign s) e = absurd cc
+keyword_in k (block n b) e = absurd cc
+
+pub sign_in : (g : Sign) (t : Token) → is_sign g t ≡ true → t ≡ sign g
+sign_in g (sign h) e = ap sign (same_sign_is h g e)
+sign_in g (keyword j) e = absurd cc
+sign_in g (name n) e = absurd cc
+sign_in g (digits d) e = absurd cc
+sign_in g (block n b) e = absurd cc
+
+pub named_in : (at : ℕ) (t : Token) (n : NameAt) → name_in at t ≡ Some n → (m : Written) × (t ≡ name m)
+named_in at (name m) n e = (m, refl)
+named_in at (keyword k) n e = absurd cc
+named_in at (digits d) n e = absurd cc
+named_in at (sign s) n e = absurd cc
+named_in at (block k b) n e = absurd cc
+
+-- ---- what stands before
+
+pub past_one : (c : Counts) (ts : List (At Token)) (t : At Token) (u : Token) → ts ≡ t ∷ [] → t.tok ≡ u → past c ts ≡ past_token u c
+past_one c ts t u e is = ap (past c) e ∙ ap (λ w. past_token w c) is
+
+pub word_past : (k : Keyword) (c : Counts) (ts : List (At Token)) (u : Unit {0}) → one (the_word k) c ts u → past c ts ≡ past_token (keyword k) c
+word_past k c ts u (t, e, is) = past_one c ts t (keyword k) e (keyword_in k t.tok (test_true (is_word k t.tok) u is))
+
+pub sign_past : (g : Sign) (c : Counts) (ts : List (At Token)) (u : Unit {0}) → one (the_sign g) c ts u → past c ts ≡ c
+sign_past g c ts u (t, e, is) = past_one c ts t (sign g) e (sign_in g t.tok (test_true (is_sign g t.tok) u is))
+
+pub name_past : (c : Counts) (ts : List (At Token)) (n : NameAt) → one the_name c ts n → past c ts ≡ c
+name_past c ts n (t, e, is) = let m = named_in t.span.start t.tok n is in past_one c ts t (name m.0) e m.1
+
+-- no count falls
+abbrev pub NoLess : Counts → Counts → Type 0
+NoLess c d = (c.sessions ≤ d.sessions) × (c.steps ≤ d.steps)
+
+token_grows : (t : Token) (c : Counts) → NoLess c (past_token t c)
+token_grows (keyword Session) c = (omega arith, omega arith)
+token_grows (keyword Step) c = (omega arith, omega arith)
+token_grows (keyword Permutation) c = (omega arith, omega arith)
+token_grows (keyword Setup) c = (omega arith, omega arith)
+token_grows (keyword Teardown) c = (omega arith, omega arith)
+token_grows (keyword Notices) c = (omega arith, omega arith)
+token_grows (name n) c = (omega arith, omega arith)
+token_grows (digits d) c = (omega arith, omega arith)
+token_grows (sign g) c = (omega arith, omega arith)
+token_grows (block n b) c = (omega arith, omega arith)
+
+pub grows : (c : Counts) (ts : List (At Token)) → NoLess c (past c ts)
+grows c [] = (omega arith, omega arith)
+grows c (t ∷ ts) =
+    let one = token_grows t.tok c in
+    let others = grows (past_token t.tok c) ts in
+    (omega (arith, one.0, others.0), omega (arith, one.1, others.1))
