@@ -101,16 +101,16 @@ quiet c ts = record { blocks = omega arith; sessions = omega arith; steps = omeg
 word_has : (k : Keyword) (c : Counts) (ts : List (At Token)) (u : Unit {0}) (g : Gist) → one (the_word k) c ts u → Moves c (past_token (keyword k) c) ts g → Moves c (past c ts) ts g
 word_has k c ts u g h m = subst (λ d. Moves c d ts g) (sym (word_past k c ts u h)) m
 
-abbrev a_session : Gist
+abbrev pub a_session : Gist
 a_session = record { parts = []; names = []; sessions = 1; steps = 0 }
 
-abbrev a_step : Gist
+abbrev pub a_step : Gist
 a_step = record { parts = []; names = []; sessions = 0; steps = 1 }
 
-session_word : (c : Counts) (ts : List (At Token)) (u : Unit {0}) → one (the_word Session) c ts u → Moves c (past c ts) ts a_session
+pub session_word : (c : Counts) (ts : List (At Token)) (u : Unit {0}) → one (the_word Session) c ts u → Moves c (past c ts) ts a_session
 session_word c ts u h = word_has Session c ts u a_session h (record { blocks = omega arith; sessions = omega arith; steps = omega arith; numbered = refl; parts_lie = λ text all. tt; names_lie = λ text all. tt })
 
-step_word : (c : Counts) (ts : List (At Token)) (u : Unit {0}) → one (the_word Step) c ts u → Moves c (past c ts) ts a_step
+pub step_word : (c : Counts) (ts : List (At Token)) (u : Unit {0}) → one (the_word Step) c ts u → Moves c (past c ts) ts a_step
 step_word c ts u h = word_has Step c ts u a_step h (record { blocks = omega arith; sessions = omega arith; steps = omega arith; numbered = refl; parts_lie = λ text all. tt; names_lie = λ text all. tt })
 
 -- a name, where it is that of a session or step
@@ -183,7 +183,7 @@ block_is at number (sign g) p e = absurd cc
 token_lies : (text inner b : List ℕ) (start end n k : ℕ) → Spells (block n b) (slice_range text start end) → PartLies text (record { sql = b; at = start + 1 + n; block = k })
 token_lies text _ b start end n k (inner, e, is) = block_lies text inner b start end n k e is
 
-abbrev parts_gist : List PartTree → Gist
+abbrev pub parts_gist : List PartTree → Gist
 parts_gist ps = record { parts = ps; names = []; sessions = 0; steps = 0 }
 
 block_has : (c : Counts) (ts : List (At Token)) (p : PartTree) → one the_block c ts p → Moves c (past c ts) ts (parts_gist (p ∷ []))
@@ -209,29 +209,29 @@ abbrev pub gists : {A : Type 0} → (A → Gist) → List A → Gist
 gists g [] = nothing
 gists g (x ∷ xs) = joined (g x) (gists g xs)
 
-abbrev Has : {A : Type 0} → Grammar A → (A → Gist) → Type 0
+abbrev pub Has : {A : Type 0} → Grammar A → (A → Gist) → Type 0
 Has {A} G g = (c : Counts) (ts : List (At Token)) (x : A) → G c ts x → Moves c (past c ts) ts (g x)
 
 many_has : {A : Type 0} (G : Grammar A) (g : A → Gist) → Has G g → (c : Counts) (ts : List (At Token)) (xs : List A) → Many G c ts xs → Moves c (past c ts) ts (gists g xs)
 many_has G g has c ts all none = quiet c []
 many_has G g has c ts all (more {x = x} {others = os} xs ys e m others) = then_has c ts xs ys (g x) (gists g os) e (has c xs x m) (many_has G g has (past c xs) ys os others)
 
-maybe_has : (G : Grammar PartTree) → Has G (λ p. parts_gist (p ∷ [])) → Has (Maybe G) (λ o. parts_gist (option_to_list o))
+pub maybe_has : (G : Grammar PartTree) → Has G (λ p. parts_gist (p ∷ [])) → Has (Maybe G) (λ o. parts_gist (option_to_list o))
 maybe_has G has c ts o left_out = quiet c []
 maybe_has G has c ts o (given {x = x} g) = has c ts x g
 
 -- ---- productions
 
-setup_has : Has (block_behind Setup) (λ p. parts_gist (p ∷ []))
+pub setup_has : Has (block_behind Setup) (λ p. parts_gist (p ∷ []))
 setup_has c ts p (u, xs, ys, e, w, b) = then_has c ts xs ys nothing (parts_gist (p ∷ [])) e (word_has Setup c xs u nothing w (quiet c xs)) (block_has (past c xs) ys p b)
 
-teardown_has : Has (block_behind Teardown) (λ p. parts_gist (p ∷ []))
+pub teardown_has : Has (block_behind Teardown) (λ p. parts_gist (p ∷ []))
 teardown_has c ts p (u, xs, ys, e, w, b) = then_has c ts xs ys nothing (parts_gist (p ∷ [])) e (word_has Teardown c xs u nothing w (quiet c xs)) (block_has (past c xs) ys p b)
 
-abbrev step_gist : NamedStep → Gist
+abbrev pub step_gist : NamedStep → Gist
 step_gist s = record { parts = s.part ∷ []; names = s.name.name ∷ []; sessions = 0; steps = 1 }
 
-step_has : Has step step_gist
+pub step_has : Has step step_gist
 step_has c ts z (u, xs, ys, e, w, (n, us, vs, d, nm, (b, ws, zs, f, bl, (nil, is)))) =
     let block_on = then_has (past (past c xs) us) vs ws zs (parts_gist (b ∷ [])) nothing f (block_has (past (past c xs) us) ws b bl) (nil_has (past (past (past c xs) us) ws) zs nil) in
     let name_on = then_has (past c xs) ys us vs (a_name n.name) (parts_gist (b ∷ [])) d (name_has (past c xs) us n nm) block_on in
@@ -259,10 +259,10 @@ steps_gist ss = record { parts = map (λ (x : StepTree). x.part) (map step_tree 
 steps_have : (c : Counts) (ts : List (At Token)) (ss : List NamedStep) → Many step c ts ss → Moves c (past c ts) ts (steps_gist ss)
 steps_have c ts ss m = like c (past c ts) ts (gists step_gist ss) _ _ _ _ (many_has step step_gist step_has c ts ss m) (steps_parts ss) (steps_names ss) (steps_none ss) (steps_count ss)
 
-abbrev session_gist : NamedSession → Gist
+abbrev pub session_gist : NamedSession → Gist
 session_gist s = record { parts = session_parts (session_tree s); names = session_names (session_tree s); sessions = 1; steps = length s.steps }
 
-session_has : Has session session_gist
+pub session_has : Has session session_gist
 session_has c ts z (u, xs, ys, e, w, (n, us, vs, d, nm, (o, ws, zs, f, mo, (ss, ps, qs, g, st, (t, rs, os, h, mt, (nil, is)))))) =
     let c1 = past c xs in
     let c2 = past c1 us in
@@ -322,7 +322,7 @@ setups_steps : (ps : List PartTree) → (gists (λ p. parts_gist (p ∷ [])) ps)
 setups_steps [] = refl
 setups_steps (p ∷ ps) = omega (arith, setups_steps ps)
 
-setups_have : (c : Counts) (ts : List (At Token)) (ps : List PartTree) → Many (block_behind Setup) c ts ps → Moves c (past c ts) ts (parts_gist ps)
+pub setups_have : (c : Counts) (ts : List (At Token)) (ps : List PartTree) → Many (block_behind Setup) c ts ps → Moves c (past c ts) ts (parts_gist ps)
 setups_have c ts ps m = like c (past c ts) ts (gists (λ p. parts_gist (p ∷ [])) ps) ps [] 0 0 (many_has (block_behind Setup) (λ p. parts_gist (p ∷ [])) setup_has c ts ps m) (setups_parts ps) (setups_names ps) (setups_sessions ps) (setups_steps ps)
 
 -- ---- permutations count nothing

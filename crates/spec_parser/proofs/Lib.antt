@@ -8,3 +8,4 @@ pub mod Complete
 pub mod WholeLaws
 pub mod Gists
 pub mod Tokens
+pub mod Limits

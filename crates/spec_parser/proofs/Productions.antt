@@ -54,23 +54,23 @@ block_inhabited : Inhabited (one the_block)
 unfolding made
 block_inhabited c = (made (block 0 []) ∷ [], record { sql = []; at = 1; block = c.blocks }, (made (block 0 []), refl, refl))
 
-word_local : (k : Keyword) (w : What) → AreLocal (one (the_word k)) (word_at k w)
+pub word_local : (k : Keyword) (w : What) → AreLocal (one (the_word k)) (word_at k w)
 unfolding word_at
 word_local k w = token_local (the_word k) w (word_inhabited k)
 
-sign_local : (g : Sign) (w : What) → AreLocal (one (the_sign g)) (sign_at g w)
+pub sign_local : (g : Sign) (w : What) → AreLocal (one (the_sign g)) (sign_at g w)
 unfolding sign_at
 sign_local g w = token_local (the_sign g) w (sign_inhabited g)
 
-name_local : (w : What) → AreLocal (one the_name) (name_at w)
+pub name_local : (w : What) → AreLocal (one the_name) (name_at w)
 unfolding name_at
 name_local w = token_local the_name w name_inhabited
 
-block_local : AreLocal (one the_block) block_at
+pub block_local : AreLocal (one the_block) block_at
 unfolding block_at
 block_local = token_local the_block what.Block block_inhabited
 
-name_within_local : (before most : ℕ) → AreLocal (one the_name) (name_within before most)
+pub name_within_local : (before most : ℕ) → AreLocal (one the_name) (name_within before most)
 unfolding name_within
 name_within_local before most = choice (λ r. nat_lt before most) (name_at what.Name) _ (λ c d xs ys h. refl) (name_local what.Name)
     (choice starts_name (λ r. (Err OverLimit, r)) (λ r. (Err (Expected what.Name), r)) (by_head is_name)

@@ -61,7 +61,7 @@ reads_are_files ts f rest e =
     let same = sym (is_read file file_at start ts l) ∙ e in
     whole_from ts l.front l.rest l.out f (ap (λ (r : Read FileTree). r.0) same) (ap (λ (r : Read FileTree). r.1.1) same ∙ nothing_left (start, ts) rest f e) l.split l.means
 
-read_or_over : (ts : List (At Token)) (f : FileTree) → file start ts f → Again LongFile f (past start ts, []) (file_at (start, ts))
+pub read_or_over : (ts : List (At Token)) (f : FileTree) → file start ts f → Again LongFile f (past start ts, []) (file_at (start, ts))
 read_or_over ts f h = subst (λ us. Again LongFile f (past start ts, []) (file_at (start, us))) (append-nil ts) (file_again start ts [] f refl h)
 
 sides : (r : Read FileTree) (f : FileTree) (after : Rest) → Again LongFile f after r → (r ≡ (Ok f, after)) ⊎ (r.0 ≡ Err OverLimit)
