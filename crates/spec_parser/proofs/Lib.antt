@@ -9,3 +9,5 @@ pub mod WholeLaws
 pub mod Gists
 pub mod Tokens
 pub mod Limits
+pub mod Looking
+pub mod Exact

@@ -136,7 +136,7 @@ by_start {A} starts item n k true r after xs s e =
     let now = sym (goes_on starts item k n r.0 r.1 s) ∙ e in
     let one = in_two (item k r) (goes starts item k n) xs after now in
     let rest = in_two (many_at starts item (k + 1) n one.1) (λ others. (Ok (one.0 ∷ others.0), others.1)) xs after one.3 in
-    inr (one.0, rest.0, one.1, sym (value_is (one.0 ∷ rest.0) xs (ap (λ (q : Read (List A)). q.0) rest.3)), one.2, rest.2 ∙ ap (λ (m : Rest). (Ok rest.0, m)) (ap (λ (q : Read (List A)). q.1) rest.3))
+    inr (one.0, rest.0, one.1, sym (value_is (one.0 ∷ rest.0) xs (ap (λ (q : Read (List A)). q.0) rest.3)), one.2, rest.2 ∙ (λ i. (Ok rest.0, (rest.3 i).1)))
 
 steps : {A : Type 0} (starts : Rest → Bool) (item : ℕ → Rest → Read A) (n k : ℕ) (r after : Rest) (xs : List A) → many_at starts item k (suc n) r ≡ (Ok xs, after) → Steps starts item n k r after xs
 steps starts item n k r after xs e = by_start starts item n k (starts r) r after xs refl e

@@ -10,4 +10,5 @@ pub mod Names
 pub mod Known
 pub mod SpecText
 pub mod IsSpec
+pub mod NameFaults
 pub mod Stands

@@ -1,0 +1,198 @@
+-- What reading gives is just what the relations say.
+use Rattle.std.proofs.Common.{◌≡◌, ◌⊎◌, inl, inr, ℕ, length, List, [], map, Option, Some, None, Result, Ok, Err, refl, sym, ap, subst, ◌∙◌}
+use Rattle.std.proofs.lemmas.Option.{none-some, same_Some}
+use Rattle.iso_lexer.specs.declared.token.At.{At}
+use Rattle.iso_lexer.specs.declared.fault.Fault.{Fault}
+use Rattle.iso_lexer.specs.SpecTokens.{Token}
+use Rattle.iso_lexer.specs.SpecText.{Lexes}
+use Rattle.spec_parser.specs.declared.fault.Stop.{Stop}
+use Rattle.spec_parser.specs.declared.fault.Stop.TheVariants.{Expected, NoticesLeftOut, OverLimit}
+use Rattle.spec_parser.specs.declared.fault.Halt.TheVariants.{At as AtPlace}
+use Rattle.spec_parser.specs.declared.fault.SpecFault.{SpecFault}
+use Rattle.spec_parser.specs.declared.fault.SpecFault.TheVariants as faults
+use Rattle.spec_parser.specs.Trees.{FileTree, SpecTree, EntryTree}
+use Rattle.spec_parser.specs.Faults.{stopped}
+use Rattle.spec_parser.specs.Counts.{start, past}
+use Rattle.spec_parser.specs.Reading.{Rest, Read, place, file_at}
+use Rattle.spec_parser.specs.Grammar.{file}
+use Rattle.spec_parser.specs.Names.{StepAt, first_repeat, known_perms, session_tree, ◌>>=◌, without_repeat, resolved}
+use Rattle.spec_parser.specs.SpecText.{SpecReads, no_tokens, tokens, finished}
+use Rattle.spec_parser.specs.IsSpec.{steps_of, WithinLimits, NamesDiffer, IsSpec}
+use Rattle.spec_parser.specs.NameFaults.{Mention, by_entry, by_marker, mentions, undefined_at, IsFirstUndefined, IsFirstRepeat, HasRepeat, HasUndefined}
+use Rattle.spec_parser.proofs.Complete.{Again, whole, over, LongFile}
+use Rattle.spec_parser.proofs.WholeLaws.{read_or_over, reads_are_files}
+use Rattle.spec_parser.proofs.Limits.{within, is_read_whole}
+use Rattle.spec_parser.proofs.Looking.{names_differ, no_repeat, repeats_first, first_repeats, perms_are, perms_ok, undefined_first, first_undefined}
+
+-- ---- a file that was read whole
+
+no_stop : (f : FileTree) (s : Stop) → ◌≡◌ {A = Result FileTree Stop} (Ok f) (Err s) → ⊥
+no_stop f s e = cc
+
+rest_case : (ts : List (At Token)) (f : FileTree) (rest : Rest) → file_at (start, ts) ≡ (Ok f, rest) → Again LongFile f (past start ts, []) (file_at (start, ts)) → rest ≡ (past start ts, [])
+rest_case ts f rest e (whole d) = sym (ap (λ (q : Read FileTree). q.1) e) ∙ ap (λ (q : Read FileTree). q.1) d
+rest_case ts f rest e (over d o) = absurd (no_stop f OverLimit (sym (ap (λ (q : Read FileTree). q.0) e) ∙ d))
+
+pub rest_is : (ts : List (At Token)) (f : FileTree) (rest : Rest) → file_at (start, ts) ≡ (Ok f, rest) → rest ≡ (past start ts, [])
+rest_is ts f rest e = rest_case ts f rest e (read_or_over ts f (reads_are_files ts f rest e))
+
+pub limits_of : (ts : List (At Token)) (f : FileTree) (rest : Rest) → file_at (start, ts) ≡ (Ok f, rest) → WithinLimits f
+limits_of ts f rest e = within ts f rest (ap (λ (r : Rest). r.0) (rest_is ts f rest e)) e
+
+-- an answer that comes only where the file was read whole
+abbrev IsPast : Result SpecTree SpecFault → Type 0
+IsPast (Ok s) = Unit {0}
+IsPast (Err faults.Memory) = ⊥
+IsPast (Err (faults.Lex f)) = ⊥
+IsPast (Err (faults.Expected w at)) = ⊥
+IsPast (Err (faults.NoticesLeftOut at)) = ⊥
+IsPast (Err (faults.Limit at)) = ⊥
+IsPast (Err (faults.DuplicateStep at)) = Unit {0}
+IsPast (Err (faults.UndefinedStep at)) = Unit {0}
+IsPast (Err (faults.UndefinedMarker at)) = Unit {0}
+
+pub record WasResolved (text : List ℕ) (x : Result SpecTree SpecFault) : Type 0 where
+  pub tokens : List (At Token)
+  pub lexes : Lexes text (Ok tokens)
+  pub file_is : FileTree
+  pub rest : Rest
+  pub read : file_at (start, tokens) ≡ (Ok file_is, rest)
+  pub is : x ≡ resolved file_is
+
+past_stop : (s : Stop) (p : ℕ) → IsPast (Err (stopped (AtPlace s p))) → ⊥
+past_stop (Expected w) p h = h
+past_stop NoticesLeftOut p h = h
+past_stop OverLimit p h = h
+
+from_read : (text : List ℕ) (ts : List (At Token)) (x : Result SpecTree SpecFault) (q : Read FileTree) → file_at (start, ts) ≡ q → Lexes text (Ok ts) → x ≡ finished (length text) q → IsPast x → WasResolved text x
+from_read text ts x (Ok f, rest) e lexes is h = record { tokens = ts; lexes = lexes; file_is = f; rest = rest; read = e; is = is }
+from_read text ts x (Err s, rest) e lexes is h = absurd (past_stop s (place (length text) rest.1) (subst IsPast is h))
+
+pub was_resolved : (text : List ℕ) (x : Result SpecTree SpecFault) → IsPast x → SpecReads text x → WasResolved text x
+was_resolved text x h (no_tokens f lexes) = absurd h
+was_resolved text x h (tokens ts lexes is) = from_read text ts x (file_at (start, ts)) refl lexes is h
+
+-- what was resolved is read
+pub reads_so : (text : List ℕ) (ts : List (At Token)) (f : FileTree) (x : Result SpecTree SpecFault) → Lexes text (Ok ts) → file start ts f → WithinLimits f → x ≡ resolved f → SpecReads text x
+reads_so text ts f x lexes grammar limits is = tokens ts lexes (is ∙ sym (ap (finished (length text)) (is_read_whole ts f grammar limits)))
+
+-- ---- the names looked up
+
+abbrev made : FileTree → List (List EntryTree) → SpecTree
+made f ps = record { setups = f.setups; teardown = f.teardown; sessions = map session_tree f.sessions; perms = ps }
+
+abbrev out_of : FileTree → Option ℕ → Result (List (List EntryTree)) SpecFault → Result SpecTree SpecFault
+out_of f o r = without_repeat o (r >>= λ ps. Ok (made f ps))
+
+ok_err : (x : SpecTree) (f : SpecFault) → ◌≡◌ {A = Result SpecTree SpecFault} (Ok x) (Err f) → ⊥
+ok_err x f e = cc
+
+ok_same : (x y : SpecTree) → ◌≡◌ {A = Result SpecTree SpecFault} (Ok x) (Ok y) → x ≡ y
+ok_same x y e = cc
+
+err_same : (f g : SpecFault) → ◌≡◌ {A = Result SpecTree SpecFault} (Err f) (Err g) → f ≡ g
+err_same f g e = cc
+
+ok_by : (f : FileTree) (s : SpecTree) (o : Option ℕ) (r : Result (List (List EntryTree)) SpecFault) → Ok s ≡ out_of f o r → (o ≡ None) × ((ps : List (List EntryTree)) × (r ≡ Ok ps) × (s ≡ made f ps))
+ok_by f s (Some at) r e = absurd (ok_err s (faults.DuplicateStep at) e)
+ok_by f s None (Ok ps) e = (refl, (ps, refl, ok_same s (made f ps) e))
+ok_by f s None (Err x) e = absurd (ok_err s x e)
+
+-- a fault of the names of permutations
+abbrev IsUndefined : SpecFault → Type 0
+IsUndefined (faults.UndefinedStep at) = Unit {0}
+IsUndefined (faults.UndefinedMarker at) = Unit {0}
+IsUndefined faults.Memory = ⊥
+IsUndefined (faults.Lex f) = ⊥
+IsUndefined (faults.Expected w at) = ⊥
+IsUndefined (faults.NoticesLeftOut at) = ⊥
+IsUndefined (faults.Limit at) = ⊥
+IsUndefined (faults.DuplicateStep at) = ⊥
+
+mention_undefined : (m : Mention) → IsUndefined (undefined_at m)
+mention_undefined (by_entry n) = tt
+mention_undefined (by_marker n) = tt
+
+is_undefined : (known : List StepAt) (ms : List Mention) (f : SpecFault) → IsFirstUndefined known ms f → IsUndefined f
+is_undefined known ms f h = subst IsUndefined (sym h.fault) (mention_undefined h.first)
+
+undefined_by : (f : FileTree) (x : SpecFault) (o : Option ℕ) (r : Result (List (List EntryTree)) SpecFault) → IsUndefined x → Err x ≡ out_of f o r → (o ≡ None) × (r ≡ Err x)
+undefined_by f x (Some at) r h e = absurd (subst IsUndefined (err_same x (faults.DuplicateStep at) e) h)
+undefined_by f x None (Ok ps) h e = absurd (ok_err (made f ps) x (sym e))
+undefined_by f x None (Err y) h e = (refl, ap Err (sym (err_same x y e)))
+
+repeat_at : (at n : ℕ) → faults.DuplicateStep at ≡ faults.DuplicateStep n → n ≡ at
+repeat_at at n e = cc
+
+repeat_by : (f : FileTree) (at : ℕ) (o : Option ℕ) (r : Result (List (List EntryTree)) SpecFault) → ((x : SpecFault) → r ≡ Err x → IsUndefined x) → Err (faults.DuplicateStep at) ≡ out_of f o r → o ≡ Some at
+repeat_by f at (Some n) r h e = ap Some (repeat_at at n (err_same (faults.DuplicateStep at) (faults.DuplicateStep n) e))
+repeat_by f at None (Ok ps) h e = absurd (ok_err (made f ps) (faults.DuplicateStep at) (sym e))
+repeat_by f at None (Err y) h e = absurd (subst IsUndefined (sym (err_same (faults.DuplicateStep at) y e)) (h y refl))
+
+-- ---- the laws
+
+spec_from : (text : List ℕ) (s : SpecTree) → WasResolved text (Ok s) → IsSpec text s
+spec_from text s w =
+    let f = w.file_is in
+    let known = steps_of f in
+    let k = ok_by f s (first_repeat [] known) (known_perms known f.perms) w.is in
+    record {
+      tokens = w.tokens;
+      lexes = w.lexes;
+      file = f;
+      grammar = reads_are_files w.tokens f w.rest w.read;
+      limits = limits_of w.tokens f w.rest w.read;
+      differ = names_differ known k.0;
+      setups = ap (λ (x : SpecTree). x.setups) k.1.2;
+      teardown = ap (λ (x : SpecTree). x.teardown) k.1.2;
+      sessions = ap (λ (x : SpecTree). x.sessions) k.1.2;
+      perms = perms_are known f.perms s.perms (k.1.1 ∙ ap Ok (sym (ap (λ (x : SpecTree). x.perms) k.1.2)));
+    }
+
+pub reads_are_specs : (text : List ℕ) (s : SpecTree) → SpecReads text (Ok s) → IsSpec text s
+reads_are_specs text s h = spec_from text s (was_resolved text (Ok s) tt h)
+
+pub specs_are_read : (text : List ℕ) (s : SpecTree) → IsSpec text s → SpecReads text (Ok s)
+specs_are_read text s h =
+    let f = h.file in
+    let known = steps_of f in
+    let is : resolved f ≡ Ok (made f s.perms) = (λ i. out_of f (no_repeat known h.differ i) (perms_ok known h.differ f.perms s.perms h.perms i)) in
+    let same : s ≡ made f s.perms = (λ i. record { setups = h.setups i; teardown = h.teardown i; sessions = h.sessions i; perms = s.perms }) in
+    reads_so text h.tokens f (Ok s) h.lexes h.grammar h.limits (ap Ok same ∙ sym is)
+
+pub repeats_are_read : (text : List ℕ) (at : ℕ) → HasRepeat text at → SpecReads text (Err (faults.DuplicateStep at))
+repeats_are_read text at h =
+    let f = h.file in
+    let known = steps_of f in
+    let is : resolved f ≡ Err (faults.DuplicateStep at) = ap (λ o. out_of f o (known_perms known f.perms)) (first_repeats known at h.first) in
+    reads_so text h.tokens f (Err (faults.DuplicateStep at)) h.lexes h.grammar h.limits (sym is)
+
+repeat_from : (text : List ℕ) (at : ℕ) → WasResolved text (Err (faults.DuplicateStep at)) → HasRepeat text at
+repeat_from text at w =
+    let f = w.file_is in
+    let known = steps_of f in
+    let k = repeat_by f at (first_repeat [] known) (known_perms known f.perms) (λ x e. is_undefined known (mentions f.perms) x (undefined_first known f.perms x e)) w.is in
+    record { tokens = w.tokens; lexes = w.lexes; file = f; grammar = reads_are_files w.tokens f w.rest w.read; limits = limits_of w.tokens f w.rest w.read; first = repeats_first known at k }
+
+pub reads_are_repeats : (text : List ℕ) (at : ℕ) → SpecReads text (Err (faults.DuplicateStep at)) → HasRepeat text at
+reads_are_repeats text at h = repeat_from text at (was_resolved text (Err (faults.DuplicateStep at)) tt h)
+
+pub undefined_are_read : (text : List ℕ) (x : SpecFault) → HasUndefined text x → SpecReads text (Err x)
+undefined_are_read text x h =
+    let f = h.file in
+    let known = steps_of f in
+    let is : resolved f ≡ Err x = (λ i. out_of f (no_repeat known h.differ i) (first_undefined known f.perms x h.first i)) in
+    reads_so text h.tokens f (Err x) h.lexes h.grammar h.limits (sym is)
+
+undefined_from : (text : List ℕ) (x : SpecFault) → IsUndefined x → WasResolved text (Err x) → HasUndefined text x
+undefined_from text x h w =
+    let f = w.file_is in
+    let known = steps_of f in
+    let k = undefined_by f x (first_repeat [] known) (known_perms known f.perms) h w.is in
+    record { tokens = w.tokens; lexes = w.lexes; file = f; grammar = reads_are_files w.tokens f w.rest w.read; limits = limits_of w.tokens f w.rest w.read; differ = names_differ known k.0; first = undefined_first known f.perms x k.1 }
+
+pub steps_are_undefined : (text : List ℕ) (at : ℕ) → SpecReads text (Err (faults.UndefinedStep at)) → HasUndefined text (faults.UndefinedStep at)
+steps_are_undefined text at h = undefined_from text (faults.UndefinedStep at) tt (was_resolved text (Err (faults.UndefinedStep at)) tt h)
+
+pub markers_are_undefined : (text : List ℕ) (at : ℕ) → SpecReads text (Err (faults.UndefinedMarker at)) → HasUndefined text (faults.UndefinedMarker at)
+markers_are_undefined text at h = undefined_from text (faults.UndefinedMarker at) tt (was_resolved text (Err (faults.UndefinedMarker at)) tt h)
