@@ -11,3 +11,4 @@ pub mod Tokens
 pub mod Limits
 pub mod Looking
 pub mod Exact
+pub mod Standing
