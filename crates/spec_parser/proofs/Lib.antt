@@ -12,3 +12,5 @@ pub mod Limits
 pub mod Looking
 pub mod Exact
 pub mod Standing
+pub mod NeverOver
+pub mod Overs

@@ -36,17 +36,17 @@ all_to P (x ∷ xs) h = (h 0 x (omega arith), all_to P xs (λ k d lt. h (suc k) 
 
 -- ---- the parts of what was read
 
-no_value : {A : Type 0} (s : Stop) (x : A) → ◌≡◌ {A = Result A Stop} (Err s) (Ok x) → ⊥
+pub no_value : {A : Type 0} (s : Stop) (x : A) → ◌≡◌ {A = Result A Stop} (Err s) (Ok x) → ⊥
 no_value s x e = cc
 
-value_is : {A : Type 0} (x y : A) → ◌≡◌ {A = Result A Stop} (Ok x) (Ok y) → x ≡ y
+pub value_is : {A : Type 0} (x y : A) → ◌≡◌ {A = Result A Stop} (Ok x) (Ok y) → x ≡ y
 value_is x y e = cc
 
 pub in_two : {A B : Type 0} (q : Read A) (f : A × Rest → Read B) (z : B) (after : Rest) → (q >>= f) ≡ (Ok z, after) → (x : A) × (mid : Rest) × (q ≡ (Ok x, mid)) × (f (x, mid) ≡ (Ok z, after))
 in_two (Ok x, mid) f z after e = (x, mid, refl, e)
 in_two {B = B} (Err s, mid) f z after e = absurd (no_value s z (ap (λ (r : Read B). r.0) e))
 
-ok_means : {A : Type 0} (G : Grammar A) (out : Result A Stop) (c : Counts) (front : List (At Token)) (x : A) → out ≡ Ok x → Means G out c front → G c front x
+pub ok_means : {A : Type 0} (G : Grammar A) (out : Result A Stop) (c : Counts) (front : List (At Token)) (x : A) → out ≡ Ok x → Means G out c front → G c front x
 ok_means G (Ok y) c front x e m = subst (G c front) (value_is y x e) m
 ok_means G (Err s) c front x e m = absurd (no_value s x e)
 
@@ -64,7 +64,7 @@ pub record Few (c : Counts) : Type 0 where
   pub sessions : c.sessions ≤ 64
   pub steps : c.steps ≤ 1000
 
-abbrev Keeps : {A : Type 0} → (Rest → Read A) → Type 0
+abbrev pub Keeps : {A : Type 0} → (Rest → Read A) → Type 0
 Keeps {A} p = (r after : Rest) (x : A) → p r ≡ (Ok x, after) → Few r.0 → Few after.0
 
 keeps_then : {A B : Type 0} (p : Rest → Read A) (f : A × Rest → Read B) → Keeps p → ((x : A) → Keeps (λ r. f (x, r))) → Keeps (λ r. p r >>= f)
@@ -82,13 +82,13 @@ quiet_keeps G p local quiet r after x e few =
 parts_count : (c d : Counts) (ts : List (At Token)) (ps : List PartTree) → Moves c d ts (parts_gist ps) → (d.sessions ≡ c.sessions) × (d.steps ≡ c.steps)
 parts_count c d ts ps m = (omega (arith, m.sessions), omega (arith, m.steps))
 
-setups_keep : Keeps setups_at
+pub setups_keep : Keeps setups_at
 setups_keep = quiet_keeps (Many (block_behind Setup)) setups_at setups_local (λ c ts ps h. parts_count c (past c ts) ts ps (setups_have c ts ps h))
 
-setup_keeps : Keeps setup_at
+pub setup_keeps : Keeps setup_at
 setup_keeps = quiet_keeps (Maybe (block_behind Setup)) setup_at setup_local (λ c ts o h. parts_count c (past c ts) ts (option_to_list o) (maybe_has (block_behind Setup) setup_has c ts o h))
 
-teardown_keeps : Keeps teardown_at
+pub teardown_keeps : Keeps teardown_at
 teardown_keeps = quiet_keeps (Maybe (block_behind Teardown)) teardown_at teardown_local (λ c ts o h. parts_count c (past c ts) ts (option_to_list o) (maybe_has (block_behind Teardown) teardown_has c ts o h))
 
 within_by : (b d : Bool) (before most : ℕ) (r after : Rest) (n : NameAt) → nat_lt before most ≡ b → cond b (name_at what.Name r) (cond d (Err OverLimit, r) (Err (Expected what.Name), r)) ≡ (Ok n, after) → before < most
@@ -111,7 +111,7 @@ step_before r after s e =
     let n = in_two (name_within r.0.steps 1000 key.1) _ s after key.3 in
     within_is r.0.steps 1000 key.1 n.1 n.0 n.2
 
-step_keeps : (k : ℕ) → Keeps step_at
+pub step_keeps : (k : ℕ) → Keeps step_at
 step_keeps k r after s e few =
     let w = was_in step_grammar step_at step_local r after s e in
     let m = step_has r.0 w.0 s w.2 in
@@ -164,7 +164,7 @@ some_keep w starts item keeps r after xs e few = many_keep starts item keeps (le
 gives_keep : {A : Type 0} (v : A) → Keeps (λ r. (Ok v, r))
 gives_keep {A} v r after x e few = subst (λ (d : Rest). Few d.0) (ap (λ (q : Read A). q.1) e) few
 
-steps_keep : Keeps steps_at
+pub steps_keep : Keeps steps_at
 unfolding steps_at
 steps_keep = some_keep what.Step (starts_word Step) (λ k. step_at) step_keeps
 
@@ -176,10 +176,10 @@ session_end_keeps n = keeps_then setup_at (λ setup. steps_at setup.1 >>= λ ss.
     (λ setup. keeps_then steps_at (λ ss. teardown_at ss.1 >>= λ teardown. (Ok (session_of n setup ss.0 teardown.0), teardown.1)) steps_keep
     (λ ss. keeps_then teardown_at (λ teardown. (Ok (session_of n setup ss teardown.0), teardown.1)) teardown_keeps (λ teardown. gives_keep (session_of n setup ss teardown))))
 
-name_keeps : (before most : ℕ) → Keeps (name_within before most)
+pub name_keeps : (before most : ℕ) → Keeps (name_within before most)
 name_keeps before most = quiet_keeps (one the_name) (name_within before most) (name_within_local before most) (λ c ts n h. (ap (λ (d : Counts). d.sessions) (name_past c ts n h), ap (λ (d : Counts). d.steps) (name_past c ts n h)))
 
-session_keeps : (k : ℕ) → Keeps session_at
+pub session_keeps : (k : ℕ) → Keeps session_at
 unfolding session_at
 session_keeps k r after s e few =
     let key = in_two (word_at Session what.Item r) _ s after e in
@@ -190,13 +190,13 @@ session_keeps k r after s e few =
     let few1 : Few key.1.0 = record { sessions = omega (arith, lt, m.sessions, ap (λ (c : Counts). c.sessions) w.1); steps = omega (arith, few.steps, m.steps, ap (λ (c : Counts). c.steps) w.1) } in
     session_end_keeps n.0 n.1 after s n.3 (name_keeps r.0.sessions 64 key.1 n.1 n.0 n.2 few1)
 
-sessions_keep : Keeps sessions_at
+pub sessions_keep : Keeps sessions_at
 unfolding sessions_at
 sessions_keep = some_keep what.Session (starts_word Session) (λ k. session_at) session_keeps
 
 -- ---- permutations
 
-entry_before : (k : ℕ) (r after : Rest) (e : NamedEntry) → entry_at k r ≡ (Ok e, after) → k < 1000
+pub entry_before : (k : ℕ) (r after : Rest) (e : NamedEntry) → entry_at k r ≡ (Ok e, after) → k < 1000
 unfolding entry_at
 entry_before k r after x e = let n = in_two (name_within k 1000 r) _ x after e in within_is k 1000 r n.1 n.0 n.2
 
@@ -210,7 +210,7 @@ entries_few : (n k : ℕ) (r after : Rest) (es : List NamedEntry) → many_at st
 entries_few zero k r after es e le = omega (arith, le, ap (λ (l : List NamedEntry). length l) (none_at starts_name entry_at k r after es e).0)
 entries_few (suc n) k r after es e le = entries_case n k r after es (λ m ys h f. entries_few n (k + 1) m after ys h f) le (steps starts_name entry_at n k r after es e)
 
-perm_short : (r after : Rest) (es : List NamedEntry) → perm_at r ≡ (Ok es, after) → IsShort es
+pub perm_short : (r after : Rest) (es : List NamedEntry) → perm_at r ≡ (Ok es, after) → IsShort es
 unfolding perm_at entries_at
 perm_short r after es e =
     let key = in_two (word_at Permutation what.Item r) _ es after e in
@@ -224,7 +224,7 @@ perms_short : (n k : ℕ) (r after : Rest) (ps : List (List NamedEntry)) → man
 perms_short zero k r after ps e = rw ((none_at (starts_word Permutation) (λ k. perm_at) k r after ps e).0) tt
 perms_short (suc n) k r after ps e = perms_case n k r after ps (λ j m qs h. perms_short n j m after qs h) (steps (starts_word Permutation) (λ k. perm_at) n k r after ps e)
 
-perms_keep : Keeps perms_at
+pub perms_keep : Keeps perms_at
 perms_keep = quiet_keeps (Many perm) perms_at perms_local (λ c ts ps h. (ap (λ (d : Counts). d.sessions) (perms_quiet c ts ps h), ap (λ (d : Counts). d.steps) (perms_quiet c ts ps h)))
 
 -- ---- the file

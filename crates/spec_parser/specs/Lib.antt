@@ -11,4 +11,5 @@ pub mod Known
 pub mod SpecText
 pub mod IsSpec
 pub mod NameFaults
+pub mod LimitFaults
 pub mod Stands
