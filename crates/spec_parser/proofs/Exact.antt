@@ -20,8 +20,10 @@ use Rattle.spec_parser.specs.SpecText.{SpecReads, no_tokens, tokens, finished}
 use Rattle.spec_parser.specs.IsSpec.{steps_of, WithinLimits, NamesDiffer, IsSpec}
 use Rattle.spec_parser.specs.NameFaults.{Mention, by_entry, by_marker, mentions, undefined_at, IsFirstUndefined, IsFirstRepeat, HasRepeat, HasUndefined}
 use Rattle.spec_parser.proofs.Complete.{Again, whole, over, LongFile}
-use Rattle.spec_parser.proofs.WholeLaws.{read_or_over, reads_are_files}
+use Rattle.spec_parser.proofs.WholeLaws.{read_or_over, reads_are_files, files_are_read}
 use Rattle.spec_parser.proofs.Limits.{within, is_read_whole}
+use Rattle.spec_parser.specs.LimitFaults.{HasLimit}
+use Rattle.spec_parser.proofs.Overs.{limit_stop}
 use Rattle.spec_parser.proofs.Looking.{names_differ, no_repeat, repeats_first, first_repeats, perms_are, perms_ok, undefined_first, first_undefined}
 
 -- ---- a file that was read whole
@@ -196,3 +198,50 @@ steps_are_undefined text at h = undefined_from text (faults.UndefinedStep at) tt
 
 pub markers_are_undefined : (text : List ℕ) (at : ℕ) → SpecReads text (Err (faults.UndefinedMarker at)) → HasUndefined text (faults.UndefinedMarker at)
 markers_are_undefined text at h = undefined_from text (faults.UndefinedMarker at) tt (was_resolved text (Err (faults.UndefinedMarker at)) tt h)
+
+-- ---- limits
+
+limit_at : (at n : ℕ) → faults.Limit at ≡ faults.Limit n → at ≡ n
+limit_at at n e = cc
+
+not_limit_repeat : (at n : ℕ) → faults.Limit at ≡ faults.DuplicateStep n → ⊥
+not_limit_repeat at n e = cc
+
+no_limit : (f : FileTree) (at : ℕ) (o : Option ℕ) (r : Result (List (List EntryTree)) SpecFault) → ((x : SpecFault) → r ≡ Err x → IsUndefined x) → Err (faults.Limit at) ≡ out_of f o r → ⊥
+no_limit f at (Some n) r h e = not_limit_repeat at n (err_same (faults.Limit at) (faults.DuplicateStep n) e)
+no_limit f at None (Ok ps) h e = ok_err (made f ps) (faults.Limit at) (sym e)
+no_limit f at None (Err y) h e = subst IsUndefined (sym (err_same (faults.Limit at) y e)) (h y refl)
+
+limit_stopped : (at p : ℕ) (s : Stop) → faults.Limit at ≡ stopped (AtPlace s p) → (s ≡ OverLimit) × (at ≡ p)
+limit_stopped at p OverLimit e = (refl, limit_at at p e)
+limit_stopped at p (Expected w) e = absurd cc
+limit_stopped at p NoticesLeftOut e = absurd cc
+
+limit_from : (text : List ℕ) (ts : List (At Token)) (at : ℕ) (q : Read FileTree) → file_at (start, ts) ≡ q → Lexes text (Ok ts) → Err (faults.Limit at) ≡ finished (length text) q → HasLimit text at
+limit_from text ts at (Ok f, rest) e lexes is = absurd (no_limit f at (first_repeat [] (steps_of f)) (known_perms (steps_of f) f.perms) (λ x d. is_undefined (steps_of f) (mentions f.perms) x (undefined_first (steps_of f) f.perms x d)) is)
+limit_from text ts at (Err s, rest) e lexes is =
+    let k = limit_stopped at (place (length text) rest.1) s (err_same (faults.Limit at) (stopped (AtPlace s (place (length text) rest.1))) is) in
+    let stop = limit_stop ts rest (e ∙ (λ i. (Err (k.0 i), rest))) in
+    record { tokens = ts; lexes = lexes; rest = rest.1; stop = stop; place = k.1 ∙ ap (place (length text)) stop.rest_is }
+
+not_lex : (at : ℕ) (f : Fault) → faults.Lex f ≡ faults.Limit at → ⊥
+not_lex at f e = cc
+
+limit_by : (text : List ℕ) (at : ℕ) (x : Result SpecTree SpecFault) → x ≡ Err (faults.Limit at) → SpecReads text x → HasLimit text at
+limit_by text at x e (no_tokens f lexes) = absurd (not_lex at f (err_same (faults.Lex f) (faults.Limit at) e))
+limit_by text at x e (tokens ts lexes is) = limit_from text ts at (file_at (start, ts)) refl lexes (sym e ∙ is)
+
+pub limits_are_names : (text : List ℕ) (at : ℕ) → SpecReads text (Err (faults.Limit at)) → HasLimit text at
+limits_are_names text at h = limit_by text at (Err (faults.Limit at)) refl h
+
+-- ---- files of the grammar
+
+over_by : (ts : List (At Token)) (f : FileTree) → ((file_at (start, ts) ≡ (Ok f, (past start ts, []))) ⊎ ((file_at (start, ts)).0 ≡ Err OverLimit)) → (WithinLimits f → ⊥) → (file_at (start, ts)).0 ≡ Err OverLimit
+over_by ts f (inl e) outside = absurd (outside (limits_of ts f (past start ts, []) e))
+over_by ts f (inr e) outside = e
+
+pub files_within : (ts : List (At Token)) (f : FileTree) → file start ts f → (WithinLimits f → file_at (start, ts) ≡ (Ok f, (past start ts, []))) × ((WithinLimits f → ⊥) → (file_at (start, ts)).0 ≡ Err OverLimit)
+files_within ts f grammar = (λ limits. is_read_whole ts f grammar limits, λ outside. over_by ts f (files_are_read ts f grammar) outside)
+
+pub reads_within : (ts : List (At Token)) (f : FileTree) (rest : Rest) → file_at (start, ts) ≡ (Ok f, rest) → file start ts f × WithinLimits f
+reads_within ts f rest e = (reads_are_files ts f rest e, limits_of ts f rest e)

@@ -1,5 +1,5 @@
--- What is so of every text.
-use Rattle.std.specs.Prelude.{◌≡◌, ℕ, List, [], ◌∷◌, ◌++◌, Option, Some, None, Result, Ok, Err, ◌⊎◌}
+-- What is so of every list of tokens, and of every text.
+use Rattle.std.specs.Prelude.{◌≡◌, ℕ, List, [], ◌∷◌, ◌++◌, Option, Some, None, Result, Ok, Err}
 use Rattle.iso_lexer.specs.declared.token.At.{At}
 use Rattle.iso_lexer.specs.SpecTokens.{Token}
 use Rattle.spec_parser.specs.declared.fault.Stop.{Stop}
@@ -9,7 +9,12 @@ use Rattle.spec_parser.specs.Trees.{FileTree, SpecTree}
 use Rattle.spec_parser.specs.Counts.{start, past}
 use Rattle.spec_parser.specs.Reading.{Rest, file_at}
 use Rattle.spec_parser.specs.Grammar.{file}
+use Rattle.spec_parser.specs.declared.fault.SpecFault.TheVariants as faults
 use Rattle.spec_parser.specs.SpecText.{SpecReads}
+use Rattle.spec_parser.specs.IsSpec.{WithinLimits, IsSpec}
+use Rattle.spec_parser.specs.LimitFaults.{LimitStop, HasLimit}
+use Rattle.spec_parser.specs.NameFaults.{HasRepeat, HasUndefined}
+use Rattle.spec_parser.specs.Stands.{Stands, LiesIn}
 
 abbrev pub head : List (At Token) → Option (At Token)
 head [] = None
@@ -27,14 +32,46 @@ pub record StopsFirst (ts : List (At Token)) (stop : Stop) (rest : List (At Toke
 abbrev pub FaultsAreFirst : Type 0
 FaultsAreFirst = (ts : List (At Token)) (stop : Stop) (rest : Rest) → file_at (start, ts) ≡ (Err stop, rest) → StopsFirst ts stop rest.1
 
--- What is read whole is a file of the grammar.
+-- What is read whole is a file of the grammar, within the limits.
 abbrev pub ReadsAreFiles : Type 0
-ReadsAreFiles = (ts : List (At Token)) (f : FileTree) (rest : Rest) → file_at (start, ts) ≡ (Ok f, rest) → file start ts f
+ReadsAreFiles = (ts : List (At Token)) (f : FileTree) (rest : Rest) → file_at (start, ts) ≡ (Ok f, rest) → file start ts f × WithinLimits f
 
--- A file of the grammar is read whole, or has something over a limit.
+-- A file of the grammar is read whole where it is within the limits, and else reading stops at a limit.
 abbrev pub FilesAreRead : Type 0
-FilesAreRead = (ts : List (At Token)) (f : FileTree) → file start ts f → (file_at (start, ts) ≡ (Ok f, (past start ts, []))) ⊎ ((file_at (start, ts)).0 ≡ Err OverLimit)
+FilesAreRead = (ts : List (At Token)) (f : FileTree) → file start ts f → (WithinLimits f → file_at (start, ts) ≡ (Ok f, (past start ts, []))) × ((WithinLimits f → ⊥) → (file_at (start, ts)).0 ≡ Err OverLimit)
+
+-- Reading stops at a limit before the name that is over it.
+abbrev pub LimitsAreFirst : Type 0
+LimitsAreFirst = (ts : List (At Token)) (rest : Rest) → file_at (start, ts) ≡ (Err OverLimit, rest) → LimitStop ts rest.1
+
+-- ---- texts
 
 -- A text says one thing, or has one fault.
 abbrev pub OneAnswer : Type 0
 OneAnswer = (text : List ℕ) (x y : Result SpecTree SpecFault) → SpecReads text x → SpecReads text y → x ≡ y
+
+-- A text says this where it is this spec file, and nowhere else.
+abbrev pub SpecsAreExact : Type 0
+SpecsAreExact = (text : List ℕ) (s : SpecTree) → (SpecReads text (Ok s) → IsSpec text s) × (IsSpec text s → SpecReads text (Ok s))
+
+-- A name is refused as over a limit only where it is.
+abbrev pub LimitsAreNames : Type 0
+LimitsAreNames = (text : List ℕ) (at : ℕ) → SpecReads text (Err (faults.Limit at)) → HasLimit text at
+
+-- A step name is refused where it is the first that an earlier step has, and nowhere else.
+abbrev pub RepeatsAreExact : Type 0
+RepeatsAreExact = (text : List ℕ) (at : ℕ) → (SpecReads text (Err (faults.DuplicateStep at)) → HasRepeat text at) × (HasRepeat text at → SpecReads text (Err (faults.DuplicateStep at)))
+
+-- A name of a permutation is refused where it is the first that no step has, and nowhere else.
+pub record UndefinedAreExact : Type 0 where
+  pub steps : (text : List ℕ) (at : ℕ) → SpecReads text (Err (faults.UndefinedStep at)) → HasUndefined text (faults.UndefinedStep at)
+  pub markers : (text : List ℕ) (at : ℕ) → SpecReads text (Err (faults.UndefinedMarker at)) → HasUndefined text (faults.UndefinedMarker at)
+  pub only : (text : List ℕ) (fault : SpecFault) → HasUndefined text fault → SpecReads text (Err fault)
+
+-- Whatever a text says has its numbers, counts and blocks in order.
+abbrev pub SpecsStand : Type 0
+SpecsStand = (text : List ℕ) (s : SpecTree) → SpecReads text (Ok s) → Stands s
+
+-- Each block and each name is a slice of the text.
+abbrev pub SpecsAreSlices : Type 0
+SpecsAreSlices = (text : List ℕ) (s : SpecTree) → SpecReads text (Ok s) → LiesIn text s

@@ -5,7 +5,6 @@ pub mod Counts
 pub mod Reading
 pub mod Readers
 pub mod Grammar
-pub mod Laws
 pub mod Names
 pub mod Known
 pub mod SpecText
@@ -13,3 +12,4 @@ pub mod IsSpec
 pub mod NameFaults
 pub mod LimitFaults
 pub mod Stands
+pub mod Laws

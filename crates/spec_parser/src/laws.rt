@@ -1,6 +1,6 @@
 //! What is so of every text.
 
-ghost use Rattle.spec_parser.specs.Laws.{FaultsAreFirst, ReadsAreFiles, FilesAreRead, OneAnswer};
+ghost use Rattle.spec_parser.specs.Laws.{FaultsAreFirst, ReadsAreFiles, FilesAreRead, LimitsAreFirst, OneAnswer, SpecsAreExact, LimitsAreNames, RepeatsAreExact, UndefinedAreExact, SpecsStand, SpecsAreSlices};
 
 /// A text says one thing, or has one fault.
 pub fn one_answer()
@@ -9,7 +9,7 @@ pub fn one_answer()
     iso_lexer::one_reading();
 }
 
-/// What is read whole is a file of the grammar.
+/// What is read whole is a file of the grammar, within the limits.
 pub fn reads_are_files()
     ensures { ReadsAreFiles }
 {}
@@ -19,7 +19,41 @@ pub fn faults_are_first()
     ensures { FaultsAreFirst }
 {}
 
-/// A file of the grammar is read whole, or has something over a limit.
+/// A file of the grammar is read whole where it is within the limits, and nowhere else.
 pub fn files_are_read()
     ensures { FilesAreRead }
 {}
+
+/// Of tokens, and of texts: a limit is told before the first name that is over it.
+pub fn limits_are_first()
+    ensures tokens { LimitsAreFirst }
+    ensures texts { LimitsAreNames }
+{}
+
+/// A text is read as a spec exactly where it is that spec file.
+pub fn specs_are_exact()
+    ensures { SpecsAreExact }
+{}
+
+/// A step name is refused exactly where it is the first that an earlier step has.
+pub fn repeats_are_exact()
+    ensures { RepeatsAreExact }
+{}
+
+/// A name of a permutation is refused exactly where it is the first that no step has.
+pub fn undefined_are_exact()
+    ensures { UndefinedAreExact }
+{}
+
+/// The numbers in a spec name steps that are there, its counts are within the limits, and its blocks are numbered in file
+/// order.
+pub fn specs_stand()
+    ensures { SpecsStand }
+{}
+
+/// Each block and each name of a spec is a slice of its text.
+pub fn specs_are_slices()
+    ensures { SpecsAreSlices }
+{
+    iso_lexer::tokens_are_slices();
+}

@@ -15,7 +15,10 @@ mod session;
 mod tree;
 
 pub use fault::{SpecFault, What};
-pub use laws::{faults_are_first, files_are_read, one_answer, reads_are_files};
+pub use laws::{
+    faults_are_first, files_are_read, limits_are_first, one_answer, reads_are_files,
+    repeats_are_exact, specs_are_exact, specs_are_slices, specs_stand, undefined_are_exact,
+};
 pub use parse::parse_spec;
 pub use tree::{Entry, Marker, Part, SessionPart, Spec, StepPart};
 
