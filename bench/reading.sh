@@ -1,0 +1,18 @@
+#!/usr/bin/env bash
+# Times spec_tokens and parse_spec on files of half a mebibyte and of one, best of five runs, and says how many times as long the
+# second takes. Prove and build the program first: rt run in crates/reading_times
+set -eu
+here=$(cd "$(dirname "$0")/.." && pwd)
+program="$here/crates/reading_times/out/reading_times"
+for _ in 1 2 3 4 5; do "$program" times 2>&1 > /dev/null; done | awk -F';' '
+  { key = $1 ";" $2 }
+  !(key in lexer) { order[++n] = key; lexer[key] = $3; parser[key] = $4 }
+  $3 < lexer[key] { lexer[key] = $3 }
+  $4 < parser[key] { parser[key] = $4 }
+  END {
+    for (i = 1; i <= n; i += 2) {
+      a = order[i]; b = order[i + 1]; split(a, half, ";"); split(b, whole, ";")
+      printf "%s: spec_tokens %d µs for %d bytes, %d µs for %d: %.2f times as long\n", half[1], lexer[a], half[2], lexer[b], whole[2], lexer[b] / lexer[a]
+      printf "%s: parse_spec %d µs for %d bytes, %d µs for %d: %.2f times as long\n", half[1], parser[a], half[2], parser[b], whole[2], parser[b] / parser[a]
+    }
+  }'

@@ -1,0 +1,54 @@
+//! Reads spec files of half a mebibyte and of one, and says what they hold; with an argument also how long it took, on
+//! standard error.
+#![tactic(auto)]
+
+use anyhow::{Result, bail};
+use iso_lexer::spec_tokens;
+use spec_parser::parse_spec;
+use std::alloc::{AllocError, Global};
+use std::env;
+use std::time::Instant;
+
+const HEAD: &str = "session s step a { } step b { }\n";
+
+/// A file of two steps and then the line so often.
+fn file_of(alloc: Global, line: &str, count: usize) -> Result<String, AllocError> {
+    let lines = line.repeat(alloc, count)?;
+    format!(in alloc; "{HEAD}{lines}")
+}
+
+/// Reads the file as tokens, and then as a spec.
+fn read(rt: &HostRuntime, name: &str, text: &str, with_times: bool) -> Result<()> {
+    let start = Instant::now(rt)?;
+    let Ok(tokens) = spec_tokens(rt.alloc(), text) else {
+        bail!("no tokens");
+    };
+    let for_tokens = start.elapsed(rt)?;
+    let start = Instant::now(rt)?;
+    let Ok(spec) = parse_spec(rt.alloc(), text) else {
+        bail!("no spec");
+    };
+    let for_spec = start.elapsed(rt)?;
+    let (bytes, count, perms) = (text.len(), tokens.len(), spec.perms.len());
+    println!(rt; "{name}, {bytes} bytes: {count} tokens, {perms} permutations")?;
+    if with_times {
+        let (lexer, parser) = (for_tokens.as_micros(), for_spec.as_micros());
+        eprintln!(rt; "{name};{bytes};{lexer};{parser}")?;
+    }
+    Ok(())
+}
+
+fn main(rt: HostRuntime) -> Result<()> {
+    let with_times = env::args(&rt)?.count() > 1;
+    for (name, line, half, whole) in [
+        ("permutations", "permutation a b b a\n", 26_212, 52_427),
+        ("markers", "permutation b a(b,*)\n", 24_964, 49_930),
+        ("comments", "# one line of a note\n", 24_964, 49_930),
+    ] {
+        let text = file_of(rt.alloc(), line, half)?;
+        read(&rt, name, text.as_str(), with_times)?;
+        let text = file_of(rt.alloc(), line, whole)?;
+        read(&rt, name, text.as_str(), with_times)?;
+    }
+    Ok(())
+}
