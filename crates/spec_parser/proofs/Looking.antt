@@ -293,7 +293,12 @@ undefined_case known m ms (Some s) f is e later =
     let h = later e in
     let here = found (is_named (mentioned m).name) known s is in
     record {
-      front = m ∷ h.front; first = h.first; back = h.back; split = ap (λ (l : List Mention). m ∷ l) h.split; undefined = h.undefined; fault = h.fault;
+      front = m ∷ h.front;
+      first = h.first;
+      back = h.back;
+      split = ap (λ (l : List Mention). m ∷ l) h.split;
+      undefined = h.undefined;
+      fault = h.fault;
       defined = all_more (λ x. IsDefined known (mentioned x)) m h.front (record { step = s; listed = here.0; same = named_is (mentioned m) s here.1 }) h.defined;
     }
 

@@ -188,3 +188,39 @@ fn a_whole_file(rt: HostRuntime) -> Result<(), Fail> {
     assert_eq!(rt; entries[2].step, 1);
     Ok(())
 }
+
+/// To be run with each allocation failing in turn: the answer is the spec or want of memory, and never a fault.
+#[test]
+fn want_of_memory_is_told_as_such(rt: HostRuntime) {
+    let text = "setup { A } setup { B } setup { C } setup { D } setup { E } teardown { F }\n\
+        session s1 setup { G } step a { H } step b { I } step c { J } step d { K } step e { L } teardown { M }\n\
+        session s2 step f { N } session s3 step g { O } session s4 step h { P } session s5 step i { Q }\n\
+        permutation a b(*, a, c, d, e) f g h i\npermutation c(*)\npermutation d\npermutation e\npermutation f(a, b)";
+    match parse_spec(rt.alloc(), text) {
+        Ok(spec) => {
+            assert_eq!(rt; spec.setups.len(), 5);
+            assert_eq!(rt; spec.sessions.len(), 5);
+            assert_eq!(rt; spec.perms.len(), 5);
+        }
+        Err(SpecFault::Memory) => {}
+        Err(_) => assert!(rt; false),
+    }
+    refuses(
+        &rt,
+        rt.alloc(),
+        "session s step a { } step b { } step a { }",
+        "S2 DuplicateStep at byte 37",
+    );
+    refuses(
+        &rt,
+        rt.alloc(),
+        "session s step a { } permutation a b",
+        "S3 UndefinedStep at byte 35",
+    );
+    refuses(
+        &rt,
+        rt.alloc(),
+        "session s step a { } permutation a(*, b)",
+        "S4 UndefinedMarker at byte 38",
+    );
+}
