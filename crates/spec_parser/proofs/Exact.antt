@@ -1,6 +1,5 @@
 -- What reading gives is just what the relations say.
 use Rattle.std.proofs.Common.{◌≡◌, ◌⊎◌, inl, inr, ℕ, length, List, [], map, Option, Some, None, Result, Ok, Err, refl, sym, ap, subst, ◌∙◌}
-use Rattle.std.proofs.lemmas.Option.{none-some, same_Some}
 use Rattle.iso_lexer.specs.declared.token.At.{At}
 use Rattle.iso_lexer.specs.declared.fault.Fault.{Fault}
 use Rattle.iso_lexer.specs.SpecTokens.{Token}
@@ -17,8 +16,8 @@ use Rattle.spec_parser.specs.Reading.{Rest, Read, place, file_at}
 use Rattle.spec_parser.specs.Grammar.{file}
 use Rattle.spec_parser.specs.Names.{StepAt, first_repeat, known_perms, session_tree, ◌>>=◌, without_repeat, resolved}
 use Rattle.spec_parser.specs.SpecText.{SpecReads, no_tokens, tokens, finished}
-use Rattle.spec_parser.specs.IsSpec.{steps_of, WithinLimits, NamesDiffer, IsSpec}
-use Rattle.spec_parser.specs.NameFaults.{Mention, by_entry, by_marker, mentions, undefined_at, IsFirstUndefined, IsFirstRepeat, HasRepeat, HasUndefined}
+use Rattle.spec_parser.specs.IsSpec.{steps_of, WithinLimits, IsSpec}
+use Rattle.spec_parser.specs.NameFaults.{Mention, by_entry, by_marker, mentions, undefined_at, IsFirstUndefined, HasRepeat, HasUndefined}
 use Rattle.spec_parser.proofs.Complete.{Again, whole, over, LongFile}
 use Rattle.spec_parser.proofs.WholeLaws.{read_or_over, reads_are_files, files_are_read}
 use Rattle.spec_parser.proofs.Limits.{within, is_read_whole}

@@ -1,5 +1,5 @@
 -- What a piece of the grammar has: its blocks, the names of its sessions and steps, and how many of these it counts.
-use Rattle.std.proofs.Common.{◌≡◌, ◌≤◌, ◌<◌, ◌+◌, ◌-◌, arith, length, ℕ, zero, suc, Bool, true, false, cond, List, [], ◌∷◌, ◌++◌, map, Option, Some, None, Ok, Err, refl, sym, ap, subst, ◌∙◌, append_assoc, length-append, length-drop, length-take, take, drop}
+use Rattle.std.proofs.Common.{◌≡◌, ◌≤◌, ◌+◌, ◌-◌, arith, length, ℕ, zero, suc, List, [], ◌∷◌, ◌++◌, map, Some, refl, sym, ap, subst, ◌∙◌, append_assoc, length-append, length-drop, take, drop}
 use Rattle.std.specs.Prelude.{slice_range, flat_map, option_to_list}
 use Rattle.std.specs.List.{AllByRecursion, range_with_len, prefix_len, suffix_len}
 use Rattle.std.proofs.lemmas.List.{append-nil, map-append, drop-drop, take-append-le, drop-append-le, take-append-drop, length-take-le}
@@ -8,24 +8,23 @@ use Rattle.std.proofs.lemmas.List.Sums.{prefix_len-le-length}
 use Rattle.std.proofs.lemmas.Option.{same_Some}
 use Rattle.iso_lexer.specs.declared.token.At.{At}
 use Rattle.iso_lexer.specs.declared.spec_token.Keyword.{Keyword}
-use Rattle.iso_lexer.specs.declared.spec_token.Keyword.TheVariants.{Permutation, Session, Setup, Step, Teardown, Notices}
-use Rattle.iso_lexer.specs.declared.spec_token.Sign.{Sign}
+use Rattle.iso_lexer.specs.declared.spec_token.Keyword.TheVariants.{Permutation, Session, Setup, Step, Teardown}
 use Rattle.iso_lexer.specs.declared.spec_token.Sign.TheVariants.{Open, Close, Comma, Star}
 use Rattle.iso_lexer.specs.declared.runs.Run.TheVariants.{Blanks}
-use Rattle.iso_lexer.specs.Bytes.{passes as passes_run, is_blank, run_of, after_run, trimmed}
+use Rattle.iso_lexer.specs.Bytes.{passes as passes_run, is_blank, run_of, trimmed}
 use Rattle.iso_lexer.specs.Names.{Written}
 use Rattle.iso_lexer.specs.SpecTokens.{Token, keyword, name, digits, sign, block}
 use Rattle.iso_lexer.specs.SpecText.{block_of}
 use Rattle.iso_lexer.specs.SpecSpelling.{NameSpells, Spells, LiesAt}
-use Rattle.spec_parser.specs.Trees.{PartTree, StepTree, NameAt, NamedStep, NamedSession, MarkerTree, star, named, NamedEntry, FileTree}
+use Rattle.spec_parser.specs.Trees.{PartTree, StepTree, NameAt, NamedStep, NamedSession, star, named, FileTree}
 use Rattle.spec_parser.specs.Counts.{Counts, past, past_token}
-use Rattle.spec_parser.specs.Reading.{is_word, is_sign, the_word, the_sign, the_name, the_block, name_in, block_in}
+use Rattle.spec_parser.specs.Reading.{the_word, the_sign, the_name, the_block, name_in, block_in}
 use Rattle.spec_parser.specs.Grammar.{Grammar, gives, one, Maybe, left_out, given, Many, none, more, some, first, second, block_behind, step, session, marker, markers, entry, perm, file}
 use Rattle.spec_parser.specs.Grammar.{◌>>=◌ as ◌▸◌}
-use Rattle.spec_parser.specs.Names.{StepAt, steps_from, sessions_from, step_tree, session_tree}
+use Rattle.spec_parser.specs.Names.{steps_from, sessions_from, step_tree, session_tree}
 use Rattle.spec_parser.specs.Stands.{PartLies, NameLies, session_parts, session_names}
 use Rattle.spec_parser.proofs.Local.{past_twice}
-use Rattle.spec_parser.proofs.Tokens.{named_in, past_one, word_past, sign_past, name_past}
+use Rattle.spec_parser.proofs.Tokens.{past_one, word_past, sign_past, name_past}
 
 -- ---- lists
 

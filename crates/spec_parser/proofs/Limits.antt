@@ -1,5 +1,5 @@
 -- What is read is within the limits, and what is within them is read.
-use Rattle.std.proofs.Common.{◌≡◌, ◌≤◌, ◌<◌, ◌+◌, ◌⊎◌, inl, inr, arith, length, ℕ, zero, suc, Bool, true, false, cond, List, [], ◌∷◌, ◌++◌, Option, Some, None, Result, Ok, Err, refl, sym, ap, subst, ◌∙◌}
+use Rattle.std.proofs.Common.{◌≡◌, ◌≤◌, ◌<◌, ◌+◌, ◌⊎◌, inl, inr, arith, length, ℕ, zero, suc, Bool, true, false, cond, List, [], ◌∷◌, Option, Result, Ok, Err, refl, sym, ap, subst, ◌∙◌}
 use Rattle.std.specs.Prelude.{All, nat_lt, option_to_list}
 use Rattle.std.specs.List.{AllByRecursion}
 use Rattle.std.proofs.lemmas.Bool.{ltb-true}
@@ -12,15 +12,15 @@ use Rattle.spec_parser.specs.declared.fault.Stop.{Stop}
 use Rattle.spec_parser.specs.declared.fault.Stop.TheVariants.{Expected, OverLimit}
 use Rattle.spec_parser.specs.Trees.{PartTree, NameAt, NamedStep, NamedSession, NamedEntry, FileTree}
 use Rattle.spec_parser.specs.Counts.{Counts, start, past}
-use Rattle.spec_parser.specs.Reading.{Rest, Read, ◌>>=◌, starts_word, starts_name, many_at, all_at, some_at, word_at, name_at, block_at, end_in, end_at, name_within, setup_at, teardown_at, setups_at, step_at, steps_at, session_at, sessions_at, some_markers_at, entry_at, entries_at, perm_at, perms_at, file_at, the_word, the_name}
-use Rattle.spec_parser.specs.Grammar.{Grammar, one, Maybe, Many, some, block_behind, perm, file}
-use Rattle.spec_parser.specs.Grammar.{step as step_grammar, session as session_grammar}
+use Rattle.spec_parser.specs.Reading.{Rest, Read, ◌>>=◌, starts_word, starts_name, many_at, all_at, some_at, word_at, name_at, end_in, end_at, name_within, setup_at, teardown_at, setups_at, step_at, steps_at, session_at, sessions_at, entry_at, entries_at, perm_at, perms_at, file_at, the_word, the_name}
+use Rattle.spec_parser.specs.Grammar.{Grammar, one, Maybe, Many, block_behind, perm, file}
+use Rattle.spec_parser.specs.Grammar.{step as step_grammar}
 use Rattle.spec_parser.specs.IsSpec.{IsShort, WithinLimits}
 use Rattle.spec_parser.proofs.Local.{AreLocal, Means, is_read, stops_at, goes, goes_on}
 use Rattle.spec_parser.proofs.Tokens.{name_past}
-use Rattle.spec_parser.proofs.Productions.{word_local, name_within_local, step_local, session_local, setup_local, teardown_local, setups_local, perms_local}
-use Rattle.spec_parser.proofs.Complete.{Again, whole, over, IsOver, many_sessions, many_steps, long, SomeLong, LongFile, file_again}
-use Rattle.spec_parser.proofs.Gists.{Gist, Moves, parts_gist, a_session, session_word, step_has, step_gist, session_has, session_gist, setups_have, maybe_has, setup_has, teardown_has, perms_quiet, file_has, file_gist}
+use Rattle.spec_parser.proofs.Productions.{word_local, name_within_local, step_local, setup_local, teardown_local, setups_local, perms_local}
+use Rattle.spec_parser.proofs.Complete.{Again, whole, over, IsOver, many_sessions, many_steps, long, SomeLong, LongFile}
+use Rattle.spec_parser.proofs.Gists.{Moves, parts_gist, session_word, step_has, setups_have, maybe_has, setup_has, teardown_has, perms_quiet, file_has}
 use Rattle.spec_parser.proofs.WholeLaws.{read_or_over, reads_are_files}
 
 -- ---- lists

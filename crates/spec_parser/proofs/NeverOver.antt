@@ -1,19 +1,18 @@
 -- The readings that never stop at a limit, and what a reading that stops has read.
-use Rattle.std.proofs.Common.{◌≡◌, ◌≤◌, ◌<◌, ◌+◌, ◌⊎◌, inl, inr, arith, length, ℕ, zero, suc, Bool, true, false, cond, List, [], ◌∷◌, ◌++◌, Option, Some, None, Result, Ok, Err, refl, sym, ap, subst, ◌∙◌, append_assoc}
-use Rattle.std.specs.Prelude.{nat_lt}
+use Rattle.std.proofs.Common.{◌≡◌, ◌+◌, ◌⊎◌, inl, inr, length, ℕ, zero, suc, Bool, true, false, cond, List, [], ◌∷◌, Option, Some, None, Result, Ok, Err, refl, sym, ap, ◌∙◌}
 use Rattle.iso_lexer.specs.declared.token.At.{At}
 use Rattle.iso_lexer.specs.declared.spec_token.Keyword.{Keyword}
-use Rattle.iso_lexer.specs.declared.spec_token.Keyword.TheVariants.{Permutation, Session, Setup, Step, Teardown, Notices}
+use Rattle.iso_lexer.specs.declared.spec_token.Keyword.TheVariants.{Setup, Teardown, Notices}
 use Rattle.iso_lexer.specs.declared.spec_token.Sign.{Sign}
 use Rattle.iso_lexer.specs.declared.spec_token.Sign.TheVariants.{Open, Close, Comma, Star}
-use Rattle.iso_lexer.specs.SpecTokens.{Token, keyword}
+use Rattle.iso_lexer.specs.SpecTokens.{Token}
 use Rattle.spec_parser.specs.declared.fault.What.{What}
 use Rattle.spec_parser.specs.declared.fault.What.TheVariants as what
 use Rattle.spec_parser.specs.declared.fault.Stop.{Stop}
 use Rattle.spec_parser.specs.declared.fault.Stop.TheVariants.{Expected, NoticesLeftOut, OverLimit}
-use Rattle.spec_parser.specs.Trees.{PartTree, NameAt, NamedStep, NamedSession, MarkerTree, star, named, NamedEntry, FileTree}
-use Rattle.spec_parser.specs.Counts.{Counts, start, past}
-use Rattle.spec_parser.specs.Reading.{Rest, Read, ◌>>=◌, starts_word, starts_sign, starts_name, is_name, is_word, first_is, taken, token_in, token_at, many_at, all_at, some_at, maybe_at, word_at, sign_at, name_at, block_at, end_in, end_at, name_within, block_after, setup_at, teardown_at, setups_at, step_at, steps_at, session_at, sessions_at, no_notices, marker_at, next_marker_at, next_markers_at, markers_at, some_markers_at, entry_at, entries_at, perm_at, perms_at, file_at, the_word, the_sign, the_name, the_block}
+use Rattle.spec_parser.specs.Trees.{NameAt, MarkerTree, star, named}
+use Rattle.spec_parser.specs.Counts.{Counts}
+use Rattle.spec_parser.specs.Reading.{Rest, Read, ◌>>=◌, starts_word, starts_sign, taken, token_in, many_at, maybe_at, word_at, sign_at, name_at, block_at, end_in, end_at, block_after, setup_at, teardown_at, setups_at, no_notices, marker_at, next_marker_at, next_markers_at, markers_at, some_markers_at, the_word, the_sign, the_name, the_block}
 use Rattle.spec_parser.proofs.Local.{stops_at, goes, goes_on}
 use Rattle.spec_parser.proofs.Limits.{no_value}
 

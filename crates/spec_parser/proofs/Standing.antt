@@ -1,6 +1,6 @@
 -- What holds of every spec.
-use Rattle.std.proofs.Common.{◌≡◌, ◌≤◌, ◌<◌, ◌+◌, ◌-◌, ◌⊎◌, inl, inr, arith, length, ℕ, zero, suc, List, [], ◌∷◌, ◌++◌, get_or, map, Option, refl, sym, ap, subst, ◌∙◌, length-append}
-use Rattle.std.specs.Prelude.{All, Contains, flat_map, option_to_list}
+use Rattle.std.proofs.Common.{◌≡◌, ◌≤◌, ◌<◌, ◌+◌, ◌-◌, ◌⊎◌, inl, inr, arith, length, ℕ, zero, suc, List, [], ◌∷◌, ◌++◌, get_or, map, refl, sym, ap, subst, ◌∙◌, length-append}
+use Rattle.std.specs.Prelude.{Contains, flat_map, option_to_list}
 use Rattle.std.specs.List.{AllByRecursion, AllZip, range_with_len}
 use Rattle.std.proofs.lemmas.List.{length-map}
 use Rattle.std.proofs.lemmas.List.Elements.{Contains-append_cases}
@@ -9,12 +9,12 @@ use Rattle.iso_lexer.specs.SpecTokens.{Token}
 use Rattle.iso_lexer.specs.SpecSpelling.{LiesAt}
 use Rattle.spec_parser.specs.declared.tree.Marker.{Marker}
 use Rattle.spec_parser.specs.declared.tree.Marker.TheVariants as markers
-use Rattle.spec_parser.specs.Trees.{PartTree, StepTree, SessionTree, EntryTree, SpecTree, NameAt, NamedStep, NamedSession, MarkerTree, star, named, NamedEntry, FileTree}
+use Rattle.spec_parser.specs.Trees.{PartTree, SessionTree, EntryTree, SpecTree, NameAt, NamedStep, NamedSession, MarkerTree, star, named, NamedEntry, FileTree}
 use Rattle.spec_parser.specs.Counts.{Counts, start}
-use Rattle.spec_parser.specs.Grammar.{Grammar, Many, none, more, entry, perm, file}
+use Rattle.spec_parser.specs.Grammar.{Grammar, Many, none, more, perm, file}
 use Rattle.spec_parser.specs.Grammar.{session as session_grammar}
 use Rattle.spec_parser.specs.Names.{StepAt, steps_from, sessions_from, step_tree, session_tree}
-use Rattle.spec_parser.specs.IsSpec.{IsShort, steps_of, Names, MarkerIs, EntryIs, PermIs, IsSpec}
+use Rattle.spec_parser.specs.IsSpec.{IsShort, Names, MarkerIs, EntryIs, PermIs, IsSpec}
 use Rattle.spec_parser.specs.Stands.{StepStands, MarkerStands, EntryStands, PermStands, session_parts, session_names, parts_of, names_of, PartLies, NameLies, Stands, LiesIn}
 use Rattle.spec_parser.proofs.Gists.{file_has, steps_len}
 use Rattle.spec_parser.proofs.Limits.{all_from, all_to}

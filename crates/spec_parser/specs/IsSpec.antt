@@ -1,5 +1,5 @@
 -- What a spec file says (README of src/test/isolation, "Test specification"): the grammar, the limits, and what names stand for.
-use Rattle.std.specs.Prelude.{◌≡◌, ◌≢◌, ◌≤◌, ℕ, List, length, map, All, AllPairs, Contains, sum_by, Ok}
+use Rattle.std.specs.Prelude.{◌≡◌, ◌≢◌, ◌≤◌, ℕ, List, length, map, All, AllPairs, Contains, Ok}
 use Rattle.std.specs.List.{AllZip}
 use Rattle.iso_lexer.specs.declared.token.At.{At}
 use Rattle.iso_lexer.specs.Names.{decoded}
@@ -7,7 +7,7 @@ use Rattle.iso_lexer.specs.SpecTokens.{Token}
 use Rattle.iso_lexer.specs.SpecText.{Lexes}
 use Rattle.spec_parser.specs.declared.tree.Marker.{Marker}
 use Rattle.spec_parser.specs.declared.tree.Marker.TheVariants as markers
-use Rattle.spec_parser.specs.Trees.{EntryTree, SpecTree, NameAt, NamedSession, MarkerTree, star, named, NamedEntry, FileTree}
+use Rattle.spec_parser.specs.Trees.{EntryTree, SpecTree, NameAt, MarkerTree, star, named, NamedEntry, FileTree}
 use Rattle.spec_parser.specs.Counts.{start}
 use Rattle.spec_parser.specs.Grammar.{file as in_grammar}
 use Rattle.spec_parser.specs.Names.{StepAt, sessions_from, session_tree}
