@@ -1,5 +1,6 @@
 -- What reading gives is just what the relations say.
 use Rattle.std.proofs.Common.{◌≡◌, ◌⊎◌, inl, inr, ℕ, length, List, [], map, Option, Some, None, Result, Ok, Err, refl, sym, ap, subst, ◌∙◌}
+use Rattle.std.proofs.lemmas.Option.{same_Some}
 use Rattle.iso_lexer.specs.declared.token.At.{At}
 use Rattle.iso_lexer.specs.declared.fault.Fault.{Fault}
 use Rattle.iso_lexer.specs.SpecTokens.{Token}
@@ -16,10 +17,11 @@ use Rattle.spec_parser.specs.Reading.{Rest, Read, place, file_at}
 use Rattle.spec_parser.specs.Grammar.{file}
 use Rattle.spec_parser.specs.Names.{StepAt, first_repeat, known_perms, session_tree, ◌>>=◌, without_repeat, resolved}
 use Rattle.spec_parser.specs.SpecText.{SpecReads, no_tokens, tokens, finished}
+use Rattle.spec_parser.specs.Laws.{HasStop}
 use Rattle.spec_parser.specs.IsSpec.{steps_of, WithinLimits, IsSpec}
 use Rattle.spec_parser.specs.NameFaults.{Mention, by_entry, by_marker, mentions, undefined_at, IsFirstUndefined, HasRepeat, HasUndefined}
 use Rattle.spec_parser.proofs.Complete.{Again, whole, over, LongFile}
-use Rattle.spec_parser.proofs.WholeLaws.{read_or_over, reads_are_files, files_are_read}
+use Rattle.spec_parser.proofs.WholeLaws.{read_or_over, reads_are_files, files_are_read, stops_first}
 use Rattle.spec_parser.proofs.Limits.{within, is_read_whole}
 use Rattle.spec_parser.specs.LimitFaults.{HasLimit}
 use Rattle.spec_parser.proofs.Overs.{limit_stop}
@@ -244,3 +246,78 @@ files_within ts f grammar = (λ limits. is_read_whole ts f grammar limits, λ ou
 
 pub reads_within : (ts : List (At Token)) (f : FileTree) (rest : Rest) → file_at (start, ts) ≡ (Ok f, rest) → file start ts f × WithinLimits f
 reads_within ts f rest e = (reads_are_files ts f rest e, limits_of ts f rest e)
+
+-- ---- stops
+
+-- a stop is neither a repeated name nor an undefined one
+abbrev IsStopped : SpecFault → Type 0
+IsStopped (faults.Expected w at) = Unit {0}
+IsStopped (faults.NoticesLeftOut at) = Unit {0}
+IsStopped (faults.Limit at) = Unit {0}
+IsStopped (faults.DuplicateStep at) = ⊥
+IsStopped (faults.UndefinedStep at) = ⊥
+IsStopped (faults.UndefinedMarker at) = ⊥
+IsStopped faults.Memory = ⊥
+IsStopped (faults.Lex f) = ⊥
+
+stop_is : (s : Stop) (at : ℕ) → IsStopped (stopped (AtPlace s at))
+stop_is (Expected w) at = tt
+stop_is NoticesLeftOut at = tt
+stop_is OverLimit at = tt
+
+not_undefined : (x : SpecFault) → IsStopped x → IsUndefined x → ⊥
+not_undefined (faults.Expected w at) h k = k
+not_undefined (faults.NoticesLeftOut at) h k = k
+not_undefined (faults.Limit at) h k = k
+not_undefined (faults.DuplicateStep at) h k = k
+not_undefined (faults.UndefinedStep at) h k = h
+not_undefined (faults.UndefinedMarker at) h k = h
+not_undefined faults.Memory h k = h
+not_undefined (faults.Lex f) h k = h
+
+no_stop_in : (f : FileTree) (x : SpecFault) (o : Option ℕ) (r : Result (List (List EntryTree)) SpecFault) → IsStopped x → ((y : SpecFault) → r ≡ Err y → IsUndefined y) → Err x ≡ out_of f o r → ⊥
+no_stop_in f x (Some n) r h u e = subst IsStopped (err_same x (faults.DuplicateStep n) e) h
+no_stop_in f x None (Ok ps) h u e = ok_err (made f ps) x (sym e)
+no_stop_in f x None (Err y) h u e = not_undefined x h (subst IsUndefined (sym (err_same x y e)) (u y refl))
+
+abbrev place_in : SpecFault → ℕ
+place_in (faults.Expected w at) = at
+place_in (faults.NoticesLeftOut at) = at
+place_in (faults.Limit at) = at
+place_in (faults.DuplicateStep at) = at
+place_in (faults.UndefinedStep at) = at
+place_in (faults.UndefinedMarker at) = at
+place_in faults.Memory = 0
+place_in (faults.Lex f) = 0
+
+abbrev stop_in : SpecFault → Option Stop
+stop_in (faults.Expected w at) = Some (Expected w)
+stop_in (faults.NoticesLeftOut at) = Some NoticesLeftOut
+stop_in (faults.Limit at) = Some OverLimit
+stop_in (faults.DuplicateStep at) = None
+stop_in (faults.UndefinedStep at) = None
+stop_in (faults.UndefinedMarker at) = None
+stop_in faults.Memory = None
+stop_in (faults.Lex f) = None
+
+of_stop : (s : Stop) (at : ℕ) → (stop_in (stopped (AtPlace s at)) ≡ Some s) × (place_in (stopped (AtPlace s at)) ≡ at)
+of_stop (Expected w) at = (refl, refl)
+of_stop NoticesLeftOut at = (refl, refl)
+of_stop OverLimit at = (refl, refl)
+
+same_stop : (s t : Stop) (at p : ℕ) → stopped (AtPlace s at) ≡ stopped (AtPlace t p) → (t ≡ s) × (at ≡ p)
+same_stop s t at p e =
+    (same_Some t s (sym (of_stop t p).0 ∙ sym (ap stop_in e) ∙ (of_stop s at).0), sym (of_stop s at).1 ∙ ap place_in e ∙ (of_stop t p).1)
+
+stop_from : (text : List ℕ) (ts : List (At Token)) (s : Stop) (at : ℕ) (q : Read FileTree) → file_at (start, ts) ≡ q → Lexes text (Ok ts) → Err (stopped (AtPlace s at)) ≡ finished (length text) q → HasStop text s at
+stop_from text ts s at (Ok f, rest) e lexes is = absurd (no_stop_in f (stopped (AtPlace s at)) (first_repeat [] (steps_of f)) (known_perms (steps_of f) f.perms) (stop_is s at) (λ x d. is_undefined (steps_of f) (mentions f.perms) x (undefined_first (steps_of f) f.perms x d)) is)
+stop_from text ts s at (Err t, rest) e lexes is =
+    let k = same_stop s t at (place (length text) rest.1) (err_same (stopped (AtPlace s at)) (stopped (AtPlace t (place (length text) rest.1))) is) in
+    record { tokens = ts; lexes = lexes; rest = rest.1; first = stops_first ts s rest (e ∙ (λ i. (Err (k.0 i), rest))); place = k.1 }
+
+stop_by : (text : List ℕ) (s : Stop) (at : ℕ) (x : Result SpecTree SpecFault) → x ≡ Err (stopped (AtPlace s at)) → SpecReads text x → HasStop text s at
+stop_by text s at x e (no_tokens f lexes) = absurd (subst IsStopped (sym (err_same (faults.Lex f) (stopped (AtPlace s at)) e)) (stop_is s at))
+stop_by text s at x e (tokens ts lexes is) = stop_from text ts s at (file_at (start, ts)) refl lexes (sym e ∙ is)
+
+pub stops_are_first : (text : List ℕ) (s : Stop) (at : ℕ) → SpecReads text (Err (stopped (AtPlace s at))) → HasStop text s at
+stops_are_first text s at h = stop_by text s at (Err (stopped (AtPlace s at))) refl h

@@ -1,5 +1,5 @@
 -- What is so of every list of tokens, and of every text.
-use Rattle.std.specs.Prelude.{◌≡◌, ℕ, List, [], ◌∷◌, ◌++◌, Option, Some, None, Result, Ok, Err}
+use Rattle.std.specs.Prelude.{◌≡◌, ℕ, List, [], ◌∷◌, ◌++◌, length, Option, Some, None, Result, Ok, Err}
 use Rattle.iso_lexer.specs.declared.token.At.{At}
 use Rattle.iso_lexer.specs.SpecTokens.{Token}
 use Rattle.spec_parser.specs.declared.fault.Stop.{Stop}
@@ -8,6 +8,10 @@ use Rattle.spec_parser.specs.declared.fault.SpecFault.{SpecFault}
 use Rattle.spec_parser.specs.Trees.{FileTree, SpecTree}
 use Rattle.spec_parser.specs.Counts.{start, past}
 use Rattle.spec_parser.specs.Reading.{Rest, file_at}
+use Rattle.spec_parser.specs.Reading.{place as place_of}
+use Rattle.spec_parser.specs.Faults.{stopped}
+use Rattle.spec_parser.specs.declared.fault.Halt.TheVariants.{At as AtPlace}
+use Rattle.iso_lexer.specs.SpecText.{Lexes}
 use Rattle.spec_parser.specs.Grammar.{file}
 use Rattle.spec_parser.specs.declared.fault.SpecFault.TheVariants as faults
 use Rattle.spec_parser.specs.SpecText.{SpecReads}
@@ -49,6 +53,18 @@ LimitsAreFirst = (ts : List (At Token)) (rest : Rest) → file_at (start, ts) �
 -- A text says one thing, or has one fault.
 abbrev pub OneAnswer : Type 0
 OneAnswer = (text : List ℕ) (x y : Result SpecTree SpecFault) → SpecReads text x → SpecReads text y → x ≡ y
+
+-- a text whose tokens begin a file up to this byte, and with the next token begin none
+pub record HasStop (text : List ℕ) (stop : Stop) (at : ℕ) : Type 0 where
+  pub tokens : List (At Token)
+  pub lexes : Lexes text (Ok tokens)
+  pub rest : List (At Token)
+  pub first : StopsFirst tokens stop rest
+  pub place : at ≡ place_of (length text) rest
+
+-- A text is refused as Expected, NoticesLeftOut or Limit only at such a byte.
+abbrev pub StopsAreFirst : Type 0
+StopsAreFirst = (text : List ℕ) (stop : Stop) (at : ℕ) → SpecReads text (Err (stopped (AtPlace stop at))) → HasStop text stop at
 
 -- A text says this where it is this spec file, and nowhere else.
 abbrev pub SpecsAreExact : Type 0

@@ -1,6 +1,6 @@
 //! What is so of every text.
 
-ghost use Rattle.spec_parser.specs.Laws.{FaultsAreFirst, ReadsAreFiles, FilesAreRead, LimitsAreFirst, OneAnswer, SpecsAreExact, LimitsAreNames, RepeatsAreExact, UndefinedAreExact, SpecsStand, SpecsAreSlices};
+ghost use Rattle.spec_parser.specs.Laws.{FaultsAreFirst, ReadsAreFiles, FilesAreRead, LimitsAreFirst, OneAnswer, SpecsAreExact, LimitsAreNames, RepeatsAreExact, UndefinedAreExact, SpecsStand, SpecsAreSlices, StopsAreFirst};
 
 /// A text says one thing, or has one fault.
 pub fn one_answer()
@@ -14,9 +14,10 @@ pub fn reads_are_files()
     ensures { ReadsAreFiles }
 {}
 
-/// The tokens before a stop begin a file of the grammar; with the next token they begin none, or are at a limit.
+/// Of tokens, and of texts: the tokens before a stop begin a file of the grammar; with the next token they begin none, or are at a limit.
 pub fn faults_are_first()
-    ensures { FaultsAreFirst }
+    ensures tokens { FaultsAreFirst }
+    ensures texts { StopsAreFirst }
 {}
 
 /// A file of the grammar is read whole where it is within the limits, and nowhere else.
