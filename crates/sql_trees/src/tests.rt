@@ -1,11 +1,7 @@
 //! Strings, words and statements that are one, and some that are not.
 
 use crate::expr::{Agg, AggKind, Expr};
-use crate::kind::{Dir, Kind};
-use crate::stmt::{
-    Column, CreateTable, Delete, DropTable, Insert, Item, Key, Level, Lock, OrderKey, Select, Stmt,
-    Update,
-};
+use crate::stmt::{Delete, Item, Level, Lock, Select, Stmt};
 use crate::{Tok, Word, classified, same_stmt, same_stmts, same_text};
 use iso_lexer::{At, Name, Span, SqlTok};
 use std::alloc::{AllocError, Global};
@@ -55,117 +51,51 @@ fn words_have_their_keywords(rt: HostRuntime) -> Result<(), Fail> {
     Ok(())
 }
 
-fn dir(desc: bool) -> Dir {
-    Dir {
-        desc,
-        nulls_first: desc,
-    }
+fn one<T: Drop>(alloc: Global, x: T) -> Result<Vec<T>, AllocError> {
+    let mut all = Vec::new(alloc);
+    all.push(x)?;
+    Ok(all)
 }
 
-fn select<'a>(
-    alloc: Global,
-    table: &'a str,
-    text: &'a str,
-    desc: bool,
-) -> Result<Stmt<'a>, AllocError> {
-    let mut items = Vec::new(alloc);
-    items.push(Item::All)?;
-    items.push(Item::Expr(Expr::Column(Name::Folded(table)), Some(Name::Folded("x"))))?;
-    items.push(Item::Agg(Agg::Of(AggKind::Max, Expr::Text(text)), None))?;
-    let mut order = Vec::new(alloc);
-    order.push(OrderKey {
-        expr: Expr::Null,
-        dir: dir(desc),
-    })?;
+fn select<'a>(alloc: Global, table: &'a str, text: &'a str) -> Result<Stmt<'a>, AllocError> {
+    let item = Item::Agg(Agg::Of(AggKind::Max, Expr::Text(text)), None);
+    let items = one(alloc, item)?;
     Ok(Stmt::Select(Select {
         items,
         table: Some(Name::Folded(table)),
-        filter: Some(Expr::Bool(true)),
-        order,
+        filter: Some(Expr::Null),
+        order: Vec::new(alloc),
         lock: Some(Lock::Share),
     }))
 }
 
-fn create(alloc: Global, name: &str, place: u32) -> Result<Stmt<'_>, AllocError> {
-    let mut columns = Vec::new(alloc);
-    columns.push(Column {
-        name: Name::Quoted("a\"\"b"),
-        kind: Kind::Int,
-        not_null: true,
-    })?;
-    let mut places = Vec::new(alloc);
-    places.push(place)?;
-    let mut keys = Vec::new(alloc);
-    keys.push(Key {
-        primary: true,
-        columns: places,
-    })?;
-    Ok(Stmt::CreateTable(CreateTable {
-        name: Name::Folded(name),
-        columns,
-        keys,
-    }))
+#[test]
+fn statements_by_decoded_names(rt: HostRuntime) -> Result<(), Fail> {
+    let read = select(rt.alloc(), "T", "it''s")?;
+    let same = select(rt.alloc(), "t", "it's")?;
+    let other = select(rt.alloc(), "t", "its")?;
+    assert!(rt; same_stmt(&read, &same));
+    assert!(rt; !same_stmt(&read, &other));
+    assert!(rt; !same_stmt(&read, &Stmt::Commit));
+    Ok(())
 }
 
-fn changes<'a>(alloc: Global, table: Name<'a>) -> Result<Vec<Stmt<'a>>, AllocError> {
-    let mut names = Vec::new(alloc);
-    names.push(table)?;
-    let mut row = Vec::new(alloc);
-    row.push(Expr::Number {
-        negative: false,
-        digits: 7,
-    })?;
-    let mut rows = Vec::new(alloc);
-    rows.push(row)?;
-    let mut sets = Vec::new(alloc);
-    sets.push((table, Expr::Null))?;
-    let mut all = Vec::new(alloc);
-    all.push(Stmt::Begin(Some(Level::ReadCommitted)))?;
-    all.push(Stmt::Insert(Insert {
-        table,
-        columns: Some(names),
-        rows,
-    }))?;
-    all.push(Stmt::Update(Update {
-        table,
-        sets,
-        filter: None,
-    }))?;
+fn delete<'a>(alloc: Global, table: Name<'a>) -> Result<Vec<Stmt<'a>>, AllocError> {
+    let mut all = one(alloc, Stmt::Begin(Some(Level::ReadCommitted)))?;
     all.push(Stmt::Delete(Delete {
         table,
         filter: None,
     }))?;
-    all.push(Stmt::Commit)?;
     Ok(all)
 }
 
 #[test]
-fn statements_by_decoded_names(rt: HostRuntime) -> Result<(), Fail> {
-    let alloc = rt.alloc();
-    let one = select(alloc, "T", "it''s", true)?;
-    assert!(rt; same_stmt(&one, &select(alloc, "t", "it's", true)?));
-    assert!(rt; !same_stmt(&one, &select(alloc, "t", "its", true)?));
-    assert!(rt; !same_stmt(&one, &select(alloc, "t", "it's", false)?));
-    let made = create(alloc, "t", 0)?;
-    assert!(rt; same_stmt(&made, &create(alloc, "T", 0)?));
-    assert!(rt; !same_stmt(&made, &create(alloc, "t", 1)?));
-    assert!(rt; !same_stmt(&Stmt::Commit, &Stmt::Rollback));
-    Ok(())
-}
-
-#[test]
 fn blocks_by_their_statements(rt: HostRuntime) -> Result<(), Fail> {
-    let alloc = rt.alloc();
-    let all = changes(alloc, Name::Folded("T"))?;
-    assert!(rt; same_stmts(&all, &changes(alloc, Name::Quoted("t"))?));
-    assert!(rt; !same_stmts(&all, &changes(alloc, Name::Quoted("T"))?));
-    assert!(rt; !same_stmts(&all, &all[1..]));
-    let mut names = Vec::new(alloc);
-    names.push(Name::Folded("t"))?;
-    let dropped = Stmt::DropTable(DropTable {
-        if_exists: true,
-        names,
-    });
-    assert!(rt; !same_stmts(&all[..1], &[dropped]));
+    let all = delete(rt.alloc(), Name::Folded("T"))?;
+    let same = delete(rt.alloc(), Name::Quoted("t"))?;
+    let other = delete(rt.alloc(), Name::Quoted("T"))?;
+    assert!(rt; same_stmts(&all, &same));
+    assert!(rt; !same_stmts(&all, &other));
+    assert!(rt; !same_stmts(&all, &[Stmt::Commit]));
     Ok(())
 }
