@@ -6,3 +6,8 @@ pub mod Levels
 pub mod Shortens
 pub mod Complete
 pub mod Lists
+pub mod Shapes
+pub mod Local
+pub mod Tails
+pub mod Stops
+pub mod FirstFaults
