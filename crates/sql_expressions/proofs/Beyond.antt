@@ -1,5 +1,5 @@
 -- What is in the grammar beyond the limits is read, or is too deep.
-use Rattle.std.proofs.Common.{◌≡◌, ℕ, zero, suc, ◌+◌, ◌<◌, ◌≤◌, Bool, true, false, List, [], ◌∷◌, ◌++◌, length, Option, Some, None, refl, sym, ap, ◌∙◌, subst, arith, append_assoc, length-append}
+use Rattle.std.proofs.Common.{◌≡◌, ℕ, zero, suc, ◌+◌, ◌<◌, ◌≤◌, Bool, true, false, List, [], ◌∷◌, ◌++◌, length, Option, Some, None, ◌⊎◌, inl, inr, refl, sym, ap, ◌∙◌, subst, arith, append_assoc, length-append}
 use Rattle.std.specs.Prelude.{Result, Ok, Err, max, nat_lt}
 use Rattle.sql_trees.specs.declared.fault.SqlFault.{SqlFault}
 use Rattle.sql_trees.specs.declared.fault.SqlFault.TheVariants.{TooDeep}
@@ -158,11 +158,6 @@ module _ (last : ℕ) where
   claim_chain _ fs bs t o k h q = absurd cc
 
   -- what is read behind an opening
-  opened : (l : Opened) (level : Level) (n place : ℕ) (ts rest : Tokens) → ((m : ℕ) → Fits rest (inside last (suc m) l place ts)) → Fits rest (inside last n l place ts)
-  unfolding inside
-  opened l level zero place ts rest f = deep place refl
-  opened l level (suc m) place ts rest f = f m
-
   opened_whole : (n place : ℕ) (ts rest : Tokens) → Reads OR ts → Stops OR rest → Fits rest (inside last n Whole place (ts ++ rest))
   unfolding inside
   opened_whole zero place ts rest r s = deep place refl
@@ -197,18 +192,18 @@ module _ (last : ℕ) where
 
   claim_comparison : (fs bs : Tokens) (t : At Token) (o : Operator) → Reads INN fs → comparison_op t.tok ≡ Some o → Reads INN bs → Reads CMP (fs ++ t ∷ bs)
   unfolding cmp_at
-  claim_comparison fs bs t o r h q = λ n rest s. rw append_assoc fs (t ∷ bs) rest
+  claim_comparison fs bs t o r h q = λ n rest s. rw (append_assoc fs (t ∷ bs) rest)
       (fits_bind (t ∷ (bs ++ rest)) rest _ _ (r n (t ∷ (bs ++ rest)) (comparison_stops last t.tok o h)) (λ v. rw h
       (fits_deeper rest t.span.start v.1 _ (λ here. fits_bind rest rest _ _ (q n rest (stops_below CMP rest s)) (λ w. fits_deeper rest t.span.start (max v.1 w.1) _ (λ x. read (Binary o v.0 w.0, x) refl))))))
 
   is_with : (ts : Tokens) (w t : At Token) (truth : Truth) → Reads CMP ts → IsWord words.Is w.tok → truth_of t.tok ≡ Some truth → Reads IS (ts ++ w ∷ t ∷ [])
   unfolding is_at
-  is_with ts w t truth r g h = λ n rest s. rw append_assoc ts (w ∷ t ∷ []) rest
+  is_with ts w t truth r g h = λ n rest s. rw (append_assoc ts (w ∷ t ∷ []) rest)
       (fits_bind (w ∷ t ∷ rest) rest _ _ (r n (w ∷ t ∷ rest) (rw g.1 refl)) (λ v. rw (g.1, truth_is_no_not last t.tok truth h, h) (fits_deeper rest w.span.start v.1 _ (λ x. read (Is v.0 false truth, x) refl))))
 
   is_not_with : (ts : Tokens) (w u t : At Token) (truth : Truth) → Reads CMP ts → IsWord words.Is w.tok → IsWord words.Not u.tok → truth_of t.tok ≡ Some truth → Reads IS (ts ++ w ∷ u ∷ t ∷ [])
   unfolding is_at
-  is_not_with ts w u t truth r g k h = λ n rest s. rw append_assoc ts (w ∷ u ∷ t ∷ []) rest
+  is_not_with ts w u t truth r g k h = λ n rest s. rw (append_assoc ts (w ∷ u ∷ t ∷ []) rest)
       (fits_bind (w ∷ u ∷ t ∷ rest) rest _ _ (r n (w ∷ u ∷ t ∷ rest) (rw g.1 refl)) (λ v. rw (g.1, k.1, h) (fits_deeper rest w.span.start v.1 _ (λ x. read (Is v.0 true truth, x) refl))))
 
   claim_is : (ts ws : Tokens) (t : At Token) (neg : Bool) (truth : Truth) → Reads CMP ts → IsIs neg ws → truth_of t.tok ≡ Some truth → Reads IS (ts ++ (ws ++ t ∷ []))
@@ -278,10 +273,10 @@ module _ (last : ℕ) where
     items_beyond (one ts e d p) = list_first ts (reads OR ts (beyond p))
     items_beyond (next fs bs t es e c d p h q) = list_on fs bs t (items_beyond p) h (reads OR bs (beyond q))
 
+  sides : (rest : Tokens) (r : Result Found SqlFault) → Fits rest r → ((e : Tree) × (d : ℕ) × (r ≡ Ok (record { tree = e; depth = d; rest = rest }))) ⊎ ((place : ℕ) × (r ≡ Err (TooDeep place)))
+  sides rest r (read v h) = inl (v.0, v.1, h)
+  sides rest r (deep q h) = inr (q, h)
+
   -- what is spelled at the front of the tokens, whatever its depth, is read, or is too deep
-  pub read_or_deep : (ts rest : Tokens) → Spelled OR ts → Ends rest → ((v : Tree × ℕ) × (expr_at last (ts ++ rest) ≡ Ok (seen v rest))) ⊎ ((q : ℕ) × (expr_at last (ts ++ rest) ≡ Err (TooDeep q)))
-  read_or_deep ts rest (m, r, e, d, p) s = sides (reads OR ts (beyond p) 64 rest (ends_stops last rest s))
-    where
-      sides : Fits rest (expr_at last (ts ++ rest)) → ((v : Tree × ℕ) × (expr_at last (ts ++ rest) ≡ Ok (seen v rest))) ⊎ ((q : ℕ) × (expr_at last (ts ++ rest) ≡ Err (TooDeep q)))
-      sides (read v h) = inl (v, h)
-      sides (deep q h) = inr (q, h)
+  pub read_or_deep : (ts rest : Tokens) → Spelled OR ts → Ends rest → ((e : Tree) × (d : ℕ) × (expr_at last (ts ++ rest) ≡ Ok (record { tree = e; depth = d; rest = rest }))) ⊎ ((place : ℕ) × (expr_at last (ts ++ rest) ≡ Err (TooDeep place)))
+  read_or_deep ts rest (m, r, e, d, p) s = sides rest (expr_at last (ts ++ rest)) (reads OR ts (beyond p) 64 rest (ends_stops last rest s))

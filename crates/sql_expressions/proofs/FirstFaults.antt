@@ -1,14 +1,14 @@
 -- The laws of where reading stops.
-use Rattle.std.proofs.Common.{◌≡◌, ℕ, List, [], ◌∷◌, ◌++◌, refl, sym, ap, ◌∙◌}
+use Rattle.std.proofs.Common.{◌≡◌, ℕ, List, [], ◌∷◌, ◌++◌, ◌⊎◌, inl, inr, refl, sym, ap, ◌∙◌}
 use Rattle.std.specs.Prelude.{Result, Ok, Err}
 use Rattle.sql_trees.specs.declared.fault.SqlFault.{SqlFault}
-use Rattle.sql_trees.specs.declared.fault.SqlFault.TheVariants.{Syntax}
+use Rattle.sql_trees.specs.declared.fault.SqlFault.TheVariants.{Syntax, TooDeep}
 use Rattle.sql_trees.specs.Tokens.{Tokens}
 use Rattle.sql_trees.specs.Trees.{Tree}
 use Rattle.sql_expressions.specs.Reading.{Found, expr_at}
-use Rattle.sql_expressions.specs.Grammar.{OR, Spells, Ends}
-use Rattle.sql_expressions.specs.Laws.{head, Spelled, StopsFirst, FaultsAreFirst, TakesFront, FrontsAreTaken}
-use Rattle.sql_expressions.proofs.Complete.{expr_complete}
+use Rattle.sql_expressions.specs.Grammar.{OR}
+use Rattle.sql_expressions.specs.Laws.{head, Spelled, StopsFirst, FaultsAreFirst, TakesFront, FrontsAreTaken, ExpressionsAreRead}
+use Rattle.sql_expressions.proofs.Beyond.{read_or_deep}
 use Rattle.sql_expressions.proofs.Local.{Local, put, Means, is_read}
 use Rattle.sql_expressions.proofs.Tails.{seen}
 use Rattle.sql_expressions.proofs.Stops.{expr_local}
@@ -21,6 +21,14 @@ ok_same f g h = cc
 
 no_both : (f : Found) (e : SqlFault) → ◌≡◌ {A = Result Found SqlFault} (Ok f) (Err e) → ⊥
 no_both f e h = cc
+
+deep_is_no_syntax : (q place : ℕ) → TooDeep q ≡ Syntax place → ⊥
+deep_is_no_syntax q place e = cc
+
+-- what is read or too deep is no syntax fault
+not_stopped : (last place : ℕ) (fs bs : Tokens) → ((e : Tree) × (d : ℕ) × (expr_at last (fs ++ bs) ≡ Ok (record { tree = e; depth = d; rest = bs }))) ⊎ ((q : ℕ) × (expr_at last (fs ++ bs) ≡ Err (TooDeep q))) → expr_at last (fs ++ bs) ≡ Err (Syntax place) → ⊥
+not_stopped last place fs bs (inl (e, d, h)) g = no_both (record { tree = e; depth = d; rest = bs }) (Syntax place) (sym h ∙ g)
+not_stopped last place fs bs (inr (q, h)) g = deep_is_no_syntax q place (err_same (TooDeep q) (Syntax place) (sym h ∙ g))
 
 stops_from : (last place : ℕ) (ts front rest : Tokens) (out : Result (Tree × ℕ) SqlFault) → put seen out rest ≡ Err (Syntax place) → ts ≡ front ++ rest
     → ((others : Tokens) → head others ≡ head rest → expr_at last (front ++ others) ≡ put seen out others) → Means last (Spelled OR) out front rest → StopsFirst last ts place
@@ -35,8 +43,8 @@ stops_from last place ts front rest (Err e) is split local means =
       here = m.0;
       begins = m.1;
       stays = λ others h. local others h ∙ ap Err same;
-      stuck = λ others fs bs t d h parts spelled ends.
-          no_both (record { tree = t; depth = d; rest = bs }) e (sym (expr_complete last spelled bs ends) ∙ ap (expr_at last) (sym parts) ∙ local others h);
+      stuck = λ others fs bs h parts spelled ends.
+          not_stopped last place fs bs (read_or_deep last fs bs spelled ends) (ap (expr_at last) (sym parts) ∙ local others h ∙ ap Err same);
     }
 
 pub faults_are_first : FaultsAreFirst
@@ -60,3 +68,6 @@ pub fronts_are_taken : FrontsAreTaken
 fronts_are_taken last ts f e =
     let l = expr_local last ts in
     takes_from last ts l.front l.rest f l.out (sym (is_read last (Spelled OR) (expr_at last) ts l) ∙ e) l.split l.local
+
+pub expressions_are_read : ExpressionsAreRead
+expressions_are_read last ts rest s e = read_or_deep last ts rest s e
