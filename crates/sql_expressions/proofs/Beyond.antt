@@ -1,9 +1,8 @@
 -- What is in the grammar beyond the limits is read, or is too deep.
-use Rattle.std.proofs.Common.{◌≡◌, ℕ, zero, suc, ◌+◌, ◌<◌, ◌≤◌, Bool, true, false, List, [], ◌∷◌, ◌++◌, length, Option, Some, None, ◌⊎◌, inl, inr, refl, sym, ap, ◌∙◌, subst, arith, append_assoc, length-append}
+use Rattle.std.proofs.Common.{◌≡◌, ℕ, zero, suc, ◌+◌, ◌≤◌, Bool, true, false, [], ◌∷◌, ◌++◌, length, Option, Some, None, ◌⊎◌, inl, inr, refl, sym, ap, ◌∙◌, subst, arith, append_assoc, length-append}
 use Rattle.std.specs.Prelude.{Result, Ok, Err, max, nat_lt}
 use Rattle.sql_trees.specs.declared.fault.SqlFault.{SqlFault}
 use Rattle.sql_trees.specs.declared.fault.SqlFault.TheVariants.{TooDeep}
-use Rattle.sql_expressions.specs.declared.level.Opened.{Opened}
 use Rattle.sql_expressions.specs.declared.level.Opened.TheVariants.{Whole, Negation, Unary}
 use Rattle.iso_lexer.specs.declared.token.At.{At}
 use Rattle.iso_lexer.specs.declared.sql_token.SqlSign.TheVariants as signs
@@ -18,10 +17,8 @@ use Rattle.sql_expressions.specs.Reading.{Found, Found_list, Reader, deeper, joi
 use Rattle.sql_expressions.specs.Reading as reading
 use Rattle.sql_expressions.specs.Grammar.{IsWord, Ends, Level, OR, AND, NOT, IS, CMP, INN, CAT, ADD, MUL, UNA, PRIM, tighter, binary, SpellsIn, ItemsIn, only, chain, negation, is, comparison, contained, between, minus, plus, parens, literal, one, next, IsLeaf, IsIn, IsBetween, IsIs}
 use Rattle.sql_expressions.specs.Laws.{Spelled}
-use Rattle.sql_expressions.proofs.Steps.{is_close_true}
 use Rattle.sql_expressions.proofs.Tails.{seen, listed}
-use Rattle.sql_expressions.proofs.Shortens.{shortens}
-use Rattle.sql_expressions.proofs.Complete.{Stops, continues, stops_below, op_stops, IsChain, chain_ends, Starts, spells_starts, read_of, not_first, una_first, is_end, inn_end, cmp_end, comparison_stops, truth_is_no_not, leaf_read, assoc_in, assoc_between, ends_stops}
+use Rattle.sql_expressions.proofs.Complete.{Stops, stops_below, op_stops, IsChain, chain_ends, Starts, spells_starts, read_of, not_first, una_first, is_end, inn_end, cmp_end, comparison_stops, truth_is_no_not, leaf_read, assoc_in, assoc_between, ends_stops}
 
 -- this much was read, or reading is too deep
 data Fits (rest : Tokens) (r : Result Found SqlFault) : Type 0 where

@@ -1,5 +1,5 @@
 -- The laws of where reading stops.
-use Rattle.std.proofs.Common.{◌≡◌, ℕ, List, [], ◌∷◌, ◌++◌, ◌⊎◌, inl, inr, refl, sym, ap, ◌∙◌}
+use Rattle.std.proofs.Common.{◌≡◌, ℕ, ◌++◌, ◌⊎◌, inl, inr, sym, ap, ◌∙◌}
 use Rattle.std.specs.Prelude.{Result, Ok, Err}
 use Rattle.sql_trees.specs.declared.fault.SqlFault.{SqlFault}
 use Rattle.sql_trees.specs.declared.fault.SqlFault.TheVariants.{Syntax, TooDeep}
@@ -9,7 +9,7 @@ use Rattle.sql_expressions.specs.Reading.{Found, expr_at}
 use Rattle.sql_expressions.specs.Grammar.{OR}
 use Rattle.sql_expressions.specs.Laws.{head, Spelled, StopsFirst, FaultsAreFirst, TakesFront, FrontsAreTaken, ExpressionsAreRead}
 use Rattle.sql_expressions.proofs.Beyond.{read_or_deep}
-use Rattle.sql_expressions.proofs.Local.{Local, put, Means, is_read}
+use Rattle.sql_expressions.proofs.Local.{put, Means, is_read}
 use Rattle.sql_expressions.proofs.Tails.{seen}
 use Rattle.sql_expressions.proofs.Stops.{expr_local}
 

@@ -1,6 +1,6 @@
 -- Where reading stops depends on the tokens up to there alone: the forms that readings are made of.
-use Rattle.std.proofs.Common.{◌≡◌, ℕ, ◌+◌, ◌<◌, Bool, true, false, List, [], ◌∷◌, ◌++◌, Option, Some, None, refl, sym, ap, subst, ◌∙◌, append_assoc}
-use Rattle.std.specs.Prelude.{Result, Ok, Err, nat_lt, if◌then◌else◌}
+use Rattle.std.proofs.Common.{◌≡◌, ℕ, ◌+◌, Bool, true, false, [], ◌∷◌, ◌++◌, Option, Some, None, refl, sym, ap, subst, ◌∙◌, append_assoc}
+use Rattle.std.specs.Prelude.{Result, Ok, Err, nat_lt}
 use Rattle.std.proofs.lemmas.List.{append-nil}
 use Rattle.iso_lexer.specs.declared.token.At.{At}
 use Rattle.sql_trees.specs.declared.fault.SqlFault.{SqlFault}

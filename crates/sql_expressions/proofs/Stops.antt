@@ -1,9 +1,7 @@
 -- Each level stops where the tokens up to there say so.
-use Rattle.std.proofs.Common.{◌≡◌, ℕ, zero, suc, ◌+◌, ◌<◌, ◌≤◌, Bool, true, false, List, [], ◌∷◌, ◌++◌, length, Option, Some, None, refl, sym, ap, ◌∙◌, subst, arith, append_assoc, length-append}
-use Rattle.std.specs.Prelude.{Result, Ok, Err, max, if◌then◌else◌}
-use Rattle.std.proofs.lemmas.List.{append-nil}
+use Rattle.std.proofs.Common.{◌≡◌, ℕ, zero, suc, ◌+◌, ◌<◌, Bool, true, false, List, [], ◌∷◌, ◌++◌, length, Option, Some, None, refl, sym, ap, ◌∙◌, subst}
+use Rattle.std.specs.Prelude.{Result, Ok, max, if◌then◌else◌}
 use Rattle.sql_trees.specs.declared.fault.SqlFault.{SqlFault}
-use Rattle.sql_trees.specs.declared.fault.SqlFault.TheVariants.{TooDeep}
 use Rattle.sql_expressions.specs.declared.level.Opened.{Opened}
 use Rattle.sql_expressions.specs.declared.level.Opened.TheVariants.{Whole, Negation, Unary}
 use Rattle.iso_lexer.specs.declared.token.At.{At}
@@ -14,17 +12,16 @@ use Rattle.sql_trees.specs.declared.expr.Truth.{Truth}
 use Rattle.sql_trees.specs.declared.expr.Truth.TheVariants as truths
 use Rattle.sql_trees.specs.Tokens.{Token, Tokens, named}
 use Rattle.sql_trees.specs.Tokens as tok
-use Rattle.sql_trees.specs.Trees.{Tree, Trees, more, none, Null, Flag, Number, Text, Column, Plus, Not, Binary, Is, In, Between, undoubled}
-use Rattle.sql_expressions.specs.Build.{negated, push}
-use Rattle.sql_expressions.specs.Reading.{Found, Found_op, Found_list, Reader, leaf, deeper, join, next_op, comparison_op, expect, misplaced, is_open, is_close, is_comma, is_and, is_not, is_is, is_call, truth_of, place_of, column_at, name_at, parens_at, prim_of, prim_at, sign_at, una_of, una_at, mul_at, add_at, cat_at, in_at, between_at, not_in_of, not_in_at, inn_of, inn_more, inn_at, cmp_more, cmp_at, is_node, is_of, is_tail, is_more, is_at, negation_at, not_at, and_at, or_at, at_level, inside, expr_at, list_at, list_more, list_turn, after_comma, chain_more, chain_end, chain_turn, ◌>>=◌}
-use Rattle.sql_expressions.specs.Reading as reading
-use Rattle.sql_expressions.specs.Grammar.{IsWord, Level, OR, AND, NOT, IS, CMP, INN, CAT, ADD, MUL, UNA, PRIM, tighter, binary, IsLeaf, number, text, column, yes, no, null, IsIn, IsBetween, IsIs}
-use Rattle.sql_expressions.specs.Laws.{head, Spelled}
-use Rattle.sql_expressions.proofs.Steps.{is_open_true, is_close_true, is_comma_true, is_and_true, is_not_true, is_is_true}
+use Rattle.sql_trees.specs.Trees.{Tree, Null, Flag, Number, Text, Column, Plus, Not, Binary, Is, In, Between, undoubled}
+use Rattle.sql_expressions.specs.Build.{negated}
+use Rattle.sql_expressions.specs.Reading.{Found, Found_list, Reader, leaf, deeper, join, next_op, comparison_op, expect, is_open, is_close, is_and, is_not, is_is, is_call, truth_of, place_of, column_at, name_at, parens_at, prim_of, prim_at, sign_at, una_of, una_at, mul_at, add_at, cat_at, in_at, between_at, not_in_of, not_in_at, inn_of, inn_more, inn_at, cmp_more, cmp_at, is_node, is_of, is_tail, is_more, is_at, negation_at, not_at, and_at, or_at, at_level, inside, expr_at, list_at, ◌>>=◌}
+use Rattle.sql_expressions.specs.Grammar.{IsWord, OR, AND, NOT, IS, CMP, INN, CAT, ADD, MUL, UNA, PRIM, IsLeaf, number, text, column, yes, no, null, IsIn, IsBetween, IsIs}
+use Rattle.sql_expressions.specs.Laws.{Spelled}
+use Rattle.sql_expressions.proofs.Steps.{is_open_true, is_close_true, is_and_true, is_not_true, is_is_true}
 use Rattle.sql_expressions.proofs.Levels.{level_of}
-use Rattle.sql_expressions.proofs.Shapes.{Listed, only_spelled, chain_spelled, comparison_spelled, negation_spelled, minus_spelled, plus_spelled, parens_spelled, leaf_spelled, is_spelled, between_spelled, contained_spelled, some_token, a_number, prim_number, una_number, mul_number, add_number, cat_number, inn_number, cmp_number, is_number, not_number, and_number, or_number}
-use Rattle.sql_expressions.proofs.Local.{Local, Nothing, One, Inhabited, at_end, at_token, left_out_at, deep_at, stuck_end, stuck_at, behind, in_turn, gives, deeper_then, mapped, checked, deep_always, only_rest, expect_local, switch_at, switch_end, same_at}
-use Rattle.sql_expressions.proofs.Tails.{seen, listed, Tail, no_tail, same_tail, Reads, chain_local, list_local}
+use Rattle.sql_expressions.proofs.Shapes.{Listed, only_spelled, comparison_spelled, negation_spelled, minus_spelled, plus_spelled, parens_spelled, leaf_spelled, is_spelled, between_spelled, contained_spelled, some_token, a_number, prim_number, una_number, mul_number, add_number, cat_number, not_number, and_number, or_number}
+use Rattle.sql_expressions.proofs.Local.{Local, Nothing, One, Inhabited, at_end, at_token, left_out_at, stuck_end, stuck_at, behind, in_turn, gives, deeper_then, mapped, checked, deep_always, expect_local, switch_at, switch_end}
+use Rattle.sql_expressions.proofs.Tails.{seen, Tail, no_tail, Reads, chain_local, list_local}
 use Rattle.sql_expressions.proofs.Shapes.{one_listed}
 use Rattle.sql_expressions.proofs.Shortens.{shortens}
 

@@ -1,5 +1,5 @@
 -- What is so of every list of tokens.
-use Rattle.std.specs.Prelude.{◌≡◌, ℕ, List, [], ◌∷◌, ◌++◌, Option, Some, None, Result, Ok, Err, ◌⊎◌}
+use Rattle.std.specs.Prelude.{◌≡◌, ℕ, [], ◌∷◌, ◌++◌, Option, Some, None, Ok, Err, ◌⊎◌}
 use Rattle.iso_lexer.specs.declared.token.At.{At}
 use Rattle.sql_trees.specs.declared.fault.SqlFault.TheVariants.{Syntax, TooDeep}
 use Rattle.sql_trees.specs.Tokens.{Token, Tokens}
@@ -16,7 +16,7 @@ abbrev pub Spelled : Level → Tokens → Type 0
 Spelled l ts = (limit room : ℕ) × (e : Tree) × (d : ℕ) × SpellsIn limit room l ts e d
 
 -- A syntax fault stands at the first token that can't be: the tokens before it begin an expression, whatever its depth. A list that
--- has the same tokens up to there and the same next token has none at its front, whatever follows; and reading it stops there too.
+-- has the same tokens up to there and the same next token has no whole one at its front, whatever follows; and reading it stops there too.
 pub record StopsFirst (last : ℕ) (ts : Tokens) (place : ℕ) : Type 0 where
   pub front : Tokens
   pub rest : Tokens
