@@ -16,10 +16,10 @@ use Rattle.sql_trees.specs.Trees.{Tree, Trees, Null, Flag, Number, Text, Column,
 use Rattle.sql_expressions.specs.Build.{negated, push}
 use Rattle.sql_expressions.specs.Reading.{name_at, Found, Found_op, Found_list, Reader, leaf, deeper, join, next_op, found_op, comparison_op, expect, misplaced, is_open, is_close, is_and, is_not, is_is, truth_of, place_of, column_at, parens_at, prim_of, prim_at, sign_at, una_of, una_at, mul_at, add_at, cat_at, in_at, between_at, not_in_of, not_in_at, inn_of, inn_more, inn_at, cmp_more, cmp_at, is_node, is_of, is_tail, is_more, is_at, negation_at, not_at, and_at, or_at, at_level, inside, expr_at, list_at, list_more, after_comma, chain_more, ◌>>=◌}
 use Rattle.sql_expressions.specs.Reading as reading
-use Rattle.sql_expressions.specs.Grammar.{IsWord, Ends, goes_on, Level, OR, AND, NOT, IS, CMP, INN, CAT, ADD, MUL, UNA, PRIM, tighter, binary, Spells, only, chain, negation, is, comparison, contained, between, minus, plus, parens, literal, Items, one, next, IsLeaf, number, text, column, yes, no, null, IsIn, IsBetween, IsIs}
+use Rattle.sql_expressions.specs.Grammar.{IsWord, Ends, goes_on, Level, OR, AND, NOT, IS, CMP, INN, CAT, ADD, MUL, UNA, PRIM, tighter, binary, Spells, SpellsIn, only, chain, negation, is, comparison, contained, between, minus, plus, parens, literal, Items, one, next, IsLeaf, number, text, column, yes, no, null, IsIn, IsBetween, IsIs}
 
 -- the words and signs that a level goes on with
-abbrev own : Level → Token → Bool
+abbrev pub own : Level → Token → Bool
 own IS t = is_is t
 own CMP t = is_some (comparison_op t)
 own INN (tok.word words.In s) = true
@@ -29,7 +29,7 @@ own INN _ = false
 own PRIM t = is_open t
 own l t = is_some (binary l t)
 
-abbrev continues : Level → Token → Bool
+abbrev pub continues : Level → Token → Bool
 continues PRIM t = own PRIM t
 continues UNA t = own PRIM t
 continues MUL t = own MUL t || own PRIM t
@@ -42,7 +42,7 @@ continues NOT t = own IS t || (own CMP t || (own INN t || (own CAT t || (own ADD
 continues AND t = own AND t || (own IS t || (own CMP t || (own INN t || (own CAT t || (own ADD t || (own MUL t || own PRIM t))))))
 continues OR t = own OR t || (own AND t || (own IS t || (own CMP t || (own INN t || (own CAT t || (own ADD t || (own MUL t || own PRIM t)))))))
 
-abbrev Stops : Level → Tokens → Type 0
+abbrev pub Stops : Level → Tokens → Type 0
 Stops l [] = Unit {0}
 Stops l (t ∷ ts) = continues l t.tok ≡ false
 
@@ -64,7 +64,7 @@ tighter_stops MUL t e = (or_false (own MUL t) _ e).1
 tighter_stops UNA t e = e
 tighter_stops PRIM t e = e
 
-stops_below : (l : Level) (ts : Tokens) → Stops l ts → Stops (tighter l) ts
+pub stops_below : (l : Level) (ts : Tokens) → Stops l ts → Stops (tighter l) ts
 stops_below l [] s = tt
 stops_below l (t ∷ ts) s = tighter_stops l t.tok s
 
@@ -73,7 +73,7 @@ none_of None e = refl
 none_of (Some x) e = absurd cc
 
 -- an operator of a level is nothing that a tighter level goes on with
-op_stops : (l : Level) (t : Token) (o : Operator) → binary l t ≡ Some o → continues (tighter l) t ≡ false
+pub op_stops : (l : Level) (t : Token) (o : Operator) → binary l t ≡ Some o → continues (tighter l) t ≡ false
 op_stops OR (tok.word words.Or s) o e = refl
 op_stops OR _ o e = absurd cc
 op_stops AND (tok.word words.And s) o e = refl
@@ -94,7 +94,7 @@ op_stops INN t o e = absurd cc
 op_stops UNA t o e = absurd cc
 op_stops PRIM t o e = absurd cc
 
-abbrev IsChain : Level → Type 0
+abbrev pub IsChain : Level → Type 0
 IsChain OR = Unit {0}
 IsChain AND = Unit {0}
 IsChain CAT = Unit {0}
@@ -110,7 +110,7 @@ own_stops ADD t c e = (or_false (own ADD t) _ e).0
 own_stops MUL t c e = (or_false (own MUL t) _ e).0
 own_stops _ t c e = elim c [ ]
 
-chain_ends : (l : Level) (rest : Tokens) → IsChain l → Stops l rest → next_op (binary l) rest ≡ None
+pub chain_ends : (l : Level) (rest : Tokens) → IsChain l → Stops l rest → next_op (binary l) rest ≡ None
 chain_ends l [] c s = refl
 chain_ends l (t ∷ ts) c s = rw (none_of (binary l t.tok) (own_stops l t.tok c s)) refl
 
@@ -153,7 +153,7 @@ abbrev made : Tree → ℕ → Tokens → Found
 made e d ts = record { tree = e; depth = d; rest = ts }
 
 -- what a level begins with
-abbrev starts : Level → Token → Bool
+abbrev pub starts : Level → Token → Bool
 starts OR (tok.word words.Not s) = true
 starts AND (tok.word words.Not s) = true
 starts NOT (tok.word words.Not s) = true
@@ -185,7 +185,7 @@ starts_up UNA (tok.string w) e = e
 starts_up UNA (tok.number w) e = e
 starts_up PRIM t e = e
 
-abbrev Starts : Level → Tokens → Type 0
+abbrev pub Starts : Level → Tokens → Type 0
 Starts l ts = (t : At Token) × (us : Tokens) × (ts ≡ t ∷ us) × (starts l t.tok ≡ true)
 
 starts_append : (l : Level) (ts us : Tokens) → Starts l ts → Starts l (ts ++ us)
@@ -207,7 +207,7 @@ leaf_starts x e (yes s) = refl
 leaf_starts x e (no s) = refl
 leaf_starts x e (null s) = refl
 
-spells_starts : {n : ℕ} {l : Level} {ts : Tokens} {e : Tree} {d : ℕ} → Spells n l ts e d → Starts l ts
+pub spells_starts : {limit n : ℕ} {l : Level} {ts : Tokens} {e : Tree} {d : ℕ} → SpellsIn limit n l ts e d → Starts l ts
 spells_starts (only l ts e d p) = let k = spells_starts p in (k.0, k.1, k.2, starts_up l k.0.tok k.3)
 spells_starts (chain l fs bs t o a b c d p h q lt) = starts_append l fs (t ∷ bs) (spells_starts p)
 spells_starts (negation ts t e d h p lt) = (t, ts, refl, rw h.1 refl)
@@ -221,7 +221,7 @@ spells_starts (parens ts t u e d h p g lt) = (t, ts ++ u ∷ [], refl, rw h refl
 spells_starts (literal t e p) = (t, [], refl, leaf_starts t.tok e p)
 
 module _ (last : ℕ) where
-  abbrev read_of : ℕ → Level → Reader
+  abbrev pub read_of : ℕ → Level → Reader
   read_of n OR = or_at last (inside last n)
   read_of n AND = and_at last (inside last n)
   read_of n NOT = not_at last (inside last n)
@@ -265,14 +265,14 @@ module _ (last : ℕ) where
   reads n UNA ts e d k = k
   reads n PRIM ts e d k = k
 
-  not_first : (n : ℕ) (t : At Token) (ts : Tokens) → starts IS t.tok ≡ true → not_at last (inside last n) (t ∷ ts) ≡ is_at last (inside last n) (t ∷ ts)
+  pub not_first : (n : ℕ) (t : At Token) (ts : Tokens) → starts IS t.tok ≡ true → not_at last (inside last n) (t ∷ ts) ≡ is_at last (inside last n) (t ∷ ts)
   not_first n t ts e = of_test (is_not t.tok) e refl
     where
       of_test : (b : Bool) → not b ≡ true → is_not t.tok ≡ b → not_at last (inside last n) (t ∷ ts) ≡ is_at last (inside last n) (t ∷ ts)
       of_test true h g = absurd cc
       of_test false h g = rw g refl
 
-  una_first : (n : ℕ) (t : At Token) (ts : Tokens) → starts PRIM t.tok ≡ true → una_at last (inside last n) (t ∷ ts) ≡ prim_at last (inside last n) (t ∷ ts)
+  pub una_first : (n : ℕ) (t : At Token) (ts : Tokens) → starts PRIM t.tok ≡ true → una_at last (inside last n) (t ∷ ts) ≡ prim_at last (inside last n) (t ∷ ts)
   una_first n t ts e = of_tok t.tok e
     where
       of_tok : (x : Token) → starts PRIM x ≡ true → una_of last (inside last n) x t ts ≡ prim_at last (inside last n) (t ∷ ts)
@@ -280,11 +280,11 @@ module _ (last : ℕ) where
       of_tok (tok.sign signs.Plus) h = absurd cc
       of_tok _ h = refl
 
-  is_end : (n : ℕ) (a : Found) (rest : Tokens) → Stops IS rest → is_more last a rest ≡ Ok a
+  pub is_end : (n : ℕ) (a : Found) (rest : Tokens) → Stops IS rest → is_more last a rest ≡ Ok a
   is_end n a [] s = refl
   is_end n a (t ∷ ts) s = rw (or_false (own IS t.tok) _ s).0 refl
 
-  inn_end : (n : ℕ) (a : Found) (rest : Tokens) → Stops INN rest → inn_more last (inside last n) a rest ≡ Ok a
+  pub inn_end : (n : ℕ) (a : Found) (rest : Tokens) → Stops INN rest → inn_more last (inside last n) a rest ≡ Ok a
   inn_end n a [] s = refl
   inn_end n a (t ∷ ts) s = of_tok t.tok (or_false (own INN t.tok) _ s).0
     where
@@ -294,7 +294,7 @@ module _ (last : ℕ) where
       of_tok (tok.word words.Not s) h = absurd cc
       of_tok _ h = refl
 
-  cmp_end : (rest : Tokens) → Stops CMP rest → next_op comparison_op rest ≡ None
+  pub cmp_end : (rest : Tokens) → Stops CMP rest → next_op comparison_op rest ≡ None
   cmp_end [] s = refl
   cmp_end (t ∷ ts) s = rw (none_of (comparison_op t.tok) (or_false (own CMP t.tok) _ s).0) refl
 
@@ -341,7 +341,7 @@ module _ (last : ℕ) where
   unfolding negation_at inside
   claim_not n ts t e d h r lt = λ rest s. rw (h.1, r rest s, deeper_at t.span.start d lt) refl
 
-  comparison_stops : (x : Token) (o : Operator) → comparison_op x ≡ Some o → continues INN x ≡ false
+  pub comparison_stops : (x : Token) (o : Operator) → comparison_op x ≡ Some o → continues INN x ≡ false
   comparison_stops (tok.sign signs.Equal) o e = refl
   comparison_stops (tok.sign signs.NotEqual) o e = refl
   comparison_stops (tok.sign signs.Less) o e = refl
@@ -368,7 +368,7 @@ module _ (last : ℕ) where
   named_read n (tok.sign s) t ts name e = absurd cc
   named_read n x t ts name e = ap (λ o. name_at last o t ts) e
 
-  leaf_read : (n : ℕ) (t : At Token) (x : Token) (e : Tree) → t.tok ≡ x → IsLeaf x e → Reads n PRIM (t ∷ []) e 0
+  pub leaf_read : (n : ℕ) (t : At Token) (x : Token) (e : Tree) → t.tok ≡ x → IsLeaf x e → Reads n PRIM (t ∷ []) e 0
   leaf_read n t x e h (number k) = λ rest s. rw h refl
   leaf_read n t x e h (text k) = λ rest s. rw h refl
   leaf_read n t x e h (column y name g) = λ rest s. ap (λ z. prim_of last (inside last n) z t rest) h ∙ named_read n y t rest name g ∙ column_read n t name rest s
@@ -376,7 +376,7 @@ module _ (last : ℕ) where
   leaf_read n t x e h (no k) = λ rest s. rw h refl
   leaf_read n t x e h (null k) = λ rest s. rw h refl
 
-  truth_is_no_not : (x : Token) (w : Truth) → truth_of x ≡ Some w → is_not x ≡ false
+  pub truth_is_no_not : (x : Token) (w : Truth) → truth_of x ≡ Some w → is_not x ≡ false
   truth_is_no_not (tok.word words.Not s) w e = absurd cc
   truth_is_no_not _ w e = refl
 
@@ -400,7 +400,7 @@ module _ (last : ℕ) where
   between_read n no' place us vs rest t e low high b c d q h r lt s =
       rw (deeper_at place b (omega arith), q (t ∷ (vs ++ rest)) (rw h.1 refl), h.1, r rest (stops_below INN rest s), deeper_at place (max b (max c d)) lt) refl
 
-  assoc_between : (ts ws us vs rest : Tokens) (t : At Token) → (ts ++ (ws ++ (us ++ t ∷ vs))) ++ rest ≡ ts ++ (ws ++ (us ++ (t ∷ (vs ++ rest))))
+  pub assoc_between : (ts ws us vs rest : Tokens) (t : At Token) → (ts ++ (ws ++ (us ++ t ∷ vs))) ++ rest ≡ ts ++ (ws ++ (us ++ (t ∷ (vs ++ rest))))
   assoc_between ts ws us vs rest t = append_assoc ts _ rest ∙ ap (λ x. ts ++ x) (append_assoc ws _ rest ∙ ap (λ x. ws ++ x) (append_assoc us (t ∷ vs) rest))
 
   claim_between : (n : ℕ) (ts ws us vs : Tokens) (t : At Token) (no' : Bool) (e low high : Tree) (b c d : ℕ) → Reads n CAT ts e b → IsBetween no' ws → Reads n CAT us low c → IsWord words.And t.tok → Reads n CAT vs high d → max b (max c d) < 64 → Reads n INN (ts ++ (ws ++ (us ++ t ∷ vs))) (Between e no' low high) (max b (max c d) + 1)
@@ -447,7 +447,7 @@ module _ (last : ℕ) where
       let all = w.same ∙ list_end (inside last (suc n) Whole t.span.start) w.turns (record { trees = es; depth = d; rest = u ∷ rest }) (rw g refl) in
       rw (deeper_at place c (omega arith), h, all, deeper_at place (max c d) lt, g) refl
 
-  assoc_in : (ts ws us rest : Tokens) (t u : At Token) → (ts ++ (ws ++ t ∷ (us ++ u ∷ []))) ++ rest ≡ ts ++ (ws ++ (t ∷ (us ++ (u ∷ rest))))
+  pub assoc_in : (ts ws us rest : Tokens) (t u : At Token) → (ts ++ (ws ++ t ∷ (us ++ u ∷ []))) ++ rest ≡ ts ++ (ws ++ (t ∷ (us ++ (u ∷ rest))))
   assoc_in ts ws us rest t u = append_assoc ts _ rest ∙ ap (λ x. ts ++ x) (append_assoc ws _ rest ∙ ap (λ x. ws ++ (t ∷ x)) (append_assoc us (u ∷ []) rest))
 
   claim_in : (n : ℕ) (ts ws us : Tokens) (t u : At Token) (no' : Bool) (e : Tree) (es : Trees) (c d : ℕ) → Reads (suc n) CAT ts e c → IsIn no' ws → t.tok ≡ tok.sign signs.Open → Lists n us es d → u.tok ≡ tok.sign signs.Close → max c d < 64 → Reads (suc n) INN (ts ++ (ws ++ t ∷ (us ++ u ∷ []))) (In e no' es) (max c d + 1)
@@ -475,7 +475,7 @@ module _ (last : ℕ) where
     items_complete (one {n = n} ts e d p) = list_first n ts e d (reads n OR ts e d (complete p))
     items_complete (next {n = n} fs bs t es e c d p h q) = list_on n fs bs t es e c d (items_complete p) h (reads n OR bs e d (complete q))
 
-  ends_stops : (rest : Tokens) → Ends rest → Stops OR rest
+  pub ends_stops : (rest : Tokens) → Ends rest → Stops OR rest
   ends_stops [] e = tt
   ends_stops (t ∷ ts) e = of_tok t.tok e
     where

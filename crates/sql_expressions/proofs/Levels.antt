@@ -19,7 +19,7 @@ use Rattle.sql_expressions.specs.Grammar.{Begins, IsWord, Level, OR, AND, NOT, I
 use Rattle.sql_expressions.proofs.Steps.{bind_ok, deeper_ok, expect_ok, next_op_ok, is_close_true, is_open_true, is_and_true, is_not_true, is_is_true}
 use Rattle.sql_expressions.proofs.Sound.{Took, took_up, Sound, joined_as, chain_sound, Took_list, list_sound}
 
-abbrev level_of : Opened → Level
+abbrev pub level_of : Opened → Level
 level_of Whole = OR
 level_of Negation = NOT
 level_of Unary = UNA

@@ -6,3 +6,9 @@ pub mod Levels
 pub mod Shortens
 pub mod Complete
 pub mod Lists
+pub mod Shapes
+pub mod Local
+pub mod Tails
+pub mod Stops
+pub mod Beyond
+pub mod FirstFaults

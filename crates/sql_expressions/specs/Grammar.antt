@@ -75,24 +75,31 @@ pub data IsLeaf : Token → Tree → Type 0 where
   null : (s : List ℕ) → IsLeaf (tok.word words.Null s) Null
 
 mutual
-  -- The tokens spell the tree at this level, with this depth, where so many openings may still be made.
-  pub data Spells : ℕ → Level → Tokens → Tree → ℕ → Type 0 where
-    only : {n : ℕ} (l : Level) (ts : Tokens) (e : Tree) (d : ℕ) → Spells n (tighter l) ts e d → Spells n l ts e d
-    chain : {n : ℕ} (l : Level) (fs bs : Tokens) (t : At Token) (o : Operator) (a b : Tree) (c d : ℕ) → Spells n l fs a c → binary l t.tok ≡ Some o → Spells n (tighter l) bs b d → max c d < 64 → Spells n l (fs ++ t ∷ bs) (Binary o a b) (max c d + 1)
-    negation : {n : ℕ} (ts : Tokens) (t : At Token) (e : Tree) (d : ℕ) → IsWord words.Not t.tok → Spells n NOT ts e d → d < 64 → Spells (suc n) NOT (t ∷ ts) (Not e) (d + 1)
-    is : {n : ℕ} (ts ws : Tokens) (t : At Token) (no : Bool) (truth : Truth) (e : Tree) (d : ℕ) → Spells n CMP ts e d → IsIs no ws → truth_of t.tok ≡ Some truth → d < 64 → Spells n IS (ts ++ (ws ++ t ∷ [])) (Is e no truth) (d + 1)
-    comparison : {n : ℕ} (fs bs : Tokens) (t : At Token) (o : Operator) (a b : Tree) (c d : ℕ) → Spells n INN fs a c → comparison_op t.tok ≡ Some o → Spells n INN bs b d → max c d < 64 → Spells n CMP (fs ++ t ∷ bs) (Binary o a b) (max c d + 1)
-    contained : {n : ℕ} (ts ws us : Tokens) (t u : At Token) (no : Bool) (e : Tree) (es : Trees) (c d : ℕ) → Spells (suc n) CAT ts e c → IsIn no ws → t.tok ≡ tok.sign signs.Open → Items n us es d → u.tok ≡ tok.sign signs.Close → max c d < 64 → Spells (suc n) INN (ts ++ (ws ++ t ∷ (us ++ u ∷ []))) (In e no es) (max c d + 1)
-    between : {n : ℕ} (ts ws us vs : Tokens) (t : At Token) (no : Bool) (e low high : Tree) (b c d : ℕ) → Spells n CAT ts e b → IsBetween no ws → Spells n CAT us low c → IsWord words.And t.tok → Spells n CAT vs high d → max b (max c d) < 64 → Spells n INN (ts ++ (ws ++ (us ++ t ∷ vs))) (Between e no low high) (max b (max c d) + 1)
-    minus : {n : ℕ} (ts : Tokens) (t : At Token) (e : Tree) (d : ℕ) → t.tok ≡ tok.sign signs.Minus → Spells n UNA ts e d → d < 64 → Spells (suc n) UNA (t ∷ ts) (negated e) (d + 1)
-    plus : {n : ℕ} (ts : Tokens) (t : At Token) (e : Tree) (d : ℕ) → t.tok ≡ tok.sign signs.Plus → Spells n UNA ts e d → d < 64 → Spells (suc n) UNA (t ∷ ts) (Plus e) (d + 1)
-    parens : {n : ℕ} (ts : Tokens) (t u : At Token) (e : Tree) (d : ℕ) → t.tok ≡ tok.sign signs.Open → Spells n OR ts e d → u.tok ≡ tok.sign signs.Close → d < 64 → Spells (suc n) PRIM (t ∷ (ts ++ u ∷ [])) e (d + 1)
-    literal : {n : ℕ} (t : At Token) (e : Tree) → IsLeaf t.tok e → Spells n PRIM (t ∷ []) e 0
+  -- The tokens spell the tree at this level, with this depth, where so many openings may still be made and no node is deeper than the limit.
+  pub data SpellsIn (limit : ℕ) : ℕ → Level → Tokens → Tree → ℕ → Type 0 where
+    only : {n : ℕ} (l : Level) (ts : Tokens) (e : Tree) (d : ℕ) → SpellsIn limit n (tighter l) ts e d → SpellsIn limit n l ts e d
+    chain : {n : ℕ} (l : Level) (fs bs : Tokens) (t : At Token) (o : Operator) (a b : Tree) (c d : ℕ) → SpellsIn limit n l fs a c → binary l t.tok ≡ Some o → SpellsIn limit n (tighter l) bs b d → max c d < limit → SpellsIn limit n l (fs ++ t ∷ bs) (Binary o a b) (max c d + 1)
+    negation : {n : ℕ} (ts : Tokens) (t : At Token) (e : Tree) (d : ℕ) → IsWord words.Not t.tok → SpellsIn limit n NOT ts e d → d < limit → SpellsIn limit (suc n) NOT (t ∷ ts) (Not e) (d + 1)
+    is : {n : ℕ} (ts ws : Tokens) (t : At Token) (no : Bool) (truth : Truth) (e : Tree) (d : ℕ) → SpellsIn limit n CMP ts e d → IsIs no ws → truth_of t.tok ≡ Some truth → d < limit → SpellsIn limit n IS (ts ++ (ws ++ t ∷ [])) (Is e no truth) (d + 1)
+    comparison : {n : ℕ} (fs bs : Tokens) (t : At Token) (o : Operator) (a b : Tree) (c d : ℕ) → SpellsIn limit n INN fs a c → comparison_op t.tok ≡ Some o → SpellsIn limit n INN bs b d → max c d < limit → SpellsIn limit n CMP (fs ++ t ∷ bs) (Binary o a b) (max c d + 1)
+    contained : {n : ℕ} (ts ws us : Tokens) (t u : At Token) (no : Bool) (e : Tree) (es : Trees) (c d : ℕ) → SpellsIn limit (suc n) CAT ts e c → IsIn no ws → t.tok ≡ tok.sign signs.Open → ItemsIn limit n us es d → u.tok ≡ tok.sign signs.Close → max c d < limit → SpellsIn limit (suc n) INN (ts ++ (ws ++ t ∷ (us ++ u ∷ []))) (In e no es) (max c d + 1)
+    between : {n : ℕ} (ts ws us vs : Tokens) (t : At Token) (no : Bool) (e low high : Tree) (b c d : ℕ) → SpellsIn limit n CAT ts e b → IsBetween no ws → SpellsIn limit n CAT us low c → IsWord words.And t.tok → SpellsIn limit n CAT vs high d → max b (max c d) < limit → SpellsIn limit n INN (ts ++ (ws ++ (us ++ t ∷ vs))) (Between e no low high) (max b (max c d) + 1)
+    minus : {n : ℕ} (ts : Tokens) (t : At Token) (e : Tree) (d : ℕ) → t.tok ≡ tok.sign signs.Minus → SpellsIn limit n UNA ts e d → d < limit → SpellsIn limit (suc n) UNA (t ∷ ts) (negated e) (d + 1)
+    plus : {n : ℕ} (ts : Tokens) (t : At Token) (e : Tree) (d : ℕ) → t.tok ≡ tok.sign signs.Plus → SpellsIn limit n UNA ts e d → d < limit → SpellsIn limit (suc n) UNA (t ∷ ts) (Plus e) (d + 1)
+    parens : {n : ℕ} (ts : Tokens) (t u : At Token) (e : Tree) (d : ℕ) → t.tok ≡ tok.sign signs.Open → SpellsIn limit n OR ts e d → u.tok ≡ tok.sign signs.Close → d < limit → SpellsIn limit (suc n) PRIM (t ∷ (ts ++ u ∷ [])) e (d + 1)
+    literal : {n : ℕ} (t : At Token) (e : Tree) → IsLeaf t.tok e → SpellsIn limit n PRIM (t ∷ []) e 0
 
   -- the items of a list, with commas between them
-  pub data Items : ℕ → Tokens → Trees → ℕ → Type 0 where
-    one : {n : ℕ} (ts : Tokens) (e : Tree) (d : ℕ) → Spells n OR ts e d → Items n ts (more e none) d
-    next : {n : ℕ} (fs bs : Tokens) (t : At Token) (es : Trees) (e : Tree) (c d : ℕ) → Items n fs es c → t.tok ≡ tok.sign signs.Comma → Spells n OR bs e d → Items n (fs ++ t ∷ bs) (push es e) (max c d)
+  pub data ItemsIn (limit : ℕ) : ℕ → Tokens → Trees → ℕ → Type 0 where
+    one : {n : ℕ} (ts : Tokens) (e : Tree) (d : ℕ) → SpellsIn limit n OR ts e d → ItemsIn limit n ts (more e none) d
+    next : {n : ℕ} (fs bs : Tokens) (t : At Token) (es : Trees) (e : Tree) (c d : ℕ) → ItemsIn limit n fs es c → t.tok ≡ tok.sign signs.Comma → SpellsIn limit n OR bs e d → ItemsIn limit n (fs ++ t ∷ bs) (push es e) (max c d)
+
+-- the same, where no node is deeper than 64
+abbrev pub Spells : ℕ → Level → Tokens → Tree → ℕ → Type 0
+Spells = SpellsIn 64
+
+abbrev pub Items : ℕ → Tokens → Trees → ℕ → Type 0
+Items = ItemsIn 64
 
 -- the tokens begin with a spelling of what was found, and the rest is left
 pub record Begins (ts : Tokens) (f : Found) : Type 0 where

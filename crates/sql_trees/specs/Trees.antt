@@ -1,5 +1,5 @@
 -- Trees of expressions, without where they lie in memory: names and strings stand decoded.
-use Rattle.std.specs.Prelude.{ℕ, Bool, List, [], ◌∷◌, if◌then◌else◌, ◌==◌}
+use Rattle.std.specs.Prelude.{ℕ, Bool, List, [], ◌∷◌, if◌then◌else◌, ◌==◌, ◌&&◌}
 use Rattle.iso_lexer.specs.Names.{name_view, decoded}
 use Rattle.sql_trees.specs.declared.expr.Operator.{Operator}
 use Rattle.sql_trees.specs.declared.expr.Truth.{Truth}
@@ -14,7 +14,7 @@ use Rattle.sql_trees.specs.declared.expr.Expr.TheVariants.{In', Between', Is', B
 unfoldable pub undoubled : List ℕ → List ℕ
 undoubled [] = []
 undoubled (b ∷ []) = b ∷ []
-undoubled (b ∷ c ∷ bs) = if b == 39 then b ∷ undoubled bs else b ∷ undoubled (c ∷ bs)
+undoubled (b ∷ c ∷ bs) = if b == 39 && c == 39 then b ∷ undoubled bs else b ∷ undoubled (c ∷ bs)
 
 mutual
   -- an expression

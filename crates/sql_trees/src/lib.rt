@@ -1,6 +1,8 @@
 //! Trees of SQL text, over slices of the text.
 #![tactic(auto)]
 
+mod alike;
+mod blocks;
 mod expr;
 mod fault;
 mod kind;
@@ -9,6 +11,7 @@ mod stmt;
 mod token;
 mod word;
 
+pub use blocks::{same_stmt, same_stmts};
 pub use expr::{Agg, AggKind, Expr, Operator, Truth};
 pub use fault::SqlFault;
 pub use kind::{Dir, Kind};
@@ -19,3 +22,6 @@ pub use stmt::{
 };
 pub use token::{Tok, classified};
 pub use word::{KEYWORDS, Word, word_of};
+
+#[cfg(test)]
+mod tests;

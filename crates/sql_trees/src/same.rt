@@ -14,7 +14,7 @@ fn first_of(part: &[u8]) -> Option<(u8, &[u8])>
 {
     let (first, rest) = part.split_first()?;
     match rest {
-        [_, behind @ ..] if *first == b'\'' => Some((*first, behind)),
+        [next, behind @ ..] if *first == b'\'' && *next == b'\'' => Some((*first, behind)),
         _ => Some((*first, rest)),
     }
 }
