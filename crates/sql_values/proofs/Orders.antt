@@ -98,7 +98,7 @@ turned_total false = full_total
 key_total : (dir : Dir) → IsTotalOrder (key_order dir)
 key_total dir = then_total (on_total (null_place dir) nat_cmp_total) (turned_total dir.desc)
 
-row_total : (k : ℕ) (by : List Dir) → IsTotalOrder (row_order k by)
+pub row_total : (k : ℕ) (by : List Dir) → IsTotalOrder (row_order k by)
 row_total k [] = record { antisymm = λ x y. refl; trans = λ x y z p q. p; congr = λ x y z p. refl }
 row_total k (dir ∷ by) = then_total (on_total (key k) (key_total dir)) (row_total (k + 1) by)
 
