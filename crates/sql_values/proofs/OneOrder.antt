@@ -1,7 +1,7 @@
 -- The sorted order of rows is one.
-use Rattle.std.proofs.Common.{◌≡◌, ℕ, ◌+◌, ◌<◌, ◌≤◌, false, List, length, refl, sym, ap, ◌∙◌, arith}
+use Rattle.std.proofs.Common.{◌≡◌, ℕ, ◌<◌, ◌≤◌, false, List, length, refl, sym, ◌∙◌, arith}
 use Rattle.std.specs.Prelude.{⊤}
-use Rattle.std.specs.List.{sum_by, range_with_len, AllAdjacentBelow}
+use Rattle.std.specs.List.{range_with_len}
 use Rattle.std.specs.Cmp.{IsTotalOrder}
 use Rattle.std.specs.Ordering.{nat_cmp, ordering_then, then_cmp, on, is_gt, MatchOrdering}
 use Rattle.std.specs.declared.cmp.Ordering.{Ordering}
@@ -10,7 +10,7 @@ use Rattle.std.proofs.lemmas.Cmp.{ranked, nat_cmp_total, on_total, then_total}
 use Rattle.std.proofs.lemmas.List.Sorted.{sum_by-IsPermutation}
 use Rattle.sql_trees.specs.declared.kind.Dir.{Dir}
 use Rattle.sql_values.specs.declared.value.Value.{Value}
-use Rattle.sql_values.specs.Sorting.{row_order, keys_at, MayPrecede, IsSortedOrder}
+use Rattle.sql_values.specs.Sorting.{row_order, keys_at, IsSortedOrder}
 use Rattle.sql_values.proofs.Orders.{row_total}
 use Rattle.sql_values.proofs.Unique.{rises, one_list}
 
