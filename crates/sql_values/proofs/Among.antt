@@ -1,7 +1,7 @@
 -- The items of an IN: as a list, and after some of them.
 use Rattle.std.proofs.Common.{◌≡◌, Bool, true, false, refl, ap, Ok, None}
 use mathlib.Core.Former.{Count}
-use Rattle.sql_trees.specs.declared.expr.Expr.{Expr, Row_of-Expr, end_of-Expr, more_of-Expr, items-the_row-Expr}
+use Rattle.sql_trees.specs.declared.expr.Expr.{Row_of-Expr, end_of-Expr, more_of-Expr, items-the_row-Expr}
 use Rattle.sql_trees.specs.Trees.{tree_of, trees, trees_of, more}
 use Rattle.sql_values.specs.Logic.{Known, or_of}
 

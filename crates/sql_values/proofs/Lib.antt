@@ -4,6 +4,8 @@ pub mod Calls
 pub mod Extremes
 pub mod Gathered
 pub mod Keys
+pub mod OneOrder
 pub mod Orders
 pub mod Places
 pub mod Utf8
+pub mod Unique

@@ -1,11 +1,11 @@
 -- The orders of values, keys and rows are total, and what a stable sort by one of rows gives.
-use Rattle.std.proofs.Common.{◌≡◌, ℕ, zero, suc, add-zero, add-one, ◌++◌, ◌+◌, ◌<◌, ◌≤◌, ℤ, pos, Bool, true, false, not, ◌&&◌, List, [], ◌∷◌, length, get_or, refl, sym, ap, ◌∙◌, arith, rules, nat_lt, ltb, if◌then◌else◌, tests}
+use Rattle.std.proofs.Common.{◌≡◌, ℕ, zero, suc, add-zero, add-one, ◌++◌, ◌+◌, ◌≤◌, ℤ, pos, Bool, true, false, not, ◌&&◌, List, [], ◌∷◌, length, get_or, refl, sym, ap, ◌∙◌, arith, ltb, if◌then◌else◌}
 use borrow.Author.Tests.{ltb-false, le-ltb}
 use Rattle.std.specs.Prelude.{⊤}
 use Rattle.std.specs.Cmp.{IsTotalOrder, IsStrictWeakOrder}
 use Rattle.std.specs.Cmp.Lexicographic.{slice_cmp, nat_list_cmp_total}
 use Rattle.std.specs.List.{range_with_len, AllAdjacentBelow}
-use Rattle.std.specs.List.Sorted.{IsSortedBy, IsStableBy, ties}
+use Rattle.std.specs.List.Sorted.{IsSortedBy, IsStableBy}
 use Rattle.std.specs.Ordering.{nat_cmp, int_cmp, ordering_then, ordering_reverse, then_cmp, on, is_lt, MatchOrdering}
 use Rattle.std.specs.declared.cmp.Ordering.{Ordering}
 use Rattle.std.specs.declared.cmp.Ordering.TheVariants.{Less, Equal, Greater}
@@ -98,7 +98,7 @@ turned_total false = full_total
 key_total : (dir : Dir) → IsTotalOrder (key_order dir)
 key_total dir = then_total (on_total (null_place dir) nat_cmp_total) (turned_total dir.desc)
 
-row_total : (k : ℕ) (by : List Dir) → IsTotalOrder (row_order k by)
+pub row_total : (k : ℕ) (by : List Dir) → IsTotalOrder (row_order k by)
 row_total k [] = record { antisymm = λ x y. refl; trans = λ x y z p q. p; congr = λ x y z p. refl }
 row_total k (dir ∷ by) = then_total (on_total (key k) (key_total dir)) (row_total (k + 1) by)
 

@@ -1,5 +1,5 @@
 -- Aggregates over the rows of a table (PostgreSQL manual, 9.21).
-use Rattle.std.specs.Prelude.{ℕ, ℤ, pos, ◌+ℤ◌, Bool, true, false, ◌||◌, not, List, [], ◌∷◌, length, Option, find, unwrap_or, Result, Ok, Err, if◌then◌else◌}
+use Rattle.std.specs.Prelude.{ℤ, pos, ◌+ℤ◌, Bool, true, false, ◌||◌, not, List, [], ◌∷◌, length, Option, find, unwrap_or, Result, Ok, Err, if◌then◌else◌}
 use Rattle.std.specs.List.{list_all, list_any}
 use Rattle.std.specs.Ordering.{is_lt}
 use Rattle.sql_trees.specs.declared.expr.AggKind.{AggKind}
@@ -7,7 +7,7 @@ use Rattle.sql_trees.specs.declared.expr.AggKind.TheVariants.{Count, Sum, Min, M
 use Rattle.sql_trees.specs.Trees.{Tree, AggTree}
 use Rattle.sql_trees.specs.Trees as tree
 use Rattle.sql_values.specs.declared.value.Value.{Value}
-use Rattle.sql_values.specs.declared.value.Value.TheVariants.{Null, Int, Big, Text, Bool as Boolean}
+use Rattle.sql_values.specs.declared.value.Value.TheVariants.{Null, Int, Big, Text}
 use Rattle.sql_values.specs.declared.fault.ValueFault.{ValueFault}
 use Rattle.sql_values.specs.declared.fault.ValueFault.TheVariants.{TypeMismatch}
 use Rattle.sql_values.specs.Values.{Answer, if_ok, bigint, is_null}

@@ -1,9 +1,9 @@
 -- Arithmetic on whole numbers (PostgreSQL manual, 9.3) and the literals (4.1.2).
 use Rattle.std.specs.Prelude.{ℕ, ◌^◌, ℤ, pos, negsuc, ◌+ℤ◌, ◌-ℤ◌, ◌*ℤ◌, neg_ℤ, int_div, int_rem, Bool, true, false, nat_eq, Result, Ok, Err, if◌then◌else◌}
 use Rattle.sql_trees.specs.declared.expr.Operator.{Operator}
-use Rattle.sql_trees.specs.declared.expr.Operator.TheVariants.{Or, And, Equal, NotEqual, Less, AtMost, Greater, AtLeast, Concat, Add, Subtract, Multiply, Divide, Remainder}
+use Rattle.sql_trees.specs.declared.expr.Operator.TheVariants.{Add, Subtract, Multiply, Divide, Remainder}
 use Rattle.sql_values.specs.declared.value.Value.{Value}
-use Rattle.sql_values.specs.declared.value.Value.TheVariants.{Null, Int, Big, Text, Bool as Boolean}
+use Rattle.sql_values.specs.declared.value.Value.TheVariants.{Null, Int, Big}
 use Rattle.sql_values.specs.declared.fault.ValueFault.{ValueFault}
 use Rattle.sql_values.specs.declared.fault.ValueFault.TheVariants.{DivisionByZero, TypeMismatch}
 use Rattle.sql_values.specs.Values.{Answer, if_ok, is_within, integer, bigint}

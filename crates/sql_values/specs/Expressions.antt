@@ -1,15 +1,15 @@
 -- The value of an expression at a row, or why it has none.
-use Rattle.std.specs.Prelude.{ℕ, ℤ, Bool, true, false, ◌||◌, List, [], ◌∷◌, ◌++◌, Option, Some, None, option_and_then, ok_or, slice_get, position, bytes_eq, Result, Ok, Err, if◌then◌else◌}
+use Rattle.std.specs.Prelude.{ℕ, Bool, true, false, ◌||◌, List, ◌++◌, Option, Some, None, option_and_then, ok_or, slice_get, position, bytes_eq, Result, Ok, Err, if◌then◌else◌}
 use Rattle.std.specs.Ordering.{is_eq, is_ne, is_lt, is_le, is_gt, is_ge}
 use Rattle.std.specs.declared.cmp.Ordering.{Ordering}
 use Rattle.std.specs.Str.{is_utf8}
 use Rattle.sql_trees.specs.declared.kind.Kind.{Kind}
 use Rattle.sql_trees.specs.declared.expr.Operator.{Operator}
-use Rattle.sql_trees.specs.declared.expr.Operator.TheVariants.{Or, And, Equal, NotEqual, Less, AtMost, Greater, AtLeast, Concat, Add, Subtract, Multiply, Divide, Remainder}
+use Rattle.sql_trees.specs.declared.expr.Operator.TheVariants.{Or, And, Equal, NotEqual, Less, AtMost, Greater, AtLeast, Concat}
 use Rattle.sql_trees.specs.Trees.{Tree, Trees}
 use Rattle.sql_trees.specs.Trees as tree
 use Rattle.sql_values.specs.declared.value.Value.{Value}
-use Rattle.sql_values.specs.declared.value.Value.TheVariants.{Null, Int, Big, Text, Bool as Boolean}
+use Rattle.sql_values.specs.declared.value.Value.TheVariants.{Null, Text, Bool as Boolean}
 use Rattle.sql_values.specs.declared.fault.ValueFault.{ValueFault}
 use Rattle.sql_values.specs.declared.fault.ValueFault.TheVariants.{NoColumn, TypeMismatch}
 use Rattle.sql_values.specs.Values.{Answer, if_ok, is_null, compare}

@@ -3,7 +3,7 @@ use Rattle.std.specs.Prelude.{Bool, true, false, not, Option, Some, None, is_non
 use Rattle.sql_trees.specs.declared.expr.Truth.{Truth}
 use Rattle.sql_trees.specs.declared.expr.Truth.TheVariants as asked
 use Rattle.sql_values.specs.declared.value.Value.{Value}
-use Rattle.sql_values.specs.declared.value.Value.TheVariants.{Null, Int, Big, Text, Bool as Boolean}
+use Rattle.sql_values.specs.declared.value.Value.TheVariants.{Null, Bool as Boolean}
 use Rattle.sql_values.specs.declared.fault.ValueFault.{ValueFault}
 use Rattle.sql_values.specs.declared.fault.ValueFault.TheVariants.{TypeMismatch}
 use Rattle.sql_values.specs.Values.{Answer, if_ok, is_null}

@@ -1,12 +1,43 @@
+//! Tables of expressions, aggregates and orders, with what PostgreSQL's manual says of them.
+//! Each test also passes where any one allocation fails: what was refused memory, and says so, is asked again. So nothing but Memory comes of that.
+
 ghost use Rattle.std.specs.Prelude.{◌≡◌, IsTrue, All, length};
 
 use super::*;
 use iso_lexer::Name;
 use sql_trees::{Agg, AggKind, Column, Expr, Operator, Truth};
-use std::alloc::Global;
+use std::alloc::{AllocError, AllocFailed, Global};
 use std::cmp::Ordering;
 use std::process::Abort;
 use std::test::Fail;
+
+/// Why a line of a table, or a test, has no answer.
+#[derive(Debug, Drop)]
+enum Wrong {
+    Memory,
+    Written(&'static str),
+}
+
+impl From<AllocError> for Wrong {
+    fn from(_e: AllocError) -> Self {
+        Wrong::Memory
+    }
+}
+
+impl<T: Drop> From<AllocFailed<T>> for Wrong {
+    fn from(_e: AllocFailed<T>) -> Self {
+        Wrong::Memory
+    }
+}
+
+impl From<ValueFault<'_>> for Wrong {
+    fn from(fault: ValueFault<'_>) -> Self {
+        match fault {
+            ValueFault::Memory => Wrong::Memory,
+            _ => Wrong::Written("no value"),
+        }
+    }
+}
 
 fn operator(word: &str) -> Option<Operator> {
     match word {
@@ -42,9 +73,18 @@ fn truth(word: &str) -> Option<(bool, Truth)> {
     }
 }
 
-fn literal<'a>(word: &'a str) -> Result<Expr<'a>, Fail> {
+fn literal<'a>(word: &'a str) -> Result<Expr<'a>, Wrong> {
     if let Some(text) = word.strip_prefix('\'') {
         return Ok(Expr::Text(text));
+    }
+    if let Some(name) = word.strip_prefix(':') {
+        return Ok(Expr::Column(Name::Plain(name)));
+    }
+    if let Some(name) = word.strip_prefix('"') {
+        let name = name
+            .strip_suffix('"')
+            .ok_or(Wrong::Written("an open name"))?;
+        return Ok(Expr::Column(Name::Quoted(name)));
     }
     let (negative, digits) = match word.strip_prefix('-') {
         Some(digits) => (true, digits),
@@ -59,16 +99,16 @@ fn literal<'a>(word: &'a str) -> Result<Expr<'a>, Fail> {
     })
 }
 
-fn popped<'a>(stack: &mut Vec<Expr<'a>>) -> Result<Expr<'a>, Fail> {
-    Ok(stack.pop().ok_or("an operand is missing")?)
+fn popped<'a>(stack: &mut Vec<Expr<'a>>) -> Result<Expr<'a>, Wrong> {
+    Ok(stack.pop().ok_or(Wrong::Written("an operand is missing"))?)
 }
 
-fn boxed<'a>(alloc: Global, stack: &mut Vec<Expr<'a>>) -> Result<Box<Expr<'a>>, Fail> {
+fn boxed<'a>(alloc: Global, stack: &mut Vec<Expr<'a>>) -> Result<Box<Expr<'a>>, Wrong> {
     Ok(Box::new(alloc, popped(stack)?)?)
 }
 
 /// The items of an IN that has one or two.
-fn items<'a>(alloc: Global, stack: &mut Vec<Expr<'a>>, two: bool) -> Result<Vec<Expr<'a>>, Fail> {
+fn items<'a>(alloc: Global, stack: &mut Vec<Expr<'a>>, two: bool) -> Result<Vec<Expr<'a>>, Wrong> {
     let mut items = Vec::new(alloc);
     let last = popped(stack)?;
     if two {
@@ -79,7 +119,7 @@ fn items<'a>(alloc: Global, stack: &mut Vec<Expr<'a>>, two: bool) -> Result<Vec<
 }
 
 /// What a word makes of the expressions before it.
-fn built<'a>(alloc: Global, stack: &mut Vec<Expr<'a>>, word: &'a str) -> Result<Expr<'a>, Fail> {
+fn built<'a>(alloc: Global, stack: &mut Vec<Expr<'a>>, word: &'a str) -> Result<Expr<'a>, Wrong> {
     if let Some(operator) = operator(word) {
         let b = boxed(alloc, stack)?;
         return Ok(Expr::Binary(operator, boxed(alloc, stack)?, b));
@@ -104,8 +144,8 @@ fn built<'a>(alloc: Global, stack: &mut Vec<Expr<'a>>, word: &'a str) -> Result<
     })
 }
 
-/// The tree of an expression in postfix notation: `7 -2 /` is `7 / -2`, and a string begins with its quote.
-fn tree<'a>(alloc: Global, text: &'a str) -> Result<Expr<'a>, Fail> {
+/// The tree of an expression in postfix notation: `7 -2 /` is `7 / -2`. A string begins with its quote, a name stands between quotes or behind a colon, or is folded.
+fn tree<'a>(alloc: Global, text: &'a str) -> Result<Expr<'a>, Wrong> {
     let mut stack = Vec::new(alloc);
     for word in text.split_whitespace() {
         let expr = built(alloc, &mut stack, word)?;
@@ -115,14 +155,14 @@ fn tree<'a>(alloc: Global, text: &'a str) -> Result<Expr<'a>, Fail> {
 }
 
 /// A value or a fault in words.
-fn shown(alloc: Global, answer: Result<Value, ValueFault<'_>>) -> Result<String, Fail> {
+fn shown(alloc: Global, answer: Result<Value, ValueFault<'_>>) -> Result<String, Wrong> {
     Ok(match answer {
         Ok(Value::Null) => String::from_str(alloc, "null")?,
         Ok(Value::Int(n)) => format!(in alloc; "int {n}")?,
         Ok(Value::Big(n)) => format!(in alloc; "big {n}")?,
         Ok(Value::Text(text)) => format!(in alloc; "text {}", text.as_str())?,
         Ok(Value::Bool(b)) => format!(in alloc; "{b}")?,
-        Err(ValueFault::Memory) => return Err(Fail::from("out of memory")),
+        Err(ValueFault::Memory) => return Err(Wrong::Memory),
         Err(fault) => format!(in alloc; "{fault}")?,
     })
 }
@@ -143,22 +183,65 @@ fn columns<'a>() -> [Column<'a>; 2] {
 }
 
 /// A line of a table, before and behind its arrow.
-fn parts<'a>(line: &'a str) -> Result<(&'a str, &'a str), Fail> {
-    Ok(line.split_once(" => ").ok_or("a line without an arrow")?)
+fn parts<'a>(line: &'a str) -> Result<(&'a str, &'a str), Wrong> {
+    Ok(
+        line.split_once(" => ")
+            .ok_or(Wrong::Written("a line without an arrow"))?,
+    )
 }
 
-/// The value of an expression without columns, in words.
-fn evaluated(alloc: Global, text: &str) -> Result<String, Fail> {
+/// A row of `a`, which is 7, and `b"B`, which is `x`.
+fn two_values(alloc: Global) -> Result<Row, Wrong> {
+    let mut values = Vec::new(alloc);
+    values.push(Value::Int(7))?;
+    values.push(Value::Text(Text::from_string(String::from_str(alloc, "x")?)))?;
+    Ok(Row::from_vec(values))
+}
+
+/// The value of an expression at that row, in words.
+fn evaluated(alloc: Global, text: &str) -> Result<String, Wrong> {
     let expr = tree(alloc, text)?;
-    let row = Row::from_vec(Vec::new(alloc));
-    shown(alloc, eval(alloc, &expr, &Columns::of(&[]), &row))
+    let columns = columns();
+    let cols = Columns::of(&columns);
+    let row = two_values(alloc)?;
+    if row.values().len() != cols.len() {
+        return Err(Wrong::Written("a row of another length"));
+    }
+    shown(alloc, eval(alloc, &expr, &cols, &row))
 }
 
-fn check(rt: &impl Abort, alloc: Global, table: &str) -> Result<(), Fail> {
+/// What the lines of a table ask for.
+#[derive(Clone, Copy)]
+enum Asked {
+    Value,
+    Taken,
+    Summary,
+    Order,
+}
+
+fn answered(alloc: Global, asked: Asked, text: &str) -> Result<String, Wrong> {
+    match asked {
+        Asked::Value => evaluated(alloc, text),
+        Asked::Taken => taken(alloc, text),
+        Asked::Summary => summed_up(alloc, text),
+        Asked::Order => ordered_by(alloc, text),
+    }
+}
+
+/// The answer, asked again where the first call was refused memory.
+fn answered_at_last(alloc: Global, asked: Asked, text: &str) -> Result<String, Wrong> {
+    match answered(alloc, asked, text) {
+        Err(Wrong::Memory) => answered(alloc, asked, text),
+        answer => answer,
+    }
+}
+
+/// Each line of the table has the answer behind its arrow.
+fn check(rt: &impl Abort, alloc: Global, asked: Asked, table: &str) -> Result<(), Wrong> {
     for line in table.lines() {
         if !line.trim().is_empty() {
             let (text, wanted) = parts(line.trim())?;
-            let found = evaluated(alloc, text)?;
+            let found = answered_at_last(alloc, asked, text)?;
             assert_eq!(rt; found.as_str(), wanted, "at {text}");
         }
     }
@@ -166,18 +249,41 @@ fn check(rt: &impl Abort, alloc: Global, table: &str) -> Result<(), Fail> {
 }
 
 #[test]
-fn arithmetic_of_integers(rt: HostRuntime) -> Result<(), Fail> {
+fn worked_expressions(rt: HostRuntime) -> Result<(), Fail> {
     check(
         &rt,
         rt.alloc(),
+        Asked::Value,
         "
          7 -2 / => int -3
          -7 2 % => int -1
          1 2 - 3 - => int -4
          2 3 4 * + => int 14
+         null false and => false
+         null 1 1 = or => true
+         1 2 null in2 => null
+         1 2 3 notin2 => true
+         1 2 = is:null => false
          null 'a + => null
+         false 1 0 / 0 = and => false
+         true 1 0 / 0 = and => division by zero
          -2147483648 -1 / => integer out of range
+         9223372036854775807 1 + => bigint out of range
          1 'a + => type mismatch
+         x => column \"x\" does not exist
+         'a 'b || => text ab
+        ",
+    )?;
+    Ok(())
+}
+
+#[test]
+fn arithmetic(rt: HostRuntime) -> Result<(), Fail> {
+    check(
+        &rt,
+        rt.alloc(),
+        Asked::Value,
+        "
          2 3 + => int 5
          2 3 - => int -1
          2 3 * => int 6
@@ -190,6 +296,8 @@ fn arithmetic_of_integers(rt: HostRuntime) -> Result<(), Fail> {
          2147483647 1 + => integer out of range
          -2147483648 1 - => integer out of range
          65536 65536 * => integer out of range
+         46340 46340 * => int 2147395600
+         46341 46341 * => integer out of range
          0 0 / => division by zero
          1 0 % => division by zero
          null 0 / => null
@@ -204,17 +312,6 @@ fn arithmetic_of_integers(rt: HostRuntime) -> Result<(), Fail> {
          'a 'b + => type mismatch
          1 'a + 1 0 / + => type mismatch
          'a 1 0 / + => division by zero
-        ",
-    )
-}
-
-#[test]
-fn arithmetic_of_bigints(rt: HostRuntime) -> Result<(), Fail> {
-    check(
-        &rt,
-        rt.alloc(),
-        "
-         9223372036854775807 1 + => bigint out of range
          2147483647 => int 2147483647
          2147483648 => big 2147483648
          -2147483648 => int -2147483648
@@ -225,13 +322,17 @@ fn arithmetic_of_bigints(rt: HostRuntime) -> Result<(), Fail> {
          1 2147483648 + => big 2147483649
          65536 4294967296 * => big 281474976710656
          4294967296 4294967296 * => bigint out of range
+         3037000499 3037000499 * => big 9223372030926249001
+         3037000500 3037000500 * => bigint out of range
+         -9223372036854775808 1 - => bigint out of range
          -9223372036854775808 -1 / => bigint out of range
          -9223372036854775808 -1 % => big 0
          -9223372036854775808 minus => bigint out of range
          2147483648 2 / => big 1073741824
          2147483648 0 / => division by zero
         ",
-    )
+    )?;
+    Ok(())
 }
 
 #[test]
@@ -239,9 +340,8 @@ fn comparisons_and_texts(rt: HostRuntime) -> Result<(), Fail> {
     check(
         &rt,
         rt.alloc(),
+        Asked::Value,
         "
-         1 2 = is:null => false
-         'a 'b || => text ab
          1 2 < => true
          2 1 < => false
          2 2 <= => true
@@ -270,7 +370,8 @@ fn comparisons_and_texts(rt: HostRuntime) -> Result<(), Fail> {
          ''' 'a || => text 'a
          ' 'a || => text a
         ",
-    )
+    )?;
+    Ok(())
 }
 
 #[test]
@@ -278,11 +379,8 @@ fn three_valued_logic(rt: HostRuntime) -> Result<(), Fail> {
     check(
         &rt,
         rt.alloc(),
+        Asked::Value,
         "
-         null false and => false
-         null 1 1 = or => true
-         false 1 0 / 0 = and => false
-         true 1 0 / 0 = and => division by zero
          true true and => true
          true false and => false
          true null and => null
@@ -323,11 +421,13 @@ fn three_valued_logic(rt: HostRuntime) -> Result<(), Fail> {
          null is:false => false
          true isnot:false => true
          null isnot:unknown => false
+         null 1 = is:unknown => true
          1 is:true => type mismatch
          1 is:unknown => type mismatch
          'a is:null => false
         ",
-    )
+    )?;
+    Ok(())
 }
 
 #[test]
@@ -335,9 +435,8 @@ fn in_and_between(rt: HostRuntime) -> Result<(), Fail> {
     check(
         &rt,
         rt.alloc(),
+        Asked::Value,
         "
-         1 2 null in2 => null
-         1 2 3 notin2 => true
          1 1 2 in2 => true
          3 1 2 in2 => false
          null 1 2 in2 => null
@@ -360,79 +459,66 @@ fn in_and_between(rt: HostRuntime) -> Result<(), Fail> {
          2 null 1 between => false
          2 null 3 between => null
          2 1 null between => null
+         2 3 null between => false
+         2 3 null notbetween => true
+         null null in => null
          0 1 1 0 / between => false
          2 1 1 0 / between => division by zero
          'b 'a 'c between => true
          1 'a 2 between => type mismatch
-         x => column \"x\" does not exist
         ",
-    )
-}
-
-/// A row of `a`, which is 7, and `b"B`, which is `x`.
-fn two_values(alloc: Global) -> Result<Row, Fail> {
-    let mut values = Vec::new(alloc);
-    values.push(Value::Int(7))?;
-    values.push(Value::Text(Text::from_string(String::from_str(alloc, "x")?)))?;
-    Ok(Row::from_vec(values))
-}
-
-/// The value of an expression at that row, in words.
-fn found(alloc: Global, expr: &Expr<'_>) -> Result<String, Fail> {
-    let columns = columns();
-    let cols = Columns::of(&columns);
-    let row = two_values(alloc)?;
-    if row.values().len() != cols.len() {
-        return Err(Fail::from("a row of another length"));
-    }
-    shown(alloc, eval(alloc, expr, &cols, &row))
+    )?;
+    Ok(())
 }
 
 #[test]
 fn columns_by_name(rt: HostRuntime) -> Result<(), Fail> {
-    let alloc = rt.alloc();
-    let sum = tree(alloc, "a 1 +")?;
-    assert_eq!(rt; found(alloc, &sum)?.as_str(), "int 8");
-    let quoted = Expr::Column(Name::Quoted("b\"\"B"));
-    assert_eq!(rt; found(alloc, &quoted)?.as_str(), "text x");
-    let plain = Expr::Column(Name::Plain("b\"B"));
-    assert_eq!(rt; found(alloc, &plain)?.as_str(), "text x");
-    let missing = Expr::Column(Name::Quoted("A\"\"1"));
-    assert_eq!(rt;
-        found(alloc, &missing)?.as_str(),
-        "column \"A\"1\" does not exist"
-    );
-    let folded = Expr::Column(Name::Folded("Bb"));
-    assert_eq!(rt;
-        found(alloc, &folded)?.as_str(),
-        "column \"bb\" does not exist"
-    );
+    check(
+        &rt,
+        rt.alloc(),
+        Asked::Value,
+        "
+         a 1 + => int 8
+         \"b\"\"B\" => text x
+         :b\"B => text x
+         \"A\"\"1\" => column \"A\"1\" does not exist
+         Bb => column \"bb\" does not exist
+         :Zz => column \"Zz\" does not exist
+        ",
+    )?;
     Ok(())
 }
 
 /// What WHERE makes of the filter at that row.
-fn passed(alloc: Global, filter: Option<&Expr<'_>>) -> Result<Option<bool>, Fail> {
+fn passed(alloc: Global, filter: Option<&Expr<'_>>) -> Result<Option<bool>, Wrong> {
     let columns = columns();
     let cols = Columns::of(&columns);
     let row = two_values(alloc)?;
     if row.values().len() != cols.len() {
-        return Err(Fail::from("a row of another length"));
+        return Err(Wrong::Written("a row of another length"));
     }
     match passes(alloc, filter, &cols, &row) {
         Ok(passed) => Ok(Some(passed)),
         Err(ValueFault::TypeMismatch) => Ok(None),
-        Err(_) => Err(Fail::from("another fault")),
+        Err(fault) => Err(Wrong::from(fault)),
     }
 }
 
-#[test]
-fn rows_that_pass(rt: HostRuntime) -> Result<(), Fail> {
-    let alloc = rt.alloc();
+fn rows_pass(rt: &impl Abort, alloc: Global) -> Result<(), Wrong> {
     assert_eq!(rt; passed(alloc, None)?, Some(true));
     assert_eq!(rt; passed(alloc, Some(&tree(alloc, "a 7 =")?))?, Some(true));
     assert_eq!(rt; passed(alloc, Some(&tree(alloc, "a 8 =")?))?, Some(false));
     assert_eq!(rt; passed(alloc, Some(&tree(alloc, "null")?))?, Some(false));
     assert_eq!(rt; passed(alloc, Some(&tree(alloc, "a")?))?, None);
+    Ok(())
+}
+
+#[test]
+fn rows_that_pass(rt: HostRuntime) -> Result<(), Fail> {
+    match rows_pass(&rt, rt.alloc()) {
+        Err(Wrong::Memory) => rows_pass(&rt, rt.alloc())?,
+        answer => answer?,
+    }
     Ok(())
 }
 
@@ -446,19 +532,21 @@ fn kind(word: &str) -> Kind {
 }
 
 /// A literal as a column of the kind takes it, in words.
-fn taken(alloc: Global, text: &str) -> Result<String, Fail> {
-    let (text, into) = text.split_once(' ').ok_or("no kind")?;
+fn taken(alloc: Global, text: &str) -> Result<String, Wrong> {
+    let (text, into) = text.split_once(' ').ok_or(Wrong::Written("no kind"))?;
     let expr = literal(text)?;
     let row = Row::from_vec(Vec::new(alloc));
-    match eval(alloc, &expr, &Columns::of(&[]), &row) {
-        Ok(value) => shown(alloc, assign(value, kind(into))),
-        Err(_) => Err(Fail::from("no value")),
-    }
+    let value = eval(alloc, &expr, &Columns::of(&[]), &row)?;
+    shown(alloc, assign(value, kind(into)))
 }
 
 #[test]
 fn assigned(rt: HostRuntime) -> Result<(), Fail> {
-    let table = "
+    check(
+        &rt,
+        rt.alloc(),
+        Asked::Taken,
+        "
          null int => null
          null bool => null
          1 int => int 1
@@ -471,13 +559,8 @@ fn assigned(rt: HostRuntime) -> Result<(), Fail> {
          1 bool => type mismatch
          true bool => true
          true int => type mismatch
-    ";
-    for line in table.lines() {
-        if !line.trim().is_empty() {
-            let (text, wanted) = parts(line.trim())?;
-            assert_eq!(rt; taken(rt.alloc(), text)?.as_str(), wanted, "at {text}");
-        }
-    }
+        ",
+    )?;
     assert!(rt; matches!(assign(Value::Big(-5), Kind::Int), Ok(Value::Int(-5))));
     Ok(())
 }
@@ -523,19 +606,17 @@ fn lent_are_as_long(rows: &[&Row], long: usize) -> bool
 }
 
 /// Rows of one value each; a word is an expression.
-fn rows_of(alloc: Global, words: &str) -> Result<Vec<Row>, Fail> {
+fn rows_of(alloc: Global, words: &str) -> Result<Vec<Row>, Wrong> {
     let mut rows = Vec::new(alloc);
     for word in words.split_whitespace() {
         let empty = Row::from_vec(Vec::new(alloc));
-        match eval(alloc, &literal(word)?, &Columns::of(&[]), &empty) {
-            Ok(value) => rows.push(Row::from_vec(vec![in alloc; value]?))?,
-            Err(_) => return Err(Fail::from("no value")),
-        }
+        let value = eval(alloc, &literal(word)?, &Columns::of(&[]), &empty)?;
+        rows.push(Row::from_vec(vec![in alloc; value]?))?;
     }
     Ok(rows)
 }
 
-fn aggregated(alloc: Global, agg: &Agg<'_>, words: &str) -> Result<String, Fail> {
+fn aggregated(alloc: Global, agg: &Agg<'_>, words: &str) -> Result<String, Wrong> {
     let rows = rows_of(alloc, words)?;
     let column = [Column {
         name: Name::Folded("x"),
@@ -548,15 +629,18 @@ fn aggregated(alloc: Global, agg: &Agg<'_>, words: &str) -> Result<String, Fail>
     }
     let cols = Columns::of(&column);
     if !lent_are_as_long(&lent, cols.len()) {
-        return Err(Fail::from("a row of another length"));
+        return Err(Wrong::Written("a row of another length"));
     }
     shown(alloc, aggregate(alloc, agg, &cols, &lent))
 }
 
 /// An aggregate of an expression over rows of one column `x`, in words: its kind, the expression and the rows stand between bars.
-fn summed_up(alloc: Global, text: &str) -> Result<String, Fail> {
-    let (kind, text) = text.split_once(" | ").ok_or("no kind")?;
-    let (expr, words) = text.split_once(" | ").ok_or("no rows")?;
+fn summed_up(alloc: Global, text: &str) -> Result<String, Wrong> {
+    if let Some(words) = text.strip_prefix("count(*) | ") {
+        return aggregated(alloc, &Agg::CountRows, words);
+    }
+    let (kind, text) = text.split_once(" | ").ok_or(Wrong::Written("no kind"))?;
+    let (expr, words) = text.split_once(" | ").ok_or(Wrong::Written("no rows"))?;
     let kind = match kind {
         "count" => AggKind::Count,
         "sum" => AggKind::Sum,
@@ -568,7 +652,13 @@ fn summed_up(alloc: Global, text: &str) -> Result<String, Fail> {
 
 #[test]
 fn aggregates(rt: HostRuntime) -> Result<(), Fail> {
-    let table = "
+    check(
+        &rt,
+        rt.alloc(),
+        Asked::Summary,
+        "
+         count(*) |  => big 0
+         count(*) | 1 null 'a => big 3
          count | x |  => big 0
          sum | x |  => null
          min | x |  => null
@@ -594,35 +684,28 @@ fn aggregates(rt: HostRuntime) -> Result<(), Fail> {
          sum | 1 x / | 1 'a => type mismatch
          count | y | 1 => column \"y\" does not exist
          count | y |  => big 0
-    ";
-    for line in table.lines() {
-        if !line.trim().is_empty() {
-            let (text, wanted) = parts(line.trim())?;
-            assert_eq!(rt; summed_up(rt.alloc(), text)?.as_str(), wanted, "at {text}");
-        }
-    }
-    let all = aggregated(rt.alloc(), &Agg::CountRows, "1 null 'a")?;
-    assert_eq!(rt; all.as_str(), "big 3");
+        ",
+    )?;
     Ok(())
 }
 
 /// The places of rows of one key, in words.
-fn ordered(alloc: Global, words: &str, dir: Dir) -> Result<String, Fail> {
+fn ordered(alloc: Global, words: &str, dir: Dir) -> Result<String, Wrong> {
     let rows = rows_of(alloc, words)?;
     if !are_as_long(&rows, 1) {
-        return Err(Fail::from("a row of another length"));
+        return Err(Wrong::Written("a row of another length"));
     }
     match order(alloc, &rows, &[dir]) {
         Ok(places) => Ok(format!(in alloc; "{places:?}")?),
-        Err(ValueFault::Memory) => Err(Fail::from("out of memory")),
+        Err(ValueFault::Memory) => Err(Wrong::Memory),
         Err(fault) => Ok(format!(in alloc; "{fault}")?),
     }
 }
 
 /// A direction and where its NULLs stand, then the rows.
-fn ordered_by(alloc: Global, text: &str) -> Result<String, Fail> {
-    let (desc, text) = text.split_once(' ').ok_or("no direction")?;
-    let (nulls, words) = text.split_once(" | ").ok_or("no rows")?;
+fn ordered_by(alloc: Global, text: &str) -> Result<String, Wrong> {
+    let (desc, text) = text.split_once(' ').ok_or(Wrong::Written("no direction"))?;
+    let (nulls, words) = text.split_once(" | ").ok_or(Wrong::Written("no rows"))?;
     let dir = Dir {
         desc: desc == "desc",
         nulls_first: nulls == "first",
@@ -632,7 +715,11 @@ fn ordered_by(alloc: Global, text: &str) -> Result<String, Fail> {
 
 #[test]
 fn order_of_rows(rt: HostRuntime) -> Result<(), Fail> {
-    let table = "
+    check(
+        &rt,
+        rt.alloc(),
+        Asked::Order,
+        "
          asc last |  => []
          asc last | 3 1 2 => [1, 2, 0]
          desc first | 3 1 2 => [0, 2, 1]
@@ -648,25 +735,19 @@ fn order_of_rows(rt: HostRuntime) -> Result<(), Fail> {
          asc last | null null => [0, 1]
          asc last | 1 null 'a => type mismatch
          desc first | null true 1 => type mismatch
-    ";
-    for line in table.lines() {
-        if !line.trim().is_empty() {
-            let (text, wanted) = parts(line.trim())?;
-            assert_eq!(rt; ordered_by(rt.alloc(), text)?.as_str(), wanted, "at {text}");
-        }
-    }
+        ",
+    )?;
     Ok(())
 }
 
-#[test]
-fn order_by_two_keys(rt: HostRuntime) -> Result<(), Fail> {
-    let alloc = rt.alloc();
+/// The places of five rows by their first values rising, then by their second ones falling.
+fn ordered_by_two(alloc: Global) -> Result<Vec<usize>, Wrong> {
     let mut keys = Vec::new(alloc);
     for (a, b) in [(1, 5), (0, 5), (1, 7), (0, 6), (1, 5)] {
         keys.push(Row::from_vec(vec![in alloc; Value::Int(a), Value::Int(b)]?))?;
     }
     if !are_as_long(&keys, 2) {
-        return Err(Fail::from("a row of another length"));
+        return Err(Wrong::Written("a row of another length"));
     }
     let by = [
         Dir {
@@ -678,20 +759,33 @@ fn order_by_two_keys(rt: HostRuntime) -> Result<(), Fail> {
             nulls_first: true,
         },
     ];
-    match order(alloc, &keys, &by) {
-        Ok(places) => assert_eq!(rt; places.as_slice(), [3, 1, 2, 0, 4].as_slice()),
-        Err(_) => return Err(Fail::from("no order")),
-    }
-    Ok(())
+    Ok(order(alloc, &keys, &by)?)
 }
 
 #[test]
-fn copied_rows(rt: HostRuntime) -> Result<(), Fail> {
-    let alloc = rt.alloc();
+fn order_by_two_keys(rt: HostRuntime) -> Result<(), Fail> {
+    let places = match ordered_by_two(rt.alloc()) {
+        Err(Wrong::Memory) => ordered_by_two(rt.alloc())?,
+        places => places?,
+    };
+    assert_eq!(rt; places.as_slice(), [3, 1, 2, 0, 4].as_slice());
+    Ok(())
+}
+
+fn row_is_copied(rt: &impl Abort, alloc: Global) -> Result<(), Wrong> {
     let text = Text::from_string(String::from_str(alloc, "a b")?);
     let row = Row::from_vec(vec![in alloc; Value::Null, Value::Text(text), Value::Big(-1)]?);
     let copy = copy_row(alloc, &row)?;
     assert!(rt; row.same(&copy));
     assert_eq!(rt; copy.values().len(), 3);
+    Ok(())
+}
+
+#[test]
+fn copied_rows(rt: HostRuntime) -> Result<(), Fail> {
+    match row_is_copied(&rt, rt.alloc()) {
+        Err(Wrong::Memory) => row_is_copied(&rt, rt.alloc())?,
+        answer => answer?,
+    }
     Ok(())
 }

@@ -1,4 +1,4 @@
-use Rattle.std.proofs.Common.{◌≡◌, ◌*◌, ◌^◌, drop, pos, neg_ℤ, ◌≤ℤ◌}
+use Rattle.std.proofs.Common.{◌≡◌, ◌*◌, drop, pos, neg_ℤ, ◌≤ℤ◌}
 use Rattle.sql_values.specs.Aggregates.{total}
 use Rattle.sql_values.proofs.Gathered.{summed}
 use Rattle.sql_values.proofs.aggregation.sum.Given as goal

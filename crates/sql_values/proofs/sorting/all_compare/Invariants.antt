@@ -1,6 +1,6 @@
 use Rattle.std.proofs.Common.{◌≡◌, drop}
 use Rattle.sql_values.specs.declared.value.Value.TheVariants.{Null}
-use Rattle.sql_values.specs.Sorting.{all_compare, key_values}
+use Rattle.sql_values.specs.Sorting.{key_values}
 use Rattle.sql_values.proofs.sorting.all_compare.Given as goal
 
 abbrev pub invariant-loop-i : goal.invariant-loop-i

@@ -1,4 +1,4 @@
-use Rattle.std.proofs.Common.{◌≡◌, ◌∙◌, rules, arith}
+use Rattle.std.proofs.Common.{arith}
 use Rattle.sql_values.proofs.Keys.{can_sort_more}
 use Rattle.sql_values.proofs.sorting.can_sort.Goals as goal
 

@@ -1,7 +1,7 @@
-use Rattle.std.proofs.Common.{◌≡◌, List, ℕ, length, rules, ap, ◌∙◌, refl}
+use Rattle.std.proofs.Common.{◌≡◌, List, ℕ, length, rules}
 use Rattle.sql_values.proofs.Calls.{returns_always}
 use Rattle.std.specs.List.{range_with_len}
-use Rattle.std.specs.List.Sorted.{IsPermutation, IsStableBy, IsSortedBy}
+use Rattle.std.specs.List.Sorted.{IsStableBy, IsSortedBy}
 use Rattle.sql_values.proofs.Orders.{stands_before, rows_rank, in_order}
 use Rattle.sql_values.proofs.sorting.sorted.Goals as goal
 

@@ -1,0 +1,59 @@
+#!/usr/bin/env bash
+# Makes each allocation of a crate's tests fail in turn: bench/allocations.sh CRATE [TEST..]. Prove and build the tests first: rt test in crates/CRATE.
+# A test is run with its first allocation failing, then with its second, until a run asks for no more. Its own lines say what has to come of that.
+set -eu
+here=$(cd "$(dirname "$0")/.." && pwd)
+crate=$1
+shift
+program=$here/crates/$crate/out/${crate}_tests
+kit=$(dirname "$(rt doc)")
+room=$(mktemp -d)
+trap 'rm -rf "$room"' EXIT
+
+# Stands in front of the C library: it counts the allocations, refuses the one of that number, and leaves a mark.
+cat > "$room/refuse.c" <<'END'
+void *__libc_malloc(unsigned long);
+void *__libc_realloc(void *, unsigned long);
+char *getenv(const char *);
+long atol(const char *);
+int creat(const char *, unsigned);
+static long asked, number;
+static int is_refused(void) {
+  if (!number) number = atol(getenv("REFUSED"));
+  if (++asked != number) return 0;
+  creat(getenv("MARK"), 0600);
+  return 1;
+}
+void *malloc(unsigned long size) { return is_refused() ? 0 : __libc_malloc(size); }
+void *realloc(void *place, unsigned long size) { return is_refused() ? 0 : __libc_realloc(place, size); }
+END
+"$kit/toolchain/bin/clang" --target=x86_64-unknown-linux-gnu -fuse-ld=lld -shared -fPIC -nostdlib -fno-builtin -o "$room/refuse.so" "$room/refuse.c"
+
+# The number of allocations that were refused to the test, and of the runs that went wrong
+try_all() {
+  local number=0 wrong=0
+  while :; do
+    number=$((number + 1))
+    rm -f "$room/mark"
+    MARK=$room/mark REFUSED=$number LD_PRELOAD=$room/refuse.so "$program" "$1" > "$room/said" 2>&1 || {
+      wrong=$((wrong + 1))
+      echo "$1, allocation $number:"
+      cat "$room/said"
+    }
+    [ -e "$room/mark" ] || break
+  done
+  echo "$1: $((number - 1)) allocations failed in turn, $wrong of the runs went wrong"
+  tried=$((tried + number - 1))
+  went_wrong=$((went_wrong + wrong))
+}
+
+tried=0
+went_wrong=0
+if [ $# -eq 0 ]; then
+  mapfile -t tests < <("$program" --list | sed -n 's/: test$//p')
+else
+  tests=("$@")
+fi
+for test in "${tests[@]}"; do try_all "$test"; done
+echo "$tried allocations failed in turn, $went_wrong of the runs went wrong"
+[ "$went_wrong" -eq 0 ]
