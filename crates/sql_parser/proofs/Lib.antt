@@ -1,0 +1,11 @@
+pub mod Steps
+pub mod Lists
+pub mod Going
+pub mod Counts
+pub mod Depths
+pub mod Keeping
+pub mod TablesKept
+pub mod KeysKept
+pub mod BlocksKept
+pub mod Blocks
+pub mod Texts

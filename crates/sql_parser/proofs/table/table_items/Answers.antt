@@ -1,0 +1,13 @@
+use Rattle.std.proofs.Common.{map, [], ap, subst}
+use Rattle.sql_trees.specs.Tokens.{tok_views}
+use Rattle.sql_expressions.specs.Reading.{Gives}
+use Rattle.sql_parser.specs.Readers.{items_at}
+use Rattle.sql_parser.proofs.Lists.{items_give}
+use Rattle.sql_parser.specs.Views.{table_text_of}
+use Rattle.sql_parser.specs.Tables.{table_add}
+use Rattle.sql_parser.proofs.table.table_items.Goals as goal
+
+pub returns-clause-exact : goal.returns-clause-exact
+returns-clause-exact c =
+    let g = items_give (λ s. table_text_of s) (table_add c.args.parser.text_len) _ _ _ c.items.ensures.exact in
+    rw (c.new.ensures.items, c.new-2.ensures.items) at g

@@ -1,0 +1,9 @@
+pub mod Readers
+pub mod Transactions
+pub mod Tables
+pub mod Changes
+pub mod Queries
+pub mod Blocks
+pub mod Views
+pub mod Texts
+pub mod Kept

@@ -1,0 +1,15 @@
+//! Statements and blocks of SQL text, read into trees.
+#![tactic(auto)]
+
+mod block;
+mod change;
+mod list;
+mod names;
+mod part;
+mod query;
+mod statement;
+mod table;
+mod table_keys;
+mod transaction;
+
+pub use block::{Block, MAX_STMTS, Role, parse_block};

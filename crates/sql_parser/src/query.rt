@@ -1,0 +1,373 @@
+//! SELECT.
+
+ghost use Rattle.std.specs.Prelude.{◌≡◌, ◌<◌, ◌≤◌, [], IfOk, IfSome, length, map, option_map};
+ghost use Rattle.std.specs.List.{list_any, list_all};
+ghost use Rattle.sql_trees.specs.Statements.{name_of, stmt_of, item_of, order_of, select_of};
+ghost use Rattle.sql_trees.specs.Tokens.{tok_view, tok_views};
+ghost use Rattle.sql_trees.specs.Trees.{agg_of};
+ghost use Rattle.sql_expressions.specs.Reading.{Gives};
+ghost use Rattle.sql_expressions.specs.Reading.{after};
+ghost use Rattle.sql_parser.specs.Readers.{items_at, seen};
+ghost use Rattle.sql_parser.specs.Queries.{is_star, agg_kind, call_at, rows_of, maybe_name, direction_at, alias_at, agg_at, item_at, item_add, from_at, nulls_at, order_add, order_at, lock_at, is_aggregate, is_all, is_sorted, is_allowed, select_at};
+
+use crate::change::filter;
+use crate::list::{List, items};
+use crate::part::{after_open, after_word, close, expr, keyword, name};
+use iso_lexer::{At, Name, SqlSign};
+use sql_expressions::{Parser, Tokens};
+use sql_trees::{Agg, AggKind, Dir, Item, Lock, OrderKey, Select, SqlFault, Stmt, Tok, Word};
+
+/// The items of a SELECT.
+#[derive(Drop)]
+pub struct ItemList<'a> {
+    pub items: Vec<Item<'a>>,
+}
+
+/// The keys of an ORDER BY.
+#[derive(Drop)]
+pub struct OrderList<'a> {
+    pub keys: Vec<OrderKey<'a>>,
+}
+
+fn agg_kind(tok: Tok) -> Option<AggKind>
+    ensures { result ≡ agg_kind (tok_view tok.entry) }
+{
+    match tok {
+        Tok::Word(Word::Count, _) => Some(AggKind::Count),
+        Tok::Word(Word::Sum, _) => Some(AggKind::Sum),
+        Tok::Word(Word::Min, _) => Some(AggKind::Min),
+        Tok::Word(Word::Max, _) => Some(AggKind::Max),
+        _ => None,
+    }
+}
+
+// The tokens behind a `*`, if it stands next.
+fn after_star<'t, 'a>(tokens: Tokens<'t, 'a>) -> Option<Tokens<'t, 'a>>
+    ensures exact { option_map (λ rest. tok_views rest.now) result ≡ after is_star (tok_views tokens.now) }
+    ensures shorter { IfSome result (λ rest. length rest.now < length tokens.now) }
+{
+    match tokens {
+        [
+            At {
+                tok: Tok::Sign(SqlSign::Star),
+                ..
+            },
+            rest @ ..,
+        ] => Some(rest),
+        _ => None,
+    }
+}
+
+// The aggregate that is called next, and the tokens behind its `(`.
+fn call<'t, 'a>(tokens: Tokens<'t, 'a>) -> Option<(AggKind, Tokens<'t, 'a>)>
+    ensures exact { option_map (λ x. (x.0, tok_views x.1.now)) result ≡ call_at (tok_views tokens.now) }
+    ensures shorter { IfSome result (λ x. length x.1.now ≤ length tokens.now) }
+{
+    let [token, rest @ ..] = tokens else {
+        return None
+    };
+    let kind = agg_kind(token.tok)?;
+    let opened = after_open(rest)?;
+    Some((kind, opened))
+}
+
+// The tokens behind the star of `count(*)`.
+fn after_rows<'t, 'a>(kind: AggKind, tokens: Tokens<'t, 'a>) -> Option<Tokens<'t, 'a>>
+    ensures exact { option_map (λ rest. tok_views rest.now) result ≡ rows_of kind (tok_views tokens.now) }
+    ensures shorter { IfSome result (λ rest. length rest.now < length tokens.now) }
+{
+    match kind {
+        AggKind::Count => after_star(tokens),
+        _ => None,
+    }
+}
+
+// An aggregate behind its `(`.
+#[tactic(auto, unfolding(crate::specs::Queries::agg_at))]
+fn agg<'t, 'a>(
+    parser: Parser,
+    kind: AggKind,
+    tokens: Tokens<'t, 'a>,
+) -> Result<(Agg<'a>, Tokens<'t, 'a>), SqlFault>
+    ensures exact { Gives (λ x. (agg_of x.0, tok_views x.1.now)) result (agg_at parser.text_len kind (tok_views tokens.now)) }
+    ensures shorter { IfOk result (λ x. length x.1.now ≤ length tokens.now) }
+{
+    if let Some(rest) = after_rows(kind, tokens) {
+        let rest = close(parser, rest)?;
+        return Ok((Agg::CountRows, rest));
+    }
+    let (argument, rest) = expr(parser, tokens)?;
+    let rest = close(parser, rest)?;
+    Ok((Agg::Of(kind, argument), rest))
+}
+
+// The name that stands next, if one does.
+fn maybe_name<'t, 'a>(tokens: Tokens<'t, 'a>) -> (Option<Name<'a>>, Tokens<'t, 'a>)
+    ensures exact { (option_map name_of result.0, tok_views result.1.now) ≡ maybe_name (tok_views tokens.now) }
+    ensures shorter { length result.1.now ≤ length tokens.now }
+{
+    let [token, rest @ ..] = tokens else {
+        return (None, tokens);
+    };
+    match token.tok.name() {
+        Some(name) => (Some(name), rest),
+        None => (None, tokens),
+    }
+}
+
+// The name given to an item, with or without AS.
+#[tactic(auto, unfolding(crate::specs::Queries::alias_at))]
+fn alias<'t, 'a>(
+    parser: Parser,
+    tokens: Tokens<'t, 'a>,
+) -> Result<(Option<Name<'a>>, Tokens<'t, 'a>), SqlFault>
+    ensures exact { Gives (λ x. (option_map name_of x.0, tok_views x.1.now)) result (alias_at parser.text_len (tok_views tokens.now)) }
+    ensures shorter { IfOk result (λ x. length x.1.now ≤ length tokens.now) }
+{
+    let Some(tokens) = after_word(Word::As, tokens) else {
+        return Ok(maybe_name(tokens));
+    };
+    let (name, rest) = name(parser, tokens)?;
+    Ok((Some(name), rest))
+}
+
+// An item of a SELECT.
+#[tactic(auto, unfolding(crate::specs::Queries::item_at))]
+fn item<'t, 'a>(
+    parser: Parser,
+    tokens: Tokens<'t, 'a>,
+) -> Result<(Item<'a>, Tokens<'t, 'a>), SqlFault>
+    ensures exact { Gives (λ x. (item_of x.0, tok_views x.1.now)) result (item_at parser.text_len (tok_views tokens.now)) }
+    ensures shorter { IfOk result (λ x. length x.1.now ≤ length tokens.now) }
+{
+    if let Some(rest) = after_star(tokens) {
+        return Ok((Item::All, rest));
+    }
+    if let Some((kind, opened)) = call(tokens) {
+        let (agg, rest) = agg(parser, kind, opened)?;
+        let (alias, rest) = alias(parser, rest)?;
+        return Ok((Item::Agg(agg, alias), rest));
+    }
+    let (value, rest) = expr(parser, tokens)?;
+    let (alias, rest) = alias(parser, rest)?;
+    Ok((Item::Expr(value, alias), rest))
+}
+
+impl<'a> List<'a> for ItemList<'a> {
+    ghost adds = { λ last s ts r. Gives (λ x. (map item_of x.0.items.items, x.1)) r (item_add last (map item_of s.items.items) ts) };
+
+    fn add<'t>(
+        mut self,
+        parser: Parser,
+        tokens: Tokens<'t, 'a>,
+    ) -> Result<(Self, Tokens<'t, 'a>), SqlFault> {
+        let (item, rest) = item(parser, tokens)?;
+        self.items.push(item)?;
+        Ok((self, rest))
+    }
+}
+
+// The items of a SELECT, with commas between them.
+fn item_list<'t, 'a>(
+    parser: Parser,
+    tokens: Tokens<'t, 'a>,
+) -> Result<(ItemList<'a>, Tokens<'t, 'a>), SqlFault>
+    ensures exact { Gives (λ x. (map item_of x.0.items.items, tok_views x.1.now)) result (items_at (item_add parser.text_len) [] (tok_views tokens.now)) }
+    ensures shorter { IfOk result (λ x. length x.1.now ≤ length tokens.now) }
+{
+    let list = ItemList {
+        items: Vec::new(parser.alloc),
+    };
+    items(parser, list, tokens)
+}
+
+// FROM and its table, if any.
+#[tactic(auto, unfolding(crate::specs::Queries::from_at))]
+fn from<'t, 'a>(
+    parser: Parser,
+    tokens: Tokens<'t, 'a>,
+) -> Result<(Option<Name<'a>>, Tokens<'t, 'a>), SqlFault>
+    ensures { Gives (λ x. (option_map name_of x.0, tok_views x.1.now)) result (from_at parser.text_len (tok_views tokens.now)) }
+{
+    let Some(tokens) = after_word(Word::From, tokens) else {
+        return Ok((None, tokens));
+    };
+    let (table, rest) = name(parser, tokens)?;
+    Ok((Some(table), rest))
+}
+
+// ASC, DESC or none of them: whether sorting goes down.
+#[tactic(auto, unfolding(crate::specs::Queries::direction_at))]
+fn direction<'t, 'a>(tokens: Tokens<'t, 'a>) -> (bool, Tokens<'t, 'a>)
+    ensures exact { (result.0, tok_views result.1.now) ≡ direction_at (tok_views tokens.now) }
+    ensures shorter { length result.1.now ≤ length tokens.now }
+{
+    if let Some(rest) = after_word(Word::Asc, tokens) {
+        return (false, rest);
+    }
+    match after_word(Word::Desc, tokens) {
+        Some(rest) => (true, rest),
+        None => (false, tokens),
+    }
+}
+
+// NULLS FIRST or NULLS LAST; else NULL is sorted as the greatest value.
+#[tactic(auto, unfolding(crate::specs::Queries::nulls_at))]
+fn nulls<'t, 'a>(
+    parser: Parser,
+    desc: bool,
+    tokens: Tokens<'t, 'a>,
+) -> Result<(bool, Tokens<'t, 'a>), SqlFault>
+    ensures exact { Gives (λ x. (x.0, tok_views x.1.now)) result (nulls_at parser.text_len desc (tok_views tokens.now)) }
+    ensures shorter { IfOk result (λ x. length x.1.now ≤ length tokens.now) }
+{
+    let Some(tokens) = after_word(Word::Nulls, tokens) else {
+        return Ok((desc, tokens));
+    };
+    if let Some(rest) = after_word(Word::First, tokens) {
+        return Ok((true, rest));
+    }
+    let rest = keyword(parser, Word::Last, tokens)?;
+    Ok((false, rest))
+}
+
+impl<'a> List<'a> for OrderList<'a> {
+    ghost adds = { λ last s ts r. Gives (λ x. (map order_of x.0.keys.items, x.1)) r (order_add last (map order_of s.keys.items) ts) };
+
+    #[tactic(auto, unfolding(crate::specs::Queries::order_add))]
+    fn add<'t>(
+        mut self,
+        parser: Parser,
+        tokens: Tokens<'t, 'a>,
+    ) -> Result<(Self, Tokens<'t, 'a>), SqlFault> {
+        let (expr, rest) = expr(parser, tokens)?;
+        let (desc, rest) = direction(rest);
+        let (nulls_first, rest) = nulls(parser, desc, rest)?;
+        let dir = Dir { desc, nulls_first };
+        self.keys.push(OrderKey { expr, dir })?;
+        Ok((self, rest))
+    }
+}
+
+// The keys of an ORDER BY, with commas between them.
+fn order_list<'t, 'a>(
+    parser: Parser,
+    tokens: Tokens<'t, 'a>,
+) -> Result<(OrderList<'a>, Tokens<'t, 'a>), SqlFault>
+    ensures exact { Gives (λ x. (map order_of x.0.keys.items, tok_views x.1.now)) result (items_at (order_add parser.text_len) [] (tok_views tokens.now)) }
+    ensures shorter { IfOk result (λ x. length x.1.now ≤ length tokens.now) }
+{
+    let list = OrderList {
+        keys: Vec::new(parser.alloc),
+    };
+    items(parser, list, tokens)
+}
+
+// ORDER BY and its keys, if any.
+#[tactic(auto, unfolding(crate::specs::Queries::order_at))]
+fn order<'t, 'a>(
+    parser: Parser,
+    tokens: Tokens<'t, 'a>,
+) -> Result<(Vec<OrderKey<'a>>, Tokens<'t, 'a>), SqlFault>
+    ensures { Gives (λ x. (map order_of x.0.items, tok_views x.1.now)) result (order_at parser.text_len (tok_views tokens.now)) }
+{
+    let Some(tokens) = after_word(Word::Order, tokens) else {
+        return Ok((Vec::new(parser.alloc), tokens));
+    };
+    let tokens = keyword(parser, Word::By, tokens)?;
+    let (OrderList { keys }, rest) = order_list(parser, tokens)?;
+    Ok((keys, rest))
+}
+
+// FOR UPDATE or FOR SHARE, if any.
+#[tactic(auto, unfolding(crate::specs::Queries::lock_at))]
+fn lock<'t, 'a>(
+    parser: Parser,
+    tokens: Tokens<'t, 'a>,
+) -> Result<(Option<Lock>, Tokens<'t, 'a>), SqlFault>
+    ensures { Gives (λ x. (x.0, tok_views x.1.now)) result (lock_at parser.text_len (tok_views tokens.now)) }
+{
+    let Some(tokens) = after_word(Word::For, tokens) else {
+        return Ok((None, tokens));
+    };
+    if let Some(rest) = after_word(Word::Update, tokens) {
+        return Ok((Some(Lock::Update), rest));
+    }
+    let rest = keyword(parser, Word::Share, tokens)?;
+    Ok((Some(Lock::Share), rest))
+}
+
+fn is_aggregate(item: &Item) -> bool
+    ensures { result ≡ is_aggregate (item_of item.now) }
+{
+    matches!(item, Item::Agg(..))
+}
+
+fn is_all(item: &Item) -> bool
+    ensures { result ≡ is_all (item_of item.now) }
+{
+    matches!(item, Item::All)
+}
+
+fn some_aggregate(items: &[Item]) -> bool
+    ensures { result ≡ list_any is_aggregate (map item_of items.now) }
+{
+    items.iter().any(|item| is_aggregate(item))
+}
+
+fn all_aggregates(items: &[Item]) -> bool
+    ensures { result ≡ list_all is_aggregate (map item_of items.now) }
+{
+    items.iter().all(|item| is_aggregate(item))
+}
+
+fn some_star(items: &[Item]) -> bool
+    ensures { result ≡ list_any is_all (map item_of items.now) }
+{
+    items.iter().any(|item| is_all(item))
+}
+
+fn is_sorted(keys: &[OrderKey]) -> bool
+    ensures { result ≡ is_sorted (map order_of keys.now) }
+{
+    !keys.is_empty()
+}
+
+// Whether aggregates stand alone, and a star and a lock have a table.
+fn is_allowed(select: &Select) -> bool
+    ensures { result ≡ is_allowed (select_of select.now) }
+{
+    let locks = select.lock.is_some();
+    let plain = !some_aggregate(&select.items);
+    let grouped = all_aggregates(&select.items) && !(is_sorted(&select.order) || locks);
+    let needs_table = some_star(&select.items) || locks;
+    (plain || grouped) && (select.table.is_some() || !needs_table)
+}
+
+/// What stands behind a SELECT at this place.
+#[tactic(auto, unfolding(crate::specs::Queries::select_at))]
+pub fn select<'t, 'a>(
+    parser: Parser,
+    place: usize,
+    tokens: Tokens<'t, 'a>,
+) -> Result<(Result<Stmt<'a>, SqlFault>, Tokens<'t, 'a>), SqlFault>
+    ensures { Gives (λ x. (seen stmt_of x.0, tok_views x.1.now)) result (select_at parser.text_len place (tok_views tokens.now)) }
+{
+    let (ItemList { items }, rest) = item_list(parser, tokens)?;
+    let (table, rest) = from(parser, rest)?;
+    let (filter, rest) = filter(parser, rest)?;
+    let (order, rest) = order(parser, rest)?;
+    let (lock, rest) = lock(parser, rest)?;
+    let select = Select {
+        items,
+        table,
+        filter,
+        order,
+        lock,
+    };
+    if is_allowed(&select) {
+        Ok((Ok(Stmt::Select(select)), rest))
+    } else {
+        Ok((Err(SqlFault::LeftOut(place)), rest))
+    }
+}

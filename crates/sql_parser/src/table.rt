@@ -1,0 +1,342 @@
+//! CREATE TABLE and DROP TABLE, as they are written.
+
+ghost use Rattle.std.specs.Prelude.{◌≡◌, ◌<◌, ◌≤◌, [], Ok, IfOk, length, map, option_map};
+ghost use Rattle.sql_trees.specs.Statements.{name_of, stmt_of, column_of};
+ghost use Rattle.sql_trees.specs.Tokens.{tok_view, tok_views};
+ghost use Rattle.sql_expressions.specs.Reading.{Gives};
+ghost use Rattle.sql_parser.specs.Readers.{items_at};
+ghost use Rattle.sql_parser.specs.Tables.{is_among, placed_names, column_names, empty_table, kind_of, is_constraint, kind_at, key_limit, key_add, key_at, constraint_at, constrained, limits_at, column_behind, column_at, table_add, after_if, drop_at};
+ghost use Rattle.sql_parser.specs.Views.{placed_of, key_text_of, table_text_of, limits_of};
+
+use crate::list::{List, items};
+use crate::names::{NameList, names};
+use crate::part::{after_word, close, is_word, keyword, misplaced_word, name, open};
+use crate::transaction::ReadStmt;
+use iso_lexer::{Name, same_name};
+use sql_expressions::{Parser, Tokens};
+use sql_trees::{Column, DropTable, Kind, SqlFault, Stmt, Tok, Word};
+
+/// A name, and the byte at which it stands.
+#[derive(Clone, Copy)]
+pub struct PlacedName<'a> {
+    pub name: Name<'a>,
+    pub place: usize,
+}
+
+/// A key as it is written.
+#[derive(Drop)]
+pub struct KeyText<'a> {
+    pub primary: bool,
+    pub columns: Vec<PlacedName<'a>>,
+}
+
+/// The columns and keys of a table as they are written.
+#[derive(Drop)]
+pub struct TableText<'a> {
+    pub columns: Vec<Column<'a>>,
+    pub keys: Vec<KeyText<'a>>,
+}
+
+/// What is said of one column, behind the keys before it.
+#[derive(Drop)]
+pub struct Limits<'a> {
+    pub not_null: bool,
+    pub keys: Vec<KeyText<'a>>,
+}
+
+/// The columns of a key.
+#[derive(Drop)]
+pub struct KeyColumns<'a> {
+    pub columns: Vec<PlacedName<'a>>,
+}
+
+/// Whether one of the names is this one.
+pub fn is_placed(name: &Name, names: &[PlacedName]) -> bool
+    ensures { result ≡ is_among (name_of name.now) (placed_names (map placed_of names.now)) }
+{
+    names.iter().any(|other| same_name(&other.name, name))
+}
+
+/// Whether one of the columns has this name.
+pub fn is_column(name: &Name, columns: &[Column]) -> bool
+    ensures { result ≡ is_among (name_of name.now) (column_names (map column_of columns.now)) }
+{
+    columns.iter().any(|other| same_name(&other.name, name))
+}
+
+impl<'a> List<'a> for KeyColumns<'a> {
+    ghost adds = { λ last s ts r. Gives (λ x. (map placed_of x.0.columns.items, x.1)) r (key_add last (map placed_of s.columns.items) ts) };
+
+    fn add<'t>(
+        mut self,
+        parser: Parser,
+        tokens: Tokens<'t, 'a>,
+    ) -> Result<(Self, Tokens<'t, 'a>), SqlFault> {
+        let place = parser.place_of(tokens);
+        let (name, rest) = name(parser, tokens)?;
+        if is_placed(&name, &self.columns) {
+            return Err(SqlFault::BadColumns(place));
+        }
+        self.columns.push(PlacedName { name, place })?;
+        Ok((self, rest))
+    }
+}
+
+// The columns of a key, with commas between them.
+fn key_columns<'t, 'a>(
+    parser: Parser,
+    tokens: Tokens<'t, 'a>,
+) -> Result<(KeyColumns<'a>, Tokens<'t, 'a>), SqlFault>
+    ensures exact { Gives (λ x. (map placed_of x.0.columns.items, tok_views x.1.now)) result (items_at (key_add parser.text_len) [] (tok_views tokens.now)) }
+    ensures shorter { IfOk result (λ x. length x.1.now ≤ length tokens.now) }
+{
+    let list = KeyColumns {
+        columns: Vec::new(parser.alloc),
+    };
+    items(parser, list, tokens)
+}
+
+fn kind_of(tok: Tok) -> Option<Kind>
+    ensures { result ≡ kind_of (tok_view tok.entry) }
+{
+    match tok {
+        Tok::Word(Word::Integer, _) => Some(Kind::Int),
+        Tok::Word(Word::Bigint, _) => Some(Kind::Big),
+        Tok::Word(Word::Text, _) => Some(Kind::Text),
+        Tok::Word(Word::Boolean, _) => Some(Kind::Bool),
+        _ => None,
+    }
+}
+
+// A column's kind.
+fn kind<'t, 'a>(parser: Parser, tokens: Tokens<'t, 'a>) -> Result<(Kind, Tokens<'t, 'a>), SqlFault>
+    ensures exact { Gives (λ x. (x.0, tok_views x.1.now)) result (kind_at parser.text_len (tok_views tokens.now)) }
+    ensures shorter { IfOk result (λ x. length x.1.now ≤ length tokens.now) }
+{
+    let [token, rest @ ..] = tokens else {
+        return Err(misplaced_word(parser, tokens));
+    };
+    match kind_of(token.tok) {
+        Some(kind) => Ok((kind, rest)),
+        None => Err(misplaced_word(parser, tokens)),
+    }
+}
+
+fn is_constraint(tok: Tok) -> bool
+    ensures { result ≡ is_constraint (tok_view tok.entry) }
+{
+    matches!(tok, Tok::Word(Word::Not | Word::Primary | Word::Unique, _))
+}
+
+// Whether more is said of a column.
+fn constrained(tokens: Tokens) -> bool
+    ensures { result ≡ constrained (tok_views tokens.now) }
+{
+    match tokens {
+        [] => false,
+        [token, ..] => is_constraint(token.tok),
+    }
+}
+
+impl<'a> Limits<'a> {
+    // With a key of this column alone.
+    fn with_key(
+        mut self,
+        parser: Parser,
+        primary: bool,
+        column: PlacedName<'a>,
+    ) -> Result<Self, SqlFault>
+        ensures { Gives (λ x. limits_of x) result (Ok (key_limit primary (placed_of column.entry) (limits_of self.entry))) }
+    {
+        let mut columns = Vec::new(parser.alloc);
+        columns.push(column)?;
+        self.keys.push(KeyText { primary, columns })?;
+        Ok(self)
+    }
+
+    // With the constraint that stands next.
+    fn with_next<'t>(
+        self,
+        parser: Parser,
+        column: PlacedName<'a>,
+        tokens: Tokens<'t, 'a>,
+    ) -> Result<(Self, Tokens<'t, 'a>), SqlFault>
+        ensures exact { Gives (λ x. (limits_of x.0, tok_views x.1.now)) result (constraint_at parser.text_len (placed_of column.entry) (limits_of self.entry) (tok_views tokens.now)) }
+        ensures shorter { IfOk result (λ x. length x.1.now < length tokens.now) }
+    {
+        let [token, rest @ ..] = tokens else {
+            return Err(parser.misplaced(tokens));
+        };
+        match token.tok {
+            Tok::Word(Word::Not, _) => {
+                let rest = keyword(parser, Word::Null, rest)?;
+                let keys = self.keys;
+                Ok((
+                    Limits {
+                        not_null: true,
+                        keys,
+                    },
+                    rest,
+                ))
+            }
+            Tok::Word(Word::Primary, _) => {
+                let rest = keyword(parser, Word::Key, rest)?;
+                Ok((self.with_key(parser, true, column)?, rest))
+            }
+            Tok::Word(Word::Unique, _) => Ok((self.with_key(parser, false, column)?, rest)),
+            _ => Err(parser.misplaced(tokens)),
+        }
+    }
+}
+
+// A column's kind and all that is said of it, behind the keys before it.
+#[tactic(auto, unfolding(crate::specs::Tables::limits_at))]
+fn read_limits<'t, 'a>(
+    parser: Parser,
+    column: PlacedName<'a>,
+    keys: Vec<KeyText<'a>>,
+    tokens: Tokens<'t, 'a>,
+) -> Result<(Kind, Limits<'a>, Tokens<'t, 'a>), SqlFault>
+    ensures exact { Gives (λ x. (x.0, (limits_of x.1, tok_views x.2.now))) result (limits_at parser.text_len (placed_of column.entry) (map key_text_of keys.entry.items) (tok_views tokens.now)) }
+    ensures shorter { IfOk result (λ x. length x.2.now ≤ length tokens.now) }
+{
+    let (kind, mut rest) = kind(parser, tokens)?;
+    let mut limits = Limits {
+        not_null: false,
+        keys,
+    };
+    while constrained(rest) {
+        (limits, rest) = limits.with_next(parser, column, rest)?;
+    }
+    Ok((kind, limits, rest))
+}
+
+impl<'a> TableText<'a> {
+    // With a key over the columns in parentheses.
+    #[tactic(auto, unfolding(crate::specs::Tables::key_at))]
+    fn with_key<'t>(
+        mut self,
+        parser: Parser,
+        primary: bool,
+        tokens: Tokens<'t, 'a>,
+    ) -> Result<(Self, Tokens<'t, 'a>), SqlFault>
+        ensures exact { Gives (λ x. (table_text_of x.0, tok_views x.1.now)) result (key_at parser.text_len primary (table_text_of self.entry) (tok_views tokens.now)) }
+        ensures shorter { IfOk result (λ x. length x.1.now ≤ length tokens.now) }
+    {
+        let (KeyColumns { columns }, rest) = key_columns(parser, open(parser, tokens)?)?;
+        let rest = close(parser, rest)?;
+        self.keys.push(KeyText { primary, columns })?;
+        Ok((self, rest))
+    }
+
+    // With a column whose name has been read.
+    #[tactic(auto, unfolding(crate::specs::Tables::column_behind))]
+    fn with_named<'t>(
+        self,
+        parser: Parser,
+        column: PlacedName<'a>,
+        tokens: Tokens<'t, 'a>,
+    ) -> Result<(Self, Tokens<'t, 'a>), SqlFault>
+        ensures exact { Gives (λ x. (table_text_of x.0, tok_views x.1.now)) result (column_behind parser.text_len (placed_of column.entry) (table_text_of self.entry) (tok_views tokens.now)) }
+        ensures shorter { IfOk result (λ x. length x.1.now ≤ length tokens.now) }
+    {
+        let TableText { mut columns, keys } = self;
+        let (kind, Limits { not_null, keys }, rest) = read_limits(parser, column, keys, tokens)?;
+        let name = column.name;
+        columns.push(Column {
+            name,
+            kind,
+            not_null,
+        })?;
+        Ok((TableText { columns, keys }, rest))
+    }
+
+    // With the column that stands next.
+    #[tactic(auto, unfolding(crate::specs::Tables::column_at))]
+    fn with_column<'t>(
+        self,
+        parser: Parser,
+        tokens: Tokens<'t, 'a>,
+    ) -> Result<(Self, Tokens<'t, 'a>), SqlFault>
+        ensures exact { Gives (λ x. (table_text_of x.0, tok_views x.1.now)) result (column_at parser.text_len (table_text_of self.entry) (tok_views tokens.now)) }
+        ensures shorter { IfOk result (λ x. length x.1.now ≤ length tokens.now) }
+    {
+        let place = parser.place_of(tokens);
+        let (name, rest) = name(parser, tokens)?;
+        if is_column(&name, &self.columns) {
+            return Err(SqlFault::BadColumns(place));
+        }
+        self.with_named(parser, PlacedName { name, place }, rest)
+    }
+}
+
+impl<'a> List<'a> for TableText<'a> {
+    ghost adds = { λ last s ts r. Gives (λ x. (table_text_of x.0, x.1)) r (table_add last (table_text_of s) ts) };
+
+    #[tactic(auto, unfolding(crate::specs::Tables::table_add))]
+    fn add<'t>(
+        self,
+        parser: Parser,
+        tokens: Tokens<'t, 'a>,
+    ) -> Result<(Self, Tokens<'t, 'a>), SqlFault> {
+        if let Some(rest) = after_word(Word::Primary, tokens) {
+            let rest = keyword(parser, Word::Key, rest)?;
+            return self.with_key(parser, true, rest);
+        }
+        if let Some(rest) = after_word(Word::Unique, tokens) {
+            return self.with_key(parser, false, rest);
+        }
+        self.with_column(parser, tokens)
+    }
+}
+
+/// The columns and keys of a table, with commas between them.
+pub fn table_items<'t, 'a>(
+    parser: Parser,
+    tokens: Tokens<'t, 'a>,
+) -> Result<(TableText<'a>, Tokens<'t, 'a>), SqlFault>
+    ensures exact { Gives (λ x. (table_text_of x.0, tok_views x.1.now)) result (items_at (table_add parser.text_len) empty_table (tok_views tokens.now)) }
+    ensures shorter { IfOk result (λ x. length x.1.now ≤ length tokens.now) }
+{
+    let list = TableText {
+        columns: Vec::new(parser.alloc),
+        keys: Vec::new(parser.alloc),
+    };
+    items(parser, list, tokens)
+}
+
+// The tokens behind IF EXISTS.
+fn after_if<'t, 'a>(tokens: Tokens<'t, 'a>) -> Option<Tokens<'t, 'a>>
+    ensures { option_map (λ rest. tok_views rest.now) result ≡ after_if (tok_views tokens.now) }
+{
+    match tokens {
+        [token, rest @ ..] if is_word(token.tok, Word::If) => after_word(Word::Exists, rest),
+        _ => None,
+    }
+}
+
+/// What stands behind DROP.
+#[tactic(auto, unfolding(crate::specs::Tables::drop_at))]
+pub fn drop_table<'t, 'a>(parser: Parser, tokens: Tokens<'t, 'a>) -> ReadStmt<'t, 'a>
+    ensures { Gives (λ x. (stmt_of x.0, tok_views x.1.now)) result (drop_at parser.text_len (tok_views tokens.now)) }
+{
+    let tokens = keyword(parser, Word::Table, tokens)?;
+    if let Some(tokens) = after_if(tokens) {
+        let (NameList { names }, rest) = names(parser, tokens)?;
+        return Ok((
+            Stmt::DropTable(DropTable {
+                if_exists: true,
+                names,
+            }),
+            rest,
+        ));
+    }
+    let (NameList { names }, rest) = names(parser, tokens)?;
+    Ok((
+        Stmt::DropTable(DropTable {
+            if_exists: false,
+            names,
+        }),
+        rest,
+    ))
+}

@@ -1,0 +1,299 @@
+//! The keys of a CREATE TABLE, once the whole has been read.
+
+ghost use Rattle.std.specs.Prelude.{bytes_eq, ◌≡◌, ◌<◌, ◌≤◌, ◌^◌, ◌++◌, ◌∷◌, [], ℕ, List, Bool, IfOk, length, map, filter, not, MatchOption};
+ghost use Rattle.std.specs.Char.{to_ascii_lowercase};
+ghost use Rattle.iso_lexer.specs.Names.{name_view, decoded, unquoted};
+ghost use Rattle.sql_trees.specs.Statements.{name_of, stmt_of, column_of, key_of};
+ghost use Rattle.sql_trees.specs.Tokens.{tok_views};
+ghost use Rattle.sql_expressions.specs.Reading.{Gives};
+ghost use Rattle.sql_parser.specs.Readers.{seen};
+ghost use Rattle.sql_parser.specs.Tables.{is_among, made_name, underscored, first_place, first_lacking, text_fault, keys_fault, place_among, places_in, in_primary, is_kept, completed, resolved, resolved_keys, column_names, placed_names, finished, create_at};
+ghost use Rattle.sql_parser.specs.Views.{placed_of, key_text_of, table_text_of};
+
+use crate::part::{close, keyword, name, open};
+use crate::statement::ReadWhole;
+use crate::table::{KeyText, PlacedName, TableText, is_column, is_placed, table_items};
+use iso_lexer::{Name, same_name};
+use sql_expressions::{Parser, Tokens};
+use sql_trees::{Column, CreateTable, Key, SqlFault, Stmt, Word};
+use std::alloc::{AllocError, Global};
+
+// The first byte that stands for one of a quoted name, and the part behind it.
+#[tactic(auto, unfolding(iso_lexer::specs::Names::unquoted))]
+fn first_unquoted(part: &[u8]) -> Option<(u8, &[u8])>
+    ensures { MatchOption result (part.now ≡ []) (λ x. (unquoted part.now ≡ x.0 ∷ unquoted x.1.now) × (length x.1.now < length part.now)) }
+{
+    let (first, rest) = part.split_first()?;
+    match rest {
+        [_, behind @ ..] if *first == b'"' => Some((*first, behind)),
+        _ => Some((*first, rest)),
+    }
+}
+
+// What stands between quotes, each doubled quote as one, behind these bytes.
+#[tactic(auto, unfolding(iso_lexer::specs::Names::unquoted))]
+fn push_unquoted(mut text: Vec<u8>, quoted: &[u8]) -> Result<Vec<u8>, AllocError>
+    ensures { IfOk result (λ v. v.items ≡ text.items ++ unquoted quoted.now) }
+{
+    let mut rest = quoted;
+    while let Some((first, behind)) = first_unquoted(rest) {
+        text.push(first)?;
+        rest = behind;
+    }
+    Ok(text)
+}
+
+// A word in lower case.
+fn lowered(alloc: Global, word: &str) -> Result<Vec<u8>, AllocError>
+    ensures { IfOk result (λ v. v.items ≡ map to_ascii_lowercase word.now) }
+{
+    word.as_bytes()
+        .iter()
+        .map(|b| b.to_ascii_lowercase())
+        .collect(alloc)
+}
+
+// The bytes that a name stands for, behind these.
+fn push_decoded(alloc: Global, mut text: Vec<u8>, name: &Name) -> Result<Vec<u8>, AllocError>
+    ensures { IfOk result (λ v. v.items ≡ text.items ++ name_of name.now) }
+{
+    match name {
+        Name::Plain(plain) => {
+            text.extend_from_slice(plain.as_bytes())?;
+            Ok(text)
+        }
+        Name::Quoted(quoted) => push_unquoted(text, quoted.as_bytes()),
+        Name::Folded(folded) => {
+            let lower = lowered(alloc, folded)?;
+            text.extend_from_slice(&lower)?;
+            Ok(text)
+        }
+    }
+}
+
+// The columns of a key, each behind an underscore, behind these bytes.
+fn push_columns(
+    alloc: Global,
+    mut text: Vec<u8>,
+    mut columns: &[PlacedName],
+) -> Result<Vec<u8>, AllocError>
+    ensures { IfOk result (λ v. v.items ≡ text.items ++ underscored (placed_names (map placed_of columns.entry.now))) }
+{
+    while let [column, rest @ ..] = columns {
+        text.push(b'_')?;
+        text = push_decoded(alloc, text, &column.name)?;
+        columns = rest;
+    }
+    Ok(text)
+}
+
+// The name that a key is given: its table's and `pkey`, or its table's, its columns' and `key`.
+fn made_name(alloc: Global, table: &Name, key: &KeyText) -> Result<Vec<u8>, AllocError>
+    ensures { IfOk result (λ v. v.items ≡ made_name (name_of table.now) (key_text_of key.now)) }
+{
+    let mut text = push_decoded(alloc, Vec::new(alloc), table)?;
+    if key.primary {
+        text.extend_from_slice(b"_pkey")?;
+        return Ok(text);
+    }
+    let mut text = push_columns(alloc, text, &key.columns)?;
+    text.extend_from_slice(b"_key")?;
+    Ok(text)
+}
+
+// Whether one of the texts is this one.
+fn is_text(text: &[u8], texts: &[Vec<u8>]) -> bool
+    ensures { result ≡ is_among text.now (map (λ v. v.items) texts.now) }
+{
+    texts.iter().any(|other| other.as_slice() == text)
+}
+
+// Where the first column stands that the table lacks.
+fn first_lacking(columns: &[Column], mut names: &[PlacedName]) -> Option<usize>
+    ensures { result ≡ first_lacking (column_names (map column_of columns.now)) (map placed_of names.entry.now) }
+{
+    while let [name, rest @ ..] = names {
+        if !is_column(&name.name, columns) {
+            return Some(name.place);
+        }
+        names = rest;
+    }
+    None
+}
+
+fn first_place(names: &[PlacedName]) -> usize
+    ensures { result ≡ first_place (map placed_of names.now) }
+{
+    match names {
+        [] => 0,
+        [first, ..] => first.place,
+    }
+}
+
+// The place of a key's fault: a name that was made before, or a column that the table lacks.
+fn key_fault(text: &[u8], made: &[Vec<u8>], columns: &[Column], key: &KeyText) -> Option<usize>
+    ensures { result ≡ text_fault text.now (column_names (map column_of columns.now)) (map (λ v. v.items) made.now) (key_text_of key.now) }
+{
+    if is_text(text, made) {
+        Some(first_place(&key.columns))
+    } else {
+        first_lacking(columns, &key.columns)
+    }
+}
+
+// The place of the first fault of the keys.
+#[tactic(auto, unfolding(crate::specs::Tables::keys_fault))]
+fn keys_fault(
+    alloc: Global,
+    table: &Name,
+    columns: &[Column],
+    mut keys: &[KeyText],
+) -> Result<Option<usize>, AllocError>
+    ensures { IfOk result (λ r. r ≡ keys_fault (name_of table.now) (column_names (map column_of columns.now)) [] (map key_text_of keys.entry.now)) }
+{
+    let mut made: Vec<Vec<u8>> = Vec::new(alloc);
+    while let [key, rest @ ..] = keys {
+        let text = made_name(alloc, table, key)?;
+        if let Some(place) = key_fault(&text, &made, columns, key) {
+            return Ok(Some(place));
+        }
+        made.push(text)?;
+        keys = rest;
+    }
+    Ok(None)
+}
+
+fn in_primary(keys: &[KeyText], name: &Name) -> bool
+    ensures { result ≡ in_primary (map key_text_of keys.now) (name_of name.now) }
+{
+    keys.iter()
+        .any(|key| key.primary && is_placed(name, &key.columns))
+}
+
+// The columns, those of a primary key NOT NULL.
+fn completed<'a>(
+    alloc: Global,
+    keys: &[KeyText],
+    mut columns: &[Column<'a>],
+) -> Result<Vec<Column<'a>>, AllocError>
+    ensures { IfOk result (λ v. map column_of v.items ≡ map (completed (map key_text_of keys.now)) (map column_of columns.entry.now)) }
+{
+    let mut all = Vec::new(alloc);
+    while let [column, rest @ ..] = columns {
+        all.push(Column {
+            name: column.name,
+            kind: column.kind,
+            not_null: column.not_null || in_primary(keys, &column.name),
+        })?;
+        columns = rest;
+    }
+    Ok(all)
+}
+
+// A column's place in the table.
+#[tactic(auto, unfolding(crate::specs::Tables::place_among))]
+fn place_in(mut columns: &[Column], name: &Name) -> u32
+    requires { length columns.now < 2 ^ 32 }
+    ensures { result ≡ place_among (column_names (map column_of columns.entry.now)) (name_of name.now) }
+{
+    let mut place = 0;
+    while let [column, rest @ ..] = columns {
+        if same_name(&column.name, name) {
+            return place;
+        }
+        place += 1;
+        columns = rest;
+    }
+    place
+}
+
+// The places in the table of a key's columns.
+fn places(
+    alloc: Global,
+    columns: &[Column],
+    mut names: &[PlacedName],
+) -> Result<Vec<u32>, AllocError>
+    requires { length columns.now < 2 ^ 32 }
+    ensures { IfOk result (λ v. v.items ≡ places_in (column_names (map column_of columns.now)) (map placed_of names.entry.now)) }
+{
+    let mut places = Vec::new(alloc);
+    while let [name, rest @ ..] = names {
+        places.push(place_in(columns, &name.name))?;
+        names = rest;
+    }
+    Ok(places)
+}
+
+// A key with its columns' places in the table.
+fn resolved(alloc: Global, columns: &[Column], key: &KeyText) -> Result<Key, AllocError>
+    requires { length columns.now < 2 ^ 32 }
+    ensures { IfOk result (λ k. key_of k ≡ resolved (column_names (map column_of columns.now)) (key_text_of key.now)) }
+{
+    Ok(Key {
+        primary: key.primary,
+        columns: places(alloc, columns, &key.columns)?,
+    })
+}
+
+fn is_kept(key: &KeyText, primary: bool) -> bool
+    ensures { result ≡ is_kept primary (key_text_of key.now) }
+{
+    if primary { key.primary } else { !key.primary }
+}
+
+// The primary keys, or the others, behind these.
+fn push_keys(
+    alloc: Global,
+    columns: &[Column],
+    mut keys: &[KeyText],
+    primary: bool,
+    mut all: Vec<Key>,
+) -> Result<Vec<Key>, AllocError>
+    requires { length columns.now < 2 ^ 32 }
+    ensures { IfOk result (λ v. map key_of v.items ≡ map key_of all.items ++ resolved_keys primary (column_names (map column_of columns.now)) (map key_text_of keys.entry.now)) }
+{
+    while let [key, rest @ ..] = keys {
+        if is_kept(key, primary) {
+            all.push(resolved(alloc, columns, key)?)?;
+        }
+        keys = rest;
+    }
+    Ok(all)
+}
+
+// The table as it was read, or the fault of its keys.
+#[tactic(auto, unfolding(crate::specs::Tables::finished))]
+fn finished<'a>(
+    alloc: Global,
+    name: Name<'a>,
+    table: TableText<'a>,
+) -> Result<Result<Stmt<'a>, SqlFault>, AllocError>
+    requires { length table.columns.items < 2 ^ 32 }
+    ensures { IfOk result (λ r. seen stmt_of r ≡ finished (name_of name.entry) (table_text_of table.entry)) }
+{
+    let TableText { columns, keys } = table;
+    if let Some(place) = keys_fault(alloc, &name, &columns, &keys)? {
+        return Ok(Err(SqlFault::BadColumns(place)));
+    }
+    let all = push_keys(alloc, &columns, &keys, true, Vec::new(alloc))?;
+    let all = push_keys(alloc, &columns, &keys, false, all)?;
+    let columns = completed(alloc, &keys, &columns)?;
+    Ok(Ok(Stmt::CreateTable(CreateTable {
+        name,
+        columns,
+        keys: all,
+    })))
+}
+
+/// What stands behind CREATE.
+#[tactic(auto, unfolding(crate::specs::Tables::create_at))]
+pub fn create_table<'t, 'a>(parser: Parser, tokens: Tokens<'t, 'a>) -> ReadWhole<'t, 'a>
+    requires { length tokens.now < 2 ^ 32 }
+    ensures { Gives (λ x. (seen stmt_of x.0, tok_views x.1.now)) result (create_at parser.text_len (tok_views tokens.now)) }
+{
+    let tokens = keyword(parser, Word::Table, tokens)?;
+    let (name, rest) = name(parser, tokens)?;
+    let (table, rest) = table_items(parser, open(parser, rest)?)?;
+    let rest = close(parser, rest)?;
+    Ok((finished(parser.alloc, name, table)?, rest))
+}
