@@ -1,0 +1,10 @@
+//! Statements: the tables and rows that all sessions share, and what a statement of a session makes of them.
+#![tactic(auto)]
+
+mod catalog;
+mod database;
+mod table;
+
+pub use catalog::Catalog;
+pub use database::Database;
+pub use table::{Dropped, Table};
