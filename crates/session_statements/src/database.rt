@@ -203,4 +203,41 @@ impl<'a, V: Versions> Database<'a, V> {
         }
         Ok(rows)
     }
+
+    /// The rows that a SELECT which begins now would show of the table, or `None` where there is no such table.
+    pub fn visible(
+        &self,
+        transaction: &Transaction,
+        name: &Name<'_>,
+    ) -> Result<Option<Vec<Row>>, AllocError>
+        ensures { IfOk result (λ rows. option_map (λ (v : Vec (List Value)). v.items) rows ≡ visible_to self.now transaction.now (name_of name.now)) }
+    {
+        let Some(place) = self.find_table(own_of(transaction), name) else {
+            return Ok(None);
+        };
+        let empty = Row::from_vec(Vec::new(self.alloc));
+        let view = self.view_now(transaction);
+        let rows = self.rows_shown(&view, place, &empty)?;
+        Ok(Some(copied_rows(self.alloc, rows.as_slice())?))
+    }
+}
+
+/// The number of an open transaction.
+fn own_of(transaction: &Transaction) -> Option<TxId>
+    ensures { result ≡ own_of transaction.now }
+{
+    match transaction {
+        Transaction::Open(by) => Some(by.tx),
+        Transaction::Closed | Transaction::Aborted => None,
+    }
+}
+
+fn copied_rows(alloc: Global, rows: &[&Row]) -> Result<Vec<Row>, AllocError>
+    ensures { IfOk result (λ copies. copies.items ≡ map (λ row. row.now) rows.now) }
+{
+    let mut copies = Vec::new(alloc);
+    for row in rows {
+        copies.push(row.copied(alloc)?)?;
+    }
+    Ok(copies)
 }

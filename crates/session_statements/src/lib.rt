@@ -3,7 +3,9 @@
 
 mod catalog;
 mod database;
+mod definitions;
 mod table;
+mod transactions;
 
 pub use catalog::Catalog;
 pub use database::Database;
