@@ -4,6 +4,10 @@
 mod catalog;
 mod database;
 mod definitions;
+mod insert;
+mod run;
+mod select;
+mod stub;
 mod table;
 mod transactions;
 
