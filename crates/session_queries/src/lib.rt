@@ -8,6 +8,7 @@ mod target;
 mod titles;
 mod values_check;
 
+pub use answer::result_of;
 pub use lacking::{lacking_rows, lacking_select};
 pub use new_row::new_values;
 pub use target::{Target, Targets, targets_of};

@@ -7,7 +7,7 @@ use Rattle.session_queries.proofs.answer.chosen.Given as goal
 
 abbrev pub invariant-loop-row : goal.invariant-loop-row
 invariant-loop-row l =
-    let filter = option_map (λ expr. tree_of expr.now) l.filter in
+    let filter = option_map tree_of l.filter in
     record {
       so_far : chosen l.columns filter (map (λ row. row.now) l.rows) ≡ in_front (map (λ row. row.now) l.taken.items) (chosen l.columns filter (map (λ row. row.now) (drop l.row-index l.rows)));
       long : All (λ row. length row.now ≡ length l.columns) l.taken.items;

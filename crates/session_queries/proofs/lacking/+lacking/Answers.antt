@@ -1,4 +1,4 @@
-use Rattle.std.proofs.Common.{rules, ◌≡◌}
+use Rattle.std.proofs.Common.{rules}
 use Rattle.sql_trees.specs.declared.expr.Expr.TheViews.{the_lemmas}
 use Rattle.session_queries.proofs.Among.{trees_of_row}
 use Rattle.session_queries.proofs.lacking.+lacking.Goals as goal
