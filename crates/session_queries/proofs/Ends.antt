@@ -1,5 +1,5 @@
 -- Where there are no more values.
-use Rattle.std.proofs.Common.{◌≡◌, ℕ, ◌<◌, List, [], ◌∷◌, length, Some, None, Ok, Err, refl, arith}
+use Rattle.std.proofs.Common.{◌≡◌, ◌<◌, List, [], ◌∷◌, length, None, Ok, refl, arith}
 use Rattle.sql_trees.specs.Statements.{ColumnTree}
 use Rattle.sql_values.specs.declared.value.Value.{Value}
 use Rattle.session_machine.specs.Queries.{Target, null_in, assigned, placed}
