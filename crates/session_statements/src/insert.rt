@@ -14,7 +14,7 @@ use crate::database::Database;
 use iso_lexer::{Ident, Name};
 use row_versions::Versions;
 use session_machine::{OpenTransaction, Outcome, StmtFault, Transaction};
-use session_queries::{Targets, new_values, null_in, some_too_long, targets_of};
+use session_queries::{Targets, lacking_rows, new_values, null_in, some_too_long, targets_of};
 use sql_trees::{Column, Expr, Insert};
 use sql_values::{ColumnName, ValueFault};
 use std::alloc::AllocError;
@@ -122,7 +122,7 @@ impl<'a, V: Versions> Database<'a, V> {
             insert_fitting self.old by.now (insert_of stmt.now) place targets.now (lacking_rows (map exprs_of stmt.now.rows.items))
             ≡ record { db = self.new; transaction = left.0; outcome = left.1 }) }
     {
-        if let Some(name) = crate::stub::lacking_rows(stmt.rows.as_slice())? {
+        if let Some(name) = lacking_rows(stmt.rows.as_slice()) {
             let fault = ValueFault::NoColumn(ColumnName::of(name.name()));
             return Ok(self.fail(by, StmtFault::Value(fault)));
         }

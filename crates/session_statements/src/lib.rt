@@ -7,7 +7,6 @@ mod definitions;
 mod insert;
 mod run;
 mod select;
-mod stub;
 mod table;
 mod transactions;
 

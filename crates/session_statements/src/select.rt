@@ -14,11 +14,11 @@ ghost use Rattle.session_machine.specs.Sound.{RowsFit};
 
 use crate::database::Database;
 use crate::insert::fault_of;
-use crate::stub::result_of;
 use iso_lexer::{Ident, Name};
 use result_tables::ResultSet;
 use row_versions::Versions;
 use session_machine::{OpenTransaction, Outcome, StmtFault, Transaction};
+use session_queries::result_of;
 use sql_trees::Select;
 use sql_values::{Row, ValueFault};
 use std::alloc::{AllocError, Global};
