@@ -23,7 +23,7 @@ use std::marker::Model;
 /// The tables and all versions of their rows. A call that is refused memory leaves it in no state that is promised.
 #[derive(Drop)]
 pub struct Database<'a, V: Versions> {
-    alloc: Global,
+    pub(crate) alloc: Global,
     store: V,
     catalog: Catalog<'a>,
 }
@@ -59,7 +59,11 @@ impl<'a, V: Versions> Database<'a, V> {
     }
 
     /// Begins a transaction of which nothing was asked yet.
-    pub fn begin(&mut self, level: Level, explicit: bool) -> Result<OpenTransaction, AllocError>
+    pub(crate) fn begin(
+        &mut self,
+        level: Level,
+        explicit: bool,
+    ) -> Result<OpenTransaction, AllocError>
         ensures fresh { IfOk result (λ made. made ≡ fresh self.old.content level explicit) }
         ensures begun { OnOk result (self.new ≡ begun self.old) }
     {
@@ -88,12 +92,8 @@ impl<'a, V: Versions> Database<'a, V> {
         self.store.roll_back(tx);
     }
 
-    pub fn alloc(&self) -> Global {
-        self.alloc
-    }
-
     /// The columns of the table at the place.
-    pub fn columns(&self, place: usize) -> &'a [Column<'a>]
+    pub(crate) fn columns(&self, place: usize) -> &'a [Column<'a>]
         requires { place < length self.now.catalog.tables }
         ensures { map column_of result.now ≡ columns_at self.now.catalog place }
     {
@@ -101,21 +101,25 @@ impl<'a, V: Versions> Database<'a, V> {
     }
 
     /// Adds a table.
-    pub fn add_table(&mut self, made: &'a CreateTable<'a>, by: TxId) -> Result<(), AllocError>
+    pub(crate) fn add_table(
+        &mut self,
+        made: &'a CreateTable<'a>,
+        by: TxId,
+    ) -> Result<(), AllocError>
         ensures { OnOk result (self.new ≡ record self.old { catalog = with_table self.old.catalog (create_of made.now) by }) }
     {
         self.catalog.add(made, by)
     }
 
     /// Adds a DROP of the table at the place.
-    pub fn add_drop(&mut self, place: usize, by: TxId) -> Result<(), AllocError>
+    pub(crate) fn add_drop(&mut self, place: usize, by: TxId) -> Result<(), AllocError>
         ensures { OnOk result (self.new ≡ record self.old { catalog = with_drop self.old.catalog place by }) }
     {
         self.catalog.add_drop(place, by)
     }
 
     /// Writes a new row of the table at the place.
-    pub fn add_row(
+    pub(crate) fn add_row(
         &mut self,
         by: &OpenTransaction,
         place: usize,
@@ -148,7 +152,7 @@ impl<'a, V: Versions> Database<'a, V> {
     }
 
     /// What the transaction's next query sees.
-    pub fn view_of(&self, by: &OpenTransaction) -> View
+    pub(crate) fn view_of(&self, by: &OpenTransaction) -> View
         ensures { result ≡ view_of self.now.content by.now }
     {
         View {
@@ -159,7 +163,7 @@ impl<'a, V: Versions> Database<'a, V> {
     }
 
     /// What a query sees that begins now.
-    pub fn view_now(&self, transaction: &Transaction) -> View
+    pub(crate) fn view_now(&self, transaction: &Transaction) -> View
         ensures { result ≡ view_now self.now.content transaction.now }
     {
         match transaction {
@@ -173,7 +177,7 @@ impl<'a, V: Versions> Database<'a, V> {
     }
 
     /// The transaction after a query that begins now.
-    pub fn after_query(&self, by: &OpenTransaction) -> OpenTransaction
+    pub(crate) fn after_query(&self, by: &OpenTransaction) -> OpenTransaction
         requires { by.now.command + 1 < 2 ^ 64 }
         ensures { result ≡ moved_on self.now.content by.now }
     {
@@ -187,7 +191,7 @@ impl<'a, V: Versions> Database<'a, V> {
     }
 
     /// The rows that the view shows of the table at the place. `empty` is a row without values.
-    pub fn rows_shown<'s>(
+    pub(crate) fn rows_shown<'s>(
         &'s self,
         view: &View,
         place: usize,

@@ -15,7 +15,7 @@ use std::alloc::AllocError;
 
 impl<'a, V: Versions> Database<'a, V> {
     /// CREATE TABLE: the table is there for its own transaction at once.
-    pub fn create(
+    pub(crate) fn create(
         &mut self,
         by: &OpenTransaction,
         made: &'a CreateTable<'a>,
@@ -58,7 +58,7 @@ impl<'a, V: Versions> Database<'a, V> {
     }
 
     /// DROP TABLE: the tables are gone for their own transaction at once.
-    pub fn drop_tables(
+    pub(crate) fn drop_tables(
         &mut self,
         by: &OpenTransaction,
         stmt: &'a DropTable<'a>,

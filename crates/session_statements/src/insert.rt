@@ -20,7 +20,7 @@ use sql_values::{ColumnName, ValueFault};
 use std::alloc::AllocError;
 
 /// The statement's fault, where it isn't want of memory.
-pub fn fault_of<'a>(fault: ValueFault<'a>) -> Result<StmtFault<'a>, AllocError>
+pub(crate) fn fault_of<'a>(fault: ValueFault<'a>) -> Result<StmtFault<'a>, AllocError>
     ensures fault { IfOk result (λ f. f ≡ StmtFault.Value fault.entry) }
     ensures other { IfOk result (λ f. fault.entry ≢ Memory) }
 {
@@ -47,7 +47,7 @@ impl<'a, V: Versions> Database<'a, V> {
         ensures rest { IfOk result (λ fault. self.new ≡ record self.old { content = self.new.content }) }
         ensures fates { IfOk result (λ fault. self.new.content.fates ≡ self.old.content.fates) }
     {
-        match new_values(self.alloc(), columns.len(), targets, row) {
+        match new_values(self.alloc, columns.len(), targets, row) {
             Ok(values) => {
                 if let Some(column) = null_in(columns, &values) {
                     let table = Ident::new(table);
@@ -133,7 +133,7 @@ impl<'a, V: Versions> Database<'a, V> {
     }
 
     /// INSERT: all of its rows are written, or none counts.
-    pub fn insert(
+    pub(crate) fn insert(
         &mut self,
         by: &OpenTransaction,
         stmt: &'a Insert<'a>,
@@ -147,7 +147,7 @@ impl<'a, V: Versions> Database<'a, V> {
         let Some(place) = self.find_table(Some(by.tx), &stmt.table) else {
             return Ok(self.fail(by, StmtFault::NoTable(Ident::new(stmt.table))));
         };
-        match targets_of(self.alloc(), self.columns(place), stmt.columns.as_ref())? {
+        match targets_of(self.alloc, self.columns(place), stmt.columns.as_ref())? {
             Ok(targets) => self.insert_to(by, stmt, place, &targets),
             Err(column) => {
                 let table = Ident::new(stmt.table);

@@ -10,6 +10,4 @@ mod select;
 mod table;
 mod transactions;
 
-pub use catalog::Catalog;
 pub use database::Database;
-pub use table::{Dropped, Table};

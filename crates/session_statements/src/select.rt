@@ -43,10 +43,10 @@ impl<'a, V: Versions> Database<'a, V> {
         requires fit { RowsFit self.now.content self.now.catalog }
         ensures { Answers result (result_of (select_of stmt.now) (columns_at self.now.catalog place) (rows_shown self.now.content (view_of self.now.content by.now) place)) }
     {
-        let empty = Row::from_vec(Vec::new(self.alloc()));
+        let empty = Row::from_vec(Vec::new(self.alloc));
         let view = self.view_of(by);
         let rows = self.rows_shown(&view, place, &empty)?;
-        result_of(self.alloc(), stmt, self.columns(place), rows.as_slice())
+        result_of(self.alloc, stmt, self.columns(place), rows.as_slice())
     }
 
     /// The SELECT has this result, or fails.
@@ -93,7 +93,7 @@ impl<'a, V: Versions> Database<'a, V> {
     }
 
     /// SELECT: what its view shows, or the fault of its first row that has one.
-    pub fn select(
+    pub(crate) fn select(
         &mut self,
         by: &OpenTransaction,
         stmt: &'a Select<'a>,
@@ -108,7 +108,7 @@ impl<'a, V: Versions> Database<'a, V> {
         match stmt.table {
             Some(name) => self.select_in(by, stmt, name),
             None => {
-                let made = constant_result(self.alloc(), stmt);
+                let made = constant_result(self.alloc, stmt);
                 self.answer(by, made)
             }
         }

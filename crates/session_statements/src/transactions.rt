@@ -42,7 +42,11 @@ fn has_query(by: &OpenTransaction) -> bool
 
 impl<'a, V: Versions> Database<'a, V> {
     /// The statement failed: its transaction is undone.
-    pub fn fail(&mut self, by: &OpenTransaction, fault: StmtFault<'a>) -> (Transaction, Outcome<'a>)
+    pub(crate) fn fail(
+        &mut self,
+        by: &OpenTransaction,
+        fault: StmtFault<'a>,
+    ) -> (Transaction, Outcome<'a>)
         requires { IsOpen self.old.content by.now.tx }
         ensures { fails self.old by.now fault.entry ≡ record { db = self.new; transaction = result.0; outcome = result.1 } }
     {
@@ -51,7 +55,7 @@ impl<'a, V: Versions> Database<'a, V> {
     }
 
     /// The level is set before the transaction's first query, or stays.
-    pub fn set_level(
+    pub(crate) fn set_level(
         &mut self,
         by: &OpenTransaction,
         explicit: bool,
@@ -74,7 +78,7 @@ impl<'a, V: Versions> Database<'a, V> {
     }
 
     /// BEGIN in an open transaction.
-    pub fn begin_again(
+    pub(crate) fn begin_again(
         &mut self,
         by: &OpenTransaction,
         level: Option<Level>,
@@ -90,7 +94,7 @@ impl<'a, V: Versions> Database<'a, V> {
 }
 
 /// A statement in an aborted transaction, which changes nothing of the database.
-pub fn run_aborted<'a>(stmt: &Stmt<'_>) -> (Transaction, Outcome<'a>)
+pub(crate) fn run_aborted<'a>(stmt: &Stmt<'_>) -> (Transaction, Outcome<'a>)
     ensures { (db : DatabaseFacts) → run_aborted db (stmt_of stmt.now) ≡ record { db = db; transaction = result.0; outcome = result.1 } }
 {
     match stmt {
