@@ -1,0 +1,187 @@
+-- What a query answers at the rows of its table, and what an INSERT makes of its values (PostgreSQL manual, SELECT and INSERT).
+use Rattle.std.specs.Prelude.{ℕ, ◌+◌, Bool, ◌&&◌, List, [], ◌∷◌, ◌++◌, length, map, replicate, Option, Some, None, is_some, unwrap_or, position, bytes_eq, slice_set, nat_lt, Result, Ok, Err, if◌then◌else◌}
+use Rattle.std.specs.List.{list_any}
+use Rattle.std.specs.Option.{option_or}
+use Rattle.sql_trees.specs.declared.kind.Kind.{Kind}
+use Rattle.sql_trees.specs.Trees.{Tree, Trees}
+use Rattle.sql_trees.specs.Trees as tree
+use Rattle.sql_trees.specs.Statements.{ColumnTree, ItemTree, SelectTree}
+use Rattle.sql_trees.specs.Statements as stmt
+use Rattle.sql_values.specs.declared.value.Value.{Value}
+use Rattle.sql_values.specs.declared.value.Value.TheVariants.{Null}
+use Rattle.sql_values.specs.declared.fault.ValueFault.{ValueFault}
+use Rattle.sql_values.specs.declared.fault.ValueFault.TheVariants.{NoColumn}
+use Rattle.sql_values.specs.Values.{is_null, if_ok, assign}
+use Rattle.sql_values.specs.Expressions.{Cols, value, passes}
+use Rattle.result_tables.specs.declared.title.Title.{Title}
+use Rattle.result_tables.specs.declared.title.Title.TheVariants.{Column as Named, Unnamed}
+use Rattle.result_tables.specs.Results.{Results}
+use Rattle.row_versions.specs.declared.write.View.{View}
+use Rattle.row_versions.specs.declared.write.Seen.{Seen}
+use Rattle.row_versions.specs.Log.{Content, values_at}
+use Rattle.row_versions.specs.Rows.{rows_of}
+
+-- the first answer that is one
+abbrev pub first_of : {A B : Type 0} → (A → Option B) → List A → Option B
+first_of f [] = None
+first_of f (x ∷ xs) = option_or (f x) (first_of f xs)
+
+-- what is answered at each, up to the first fault
+abbrev pub each : {A B : Type 0} → (A → Result B ValueFault) → List A → Result (List B) ValueFault
+each f [] = Ok []
+each f (x ∷ xs) = if_ok (f x) (λ y. if_ok (each f xs) (λ ys. Ok (y ∷ ys)))
+
+-- a column as expressions know it
+abbrev pub known : ColumnTree → List ℕ × Kind
+known c = (c.name, c.kind)
+
+abbrev pub cols_of : List ColumnTree → Cols
+cols_of columns = map known columns
+
+abbrev pub has_column : Cols → List ℕ → Bool
+has_column cols name = is_some (position (λ c. bytes_eq name c.0) cols)
+
+abbrev mutual
+  -- the first column that an expression names and that isn't there, in the order of the text
+  pub lacking : Cols → Tree → Option (List ℕ)
+  lacking cols tree.Null = None
+  lacking cols (tree.Flag b) = None
+  lacking cols (tree.Number negative n) = None
+  lacking cols (tree.Text s) = None
+  lacking cols (tree.Column name) = if has_column cols name then None else Some name
+  lacking cols (tree.Plus a) = lacking cols a
+  lacking cols (tree.Minus a) = lacking cols a
+  lacking cols (tree.Not a) = lacking cols a
+  lacking cols (tree.Binary op a b) = option_or (lacking cols a) (lacking cols b)
+  lacking cols (tree.Is a negated truth) = lacking cols a
+  lacking cols (tree.In a negated items) = option_or (lacking cols a) (lacking_among cols items)
+  lacking cols (tree.Between a negated low high) = option_or (lacking cols a) (option_or (lacking cols low) (lacking cols high))
+
+  pub lacking_among : Cols → Trees → Option (List ℕ)
+  lacking_among cols tree.none = None
+  lacking_among cols (tree.more e rest) = option_or (lacking cols e) (lacking_among cols rest)
+
+abbrev pub lacking_if : Cols → Option Tree → Option (List ℕ)
+lacking_if cols None = None
+lacking_if cols (Some e) = lacking cols e
+
+abbrev pub lacking_item : Cols → ItemTree → Option (List ℕ)
+lacking_item cols stmt.All = None
+lacking_item cols (stmt.Value e alias) = lacking cols e
+lacking_item cols (stmt.Aggregate a alias) = None
+
+-- the first column that a SELECT names and its table lacks
+abbrev pub lacking_select : Cols → SelectTree → Option (List ℕ)
+lacking_select cols s = option_or (first_of (lacking_item cols) s.items) (lacking_if cols s.filter)
+
+-- a column that isn't there is a fault before any row is looked at
+abbrev pub unless_lacking : {A : Type 0} → Option (List ℕ) → Result A ValueFault → Result A ValueFault
+unless_lacking None answer = answer
+unless_lacking (Some name) answer = Err (NoColumn name)
+
+-- the rows that pass WHERE
+abbrev pub chosen : Cols → Option Tree → List (List Value) → Result (List (List Value)) ValueFault
+chosen cols filter [] = Ok []
+chosen cols filter (row ∷ rows) =
+    if_ok (passes filter cols row) (λ p. if_ok (chosen cols filter rows) (λ rest. Ok (if p then row ∷ rest else rest)))
+
+-- what an item answers at a row
+abbrev pub item_values : Cols → List Value → ItemTree → Result (List Value) ValueFault
+item_values cols row stmt.All = Ok row
+item_values cols row (stmt.Value e alias) = if_ok (value e cols row) (λ v. Ok (v ∷ []))
+item_values cols row (stmt.Aggregate a alias) = Ok []
+
+abbrev pub row_values : Cols → List ItemTree → List Value → Result (List Value) ValueFault
+row_values cols [] row = Ok []
+row_values cols (i ∷ is) row = if_ok (item_values cols row i) (λ vs. if_ok (row_values cols is row) (λ rest. Ok (vs ++ rest)))
+
+-- an item without an alias has the name of the column that it is
+abbrev pub title_of : Tree → Title
+title_of (tree.Column name) = Named name
+title_of e = Unnamed
+
+abbrev pub title_or : Tree → Option (List ℕ) → Title
+title_or e None = title_of e
+title_or e (Some alias) = Named alias
+
+abbrev pub item_titles : List ColumnTree → ItemTree → List Title
+item_titles columns stmt.All = map (λ (c : ColumnTree). Named c.name) columns
+item_titles columns (stmt.Value e alias) = title_or e alias ∷ []
+item_titles columns (stmt.Aggregate a alias) = []
+
+abbrev pub titles_of : List ColumnTree → List ItemTree → List Title
+titles_of columns [] = []
+titles_of columns (i ∷ is) = item_titles columns i ++ titles_of columns is
+
+-- the result of a SELECT whose table has these columns and shows these rows: WHERE is tested at all of them before an item is evaluated
+abbrev pub result_of : SelectTree → List ColumnTree → List (List Value) → Result Results ValueFault
+result_of s columns rows = unless_lacking (lacking_select (cols_of columns) s)
+    (if_ok (chosen (cols_of columns) s.filter rows) (λ taken.
+    if_ok (each (row_values (cols_of columns) s.items) taken) (λ shown.
+    Ok (record { titles = titles_of columns s.items; rows = shown }))))
+
+-- the values of the rows that a view shows of the table
+abbrev pub rows_shown : Content → View → ℕ → List (List Value)
+rows_shown c view k = map (λ (s : Seen). unwrap_or (values_at c s.place) []) (rows_of c view (record { 0 = k }))
+
+-- where a value of an INSERT goes: a column's place, and its kind
+pub record Target : Type 0 where
+  pub place : ℕ
+  pub kind : Kind
+
+-- all columns, from the place on
+abbrev pub all_targets : ℕ → List ColumnTree → List Target
+all_targets k [] = []
+all_targets k (c ∷ cs) = record { place = k; kind = c.kind } ∷ all_targets (k + 1) cs
+
+-- the column of that name, from the place on
+abbrev pub target_from : ℕ → List ColumnTree → List ℕ → Option Target
+target_from k [] name = None
+target_from k (c ∷ cs) name = if bytes_eq c.name name then Some (record { place = k; kind = c.kind }) else target_from (k + 1) cs name
+
+abbrev pub target_or : List ℕ → Option Target → Result (List Target) (List ℕ) → Result (List Target) (List ℕ)
+target_or name None rest = Err name
+target_or name (Some t) (Err lacks) = Err lacks
+target_or name (Some t) (Ok ts) = Ok (t ∷ ts)
+
+-- the columns of these names, or the first name that is none
+abbrev pub named_targets : List ColumnTree → List (List ℕ) → Result (List Target) (List ℕ)
+named_targets columns [] = Ok []
+named_targets columns (name ∷ names) = target_or name (target_from 0 columns name) (named_targets columns names)
+
+-- without a list of columns the values go to the first ones
+abbrev pub targets_of : List ColumnTree → Option (List (List ℕ)) → Result (List Target) (List ℕ)
+targets_of columns None = Ok (all_targets 0 columns)
+targets_of columns (Some names) = named_targets columns names
+
+-- the values as their columns take them
+abbrev pub assigned : List Target → List Value → Result (List Value) ValueFault
+assigned (t ∷ ts) (v ∷ vs) = if_ok (assign v t.kind) (λ a. if_ok (assigned ts vs) (λ rest. Ok (a ∷ rest)))
+assigned [] vs = Ok []
+assigned (t ∷ ts) [] = Ok []
+
+-- each value at its column's place
+abbrev pub placed : List Target → List Value → List Value → List Value
+placed (t ∷ ts) (v ∷ vs) row = placed ts vs (slice_set row t.place v)
+placed [] vs row = row
+placed (t ∷ ts) [] row = row
+
+-- a new row: NULL where it has no value
+abbrev pub new_values : ℕ → List Target → List Tree → Result (List Value) ValueFault
+new_values width targets row =
+    if_ok (each (λ e. value e [] []) row) (λ values.
+    if_ok (assigned targets values) (λ vs. Ok (placed targets vs (replicate width Null))))
+
+-- the first column that is NULL and must not be
+abbrev pub null_in : List ColumnTree → List Value → Option (List ℕ)
+null_in (c ∷ cs) (v ∷ vs) = if c.not_null && is_null v then Some c.name else null_in cs vs
+null_in [] vs = None
+null_in (c ∷ cs) [] = None
+
+-- some row has more values than there are columns for them
+abbrev pub some_too_long : ℕ → List (List Tree) → Bool
+some_too_long width rows = list_any (λ row. nat_lt width (length row)) rows
+
+-- the first column that the VALUES name: they have none
+abbrev pub lacking_rows : List (List Tree) → Option (List ℕ)
+lacking_rows rows = first_of (first_of (lacking [])) rows

@@ -1,0 +1,62 @@
+-- Tables, and which of them a name means: what was made or dropped counts once it is committed, and for its own transaction at once
+-- (PostgreSQL manual, 13.2, on what a transaction sees).
+use Rattle.std.specs.Prelude.{ℕ, ◌+◌, ◌==◌, Bool, false, not, ◌&&◌, ◌||◌, List, [], ◌∷◌, ◌++◌, Option, Some, None, bytes_eq, if◌then◌else◌}
+use Rattle.std.specs.List.{list_any}
+use Rattle.sql_trees.specs.Statements.{CreateTree}
+use Rattle.row_versions.specs.declared.names.TxId.{TxId}
+use Rattle.row_versions.specs.Log.{Content, has_committed}
+use Rattle.session_machine.specs.declared.session.Held.{Held}
+
+-- a table: its CREATE, and the transaction that made it
+pub record Table : Type 0 where
+  pub made : CreateTree
+  pub by : TxId
+
+-- a DROP of the table at that place
+pub record Dropped : Type 0 where
+  pub table : ℕ
+  pub by : TxId
+
+-- every CREATE and DROP so far, in the order done
+pub record Catalog : Type 0 where
+  pub tables : List Table
+  pub drops : List Dropped
+
+-- what all sessions share: writes and fates, tables, and the locks that were taken
+pub record Database : Type 0 where
+  pub content : Content
+  pub catalog : Catalog
+  pub held : List Held
+
+abbrev pub is_own : Option TxId → TxId → Bool
+is_own None tx = false
+is_own (Some own) tx = own.0 == tx.0
+
+-- what the transaction did counts: it is committed, or one's own
+abbrev pub counts : Content → Option TxId → TxId → Bool
+counts c own tx = has_committed c tx || is_own own tx
+
+-- a DROP of that table counts
+abbrev pub is_dropped : Content → Option TxId → List Dropped → ℕ → Bool
+is_dropped c own drops k = list_any (λ (d : Dropped). (d.table == k) && counts c own d.by) drops
+
+-- the name is that of the table, whose CREATE counts and whose DROP doesn't
+abbrev pub is_meant : Content → Option TxId → List Dropped → List ℕ → ℕ → Table → Bool
+is_meant c own drops name k t = bytes_eq t.made.name name && (counts c own t.by && not (is_dropped c own drops k))
+
+-- the first such table, from the place on
+abbrev pub find_from : Content → Option TxId → List Dropped → List ℕ → ℕ → List Table → Option ℕ
+find_from c own drops name k [] = None
+find_from c own drops name k (t ∷ ts) = if is_meant c own drops name k t then Some k else find_from c own drops name (k + 1) ts
+
+-- the place of the table that the name means
+abbrev pub find_table : Database → Option TxId → List ℕ → Option ℕ
+find_table db own name = find_from db.content own db.catalog.drops name 0 db.catalog.tables
+
+-- a table more
+abbrev pub with_table : Catalog → CreateTree → TxId → Catalog
+with_table catalog made by = record catalog { tables = catalog.tables ++ record { made = made; by = by } ∷ [] }
+
+-- a DROP more
+abbrev pub with_drop : Catalog → ℕ → TxId → Catalog
+with_drop catalog k by = record catalog { drops = catalog.drops ++ record { table = k; by = by } ∷ [] }

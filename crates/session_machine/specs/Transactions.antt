@@ -1,0 +1,70 @@
+-- Transactions of sessions: how they begin, what their statements see, and how they end (PostgreSQL manual, 13.2).
+use Rattle.std.specs.Prelude.{ℕ, ◌+◌, ◌==◌, Bool, true, false, not, List, filter, Option, Some, None, unwrap_or, if◌then◌else◌}
+use Rattle.sql_trees.specs.declared.stmt.Level.{Level}
+use Rattle.sql_trees.specs.declared.stmt.Level.TheVariants.{ReadCommitted, RepeatableRead}
+use Rattle.row_versions.specs.declared.names.TxId.{TxId}
+use Rattle.row_versions.specs.declared.write.View.{View}
+use Rattle.row_versions.specs.Log.{Content, commit_count, next_tx, after_begin, after_commit, after_roll_back}
+use Rattle.session_machine.specs.declared.session.OpenTransaction.{OpenTransaction}
+use Rattle.session_machine.specs.declared.session.Transaction.{Transaction}
+use Rattle.session_machine.specs.declared.session.Transaction.TheVariants.{Closed, Open, Aborted}
+use Rattle.session_machine.specs.declared.session.Held.{Held}
+use Rattle.session_machine.specs.Tables.{Database}
+
+-- the transaction that begins next, of which nothing was asked yet
+abbrev pub fresh : Content → Level → Bool → OpenTransaction
+fresh c level explicit = record { tx = next_tx c; explicit = explicit; level = level; snapshot = None; command = 0 }
+
+-- a transaction has begun
+abbrev pub begun : Database → Database
+begun db = record db { content = after_begin db.content }
+
+-- the transaction's locks are free
+abbrev pub released : TxId → List Held → List Held
+released tx held = filter (λ (h : Held). not (h.tx.0 == tx.0)) held
+
+-- it commits, or is rolled back
+abbrev pub committed : Database → TxId → Database
+committed db tx = record db { content = after_commit db.content tx; held = released tx db.held }
+
+abbrev pub rolled_back : Database → TxId → Database
+rolled_back db tx = record db { content = after_roll_back db.content tx; held = released tx db.held }
+
+-- the commits before the transaction's first query, which is the present one if there was none (13.2.2)
+abbrev pub first_commits : Content → OpenTransaction → ℕ
+first_commits c t = unwrap_or t.snapshot (commit_count c)
+
+-- in Read Committed a query sees what was committed when it began, in Repeatable Read what was when the transaction's first query began
+abbrev pub commits_seen : Level → Content → OpenTransaction → ℕ
+commits_seen ReadCommitted c t = commit_count c
+commits_seen RepeatableRead c t = first_commits c t
+
+-- what the transaction's next query sees: also what its own queries before wrote
+abbrev pub view_of : Content → OpenTransaction → View
+view_of c t = record { tx = Some t.tx; commits = commits_seen t.level c t; command = t.command }
+
+-- the transaction after a query
+abbrev pub moved_on : Content → OpenTransaction → OpenTransaction
+moved_on c t = record t { snapshot = Some (first_commits c t); command = t.command + 1 }
+
+-- what is left of a transaction in which a statement failed
+abbrev pub after_failure : OpenTransaction → Transaction
+after_failure t = if t.explicit then Aborted else Closed
+
+-- who sees, and what, in a query that begins now: without a transaction what is committed
+abbrev pub own_of : Transaction → Option TxId
+own_of Closed = None
+own_of Aborted = None
+own_of (Open t) = Some t.tx
+
+abbrev pub view_now : Content → Transaction → View
+view_now c Closed = record { tx = None; commits = commit_count c; command = 0 }
+view_now c Aborted = record { tx = None; commits = commit_count c; command = 0 }
+view_now c (Open t) = view_of c t
+
+-- the levels are the same
+abbrev pub is_level : Level → Level → Bool
+is_level ReadCommitted ReadCommitted = true
+is_level RepeatableRead RepeatableRead = true
+is_level ReadCommitted RepeatableRead = false
+is_level RepeatableRead ReadCommitted = false

@@ -1,0 +1,31 @@
+//! What comes of events.
+
+use crate::event::Event;
+use crate::fault::StmtFault;
+use result_tables::ResultSet;
+
+/// What came of an event.
+#[derive(Debug, Drop)]
+pub enum Outcome<'a> {
+    Launched,
+    /// The statement has no result.
+    Done,
+    Rows(ResultSet<'a>),
+    Waits,
+    Failed(StmtFault<'a>),
+    Left,
+}
+
+/// The reply to an event, and whether the session's block is over after it.
+#[derive(Debug, Drop)]
+pub struct Reply<'a> {
+    pub outcome: Outcome<'a>,
+    pub ended: bool,
+}
+
+/// An event with its reply.
+#[derive(Debug, Drop)]
+pub struct HistItem<'a> {
+    pub event: Event,
+    pub reply: Reply<'a>,
+}
