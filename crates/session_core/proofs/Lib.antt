@@ -1,0 +1,2 @@
+pub mod NoWaits
+pub mod BlockLemmas
