@@ -1,5 +1,5 @@
 -- What a query answers at the rows of its table, and what an INSERT makes of its values (PostgreSQL manual, SELECT and INSERT).
-use Rattle.std.specs.Prelude.{ℕ, ◌+◌, Bool, true, false, ◌&&◌, List, [], ◌∷◌, ◌++◌, length, map, replicate, Option, Some, None, option_map, is_some, unwrap_or, position, bytes_eq, slice_get, slice_set, nat_lt, Result, Ok, Err, if◌then◌else◌}
+use Rattle.std.specs.Prelude.{ℕ, ◌+◌, Bool, ◌&&◌, List, [], ◌∷◌, ◌++◌, length, map, replicate, Option, Some, None, is_some, unwrap_or, position, bytes_eq, slice_set, nat_lt, Result, Ok, Err, if◌then◌else◌}
 use Rattle.std.specs.List.{list_any}
 use Rattle.std.specs.Option.{option_or}
 use Rattle.sql_trees.specs.declared.kind.Kind.{Kind}
@@ -16,7 +16,6 @@ use Rattle.sql_values.specs.Expressions.{Cols, value, passes}
 use Rattle.result_tables.specs.declared.title.Title.{Title}
 use Rattle.result_tables.specs.declared.title.Title.TheVariants.{Column as Named, Unnamed}
 use Rattle.result_tables.specs.Results.{Results}
-use Rattle.row_versions.specs.declared.names.TableId.{TableId}
 use Rattle.row_versions.specs.declared.write.View.{View}
 use Rattle.row_versions.specs.declared.write.Seen.{Seen}
 use Rattle.row_versions.specs.Log.{Content, values_at}

@@ -191,6 +191,13 @@ is_aggregate item.All = false
 is_aggregate (item.Value e alias) = false
 is_aggregate (item.Aggregate a alias) = true
 
+abbrev pub has_none : {A : Type 0} → List A → Bool
+has_none [] = true
+has_none (x ∷ xs) = false
+
+abbrev pub select_runs : SelectTree → Bool
+select_runs s = is_none s.lock && (has_none s.order && list_all (λ i. not (is_aggregate i)) s.items)
+
 -- the statement can run by now: keys, updates, deletes, locks, orders and aggregates can't
 abbrev pub runs : StmtTree → Bool
 runs (Begin level) = true
@@ -198,15 +205,9 @@ runs Commit = true
 runs Rollback = true
 runs (SetTransaction level) = true
 runs SetDeadlockTimeout = true
-runs (Create c) = length_is_zero c.keys where
-  length_is_zero : {A : Type 0} → List A → Bool
-  length_is_zero [] = true
-  length_is_zero (x ∷ xs) = false
+runs (Create c) = has_none c.keys
 runs (DropTables d) = true
 runs (Inserts i) = true
 runs (Updates u) = false
 runs (Deletes d) = false
-runs (Selects s) = is_none s.lock && (no_order s.order && list_all (λ i. not (is_aggregate i)) s.items) where
-  no_order : {A : Type 0} → List A → Bool
-  no_order [] = true
-  no_order (x ∷ xs) = false
+runs (Selects s) = select_runs s

@@ -1,5 +1,8 @@
 //! What a session is doing.
 
+ghost use Rattle.std.specs.Prelude.{◌≡◌};
+ghost use Rattle.session_machine.specs.Machine.{at_rest};
+
 use row_versions::{RowId, TableId, TxId, View};
 use sql_trees::Level;
 use sql_values::Row;
@@ -104,4 +107,17 @@ pub struct Session {
     pub place: Option<Place>,
     pub transaction: Transaction,
     pub statement: Option<Progress>,
+}
+
+impl Session {
+    /// A session that was given no block yet.
+    pub fn at_rest() -> Session
+        ensures { result ≡ at_rest }
+    {
+        Session {
+            place: None,
+            transaction: Transaction::Closed,
+            statement: None,
+        }
+    }
 }
