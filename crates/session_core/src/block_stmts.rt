@@ -18,6 +18,7 @@ pub fn block_stmts<'a>(blocks: &'a [Block<'a>], block: u32) -> Option<&'a [Stmt<
 }
 
 /// The statement at a place, and how many its block has.
+#[derive(Clone, Copy)]
 pub struct StmtAt<'a> {
     pub stmt: &'a Stmt<'a>,
     pub count: usize,

@@ -3,7 +3,11 @@
 
 mod block;
 mod block_stmts;
+mod launch;
+mod leave;
+mod live;
 mod standing;
+mod step;
 mod turns;
 
 pub use block::Block;
