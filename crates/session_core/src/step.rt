@@ -5,6 +5,7 @@ ghost use Rattle.sql_trees.specs.Statements.{stmt_of};
 ghost use Rattle.session_machine.specs.declared.session.OpenTransaction.{OpenTransaction};
 ghost use Rattle.session_machine.specs.Tables.{Database as DbFacts};
 ghost use Rattle.session_machine.specs.Statements.{run_stmt};
+ghost use Rattle.session_machine.specs.Sound.{IsSound};
 ghost use Rattle.session_machine.specs.Machine.{Machine, after_stmt, closed_at_end, finished, is_failed, next};
 ghost use Rattle.session_core.specs.Blocks.{blocks_of};
 ghost use Rattle.session_core.specs.Sessions.{AllOver, between};
@@ -14,9 +15,10 @@ use crate::block_stmts::stmt_at;
 use crate::standing::{Standing, standing_at};
 use crate::turns::must_wait_for_turn;
 use row_versions::Versions;
-use session_machine::{Event, Mode, Outcome, Place, Refusal, Session, Transaction};
+use session_machine::{Event, Mode, Outcome, Place, Refusal, Reply, Session, Transaction};
 use session_statements::Database;
 use sql_trees::Stmt;
+use std::alloc::AllocError;
 
 /// The statement that a session's next step begins.
 #[derive(Drop)]
@@ -123,4 +125,27 @@ pub fn after_statement<'a, V: Versions>(
         place: None,
         transaction: end_block(db, transaction),
     }
+}
+
+/// Runs a session's next statement.
+pub fn run_due<'a, V: Versions>(
+    db: &mut Database<'a, V>,
+    sessions: &mut Vec<Session>,
+    session: u32,
+    due: &Due<'a>,
+) -> Result<Reply<'a>, AllocError>
+    requires current { slice_get sessions.old.items session ≡ Some (between (record { place = Some due.now.place; transaction = due.now.transaction })) }
+    requires sound { (events : ℕ) × (events + 1 < 2 ^ 64) × IsSound db.old sessions.old.items events }
+    requires within { due.now.place.next < due.now.count }
+    requires fits { due.now.count < 2 ^ 64 }
+    ensures { IfOk result (λ reply.
+        after_stmt (record { db = db.old; sessions = sessions.old.items }) session due.now.place due.now.count
+        (run_stmt db.old due.now.transaction (stmt_of due.now.stmt.now))
+        ≡ record { machine = record { db = db.new; sessions = sessions.new.items }; reply = reply }) }
+{
+    let (transaction, outcome) = db.run_statement(&due.transaction, due.stmt)?;
+    let after = after_statement(db, due.place, due.count, transaction, &outcome);
+    let ended = after.place.is_none();
+    sessions[session as usize] = after.session();
+    Ok(Reply { outcome, ended })
 }
