@@ -1,2 +1,4 @@
 pub mod Lists
 pub mod Fitting
+pub mod Keeping
+pub mod Sound
