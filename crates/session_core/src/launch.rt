@@ -5,14 +5,15 @@ ghost use Rattle.sql_trees.specs.Statements.{stmt_of};
 ghost use Rattle.session_machine.specs.Tables.{Database};
 ghost use Rattle.session_machine.specs.Statements.{runs};
 ghost use Rattle.session_machine.specs.Machine.{Machine, first_place, is_allowed, is_definition, next, stmts_at, with_session};
+ghost use Rattle.session_machine.specs.Engine.{answered};
 ghost use Rattle.session_core.specs.Blocks.{blocks_of};
 ghost use Rattle.session_core.specs.Sessions.{AllOver, between};
 
 use crate::block::Block;
 use crate::block_stmts::block_stmts;
-use crate::standing::{Standing, standing_at};
+use crate::standing::{Standing, has_ended, set_session, standing_at};
 use crate::turns::must_wait_for_rest;
-use session_machine::{Event, Mode, Outcome, Place, Refusal, Session, can_run, is_definition};
+use session_machine::{Event, Mode, Outcome, Place, Refusal, Reply, Session, can_run, is_definition};
 use sql_trees::Stmt;
 
 fn all_run(stmts: &[Stmt<'_>]) -> bool
@@ -71,7 +72,7 @@ fn start_of(block: u32, stmts: &[Stmt<'_>]) -> Option<Place>
 }
 
 /// What the session does once it is given the block, or why it may not be.
-pub fn launched<'a>(
+fn launched<'a>(
     blocks: &'a [Block<'a>],
     mode: Mode,
     sessions: &[Session],
@@ -103,4 +104,30 @@ pub fn launched<'a>(
         place: start_of(block, stmts),
         transaction: current.transaction,
     })
+}
+
+/// Gives a session a block, or says why not.
+pub fn launch<'a>(
+    sessions: &mut Vec<Session>,
+    blocks: &'a [Block<'a>],
+    mode: Mode,
+    session: u32,
+    block: u32,
+) -> Result<Reply<'a>, Refusal>
+    requires { AllOver sessions.old.items }
+    ensures { (db : Database) →
+        let old : Machine = record { db = db; sessions = sessions.old.items } in
+        let new : Machine = record { db = db; sessions = sessions.new.items } in
+        answered old (next (blocks_of blocks.now) mode old (Event.Launch session block)) ≡ record { machine = new; answer = result } }
+{
+    match launched(blocks, mode, sessions, session, block) {
+        Ok(after) => {
+            set_session(sessions, session, after.session());
+            Ok(Reply {
+                outcome: Outcome::Launched,
+                ended: has_ended(after.place),
+            })
+        }
+        Err(refusal) => Err(refusal),
+    }
 }

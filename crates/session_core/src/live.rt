@@ -4,20 +4,20 @@ ghost use Rattle.std.specs.Global.{Vec as VecFacts};
 ghost use Rattle.sql_values.specs.declared.value.Value.{Value as SqlValue};
 ghost use Rattle.row_versions.specs.Log.{empty_content};
 ghost use Rattle.session_machine.specs.Sound.{IsSound};
-ghost use Rattle.session_machine.specs.Machine.{Next, next, opening, turn_in, visible};
+ghost use Rattle.session_machine.specs.Machine.{Blocks, Next, next, opening, turn_in, visible};
 ghost use Rattle.session_machine.specs.Engine.{answered};
 ghost use Rattle.session_core.specs.Blocks.{blocks_of};
 ghost use Rattle.session_core.specs.Sessions.{AllOver};
 
 use crate::block::Block;
-use crate::launch::launched;
-use crate::leave::{leaving, undo};
+use crate::launch::launch;
+use crate::leave::leave;
 use crate::standing::standing_at;
-use crate::step::{due_statement, run_due};
+use crate::step::step;
 use crate::turns::turn_among;
 use iso_lexer::Name;
 use row_versions::Versions;
-use session_machine::{Event, Mode, Outcome, Refusal, Reply, Session};
+use session_machine::{Event, Mode, Refusal, Reply, Session};
 use session_statements::Database;
 use sql_values::Row;
 use std::alloc::{AllocError, Global};
@@ -74,39 +74,14 @@ impl<'a, V: Versions> Live<'a, V> {
         requires { AllOver self.old.sessions }
         ensures { answered self.old (next (blocks_of blocks.now) mode self.old (Event.Launch session block)) ≡ record { machine = self.new; answer = result } }
     {
-        match launched(blocks, mode, &self.sessions, session, block) {
-            Ok(after) => {
-                let ended = after.place.is_none();
-                self.sessions[session as usize] = after.session();
-                Ok(Reply {
-                    outcome: Outcome::Launched,
-                    ended,
-                })
-            }
-            Err(refusal) => Err(refusal),
-        }
+        launch(&mut self.sessions, blocks, mode, session, block)
     }
 
-    fn leave(
-        &mut self,
-        blocks: &'a [Block<'a>],
-        mode: Mode,
-        session: u32,
-    ) -> Result<Reply<'a>, Refusal>
+    fn leave(&mut self, mode: Mode, session: u32) -> Result<Reply<'a>, Refusal>
         requires sound { (events : ℕ) × IsSound self.old.db self.old.sessions events }
-        ensures { answered self.old (next (blocks_of blocks.now) mode self.old (Event.Leave session)) ≡ record { machine = self.new; answer = result } }
+        ensures { (blocks : Blocks) → answered self.old (next blocks mode self.old (Event.Leave session)) ≡ record { machine = self.new; answer = result } }
     {
-        match leaving(mode, &self.sessions, session) {
-            Ok(current) => {
-                undo(&mut self.db, current.transaction);
-                self.sessions[session as usize] = Session::at_rest();
-                Ok(Reply {
-                    outcome: Outcome::Left,
-                    ended: true,
-                })
-            }
-            Err(refusal) => Err(refusal),
-        }
+        leave(&mut self.db, &mut self.sessions, mode, session)
     }
 
     fn step(
@@ -118,10 +93,7 @@ impl<'a, V: Versions> Live<'a, V> {
         requires sound { (events : ℕ) × (events + 1 < 2 ^ 64) × IsSound self.old.db self.old.sessions events }
         ensures { IfOk result (λ answer. answered self.old (next (blocks_of blocks.now) mode self.old (Event.Step session)) ≡ record { machine = self.new; answer = answer }) }
     {
-        match due_statement(blocks, mode, &self.sessions, session) {
-            Ok(due) => Ok(Ok(run_due(&mut self.db, &mut self.sessions, session, &due)?)),
-            Err(refusal) => Ok(Err(refusal)),
-        }
+        step(&mut self.db, &mut self.sessions, blocks, mode, session)
     }
 
     /// Does an event.
@@ -137,7 +109,7 @@ impl<'a, V: Versions> Live<'a, V> {
         match event {
             Event::Launch { session, block } => Ok(self.launch(blocks, mode, session, block)),
             Event::Step { session } => self.step(blocks, mode, session),
-            Event::Leave { session } => Ok(self.leave(blocks, mode, session)),
+            Event::Leave { session } => Ok(self.leave(mode, session)),
         }
     }
 

@@ -1,5 +1,5 @@
 //! What a session is doing between two statements.
-ghost use Rattle.std.specs.Prelude.{◌≡◌, Option, Some, None, option_map, slice_get};
+ghost use Rattle.std.specs.Prelude.{◌≡◌, ◌<◌, is_none, Option, Some, None, length, option_map, slice_get, slice_set};
 ghost use Rattle.session_core.specs.Sessions.{AllOver, between};
 
 use session_machine::{Place, Session, Transaction};
@@ -34,4 +34,19 @@ pub fn standing_at(sessions: &[Session], session: u32) -> Option<Standing>
         place: current.place,
         transaction: current.transaction,
     })
+}
+
+/// Has the session of that number go on as this one.
+pub fn set_session(sessions: &mut Vec<Session>, session: u32, after: Session)
+    requires { session < length sessions.old.items }
+    ensures { sessions.new.items ≡ slice_set sessions.old.items session after }
+{
+    sessions[session as usize] = after;
+}
+
+/// Whether a session that stands there is at the end of its block.
+pub fn has_ended(place: Option<Place>) -> bool
+    ensures { result ≡ is_none place }
+{
+    place.is_none()
 }

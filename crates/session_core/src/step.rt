@@ -6,13 +6,14 @@ ghost use Rattle.session_machine.specs.declared.session.OpenTransaction.{OpenTra
 ghost use Rattle.session_machine.specs.Tables.{Database as DbFacts};
 ghost use Rattle.session_machine.specs.Statements.{run_stmt};
 ghost use Rattle.session_machine.specs.Sound.{IsSound};
+ghost use Rattle.session_machine.specs.Engine.{answered};
 ghost use Rattle.session_machine.specs.Machine.{Machine, after_stmt, closed_at_end, finished, is_failed, next};
 ghost use Rattle.session_core.specs.Blocks.{blocks_of};
 ghost use Rattle.session_core.specs.Sessions.{AllOver, between};
 
 use crate::block::Block;
 use crate::block_stmts::stmt_at;
-use crate::standing::{Standing, standing_at};
+use crate::standing::{Standing, has_ended, set_session, standing_at};
 use crate::turns::must_wait_for_turn;
 use row_versions::Versions;
 use session_machine::{Event, Mode, Outcome, Place, Refusal, Reply, Session, Transaction};
@@ -145,7 +146,27 @@ pub fn run_due<'a, V: Versions>(
 {
     let (transaction, outcome) = db.run_statement(&due.transaction, due.stmt)?;
     let after = after_statement(db, due.place, due.count, transaction, &outcome);
-    let ended = after.place.is_none();
-    sessions[session as usize] = after.session();
+    let ended = has_ended(after.place);
+    set_session(sessions, session, after.session());
     Ok(Reply { outcome, ended })
+}
+
+/// Begins the session's next statement, or says why not.
+pub fn step<'a, V: Versions>(
+    db: &mut Database<'a, V>,
+    sessions: &mut Vec<Session>,
+    blocks: &'a [Block<'a>],
+    mode: Mode,
+    session: u32,
+) -> Result<Result<Reply<'a>, Refusal>, AllocError>
+    requires sound { (events : ℕ) × (events + 1 < 2 ^ 64) × IsSound db.old sessions.old.items events }
+    ensures { IfOk result (λ answer.
+        let old : Machine = record { db = db.old; sessions = sessions.old.items } in
+        let new : Machine = record { db = db.new; sessions = sessions.new.items } in
+        answered old (next (blocks_of blocks.now) mode old (Event.Step session)) ≡ record { machine = new; answer = answer }) }
+{
+    match due_statement(blocks, mode, sessions, session) {
+        Ok(due) => Ok(Ok(run_due(db, sessions, session, &due)?)),
+        Err(refusal) => Ok(Err(refusal)),
+    }
 }
