@@ -1,5 +1,5 @@
 -- Runs of the machine: how they go on, and that a history leads to one state.
-use Rattle.std.proofs.Common.{◌≡◌, ◌↔◌, ℕ, suc, ◌+◌, ◌<◌, List, [], ◌∷◌, ◌++◌, length, length-append, set, refl, ap, ap₂, sym, ◌∙◌, subst, drop, get_or, add-one, drop-cons, Bool}
+use Rattle.std.proofs.Common.{◌≡◌, ◌↔◌, map, ℕ, suc, ◌+◌, ◌<◌, List, [], ◌∷◌, ◌++◌, length, length-append, set, refl, ap, ap₂, sym, ◌∙◌, subst, drop, get_or, add-one, drop-cons, Bool}
 use Rattle.std.specs.Prelude.{Option, None, Result, Ok, Err, is_none}
 use Rattle.session_machine.specs.declared.session.Place.{Place}
 use Rattle.session_machine.specs.declared.session.Transaction.{Transaction}
@@ -111,3 +111,27 @@ legal_not blocks mode m item rest all start refused legal h = let p = legal.1 h 
 -- the items from a place on are that one and the ones after it
 pub from_place : (items : List HistItem) (i : ℕ) (x : HistItem) → i < length items → x ≡ get_or items i x → drop i items ≡ x ∷ drop (i + 1) items
 from_place items i x h e = rw (add-one, drop-cons items i x) (ap (λ y. y ∷ drop (suc i) items) (sym e))
+
+-- an event has one reply
+item_is : (blocks : Blocks) (mode : Mode) (m : Machine) (item other : HistItem) (a b : Machine) → Follows blocks mode m item a → Follows blocks mode m other b → item.event ≡ other.event
+    → (item ≡ other) × (a ≡ b)
+item_is blocks mode m item other a b h k e =
+    let n : Next = record { machine = a; reply = item.reply } in
+    let o : Next = record { machine = b; reply = other.reply } in
+    let same : n ≡ o = one_next (sym h ∙ (ap (next blocks mode m) e ∙ k)) in
+    (ap₂ (λ (x : Event) (y : Reply). let i : HistItem = record { event = x; reply = y } in i) e (ap (λ (x : Next). x.reply) same), ap (λ (x : Next). x.machine) same)
+
+first_event : {a b : Event} {xs ys : List Event} → (a ∷ xs) ≡ (b ∷ ys) → (a ≡ b) × (xs ≡ ys)
+first_event h = (cc, cc)
+
+-- so runs of the same events are the same
+pub same_events : (blocks : Blocks) (mode : Mode) (m : Machine) (items others : List HistItem) (a b : Machine) → Run blocks mode m items a → Run blocks mode m others b
+    → map (λ (i : HistItem). i.event) items ≡ map (λ (i : HistItem). i.event) others → items ≡ others
+same_events blocks mode m [] [] a b h k e = refl
+same_events blocks mode m [] (o ∷ others) a b h k e = cc
+same_events blocks mode m (i ∷ items) [] a b h k e = cc
+same_events blocks mode m (i ∷ items) (o ∷ others) a b h k e =
+    let parts = first_event e in
+    let first = item_is blocks mode m i o h.0 k.0 h.1 k.1 parts.0 in
+    ap₂ (λ (x : HistItem) (xs : List HistItem). x ∷ xs) first.0
+    (same_events blocks mode h.0 items others a b h.2 (subst (λ x. Run blocks mode x others b) (sym first.1) k.2) parts.1)
