@@ -1,5 +1,5 @@
 -- Rows fit their tables, and a statement leaves them so.
-use Rattle.std.proofs.Common.{◌≡◌, ℕ, zero, suc, ◌<◌, ◌≤◌, ◌+◌, Bool, true, false, List, [], ◌∷◌, ◌++◌, length, length-set, length-append, set, get_or, refl, ap, sym, ◌∙◌, subst, arith, rules, inl, inr, All}
+use Rattle.std.proofs.Common.{◌≡◌, ℕ, suc, ◌+◌, Bool, true, false, List, [], ◌∷◌, ◌++◌, length, length-set, length-append, set, get_or, refl, ap, sym, ◌∙◌, subst, arith, inl, inr, All}
 use Rattle.std.specs.Prelude.{Option, Some, None, is_some, unwrap_or, option_map, option_and_then, replicate, slice_get, Result, Ok, Err, ◌&&◌, not, if◌then◌else◌}
 use Rattle.std.proofs.lemmas.Bool.{cases_eq}
 use Rattle.std.proofs.lemmas.List.{length-replicate}
@@ -188,12 +188,15 @@ fit_insert_ended : (before : Content) (t : OpenTransaction) (db : Database) (o :
 fit_insert_ended before t db None fit = fit
 fit_insert_ended before t db (Some fault) fit = fit
 
+-- the columns of the table at a place
+pub columns_are : (catalog : Catalog) (k : ℕ) (t : Table) → slice_get catalog.tables k ≡ Some t → columns_at catalog k ≡ t.made.columns
+columns_are catalog k t at = ap (λ (o : Option Table). unwrap_or (option_map (λ (x : Table). x.made.columns) o) []) at
+
 fit_insert_all : (db : Database) (t : OpenTransaction) (i : InsertTree) (k : ℕ) (table : Table) (targets : List Target) → Fits db → slice_get db.catalog.tables k ≡ Some table
     → FitsDid (insert_all db t i k targets)
 fit_insert_all db t i k table targets fit at =
-    let columns_are : table.made.columns ≡ columns_at db.catalog k = ap (λ (o : Option Table). unwrap_or (option_map (λ (x : Table). x.made.columns) o) []) (sym at) in
     fit_insert_ended db.content t _ _
-    (subst (λ columns. RowsFit (insert_rows db.content t i.table k columns targets i.rows).content db.catalog) columns_are
+    (subst (λ columns. RowsFit (insert_rows db.content t i.table k columns targets i.rows).content db.catalog) (sym (columns_are db.catalog k table at))
     (fit_rows db.content db.catalog t i.table k table targets i.rows fit at))
 
 fit_fitting : (db : Database) (t : OpenTransaction) (i : InsertTree) (k : ℕ) (table : Table) (targets : List Target) (o : Option (List ℕ)) → Fits db

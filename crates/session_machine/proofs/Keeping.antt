@@ -1,5 +1,5 @@
 -- A statement leaves the open transactions of other sessions open.
-use Rattle.std.proofs.Common.{◌≡◌, ◌≢◌, ℕ, zero, suc, ◌<◌, ◌≤◌, ◌+◌, Bool, true, false, List, [], ◌∷◌, ◌++◌, length, refl, ap, sym, le_refl, ◌∙◌, subst, arith, inl, inr, ◌⊎◌}
+use Rattle.std.proofs.Common.{◌≡◌, ◌≢◌, ℕ, ◌≤◌, ◌+◌, Bool, true, false, List, [], ◌∷◌, ◌++◌, length, refl, ap, sym, le_refl, ◌∙◌, subst, arith, inl, inr, ◌⊎◌}
 use Rattle.std.specs.Prelude.{Option, Some, None, is_some, unwrap_or, slice_get, Result, Ok, Err, ◌&&◌, not, if◌then◌else◌}
 use Rattle.std.proofs.lemmas.Option.{slice_get_within}
 use Rattle.sql_trees.specs.declared.stmt.Level.{Level}
@@ -17,14 +17,13 @@ use Rattle.session_machine.specs.declared.session.Transaction.{Transaction}
 use Rattle.session_machine.specs.declared.session.Transaction.TheVariants.{Closed, Open, Aborted}
 use Rattle.session_machine.specs.declared.fault.StmtFault.{StmtFault}
 use Rattle.session_machine.specs.declared.fault.StmtFault.TheVariants.{TooManyValues, LevelTooLate, Aborted as AbortedFault}
-use Rattle.session_machine.specs.declared.reply.Outcome.{Outcome}
 use Rattle.session_machine.specs.declared.reply.Outcome.TheVariants.{Failed}
 use Rattle.session_machine.specs.Tables.{Database, find_table, with_drop}
 use Rattle.session_machine.specs.Transactions.{fresh, begun, after_failure, is_level, moved_on}
 use Rattle.session_machine.specs.Queries.{Target, new_values, null_in, targets_of, some_too_long, lacking_rows}
-use Rattle.session_machine.specs.Statements.{Did, InsertedUpTo, DroppedUpTo, fails, answers, turns, columns_at, create, dropped_at, dropped, drop_ended, inserted, insert_checked, insert_row, insert_rows, insert_ended, insert_all, insert_fitting, insert_to, insert, answered, select_in, select_from, level_set, run_open, run_first, run_closed, run_stmt, is_end}
+use Rattle.session_machine.specs.Statements.{Did, InsertedUpTo, DroppedUpTo, fails, turns, columns_at, create, dropped_at, dropped, drop_ended, inserted, insert_checked, insert_row, insert_rows, insert_ended, insert_all, insert_fitting, insert_to, insert, answered, select_in, select_from, level_set, run_open, run_first, run_closed, run_stmt, is_end}
 use Rattle.session_machine.specs.Sound.{tx_in, command_in}
-use Rattle.session_machine.proofs.Lists.{slice_get-set_same, slice_get-set_other, slice_get-append_left, slice_get-append_seam}
+use Rattle.session_machine.proofs.Lists.{slice_get-set_other, slice_get-append_left, slice_get-append_seam}
 
 -- the transaction, if there is one, is open
 abbrev pub IsLive : Content → Transaction → Type 0

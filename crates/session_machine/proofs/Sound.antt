@@ -1,13 +1,12 @@
 -- What holds of every state keeps holding.
-use Rattle.std.proofs.Common.{◌≡◌, ◌≢◌, ℕ, zero, suc, ◌<◌, ◌≤◌, ◌+◌, ◌^◌, Bool, true, false, List, [], ◌∷◌, ◌++◌, length, length-set, length-append, set, replicate, refl, ap, ap₂, sym, ◌∙◌, subst, arith, ⊎_elim, inl, inr}
-use Rattle.std.specs.Prelude.{Option, Some, None, is_none, slice_get, Result, Ok, Err, not, ◌&&◌, if◌then◌else◌, nat_lt}
+use Rattle.std.proofs.Common.{◌≡◌, ℕ, zero, suc, ◌≤◌, ◌+◌, Bool, true, false, List, [], length, length-set, set, replicate, refl, ap, sym, ◌∙◌, subst, arith, ⊎_elim, inl}
+use Rattle.std.specs.Prelude.{Option, Some, None, slice_get, Result, Ok, Err, not, ◌&&◌, if◌then◌else◌, nat_lt}
 use Rattle.std.proofs.lemmas.Bool.{cases_eq}
 use Rattle.std.proofs.lemmas.List.{length-replicate}
 use Rattle.std.proofs.lemmas.Option.{slice_get_within}
 use Rattle.sql_trees.specs.Statements.{StmtTree}
-use Rattle.sql_values.specs.declared.value.Value.{Value}
 use Rattle.row_versions.specs.declared.write.Write.{Write}
-use Rattle.row_versions.specs.declared.write.Fate.TheVariants.{RolledBack, Committed, Open as OpenFate}
+use Rattle.row_versions.specs.declared.write.Fate.TheVariants.{RolledBack, Open as OpenFate}
 use Rattle.row_versions.specs.Log.{Content, IsOpen, after_commit}
 use Rattle.session_machine.specs.declared.session.Place.{Place}
 use Rattle.session_machine.specs.declared.session.OpenTransaction.{OpenTransaction}
@@ -18,14 +17,13 @@ use Rattle.session_machine.specs.declared.event.Event.{Event}
 use Rattle.session_machine.specs.declared.event.Event.TheVariants.{Launch, Step, Leave}
 use Rattle.session_machine.specs.declared.event.Mode.{Mode}
 use Rattle.session_machine.specs.declared.reply.Outcome.TheVariants.{Left}
-use Rattle.session_machine.specs.declared.reply.Reply.{Reply}
 use Rattle.session_machine.specs.declared.fault.Refusal.{Refusal}
 use Rattle.session_machine.specs.declared.fault.Refusal.TheVariants.{Busy, NotYourTurn, StillBlocked, BlockNotAllowed}
 use Rattle.session_machine.specs.Tables.{Database}
 use Rattle.session_machine.specs.Transactions.{committed}
 use Rattle.session_machine.specs.Statements.{Did, run_stmt}
 use Rattle.session_machine.specs.Machine.{Machine, Blocks, Next, next, at_rest, opening, stmts_at, is_allowed, is_busy, is_directed, is_quiet, is_turn, turn_in, is_still_blocked, is_failed, first_place, launched, launch_of, step_of, step_at, step_stmt, leave_of, left_behind, after_stmt, finished, closed_at_end}
-use Rattle.session_machine.specs.Sound.{IsSound, RowsFit, tx_in, tx_of, command_in, command_of, progress_of}
+use Rattle.session_machine.specs.Sound.{IsSound, tx_in, tx_of, command_in, command_of, progress_of}
 use Rattle.session_machine.proofs.Lists.{slice_get-set_same, slice_get-set_other}
 use Rattle.session_machine.proofs.Fitting.{Fits, fit_run}
 use Rattle.session_machine.proofs.Keeping.{IsLive, Leaves, leaves, leaves-run, keeps-ended, kept-none, none_some}
