@@ -1,0 +1,16 @@
+-- Blocks as the machine has them.
+use Rattle.std.proofs.Common.{◌≡◌, ℕ, ◌≤◌, ◌<◌, List, map, [], refl, ap, sym, ◌∙◌}
+use Rattle.std.specs.Prelude.{Option, Some, None, option_map, slice_get}
+use Rattle.std.proofs.lemmas.Option.{slice_get-map, slice_get_past}
+use Rattle.sql_trees.specs.Statements.{StmtTree, stmt_of}
+use Rattle.session_machine.specs.Machine.{stmts_at}
+use Rattle.session_core.specs.declared.block.Block.{Block}
+use Rattle.session_core.specs.Blocks.{block_of, blocks_of}
+
+-- the statements of a block that is there
+pub stmts_are : (bs : List Block) (k : ℕ) (b : Block) → slice_get bs k ≡ Some b → stmts_at (blocks_of bs) k ≡ map stmt_of b.stmts.items
+stmts_are bs k b h = rw (slice_get-map block_of bs k, h) refl
+
+-- a block that isn't there has none
+pub no_stmts : (bs : List Block) (k : ℕ) → slice_get bs k ≡ None → stmts_at (blocks_of bs) k ≡ []
+no_stmts bs k h = rw (slice_get-map block_of bs k, h) refl

@@ -1,0 +1,4 @@
+pub mod NoWaits
+pub mod BlockLemmas
+pub mod Stepping
+pub mod Events

@@ -1,0 +1,39 @@
+//! The statements of the blocks that an engine is opened over.
+ghost use Rattle.std.specs.Prelude.{◌≡◌, ◌≤◌, ◌<◌, MatchOption, None, Some, length, map, slice_get};
+ghost use Rattle.sql_trees.specs.Statements.{stmt_of};
+ghost use Rattle.session_machine.specs.Machine.{stmts_at};
+ghost use Rattle.session_core.specs.Blocks.{blocks_of};
+
+use crate::block::Block;
+use session_machine::Place;
+use sql_trees::Stmt;
+
+/// The statements of the block of that number, if it is there.
+#[tactic(auto, using(crate::proofs::BlockLemmas::stmts_are))]
+pub fn block_stmts<'a>(blocks: &'a [Block<'a>], block: u32) -> Option<&'a [Stmt<'a>]>
+    ensures { MatchOption result (length blocks.now ≤ block)
+        (λ stmts. (block < length blocks.now) × (map stmt_of stmts.now ≡ stmts_at (blocks_of blocks.now) block)) }
+{
+    Some(blocks.get(block as usize)?.stmts())
+}
+
+/// The statement at a place, and how many its block has.
+#[derive(Clone, Copy)]
+pub struct StmtAt<'a> {
+    pub stmt: &'a Stmt<'a>,
+    pub count: usize,
+}
+
+/// The statement at a place, if there is one.
+pub fn stmt_at<'a>(blocks: &'a [Block<'a>], place: &Place) -> Option<StmtAt<'a>>
+    ensures { MatchOption result (slice_get (stmts_at (blocks_of blocks.now) place.now.block) place.now.next ≡ None)
+        (λ at. (slice_get (stmts_at (blocks_of blocks.now) place.now.block) place.now.next ≡ Some (stmt_of at.stmt.now))
+        × (length (stmts_at (blocks_of blocks.now) place.now.block) ≡ at.count)
+        × (place.now.next < at.count)) }
+{
+    let stmts = block_stmts(blocks, place.block)?;
+    Some(StmtAt {
+        stmt: stmts.get(place.next)?,
+        count: stmts.len(),
+    })
+}
