@@ -1,0 +1,152 @@
+-- Worked rows: what is said, and what is due, of histories as the definitions give it.
+use Rattle.std.specs.Prelude.{◌≡◌, refl, ℕ, ◌+◌, Bool, true, false, List, [], ◌∷◌, ◌++◌, Option, Some, None}
+use Rattle.report_lines.specs.declared.history.Line.{Line}
+use Rattle.report_lines.specs.declared.history.Line.TheVariants.{AtOnce, Waiting, Completed}
+use Rattle.session_machine.specs.declared.event.Event.{Event}
+use Rattle.session_machine.specs.declared.event.Event.TheVariants.{Launch, Step, Leave}
+use Rattle.session_machine.specs.declared.reply.Outcome.{Outcome}
+use Rattle.session_machine.specs.declared.reply.Outcome.TheVariants.{Launched, Done, Rows, Waits, Failed, Left}
+use Rattle.session_machine.specs.declared.reply.HistItem.{HistItem}
+use Rattle.spec_parser.specs.declared.tree.Marker.{Marker}
+use Rattle.spec_parser.specs.declared.tree.Marker.TheVariants.{Star, Step as Named}
+use Rattle.report_lines.specs.declared.history.Stand.{Stand}
+use Rattle.report_lines.specs.declared.history.Stand.TheVariants.{Due, Whole, Invalid}
+use Rattle.report_lines.specs.declared.history.Order.{Order}
+use Rattle.report_lines.specs.declared.history.Order.TheVariants.{Launch as LaunchOf, Leave as LeaveOf, Stop}
+use Rattle.report_lines.specs.Due.{due, Planned}
+use Rattle.report_lines.specs.declared.history.Task.{Task}
+use Rattle.spec_parser.specs.Trees.{EntryTree}
+use Rattle.session_machine.specs.declared.fault.StmtFault.TheVariants.{TooManyValues}
+use Rattle.report_lines.specs.History.{Setting}
+use Rattle.report_lines.specs.Report.{instances, report, Report}
+
+abbrev begins : ℕ → HistItem
+begins s = record { event = Launch s 0; reply = record { outcome = Launched; ended = false } }
+
+abbrev does : ℕ → Outcome → Bool → HistItem
+does s outcome ended = record { event = Step s; reply = record { outcome = outcome; ended = ended } }
+
+abbrev entry : ℕ → ℕ → List Marker → EntryTree
+entry session step markers = record { session = session; step = step; markers = markers }
+
+-- permutation a(*) b
+abbrev ten : Setting
+ten = record {
+  entries = entry 1 0 (Star ∷ []) ∷ entry 2 0 [] ∷ [];
+  items = begins 1 ∷ does 1 Done true ∷ begins 2 ∷ does 2 Done true ∷ [];
+  setups = 0;
+}
+
+ten_lines : (report ten 2).lines ≡ Waiting 0 ∷ AtOnce 1 4 ∷ Completed 0 4 ∷ []
+ten_lines = refl
+
+ten_ends : (report ten 2).stand ≡ Whole
+ten_ends = refl
+
+ten_due : (report ten 1).stand ≡ Due 1
+ten_due = refl
+
+-- permutation a y x(y) ac, after a setup
+abbrev eleven : Setting
+eleven = record {
+  entries = entry 1 0 [] ∷ entry 2 0 [] ∷ entry 3 0 (Named 2 0 ∷ []) ∷ entry 1 1 [] ∷ [];
+  items = begins 0 ∷ does 0 Done true
+      ∷ begins 1 ∷ does 1 Done true
+      ∷ begins 2 ∷ does 2 Waits false
+      ∷ begins 3 ∷ does 3 Done true
+      ∷ begins 1 ∷ does 1 Done true ∷ does 2 Done true ∷ [];
+  setups = 1;
+}
+
+eleven_lines : (report eleven 4).lines ≡ AtOnce 0 4 ∷ Waiting 1 ∷ Waiting 2 ∷ AtOnce 3 11 ∷ Completed 1 11 ∷ Completed 2 11 ∷ []
+eleven_lines = refl
+
+eleven_ends : (report eleven 4).stand ≡ Whole
+eleven_ends = refl
+
+-- permutation a b bc ac
+abbrev twelve : Setting
+twelve = record {
+  entries = entry 1 0 [] ∷ entry 2 0 [] ∷ entry 2 1 [] ∷ entry 1 1 [] ∷ [];
+  items = begins 1 ∷ does 1 Done true ∷ begins 2 ∷ does 2 Waits false ∷ [];
+  setups = 0;
+}
+
+twelve_lines : (report twelve 2).lines ≡ AtOnce 0 2 ∷ Waiting 1 ∷ []
+twelve_lines = refl
+
+twelve_ends : (report twelve 2).stand ≡ Invalid
+twelve_ends = refl
+
+-- permutation a x(*, y) y ac: x is passed over, y reported, and a second pass reports x
+abbrev polls : Setting
+polls = record {
+  entries = entry 1 0 [] ∷ entry 3 0 (Star ∷ Named 2 0 ∷ []) ∷ entry 2 0 [] ∷ entry 1 1 [] ∷ [];
+  items = begins 1 ∷ does 1 Done true
+      ∷ begins 3 ∷ does 3 Done true
+      ∷ begins 2 ∷ does 2 Waits false
+      ∷ begins 1 ∷ does 1 Done true ∷ does 2 Done true ∷ [];
+  setups = 0;
+}
+
+polls_lines : (report polls 4).lines ≡ AtOnce 0 2 ∷ Waiting 1 ∷ Waiting 2 ∷ AtOnce 3 9 ∷ Completed 2 9 ∷ Completed 1 9 ∷ []
+polls_lines = refl
+
+abbrev task : ℕ → ℕ → Task
+task session block = record { session = session; block = block }
+
+-- a setup of block 0; session 2 has a teardown of block 9, which waits; block 8 is the main teardown
+abbrev plan : List HistItem → Planned
+plan items = record {
+  setups = task 0 0 ∷ [];
+  setting = record { entries = entry 1 0 [] ∷ entry 2 0 [] ∷ []; items = items; setups = 1 };
+  tasks = task 1 3 ∷ task 2 4 ∷ [];
+  teardowns = task 2 9 ∷ [];
+  sessions = 2;
+  last = task 0 8 ∷ [];
+}
+
+abbrev leaves : ℕ → HistItem
+leaves s = record { event = Leave s; reply = record { outcome = Left; ended = true } }
+
+first_due : due (plan []) ≡ LaunchOf 0 0
+first_due = refl
+
+failed_due : due (plan (begins 0 ∷ does 0 (Failed TooManyValues) true ∷ [])) ≡ Stop
+failed_due = refl
+
+abbrev set_up : List HistItem
+set_up = begins 0 ∷ does 0 Done true ∷ []
+
+second_due : due (plan set_up) ≡ LaunchOf 1 3
+second_due = refl
+
+third_due : due (plan (set_up ++ begins 1 ∷ does 1 Done true ∷ [])) ≡ LaunchOf 2 4
+third_due = refl
+
+abbrev entered : List HistItem
+entered = set_up ++ begins 1 ∷ does 1 Done true ∷ begins 2 ∷ does 2 Done true ∷ []
+
+invalid_due : due (plan (set_up ++ begins 1 ∷ does 1 Done true ∷ begins 2 ∷ does 2 Waits false ∷ [])) ≡ Stop
+invalid_due = refl
+
+fourth_due : due (plan entered) ≡ LaunchOf 2 9
+fourth_due = refl
+
+waits_due : due (plan (entered ++ begins 2 ∷ does 2 Waits false ∷ [])) ≡ LeaveOf 2
+waits_due = refl
+
+abbrev torn : List HistItem
+torn = entered ++ begins 2 ∷ does 2 Waits false ∷ leaves 2 ∷ []
+
+leave_due : due (plan torn) ≡ LeaveOf 1
+leave_due = refl
+
+leaves_due : due (plan (torn ++ leaves 1 ∷ [])) ≡ LeaveOf 2
+leaves_due = refl
+
+last_due : due (plan (torn ++ leaves 1 ∷ leaves 2 ∷ [])) ≡ LaunchOf 0 8
+last_due = refl
+
+over_due : due (plan (torn ++ leaves 1 ∷ leaves 2 ∷ begins 0 ∷ does 0 Done true ∷ [])) ≡ Stop
+over_due = refl

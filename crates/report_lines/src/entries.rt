@@ -1,0 +1,71 @@
+//! Entries of a permutation, and items of a history.
+ghost use Rattle.std.specs.Prelude.{◌≡◌};
+ghost use Rattle.std.specs.List.{list_any};
+ghost use Rattle.spec_parser.specs.Trees.{entry_view};
+ghost use Rattle.report_lines.specs.History.{names, is_star, is_some_marker};
+ghost use Rattle.report_lines.specs.Starts.{is_order, session_of, ends_in};
+
+use session_machine::{Event, HistItem};
+use spec_parser::{Entry, Marker};
+
+fn is_star(marker: &Marker) -> bool
+    ensures { result ≡ is_star marker.now }
+{
+    matches!(marker, Marker::Star)
+}
+
+/// Whether the entry's step is the marker's.
+fn is_step(entry: &Entry, marker: &Marker) -> bool
+    ensures { result ≡ names (entry_view entry.now) marker.now }
+{
+    match *marker {
+        Marker::Star => false,
+        Marker::Step { session, step } => session == entry.session && step == entry.step,
+    }
+}
+
+/// Whether a marker of the entry names the other one's step.
+pub fn waits_for(entry: &Entry, other: &Entry) -> bool
+    ensures { result ≡ list_any (names (entry_view other.now)) entry.now.markers.items }
+{
+    entry.markers.iter().any(|marker| is_step(other, marker))
+}
+
+pub fn is_starred(entry: &Entry) -> bool
+    ensures { result ≡ list_any is_star entry.now.markers.items }
+{
+    entry.markers.iter().any(|marker| is_star(marker))
+}
+
+pub fn is_marked(entry: &Entry) -> bool
+    ensures { result ≡ is_some_marker entry.now.markers.items }
+{
+    !entry.markers.is_empty()
+}
+
+/// Whether the event begins a segment: it is a Launch or a Leave.
+pub fn is_order(event: &Event) -> bool
+    ensures { result ≡ is_order event.now }
+{
+    match event {
+        Event::Launch { .. } | Event::Leave { .. } => true,
+        Event::Step { .. } => false,
+    }
+}
+
+fn session_of(event: &Event) -> u32
+    ensures { result ≡ session_of event.now }
+{
+    match *event {
+        Event::Launch { session, .. } => session,
+        Event::Step { session } => session,
+        Event::Leave { session } => session,
+    }
+}
+
+/// Whether the session's block is over with this item.
+pub fn ends_in(session: u32, item: &HistItem<'_>) -> bool
+    ensures { result ≡ ends_in session item.now }
+{
+    session_of(&item.event) == session && item.reply.ended
+}

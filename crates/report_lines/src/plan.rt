@@ -1,0 +1,239 @@
+//! The next order of a permutation, from its history alone.
+ghost use Rattle.std.specs.Prelude.{◌≡◌, ◌+◌, ◌-◌, ◌<◌, ◌≤◌, ◌^◌, ℕ, not, ◌&&◌, length, map, IfOk, slice_range, drop, Option, Some, None};
+ghost use Rattle.spec_parser.specs.Trees.{entry_view};
+ghost use Rattle.std.specs.List.{list_any, filter};
+ghost use Rattle.report_lines.specs.Starts.{start, ends_in, is_order};
+ghost use Rattle.report_lines.specs.Due.{segment, is_failed, fails, is_over, went_well, orders, due_setup, wound, task_of, due_last, due_entry, due, or_else};
+
+use crate::course::{Course, start};
+use crate::entries::{ends_in, is_order};
+use crate::history::{Order, Stand, Task, Wound};
+use crate::telling::told_lines;
+use session_machine::{HistItem, Outcome};
+use spec_parser::Entry;
+use std::alloc::{AllocError, Global};
+use std::marker::Model;
+
+fn is_failed(outcome: &Outcome<'_>) -> bool
+    ensures { result ≡ is_failed outcome.now }
+{
+    matches!(outcome, Outcome::Failed(_))
+}
+
+fn orders(items: &[HistItem<'_>]) -> usize
+    ensures { result ≡ orders items.now }
+{
+    items.iter().filter(|item| is_order(&item.event)).count()
+}
+
+/// The segment of this number.
+fn segment<'s, 'a>(items: &'s [HistItem<'a>], number: usize) -> &'s [HistItem<'a>]
+    requires { number + 1 < 2 ^ 64 }
+    ensures { result.now ≡ segment items.now number }
+{
+    let from = start(items, number);
+    let to = start(items, number + 1);
+    if from <= to { &items[from..to] } else { &[] }
+}
+
+fn is_over(items: &[HistItem<'_>], number: usize, session: u32) -> bool
+    requires { number + 1 < 2 ^ 64 }
+    ensures { result ≡ is_over items.now number session }
+{
+    segment(items, number)
+        .iter()
+        .any(|item| ends_in(session, item))
+}
+
+fn any_fails(items: &[HistItem<'_>]) -> bool
+    ensures { result ≡ list_any fails items.now }
+{
+    items.iter().any(|item| is_failed(&item.reply.outcome))
+}
+
+fn went_well(items: &[HistItem<'_>], number: usize, session: u32) -> bool
+    requires { number + 1 < 2 ^ 64 }
+    ensures { result ≡ went_well items.now number session }
+{
+    let over = is_over(items, number, session);
+    let failed = any_fails(segment(items, number));
+    over && !failed
+}
+
+/// The first setup that is not there yet, or a stop after one that failed or waits.
+fn due_setup(items: &[HistItem<'_>], there: usize, setups: &[Task]) -> Option<Order>
+    ensures { result ≡ due_setup items.now there 0 setups.now }
+{
+    for (number, task) in setups.iter().enumerate() {
+        if there <= number {
+            return Some(Order::Launch {
+                session: task.session,
+                block: task.block,
+            });
+        }
+        if !went_well(items, number, task.session) {
+            return Some(Order::Stop);
+        }
+    }
+    None
+}
+
+/// How far the teardowns have come.
+fn wound(items: &[HistItem<'_>], there: usize, first: usize, tasks: &[Task]) -> Wound
+    ensures { result ≡ wound items.now there first tasks.now }
+{
+    let mut number = first;
+    for task in tasks {
+        if there <= number {
+            return Wound {
+                orders: number,
+                due: Some(Order::Launch {
+                    session: task.session,
+                    block: task.block,
+                }),
+            };
+        }
+        if is_over(items, number, task.session) {
+            number += 1;
+        } else if there <= number + 1 {
+            return Wound {
+                orders: number,
+                due: Some(Order::Leave {
+                    session: task.session,
+                }),
+            };
+        } else {
+            number += 2;
+        }
+    }
+    Wound {
+        orders: number,
+        due: None,
+    }
+}
+
+/// What a permutation launches: the blocks of its setups, of its entries, and of its teardowns. Each of the sessions
+/// leaves before the last teardown, that of the whole file.
+#[derive(Clone, Copy)]
+pub struct Around<'a> {
+    pub setups: &'a [Task],
+    pub tasks: &'a [Task],
+    pub teardowns: &'a [Task],
+    pub sessions: u32,
+    pub last: &'a [Task],
+}
+
+/// A permutation with its history.
+#[derive(Drop)]
+pub struct Plan<'a> {
+    setups: &'a [Task],
+    course: Course<'a>,
+    items: &'a [HistItem<'a>],
+    tasks: &'a [Task],
+    teardowns: &'a [Task],
+    sessions: u32,
+    last: &'a [Task],
+}
+
+impl<'a> Model for Plan<'a> {
+    ghost use Rattle.std.specs.Prelude.{◌≡◌, length};
+    ghost use Rattle.report_lines.specs.Due.{Planned};
+
+    ghost Value = { Planned };
+
+    ghost view = { λ p. record { setups = p.setups.now; setting = p.course; tasks = p.tasks.now; teardowns = p.teardowns.now; sessions = p.sessions; last = p.last.now } };
+
+    ghost invariant = { λ p. p.items.now ≡ p.course.items };
+}
+
+impl<'a> Plan<'a> {
+    ghost use Rattle.report_lines.specs.Due.{due_last, due_entry, due};
+
+    /// A permutation of these entries, whose steps are the tasks, with what stands around them, and its history.
+    pub fn new(entries: &'a [Entry], items: &'a [HistItem<'a>], around: &Around<'a>) -> Plan<'a>
+        requires { length around.now.setups.now + length entries.now + 1 < 2 ^ 64 }
+        ensures { result ≡ record {
+          setups = around.now.setups.now;
+          setting = record { entries = map entry_view entries.now; items = items.now; setups = length around.now.setups.now };
+          tasks = around.now.tasks.now;
+          teardowns = around.now.teardowns.now;
+          sessions = around.now.sessions;
+          last = around.now.last.now;
+        } }
+    {
+        Plan {
+            setups: around.setups,
+            course: Course::new(entries, items, around.setups.len()),
+            items,
+            tasks: around.tasks,
+            teardowns: around.teardowns,
+            sessions: around.sessions,
+            last: around.last,
+        }
+    }
+
+    /// What is due after the teardowns of sessions.
+    fn due_last(&self, there: usize, after: Wound) -> Order
+        ensures { result ≡ due_last self.now self.now.setting.items there after }
+    {
+        if let Some(order) = after.due {
+            return order;
+        }
+        let sessions = self.sessions as usize;
+        if there < after.orders {
+            return Order::Leave { session: 1 };
+        }
+        if there - after.orders < sessions {
+            return Order::Leave {
+                session: (there - after.orders) as u32 + 1,
+            };
+        }
+        match wound(self.items, there, after.orders + sessions, self.last).due {
+            Some(order) => order,
+            None => Order::Stop,
+        }
+    }
+
+    /// What is due once the setups are there.
+    fn due_entry(&self, there: usize, stand: Stand) -> Order
+        ensures { result ≡ due_entry self.now self.now.setting.items there stand }
+    {
+        match stand {
+            Stand::Due(entry) => task_of(self.tasks, entry),
+            Stand::Invalid => Order::Stop,
+            Stand::Whole => self.due_last(
+                there,
+                wound(
+                    self.items,
+                    there,
+                    self.setups.len() + self.tasks.len(),
+                    self.teardowns,
+                ),
+            ),
+        }
+    }
+
+    /// The next order.
+    pub fn due(&self, alloc: Global) -> Result<Order, AllocError>
+        ensures { IfOk result (λ order. order ≡ due self.now) }
+    {
+        let there = orders(self.items);
+        if let Some(order) = due_setup(self.items, there, self.setups) {
+            return Ok(order);
+        }
+        let told = told_lines(alloc, &self.course, there.saturating_sub(self.setups.len()))?;
+        Ok(self.due_entry(there, told.1))
+    }
+}
+
+fn task_of(tasks: &[Task], entry: usize) -> Order
+    ensures { result ≡ task_of tasks.now entry }
+{
+    match tasks.get(entry) {
+        Some(task) => Order::Launch {
+            session: task.session,
+            block: task.block,
+        },
+        None => Order::Stop,
+    }
+}

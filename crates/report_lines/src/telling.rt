@@ -1,0 +1,330 @@
+//! The lines of the entries, told in order with a list of the steps that wait.
+ghost use Rattle.std.specs.Prelude.{◌≡◌, ◌+◌, ◌-◌, ◌<◌, ◌≤◌, ◌^◌, ◌==◌, ◌&&◌, ℕ, not, nat_lt, [], ◌∷◌, ◌++◌, length, OnOk, IfOk, Some, None, if◌then◌else◌, vec_len, vec_capacity};
+ghost use Rattle.std.specs.List.{list_any, filter, fold};
+ghost use Rattle.report_lines.specs.Telling.{Telling, IsKept};
+ghost use Rattle.report_lines.specs.History.{session_at, is_named, is_marked, has_ended, seen_before};
+ghost use Rattle.report_lines.specs.Report.{is_reported, active, may_report, first_try, retry, own_retry, pass, goes_on, polled, poll, is_busy, is_of, made_way, launched, before, after, report, report_from, instances, is_empty};
+
+use crate::course::Course;
+use crate::history::{Line, Moment, Stand};
+use std::alloc::{AllocError, Global};
+use std::marker::Model;
+
+/// The lines so far, and the launched entries that are not reported.
+#[derive(Drop)]
+pub struct Told {
+    lines: Vec<Line>,
+    waiting: Vec<usize>,
+    launched: usize,
+}
+
+impl Model for Told {
+    ghost use Rattle.report_lines.specs.Telling.{Telling, IsKept};
+
+    ghost Value = { Telling };
+
+    ghost view = { λ t. record { lines = t.lines.items; launched = t.launched } };
+
+    ghost invariant = { λ t. IsKept t.lines.items t.launched t.waiting.items };
+}
+
+/// Takes an entry from the list.
+fn leave(waiting: &mut Vec<usize>, entry: usize)
+    ensures { waiting.new.items ≡ filter (λ j. not (j == entry)) waiting.old.items }
+{
+    waiting.retain(|j| *j != entry);
+}
+
+/// Puts an entry on the list, which has room.
+fn join(waiting: &mut Vec<usize>, entry: usize)
+    requires { vec_len waiting.old < vec_capacity waiting.old }
+    ensures { waiting.new.items ≡ waiting.old.items ++ entry ∷ [] }
+{
+    waiting.push(entry).unwrap();
+}
+
+fn is_among(waiting: &[usize], entry: usize) -> bool
+    ensures { result ≡ list_any (λ j. j == entry) waiting.now }
+{
+    waiting.iter().any(|j| *j == entry)
+}
+
+impl Told {
+    pub fn new(alloc: Global) -> Told
+        ensures { result ≡ record { lines = []; launched = 0 } }
+    {
+        Told {
+            lines: Vec::new(alloc),
+            waiting: Vec::new(alloc),
+            launched: 0,
+        }
+    }
+
+    fn is_waiting(&self, entry: usize) -> bool
+        requires { entry < self.now.launched }
+        ensures { result ≡ not (is_reported self.now.lines entry) }
+    {
+        is_among(self.waiting.as_slice(), entry)
+    }
+
+    /// Whether a step that an entry's markers name is active.
+    fn is_held(&self, course: &Course<'_>, entry: usize) -> bool
+        ensures { result ≡ list_any (is_named course.now entry) (active self.now.lines self.now.launched) }
+    {
+        self.waiting.iter().any(|j| course.is_named(entry, *j))
+    }
+
+    /// Whether a launched entry can be reported.
+    fn may_report(&self, course: &Course<'_>, m: Moment, entry: usize) -> bool
+        requires entry { entry ≤ length course.now.entries }
+        requires seen { m.seen ≤ length course.now.items }
+        requires launched { m.launched ≡ self.now.launched }
+        ensures { result ≡ may_report course.now m self.now.lines entry }
+    {
+        let ended = course.has_ended(m.seen, entry);
+        let held = self.is_held(course, entry);
+        ended && !held
+    }
+
+    fn complete(&mut self, entry: usize, seen: usize) -> Result<(), AllocError>
+        requires { entry < self.old.launched }
+        ensures { OnOk result (self.new ≡ record self.old { lines = self.old.lines ++ Line.Completed entry seen ∷ [] }) }
+    {
+        self.lines.push(Line::Completed { entry, seen })?;
+        leave(&mut self.waiting, entry);
+        Ok(())
+    }
+
+    /// Tries an entry again.
+    fn retry(&mut self, course: &Course<'_>, m: Moment, entry: usize) -> Result<(), AllocError>
+        requires entry { entry < self.old.launched }
+        requires entries { self.old.launched ≤ length course.now.entries }
+        requires seen { m.seen ≤ length course.now.items }
+        requires launched { m.launched ≡ self.old.launched }
+        ensures { OnOk result (self.new ≡ record self.old { lines = retry course.now m self.old.lines entry }) }
+    {
+        if self.is_waiting(entry) && self.may_report(course, m, entry) {
+            self.complete(entry, m.seen)
+        } else {
+            Ok(())
+        }
+    }
+
+    /// Goes through the waiting list once.
+    fn pass(&mut self, course: &Course<'_>, m: Moment) -> Result<(), AllocError>
+        requires joined { m.joined ≤ m.launched }
+        requires entries { self.old.launched ≤ length course.now.entries }
+        requires seen { m.seen ≤ length course.now.items }
+        requires launched { m.launched ≡ self.old.launched }
+        ensures { OnOk result (self.new ≡ record self.old { lines = pass course.now m self.old.lines }) }
+    {
+        for entry in 0..m.joined {
+            self.retry(course, m, entry)?;
+        }
+        Ok(())
+    }
+
+    /// Whether a step that remains on the waiting list has a marker.
+    fn has_marked(&self, course: &Course<'_>, joined: usize) -> bool
+        ensures { result ≡ list_any (λ j. nat_lt j joined && is_marked course.now j) (active self.now.lines self.now.launched) }
+    {
+        self.waiting
+            .iter()
+            .any(|j| *j < joined && course.is_marked(*j))
+    }
+
+    /// Goes through the waiting list once, and says whether to go through it again.
+    fn turn(&mut self, course: &Course<'_>, m: Moment) -> Result<bool, AllocError>
+        requires joined { m.joined ≤ m.launched }
+        requires entries { self.old.launched ≤ length course.now.entries }
+        requires seen { m.seen ≤ length course.now.items }
+        requires launched { m.launched ≡ self.old.launched }
+        ensures lines { OnOk result (self.new ≡ record self.old { lines = pass course.now m self.old.lines }) }
+        ensures again { IfOk result (λ again. again ≡ goes_on course.now m self.old.lines self.new.lines) }
+    {
+        let had = self.lines.len();
+        self.pass(course, m)?;
+        let marked = self.has_marked(course, m.joined);
+        Ok(had < self.lines.len() && marked)
+    }
+
+    fn poll(&mut self, course: &Course<'_>, m: Moment) -> Result<(), AllocError>
+        requires joined { m.joined ≤ m.launched }
+        requires entries { self.old.launched ≤ length course.now.entries }
+        requires room { length course.now.entries + 1 < 2 ^ 64 }
+        requires seen { m.seen ≤ length course.now.items }
+        requires launched { m.launched ≡ self.old.launched }
+        ensures { OnOk result (self.new ≡ record self.old { lines = poll course.now m self.old.lines }) }
+    {
+        for _turn in 0..m.joined + 1 {
+            if !self.turn(course, m)? {
+                return Ok(());
+            }
+        }
+        Ok(())
+    }
+
+    /// Whether a step that the next entry's markers name is active once that entry is launched.
+    fn is_held_first(&self, course: &Course<'_>) -> bool
+        ensures { result ≡ list_any (is_named course.now self.now.launched) (active self.now.lines (self.now.launched + 1)) }
+    {
+        let held = self.is_held(course, self.launched);
+        let by_itself = course.is_named(self.launched, self.launched);
+        held || by_itself
+    }
+
+    /// The next entry is reported at its first try.
+    fn launch_reported(&mut self, seen: usize) -> Result<(), AllocError>
+        requires { self.old.launched + 1 < 2 ^ 64 }
+        ensures { OnOk result (self.new ≡ record { lines = self.old.lines ++ Line.AtOnce self.old.launched seen ∷ []; launched = self.old.launched + 1 }) }
+    {
+        let entry = self.launched;
+        self.waiting.try_reserve(1)?;
+        self.lines.push(Line::AtOnce { entry, seen })?;
+        join(&mut self.waiting, entry);
+        leave(&mut self.waiting, entry);
+        self.launched += 1;
+        Ok(())
+    }
+
+    /// The next entry waits after its first try.
+    fn launch_waiting(&mut self) -> Result<(), AllocError>
+        requires { self.old.launched + 1 < 2 ^ 64 }
+        ensures { OnOk result (self.new ≡ record { lines = self.old.lines ++ Line.Waiting self.old.launched ∷ []; launched = self.old.launched + 1 }) }
+    {
+        let entry = self.launched;
+        self.waiting.try_reserve(1)?;
+        self.lines.push(Line::Waiting { entry })?;
+        join(&mut self.waiting, entry);
+        self.launched += 1;
+        Ok(())
+    }
+
+    /// Launches the next entry, and tries it for the first time.
+    fn begin(&mut self, course: &Course<'_>, m: Moment) -> Result<(), AllocError>
+        requires entries { self.old.launched < length course.now.entries }
+        requires room { length course.now.entries + 1 < 2 ^ 64 }
+        requires seen { m.seen ≤ length course.now.items }
+        requires launched { m.launched ≡ self.old.launched + 1 }
+        ensures { OnOk result (self.new ≡ record { lines = first_try course.now m self.old.lines self.old.launched; launched = self.old.launched + 1 }) }
+    {
+        let ended = course.has_ended(m.seen, self.launched);
+        let held = self.is_held_first(course);
+        let starred = course.is_starred(self.launched);
+        if ended && !held && !starred {
+            self.launch_reported(m.seen)
+        } else {
+            self.launch_waiting()
+        }
+    }
+
+    /// Whether the session of the next entry has an active step.
+    fn is_busy(&self, course: &Course<'_>, entry: usize) -> bool
+        requires { entry ≡ self.now.launched }
+        ensures { result ≡ is_busy course.now self.now.lines entry }
+    {
+        let session = course.session_at(entry);
+        self.has_of(course, session)
+    }
+
+    /// Whether a step of the session is active.
+    fn has_of(&self, course: &Course<'_>, session: u32) -> bool
+        ensures { result ≡ list_any (is_of course.now session) (active self.now.lines self.now.launched) }
+    {
+        self.waiting
+            .iter()
+            .any(|j| course.session_at(*j) == session)
+    }
+
+    /// Tries an entry again if it is of the session.
+    fn own_retry(
+        &mut self,
+        course: &Course<'_>,
+        m: Moment,
+        session: u32,
+        entry: usize,
+    ) -> Result<(), AllocError>
+        requires entry { entry < self.old.launched }
+        requires entries { self.old.launched ≤ length course.now.entries }
+        requires seen { m.seen ≤ length course.now.items }
+        requires launched { m.launched ≡ self.old.launched }
+        ensures { OnOk result (self.new ≡ record self.old { lines = own_retry course.now m session self.old.lines entry }) }
+    {
+        if course.session_at(entry) == session {
+            self.retry(course, m, entry)
+        } else {
+            Ok(())
+        }
+    }
+
+    /// Tries the session's steps again.
+    fn retry_own(&mut self, course: &Course<'_>, m: Moment, session: u32) -> Result<(), AllocError>
+        requires entries { self.old.launched ≤ length course.now.entries }
+        requires seen { m.seen ≤ length course.now.items }
+        requires launched { m.launched ≡ self.old.launched }
+        ensures { OnOk result (self.new ≡ record self.old { lines = fold (own_retry course.now m session) self.old.lines (instances self.old.launched) }) }
+    {
+        for entry in 0..m.launched {
+            self.own_retry(course, m, session, entry)?;
+        }
+        Ok(())
+    }
+
+    /// The tries before an entry's Launch.
+    fn make_way(&mut self, course: &Course<'_>, entry: usize) -> Result<(), AllocError>
+        requires next { entry ≡ self.old.launched }
+        requires entries { entry ≤ length course.now.entries }
+        ensures { OnOk result (self.new ≡ record self.old { lines = made_way course.now self.old.lines entry }) }
+    {
+        if self.is_busy(course, entry) {
+            let m = course.before(entry);
+            self.retry_own(course, m, course.session_at(entry))?;
+            self.poll(course, m)?;
+        }
+        Ok(())
+    }
+
+    /// The next entry's Launch and the tries after it.
+    fn launch(&mut self, course: &Course<'_>) -> Result<(), AllocError>
+        requires entries { self.old.launched < length course.now.entries }
+        ensures { OnOk result (self.new ≡ record { lines = launched course.now self.old.lines self.old.launched; launched = self.old.launched + 1 }) }
+    {
+        let m = course.after(self.launched);
+        self.begin(course, m)?;
+        self.poll(course, m)
+    }
+
+    /// The tries after the last entry; says whether no step is left.
+    fn finish(&mut self, course: &Course<'_>) -> Result<bool, AllocError>
+        requires all { self.old.launched ≡ length course.now.entries }
+        ensures lines { OnOk result (self.new ≡ record self.old { lines = poll course.now (before course.now self.old.launched) self.old.lines }) }
+        ensures done { IfOk result (λ done. done ≡ is_empty (active self.new.lines self.new.launched)) }
+    {
+        let m = course.before(self.launched);
+        self.poll(course, m)?;
+        Ok(self.waiting.is_empty())
+    }
+}
+
+/// The lines of the entries of which so many segments are there, and how far they have come.
+pub fn told_lines(
+    alloc: Global,
+    course: &Course<'_>,
+    there: usize,
+) -> Result<(Told, Stand), AllocError>
+    ensures { IfOk result (λ told. report course.now there ≡ record { lines = told.0.lines; stand = told.1 }) }
+{
+    let mut told = Told::new(alloc);
+    for entry in 0..course.len() {
+        told.make_way(course, entry)?;
+        if told.is_busy(course, entry) {
+            return Ok((told, Stand::Invalid));
+        }
+        if entry >= there {
+            return Ok((told, Stand::Due(entry)));
+        }
+        told.launch(course)?;
+    }
+    let done = told.finish(course)?;
+    Ok((told, if done { Stand::Whole } else { Stand::Invalid }))
+}
