@@ -25,9 +25,17 @@ fn lengthened(alloc: Global, first: &[u8], len: usize) -> Result<Vec<u8>, AllocE
     Ok(bytes)
 }
 
+/// A buffer that holds the text without growing, so that each allocation that fails is one of the run's own.
+fn room_for_text(alloc: Global) -> Result<Vec<u8>, AllocError> {
+    match Vec::with_capacity(alloc, TEXT.len()) {
+        Ok(out) => Ok(out),
+        Err(_) => Vec::with_capacity(alloc, TEXT.len()),
+    }
+}
+
 #[test]
 fn literals_run_and_want_of_memory_leaves_a_prefix(rt: HostRuntime) -> Result<(), Fail> {
-    let mut out = Vec::new(rt.alloc());
+    let mut out = room_for_text(rt.alloc())?;
     let first = run_bytes(rt.alloc(), LITERALS.as_bytes(), &mut out);
     if let Err(fault) = first {
         assert!(rt; matches!(fault, RunFault::Memory));
