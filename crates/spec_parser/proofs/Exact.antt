@@ -25,6 +25,7 @@ use Rattle.spec_parser.proofs.WholeLaws.{read_or_over, reads_are_files, files_ar
 use Rattle.spec_parser.proofs.Limits.{within, is_read_whole}
 use Rattle.spec_parser.specs.LimitFaults.{HasLimit}
 use Rattle.spec_parser.proofs.Overs.{limit_stop}
+use Rattle.spec_parser.proofs.Notices.{file_ends}
 use Rattle.spec_parser.proofs.Looking.{names_differ, no_repeat, repeats_first, first_repeats, perms_are, perms_ok, undefined_first, first_undefined}
 
 -- ---- a file that was read whole
@@ -313,7 +314,7 @@ stop_from : (text : List ℕ) (ts : List (At Token)) (s : Stop) (at : ℕ) (q : 
 stop_from text ts s at (Ok f, rest) e lexes is = absurd (no_stop_in f (stopped (AtPlace s at)) (first_repeat [] (steps_of f)) (known_perms (steps_of f) f.perms) (stop_is s at) (λ x d. is_undefined (steps_of f) (mentions f.perms) x (undefined_first (steps_of f) f.perms x d)) is)
 stop_from text ts s at (Err t, rest) e lexes is =
     let k = same_stop s t at (place (length text) rest.1) (err_same (stopped (AtPlace s at)) (stopped (AtPlace t (place (length text) rest.1))) is) in
-    record { tokens = ts; lexes = lexes; rest = rest.1; first = stops_first ts s rest (e ∙ (λ i. (Err (k.0 i), rest))); place = k.1 }
+    record { tokens = ts; lexes = lexes; rest = rest.1; first = stops_first ts s rest (e ∙ (λ i. (Err (k.0 i), rest))); place = k.1; notices = λ h. file_ends (start, ts) rest (e ∙ (λ i. (Err ((k.0 ∙ h) i), rest))) }
 
 stop_by : (text : List ℕ) (s : Stop) (at : ℕ) (x : Result SpecTree SpecFault) → x ≡ Err (stopped (AtPlace s at)) → SpecReads text x → HasStop text s at
 stop_by text s at x e (no_tokens f lexes) = absurd (subst IsStopped (sym (err_same (faults.Lex f) (stopped (AtPlace s at)) e)) (stop_is s at))

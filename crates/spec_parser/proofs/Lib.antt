@@ -14,3 +14,4 @@ pub mod Exact
 pub mod Standing
 pub mod NeverOver
 pub mod Overs
+pub mod Notices

@@ -1,13 +1,14 @@
 -- What is so of every list of tokens, and of every text.
-use Rattle.std.specs.Prelude.{◌≡◌, ℕ, List, [], ◌∷◌, ◌++◌, length, Option, Some, None, Result, Ok, Err}
+use Rattle.std.specs.Prelude.{◌≡◌, ℕ, true, List, [], ◌∷◌, ◌++◌, length, Option, Some, None, Result, Ok, Err}
 use Rattle.iso_lexer.specs.declared.token.At.{At}
 use Rattle.iso_lexer.specs.SpecTokens.{Token}
 use Rattle.spec_parser.specs.declared.fault.Stop.{Stop}
-use Rattle.spec_parser.specs.declared.fault.Stop.TheVariants.{OverLimit}
+use Rattle.spec_parser.specs.declared.fault.Stop.TheVariants.{NoticesLeftOut, OverLimit}
 use Rattle.spec_parser.specs.declared.fault.SpecFault.{SpecFault}
 use Rattle.spec_parser.specs.Trees.{FileTree, SpecTree}
 use Rattle.spec_parser.specs.Counts.{start, past}
-use Rattle.spec_parser.specs.Reading.{Rest, file_at}
+use Rattle.iso_lexer.specs.declared.spec_token.Keyword.TheVariants.{Notices}
+use Rattle.spec_parser.specs.Reading.{Rest, is_word, first_is, file_at}
 use Rattle.spec_parser.specs.Reading.{place as place_of}
 use Rattle.spec_parser.specs.Faults.{stopped}
 use Rattle.spec_parser.specs.declared.fault.Halt.TheVariants.{At as AtPlace}
@@ -54,13 +55,14 @@ LimitsAreFirst = (ts : List (At Token)) (rest : Rest) → file_at (start, ts) �
 abbrev pub OneAnswer : Type 0
 OneAnswer = (text : List ℕ) (x y : Result SpecTree SpecFault) → SpecReads text x → SpecReads text y → x ≡ y
 
--- a text whose tokens begin a file up to this byte, and with the next token begin none
+-- a text whose tokens begin a file up to this byte, and with the next token begin none; what is left out is the word `notices`
 pub record HasStop (text : List ℕ) (stop : Stop) (at : ℕ) : Type 0 where
   pub tokens : List (At Token)
   pub lexes : Lexes text (Ok tokens)
   pub rest : List (At Token)
   pub first : StopsFirst tokens stop rest
   pub place : at ≡ place_of (length text) rest
+  pub notices : stop ≡ NoticesLeftOut → first_is (is_word Notices) rest ≡ true
 
 -- A text is refused as Expected, NoticesLeftOut or Limit only at such a byte.
 abbrev pub StopsAreFirst : Type 0
