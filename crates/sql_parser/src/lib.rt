@@ -13,3 +13,10 @@ mod table_keys;
 mod transaction;
 
 pub use block::{Block, MAX_STMTS, Role, parse_block};
+
+#[cfg(test)]
+mod samples;
+#[cfg(test)]
+mod shown;
+#[cfg(test)]
+mod tests;
