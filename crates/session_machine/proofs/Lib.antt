@@ -4,3 +4,4 @@ pub mod Keeping
 pub mod Sound
 pub mod Replaying
 pub mod Turns
+pub mod Staying
