@@ -1,6 +1,7 @@
 -- What follows from the definitions, in the words of sessions and histories. Each law stands on the contract of a function of `laws`.
 use Rattle.std.specs.Prelude.{◌≡◌, ℕ, List, ◌++◌, map}
 use Rattle.session_machine.specs.declared.event.Event.{Event}
+use Rattle.session_machine.specs.declared.event.Event.TheVariants.{Launch, Step, Leave}
 use Rattle.session_machine.specs.declared.event.Mode.{Mode}
 use Rattle.session_machine.specs.declared.reply.HistItem.{HistItem}
 use Rattle.session_machine.specs.Machine.{Machine, Blocks}
@@ -12,6 +13,11 @@ OneState = (blocks : Blocks) (mode : Mode) (m : Machine) (items : List HistItem)
 
 abbrev pub events_of : List HistItem → List Event
 events_of items = map (λ (i : HistItem). i.event) items
+
+abbrev pub session_of : Event → ℕ
+session_of (Launch session block) = session
+session_of (Step session) = session
+session_of (Leave session) = session
 
 -- legal histories of the same events have the same replies
 abbrev pub EventsGiveReplies : Type 0
