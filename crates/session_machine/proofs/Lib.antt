@@ -5,3 +5,4 @@ pub mod Sound
 pub mod Replaying
 pub mod Turns
 pub mod Staying
+pub mod Snapshots
