@@ -6,3 +6,4 @@ pub mod Replaying
 pub mod Turns
 pub mod Staying
 pub mod Snapshots
+pub mod Unseen

@@ -9,7 +9,7 @@ use Rattle.sql_trees.specs.Statements.{StmtTree, CreateTree, InsertTree, SelectT
 use Rattle.sql_values.specs.declared.fault.ValueFault.{ValueFault}
 use Rattle.result_tables.specs.Results.{Results}
 use Rattle.row_versions.specs.declared.write.View.{View}
-use Rattle.row_versions.specs.Log.{Content, commit_count, after_begin}
+use Rattle.row_versions.specs.Log.{Content, commit_count}
 use Rattle.session_machine.specs.declared.session.Place.{Place}
 use Rattle.session_machine.specs.declared.session.OpenTransaction.{OpenTransaction}
 use Rattle.session_machine.specs.declared.session.Transaction.{Transaction}

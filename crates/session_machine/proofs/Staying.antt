@@ -1,5 +1,5 @@
 -- What a view shows stays as it is while other transactions go on.
-use Rattle.std.proofs.Common.{◌≡◌, ◌≢◌, ℕ, zero, suc, ◌<◌, ◌≤◌, ◌+◌, Bool, true, false, cond, List, [], ◌∷◌, ◌++◌, length, length-append, set, get_or, map, refl, ap, ap₂, sym, le_refl, ◌∙◌, subst, arith, All}
+use Rattle.std.proofs.Common.{◌≡◌, ◌≢◌, ℕ, suc, ◌<◌, ◌≤◌, ◌+◌, Bool, true, false, cond, List, [], ◌∷◌, ◌++◌, length, length-append, set, get_or, map, refl, ap, sym, le_refl, ◌∙◌, subst, arith, All}
 use Rattle.std.specs.Prelude.{Option, Some, None, is_some, unwrap_or, option_and_then, slice_get, count_by, Result, Ok, Err, ◌&&◌, not, nat_lt, if◌then◌else◌}
 use Rattle.std.proofs.lemmas.List.Elements.{Contains-get_or}
 use Rattle.std.proofs.lemmas.List.Sums.{sum_by-append, sum_by-set}
@@ -32,7 +32,7 @@ use Rattle.session_machine.specs.declared.reply.Outcome.TheVariants.{Failed}
 use Rattle.session_machine.specs.Tables.{Database, find_table}
 use Rattle.session_machine.specs.Transactions.{fresh, begun, committed, is_level}
 use Rattle.session_machine.specs.Queries.{Target, new_values, null_in, rows_shown, targets_of, some_too_long, lacking_rows}
-use Rattle.session_machine.specs.Statements.{Did, InsertedUpTo, fails, turns, columns_at, create, dropped, drop_ended, inserted, insert_checked, insert_row, insert_rows, insert_ended, insert_all, insert_fitting, insert_to, insert, answered, select_in, select_from, level_set, run_open, run_first, run_closed, run_aborted, run_stmt, is_end}
+use Rattle.session_machine.specs.Statements.{Did, InsertedUpTo, fails, turns, columns_at, create, drop_ended, inserted, insert_checked, insert_row, insert_rows, insert_ended, insert_all, insert_fitting, insert_to, insert, answered, select_in, select_from, level_set, run_open, run_first, run_closed, run_aborted, run_stmt, is_end}
 use Rattle.session_machine.specs.declared.session.Place.{Place}
 use Rattle.session_machine.specs.declared.session.Session.{Session}
 use Rattle.session_machine.specs.declared.event.Event.{Event}
