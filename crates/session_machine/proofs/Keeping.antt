@@ -101,7 +101,7 @@ kept-create : (db : Database) (t : OpenTransaction) (made : CreateTree) (o : Opt
 kept-create db t made (Some k) live = keeps-fails db.content db.content t refl
 kept-create db t made None live = keeps-answers db.content db.content t live refl
 
-dropped-content : (db : Database) (t : OpenTransaction) (if_exists : Bool) (names : List (List ℕ)) → (dropped db t if_exists names).db.content ≡ db.content
+pub dropped-content : (db : Database) (t : OpenTransaction) (if_exists : Bool) (names : List (List ℕ)) → (dropped db t if_exists names).db.content ≡ db.content
 dropped-content db t if_exists [] = refl
 dropped-content db t if_exists (name ∷ names) = at_found (λ d. dropped-content d t if_exists names) (find_table db (Some t.tx) name) where
   at_missing : (b : Bool) → ((d : Database) → (dropped d t if_exists names).db.content ≡ d.content)
@@ -120,7 +120,7 @@ kept-drop_ended db e t None live same = keeps-answers db.content e.content t liv
 kept-drop_ended db e t (Some name) live same = keeps-fails db.content e.content t (ap (λ (c : Content). c.fates) same)
 
 -- INSERT writes, and no transaction begins or ends
-insert_rows-fates : (c : Content) (t : OpenTransaction) (name : List ℕ) (k : ℕ) (columns : List ColumnTree) (targets : List Target) (rows : List (List Tree))
+pub insert_rows-fates : (c : Content) (t : OpenTransaction) (name : List ℕ) (k : ℕ) (columns : List ColumnTree) (targets : List Target) (rows : List (List Tree))
     → (insert_rows c t name k columns targets rows).content.fates ≡ c.fates
 insert_rows-fates c t name k columns targets [] = refl
 insert_rows-fates c t name k columns targets (row ∷ rows) =

@@ -4,3 +4,6 @@ pub mod Keeping
 pub mod Sound
 pub mod Replaying
 pub mod Turns
+pub mod Staying
+pub mod Snapshots
+pub mod Unseen

@@ -178,6 +178,25 @@ fits_left db Closed fit = fit
 fits_left db Aborted fit = fit
 fits_left db (Open t) fit = fit
 
+-- what an event that isn't refused leads to
+pub ok_launch : (blocks : Blocks) (mode : Mode) (m : Machine) (i block : ℕ) (s : Session) (n : Next) → launch_of blocks mode m i block (Some s) ≡ Ok n
+    → launched m i s (first_place block (stmts_at blocks block)) ≡ n
+ok_launch blocks mode m i block s n h =
+    ok_at (if_ok (is_directed mode && not (is_quiet m)) NotYourTurn (ok_next (launched m i s (first_place block (stmts_at blocks block)))) n
+    (if_ok (is_busy s) Busy _ n (if_ok (not (is_allowed blocks i block)) BlockNotAllowed _ n h)))
+
+pub ok_step : (mode : Mode) (m : Machine) (i : ℕ) (s : Session) (place : Place) (count : ℕ) (stmt : StmtTree) (n : Next) → step_stmt mode m i s place count (Some stmt) ≡ Ok n
+    → after_stmt m i place count (run_stmt m.db s.transaction stmt) ≡ n
+ok_step mode m i s place count stmt n h =
+    ok_at (if_ok (is_still_blocked m.db s) StillBlocked (ok_next (after_stmt m i place count (run_stmt m.db s.transaction stmt))) n
+    (if_ok (is_directed mode && not (is_turn (turn_in m) i)) NotYourTurn _ n h))
+
+abbrev pub left_by : Machine → ℕ → Session → Next
+left_by m i s = record { machine = record { db = left_behind m.db s.transaction; sessions = set m.sessions i at_rest }; reply = record { outcome = Left; ended = true } }
+
+pub ok_leave : (mode : Mode) (m : Machine) (i : ℕ) (s : Session) (n : Next) → leave_of mode m i (Some s) ≡ Ok n → left_by m i s ≡ n
+ok_leave mode m i s n h = ok_at (if_ok (is_directed mode && not (is_quiet m)) NotYourTurn (ok_next (left_by m i s)) n h)
+
 -- what holds of a machine holds after each event that isn't refused
 pub sound_next : (blocks : Blocks) (mode : Mode) (m : Machine) (event : Event) (n : Next) (events : ℕ) → IsSound m.db m.sessions events → next blocks mode m event ≡ Ok n
     → IsSound n.machine.db n.machine.sessions (events + 1)
@@ -186,9 +205,7 @@ sound_next blocks mode m (Launch i block) n events sound h = at_launch (slice_ge
   at_launch None e h = cc
   at_launch (Some s) e h =
       let place = first_place block (stmts_at blocks block) in
-      subst (SoundNext (events + 1))
-      (ok_at (if_ok (is_directed mode && not (is_quiet m)) NotYourTurn (ok_next (launched m i s place)) n
-      (if_ok (is_busy s) Busy _ n (if_ok (not (is_allowed blocks i block)) BlockNotAllowed _ n h))))
+      subst (SoundNext (events + 1)) (ok_launch blocks mode m i block s n h)
       (sound_set m.db m.db m.sessions events i s (record { place = place; transaction = s.transaction; statement = None }) sound e
       (same m.db.content s.transaction (sound_live _ _ events i s sound e)) sound.fit refl)
 sound_next blocks mode m (Step i) n events sound h = at_step (slice_get m.sessions i) refl h where
@@ -196,9 +213,7 @@ sound_next blocks mode m (Step i) n events sound h = at_step (slice_get m.sessio
   at_stmt s place count None e h = cc
   at_stmt s place count (Some stmt) e h =
       let d = run_stmt m.db s.transaction stmt in
-      subst (SoundNext (events + 1))
-      (ok_at (if_ok (is_still_blocked m.db s) StillBlocked (ok_next (after_stmt m i place count d)) n
-      (if_ok (is_directed mode && not (is_turn (turn_in m) i)) NotYourTurn _ n h)))
+      subst (SoundNext (events + 1)) (ok_step mode m i s place count stmt n h)
       (sound_after m events i s place count d sound e
       (leaves-run m.db s.transaction stmt (sound_live _ _ events i s sound e), fit_run m.db s.transaction stmt sound.fit))
 
@@ -210,13 +225,10 @@ sound_next blocks mode m (Step i) n events sound h = at_step (slice_get m.sessio
   at_step None e h = cc
   at_step (Some s) e h = at_place s s.place e h
 sound_next blocks mode m (Leave i) n events sound h = at_leave (slice_get m.sessions i) refl h where
-  left : Session → Next
-  left s = record { machine = record { db = left_behind m.db s.transaction; sessions = set m.sessions i at_rest }; reply = record { outcome = Left; ended = true } }
-
   at_leave : (o : Option Session) → slice_get m.sessions i ≡ o → leave_of mode m i o ≡ Ok n → SoundNext (events + 1) n
   at_leave None e h = cc
   at_leave (Some s) e h =
-      subst (SoundNext (events + 1)) (ok_at (if_ok (is_directed mode && not (is_quiet m)) NotYourTurn (ok_next (left s)) n h))
+      subst (SoundNext (events + 1)) (ok_leave mode m i s n h)
       (sound_set m.db _ m.sessions events i s at_rest sound e (leaves_left m.db s.transaction) (fits_left m.db s.transaction sound.fit) refl)
 
 -- the state that is first

@@ -1,5 +1,5 @@
 //! Laws of histories: each function's contract is one of them, and its body does nothing.
-ghost use Rattle.session_machine.specs.Laws.{OneState, EventsGiveReplies, FirstPartsAreLegal};
+ghost use Rattle.session_machine.specs.Laws.{OneState, EventsGiveReplies, FirstPartsAreLegal, SnapshotsStay, FailuresAreUnseen};
 
 /// A history leads to one state.
 pub fn one_state()
@@ -14,4 +14,14 @@ pub fn events_give_replies()
 /// What came first in a legal history was legal.
 pub fn first_parts_are_legal()
     ensures { FirstPartsAreLegal }
+{}
+
+/// In Repeatable Read what a transaction sees stays the same from its first query on, while others go on.
+pub fn snapshots_stay()
+    ensures { SnapshotsStay }
+{}
+
+/// Of a failed statement the other sessions see nothing.
+pub fn failures_are_unseen()
+    ensures { FailuresAreUnseen }
 {}
