@@ -25,7 +25,7 @@ impl Model for Target {
 }
 
 impl Target {
-    pub fn new(place: usize, kind: Kind) -> Target
+    pub(crate) fn new(place: usize, kind: Kind) -> Target
         ensures place { result.place ≡ place }
         ensures kind { result.kind ≡ kind }
     {
@@ -61,7 +61,7 @@ impl Model for Targets {
 }
 
 impl Targets {
-    pub fn from_vec(targets: Vec<Target>) -> Targets
+    pub(crate) fn from_vec(targets: Vec<Target>) -> Targets
         ensures { result ≡ targets.items }
     {
         Targets { targets }
