@@ -6,3 +6,4 @@ pub mod Blockers
 pub mod Machine
 pub mod Engine
 pub mod Sound
+pub mod Laws

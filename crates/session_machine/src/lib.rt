@@ -4,6 +4,7 @@
 mod copies;
 mod event;
 mod fault;
+pub mod laws;
 mod reply;
 mod running;
 mod same;
