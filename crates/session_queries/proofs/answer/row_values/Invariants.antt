@@ -1,0 +1,9 @@
+use Rattle.std.proofs.Common.{◌≡◌, drop, map}
+use Rattle.sql_trees.specs.Statements.{item_of}
+use Rattle.session_machine.specs.Queries.{row_values}
+use Rattle.session_queries.specs.Fronts.{in_front}
+use Rattle.session_queries.proofs.answer.row_values.Given as goal
+
+abbrev pub invariant-loop-item : goal.invariant-loop-item
+invariant-loop-item l =
+    row_values l.columns (map item_of l.items) l.row ≡ in_front l.values.items (row_values l.columns (map item_of (drop l.item-index l.items)) l.row)

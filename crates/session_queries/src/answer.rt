@@ -1,0 +1,179 @@
+//! What a query answers.
+
+ghost use Rattle.std.specs.Prelude.{◌≡◌, ◌≢◌, ◌∷◌, ◌++◌, All, IfOk, OnOk, MatchResult, Ok, Err, length, map, option_map};
+ghost use Rattle.sql_trees.specs.Trees.{tree_of};
+ghost use Rattle.sql_trees.specs.Statements.{column_of, item_of, select_of};
+ghost use Rattle.sql_values.specs.Values.{Answers};
+ghost use Rattle.sql_values.specs.Expressions.{passes};
+ghost use Rattle.session_machine.specs.Queries.{chosen, cols_of, each, item_values, lacking_select, result_of, row_values};
+ghost use Rattle.session_queries.specs.Answers.{answered, selected};
+ghost use Rattle.session_queries.specs.Fronts.{in_front};
+
+use crate::lacking::lacking_select;
+use crate::titles::titles_of;
+use result_tables::ResultSet;
+use sql_trees::{Column, Expr, Item, Select};
+use sql_values::{ColumnName, Columns, Row, Value, ValueFault, eval, passes};
+use std::alloc::{AllocError, Global};
+
+/// The columns as expressions know them.
+#[tactic(auto, using(crate::proofs::ColumnLists::known_columns, crate::proofs::ColumnLists::as_many_columns))]
+fn known<'a>(columns: &'a [Column<'a>]) -> Columns<'a>
+    ensures names { result ≡ cols_of (map column_of columns.now) }
+    ensures long { length result ≡ length columns.now }
+{
+    Columns::of(columns)
+}
+
+/// Whether WHERE passes the row.
+fn is_taken<'a>(
+    alloc: Global,
+    filter: &Option<Expr<'a>>,
+    columns: &Columns<'_>,
+    row: &Row,
+) -> Result<bool, ValueFault<'a>>
+    requires { length row.now ≡ length columns.now }
+    ensures { Answers result (passes (option_map tree_of filter.now) columns.now row.now) }
+{
+    match filter {
+        Some(expr) => passes(alloc, Some(expr), columns, row),
+        None => Ok(true),
+    }
+}
+
+/// The rows that pass WHERE.
+fn chosen<'a, 'r>(
+    alloc: Global,
+    filter: &Option<Expr<'a>>,
+    columns: &Columns<'_>,
+    rows: &[&'r Row],
+) -> Result<Vec<&'r Row>, ValueFault<'a>>
+    requires { All (λ row. length row.now ≡ length columns.now) rows.now }
+    ensures answer { MatchResult result
+        (λ taken. chosen columns.now (option_map tree_of filter.now) (map (λ row. row.now) rows.now) ≡ Ok (map (λ row. row.now) taken.items))
+        (λ fault. fault ≢ ValueFault.Memory → chosen columns.now (option_map tree_of filter.now) (map (λ row. row.now) rows.now) ≡ Err fault) }
+    ensures long { IfOk result (λ taken. All (λ row. length row.now ≡ length columns.now) taken.items) }
+{
+    let mut taken = Vec::new(alloc);
+    for row in rows {
+        if is_taken(alloc, filter, columns, row)? {
+            taken.push(*row)?;
+        }
+    }
+    Ok(taken)
+}
+
+/// Appends the row's values.
+fn append_values(alloc: Global, values: &mut Vec<Value>, row: &Row) -> Result<(), AllocError>
+    ensures { OnOk result (values.new.items ≡ values.old.items ++ row.now) }
+{
+    for value in row.values() {
+        values.push(value.copied(alloc)?)?;
+    }
+    Ok(())
+}
+
+/// Appends what the item answers at the row.
+fn append_item<'a>(
+    alloc: Global,
+    values: &mut Vec<Value>,
+    item: &Item<'a>,
+    columns: &Columns<'_>,
+    row: &Row,
+) -> Result<(), ValueFault<'a>>
+    requires { length row.now ≡ length columns.now }
+    ensures { MatchResult result
+        (λ _. in_front values.old.items (item_values columns.now row.now (item_of item.now)) ≡ Ok values.new.items)
+        (λ fault. fault ≢ ValueFault.Memory → item_values columns.now row.now (item_of item.now) ≡ Err fault) }
+{
+    match item {
+        Item::All => append_values(alloc, values, row)?,
+        Item::Expr(expr, _) => values.push(eval(alloc, expr, columns, row)?)?,
+        Item::Agg(_, _) => {}
+    }
+    Ok(())
+}
+
+/// What the items answer at the row.
+#[tactic(auto, using(crate::proofs::Fronts::longer))]
+fn row_values<'a>(
+    alloc: Global,
+    items: &[Item<'a>],
+    columns: &Columns<'_>,
+    row: &Row,
+) -> Result<Row, ValueFault<'a>>
+    requires { length row.now ≡ length columns.now }
+    ensures { Answers result (row_values columns.now (map item_of items.now) row.now) }
+{
+    let mut values = Vec::new(alloc);
+    for item in items {
+        append_item(alloc, &mut values, item, columns, row)?;
+    }
+    Ok(Row::from_vec(values))
+}
+
+/// What the items answer at each row.
+fn shown<'a>(
+    alloc: Global,
+    items: &[Item<'a>],
+    columns: &Columns<'_>,
+    rows: &[&Row],
+) -> Result<Vec<Row>, ValueFault<'a>>
+    requires { All (λ row. length row.now ≡ length columns.now) rows.now }
+    ensures { MatchResult result
+        (λ shown. each (row_values columns.now (map item_of items.now)) (map (λ row. row.now) rows.now) ≡ Ok shown.items)
+        (λ fault. fault ≢ ValueFault.Memory → each (row_values columns.now (map item_of items.now)) (map (λ row. row.now) rows.now) ≡ Err fault) }
+{
+    let mut shown = Vec::new(alloc);
+    for row in rows {
+        shown.push(row_values(alloc, items, columns, row)?)?;
+    }
+    Ok(shown)
+}
+
+/// The result of a SELECT whose WHERE passes these rows.
+fn answered<'a>(
+    alloc: Global,
+    items: &[Item<'a>],
+    columns: &[Column<'a>],
+    taken: &[&Row],
+) -> Result<ResultSet<'a>, ValueFault<'a>>
+    requires { All (λ row. length row.now ≡ length columns.now) taken.now }
+    ensures { Answers result (answered (map column_of columns.now) (map item_of items.now) (map (λ row. row.now) taken.now)) }
+{
+    let cols = known(&*columns);
+    let rows = shown(alloc, items, &cols, taken)?;
+    let titles = titles_of(alloc, columns, items)?;
+    Ok(ResultSet::new(titles, rows))
+}
+
+/// The result of a SELECT that names no column beside these.
+fn selected<'a>(
+    alloc: Global,
+    select: &Select<'a>,
+    columns: &[Column<'a>],
+    rows: &[&Row],
+) -> Result<ResultSet<'a>, ValueFault<'a>>
+    requires { All (λ row. length row.now ≡ length columns.now) rows.now }
+    ensures { Answers result (selected (select_of select.now) (map column_of columns.now) (map (λ row. row.now) rows.now)) }
+{
+    let cols = known(&*columns);
+    let taken = chosen(alloc, &select.filter, &cols, rows)?;
+    answered(alloc, &select.items, columns, &taken)
+}
+
+/// The result of a SELECT whose table has these columns and shows these rows. A column that isn't there is a fault, whatever the rows are; WHERE is tested at all of them before an item is evaluated.
+pub fn result_of<'a>(
+    alloc: Global,
+    select: &Select<'a>,
+    columns: &[Column<'a>],
+    rows: &[&Row],
+) -> Result<ResultSet<'a>, ValueFault<'a>>
+    requires { All (λ row. length row.now ≡ length columns.now) rows.now }
+    ensures { Answers result (result_of (select_of select.now) (map column_of columns.now) (map (λ row. row.now) rows.now)) }
+{
+    match lacking_select(columns, select) {
+        Some(name) => Err(ValueFault::NoColumn(ColumnName::of(name.name()))),
+        None => selected(alloc, select, columns, rows),
+    }
+}

@@ -1,0 +1,19 @@
+use Rattle.std.proofs.Common.{◌≡◌, ◌∙◌, sym, ap, length, map, Bor}
+use Rattle.std.proofs.lemmas.List.{length-map}
+use Rattle.sql_trees.specs.Statements.{column_of}
+use Rattle.sql_values.specs.declared.row.Row.{Row}
+use Rattle.session_machine.specs.Queries.{rows_shown}
+use Rattle.session_machine.specs.Statements.{columns_at}
+use Rattle.session_statements.proofs.Lent.{lent_fit}
+use Rattle.session_statements.proofs.database.Database.result_at.Goals as goal
+
+pub result_of-requires : goal.result_of-requires
+result_of-requires g c k d h =
+    let now = λ (r : Bor Row). r.now in
+    let same : map now c.as_slice.result.now ≡ rows_shown c.args.self.now.content c.view_of-view.result c.args.place =
+    ap (map now) c.as_slice.ensures.value ∙ c.in_ok-rows.ensures in
+    let long : length (columns_at c.args.self.now.catalog c.args.place) ≡ length c.columns.result.now =
+    sym (ap length c.columns.ensures) ∙ length-map c.columns.result.now column_of in
+    lent_fit now c.as_slice.result.now c.args.self.now.content c.args.self.now.catalog c.view_of-view.result c.args.place
+    c.requires.fit c.requires.within same k d h
+    ∙ long

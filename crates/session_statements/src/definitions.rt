@@ -1,0 +1,76 @@
+//! CREATE TABLE and DROP TABLE (PostgreSQL manual, the pages of both).
+
+ghost use Rattle.std.specs.Prelude.{◌≡◌, ◌+◌, ◌<◌, ◌^◌, Some, map, IfOk};
+ghost use Rattle.sql_trees.specs.Statements.{create_of, drop_of, name_of};
+ghost use Rattle.row_versions.specs.Log.{IsOpen};
+ghost use Rattle.session_machine.specs.Tables.{find_table};
+ghost use Rattle.session_machine.specs.Statements.{create, dropped, drop_tables};
+
+use crate::database::Database;
+use iso_lexer::{Ident, Name};
+use row_versions::Versions;
+use session_machine::{OpenTransaction, Outcome, StmtFault, Transaction};
+use sql_trees::{CreateTable, DropTable};
+use std::alloc::AllocError;
+
+impl<'a, V: Versions> Database<'a, V> {
+    /// CREATE TABLE: the table is there for its own transaction at once.
+    pub(crate) fn create(
+        &mut self,
+        by: &OpenTransaction,
+        made: &'a CreateTable<'a>,
+    ) -> Result<(Transaction, Outcome<'a>), AllocError>
+        requires opened { IsOpen self.old.content by.now.tx }
+        requires room { by.now.command + 1 < 2 ^ 64 }
+        ensures { IfOk result (λ left.
+            create self.old by.now (create_of made.now) (find_table self.old (Some by.now.tx) (name_of made.now.name))
+            ≡ record { db = self.new; transaction = left.0; outcome = left.1 }) }
+    {
+        if self.find_table(Some(by.tx), &made.name).is_some() {
+            return Ok(self.fail(by, StmtFault::TableExists(Ident::new(made.name))));
+        }
+        let after = self.after_query(by);
+        self.add_table(made, by.tx)?;
+        Ok((Transaction::Open(after), Outcome::Done))
+    }
+
+    /// Drops one table after the other, up to the first that isn't there, which it answers; with IF EXISTS none is missed.
+    fn drop_all(
+        &mut self,
+        by: &OpenTransaction,
+        if_exists: bool,
+        names: &'a [Name<'a>],
+    ) -> Result<Option<Ident<'a>>, AllocError>
+        ensures dropped { IfOk result (λ missing. dropped self.old by.now if_exists (map name_of names.now) ≡ record { db = self.new; missing = missing }) }
+        ensures content { IfOk result (λ missing. self.new.content ≡ self.old.content) }
+    {
+        for name in names {
+            match self.find_table(Some(by.tx), name) {
+                Some(place) => self.add_drop(place, by.tx)?,
+                None => {
+                    if !if_exists {
+                        return Ok(Some(Ident::new(*name)));
+                    }
+                }
+            }
+        }
+        Ok(None)
+    }
+
+    /// DROP TABLE: the tables are gone for their own transaction at once.
+    pub(crate) fn drop_tables(
+        &mut self,
+        by: &OpenTransaction,
+        stmt: &'a DropTable<'a>,
+    ) -> Result<(Transaction, Outcome<'a>), AllocError>
+        requires opened { IsOpen self.old.content by.now.tx }
+        requires room { by.now.command + 1 < 2 ^ 64 }
+        ensures { IfOk result (λ left. drop_tables self.old by.now (drop_of stmt.now) ≡ record { db = self.new; transaction = left.0; outcome = left.1 }) }
+    {
+        let after = self.after_query(by);
+        match self.drop_all(by, stmt.if_exists, stmt.names.as_slice())? {
+            Some(name) => Ok(self.fail(by, StmtFault::NoTableToDrop(name))),
+            None => Ok((Transaction::Open(after), Outcome::Done)),
+        }
+    }
+}

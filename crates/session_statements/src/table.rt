@@ -1,0 +1,89 @@
+//! A table, and what has become of it.
+
+ghost use Rattle.std.specs.Prelude.{◌≡◌, length, ◌<◌, map};
+ghost use Rattle.sql_trees.specs.Statements.{create_of, column_of};
+
+use row_versions::TxId;
+use sql_trees::{Column, CreateTable};
+use std::marker::Model;
+
+/// A table: its CREATE, and the transaction that made it.
+#[derive(Debug, Drop)]
+pub struct Table<'a> {
+    made: &'a CreateTable<'a>,
+    by: TxId,
+}
+
+impl<'a> Model for Table<'a> {
+    ghost use Rattle.session_machine.specs.Tables.{Table as TableFacts};
+    ghost use Rattle.sql_trees.specs.Statements.{create_of};
+
+    ghost Value = { TableFacts };
+
+    ghost view = { λ t. record { made = create_of t.made.now; by = t.by } };
+}
+
+impl<'a> Table<'a> {
+    pub fn new(made: &'a CreateTable<'a>, by: TxId) -> Table<'a>
+        ensures { result ≡ record { made = create_of made.now; by = by } }
+    {
+        Table { made, by }
+    }
+
+    /// The statement that made it.
+    pub fn made(&self) -> &'a CreateTable<'a>
+        ensures { create_of result.now ≡ self.now.made }
+    {
+        self.made
+    }
+
+    /// The transaction that made it.
+    pub fn by(&self) -> TxId
+        ensures { result ≡ self.now.by }
+    {
+        self.by
+    }
+
+    pub fn columns(&self) -> &'a [Column<'a>]
+        ensures { map column_of result.now ≡ self.now.made.columns }
+    {
+        self.made.columns.as_slice()
+    }
+}
+
+/// A DROP of the table at a place, by a transaction.
+#[derive(Debug, Drop)]
+pub struct Dropped {
+    table: usize,
+    by: TxId,
+}
+
+impl Model for Dropped {
+    ghost use Rattle.session_machine.specs.Tables.{Dropped as DroppedFacts};
+
+    ghost Value = { DroppedFacts };
+
+    ghost view = { λ d. record { table = d.table; by = d.by } };
+}
+
+impl Dropped {
+    pub fn new(table: usize, by: TxId) -> Dropped
+        ensures { result ≡ record { table = table; by = by } }
+    {
+        Dropped { table, by }
+    }
+
+    /// The place of the table.
+    pub fn table(&self) -> usize
+        ensures { result ≡ self.now.table }
+    {
+        self.table
+    }
+
+    /// The transaction that drops it.
+    pub fn by(&self) -> TxId
+        ensures { result ≡ self.now.by }
+    {
+        self.by
+    }
+}

@@ -1,0 +1,104 @@
+//! How a statement ends its transaction, or goes on in it.
+
+ghost use Rattle.std.specs.Prelude.{◌≡◌, is_some};
+ghost use Rattle.sql_trees.specs.Statements.{stmt_of};
+ghost use Rattle.row_versions.specs.Log.{IsOpen};
+ghost use Rattle.session_machine.specs.Tables.{Database as DatabaseFacts};
+ghost use Rattle.session_machine.specs.Transactions.{after_failure, is_level};
+ghost use Rattle.session_machine.specs.Statements.{fails, turns, level_set, begin_in, is_end, run_aborted};
+
+use crate::database::Database;
+use row_versions::Versions;
+use session_machine::{OpenTransaction, Outcome, StmtFault, Transaction};
+use sql_trees::{Level, Stmt};
+
+fn same_level(a: Level, b: Level) -> bool
+    ensures { result ≡ is_level a b }
+{
+    match (a, b) {
+        (Level::ReadCommitted, Level::ReadCommitted) => true,
+        (Level::RepeatableRead, Level::RepeatableRead) => true,
+        _ => false,
+    }
+}
+
+/// What is left of a transaction in which a statement failed.
+fn after_failure(by: &OpenTransaction) -> Transaction
+    ensures { result ≡ after_failure by.now }
+{
+    if by.explicit {
+        Transaction::Aborted
+    } else {
+        Transaction::Closed
+    }
+}
+
+/// Whether the transaction had a query, so that its level stays as it is.
+fn has_query(by: &OpenTransaction) -> bool
+    ensures { result ≡ is_some by.now.snapshot }
+{
+    by.snapshot.is_some()
+}
+
+impl<'a, V: Versions> Database<'a, V> {
+    /// The statement failed: its transaction is undone.
+    pub(crate) fn fail(
+        &mut self,
+        by: &OpenTransaction,
+        fault: StmtFault<'a>,
+    ) -> (Transaction, Outcome<'a>)
+        requires { IsOpen self.old.content by.now.tx }
+        ensures { fails self.old by.now fault.entry ≡ record { db = self.new; transaction = result.0; outcome = result.1 } }
+    {
+        self.roll_back(by.tx);
+        (after_failure(by), Outcome::Failed(fault))
+    }
+
+    /// The level is set before the transaction's first query, or stays.
+    pub(crate) fn set_level(
+        &mut self,
+        by: &OpenTransaction,
+        explicit: bool,
+        level: Level,
+    ) -> (Transaction, Outcome<'a>)
+        requires { IsOpen self.old.content by.now.tx }
+        ensures { level_set self.old by.now explicit level ≡ record { db = self.new; transaction = result.0; outcome = result.1 } }
+    {
+        if has_query(by) && !same_level(by.level, level) {
+            return self.fail(by, StmtFault::LevelTooLate);
+        }
+        let open = OpenTransaction {
+            tx: by.tx,
+            explicit,
+            level,
+            snapshot: by.snapshot,
+            command: by.command,
+        };
+        (Transaction::Open(open), Outcome::Done)
+    }
+
+    /// BEGIN in an open transaction.
+    pub(crate) fn begin_again(
+        &mut self,
+        by: &OpenTransaction,
+        level: Option<Level>,
+    ) -> (Transaction, Outcome<'a>)
+        requires { IsOpen self.old.content by.now.tx }
+        ensures { begin_in self.old by.now level ≡ record { db = self.new; transaction = result.0; outcome = result.1 } }
+    {
+        if by.explicit {
+            return (Transaction::Open(*by), Outcome::Done);
+        }
+        self.set_level(by, true, level.unwrap_or(by.level))
+    }
+}
+
+/// A statement in an aborted transaction, which changes nothing of the database.
+pub(crate) fn run_aborted<'a>(stmt: &Stmt<'_>) -> (Transaction, Outcome<'a>)
+    ensures { (db : DatabaseFacts) → run_aborted db (stmt_of stmt.now) ≡ record { db = db; transaction = result.0; outcome = result.1 } }
+{
+    match stmt {
+        Stmt::Commit | Stmt::Rollback => (Transaction::Closed, Outcome::Done),
+        _ => (Transaction::Aborted, Outcome::Failed(StmtFault::Aborted)),
+    }
+}
