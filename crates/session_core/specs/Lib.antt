@@ -1,2 +1,4 @@
 pub mod Blocks
 pub mod Sessions
+pub mod Engines
+pub mod TreeCodes

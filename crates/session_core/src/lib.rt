@@ -3,11 +3,15 @@
 
 mod block;
 mod block_stmts;
+mod engine;
 mod launch;
 mod leave;
 mod live;
+mod replay;
 mod standing;
 mod step;
 mod turns;
 
 pub use block::Block;
+pub use engine::EngineState;
+pub use replay::replays;

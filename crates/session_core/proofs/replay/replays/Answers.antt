@@ -1,0 +1,41 @@
+use Rattle.std.proofs.Common.{rules, ◌≡◌, ◌↔◌, ◌∷◌, ◌+◌, ◌≤◌, List, [], refl, subst, sym, drop, length, arith}
+use Rattle.std.proofs.lemmas.List.{drop_all}
+use Rattle.session_machine.specs.declared.reply.HistItem.{HistItem}
+use Rattle.session_machine.specs.Machine.{opening}
+use Rattle.session_machine.specs.Sound.{IsSound}
+use Rattle.session_machine.proofs.Sound.{sound_next, sound_opening}
+use Rattle.session_machine.proofs.Replaying.{LeadsOn, legal_step, legal_not, from_place}
+use Rattle.session_core.specs.Blocks.{blocks_of}
+use Rattle.session_core.proofs.replay.replays.Goals as goal
+
+pub loop-item-init : goal.loop-item-init
+loop-item-init c =
+    rw c.in_ok-live.ensures (record { sound = sound_opening c.args.count c.requires.few; legal = (λ h. h, λ h. h) })
+
+pub returns-then-not-branch : goal.returns-then-not-branch
+returns-then-not-branch c =
+    let i = c.loop-item.item-index in
+    let blocks = blocks_of c.args.blocks.now in
+    let from = from_place c.args.history.now i c.item-item.result c.loop-item-test.true c.item-item.is in
+    let legal = subst (λ items. LeadsOn blocks c.args.mode c.loop-item.live items ↔ LeadsOn blocks c.args.mode (opening c.args.count) c.args.history.now) from c.loop-item.invariant.legal in
+    let refused = c.in_ok-agrees.ensures.no c.if-not-branch.true in
+    (λ h. absurd (let z : ⊥ = cc in z), λ h. absurd (legal_not blocks c.args.mode c.loop-item.live c.item-item.result (drop (i + 1) c.args.history.now) _ _ refused legal h))
+
+pub loop-item-preserved : goal.loop-item-preserved
+loop-item-preserved c =
+    let i = c.loop-item.item-index in
+    let blocks = blocks_of c.args.blocks.now in
+    let from = from_place c.args.history.now i c.item-item.result c.loop-item-test.true c.item-item.is in
+    let legal = subst (λ items. LeadsOn blocks c.args.mode c.loop-item.live items ↔ LeadsOn blocks c.args.mode (opening c.args.count) c.args.history.now) from c.loop-item.invariant.legal in
+    let follows = c.in_ok-agrees.ensures.yes c.if-not-branch.false in
+    record {
+      sound = sound_next blocks c.args.mode c.loop-item.live c.item-item.result.event _ i c.loop-item.invariant.sound follows;
+      legal = legal_step _ _ c.loop-item.live c.agrees.new.live c.item-item.result (drop (i + 1) c.args.history.now) _ _ follows legal;
+    }
+
+pub returns : goal.returns
+returns c =
+    let blocks = blocks_of c.args.blocks.now in
+    let ended : drop c.loop-item.item-index c.args.history.now ≡ [] = drop_all c.loop-item.item-index c.args.history.now c.loop-item-test.false in
+    let legal = subst (λ items. LeadsOn blocks c.args.mode c.loop-item.live items ↔ LeadsOn blocks c.args.mode (opening c.args.count) c.args.history.now) ended c.loop-item.invariant.legal in
+    (λ h. legal.0 (c.loop-item.live, refl), λ h. refl)

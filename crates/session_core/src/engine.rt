@@ -1,0 +1,204 @@
+//! The engine: the machine over a store, with its history.
+ghost use Rattle.std.specs.Prelude.{◌≡◌, ◌≢◌, ◌+◌, ◌<◌, ◌≤◌, ◌^◌, ℕ, List, [], ◌∷◌, ◌++◌, Option, Some, None, IfOk, IfErr, OnOk, OnErr, IsErrOf, Result, Ok, Err, length, option_map, slice_get};
+ghost use Rattle.std.specs.Global.{Vec as VecFacts};
+ghost use Rattle.sql_values.specs.declared.value.Value.{Value as SqlValue};
+ghost use Rattle.row_versions.specs.Log.{empty_content};
+ghost use Rattle.session_machine.specs.Machine.{opening};
+ghost use Rattle.session_machine.specs.Engine.{EngineAnswered, engine_after, fault_of, opened, spent_engine, turn_of, visible_in};
+ghost use Rattle.session_core.specs.Blocks.{blocks_of};
+ghost use Rattle.session_core.specs.Engines.{is_quiet_in};
+
+use crate::block::Block;
+use crate::live::Live;
+use row_versions::Versions;
+use session_machine::{EngineFault, Event, HistItem, Mode, Refusal, Reply, Turn};
+use sql_values::Row;
+use std::alloc::{AllocError, Global};
+use std::marker::Model;
+
+/// Sessions over a store, in a run that is recorded. Contracts see it as what it was opened over, the machine's
+/// state and the history; the state is that to which the history leads from the opening.
+#[derive(Drop)]
+pub struct EngineState<'a, V: Versions> {
+    blocks: &'a [Block<'a>],
+    count: u32,
+    mode: Mode,
+    live: Live<'a, V>,
+    history: Vec<HistItem<'a>>,
+    /// Memory was refused in the middle of an event: nothing is known of the machine any more.
+    spent: bool,
+}
+
+impl<'a, V: Versions> Model for EngineState<'a, V> {
+    ghost use Rattle.std.specs.Prelude.{◌≡◌, false, length, Some, None, if◌then◌else◌};
+    ghost use Rattle.session_machine.specs.Machine.{opening};
+    ghost use Rattle.session_machine.specs.Engine.{Engine, Run};
+    ghost use Rattle.session_machine.specs.Sound.{IsSound};
+    ghost use Rattle.session_core.specs.Blocks.{blocks_of};
+
+    ghost use Rattle.session_core.specs.TreeCodes.{tree_code};
+    ghost use Rattle.std.specs.Coded.{codes};
+
+    ghost Value = { Engine };
+
+    ghost coded = { Prim.hlevel (codes, tree_code) };
+
+    ghost view = { λ e. record {
+      blocks = blocks_of e.blocks.now;
+      count = e.count;
+      mode = e.mode;
+      machine = if e.spent then None else Some e.live;
+      history = e.history.items;
+    } };
+
+    ghost invariant = { λ e. e.spent ≡ false →
+        IsSound e.live.db e.live.sessions (length e.history.items)
+        × Run (blocks_of e.blocks.now) e.mode (opening e.count) e.history.items e.live };
+}
+
+/// Adds an item to the history, and gives its reply.
+fn note<'a>(
+    history: &mut Vec<HistItem<'a>>,
+    event: Event,
+    reply: Reply<'a>,
+) -> Result<Reply<'a>, AllocError>
+    ensures ok { IfOk result (λ told. told ≡ reply.entry) }
+    ensures history { OnOk result (history.new.items ≡ history.old.items ++ record { event = event; reply = reply.entry } ∷ []) }
+    ensures err { OnErr result (history.new.items ≡ history.old.items) }
+{
+    let told = reply.copied(*history.allocator())?;
+    history.push(HistItem { event, reply })?;
+    Ok(told)
+}
+
+fn as_fault(refusal: Refusal) -> EngineFault
+    ensures { result ≡ fault_of refusal }
+{
+    match refusal {
+        Refusal::Busy => EngineFault::Busy,
+        Refusal::NotYourTurn => EngineFault::NotYourTurn,
+        Refusal::StillBlocked => EngineFault::StillBlocked,
+        Refusal::Idle => EngineFault::Idle,
+        Refusal::NoSession => EngineFault::NoSession,
+        Refusal::BlockNotAllowed => EngineFault::BlockNotAllowed,
+    }
+}
+
+impl<'a, V: Versions> EngineState<'a, V> {
+    /// An engine in which nothing has happened: beside the control session, which is session 0, it has `count`
+    /// sessions, numbered from 1.
+    pub fn new(
+        alloc: Global,
+        blocks: &'a [Block<'a>],
+        count: u32,
+        mode: Mode,
+        store: V,
+    ) -> Result<Self, AllocError>
+        requires few { count ≤ 64 }
+        requires empty { V.content store ≡ empty_content }
+        ensures { IfOk result (λ e. e ≡ opened (blocks_of blocks.now) count mode) }
+    {
+        let live = Live::new(alloc, count, store)?;
+        Ok(EngineState {
+            blocks,
+            count,
+            mode,
+            live,
+            history: Vec::new(alloc),
+            spent: false,
+        })
+    }
+
+    fn act(&mut self, event: Event) -> Result<Reply<'a>, EngineFault>
+        ensures memory { IsErrOf result EngineFault.Memory → self.new ≡ spent_engine self.old }
+        ensures answer { result ≢ Err EngineFault.Memory → engine_after self.old event ≡ record { engine = self.new; answer = result } }
+    {
+        if self.spent {
+            return Err(EngineFault::Spent);
+        }
+        let answer = match self.live.act(self.blocks, self.mode, event) {
+            Ok(answer) => answer,
+            Err(_) => {
+                self.spent = true;
+                return Err(EngineFault::Memory);
+            }
+        };
+        match answer {
+            Err(refusal) => Err(as_fault(refusal)),
+            Ok(reply) => match note(&mut self.history, event, reply) {
+                Ok(told) => Ok(told),
+                Err(_) => {
+                    self.spent = true;
+                    Err(EngineFault::Memory)
+                }
+            },
+        }
+    }
+
+    /// Gives a session a block. After a want of memory the engine is spent.
+    pub fn launch(&mut self, session: u32, block: u32) -> Result<Reply<'a>, EngineFault>
+        ensures memory { IsErrOf result EngineFault.Memory → self.new ≡ spent_engine self.old }
+        ensures answer { result ≢ Err EngineFault.Memory → engine_after self.old (Event.Launch session block) ≡ record { engine = self.new; answer = result } }
+    {
+        self.act(Event::Launch { session, block })
+    }
+
+    /// Begins the session's next statement. After a want of memory the engine is spent.
+    pub fn step(&mut self, session: u32) -> Result<Reply<'a>, EngineFault>
+        ensures memory { IsErrOf result EngineFault.Memory → self.new ≡ spent_engine self.old }
+        ensures answer { result ≢ Err EngineFault.Memory → engine_after self.old (Event.Step session) ≡ record { engine = self.new; answer = result } }
+    {
+        self.act(Event::Step { session })
+    }
+
+    /// Rolls a session's open transaction back and drops its block. After a want of memory the engine is spent.
+    pub fn leave(&mut self, session: u32) -> Result<Reply<'a>, EngineFault>
+        ensures memory { IsErrOf result EngineFault.Memory → self.new ≡ spent_engine self.old }
+        ensures answer { result ≢ Err EngineFault.Memory → engine_after self.old (Event.Leave session) ≡ record { engine = self.new; answer = result } }
+    {
+        self.act(Event::Leave { session })
+    }
+
+    /// What was answered so far. It takes no memory.
+    pub fn history(&self) -> &[HistItem<'a>]
+        ensures { result.now ≡ self.now.history }
+    {
+        &self.history
+    }
+
+    /// Whose turn it is. It takes no memory.
+    pub fn turn(&self) -> Turn
+        ensures { result ≡ turn_of self.now.machine }
+    {
+        if self.spent {
+            return Turn::Spent;
+        }
+        match self.live.turn() {
+            Some(k) => Turn::Session(k as u32),
+            None => Turn::Driver,
+        }
+    }
+
+    /// Whether nothing goes on by itself. It takes no memory.
+    pub fn quiet(&self) -> bool
+        ensures { result ≡ is_quiet_in self.now.machine }
+    {
+        !self.spent && self.live.turn().is_none()
+    }
+
+    /// What a SELECT of the session that begins now would show of the table; for a session without a transaction,
+    /// or with one that has failed, that is what is committed. `None` stands for no such table.
+    pub fn visible(&self, session: u32, table: &str) -> Result<Option<Vec<Row>>, EngineFault>
+        ensures ok { IfOk result (λ rows. visible_in self.now.machine session table.now ≡ Ok (option_map (λ (v : VecFacts (List SqlValue)). v.items) rows)) }
+        ensures refused { IfErr result (λ fault. fault ≢ EngineFault.Memory → visible_in self.now.machine session table.now ≡ Err fault) }
+    {
+        if self.spent {
+            return Err(EngineFault::Spent);
+        }
+        match self.live.visible(session, table) {
+            Ok(Ok(rows)) => Ok(rows),
+            Ok(Err(refusal)) => Err(as_fault(refusal)),
+            Err(_) => Err(EngineFault::Memory),
+        }
+    }
+}

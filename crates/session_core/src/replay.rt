@@ -1,0 +1,50 @@
+//! Whether a history is one of the machine's.
+ghost use Rattle.std.specs.Prelude.{◌≡◌, ◌↔◌, ◌+◌, ◌<◌, ◌≤◌, ◌^◌, ℕ, IsTrue, IfOk, true, false, length};
+ghost use Rattle.session_machine.specs.Sound.{IsSound};
+ghost use Rattle.session_machine.specs.Machine.{Machine, opening};
+ghost use Rattle.session_machine.specs.Engine.{Follows, IsLegal, Run};
+ghost use Rattle.session_core.specs.Blocks.{blocks_of};
+
+use crate::block::Block;
+use crate::live::Live;
+use row_versions::{ListStore, Versions};
+use session_machine::{HistItem, Mode};
+use std::alloc::{AllocError, Global};
+
+/// Does an item's event, and says whether it was answered as the item says.
+fn agrees<'a, V: Versions>(
+    live: &mut Live<'a, V>,
+    blocks: &'a [Block<'a>],
+    mode: Mode,
+    item: &HistItem<'_>,
+) -> Result<bool, AllocError>
+    requires sound { (events : ℕ) × (events + 1 < 2 ^ 64) × IsSound live.old.db live.old.sessions events }
+    ensures yes { IfOk result (λ agrees. agrees ≡ true → Follows (blocks_of blocks.now) mode live.old item.now live.new) }
+    ensures no { IfOk result (λ agrees. agrees ≡ false → (after : Machine) → Follows (blocks_of blocks.now) mode live.old item.now after → ⊥) }
+{
+    match live.act(blocks, mode, item.event)? {
+        Ok(reply) => Ok(reply.same(&item.reply)),
+        Err(_) => Ok(false),
+    }
+}
+
+/// Whether the history is one that an engine over these blocks, with so many sessions beside the control session
+/// and in this mode, gives: each of its events is refused nowhere, and its reply is the machine's.
+pub fn replays<'a>(
+    alloc: Global,
+    blocks: &'a [Block<'a>],
+    count: u32,
+    mode: Mode,
+    history: &[HistItem<'_>],
+) -> Result<bool, AllocError>
+    requires few { count ≤ 64 }
+    ensures { IfOk result (λ legal. IsTrue legal ↔ IsLegal (blocks_of blocks.now) count mode history.now) }
+{
+    let mut live = Live::new(alloc, count, ListStore::new(alloc))?;
+    for item in history {
+        if !agrees(&mut live, blocks, mode, item)? {
+            return Ok(false);
+        }
+    }
+    Ok(true)
+}
