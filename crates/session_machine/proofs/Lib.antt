@@ -7,3 +7,4 @@ pub mod Turns
 pub mod Staying
 pub mod Snapshots
 pub mod Unseen
+pub mod Working

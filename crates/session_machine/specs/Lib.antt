@@ -7,3 +7,4 @@ pub mod Machine
 pub mod Engine
 pub mod Sound
 pub mod Laws
+pub mod Worked

@@ -1,5 +1,6 @@
 //! Laws of histories: each function's contract is one of them, and its body does nothing.
 ghost use Rattle.session_machine.specs.Laws.{OneState, EventsGiveReplies, FirstPartsAreLegal, SnapshotsStay, FailuresAreUnseen};
+ghost use Rattle.session_machine.specs.Worked.{WorkedHistory, WorkedStates};
 
 /// A history leads to one state.
 pub fn one_state()
@@ -24,4 +25,14 @@ pub fn snapshots_stay()
 /// Of a failed statement the other sessions see nothing.
 pub fn failures_are_unseen()
     ensures { FailuresAreUnseen }
+{}
+
+/// A history of two sessions, one of them in Repeatable Read, is legal.
+pub fn worked_history()
+    ensures { WorkedHistory }
+{}
+
+/// What is refused on its way, and what the sessions see.
+pub fn worked_states()
+    ensures { WorkedStates }
 {}
