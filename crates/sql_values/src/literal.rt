@@ -21,7 +21,7 @@ fn undoubled(alloc: Global, written: &str) -> Result<Vec<u8>, AllocError>
     while let Some((first, behind)) = left.split_first() {
         bytes.push(*first)?;
         left = match behind {
-            [_, after @ ..] if *first == b'\'' => after,
+            [next, after @ ..] if *first == b'\'' && *next == b'\'' => after,
             _ => behind,
         };
     }
