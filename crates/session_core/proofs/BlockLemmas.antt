@@ -1,8 +1,8 @@
 -- Blocks as the machine has them.
-use Rattle.std.proofs.Common.{◌≡◌, ℕ, ◌≤◌, ◌<◌, List, map, [], refl, ap, sym, ◌∙◌}
-use Rattle.std.specs.Prelude.{Option, Some, None, option_map, slice_get}
-use Rattle.std.proofs.lemmas.Option.{slice_get-map, slice_get_past}
-use Rattle.sql_trees.specs.Statements.{StmtTree, stmt_of}
+use Rattle.std.proofs.Common.{◌≡◌, ℕ, List, map, [], refl}
+use Rattle.std.specs.Prelude.{Some, None, slice_get}
+use Rattle.std.proofs.lemmas.Option.{slice_get-map}
+use Rattle.sql_trees.specs.Statements.{stmt_of}
 use Rattle.session_machine.specs.Machine.{stmts_at}
 use Rattle.session_core.specs.declared.block.Block.{Block}
 use Rattle.session_core.specs.Blocks.{block_of, blocks_of}

@@ -2,3 +2,4 @@ pub mod NoWaits
 pub mod BlockLemmas
 pub mod Stepping
 pub mod Events
+pub mod Opening

@@ -1,6 +1,6 @@
 -- Where no statement is in progress, the turn is that of the least session that is in its block.
-use Rattle.std.proofs.Common.{◌≡◌, ℕ, zero, suc, ◌+◌, Bool, true, false, List, [], ◌∷◌, refl, ap, sym, ◌∙◌, subst}
-use Rattle.std.specs.Prelude.{Option, Some, None, option_map, option_and_then, slice_get, if◌then◌else◌}
+use Rattle.std.proofs.Common.{◌≡◌, ℕ, suc, ◌+◌, Bool, true, false, List, [], ◌∷◌, refl, ap, ◌∙◌}
+use Rattle.std.specs.Prelude.{Option, Some, None, option_map, option_and_then, if◌then◌else◌}
 use Rattle.std.specs.Option.{option_or}
 use Rattle.session_machine.specs.declared.session.Session.{Session}
 use Rattle.session_machine.specs.declared.session.Progress.{Progress}
@@ -8,8 +8,7 @@ use Rattle.session_machine.specs.declared.session.Waiting.{Waiting}
 use Rattle.session_machine.specs.declared.session.Transaction.{Transaction}
 use Rattle.session_machine.specs.declared.session.Transaction.TheVariants.{Closed, Open, Aborted}
 use Rattle.session_machine.specs.Tables.{Database}
-use Rattle.session_machine.specs.Machine.{Machine, earliest_free, first_ready, free_wait, is_still_blocked, is_stopped, sooner, turn_in, wait_of}
-use Rattle.session_machine.specs.Sound.{progress_of}
+use Rattle.session_machine.specs.Machine.{earliest_free, first_ready, free_wait, is_still_blocked, is_stopped, sooner, turn_in, wait_of}
 use Rattle.session_core.specs.Sessions.{AllOver}
 
 no_wait : (s : Session) → s.statement ≡ None → wait_of s ≡ None

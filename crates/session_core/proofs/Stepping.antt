@@ -1,5 +1,5 @@
 -- What follows a statement.
-use Rattle.std.proofs.Common.{◌≡◌, ℕ, Bool, List, refl, ap, sym, ◌∙◌}
+use Rattle.std.proofs.Common.{◌≡◌, ℕ, Bool, List, ap, sym, ◌∙◌}
 use Rattle.std.specs.Prelude.{is_none, slice_set}
 use Rattle.session_machine.specs.declared.session.Place.{Place}
 use Rattle.session_machine.specs.declared.session.Session.{Session}

@@ -35,7 +35,6 @@ impl<'a, V: Versions> Model for EngineState<'a, V> {
     ghost use Rattle.session_machine.specs.Engine.{Engine, Run};
     ghost use Rattle.session_machine.specs.Sound.{IsSound};
     ghost use Rattle.session_core.specs.Blocks.{blocks_of};
-
     ghost use Rattle.session_core.specs.TreeCodes.{tree_code};
     ghost use Rattle.std.specs.Coded.{codes};
 

@@ -13,7 +13,9 @@ use crate::block::Block;
 use crate::block_stmts::block_stmts;
 use crate::standing::{Standing, has_ended, set_session, standing_at};
 use crate::turns::must_wait_for_rest;
-use session_machine::{Event, Mode, Outcome, Place, Refusal, Reply, Session, can_run, is_definition};
+use session_machine::{
+    Event, Mode, Outcome, Place, Refusal, Reply, Session, can_run, is_definition,
+};
 use sql_trees::Stmt;
 
 fn all_run(stmts: &[Stmt<'_>]) -> bool
@@ -45,11 +47,7 @@ fn may_define(session: u32, stmts: &[Stmt<'_>]) -> bool
 }
 
 /// The statements of the block, if the session may be given it.
-fn allowed_stmts<'a>(
-    blocks: &'a [Block<'a>],
-    session: u32,
-    block: u32,
-) -> Option<&'a [Stmt<'a>]>
+fn allowed_stmts<'a>(blocks: &'a [Block<'a>], session: u32, block: u32) -> Option<&'a [Stmt<'a>]>
     ensures { MatchOption result (is_allowed (blocks_of blocks.now) session block ≡ false)
         (λ stmts. (is_allowed (blocks_of blocks.now) session block ≡ true) × (map stmt_of stmts.now ≡ stmts_at (blocks_of blocks.now) block)) }
 {

@@ -1,4 +1,4 @@
-use Rattle.std.proofs.Common.{◌≡◌, Bool, refl, ap}
+use Rattle.std.proofs.Common.{Bool, refl, ap}
 use Rattle.session_machine.specs.declared.event.Event.TheVariants.{Launch}
 use Rattle.session_machine.specs.declared.reply.Outcome.TheVariants.{Launched}
 use Rattle.session_machine.specs.declared.reply.Reply.{Reply}

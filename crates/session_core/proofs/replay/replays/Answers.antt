@@ -1,8 +1,6 @@
-use Rattle.std.proofs.Common.{rules, ◌≡◌, ◌↔◌, ◌∷◌, ◌+◌, ◌≤◌, List, [], refl, subst, sym, drop, length, arith}
+use Rattle.std.proofs.Common.{◌≡◌, ◌↔◌, ◌+◌, [], refl, subst, drop}
 use Rattle.std.proofs.lemmas.List.{drop_all}
-use Rattle.session_machine.specs.declared.reply.HistItem.{HistItem}
 use Rattle.session_machine.specs.Machine.{opening}
-use Rattle.session_machine.specs.Sound.{IsSound}
 use Rattle.session_machine.proofs.Sound.{sound_next, sound_opening}
 use Rattle.session_machine.proofs.Replaying.{LeadsOn, legal_step, legal_not, from_place}
 use Rattle.session_core.specs.Blocks.{blocks_of}

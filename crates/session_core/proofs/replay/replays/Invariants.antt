@@ -1,4 +1,4 @@
-use Rattle.std.proofs.Common.{◌≡◌, ◌↔◌, drop}
+use Rattle.std.proofs.Common.{◌↔◌, drop}
 use Rattle.session_machine.specs.Machine.{opening}
 use Rattle.session_machine.specs.Sound.{IsSound}
 use Rattle.session_machine.proofs.Replaying.{LeadsOn}

@@ -1,9 +1,9 @@
-use Rattle.std.proofs.Common.{rules, ◌≡◌, ◌<◌, None, Some, ap, subst, arith, length}
+use Rattle.std.proofs.Common.{None, Some, ap, subst}
 use Rattle.std.proofs.lemmas.Option.{slice_get_within}
 use Rattle.sql_trees.specs.Statements.{stmt_of}
 use Rattle.session_machine.specs.declared.session.Session.{Session}
 use Rattle.session_machine.specs.Machine.{Machine}
-use Rattle.session_machine.specs.Statements.{Did, run_stmt}
+use Rattle.session_machine.specs.Statements.{Did}
 use Rattle.session_machine.specs.Sound.{tx_in}
 use Rattle.session_machine.proofs.Keeping.{IsLive, leaves-run}
 use Rattle.session_machine.proofs.Sound.{sound_open, sound_live}

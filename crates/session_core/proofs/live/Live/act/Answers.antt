@@ -1,4 +1,3 @@
-use Rattle.std.proofs.Common.{rules}
 use Rattle.session_core.specs.Blocks.{blocks_of}
 use Rattle.session_core.proofs.live.Live.act.Goals as goal
 

@@ -1,4 +1,3 @@
-use Rattle.std.proofs.Common.{rules}
 use Rattle.session_core.proofs.live.Live.leave.Goals as goal
 
 pub returns : goal.returns
