@@ -1,10 +1,9 @@
 -- The worked history, by computation from state to state.
-use Rattle.std.proofs.Common.{◌≡◌, ℕ, Bool, true, false, List, [], ◌∷◌, take, subst, refl}
-use Rattle.std.specs.Prelude.{Option, Some, None, Ok, pos}
+use Rattle.std.proofs.Common.{◌≡◌, ℕ, true, false, List, [], ◌∷◌, take, subst, refl}
+use Rattle.std.specs.Prelude.{Option, Some, None, Ok}
 use Rattle.sql_trees.specs.declared.kind.Kind.TheVariants.{Int as Integer}
 use Rattle.sql_trees.specs.declared.stmt.Level.TheVariants.{ReadCommitted, RepeatableRead}
 use Rattle.sql_values.specs.declared.value.Value.{Value}
-use Rattle.sql_values.specs.declared.value.Value.TheVariants.{Int}
 use Rattle.row_versions.specs.declared.write.Write.{Write}
 use Rattle.row_versions.specs.declared.write.Fate.{Fate}
 use Rattle.row_versions.specs.declared.write.Fate.TheVariants.{RolledBack, Committed, Open as OpenFate}

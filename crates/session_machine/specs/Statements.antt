@@ -191,10 +191,12 @@ is_aggregate item.All = false
 is_aggregate (item.Value e alias) = false
 is_aggregate (item.Aggregate a alias) = true
 
+-- the list is empty
 abbrev pub has_none : {A : Type 0} → List A → Bool
 has_none [] = true
 has_none (x ∷ xs) = false
 
+-- a SELECT that locks, sorts and counts nothing
 abbrev pub select_runs : SelectTree → Bool
 select_runs s = is_none s.lock && (has_none s.order && list_all (λ i. not (is_aggregate i)) s.items)
 

@@ -18,3 +18,6 @@ pub use session::{
     Gathered, Held, OpenTransaction, Place, Progress, Request, Session, Strength, Transaction,
     Waiting,
 };
+
+#[cfg(test)]
+mod tests;
