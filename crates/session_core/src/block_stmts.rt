@@ -10,7 +10,7 @@ use sql_trees::Stmt;
 
 /// The statements of the block of that number, if it is there.
 #[tactic(auto, using(crate::proofs::BlockLemmas::stmts_are))]
-pub fn block_stmts<'a>(blocks: &'a [Block<'a>], block: u32) -> Option<&'a [Stmt<'a>]>
+pub fn block_stmts<'a, 't>(blocks: &'a [Block<'t>], block: u32) -> Option<&'a [Stmt<'t>]>
     ensures { MatchOption result (length blocks.now ≤ block)
         (λ stmts. (block < length blocks.now) × (map stmt_of stmts.now ≡ stmts_at (blocks_of blocks.now) block)) }
 {
@@ -19,13 +19,13 @@ pub fn block_stmts<'a>(blocks: &'a [Block<'a>], block: u32) -> Option<&'a [Stmt<
 
 /// The statement at a place, and how many its block has.
 #[derive(Clone, Copy)]
-pub struct StmtAt<'a> {
-    pub stmt: &'a Stmt<'a>,
+pub struct StmtAt<'a, 't> {
+    pub stmt: &'a Stmt<'t>,
     pub count: usize,
 }
 
 /// The statement at a place, if there is one.
-pub fn stmt_at<'a>(blocks: &'a [Block<'a>], place: &Place) -> Option<StmtAt<'a>>
+pub fn stmt_at<'a, 't>(blocks: &'a [Block<'t>], place: &Place) -> Option<StmtAt<'a, 't>>
     ensures { MatchOption result (slice_get (stmts_at (blocks_of blocks.now) place.now.block) place.now.next ≡ None)
         (λ at. (slice_get (stmts_at (blocks_of blocks.now) place.now.block) place.now.next ≡ Some (stmt_of at.stmt.now))
         × (length (stmts_at (blocks_of blocks.now) place.now.block) ≡ at.count)

@@ -19,17 +19,17 @@ use std::marker::Model;
 /// Sessions over a store, in a run that is recorded. Contracts see it as what it was opened over, the machine's
 /// state and the history; the state is that to which the history leads from the opening.
 #[derive(Drop)]
-pub struct EngineState<'a, V: Versions> {
-    blocks: &'a [Block<'a>],
+pub struct EngineState<'a, 't, V: Versions> {
+    blocks: &'a [Block<'t>],
     count: u32,
     mode: Mode,
-    live: Live<'a, V>,
-    history: Vec<HistItem<'a>>,
+    live: Live<'a, 't, V>,
+    history: Vec<HistItem<'t>>,
     /// Memory was refused in the middle of an event: nothing is known of the machine any more.
     spent: bool,
 }
 
-impl<'a, V: Versions> Model for EngineState<'a, V> {
+impl<'a, 't, V: Versions> Model for EngineState<'a, 't, V> {
     ghost use Rattle.std.specs.Prelude.{◌≡◌, false, length, Some, None, if◌then◌else◌};
     ghost use Rattle.session_machine.specs.Machine.{opening};
     ghost use Rattle.session_machine.specs.Engine.{Engine, Run};
@@ -56,11 +56,11 @@ impl<'a, V: Versions> Model for EngineState<'a, V> {
 }
 
 /// Adds an item to the history, and gives its reply.
-fn note<'a>(
-    history: &mut Vec<HistItem<'a>>,
+fn note<'t>(
+    history: &mut Vec<HistItem<'t>>,
     event: Event,
-    reply: Reply<'a>,
-) -> Result<Reply<'a>, AllocError>
+    reply: Reply<'t>,
+) -> Result<Reply<'t>, AllocError>
     ensures ok { IfOk result (λ told. told ≡ reply.entry) }
     ensures history { OnOk result (history.new.items ≡ history.old.items ++ record { event = event; reply = reply.entry } ∷ []) }
     ensures err { OnErr result (history.new.items ≡ history.old.items) }
@@ -83,12 +83,12 @@ fn as_fault(refusal: Refusal) -> EngineFault
     }
 }
 
-impl<'a, V: Versions> EngineState<'a, V> {
+impl<'a, 't, V: Versions> EngineState<'a, 't, V> {
     /// An engine in which nothing has happened: beside the control session, which is session 0, it has `count`
     /// sessions, numbered from 1.
     pub fn new(
         alloc: Global,
-        blocks: &'a [Block<'a>],
+        blocks: &'a [Block<'t>],
         count: u32,
         mode: Mode,
         store: V,
@@ -108,7 +108,7 @@ impl<'a, V: Versions> EngineState<'a, V> {
         })
     }
 
-    fn act(&mut self, event: Event) -> Result<Reply<'a>, EngineFault>
+    fn act(&mut self, event: Event) -> Result<Reply<'t>, EngineFault>
         ensures memory { IsErrOf result EngineFault.Memory → self.new ≡ spent_engine self.old }
         ensures answer { result ≢ Err EngineFault.Memory → engine_after self.old event ≡ record { engine = self.new; answer = result } }
     {
@@ -135,7 +135,7 @@ impl<'a, V: Versions> EngineState<'a, V> {
     }
 
     /// Gives a session a block. After a want of memory the engine is spent.
-    pub fn launch(&mut self, session: u32, block: u32) -> Result<Reply<'a>, EngineFault>
+    pub fn launch(&mut self, session: u32, block: u32) -> Result<Reply<'t>, EngineFault>
         ensures memory { IsErrOf result EngineFault.Memory → self.new ≡ spent_engine self.old }
         ensures answer { result ≢ Err EngineFault.Memory → engine_after self.old (Event.Launch session block) ≡ record { engine = self.new; answer = result } }
     {
@@ -143,7 +143,7 @@ impl<'a, V: Versions> EngineState<'a, V> {
     }
 
     /// Begins the session's next statement. After a want of memory the engine is spent.
-    pub fn step(&mut self, session: u32) -> Result<Reply<'a>, EngineFault>
+    pub fn step(&mut self, session: u32) -> Result<Reply<'t>, EngineFault>
         ensures memory { IsErrOf result EngineFault.Memory → self.new ≡ spent_engine self.old }
         ensures answer { result ≢ Err EngineFault.Memory → engine_after self.old (Event.Step session) ≡ record { engine = self.new; answer = result } }
     {
@@ -151,7 +151,7 @@ impl<'a, V: Versions> EngineState<'a, V> {
     }
 
     /// Rolls a session's open transaction back and drops its block. After a want of memory the engine is spent.
-    pub fn leave(&mut self, session: u32) -> Result<Reply<'a>, EngineFault>
+    pub fn leave(&mut self, session: u32) -> Result<Reply<'t>, EngineFault>
         ensures memory { IsErrOf result EngineFault.Memory → self.new ≡ spent_engine self.old }
         ensures answer { result ≢ Err EngineFault.Memory → engine_after self.old (Event.Leave session) ≡ record { engine = self.new; answer = result } }
     {
@@ -159,7 +159,7 @@ impl<'a, V: Versions> EngineState<'a, V> {
     }
 
     /// What was answered so far. It takes no memory.
-    pub fn history(&self) -> &[HistItem<'a>]
+    pub fn history(&self) -> &[HistItem<'t>]
         ensures { result.now ≡ self.now.history }
     {
         &self.history

@@ -47,7 +47,11 @@ fn may_define(session: u32, stmts: &[Stmt<'_>]) -> bool
 }
 
 /// The statements of the block, if the session may be given it.
-fn allowed_stmts<'a>(blocks: &'a [Block<'a>], session: u32, block: u32) -> Option<&'a [Stmt<'a>]>
+fn allowed_stmts<'a, 't>(
+    blocks: &'a [Block<'t>],
+    session: u32,
+    block: u32,
+) -> Option<&'a [Stmt<'t>]>
     ensures { MatchOption result (is_allowed (blocks_of blocks.now) session block ≡ false)
         (λ stmts. (is_allowed (blocks_of blocks.now) session block ≡ true) × (map stmt_of stmts.now ≡ stmts_at (blocks_of blocks.now) block)) }
 {
@@ -70,8 +74,8 @@ fn start_of(block: u32, stmts: &[Stmt<'_>]) -> Option<Place>
 }
 
 /// What the session does once it is given the block, or why it may not be.
-fn launched<'a>(
-    blocks: &'a [Block<'a>],
+fn launched<'a, 't>(
+    blocks: &'a [Block<'t>],
     mode: Mode,
     sessions: &[Session],
     session: u32,
@@ -105,13 +109,13 @@ fn launched<'a>(
 }
 
 /// Gives a session a block, or says why not.
-pub fn launch<'a>(
+pub fn launch<'a, 't>(
     sessions: &mut Vec<Session>,
-    blocks: &'a [Block<'a>],
+    blocks: &'a [Block<'t>],
     mode: Mode,
     session: u32,
     block: u32,
-) -> Result<Reply<'a>, Refusal>
+) -> Result<Reply<'t>, Refusal>
     requires { AllOver sessions.old.items }
     ensures { (db : Database) →
         let old : Machine = record { db = db; sessions = sessions.old.items } in

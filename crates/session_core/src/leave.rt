@@ -35,7 +35,7 @@ fn leaving(mode: Mode, sessions: &[Session], session: u32) -> Result<Standing, R
 }
 
 /// Rolls an open transaction back.
-fn undo<'a, V: Versions>(db: &mut Database<'a, V>, transaction: Transaction)
+fn undo<'a, 't, V: Versions>(db: &mut Database<'a, 't, V>, transaction: Transaction)
     requires { (t : OpenTransaction) → transaction ≡ Transaction.Open t → IsOpen db.old.content t.tx }
     ensures { db.new ≡ left_behind db.old transaction }
 {
@@ -45,12 +45,12 @@ fn undo<'a, V: Versions>(db: &mut Database<'a, V>, transaction: Transaction)
 }
 
 /// Rolls a session's open transaction back and drops its block, or says why not.
-pub fn leave<'a, V: Versions>(
-    db: &mut Database<'a, V>,
+pub fn leave<'a, 't, V: Versions>(
+    db: &mut Database<'a, 't, V>,
     sessions: &mut Vec<Session>,
     mode: Mode,
     session: u32,
-) -> Result<Reply<'a>, Refusal>
+) -> Result<Reply<'t>, Refusal>
     requires sound { (events : ℕ) × IsSound db.old sessions.old.items events }
     ensures { (blocks : Blocks) →
         let old : Machine = record { db = db.old; sessions = sessions.old.items } in

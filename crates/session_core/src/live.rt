@@ -25,12 +25,12 @@ use std::marker::Model;
 
 /// The sessions over a store, which contracts see as the machine.
 #[derive(Drop)]
-pub struct Live<'a, V: Versions> {
-    db: Database<'a, V>,
+pub struct Live<'a, 't, V: Versions> {
+    db: Database<'a, 't, V>,
     sessions: Vec<Session>,
 }
 
-impl<'a, V: Versions> Model for Live<'a, V> {
+impl<'a, 't, V: Versions> Model for Live<'a, 't, V> {
     ghost use Rattle.session_machine.specs.Machine.{Machine};
 
     ghost Value = { Machine };
@@ -38,7 +38,7 @@ impl<'a, V: Versions> Model for Live<'a, V> {
     ghost view = { λ e. record { db = e.db; sessions = e.sessions.items } };
 }
 
-impl<'a, V: Versions> Live<'a, V> {
+impl<'a, 't, V: Versions> Live<'a, 't, V> {
     /// A machine in which nothing has happened.
     pub fn new(alloc: Global, count: u32, store: V) -> Result<Self, AllocError>
         requires few { count ≤ 64 }
@@ -66,18 +66,18 @@ impl<'a, V: Versions> Live<'a, V> {
 
     fn launch(
         &mut self,
-        blocks: &'a [Block<'a>],
+        blocks: &'a [Block<'t>],
         mode: Mode,
         session: u32,
         block: u32,
-    ) -> Result<Reply<'a>, Refusal>
+    ) -> Result<Reply<'t>, Refusal>
         requires { AllOver self.old.sessions }
         ensures { answered self.old (next (blocks_of blocks.now) mode self.old (Event.Launch session block)) ≡ record { machine = self.new; answer = result } }
     {
         launch(&mut self.sessions, blocks, mode, session, block)
     }
 
-    fn leave(&mut self, mode: Mode, session: u32) -> Result<Reply<'a>, Refusal>
+    fn leave(&mut self, mode: Mode, session: u32) -> Result<Reply<'t>, Refusal>
         requires sound { (events : ℕ) × IsSound self.old.db self.old.sessions events }
         ensures { (blocks : Blocks) → answered self.old (next blocks mode self.old (Event.Leave session)) ≡ record { machine = self.new; answer = result } }
     {
@@ -86,10 +86,10 @@ impl<'a, V: Versions> Live<'a, V> {
 
     fn step(
         &mut self,
-        blocks: &'a [Block<'a>],
+        blocks: &'a [Block<'t>],
         mode: Mode,
         session: u32,
-    ) -> Result<Result<Reply<'a>, Refusal>, AllocError>
+    ) -> Result<Result<Reply<'t>, Refusal>, AllocError>
         requires sound { (events : ℕ) × (events + 1 < 2 ^ 64) × IsSound self.old.db self.old.sessions events }
         ensures { IfOk result (λ answer. answered self.old (next (blocks_of blocks.now) mode self.old (Event.Step session)) ≡ record { machine = self.new; answer = answer }) }
     {
@@ -99,10 +99,10 @@ impl<'a, V: Versions> Live<'a, V> {
     /// Does an event.
     pub fn act(
         &mut self,
-        blocks: &'a [Block<'a>],
+        blocks: &'a [Block<'t>],
         mode: Mode,
         event: Event,
-    ) -> Result<Result<Reply<'a>, Refusal>, AllocError>
+    ) -> Result<Result<Reply<'t>, Refusal>, AllocError>
         requires sound { (events : ℕ) × (events + 1 < 2 ^ 64) × IsSound self.old.db self.old.sessions events }
         ensures { IfOk result (λ answer. answered self.old (next (blocks_of blocks.now) mode self.old event) ≡ record { machine = self.new; answer = answer }) }
     {

@@ -12,9 +12,9 @@ use session_machine::{HistItem, Mode};
 use std::alloc::{AllocError, Global};
 
 /// Does an item's event, and says whether it was answered as the item says.
-fn agrees<'a, V: Versions>(
-    live: &mut Live<'a, V>,
-    blocks: &'a [Block<'a>],
+fn agrees<'a, 't, V: Versions>(
+    live: &mut Live<'a, 't, V>,
+    blocks: &'a [Block<'t>],
     mode: Mode,
     item: &HistItem<'_>,
 ) -> Result<bool, AllocError>
@@ -30,9 +30,9 @@ fn agrees<'a, V: Versions>(
 
 /// Whether the history is one that an engine over these blocks, with so many sessions beside the control session
 /// and in this mode, gives: each of its events is refused nowhere, and its reply is the machine's.
-pub fn replays<'a>(
+pub fn replays<'a, 't>(
     alloc: Global,
-    blocks: &'a [Block<'a>],
+    blocks: &'a [Block<'t>],
     count: u32,
     mode: Mode,
     history: &[HistItem<'_>],

@@ -23,21 +23,21 @@ use std::alloc::AllocError;
 
 /// The statement that a session's next step begins.
 #[derive(Drop)]
-pub struct Due<'a> {
+pub struct Due<'a, 't> {
     pub transaction: Transaction,
     pub place: Place,
     /// How many statements the block has.
     pub count: usize,
-    pub stmt: &'a Stmt<'a>,
+    pub stmt: &'a Stmt<'t>,
 }
 
 /// The statement that a session's next step begins, or why it may not.
-pub fn due_statement<'a>(
-    blocks: &'a [Block<'a>],
+pub fn due_statement<'a, 't>(
+    blocks: &'a [Block<'t>],
     mode: Mode,
     sessions: &[Session],
     session: u32,
-) -> Result<Due<'a>, Refusal>
+) -> Result<Due<'a, 't>, Refusal>
     requires { AllOver sessions.now }
     ensures current { IfOk result (λ d. slice_get sessions.now session ≡ Some (between (record { place = Some d.place; transaction = d.transaction }))) }
     ensures within { IfOk result (λ d. d.place.next < d.count) }
@@ -76,7 +76,10 @@ fn has_failed(outcome: &Outcome<'_>) -> bool
 }
 
 /// The transaction that is left once its block has ended: an implicit one is committed.
-fn end_block<'a, V: Versions>(db: &mut Database<'a, V>, transaction: Transaction) -> Transaction
+fn end_block<'a, 't, V: Versions>(
+    db: &mut Database<'a, 't, V>,
+    transaction: Transaction,
+) -> Transaction
     requires { (t : OpenTransaction) → transaction ≡ Transaction.Open t → IsOpen db.old.content t.tx }
     ensures { (outcome : Outcome) →
         closed_at_end (record { db = db.old; transaction = transaction; outcome = outcome }) transaction
@@ -92,8 +95,8 @@ fn end_block<'a, V: Versions>(db: &mut Database<'a, V>, transaction: Transaction
 }
 
 /// Where a session goes after a statement, and what is left of its transaction.
-pub fn after_statement<'a, V: Versions>(
-    db: &mut Database<'a, V>,
+pub fn after_statement<'a, 't, V: Versions>(
+    db: &mut Database<'a, 't, V>,
     place: Place,
     count: usize,
     transaction: Transaction,
@@ -129,12 +132,12 @@ pub fn after_statement<'a, V: Versions>(
 }
 
 /// Runs a session's next statement.
-pub fn run_due<'a, V: Versions>(
-    db: &mut Database<'a, V>,
+pub fn run_due<'a, 't, V: Versions>(
+    db: &mut Database<'a, 't, V>,
     sessions: &mut Vec<Session>,
     session: u32,
-    due: &Due<'a>,
-) -> Result<Reply<'a>, AllocError>
+    due: &Due<'a, 't>,
+) -> Result<Reply<'t>, AllocError>
     requires current { slice_get sessions.old.items session ≡ Some (between (record { place = Some due.now.place; transaction = due.now.transaction })) }
     requires sound { (events : ℕ) × (events + 1 < 2 ^ 64) × IsSound db.old sessions.old.items events }
     requires within { due.now.place.next < due.now.count }
@@ -152,13 +155,13 @@ pub fn run_due<'a, V: Versions>(
 }
 
 /// Begins the session's next statement, or says why not.
-pub fn step<'a, V: Versions>(
-    db: &mut Database<'a, V>,
+pub fn step<'a, 't, V: Versions>(
+    db: &mut Database<'a, 't, V>,
     sessions: &mut Vec<Session>,
-    blocks: &'a [Block<'a>],
+    blocks: &'a [Block<'t>],
     mode: Mode,
     session: u32,
-) -> Result<Result<Reply<'a>, Refusal>, AllocError>
+) -> Result<Result<Reply<'t>, Refusal>, AllocError>
     requires sound { (events : ℕ) × (events + 1 < 2 ^ 64) × IsSound db.old sessions.old.items events }
     ensures { IfOk result (λ answer.
         let old : Machine = record { db = db.old; sessions = sessions.old.items } in

@@ -14,13 +14,13 @@ use std::alloc::{AllocError, Global};
 use std::marker::Model;
 
 /// The tables in the order made, and their DROPs in the order done. Neither is ever taken out.
-#[derive(Debug, Drop)]
-pub struct Catalog<'a> {
-    tables: Vec<Table<'a>>,
+#[derive(Drop)]
+pub struct Catalog<'a, 't> {
+    tables: Vec<Table<'a, 't>>,
     drops: Vec<Dropped>,
 }
 
-impl<'a> Model for Catalog<'a> {
+impl<'a, 't> Model for Catalog<'a, 't> {
     ghost use Rattle.session_machine.specs.Tables.{Catalog as CatalogFacts};
 
     ghost Value = { CatalogFacts };
@@ -56,7 +56,7 @@ fn is_table<V: Versions>(
     drops: &[Dropped],
     name: &Name<'_>,
     place: usize,
-    table: &Table<'_>,
+    table: &Table<'_, '_>,
 ) -> bool
     ensures { result ≡ is_meant (V.content store.now) own drops.now (name_of name.now) place table.now }
 {
@@ -70,7 +70,7 @@ fn find_in<V: Versions>(
     own: Option<TxId>,
     drops: &[Dropped],
     name: &Name<'_>,
-    tables: &[Table<'_>],
+    tables: &[Table<'_, '_>],
 ) -> Option<usize>
     ensures first { result ≡ find_from (V.content store.now) own drops.now (name_of name.now) 0 tables.now }
     ensures within { IfSome result (λ place. place < length tables.now) }
@@ -83,9 +83,9 @@ fn find_in<V: Versions>(
     None
 }
 
-impl<'a> Catalog<'a> {
+impl<'a, 't> Catalog<'a, 't> {
     /// No table. It takes no memory.
-    pub fn new(alloc: Global) -> Catalog<'a>
+    pub fn new(alloc: Global) -> Catalog<'a, 't>
         ensures { result ≡ record { tables = []; drops = [] } }
     {
         Catalog {
@@ -109,7 +109,7 @@ impl<'a> Catalog<'a> {
     }
 
     /// The columns of the table at the place.
-    pub fn columns(&self, place: usize) -> &'a [Column<'a>]
+    pub fn columns(&self, place: usize) -> &'a [Column<'t>]
         requires { place < length self.now.tables }
         ensures { map column_of result.now ≡ columns_at self.now place }
     {
@@ -117,7 +117,7 @@ impl<'a> Catalog<'a> {
     }
 
     /// Adds a table.
-    pub fn add(&mut self, made: &'a CreateTable<'a>, by: TxId) -> Result<(), AllocError>
+    pub fn add(&mut self, made: &'a CreateTable<'t>, by: TxId) -> Result<(), AllocError>
         ensures { OnOk result (self.new ≡ with_table self.old (create_of made.now) by) }
     {
         self.tables.push(Table::new(made, by))?;

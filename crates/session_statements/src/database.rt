@@ -22,13 +22,13 @@ use std::marker::Model;
 
 /// The tables and all versions of their rows. A call that is refused memory leaves it in no state that is promised.
 #[derive(Drop)]
-pub struct Database<'a, V: Versions> {
+pub struct Database<'a, 't, V: Versions> {
     pub(crate) alloc: Global,
     store: V,
-    catalog: Catalog<'a>,
+    catalog: Catalog<'a, 't>,
 }
 
-impl<'a, V: Versions> Model for Database<'a, V> {
+impl<'a, 't, V: Versions> Model for Database<'a, 't, V> {
     ghost use Rattle.std.specs.Prelude.{[]};
     ghost use Rattle.session_machine.specs.Tables.{Database as DatabaseFacts};
 
@@ -37,9 +37,9 @@ impl<'a, V: Versions> Model for Database<'a, V> {
     ghost view = { λ d. record { content = V.content d.store; catalog = d.catalog; held = [] } };
 }
 
-impl<'a, V: Versions> Database<'a, V> {
+impl<'a, 't, V: Versions> Database<'a, 't, V> {
     /// No table, over a store in which no transaction has begun. It takes no memory.
-    pub fn new(alloc: Global, store: V) -> Database<'a, V>
+    pub fn new(alloc: Global, store: V) -> Database<'a, 't, V>
         requires { V.content store ≡ empty_content }
         ensures { result ≡ empty_database }
     {
@@ -93,7 +93,7 @@ impl<'a, V: Versions> Database<'a, V> {
     }
 
     /// The columns of the table at the place.
-    pub(crate) fn columns(&self, place: usize) -> &'a [Column<'a>]
+    pub(crate) fn columns(&self, place: usize) -> &'a [Column<'t>]
         requires { place < length self.now.catalog.tables }
         ensures { map column_of result.now ≡ columns_at self.now.catalog place }
     {
@@ -103,7 +103,7 @@ impl<'a, V: Versions> Database<'a, V> {
     /// Adds a table.
     pub(crate) fn add_table(
         &mut self,
-        made: &'a CreateTable<'a>,
+        made: &'a CreateTable<'t>,
         by: TxId,
     ) -> Result<(), AllocError>
         ensures { OnOk result (self.new ≡ record self.old { catalog = with_table self.old.catalog (create_of made.now) by }) }

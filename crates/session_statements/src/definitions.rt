@@ -13,13 +13,13 @@ use session_machine::{OpenTransaction, Outcome, StmtFault, Transaction};
 use sql_trees::{CreateTable, DropTable};
 use std::alloc::AllocError;
 
-impl<'a, V: Versions> Database<'a, V> {
+impl<'a, 't, V: Versions> Database<'a, 't, V> {
     /// CREATE TABLE: the table is there for its own transaction at once.
     pub(crate) fn create(
         &mut self,
         by: &OpenTransaction,
-        made: &'a CreateTable<'a>,
-    ) -> Result<(Transaction, Outcome<'a>), AllocError>
+        made: &'a CreateTable<'t>,
+    ) -> Result<(Transaction, Outcome<'t>), AllocError>
         requires opened { IsOpen self.old.content by.now.tx }
         requires room { by.now.command + 1 < 2 ^ 64 }
         ensures { IfOk result (λ left.
@@ -39,8 +39,8 @@ impl<'a, V: Versions> Database<'a, V> {
         &mut self,
         by: &OpenTransaction,
         if_exists: bool,
-        names: &'a [Name<'a>],
-    ) -> Result<Option<Ident<'a>>, AllocError>
+        names: &'a [Name<'t>],
+    ) -> Result<Option<Ident<'t>>, AllocError>
         ensures dropped { IfOk result (λ missing. dropped self.old by.now if_exists (map name_of names.now) ≡ record { db = self.new; missing = missing }) }
         ensures content { IfOk result (λ missing. self.new.content ≡ self.old.content) }
     {
@@ -61,8 +61,8 @@ impl<'a, V: Versions> Database<'a, V> {
     pub(crate) fn drop_tables(
         &mut self,
         by: &OpenTransaction,
-        stmt: &'a DropTable<'a>,
-    ) -> Result<(Transaction, Outcome<'a>), AllocError>
+        stmt: &'a DropTable<'t>,
+    ) -> Result<(Transaction, Outcome<'t>), AllocError>
         requires opened { IsOpen self.old.content by.now.tx }
         requires room { by.now.command + 1 < 2 ^ 64 }
         ensures { IfOk result (λ left. drop_tables self.old by.now (drop_of stmt.now) ≡ record { db = self.new; transaction = left.0; outcome = left.1 }) }

@@ -20,7 +20,7 @@ use sql_values::{ColumnName, ValueFault};
 use std::alloc::AllocError;
 
 /// The statement's fault, where it isn't want of memory.
-pub(crate) fn fault_of<'a>(fault: ValueFault<'a>) -> Result<StmtFault<'a>, AllocError>
+pub(crate) fn fault_of<'t>(fault: ValueFault<'t>) -> Result<StmtFault<'t>, AllocError>
     ensures fault { IfOk result (λ f. f ≡ StmtFault.Value fault.entry) }
     ensures other { IfOk result (λ f. fault.entry ≢ Memory) }
 {
@@ -30,17 +30,17 @@ pub(crate) fn fault_of<'a>(fault: ValueFault<'a>) -> Result<StmtFault<'a>, Alloc
     }
 }
 
-impl<'a, V: Versions> Database<'a, V> {
+impl<'a, 't, V: Versions> Database<'a, 't, V> {
     /// One row is evaluated, assigned, checked and written, or its fault is answered.
     fn insert_row(
         &mut self,
         by: &OpenTransaction,
-        table: Name<'a>,
+        table: Name<'t>,
         place: usize,
-        columns: &[Column<'a>],
+        columns: &[Column<'t>],
         targets: &Targets,
-        row: &[Expr<'a>],
-    ) -> Result<Option<StmtFault<'a>>, AllocError>
+        row: &[Expr<'t>],
+    ) -> Result<Option<StmtFault<'t>>, AllocError>
         ensures row { (others : Content → InsertedUpTo) → IfOk result (λ fault.
             insert_row self.old.content by.now (name_of table.entry) place (map column_of columns.now) others (new_values (length (map column_of columns.now)) targets.now (map tree_of row.now))
             ≡ row_ended others self.new.content fault) }
@@ -64,10 +64,10 @@ impl<'a, V: Versions> Database<'a, V> {
     fn insert_rows(
         &mut self,
         by: &OpenTransaction,
-        stmt: &'a Insert<'a>,
+        stmt: &'a Insert<'t>,
         place: usize,
         targets: &Targets,
-    ) -> Result<Option<StmtFault<'a>>, AllocError>
+    ) -> Result<Option<StmtFault<'t>>, AllocError>
         requires { place < length self.old.catalog.tables }
         ensures rows { IfOk result (λ fault.
             insert_rows self.old.content by.now (name_of stmt.now.table) place (columns_at self.old.catalog place) targets.now (map exprs_of stmt.now.rows.items)
@@ -89,10 +89,10 @@ impl<'a, V: Versions> Database<'a, V> {
     fn insert_all(
         &mut self,
         by: &OpenTransaction,
-        stmt: &'a Insert<'a>,
+        stmt: &'a Insert<'t>,
         place: usize,
         targets: &Targets,
-    ) -> Result<(Transaction, Outcome<'a>), AllocError>
+    ) -> Result<(Transaction, Outcome<'t>), AllocError>
         requires opened { IsOpen self.old.content by.now.tx }
         requires room { by.now.command + 1 < 2 ^ 64 }
         requires within { place < length self.old.catalog.tables }
@@ -111,10 +111,10 @@ impl<'a, V: Versions> Database<'a, V> {
     fn insert_to(
         &mut self,
         by: &OpenTransaction,
-        stmt: &'a Insert<'a>,
+        stmt: &'a Insert<'t>,
         place: usize,
         targets: &Targets,
-    ) -> Result<(Transaction, Outcome<'a>), AllocError>
+    ) -> Result<(Transaction, Outcome<'t>), AllocError>
         requires opened { IsOpen self.old.content by.now.tx }
         requires room { by.now.command + 1 < 2 ^ 64 }
         requires within { place < length self.old.catalog.tables }
@@ -136,8 +136,8 @@ impl<'a, V: Versions> Database<'a, V> {
     pub(crate) fn insert(
         &mut self,
         by: &OpenTransaction,
-        stmt: &'a Insert<'a>,
-    ) -> Result<(Transaction, Outcome<'a>), AllocError>
+        stmt: &'a Insert<'t>,
+    ) -> Result<(Transaction, Outcome<'t>), AllocError>
         requires opened { IsOpen self.old.content by.now.tx }
         requires room { by.now.command + 1 < 2 ^ 64 }
         ensures { IfOk result (λ left.

@@ -11,3 +11,6 @@ mod table;
 mod transactions;
 
 pub use database::Database;
+
+#[cfg(test)]
+mod tests;

@@ -15,13 +15,13 @@ use session_machine::{OpenTransaction, Outcome, Transaction};
 use sql_trees::{Level, Stmt};
 use std::alloc::AllocError;
 
-impl<'a, V: Versions> Database<'a, V> {
+impl<'a, 't, V: Versions> Database<'a, 't, V> {
     /// A statement of an open transaction.
     fn run_open(
         &mut self,
         by: &OpenTransaction,
-        stmt: &'a Stmt<'a>,
-    ) -> Result<(Transaction, Outcome<'a>), AllocError>
+        stmt: &'a Stmt<'t>,
+    ) -> Result<(Transaction, Outcome<'t>), AllocError>
         requires opened { IsOpen self.old.content by.now.tx }
         requires room { by.now.command + 1 < 2 ^ 64 }
         requires fit { RowsFit self.old.content self.old.catalog }
@@ -51,7 +51,7 @@ impl<'a, V: Versions> Database<'a, V> {
     }
 
     /// An implicit transaction begins, and the statement is its first.
-    fn run_first(&mut self, stmt: &'a Stmt<'a>) -> Result<(Transaction, Outcome<'a>), AllocError>
+    fn run_first(&mut self, stmt: &'a Stmt<'t>) -> Result<(Transaction, Outcome<'t>), AllocError>
         requires fit { RowsFit self.old.content self.old.catalog }
         ensures { IfOk result (λ left.
             run_first self.old (stmt_of stmt.now)
@@ -66,7 +66,7 @@ impl<'a, V: Versions> Database<'a, V> {
         &mut self,
         level: Level,
         explicit: bool,
-    ) -> Result<(Transaction, Outcome<'a>), AllocError>
+    ) -> Result<(Transaction, Outcome<'t>), AllocError>
         ensures { IfOk result (λ left.
             turns (begun self.old) (Transaction.Open (fresh self.old.content level explicit))
             ≡ record { db = self.new; transaction = left.0; outcome = left.1 }) }
@@ -76,7 +76,7 @@ impl<'a, V: Versions> Database<'a, V> {
     }
 
     /// A statement where no transaction is open.
-    fn run_closed(&mut self, stmt: &'a Stmt<'a>) -> Result<(Transaction, Outcome<'a>), AllocError>
+    fn run_closed(&mut self, stmt: &'a Stmt<'t>) -> Result<(Transaction, Outcome<'t>), AllocError>
         requires fit { RowsFit self.old.content self.old.catalog }
         ensures { IfOk result (λ left.
             run_closed self.old (stmt_of stmt.now)
@@ -97,8 +97,8 @@ impl<'a, V: Versions> Database<'a, V> {
     pub fn run_statement(
         &mut self,
         transaction: &Transaction,
-        stmt: &'a Stmt<'a>,
-    ) -> Result<(Transaction, Outcome<'a>), AllocError>
+        stmt: &'a Stmt<'t>,
+    ) -> Result<(Transaction, Outcome<'t>), AllocError>
         requires opened { (t : OpenFacts) → transaction.now ≡ Transaction.Open t → IsOpen self.old.content t.tx }
         requires room { (t : OpenFacts) → transaction.now ≡ Transaction.Open t → t.command + 1 < 2 ^ 64 }
         requires fit { RowsFit self.old.content self.old.catalog }

@@ -24,21 +24,21 @@ use sql_values::{Row, ValueFault};
 use std::alloc::{AllocError, Global};
 
 /// The result of a SELECT without FROM: there is one row, without columns.
-fn constant_result<'a>(alloc: Global, stmt: &'a Select<'a>) -> Result<ResultSet<'a>, ValueFault<'a>>
+fn constant_result<'t>(alloc: Global, stmt: &Select<'t>) -> Result<ResultSet<'t>, ValueFault<'t>>
     ensures { Answers result (result_of (select_of stmt.now) [] ([] ∷ [])) }
 {
     let empty = Row::from_vec(Vec::new(alloc));
     result_of(alloc, stmt, &[], &[&empty])
 }
 
-impl<'a, V: Versions> Database<'a, V> {
+impl<'a, 't, V: Versions> Database<'a, 't, V> {
     /// The result of a SELECT from the table at the place.
     fn result_at(
         &self,
         by: &OpenTransaction,
-        stmt: &'a Select<'a>,
+        stmt: &'a Select<'t>,
         place: usize,
-    ) -> Result<ResultSet<'a>, ValueFault<'a>>
+    ) -> Result<ResultSet<'t>, ValueFault<'t>>
         requires within { place < length self.now.catalog.tables }
         requires fit { RowsFit self.now.content self.now.catalog }
         ensures { Answers result (result_of (select_of stmt.now) (columns_at self.now.catalog place) (rows_shown self.now.content (view_of self.now.content by.now) place)) }
@@ -53,8 +53,8 @@ impl<'a, V: Versions> Database<'a, V> {
     fn answer(
         &mut self,
         by: &OpenTransaction,
-        made: Result<ResultSet<'a>, ValueFault<'a>>,
-    ) -> Result<(Transaction, Outcome<'a>), AllocError>
+        made: Result<ResultSet<'t>, ValueFault<'t>>,
+    ) -> Result<(Transaction, Outcome<'t>), AllocError>
         requires opened { IsOpen self.old.content by.now.tx }
         requires room { by.now.command + 1 < 2 ^ 64 }
         ensures { (due : Result Results ValueFaultFacts) → Answers made.entry due → IfOk result (λ left.
@@ -75,9 +75,9 @@ impl<'a, V: Versions> Database<'a, V> {
     fn select_in(
         &mut self,
         by: &OpenTransaction,
-        stmt: &'a Select<'a>,
-        name: Name<'a>,
-    ) -> Result<(Transaction, Outcome<'a>), AllocError>
+        stmt: &'a Select<'t>,
+        name: Name<'t>,
+    ) -> Result<(Transaction, Outcome<'t>), AllocError>
         requires opened { IsOpen self.old.content by.now.tx }
         requires room { by.now.command + 1 < 2 ^ 64 }
         requires fit { RowsFit self.old.content self.old.catalog }
@@ -96,8 +96,8 @@ impl<'a, V: Versions> Database<'a, V> {
     pub(crate) fn select(
         &mut self,
         by: &OpenTransaction,
-        stmt: &'a Select<'a>,
-    ) -> Result<(Transaction, Outcome<'a>), AllocError>
+        stmt: &'a Select<'t>,
+    ) -> Result<(Transaction, Outcome<'t>), AllocError>
         requires opened { IsOpen self.old.content by.now.tx }
         requires room { by.now.command + 1 < 2 ^ 64 }
         requires fit { RowsFit self.old.content self.old.catalog }

@@ -8,13 +8,13 @@ use sql_trees::{Column, CreateTable};
 use std::marker::Model;
 
 /// A table: its CREATE, and the transaction that made it.
-#[derive(Debug, Drop)]
-pub struct Table<'a> {
-    made: &'a CreateTable<'a>,
+#[derive(Drop)]
+pub struct Table<'a, 't> {
+    made: &'a CreateTable<'t>,
     by: TxId,
 }
 
-impl<'a> Model for Table<'a> {
+impl<'a, 't> Model for Table<'a, 't> {
     ghost use Rattle.session_machine.specs.Tables.{Table as TableFacts};
     ghost use Rattle.sql_trees.specs.Statements.{create_of};
 
@@ -23,15 +23,15 @@ impl<'a> Model for Table<'a> {
     ghost view = { λ t. record { made = create_of t.made.now; by = t.by } };
 }
 
-impl<'a> Table<'a> {
-    pub fn new(made: &'a CreateTable<'a>, by: TxId) -> Table<'a>
+impl<'a, 't> Table<'a, 't> {
+    pub fn new(made: &'a CreateTable<'t>, by: TxId) -> Table<'a, 't>
         ensures { result ≡ record { made = create_of made.now; by = by } }
     {
         Table { made, by }
     }
 
     /// The statement that made it.
-    pub fn made(&self) -> &'a CreateTable<'a>
+    pub fn made(&self) -> &'a CreateTable<'t>
         ensures { create_of result.now ≡ self.now.made }
     {
         self.made
@@ -44,7 +44,7 @@ impl<'a> Table<'a> {
         self.by
     }
 
-    pub fn columns(&self) -> &'a [Column<'a>]
+    pub fn columns(&self) -> &'a [Column<'t>]
         ensures { map column_of result.now ≡ self.now.made.columns }
     {
         self.made.columns.as_slice()
@@ -52,7 +52,7 @@ impl<'a> Table<'a> {
 }
 
 /// A DROP of the table at a place, by a transaction.
-#[derive(Debug, Drop)]
+#[derive(Drop)]
 pub struct Dropped {
     table: usize,
     by: TxId,

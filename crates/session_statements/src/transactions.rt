@@ -40,13 +40,13 @@ fn has_query(by: &OpenTransaction) -> bool
     by.snapshot.is_some()
 }
 
-impl<'a, V: Versions> Database<'a, V> {
+impl<'a, 't, V: Versions> Database<'a, 't, V> {
     /// The statement failed: its transaction is undone.
     pub(crate) fn fail(
         &mut self,
         by: &OpenTransaction,
-        fault: StmtFault<'a>,
-    ) -> (Transaction, Outcome<'a>)
+        fault: StmtFault<'t>,
+    ) -> (Transaction, Outcome<'t>)
         requires { IsOpen self.old.content by.now.tx }
         ensures { fails self.old by.now fault.entry ≡ record { db = self.new; transaction = result.0; outcome = result.1 } }
     {
@@ -60,7 +60,7 @@ impl<'a, V: Versions> Database<'a, V> {
         by: &OpenTransaction,
         explicit: bool,
         level: Level,
-    ) -> (Transaction, Outcome<'a>)
+    ) -> (Transaction, Outcome<'t>)
         requires { IsOpen self.old.content by.now.tx }
         ensures { level_set self.old by.now explicit level ≡ record { db = self.new; transaction = result.0; outcome = result.1 } }
     {
@@ -82,7 +82,7 @@ impl<'a, V: Versions> Database<'a, V> {
         &mut self,
         by: &OpenTransaction,
         level: Option<Level>,
-    ) -> (Transaction, Outcome<'a>)
+    ) -> (Transaction, Outcome<'t>)
         requires { IsOpen self.old.content by.now.tx }
         ensures { begin_in self.old by.now level ≡ record { db = self.new; transaction = result.0; outcome = result.1 } }
     {
@@ -94,7 +94,7 @@ impl<'a, V: Versions> Database<'a, V> {
 }
 
 /// A statement in an aborted transaction, which changes nothing of the database.
-pub(crate) fn run_aborted<'a>(stmt: &Stmt<'_>) -> (Transaction, Outcome<'a>)
+pub(crate) fn run_aborted<'t>(stmt: &Stmt<'_>) -> (Transaction, Outcome<'t>)
     ensures { (db : DatabaseFacts) → run_aborted db (stmt_of stmt.now) ≡ record { db = db; transaction = result.0; outcome = result.1 } }
 {
     match stmt {
