@@ -15,3 +15,6 @@ mod turns;
 pub use block::Block;
 pub use engine::EngineState;
 pub use replay::replays;
+
+#[cfg(test)]
+mod tests;
