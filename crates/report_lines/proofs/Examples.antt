@@ -11,8 +11,8 @@ use Rattle.spec_parser.specs.declared.tree.Marker.{Marker}
 use Rattle.spec_parser.specs.declared.tree.Marker.TheVariants.{Star, Step as Named}
 use Rattle.report_lines.specs.declared.history.Stand.{Stand}
 use Rattle.report_lines.specs.declared.history.Stand.TheVariants.{Due, Whole, Invalid}
-use Rattle.report_lines.specs.declared.history.Order.{Order}
-use Rattle.report_lines.specs.declared.history.Order.TheVariants.{Launch as LaunchOf, Leave as LeaveOf, Stop}
+use Rattle.session_machine.specs.declared.event.Order.{Order}
+use Rattle.session_machine.specs.declared.event.Order.TheVariants.{Launch as LaunchOf, Leave as LeaveOf, Stop}
 use Rattle.report_lines.specs.Due.{due, Planned}
 use Rattle.report_lines.specs.declared.history.Task.{Task}
 use Rattle.spec_parser.specs.Trees.{EntryTree}

@@ -4,10 +4,10 @@ use Rattle.std.specs.List.{list_any, filter}
 use Rattle.session_machine.specs.declared.reply.HistItem.{HistItem}
 use Rattle.session_machine.specs.declared.reply.Outcome.{Outcome}
 use Rattle.session_machine.specs.declared.reply.Outcome.TheVariants.{Launched, Done, Rows, Waits, Failed, Left}
-use Rattle.report_lines.specs.declared.history.Order.{Order}
-use Rattle.report_lines.specs.declared.history.Order.TheVariants.{Launch, Leave, Stop}
+use Rattle.session_machine.specs.declared.event.Order.{Order}
+use Rattle.session_machine.specs.declared.event.Order.TheVariants.{Launch, Leave, Stop}
 use Rattle.report_lines.specs.declared.history.Task.{Task}
-use Rattle.report_lines.specs.declared.history.Wound.{Wound}
+use Rattle.report_lines.specs.declared.history.TornDown.{TornDown}
 use Rattle.report_lines.specs.declared.history.Stand.{Stand}
 use Rattle.report_lines.specs.declared.history.Stand.TheVariants.{Due, Whole, Invalid}
 use Rattle.report_lines.specs.Starts.{start, ends_in, is_order}
@@ -57,24 +57,24 @@ due_setup items there k (t ∷ ts) =
     else (if went_well items k t.session then due_setup items there (k + 1) ts else Some Stop)
 
 -- how many orders the teardowns have taken, and the one of them that is due; one that waits takes a Leave as well
-abbrev pub wound : List HistItem → ℕ → ℕ → List Task → Wound
-wound items there k [] = record { orders = k; due = None }
-wound items there k (t ∷ ts) =
+abbrev pub torn_down : List HistItem → ℕ → ℕ → List Task → TornDown
+torn_down items there k [] = record { orders = k; due = None }
+torn_down items there k (t ∷ ts) =
     if nat_le there k then record { orders = k; due = Some (Launch t.session t.block) }
-    else (if is_over items k t.session then wound items there (k + 1) ts
+    else (if is_over items k t.session then torn_down items there (k + 1) ts
     else (if nat_le there (k + 1) then record { orders = k; due = Some (Leave t.session) }
-    else wound items there (k + 2) ts))
+    else torn_down items there (k + 2) ts))
 
 abbrev pub or_else : Option Order → Order → Order
 or_else None o = o
 or_else (Some o) p = o
 
 -- sessions 1 to the last leave, then the main teardown, then nothing
-abbrev pub due_last : Planned → List HistItem → ℕ → Wound → Order
+abbrev pub due_last : Planned → List HistItem → ℕ → TornDown → Order
 due_last plan items there w =
     or_else w.due
     (if nat_lt there (w.orders + plan.sessions) then Leave (there - w.orders + 1)
-    else or_else (wound items there (w.orders + plan.sessions) plan.last).due Stop)
+    else or_else (torn_down items there (w.orders + plan.sessions) plan.last).due Stop)
 
 abbrev pub launch_of : Option Task → Order
 launch_of None = Stop
@@ -87,7 +87,7 @@ abbrev pub due_entry : Planned → List HistItem → ℕ → Stand → Order
 due_entry plan items there (Due e) = task_of plan.tasks e
 due_entry plan items there Invalid = Stop
 due_entry plan items there Whole =
-    due_last plan items there (wound items there (length plan.setups + length plan.tasks) plan.teardowns)
+    due_last plan items there (torn_down items there (length plan.setups + length plan.tasks) plan.teardowns)
 
 -- the next order after a history
 abbrev pub due : Planned → Order

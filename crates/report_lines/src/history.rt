@@ -1,5 +1,7 @@
 //! What is said of a permutation, and what is due next.
 
+use session_machine::Order;
+
 /// What is said of an instance at a try; `seen` is how many items of the history had come.
 #[derive(Clone, Copy, Debug)]
 pub enum Line {
@@ -24,14 +26,6 @@ pub enum Stand {
     Invalid,
 }
 
-/// What a driver asks for.
-#[derive(Clone, Copy)]
-pub enum Order {
-    Launch { session: u32, block: u32 },
-    Leave { session: u32 },
-    Stop,
-}
-
 /// A session and a block for it.
 #[derive(Clone, Copy)]
 pub struct Task {
@@ -39,9 +33,9 @@ pub struct Task {
     pub block: u32,
 }
 
-/// How many orders came before an order that is due, or before the end.
+/// How far the teardowns have come: so many orders came before the one that is due, or before the end.
 #[derive(Clone, Copy)]
-pub struct Wound {
+pub struct TornDown {
     pub orders: usize,
     pub due: Option<Order>,
 }

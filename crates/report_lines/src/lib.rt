@@ -8,6 +8,6 @@ mod plan;
 mod telling;
 
 pub use course::Course;
-pub use history::{Line, Moment, Order, Stand, Task};
-pub use plan::{Around, Plan};
+pub use history::{Line, Moment, Stand, Task};
+pub use plan::{Plan, Schedule};
 pub use telling::{Told, told_lines};

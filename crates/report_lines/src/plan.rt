@@ -3,13 +3,13 @@ ghost use Rattle.std.specs.Prelude.{◌≡◌, ◌+◌, ◌-◌, ◌<◌, ◌≤
 ghost use Rattle.spec_parser.specs.Trees.{entry_view};
 ghost use Rattle.std.specs.List.{list_any, filter};
 ghost use Rattle.report_lines.specs.Starts.{start, ends_in, is_order};
-ghost use Rattle.report_lines.specs.Due.{segment, is_failed, fails, is_over, went_well, orders, due_setup, wound, task_of, due_last, due_entry, due, or_else};
+ghost use Rattle.report_lines.specs.Due.{segment, is_failed, fails, is_over, went_well, orders, due_setup, torn_down, task_of, due_last, due_entry, due, or_else};
 
 use crate::course::{Course, start};
 use crate::entries::{ends_in, is_order};
-use crate::history::{Order, Stand, Task, Wound};
+use crate::history::{Stand, Task, TornDown};
 use crate::telling::told_lines;
-use session_machine::{HistItem, Outcome};
+use session_machine::{HistItem, Order, Outcome};
 use spec_parser::Entry;
 use std::alloc::{AllocError, Global};
 use std::marker::Model;
@@ -79,13 +79,13 @@ fn due_setup(items: &[HistItem<'_>], there: usize, setups: &[Task]) -> Option<Or
 }
 
 /// How far the teardowns have come.
-fn wound(items: &[HistItem<'_>], there: usize, first: usize, tasks: &[Task]) -> Wound
-    ensures { result ≡ wound items.now there first tasks.now }
+fn torn_down(items: &[HistItem<'_>], there: usize, first: usize, tasks: &[Task]) -> TornDown
+    ensures { result ≡ torn_down items.now there first tasks.now }
 {
     let mut number = first;
     for task in tasks {
         if there <= number {
-            return Wound {
+            return TornDown {
                 orders: number,
                 due: Some(Order::Launch {
                     session: task.session,
@@ -96,7 +96,7 @@ fn wound(items: &[HistItem<'_>], there: usize, first: usize, tasks: &[Task]) -> 
         if is_over(items, number, task.session) {
             number += 1;
         } else if there <= number + 1 {
-            return Wound {
+            return TornDown {
                 orders: number,
                 due: Some(Order::Leave {
                     session: task.session,
@@ -106,7 +106,7 @@ fn wound(items: &[HistItem<'_>], there: usize, first: usize, tasks: &[Task]) -> 
             number += 2;
         }
     }
-    Wound {
+    TornDown {
         orders: number,
         due: None,
     }
@@ -115,7 +115,7 @@ fn wound(items: &[HistItem<'_>], there: usize, first: usize, tasks: &[Task]) -> 
 /// What a permutation launches: the blocks of its setups, of its entries, and of its teardowns. Each of the sessions
 /// leaves before the last teardown, that of the whole file.
 #[derive(Clone, Copy)]
-pub struct Around<'a> {
+pub struct Schedule<'a> {
     pub setups: &'a [Task],
     pub tasks: &'a [Task],
     pub teardowns: &'a [Task],
@@ -150,30 +150,30 @@ impl<'a> Plan<'a> {
     ghost use Rattle.report_lines.specs.Due.{due_last, due_entry, due};
 
     /// A permutation of these entries, whose steps are the tasks, with what stands around them, and its history.
-    pub fn new(entries: &'a [Entry], items: &'a [HistItem<'a>], around: &Around<'a>) -> Plan<'a>
-        requires { length around.now.setups.now + length entries.now + 1 < 2 ^ 64 }
+    pub fn new(entries: &'a [Entry], items: &'a [HistItem<'a>], schedule: &Schedule<'a>) -> Plan<'a>
+        requires { length schedule.now.setups.now + length entries.now + 1 < 2 ^ 64 }
         ensures { result ≡ record {
-          setups = around.now.setups.now;
-          setting = record { entries = map entry_view entries.now; items = items.now; setups = length around.now.setups.now };
-          tasks = around.now.tasks.now;
-          teardowns = around.now.teardowns.now;
-          sessions = around.now.sessions;
-          last = around.now.last.now;
+          setups = schedule.now.setups.now;
+          setting = record { entries = map entry_view entries.now; items = items.now; setups = length schedule.now.setups.now };
+          tasks = schedule.now.tasks.now;
+          teardowns = schedule.now.teardowns.now;
+          sessions = schedule.now.sessions;
+          last = schedule.now.last.now;
         } }
     {
         Plan {
-            setups: around.setups,
-            course: Course::new(entries, items, around.setups.len()),
+            setups: schedule.setups,
+            course: Course::new(entries, items, schedule.setups.len()),
             items,
-            tasks: around.tasks,
-            teardowns: around.teardowns,
-            sessions: around.sessions,
-            last: around.last,
+            tasks: schedule.tasks,
+            teardowns: schedule.teardowns,
+            sessions: schedule.sessions,
+            last: schedule.last,
         }
     }
 
     /// What is due after the teardowns of sessions.
-    fn due_last(&self, there: usize, after: Wound) -> Order
+    fn due_last(&self, there: usize, after: TornDown) -> Order
         ensures { result ≡ due_last self.now self.now.setting.items there after }
     {
         if let Some(order) = after.due {
@@ -188,7 +188,7 @@ impl<'a> Plan<'a> {
                 session: (there - after.orders) as u32 + 1,
             };
         }
-        match wound(self.items, there, after.orders + sessions, self.last).due {
+        match torn_down(self.items, there, after.orders + sessions, self.last).due {
             Some(order) => order,
             None => Order::Stop,
         }
@@ -203,7 +203,7 @@ impl<'a> Plan<'a> {
             Stand::Invalid => Order::Stop,
             Stand::Whole => self.due_last(
                 there,
-                wound(
+                torn_down(
                     self.items,
                     there,
                     self.setups.len() + self.tasks.len(),

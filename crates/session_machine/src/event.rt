@@ -28,3 +28,12 @@ pub enum Event {
     /// Its open transaction is rolled back and its block dropped.
     Leave { session: u32 },
 }
+
+/// What a driver orders when the engine is quiet.
+#[derive(Clone, Copy, Debug, PartialEq, Eq)]
+pub enum Order {
+    Launch { session: u32, block: u32 },
+    Leave { session: u32 },
+    /// The run is over.
+    Stop,
+}

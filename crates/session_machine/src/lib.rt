@@ -10,7 +10,7 @@ mod running;
 mod same;
 mod session;
 
-pub use event::{Event, Mode, Turn};
+pub use event::{Event, Mode, Order, Turn};
 pub use fault::{EngineFault, Refusal, StmtFault};
 pub use reply::{HistItem, Outcome, Reply};
 pub use running::{can_run, is_definition};
