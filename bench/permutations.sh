@@ -1,0 +1,117 @@
+#!/usr/bin/env bash
+# Times the built program on all 1,680 interleavings of three sessions of three steps, on all 924 of two sessions of six, and on one permutation of
+# 1,000 entries; a table is made, filled and dropped in each permutation. Prints permutations a second, the best of five runs.
+# Where PostgreSQL 15 and its isolationtester are on the machine (Debian's package postgresql-15), a private cluster is started in a temporary folder
+# (unix socket only, fsync off), the real tool runs the same files, its text is compared with ours, and the ratio is printed.
+# Build the program first: ./isolationtester < examples/specs/literals.spec
+set -eu
+here=$(cd "$(dirname "$0")/.." && pwd)
+program="$here/crates/isolationtester/out/isolationtester"
+lib=/usr/lib/postgresql/15
+real=$lib/lib/pgxs/src/test/isolation/isolationtester
+room=$(mktemp -d)
+data=
+finish() {
+  [ -z "$data" ] || as_owner "$lib/bin/pg_ctl" -D "$data" -m immediate stop > /dev/null 2>&1 || true
+  rm -rf "$room"
+}
+trap finish EXIT
+
+# postgres refuses to run as root
+as_owner() {
+  if [ "$(id -u)" = 0 ]; then setpriv --reuid postgres --regid postgres --clear-groups "$@"; else "$@"; fi
+}
+
+table='setup { CREATE TABLE t (k int, v int); INSERT INTO t VALUES (1, 10), (2, 20); }
+teardown { DROP TABLE t; }'
+cat > "$room/three" <<SPEC
+$table
+session s1
+step a1 { BEGIN; }
+step a2 { INSERT INTO t VALUES (3, 30); }
+step a3 { COMMIT; }
+session s2
+step b1 { BEGIN ISOLATION LEVEL REPEATABLE READ; }
+step b2 { SELECT * FROM t WHERE k > 1; }
+step b3 { SELECT v, k FROM t; }
+teardown { ROLLBACK; }
+session s3
+step c1 { SELECT k FROM t; }
+step c2 { INSERT INTO t (v) VALUES (40); }
+step c3 { SELECT * FROM t WHERE k IS NULL; }
+SPEC
+cat > "$room/two" <<SPEC
+$table
+session s1
+step a1 { BEGIN; }
+step a2 { INSERT INTO t VALUES (3, 30); }
+step a3 { SELECT * FROM t; }
+step a4 { COMMIT; }
+step a5 { INSERT INTO t VALUES (4, 40); }
+step a6 { SELECT k + v AS sum FROM t; }
+session s2
+step b1 { BEGIN ISOLATION LEVEL REPEATABLE READ; }
+step b2 { SELECT * FROM t; }
+step b3 { INSERT INTO t VALUES (5, 50); }
+step b4 { SELECT * FROM t; }
+step b5 { ROLLBACK; }
+step b6 { SELECT * FROM t; }
+SPEC
+{
+  echo "$table"
+  echo 'session s1 step a { SELECT * FROM t WHERE k = 1; }'
+  echo 'session s2 step b { SELECT 1; }'
+  echo 'session s3 step c { BEGIN; SELECT v FROM t; COMMIT; }'
+  printf 'permutation'
+  for _ in $(seq 250); do printf ' a b c b'; done
+  echo
+} > "$room/long"
+
+# milliseconds of a command, its output in $room/out
+millis() {
+  local from to
+  from=$(date +%s%N)
+  "$@" > "$room/out" || true
+  to=$(date +%s%N)
+  echo $(((to - from) / 1000000))
+}
+
+# the least of five
+ours() {
+  local best= ms
+  for _ in 1 2 3 4 5; do
+    ms=$(millis "$program" < "$room/$1")
+    if [ -z "$best" ] || [ "$ms" -lt "$best" ]; then best=$ms; fi
+  done
+  cp "$room/out" "$room/$1.ours"
+  [ "$best" -gt 0 ] || best=1
+  echo "$best"
+}
+
+if [ -x "$real" ] && [ -x "$lib/bin/initdb" ]; then
+  chmod 755 "$room"
+  mkdir "$room/cluster" "$room/socket"
+  [ "$(id -u)" != 0 ] || chown postgres "$room/cluster" "$room/socket"
+  as_owner "$lib/bin/initdb" -D "$room/cluster" -A trust -U tester > /dev/null
+  data="$room/cluster"
+  as_owner "$lib/bin/pg_ctl" -D "$data" -w -l "$room/cluster/log" \
+    -o "-c listen_addresses='' -c unix_socket_directories='$room/socket' -c fsync=off" start > /dev/null
+else
+  echo "No isolationtester of PostgreSQL 15 here: ours alone."
+fi
+
+# name, permutations, what it is
+compare() {
+  local mine theirs said
+  mine=$(ours "$1")
+  printf '%-46s %6d ms, %8d permutations a second' "$3" "$mine" $(($2 * 1000 / mine))
+  if [ -n "$data" ]; then
+    theirs=$(millis "$real" "host=$room/socket user=tester dbname=postgres" < "$room/$1")
+    if cmp -s "$room/out" "$room/$1.ours"; then said="the same text"; else said="ANOTHER TEXT"; fi
+    printf '; the real tool %6d ms: %d times as long, %s' "$theirs" $((theirs / mine)) "$said"
+  fi
+  echo
+}
+compare three 1680 "three sessions of three steps, 1,680 in all"
+compare two 924 "two sessions of six steps, 924 in all"
+compare long 1 "one permutation of 1,000 entries"
