@@ -1,0 +1,16 @@
+//! Laws of the histories of permutations: each function's contract is one of them, and its body does nothing.
+ghost use Rattle.std.specs.Prelude.{map};
+ghost use Rattle.spec_parser.specs.Trees.{spec_view, entry_view};
+ghost use Rattle.permutation_plans.specs.Regular.{HasOneHistory, EachHasOneHistory};
+
+use spec_parser::{Entry, Spec};
+
+/// A permutation of a spec has at most one regular history.
+pub fn one_history(_spec: &Spec<'_>, _entries: &[Entry])
+    ensures { HasOneHistory (spec_view _spec.now) (map entry_view _entries.now) }
+{}
+
+/// So has each permutation of each spec.
+pub fn each_has_one_history()
+    ensures { EachHasOneHistory }
+{}
