@@ -10,11 +10,11 @@ use spec_parser::{Entry, Spec};
 use std::alloc::{AllocError, Global};
 
 /// Whether a Launch or a Leave is due after these items. A Step is none of the permutation's orders.
-fn is_ordered<'a>(
+fn is_ordered(
     alloc: Global,
-    launches: &'a Launches,
-    entries: &'a [Entry],
-    before: &'a [HistItem<'a>],
+    launches: &Launches,
+    entries: &[Entry],
+    before: &[HistItem<'_>],
     event: Event,
 ) -> Result<bool, AllocError>
     ensures { IfOk result (λ ordered. IsTrue ordered ↔ IsOrdered event (due_after launches.now (map entry_view entries.now) before.now)) }
@@ -31,11 +31,11 @@ fn is_ordered<'a>(
 }
 
 /// Whether each Launch and Leave of the items is due after those before it, and none is due at the end.
-fn fits<'a>(
+fn fits(
     alloc: Global,
-    launches: &'a Launches,
-    entries: &'a [Entry],
-    items: &'a [HistItem<'a>],
+    launches: &Launches,
+    entries: &[Entry],
+    items: &[HistItem<'_>],
 ) -> Result<bool, AllocError>
     ensures { IfOk result (λ fit. IsTrue fit ↔ FitsAfter (due_after launches.now (map entry_view entries.now)) [] items.now) }
 {

@@ -125,21 +125,33 @@ impl Launches {
     }
 
     /// The next order after a history of the permutation that has these entries.
-    pub fn due<'a>(
-        &'a self,
+    pub fn due(
+        &self,
         alloc: Global,
-        entries: &'a [Entry],
-        items: &'a [HistItem<'a>],
+        entries: &[Entry],
+        items: &[HistItem<'_>],
     ) -> Result<Order, AllocError>
         ensures { IfOk result (λ order. order ≡ due_after self.now (map entry_view entries.now) items.now) }
     {
-        let schedule = Schedule {
-            setups: &self.setups,
-            tasks: &self.tasks,
-            teardowns: &self.teardowns,
-            sessions: self.sessions,
-            last: &self.last,
-        };
-        Plan::new(entries, items, &schedule).due(alloc)
+        due_of(self, alloc, entries, items)
     }
+}
+
+/// The same, all of it lent for one lifetime, as a plan holds it.
+fn due_of<'a>(
+    launches: &'a Launches,
+    alloc: Global,
+    entries: &'a [Entry],
+    items: &'a [HistItem<'a>],
+) -> Result<Order, AllocError>
+    ensures { IfOk result (λ order. order ≡ due_after launches.now (map entry_view entries.now) items.now) }
+{
+    let schedule = Schedule {
+        setups: &launches.setups,
+        tasks: &launches.tasks,
+        teardowns: &launches.teardowns,
+        sessions: launches.sessions,
+        last: &launches.last,
+    };
+    Plan::new(entries, items, &schedule).due(alloc)
 }

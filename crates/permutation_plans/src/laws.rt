@@ -6,8 +6,8 @@ ghost use Rattle.permutation_plans.specs.Regular.{HasOneHistory, EachHasOneHisto
 use spec_parser::{Entry, Spec};
 
 /// A permutation of a spec has at most one regular history.
-pub fn one_history(_spec: &Spec<'_>, _entries: &[Entry])
-    ensures { HasOneHistory (spec_view _spec.now) (map entry_view _entries.now) }
+pub fn one_history(spec: &Spec<'_>, entries: &[Entry])
+    ensures { HasOneHistory (spec_view spec.now) (map entry_view entries.now) }
 {}
 
 /// So has each permutation of each spec.
