@@ -60,6 +60,13 @@ impl Told {
         }
     }
 
+    /// The lines so far, in order.
+    pub fn lines(&self) -> &[Line]
+        ensures { result.now ≡ self.now.lines }
+    {
+        self.lines.as_slice()
+    }
+
     fn is_waiting(&self, entry: usize) -> bool
         requires { entry < self.now.launched }
         ensures { result ≡ not (is_reported self.now.lines entry) }
