@@ -1,2 +1,3 @@
 pub mod Launches
 pub mod Regular
+pub mod Worked

@@ -2,6 +2,7 @@
 ghost use Rattle.std.specs.Prelude.{map};
 ghost use Rattle.spec_parser.specs.Trees.{spec_view, entry_view};
 ghost use Rattle.permutation_plans.specs.Regular.{HasOneHistory, EachHasOneHistory};
+ghost use Rattle.permutation_plans.specs.Worked.{WorkedHistory};
 
 use spec_parser::{Entry, Spec};
 
@@ -13,4 +14,9 @@ pub fn one_history(spec: &Spec<'_>, entries: &[Entry])
 /// So has each permutation of each spec.
 pub fn each_has_one_history()
     ensures { EachHasOneHistory }
+{}
+
+/// A permutation of two sessions, with a setup, a teardown and a marker, has a regular history.
+pub fn worked_history()
+    ensures { WorkedHistory }
 {}
