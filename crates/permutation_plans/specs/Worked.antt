@@ -26,8 +26,8 @@ worked_spec = record {
   setups = empty_part 0 ∷ [];
   teardown = None;
   sessions = record { name = named 97; setup = None; steps = record { name = named 98; part = empty_part 1 } ∷ []; teardown = None }
-  ∷ record { name = named 99; setup = None; steps = record { name = named 100; part = empty_part 2 } ∷ []; teardown = Some (empty_part 3) }
-  ∷ [];
+      ∷ record { name = named 99; setup = None; steps = record { name = named 100; part = empty_part 2 } ∷ []; teardown = Some (empty_part 3) }
+      ∷ [];
   perms = worked_entries ∷ [];
 }
 

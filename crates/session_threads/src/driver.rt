@@ -13,11 +13,7 @@ pub trait Driver<V: Versions> {
     ghost order_after: { Self → List Item → Given };
 
     /// The next order. It is asked for where the engine is quiet.
-    fn next(
-        &mut self,
-        alloc: Global,
-        engine: &EngineState<'_, '_, V>,
-    ) -> Result<Order, AllocError>
+    fn next(&mut self, alloc: Global, engine: &EngineState<'_, '_, V>) -> Result<Order, AllocError>
         ensures { IfOk result (λ order. order ≡ order_after self.old engine.now.history) };
 }
 
