@@ -1,6 +1,6 @@
 -- Events that the machine doesn't refuse, and tables that it shows.
-use Rattle.std.proofs.Common.{◌≡◌, ℕ, Bool, false, List, ap, subst}
-use Rattle.std.specs.Prelude.{Option, Some, None, Ok, slice_get, if◌then◌else◌}
+use Rattle.std.proofs.Common.{◌≡◌, ℕ, Bool, true, false, List, refl, ap, subst}
+use Rattle.std.specs.Prelude.{Option, Some, None, IfSome, Ok, slice_get, if◌then◌else◌}
 use Rattle.sql_values.specs.declared.value.Value.{Value}
 use Rattle.session_machine.specs.declared.session.Session.{Session}
 use Rattle.session_machine.specs.declared.event.Event.{Event}
@@ -28,3 +28,8 @@ pub due : (blocks : Blocks) (count : ℕ) (mode : Mode) (m : Machine) (history :
     → IsDue e event
 due blocks count mode m history spent event e is fresh goes =
     subst (λ (x : Engine). IsDue x event) is (m, ap (λ (b : Bool). if b then None else Some m) fresh, goes)
+
+-- what is said of the machine of an engine that isn't spent holds of the machine that it has
+pub of_machine : (spent : Bool) (m : Machine) (P : Machine → Type 0) → (spent ≡ false → P m) → IfSome (if spent then None else Some m) P
+of_machine true m P h = tt
+of_machine false m P h = h refl

@@ -1,10 +1,10 @@
 //! The engine: the machine over a store, with its history.
-ghost use Rattle.std.specs.Prelude.{◌≡◌, ◌≢◌, ◌↔◌, IsTrue, ◌+◌, ◌<◌, ◌≤◌, ◌^◌, ℕ, List, [], ◌∷◌, ◌++◌, Option, Some, None, IfOk, IfErr, OnOk, OnErr, IsErrOf, Result, Ok, Err, length, option_map, slice_get};
+ghost use Rattle.std.specs.Prelude.{◌≡◌, ◌≢◌, ◌↔◌, IsTrue, ◌+◌, ◌<◌, ◌≤◌, ◌^◌, ℕ, List, [], ◌∷◌, ◌++◌, Option, Some, None, IfOk, IfErr, IfSome, OnOk, OnErr, IsErrOf, Result, Ok, Err, length, option_map, slice_get};
 ghost use Rattle.std.specs.Global.{Vec as VecFacts};
 ghost use Rattle.sql_values.specs.declared.value.Value.{Value as SqlValue};
 ghost use Rattle.row_versions.specs.Log.{empty_content};
 ghost use Rattle.session_machine.specs.Machine.{opening};
-ghost use Rattle.session_machine.specs.Engine.{EngineAnswered, IsLegal, engine_after, fault_of, opened, spent_engine, turn_of, visible_in};
+ghost use Rattle.session_machine.specs.Engine.{EngineAnswered, IsLegal, Run, engine_after, fault_of, opened, spent_engine, turn_of, visible_in};
 ghost use Rattle.session_core.specs.Blocks.{blocks_of};
 ghost use Rattle.session_core.specs.Engines.{IsDue, IsOf, is_quiet_in};
 
@@ -168,10 +168,12 @@ impl<'a, 't, V: Versions> EngineState<'a, 't, V> {
         self.act(Event::Leave { session })
     }
 
-    /// What was answered so far: a legal history, also once the engine is spent. It takes no memory.
+    /// What was answered so far: a legal history, also once the engine is spent, and one that leads to its state until
+    /// then. It takes no memory.
     pub fn history(&self) -> &[HistItem<'t>]
         ensures lends { result.now ≡ self.now.history }
         ensures legal { IsLegal self.now.blocks self.now.count self.now.mode self.now.history }
+        ensures leads { IfSome self.now.machine (λ m. Run self.now.blocks self.now.mode (opening self.now.count) self.now.history m) }
     {
         &self.history
     }
