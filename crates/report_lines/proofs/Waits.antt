@@ -1,5 +1,5 @@
 -- The list of waiting entries over the lines.
-use Rattle.std.proofs.Common.{◌≡◌, ℕ, zero, suc, ◌+◌, ◌<◌, ◌≤◌, List, [], ◌∷◌, ◌++◌, length, refl, ap, sym, ◌∙◌, subst, arith, true, false, Bool, not, cond, ◌==◌, ◌||◌, ◌&&◌, add-one, ◌⊎◌, inl, inr, ◌-◌}
+use Rattle.std.proofs.Common.{◌≡◌, ℕ, zero, suc, ◌+◌, ◌<◌, ◌≤◌, List, [], ◌∷◌, ◌++◌, refl, ap, sym, ◌∙◌, arith, true, false, Bool, not, cond, ◌==◌, ◌||◌, ◌&&◌, add-one, ◌⊎◌, inl, inr, ◌-◌}
 use Rattle.std.specs.List.{list_any, filter, fold}
 use Rattle.std.proofs.lemmas.List.Folds.{list_any-append}
 use Rattle.std.proofs.lemmas.List.Elements.{filter-append}
@@ -39,7 +39,7 @@ active_leave_first lines e s n =
     filter_and (λ j. not (is_reported lines j)) (λ j. not (j == e)) (λ j. not (is_reported (lines ++ AtOnce e s ∷ []) j))
     (λ x. ap not (reported_push lines (AtOnce e s) x) ∙ not_or (is_reported lines x) (x == e)) (instances n)
 
-same_filter : (p q : ℕ → Bool) → ((x : ℕ) → p x ≡ q x) → (xs : List ℕ) → filter p xs ≡ filter q xs
+pub same_filter : (p q : ℕ → Bool) → ((x : ℕ) → p x ≡ q x) → (xs : List ℕ) → filter p xs ≡ filter q xs
 same_filter p q h [] = refl
 same_filter p q h (x ∷ xs) = rw (h x, same_filter p q h xs) refl
 

@@ -4,10 +4,16 @@
 mod course;
 mod entries;
 mod history;
+pub mod laws;
 mod plan;
+mod segments;
 mod telling;
+#[cfg(test)]
+mod tests;
 
 pub use course::Course;
+pub use entries::{ends_in, session_of};
 pub use history::{Line, Moment, Stand, Task};
 pub use plan::{Plan, Schedule};
+pub use segments::{Segments, any_ends, any_fails};
 pub use telling::{Told, told_lines};
