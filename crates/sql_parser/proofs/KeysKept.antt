@@ -20,7 +20,7 @@ use Rattle.sql_parser.proofs.Steps.{bind_ok, ok_same}
 use Rattle.sql_parser.proofs.TablesKept.{TableWithin, key_differs, table_within, expect_shorter, name_shorter}
 
 -- the columns of a key are columns of the table
-abbrev key_among : List (List ℕ) → KeyRead → Bool
+abbrev pub key_among : List (List ℕ) → KeyRead → Bool
 key_among columns k = list_all (λ n. is_among n columns) (placed_names k.columns)
 
 -- ---- without a fault
@@ -111,7 +111,7 @@ module _ (table : List ℕ) (columns : List (List ℕ)) (primary : Bool) where
   abbrev kept_of : List KeyRead → List KeyRead
   kept_of ks = filter (is_kept primary) ks
 
-  names_kept : (ks : List KeyRead) → list_all (key_among columns) ks ≡ true → map (tree_name table columns) (map (resolved columns) (kept_of ks)) ≡ map (made_name table) (kept_of ks)
+  pub names_kept : (ks : List KeyRead) → list_all (key_among columns) ks ≡ true → map (tree_name table columns) (map (resolved columns) (kept_of ks)) ≡ map (made_name table) (kept_of ks)
   names_kept [] e = refl
   names_kept (k ∷ ks) e = of_test (is_kept primary k) (names_kept ks p.1)
     where
@@ -173,7 +173,7 @@ differ_insert (x ∷ xs) ys n h k l =
     (differ_insert xs ys n p.1 q.1 l)
 
 module _ (table : List ℕ) where
-  abbrev made : Bool → List KeyRead → List (List ℕ)
+  abbrev pub made : Bool → List KeyRead → List (List ℕ)
   made primary ks = map (made_name table) (filter (is_kept primary) ks)
 
   differ_parts : (ks : List KeyRead) → all_differ (map (made_name table) ks) ≡ true → all_differ (made true ks ++ made false ks) ≡ true
@@ -206,7 +206,7 @@ parts_length (k ∷ ks) = of_test k.primary (parts_length ks)
 
 -- ---- the table
 
-names_stay : (ks : List KeyRead) (cs : List ColumnTree) → column_names (map (completed ks) cs) ≡ column_names cs
+pub names_stay : (ks : List KeyRead) (cs : List ColumnTree) → column_names (map (completed ks) cs) ≡ column_names cs
 names_stay ks [] = refl
 names_stay ks (c ∷ cs) = ap (λ ns. c.name ∷ ns) (names_stay ks cs)
 
