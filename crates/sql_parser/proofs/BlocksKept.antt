@@ -119,7 +119,7 @@ module _ (last : ℕ) where
   at_end_ok r [] s e = e
   at_end_ok r (t ∷ ts) s e = absurd cc
 
-  whole_kept : (role : Role) (ts : Tokens) (s : StmtTree) → whole_at last role ts ≡ Ok s → length ts < 2 ^ 32 → is_kept_in role s ≡ true
+  pub whole_kept : (role : Role) (ts : Tokens) (s : StmtTree) → whole_at last role ts ≡ Ok s → length ts < 2 ^ 32 → is_kept_in role s ≡ true
   unfolding whole_at
   whole_kept role ts s e less =
       let x = bind_ok (stmt_at last role ts) (λ x. at_end last x.0 x.1) s e in

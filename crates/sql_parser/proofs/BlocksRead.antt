@@ -51,9 +51,9 @@ module _ (last : ℕ) where
   at_end_ok r [] s e = (e, refl)
   at_end_ok r (t ∷ ts) s e = absurd cc
 
-  whole_sound : (role : Role) (ts : Tokens) (s : StmtTree) → whole_at last role ts ≡ Ok s → Spells Shallow ts s
+  pub whole_taken : (E : Tokens → Tree → Type 0) (Any : Type 0) (role : Role) (ts : Tokens) (s : StmtTree) → Local last E Any (Whole E) (stmt_at last role) ts → whole_at last role ts ≡ Ok s → Spells E ts s
   unfolding whole_at
-  whole_sound role ts s e = of_local (stmt_local last Shallow ⊥ some_shallow (shallow_local last) shallow_starts (one_name last) role ts)
+  whole_taken E Any role ts s l e = of_local l
     where
       x : (y : Result StmtTree SqlFault × Tokens) × (stmt_at last role ts ≡ Ok y) × (at_end last y.0 y.1 ≡ Ok s)
       x = bind_ok (stmt_at last role ts) (λ y. at_end last y.0 y.1) s e
@@ -61,14 +61,17 @@ module _ (last : ℕ) where
       z : (x.0.0 ≡ Ok s) × (x.0.1 ≡ [])
       z = at_end_ok x.0.0 x.0.1 s x.2
 
-      of_local : Local last Shallow ⊥ (Whole Shallow) (stmt_at last role) ts → Spells Shallow ts s
+      of_local : Local last E Any (Whole E) (stmt_at last role) ts → Spells E ts s
       of_local (took v front rest split local q) =
           let same : (v, rest) ≡ x.0 = ok_same (v, rest) x.0 (sym (ap (stmt_at last role) split ∙ local rest refl) ∙ x.1) in
           let stmt : q.stmt ≡ s = shown_ok v s q.stmt q.shows (ap (λ (y : Result StmtTree SqlFault × Tokens). y.0) same ∙ z.0) in
           let all : ts ≡ front = split ∙ (ap (λ r. front ++ r) (ap (λ (y : Result StmtTree SqlFault × Tokens). y.1) same ∙ z.1) ∙ append-nil front) in
-          subst (λ us. Spells Shallow us s) (sym all) (subst (Spells Shallow front) stmt q.spells)
+          subst (λ us. Spells E us s) (sym all) (subst (Spells E front) stmt q.spells)
       of_local (stopped f front rest split local b) = absurd (no_both x.0 f (sym x.1 ∙ (ap (stmt_at last role) split ∙ local rest refl)))
       of_local (refused f h w) = absurd (no_both x.0 f (sym x.1 ∙ h))
+
+  pub whole_sound : (role : Role) (ts : Tokens) (s : StmtTree) → whole_at last role ts ≡ Ok s → Spells Shallow ts s
+  whole_sound role ts s e = whole_taken Shallow ⊥ role ts s (stmt_local last Shallow ⊥ some_shallow (shallow_local last) shallow_starts (one_name last) role ts) e
 
   -- what a piece adds is spelled by it
   record Added (ss more : List StmtTree) (ts : Tokens) (P : Tokens → List StmtTree → Type 0) : Type 0 where
@@ -170,7 +173,7 @@ module _ (last : ℕ) where
       of_tokens [] e = absurd (no_both s (misplaced last []) (sym e ∙ no_tokens role))
       of_tokens (t ∷ us) e = rw (few, e) refl
 
-piece_of : (last : ℕ) (role : Role) (ss : List StmtTree) (piece ts us : Tokens) (c : At Token) → Free ts → Is is_semicolon c → stmts_at last role ss piece (ts ++ c ∷ us) ≡ (piece_at c.span.start role ss (piece ++ ts) >>= λ more. stmts_at last role more [] us)
+pub piece_of : (last : ℕ) (role : Role) (ss : List StmtTree) (piece ts us : Tokens) (c : At Token) → Free ts → Is is_semicolon c → stmts_at last role ss piece (ts ++ c ∷ us) ≡ (piece_at c.span.start role ss (piece ++ ts) >>= λ more. stmts_at last role more [] us)
 unfolding stmts_at
 piece_of last role ss piece [] us c f h = rw (h, append-nil piece) refl
 piece_of last role ss piece (t ∷ ts) us c f h =
@@ -181,7 +184,7 @@ piece_of last role ss piece (t ∷ ts) us c f h =
     not_not true e = absurd cc
     not_not false e = refl
 
-last_of : (last : ℕ) (role : Role) (ss : List StmtTree) (piece ts : Tokens) → Free ts → stmts_at last role ss piece ts ≡ piece_at last role ss (piece ++ ts)
+pub last_of : (last : ℕ) (role : Role) (ss : List StmtTree) (piece ts : Tokens) → Free ts → stmts_at last role ss piece ts ≡ piece_at last role ss (piece ++ ts)
 unfolding stmts_at
 last_of last role ss piece [] f = ap (piece_at last role ss) (sym (append-nil piece))
 last_of last role ss piece (t ∷ ts) f =

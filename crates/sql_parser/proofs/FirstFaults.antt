@@ -16,7 +16,7 @@ use Rattle.sql_parser.specs.Blocks.{stmt_at, at_end, whole_at}
 use Rattle.sql_parser.specs.Kept.{is_kept_in}
 use Rattle.sql_parser.specs.Grammar.{Spells, Shallow, OfAnyDepth}
 use Rattle.sql_parser.specs.Stops.{Stands, at_next, IsStop}
-use Rattle.sql_parser.specs.Laws.{StopsFirst, Stops, at_token, in_expression, whole_query, FaultsAreFirst}
+use Rattle.sql_parser.specs.Laws.{StopsFirst, Stops, at_token, elsewhere, Excepted, in_expression, whole_query, FaultsAreFirst}
 use Rattle.sql_parser.proofs.Locals.{Local, Begun, took, stopped, refused, Excuse, no_stop, of_expr, misplaced_place}
 use Rattle.sql_parser.proofs.ExprLocals.{some_of_any_depth, of_any_depth_starts, any_depth_local, one_name}
 use Rattle.sql_parser.proofs.QueryLocals.{Shown, shown, no_columns, no_query, Whole}
@@ -49,7 +49,7 @@ module _ (last : ℕ) (role : Role) (ts : Tokens) (f : SqlFault) (stops : IsStop
   of_shown : (r : Result StmtTree SqlFault) (s : StmtTree) → Shown r s → r ≡ Err f → Spells OfAnyDepth ts s → Stops last role ts f
   of_shown _ _ (shown s) h q = absurd (no_both s f h)
   of_shown _ _ (no_columns place s) h q = absurd (subst IsStop (sym (err_same (BadColumns place) f h)) stops)
-  of_shown _ _ (no_query place s n) h q = whole_query s n q
+  of_shown _ _ (no_query place s n) h q = elsewhere (whole_query s n q)
 
   -- a token behind the statement
   behind : (v : Result StmtTree SqlFault) (front us : Tokens) (t : At Token) → ts ≡ front ++ t ∷ us → ((others : Tokens) → head others ≡ Some t → stmt_at last role (front ++ others) ≡ Ok (v, others)) → Whole OfAnyDepth front v → f ≡ misplaced last (t ∷ us) → Stops last role ts f
@@ -64,7 +64,7 @@ module _ (last : ℕ) (role : Role) (ts : Tokens) (f : SqlFault) (stops : IsStop
 
   of_excuse : (e : SqlFault) → e ≡ f → Excuse last e ts → Stops last role ts f
   of_excuse e same (no_stop n) = absurd (n (subst IsStop (sym same) stops))
-  of_excuse e same (of_expr before us n h split is) = in_expression before us n (sym same ∙ h) split (is ∙ ap Err same)
+  of_excuse e same (of_expr before us n h split is) = elsewhere (in_expression before us n (sym same ∙ h) split (is ∙ ap Err same))
 
   of_local : whole_at last role ts ≡ Err f → Local last OfAnyDepth (Unit {0}) (Whole OfAnyDepth) (stmt_at last role) ts → Stops last role ts f
   of_local e (took v front rest split local q) = of_end v front rest split local q (sym (whole_is ts [] (Ok (v, rest)) (ap (stmt_at last role) split ∙ local rest refl)) ∙ e)

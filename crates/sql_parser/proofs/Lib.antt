@@ -14,6 +14,7 @@ pub mod Frees
 pub mod BlockLocals
 pub mod BlocksRead
 pub mod FirstFaults
+pub mod BlockFaults
 pub mod Going
 pub mod Counts
 pub mod Depths

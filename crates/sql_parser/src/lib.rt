@@ -14,7 +14,7 @@ mod table_keys;
 mod transaction;
 
 pub use block::{Block, MAX_STMTS, Role, parse_block};
-pub use laws::{blocks_are_read, faults_are_first};
+pub use laws::{block_faults_are_first, blocks_are_read, faults_are_first};
 
 #[cfg(test)]
 mod samples;

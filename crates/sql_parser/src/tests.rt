@@ -117,7 +117,7 @@ fn nested(
 }
 
 // How many times the opening and the close stand, the parts, and the end of what the block is read as.
-const NESTED: [(&str, usize, [&str; 5], &str); 19] = [
+const NESTED: [(&str, usize, [&str; 5], &str); 22] = [
     (
         "sixty_four_parentheses",
         64,
@@ -225,6 +225,24 @@ const NESTED: [(&str, usize, [&str; 5], &str); 19] = [
         33,
         ["SELECT ", "(", "1", ") IN (2)", ""],
         "Q3 TooDeep at byte 7",
+    ),
+    (
+        "sixty-four NOTs in WHERE",
+        64,
+        ["DELETE FROM t WHERE ", "NOT ", "TRUE", "", ""],
+        "(NOT TRUE))))))))))))))))))))))))))))))))))))))))))))))))))))))))))))))))",
+    ),
+    (
+        "sixty-four signs in VALUES",
+        64,
+        ["INSERT INTO t VALUES (1), (", "+ ", "a", "", ")"],
+        "(+ a)))))))))))))))))))))))))))))))))))))))))))))))))))))))))))))))) )",
+    ),
+    (
+        "sixty-four parentheses in SET",
+        64,
+        ["UPDATE t SET a = ", "(", "1", ")", " WHERE TRUE"],
+        "UPDATE t, a = 1 WHERE TRUE",
     ),
     (
         "unterminated_comment",
