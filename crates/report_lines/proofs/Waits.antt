@@ -39,7 +39,7 @@ active_leave_first lines e s n =
     filter_and (λ j. not (is_reported lines j)) (λ j. not (j == e)) (λ j. not (is_reported (lines ++ AtOnce e s ∷ []) j))
     (λ x. ap not (reported_push lines (AtOnce e s) x) ∙ not_or (is_reported lines x) (x == e)) (instances n)
 
-same_filter : (p q : ℕ → Bool) → ((x : ℕ) → p x ≡ q x) → (xs : List ℕ) → filter p xs ≡ filter q xs
+pub same_filter : (p q : ℕ → Bool) → ((x : ℕ) → p x ≡ q x) → (xs : List ℕ) → filter p xs ≡ filter q xs
 same_filter p q h [] = refl
 same_filter p q h (x ∷ xs) = rw (h x, same_filter p q h xs) refl
 
