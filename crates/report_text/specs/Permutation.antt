@@ -10,7 +10,8 @@ use Rattle.report_lines.specs.Due.{orders}
 use Rattle.report_text.specs.Steps.{starting_text}
 use Rattle.report_text.specs.LineText.{line_text}
 use Rattle.report_text.specs.Said.{Said, says, ends, invalid, whole, ◌>>◌}
-use Rattle.report_text.specs.Around.{setups_of, setups_say, teardowns_say}
+use Rattle.report_text.specs.Setups.{setups_of, setups_say}
+use Rattle.report_text.specs.Teardowns.{teardowns_say}
 
 -- where the report stands after the entries
 abbrev pub stand_says : Stand → Said
