@@ -1,0 +1,10 @@
+pub mod FaultText
+pub mod Replies
+pub mod Steps
+pub mod LineText
+pub mod Said
+pub mod Setups
+pub mod Teardowns
+pub mod Permutation
+pub mod Faults
+pub mod Answers
