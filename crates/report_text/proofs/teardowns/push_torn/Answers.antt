@@ -1,4 +1,4 @@
-use Rattle.std.proofs.Common.{◌≡◌, ◌≤◌, List, ℕ, sym, ap, ◌∙◌, arith, drop}
+use Rattle.std.proofs.Common.{◌≤◌, sym, ap, ◌∙◌, arith, drop}
 use Rattle.std.specs.Prelude.{map}
 use Rattle.spec_parser.specs.Trees.{session_view}
 use Rattle.report_text.specs.Teardowns.{Torn, torn}
