@@ -1,9 +1,9 @@
 -- The law of where reading a block stops.
-use Rattle.std.proofs.Common.{◌≡◌, ℕ, zero, suc, ◌+◌, ◌<◌, ◌≤◌, ◌^◌, Bool, true, false, List, [], ◌∷◌, ◌++◌, length, Option, Some, None, refl, sym, ap, subst, ◌∙◌, append_assoc, append-nil, length-append, arith}
+use Rattle.std.proofs.Common.{◌≡◌, ℕ, zero, suc, ◌<◌, ◌≤◌, ◌^◌, Bool, true, false, List, [], ◌∷◌, ◌++◌, length, Option, Some, refl, sym, ap, subst, ◌∙◌, append_assoc, append-nil, length-append, arith}
 use Rattle.std.proofs.lemmas.Bool.{and_parts, and_from}
 use Rattle.std.proofs.lemmas.List.Folds.{list_all-append}
 use Rattle.std.specs.List.{list_all}
-use Rattle.std.specs.Prelude.{Result, Ok, Err, not, ◌&&◌, nat_lt, if◌then◌else◌}
+use Rattle.std.specs.Prelude.{Result, Ok, Err, not, nat_lt, if◌then◌else◌}
 use Rattle.iso_lexer.specs.declared.token.At.{At}
 use Rattle.sql_trees.specs.declared.fault.SqlFault.{SqlFault}
 use Rattle.sql_trees.specs.declared.fault.SqlFault.TheVariants.{TooMany}
@@ -14,14 +14,14 @@ use Rattle.sql_trees.specs.Trees.{Tree}
 use Rattle.sql_expressions.specs.Reading.{place_of, ◌>>=◌}
 use Rattle.sql_expressions.specs.Laws.{head}
 use Rattle.sql_parser.specs.declared.block.Role.{Role}
-use Rattle.sql_parser.specs.Blocks.{is_semicolon, whole_at, piece_at, stmts_at, block_at}
+use Rattle.sql_parser.specs.Blocks.{is_semicolon, whole_at, piece_at, stmts_at}
 use Rattle.sql_parser.specs.Kept.{is_kept_in}
 use Rattle.sql_parser.specs.Grammar.{Is, RowIs, is_row, Spells, PieceIs, no_stmt, a_stmt, BlockIs, last_piece, next_piece, Shallow, OfAnyDepth}
 use Rattle.sql_parser.specs.Stops.{Stands, at_next, at_row, IsStop}
-use Rattle.sql_parser.specs.Laws.{StopsFirst, Excepted, Stops, BlockStopsFirst, BlockStops, at_block_token, in_a_statement, BlockFaultsAreFirst, at_token, elsewhere}
-use Rattle.sql_parser.proofs.Steps.{bind_ok, ok_same, when_ok}
+use Rattle.sql_parser.specs.Laws.{Excepted, Stops, BlockStops, at_block_token, in_a_statement, BlockFaultsAreFirst, at_token, elsewhere}
+use Rattle.sql_parser.proofs.Steps.{bind_ok, when_ok}
 use Rattle.sql_parser.proofs.Locals.{stands_behind}
-use Rattle.sql_parser.proofs.ExprLocals.{some_of_any_depth, of_any_depth_starts, any_depth_local, one_name, some_shallow, shallow_starts, shallow_local}
+use Rattle.sql_parser.proofs.ExprLocals.{some_of_any_depth, of_any_depth_starts, any_depth_local, one_name}
 use Rattle.sql_parser.proofs.BlockLocals.{stmt_local}
 use Rattle.sql_parser.proofs.BlocksKept.{whole_kept}
 use Rattle.sql_parser.proofs.BlocksRead.{whole_taken, whole_sound, piece_of, last_of}

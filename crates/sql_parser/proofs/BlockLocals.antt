@@ -1,25 +1,25 @@
 -- Statements are read as far as their tokens allow.
-use Rattle.std.proofs.Common.{◌≡◌, ℕ, Bool, true, false, List, [], ◌∷◌, ◌++◌, Option, Some, None, refl, sym, ap, subst, ◌∙◌}
-use Rattle.std.specs.Prelude.{Result, Ok, Err, ◌&&◌, if◌then◌else◌}
+use Rattle.std.proofs.Common.{◌≡◌, ℕ, Bool, true, false, List, [], ◌∷◌, ◌++◌, Option, Some, None, refl, ap, ◌∙◌}
+use Rattle.std.specs.Prelude.{Result, Ok, ◌&&◌}
 use Rattle.iso_lexer.specs.declared.token.At.{At}
 use Rattle.iso_lexer.specs.declared.sql_token.SqlSign.TheVariants as signs
 use Rattle.sql_trees.specs.declared.fault.SqlFault.{SqlFault}
-use Rattle.sql_trees.specs.declared.fault.SqlFault.TheVariants.{DdlInSession, BadColumns}
+use Rattle.sql_trees.specs.declared.fault.SqlFault.TheVariants.{DdlInSession}
 use Rattle.sql_trees.specs.declared.word.Word.{Word}
 use Rattle.sql_trees.specs.declared.word.Word.TheVariants as words
-use Rattle.sql_trees.specs.Statements.{StmtTree, Commit, Rollback, Create}
+use Rattle.sql_trees.specs.Statements.{StmtTree, Commit, Rollback}
 use Rattle.sql_trees.specs.Tokens.{Token, Tokens, named}
 use Rattle.sql_trees.specs.Tokens as tok
 use Rattle.sql_trees.specs.Trees.{Tree}
-use Rattle.sql_expressions.specs.Reading.{misplaced, expect, is_word, is_open, is_close, ◌>>=◌}
+use Rattle.sql_expressions.specs.Reading.{expect, is_word, is_open, is_close, ◌>>=◌}
 use Rattle.sql_parser.specs.declared.block.Role.{Role}
-use Rattle.sql_parser.specs.Readers.{past, keyword, name_at, tree_at, items_at}
+use Rattle.sql_parser.specs.Readers.{past, name_at, tree_at, items_at}
 use Rattle.sql_parser.specs.Transactions.{is_work, begin_at, start_at, set_at}
 use Rattle.sql_parser.specs.Tables.{TableRead, empty_table, table_add, table_of, keys_fault, column_names, finished, create_at, drop_at}
 use Rattle.sql_parser.specs.Changes.{insert_at, update_at, delete_at}
 use Rattle.sql_parser.specs.Queries.{select_at}
-use Rattle.sql_parser.specs.Blocks.{is_ddl, is_session, simple_of, simple_at, begun_of, begun_at, allowed_at, stmt_at}
-use Rattle.sql_parser.specs.Grammar.{Is, Key, Names, Perhaps, nothing, one_is, Commas, AddsPart, Spells, commit, end, rollback, abort, create, created}
+use Rattle.sql_parser.specs.Blocks.{is_ddl, is_session, begun_at, allowed_at, stmt_at}
+use Rattle.sql_parser.specs.Grammar.{Is, Key, Names, nothing, Commas, AddsPart, Spells, commit, end, rollback, abort, create, created}
 use Rattle.sql_parser.specs.Stops.{IsStop}
 use Rattle.sql_parser.proofs.Locals.{Reader, Inhabited, Local, refused, no_stop, behind, switch_at, in_turn, mapped, token_then, token_last, name_then, no_rule_at, no_rule_end}
 use Rattle.sql_parser.proofs.StmtLocals.{a_word, a_sign, a_name, the_name, key_is, begun_local, start_local, word_local, set_local, drop_local}

@@ -1,28 +1,24 @@
 -- Blocks are read exactly where their tokens spell them.
-use Rattle.std.proofs.Common.{◌≡◌, ◌↔◌, ℕ, zero, suc, ◌+◌, ◌<◌, ◌≤◌, ◌^◌, Bool, true, false, List, [], ◌∷◌, ◌++◌, length, Option, Some, None, refl, sym, ap, subst, ◌∙◌, append_assoc, append-nil, length-append, arith, rules}
-use Rattle.std.proofs.lemmas.Bool.{and_parts, and_from, lt-ltb}
+use Rattle.std.proofs.Common.{◌≡◌, ℕ, ◌+◌, ◌<◌, ◌≤◌, Bool, true, false, List, [], ◌∷◌, ◌++◌, length, refl, sym, ap, subst, ◌∙◌, append_assoc, append-nil, length-append, arith, rules}
+use Rattle.std.proofs.lemmas.Bool.{and_parts, lt-ltb}
 use Rattle.std.proofs.lemmas.List.Folds.{list_all-append}
 use Rattle.std.specs.List.{list_all}
-use Rattle.std.specs.Prelude.{Result, Ok, Err, not, ◌&&◌, nat_lt, option_map, map, if◌then◌else◌}
+use Rattle.std.specs.Prelude.{Result, Ok, Err, not, ◌&&◌, nat_lt, option_map, if◌then◌else◌}
 use Rattle.iso_lexer.specs.declared.token.At.{At}
 use Rattle.sql_trees.specs.declared.fault.SqlFault.{SqlFault}
 use Rattle.sql_trees.specs.declared.fault.SqlFault.TheVariants.{TooMany}
-use Rattle.sql_trees.specs.declared.word.Word.{Word}
 use Rattle.sql_trees.specs.declared.word.Word.TheVariants as words
-use Rattle.sql_trees.specs.Statements.{StmtTree, SetTree, OrderTree, DropTables, Inserts, Updates, Deletes, Selects}
+use Rattle.sql_trees.specs.Statements.{StmtTree, SetTree, OrderTree, DropTables, Inserts, Updates, Selects}
 use Rattle.sql_trees.specs.Tokens.{Token, Tokens}
 use Rattle.sql_trees.specs.Tokens as tok
 use Rattle.sql_trees.specs.Trees.{Tree}
 use Rattle.sql_expressions.specs.Reading.{misplaced, ◌>>=◌}
 use Rattle.sql_parser.specs.declared.block.Role.{Role}
-use Rattle.sql_parser.specs.Readers.{past}
-use Rattle.sql_parser.specs.Transactions.{is_work}
-use Rattle.sql_parser.specs.Tables.{TableRead, column_names, completed, declared}
 use Rattle.sql_parser.specs.Changes.{set_columns}
 use Rattle.sql_parser.specs.Queries.{is_allowed}
-use Rattle.sql_parser.specs.Blocks.{is_ddl, is_session, is_semicolon, simple_of, begun_of, begun_at, allowed_at, stmt_at, at_end, whole_at, piece_at, stmts_at, block_from, block_at}
-use Rattle.sql_parser.specs.Kept.{is_shallow, maybe_shallow, item_shallow, all_differ, columns_differ, rows_fit, table_kept, insert_kept, update_kept, select_kept, is_kept, makes_or_drops, is_kept_in}
-use Rattle.sql_parser.specs.Grammar.{Is, Key, Spells, begin, start, commit, end, rollback, abort, set_transaction, set_timeout, create, drop, drop_if, insert, update, delete, select, created, PieceIs, no_stmt, a_stmt, BlockIs, last_piece, next_piece, Shallow}
+use Rattle.sql_parser.specs.Blocks.{is_ddl, is_session, is_semicolon, begun_of, begun_at, stmt_at, at_end, whole_at, piece_at, stmts_at, block_at}
+use Rattle.sql_parser.specs.Kept.{is_shallow, maybe_shallow, item_shallow, all_differ, columns_differ, rows_fit, is_kept, makes_or_drops, is_kept_in}
+use Rattle.sql_parser.specs.Grammar.{Is, Spells, begin, start, commit, end, rollback, abort, set_transaction, set_timeout, create, drop, drop_if, insert, update, delete, select, created, PieceIs, no_stmt, a_stmt, BlockIs, last_piece, next_piece, Shallow}
 use Rattle.sql_parser.specs.Laws.{BlocksAreRead}
 use Rattle.sql_parser.proofs.BlocksKept.{block_kept}
 use Rattle.sql_parser.proofs.Steps.{bind_ok, ok_same, when_ok}

@@ -1,22 +1,22 @@
 -- INSERT, UPDATE and DELETE are read as far as their tokens allow.
-use Rattle.std.proofs.Common.{◌≡◌, ℕ, zero, suc, Bool, true, false, List, [], ◌∷◌, ◌++◌, length, Option, Some, None, refl, sym, ap, subst, ◌∙◌, append_assoc, append-nil}
-use Rattle.std.specs.Prelude.{Result, Ok, Err, option_map, if◌then◌else◌}
+use Rattle.std.proofs.Common.{◌≡◌, ℕ, Bool, true, false, List, [], ◌∷◌, ◌++◌, length, Option, Some, None, refl, sym, ap, subst, ◌∙◌, append-nil}
+use Rattle.std.specs.Prelude.{Result, Ok, Err, if◌then◌else◌}
 use Rattle.iso_lexer.specs.declared.token.At.{At}
 use Rattle.iso_lexer.specs.declared.sql_token.SqlSign.TheVariants as signs
 use Rattle.sql_trees.specs.declared.fault.SqlFault.{SqlFault}
-use Rattle.sql_trees.specs.declared.fault.SqlFault.TheVariants.{Syntax, BadColumns}
+use Rattle.sql_trees.specs.declared.fault.SqlFault.TheVariants.{Syntax}
 use Rattle.sql_trees.specs.declared.word.Word.TheVariants as words
 use Rattle.sql_trees.specs.Statements.{StmtTree, SetTree, Inserts, Updates, Deletes}
-use Rattle.sql_trees.specs.Tokens.{Token, Tokens, named}
+use Rattle.sql_trees.specs.Tokens.{Token, Tokens}
 use Rattle.sql_trees.specs.Trees.{Tree}
 use Rattle.sql_expressions.specs.Reading.{place_of, expect, is_word, is_open, is_close, after, ◌>>=◌}
 use Rattle.sql_expressions.specs.Laws.{head}
 use Rattle.sql_parser.specs.Readers.{keyword, name_at, tree_at, items_at}
 use Rattle.sql_parser.specs.Tables.{is_among}
 use Rattle.sql_parser.specs.Changes.{Rows, fits, is_equal, set_columns, distinct_add, value_add, row_add, columns_of, columns_at, insert_at, filter_of, filter_at, set_value, set_add, update_at, delete_at}
-use Rattle.sql_parser.specs.Grammar.{Is, Key, Names, Commas, AddsName, adds_name, AddsValue, adds_value, RowIs, is_row, with_row, no_rows, AddsRow, adds_row, ColumnsAre, unlisted, listed_columns, AddsSet, adds_set, WhereIs, unfiltered, filtered, Spells, insert, update, delete}
-use Rattle.sql_parser.specs.Stops.{Stands, at_next, at_row}
-use Rattle.sql_parser.proofs.Locals.{Reader, Inhabited, Local, Begun, took, stopped, refused, gives, behind, same_at, in_turn, mapped, token_then, token_last, name_then, either, list_local, some_list}
+use Rattle.sql_parser.specs.Grammar.{Key, Names, Commas, AddsName, adds_name, AddsValue, adds_value, RowIs, is_row, with_row, no_rows, AddsRow, adds_row, ColumnsAre, unlisted, listed_columns, AddsSet, adds_set, WhereIs, unfiltered, filtered, Spells, insert, update, delete}
+use Rattle.sql_parser.specs.Stops.{at_row}
+use Rattle.sql_parser.proofs.Locals.{Reader, Inhabited, Local, took, stopped, refused, gives, in_turn, mapped, token_then, token_last, name_then, either, list_local, some_list}
 use Rattle.sql_parser.proofs.StmtLocals.{a_word, a_sign, a_name, the_name, key_is, adds_some_name}
 use Rattle.sql_parser.proofs.TableLocals.{distinct_local}
 

@@ -1,5 +1,5 @@
 -- What the tokens spell is read: SELECT.
-use Rattle.std.proofs.Common.{◌≡◌, ℕ, zero, suc, Bool, true, false, List, [], ◌∷◌, ◌++◌, length, Option, Some, None, refl, sym, ap, subst, ◌∙◌, append_assoc, append-nil}
+use Rattle.std.proofs.Common.{◌≡◌, ℕ, Bool, true, false, List, [], ◌∷◌, ◌++◌, Option, Some, None, refl, sym, ap, ◌∙◌, append_assoc}
 use Rattle.std.specs.Prelude.{Result, Ok, Err, if◌then◌else◌}
 use Rattle.iso_lexer.specs.declared.token.At.{At}
 use Rattle.iso_lexer.specs.declared.sql_token.SqlSign.TheVariants as signs
@@ -10,18 +10,15 @@ use Rattle.sql_trees.specs.declared.word.Word.TheVariants as words
 use Rattle.sql_trees.specs.declared.expr.AggKind.{AggKind}
 use Rattle.sql_trees.specs.declared.expr.AggKind.TheVariants as aggs
 use Rattle.sql_trees.specs.declared.stmt.Lock.{Lock}
-use Rattle.sql_trees.specs.Statements.{StmtTree, ItemTree, OrderTree, SelectTree, Selects, All, Value, Aggregate}
+use Rattle.sql_trees.specs.Statements.{ItemTree, OrderTree, SelectTree, Selects, All, Value, Aggregate}
 use Rattle.sql_trees.specs.Tokens.{Token, Tokens, named}
 use Rattle.sql_trees.specs.Tokens as tok
-use Rattle.sql_trees.specs.Trees.{Tree, AggTree, CountRows, Of}
-use Rattle.sql_expressions.specs.Reading.{Found, chain, expr_at, or_at, and_at, is_at, cmp_at, inn_at, cat_at, add_at, mul_at, expect, misplaced, is_word, is_open, is_close, is_comma, after, after_comma, ◌>>=◌}
+use Rattle.sql_trees.specs.Trees.{Tree, AggTree}
+use Rattle.sql_expressions.specs.Reading.{Found, chain, expr_at, or_at, and_at, is_at, cmp_at, inn_at, cat_at, add_at, mul_at, misplaced, is_word, is_open, is_comma, after, after_comma}
 use Rattle.sql_expressions.specs.Grammar.{Ends, goes_on}
 use Rattle.sql_expressions.proofs.Complete.{expr_complete}
-use Rattle.sql_parser.specs.Readers.{keyword, name_at, tree_at, items_at}
-use Rattle.sql_parser.specs.Changes.{filter_at}
-use Rattle.sql_parser.specs.Queries.{is_star, agg_kind, call_of, call_at, rows_of, maybe_named, maybe_name, direction_of, direction_at, alias_of, alias_at, agg_of, agg_at, item_of, item_star, item_at, item_add, from_of, from_at, nulls_end, nulls_of, nulls_at, order_add, order_of, order_at, lock_end, lock_of, lock_at, is_allowed, query_of, select_at}
-use Rattle.sql_parser.specs.Grammar.{Is, Key, Names, Commas, AliasIs, no_alias, as_alias, bare_alias, AggIs, all_rows, of_values, AddsItem, a_star, a_value, an_aggregate, FromIs, no_table, from_table, DirectionIs, as_ever, ascending, descending, NullsAre, unsaid, nulls_first, nulls_last, AddsKey, adds_key, OrderIs, unordered, ordered, LockIs, no_lock, for_update, for_share, WhereIs, unfiltered, filtered, Shallow}
-use Rattle.sql_parser.proofs.ExprLocals.{shallow_starts}
+use Rattle.sql_parser.specs.Queries.{is_star, agg_kind, call_of, call_at, rows_of, maybe_name, direction_at, alias_at, agg_at, item_at, item_add, from_at, nulls_at, order_add, order_at, lock_at, is_allowed, select_at}
+use Rattle.sql_parser.specs.Grammar.{Is, Commas, AliasIs, no_alias, as_alias, bare_alias, AggIs, all_rows, of_values, AddsItem, a_star, a_value, an_aggregate, FromIs, no_table, from_table, DirectionIs, as_ever, ascending, descending, NullsAre, unsaid, nulls_first, nulls_last, AddsKey, adds_key, OrderIs, unordered, ordered, LockIs, no_lock, for_update, for_share, WhereIs, unfiltered, filtered, Shallow}
 use Rattle.sql_parser.proofs.StmtLocals.{word_is}
 use Rattle.sql_parser.proofs.Completes.{other_word, not_key, ends_part, Parted, part_ends, no_name_next, no_part_word, comma_is_parted, close_ends, tree_reads, list_reads}
 use Rattle.sql_parser.proofs.CompleteStmts.{where_reads}

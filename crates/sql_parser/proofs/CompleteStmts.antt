@@ -1,30 +1,28 @@
 -- What the tokens spell is read: statements on transactions, DROP, INSERT, UPDATE and DELETE.
-use Rattle.std.proofs.Common.{◌≡◌, ℕ, zero, suc, Bool, true, false, List, [], ◌∷◌, ◌++◌, length, Option, Some, None, refl, sym, ap, subst, ◌∙◌, append_assoc, append-nil}
+use Rattle.std.proofs.Common.{◌≡◌, ℕ, Bool, true, false, List, [], ◌∷◌, ◌++◌, length, Option, Some, None, refl, sym, ap, ◌∙◌, append_assoc, append-nil}
 use Rattle.std.proofs.lemmas.Bool.{and_parts, or_parts}
 use Rattle.std.proofs.lemmas.List.{map-append}
 use Rattle.std.proofs.lemmas.List.Folds.{list_any-append}
 use Rattle.std.specs.List.{list_any}
-use Rattle.std.specs.Prelude.{Result, Ok, Err, not, ◌&&◌, ◌||◌, bytes_eq, map, option_map, if◌then◌else◌}
+use Rattle.std.specs.Prelude.{Ok, not, ◌&&◌, ◌||◌, bytes_eq, option_map, if◌then◌else◌}
 use Rattle.iso_lexer.specs.declared.token.At.{At}
 use Rattle.iso_lexer.specs.declared.sql_token.SqlSign.TheVariants as signs
-use Rattle.sql_trees.specs.declared.fault.SqlFault.{SqlFault}
 use Rattle.sql_trees.specs.declared.word.Word.{Word}
 use Rattle.sql_trees.specs.declared.word.Word.TheVariants as words
 use Rattle.sql_trees.specs.declared.stmt.Level.{Level}
-use Rattle.sql_trees.specs.Statements.{StmtTree, SetTree, Begin, Commit, Rollback, SetTransaction, SetDeadlockTimeout, DropTables, Inserts, Updates, Deletes}
+use Rattle.sql_trees.specs.Statements.{SetTree, Begin, SetTransaction, SetDeadlockTimeout, DropTables, Inserts, Updates, Deletes}
 use Rattle.sql_trees.specs.Tokens.{Token, Tokens, named}
 use Rattle.sql_trees.specs.Tokens as tok
 use Rattle.sql_trees.specs.Trees.{Tree}
-use Rattle.sql_expressions.specs.Reading.{place_of, expect, is_word, is_open, is_close, is_comma, after, after_comma, ◌>>=◌}
+use Rattle.sql_expressions.specs.Reading.{is_word, is_open, is_close, is_comma, after, after_comma}
 use Rattle.sql_expressions.specs.Grammar.{Ends}
-use Rattle.sql_parser.specs.Readers.{past, keyword, name_at, tree_at, items_at}
-use Rattle.sql_parser.specs.Transactions.{is_work, is_scope, is_to, is_setting, level_of, isolation_at, begin_of, begin_at, start_at, parameter_of, parameter_at, set_of, set_at}
-use Rattle.sql_parser.specs.Tables.{is_among, drop_add, drop_of, drop_names, drop_at, after_if}
-use Rattle.sql_parser.specs.Changes.{Rows, fits, is_equal, set_columns, distinct_add, value_add, row_add, columns_of, columns_at, insert_at, filter_of, filter_at, set_value, set_add, update_at, delete_at}
-use Rattle.sql_parser.specs.Kept.{all_differ, rows_fit, columns_differ, insert_kept, update_kept}
+use Rattle.sql_parser.specs.Readers.{past, items_at}
+use Rattle.sql_parser.specs.Transactions.{is_work, is_scope, is_to, is_setting, isolation_at, begin_at, start_at, parameter_at, set_at}
+use Rattle.sql_parser.specs.Tables.{is_among, drop_add, drop_at, after_if}
+use Rattle.sql_parser.specs.Changes.{Rows, fits, set_columns, distinct_add, value_add, row_add, columns_at, insert_at, filter_at, set_add, update_at, delete_at}
+use Rattle.sql_parser.specs.Kept.{all_differ, rows_fit, columns_differ}
 use Rattle.sql_parser.specs.Grammar.{Is, Key, Names, Perhaps, nothing, one_is, Commas, last_item, next_item, AddsName, adds_name, IsolationIs, uncommitted, committed, repeatable, MaybeLevel, no_level, a_level, AddsValue, adds_value, RowIs, is_row, with_row, no_rows, AddsRow, adds_row, ColumnsAre, unlisted, listed_columns, AddsSet, adds_set, WhereIs, unfiltered, filtered, Shallow}
 use Rattle.sql_parser.proofs.Keeping.{width_behind, behind_push}
-use Rattle.sql_parser.proofs.Locals.{Reader}
 use Rattle.sql_parser.proofs.StmtLocals.{word_is}
 use Rattle.sql_parser.proofs.Completes.{other_word, not_key, comma_ends, close_ends, no_comma_at_close, no_comma_at_key, perhaps_past, tree_reads, list_reads}
 

@@ -1,12 +1,12 @@
 -- What the tokens spell is read: CREATE TABLE.
-use Rattle.std.proofs.Common.{◌≡◌, ℕ, zero, suc, ◌+◌, ◌<◌, ◌≤◌, ◌^◌, Bool, true, false, List, [], ◌∷◌, ◌++◌, length, map, Option, Some, None, refl, sym, ap, subst, ◌∙◌, append_assoc, append-nil, length-append, arith, rules}
+use Rattle.std.proofs.Common.{◌≡◌, ℕ, suc, ◌<◌, ◌^◌, Bool, true, false, List, [], ◌∷◌, ◌++◌, length, map, Some, None, refl, sym, ap, subst, ◌∙◌, append_assoc, arith, rules}
 use Rattle.std.proofs.lemmas.Bool.{and_from, and_parts, or_parts, not_from_false, not-true, false_from_ne_true, lt-ltb}
 use Rattle.std.proofs.lemmas.Bool.Decides.{Decides-eqb}
 use Rattle.std.proofs.lemmas.List.{map-append, length-map}
 use Rattle.std.proofs.lemmas.List.Folds.{list_any-append, list_all-append}
 use Rattle.std.proofs.lemmas.Slice.Eq.{bytes_eq-Decides}
 use Rattle.std.specs.List.{list_any, list_all, filter}
-use Rattle.std.specs.Prelude.{Result, Ok, Err, not, ◌&&◌, ◌||◌, ◌==◌, nat_lt, bytes_eq, if◌then◌else◌}
+use Rattle.std.specs.Prelude.{Result, Ok, not, ◌&&◌, ◌||◌, ◌==◌, nat_lt, bytes_eq, if◌then◌else◌}
 use Rattle.iso_lexer.specs.declared.token.At.{At}
 use Rattle.iso_lexer.specs.declared.sql_token.SqlSign.TheVariants as signs
 use Rattle.sql_trees.specs.declared.fault.SqlFault.{SqlFault}
@@ -14,12 +14,11 @@ use Rattle.sql_trees.specs.declared.word.Word.{Word}
 use Rattle.sql_trees.specs.declared.word.Word.TheVariants as words
 use Rattle.sql_trees.specs.Words.{is_reserved}
 use Rattle.sql_trees.specs.declared.kind.Kind.{Kind}
-use Rattle.sql_trees.specs.Statements.{StmtTree, ColumnTree, KeyTree}
+use Rattle.sql_trees.specs.Statements.{ColumnTree, KeyTree}
 use Rattle.sql_trees.specs.Tokens.{Token, Tokens, named}
 use Rattle.sql_trees.specs.Tokens as tok
-use Rattle.sql_expressions.specs.Reading.{place_of, expect, is_word, is_open, is_close, is_comma, after, after_comma, ◌>>=◌}
-use Rattle.sql_parser.specs.Readers.{keyword, name_at, items_at}
-use Rattle.sql_parser.specs.Tables.{Placed, KeyRead, TableRead, Constraints, is_among, placed_names, column_names, empty_table, with_key, with_column, key_limit, key_name, kind_of, is_constraint, constrained, key_add, key_at, constraint_at, constraints_at, limits_at, column_behind, column_at, table_item, table_add, made_name, first_lacking, first_place, text_fault, or_else, keys_fault, completed, place_among, places_in, resolved, is_kept, resolved_keys, declared, table_of, finished, create_at}
+use Rattle.sql_expressions.specs.Reading.{is_word, is_open, is_close, is_comma}
+use Rattle.sql_parser.specs.Tables.{Placed, KeyRead, TableRead, Constraints, is_among, placed_names, column_names, empty_table, with_key, with_column, kind_of, is_constraint, key_add, key_at, constraints_at, column_at, table_add, made_name, first_lacking, keys_fault, completed, place_among, places_in, resolved, is_kept, resolved_keys, declared, finished, create_at}
 use Rattle.sql_parser.specs.Kept.{all_differ, places_differ, key_fits, tree_name, table_kept}
 use Rattle.sql_parser.specs.Grammar.{Is, Key, Names, Commas, placed, AddsColumn, adds_column, Says, no_more, not_null, primary_key, unique_key, AddsPart, a_column, a_primary, a_unique, created, Shallow}
 use Rattle.sql_parser.proofs.Keeping.{or_none}

@@ -1,21 +1,20 @@
 -- What the tokens spell is read: the parts that statements have, and lists.
-use Rattle.std.proofs.Common.{◌≡◌, ℕ, zero, suc, ◌+◌, ◌<◌, ◌≤◌, Bool, true, false, List, [], ◌∷◌, ◌++◌, length, Option, Some, None, refl, sym, ap, subst, ◌∙◌, append_assoc, append-nil, length-append, arith}
-use Rattle.std.specs.Prelude.{Result, Ok, Err, if◌then◌else◌}
+use Rattle.std.proofs.Common.{◌≡◌, ℕ, zero, suc, ◌≤◌, Bool, true, false, List, [], ◌∷◌, ◌++◌, length, None, refl, ap, ◌∙◌, append_assoc, length-append, arith}
+use Rattle.std.specs.Prelude.{Ok}
 use Rattle.iso_lexer.specs.declared.token.At.{At}
 use Rattle.iso_lexer.specs.declared.sql_token.SqlSign.TheVariants as signs
-use Rattle.sql_trees.specs.declared.fault.SqlFault.{SqlFault}
 use Rattle.sql_trees.specs.declared.word.Word.{Word}
 use Rattle.sql_trees.specs.declared.word.Word.TheVariants as words
 use Rattle.sql_trees.specs.Tokens.{Token, Tokens, named}
 use Rattle.sql_trees.specs.Tokens as tok
 use Rattle.sql_trees.specs.Trees.{Tree}
-use Rattle.sql_expressions.specs.Reading.{expr_at, expect, is_word, is_comma, is_open, is_close, after, after_comma, ◌>>=◌}
+use Rattle.sql_expressions.specs.Reading.{expect, is_word, is_comma, is_close, after, after_comma, ◌>>=◌}
 use Rattle.sql_expressions.specs.Grammar.{Ends, goes_on}
 use Rattle.sql_expressions.proofs.Complete.{expr_complete}
 use Rattle.sql_parser.specs.Readers.{past, tree_at, more_at, items_at}
-use Rattle.sql_parser.specs.Grammar.{Is, Key, Names, Perhaps, nothing, one_is, Commas, last_item, next_item, Shallow}
+use Rattle.sql_parser.specs.Grammar.{Is, Key, Perhaps, nothing, one_is, Commas, last_item, next_item, Shallow}
 use Rattle.sql_parser.proofs.Locals.{Reader}
-use Rattle.sql_parser.proofs.StmtLocals.{key_is, word_is}
+use Rattle.sql_parser.proofs.StmtLocals.{word_is}
 
 -- ---- words
 

@@ -1,5 +1,5 @@
 -- Expressions are read as far as their tokens allow.
-use Rattle.std.proofs.Common.{◌≡◌, ℕ, false, List, [], ◌∷◌, ◌++◌, Some, refl, sym, ap, subst, ◌∙◌}
+use Rattle.std.proofs.Common.{◌≡◌, ℕ, false, List, [], ◌∷◌, ◌++◌, refl, sym, ap, subst, ◌∙◌}
 use Rattle.std.specs.Prelude.{Result, Ok, Err}
 use Rattle.std.proofs.lemmas.List.{append_cancel_right}
 use Rattle.iso_lexer.specs.declared.token.At.{At}
@@ -9,7 +9,7 @@ use Rattle.sql_trees.specs.Tokens.{Token, Tokens, named}
 use Rattle.sql_trees.specs.Tokens as tok
 use Rattle.sql_trees.specs.Trees.{Tree, Column, Number}
 use Rattle.sql_expressions.specs.Reading.{Found, expr_at, ◌>>=◌}
-use Rattle.sql_expressions.specs.Grammar.{Level, OR, AND, NOT, IS, CMP, INN, CAT, ADD, MUL, UNA, PRIM, SpellsIn, Spells, only, literal, IsLeaf, column, number}
+use Rattle.sql_expressions.specs.Grammar.{OR, AND, NOT, IS, CMP, INN, CAT, ADD, MUL, UNA, SpellsIn, only, literal, IsLeaf, column, number}
 use Rattle.sql_expressions.specs.Laws.{Spelled}
 use Rattle.sql_expressions.proofs.Complete.{expr_complete, spells_starts}
 use Rattle.sql_expressions.proofs.FirstFaults.{faults_are_first, fronts_are_taken}

@@ -1,23 +1,21 @@
 -- The laws of where reading a statement stops.
-use Rattle.std.proofs.Common.{◌≡◌, ℕ, Bool, true, false, List, [], ◌∷◌, ◌++◌, Option, Some, None, refl, sym, ap, subst, ◌∙◌, append-nil}
+use Rattle.std.proofs.Common.{◌≡◌, ℕ, [], ◌∷◌, ◌++◌, Some, refl, sym, ap, subst, ◌∙◌, append-nil}
 use Rattle.std.specs.Prelude.{Result, Ok, Err}
 use Rattle.iso_lexer.specs.declared.token.At.{At}
 use Rattle.sql_trees.specs.declared.fault.SqlFault.{SqlFault}
-use Rattle.sql_trees.specs.declared.fault.SqlFault.TheVariants.{LeftOut, BadColumns}
+use Rattle.sql_trees.specs.declared.fault.SqlFault.TheVariants.{BadColumns}
 use Rattle.sql_trees.specs.Faults.{place}
-use Rattle.sql_trees.specs.Statements.{StmtTree, Selects}
+use Rattle.sql_trees.specs.Statements.{StmtTree}
 use Rattle.sql_trees.specs.Tokens.{Token, Tokens}
-use Rattle.sql_trees.specs.Trees.{Tree}
-use Rattle.sql_expressions.specs.Reading.{misplaced, place_of, expr_at, ◌>>=◌}
+use Rattle.sql_expressions.specs.Reading.{misplaced, ◌>>=◌}
 use Rattle.sql_expressions.specs.Laws.{head}
 use Rattle.sql_expressions.proofs.Local.{first_is}
 use Rattle.sql_parser.specs.declared.block.Role.{Role}
 use Rattle.sql_parser.specs.Blocks.{stmt_at, at_end, whole_at}
-use Rattle.sql_parser.specs.Kept.{is_kept_in}
-use Rattle.sql_parser.specs.Grammar.{Spells, Shallow, OfAnyDepth}
+use Rattle.sql_parser.specs.Grammar.{Spells, OfAnyDepth}
 use Rattle.sql_parser.specs.Stops.{Stands, at_next, IsStop}
-use Rattle.sql_parser.specs.Laws.{StopsFirst, Stops, at_token, elsewhere, Excepted, in_expression, whole_query, FaultsAreFirst}
-use Rattle.sql_parser.proofs.Locals.{Local, Begun, took, stopped, refused, Excuse, no_stop, of_expr, misplaced_place}
+use Rattle.sql_parser.specs.Laws.{StopsFirst, Stops, at_token, elsewhere, in_expression, whole_query, FaultsAreFirst}
+use Rattle.sql_parser.proofs.Locals.{Local, took, stopped, refused, Excuse, no_stop, of_expr, misplaced_place}
 use Rattle.sql_parser.proofs.ExprLocals.{some_of_any_depth, of_any_depth_starts, any_depth_local, one_name}
 use Rattle.sql_parser.proofs.QueryLocals.{Shown, shown, no_columns, no_query, Whole}
 use Rattle.sql_parser.proofs.BlockLocals.{stmt_local}

@@ -1,9 +1,9 @@
 -- No semicolon stands in a statement.
-use Rattle.std.proofs.Common.{◌≡◌, ℕ, Bool, true, false, List, [], ◌∷◌, ◌++◌, Option, Some, None, refl, sym, ap, ◌∙◌}
+use Rattle.std.proofs.Common.{◌≡◌, ℕ, Bool, true, false, List, [], ◌∷◌, ◌++◌, Option, Some, refl, ap, ◌∙◌}
 use Rattle.std.proofs.lemmas.Bool.{and_from}
 use Rattle.std.proofs.lemmas.List.Folds.{list_all-append}
 use Rattle.std.specs.List.{list_all}
-use Rattle.std.specs.Prelude.{not, ◌&&◌, ◌||◌}
+use Rattle.std.specs.Prelude.{not}
 use Rattle.iso_lexer.specs.declared.token.At.{At}
 use Rattle.iso_lexer.specs.declared.sql_token.SqlSign.{SqlSign}
 use Rattle.iso_lexer.specs.declared.sql_token.SqlSign.TheVariants as signs
@@ -21,7 +21,7 @@ use Rattle.sql_trees.specs.Tokens.{Token, Tokens, named}
 use Rattle.sql_trees.specs.Tokens as tok
 use Rattle.sql_trees.specs.Trees.{Tree, Trees, AggTree}
 use Rattle.sql_expressions.specs.Reading.{is_word, is_open, is_close, is_comma, comparison_op, truth_of}
-use Rattle.sql_expressions.specs.Grammar.{IsWord, Level, OR, AND, NOT, IS, CMP, INN, CAT, ADD, MUL, UNA, PRIM, binary, SpellsIn, ItemsIn, only, chain, negation, is, comparison, contained, between, minus, plus, parens, literal, one, next, IsLeaf, number, text, column, yes, no, null, IsIn, IsBetween, IsIs}
+use Rattle.sql_expressions.specs.Grammar.{IsWord, Level, OR, AND, CAT, ADD, MUL, binary, SpellsIn, ItemsIn, only, chain, negation, is, comparison, contained, between, minus, plus, parens, literal, one, next, IsLeaf, number, text, column, yes, no, null, IsIn, IsBetween, IsIs}
 use Rattle.sql_parser.specs.Blocks.{is_semicolon}
 use Rattle.sql_parser.specs.Transactions.{is_work, is_scope, is_to, is_setting}
 use Rattle.sql_parser.specs.Tables.{Placed, TableRead, Constraints, kind_of}

@@ -1,21 +1,21 @@
 -- The keys of a table, where none has a fault, are kept.
-use Rattle.std.proofs.Common.{◌≡◌, ℕ, zero, suc, ◌+◌, ◌<◌, ◌≤◌, ◌^◌, List, [], ◌∷◌, ◌++◌, length, map, get_or, Option, Some, None, refl, sym, ap, subst, ◌∙◌, arith, append_assoc, append-nil, length-append}
+use Rattle.std.proofs.Common.{◌≡◌, ℕ, suc, ◌+◌, ◌<◌, ◌≤◌, ◌^◌, List, [], ◌∷◌, ◌++◌, length, map, get_or, Option, Some, None, refl, sym, ap, subst, ◌∙◌, arith, append_assoc, append-nil, length-append}
 use Rattle.std.proofs.lemmas.Bool.{and_from, and_parts, or_parts, not_from_false, not-true, lt-ltb, false_from_ne_true}
 use Rattle.std.proofs.lemmas.Bool.Decides.{Decides-eqb}
 use Rattle.std.proofs.lemmas.List.{map-append, length-map}
 use Rattle.std.proofs.lemmas.List.Folds.{list_any-append, list_all-append}
 use Rattle.std.proofs.lemmas.Slice.Eq.{bytes_eq-Decides}
 use Rattle.std.specs.List.{list_any, list_all, filter}
-use Rattle.std.specs.Prelude.{Result, Ok, Err, Bool, true, false, not, ◌&&◌, ◌||◌, ◌==◌, nat_lt, bytes_eq, if◌then◌else◌}
+use Rattle.std.specs.Prelude.{Result, Ok, Bool, true, false, not, ◌&&◌, ◌||◌, ◌==◌, nat_lt, bytes_eq, if◌then◌else◌}
 use Rattle.sql_trees.specs.declared.fault.SqlFault.{SqlFault}
 use Rattle.sql_trees.specs.declared.word.Word.TheVariants as words
-use Rattle.sql_trees.specs.Statements.{StmtTree, ColumnTree, KeyTree, CreateTree, Create}
+use Rattle.sql_trees.specs.Statements.{StmtTree, ColumnTree, KeyTree}
 use Rattle.sql_trees.specs.Tokens.{Tokens}
 use Rattle.sql_expressions.specs.Reading.{expect, is_close, is_open, is_word, ◌>>=◌}
 use Rattle.sql_parser.specs.Readers.{items_at, keyword, name_at}
 use Rattle.sql_parser.specs.Tables.{Placed, KeyRead, TableRead, is_among, placed_names, column_names, empty_table, key_name, made_name, first_place, first_lacking, text_fault, or_else, keys_fault, completed, place_among, places_in, resolved, is_kept, resolved_keys, declared, table_of, finished, table_add, create_at}
 use Rattle.sql_parser.specs.Kept.{all_differ, places_differ, names_at, key_fits, tree_name, table_kept}
-use Rattle.sql_parser.proofs.Keeping.{FineOrNot, Fine, differ_push, or_none}
+use Rattle.sql_parser.proofs.Keeping.{FineOrNot, differ_push, or_none}
 use Rattle.sql_parser.proofs.Steps.{bind_ok, ok_same}
 use Rattle.sql_parser.proofs.TablesKept.{TableWithin, key_differs, table_within, expect_shorter, name_shorter}
 

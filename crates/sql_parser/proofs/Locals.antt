@@ -1,16 +1,16 @@
 -- Where reading stops depends on the tokens up to there alone: the forms that readings of statements are made of.
-use Rattle.std.proofs.Common.{◌≡◌, ℕ, zero, suc, ◌+◌, ◌<◌, ◌≤◌, Bool, true, false, List, [], ◌∷◌, ◌++◌, length, Option, Some, None, refl, sym, ap, subst, ◌∙◌, append_assoc, append-nil, length-append, arith}
+use Rattle.std.proofs.Common.{◌≡◌, ℕ, zero, suc, ◌≤◌, Bool, true, false, List, [], ◌∷◌, ◌++◌, length, Option, Some, None, refl, sym, ap, subst, ◌∙◌, append_assoc, append-nil, length-append, arith}
 use Rattle.std.specs.Prelude.{Result, Ok, Err}
 use Rattle.iso_lexer.specs.declared.token.At.{At}
 use Rattle.sql_trees.specs.declared.fault.SqlFault.{SqlFault}
-use Rattle.sql_trees.specs.declared.fault.SqlFault.TheVariants.{Syntax, LeftOut}
+use Rattle.sql_trees.specs.declared.fault.SqlFault.TheVariants.{LeftOut}
 use Rattle.sql_trees.specs.Faults.{place}
 use Rattle.sql_trees.specs.Tokens.{Token, Tokens, named}
 use Rattle.sql_trees.specs.Trees.{Tree}
-use Rattle.sql_expressions.specs.Reading.{misplaced, place_of, left_out, expect, expr_at, after, after_comma, is_comma, ◌>>=◌}
+use Rattle.sql_expressions.specs.Reading.{misplaced, place_of, left_out, expect, expr_at, is_comma, ◌>>=◌}
 use Rattle.sql_expressions.specs.Laws.{head}
 use Rattle.sql_expressions.proofs.Local.{first_is, nothing_is, head_after}
-use Rattle.sql_parser.specs.Readers.{name_at, named_at, more_at, more_turn, items_at}
+use Rattle.sql_parser.specs.Readers.{name_at, named_at, more_at, items_at}
 use Rattle.sql_parser.specs.Grammar.{Is, Names, NameIs, is_name, Commas, last_item, next_item}
 use Rattle.sql_parser.specs.Stops.{Stands, at_next, at_row, IsStop}
 

@@ -1,5 +1,5 @@
 -- SELECT is read as far as its tokens allow.
-use Rattle.std.proofs.Common.{◌≡◌, ℕ, zero, suc, ◌<◌, Bool, true, false, List, [], ◌∷◌, ◌++◌, length, Option, Some, None, refl, sym, ap, subst, ◌∙◌, append_assoc, append-nil}
+use Rattle.std.proofs.Common.{◌≡◌, ℕ, Bool, true, false, List, [], ◌∷◌, ◌++◌, Option, Some, None, refl, sym, ap, subst, ◌∙◌, append-nil}
 use Rattle.std.specs.Prelude.{Result, Ok, Err, if◌then◌else◌}
 use Rattle.iso_lexer.specs.declared.token.At.{At}
 use Rattle.iso_lexer.specs.declared.sql_token.SqlSign.TheVariants as signs
@@ -20,7 +20,7 @@ use Rattle.sql_expressions.specs.Laws.{head}
 use Rattle.sql_expressions.proofs.Local.{first_is, head_after}
 use Rattle.sql_parser.specs.Readers.{keyword, name_at, tree_at, items_at}
 use Rattle.sql_parser.specs.Changes.{filter_at}
-use Rattle.sql_parser.specs.Queries.{is_star, agg_kind, call_of, call_at, rows_of, maybe_named, maybe_name, direction_of, direction_at, alias_of, alias_at, agg_of, agg_at, item_of, item_star, item_at, item_add, from_of, from_at, nulls_end, nulls_of, nulls_at, order_add, order_of, order_at, lock_end, lock_of, lock_at, is_allowed, query_of, select_at}
+use Rattle.sql_parser.specs.Queries.{is_star, agg_kind, call_of, call_at, rows_of, maybe_name, direction_of, direction_at, alias_of, alias_at, agg_of, agg_at, item_of, item_star, item_at, item_add, from_of, from_at, nulls_end, nulls_of, nulls_at, order_add, order_of, order_at, lock_end, lock_of, lock_at, is_allowed, query_of, select_at}
 use Rattle.sql_parser.specs.Grammar.{Is, Key, Names, Commas, AliasIs, no_alias, as_alias, bare_alias, AggIs, all_rows, of_values, AddsItem, a_star, a_value, an_aggregate, FromIs, no_table, from_table, DirectionIs, as_ever, ascending, descending, NullsAre, unsaid, nulls_first, nulls_last, AddsKey, adds_key, OrderIs, unordered, ordered, LockIs, no_lock, for_update, for_share, WhereIs, unfiltered, Spells, select}
 use Rattle.sql_parser.proofs.Locals.{Reader, Inhabited, Local, Begun, took, stopped, refused, gives, gives_at, gives_end, behind, same_at, switch_at, switch_end, in_turn, mapped, token_then, token_last, name_then, either, list_local, some_list}
 use Rattle.sql_parser.proofs.StmtLocals.{a_word, a_sign, a_name, the_name, key_is}

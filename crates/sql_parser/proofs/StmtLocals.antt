@@ -1,33 +1,29 @@
 -- Statements are read as far as their tokens allow.
-use Rattle.std.proofs.Common.{◌≡◌, ℕ, zero, suc, ◌+◌, ◌<◌, ◌≤◌, Bool, true, false, List, [], ◌∷◌, ◌++◌, length, Option, Some, None, refl, sym, ap, subst, ◌∙◌, append_assoc, append-nil, length-append, arith}
-use Rattle.std.specs.Prelude.{Result, Ok, Err, option_map, if◌then◌else◌}
+use Rattle.std.proofs.Common.{◌≡◌, ℕ, Bool, true, false, List, [], ◌∷◌, ◌++◌, length, Option, Some, None, refl, sym, ap, subst, ◌∙◌, append-nil, arith}
+use Rattle.std.specs.Prelude.{Ok, Err}
 use denote.Enum.Bare.{same_true, true_same}
 use Rattle.iso_lexer.specs.declared.token.At.{At}
 use Rattle.iso_lexer.specs.declared.sql_token.SqlSign.{SqlSign}
 use Rattle.iso_lexer.specs.declared.sql_token.SqlSign.TheVariants as signs
 use Rattle.iso_lexer.specs.Names as names
-use Rattle.sql_trees.specs.declared.fault.SqlFault.{SqlFault}
-use Rattle.sql_trees.specs.declared.fault.SqlFault.TheVariants.{Syntax, LeftOut, BadColumns}
 use Rattle.sql_trees.specs.declared.word.Word.{Word}
 use Rattle.sql_trees.specs.declared.word.Word.TheVariants as words
-use Rattle.sql_trees.specs.declared.kind.Kind.{Kind}
-use Rattle.sql_trees.specs.declared.kind.Kind.TheVariants as kinds
 use Rattle.sql_trees.specs.declared.stmt.Level.{Level}
 use Rattle.sql_trees.specs.declared.stmt.Level.TheVariants.{ReadCommitted, RepeatableRead}
 use Rattle.sql_trees.specs.Faults.{place}
 use Rattle.sql_trees.specs.Words.{same_word}
 use Rattle.sql_trees.specs.contracts.word.Word.{the_type}
-use Rattle.sql_trees.specs.Statements.{StmtTree, SetTree, Begin, Commit, Rollback, SetTransaction, SetDeadlockTimeout, DropTables, Inserts, Updates, Deletes}
+use Rattle.sql_trees.specs.Statements.{StmtTree, Begin, SetTransaction, SetDeadlockTimeout, DropTables}
 use Rattle.sql_trees.specs.Tokens.{Token, Tokens, named}
 use Rattle.sql_trees.specs.Tokens as tok
 use Rattle.sql_trees.specs.Trees.{Tree}
-use Rattle.sql_expressions.specs.Reading.{misplaced, place_of, left_out, expect, is_word, is_open, is_close, after, ◌>>=◌}
+use Rattle.sql_expressions.specs.Reading.{expect, is_word, after, ◌>>=◌}
 use Rattle.sql_expressions.proofs.Shapes.{some_token}
-use Rattle.sql_parser.specs.Readers.{past, keyword, misplaced_word, name_at, tree_at, more_at, items_at}
+use Rattle.sql_parser.specs.Readers.{past, keyword, misplaced_word, items_at}
 use Rattle.sql_parser.specs.Transactions.{is_work, is_scope, is_to, is_setting, read_level, level_of, isolation_at, begin_of, begin_at, start_at, parameter_of, parameter_at, set_of, set_at}
 use Rattle.sql_parser.specs.Tables.{drop_add, drop_of, drop_names, drop_at, after_if}
-use Rattle.sql_parser.specs.Grammar.{Is, Key, Names, Perhaps, nothing, one_is, Commas, NameIs, is_name, AddsName, adds_name, IsolationIs, uncommitted, committed, repeatable, MaybeLevel, no_level, a_level, Spells, begin, start, commit, end, rollback, abort, set_transaction, set_timeout, drop, drop_if}
-use Rattle.sql_parser.proofs.Locals.{Reader, Inhabited, Local, Excuse, gives, gives_at, gives_end, stuck_at, stuck_end, no_rule_at, no_rule_end, behind, same_at, switch_at, switch_end, in_turn, mapped, token_then, token_last, name_local, name_then, either, list_local, some_list, Tail, left_of, tail_local, joined, items_is}
+use Rattle.sql_parser.specs.Grammar.{Key, Names, Perhaps, nothing, one_is, Commas, NameIs, is_name, AddsName, adds_name, IsolationIs, uncommitted, committed, repeatable, MaybeLevel, no_level, a_level, Spells, begin, start, set_transaction, set_timeout, drop, drop_if}
+use Rattle.sql_parser.proofs.Locals.{Reader, Inhabited, Local, gives, gives_at, gives_end, stuck_at, stuck_end, behind, same_at, switch_at, switch_end, mapped, token_then, token_last, name_then, either, list_local, some_list, Tail, left_of, tail_local, joined, items_is}
 
 -- ---- tokens that can stand there
 

@@ -1,5 +1,5 @@
 -- CREATE TABLE is read as far as its tokens allow.
-use Rattle.std.proofs.Common.{◌≡◌, ℕ, zero, suc, ◌+◌, ◌<◌, ◌≤◌, Bool, true, false, List, [], ◌∷◌, ◌++◌, length, Option, Some, None, refl, sym, ap, subst, ◌∙◌, append_assoc, append-nil, length-append, arith}
+use Rattle.std.proofs.Common.{◌≡◌, ℕ, zero, suc, ◌≤◌, Bool, true, false, List, [], ◌∷◌, ◌++◌, length, Option, Some, None, refl, sym, ap, ◌∙◌, arith}
 use Rattle.std.specs.Prelude.{Result, Ok, Err, if◌then◌else◌}
 use Rattle.iso_lexer.specs.declared.token.At.{At}
 use Rattle.iso_lexer.specs.declared.sql_token.SqlSign.TheVariants as signs
@@ -12,16 +12,15 @@ use Rattle.sql_trees.specs.declared.kind.Kind.TheVariants as kinds
 use Rattle.sql_trees.specs.Tokens.{Token, Tokens, named}
 use Rattle.sql_trees.specs.Tokens as tok
 use Rattle.sql_trees.specs.Trees.{Tree}
-use Rattle.sql_expressions.specs.Reading.{misplaced, place_of, expect, is_word, is_open, is_close, after, ◌>>=◌}
-use Rattle.sql_expressions.proofs.Shapes.{some_token}
-use Rattle.sql_parser.specs.Readers.{keyword, misplaced_word, name_at, named_at, items_at}
-use Rattle.sql_parser.specs.Tables.{Placed, KeyRead, TableRead, Constraints, is_among, placed_names, column_names, empty_table, with_key, with_column, key_limit, kind_of, kind_named, kind_at, is_constraint, constrained, key_add, key_at, constraint_of, constraint_at, constraints_turn, constraints_at, limits_at, column_behind, column_at, table_item, table_add}
+use Rattle.sql_expressions.specs.Reading.{place_of, expect, is_word, is_open, is_close, after, ◌>>=◌}
+use Rattle.sql_parser.specs.Readers.{keyword, misplaced_word, name_at, items_at}
+use Rattle.sql_parser.specs.Tables.{Placed, KeyRead, TableRead, Constraints, is_among, placed_names, column_names, empty_table, with_key, with_column, key_limit, kind_of, kind_at, is_constraint, key_add, key_at, constraint_of, constraint_at, constraints_at, limits_at, column_behind, column_at, table_item, table_add}
 use Rattle.sql_parser.specs.Grammar.{Is, Key, Names, Commas, placed, AddsColumn, adds_column, Says, no_more, not_null, primary_key, unique_key, AddsPart, a_column, a_primary, a_unique}
 use Rattle.sql_parser.specs.Stops.{IsStop}
-use Rattle.sql_parser.proofs.Locals.{Reader, Inhabited, Local, refused, no_stop, gives, gives_at, gives_end, stuck_at, no_rule_at, no_rule_end, behind, same_at, switch_at, switch_end, in_turn, mapped, token_in, token_then, token_last, name_then, either, list_local, some_list}
+use Rattle.sql_parser.proofs.Locals.{Reader, Inhabited, Local, refused, no_stop, gives, gives_at, gives_end, no_rule_at, no_rule_end, behind, same_at, switch_at, switch_end, in_turn, mapped, token_in, token_then, token_last, either, list_local, some_list}
 use Rattle.sql_parser.proofs.Steps.{bind_ok, ok_same}
 use Rattle.sql_parser.proofs.TablesKept.{expect_shorter}
-use Rattle.sql_parser.proofs.StmtLocals.{a_word, a_sign, a_name, the_name, key_is, word_is, no_word}
+use Rattle.sql_parser.proofs.StmtLocals.{a_word, a_sign, a_name, the_name, key_is, no_word}
 
 bad_columns_is_no_stop : (n : ℕ) → IsStop (BadColumns n) → ⊥
 bad_columns_is_no_stop n s = s
