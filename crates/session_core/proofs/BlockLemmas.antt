@@ -4,7 +4,7 @@ use Rattle.std.specs.Prelude.{Some, None, slice_get}
 use Rattle.std.proofs.lemmas.Option.{slice_get-map}
 use Rattle.sql_trees.specs.Statements.{stmt_of}
 use Rattle.session_machine.specs.Machine.{stmts_at}
-use Rattle.session_core.specs.declared.block.Block.{Block}
+use Rattle.sql_parser.specs.declared.block.Block.{Block}
 use Rattle.session_core.specs.Blocks.{block_of, blocks_of}
 
 -- the statements of a block that is there

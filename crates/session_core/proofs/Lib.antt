@@ -3,3 +3,4 @@ pub mod BlockLemmas
 pub mod Stepping
 pub mod Events
 pub mod Opening
+pub mod Going

@@ -4,8 +4,8 @@ ghost use Rattle.sql_trees.specs.Statements.{stmt_of};
 ghost use Rattle.session_machine.specs.Machine.{stmts_at};
 ghost use Rattle.session_core.specs.Blocks.{blocks_of};
 
-use crate::block::Block;
 use session_machine::Place;
+use sql_parser::Block;
 use sql_trees::Stmt;
 
 /// The statements of the block of that number, if it is there.

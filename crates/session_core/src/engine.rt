@@ -1,17 +1,18 @@
 //! The engine: the machine over a store, with its history.
-ghost use Rattle.std.specs.Prelude.{◌≡◌, ◌≢◌, ◌+◌, ◌<◌, ◌≤◌, ◌^◌, ℕ, List, [], ◌∷◌, ◌++◌, Option, Some, None, IfOk, IfErr, OnOk, OnErr, IsErrOf, Result, Ok, Err, length, option_map, slice_get};
+ghost use Rattle.std.specs.Prelude.{◌≡◌, ◌≢◌, ◌↔◌, IsTrue, ◌+◌, ◌<◌, ◌≤◌, ◌^◌, ℕ, List, [], ◌∷◌, ◌++◌, Option, Some, None, IfOk, IfErr, IfSome, OnOk, OnErr, IsErrOf, Result, Ok, Err, length, option_map, slice_get};
 ghost use Rattle.std.specs.Global.{Vec as VecFacts};
 ghost use Rattle.sql_values.specs.declared.value.Value.{Value as SqlValue};
 ghost use Rattle.row_versions.specs.Log.{empty_content};
 ghost use Rattle.session_machine.specs.Machine.{opening};
-ghost use Rattle.session_machine.specs.Engine.{EngineAnswered, engine_after, fault_of, opened, spent_engine, turn_of, visible_in};
+ghost use Rattle.session_machine.specs.Engine.{EngineAnswered, IsLegal, Run, engine_after, fault_of, opened, spent_engine, turn_of, visible_in};
 ghost use Rattle.session_core.specs.Blocks.{blocks_of};
-ghost use Rattle.session_core.specs.Engines.{is_quiet_in};
+ghost use Rattle.session_core.specs.Engines.{IsDue, IsOf, is_quiet_in};
 
-use crate::block::Block;
 use crate::live::Live;
+use crate::same_blocks::same_blocks;
 use row_versions::Versions;
 use session_machine::{EngineFault, Event, HistItem, Mode, Refusal, Reply, Turn};
+use sql_parser::Block;
 use sql_values::Row;
 use std::alloc::{AllocError, Global};
 use std::marker::Model;
@@ -32,7 +33,7 @@ pub struct EngineState<'a, 't, V: Versions> {
 impl<'a, 't, V: Versions> Model for EngineState<'a, 't, V> {
     ghost use Rattle.std.specs.Prelude.{◌≡◌, false, length, Some, None, if◌then◌else◌};
     ghost use Rattle.session_machine.specs.Machine.{opening};
-    ghost use Rattle.session_machine.specs.Engine.{Engine, Run};
+    ghost use Rattle.session_machine.specs.Engine.{Engine, IsLegal, Run};
     ghost use Rattle.session_machine.specs.Sound.{IsSound};
     ghost use Rattle.session_core.specs.Blocks.{blocks_of};
     ghost use Rattle.session_core.specs.TreeCodes.{tree_code};
@@ -50,9 +51,10 @@ impl<'a, 't, V: Versions> Model for EngineState<'a, 't, V> {
       history = e.history.items;
     } };
 
-    ghost invariant = { λ e. e.spent ≡ false →
+    ghost invariant = { λ e. IsLegal (blocks_of e.blocks.now) e.count e.mode e.history.items
+        × (e.spent ≡ false →
         IsSound e.live.db e.live.sessions (length e.history.items)
-        × Run (blocks_of e.blocks.now) e.mode (opening e.count) e.history.items e.live };
+        × Run (blocks_of e.blocks.now) e.mode (opening e.count) e.history.items e.live) };
 }
 
 /// Adds an item to the history, and gives its reply.
@@ -111,6 +113,8 @@ impl<'a, 't, V: Versions> EngineState<'a, 't, V> {
     fn act(&mut self, event: Event) -> Result<Reply<'t>, EngineFault>
         ensures memory { IsErrOf result EngineFault.Memory → self.new ≡ spent_engine self.old }
         ensures answer { result ≢ Err EngineFault.Memory → engine_after self.old event ≡ record { engine = self.new; answer = result } }
+        ensures due { IsErrOf result EngineFault.Memory → IsDue self.old event }
+        ensures same { IsOf self.new self.old.blocks self.old.count self.old.mode }
     {
         if self.spent {
             return Err(EngineFault::Spent);
@@ -138,6 +142,8 @@ impl<'a, 't, V: Versions> EngineState<'a, 't, V> {
     pub fn launch(&mut self, session: u32, block: u32) -> Result<Reply<'t>, EngineFault>
         ensures memory { IsErrOf result EngineFault.Memory → self.new ≡ spent_engine self.old }
         ensures answer { result ≢ Err EngineFault.Memory → engine_after self.old (Event.Launch session block) ≡ record { engine = self.new; answer = result } }
+        ensures due { IsErrOf result EngineFault.Memory → IsDue self.old (Event.Launch session block) }
+        ensures same { IsOf self.new self.old.blocks self.old.count self.old.mode }
     {
         self.act(Event::Launch { session, block })
     }
@@ -146,6 +152,8 @@ impl<'a, 't, V: Versions> EngineState<'a, 't, V> {
     pub fn step(&mut self, session: u32) -> Result<Reply<'t>, EngineFault>
         ensures memory { IsErrOf result EngineFault.Memory → self.new ≡ spent_engine self.old }
         ensures answer { result ≢ Err EngineFault.Memory → engine_after self.old (Event.Step session) ≡ record { engine = self.new; answer = result } }
+        ensures due { IsErrOf result EngineFault.Memory → IsDue self.old (Event.Step session) }
+        ensures same { IsOf self.new self.old.blocks self.old.count self.old.mode }
     {
         self.act(Event::Step { session })
     }
@@ -154,15 +162,28 @@ impl<'a, 't, V: Versions> EngineState<'a, 't, V> {
     pub fn leave(&mut self, session: u32) -> Result<Reply<'t>, EngineFault>
         ensures memory { IsErrOf result EngineFault.Memory → self.new ≡ spent_engine self.old }
         ensures answer { result ≢ Err EngineFault.Memory → engine_after self.old (Event.Leave session) ≡ record { engine = self.new; answer = result } }
+        ensures due { IsErrOf result EngineFault.Memory → IsDue self.old (Event.Leave session) }
+        ensures same { IsOf self.new self.old.blocks self.old.count self.old.mode }
     {
         self.act(Event::Leave { session })
     }
 
-    /// What was answered so far. It takes no memory.
+    /// What was answered so far: a legal history, also once the engine is spent, and one that leads to its state until
+    /// then. It takes no memory.
     pub fn history(&self) -> &[HistItem<'t>]
-        ensures { result.now ≡ self.now.history }
+        ensures lends { result.now ≡ self.now.history }
+        ensures legal { IsLegal self.now.blocks self.now.count self.now.mode self.now.history }
+        ensures leads { IfSome self.now.machine (λ m. Run self.now.blocks self.now.mode (opening self.now.count) self.now.history m) }
     {
         &self.history
+    }
+
+    /// Whether the engine was opened over blocks equal to these, with so many sessions beside the control session and
+    /// in this mode. It takes no memory.
+    pub fn is_of(&self, blocks: &[Block<'_>], sessions: u32, mode: Mode) -> bool
+        ensures { IsTrue result ↔ IsOf self.now (blocks_of blocks.now) sessions mode }
+    {
+        self.count == sessions && self.mode == mode && same_blocks(self.blocks, blocks)
     }
 
     /// Whose turn it is. It takes no memory.
@@ -190,6 +211,7 @@ impl<'a, 't, V: Versions> EngineState<'a, 't, V> {
     pub fn visible(&self, session: u32, table: &str) -> Result<Option<Vec<Row>>, EngineFault>
         ensures ok { IfOk result (λ rows. visible_in self.now.machine session table.now ≡ Ok (option_map (λ (v : VecFacts (List SqlValue)). v.items) rows)) }
         ensures refused { IfErr result (λ fault. fault ≢ EngineFault.Memory → visible_in self.now.machine session table.now ≡ Err fault) }
+        ensures memory { IsErrOf result EngineFault.Memory → (rows : Option (List (List SqlValue))) × (visible_in self.now.machine session table.now ≡ Ok rows) }
     {
         if self.spent {
             return Err(EngineFault::Spent);

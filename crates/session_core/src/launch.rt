@@ -9,13 +9,13 @@ ghost use Rattle.session_machine.specs.Engine.{answered};
 ghost use Rattle.session_core.specs.Blocks.{blocks_of};
 ghost use Rattle.session_core.specs.Sessions.{AllOver, between};
 
-use crate::block::Block;
 use crate::block_stmts::block_stmts;
 use crate::standing::{Standing, has_ended, set_session, standing_at};
 use crate::turns::must_wait_for_rest;
 use session_machine::{
     Event, Mode, Outcome, Place, Refusal, Reply, Session, can_run, is_definition,
 };
+use sql_parser::Block;
 use sql_trees::Stmt;
 
 fn all_run(stmts: &[Stmt<'_>]) -> bool

@@ -1,20 +1,23 @@
 //! The engine: sessions over a store, what their events make of them, and the history of those events.
 #![tactic(auto)]
 
-mod block;
 mod block_stmts;
 mod engine;
 mod launch;
 mod leave;
 mod live;
 mod replay;
+mod same_blocks;
 mod standing;
 mod step;
 mod turns;
 
-pub use block::Block;
 pub use engine::EngineState;
 pub use replay::replays;
 
 #[cfg(test)]
 mod tests;
+#[cfg(test)]
+mod tests_by_entries;
+#[cfg(test)]
+mod trial;

@@ -7,9 +7,9 @@ ghost use Rattle.session_machine.specs.Sound.{IsSound};
 ghost use Rattle.session_machine.specs.Machine.{Blocks, Next, next, opening, turn_in, visible};
 ghost use Rattle.session_machine.specs.Engine.{answered};
 ghost use Rattle.session_core.specs.Blocks.{blocks_of};
+ghost use Rattle.session_core.specs.Engines.{Goes};
 ghost use Rattle.session_core.specs.Sessions.{AllOver};
 
-use crate::block::Block;
 use crate::launch::launch;
 use crate::leave::leave;
 use crate::standing::standing_at;
@@ -19,6 +19,7 @@ use iso_lexer::Name;
 use row_versions::Versions;
 use session_machine::{Event, Mode, Refusal, Reply, Session};
 use session_statements::Database;
+use sql_parser::Block;
 use sql_values::Row;
 use std::alloc::{AllocError, Global};
 use std::marker::Model;
@@ -91,7 +92,8 @@ impl<'a, 't, V: Versions> Live<'a, 't, V> {
         session: u32,
     ) -> Result<Result<Reply<'t>, Refusal>, AllocError>
         requires sound { (events : ℕ) × (events + 1 < 2 ^ 64) × IsSound self.old.db self.old.sessions events }
-        ensures { IfOk result (λ answer. answered self.old (next (blocks_of blocks.now) mode self.old (Event.Step session)) ≡ record { machine = self.new; answer = answer }) }
+        ensures answer { IfOk result (λ answer. answered self.old (next (blocks_of blocks.now) mode self.old (Event.Step session)) ≡ record { machine = self.new; answer = answer }) }
+        ensures due { OnErr result (Goes (blocks_of blocks.now) mode self.old (Event.Step session)) }
     {
         step(&mut self.db, &mut self.sessions, blocks, mode, session)
     }
@@ -104,7 +106,8 @@ impl<'a, 't, V: Versions> Live<'a, 't, V> {
         event: Event,
     ) -> Result<Result<Reply<'t>, Refusal>, AllocError>
         requires sound { (events : ℕ) × (events + 1 < 2 ^ 64) × IsSound self.old.db self.old.sessions events }
-        ensures { IfOk result (λ answer. answered self.old (next (blocks_of blocks.now) mode self.old event) ≡ record { machine = self.new; answer = answer }) }
+        ensures answer { IfOk result (λ answer. answered self.old (next (blocks_of blocks.now) mode self.old event) ≡ record { machine = self.new; answer = answer }) }
+        ensures due { OnErr result (Goes (blocks_of blocks.now) mode self.old event) }
     {
         match event {
             Event::Launch { session, block } => Ok(self.launch(blocks, mode, session, block)),
@@ -122,6 +125,7 @@ impl<'a, 't, V: Versions> Live<'a, 't, V> {
         requires { AllOver self.now.sessions }
         ensures ok { IfOk result (λ answer. IfOk answer (λ rows. visible self.now session table.now ≡ Ok (option_map (λ (v : VecFacts (List SqlValue)). v.items) rows))) }
         ensures refused { IfOk result (λ answer. IfErr answer (λ refusal. visible self.now session table.now ≡ Err refusal)) }
+        ensures memory { OnErr result ((rows : Option (List (List SqlValue))) × (visible self.now session table.now ≡ Ok rows)) }
     {
         let Some(current) = standing_at(&self.sessions, session) else {
             return Ok(Err(Refusal::NoSession));

@@ -5,10 +5,10 @@ ghost use Rattle.session_machine.specs.Machine.{Machine, opening};
 ghost use Rattle.session_machine.specs.Engine.{Follows, IsLegal, Run};
 ghost use Rattle.session_core.specs.Blocks.{blocks_of};
 
-use crate::block::Block;
 use crate::live::Live;
 use row_versions::{ListStore, Versions};
 use session_machine::{HistItem, Mode};
+use sql_parser::Block;
 use std::alloc::{AllocError, Global};
 
 /// Does an item's event, and says whether it was answered as the item says.

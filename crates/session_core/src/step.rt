@@ -1,5 +1,5 @@
 //! A session's next statement is run.
-ghost use Rattle.std.specs.Prelude.{◌≡◌, ◌+◌, ◌<◌, ◌^◌, ℕ, IfOk, IfErr, Some, None, Ok, Err, length, slice_get};
+ghost use Rattle.std.specs.Prelude.{◌≡◌, ◌+◌, ◌<◌, ◌^◌, ℕ, IfOk, IfErr, OnErr, Some, None, Ok, Err, length, slice_get};
 ghost use Rattle.row_versions.specs.Log.{IsOpen};
 ghost use Rattle.sql_trees.specs.Statements.{stmt_of};
 ghost use Rattle.session_machine.specs.declared.session.OpenTransaction.{OpenTransaction};
@@ -9,15 +9,16 @@ ghost use Rattle.session_machine.specs.Sound.{IsSound};
 ghost use Rattle.session_machine.specs.Engine.{answered};
 ghost use Rattle.session_machine.specs.Machine.{Machine, after_stmt, closed_at_end, finished, is_failed, next};
 ghost use Rattle.session_core.specs.Blocks.{blocks_of};
+ghost use Rattle.session_core.specs.Engines.{Goes};
 ghost use Rattle.session_core.specs.Sessions.{AllOver, between};
 
-use crate::block::Block;
 use crate::block_stmts::stmt_at;
 use crate::standing::{Standing, has_ended, set_session, standing_at};
 use crate::turns::must_wait_for_turn;
 use row_versions::Versions;
 use session_machine::{Event, Mode, Outcome, Place, Refusal, Reply, Session, Transaction};
 use session_statements::Database;
+use sql_parser::Block;
 use sql_trees::Stmt;
 use std::alloc::AllocError;
 
@@ -163,10 +164,11 @@ pub fn step<'a, 't, V: Versions>(
     session: u32,
 ) -> Result<Result<Reply<'t>, Refusal>, AllocError>
     requires sound { (events : ℕ) × (events + 1 < 2 ^ 64) × IsSound db.old sessions.old.items events }
-    ensures { IfOk result (λ answer.
+    ensures answer { IfOk result (λ answer.
         let old : Machine = record { db = db.old; sessions = sessions.old.items } in
         let new : Machine = record { db = db.new; sessions = sessions.new.items } in
         answered old (next (blocks_of blocks.now) mode old (Event.Step session)) ≡ record { machine = new; answer = answer }) }
+    ensures due { OnErr result (Goes (blocks_of blocks.now) mode (record { db = db.old; sessions = sessions.old.items }) (Event.Step session)) }
 {
     match due_statement(blocks, mode, sessions, session) {
         Ok(due) => Ok(Ok(run_due(db, sessions, session, &due)?)),

@@ -1,81 +1,30 @@
-//! The events of a run of two sessions, their answers, and what is told of the engine between them. Run also with
-//! `rt try --test --fail-alloc N` for each N.
-use crate::block::Block;
+//! The events of a run of two sessions, their answers, and what is told of the engine between them.
+//! Each test also passes where any one allocation fails: the engine is then spent as it says, and the test is run again.
 use crate::engine::EngineState;
 use crate::replay::replays;
-use iso_lexer::Name;
+use crate::trial::{Wrong, blocks};
 use row_versions::ListStore;
 use session_machine::{EngineFault, Event, HistItem, Mode, Outcome, Reply, Turn};
-use sql_trees::{Column, CreateTable, Expr, Insert, Item, Kind, Level, Select, Stmt};
+use sql_parser::Block;
 use sql_values::{Row, Value};
 use std::alloc::Global;
 use std::process::Abort;
 use std::test::Fail;
 
-/// `CREATE TABLE t (x int)`
-fn create<'a>(alloc: Global) -> Result<Stmt<'a>, Fail> {
-    let mut columns = Vec::new(alloc);
-    columns.push(Column {
-        name: Name::Folded("x"),
-        kind: Kind::Int,
-        not_null: false,
-    })?;
-    Ok(Stmt::CreateTable(CreateTable {
-        name: Name::Folded("t"),
-        columns,
-        keys: Vec::new(alloc),
-    }))
-}
+const TEXTS: [&str; 4] = [
+    "CREATE TABLE t (x int); INSERT INTO t VALUES (1);",
+    "BEGIN ISOLATION LEVEL REPEATABLE READ; SELECT * FROM t;",
+    "INSERT INTO t VALUES (2);",
+    "SELECT * FROM t;",
+];
 
-/// An INSERT of one number into `t`.
-fn insert<'a>(alloc: Global, digits: u64) -> Result<Stmt<'a>, Fail> {
-    let mut row = Vec::new(alloc);
-    row.push(Expr::Number {
-        negative: false,
-        digits,
-    })?;
-    let mut rows = Vec::new(alloc);
-    rows.push(row)?;
-    Ok(Stmt::Insert(Insert {
-        table: Name::Folded("T"),
-        columns: None,
-        rows,
-    }))
-}
-
-/// `SELECT * FROM t`
-fn select<'a>(alloc: Global) -> Result<Stmt<'a>, Fail> {
-    let mut items = Vec::new(alloc);
-    items.push(Item::All)?;
-    Ok(Stmt::Select(Select {
-        items,
-        table: Some(Name::Quoted("t")),
-        filter: None,
-        order: Vec::new(alloc),
-        lock: None,
-    }))
-}
-
-/// The block of two statements, or of one.
-fn block<'a>(alloc: Global, first: Stmt<'a>, second: Option<Stmt<'a>>) -> Result<Block<'a>, Fail> {
-    let mut stmts = Vec::new(alloc);
-    stmts.push(first)?;
-    if let Some(stmt) = second {
-        stmts.push(stmt)?;
-    }
-    Ok(Block::new(stmts))
-}
-
-/// Block 0 makes the table and inserts 1, block 1 reads it in Repeatable Read, block 2 inserts 2, block 3 reads.
-fn blocks<'a>(alloc: Global) -> Result<Vec<Block<'a>>, Fail> {
-    let begin = Stmt::Begin(Some(Level::RepeatableRead));
-    let mut all = Vec::new(alloc);
-    all.push(block(alloc, create(alloc)?, Some(insert(alloc, 1)?))?)?;
-    all.push(block(alloc, begin, Some(select(alloc)?))?)?;
-    all.push(block(alloc, insert(alloc, 2)?, None)?)?;
-    all.push(block(alloc, select(alloc)?, None)?)?;
-    Ok(all)
-}
+/// The same in another spelling.
+const RESPELT: [&str; 4] = [
+    "create table T (X integer) ; insert into \"t\" values (1)",
+    "START TRANSACTION ISOLATION LEVEL REPEATABLE READ;; SELECT * FROM \"t\"",
+    "INSERT INTO t /* once */ VALUES (2)",
+    "SELECT * FROM T",
+];
 
 /// The outcome of an event; rows of numbers below ten stand as the digits of one number.
 #[derive(Clone, Copy, Debug, PartialEq, Eq)]
@@ -112,36 +61,11 @@ fn what_came(outcome: &Outcome<'_>) -> Told {
 }
 
 /// What an engine answered: the outcome, and whether the block is over.
-fn answered(answer: Result<Reply<'_>, EngineFault>) -> Result<(Told, bool), EngineFault> {
+type Answer = Result<(Told, bool), EngineFault>;
+
+fn answered(answer: Result<Reply<'_>, EngineFault>) -> Answer {
     let reply = answer?;
     Ok((what_came(&reply.outcome), reply.ended))
-}
-
-/// Does an event and checks the answer. After a want of memory it checks instead that the engine says so, and
-/// answers false.
-fn acts<'a, 't>(
-    rt: &impl Abort,
-    engine: &mut EngineState<'a, 't, ListStore>,
-    event: Event,
-    answer: Result<(Told, bool), EngineFault>,
-) -> bool {
-    let before = engine.history().len();
-    let given = match event {
-        Event::Launch { session, block } => engine.launch(session, block),
-        Event::Step { session } => engine.step(session),
-        Event::Leave { session } => engine.leave(session),
-    };
-    let given = answered(given);
-    if given == Err(EngineFault::Memory) {
-        assert_eq!(rt; engine.history().len(), before);
-        assert_eq!(rt; engine.turn(), Turn::Spent);
-        assert!(rt; !engine.quiet());
-        assert!(rt; matches!(engine.visible(0, "t"), Err(EngineFault::Spent)));
-        assert_eq!(rt; answered(engine.leave(0)), Err(EngineFault::Spent));
-        return false;
-    }
-    assert_eq!(rt; given, answer);
-    true
 }
 
 const fn launch(session: u32, block: u32) -> Event {
@@ -153,8 +77,8 @@ const fn step(session: u32) -> Event {
 }
 
 /// The control session makes the table, session 1 reads in Repeatable Read, session 2 writes, session 1 reads again.
-fn two_readers<'a, 't>(rt: &impl Abort, engine: &mut EngineState<'a, 't, ListStore>) -> bool {
-    let calls = [
+fn calls() -> [(Event, Answer); 19] {
+    [
         (launch(0, 0), Ok((Told::Launched, false))),
         (step(0), Ok((Told::Done, false))),
         (step(0), Ok((Told::Done, true))),
@@ -174,13 +98,74 @@ fn two_readers<'a, 't>(rt: &impl Abort, engine: &mut EngineState<'a, 't, ListSto
         (launch(3, 3), Err(EngineFault::NoSession)),
         (launch(1, 0), Err(EngineFault::BlockNotAllowed)),
         (launch(1, 9), Err(EngineFault::BlockNotAllowed)),
-    ];
+    ]
+}
+
+fn act<'a, 't>(engine: &mut EngineState<'a, 't, ListStore>, event: Event) -> Answer {
+    answered(match event {
+        Event::Launch { session, block } => engine.launch(session, block),
+        Event::Step { session } => engine.step(session),
+        Event::Leave { session } => engine.leave(session),
+    })
+}
+
+/// The history has the events that were answered, in their order.
+fn has_answered(history: &[HistItem<'_>], calls: &[(Event, Answer)]) -> bool {
+    let mut left = history;
     for (event, answer) in calls {
-        if !acts(rt, engine, event, answer) {
-            return false;
+        if answer.is_ok() {
+            let [item, rest @ ..] = left else {
+                return false;
+            };
+            if item.event != *event {
+                return false;
+            }
+            left = rest;
         }
     }
-    true
+    left.is_empty()
+}
+
+/// An engine that was refused memory says so, keeps the history of these calls, and does nothing more.
+fn is_spent_after<'a, 't>(
+    rt: &impl Abort,
+    alloc: Global,
+    blocks: &'a [Block<'t>],
+    engine: &mut EngineState<'a, 't, ListStore>,
+    calls: &[(Event, Answer)],
+) -> Result<(), Wrong> {
+    assert_eq!(rt; act(engine, launch(1, 3)), Err(EngineFault::Spent));
+    assert_eq!(rt; act(engine, step(1)), Err(EngineFault::Spent));
+    assert_eq!(rt;
+        act(engine, Event::Leave { session: 1 }),
+        Err(EngineFault::Spent)
+    );
+    assert_eq!(rt; seen(engine, 0, "t"), Err(EngineFault::Spent));
+    assert_eq!(rt; engine.turn(), Turn::Spent);
+    assert!(rt; !engine.quiet());
+    assert!(rt; has_answered(engine.history(), calls));
+    assert!(rt; replays(alloc, blocks, 2, Mode::Directed, engine.history())?);
+    Ok(())
+}
+
+/// The calls have their answers.
+fn answers<'a, 't>(
+    rt: &impl Abort,
+    alloc: Global,
+    blocks: &'a [Block<'t>],
+    engine: &mut EngineState<'a, 't, ListStore>,
+) -> Result<(), Wrong> {
+    let calls = calls();
+    for (k, (event, answer)) in calls.iter().enumerate() {
+        let given = act(engine, *event);
+        if given == Err(EngineFault::Memory) {
+            is_spent_after(rt, alloc, blocks, engine, calls.get(..k).unwrap_or(&[]))?;
+            return Err(Wrong::Memory);
+        }
+        assert_eq!(rt; given, *answer, "call {k}");
+    }
+    assert!(rt; has_answered(engine.history(), &calls));
+    Ok(())
 }
 
 /// The rows that a session would see, as one number.
@@ -195,37 +180,56 @@ fn seen(
     }
 }
 
-/// The calls with their answers, and what the sessions see between them.
-fn by_calls<'a, 't>(rt: &impl Abort, alloc: Global, blocks: &'a [Block<'t>]) -> Result<(), Fail> {
+/// What a session sees, asked again where memory was refused: that changes nothing.
+fn sees(
+    rt: &impl Abort,
+    engine: &EngineState<'_, '_, ListStore>,
+    session: u32,
+    table: &str,
+    rows: Result<Option<u32>, EngineFault>,
+) {
+    let first = seen(engine, session, table);
+    let given = if first == Err(EngineFault::Memory) {
+        seen(engine, session, table)
+    } else {
+        first
+    };
+    assert_eq!(rt; given, rows, "session {session}");
+}
+
+/// The calls with their answers, and what the sessions see behind them.
+fn by_calls<'a, 't>(rt: &impl Abort, alloc: Global, blocks: &'a [Block<'t>]) -> Result<(), Wrong> {
     let store = ListStore::new(alloc);
     let mut engine = EngineState::new(alloc, blocks, 2, Mode::Directed, store)?;
     assert_eq!(rt; engine.turn(), Turn::Driver);
-    if !two_readers(rt, &mut engine) {
-        return Ok(());
+    answers(rt, alloc, blocks, &mut engine)?;
+    sees(rt, &engine, 1, "t", Ok(Some(1)));
+    sees(rt, &engine, 2, "t", Ok(Some(12)));
+    sees(rt, &engine, 2, "u", Ok(None));
+    sees(rt, &engine, 3, "t", Err(EngineFault::NoSession));
+    let left = act(&mut engine, Event::Leave { session: 1 });
+    if left == Err(EngineFault::Memory) {
+        is_spent_after(rt, alloc, blocks, &mut engine, &calls())?;
+        return Err(Wrong::Memory);
     }
-    assert_eq!(rt; seen(&engine, 1, "t")?, Some(1));
-    assert_eq!(rt; seen(&engine, 2, "t")?, Some(12));
-    assert_eq!(rt; seen(&engine, 2, "u")?, None);
-    assert!(rt; matches!(engine.visible(3, "t"), Err(EngineFault::NoSession)));
-    if !acts(
-        rt,
-        &mut engine,
-        Event::Leave { session: 1 },
-        Ok((Told::Left, true)),
-    ) {
-        return Ok(());
-    }
-    assert_eq!(rt; seen(&engine, 1, "t")?, Some(12));
+    assert_eq!(rt; left, Ok((Told::Left, true)));
+    sees(rt, &engine, 1, "t", Ok(Some(12)));
     assert!(rt; engine.quiet());
     assert_eq!(rt; engine.history().len(), 13);
     Ok(())
 }
 
+fn calls_once(rt: &impl Abort, alloc: Global) -> Result<(), Wrong> {
+    let blocks = blocks(alloc, &TEXTS)?;
+    by_calls(rt, alloc, &blocks)
+}
+
 #[test]
 fn two_sessions_by_calls(rt: HostRuntime) -> Result<(), Fail> {
-    let alloc = rt.alloc();
-    let blocks = blocks(alloc)?;
-    by_calls(&rt, alloc, &blocks)
+    if let Err(Wrong::Memory) = calls_once(&rt, rt.alloc()) {
+        calls_once(&rt, rt.alloc())?;
+    }
+    Ok(())
 }
 
 /// The history with the end of one block told otherwise.
@@ -233,7 +237,7 @@ fn with_other_end<'a>(
     alloc: Global,
     history: &[HistItem<'a>],
     place: usize,
-) -> Result<Vec<HistItem<'a>>, Fail> {
+) -> Result<Vec<HistItem<'a>>, Wrong> {
     let mut items = Vec::new(alloc);
     for (k, item) in history.iter().enumerate() {
         let mut copy = item.copied(alloc)?;
@@ -244,12 +248,10 @@ fn with_other_end<'a>(
 }
 
 /// The history replays over these blocks and in either mode, and neither with another session count nor with a reply changed.
-fn by_replay<'a, 't>(rt: &impl Abort, alloc: Global, blocks: &'a [Block<'t>]) -> Result<(), Fail> {
+fn by_replay<'a, 't>(rt: &impl Abort, alloc: Global, blocks: &'a [Block<'t>]) -> Result<(), Wrong> {
     let store = ListStore::new(alloc);
     let mut engine = EngineState::new(alloc, blocks, 2, Mode::Directed, store)?;
-    if !two_readers(rt, &mut engine) {
-        return Ok(());
-    }
+    answers(rt, alloc, blocks, &mut engine)?;
     let history = engine.history();
     assert!(rt; replays(alloc, blocks, 2, Mode::Directed, history)?);
     assert!(rt; replays(alloc, blocks, 2, Mode::Free, history)?);
@@ -259,9 +261,47 @@ fn by_replay<'a, 't>(rt: &impl Abort, alloc: Global, blocks: &'a [Block<'t>]) ->
     Ok(())
 }
 
+fn replay_once(rt: &impl Abort, alloc: Global) -> Result<(), Wrong> {
+    let blocks = blocks(alloc, &TEXTS)?;
+    by_replay(rt, alloc, &blocks)
+}
+
 #[test]
 fn a_history_replays_unless_it_is_changed(rt: HostRuntime) -> Result<(), Fail> {
-    let alloc = rt.alloc();
-    let blocks = blocks(alloc)?;
-    by_replay(&rt, alloc, &blocks)
+    if let Err(Wrong::Memory) = replay_once(&rt, rt.alloc()) {
+        replay_once(&rt, rt.alloc())?;
+    }
+    Ok(())
+}
+
+/// The engine is of these blocks in any spelling, and of none else, two sessions and the free mode.
+fn by_opening<'a, 't>(
+    rt: &impl Abort,
+    alloc: Global,
+    blocks: &'a [Block<'t>],
+    respelt: &[Block<'_>],
+) -> Result<(), Wrong> {
+    let store = ListStore::new(alloc);
+    let engine = EngineState::new(alloc, blocks, 2, Mode::Free, store)?;
+    assert!(rt; engine.is_of(blocks, 2, Mode::Free));
+    assert!(rt; engine.is_of(respelt, 2, Mode::Free));
+    assert!(rt; !engine.is_of(blocks, 1, Mode::Free));
+    assert!(rt; !engine.is_of(blocks, 2, Mode::Directed));
+    assert!(rt; !engine.is_of(blocks.get(..3).unwrap_or(&[]), 2, Mode::Free));
+    assert!(rt; !engine.is_of(&[], 2, Mode::Free));
+    Ok(())
+}
+
+fn opening_once(rt: &impl Abort, alloc: Global) -> Result<(), Wrong> {
+    let first = blocks(alloc, &TEXTS)?;
+    let second = blocks(alloc, &RESPELT)?;
+    by_opening(rt, alloc, &first, &second)
+}
+
+#[test]
+fn an_engine_is_of_its_blocks(rt: HostRuntime) -> Result<(), Fail> {
+    if let Err(Wrong::Memory) = opening_once(&rt, rt.alloc()) {
+        opening_once(&rt, rt.alloc())?;
+    }
+    Ok(())
 }
