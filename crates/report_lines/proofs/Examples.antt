@@ -1,24 +1,20 @@
 -- Worked rows: what is said, and what is due, of histories as the definitions give it.
-use Rattle.std.specs.Prelude.{◌≡◌, refl, ℕ, ◌+◌, Bool, true, false, List, [], ◌∷◌, ◌++◌, Option, Some, None}
-use Rattle.report_lines.specs.declared.history.Line.{Line}
+use Rattle.std.specs.Prelude.{◌≡◌, refl, ℕ, Bool, true, false, List, [], ◌∷◌, ◌++◌}
 use Rattle.report_lines.specs.declared.history.Line.TheVariants.{AtOnce, Waiting, Completed}
-use Rattle.session_machine.specs.declared.event.Event.{Event}
 use Rattle.session_machine.specs.declared.event.Event.TheVariants.{Launch, Step, Leave}
 use Rattle.session_machine.specs.declared.reply.Outcome.{Outcome}
-use Rattle.session_machine.specs.declared.reply.Outcome.TheVariants.{Launched, Done, Rows, Waits, Failed, Left}
+use Rattle.session_machine.specs.declared.reply.Outcome.TheVariants.{Launched, Done, Waits, Failed, Left}
 use Rattle.session_machine.specs.declared.reply.HistItem.{HistItem}
 use Rattle.spec_parser.specs.declared.tree.Marker.{Marker}
 use Rattle.spec_parser.specs.declared.tree.Marker.TheVariants.{Star, Step as Named}
-use Rattle.report_lines.specs.declared.history.Stand.{Stand}
 use Rattle.report_lines.specs.declared.history.Stand.TheVariants.{Due, Whole, Invalid}
-use Rattle.session_machine.specs.declared.event.Order.{Order}
 use Rattle.session_machine.specs.declared.event.Order.TheVariants.{Launch as LaunchOf, Leave as LeaveOf, Stop}
 use Rattle.report_lines.specs.Due.{due, Planned}
 use Rattle.report_lines.specs.declared.history.Task.{Task}
 use Rattle.spec_parser.specs.Trees.{EntryTree}
 use Rattle.session_machine.specs.declared.fault.StmtFault.TheVariants.{TooManyValues}
 use Rattle.report_lines.specs.History.{Setting}
-use Rattle.report_lines.specs.Report.{instances, report, Report}
+use Rattle.report_lines.specs.Report.{report}
 
 abbrev begins : ℕ → HistItem
 begins s = record { event = Launch s 0; reply = record { outcome = Launched; ended = false } }

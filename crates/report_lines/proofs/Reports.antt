@@ -1,10 +1,9 @@
 -- How the report goes on at each entry.
-use Rattle.std.proofs.Common.{◌≡◌, ℕ, zero, suc, ◌+◌, ◌-◌, ◌<◌, ◌≤◌, List, [], ◌∷◌, ◌++◌, length, refl, ap, sym, ◌∙◌, arith, true, false, Bool, if◌then◌else◌, nat_lt}
+use Rattle.std.proofs.Common.{◌≡◌, ℕ, suc, ◌+◌, ◌-◌, ◌<◌, ◌≤◌, List, refl, ap, sym, ◌∙◌, arith, true, false, if◌then◌else◌, nat_lt}
 use Rattle.report_lines.specs.declared.history.Line.{Line}
-use Rattle.report_lines.specs.declared.history.Stand.{Stand}
 use Rattle.report_lines.specs.declared.history.Stand.TheVariants.{Due, Whole, Invalid}
 use Rattle.report_lines.specs.History.{Setting}
-use Rattle.report_lines.specs.Report.{Report, report_from, made_way, launched, poll, before, is_busy, is_empty, active}
+use Rattle.report_lines.specs.Report.{report_from, made_way, launched, poll, before, is_busy, is_empty, active}
 
 pub report_stuck : (c : Setting) (n e there : ℕ) (lines way : List Line) → e < n → way ≡ made_way c lines e → is_busy c way e ≡ true → report_from c e (n - e) there lines ≡ record { lines = way; stand = Invalid }
 report_stuck c n e there lines way h is busy =

@@ -1,5 +1,5 @@
 -- The list of waiting entries over the lines.
-use Rattle.std.proofs.Common.{◌≡◌, ℕ, zero, suc, ◌+◌, ◌<◌, ◌≤◌, List, [], ◌∷◌, ◌++◌, length, refl, ap, sym, ◌∙◌, subst, arith, true, false, Bool, not, cond, ◌==◌, ◌||◌, ◌&&◌, add-one, ◌⊎◌, inl, inr, ◌-◌}
+use Rattle.std.proofs.Common.{◌≡◌, ℕ, zero, suc, ◌+◌, ◌<◌, ◌≤◌, List, [], ◌∷◌, ◌++◌, refl, ap, sym, ◌∙◌, arith, true, false, Bool, not, cond, ◌==◌, ◌||◌, ◌&&◌, add-one, ◌⊎◌, inl, inr, ◌-◌}
 use Rattle.std.specs.List.{list_any, filter, fold}
 use Rattle.std.proofs.lemmas.List.Folds.{list_any-append}
 use Rattle.std.proofs.lemmas.List.Elements.{filter-append}

@@ -1,5 +1,5 @@
 -- The next order of a permutation: setups, entries, teardowns.
-use Rattle.std.specs.Prelude.{◌≡◌, ℕ, zero, suc, ◌+◌, ◌-◌, ◌==◌, nat_lt, nat_le, Bool, true, false, not, ◌&&◌, ◌||◌, List, [], ◌∷◌, ◌++◌, length, Option, Some, None, slice_range, slice_get, if◌then◌else◌}
+use Rattle.std.specs.Prelude.{ℕ, ◌+◌, ◌-◌, nat_lt, nat_le, Bool, true, false, not, ◌&&◌, List, [], ◌∷◌, length, Option, Some, None, slice_range, slice_get, if◌then◌else◌}
 use Rattle.std.specs.List.{list_any, filter}
 use Rattle.session_machine.specs.declared.reply.HistItem.{HistItem}
 use Rattle.session_machine.specs.declared.reply.Outcome.{Outcome}

@@ -1,5 +1,5 @@
 -- Segments of a history, and what they show of a step.
-use Rattle.std.specs.Prelude.{◌≡◌, ℕ, zero, suc, ◌+◌, ◌==◌, Bool, true, false, not, ◌&&◌, ◌||◌, List, [], ◌∷◌, ◌++◌, length, Option, Some, None, slice_get, slice_range, if◌then◌else◌}
+use Rattle.std.specs.Prelude.{ℕ, ◌+◌, ◌==◌, Bool, true, false, ◌&&◌, List, [], ◌∷◌, Option, Some, None, slice_get, slice_range}
 use Rattle.std.specs.List.{list_any}
 use Rattle.report_lines.specs.Starts.{start, ends_in}
 use Rattle.session_machine.specs.declared.reply.HistItem.{HistItem}

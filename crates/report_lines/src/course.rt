@@ -1,50 +1,69 @@
 //! A permutation with its history.
-ghost use Rattle.std.specs.Prelude.{◌≡◌, ◌+◌, ◌<◌, ◌≤◌, ◌^◌, ℕ, length, map, slice_range};
+ghost use Rattle.std.specs.Prelude.{◌≡◌, ◌+◌, ◌<◌, ◌≤◌, ◌^◌, length, map, IfOk};
 ghost use Rattle.spec_parser.specs.Trees.{entry_view};
-ghost use Rattle.std.specs.List.{list_any};
-ghost use Rattle.report_lines.specs.Starts.{start, ends_in};
+ghost use Rattle.report_lines.specs.Report.{instances};
+ghost use Rattle.report_lines.specs.Places.{end_place};
 
 use crate::entries;
 use crate::history::Moment;
+use crate::segments::Segments;
 use session_machine::HistItem;
 use spec_parser::Entry;
+use std::alloc::{AllocError, Global};
 use std::marker::Model;
 
 /// Entries, the history, and how many segments come before the first entry's.
 #[derive(Drop)]
 pub struct Course<'a> {
     entries: &'a [Entry],
-    items: &'a [HistItem<'a>],
+    segments: Segments<'a>,
     setups: usize,
+    // Where the block of each entry ends.
+    ends: Vec<usize>,
 }
 
 impl<'a> Model for Course<'a> {
-    ghost use Rattle.std.specs.Prelude.{◌+◌, ◌<◌, ◌^◌, length, map};
+    ghost use Rattle.std.specs.Prelude.{◌≡◌, ◌+◌, ◌<◌, ◌^◌, length, map};
     ghost use Rattle.spec_parser.specs.Trees.{entry_view};
     ghost use Rattle.report_lines.specs.History.{Setting};
 
     ghost Value = { Setting };
 
-    ghost view = { λ c. record { entries = map entry_view c.entries.now; items = c.items.now; setups = c.setups } };
+    ghost use Rattle.report_lines.specs.Places.{IsTimed};
 
-    ghost invariant = { λ c. c.setups + length c.entries.now + 1 < 2 ^ 64 };
+    ghost view = { λ c. record { entries = map entry_view c.entries.now; items = c.segments; setups = c.setups } };
+
+    ghost invariant = { λ c. IsTimed (record { entries = map entry_view c.entries.now; items = c.segments; setups = c.setups }) c.ends.items };
 }
 
 impl<'a> Course<'a> {
-    ghost use Rattle.report_lines.specs.Starts.{start, ends_in};
     ghost use Rattle.report_lines.specs.Report.{before, after};
     ghost use Rattle.report_lines.specs.History.{Setting, seen_before, has_ended, is_named, is_starred, is_marked, session_at};
 
-    /// These entries with a history, in which so many segments come before the first entry's.
-    pub fn new(entries: &'a [Entry], items: &'a [HistItem<'a>], setups: usize) -> Course<'a>
+    /// These entries with a history, in which so many segments come before the first entry's. Fails only where memory is refused.
+    pub fn new(
+        alloc: Global,
+        entries: &'a [Entry],
+        items: &'a [HistItem<'a>],
+        setups: usize,
+    ) -> Result<Course<'a>, AllocError>
         requires { setups + length entries.now + 1 < 2 ^ 64 }
-        ensures { result ≡ record { entries = map entry_view entries.now; items = items.now; setups = setups } }
+        ensures { IfOk result (λ course. course ≡ record { entries = map entry_view entries.now; items = items.now; setups = setups }) }
     {
-        Course {
+        let segments = Segments::new(alloc, items)?;
+        let ends = end_places(alloc, entries, &segments, setups)?;
+        Ok(Course {
             entries,
-            items,
+            segments,
             setups,
-        }
+            ends,
+        })
+    }
+
+    pub fn segments(&self) -> &Segments<'a>
+        ensures { result.now ≡ self.now.items }
+    {
+        &self.segments
     }
 
     /// How many items come before an entry's Launch.
@@ -53,7 +72,7 @@ impl<'a> Course<'a> {
         ensures exact { result ≡ seen_before self.now entry }
         ensures within { result ≤ length self.now.items }
     {
-        start(self.items, self.setups + entry)
+        self.segments.start(self.setups + entry)
     }
 
     pub fn before(&self, entry: usize) -> Moment
@@ -94,10 +113,7 @@ impl<'a> Course<'a> {
     pub fn session_at(&self, entry: usize) -> u32
         ensures { result ≡ session_at self.now entry }
     {
-        match self.entries.get(entry) {
-            None => 0,
-            Some(e) => e.session,
-        }
+        entries::session_at(self.entries, entry)
     }
 
     pub fn is_named(&self, entry: usize, other: usize) -> bool
@@ -129,46 +145,30 @@ impl<'a> Course<'a> {
 
     /// Whether an entry's block has ended in so many items.
     pub fn has_ended(&self, seen: usize, entry: usize) -> bool
-        requires entry { entry ≤ length self.now.entries }
+        requires entry { entry < length self.now.entries }
         requires seen { seen ≤ length self.now.items }
         ensures { result ≡ has_ended self.now seen entry }
     {
-        any_ends(
-            self.items,
-            self.seen_before(entry),
-            seen,
-            self.session_at(entry),
-        )
-    }
-}
-
-/// Whether an item of the session, in these places, ends its block.
-pub fn any_ends(items: &[HistItem<'_>], from: usize, to: usize, session: u32) -> bool
-    requires { to ≤ length items.now }
-    ensures { result ≡ list_any (ends_in session) (slice_range items.now from to) }
-{
-    if from <= to {
-        items[from..to]
-            .iter()
-            .any(|item| entries::ends_in(session, item))
-    } else {
-        false
-    }
-}
-
-/// How many items come before the order of this number.
-pub fn start(items: &[HistItem<'_>], order: usize) -> usize
-    ensures exact { result ≡ start items.now order }
-    ensures within { result ≤ length items.now }
-{
-    let mut left = order;
-    for (place, item) in items.iter().enumerate() {
-        if entries::is_order(&item.event) {
-            if left == 0 {
-                return place;
-            }
-            left -= 1;
+        match self.ends.get(entry) {
+            None => false,
+            Some(end) => *end < seen,
         }
     }
-    items.len()
+}
+
+/// Where the block of each entry ends.
+fn end_places(
+    alloc: Global,
+    entries: &[Entry],
+    segments: &Segments<'_>,
+    setups: usize,
+) -> Result<Vec<usize>, AllocError>
+    requires { setups + length entries.now + 1 < 2 ^ 64 }
+    ensures { IfOk result (λ ends. ends.items ≡ map (end_place (record { entries = map entry_view entries.now; items = segments.now; setups = setups })) (instances (length entries.now))) }
+{
+    let mut ends = Vec::with_capacity(alloc, entries.len())?;
+    for entry in 0..entries.len() {
+        ends.push(segments.end(setups + entry, entries::session_at(entries, entry)))?;
+    }
+    Ok(ends)
 }

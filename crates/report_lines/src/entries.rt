@@ -1,8 +1,8 @@
 //! Entries of a permutation, and items of a history.
-ghost use Rattle.std.specs.Prelude.{◌≡◌};
+ghost use Rattle.std.specs.Prelude.{◌≡◌, map, slice_get};
 ghost use Rattle.std.specs.List.{list_any};
 ghost use Rattle.spec_parser.specs.Trees.{entry_view};
-ghost use Rattle.report_lines.specs.History.{names, is_star, is_some_marker};
+ghost use Rattle.report_lines.specs.History.{session_or_zero, names, is_star, is_some_marker};
 ghost use Rattle.report_lines.specs.Starts.{is_order, session_of, ends_in};
 
 use session_machine::{Event, HistItem};
@@ -21,6 +21,16 @@ fn is_step(entry: &Entry, marker: &Marker) -> bool
     match *marker {
         Marker::Star => false,
         Marker::Step { session, step } => session == entry.session && step == entry.step,
+    }
+}
+
+/// The session of the entry at this place; 0 where there is none.
+pub fn session_at(entries: &[Entry], place: usize) -> u32
+    ensures { result ≡ session_or_zero (slice_get (map entry_view entries.now) place) }
+{
+    match entries.get(place) {
+        None => 0,
+        Some(entry) => entry.session,
     }
 }
 

@@ -5,9 +5,11 @@ mod course;
 mod entries;
 mod history;
 mod plan;
+mod segments;
 mod telling;
 
 pub use course::Course;
 pub use history::{Line, Moment, Stand, Task};
 pub use plan::{Plan, Schedule};
+pub use segments::{Segments, any_ends, any_fails};
 pub use telling::{Told, told_lines};

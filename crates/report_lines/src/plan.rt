@@ -1,68 +1,20 @@
 //! The next order of a permutation, from its history alone.
-ghost use Rattle.std.specs.Prelude.{◌≡◌, ◌+◌, ◌-◌, ◌<◌, ◌≤◌, ◌^◌, ℕ, not, ◌&&◌, length, map, IfOk, slice_range, drop, Option, Some, None};
+ghost use Rattle.std.specs.Prelude.{◌≡◌, ◌+◌, ◌-◌, ◌<◌, ◌≤◌, ◌^◌, ℕ, not, ◌&&◌, length, map, IfOk, drop, Option, Some, None};
 ghost use Rattle.spec_parser.specs.Trees.{entry_view};
-ghost use Rattle.std.specs.List.{list_any, filter};
-ghost use Rattle.report_lines.specs.Starts.{start, ends_in, is_order};
-ghost use Rattle.report_lines.specs.Due.{segment, is_failed, fails, is_over, went_well, orders, due_setup, torn_down, task_of, due_last, due_entry, due, or_else};
+ghost use Rattle.report_lines.specs.Due.{is_over, went_well, orders, due_setup, torn_down, task_of, due_last, due_entry, due, or_else};
 
-use crate::course::{Course, start};
-use crate::entries::{ends_in, is_order};
+use crate::course::Course;
 use crate::history::{Stand, Task, TornDown};
+use crate::segments::Segments;
 use crate::telling::told_lines;
-use session_machine::{HistItem, Order, Outcome};
+use session_machine::{HistItem, Order};
 use spec_parser::Entry;
 use std::alloc::{AllocError, Global};
 use std::marker::Model;
 
-fn is_failed(outcome: &Outcome<'_>) -> bool
-    ensures { result ≡ is_failed outcome.now }
-{
-    matches!(outcome, Outcome::Failed(_))
-}
-
-fn orders(items: &[HistItem<'_>]) -> usize
-    ensures { result ≡ orders items.now }
-{
-    items.iter().filter(|item| is_order(&item.event)).count()
-}
-
-/// The segment of this number.
-fn segment<'s, 'a>(items: &'s [HistItem<'a>], number: usize) -> &'s [HistItem<'a>]
-    requires { number + 1 < 2 ^ 64 }
-    ensures { result.now ≡ segment items.now number }
-{
-    let from = start(items, number);
-    let to = start(items, number + 1);
-    if from <= to { &items[from..to] } else { &[] }
-}
-
-fn is_over(items: &[HistItem<'_>], number: usize, session: u32) -> bool
-    requires { number + 1 < 2 ^ 64 }
-    ensures { result ≡ is_over items.now number session }
-{
-    segment(items, number)
-        .iter()
-        .any(|item| ends_in(session, item))
-}
-
-fn any_fails(items: &[HistItem<'_>]) -> bool
-    ensures { result ≡ list_any fails items.now }
-{
-    items.iter().any(|item| is_failed(&item.reply.outcome))
-}
-
-fn went_well(items: &[HistItem<'_>], number: usize, session: u32) -> bool
-    requires { number + 1 < 2 ^ 64 }
-    ensures { result ≡ went_well items.now number session }
-{
-    let over = is_over(items, number, session);
-    let failed = any_fails(segment(items, number));
-    over && !failed
-}
-
 /// The first setup that is not there yet, or a stop after one that failed or waits.
-fn due_setup(items: &[HistItem<'_>], there: usize, setups: &[Task]) -> Option<Order>
-    ensures { result ≡ due_setup items.now there 0 setups.now }
+fn due_setup(segments: &Segments<'_>, there: usize, setups: &[Task]) -> Option<Order>
+    ensures { result ≡ due_setup segments.now there 0 setups.now }
 {
     for (number, task) in setups.iter().enumerate() {
         if there <= number {
@@ -71,7 +23,7 @@ fn due_setup(items: &[HistItem<'_>], there: usize, setups: &[Task]) -> Option<Or
                 block: task.block,
             });
         }
-        if !went_well(items, number, task.session) {
+        if !segments.went_well(number, task.session) {
             return Some(Order::Stop);
         }
     }
@@ -79,8 +31,8 @@ fn due_setup(items: &[HistItem<'_>], there: usize, setups: &[Task]) -> Option<Or
 }
 
 /// How far the teardowns have come.
-fn torn_down(items: &[HistItem<'_>], there: usize, first: usize, tasks: &[Task]) -> TornDown
-    ensures { result ≡ torn_down items.now there first tasks.now }
+fn torn_down(segments: &Segments<'_>, there: usize, first: usize, tasks: &[Task]) -> TornDown
+    ensures { result ≡ torn_down segments.now there first tasks.now }
 {
     let mut number = first;
     for task in tasks {
@@ -93,7 +45,7 @@ fn torn_down(items: &[HistItem<'_>], there: usize, first: usize, tasks: &[Task])
                 }),
             };
         }
-        if is_over(items, number, task.session) {
+        if segments.is_over(number, task.session) {
             number += 1;
         } else if there <= number + 1 {
             return TornDown {
@@ -127,7 +79,7 @@ pub struct Schedule<'a> {
 #[derive(Drop)]
 pub struct Plan<'a> {
     setups: &'a [Task],
-    course: Course<'a>,
+    entries: &'a [Entry],
     items: &'a [HistItem<'a>],
     tasks: &'a [Task],
     teardowns: &'a [Task],
@@ -136,14 +88,22 @@ pub struct Plan<'a> {
 }
 
 impl<'a> Model for Plan<'a> {
-    ghost use Rattle.std.specs.Prelude.{◌≡◌, length};
+    ghost use Rattle.std.specs.Prelude.{◌+◌, ◌<◌, ◌^◌, length, map};
+    ghost use Rattle.spec_parser.specs.Trees.{entry_view};
     ghost use Rattle.report_lines.specs.Due.{Planned};
 
     ghost Value = { Planned };
 
-    ghost view = { λ p. record { setups = p.setups.now; setting = p.course; tasks = p.tasks.now; teardowns = p.teardowns.now; sessions = p.sessions; last = p.last.now } };
+    ghost view = { λ p. record {
+      setups = p.setups.now;
+      setting = record { entries = map entry_view p.entries.now; items = p.items.now; setups = length p.setups.now };
+      tasks = p.tasks.now;
+      teardowns = p.teardowns.now;
+      sessions = p.sessions;
+      last = p.last.now;
+    } };
 
-    ghost invariant = { λ p. p.items.now ≡ p.course.items };
+    ghost invariant = { λ p. length p.setups.now + length p.entries.now + 1 < 2 ^ 64 };
 }
 
 impl<'a> Plan<'a> {
@@ -163,7 +123,7 @@ impl<'a> Plan<'a> {
     {
         Plan {
             setups: schedule.setups,
-            course: Course::new(entries, items, schedule.setups.len()),
+            entries,
             items,
             tasks: schedule.tasks,
             teardowns: schedule.teardowns,
@@ -173,8 +133,8 @@ impl<'a> Plan<'a> {
     }
 
     /// What is due after the teardowns of sessions.
-    fn due_last(&self, there: usize, after: TornDown) -> Order
-        ensures { result ≡ due_last self.now self.now.setting.items there after }
+    fn due_last(&self, segments: &Segments<'_>, there: usize, after: TornDown) -> Order
+        ensures { result ≡ due_last self.now segments.now there after }
     {
         if let Some(order) = after.due {
             return order;
@@ -188,23 +148,24 @@ impl<'a> Plan<'a> {
                 session: (there - after.orders) as u32 + 1,
             };
         }
-        match torn_down(self.items, there, after.orders + sessions, self.last).due {
+        match torn_down(segments, there, after.orders + sessions, self.last).due {
             Some(order) => order,
             None => Order::Stop,
         }
     }
 
     /// What is due once the setups are there.
-    fn due_entry(&self, there: usize, stand: Stand) -> Order
-        ensures { result ≡ due_entry self.now self.now.setting.items there stand }
+    fn due_entry(&self, segments: &Segments<'_>, there: usize, stand: Stand) -> Order
+        ensures { result ≡ due_entry self.now segments.now there stand }
     {
         match stand {
             Stand::Due(entry) => task_of(self.tasks, entry),
             Stand::Invalid => Order::Stop,
             Stand::Whole => self.due_last(
+                segments,
                 there,
                 torn_down(
-                    self.items,
+                    segments,
                     there,
                     self.setups.len() + self.tasks.len(),
                     self.teardowns,
@@ -213,16 +174,18 @@ impl<'a> Plan<'a> {
         }
     }
 
-    /// The next order.
+    /// The next order. Fails only where memory is refused.
     pub fn due(&self, alloc: Global) -> Result<Order, AllocError>
         ensures { IfOk result (λ order. order ≡ due self.now) }
     {
-        let there = orders(self.items);
-        if let Some(order) = due_setup(self.items, there, self.setups) {
+        let course = Course::new(alloc, self.entries, self.items, self.setups.len())?;
+        let segments = course.segments();
+        let there = segments.count();
+        if let Some(order) = due_setup(segments, there, self.setups) {
             return Ok(order);
         }
-        let told = told_lines(alloc, &self.course, there.saturating_sub(self.setups.len()))?;
-        Ok(self.due_entry(there, told.1))
+        let told = told_lines(alloc, &course, there.saturating_sub(self.setups.len()))?;
+        Ok(self.due_entry(segments, there, told.1))
     }
 }
 

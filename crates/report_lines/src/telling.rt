@@ -1,8 +1,9 @@
 //! The lines of the entries, told in order with a list of the steps that wait.
-ghost use Rattle.std.specs.Prelude.{◌≡◌, ◌+◌, ◌-◌, ◌<◌, ◌≤◌, ◌^◌, ◌==◌, ◌&&◌, ℕ, not, nat_lt, [], ◌∷◌, ◌++◌, length, OnOk, IfOk, Some, None, if◌then◌else◌, vec_len, vec_capacity};
+ghost use Rattle.std.specs.Prelude.{◌≡◌, ◌+◌, ◌-◌, ◌<◌, ◌≤◌, ◌^◌, ◌==◌, ◌&&◌, ℕ, not, nat_lt, [], ◌∷◌, ◌++◌, length, slice_get, OnOk, IfOk, OnSome, Some, None, if◌then◌else◌, vec_len, vec_capacity};
 ghost use Rattle.std.specs.List.{list_any, filter, fold};
 ghost use Rattle.report_lines.specs.Telling.{Telling, IsKept};
 ghost use Rattle.report_lines.specs.History.{session_at, is_named, is_marked, has_ended, seen_before};
+ghost use Rattle.report_lines.specs.Trying.{is_chosen, chosen_retry, still_told};
 ghost use Rattle.report_lines.specs.Report.{is_reported, active, may_report, first_try, retry, own_retry, pass, goes_on, polled, poll, is_busy, is_of, made_way, launched, before, after, report, report_from, instances, is_empty};
 
 use crate::course::Course;
@@ -43,10 +44,20 @@ fn join(waiting: &mut Vec<usize>, entry: usize)
     waiting.push(entry).unwrap();
 }
 
-fn is_among(waiting: &[usize], entry: usize) -> bool
-    ensures { result ≡ list_any (λ j. j == entry) waiting.now }
+/// Which steps of the waiting list are tried: those that have joined it, or those of a session.
+#[derive(Clone, Copy)]
+enum Chosen {
+    Joined,
+    Own(u32),
+}
+
+fn is_chosen(course: &Course<'_>, m: Moment, chosen: Chosen, entry: usize) -> bool
+    ensures { result ≡ is_chosen course.now m chosen entry }
 {
-    waiting.iter().any(|j| *j == entry)
+    match chosen {
+        Chosen::Joined => entry < m.joined,
+        Chosen::Own(session) => course.session_at(entry) == session,
+    }
 }
 
 impl Told {
@@ -60,11 +71,19 @@ impl Told {
         }
     }
 
-    fn is_waiting(&self, entry: usize) -> bool
-        requires { entry < self.now.launched }
-        ensures { result ≡ not (is_reported self.now.lines entry) }
+    /// The lines so far, in order.
+    pub fn lines(&self) -> &[Line]
+        ensures { result.now ≡ self.now.lines }
     {
-        is_among(self.waiting.as_slice(), entry)
+        self.lines.as_slice()
+    }
+
+    /// The entry at this place of the waiting list.
+    fn waiting_at(&self, place: usize) -> Option<usize>
+        ensures entry { result ≡ slice_get (active self.now.lines self.now.launched) place }
+        ensures room { OnSome result (place + 1 < 2 ^ 64) }
+    {
+        self.waiting.get(place).copied()
     }
 
     /// Whether a step that an entry's markers name is active.
@@ -76,14 +95,15 @@ impl Told {
 
     /// Whether a launched entry can be reported.
     fn may_report(&self, course: &Course<'_>, m: Moment, entry: usize) -> bool
-        requires entry { entry ≤ length course.now.entries }
+        requires entry { entry < length course.now.entries }
         requires seen { m.seen ≤ length course.now.items }
         requires launched { m.launched ≡ self.now.launched }
         ensures { result ≡ may_report course.now m self.now.lines entry }
     {
-        let ended = course.has_ended(m.seen, entry);
-        let held = self.is_held(course, entry);
-        ended && !held
+        if !course.has_ended(m.seen, entry) {
+            return false;
+        }
+        !self.is_held(course, entry)
     }
 
     fn complete(&mut self, entry: usize, seen: usize) -> Result<(), AllocError>
@@ -95,19 +115,59 @@ impl Told {
         Ok(())
     }
 
-    /// Tries an entry again.
-    fn retry(&mut self, course: &Course<'_>, m: Moment, entry: usize) -> Result<(), AllocError>
-        requires entry { entry < self.old.launched }
+    /// Whether a step of the waiting list is tried now, and can be reported.
+    fn completes(&self, course: &Course<'_>, m: Moment, chosen: Chosen, entry: usize) -> bool
+        requires entry { entry < length course.now.entries }
+        requires seen { m.seen ≤ length course.now.items }
+        requires launched { m.launched ≡ self.now.launched }
+        ensures { result ≡ (is_chosen course.now m chosen entry && may_report course.now m self.now.lines entry) }
+    {
+        is_chosen(course, m, chosen, entry) && self.may_report(course, m, entry)
+    }
+
+    /// Tries the step at this place of the waiting list, and gives the place of the next one.
+    fn try_at(
+        &mut self,
+        course: &Course<'_>,
+        m: Moment,
+        chosen: Chosen,
+        place: usize,
+    ) -> Result<usize, AllocError>
         requires entries { self.old.launched ≤ length course.now.entries }
         requires seen { m.seen ≤ length course.now.items }
         requires launched { m.launched ≡ self.old.launched }
-        ensures { OnOk result (self.new ≡ record self.old { lines = retry course.now m self.old.lines entry }) }
+        ensures launched { OnOk result (self.new.launched ≡ self.old.launched) }
+        ensures lines { IfOk result (λ next. still_told course.now m chosen self.new.lines self.new.launched next ≡ still_told course.now m chosen self.old.lines self.old.launched place) }
+        ensures fewer { IfOk result (λ next. length (active self.new.lines self.new.launched) - next ≤ length (active self.old.lines self.old.launched) - (place + 1)) }
     {
-        if self.is_waiting(entry) && self.may_report(course, m, entry) {
-            self.complete(entry, m.seen)
+        let Some(entry) = self.waiting_at(place) else {
+            return Ok(place);
+        };
+        if self.completes(course, m, chosen, entry) {
+            self.complete(entry, m.seen)?;
+            Ok(place)
         } else {
-            Ok(())
+            Ok(place + 1)
         }
+    }
+
+    /// Tries the chosen steps of the waiting list once, in order.
+    fn go_through(
+        &mut self,
+        course: &Course<'_>,
+        m: Moment,
+        chosen: Chosen,
+    ) -> Result<(), AllocError>
+        requires entries { self.old.launched ≤ length course.now.entries }
+        requires seen { m.seen ≤ length course.now.items }
+        requires launched { m.launched ≡ self.old.launched }
+        ensures { OnOk result (self.new ≡ record self.old { lines = fold (chosen_retry course.now m chosen) self.old.lines (instances self.old.launched) }) }
+    {
+        let mut place = 0;
+        for _turn in 0..self.waiting.len() {
+            place = self.try_at(course, m, chosen, place)?;
+        }
+        Ok(())
     }
 
     /// Goes through the waiting list once.
@@ -118,9 +178,7 @@ impl Told {
         requires launched { m.launched ≡ self.old.launched }
         ensures { OnOk result (self.new ≡ record self.old { lines = pass course.now m self.old.lines }) }
     {
-        for entry in 0..m.joined {
-            self.retry(course, m, entry)?;
-        }
+        self.go_through(course, m, Chosen::Joined)?;
         Ok(())
     }
 
@@ -236,27 +294,6 @@ impl Told {
             .any(|j| course.session_at(*j) == session)
     }
 
-    /// Tries an entry again if it is of the session.
-    fn own_retry(
-        &mut self,
-        course: &Course<'_>,
-        m: Moment,
-        session: u32,
-        entry: usize,
-    ) -> Result<(), AllocError>
-        requires entry { entry < self.old.launched }
-        requires entries { self.old.launched ≤ length course.now.entries }
-        requires seen { m.seen ≤ length course.now.items }
-        requires launched { m.launched ≡ self.old.launched }
-        ensures { OnOk result (self.new ≡ record self.old { lines = own_retry course.now m session self.old.lines entry }) }
-    {
-        if course.session_at(entry) == session {
-            self.retry(course, m, entry)
-        } else {
-            Ok(())
-        }
-    }
-
     /// Tries the session's steps again.
     fn retry_own(&mut self, course: &Course<'_>, m: Moment, session: u32) -> Result<(), AllocError>
         requires entries { self.old.launched ≤ length course.now.entries }
@@ -264,9 +301,7 @@ impl Told {
         requires launched { m.launched ≡ self.old.launched }
         ensures { OnOk result (self.new ≡ record self.old { lines = fold (own_retry course.now m session) self.old.lines (instances self.old.launched) }) }
     {
-        for entry in 0..m.launched {
-            self.own_retry(course, m, session, entry)?;
-        }
+        self.go_through(course, m, Chosen::Own(session))?;
         Ok(())
     }
 

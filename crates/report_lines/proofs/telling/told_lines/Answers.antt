@@ -1,6 +1,5 @@
-use Rattle.std.proofs.Common.{rules, ◌≡◌, ◌+◌, ◌-◌, ◌<◌, length, sym, ◌∙◌, ap, arith, true, false, List, Bool, nat_lt}
+use Rattle.std.proofs.Common.{◌≡◌, ◌+◌, ◌-◌, ◌<◌, length, sym, ◌∙◌, ap, arith, true, false, nat_lt}
 use Rattle.report_lines.specs.Telling.{Telling}
-use Rattle.report_lines.specs.declared.history.Line.{Line}
 use Rattle.report_lines.specs.Report.{made_way, launched, is_busy, report_from}
 use Rattle.report_lines.proofs.Reports.{report_stuck, report_due, report_on}
 use Rattle.report_lines.proofs.telling.told_lines.Goals as goal

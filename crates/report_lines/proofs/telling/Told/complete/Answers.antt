@@ -1,7 +1,6 @@
 use Rattle.report_lines.proofs.Waits.{kept_leave}
-use Rattle.std.proofs.Common.{◌≡◌, ◌++◌, ◌∷◌, [], ◌<◌, arith, ap, List}
+use Rattle.std.proofs.Common.{◌≡◌, ◌++◌, ◌∷◌, [], ◌<◌, arith, ap}
 use Rattle.report_lines.specs.Telling.{Telling}
-use Rattle.report_lines.specs.declared.history.Line.{Line}
 use Rattle.report_lines.specs.declared.history.Line.TheVariants.{Completed}
 use Rattle.report_lines.proofs.telling.Told.complete.Goals as goal
 

@@ -1,8 +1,6 @@
-use Rattle.std.proofs.Common.{◌≡◌, ◌++◌, ◌∷◌, [], ap, ◌∙◌, List, ℕ, not, ◌==◌}
-use Rattle.std.specs.List.{filter}
-use Rattle.report_lines.specs.declared.history.Line.{Line}
-use Rattle.report_lines.specs.declared.history.Line.TheVariants.{AtOnce, Waiting}
-use Rattle.report_lines.proofs.Waits.{kept_first, kept_wait}
+use Rattle.std.proofs.Common.{◌≡◌, ◌++◌, ◌∷◌, [], ap, ◌∙◌, List, ℕ}
+use Rattle.report_lines.specs.declared.history.Line.TheVariants.{Waiting}
+use Rattle.report_lines.proofs.Waits.{kept_wait}
 use Rattle.report_lines.proofs.telling.Told.launch_waiting.Goals as goal
 
 pub invariant_of-self-2 : goal.invariant_of-self-2

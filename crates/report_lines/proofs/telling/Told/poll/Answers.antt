@@ -1,8 +1,7 @@
-use Rattle.std.proofs.Common.{rules, ◌≡◌, ◌+◌, ◌-◌, sym, ◌∙◌, ap, List}
+use Rattle.std.proofs.Common.{◌≡◌, ◌+◌, ◌∙◌, ap}
 use Rattle.report_lines.specs.Telling.{Telling}
-use Rattle.report_lines.specs.declared.history.Line.{Line}
 use Rattle.report_lines.specs.Report.{pass}
-use Rattle.report_lines.proofs.Waits.{polled_on, polled_off}
+use Rattle.report_lines.proofs.Waits.{polled_on}
 use Rattle.report_lines.proofs.telling.Told.poll.Goals as goal
 
 pub loop-turn-preserved : goal.loop-turn-preserved

@@ -1,0 +1,2 @@
+pub mod OneHistory
+pub mod Working

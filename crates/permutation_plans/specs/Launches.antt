@@ -1,0 +1,76 @@
+-- What a permutation of a spec launches, and in which order.
+use Rattle.std.specs.Prelude.{ℕ, ◌+◌, ◌-◌, List, [], ◌∷◌, ◌++◌, length, map, Option, Some, None, option_and_then, slice_get}
+use Rattle.session_machine.specs.declared.event.Order.{Order}
+use Rattle.session_machine.specs.declared.reply.HistItem.{HistItem}
+use Rattle.spec_parser.specs.Trees.{PartTree, StepTree, SessionTree, EntryTree, SpecTree}
+use Rattle.report_lines.specs.declared.history.Task.{Task}
+use Rattle.report_lines.specs.Due.{Planned, due}
+
+-- the blocks of a permutation, each with its session: of the setups, of the entries, of the sessions' teardowns, of the main teardown
+pub record Launches : Type 0 where
+  pub setups : List Task
+  pub tasks : List Task
+  pub teardowns : List Task
+  pub sessions : ℕ
+  pub last : List Task
+
+abbrev pub task : ℕ → PartTree → Task
+task session part = record { session = session; block = part.block }
+
+-- the part, if it is there
+abbrev pub task_if : ℕ → Option PartTree → List Task
+task_if session None = []
+task_if session (Some part) = task session part ∷ []
+
+-- each session's part of one kind in its session, in file order; the first session has this number
+abbrev pub own_tasks : (SessionTree → Option PartTree) → ℕ → List SessionTree → List Task
+own_tasks part k [] = []
+own_tasks part k (s ∷ ss) = task_if k (part s) ++ own_tasks part (k + 1) ss
+
+abbrev pub step_of_session : ℕ → SessionTree → Option StepTree
+step_of_session k s = slice_get s.steps k
+
+-- the step of an entry: sessions are numbered from 1, steps from 0
+abbrev pub step_of : SpecTree → EntryTree → Option StepTree
+step_of spec e = option_and_then (step_of_session e.step) (slice_get spec.sessions (e.session - 1))
+
+abbrev pub block_of_step : Option StepTree → ℕ
+block_of_step None = 0
+block_of_step (Some s) = s.part.block
+
+-- the block of an entry's step, in its session; a spec that was read has a step for each entry
+abbrev pub task_of_entry : SpecTree → EntryTree → Task
+task_of_entry spec e = record { session = e.session; block = block_of_step (step_of spec e) }
+
+-- the main setups in the control session, each session's setup, the steps, each session's teardown, the main teardown in the control session
+abbrev pub launches : SpecTree → List EntryTree → Launches
+launches spec entries = record {
+  setups = map (task 0) spec.setups ++ own_tasks (λ s. s.setup) 1 spec.sessions;
+  tasks = map (task_of_entry spec) entries;
+  teardowns = own_tasks (λ s. s.teardown) 1 spec.sessions;
+  sessions = length spec.sessions;
+  last = task_if 0 spec.teardown;
+}
+
+-- these launches with a history of theirs
+abbrev pub plan_of : Launches → List EntryTree → List HistItem → Planned
+plan_of l entries items = record {
+  setups = l.setups;
+  setting = record { entries = entries; items = items; setups = length l.setups };
+  tasks = l.tasks;
+  teardowns = l.teardowns;
+  sessions = l.sessions;
+  last = l.last;
+}
+
+-- the next order after these items
+abbrev pub due_after : Launches → List EntryTree → List HistItem → Order
+due_after l entries items = due (plan_of l entries items)
+
+-- the permutation of a spec that has these entries, with a history of its
+abbrev pub planned : SpecTree → List EntryTree → List HistItem → Planned
+planned spec entries items = plan_of (launches spec entries) entries items
+
+-- the next order of that permutation after these items
+abbrev pub due_in : SpecTree → List EntryTree → List HistItem → Order
+due_in spec entries items = due (planned spec entries items)

@@ -1,0 +1,3 @@
+pub mod Launches
+pub mod Regular
+pub mod Worked

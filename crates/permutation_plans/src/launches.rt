@@ -1,0 +1,157 @@
+//! What a permutation launches, in its order.
+ghost use Rattle.std.specs.Prelude.{◌≡◌, ◌+◌, ◌<◌, ◌^◌, ◌++◌, length, map, option_map, IfOk, OnOk};
+ghost use Rattle.spec_parser.specs.Trees.{part_view, session_view, spec_view, entry_view};
+ghost use Rattle.permutation_plans.specs.Launches.{task, task_if, own_tasks, step_of, block_of_step, task_of_entry, launches, due_after};
+
+use report_lines::{Plan, Schedule, Task};
+use session_machine::{HistItem, Order};
+use spec_parser::{Entry, Part, SessionPart, Spec};
+use std::alloc::{AllocError, Global};
+use std::marker::Model;
+
+/// The blocks of a permutation's setups, steps and teardowns, each with its session.
+#[derive(Drop)]
+pub struct Launches {
+    setups: Vec<Task>,
+    tasks: Vec<Task>,
+    teardowns: Vec<Task>,
+    sessions: u32,
+    last: Vec<Task>,
+}
+
+impl Model for Launches {
+    ghost use Rattle.permutation_plans.specs.Launches.{Launches as Listed};
+
+    ghost Value = { Listed };
+
+    ghost view = { λ l. record { setups = l.setups.items; tasks = l.tasks.items; teardowns = l.teardowns.items; sessions = l.sessions; last = l.last.items } };
+}
+
+/// Adds the part, if it is there, as a task of the session.
+fn push_part(tasks: &mut Vec<Task>, session: u32, part: Option<Part<'_>>) -> Result<(), AllocError>
+    ensures { OnOk result (tasks.new.items ≡ tasks.old.items ++ task_if session (option_map part_view part.entry)) }
+{
+    if let Some(part) = part {
+        tasks.push(Task {
+            session,
+            block: part.block,
+        })?;
+    }
+    Ok(())
+}
+
+/// Adds the setup of each session.
+fn push_setups(tasks: &mut Vec<Task>, sessions: &[SessionPart<'_>]) -> Result<(), AllocError>
+    requires { length sessions.now < 2 ^ 32 }
+    ensures { OnOk result (tasks.new.items ≡ tasks.old.items ++ own_tasks (λ s. s.setup) 1 (map session_view sessions.now)) }
+{
+    for (place, session) in sessions.iter().enumerate() {
+        push_part(tasks, place as u32 + 1, session.setup)?;
+    }
+    Ok(())
+}
+
+/// Adds the teardown of each session.
+fn push_teardowns(tasks: &mut Vec<Task>, sessions: &[SessionPart<'_>]) -> Result<(), AllocError>
+    requires { length sessions.now < 2 ^ 32 }
+    ensures { OnOk result (tasks.new.items ≡ tasks.old.items ++ own_tasks (λ s. s.teardown) 1 (map session_view sessions.now)) }
+{
+    for (place, session) in sessions.iter().enumerate() {
+        push_part(tasks, place as u32 + 1, session.teardown)?;
+    }
+    Ok(())
+}
+
+/// The setups of the file, then those of the sessions.
+fn setups(alloc: Global, spec: &Spec<'_>) -> Result<Vec<Task>, AllocError>
+    requires { length spec.now.sessions.items < 2 ^ 32 }
+    ensures { IfOk result (λ tasks. tasks.items ≡ map (task 0) (spec_view spec.now).setups ++ own_tasks (λ s. s.setup) 1 (spec_view spec.now).sessions) }
+{
+    let mut tasks = Vec::new(alloc);
+    for part in &spec.setups {
+        push_part(&mut tasks, 0, Some(*part))?;
+    }
+    push_setups(&mut tasks, &spec.sessions)?;
+    Ok(tasks)
+}
+
+/// The number of the block of an entry's step.
+fn block_of(spec: &Spec<'_>, entry: &Entry) -> u32
+    ensures { result ≡ block_of_step (step_of (spec_view spec.now) (entry_view entry.now)) }
+{
+    let session = (entry.session as usize).saturating_sub(1);
+    match spec.sessions.get(session) {
+        None => 0,
+        Some(session) => match session.steps.get(entry.step as usize) {
+            None => 0,
+            Some(step) => step.part.block,
+        },
+    }
+}
+
+/// The blocks of the entries' steps.
+fn tasks(alloc: Global, spec: &Spec<'_>, entries: &[Entry]) -> Result<Vec<Task>, AllocError>
+    ensures { IfOk result (λ tasks. tasks.items ≡ map (task_of_entry (spec_view spec.now)) (map entry_view entries.now)) }
+{
+    let mut tasks = Vec::new(alloc);
+    for entry in entries {
+        tasks.push(Task {
+            session: entry.session,
+            block: block_of(spec, entry),
+        })?;
+    }
+    Ok(tasks)
+}
+
+impl Launches {
+    ghost use Rattle.permutation_plans.specs.Launches.{launches, due_after};
+
+    /// What a permutation of the spec launches.
+    pub fn of(alloc: Global, spec: &Spec<'_>, entries: &[Entry]) -> Result<Launches, AllocError>
+        requires { length spec.now.sessions.items < 2 ^ 32 }
+        ensures { IfOk result (λ l. l ≡ launches (spec_view spec.now) (map entry_view entries.now)) }
+    {
+        let mut teardowns = Vec::new(alloc);
+        push_teardowns(&mut teardowns, &spec.sessions)?;
+        let mut last = Vec::new(alloc);
+        push_part(&mut last, 0, spec.teardown)?;
+        Ok(Launches {
+            setups: setups(alloc, spec)?,
+            tasks: tasks(alloc, spec, entries)?,
+            teardowns,
+            sessions: spec.sessions.len() as u32,
+            last,
+        })
+    }
+
+    /// The next order after a history of the permutation that has these entries.
+    pub fn due(
+        &self,
+        alloc: Global,
+        entries: &[Entry],
+        items: &[HistItem<'_>],
+    ) -> Result<Order, AllocError>
+        ensures { IfOk result (λ order. order ≡ due_after self.now (map entry_view entries.now) items.now) }
+    {
+        due_of(self, alloc, entries, items)
+    }
+}
+
+/// The same, all of it lent for one lifetime, as a plan holds it.
+fn due_of<'a>(
+    launches: &'a Launches,
+    alloc: Global,
+    entries: &'a [Entry],
+    items: &'a [HistItem<'a>],
+) -> Result<Order, AllocError>
+    ensures { IfOk result (λ order. order ≡ due_after launches.now (map entry_view entries.now) items.now) }
+{
+    let schedule = Schedule {
+        setups: &launches.setups,
+        tasks: &launches.tasks,
+        teardowns: &launches.teardowns,
+        sessions: launches.sessions,
+        last: &launches.last,
+    };
+    Plan::new(entries, items, &schedule).due(alloc)
+}

@@ -1,0 +1,22 @@
+//! Laws of the histories of permutations: each function's contract is one of them, and its body does nothing.
+ghost use Rattle.std.specs.Prelude.{map};
+ghost use Rattle.spec_parser.specs.Trees.{spec_view, entry_view};
+ghost use Rattle.permutation_plans.specs.Regular.{HasOneHistory, EachHasOneHistory};
+ghost use Rattle.permutation_plans.specs.Worked.{WorkedHistory};
+
+use spec_parser::{Entry, Spec};
+
+/// A permutation of a spec has at most one regular history.
+pub fn one_history(spec: &Spec<'_>, entries: &[Entry])
+    ensures { HasOneHistory (spec_view spec.now) (map entry_view entries.now) }
+{}
+
+/// So has each permutation of each spec.
+pub fn each_has_one_history()
+    ensures { EachHasOneHistory }
+{}
+
+/// A permutation of two sessions, with a setup, a teardown and a marker, has a regular history.
+pub fn worked_history()
+    ensures { WorkedHistory }
+{}

@@ -1,0 +1,133 @@
+-- How the waiting list is gone through.
+use Rattle.std.proofs.Common.{◌≡◌, ℕ, zero, suc, ◌+◌, ◌-◌, ◌<◌, ◌≤◌, ◌⊎◌, List, [], ◌∷◌, ◌++◌, length, drop, length-drop, refl, ap, sym, ◌∙◌, arith, true, false, Bool, not, cond, ◌&&◌, Some, slice_get, nat_lt, if◌then◌else◌, inl, inr}
+use Rattle.std.specs.List.{filter, fold}
+use Rattle.std.proofs.lemmas.List.Sums.{fold-append}
+use Rattle.std.proofs.lemmas.Bool.{cases_lt}
+use Rattle.report_lines.specs.declared.history.Line.{Line}
+use Rattle.report_lines.specs.declared.history.Line.TheVariants.{Completed}
+use Rattle.report_lines.specs.declared.history.Moment.{Moment}
+use Rattle.report_lines.specs.declared.telling.Chosen.{Chosen}
+use Rattle.report_lines.specs.declared.telling.Chosen.TheVariants.{Joined}
+use Rattle.report_lines.specs.History.{Setting}
+use Rattle.report_lines.specs.Report.{is_reported, active, instances, may_report, retry, pass}
+use Rattle.report_lines.specs.Trying.{is_chosen, chosen_retry, still_told}
+use Rattle.report_lines.proofs.Waits.{active_leave, reported_push}
+use Rattle.report_lines.proofs.Rising.{Between, between_instances, between_filter, between_at, between_leave, filter_at, fold_at}
+
+rises : (lines : List Line) (n : ℕ) → Between 0 n (active lines n)
+rises lines n = between_filter (λ j. not (is_reported lines j)) 0 n (instances n) (between_instances n)
+
+pub waits_below : (lines : List Line) (n place e : ℕ) → slice_get (active lines n) place ≡ Some e → e < n
+waits_below lines n place e h = (between_at 0 n (active lines n) place e (rises lines n) h).1
+
+not_true : (b : Bool) → not b ≡ true → b ≡ false
+not_true true h = sym h
+not_true false h = refl
+
+not_false : (b : Bool) → not b ≡ false → b ≡ true
+not_false true h = refl
+not_false false h = sym h
+
+waits_unreported : (lines : List Line) (n place e : ℕ) → slice_get (active lines n) place ≡ Some e → is_reported lines e ≡ false
+waits_unreported lines n place e h = not_true (is_reported lines e) (filter_at (λ j. not (is_reported lines j)) (instances n) e place h)
+
+leaves_place : (lines : List Line) (n place e s : ℕ) → slice_get (active lines n) place ≡ Some e → drop place (active (lines ++ Completed e s ∷ []) n) ≡ drop (place + 1) (active lines n)
+leaves_place lines n place e s h = ap (drop place) (active_leave lines e s n) ∙ between_leave 0 n (active lines n) place e (rises lines n) h
+
+when_chosen : (a b : Bool) (x y : List Line) → (a && b) ≡ true → (if a then (if b then x else y) else y) ≡ x
+when_chosen true true x y h = refl
+when_chosen true false x y h = cc
+when_chosen false b x y h = cc
+
+when_not : (a b : Bool) (x y : List Line) → (a && b) ≡ false → (if a then (if b then x else y) else y) ≡ y
+when_not true true x y h = cc
+when_not true false x y h = refl
+when_not false b x y h = refl
+
+-- a step that can be reported is, at its try
+tried : (c : Setting) (m : Moment) (chosen : Chosen) (lines : List Line) (e : ℕ) → is_reported lines e ≡ false → (is_chosen c m chosen e && may_report c m lines e) ≡ true → chosen_retry c m chosen lines e ≡ lines ++ Completed e m.seen ∷ []
+tried c m chosen lines e waits can = rw waits (when_chosen (is_chosen c m chosen e) (may_report c m lines e) (lines ++ Completed e m.seen ∷ []) lines can)
+
+passed_over : (c : Setting) (m : Moment) (chosen : Chosen) (lines : List Line) (e : ℕ) → is_reported lines e ≡ false → (is_chosen c m chosen e && may_report c m lines e) ≡ false → chosen_retry c m chosen lines e ≡ lines
+passed_over c m chosen lines e waits cannot = rw waits (when_not (is_chosen c m chosen e) (may_report c m lines e) (lines ++ Completed e m.seen ∷ []) lines cannot)
+
+pub try_reports : (c : Setting) (m : Moment) (chosen : Chosen) (lines : List Line) (n place e : ℕ) → slice_get (active lines n) place ≡ Some e → (is_chosen c m chosen e && may_report c m lines e) ≡ true → still_told c m chosen (lines ++ Completed e m.seen ∷ []) n place ≡ still_told c m chosen lines n place
+try_reports c m chosen lines n place e h can =
+    let g = chosen_retry c m chosen in
+    let now : g lines e ≡ lines ++ Completed e m.seen ∷ [] = tried c m chosen lines e (waits_unreported lines n place e h) can in
+    ap (fold g (lines ++ Completed e m.seen ∷ [])) (leaves_place lines n place e m.seen h)
+    ∙ ap (λ (w : List Line). fold g w (drop (place + 1) (active lines n))) (sym now)
+    ∙ sym (fold_at g lines (active lines n) place e h)
+
+pub try_fewer : (lines : List Line) (n place e s : ℕ) → slice_get (active lines n) place ≡ Some e → length (active (lines ++ Completed e s ∷ []) n) - place ≤ length (active lines n) - (place + 1)
+try_fewer lines n place e s h =
+    let less = ap length (leaves_place lines n place e s h) in
+    let new = length-drop place (active (lines ++ Completed e s ∷ []) n) in
+    let old = length-drop (place + 1) (active lines n) in
+    omega arith
+
+pub try_passes : (c : Setting) (m : Moment) (chosen : Chosen) (lines : List Line) (n place e : ℕ) → slice_get (active lines n) place ≡ Some e → (is_chosen c m chosen e && may_report c m lines e) ≡ false → still_told c m chosen lines n (place + 1) ≡ still_told c m chosen lines n place
+try_passes c m chosen lines n place e h cannot =
+    let g = chosen_retry c m chosen in
+    ap (λ (w : List Line). fold g w (drop (place + 1) (active lines n))) (sym (passed_over c m chosen lines e (waits_unreported lines n place e h) cannot))
+    ∙ sym (fold_at g lines (active lines n) place e h)
+
+-- a reported instance is passed over unchanged
+retry_reported : (c : Setting) (m : Moment) (chosen : Chosen) (lines : List Line) (i : ℕ) → is_reported lines i ≡ true → chosen_retry c m chosen lines i ≡ lines
+retry_reported c m chosen lines i h = rw h (elim (is_chosen c m chosen i) as (λ b. (if b then lines else lines) ≡ lines) [ true ↦ refl | false ↦ refl ])
+
+reported_case : (a b : Bool) (lines : List Line) (l : Line) (i : ℕ) → is_reported lines i ≡ true → is_reported (if a then (if b then lines ++ l ∷ [] else lines) else lines) i ≡ true
+reported_case true true lines l i h = reported_push lines l i ∙ rw h refl
+reported_case true false lines l i h = h
+reported_case false b lines l i h = h
+
+-- what was reported stays so
+retry_keeps : (c : Setting) (m : Moment) (chosen : Chosen) (lines : List Line) (j i : ℕ) → is_reported lines i ≡ true → is_reported (chosen_retry c m chosen lines j) i ≡ true
+retry_keeps c m chosen lines j i h = reported_case (is_chosen c m chosen j) (not (is_reported lines j) && may_report c m lines j) lines (Completed j m.seen) i h
+
+skip_case : (c : Setting) (m : Moment) (chosen : Chosen) (q : ℕ → Bool) (lines : List Line) (x : ℕ) (xs : List ℕ) (b : Bool) → (b ≡ false → is_reported lines x ≡ true) → fold (chosen_retry c m chosen) (chosen_retry c m chosen lines x) xs ≡ fold (chosen_retry c m chosen) (chosen_retry c m chosen lines x) (filter q xs) → fold (chosen_retry c m chosen) (chosen_retry c m chosen lines x) xs ≡ fold (chosen_retry c m chosen) lines (cond b (x ∷ filter q xs) (filter q xs))
+skip_case c m chosen q lines x xs true h e = e
+skip_case c m chosen q lines x xs false h e = e ∙ ap (λ (w : List Line). fold (chosen_retry c m chosen) w (filter q xs)) (retry_reported c m chosen lines x (h refl))
+
+skip : (c : Setting) (m : Moment) (chosen : Chosen) (q : ℕ → Bool) (xs : List ℕ) (lines : List Line) → ((i : ℕ) → q i ≡ false → is_reported lines i ≡ true) → fold (chosen_retry c m chosen) lines xs ≡ fold (chosen_retry c m chosen) lines (filter q xs)
+skip c m chosen q [] lines h = refl
+skip c m chosen q (x ∷ xs) lines h =
+    skip_case c m chosen q lines x xs (q x) (h x) (skip c m chosen q xs (chosen_retry c m chosen lines x) (λ i no. retry_keeps c m chosen lines x i (h i no)))
+
+-- to try the waiting list is to try all instances
+pub through_waiting : (c : Setting) (m : Moment) (chosen : Chosen) (lines : List Line) (n : ℕ) → fold (chosen_retry c m chosen) lines (instances n) ≡ still_told c m chosen lines n 0
+through_waiting c m chosen lines n = skip c m chosen (λ j. not (is_reported lines j)) (instances n) lines (λ i no. not_false (is_reported lines i) no)
+
+nothing_left : (xs : List ℕ) (k : ℕ) → length xs ≤ k → drop k xs ≡ []
+nothing_left [] zero h = refl
+nothing_left [] (suc k) h = refl
+nothing_left (x ∷ xs) zero h = absurd (omega arith)
+nothing_left (x ∷ xs) (suc k) h = nothing_left xs k (omega arith)
+
+pub through_end : (c : Setting) (m : Moment) (chosen : Chosen) (lines : List Line) (n place : ℕ) → length (active lines n) ≤ place → still_told c m chosen lines n place ≡ lines
+through_end c m chosen lines n place h = ap (fold (chosen_retry c m chosen) lines) (nothing_left (active lines n) place h)
+
+fold_more : (g : List Line → ℕ → List Line) (lines : List Line) (n : ℕ) → fold g lines (instances (suc n)) ≡ g (fold g lines (instances n)) n
+fold_more g lines n = fold-append g lines (instances n) (n ∷ [])
+
+joined_all : (c : Setting) (m : Moment) (lines : List Line) (n : ℕ) → n ≤ m.joined → fold (chosen_retry c m Joined) lines (instances n) ≡ fold (retry c m) lines (instances n)
+joined_all c m lines zero h = refl
+joined_all c m lines (suc n) h =
+    let less : nat_lt n m.joined ≡ true = grind arith in
+    let before = joined_all c m lines n (omega arith) in
+    fold_more (chosen_retry c m Joined) lines n
+    ∙ rw less (ap (λ (w : List Line). retry c m w n) before)
+    ∙ sym (fold_more (retry c m) lines n)
+
+joined_case : (c : Setting) (m : Moment) (lines : List Line) (n : ℕ) → (m.joined ≤ n → fold (chosen_retry c m Joined) lines (instances n) ≡ pass c m lines) → m.joined ≤ suc n → (n < m.joined) ⊎ (m.joined ≤ n) → fold (chosen_retry c m Joined) lines (instances (suc n)) ≡ pass c m lines
+joined_case c m lines n before h (inl lt) =
+    let all : suc n ≡ m.joined = omega arith in
+    joined_all c m lines (suc n) (omega arith) ∙ ap (λ k. fold (retry c m) lines (instances k)) all
+joined_case c m lines n before h (inr le) =
+    let past : nat_lt n m.joined ≡ false = grind arith in
+    fold_more (chosen_retry c m Joined) lines n ∙ rw past (before le)
+
+-- to try those that have joined the list is a pass
+pub joined_pass : (c : Setting) (m : Moment) (lines : List Line) (n : ℕ) → m.joined ≤ n → fold (chosen_retry c m Joined) lines (instances n) ≡ pass c m lines
+joined_pass c m lines zero h = let none : m.joined ≡ 0 = omega arith in rw none refl
+joined_pass c m lines (suc n) h = joined_case c m lines n (joined_pass c m lines n) h (cases_lt n m.joined)

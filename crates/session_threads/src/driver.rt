@@ -1,0 +1,31 @@
+//! Who says what the sessions are given.
+ghost use Rattle.std.specs.Prelude.{◌≡◌, IfOk, List};
+ghost use Rattle.session_machine.specs.declared.reply.HistItem.{HistItem as Item};
+ghost use Rattle.session_machine.specs.declared.event.Order.{Order as Given};
+
+use row_versions::Versions;
+use session_core::EngineState;
+use session_machine::Order;
+use std::alloc::{AllocError, Global};
+
+/// Says what is to be done next whenever an engine is quiet, by what the engine has answered so far.
+pub trait Driver<V: Versions> {
+    ghost order_after: { Self → List Item → Given };
+
+    /// The next order. It is asked for where the engine is quiet.
+    fn next(&mut self, alloc: Global, engine: &EngineState<'_, '_, V>) -> Result<Order, AllocError>
+        ensures { IfOk result (λ order. order ≡ order_after self.old engine.now.history) };
+}
+
+/// A driver that is lent.
+impl<V: Versions, D: Driver<V>> Driver<V> for &mut D {
+    ghost order_after = { λ d items. D.order_after d.now items };
+
+    fn next(
+        &mut self,
+        alloc: Global,
+        engine: &EngineState<'_, '_, V>,
+    ) -> Result<Order, AllocError> {
+        (**self).next(alloc, engine)
+    }
+}
