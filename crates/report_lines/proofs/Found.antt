@@ -111,9 +111,6 @@ map_append : (f : ℕ → ℕ) (xs ys : List ℕ) → map f (xs ++ ys) ≡ map f
 map_append f [] ys = refl
 map_append f (x ∷ xs) ys = ap (λ (w : List ℕ). f x ∷ w) (map_append f xs ys)
 
-pub map_more : (f : ℕ → ℕ) (n : ℕ) → map f (instances (n + 1)) ≡ map f (instances n) ++ f n ∷ []
-map_more f n = rw add-one (map_append f (instances n) (n ∷ []))
-
 map_length : (f : ℕ → ℕ) (n : ℕ) → length (map f (instances n)) ≡ n
 map_length f zero = refl
 map_length f (suc n) =
@@ -142,6 +139,9 @@ map_at_case f n i d before h (inr le) =
 map_at : (f : ℕ → ℕ) (n i d : ℕ) → i < n → get_or (map f (instances n)) i d ≡ f i
 map_at f zero i d h = absurd (omega arith)
 map_at f (suc n) i d h = map_at_case f n i d (map_at f n i d) h (cases_lt i n)
+
+pub ends_more : (c : Setting) (i end : ℕ) (ends new : List ℕ) → new ≡ ends ++ end ∷ [] → ends ≡ map (end_place c) (instances i) → end ≡ end_place c i → new ≡ map (end_place c) (instances (i + 1))
+ends_more c i end ends new is so_far at = rw (is, so_far, at, add-one) (sym (map_append (end_place c) (instances i) (i ∷ [])))
 
 -- the kept place tells whether the block has ended
 pub end_found : (c : Setting) (ends : List ℕ) (i place seen : ℕ) → IsTimed c ends → i < length c.entries → seen ≤ length c.items → place ≡ get_or ends i place → nat_lt place seen ≡ has_ended c seen i

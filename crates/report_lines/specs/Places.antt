@@ -1,4 +1,4 @@
--- Words of how the code finds segments and ends of blocks; no clause of a public function but `Segments::end` has them.
+-- Words of how the code finds segments and ends of blocks; no clause of a public function has them.
 use Rattle.std.specs.Prelude.{◌≡◌, ℕ, ◌+◌, ◌<◌, ◌^◌, Bool, List, [], ◌∷◌, length, map, drop, if◌then◌else◌}
 use Rattle.session_machine.specs.declared.reply.HistItem.{HistItem}
 use Rattle.report_lines.specs.Starts.{is_order, ends_in}

@@ -60,6 +60,13 @@ impl<'a> Course<'a> {
         })
     }
 
+    pub fn entries(&self) -> &'a [Entry]
+        ensures { map entry_view result.now ≡ self.now.entries }
+    {
+        self.entries
+    }
+
+    /// The history, cut into segments.
     pub fn segments(&self) -> &Segments<'a>
         ensures { result.now ≡ self.now.items }
     {
@@ -75,7 +82,8 @@ impl<'a> Course<'a> {
         self.segments.start(self.setups + entry)
     }
 
-    pub fn before(&self, entry: usize) -> Moment
+    /// The moment before an entry's Launch; that before none is the end.
+    pub(crate) fn before(&self, entry: usize) -> Moment
         requires { entry ≤ length self.now.entries }
         ensures moment { result ≡ before self.now entry }
         ensures seen { result.seen ≤ length self.now.items }
@@ -89,7 +97,8 @@ impl<'a> Course<'a> {
         }
     }
 
-    pub fn after(&self, entry: usize) -> Moment
+    /// The moment after an entry's segment.
+    pub(crate) fn after(&self, entry: usize) -> Moment
         requires { entry < length self.now.entries }
         ensures moment { result ≡ after self.now entry }
         ensures seen { result.seen ≤ length self.now.items }
@@ -103,20 +112,22 @@ impl<'a> Course<'a> {
         }
     }
 
-    pub fn len(&self) -> usize
+    pub(crate) fn len(&self) -> usize
         ensures exact { result ≡ length self.now.entries }
         ensures room { result + 1 < 2 ^ 64 }
     {
         self.entries.len()
     }
 
+    /// The session of an entry; 0 where there is no such entry.
     pub fn session_at(&self, entry: usize) -> u32
         ensures { result ≡ session_at self.now entry }
     {
         entries::session_at(self.entries, entry)
     }
 
-    pub fn is_named(&self, entry: usize, other: usize) -> bool
+    /// Whether a marker of the first entry names the step of the other.
+    pub(crate) fn is_named(&self, entry: usize, other: usize) -> bool
         ensures { result ≡ is_named self.now entry other }
     {
         match (self.entries.get(entry), self.entries.get(other)) {
@@ -125,7 +136,7 @@ impl<'a> Course<'a> {
         }
     }
 
-    pub fn is_starred(&self, entry: usize) -> bool
+    pub(crate) fn is_starred(&self, entry: usize) -> bool
         ensures { result ≡ is_starred self.now entry }
     {
         match self.entries.get(entry) {
@@ -134,7 +145,7 @@ impl<'a> Course<'a> {
         }
     }
 
-    pub fn is_marked(&self, entry: usize) -> bool
+    pub(crate) fn is_marked(&self, entry: usize) -> bool
         ensures { result ≡ is_marked self.now entry }
     {
         match self.entries.get(entry) {
@@ -144,7 +155,7 @@ impl<'a> Course<'a> {
     }
 
     /// Whether an entry's block has ended in so many items.
-    pub fn has_ended(&self, seen: usize, entry: usize) -> bool
+    pub(crate) fn has_ended(&self, seen: usize, entry: usize) -> bool
         requires entry { entry < length self.now.entries }
         requires seen { seen ≤ length self.now.items }
         ensures { result ≡ has_ended self.now seen entry }

@@ -63,7 +63,8 @@ pub fn is_order(event: &Event) -> bool
     }
 }
 
-fn session_of(event: &Event) -> u32
+/// The session of an event.
+pub fn session_of(event: &Event) -> u32
     ensures { result ≡ session_of event.now }
 {
     match *event {
@@ -73,7 +74,7 @@ fn session_of(event: &Event) -> u32
     }
 }
 
-/// Whether the session's block is over with this item.
+/// Whether this item ends the session's block.
 pub fn ends_in(session: u32, item: &HistItem<'_>) -> bool
     ensures { result ≡ ends_in session item.now }
 {

@@ -9,6 +9,7 @@ mod segments;
 mod telling;
 
 pub use course::Course;
+pub use entries::{ends_in, session_of};
 pub use history::{Line, Moment, Stand, Task};
 pub use plan::{Plan, Schedule};
 pub use segments::{Segments, any_ends, any_fails};

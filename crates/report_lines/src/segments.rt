@@ -43,6 +43,7 @@ impl<'a> Segments<'a> {
         Ok(Segments { items, starts })
     }
 
+    /// The whole history.
     pub fn items(&self) -> &'a [HistItem<'a>]
         ensures { result.now ≡ self.now }
     {
@@ -100,7 +101,7 @@ impl<'a> Segments<'a> {
     }
 
     /// The place of the first item from this order's on that ends the session's block; behind all items where none does.
-    pub fn end(&self, number: usize, session: u32) -> usize
+    pub(crate) fn end(&self, number: usize, session: u32) -> usize
         ensures { result ≡ start self.now number + first_place (ends_in session) (drop (start self.now number) self.now) }
     {
         let from = self.start(number);

@@ -61,7 +61,7 @@ fn is_chosen(course: &Course<'_>, m: Moment, chosen: Chosen, entry: usize) -> bo
 }
 
 impl Told {
-    pub fn new(alloc: Global) -> Told
+    fn new(alloc: Global) -> Told
         ensures { result ≡ record { lines = []; launched = 0 } }
     {
         Told {

@@ -1,10 +1,9 @@
-use Rattle.std.proofs.Common.{◌≡◌, ℕ, ◌+◌, List, [], ◌∷◌, ◌++◌, map, drop, sym, ◌∙◌, ap}
+use Rattle.std.proofs.Common.{◌≡◌, ℕ, ◌+◌, drop, ◌∙◌, ap, map}
 use Rattle.spec_parser.specs.Trees.{entry_view}
 use Rattle.report_lines.specs.History.{Setting}
 use Rattle.report_lines.specs.Starts.{start, ends_in}
-use Rattle.report_lines.specs.Report.{instances}
 use Rattle.report_lines.specs.Places.{first_place, end_place}
-use Rattle.report_lines.proofs.Found.{map_more}
+use Rattle.report_lines.proofs.Found.{ends_more}
 use Rattle.report_lines.proofs.course.end_places.Goals as goal
 
 pub loop-entry-preserved : goal.loop-entry-preserved
@@ -14,7 +13,4 @@ loop-entry-preserved c =
     let i = c.loop-entry.entry in
     let from = start items (c.args.setups + i) in
     let end : c.end.result ≡ end_place setting i = c.end.ensures ∙ ap (λ (s : ℕ). from + first_place (ends_in s) (drop from items)) c.session_at.ensures in
-    c.in_ok-push.ensures.items
-    ∙ ap (λ (w : List ℕ). w ++ c.end.result ∷ []) c.loop-entry.invariant
-    ∙ ap (λ (e : ℕ). map (end_place setting) (instances i) ++ e ∷ []) end
-    ∙ sym (map_more (end_place setting) i)
+    ends_more setting i c.end.result c.loop-entry.ends.items c.push.new.self.items c.in_ok-push.ensures.items c.loop-entry.invariant end

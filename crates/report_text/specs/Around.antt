@@ -1,0 +1,99 @@
+-- What setups and teardowns say.
+use Rattle.std.specs.Prelude.{ℕ, ◌+◌, ◌==◌, Bool, nat_le, List, [], ◌∷◌, ◌++◌, length, replicate, codes, is_some, if◌then◌else◌}
+use Rattle.std.specs.Option.{option_map_or}
+use Rattle.std.specs.Str.Lossy.{utf8_lossy}
+use Rattle.iso_lexer.specs.Names.{decoded}
+use Rattle.spec_parser.specs.Trees.{SessionTree, SpecTree}
+use Rattle.session_machine.specs.declared.reply.HistItem.{HistItem}
+use Rattle.session_machine.specs.declared.reply.Outcome.{Outcome}
+use Rattle.session_machine.specs.declared.reply.Outcome.TheVariants.{Launched, Done, Rows, Waits, Failed, Left}
+use Rattle.report_lines.specs.Due.{segment, is_over, went_well}
+use Rattle.report_text.specs.FaultText.{fault_text}
+use Rattle.report_text.specs.Replies.{rows_text, last_outcome}
+use Rattle.report_text.specs.Steps.{session_numbered}
+use Rattle.report_text.specs.Said.{Ending, setup_failed, setup_waits, whole, Said, says, ends, ◌>>◌}
+
+-- ---- whose they are, in their order: a session of the file by its number from 1, and 0 for those of the whole file
+
+abbrev pub has_setup : SessionTree → Bool
+has_setup s = is_some s.setup
+
+abbrev pub has_teardown : SessionTree → Bool
+has_teardown s = is_some s.teardown
+
+abbrev pub numbers_of : (SessionTree → Bool) → ℕ → List SessionTree → List ℕ
+numbers_of has k [] = []
+numbers_of has k (s ∷ ss) = if has s then k ∷ numbers_of has (k + 1) ss else numbers_of has (k + 1) ss
+
+abbrev pub setups_of : SpecTree → List ℕ
+setups_of spec = replicate (length spec.setups) 0 ++ numbers_of has_setup 1 spec.sessions
+
+abbrev pub teardowns_of : SpecTree → List ℕ
+teardowns_of spec = numbers_of has_teardown 1 spec.sessions
+
+abbrev pub last_teardown_of : SpecTree → List ℕ
+last_teardown_of spec = if is_some spec.teardown then 0 ∷ [] else []
+
+-- ---- setups
+
+-- a setup that did not go well failed, with its text, or it waits; what is no UTF-8 in a text stands as U+FFFD
+abbrev pub setup_ending : Outcome → Ending
+setup_ending Launched = setup_waits
+setup_ending Done = setup_waits
+setup_ending (Rows set) = setup_waits
+setup_ending Waits = setup_waits
+setup_ending (Failed fault) = setup_failed (utf8_lossy (fault_text fault))
+setup_ending Left = setup_waits
+
+-- the setups from a segment on, of which so many segments are there: the table of each one's last reply, up to one that did not go well
+abbrev pub setups_say : List HistItem → ℕ → ℕ → List ℕ → Said
+setups_say items there k [] = says []
+setups_say items there k (session ∷ sessions) =
+    if nat_le there k then says []
+    else (if went_well items k session then says (rows_text (last_outcome (segment items k))) >> setups_say items there (k + 1) sessions
+    else ends (setup_ending (last_outcome (segment items k))))
+
+-- ---- teardowns
+
+abbrev pub name_of : SessionTree → List ℕ
+name_of s = codes " of session " ++ decoded s.name
+
+abbrev pub note_front : List SessionTree → ℕ → List ℕ
+note_front sessions session = codes "isolationtester: teardown" ++ option_map_or name_of (session_numbered sessions session) [] ++ codes " failed: "
+
+-- a note that a teardown failed, with this text
+abbrev pub note : List SessionTree → ℕ → List ℕ → List ℕ
+note sessions session text = note_front sessions session ++ text ++ codes "\n"
+
+abbrev pub failure_note : List SessionTree → ℕ → Outcome → List ℕ
+failure_note sessions session Launched = []
+failure_note sessions session Done = []
+failure_note sessions session (Rows set) = []
+failure_note sessions session Waits = []
+failure_note sessions session (Failed fault) = note sessions session (fault_text fault)
+failure_note sessions session Left = []
+
+-- what teardowns say, and the segment behind theirs
+pub record Torn : Type 0 where
+  pub text : List ℕ
+  pub notes : List ℕ
+  pub next : ℕ
+
+abbrev pub torn_first : List ℕ → List ℕ → Torn → Torn
+torn_first text notes t = record t { text = text ++ t.text; notes = notes ++ t.notes }
+
+-- the teardowns from a segment on: the table of each one's last reply, and a note where it failed. One that waits is noted, and takes a Leave as well.
+abbrev pub torn : List SessionTree → List HistItem → ℕ → ℕ → List ℕ → Torn
+torn sessions items there k [] = record { text = []; notes = []; next = k }
+torn sessions items there k (t ∷ ts) =
+    if nat_le there k then record { text = []; notes = []; next = k }
+    else (if is_over items k t
+    then torn_first (rows_text (last_outcome (segment items k))) (failure_note sessions t (last_outcome (segment items k))) (torn sessions items there (k + 1) ts)
+    else torn_first [] (note sessions t (codes "would wait")) (torn sessions items there (k + 2) ts))
+
+-- the sessions' teardowns, and behind the sessions' leaves that of the whole file
+abbrev pub teardowns_say : SpecTree → List HistItem → ℕ → ℕ → Said
+teardowns_say spec items there k =
+    let first = torn spec.sessions items there k (teardowns_of spec) in
+    let last = torn spec.sessions items there (first.next + length spec.sessions) (last_teardown_of spec) in
+    record { text = first.text ++ last.text; notes = first.notes ++ last.notes; ending = whole }

@@ -1,0 +1,33 @@
+-- The report of a permutation with its history.
+use Rattle.std.specs.Prelude.{ℕ, ◌+◌, ◌-◌, List, [], ◌++◌, length, flat_map, codes}
+use Rattle.spec_parser.specs.Trees.{SessionTree, EntryTree, SpecTree}
+use Rattle.session_machine.specs.declared.reply.HistItem.{HistItem}
+use Rattle.report_lines.specs.declared.history.Stand.{Stand}
+use Rattle.report_lines.specs.declared.history.Stand.TheVariants.{Due, Whole, Invalid}
+use Rattle.report_lines.specs.History.{Setting}
+use Rattle.report_lines.specs.Report.{report}
+use Rattle.report_lines.specs.Due.{orders}
+use Rattle.report_text.specs.Steps.{starting_text}
+use Rattle.report_text.specs.LineText.{line_text}
+use Rattle.report_text.specs.Said.{Said, says, ends, invalid, whole, ◌>>◌}
+use Rattle.report_text.specs.Around.{setups_of, setups_say, teardowns_say}
+
+-- where the report stands after the entries
+abbrev pub stand_says : Stand → Said
+stand_says (Due e) = says []
+stand_says Whole = says []
+stand_says Invalid = record { text = codes "invalid permutation detected\n"; notes = []; ending = invalid }
+
+-- the entries' lines, of which so many segments are there, and that the permutation is invalid
+abbrev pub entries_say : List SessionTree → Setting → ℕ → Said
+entries_say sessions c there = says (flat_map (line_text sessions c) (report c there).lines) >> stand_says (report c there).stand
+
+-- the entries' lines and the teardowns, where so many segments are there
+abbrev pub rest_says : SpecTree → Setting → ℕ → Said
+rest_says spec c there = entries_say spec.sessions c (there - c.setups) >> teardowns_say spec c.items there (c.setups + length c.entries)
+
+-- the starting line, the setups, the entries' lines, the teardowns, as far as the history has come
+unfoldable pub permutation_says : SpecTree → List EntryTree → List HistItem → Said
+permutation_says spec entries items =
+    let c : Setting = record { entries = entries; items = items; setups = length (setups_of spec) } in
+    says (starting_text spec.sessions entries) >> setups_say items (orders items) 0 (setups_of spec) >> rest_says spec c (orders items)

@@ -1,0 +1,57 @@
+//! How the report of a permutation ends.
+
+ghost use Rattle.std.specs.Prelude.{◌≡◌};
+ghost use Rattle.report_text.specs.declared.fault.ReportFault.TheVariants.{Memory, Write};
+
+use iso_lexer::DeviceFault;
+use std::alloc::{AllocError, AllocFailed};
+use thiserror::Error;
+
+/// How a permutation ended.
+#[derive(Clone, Copy, Debug, PartialEq, Eq)]
+pub enum Ended {
+    /// All that its history has is reported.
+    Whole,
+    /// A step could not be launched, or was never reported.
+    Invalid,
+}
+
+/// Why a permutation was not reported to its end. The names R2, R6 and R7 are those of the faults that the program reports.
+#[derive(Debug, Drop, Error)]
+pub enum ReportFault {
+    /// R2: one of the two sinks failed.
+    #[error("R2 Write")]
+    Write,
+    #[error("Memory")]
+    Memory,
+    /// R6: a setup failed, with this text.
+    #[error("R6 SetupFailed: {text}")]
+    SetupFailed { text: String },
+    /// R7
+    #[error("R7 SetupWaits")]
+    SetupWaits,
+}
+
+impl From<AllocError> for ReportFault {
+    ghost from_gives = { λ _ e. e ≡ Memory };
+
+    fn from(_e: AllocError) -> ReportFault {
+        ReportFault::Memory
+    }
+}
+
+impl<T: Drop> From<AllocFailed<T>> for ReportFault {
+    ghost from_gives = { λ _ e. e ≡ Memory };
+
+    fn from(_e: AllocFailed<T>) -> ReportFault {
+        ReportFault::Memory
+    }
+}
+
+impl From<DeviceFault> for ReportFault {
+    ghost from_gives = { λ _ e. e ≡ Write };
+
+    fn from(_e: DeviceFault) -> ReportFault {
+        ReportFault::Write
+    }
+}

@@ -1,0 +1,103 @@
+//! What a statement that fails prints.
+
+ghost use Rattle.std.specs.Prelude.{◌≡◌, ◌++◌, OnOk};
+ghost use Rattle.iso_lexer.specs.Names.{name_view, decoded};
+ghost use Rattle.report_text.specs.FaultText.{in_quotes, the_column, the_relation, the_table, column_of, value_fault_text, fault_text};
+
+use crate::page::{Page, push_name};
+use iso_lexer::{Ident, Name};
+use session_machine::StmtFault;
+use sql_values::ValueFault;
+use std::alloc::AllocError;
+
+fn push_quoted(page: &mut Page, name: &Name<'_>) -> Result<(), AllocError>
+    ensures { OnOk result (page.new.bytes.items ≡ page.old.bytes.items ++ in_quotes (decoded (name_view name.now))) }
+{
+    page.push(b"\"")?;
+    push_name(page, name)?;
+    page.push(b"\"")
+}
+
+fn push_column(page: &mut Page, name: &Name<'_>) -> Result<(), AllocError>
+    ensures { OnOk result (page.new.bytes.items ≡ page.old.bytes.items ++ the_column (decoded (name_view name.now))) }
+{
+    page.push(b"column ")?;
+    push_quoted(page, name)
+}
+
+fn push_relation(page: &mut Page, name: &Ident<'_>) -> Result<(), AllocError>
+    ensures { OnOk result (page.new.bytes.items ≡ page.old.bytes.items ++ the_relation name.now) }
+{
+    page.push(b"relation ")?;
+    push_quoted(page, &name.name())
+}
+
+fn push_value_fault(page: &mut Page, fault: &ValueFault<'_>) -> Result<(), AllocError>
+    ensures { OnOk result (page.new.bytes.items ≡ page.old.bytes.items ++ value_fault_text fault.now) }
+{
+    match fault {
+        ValueFault::DivisionByZero => page.push(b"division by zero"),
+        ValueFault::IntegerRange => page.push(b"integer out of range"),
+        ValueFault::BigintRange => page.push(b"bigint out of range"),
+        ValueFault::TypeMismatch => page.push(b"type mismatch"),
+        ValueFault::NoColumn(column) => {
+            push_column(page, &column.name())?;
+            page.push(b" does not exist")
+        }
+        ValueFault::Memory => page.push(b"out of memory"),
+    }
+}
+
+/// Of a column of a relation.
+fn push_column_of(page: &mut Page, column: &Ident<'_>, table: &Ident<'_>) -> Result<(), AllocError>
+    ensures { OnOk result (page.new.bytes.items ≡ page.old.bytes.items ++ column_of column.now table.now) }
+{
+    push_column(page, &column.name())?;
+    page.push(b" of ")?;
+    push_relation(page, table)
+}
+
+fn push_table(page: &mut Page, name: &Ident<'_>) -> Result<(), AllocError>
+    ensures { OnOk result (page.new.bytes.items ≡ page.old.bytes.items ++ the_table name.now) }
+{
+    page.push(b"table ")?;
+    push_quoted(page, &name.name())
+}
+
+/// Pushes the text of a fault.
+#[tactic(auto, unfolding(crate::specs::FaultText::fault_text))]
+pub fn push_fault(page: &mut Page, fault: &StmtFault<'_>) -> Result<(), AllocError>
+    ensures { OnOk result (page.new.bytes.items ≡ page.old.bytes.items ++ fault_text fault.now) }
+{
+    match fault {
+        StmtFault::Value(fault) => push_value_fault(page, fault),
+        StmtFault::NoColumnOf { column, table } => {
+            push_column_of(page, column, table)?;
+            page.push(b" does not exist")
+        }
+        StmtFault::NoTable(name) => {
+            push_relation(page, name)?;
+            page.push(b" does not exist")
+        }
+        StmtFault::NoTableToDrop(name) => {
+            push_table(page, name)?;
+            page.push(b" does not exist")
+        }
+        StmtFault::TableExists(name) => {
+            push_relation(page, name)?;
+            page.push(b" already exists")
+        }
+        StmtFault::NullValue { column, table } => {
+            page.push(b"null value in ")?;
+            push_column_of(page, column, table)?;
+            page.push(b" violates not-null constraint")
+        }
+        StmtFault::TooManyValues => page.push(b"INSERT has more expressions than target columns"),
+        StmtFault::Aborted => page.push(
+            b"current transaction is aborted, commands ignored until end of transaction block",
+        ),
+        StmtFault::LevelTooLate => {
+            page.push(b"SET TRANSACTION ISOLATION LEVEL must be called before any query")
+        }
+    }
+}

@@ -1,0 +1,99 @@
+//! Notes on teardowns.
+
+ghost use Rattle.std.specs.Prelude.{◌≡◌, ◌++◌, [], map, codes, OnOk};
+ghost use Rattle.std.specs.Option.{option_map_or};
+ghost use Rattle.spec_parser.specs.Trees.{session_view};
+ghost use Rattle.report_text.specs.Steps.{session_numbered};
+ghost use Rattle.report_text.specs.Replies.{last_outcome};
+ghost use Rattle.report_text.specs.FaultText.{fault_text};
+ghost use Rattle.report_text.specs.Around.{name_of, note_front, note, failure_note};
+
+use crate::fault_text::push_fault;
+use crate::page::{Page, push_name};
+use crate::steps::session_numbered;
+use session_machine::{HistItem, Outcome, StmtFault};
+use spec_parser::SessionPart;
+use std::alloc::AllocError;
+
+/// Pushes ` of session ` and its name, of a session of the file.
+fn push_whose(
+    page: &mut Page,
+    sessions: &[SessionPart<'_>],
+    session: usize,
+) -> Result<(), AllocError>
+    ensures { OnOk result (page.new.bytes.items ≡ page.old.bytes.items ++ option_map_or name_of (session_numbered (map session_view sessions.now) session) []) }
+{
+    match session_numbered(sessions, session) {
+        Some(session) => {
+            page.push(b" of session ")?;
+            push_name(page, &session.name)
+        }
+        None => Ok(()),
+    }
+}
+
+fn push_front(
+    page: &mut Page,
+    sessions: &[SessionPart<'_>],
+    session: usize,
+) -> Result<(), AllocError>
+    ensures { OnOk result (page.new.bytes.items ≡ page.old.bytes.items ++ note_front (map session_view sessions.now) session) }
+{
+    page.push(b"isolationtester: teardown")?;
+    push_whose(page, sessions, session)?;
+    page.push(b" failed: ")
+}
+
+/// Pushes the note on a teardown that waits.
+pub fn push_would_wait(
+    page: &mut Page,
+    sessions: &[SessionPart<'_>],
+    session: usize,
+) -> Result<(), AllocError>
+    ensures { OnOk result (page.new.bytes.items ≡ page.old.bytes.items ++ note (map session_view sessions.now) session (codes "would wait")) }
+{
+    push_front(page, sessions, session)?;
+    page.push(b"would wait\n")
+}
+
+fn push_failure(
+    page: &mut Page,
+    sessions: &[SessionPart<'_>],
+    session: usize,
+    fault: &StmtFault<'_>,
+) -> Result<(), AllocError>
+    ensures { OnOk result (page.new.bytes.items ≡ page.old.bytes.items ++ note (map session_view sessions.now) session (fault_text fault.now)) }
+{
+    push_front(page, sessions, session)?;
+    push_fault(page, fault)?;
+    page.push(b"\n")
+}
+
+fn push_outcome_note(
+    page: &mut Page,
+    sessions: &[SessionPart<'_>],
+    session: usize,
+    outcome: &Outcome<'_>,
+) -> Result<(), AllocError>
+    ensures { OnOk result (page.new.bytes.items ≡ page.old.bytes.items ++ failure_note (map session_view sessions.now) session outcome.now) }
+{
+    match outcome {
+        Outcome::Failed(fault) => push_failure(page, sessions, session, fault),
+        _ => Ok(()),
+    }
+}
+
+/// Pushes the note on a teardown that failed last.
+pub fn push_last_note(
+    page: &mut Page,
+    sessions: &[SessionPart<'_>],
+    session: usize,
+    segment: &[HistItem<'_>],
+) -> Result<(), AllocError>
+    ensures { OnOk result (page.new.bytes.items ≡ page.old.bytes.items ++ failure_note (map session_view sessions.now) session (last_outcome segment.now)) }
+{
+    match segment.last() {
+        Some(item) => push_outcome_note(page, sessions, session, &item.reply.outcome),
+        None => Ok(()),
+    }
+}

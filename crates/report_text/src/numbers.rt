@@ -1,0 +1,54 @@
+//! The sessions whose blocks stand around the steps.
+
+ghost use Rattle.std.specs.Prelude.{◌≡◌, ◌++◌, ◌∷◌, [], map, OnOk, IfOk, if◌then◌else◌};
+ghost use Rattle.spec_parser.specs.Trees.{session_view, spec_view};
+ghost use Rattle.report_text.specs.Around.{has_setup, has_teardown, numbers_of, setups_of, teardowns_of};
+
+use spec_parser::{SessionPart, Spec};
+use std::alloc::{AllocError, Global};
+
+fn add_if(numbers: &mut Vec<usize>, has: bool, number: usize) -> Result<(), AllocError>
+    ensures { OnOk result (numbers.new.items ≡ numbers.old.items ++ (if has then number ∷ [] else [])) }
+{
+    if has {
+        numbers.push(number)?;
+    }
+    Ok(())
+}
+
+fn add_setups(numbers: &mut Vec<usize>, sessions: &[SessionPart<'_>]) -> Result<(), AllocError>
+    ensures { OnOk result (numbers.new.items ≡ numbers.old.items ++ numbers_of has_setup 1 (map session_view sessions.now)) }
+{
+    for (index, session) in sessions.iter().enumerate() {
+        add_if(numbers, session.setup.is_some(), index + 1)?;
+    }
+    Ok(())
+}
+
+fn add_teardowns(numbers: &mut Vec<usize>, sessions: &[SessionPart<'_>]) -> Result<(), AllocError>
+    ensures { OnOk result (numbers.new.items ≡ numbers.old.items ++ numbers_of has_teardown 1 (map session_view sessions.now)) }
+{
+    for (index, session) in sessions.iter().enumerate() {
+        add_if(numbers, session.teardown.is_some(), index + 1)?;
+    }
+    Ok(())
+}
+
+/// The sessions of the setups, in their order.
+pub fn setups_of(alloc: Global, spec: &Spec<'_>) -> Result<Vec<usize>, AllocError>
+    ensures { IfOk result (λ numbers. numbers.items ≡ setups_of (spec_view spec.now)) }
+{
+    let mut numbers = Vec::new(alloc);
+    numbers.resize(spec.setups.len(), 0)?;
+    add_setups(&mut numbers, &spec.sessions)?;
+    Ok(numbers)
+}
+
+/// The sessions that have a teardown, in their order.
+pub fn teardowns_of(alloc: Global, spec: &Spec<'_>) -> Result<Vec<usize>, AllocError>
+    ensures { IfOk result (λ numbers. numbers.items ≡ teardowns_of (spec_view spec.now)) }
+{
+    let mut numbers = Vec::new(alloc);
+    add_teardowns(&mut numbers, &spec.sessions)?;
+    Ok(numbers)
+}

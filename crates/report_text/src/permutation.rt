@@ -1,0 +1,209 @@
+//! The report of a permutation with its history.
+
+ghost use Rattle.std.specs.Prelude.{◌≡◌, ◌++◌, ◌+◌, ◌<◌, ◌^◌, length, map, flat_map, OnOk, IfOk};
+ghost use Rattle.std.specs.Io.KnownBytes.{Appends};
+ghost use Rattle.spec_parser.specs.Trees.{entry_view, session_view, spec_view};
+ghost use Rattle.report_text.specs.Steps.{starting_text};
+ghost use Rattle.report_text.specs.LineText.{line_text};
+ghost use Rattle.report_text.specs.Around.{setups_say, teardowns_say};
+ghost use Rattle.report_text.specs.Permutation.{stand_says, entries_say, rest_says, permutation_says};
+ghost use Rattle.report_text.specs.Answers.{ending_of, ended_as, EndsAs, Puts, TellsPut, TellsFailure};
+
+use crate::fault::{Ended, ReportFault};
+use crate::line_text::push_line;
+use crate::numbers::setups_of;
+use crate::page::Page;
+use crate::setups::{SetUp, push_setups};
+use crate::steps::push_starting;
+use crate::teardowns::{Pages, push_teardowns};
+use iso_lexer::Sink;
+use report_lines::{Course, Line, Stand, orders, told_lines};
+use session_machine::HistItem;
+use spec_parser::{Entry, SessionPart, Spec};
+use std::alloc::Global;
+
+/// Puts what is on the page.
+fn put_page<W: Sink>(out: &mut W, page: &Page) -> Result<(), ReportFault>
+    ensures bytes { OnOk result (Appends (W.put_so_far out.old) (W.put_so_far out.new) page.now.bytes.items) }
+    ensures fails { TellsPut (W.failed out.old) (W.failed out.new) result }
+{
+    out.put(page.bytes())?;
+    Ok(())
+}
+
+/// Puts the starting line, and what the setups say of which so many segments are there.
+fn put_front<W: Sink>(
+    alloc: Global,
+    out: &mut W,
+    spec: &Spec<'_>,
+    course: &Course<'_>,
+    there: usize,
+    setups: &[usize],
+) -> Result<SetUp, ReportFault>
+    ensures bytes { OnOk result (Appends (W.put_so_far out.old) (W.put_so_far out.new)
+        (starting_text (spec_view spec.now).sessions course.now.entries ++ (setups_say course.now.items there 0 setups.now).text)) }
+    ensures ending { IfOk result (λ came. ending_of came ≡ (setups_say course.now.items there 0 setups.now).ending) }
+    ensures fails { TellsPut (W.failed out.old) (W.failed out.new) result }
+{
+    let mut page = Page::new(alloc);
+    push_starting(&mut page, &spec.sessions, course.entries())?;
+    let came = push_setups(&mut page, course, there, setups)?;
+    put_page(out, &page)?;
+    Ok(came)
+}
+
+/// Puts what a line says.
+fn put_line<W: Sink>(
+    out: &mut W,
+    page: &mut Page,
+    sessions: &[SessionPart<'_>],
+    course: &Course<'_>,
+    line: Line,
+) -> Result<(), ReportFault>
+    ensures bytes { OnOk result (Appends (W.put_so_far out.old) (W.put_so_far out.new) (line_text (map session_view sessions.now) course.now line)) }
+    ensures fails { TellsPut (W.failed out.old) (W.failed out.new) result }
+{
+    page.clear();
+    push_line(page, sessions, course, line)?;
+    put_page(out, page)
+}
+
+fn put_lines<W: Sink>(
+    out: &mut W,
+    page: &mut Page,
+    sessions: &[SessionPart<'_>],
+    course: &Course<'_>,
+    lines: &[Line],
+) -> Result<(), ReportFault>
+    ensures bytes { OnOk result (Appends (W.put_so_far out.old) (W.put_so_far out.new)
+        (flat_map (line_text (map session_view sessions.now) course.now) lines.now)) }
+    ensures fails { TellsPut (W.failed out.old) (W.failed out.new) result }
+{
+    for line in lines {
+        put_line(out, page, sessions, course, *line)?;
+    }
+    Ok(())
+}
+
+/// Puts that the permutation is invalid, if it is.
+fn put_stand<W: Sink>(out: &mut W, stand: Stand) -> Result<Ended, ReportFault>
+    ensures bytes { OnOk result (Appends (W.put_so_far out.old) (W.put_so_far out.new) (stand_says stand).text) }
+    ensures ending { IfOk result (λ ended. ended_as ended ≡ (stand_says stand).ending) }
+    ensures fails { TellsPut (W.failed out.old) (W.failed out.new) result }
+{
+    match stand {
+        Stand::Due(_) | Stand::Whole => Ok(Ended::Whole),
+        Stand::Invalid => {
+            out.put(b"invalid permutation detected\n")?;
+            Ok(Ended::Invalid)
+        }
+    }
+}
+
+/// Puts the entries' lines, of which so many segments are there.
+fn put_entries<W: Sink>(
+    alloc: Global,
+    out: &mut W,
+    sessions: &[SessionPart<'_>],
+    course: &Course<'_>,
+    there: usize,
+) -> Result<Ended, ReportFault>
+    ensures bytes { OnOk result (Appends (W.put_so_far out.old) (W.put_so_far out.new) (entries_say (map session_view sessions.now) course.now there).text) }
+    ensures ending { IfOk result (λ ended. ended_as ended ≡ (entries_say (map session_view sessions.now) course.now there).ending) }
+    ensures fails { TellsPut (W.failed out.old) (W.failed out.new) result }
+{
+    let (told, stand) = told_lines(alloc, course, there)?;
+    let mut page = Page::new(alloc);
+    put_lines(out, &mut page, sessions, course, told.lines())?;
+    put_stand(out, stand)
+}
+
+/// Puts what the teardowns say from a segment on.
+fn put_teardowns<W: Sink, N: Sink>(
+    alloc: Global,
+    spec: &Spec<'_>,
+    course: &Course<'_>,
+    there: usize,
+    first: usize,
+    out: &mut W,
+    notes: &mut N,
+) -> Result<(), ReportFault>
+    requires { there + 2 < 2 ^ 64 }
+    ensures text { OnOk result (Appends (W.put_so_far out.old) (W.put_so_far out.new) (teardowns_say (spec_view spec.now) course.now.items there first).text) }
+    ensures notes { OnOk result (Appends (N.put_so_far notes.old) (N.put_so_far notes.new) (teardowns_say (spec_view spec.now) course.now.items there first).notes) }
+    ensures fails { TellsFailure (W.failed out.old) (W.failed out.new) (N.failed notes.old) (N.failed notes.new) result }
+{
+    let mut pages = Pages::new(alloc);
+    push_teardowns(alloc, &mut pages, spec, course, there, first)?;
+    put_page(out, &pages.text)?;
+    put_page(notes, &pages.notes)
+}
+
+/// Puts what comes after so many setups.
+fn put_rest<W: Sink, N: Sink>(
+    alloc: Global,
+    spec: &Spec<'_>,
+    course: &Course<'_>,
+    there: usize,
+    setups: usize,
+    out: &mut W,
+    notes: &mut N,
+) -> Result<Ended, ReportFault>
+    requires there { there + 2 < 2 ^ 64 }
+    requires setups { setups ≡ course.now.setups }
+    requires room { setups + length course.now.entries + 1 < 2 ^ 64 }
+    ensures ending { IfOk result (λ ended. ended_as ended ≡ (rest_says (spec_view spec.now) course.now there).ending) }
+    ensures text { OnOk result (Appends (W.put_so_far out.old) (W.put_so_far out.new) (rest_says (spec_view spec.now) course.now there).text) }
+    ensures notes { OnOk result (Appends (N.put_so_far notes.old) (N.put_so_far notes.new) (rest_says (spec_view spec.now) course.now there).notes) }
+    ensures fails { TellsFailure (W.failed out.old) (W.failed out.new) (N.failed notes.old) (N.failed notes.new) result }
+{
+    match put_entries(
+        alloc,
+        out,
+        &spec.sessions,
+        course,
+        there.saturating_sub(setups),
+    )? {
+        Ended::Invalid => Ok(Ended::Invalid),
+        Ended::Whole => {
+            put_teardowns(
+                alloc,
+                spec,
+                course,
+                there,
+                setups + course.len(),
+                out,
+                notes,
+            )?;
+            Ok(Ended::Whole)
+        }
+    }
+}
+
+/// Writes the report of a permutation with its history, and the notes on its teardowns, and nothing else. A setup that
+/// fails or waits ends it, with the report up to there. `Write` is answered exactly where one of the two sinks has failed.
+/// After `Write` and `Memory` nothing is said of how much went out.
+pub fn write_permutation<W: Sink, N: Sink>(
+    alloc: Global,
+    spec: &Spec<'_>,
+    entries: &[Entry],
+    items: &[HistItem<'_>],
+    out: &mut W,
+    notes: &mut N,
+) -> Result<Ended, ReportFault>
+    ensures ending { EndsAs (permutation_says (spec_view spec.now) (map entry_view entries.now) items.now).ending result }
+    ensures text { Puts (W.put_so_far out.old) (W.put_so_far out.new)
+        (permutation_says (spec_view spec.now) (map entry_view entries.now) items.now).text result }
+    ensures notes { Puts (N.put_so_far notes.old) (N.put_so_far notes.new)
+        (permutation_says (spec_view spec.now) (map entry_view entries.now) items.now).notes result }
+    ensures fails { TellsFailure (W.failed out.old) (W.failed out.new) (N.failed notes.old) (N.failed notes.new) result }
+{
+    let setups = setups_of(alloc, spec)?;
+    let course = Course::new(entries, items, setups.len());
+    let there = orders(items);
+    match put_front(alloc, out, spec, &course, there, &setups)? {
+        SetUp::Well => put_rest(alloc, spec, &course, there, setups.len(), out, notes),
+        SetUp::Failed(text) => Err(ReportFault::SetupFailed { text }),
+        SetUp::Waits => Err(ReportFault::SetupWaits),
+    }
+}

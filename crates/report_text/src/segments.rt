@@ -1,0 +1,31 @@
+//! What the segment of a setup or teardown shows.
+
+ghost use Rattle.std.specs.Prelude.{◌≡◌, ◌&&◌, not};
+ghost use Rattle.std.specs.List.{list_any};
+ghost use Rattle.report_lines.specs.Starts.{ends_in};
+ghost use Rattle.report_lines.specs.Due.{fails};
+
+use report_lines::{any_fails, session_of};
+use session_machine::HistItem;
+
+fn ends_in(session: usize, item: &HistItem<'_>) -> bool
+    ensures { result ≡ ends_in session item.now }
+{
+    session_of(&item.event) as usize == session && item.reply.ended
+}
+
+/// Whether the session's block is over.
+pub fn is_over(segment: &[HistItem<'_>], session: usize) -> bool
+    ensures { result ≡ list_any (ends_in session) segment.now }
+{
+    segment.iter().any(|item| ends_in(session, item))
+}
+
+/// Whether it is, and no statement failed.
+pub fn went_well(segment: &[HistItem<'_>], session: usize) -> bool
+    ensures { result ≡ (list_any (ends_in session) segment.now && not (list_any fails segment.now)) }
+{
+    let over = is_over(segment, session);
+    let failed = any_fails(segment);
+    over && !failed
+}

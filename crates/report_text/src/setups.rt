@@ -1,0 +1,76 @@
+//! What setups say.
+
+ghost use Rattle.std.specs.Prelude.{◌≡◌, ◌++◌, OnOk, IfOk, string_bytes};
+ghost use Rattle.std.specs.Str.Lossy.{utf8_lossy};
+ghost use Rattle.report_text.specs.FaultText.{fault_text};
+ghost use Rattle.report_text.specs.Replies.{last_outcome};
+ghost use Rattle.report_text.specs.Around.{setup_ending, setups_say};
+ghost use Rattle.report_text.specs.Answers.{ending_of};
+
+use crate::fault_text::push_fault;
+use crate::page::Page;
+use crate::replies::push_last_rows;
+use crate::segments::went_well;
+use report_lines::Course;
+use session_machine::{HistItem, Outcome, StmtFault};
+use std::alloc::{AllocError, Global};
+
+/// What has become of setups.
+#[derive(Debug, Drop)]
+pub enum SetUp {
+    /// Each that is there went well.
+    Well,
+    /// One failed, with this text.
+    Failed(String),
+    Waits,
+}
+
+fn text_of(alloc: Global, fault: &StmtFault<'_>) -> Result<String, AllocError>
+    ensures { IfOk result (λ text. string_bytes text ≡ utf8_lossy (fault_text fault.now)) }
+{
+    let mut page = Page::new(alloc);
+    push_fault(&mut page, fault)?;
+    String::from_utf8_lossy(alloc, page.bytes())
+}
+
+fn setup_ending(alloc: Global, outcome: &Outcome<'_>) -> Result<SetUp, AllocError>
+    ensures { IfOk result (λ came. ending_of came ≡ setup_ending outcome.now) }
+{
+    match outcome {
+        Outcome::Failed(fault) => Ok(SetUp::Failed(text_of(alloc, fault)?)),
+        _ => Ok(SetUp::Waits),
+    }
+}
+
+/// Why a setup did not go well, by what came last of it.
+fn last_ending(alloc: Global, segment: &[HistItem<'_>]) -> Result<SetUp, AllocError>
+    ensures { IfOk result (λ came. ending_of came ≡ setup_ending (last_outcome segment.now)) }
+{
+    match segment.last() {
+        Some(item) => setup_ending(alloc, &item.reply.outcome),
+        None => Ok(SetUp::Waits),
+    }
+}
+
+/// Pushes what the setups of these sessions say, of which so many segments are there.
+pub fn push_setups(
+    page: &mut Page,
+    course: &Course<'_>,
+    there: usize,
+    sessions: &[usize],
+) -> Result<SetUp, AllocError>
+    ensures text { OnOk result (page.new.bytes.items ≡ page.old.bytes.items ++ (setups_say course.now.items there 0 sessions.now).text) }
+    ensures ending { IfOk result (λ came. ending_of came ≡ (setups_say course.now.items there 0 sessions.now).ending) }
+{
+    for (number, session) in sessions.iter().enumerate() {
+        if there <= number {
+            return Ok(SetUp::Well);
+        }
+        let segment = course.segment(number);
+        if !went_well(segment, *session) {
+            return last_ending(page.alloc(), segment);
+        }
+        push_last_rows(page, segment)?;
+    }
+    Ok(SetUp::Well)
+}

@@ -1,0 +1,134 @@
+//! What teardowns say.
+
+ghost use Rattle.std.specs.Prelude.{◌≡◌, ◌++◌, ◌+◌, ◌<◌, ◌^◌, [], map, codes, OnOk, IfOk};
+ghost use Rattle.spec_parser.specs.Trees.{session_view, spec_view};
+ghost use Rattle.report_text.specs.Replies.{rows_text, last_outcome};
+ghost use Rattle.report_text.specs.Around.{note, failure_note, torn, last_teardown_of, teardowns_say};
+
+use crate::notes::{push_last_note, push_would_wait};
+use crate::numbers::teardowns_of;
+use crate::page::Page;
+use crate::replies::push_last_rows;
+use crate::segments::is_over;
+use report_lines::Course;
+use session_machine::HistItem;
+use spec_parser::{SessionPart, Spec};
+use std::alloc::{AllocError, Global};
+
+/// What goes to the output, and what goes to the notes.
+#[derive(Drop)]
+pub struct Pages {
+    pub text: Page,
+    pub notes: Page,
+}
+
+impl Pages {
+    pub fn new(alloc: Global) -> Pages
+        ensures text { result.text.bytes.items ≡ [] }
+        ensures notes { result.notes.bytes.items ≡ [] }
+    {
+        Pages {
+            text: Page::new(alloc),
+            notes: Page::new(alloc),
+        }
+    }
+}
+
+/// Pushes what a teardown says that is over.
+fn push_over(
+    pages: &mut Pages,
+    sessions: &[SessionPart<'_>],
+    session: usize,
+    segment: &[HistItem<'_>],
+) -> Result<(), AllocError>
+    ensures text { OnOk result (pages.new.text.bytes.items ≡ pages.old.text.bytes.items ++ rows_text (last_outcome segment.now)) }
+    ensures notes { OnOk result (pages.new.notes.bytes.items ≡ pages.old.notes.bytes.items ++ failure_note (map session_view sessions.now) session (last_outcome segment.now)) }
+{
+    push_last_rows(&mut pages.text, segment)?;
+    push_last_note(&mut pages.notes, sessions, session, segment)
+}
+
+/// Pushes that a teardown would wait.
+fn push_waiting(
+    pages: &mut Pages,
+    sessions: &[SessionPart<'_>],
+    session: usize,
+) -> Result<(), AllocError>
+    ensures text { OnOk result (pages.new.text.bytes.items ≡ pages.old.text.bytes.items) }
+    ensures notes { OnOk result (pages.new.notes.bytes.items ≡ pages.old.notes.bytes.items ++ note (map session_view sessions.now) session (codes "would wait")) }
+{
+    push_would_wait(&mut pages.notes, sessions, session)
+}
+
+/// Pushes what these teardowns say, from a segment on, of which so many are there; answers the segment behind theirs.
+fn push_torn(
+    pages: &mut Pages,
+    sessions: &[SessionPart<'_>],
+    course: &Course<'_>,
+    there: usize,
+    first: usize,
+    teardowns: &[usize],
+) -> Result<usize, AllocError>
+    requires { there + 2 < 2 ^ 64 }
+    ensures text { OnOk result (pages.new.text.bytes.items ≡ pages.old.text.bytes.items ++ (torn (map session_view sessions.now) course.now.items there first teardowns.now).text) }
+    ensures notes { OnOk result (pages.new.notes.bytes.items ≡ pages.old.notes.bytes.items ++ (torn (map session_view sessions.now) course.now.items there first teardowns.now).notes) }
+    ensures next { IfOk result (λ next. next ≡ (torn (map session_view sessions.now) course.now.items there first teardowns.now).next) }
+{
+    let mut number = first;
+    for session in teardowns {
+        if there <= number {
+            return Ok(number);
+        }
+        let segment = course.segment(number);
+        if is_over(segment, *session) {
+            push_over(pages, sessions, *session, segment)?;
+            number += 1;
+        } else {
+            push_waiting(pages, sessions, *session)?;
+            number += 2;
+        }
+    }
+    Ok(number)
+}
+
+/// Pushes what the teardown of the whole file says, if it has one.
+fn push_last(
+    pages: &mut Pages,
+    spec: &Spec<'_>,
+    course: &Course<'_>,
+    there: usize,
+    number: usize,
+) -> Result<(), AllocError>
+    requires { there + 2 < 2 ^ 64 }
+    ensures text { OnOk result (pages.new.text.bytes.items ≡ pages.old.text.bytes.items ++ (torn (spec_view spec.now).sessions course.now.items there number (last_teardown_of (spec_view spec.now))).text) }
+    ensures notes { OnOk result (pages.new.notes.bytes.items ≡ pages.old.notes.bytes.items ++ (torn (spec_view spec.now).sessions course.now.items there number (last_teardown_of (spec_view spec.now))).notes) }
+{
+    if spec.teardown.is_some() {
+        push_torn(pages, &spec.sessions, course, there, number, &[0])?;
+    }
+    Ok(())
+}
+
+/// Pushes what all teardowns say, from a segment on.
+pub fn push_teardowns(
+    alloc: Global,
+    pages: &mut Pages,
+    spec: &Spec<'_>,
+    course: &Course<'_>,
+    there: usize,
+    first: usize,
+) -> Result<(), AllocError>
+    requires { there + 2 < 2 ^ 64 }
+    ensures text { OnOk result (pages.new.text.bytes.items ≡ pages.old.text.bytes.items ++ (teardowns_say (spec_view spec.now) course.now.items there first).text) }
+    ensures notes { OnOk result (pages.new.notes.bytes.items ≡ pages.old.notes.bytes.items ++ (teardowns_say (spec_view spec.now) course.now.items there first).notes) }
+{
+    let teardowns = teardowns_of(alloc, spec)?;
+    let next = push_torn(pages, &spec.sessions, course, there, first, &teardowns)?;
+    push_last(
+        pages,
+        spec,
+        course,
+        there,
+        next.saturating_add(spec.sessions.len()),
+    )
+}
