@@ -1,0 +1,4 @@
+pub mod Pushing
+pub mod Saying
+pub mod Tearing
+pub mod Counting

@@ -3,6 +3,8 @@ use Rattle.std.specs.Prelude.{◌≡◌, ℕ, Bool, true, ◌||◌, List, Option
 use Rattle.std.specs.Io.KnownBytes.{Appends}
 use Rattle.report_text.specs.declared.fault.ReportFault.{ReportFault}
 use Rattle.report_text.specs.declared.fault.ReportFault.TheVariants as faults
+use Rattle.report_text.specs.declared.fault.PutFault.{PutFault}
+use Rattle.report_text.specs.declared.fault.PutFault.TheVariants as puts
 use Rattle.report_text.specs.declared.fault.Ended.{Ended}
 use Rattle.report_text.specs.declared.fault.Ended.TheVariants as ends
 use Rattle.report_text.specs.declared.setups.SetUp.{SetUp}
@@ -22,10 +24,9 @@ ended_as ends.Invalid = invalid
 
 -- the answer is how the report ends, unless a sink failed or memory was refused
 abbrev pub EndsAs : Ending → Result Ended ReportFault → Type 0
-EndsAs ending (Ok ends.Whole) = ending ≡ whole
-EndsAs ending (Ok ends.Invalid) = ending ≡ invalid
-EndsAs ending (Err (faults.SetupFailed text)) = ending ≡ setup_failed (string_bytes text)
-EndsAs ending (Err faults.SetupWaits) = ending ≡ setup_waits
+EndsAs ending (Ok ended) = ended_as ended ≡ ending
+EndsAs ending (Err (faults.SetupFailed text)) = setup_failed (string_bytes text) ≡ ending
+EndsAs ending (Err faults.SetupWaits) = setup_waits ≡ ending
 EndsAs ending (Err faults.Write) = Unit {0}
 EndsAs ending (Err faults.Memory) = Unit {0}
 
@@ -45,10 +46,14 @@ TellsFailure old new notes_old notes_new (Err faults.SetupWaits) = (new ≡ old)
 TellsFailure old new notes_old notes_new (Err faults.Write) = (new || notes_new) ≡ true
 TellsFailure old new notes_old notes_new (Err faults.Memory) = (new ≡ old) × (notes_new ≡ notes_old)
 
--- the same of one sink
-abbrev pub TellsPut : {A : Type 0} → Bool → Bool → Result A ReportFault → Type 0
+-- the same of a piece
+abbrev pub TellsPuts : {A : Type 0} → Bool → Bool → Bool → Bool → Result A PutFault → Type 0
+TellsPuts old new notes_old notes_new (Ok a) = (new ≡ old) × (notes_new ≡ notes_old)
+TellsPuts old new notes_old notes_new (Err puts.Write) = (new || notes_new) ≡ true
+TellsPuts old new notes_old notes_new (Err puts.Memory) = (new ≡ old) × (notes_new ≡ notes_old)
+
+-- and of one sink
+abbrev pub TellsPut : {A : Type 0} → Bool → Bool → Result A PutFault → Type 0
 TellsPut old new (Ok a) = new ≡ old
-TellsPut old new (Err (faults.SetupFailed why)) = new ≡ old
-TellsPut old new (Err faults.SetupWaits) = new ≡ old
-TellsPut old new (Err faults.Write) = new ≡ true
-TellsPut old new (Err faults.Memory) = new ≡ old
+TellsPut old new (Err puts.Write) = new ≡ true
+TellsPut old new (Err puts.Memory) = new ≡ old

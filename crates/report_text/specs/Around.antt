@@ -53,7 +53,7 @@ setups_say items there k (session ∷ sessions) =
     else (if went_well items k session then says (rows_text (last_outcome (segment items k))) >> setups_say items there (k + 1) sessions
     else ends (setup_ending (last_outcome (segment items k))))
 
--- ---- teardowns
+-- ---- notes on teardowns
 
 abbrev pub name_of : SessionTree → List ℕ
 name_of s = codes " of session " ++ decoded s.name
@@ -73,6 +73,21 @@ failure_note sessions session Waits = []
 failure_note sessions session (Failed fault) = note sessions session (fault_text fault)
 failure_note sessions session Left = []
 
+-- ---- teardowns one after the other
+
+-- the table of a teardown's last reply, if it is over
+abbrev pub teardown_text : List HistItem → ℕ → ℕ → List ℕ
+teardown_text items k session = if is_over items k session then rows_text (last_outcome (segment items k)) else []
+
+-- a note where it failed; one that isn't over would wait
+abbrev pub teardown_note : List SessionTree → List HistItem → ℕ → ℕ → List ℕ
+teardown_note sessions items k session =
+    if is_over items k session then failure_note sessions session (last_outcome (segment items k)) else note sessions session (codes "would wait")
+
+-- the segment behind its own; one that waits takes a Leave as well
+abbrev pub behind : List HistItem → ℕ → ℕ → ℕ
+behind items k session = if is_over items k session then k + 1 else k + 2
+
 -- what teardowns say, and the segment behind theirs
 pub record Torn : Type 0 where
   pub text : List ℕ
@@ -82,14 +97,12 @@ pub record Torn : Type 0 where
 abbrev pub torn_first : List ℕ → List ℕ → Torn → Torn
 torn_first text notes t = record t { text = text ++ t.text; notes = notes ++ t.notes }
 
--- the teardowns from a segment on: the table of each one's last reply, and a note where it failed. One that waits is noted, and takes a Leave as well.
+-- the teardowns from a segment on, of which so many segments are there
 abbrev pub torn : List SessionTree → List HistItem → ℕ → ℕ → List ℕ → Torn
 torn sessions items there k [] = record { text = []; notes = []; next = k }
 torn sessions items there k (t ∷ ts) =
     if nat_le there k then record { text = []; notes = []; next = k }
-    else (if is_over items k t
-    then torn_first (rows_text (last_outcome (segment items k))) (failure_note sessions t (last_outcome (segment items k))) (torn sessions items there (k + 1) ts)
-    else torn_first [] (note sessions t (codes "would wait")) (torn sessions items there (k + 2) ts))
+    else torn_first (teardown_text items k t) (teardown_note sessions items k t) (torn sessions items there (behind items k t) ts)
 
 -- the sessions' teardowns, and behind the sessions' leaves that of the whole file
 abbrev pub teardowns_say : SpecTree → List HistItem → ℕ → ℕ → Said

@@ -5,4 +5,5 @@ pub mod LineText
 pub mod Said
 pub mod Around
 pub mod Permutation
+pub mod Faults
 pub mod Answers

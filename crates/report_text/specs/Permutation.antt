@@ -26,8 +26,10 @@ entries_say sessions c there = says (flat_map (line_text sessions c) (report c t
 abbrev pub rest_says : SpecTree → Setting → ℕ → Said
 rest_says spec c there = entries_say spec.sessions c (there - c.setups) >> teardowns_say spec c.items there (c.setups + length c.entries)
 
--- the starting line, the setups, the entries' lines, the teardowns, as far as the history has come
+-- the starting line, the setups, the entries' lines and the teardowns
+unfoldable pub all_says : SpecTree → Setting → Said
+all_says spec c = says (starting_text spec.sessions c.entries) >> setups_say c.items (orders c.items) 0 (setups_of spec) >> rest_says spec c (orders c.items)
+
+-- a permutation of a spec with its history, as far as that has come
 unfoldable pub permutation_says : SpecTree → List EntryTree → List HistItem → Said
-permutation_says spec entries items =
-    let c : Setting = record { entries = entries; items = items; setups = length (setups_of spec) } in
-    says (starting_text spec.sessions entries) >> setups_say items (orders items) 0 (setups_of spec) >> rest_says spec c (orders items)
+permutation_says spec entries items = all_says spec (record { entries = entries; items = items; setups = length (setups_of spec) })

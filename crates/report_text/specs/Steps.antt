@@ -22,5 +22,5 @@ abbrev pub entry_name : List SessionTree → EntryTree → List ℕ
 entry_name sessions e = option_map_or name_text (named_step sessions e) []
 
 -- an empty line, and the names of the steps
-abbrev pub starting_text : List SessionTree → List EntryTree → List ℕ
+unfoldable pub starting_text : List SessionTree → List EntryTree → List ℕ
 starting_text sessions entries = codes "\nstarting permutation:" ++ flat_map (entry_name sessions) entries ++ codes "\n"

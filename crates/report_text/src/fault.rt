@@ -1,10 +1,11 @@
 //! How the report of a permutation ends.
 
 ghost use Rattle.std.specs.Prelude.{◌≡◌};
-ghost use Rattle.report_text.specs.declared.fault.ReportFault.TheVariants.{Memory, Write};
+ghost use Rattle.report_text.specs.declared.fault.ReportFault.TheVariants.{Memory};
+ghost use Rattle.report_text.specs.declared.fault.PutFault.TheVariants.{Memory as PutMemory, Write as PutWrite};
 
 use iso_lexer::DeviceFault;
-use std::alloc::{AllocError, AllocFailed};
+use std::alloc::AllocError;
 use thiserror::Error;
 
 /// How a permutation ended.
@@ -32,6 +33,29 @@ pub enum ReportFault {
     SetupWaits,
 }
 
+/// Why a piece of a report was not put.
+#[derive(Clone, Copy, Debug)]
+pub enum PutFault {
+    Write,
+    Memory,
+}
+
+impl From<AllocError> for PutFault {
+    ghost from_gives = { λ _ e. e ≡ PutMemory };
+
+    fn from(_e: AllocError) -> PutFault {
+        PutFault::Memory
+    }
+}
+
+impl From<DeviceFault> for PutFault {
+    ghost from_gives = { λ _ e. e ≡ PutWrite };
+
+    fn from(_e: DeviceFault) -> PutFault {
+        PutFault::Write
+    }
+}
+
 impl From<AllocError> for ReportFault {
     ghost from_gives = { λ _ e. e ≡ Memory };
 
@@ -40,18 +64,15 @@ impl From<AllocError> for ReportFault {
     }
 }
 
-impl<T: Drop> From<AllocFailed<T>> for ReportFault {
-    ghost from_gives = { λ _ e. e ≡ Memory };
+impl From<PutFault> for ReportFault {
+    ghost use Rattle.report_text.specs.Faults.{report_fault};
 
-    fn from(_e: AllocFailed<T>) -> ReportFault {
-        ReportFault::Memory
-    }
-}
+    ghost from_gives = { λ f e. e ≡ report_fault f };
 
-impl From<DeviceFault> for ReportFault {
-    ghost from_gives = { λ _ e. e ≡ Write };
-
-    fn from(_e: DeviceFault) -> ReportFault {
-        ReportFault::Write
+    fn from(f: PutFault) -> ReportFault {
+        match f {
+            PutFault::Write => ReportFault::Write,
+            PutFault::Memory => ReportFault::Memory,
+        }
     }
 }

@@ -1,6 +1,6 @@
 //! The lines that are said of a permutation's steps.
 
-ghost use Rattle.std.specs.Prelude.{◌≡◌, ◌++◌, ◌<◌, map, length, option_map, OnOk, OnSome};
+ghost use Rattle.std.specs.Prelude.{◌≡◌, ◌++◌, ◌<◌, ◌≤◌, map, length, option_map, slice_range, OnOk, OnSome};
 ghost use Rattle.spec_parser.specs.Trees.{step_view, session_view};
 ghost use Rattle.report_text.specs.LineText.{entry_replies, step_name, step_sql, at_once, waiting, completed, step_at, line_text};
 
@@ -8,8 +8,19 @@ use crate::page::{Page, push_name};
 use crate::replies::push_replies;
 use crate::steps::named_step;
 use report_lines::{Course, Line};
+use session_machine::HistItem;
 use spec_parser::{SessionPart, StepPart};
 use std::alloc::AllocError;
+
+/// The items from one place up to another, as far as there are any.
+fn between<'s, 't>(items: &'s [HistItem<'t>], from: usize, to: usize) -> &'s [HistItem<'t>]
+    requires { from ≤ length items.now }
+    ensures { result.now ≡ slice_range items.now from to }
+{
+    let rest = &items[from..];
+    let count = to.saturating_sub(from).min(rest.len());
+    &rest[..count]
+}
 
 /// Pushes the replies to an entry's block that are among so many items.
 fn push_entry_replies(
@@ -21,12 +32,9 @@ fn push_entry_replies(
     requires { entry < length course.now.entries }
     ensures { OnOk result (page.new.bytes.items ≡ page.old.bytes.items ++ entry_replies course.now entry seen) }
 {
-    let items = course.items();
-    let from = course.seen_before(entry);
-    match items.get(from..seen) {
-        Some(replies) => push_replies(page, course.session_at(entry), replies),
-        None => Ok(()),
-    }
+    let items = course.segments().items();
+    let replies = between(items, course.seen_before(entry), seen);
+    push_replies(page, course.session_at(entry), replies)
 }
 
 fn push_step_name(page: &mut Page, step: &StepPart<'_>) -> Result<(), AllocError>

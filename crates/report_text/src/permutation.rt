@@ -3,13 +3,14 @@
 ghost use Rattle.std.specs.Prelude.{◌≡◌, ◌++◌, ◌+◌, ◌<◌, ◌^◌, length, map, flat_map, OnOk, IfOk};
 ghost use Rattle.std.specs.Io.KnownBytes.{Appends};
 ghost use Rattle.spec_parser.specs.Trees.{entry_view, session_view, spec_view};
+ghost use Rattle.report_lines.specs.Due.{orders};
 ghost use Rattle.report_text.specs.Steps.{starting_text};
 ghost use Rattle.report_text.specs.LineText.{line_text};
-ghost use Rattle.report_text.specs.Around.{setups_say, teardowns_say};
-ghost use Rattle.report_text.specs.Permutation.{stand_says, entries_say, rest_says, permutation_says};
-ghost use Rattle.report_text.specs.Answers.{ending_of, ended_as, EndsAs, Puts, TellsPut, TellsFailure};
+ghost use Rattle.report_text.specs.Around.{setups_of, setups_say, teardowns_say};
+ghost use Rattle.report_text.specs.Permutation.{stand_says, entries_say, rest_says, all_says, permutation_says};
+ghost use Rattle.report_text.specs.Answers.{ending_of, ended_as, EndsAs, Puts, TellsPut, TellsPuts, TellsFailure};
 
-use crate::fault::{Ended, ReportFault};
+use crate::fault::{Ended, PutFault, ReportFault};
 use crate::line_text::push_line;
 use crate::numbers::setups_of;
 use crate::page::Page;
@@ -17,13 +18,13 @@ use crate::setups::{SetUp, push_setups};
 use crate::steps::push_starting;
 use crate::teardowns::{Pages, push_teardowns};
 use iso_lexer::Sink;
-use report_lines::{Course, Line, Stand, orders, told_lines};
+use report_lines::{Course, Line, Stand, told_lines};
 use session_machine::HistItem;
 use spec_parser::{Entry, SessionPart, Spec};
 use std::alloc::Global;
 
 /// Puts what is on the page.
-fn put_page<W: Sink>(out: &mut W, page: &Page) -> Result<(), ReportFault>
+fn put_page<W: Sink>(out: &mut W, page: &Page) -> Result<(), PutFault>
     ensures bytes { OnOk result (Appends (W.put_so_far out.old) (W.put_so_far out.new) page.now.bytes.items) }
     ensures fails { TellsPut (W.failed out.old) (W.failed out.new) result }
 {
@@ -31,23 +32,23 @@ fn put_page<W: Sink>(out: &mut W, page: &Page) -> Result<(), ReportFault>
     Ok(())
 }
 
-/// Puts the starting line, and what the setups say of which so many segments are there.
+/// Puts the starting line, and what the setups say.
 fn put_front<W: Sink>(
     alloc: Global,
     out: &mut W,
     spec: &Spec<'_>,
     course: &Course<'_>,
-    there: usize,
     setups: &[usize],
-) -> Result<SetUp, ReportFault>
+) -> Result<SetUp, PutFault>
+    requires { setups.now ≡ setups_of (spec_view spec.now) }
     ensures bytes { OnOk result (Appends (W.put_so_far out.old) (W.put_so_far out.new)
-        (starting_text (spec_view spec.now).sessions course.now.entries ++ (setups_say course.now.items there 0 setups.now).text)) }
-    ensures ending { IfOk result (λ came. ending_of came ≡ (setups_say course.now.items there 0 setups.now).ending) }
+        (starting_text (spec_view spec.now).sessions course.now.entries ++ (setups_say course.now.items (orders course.now.items) 0 (setups_of (spec_view spec.now))).text)) }
+    ensures ending { IfOk result (λ came. ending_of came ≡ (setups_say course.now.items (orders course.now.items) 0 (setups_of (spec_view spec.now))).ending) }
     ensures fails { TellsPut (W.failed out.old) (W.failed out.new) result }
 {
     let mut page = Page::new(alloc);
     push_starting(&mut page, &spec.sessions, course.entries())?;
-    let came = push_setups(&mut page, course, there, setups)?;
+    let came = push_setups(&mut page, course.segments(), setups)?;
     put_page(out, &page)?;
     Ok(came)
 }
@@ -59,7 +60,7 @@ fn put_line<W: Sink>(
     sessions: &[SessionPart<'_>],
     course: &Course<'_>,
     line: Line,
-) -> Result<(), ReportFault>
+) -> Result<(), PutFault>
     ensures bytes { OnOk result (Appends (W.put_so_far out.old) (W.put_so_far out.new) (line_text (map session_view sessions.now) course.now line)) }
     ensures fails { TellsPut (W.failed out.old) (W.failed out.new) result }
 {
@@ -74,7 +75,7 @@ fn put_lines<W: Sink>(
     sessions: &[SessionPart<'_>],
     course: &Course<'_>,
     lines: &[Line],
-) -> Result<(), ReportFault>
+) -> Result<(), PutFault>
     ensures bytes { OnOk result (Appends (W.put_so_far out.old) (W.put_so_far out.new)
         (flat_map (line_text (map session_view sessions.now) course.now) lines.now)) }
     ensures fails { TellsPut (W.failed out.old) (W.failed out.new) result }
@@ -86,7 +87,7 @@ fn put_lines<W: Sink>(
 }
 
 /// Puts that the permutation is invalid, if it is.
-fn put_stand<W: Sink>(out: &mut W, stand: Stand) -> Result<Ended, ReportFault>
+fn put_stand<W: Sink>(out: &mut W, stand: Stand) -> Result<Ended, PutFault>
     ensures bytes { OnOk result (Appends (W.put_so_far out.old) (W.put_so_far out.new) (stand_says stand).text) }
     ensures ending { IfOk result (λ ended. ended_as ended ≡ (stand_says stand).ending) }
     ensures fails { TellsPut (W.failed out.old) (W.failed out.new) result }
@@ -107,7 +108,7 @@ fn put_entries<W: Sink>(
     sessions: &[SessionPart<'_>],
     course: &Course<'_>,
     there: usize,
-) -> Result<Ended, ReportFault>
+) -> Result<Ended, PutFault>
     ensures bytes { OnOk result (Appends (W.put_so_far out.old) (W.put_so_far out.new) (entries_say (map session_view sessions.now) course.now there).text) }
     ensures ending { IfOk result (λ ended. ended_as ended ≡ (entries_say (map session_view sessions.now) course.now there).ending) }
     ensures fails { TellsPut (W.failed out.old) (W.failed out.new) result }
@@ -127,14 +128,14 @@ fn put_teardowns<W: Sink, N: Sink>(
     first: usize,
     out: &mut W,
     notes: &mut N,
-) -> Result<(), ReportFault>
+) -> Result<(), PutFault>
     requires { there + 2 < 2 ^ 64 }
     ensures text { OnOk result (Appends (W.put_so_far out.old) (W.put_so_far out.new) (teardowns_say (spec_view spec.now) course.now.items there first).text) }
     ensures notes { OnOk result (Appends (N.put_so_far notes.old) (N.put_so_far notes.new) (teardowns_say (spec_view spec.now) course.now.items there first).notes) }
-    ensures fails { TellsFailure (W.failed out.old) (W.failed out.new) (N.failed notes.old) (N.failed notes.new) result }
+    ensures fails { TellsPuts (W.failed out.old) (W.failed out.new) (N.failed notes.old) (N.failed notes.new) result }
 {
     let mut pages = Pages::new(alloc);
-    push_teardowns(alloc, &mut pages, spec, course, there, first)?;
+    push_teardowns(alloc, &mut pages, spec, course.segments(), there, first)?;
     put_page(out, &pages.text)?;
     put_page(notes, &pages.notes)
 }
@@ -144,19 +145,19 @@ fn put_rest<W: Sink, N: Sink>(
     alloc: Global,
     spec: &Spec<'_>,
     course: &Course<'_>,
-    there: usize,
     setups: usize,
     out: &mut W,
     notes: &mut N,
-) -> Result<Ended, ReportFault>
-    requires there { there + 2 < 2 ^ 64 }
+) -> Result<Ended, PutFault>
+    requires there { orders course.now.items + 2 < 2 ^ 64 }
     requires setups { setups ≡ course.now.setups }
     requires room { setups + length course.now.entries + 1 < 2 ^ 64 }
-    ensures ending { IfOk result (λ ended. ended_as ended ≡ (rest_says (spec_view spec.now) course.now there).ending) }
-    ensures text { OnOk result (Appends (W.put_so_far out.old) (W.put_so_far out.new) (rest_says (spec_view spec.now) course.now there).text) }
-    ensures notes { OnOk result (Appends (N.put_so_far notes.old) (N.put_so_far notes.new) (rest_says (spec_view spec.now) course.now there).notes) }
-    ensures fails { TellsFailure (W.failed out.old) (W.failed out.new) (N.failed notes.old) (N.failed notes.new) result }
+    ensures ending { IfOk result (λ ended. ended_as ended ≡ (rest_says (spec_view spec.now) course.now (orders course.now.items)).ending) }
+    ensures text { OnOk result (Appends (W.put_so_far out.old) (W.put_so_far out.new) (rest_says (spec_view spec.now) course.now (orders course.now.items)).text) }
+    ensures notes { OnOk result (Appends (N.put_so_far notes.old) (N.put_so_far notes.new) (rest_says (spec_view spec.now) course.now (orders course.now.items)).notes) }
+    ensures fails { TellsPuts (W.failed out.old) (W.failed out.new) (N.failed notes.old) (N.failed notes.new) result }
 {
+    let there = course.segments().count();
     match put_entries(
         alloc,
         out,
@@ -171,12 +172,37 @@ fn put_rest<W: Sink, N: Sink>(
                 spec,
                 course,
                 there,
-                setups + course.len(),
+                setups + course.entries().len(),
                 out,
                 notes,
             )?;
             Ok(Ended::Whole)
         }
+    }
+}
+
+/// Puts all that is said of a permutation, whose setups are these.
+fn put_all<W: Sink, N: Sink>(
+    alloc: Global,
+    spec: &Spec<'_>,
+    course: &Course<'_>,
+    setups: &[usize],
+    out: &mut W,
+    notes: &mut N,
+) -> Result<Ended, ReportFault>
+    requires there { orders course.now.items + 2 < 2 ^ 64 }
+    requires setups { setups.now ≡ setups_of (spec_view spec.now) }
+    requires count { course.now.setups ≡ length setups.now }
+    requires room { length setups.now + length course.now.entries + 1 < 2 ^ 64 }
+    ensures ending { EndsAs (all_says (spec_view spec.now) course.now).ending result }
+    ensures text { Puts (W.put_so_far out.old) (W.put_so_far out.new) (all_says (spec_view spec.now) course.now).text result }
+    ensures notes { Puts (N.put_so_far notes.old) (N.put_so_far notes.new) (all_says (spec_view spec.now) course.now).notes result }
+    ensures fails { TellsFailure (W.failed out.old) (W.failed out.new) (N.failed notes.old) (N.failed notes.new) result }
+{
+    match put_front(alloc, out, spec, course, setups)? {
+        SetUp::Well => Ok(put_rest(alloc, spec, course, setups.len(), out, notes)?),
+        SetUp::Failed(text) => Err(ReportFault::SetupFailed { text }),
+        SetUp::Waits => Err(ReportFault::SetupWaits),
     }
 }
 
@@ -199,11 +225,6 @@ pub fn write_permutation<W: Sink, N: Sink>(
     ensures fails { TellsFailure (W.failed out.old) (W.failed out.new) (N.failed notes.old) (N.failed notes.new) result }
 {
     let setups = setups_of(alloc, spec)?;
-    let course = Course::new(entries, items, setups.len());
-    let there = orders(items);
-    match put_front(alloc, out, spec, &course, there, &setups)? {
-        SetUp::Well => put_rest(alloc, spec, &course, there, setups.len(), out, notes),
-        SetUp::Failed(text) => Err(ReportFault::SetupFailed { text }),
-        SetUp::Waits => Err(ReportFault::SetupWaits),
-    }
+    let course = Course::new(alloc, entries, items, setups.len())?;
+    put_all(alloc, spec, &course, &setups, out, notes)
 }

@@ -3,6 +3,7 @@
 ghost use Rattle.std.specs.Prelude.{◌≡◌, ◌++◌, OnOk, IfOk, string_bytes};
 ghost use Rattle.std.specs.Str.Lossy.{utf8_lossy};
 ghost use Rattle.report_text.specs.FaultText.{fault_text};
+ghost use Rattle.report_lines.specs.Due.{orders};
 ghost use Rattle.report_text.specs.Replies.{last_outcome};
 ghost use Rattle.report_text.specs.Around.{setup_ending, setups_say};
 ghost use Rattle.report_text.specs.Answers.{ending_of};
@@ -11,7 +12,7 @@ use crate::fault_text::push_fault;
 use crate::page::Page;
 use crate::replies::push_last_rows;
 use crate::segments::went_well;
-use report_lines::Course;
+use report_lines::Segments;
 use session_machine::{HistItem, Outcome, StmtFault};
 use std::alloc::{AllocError, Global};
 
@@ -52,21 +53,21 @@ fn last_ending(alloc: Global, segment: &[HistItem<'_>]) -> Result<SetUp, AllocEr
     }
 }
 
-/// Pushes what the setups of these sessions say, of which so many segments are there.
+/// Pushes what the setups of these sessions say, as far as they are there.
 pub fn push_setups(
     page: &mut Page,
-    course: &Course<'_>,
-    there: usize,
+    segments: &Segments<'_>,
     sessions: &[usize],
 ) -> Result<SetUp, AllocError>
-    ensures text { OnOk result (page.new.bytes.items ≡ page.old.bytes.items ++ (setups_say course.now.items there 0 sessions.now).text) }
-    ensures ending { IfOk result (λ came. ending_of came ≡ (setups_say course.now.items there 0 sessions.now).ending) }
+    ensures text { OnOk result (page.new.bytes.items ≡ page.old.bytes.items ++ (setups_say segments.now (orders segments.now) 0 sessions.now).text) }
+    ensures ending { IfOk result (λ came. ending_of came ≡ (setups_say segments.now (orders segments.now) 0 sessions.now).ending) }
 {
+    let there = segments.count();
     for (number, session) in sessions.iter().enumerate() {
         if there <= number {
             return Ok(SetUp::Well);
         }
-        let segment = course.segment(number);
+        let segment = segments.segment(number);
         if !went_well(segment, *session) {
             return last_ending(page.alloc(), segment);
         }

@@ -3,14 +3,14 @@
 ghost use Rattle.std.specs.Prelude.{◌≡◌, ◌++◌, ◌+◌, ◌<◌, ◌^◌, [], map, codes, OnOk, IfOk};
 ghost use Rattle.spec_parser.specs.Trees.{session_view, spec_view};
 ghost use Rattle.report_text.specs.Replies.{rows_text, last_outcome};
-ghost use Rattle.report_text.specs.Around.{note, failure_note, torn, last_teardown_of, teardowns_say};
+ghost use Rattle.report_text.specs.Around.{note, failure_note, teardown_text, teardown_note, behind, torn, last_teardown_of, teardowns_say};
 
 use crate::notes::{push_last_note, push_would_wait};
 use crate::numbers::teardowns_of;
 use crate::page::Page;
 use crate::replies::push_last_rows;
 use crate::segments::is_over;
-use report_lines::Course;
+use report_lines::Segments;
 use session_machine::HistItem;
 use spec_parser::{SessionPart, Spec};
 use std::alloc::{AllocError, Global};
@@ -60,33 +60,49 @@ fn push_waiting(
     push_would_wait(&mut pages.notes, sessions, session)
 }
 
+/// Pushes what a teardown says, and answers the segment behind its own.
+fn push_teardown(
+    pages: &mut Pages,
+    sessions: &[SessionPart<'_>],
+    segments: &Segments<'_>,
+    number: usize,
+    session: usize,
+) -> Result<usize, AllocError>
+    requires { number + 2 < 2 ^ 64 }
+    ensures text { OnOk result (pages.new.text.bytes.items ≡ pages.old.text.bytes.items ++ teardown_text segments.now number session) }
+    ensures notes { OnOk result (pages.new.notes.bytes.items ≡ pages.old.notes.bytes.items ++ teardown_note (map session_view sessions.now) segments.now number session) }
+    ensures next { IfOk result (λ next. next ≡ behind segments.now number session) }
+{
+    let segment = segments.segment(number);
+    if is_over(segment, session) {
+        push_over(pages, sessions, session, segment)?;
+        Ok(number + 1)
+    } else {
+        push_waiting(pages, sessions, session)?;
+        Ok(number + 2)
+    }
+}
+
 /// Pushes what these teardowns say, from a segment on, of which so many are there; answers the segment behind theirs.
 fn push_torn(
     pages: &mut Pages,
     sessions: &[SessionPart<'_>],
-    course: &Course<'_>,
+    segments: &Segments<'_>,
     there: usize,
     first: usize,
     teardowns: &[usize],
 ) -> Result<usize, AllocError>
     requires { there + 2 < 2 ^ 64 }
-    ensures text { OnOk result (pages.new.text.bytes.items ≡ pages.old.text.bytes.items ++ (torn (map session_view sessions.now) course.now.items there first teardowns.now).text) }
-    ensures notes { OnOk result (pages.new.notes.bytes.items ≡ pages.old.notes.bytes.items ++ (torn (map session_view sessions.now) course.now.items there first teardowns.now).notes) }
-    ensures next { IfOk result (λ next. next ≡ (torn (map session_view sessions.now) course.now.items there first teardowns.now).next) }
+    ensures text { OnOk result (pages.new.text.bytes.items ≡ pages.old.text.bytes.items ++ (torn (map session_view sessions.now) segments.now there first teardowns.now).text) }
+    ensures notes { OnOk result (pages.new.notes.bytes.items ≡ pages.old.notes.bytes.items ++ (torn (map session_view sessions.now) segments.now there first teardowns.now).notes) }
+    ensures next { IfOk result (λ next. next ≡ (torn (map session_view sessions.now) segments.now there first teardowns.now).next) }
 {
     let mut number = first;
     for session in teardowns {
         if there <= number {
             return Ok(number);
         }
-        let segment = course.segment(number);
-        if is_over(segment, *session) {
-            push_over(pages, sessions, *session, segment)?;
-            number += 1;
-        } else {
-            push_waiting(pages, sessions, *session)?;
-            number += 2;
-        }
+        number = push_teardown(pages, sessions, segments, number, *session)?;
     }
     Ok(number)
 }
@@ -95,16 +111,16 @@ fn push_torn(
 fn push_last(
     pages: &mut Pages,
     spec: &Spec<'_>,
-    course: &Course<'_>,
+    segments: &Segments<'_>,
     there: usize,
     number: usize,
 ) -> Result<(), AllocError>
     requires { there + 2 < 2 ^ 64 }
-    ensures text { OnOk result (pages.new.text.bytes.items ≡ pages.old.text.bytes.items ++ (torn (spec_view spec.now).sessions course.now.items there number (last_teardown_of (spec_view spec.now))).text) }
-    ensures notes { OnOk result (pages.new.notes.bytes.items ≡ pages.old.notes.bytes.items ++ (torn (spec_view spec.now).sessions course.now.items there number (last_teardown_of (spec_view spec.now))).notes) }
+    ensures text { OnOk result (pages.new.text.bytes.items ≡ pages.old.text.bytes.items ++ (torn (spec_view spec.now).sessions segments.now there number (last_teardown_of (spec_view spec.now))).text) }
+    ensures notes { OnOk result (pages.new.notes.bytes.items ≡ pages.old.notes.bytes.items ++ (torn (spec_view spec.now).sessions segments.now there number (last_teardown_of (spec_view spec.now))).notes) }
 {
     if spec.teardown.is_some() {
-        push_torn(pages, &spec.sessions, course, there, number, &[0])?;
+        push_torn(pages, &spec.sessions, segments, there, number, &[0])?;
     }
     Ok(())
 }
@@ -114,20 +130,20 @@ pub fn push_teardowns(
     alloc: Global,
     pages: &mut Pages,
     spec: &Spec<'_>,
-    course: &Course<'_>,
+    segments: &Segments<'_>,
     there: usize,
     first: usize,
 ) -> Result<(), AllocError>
     requires { there + 2 < 2 ^ 64 }
-    ensures text { OnOk result (pages.new.text.bytes.items ≡ pages.old.text.bytes.items ++ (teardowns_say (spec_view spec.now) course.now.items there first).text) }
-    ensures notes { OnOk result (pages.new.notes.bytes.items ≡ pages.old.notes.bytes.items ++ (teardowns_say (spec_view spec.now) course.now.items there first).notes) }
+    ensures text { OnOk result (pages.new.text.bytes.items ≡ pages.old.text.bytes.items ++ (teardowns_say (spec_view spec.now) segments.now there first).text) }
+    ensures notes { OnOk result (pages.new.notes.bytes.items ≡ pages.old.notes.bytes.items ++ (teardowns_say (spec_view spec.now) segments.now there first).notes) }
 {
     let teardowns = teardowns_of(alloc, spec)?;
-    let next = push_torn(pages, &spec.sessions, course, there, first, &teardowns)?;
+    let next = push_torn(pages, &spec.sessions, segments, there, first, &teardowns)?;
     push_last(
         pages,
         spec,
-        course,
+        segments,
         there,
         next.saturating_add(spec.sessions.len()),
     )

@@ -138,7 +138,7 @@ fn block<'a>(
 
 /// What the report of a file's permutation says, and how it ends.
 #[derive(Drop)]
-struct Run {
+struct Reported {
     out: Kept,
     notes: Kept,
     ended: Result<Ended, ReportFault>,
@@ -151,18 +151,18 @@ fn run(
     number: usize,
     items: &[HistItem<'_>],
     puts: (usize, usize),
-) -> Result<Run, Fail> {
+) -> Result<Reported, Fail> {
     let spec = parse_spec(alloc, text)?;
     let entries = spec.perms.get(number).ok_or("no permutation")?;
     let mut out = Kept::new(puts.0);
     let mut notes = Kept::new(puts.1);
     let ended = write_permutation(alloc, &spec, entries, items, &mut out, &mut notes);
-    Ok(Run { out, notes, ended })
+    Ok(Reported { out, notes, ended })
 }
 
 const ENDLESS: (usize, usize) = (usize::MAX, usize::MAX);
 
-fn is_whole(run: &Run) -> bool {
+fn is_whole(run: &Reported) -> bool {
     matches!(run.ended, Ok(Ended::Whole))
 }
 

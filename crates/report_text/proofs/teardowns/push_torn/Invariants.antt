@@ -6,8 +6,8 @@ use Rattle.report_text.proofs.teardowns.push_torn.Given as goal
 
 abbrev pub invariant-loop-session : goal.invariant-loop-session
 invariant-loop-session l =
-    let now = torn (map session_view l.sessions) l.course.items l.there l.number (drop l.session-index l.teardowns) in
-    let all = torn (map session_view l.sessions) l.course.items l.there l.first l.teardowns in
+    let now = torn (map session_view l.sessions) l.segments l.there l.number (drop l.session-index l.teardowns) in
+    let all = torn (map session_view l.sessions) l.segments l.there l.first l.teardowns in
     record {
       text : l.pages.text.bytes.items ++ now.text ≡ l.fn.pages.text.bytes.items ++ all.text;
       notes : l.pages.notes.bytes.items ++ now.notes ≡ l.fn.pages.notes.bytes.items ++ all.notes;

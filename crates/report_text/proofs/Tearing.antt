@@ -1,0 +1,13 @@
+-- Teardowns one by one.
+use Rattle.std.proofs.Common.{◌≡◌, ℕ, ◌+◌, ◌≤◌, ◌<◌, ◌++◌, List, [], ◌∷◌, Bool, true, false, refl, sym, ap, ◌∙◌, arith}
+use Rattle.std.specs.Prelude.{nat_le, codes}
+use Rattle.session_machine.specs.declared.reply.HistItem.{HistItem}
+use Rattle.spec_parser.specs.Trees.{SessionTree}
+use Rattle.report_lines.specs.Due.{segment, is_over}
+use Rattle.report_text.specs.Replies.{rows_text, last_outcome}
+use Rattle.report_text.specs.Around.{Torn, torn, torn_first, note, failure_note}
+
+-- teardowns that are not there say nothing
+pub torn_gone : (sessions : List SessionTree) (items : List HistItem) (there k : ℕ) (ts : List ℕ) → there ≤ k → torn sessions items there k ts ≡ record { text = []; notes = []; next = k }
+torn_gone sessions items there k [] h = refl
+torn_gone sessions items there k (t ∷ ts) h = let e : nat_le there k ≡ true = grind arith in rw e refl
