@@ -8,3 +8,6 @@ mod turns;
 
 pub use line::line_of;
 pub use permutations::Permutations;
+
+#[cfg(test)]
+mod tests;
