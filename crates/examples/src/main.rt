@@ -1,36 +1,48 @@
 //! Runs each example of the repository, and compares what it prints with what is expected. A plain example lies in
-//! `specs` and its text in `expected`; one that is refused lies in `faults`, beside its text, its line on standard error
-//! and its status.
+//! `specs` and its text in `expected`. One that has options, is refused, ends early, or has notes lies in `faults`, beside
+//! its words, its text, its lines on standard error and its status. Where the words are refused, the lines on standard
+//! error are clap's own, and not compared.
 #![tactic(auto)]
 
 use anyhow::Result;
+use command_line::serve;
 use iso_lexer::FromStd;
-use permutations::run_spec;
 use std::alloc::Global;
 use std::fs;
 use std::process::ExitCode;
 use std::rt::Runtime;
 
+/// The status where the words of the command line are refused.
+const WORDS_REFUSED: u8 = 2;
+
 /// What a run of the program gives.
 #[derive(Drop)]
 struct Outcome {
     out: Vec<u8>,
-    err: String,
+    err: Vec<u8>,
     status: u8,
 }
 
-fn outcome_of(alloc: Global, input: &[u8]) -> Result<Outcome> {
+fn outcome_of(alloc: Global, words: &[String], input: &[u8]) -> Outcome {
     let mut source = FromStd::new(input);
     let mut out = Vec::new(alloc);
+    let mut err = Vec::new(alloc);
     let mut sink = FromStd::new(&mut out);
-    let (err, status) = match run_spec(alloc, &mut source, &mut sink) {
-        Ok(()) => (String::new(alloc), 0),
-        Err(fault) => {
-            let status = fault.status();
-            (format!(in alloc; "isolationtester: {fault}\n")?, status)
+    let mut notes = FromStd::new(&mut err);
+    let status = serve(alloc, words, &mut source, &mut sink, &mut notes);
+    Outcome { out, err, status }
+}
+
+/// The program's name, and behind it the words of a file, none where there is no such file.
+fn words_in<R: Runtime + AllocGlobal>(rt: &R, path: &str) -> Result<Vec<String>> {
+    let mut words = Vec::new(rt.alloc());
+    words.push(String::from_str(rt.alloc(), "isolationtester")?)?;
+    if fs::exists(rt, path)? {
+        for word in fs::read_to_string(rt, path)?.as_str().split_whitespace() {
+            words.push(String::from_str(rt.alloc(), word)?)?;
         }
-    };
-    Ok(Outcome { out, err, status })
+    }
+    Ok(words)
 }
 
 /// The bytes of a file, none where there is no such file.
@@ -69,19 +81,22 @@ fn prints_its_text<R: Runtime + AllocGlobal>(rt: &R, name: &str) -> Result<bool>
     let alloc = rt.alloc();
     let spec = fs::read(rt, format!(in alloc; "specs/{name}.spec")?.as_str())?;
     let expected = fs::read(rt, format!(in alloc; "expected/{name}.out")?.as_str())?;
-    let outcome = outcome_of(alloc, &spec)?;
+    let words = words_in(rt, "specs/none.args")?;
+    let outcome = outcome_of(alloc, &words, &spec);
     Ok(outcome.out == expected && outcome.err.is_empty() && outcome.status == 0)
 }
 
-/// Whether an example prints its text, its line on standard error, and ends with its status.
-fn is_refused_so<R: Runtime + AllocGlobal>(rt: &R, name: &str) -> Result<bool> {
+/// Whether an example prints its text and its lines on standard error, and ends with its status.
+fn ends_so<R: Runtime + AllocGlobal>(rt: &R, name: &str) -> Result<bool> {
     let alloc = rt.alloc();
     let spec = fs::read(rt, format!(in alloc; "faults/{name}.spec")?.as_str())?;
+    let words = words_in(rt, format!(in alloc; "faults/{name}.args")?.as_str())?;
     let out = bytes_or_none(rt, format!(in alloc; "faults/{name}.out")?.as_str())?;
     let err = bytes_or_none(rt, format!(in alloc; "faults/{name}.err")?.as_str())?;
     let status = status_or_zero(rt, format!(in alloc; "faults/{name}.status")?.as_str())?;
-    let outcome = outcome_of(alloc, &spec)?;
-    Ok(outcome.out == out && outcome.err.as_bytes() == err.as_slice() && outcome.status == status)
+    let outcome = outcome_of(alloc, &words, &spec);
+    let is_told_so = status == WORDS_REFUSED || outcome.err == err;
+    Ok(outcome.out == out && is_told_so && outcome.status == status)
 }
 
 fn run<R: Runtime + AllocGlobal>(rt: &R) -> Result<bool> {
@@ -93,7 +108,7 @@ fn run<R: Runtime + AllocGlobal>(rt: &R) -> Result<bool> {
         }
     }
     for name in &names_in(rt, "faults")? {
-        if !is_refused_so(rt, name.as_str())? {
+        if !ends_so(rt, name.as_str())? {
             all = false;
             println!(rt; "differs: faults/{name}")?;
         }

@@ -1,19 +1,32 @@
 //! Replays a spec file from standard input, and prints what PostgreSQL's isolation tester would expect of it.
 #![tactic(auto)]
 
+use command_line::serve;
 use iso_lexer::FromStd;
-use permutations::run_spec;
-use std::io;
+use std::env;
+use std::io::{self, BufWriter, Write};
 use std::process::ExitCode;
 
-fn main(rt: HostRuntime) -> ExitCode {
+/// The exit status where a device or memory fails before the program runs, or after.
+const FAILED: u8 = 3;
+
+fn run(rt: &HostRuntime) -> io::Result<u8> {
+    let words: Vec<String> = env::args(rt)?.collect(rt.alloc())?;
+    let mut text = BufWriter::new(rt.alloc(), io::writer(rt))?;
     let mut input = FromStd::new(rt.reader());
-    let mut out = FromStd::new(io::writer(&rt));
-    match run_spec(rt.alloc(), &mut input, &mut out) {
-        Ok(()) => ExitCode::SUCCESS,
-        Err(fault) => {
-            let _ = eprintln!(rt; "isolationtester: {fault}");
-            ExitCode::from(fault.status())
+    let mut out = FromStd::new(&mut text);
+    let mut err = FromStd::new(rt.stderr());
+    let status = serve(rt.alloc(), words.as_slice(), &mut input, &mut out, &mut err);
+    text.flush()?;
+    Ok(status)
+}
+
+fn main(rt: HostRuntime) -> ExitCode {
+    match run(&rt) {
+        Ok(status) => ExitCode::from(status),
+        Err(_) => {
+            let _ = eprintln!(rt; "isolationtester: R2 Write");
+            ExitCode::from(FAILED)
         }
     }
 }

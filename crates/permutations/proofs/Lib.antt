@@ -1,5 +1,9 @@
-pub mod Numbers
-pub mod Listing
 pub mod Reading
 pub mod FileLemmas
+pub mod Listing
+pub mod OneFile
+pub mod Running
+pub mod Telling
+pub mod Printing
 pub mod OneText
+pub mod Whole

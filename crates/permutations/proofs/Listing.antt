@@ -1,108 +1,80 @@
--- The loop over a list of literals.
-use Rattle.std.proofs.Common.{◌≡◌, ℕ, ℤ, pos, suc, ◌+◌, ◌-◌, ◌<◌, ◌≤◌, ◌++◌, length, drop, take, List, [], ◌∷◌, Result, Ok, Err, Bool, true, false, cond, eqb, refl, sym, ap, subst, ◌∙◌, arith, append_assoc, length-drop}
-use Rattle.std.specs.Prelude.{nat_lt, ◌==◌}
-use Rattle.std.specs.List.{prefix_len}
-use Rattle.std.specs.Char.{is_ascii_digit}
-use Rattle.std.specs.Str.Parse.{digits_value}
-use Rattle.std.proofs.lemmas.List.Sums.{prefix_len-le-length}
-use Rattle.std.specs.Global.{Vec}
-use Rattle.permutations.specs.declared.literals.LiteralFault.{LiteralFault}
-use Rattle.permutations.specs.declared.literals.LiteralFault.TheVariants as faults
-use Rattle.permutations.specs.Literals.{is_space, is_word_byte, behind, front_of, IsSelect, Step, stops, ends, goes, closed, ended, numbered, step_of, in_front, Lists, misfit, last, next, Reads, select, other}
-use Rattle.permutations.specs.Steps.{Answers, ListAnswers}
+-- The loop over the permutations that are listed.
+use Rattle.std.proofs.Common.{◌≡◌, ◌≢◌, true, ℕ, zero, suc, ◌-◌, ◌<◌, List, [], ◌∷◌, ◌++◌, Option, Some, None, Result, Ok, Err, refl, sym, ap, subst, ◌∙◌, arith, append_assoc}
+use Rattle.std.proofs.lemmas.List.{append-nil}
+use Rattle.std.specs.Io.KnownBytes.{Appends}
+use Rattle.spec_parser.specs.Trees.{EntryTree, SpecTree}
+use Rattle.permutation_lists.specs.Lines.{line_text}
+use Rattle.permutations.specs.Said.{Said, Ending, ended, behind, whole, too_many}
+use Rattle.permutations.specs.Runs.{is_refusal, Answers, IsListed}
+use Rattle.permutations.specs.declared.fault.RunFault.{RunFault}
+use Rattle.permutations.specs.declared.fault.RunFault.TheVariants.{TooManyPermutations, Memory}
+use Rattle.permutations.specs.Lists.{listed, FileLists, refused, lists}
+use Rattle.permutation_lists.specs.Permutations.{permutations_of}
+use Rattle.permutations.specs.Files.{File, FileIs}
 
-behind-le : (p : ℕ → Bool) (bs : List ℕ) → length (behind p bs) ≤ length bs
-behind-le p bs = omega (arith, length-drop (prefix_len p bs) bs)
+-- what went out so far, with the rest behind it, is the whole
+pub record SoFar (old new : Option (List ℕ)) (all rest : Said) : Type 0 where
+  pub text : List ℕ
+  pub out : Appends old new text
+  pub is : all ≡ behind text [] rest
 
--- what is left behind a step
-pub Within : ℕ → Step → Type 0
-Within n (stops rest) = length rest ≤ n
-Within n (ends k) = Unit {0}
-Within n (goes k rest) = length rest < n
+pub appends_nothing : (a : Option (List ℕ)) → Appends a a []
+appends_nothing None = tt
+appends_nothing (Some xs) = sym (append-nil xs)
 
-either : (P : Step → Type 0) (b : Bool) (x y : Step) → P x → P y → P (cond b x y)
-either P true x y p q = p
-either P false x y p q = q
+pub appends_more : (a b c : Option (List ℕ)) (bs cs : List ℕ) → Appends a b bs → Appends b c cs → Appends a c (bs ++ cs)
+appends_more None b c bs cs p q = tt
+appends_more (Some xs) None c bs cs p q = absurd p
+appends_more (Some xs) (Some ys) None bs cs p q = absurd q
+appends_more (Some xs) (Some ys) (Some zs) bs cs p q = q ∙ ap (λ (l : List ℕ). l ++ cs) p ∙ append_assoc xs bs cs
 
-closed_within : (m : ℕ) (n : ℤ) (bs : List ℕ) → length bs ≤ m → Within m (closed n bs)
-unfolding Within
-closed_within m n [] le = tt
-closed_within m n (b ∷ bs) le = le
+pub starts : (old : Option (List ℕ)) (all : Said) → SoFar old old all all
+starts old all = record { text = []; out = appends_nothing old; is = refl }
 
-ended_within : (m : ℕ) (n : ℤ) (bs : List ℕ) → length bs ≤ m → Within m (ended n bs)
-unfolding Within
-ended_within m n [] le = tt
-ended_within m n (b ∷ bs) le =
-    either (Within m) (b == 44) (goes n bs) _ (omega arith)
-    (either (Within m) (b == 59) (closed n (behind is_space bs)) (stops (b ∷ bs)) (closed_within m n (behind is_space bs) (omega (arith, behind-le is_space bs))) le)
+behind_behind : (a b : List ℕ) (said : Said) → behind a [] (behind b [] said) ≡ behind (a ++ b) [] said
+behind_behind a b said = ap (λ (t : List ℕ). record { text = t; notes = said.notes; ending = said.ending }) (sym (append_assoc a b said.text))
 
-numbered_within : (m : ℕ) (text ds rest : List ℕ) → length text ≤ m → length rest ≤ m → Within m (numbered text ds rest)
-unfolding Within
-numbered_within m text [] rest le le2 = le
-numbered_within m text (d ∷ ds) rest le le2 =
-    either (Within m) (nat_lt 2147483647 (digits_value 10 (d ∷ ds))) (stops text) _ le (ended_within m _ (behind is_space rest) (omega (arith, behind-le is_space rest)))
+listed_one : (spec : SpecTree) (left : ℕ) (p : List EntryTree) (ps : List (List EntryTree)) → 0 < left → listed spec left (p ∷ ps) ≡ behind (line_text spec p) [] (listed spec (left - 1) ps)
+unfolding listed
+listed_one spec zero p ps lt = absurd (omega arith)
+listed_one spec (suc left) p ps lt = ap (λ (n : ℕ). behind (line_text spec p) [] (listed spec n ps)) (let e : left ≡ suc left - 1 = omega arith in e)
 
-step_within : (text : List ℕ) → Within (length text) (step_of text)
-step_within text =
-    let here = behind is_space text in
-    numbered_within (length text) here (front_of is_ascii_digit here) (behind is_ascii_digit here) (behind-le is_space text) (omega (arith, behind-le is_space text, behind-le is_ascii_digit here))
-
-pub within_at : (text : List ℕ) (s : Step) → s ≡ step_of text → Within (length text) s
-within_at text s e = rw e (step_within text)
-
--- ---- the loop
-
-pub in_front_all : List ℤ → Result (List ℤ) (List ℕ) → Result (List ℤ) (List ℕ)
-in_front_all ns (Ok ms) = Ok (ns ++ ms)
-in_front_all ns (Err rest) = Err rest
-
--- whatever is listed in what is left completes the numbers so far
-pub record SoFar (text : List ℕ) (ns : List ℤ) (rest : List ℕ) : Type 0 where
-  pub within : length rest ≤ length text
-  pub told : (answer : Result (List ℤ) (List ℕ)) → Lists rest answer → Lists text (in_front_all ns answer)
-
-in_front_none : (answer : Result (List ℤ) (List ℕ)) → in_front_all [] answer ≡ answer
-unfolding in_front_all
-in_front_none (Ok ns) = refl
-in_front_none (Err rest) = refl
-
-in_front_one : (ns : List ℤ) (n : ℤ) (answer : Result (List ℤ) (List ℕ)) → in_front_all ns (in_front n answer) ≡ in_front_all (ns ++ n ∷ []) answer
-unfolding in_front_all
-in_front_one ns n (Ok ms) = ap Ok (sym (append_assoc ns (n ∷ []) ms))
-in_front_one ns n (Err rest) = refl
-
-pub starts : (text : List ℕ) → SoFar text [] text
-starts text = record { within = omega arith; told = λ answer h. subst (Lists text) (sym (in_front_none answer)) h }
-
-pub on_goes : (text : List ℕ) (ns : List ℤ) (rest more : List ℕ) (n : ℤ) → goes n more ≡ step_of rest → SoFar text ns rest → SoFar text (ns ++ n ∷ []) more
-unfolding Within
-on_goes text ns rest more n e so = record {
-  within = let lt : length more < length rest = within_at rest (goes n more) e in omega (arith, so.within);
-  told = λ answer h. subst (Lists text) (in_front_one ns n answer) (so.told (in_front n answer) (next n more (sym e) h refl));
+-- one more line
+pub goes_on : (spec : SpecTree) (left : ℕ) (old mid new : Option (List ℕ)) (all : Said) (more : List (List EntryTree)) (p : List EntryTree) (ps : List (List EntryTree)) (line : List ℕ)
+    → SoFar old mid all (listed spec left more) → more ≡ p ∷ ps → 0 < left → line ≡ line_text spec p → Appends mid new line → SoFar old new all (listed spec (left - 1) ps)
+goes_on spec left old mid new all more p ps line so is lt same put = record {
+  text = so.text ++ line;
+  out = appends_more old mid new so.text line so.out put;
+  is = so.is ∙ ap (λ (ms : List (List EntryTree)). behind so.text [] (listed spec left ms)) is ∙ ap (behind so.text []) (listed_one spec left p ps lt)
+      ∙ ap (λ (t : List ℕ). behind so.text [] (behind t [] (listed spec (left - 1) ps))) (sym same) ∙ behind_behind so.text line (listed spec (left - 1) ps);
 }
 
-pub goes_shorter : (rest more : List ℕ) (n : ℤ) → goes n more ≡ step_of rest → length more < length rest
-unfolding Within
-goes_shorter rest more n e = within_at rest (goes n more) e
+ends : (old new : Option (List ℕ)) (result : Result (Unit {0}) RunFault) (all : Said) (how : Ending) → Answers how result → SoFar old new all (ended how) → IsListed old new result all
+ends old new result all how answers so =
+    subst (IsListed old new result) (sym so.is) (record { answer = answers; text = subst (Appends old new) (sym (append-nil so.text)) so.out })
 
-pub stops_within : (text : List ℕ) (ns : List ℤ) (rest behind : List ℕ) → stops behind ≡ step_of rest → SoFar text ns rest → length behind ≤ length text
-unfolding Within
-stops_within text ns rest behind e so = let le : length behind ≤ length rest = within_at rest (stops behind) e in omega (arith, so.within)
+-- all lines are out
+pub all_listed : (spec : SpecTree) (left : ℕ) (old new : Option (List ℕ)) (said : Said) (more : List (List EntryTree)) → SoFar old new said (listed spec left more) → more ≡ [] → IsListed old new (Ok tt) said
+unfolding listed
+all_listed spec left old new said more so is = ends old new (Ok tt) said whole refl (subst (λ (ms : List (List EntryTree)). SoFar old new said (listed spec left ms)) is so)
 
-pub on_stops : (text : List ℕ) (ns : List ℤ) (rest behind : List ℕ) → stops behind ≡ step_of rest → SoFar text ns rest → Lists text (Err behind)
-unfolding in_front_all
-on_stops text ns rest behind e so = so.told (Err behind) (misfit (sym e) refl)
+-- there is one more than may be listed
+pub one_too_many : (spec : SpecTree) (left : ℕ) (old new : Option (List ℕ)) (said : Said) (more : List (List EntryTree)) (p : List EntryTree) (ps : List (List EntryTree)) → SoFar old new said (listed spec left more) → more ≡ p ∷ ps → left ≡ 0 → IsListed old new (Err TooManyPermutations) said
+unfolding listed
+one_too_many spec left old new said more p ps so is none =
+    let here : SoFar old new said (listed spec left (p ∷ ps)) = subst (λ (ms : List (List EntryTree)). SoFar old new said (listed spec left ms)) is so in
+    ends old new (Err TooManyPermutations) said too_many refl (subst (λ (n : ℕ). SoFar old new said (listed spec n (p ∷ ps))) none here)
 
-pub on_ends : (text : List ℕ) (ns : List ℤ) (rest : List ℕ) (n : ℤ) → ends n ≡ step_of rest → SoFar text ns rest → Lists text (Ok (ns ++ n ∷ []))
-unfolding in_front_all
-on_ends text ns rest n e so = so.told (Ok (n ∷ [])) (last (sym e) refl)
+-- ---- refusals
 
--- ---- a block
+pub differs : (e : RunFault) → is_refusal e ≡ true → e ≢ Memory
+differs e is same = no (subst (λ (f : RunFault). is_refusal f ≡ true) same is)
+  where
+    no : is_refusal Memory ≡ true → ⊥
+    no h = cc
 
-pub on_select : (text here word rest : List ℕ) (total : ℕ) (r : Result (Vec ℤ) LiteralFault) → here ≡ behind is_space text → word ≡ front_of is_word_byte here → rest ≡ behind is_word_byte here → total ≡ length text → IsSelect word → ListAnswers total rest r → Answers text r
-on_select text here word rest total (Ok ns) e w b t is h = select (sym e) (rw w at is) (rw b at h)
-on_select text here word rest total (Err faults.Memory) e w b t is h = tt
-on_select text here word rest total (Err (faults.Misfit at)) e w b t is h = (h.0, select (sym e) (rw w at is) (rw b at h.1), h.2 ∙ ap (λ n. n - length h.0) t)
+pub refused_list : (bytes : List ℕ) (limit : ℕ) (e : RunFault) → (e ≢ Memory → FileIs bytes (Err e)) → is_refusal e ≡ true → FileLists bytes limit (Err e)
+refused_list bytes limit e is refusal = refused e (is (differs e refusal))
 
-pub on_other : (text here word : List ℕ) → here ≡ behind is_space text → word ≡ front_of is_word_byte here → 0 < length here → (IsSelect word → ⊥) → Reads text (Err here)
-on_other text here word e w lt differs = other (sym e) lt (rw w at differs) refl
+pub file_listed : (bytes : List ℕ) (limit : ℕ) (file : File) → FileIs bytes (Ok file) → FileLists bytes limit (Ok (listed file.spec limit (permutations_of file.spec)))
+file_listed bytes limit file is = lists file is

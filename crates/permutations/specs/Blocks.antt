@@ -1,36 +1,46 @@
--- The blocks of a file, and the numbers that they select.
-use Rattle.std.specs.Prelude.{◌≡◌, ℕ, ℤ, ◌-◌, List, [], ◌∷◌, ◌++◌, length, map, flat_map, Option, Some, None, Result, Ok, Err}
-use Rattle.spec_parser.specs.Trees.{PartTree, StepTree, SessionTree, SpecTree}
-use Rattle.permutations.specs.Literals.{Reads}
+-- The blocks of a file, and the statements that they are.
+use Rattle.std.specs.Prelude.{◌≡◌, List, [], ◌∷◌, ◌++◌, map, flat_map, option_to_list, Result, Ok, Err}
+use Rattle.sql_trees.specs.declared.fault.SqlFault.{SqlFault}
+use Rattle.sql_trees.specs.declared.fault.SqlFault.TheVariants.{Memory, Lex, Syntax, LeftOut, TooDeep, TooMany, DdlInSession, BadColumns}
+use Rattle.sql_trees.specs.Statements.{StmtTree}
+use Rattle.sql_parser.specs.declared.block.Role.{Role}
+use Rattle.sql_parser.specs.declared.block.Role.TheVariants.{Main, Session}
+use Rattle.sql_parser.specs.Texts.{Parses}
+use Rattle.session_machine.specs.Machine.{Blocks}
+use Rattle.spec_parser.specs.Trees.{PartTree, SpecTree}
+use Rattle.spec_parser.specs.Stands.{session_parts}
+use Rattle.permutations.specs.declared.fault.BlockFault.{BlockFault}
 
 -- ---- the blocks in the order of the file
 
-abbrev pub maybe_part : Option PartTree → List PartTree
-maybe_part None = []
-maybe_part (Some p) = p ∷ []
+-- a block of the file, and where it stands
+pub record Placed : Type 0 where
+  pub role : Role
+  pub part : PartTree
 
-abbrev pub step_part : StepTree → PartTree
-step_part s = s.part
+abbrev pub main_block : PartTree → Placed
+main_block part = record { role = Main; part = part }
 
-abbrev pub session_parts : SessionTree → List PartTree
-session_parts s = maybe_part s.setup ++ map step_part s.steps ++ maybe_part s.teardown
+abbrev pub session_block : PartTree → Placed
+session_block part = record { role = Session; part = part }
 
-abbrev pub parts_of : SpecTree → List PartTree
-parts_of spec = spec.setups ++ maybe_part spec.teardown ++ flat_map session_parts spec.sessions
+-- the setups and the teardown of the file, and then the blocks of its sessions
+abbrev pub blocks_in : SpecTree → List Placed
+blocks_in spec = map main_block (spec.setups ++ option_to_list spec.teardown) ++ map session_block (flat_map session_parts spec.sessions)
 
--- ---- what they say
+-- ---- what they read as
 
--- something that doesn't fit: the byte at which its block begins, and the byte of the block
-pub record Misfit : Type 0 where
-  pub block : ℕ
-  pub at : ℕ
+abbrev pub behind_block : List StmtTree → Result Blocks BlockFault → Result Blocks BlockFault
+behind_block stmts (Ok blocks) = Ok (stmts ∷ blocks)
+behind_block stmts (Err f) = Err f
 
-abbrev pub behind_block : List ℤ → Result (List (List ℤ)) Misfit → Result (List (List ℤ)) Misfit
-behind_block ns (Ok bs) = Ok (ns ∷ bs)
-behind_block ns (Err e) = Err e
+-- this is the fault of the block's text
+abbrev pub HasFault : Placed → SqlFault → Type 0
+HasFault p Memory = ⊥
+HasFault p f = Parses p.part.sql p.role (Err f)
 
--- The blocks say these numbers, or the first one of them that is no block of literals doesn't.
-pub data BlocksSay : List PartTree → Result (List (List ℤ)) Misfit → Type 0 where
-  none : {answer : Result (List (List ℤ)) Misfit} → answer ≡ Ok [] → BlocksSay [] answer
-  misfit : {p : PartTree} {ps : List PartTree} {answer : Result (List (List ℤ)) Misfit} (rest : List ℕ) → Reads p.sql (Err rest) → answer ≡ Err (record { block = p.at; at = length p.sql - length rest }) → BlocksSay (p ∷ ps) answer
-  block : {p : PartTree} {ps : List PartTree} {answer : Result (List (List ℤ)) Misfit} (ns : List ℤ) (others : Result (List (List ℤ)) Misfit) → Reads p.sql (Ok ns) → BlocksSay ps others → answer ≡ behind_block ns others → BlocksSay (p ∷ ps) answer
+-- the blocks read as these statements, or the first of them that is no SQL has this fault
+pub data BlocksRead : List Placed → Result Blocks BlockFault → Type 0 where
+  none : {answer : Result Blocks BlockFault} → answer ≡ Ok [] → BlocksRead [] answer
+  fault : {p : Placed} {ps : List Placed} {answer : Result Blocks BlockFault} (f : SqlFault) → HasFault p f → answer ≡ Err (record { block = p.part.at; fault = f }) → BlocksRead (p ∷ ps) answer
+  block : {p : Placed} {ps : List Placed} {answer : Result Blocks BlockFault} (stmts : List StmtTree) (others : Result Blocks BlockFault) → Parses p.part.sql p.role (Ok stmts) → BlocksRead ps others → answer ≡ behind_block stmts others → BlocksRead (p ∷ ps) answer

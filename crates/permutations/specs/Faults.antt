@@ -3,6 +3,8 @@ use Rattle.iso_lexer.specs.declared.whole.ReadFault.{ReadFault}
 use Rattle.iso_lexer.specs.declared.whole.ReadFault.TheVariants as read_faults
 use Rattle.spec_parser.specs.declared.fault.SpecFault.{SpecFault}
 use Rattle.spec_parser.specs.declared.fault.SpecFault.TheVariants as spec_faults
+use Rattle.report_text.specs.declared.fault.ReportFault.{ReportFault}
+use Rattle.report_text.specs.declared.fault.ReportFault.TheVariants as report_faults
 use Rattle.permutations.specs.declared.fault.RunFault.{RunFault}
 use Rattle.permutations.specs.declared.fault.RunFault.TheVariants as faults
 
@@ -20,3 +22,9 @@ spec_fault (spec_faults.UndefinedStep at) = faults.Spec (spec_faults.UndefinedSt
 spec_fault (spec_faults.UndefinedMarker at) = faults.Spec (spec_faults.UndefinedMarker at)
 spec_fault (spec_faults.NoticesLeftOut at) = faults.Spec (spec_faults.NoticesLeftOut at)
 spec_fault (spec_faults.Limit at) = faults.Spec (spec_faults.Limit at)
+
+abbrev pub report_fault : ReportFault → RunFault
+report_fault report_faults.Write = faults.Write
+report_fault report_faults.Memory = faults.Memory
+report_fault (report_faults.SetupFailed text) = faults.SetupFailed text
+report_fault report_faults.SetupWaits = faults.SetupWaits

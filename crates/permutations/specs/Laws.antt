@@ -1,8 +1,19 @@
 -- What is so of every file.
 use Rattle.std.specs.Prelude.{◌≡◌, ℕ, List, Result}
 use Rattle.permutations.specs.declared.fault.RunFault.{RunFault}
-use Rattle.permutations.specs.FileSays.{FileSays}
+use Rattle.permutations.specs.Said.{Said}
+use Rattle.permutations.specs.Files.{File, FileIs}
+use Rattle.permutations.specs.Lists.{FileLists}
+use Rattle.permutations.specs.Prints.{FileSays}
 
--- What a file comes to is a function of its bytes: one text, or one refusal.
+-- The bytes of a file are one spec, or have one refusal.
+abbrev pub FilesAreOneThing : Type 0
+FilesAreOneThing = (bytes : List ℕ) (x y : Result File RunFault) → FileIs bytes x → FileIs bytes y → x ≡ y
+
+-- So is what a file lists.
+abbrev pub FilesListOneThing : Type 0
+FilesListOneThing = (bytes : List ℕ) (limit : ℕ) (x y : Result Said RunFault) → FileLists bytes limit x → FileLists bytes limit y → x ≡ y
+
+-- So is what a file says.
 abbrev pub FilesSayOneThing : Type 0
-FilesSayOneThing = (bytes : List ℕ) (x y : Result (List ℕ) RunFault) → FileSays bytes x → FileSays bytes y → x ≡ y
+FilesSayOneThing = (bytes : List ℕ) (limit : ℕ) (x y : Result Said RunFault) → FileSays bytes limit x → FileSays bytes limit y → x ≡ y

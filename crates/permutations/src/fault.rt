@@ -3,10 +3,11 @@
 ghost use Rattle.std.specs.Prelude.{◌≡◌};
 ghost use Rattle.sql_trees.specs.Faults.{place};
 ghost use Rattle.permutations.specs.declared.fault.RunFault.TheVariants.{Write, Memory};
-ghost use Rattle.permutations.specs.Faults.{read_fault, spec_fault};
+ghost use Rattle.permutations.specs.Faults.{read_fault, spec_fault, report_fault};
 ghost use Rattle.permutations.specs.Runs.{status_of};
 
 use iso_lexer::{DeviceFault, Fault, ReadFault};
+use report_text::ReportFault;
 use spec_parser::SpecFault;
 use sql_trees::SqlFault;
 use std::alloc::{AllocError, AllocFailed};
@@ -66,6 +67,18 @@ pub enum RunFault {
     /// A block is no SQL of the subset.
     #[error("{0}")]
     Sql(BlockFault),
+    /// A setup failed, with this text.
+    #[error("R6 SetupFailed: {text}")]
+    SetupFailed { text: String },
+    /// A setup waits.
+    #[error("R7 SetupWaits")]
+    SetupWaits,
+    /// A run's launches are not those of its permutation.
+    #[error("R8 ScheduleBroken")]
+    ScheduleBroken,
+    /// As many permutations as may run have run, and there is one more.
+    #[error("R9 TooManyPermutations")]
+    TooManyPermutations,
     /// The file is no UTF-8 from this byte on.
     #[error("R11 NotUtf8 at byte {0}")]
     NotUtf8(usize),
@@ -123,16 +136,33 @@ impl From<SpecFault> for RunFault {
     }
 }
 
+impl From<ReportFault> for RunFault {
+    ghost from_gives = { λ f e. e ≡ report_fault f };
+
+    fn from(e: ReportFault) -> RunFault {
+        match e {
+            ReportFault::Write => RunFault::Write,
+            ReportFault::Memory => RunFault::Memory,
+            ReportFault::SetupFailed { text } => RunFault::SetupFailed { text },
+            ReportFault::SetupWaits => RunFault::SetupWaits,
+        }
+    }
+}
+
 impl RunFault {
-    /// The exit status of a program that meets the fault: 1 where the file is refused, 3 where the machine fails.
+    /// The exit status of a program that meets the fault: 1 where the file is refused or its run ends early, 3 where a
+    /// device, memory or a schedule fails.
     pub fn status(&self) -> u8
         ensures { result ≡ status_of self.now }
     {
         match self {
-            RunFault::Read | RunFault::Write | RunFault::Memory => 3,
+            RunFault::Read | RunFault::Write | RunFault::ScheduleBroken | RunFault::Memory => 3,
             RunFault::Lex(_)
             | RunFault::Spec(_)
             | RunFault::Sql(_)
+            | RunFault::SetupFailed { .. }
+            | RunFault::SetupWaits
+            | RunFault::TooManyPermutations
             | RunFault::NotUtf8(_)
             | RunFault::NotYet => 1,
         }

@@ -1,17 +1,24 @@
-//! Replays the permutations of a spec file, and prints their text.
+//! Runs the permutations of a spec file, and prints their text; or lists them.
 #![tactic(auto)]
 
 mod blocks;
 mod fault;
-mod file_text;
-mod laws;
-mod literals;
-mod page;
+mod file;
+mod first_line;
+pub mod laws;
+mod list;
+mod one_run;
+mod plan;
+mod report;
 mod run;
-mod shown;
 
 pub use fault::{BlockFault, RunFault};
-pub use laws::one_text;
+pub use interleavings::Interleavings;
+pub use list::list_spec;
+pub use permutation_plans::launches_fit;
+pub use plan::Plan;
+pub use report::write_permutation;
+pub use report_text::Ended;
 pub use run::run_spec;
 
 #[cfg(test)]

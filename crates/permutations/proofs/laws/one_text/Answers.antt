@@ -1,5 +1,5 @@
-use Rattle.permutations.proofs.OneText.{one_file}
+use Rattle.permutations.proofs.OneText.{one_text}
 use Rattle.permutations.proofs.laws.one_text.Goals as goal
 
 pub returns : goal.returns
-returns c = one_file c.one_answer.ensures
+returns c = one_text c.each_has_one_history.ensures c.one_file.ensures

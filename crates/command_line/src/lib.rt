@@ -1,0 +1,11 @@
+//! The program but for its devices: what the words of the command line ask for, what then runs, and the exit status.
+#![tactic(auto)]
+
+mod options;
+mod serve;
+
+pub use options::{DEFAULT_LIMIT, Options, options_of, status_of};
+pub use serve::serve;
+
+#[cfg(test)]
+mod tests;

@@ -1,0 +1,50 @@
+//! The options of the program.
+
+use clap::error::ErrorKind;
+use clap::{Arg, ArgAction, Command, Error, value_parser};
+use std::alloc::Global;
+
+/// So many permutations run at most, unless the command line says otherwise.
+pub const DEFAULT_LIMIT: u64 = 1_000_000;
+
+/// What the command line asks for.
+#[derive(Clone, Copy, Debug, PartialEq, Eq)]
+pub struct Options {
+    /// The permutations are listed, and none runs.
+    pub list: bool,
+    /// So many permutations run, or are listed, at most.
+    pub limit: u64,
+}
+
+/// The options among the words of a command line, of which the first is the program's name.
+pub fn options_of(alloc: Global, words: &[String]) -> Result<Options, Error> {
+    let list = Arg::new(alloc, "list")
+        .long("list")
+        .action(ArgAction::SetTrue)
+        .help("List the permutations, and run none");
+    let limit = Arg::new(alloc, "limit")
+        .long("limit")
+        .value_name("N")
+        .value_parser(value_parser!(u32))
+        .help("Stop after N permutations, 1000000 if N is not given");
+    let command = Command::new(alloc, "isolationtester")
+        .about("Runs the permutations of the spec file that comes on standard input")
+        .arg(list)?
+        .arg(limit)?;
+    let matches = command.try_get_matches_from(words)?;
+    Ok(Options {
+        list: matches.get_flag("list"),
+        limit: matches
+            .get_one::<u32>("limit")
+            .map_or(DEFAULT_LIMIT, u64::from),
+    })
+}
+
+/// The exit status where the words give no options: 0 after help was asked for, 3 where memory was refused, else 2.
+pub fn status_of(error: &Error) -> u8 {
+    match error.kind() {
+        ErrorKind::DisplayHelp | ErrorKind::DisplayVersion => 0,
+        ErrorKind::OutOfMemory => 3,
+        _ => 2,
+    }
+}

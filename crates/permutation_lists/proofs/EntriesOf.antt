@@ -1,0 +1,109 @@
+-- Entries of turns, and how long the lists of turns are.
+use Rattle.std.proofs.Common.{◌≡◌, ℕ, zero, suc, ◌+◌, ◌<◌, ◌≤◌, ◌^◌, List, [], ◌∷◌, ◌++◌, map, flat_map, sum, length, Bool, true, false, take, get_or, refl, sym, ap, subst, ◌∙◌, arith, append_assoc}
+use Rattle.std.specs.Prelude.{◌==◌}
+use Rattle.std.proofs.lemmas.Bool.{eqb-true}
+use Rattle.std.proofs.lemmas.List.{take_more, map-append, get_or-map, length-map}
+use Rattle.std.proofs.lemmas.List.Folds.{length-flat_map-take}
+use Rattle.std.proofs.lemmas.List.Sums.{sum-map}
+use Rattle.std.specs.List.{AllByRecursion}
+use Rattle.std.proofs.lemmas.List.{append-nil}
+use Rattle.std.proofs.lemmas.List.Concat.{length-flat_map}
+use Rattle.interleavings.specs.Interleavings.{each_first, of_length, without, interleavings}
+use Rattle.std.specs.Global.{Vec}
+use Rattle.spec_parser.specs.declared.tree.Entry.{Entry}
+use Rattle.spec_parser.specs.declared.tree.Spec.{Spec}
+use Rattle.spec_parser.specs.declared.tree.SessionPart.{SessionPart}
+use Rattle.spec_parser.specs.Trees.{EntryTree, StepTree, SessionTree, entry_view, perm_view, step_view, session_view, spec_view}
+use Rattle.permutation_lists.specs.Permutations.{entry_after, entries_after, entries_of, step_count, lines_or_all, permutations_of}
+use Rattle.permutation_lists.specs.Coming.{AreShort}
+
+-- one more turn is one more entry
+entries_push : (before turns : List ℕ) (session : ℕ) → entries_after before (turns ++ session ∷ []) ≡ entries_after before turns ++ entry_after (before ++ turns) session ∷ []
+entries_push before [] session = ap (λ (b : List ℕ). entry_after b session ∷ []) (sym (append-nil before))
+entries_push before (turn ∷ turns) session =
+    ap (λ (es : List EntryTree). entry_after before turn ∷ es)
+    (entries_push (before ++ turn ∷ []) turns session ∙ ap (λ (b : List ℕ). entries_after (before ++ turn ∷ []) turns ++ entry_after b session ∷ []) (append_assoc before (turn ∷ []) turns))
+
+pub one_more : (turns : List ℕ) (session : ℕ) → entries_of (turns ++ session ∷ []) ≡ entries_of turns ++ entry_after turns session ∷ []
+one_more turns session = entries_push [] turns session
+
+-- ---- lengths
+
+abbrev HasLength : ℕ → List ℕ → Type 0
+HasLength n list = length list ≡ n
+
+all_append : (P : List ℕ → Type 0) (xs ys : List (List ℕ)) → AllByRecursion P xs → AllByRecursion P ys → AllByRecursion P (xs ++ ys)
+all_append P [] ys a b = b
+all_append P (x ∷ xs) ys a b = (a.0, all_append P xs ys a.1 b)
+
+all_behind : (n x : ℕ) (lists : List (List ℕ)) → AllByRecursion (HasLength n) lists → AllByRecursion (HasLength (suc n)) (map (λ (list : List ℕ). x ∷ list) lists)
+all_behind n x [] a = tt
+all_behind n x (list ∷ lists) a = (ap suc a.0, all_behind n x lists a.1)
+
+all_first : (n : ℕ) (rest : List ℕ → List (List ℕ)) → ((counts : List ℕ) → AllByRecursion (HasLength n) (rest counts)) → (counts : List ℕ) (session : ℕ) (more : List ℕ) → AllByRecursion (HasLength (suc n)) (each_first rest counts session more)
+all_first n rest h counts session [] = tt
+all_first n rest h counts session (zero ∷ more) = all_first n rest h counts (session + 1) more
+all_first n rest h counts session (suc c ∷ more) =
+    all_append (HasLength (suc n)) _ _ (all_behind n session (rest (without counts session)) (h (without counts session))) (all_first n rest h counts (session + 1) more)
+
+have_length : (n : ℕ) (counts : List ℕ) → AllByRecursion (HasLength n) (of_length n counts)
+have_length zero counts = (refl, tt)
+have_length (suc n) counts = all_first n (of_length n) (have_length n) counts 0 counts
+
+all_short : (n : ℕ) (lists : List (List ℕ)) → n < 2 ^ 32 → AllByRecursion (HasLength n) lists → AreShort lists
+all_short n [] lt a = tt
+all_short n (list ∷ lists) lt a = (omega (arith, a.0, lt), all_short n lists lt a.1)
+
+-- an interleaving is as long as there are steps
+pub short_interleavings : (counts : List ℕ) → sum counts < 2 ^ 32 → AreShort (interleavings counts)
+short_interleavings counts lt = all_short (sum counts) (interleavings counts) lt (have_length (sum counts) (0 ∷ counts))
+
+-- ---- the code's lists
+
+pub entries_more : (turns : List ℕ) (i : ℕ) (es new : List Entry) (e : Entry) (before : List ℕ) (session : ℕ) → i < length turns → entry_view e ≡ entry_after before session → before ≡ take i turns → session ≡ get_or turns i 0
+    → map entry_view es ≡ entries_of (take i turns) → new ≡ es ++ e ∷ [] → map entry_view new ≡ entries_of (take (i + 1) turns)
+entries_more turns i es new e before session lt this b s so is =
+    ap (map entry_view) is ∙ map-append entry_view es (e ∷ []) ∙ ap (λ (xs : List EntryTree). xs ++ entry_view e ∷ []) so
+    ∙ ap (λ (x : EntryTree). entries_of (take i turns) ++ x ∷ []) (this ∙ ap (λ (q : List ℕ). entry_after q session) b ∙ ap (entry_after (take i turns)) s)
+    ∙ sym (one_more (take i turns) (get_or turns i 0)) ∙ ap entries_of (sym (take_more turns i 0 lt))
+
+-- no session has more steps than there are
+pub few_steps : (ss : List SessionPart) (i : ℕ) (s : SessionPart) → i < length ss → s ≡ get_or ss i s → length s.steps.items ≤ length (flat_map (λ (x : SessionTree). x.steps) (map session_view ss))
+few_steps ss i s lt is =
+    let here : get_or (map session_view ss) i (session_view s) ≡ session_view s = get_or-map session_view ss i s (session_view s) lt ∙ ap session_view (sym is) in
+    let within : i < length (map session_view ss) = omega (arith, length-map ss session_view) in
+    let some = length-flat_map-take (λ (x : SessionTree). x.steps) (map session_view ss) i (session_view s) within in
+    let same : length (get_or (map session_view ss) i (session_view s)).steps ≡ length s.steps.items = ap (λ (x : SessionTree). length x.steps) here ∙ length-map s.steps.items step_view in
+    omega (arith, some, same)
+
+-- as many turns as steps
+pub all_steps : (ss : List SessionTree) → sum (map step_count ss) ≡ length (flat_map (λ (x : SessionTree). x.steps) ss)
+all_steps ss = sum-map step_count ss ∙ sym (length-flat_map (λ (x : SessionTree). x.steps) ss)
+
+pub few_turns : (ss : List SessionTree) → length (flat_map (λ (x : SessionTree). x.steps) ss) ≤ 1000 → AreShort (interleavings (map step_count ss))
+few_turns ss few = short_interleavings (map step_count ss) (omega (arith, all_steps ss, few))
+
+-- ---- lines, or all
+
+by_lines : (lines : List (Vec Entry)) (counts : List ℕ) → false ≡ (length lines == 0) → lines_or_all (map perm_view lines) counts ≡ map perm_view lines
+by_lines [] counts some = absurd cc
+by_lines (line ∷ lines) counts some = refl
+
+suc_zero : (n : ℕ) → suc n ≡ 0 → ⊥
+suc_zero n e = omega (arith, e)
+
+by_all : (lines : List (Vec Entry)) (counts : List ℕ) → true ≡ (length lines == 0) → lines_or_all (map perm_view lines) counts ≡ map entries_of (interleavings counts)
+by_all [] counts none = refl
+by_all (line ∷ lines) counts none = absurd (suc_zero (length lines) (eqb-true (suc (length lines)) 0 (sym none)))
+
+pub lines_there : (spec : Spec) (lines : List (Vec Entry)) → lines ≡ spec.perms.items → false ≡ (length lines == 0) → map perm_view lines ≡ permutations_of (spec_view spec)
+unfolding permutations_of
+lines_there spec lines same some =
+    let counts = map step_count (spec_view spec).sessions in
+    sym (by_lines lines counts some) ∙ ap (λ (ls : List (Vec Entry)). lines_or_all (map perm_view ls) counts) same
+
+pub no_lines : (spec : Spec) (lines : List (Vec Entry)) → lines ≡ spec.perms.items → true ≡ (length lines == 0) → map entries_of (interleavings (map step_count (spec_view spec).sessions)) ≡ permutations_of (spec_view spec)
+unfolding permutations_of
+no_lines spec lines same none =
+    let counts = map step_count (spec_view spec).sessions in
+    sym (by_all lines counts none) ∙ ap (λ (ls : List (Vec Entry)). lines_or_all (map perm_view ls) counts) same

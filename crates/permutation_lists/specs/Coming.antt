@@ -1,0 +1,23 @@
+-- The permutation that comes now, and those behind it.
+use Rattle.std.specs.Prelude.{ℕ, ◌^◌, ◌<◌, List, [], length, map}
+use Rattle.std.specs.List.{AllByRecursion}
+use Rattle.spec_parser.specs.Trees.{EntryTree, entry_view, perm_view}
+use Rattle.permutation_lists.specs.declared.permutations.Way.{Way}
+use Rattle.permutation_lists.specs.declared.permutations.Way.TheVariants.{Lines, All}
+use Rattle.permutation_lists.specs.Permutations.{entries_of}
+
+pub record Coming : Type 0 where
+  pub here : List EntryTree
+  pub more : List (List EntryTree)
+
+abbrev pub coming : Way → Coming
+coming (Lines here more) = record { here = map entry_view here.now; more = map perm_view more.now }
+coming (All here turns more) = record { here = map entry_view here.items; more = map entries_of more }
+
+-- each list of turns is short enough that its steps have numbers
+abbrev pub AreShort : List (List ℕ) → Type 0
+AreShort lists = AllByRecursion (λ (turns : List ℕ). length turns < 2 ^ 32) lists
+
+abbrev pub WayStands : Way → Type 0
+WayStands (Lines here more) = Unit {0}
+WayStands (All here turns more) = AreShort more

@@ -1,0 +1,3 @@
+pub mod Permutations
+pub mod Coming
+pub mod Lines

@@ -1,0 +1,5 @@
+use Rattle.session_core.specs.Engines.{IsOf}
+use Rattle.permutations.proofs.one_run.run_to_end.Given as goal
+
+abbrev pub invariant-loop : goal.invariant-loop
+invariant-loop l = IsOf l.engine l.fn.engine.blocks l.fn.engine.count l.fn.engine.mode
