@@ -1,6 +1,6 @@
 //! Entries of permutations: each is launched, and run until the engine is quiet. What came is printed as the report has it.
 //! Each test also passes where any one allocation fails: it is run again then.
-ghost use Rattle.std.specs.Prelude.{None};
+ghost use Rattle.std.specs.Prelude.{None, false};
 
 use crate::engine::EngineState;
 use crate::trial::{Wrong, blocks};
