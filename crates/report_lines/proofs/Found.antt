@@ -1,55 +1,16 @@
 -- How segments and ends of blocks are found.
-use Rattle.std.proofs.Common.{◌≡◌, ℕ, zero, suc, ◌+◌, ◌-◌, ◌<◌, ◌≤◌, ◌⊎◌, inl, inr, List, [], ◌∷◌, ◌++◌, length, length-append, take, drop, length-drop, map, get_or, refl, ap, sym, ◌∙◌, arith, true, false, Bool, cond, ◌||◌, slice_range, nat_lt, add-one}
+use Rattle.std.proofs.Common.{◌≡◌, ℕ, zero, suc, ◌+◌, ◌-◌, ◌<◌, ◌≤◌, ◌⊎◌, inl, inr, List, [], ◌∷◌, ◌++◌, length, length-append, take, drop, length-drop, map, get_or, refl, ap, sym, ◌∙◌, arith, true, false, Bool, cond, if◌then◌else◌, ◌||◌, ◌&&◌, ◌==◌, Some, slice_get, slice_range, nat_lt, add-one}
 use Rattle.std.specs.List.{list_any, filter}
+use Rattle.std.proofs.lemmas.Option.{slice_get-get_or}
 use Rattle.std.proofs.lemmas.Bool.{cases_lt}
 use Rattle.session_machine.specs.declared.reply.HistItem.{HistItem}
-use Rattle.report_lines.specs.Starts.{start, is_order, ends_in}
+use Rattle.report_lines.specs.declared.segments.Start.{Start}
+use Rattle.report_lines.specs.declared.segments.Finish.{Finish}
+use Rattle.report_lines.specs.Starts.{start, is_order, session_of, ends_in}
 use Rattle.report_lines.specs.Due.{orders}
 use Rattle.report_lines.specs.History.{Setting, session_at, seen_before, has_ended}
 use Rattle.report_lines.specs.Report.{instances}
-use Rattle.report_lines.specs.Places.{order_places, first_place, end_place, IsTimed}
-
-place_first : (b : Bool) (p n t d : ℕ) (ps : List ℕ) → d ≡ p + 1 + n → get_or ps 0 (p + 1 + n) ≡ p + 1 + t → get_or (cond b (p ∷ ps) ps) 0 d ≡ p + cond b 0 (t + 1)
-place_first true p n t d ps e h = omega arith
-place_first false p n t d ps e h = let next : p + 1 + t ≡ p + (t + 1) = omega arith in ap (get_or ps 0) e ∙ h ∙ next
-
-place_later : (b : Bool) (p n s t d k : ℕ) (ps : List ℕ) → d ≡ p + 1 + n → get_or ps k (p + 1 + n) ≡ p + 1 + s → get_or ps (suc k) (p + 1 + n) ≡ p + 1 + t → get_or (cond b (p ∷ ps) ps) (suc k) d ≡ p + cond b (s + 1) (t + 1)
-place_later true p n s t d k ps e one other = let next : p + 1 + s ≡ p + (s + 1) = omega arith in ap (get_or ps k) e ∙ one ∙ next
-place_later false p n s t d k ps e one other = let next : p + 1 + t ≡ p + (t + 1) = omega arith in ap (get_or ps (suc k)) e ∙ other ∙ next
-
-place_from : (items : List HistItem) (p k : ℕ) → get_or (order_places p items) k (p + length items) ≡ p + start items k
-place_from [] p k = refl
-place_from (item ∷ items) p zero =
-    place_first (is_order item.event) p (length items) (start items zero) (p + length (item ∷ items)) (order_places (p + 1) items) (omega arith) (place_from items (p + 1) zero)
-place_from (item ∷ items) p (suc k) =
-    place_later (is_order item.event) p (length items) (start items k) (start items (suc k)) (p + length (item ∷ items)) k (order_places (p + 1) items) (omega arith) (place_from items (p + 1) k) (place_from items (p + 1) (suc k))
-
-get_any : (xs : List ℕ) (k d e : ℕ) → k < length xs → get_or xs k d ≡ get_or xs k e
-get_any [] k d e h = absurd (omega arith)
-get_any (x ∷ xs) zero d e h = refl
-get_any (x ∷ xs) (suc k) d e h = get_any xs k d e (omega arith)
-
-get_past : (xs : List ℕ) (k d : ℕ) → length xs ≤ k → get_or xs k d ≡ d
-get_past [] k d h = refl
-get_past (x ∷ xs) zero d h = absurd (omega arith)
-get_past (x ∷ xs) (suc k) d h = get_past xs k d (omega arith)
-
-place_of : (items : List HistItem) (k : ℕ) → get_or (order_places 0 items) k (length items) ≡ start items k
-place_of items k =
-    let same : length items ≡ 0 + length items = omega arith in
-    let from : 0 + start items k ≡ start items k = omega arith in
-    ap (get_or (order_places 0 items) k) same ∙ place_from items 0 k ∙ from
-
--- the place of an order is how many items come before it
-pub start_found : (items : List HistItem) (places : List ℕ) (k place : ℕ) → places ≡ order_places 0 items → true ≡ nat_lt k (length places) → place ≡ get_or places k place → place ≡ start items k
-start_found items places k place is within at =
-    let less : k < length places = grind arith in
-    at ∙ get_any places k place (length items) less ∙ ap (λ (w : List ℕ). get_or w k (length items)) is ∙ place_of items k
-
-pub start_missing : (items : List HistItem) (places : List ℕ) (k : ℕ) → places ≡ order_places 0 items → false ≡ nat_lt k (length places) → length items ≡ start items k
-start_missing items places k is past =
-    let over : length places ≤ k = grind arith in
-    sym (get_past places k (length items) over) ∙ ap (λ (w : List ℕ). get_or w k (length items)) is ∙ place_of items k
+use Rattle.report_lines.specs.Places.{starts_from, finishes_from, first_finish, first_place, end_place, IsFound, IsTimed}
 
 start_case : (b : Bool) (s t n : ℕ) → s ≤ n → t ≤ n → cond b s (t + 1) ≤ suc n
 start_case true s t n h k = omega arith
@@ -63,12 +24,139 @@ start_within (item ∷ items) (suc k) =
     let other = start_within items (suc k) in
     elim (is_order item.event) as (λ b. cond b (start items k + 1) (start items (suc k) + 1) ≤ suc (length items)) [ true ↦ omega arith | false ↦ omega arith ]
 
-pub count_found : (items : List HistItem) (p : ℕ) → length (order_places p items) ≡ orders items
-count_found [] p = refl
-count_found (item ∷ items) p =
-    let rest = count_found items (p + 1) in
-    elim (is_order item.event) as (λ b. length (cond b (p ∷ order_places (p + 1) items) (order_places (p + 1) items)) ≡ length (cond b (item ∷ filter (λ i. is_order i.event) items) (filter (λ i. is_order i.event) items)))
-    [ true ↦ ap suc rest | false ↦ rest ]
+-- a start that comes s items and some ends of blocks after a place, whose ends of blocks from there on are given
+record IsStart (p f s : ℕ) (finishes : List Finish) (items : List HistItem) (start : Start) : Type 0 where
+  ended : ℕ
+  place_is : start.place ≡ p + s
+  finished_is : start.finished ≡ f + ended
+  fewer : ended ≤ length finishes
+  rest : drop ended finishes ≡ finishes_from start.place (drop s items)
+
+start_later : (b : Bool) (fin : Finish) (finishes : List Finish) (item : HistItem) (items : List HistItem) (p f s : ℕ) (st : Start) → IsStart (p + 1) (if b then (f + 1) else f) s finishes items st → IsStart p f (s + 1) (cond b (fin ∷ finishes) finishes) (item ∷ items) st
+start_later true fin finishes item items p f s st h = record {
+  ended = suc h.ended;
+  place_is = omega (arith, h.place_is);
+  finished_is = omega (arith, h.finished_is);
+  fewer = omega (arith, h.fewer);
+  rest = rw add-one h.rest;
+}
+start_later false fin finishes item items p f s st h = record {
+  ended = h.ended;
+  place_is = omega (arith, h.place_is);
+  finished_is = h.finished_is;
+  fewer = h.fewer;
+  rest = rw add-one h.rest;
+}
+
+start_zero : (o b : Bool) (fin : Finish) (finishes : List Finish) (item : HistItem) (items : List HistItem) (p f t : ℕ) (more : List Start) (st : Start) → cond b (fin ∷ finishes) finishes ≡ finishes_from p (item ∷ items) → (slice_get more 0 ≡ Some st → IsStart (p + 1) (if b then (f + 1) else f) t finishes items st) → slice_get (cond o (record { place = p; finished = f } ∷ more) more) 0 ≡ Some st → IsStart p f (cond o 0 (t + 1)) (cond b (fin ∷ finishes) finishes) (item ∷ items) st
+start_zero true b fin finishes item items p f t more st all later h =
+    let first : Start = record { place = p; finished = f } in
+    let same : first ≡ st = cc in
+    let place : p ≡ st.place = ap (λ (x : Start). x.place) same in
+    let finished : f ≡ st.finished = ap (λ (x : Start). x.finished) same in
+    record { ended = 0; place_is = omega arith; finished_is = omega arith; fewer = omega arith; rest = all ∙ ap (λ k. finishes_from k (item ∷ items)) place }
+start_zero false b fin finishes item items p f t more st all later h = start_later b fin finishes item items p f t st (later h)
+
+start_next : (o b : Bool) (fin : Finish) (finishes : List Finish) (item : HistItem) (items : List HistItem) (p f k t u : ℕ) (more : List Start) (st : Start) → (slice_get more k ≡ Some st → IsStart (p + 1) (if b then (f + 1) else f) t finishes items st) → (slice_get more (suc k) ≡ Some st → IsStart (p + 1) (if b then (f + 1) else f) u finishes items st) → slice_get (cond o (record { place = p; finished = f } ∷ more) more) (suc k) ≡ Some st → IsStart p f (cond o (t + 1) (u + 1)) (cond b (fin ∷ finishes) finishes) (item ∷ items) st
+start_next true b fin finishes item items p f k t u more st one other h = start_later b fin finishes item items p f t st (one h)
+start_next false b fin finishes item items p f k t u more st one other h = start_later b fin finishes item items p f u st (other h)
+
+start_at : (items : List HistItem) (p f k : ℕ) (st : Start) → slice_get (starts_from p f items) k ≡ Some st → IsStart p f (start items k) (finishes_from p items) items st
+start_at [] p f k st h = cc
+start_at (item ∷ items) p f zero st h =
+    let b = item.reply.ended in
+    let now = if b then (f + 1) else f in
+    start_zero (is_order item.event) b (record { place = p; session = session_of item.event }) (finishes_from (p + 1) items) item items p f (start items zero) (starts_from (p + 1) now items) st refl
+    (start_at items (p + 1) now zero st) h
+start_at (item ∷ items) p f (suc k) st h =
+    let b = item.reply.ended in
+    let now = if b then (f + 1) else f in
+    start_next (is_order item.event) b (record { place = p; session = session_of item.event }) (finishes_from (p + 1) items) item items p f k (start items k) (start items (suc k)) (starts_from (p + 1) now items) st
+    (start_at items (p + 1) now k st) (start_at items (p + 1) now (suc k) st) h
+
+missing_zero : (o : Bool) (p f t n : ℕ) (more : List Start) → (length more ≤ 0 → t ≡ n) → length (cond o (record { place = p; finished = f } ∷ more) more) ≤ 0 → cond o 0 (t + 1) ≡ suc n
+missing_zero true p f t n more rest h = absurd (omega arith)
+missing_zero false p f t n more rest h = let e = rest h in omega arith
+
+missing_next : (o : Bool) (p f k t u n : ℕ) (more : List Start) → (length more ≤ k → t ≡ n) → (length more ≤ suc k → u ≡ n) → length (cond o (record { place = p; finished = f } ∷ more) more) ≤ suc k → cond o (t + 1) (u + 1) ≡ suc n
+missing_next true p f k t u n more one other h = let e = one (omega arith) in omega arith
+missing_next false p f k t u n more one other h = let e = other h in omega arith
+
+missing : (items : List HistItem) (p f k : ℕ) → length (starts_from p f items) ≤ k → start items k ≡ length items
+missing [] p f k h = refl
+missing (item ∷ items) p f zero h =
+    let now = if item.reply.ended then (f + 1) else f in
+    missing_zero (is_order item.event) p f (start items zero) (length items) (starts_from (p + 1) now items) (missing items (p + 1) now zero) h
+missing (item ∷ items) p f (suc k) h =
+    let now = if item.reply.ended then (f + 1) else f in
+    missing_next (is_order item.event) p f k (start items k) (start items (suc k)) (length items) (starts_from (p + 1) now items) (missing items (p + 1) now k) (missing items (p + 1) now (suc k)) h
+
+found_at : (items : List HistItem) (starts : List Start) (k : ℕ) (st : Start) → starts ≡ starts_from 0 0 items → true ≡ nat_lt k (length starts) → st ≡ get_or starts k st → IsStart 0 0 (start items k) (finishes_from 0 items) items st
+found_at items starts k st is within at =
+    let less : k < length starts = grind arith in
+    start_at items 0 0 k st (ap (λ (w : List Start). slice_get w k) (sym is) ∙ slice_get-get_or starts k st less ∙ ap Some (sym at))
+
+-- the place of an order is how many items come before it
+pub start_found : (items : List HistItem) (starts : List Start) (k : ℕ) (st : Start) → starts ≡ starts_from 0 0 items → true ≡ nat_lt k (length starts) → st ≡ get_or starts k st → st.place ≡ start items k
+start_found items starts k st is within at = let h = found_at items starts k st is within at in omega (arith, h.place_is)
+
+pub start_missing : (items : List HistItem) (starts : List Start) (k : ℕ) → starts ≡ starts_from 0 0 items → false ≡ nat_lt k (length starts) → length items ≡ start items k
+start_missing items starts k is past =
+    let over : length starts ≤ k = grind arith in
+    let same = ap length is in
+    sym (missing items 0 0 k (omega arith))
+
+first_case : (session : ℕ) (b m : Bool) (fin : Finish) (finishes : List Finish) (p n t none : ℕ) → none ≡ p + 1 + n → (fin.session == session) ≡ m → fin.place ≡ p → first_finish session (p + 1 + n) finishes ≡ p + 1 + t → first_finish session none (cond b (fin ∷ finishes) finishes) ≡ p + cond (m && b) 0 (t + 1)
+first_case session true true fin finishes p n t none e is at rest = rw (is, at) (omega arith)
+first_case session true false fin finishes p n t none e is at rest = let next : p + 1 + t ≡ p + (t + 1) = omega arith in rw is (ap (λ k. first_finish session k finishes) e ∙ rest ∙ next)
+first_case session false true fin finishes p n t none e is at rest = let next : p + 1 + t ≡ p + (t + 1) = omega arith in ap (λ k. first_finish session k finishes) e ∙ rest ∙ next
+first_case session false false fin finishes p n t none e is at rest = let next : p + 1 + t ≡ p + (t + 1) = omega arith in ap (λ k. first_finish session k finishes) e ∙ rest ∙ next
+
+first_from : (session : ℕ) (items : List HistItem) (p : ℕ) → first_finish session (p + length items) (finishes_from p items) ≡ p + first_place (ends_in session) items
+first_from session [] p = refl
+first_from session (item ∷ items) p =
+    first_case session item.reply.ended (session_of item.event == session) (record { place = p; session = session_of item.event }) (finishes_from (p + 1) items) p (length items) (first_place (ends_in session) items) (p + length (item ∷ items)) (omega arith) refl refl
+    (first_from session items (p + 1))
+
+pub finished_within : (items : List HistItem) (starts : List Start) (finishes : List Finish) (k : ℕ) (st : Start) → IsFound items starts finishes → true ≡ nat_lt k (length starts) → st ≡ get_or starts k st → st.finished ≤ length finishes
+finished_within items starts finishes k st found within at =
+    let h = found_at items starts k st found.starts_are within at in
+    let few = h.fewer in
+    let long = ap length found.finishes_are in
+    omega (arith, h.finished_is)
+
+-- the first of the kept ends of the session's blocks, from an order on
+pub finish_found : (items : List HistItem) (starts : List Start) (finishes : List Finish) (k session : ℕ) (st : Start) → IsFound items starts finishes → true ≡ nat_lt k (length starts) → st ≡ get_or starts k st → first_finish session (length items) (drop st.finished finishes) ≡ start items k + first_place (ends_in session) (drop (start items k) items)
+finish_found items starts finishes k session st found within at =
+    let h = found_at items starts k st found.starts_are within at in
+    let from = start items k in
+    let few = start_within items k in
+    let long = length-drop from items in
+    let finished : st.finished ≡ h.ended = omega (arith, h.finished_is) in
+    let place : st.place ≡ from = omega (arith, h.place_is) in
+    let all : length items ≡ from + length (drop from items) = omega arith in
+    let behind : drop st.finished finishes ≡ finishes_from from (drop from items) =
+    ap (λ (w : List Finish). drop st.finished w) found.finishes_are ∙ ap (λ j. drop j (finishes_from 0 items)) finished ∙ h.rest ∙ ap (λ j. finishes_from j (drop from items)) place in
+    ap (first_finish session (length items)) behind ∙ ap (λ j. first_finish session j (finishes_from from (drop from items))) all ∙ first_from session (drop from items) from
+
+drop_all : (items : List HistItem) → drop (length items) items ≡ []
+drop_all [] = refl
+drop_all (item ∷ items) = drop_all items
+
+pub finish_missing : (items : List HistItem) (starts : List Start) (k session : ℕ) → starts ≡ starts_from 0 0 items → false ≡ nat_lt k (length starts) → length items ≡ start items k + first_place (ends_in session) (drop (start items k) items)
+finish_missing items starts k session is past =
+    let at = start_missing items starts k is past in
+    rw (← at, drop_all items) (omega arith)
+
+count_case : (o : Bool) (st : Start) (item : HistItem) (more : List Start) (others : List HistItem) → length more ≡ length others → length (cond o (st ∷ more) more) ≡ length (cond o (item ∷ others) others)
+count_case true st item more others h = ap suc h
+count_case false st item more others h = h
+
+pub count_found : (items : List HistItem) (p f : ℕ) → length (starts_from p f items) ≡ orders items
+count_found [] p f = refl
+count_found (item ∷ items) p f =
+    let now = if item.reply.ended then (f + 1) else f in
+    count_case (is_order item.event) (record { place = p; finished = f }) item (starts_from (p + 1) now items) (filter (λ i. is_order i.event) items) (count_found items (p + 1) now)
 
 same_lt_other : (a b c d : ℕ) → (c < d → a < b) → b ≤ a → (c < d) ⊎ (d ≤ c) → nat_lt a b ≡ nat_lt c d
 same_lt_other a b c d g le (inl lt) = let less : a < b = g lt in absurd (omega arith)

@@ -3,4 +3,7 @@ pub mod Reports
 pub mod Rising
 pub mod Passes
 pub mod Found
+pub mod Polls
+pub mod Tried
+pub mod ReportPoints
 pub mod Examples

@@ -2,7 +2,7 @@
 use Rattle.std.proofs.Common.{◌≡◌, ℕ, zero, suc, ◌+◌, ◌-◌, ◌<◌, ◌≤◌, ◌⊎◌, List, [], ◌∷◌, ◌++◌, length, drop, length-drop, refl, ap, sym, ◌∙◌, arith, true, false, Bool, not, cond, ◌&&◌, Some, slice_get, nat_lt, if◌then◌else◌, inl, inr}
 use Rattle.std.specs.List.{filter, fold}
 use Rattle.std.proofs.lemmas.List.Sums.{fold-append}
-use Rattle.std.proofs.lemmas.Bool.{cases_lt}
+use Rattle.std.proofs.lemmas.Bool.{cases_lt, not-true, not-false}
 use Rattle.report_lines.specs.declared.history.Line.{Line}
 use Rattle.report_lines.specs.declared.history.Line.TheVariants.{Completed}
 use Rattle.report_lines.specs.declared.history.Moment.{Moment}
@@ -20,16 +20,8 @@ rises lines n = between_filter (λ j. not (is_reported lines j)) 0 n (instances 
 pub waits_below : (lines : List Line) (n place e : ℕ) → slice_get (active lines n) place ≡ Some e → e < n
 waits_below lines n place e h = (between_at 0 n (active lines n) place e (rises lines n) h).1
 
-not_true : (b : Bool) → not b ≡ true → b ≡ false
-not_true true h = sym h
-not_true false h = refl
-
-not_false : (b : Bool) → not b ≡ false → b ≡ true
-not_false true h = refl
-not_false false h = sym h
-
 waits_unreported : (lines : List Line) (n place e : ℕ) → slice_get (active lines n) place ≡ Some e → is_reported lines e ≡ false
-waits_unreported lines n place e h = not_true (is_reported lines e) (filter_at (λ j. not (is_reported lines j)) (instances n) e place h)
+waits_unreported lines n place e h = not-true (is_reported lines e) (filter_at (λ j. not (is_reported lines j)) (instances n) e place h)
 
 leaves_place : (lines : List Line) (n place e s : ℕ) → slice_get (active lines n) place ≡ Some e → drop place (active (lines ++ Completed e s ∷ []) n) ≡ drop (place + 1) (active lines n)
 leaves_place lines n place e s h = ap (drop place) (active_leave lines e s n) ∙ between_leave 0 n (active lines n) place e (rises lines n) h
@@ -73,7 +65,7 @@ try_passes c m chosen lines n place e h cannot =
     ∙ sym (fold_at g lines (active lines n) place e h)
 
 -- a reported instance is passed over unchanged
-retry_reported : (c : Setting) (m : Moment) (chosen : Chosen) (lines : List Line) (i : ℕ) → is_reported lines i ≡ true → chosen_retry c m chosen lines i ≡ lines
+pub retry_reported : (c : Setting) (m : Moment) (chosen : Chosen) (lines : List Line) (i : ℕ) → is_reported lines i ≡ true → chosen_retry c m chosen lines i ≡ lines
 retry_reported c m chosen lines i h = rw h (elim (is_chosen c m chosen i) as (λ b. (if b then lines else lines) ≡ lines) [ true ↦ refl | false ↦ refl ])
 
 reported_case : (a b : Bool) (lines : List Line) (l : Line) (i : ℕ) → is_reported lines i ≡ true → is_reported (if a then (if b then lines ++ l ∷ [] else lines) else lines) i ≡ true
@@ -82,21 +74,25 @@ reported_case true false lines l i h = h
 reported_case false b lines l i h = h
 
 -- what was reported stays so
-retry_keeps : (c : Setting) (m : Moment) (chosen : Chosen) (lines : List Line) (j i : ℕ) → is_reported lines i ≡ true → is_reported (chosen_retry c m chosen lines j) i ≡ true
+pub retry_keeps : (c : Setting) (m : Moment) (chosen : Chosen) (lines : List Line) (j i : ℕ) → is_reported lines i ≡ true → is_reported (chosen_retry c m chosen lines j) i ≡ true
 retry_keeps c m chosen lines j i h = reported_case (is_chosen c m chosen j) (not (is_reported lines j) && may_report c m lines j) lines (Completed j m.seen) i h
 
-skip_case : (c : Setting) (m : Moment) (chosen : Chosen) (q : ℕ → Bool) (lines : List Line) (x : ℕ) (xs : List ℕ) (b : Bool) → (b ≡ false → is_reported lines x ≡ true) → fold (chosen_retry c m chosen) (chosen_retry c m chosen lines x) xs ≡ fold (chosen_retry c m chosen) (chosen_retry c m chosen lines x) (filter q xs) → fold (chosen_retry c m chosen) (chosen_retry c m chosen lines x) xs ≡ fold (chosen_retry c m chosen) lines (cond b (x ∷ filter q xs) (filter q xs))
-skip_case c m chosen q lines x xs true h e = e
-skip_case c m chosen q lines x xs false h e = e ∙ ap (λ (w : List Line). fold (chosen_retry c m chosen) w (filter q xs)) (retry_reported c m chosen lines x (h refl))
+skip_case : (g : List Line → ℕ → List Line) (q : ℕ → Bool) (lines : List Line) (x : ℕ) (xs : List ℕ) (b : Bool) → (b ≡ false → g lines x ≡ lines) → fold g (g lines x) xs ≡ fold g (g lines x) (filter q xs) → fold g (g lines x) xs ≡ fold g lines (cond b (x ∷ filter q xs) (filter q xs))
+skip_case g q lines x xs true h e = e
+skip_case g q lines x xs false h e = e ∙ ap (λ (w : List Line). fold g w (filter q xs)) (h refl)
 
-skip : (c : Setting) (m : Moment) (chosen : Chosen) (q : ℕ → Bool) (xs : List ℕ) (lines : List Line) → ((i : ℕ) → q i ≡ false → is_reported lines i ≡ true) → fold (chosen_retry c m chosen) lines xs ≡ fold (chosen_retry c m chosen) lines (filter q xs)
-skip c m chosen q [] lines h = refl
-skip c m chosen q (x ∷ xs) lines h =
-    skip_case c m chosen q lines x xs (q x) (h x) (skip c m chosen q xs (chosen_retry c m chosen lines x) (λ i no. retry_keeps c m chosen lines x i (h i no)))
+-- where reported instances are passed over unchanged, and stay reported, those that are reported at the beginning can be left out
+pub skip : (g : List Line → ℕ → List Line) → ((lines : List Line) (i : ℕ) → is_reported lines i ≡ true → g lines i ≡ lines) → ((lines : List Line) (j i : ℕ) → is_reported lines i ≡ true → is_reported (g lines j) i ≡ true) → (q : ℕ → Bool) (xs : List ℕ) (lines : List Line) → ((i : ℕ) → q i ≡ false → is_reported lines i ≡ true) → fold g lines xs ≡ fold g lines (filter q xs)
+skip g over keeps q [] lines h = refl
+skip g over keeps q (x ∷ xs) lines h =
+    skip_case g q lines x xs (q x) (λ no. over lines x (h x no)) (skip g over keeps q xs (g lines x) (λ i no. keeps lines x i (h i no)))
+
+pub skip_reported : (g : List Line → ℕ → List Line) → ((lines : List Line) (i : ℕ) → is_reported lines i ≡ true → g lines i ≡ lines) → ((lines : List Line) (j i : ℕ) → is_reported lines i ≡ true → is_reported (g lines j) i ≡ true) → (lines : List Line) (n : ℕ) → fold g lines (instances n) ≡ fold g lines (active lines n)
+skip_reported g over keeps lines n = skip g over keeps (λ j. not (is_reported lines j)) (instances n) lines (λ i no. not-false (is_reported lines i) no)
 
 -- to try the waiting list is to try all instances
 pub through_waiting : (c : Setting) (m : Moment) (chosen : Chosen) (lines : List Line) (n : ℕ) → fold (chosen_retry c m chosen) lines (instances n) ≡ still_told c m chosen lines n 0
-through_waiting c m chosen lines n = skip c m chosen (λ j. not (is_reported lines j)) (instances n) lines (λ i no. not_false (is_reported lines i) no)
+through_waiting c m chosen lines n = skip_reported (chosen_retry c m chosen) (retry_reported c m chosen) (retry_keeps c m chosen) lines n
 
 nothing_left : (xs : List ℕ) (k : ℕ) → length xs ≤ k → drop k xs ≡ []
 nothing_left [] zero h = refl

@@ -1,5 +1,5 @@
 -- Rising lists of numbers, such as the waiting list.
-use Rattle.std.proofs.Common.{◌≡◌, ℕ, zero, suc, ◌+◌, ◌<◌, ◌≤◌, List, [], ◌∷◌, ◌++◌, drop, refl, ap, sym, ◌∙◌, arith, true, false, Bool, not, cond, ◌==◌, Some, slice_get, add-one}
+use Rattle.std.proofs.Common.{◌≡◌, ℕ, zero, suc, ◌+◌, ◌<◌, ◌≤◌, List, [], ◌∷◌, ◌++◌, length, drop, refl, ap, sym, ◌∙◌, arith, true, false, Bool, not, cond, ◌==◌, Some, slice_get, add-one}
 use Rattle.std.specs.List.{filter, fold}
 use Rattle.report_lines.specs.Report.{instances}
 
@@ -50,6 +50,10 @@ between_keep low high j (x ∷ xs) h less =
     let at : low ≤ x = h.0 in
     let differs : (x == j) ≡ false = grind arith in
     rw differs (ap (λ (w : List ℕ). x ∷ w) (between_keep (x + 1) high j xs h.1 (omega arith)))
+
+pub between_length : (low high : ℕ) (xs : List ℕ) → Between low high xs → length xs + low ≤ high
+between_length low high [] h = omega arith
+between_length low high (x ∷ xs) h = let rest = between_length (x + 1) high xs h.1 in let at : low ≤ x = h.0 in omega arith
 
 -- where a number leaves the list, those behind it follow at its place
 pub between_leave : (low high : ℕ) (xs : List ℕ) (k j : ℕ) → Between low high xs → slice_get xs k ≡ Some j → drop k (filter (λ i. not (i == j)) xs) ≡ drop (k + 1) xs

@@ -1,5 +1,5 @@
 -- The list of waiting entries over the lines.
-use Rattle.std.proofs.Common.{◌≡◌, ℕ, zero, suc, ◌+◌, ◌<◌, ◌≤◌, List, [], ◌∷◌, ◌++◌, refl, ap, sym, ◌∙◌, arith, true, false, Bool, not, cond, ◌==◌, ◌||◌, ◌&&◌, add-one, ◌⊎◌, inl, inr, ◌-◌}
+use Rattle.std.proofs.Common.{◌≡◌, ℕ, zero, suc, ◌+◌, ◌<◌, ◌≤◌, List, [], ◌∷◌, ◌++◌, refl, ap, sym, ◌∙◌, arith, true, false, Bool, not, cond, ◌==◌, ◌||◌, ◌&&◌, add-one, ◌⊎◌, inl, inr, ◌-◌, Option, Some, None, slice_get}
 use Rattle.std.specs.List.{list_any, filter, fold}
 use Rattle.std.proofs.lemmas.List.Folds.{list_any-append}
 use Rattle.std.proofs.lemmas.List.Elements.{filter-append}
@@ -9,7 +9,9 @@ use Rattle.std.proofs.lemmas.Bool.{cases_lt}
 use Rattle.report_lines.specs.declared.history.Line.{Line}
 use Rattle.report_lines.specs.declared.history.Line.TheVariants.{AtOnce, Waiting, Completed}
 use Rattle.report_lines.specs.declared.history.Moment.{Moment}
-use Rattle.report_lines.specs.History.{Setting}
+use Rattle.spec_parser.specs.Trees.{EntryTree}
+use Rattle.spec_parser.specs.declared.tree.Marker.{Marker}
+use Rattle.report_lines.specs.History.{Setting, is_among, is_named, is_marked, is_some_marker, markers_of}
 use Rattle.report_lines.specs.Report.{reports, is_reported, active, instances, pass, polled, goes_on}
 use Rattle.report_lines.specs.Telling.{IsKept}
 
@@ -39,7 +41,7 @@ active_leave_first lines e s n =
     filter_and (λ j. not (is_reported lines j)) (λ j. not (j == e)) (λ j. not (is_reported (lines ++ AtOnce e s ∷ []) j))
     (λ x. ap not (reported_push lines (AtOnce e s) x) ∙ not_or (is_reported lines x) (x == e)) (instances n)
 
-same_filter : (p q : ℕ → Bool) → ((x : ℕ) → p x ≡ q x) → (xs : List ℕ) → filter p xs ≡ filter q xs
+pub same_filter : (p q : ℕ → Bool) → ((x : ℕ) → p x ≡ q x) → (xs : List ℕ) → filter p xs ≡ filter q xs
 same_filter p q h [] = refl
 same_filter p q h (x ∷ xs) = rw (h x, same_filter p q h xs) refl
 
@@ -116,3 +118,13 @@ polled_off c m n t old new b h is says fails =
 
 pub fold_more : (f : List Line → ℕ → List Line) (a : List Line) (n : ℕ) → fold f a (instances (n + 1)) ≡ f (fold f a (instances n)) n
 fold_more f a n = rw add-one (fold-append f a (instances n) (n ∷ []))
+
+unnamed : (o : Option EntryTree) (ms : List Marker) → is_some_marker ms ≡ false → is_among o ms ≡ false
+unnamed None ms h = refl
+unnamed (Some e) [] h = refl
+unnamed (Some e) (m ∷ ms) h = cc
+
+-- an entry without markers names no step
+pub unmarked : (c : Setting) (i : ℕ) (xs : List ℕ) → is_marked c i ≡ false → list_any (is_named c i) xs ≡ false
+unmarked c i [] h = refl
+unmarked c i (x ∷ xs) h = rw (unnamed (slice_get c.entries x) (markers_of (slice_get c.entries i)) h, unmarked c i xs h) refl

@@ -5,3 +5,4 @@ pub mod Places
 pub mod Telling
 pub mod Trying
 pub mod Due
+pub mod Tries

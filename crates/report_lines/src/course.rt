@@ -15,7 +15,7 @@ use std::marker::Model;
 /// Entries, the history, and how many segments come before the first entry's.
 #[derive(Drop)]
 pub struct Course<'a> {
-    entries: &'a [Entry],
+    steps: &'a [Entry],
     segments: Segments<'a>,
     setups: usize,
     // Where the block of each entry ends.
@@ -31,9 +31,9 @@ impl<'a> Model for Course<'a> {
 
     ghost use Rattle.report_lines.specs.Places.{IsTimed};
 
-    ghost view = { λ c. record { entries = map entry_view c.entries.now; items = c.segments; setups = c.setups } };
+    ghost view = { λ c. record { entries = map entry_view c.steps.now; items = c.segments; setups = c.setups } };
 
-    ghost invariant = { λ c. IsTimed (record { entries = map entry_view c.entries.now; items = c.segments; setups = c.setups }) c.ends.items };
+    ghost invariant = { λ c. IsTimed (record { entries = map entry_view c.steps.now; items = c.segments; setups = c.setups }) c.ends.items };
 }
 
 impl<'a> Course<'a> {
@@ -53,7 +53,7 @@ impl<'a> Course<'a> {
         let segments = Segments::new(alloc, items)?;
         let ends = end_places(alloc, entries, &segments, setups)?;
         Ok(Course {
-            entries,
+            steps: entries,
             segments,
             setups,
             ends,
@@ -63,7 +63,7 @@ impl<'a> Course<'a> {
     pub fn entries(&self) -> &'a [Entry]
         ensures { map entry_view result.now ≡ self.now.entries }
     {
-        self.entries
+        self.steps
     }
 
     /// The history, cut into segments.
@@ -89,7 +89,7 @@ impl<'a> Course<'a> {
         ensures seen { result.seen ≤ length self.now.items }
         ensures room { length self.now.entries + 1 < 2 ^ 64 }
     {
-        let _ = &self.entries;
+        let _ = &self.setups;
         Moment {
             seen: self.seen_before(entry),
             launched: entry,
@@ -104,7 +104,7 @@ impl<'a> Course<'a> {
         ensures seen { result.seen ≤ length self.now.items }
         ensures room { length self.now.entries + 1 < 2 ^ 64 }
     {
-        let _ = &self.entries;
+        let _ = &self.setups;
         Moment {
             seen: self.seen_before(entry + 1),
             launched: entry + 1,
@@ -116,21 +116,21 @@ impl<'a> Course<'a> {
         ensures exact { result ≡ length self.now.entries }
         ensures room { result + 1 < 2 ^ 64 }
     {
-        self.entries.len()
+        self.entries().len()
     }
 
     /// The session of an entry; 0 where there is no such entry.
     pub fn session_at(&self, entry: usize) -> u32
         ensures { result ≡ session_at self.now entry }
     {
-        entries::session_at(self.entries, entry)
+        entries::session_at(self.entries(), entry)
     }
 
     /// Whether a marker of the first entry names the step of the other.
     pub(crate) fn is_named(&self, entry: usize, other: usize) -> bool
         ensures { result ≡ is_named self.now entry other }
     {
-        match (self.entries.get(entry), self.entries.get(other)) {
+        match (self.entries().get(entry), self.entries().get(other)) {
             (Some(e), Some(o)) => entries::waits_for(e, o),
             _ => false,
         }
@@ -139,7 +139,7 @@ impl<'a> Course<'a> {
     pub(crate) fn is_starred(&self, entry: usize) -> bool
         ensures { result ≡ is_starred self.now entry }
     {
-        match self.entries.get(entry) {
+        match self.entries().get(entry) {
             None => false,
             Some(e) => entries::is_starred(e),
         }
@@ -148,7 +148,7 @@ impl<'a> Course<'a> {
     pub(crate) fn is_marked(&self, entry: usize) -> bool
         ensures { result ≡ is_marked self.now entry }
     {
-        match self.entries.get(entry) {
+        match self.entries().get(entry) {
             None => false,
             Some(e) => entries::is_marked(e),
         }

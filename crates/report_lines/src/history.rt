@@ -3,7 +3,7 @@
 use session_machine::Order;
 
 /// What is said of an instance at a try; `seen` is how many items of the history had come.
-#[derive(Clone, Copy, Debug)]
+#[derive(Clone, Copy, Debug, PartialEq, Eq)]
 pub enum Line {
     AtOnce { entry: usize, seen: usize },
     Waiting { entry: usize },
@@ -19,7 +19,7 @@ pub struct Moment {
 }
 
 /// How far a history has come: to an entry that is to be launched, or to the end.
-#[derive(Clone, Copy)]
+#[derive(Clone, Copy, Debug, PartialEq, Eq)]
 pub enum Stand {
     Due(usize),
     Whole,

@@ -4,9 +4,12 @@
 mod course;
 mod entries;
 mod history;
+pub mod laws;
 mod plan;
 mod segments;
 mod telling;
+#[cfg(test)]
+mod tests;
 
 pub use course::Course;
 pub use entries::{ends_in, session_of};

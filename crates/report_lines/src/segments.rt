@@ -3,9 +3,9 @@ ghost use Rattle.std.specs.Prelude.{◌≡◌, ◌+◌, ◌<◌, ◌≤◌, ◌^
 ghost use Rattle.std.specs.List.{list_any};
 ghost use Rattle.report_lines.specs.Starts.{start, ends_in};
 ghost use Rattle.report_lines.specs.Due.{segment, is_failed, fails, is_over, went_well, orders};
-ghost use Rattle.report_lines.specs.Places.{order_places, first_place};
+ghost use Rattle.report_lines.specs.Places.{starts_from, finishes_from, first_place, first_finish};
 
-use crate::entries::{self, is_order};
+use crate::entries::{self, is_order, session_of};
 use session_machine::{HistItem, Outcome};
 use std::alloc::{AllocError, Global};
 use std::marker::Model;
@@ -13,9 +13,23 @@ use std::marker::Model;
 /// A history, cut into segments: each begins with a Launch or a Leave, and the Steps after it belong to it.
 #[derive(Drop)]
 pub struct Segments<'a> {
-    items: &'a [HistItem<'a>],
-    // The places of the orders.
-    starts: Vec<usize>,
+    history: &'a [HistItem<'a>],
+    starts: Vec<Start>,
+    finishes: Vec<Finish>,
+}
+
+/// The place of an order, and how many items before it end a block.
+#[derive(Clone, Copy)]
+struct Start {
+    place: usize,
+    finished: usize,
+}
+
+/// The place of an item that ends a block, and its session.
+#[derive(Clone, Copy)]
+struct Finish {
+    place: usize,
+    session: u32,
 }
 
 impl<'a> Model for Segments<'a> {
@@ -24,11 +38,11 @@ impl<'a> Model for Segments<'a> {
 
     ghost Value = { List HistItem };
 
-    ghost use Rattle.report_lines.specs.Places.{order_places};
+    ghost use Rattle.report_lines.specs.Places.{starts_from, finishes_from, IsFound};
 
-    ghost view = { λ s. s.items.now };
+    ghost view = { λ s. s.history.now };
 
-    ghost invariant = { λ s. s.starts.items ≡ order_places 0 s.items.now };
+    ghost invariant = { λ s. IsFound s.history.now s.starts.items s.finishes.items };
 }
 
 impl<'a> Segments<'a> {
@@ -39,15 +53,20 @@ impl<'a> Segments<'a> {
     pub fn new(alloc: Global, items: &'a [HistItem<'a>]) -> Result<Segments<'a>, AllocError>
         ensures { IfOk result (λ segments. segments ≡ items.now) }
     {
-        let starts = order_places(alloc, items)?;
-        Ok(Segments { items, starts })
+        let starts = starts(alloc, items)?;
+        let finishes = finishes(alloc, items)?;
+        Ok(Segments {
+            history: items,
+            starts,
+            finishes,
+        })
     }
 
     /// The whole history.
     pub fn items(&self) -> &'a [HistItem<'a>]
         ensures { result.now ≡ self.now }
     {
-        self.items
+        self.history
     }
 
     /// How many segments there are.
@@ -63,8 +82,8 @@ impl<'a> Segments<'a> {
         ensures within { result ≤ length self.now }
     {
         match self.starts.get(number) {
-            Some(place) => *place,
-            None => self.items.len(),
+            Some(start) => start.place,
+            None => self.items().len(),
         }
     }
 
@@ -76,7 +95,7 @@ impl<'a> Segments<'a> {
         let from = self.start(number);
         let to = self.start(number + 1);
         if from <= to {
-            &self.items[from..to]
+            &self.items()[from..to]
         } else {
             &[]
         }
@@ -104,8 +123,15 @@ impl<'a> Segments<'a> {
     pub(crate) fn end(&self, number: usize, session: u32) -> usize
         ensures { result ≡ start self.now number + first_place (ends_in session) (drop (start self.now number) self.now) }
     {
-        let from = self.start(number);
-        from + first_place(&self.items[from..], session)
+        match self.starts.get(number) {
+            Some(start) => finish_from(
+                self.finishes.as_slice(),
+                start.finished,
+                session,
+                self.items().len(),
+            ),
+            None => self.items().len(),
+        }
     }
 }
 
@@ -129,27 +155,53 @@ fn is_failed(outcome: &Outcome<'_>) -> bool
     matches!(outcome, Outcome::Failed(_))
 }
 
-fn order_places(alloc: Global, items: &[HistItem<'_>]) -> Result<Vec<usize>, AllocError>
-    ensures { IfOk result (λ places. places.items ≡ order_places 0 items.now) }
+fn starts(alloc: Global, items: &[HistItem<'_>]) -> Result<Vec<Start>, AllocError>
+    ensures { IfOk result (λ starts. starts.items ≡ starts_from 0 0 items.now) }
 {
-    let mut places = Vec::new(alloc);
+    let mut starts = Vec::new(alloc);
+    let mut finished = 0;
     for (place, item) in items.iter().enumerate() {
         if is_order(&item.event) {
-            places.push(place)?;
+            starts.push(Start { place, finished })?;
+        }
+        if item.reply.ended {
+            finished += 1;
         }
     }
-    Ok(places)
+    Ok(starts)
 }
 
-/// How many items come before the one that ends the session's block.
-fn first_place(items: &[HistItem<'_>], session: u32) -> usize
-    ensures exact { result ≡ first_place (ends_in session) items.now }
-    ensures within { result ≤ length items.now }
+fn finishes(alloc: Global, items: &[HistItem<'_>]) -> Result<Vec<Finish>, AllocError>
+    ensures { IfOk result (λ finishes. finishes.items ≡ finishes_from 0 items.now) }
 {
+    let mut finishes = Vec::new(alloc);
     for (place, item) in items.iter().enumerate() {
-        if entries::ends_in(session, item) {
-            return place;
+        if item.reply.ended {
+            finishes.push(Finish {
+                place,
+                session: session_of(&item.event),
+            })?;
         }
     }
-    items.len()
+    Ok(finishes)
+}
+
+/// The place of the session's first one of these from this number on; `none` where there is none.
+fn finish_from(finishes: &[Finish], from: usize, session: u32, none: usize) -> usize
+    requires { from ≤ length finishes.now }
+    ensures { result ≡ first_finish session none (drop from finishes.now) }
+{
+    first_finish(&finishes[from..], session, none)
+}
+
+/// The place of the session's first one of these; `none` where there is none.
+fn first_finish(finishes: &[Finish], session: u32, none: usize) -> usize
+    ensures { result ≡ first_finish session none finishes.now }
+{
+    for finish in finishes {
+        if finish.session == session {
+            return finish.place;
+        }
+    }
+    none
 }

@@ -87,9 +87,13 @@ impl Told {
     }
 
     /// Whether a step that an entry's markers name is active.
+    #[tactic(auto, using(crate::proofs::Waits::unmarked))]
     fn is_held(&self, course: &Course<'_>, entry: usize) -> bool
         ensures { result ≡ list_any (is_named course.now entry) (active self.now.lines self.now.launched) }
     {
+        if !course.is_marked(entry) {
+            return false;
+        }
         self.waiting.iter().any(|j| course.is_named(entry, *j))
     }
 
@@ -202,8 +206,10 @@ impl Told {
     {
         let had = self.lines.len();
         self.pass(course, m)?;
-        let marked = self.has_marked(course, m.joined);
-        Ok(had < self.lines.len() && marked)
+        if self.lines.len() <= had {
+            return Ok(false);
+        }
+        Ok(self.has_marked(course, m.joined))
     }
 
     fn poll(&mut self, course: &Course<'_>, m: Moment) -> Result<(), AllocError>

@@ -1,0 +1,29 @@
+//! Laws of the report, as contracts of functions that do nothing.
+
+ghost use Rattle.std.specs.Prelude.{◌≡◌, ◌+◌, ◌≤◌, ◌↔◌, ℕ, List, Contains, count_by, true};
+ghost use Rattle.report_lines.specs.declared.history.Line.{Line};
+ghost use Rattle.report_lines.specs.declared.history.Moment.{Moment};
+ghost use Rattle.report_lines.specs.History.{Setting};
+ghost use Rattle.report_lines.specs.Report.{report, reports, polled, poll};
+ghost use Rattle.report_lines.specs.Tries.{tries, said, IsReportPoint};
+
+/// However many passes were made at a moment, no more would report anything.
+pub fn no_further_pass()
+    ensures { (c : Setting) (m : Moment) (lines : List Line) (more : ℕ) → polled c m (m.joined + 1 + more) lines ≡ poll c m lines }
+{}
+
+/// The lines of the report are what its tries say, in their order.
+pub fn lines_are_what_the_tries_say()
+    ensures { (c : Setting) (there : ℕ) → (report c there).lines ≡ said c (tries c there) }
+{}
+
+/// A line reports an instance exactly where it stands for the first of the instance's tries that meets the condition;
+/// an instance without such a try has none.
+pub fn each_is_reported_at_its_first_chance()
+    ensures { (c : Setting) (there i : ℕ) (line : Line) → (Contains (report c there).lines line × (reports i line ≡ true)) ↔ IsReportPoint c (tries c there) i line }
+{}
+
+/// No instance is reported twice.
+pub fn no_step_is_reported_twice()
+    ensures { (c : Setting) (there i : ℕ) → count_by (reports i) (report c there).lines ≤ 1 }
+{}
