@@ -1,5 +1,5 @@
 -- At most one history is regular: where the state is quiet only what is due is taken, else only the step of the turn.
-use Rattle.std.proofs.Common.{◌≡◌, ℕ, ◌==◌, Bool, true, false, not, ◌&&◌, List, [], ◌∷◌, ◌++◌, refl, ap, ap₂, sym, ◌∙◌, subst}
+use Rattle.std.proofs.Common.{◌≡◌, ℕ, Bool, true, false, not, List, [], ◌∷◌, ◌++◌, refl, ap, ap₂, sym, ◌∙◌, subst}
 use Rattle.std.specs.Prelude.{Option, Some, None, is_none, slice_get, if◌then◌else◌, Result, Ok, Err, IsTrue}
 use Rattle.std.proofs.lemmas.Bool.{eqb-true}
 use Rattle.session_machine.specs.declared.session.Place.{Place}
@@ -12,7 +12,7 @@ use Rattle.session_machine.specs.declared.event.Mode.TheVariants.{Directed}
 use Rattle.session_machine.specs.declared.reply.Reply.{Reply}
 use Rattle.session_machine.specs.declared.reply.HistItem.{HistItem}
 use Rattle.session_machine.specs.declared.fault.Refusal.{Refusal}
-use Rattle.session_machine.specs.declared.fault.Refusal.TheVariants.{Busy, NotYourTurn, StillBlocked, Idle, NoSession, BlockNotAllowed}
+use Rattle.session_machine.specs.declared.fault.Refusal.TheVariants.{Busy, NotYourTurn, StillBlocked, BlockNotAllowed}
 use Rattle.session_machine.specs.Machine.{Machine, Blocks, Next, next, turn_in, is_quiet, is_turn, launch_of, leave_of, step_of, step_at, step_stmt}
 use Rattle.session_machine.specs.Engine.{Run}
 use Rattle.spec_parser.specs.Trees.{EntryTree, SpecTree}

@@ -1,5 +1,5 @@
 -- The worked permutation's history. After each item the machine is again as it was opened.
-use Rattle.std.proofs.Common.{◌≡◌, refl}
+use Rattle.std.proofs.Common.{refl}
 use Rattle.session_machine.specs.Machine.{Machine, opening}
 use Rattle.permutation_plans.specs.Worked.{WorkedHistory}
 

@@ -1,5 +1,5 @@
 -- The histories that a permutation may have, and that there is at most one.
-use Rattle.std.specs.Prelude.{◌≡◌, ℕ, List, [], ◌∷◌, ◌++◌, length, IsTrue}
+use Rattle.std.specs.Prelude.{◌≡◌, List, [], ◌∷◌, ◌++◌, length, IsTrue}
 use Rattle.session_machine.specs.declared.event.Event.{Event}
 use Rattle.session_machine.specs.declared.event.Event.TheVariants.{Launch, Step, Leave}
 use Rattle.session_machine.specs.declared.event.Order.{Order}

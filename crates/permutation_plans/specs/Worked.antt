@@ -1,5 +1,5 @@
 -- A worked permutation with its history. All blocks are empty, so that each ends at its Launch.
-use Rattle.std.specs.Prelude.{ℕ, true, List, [], ◌∷◌, Option, Some, None}
+use Rattle.std.specs.Prelude.{ℕ, true, List, [], ◌∷◌, Some, None}
 use Rattle.iso_lexer.specs.Names.{Written, plain}
 use Rattle.session_machine.specs.declared.event.Event.{Event}
 use Rattle.session_machine.specs.declared.event.Event.TheVariants.{Launch, Leave}

@@ -10,6 +10,7 @@ use std::alloc::{AllocError, Global};
 
 /// Says what is to be done next whenever an engine is quiet, by what the engine has answered so far.
 pub trait Driver<V: Versions> {
+    // what it orders after a history
     ghost order_after: { Self → List Item → Given };
 
     /// The next order. It is asked for where the engine is quiet.

