@@ -6,10 +6,9 @@ use Rattle.std.specs.Prelude.{◌+◌, nat_le, if◌then◌else◌}
 use Rattle.session_machine.specs.declared.reply.HistItem.{HistItem}
 use Rattle.spec_parser.specs.Trees.{EntryTree}
 use Rattle.report_lines.specs.History.{Setting}
-use Rattle.report_lines.specs.Due.{segment, went_well}
-use Rattle.report_text.specs.Said.{Ending, whole, Said, says, ends, is_whole, ◌>>◌}
-use Rattle.report_text.specs.Replies.{rows_text, last_outcome}
-use Rattle.report_text.specs.Around.{setups_say, setup_ending}
+use Rattle.report_lines.specs.Due.{went_well}
+use Rattle.report_text.specs.Said.{Ending, whole, Said, says, is_whole, ◌>>◌}
+use Rattle.report_text.specs.Setups.{setups_say}
 
 pub after_whole : (a b : Said) → a.ending ≡ whole → (a >> b) ≡ record { text = a.text ++ b.text; notes = a.notes ++ b.notes; ending = b.ending }
 after_whole a b e = rw e refl

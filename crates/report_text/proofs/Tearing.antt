@@ -1,11 +1,9 @@
 -- Teardowns one by one.
-use Rattle.std.proofs.Common.{◌≡◌, ℕ, ◌+◌, ◌≤◌, ◌<◌, ◌++◌, List, [], ◌∷◌, Bool, true, false, refl, sym, ap, ◌∙◌, arith}
-use Rattle.std.specs.Prelude.{nat_le, codes}
+use Rattle.std.proofs.Common.{◌≡◌, ℕ, ◌≤◌, List, [], ◌∷◌, true, refl, arith}
+use Rattle.std.specs.Prelude.{nat_le}
 use Rattle.session_machine.specs.declared.reply.HistItem.{HistItem}
 use Rattle.spec_parser.specs.Trees.{SessionTree}
-use Rattle.report_lines.specs.Due.{segment, is_over}
-use Rattle.report_text.specs.Replies.{rows_text, last_outcome}
-use Rattle.report_text.specs.Around.{Torn, torn, torn_first, note, failure_note}
+use Rattle.report_text.specs.Teardowns.{torn}
 
 -- teardowns that are not there say nothing
 pub torn_gone : (sessions : List SessionTree) (items : List HistItem) (there k : ℕ) (ts : List ℕ) → there ≤ k → torn sessions items there k ts ≡ record { text = []; notes = []; next = k }

@@ -9,7 +9,7 @@ use Rattle.report_text.specs.declared.fault.Ended.{Ended}
 use Rattle.report_text.specs.declared.fault.Ended.TheVariants as ends
 use Rattle.report_text.specs.declared.setups.SetUp.{SetUp}
 use Rattle.report_text.specs.declared.setups.SetUp.TheVariants as set_up
-use Rattle.report_text.specs.Said.{Ending, whole, invalid, setup_failed, setup_waits, Said}
+use Rattle.report_text.specs.Said.{Ending, whole, invalid, setup_failed, setup_waits}
 
 -- how setups end
 abbrev pub ending_of : SetUp → Ending

@@ -3,7 +3,8 @@ pub mod Replies
 pub mod Steps
 pub mod LineText
 pub mod Said
-pub mod Around
+pub mod Setups
+pub mod Teardowns
 pub mod Permutation
 pub mod Faults
 pub mod Answers

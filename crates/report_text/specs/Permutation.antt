@@ -1,5 +1,5 @@
 -- The report of a permutation with its history.
-use Rattle.std.specs.Prelude.{ℕ, ◌+◌, ◌-◌, List, [], ◌++◌, length, flat_map, codes}
+use Rattle.std.specs.Prelude.{ℕ, ◌+◌, ◌-◌, List, [], length, flat_map, codes}
 use Rattle.spec_parser.specs.Trees.{SessionTree, EntryTree, SpecTree}
 use Rattle.session_machine.specs.declared.reply.HistItem.{HistItem}
 use Rattle.report_lines.specs.declared.history.Stand.{Stand}
@@ -9,8 +9,9 @@ use Rattle.report_lines.specs.Report.{report}
 use Rattle.report_lines.specs.Due.{orders}
 use Rattle.report_text.specs.Steps.{starting_text}
 use Rattle.report_text.specs.LineText.{line_text}
-use Rattle.report_text.specs.Said.{Said, says, ends, invalid, whole, ◌>>◌}
-use Rattle.report_text.specs.Around.{setups_of, setups_say, teardowns_say}
+use Rattle.report_text.specs.Said.{Said, says, invalid, ◌>>◌}
+use Rattle.report_text.specs.Setups.{setups_of, setups_say}
+use Rattle.report_text.specs.Teardowns.{teardowns_say}
 
 -- where the report stands after the entries
 abbrev pub stand_says : Stand → Said

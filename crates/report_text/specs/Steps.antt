@@ -1,5 +1,5 @@
 -- The steps that entries name.
-use Rattle.std.specs.Prelude.{ℕ, ◌-◌, ◌==◌, List, [], ◌∷◌, ◌++◌, flat_map, codes, Option, Some, None, option_and_then, slice_get, if◌then◌else◌}
+use Rattle.std.specs.Prelude.{ℕ, ◌-◌, ◌==◌, List, [], ◌∷◌, ◌++◌, flat_map, codes, Option, None, option_and_then, slice_get, if◌then◌else◌}
 use Rattle.std.specs.Option.{option_map_or}
 use Rattle.iso_lexer.specs.Names.{decoded}
 use Rattle.spec_parser.specs.Trees.{StepTree, SessionTree, EntryTree}

@@ -6,7 +6,7 @@ ghost use Rattle.spec_parser.specs.Trees.{session_view};
 ghost use Rattle.report_text.specs.Steps.{session_numbered};
 ghost use Rattle.report_text.specs.Replies.{last_outcome};
 ghost use Rattle.report_text.specs.FaultText.{fault_text};
-ghost use Rattle.report_text.specs.Around.{name_of, note_front, note, failure_note};
+ghost use Rattle.report_text.specs.Teardowns.{name_of, note_front, note, failure_note};
 
 use crate::fault_text::push_fault;
 use crate::page::{Page, push_name};

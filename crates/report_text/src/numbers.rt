@@ -1,8 +1,9 @@
-//! The sessions whose blocks stand around the steps.
+//! The sessions whose blocks stand around the steps, by their numbers: from 1, and 0 for the whole file.
 
 ghost use Rattle.std.specs.Prelude.{◌≡◌, ◌++◌, ◌∷◌, [], map, OnOk, IfOk, if◌then◌else◌};
 ghost use Rattle.spec_parser.specs.Trees.{session_view, spec_view};
-ghost use Rattle.report_text.specs.Around.{has_setup, has_teardown, numbers_of, setups_of, teardowns_of};
+ghost use Rattle.report_text.specs.Setups.{has_setup, numbers_of, setups_of};
+ghost use Rattle.report_text.specs.Teardowns.{has_teardown, teardowns_of};
 
 use spec_parser::{SessionPart, Spec};
 use std::alloc::{AllocError, Global};

@@ -6,7 +6,8 @@ ghost use Rattle.spec_parser.specs.Trees.{entry_view, session_view, spec_view};
 ghost use Rattle.report_lines.specs.Due.{orders};
 ghost use Rattle.report_text.specs.Steps.{starting_text};
 ghost use Rattle.report_text.specs.LineText.{line_text};
-ghost use Rattle.report_text.specs.Around.{setups_of, setups_say, teardowns_say};
+ghost use Rattle.report_text.specs.Setups.{setups_of, setups_say};
+ghost use Rattle.report_text.specs.Teardowns.{teardowns_say};
 ghost use Rattle.report_text.specs.Permutation.{stand_says, entries_say, rest_says, all_says, permutation_says};
 ghost use Rattle.report_text.specs.Answers.{ending_of, ended_as, EndsAs, Puts, TellsPut, TellsPuts, TellsFailure};
 

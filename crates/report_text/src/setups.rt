@@ -5,7 +5,7 @@ ghost use Rattle.std.specs.Str.Lossy.{utf8_lossy};
 ghost use Rattle.report_text.specs.FaultText.{fault_text};
 ghost use Rattle.report_lines.specs.Due.{orders};
 ghost use Rattle.report_text.specs.Replies.{last_outcome};
-ghost use Rattle.report_text.specs.Around.{setup_ending, setups_say};
+ghost use Rattle.report_text.specs.Setups.{setup_ending, setups_say};
 ghost use Rattle.report_text.specs.Answers.{ending_of};
 
 use crate::fault_text::push_fault;

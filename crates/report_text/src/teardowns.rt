@@ -3,7 +3,7 @@
 ghost use Rattle.std.specs.Prelude.{◌≡◌, ◌++◌, ◌+◌, ◌<◌, ◌^◌, [], map, codes, OnOk, IfOk};
 ghost use Rattle.spec_parser.specs.Trees.{session_view, spec_view};
 ghost use Rattle.report_text.specs.Replies.{rows_text, last_outcome};
-ghost use Rattle.report_text.specs.Around.{note, failure_note, teardown_text, teardown_note, behind, torn, last_teardown_of, teardowns_say};
+ghost use Rattle.report_text.specs.Teardowns.{note, failure_note, teardown_text, teardown_note, behind, torn, last_teardown_of, teardowns_say};
 
 use crate::notes::{push_last_note, push_would_wait};
 use crate::numbers::teardowns_of;

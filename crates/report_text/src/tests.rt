@@ -151,8 +151,11 @@ fn run(
     number: usize,
     items: &[HistItem<'_>],
     puts: (usize, usize),
-) -> Result<Reported, Fail> {
-    let spec = parse_spec(alloc, text)?;
+) -> Result<Reported, &'static str> {
+    let spec = match parse_spec(alloc, text) {
+        Ok(spec) => spec,
+        Err(_) => return Err("no spec"),
+    };
     let entries = spec.perms.get(number).ok_or("no permutation")?;
     let mut out = Kept::new(puts.0);
     let mut notes = Kept::new(puts.1);
@@ -202,6 +205,30 @@ fn a_sink_fails_at_each_put(rt: HostRuntime) -> Result<(), Fail> {
     }
     let run = run(rt.alloc(), STAR_MARKER, 0, &items, (usize::MAX, 0))?;
     assert!(rt; matches!(run.ended, Err(ReportFault::Write)));
+    Ok(())
+}
+
+#[test]
+fn want_of_memory_leaves_a_prefix(rt: HostRuntime) -> Result<(), Fail> {
+    let alloc = rt.alloc();
+    let items = match star_marker_items(alloc) {
+        Ok(items) => items,
+        Err(_) => star_marker_items(alloc)?,
+    };
+    let first = run(alloc, STAR_MARKER, 0, &items, ENDLESS);
+    if let Ok(run) = &first
+        && is_whole(run)
+    {
+        assert_eq!(rt; run.out.text(), STAR_MARKER_OUT.as_bytes());
+        return Ok(());
+    }
+    if let Ok(run) = &first {
+        assert!(rt; matches!(run.ended, Err(ReportFault::Memory)));
+        assert!(rt; STAR_MARKER_OUT.as_bytes().starts_with(run.out.text()));
+    }
+    let again = run(alloc, STAR_MARKER, 0, &items, ENDLESS)?;
+    assert!(rt; is_whole(&again));
+    assert_eq!(rt; again.out.text(), STAR_MARKER_OUT.as_bytes());
     Ok(())
 }
 

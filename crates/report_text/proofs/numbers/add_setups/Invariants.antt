@@ -1,7 +1,7 @@
 use Rattle.std.proofs.Common.{◌≡◌, ◌+◌, ◌++◌, drop}
 use Rattle.std.specs.Prelude.{map}
 use Rattle.spec_parser.specs.Trees.{session_view}
-use Rattle.report_text.specs.Around.{has_setup, numbers_of}
+use Rattle.report_text.specs.Setups.{has_setup, numbers_of}
 use Rattle.report_text.proofs.numbers.add_setups.Given as goal
 
 abbrev pub invariant-loop-index : goal.invariant-loop-index

@@ -1,7 +1,8 @@
 use Rattle.std.proofs.Common.{◌≡◌, ◌+◌, ◌++◌, drop}
 use Rattle.std.specs.Prelude.{map}
 use Rattle.spec_parser.specs.Trees.{session_view}
-use Rattle.report_text.specs.Around.{has_teardown, numbers_of}
+use Rattle.report_text.specs.Setups.{numbers_of}
+use Rattle.report_text.specs.Teardowns.{has_teardown}
 use Rattle.report_text.proofs.numbers.add_teardowns.Given as goal
 
 abbrev pub invariant-loop-index : goal.invariant-loop-index

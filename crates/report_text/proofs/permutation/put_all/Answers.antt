@@ -4,7 +4,7 @@ use Rattle.spec_parser.specs.Trees.{spec_view}
 use Rattle.report_lines.specs.Due.{orders}
 use Rattle.report_text.specs.Said.{whole, setup_failed, setup_waits, is_whole}
 use Rattle.report_text.specs.Steps.{starting_text}
-use Rattle.report_text.specs.Around.{setups_of, setups_say}
+use Rattle.report_text.specs.Setups.{setups_of, setups_say}
 use Rattle.report_text.specs.Permutation.{rest_says, all_says}
 use Rattle.report_text.specs.Answers.{ending_of, ended_as}
 use Rattle.report_text.proofs.Saying.{setups_notes, ends_well, puts_well, notes_well, ends_early, puts_early, notes_early}

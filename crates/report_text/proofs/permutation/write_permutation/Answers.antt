@@ -3,7 +3,7 @@ use Rattle.std.specs.Prelude.{map}
 use Rattle.report_lines.specs.History.{Setting}
 use Rattle.spec_parser.specs.Trees.{entry_view, spec_view}
 use Rattle.report_text.specs.Said.{Said}
-use Rattle.report_text.specs.Around.{setups_of}
+use Rattle.report_text.specs.Setups.{setups_of}
 use Rattle.report_text.specs.Permutation.{all_says, permutation_says}
 use Rattle.report_text.specs.Answers.{EndsAs, Puts}
 use Rattle.report_text.proofs.Counting.{orders-le}

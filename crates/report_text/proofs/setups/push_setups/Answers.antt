@@ -1,6 +1,6 @@
-use Rattle.std.proofs.Common.{◌≡◌, ◌≤◌, ◌++◌, List, [], ℕ, sym, ap, ◌∙◌, arith, drop}
+use Rattle.std.proofs.Common.{◌≡◌, ◌≤◌, ◌++◌, [], ℕ, sym, ap, ◌∙◌, arith, drop}
 use Rattle.report_text.specs.Said.{Said, says}
-use Rattle.report_text.specs.Around.{setups_say}
+use Rattle.report_text.specs.Setups.{setups_say}
 use Rattle.report_text.proofs.Saying.{setups_gone, gone_text}
 use Rattle.report_text.proofs.setups.push_setups.Goals as goal
 

@@ -1,5 +1,5 @@
 use Rattle.std.proofs.Common.{◌≡◌, ◌++◌, drop}
-use Rattle.report_text.specs.Around.{setups_say}
+use Rattle.report_text.specs.Setups.{setups_say}
 use Rattle.report_text.proofs.setups.push_setups.Given as goal
 
 abbrev pub invariant-loop-number : goal.invariant-loop-number

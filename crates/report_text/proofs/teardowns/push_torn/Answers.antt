@@ -1,7 +1,7 @@
-use Rattle.std.proofs.Common.{◌≡◌, ◌≤◌, List, ℕ, sym, ap, ◌∙◌, arith, drop}
+use Rattle.std.proofs.Common.{◌≤◌, sym, ap, ◌∙◌, arith, drop}
 use Rattle.std.specs.Prelude.{map}
 use Rattle.spec_parser.specs.Trees.{session_view}
-use Rattle.report_text.specs.Around.{Torn, torn}
+use Rattle.report_text.specs.Teardowns.{Torn, torn}
 use Rattle.report_text.proofs.Saying.{gone_text}
 use Rattle.report_text.proofs.Tearing.{torn_gone}
 use Rattle.report_text.proofs.teardowns.push_torn.Goals as goal

@@ -1,7 +1,7 @@
 use Rattle.std.proofs.Common.{◌≡◌, ◌++◌, drop}
 use Rattle.std.specs.Prelude.{map}
 use Rattle.spec_parser.specs.Trees.{session_view}
-use Rattle.report_text.specs.Around.{torn}
+use Rattle.report_text.specs.Teardowns.{torn}
 use Rattle.report_text.proofs.teardowns.push_torn.Given as goal
 
 abbrev pub invariant-loop-session : goal.invariant-loop-session

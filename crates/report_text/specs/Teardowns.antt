@@ -1,32 +1,22 @@
--- What setups and teardowns say.
-use Rattle.std.specs.Prelude.{ℕ, ◌+◌, ◌==◌, Bool, nat_le, List, [], ◌∷◌, ◌++◌, length, replicate, codes, is_some, if◌then◌else◌}
+-- What teardowns say.
+use Rattle.std.specs.Prelude.{ℕ, ◌+◌, Bool, nat_le, List, [], ◌∷◌, ◌++◌, length, codes, is_some, if◌then◌else◌}
 use Rattle.std.specs.Option.{option_map_or}
-use Rattle.std.specs.Str.Lossy.{utf8_lossy}
 use Rattle.iso_lexer.specs.Names.{decoded}
 use Rattle.spec_parser.specs.Trees.{SessionTree, SpecTree}
 use Rattle.session_machine.specs.declared.reply.HistItem.{HistItem}
 use Rattle.session_machine.specs.declared.reply.Outcome.{Outcome}
 use Rattle.session_machine.specs.declared.reply.Outcome.TheVariants.{Launched, Done, Rows, Waits, Failed, Left}
-use Rattle.report_lines.specs.Due.{segment, is_over, went_well}
+use Rattle.report_lines.specs.Due.{segment, is_over}
 use Rattle.report_text.specs.FaultText.{fault_text}
 use Rattle.report_text.specs.Replies.{rows_text, last_outcome}
 use Rattle.report_text.specs.Steps.{session_numbered}
-use Rattle.report_text.specs.Said.{Ending, setup_failed, setup_waits, whole, Said, says, ends, ◌>>◌}
+use Rattle.report_text.specs.Said.{whole, Said}
+use Rattle.report_text.specs.Setups.{numbers_of}
 
--- ---- whose they are, in their order: a session of the file by its number from 1, and 0 for those of the whole file
-
-abbrev pub has_setup : SessionTree → Bool
-has_setup s = is_some s.setup
+-- ---- whose they are: a session of the file by its number from 1, and 0 for that of the whole file
 
 abbrev pub has_teardown : SessionTree → Bool
 has_teardown s = is_some s.teardown
-
-abbrev pub numbers_of : (SessionTree → Bool) → ℕ → List SessionTree → List ℕ
-numbers_of has k [] = []
-numbers_of has k (s ∷ ss) = if has s then k ∷ numbers_of has (k + 1) ss else numbers_of has (k + 1) ss
-
-abbrev pub setups_of : SpecTree → List ℕ
-setups_of spec = replicate (length spec.setups) 0 ++ numbers_of has_setup 1 spec.sessions
 
 abbrev pub teardowns_of : SpecTree → List ℕ
 teardowns_of spec = numbers_of has_teardown 1 spec.sessions
@@ -34,26 +24,7 @@ teardowns_of spec = numbers_of has_teardown 1 spec.sessions
 abbrev pub last_teardown_of : SpecTree → List ℕ
 last_teardown_of spec = if is_some spec.teardown then 0 ∷ [] else []
 
--- ---- setups
-
--- a setup that did not go well failed, with its text, or it waits; what is no UTF-8 in a text stands as U+FFFD
-abbrev pub setup_ending : Outcome → Ending
-setup_ending Launched = setup_waits
-setup_ending Done = setup_waits
-setup_ending (Rows set) = setup_waits
-setup_ending Waits = setup_waits
-setup_ending (Failed fault) = setup_failed (utf8_lossy (fault_text fault))
-setup_ending Left = setup_waits
-
--- the setups from a segment on, of which so many segments are there: the table of each one's last reply, up to one that did not go well
-abbrev pub setups_say : List HistItem → ℕ → ℕ → List ℕ → Said
-setups_say items there k [] = says []
-setups_say items there k (session ∷ sessions) =
-    if nat_le there k then says []
-    else (if went_well items k session then says (rows_text (last_outcome (segment items k))) >> setups_say items there (k + 1) sessions
-    else ends (setup_ending (last_outcome (segment items k))))
-
--- ---- notes on teardowns
+-- ---- notes
 
 abbrev pub name_of : SessionTree → List ℕ
 name_of s = codes " of session " ++ decoded s.name
@@ -73,7 +44,7 @@ failure_note sessions session Waits = []
 failure_note sessions session (Failed fault) = note sessions session (fault_text fault)
 failure_note sessions session Left = []
 
--- ---- teardowns one after the other
+-- ---- one teardown
 
 -- the table of a teardown's last reply, if it is over
 abbrev pub teardown_text : List HistItem → ℕ → ℕ → List ℕ
@@ -87,6 +58,8 @@ teardown_note sessions items k session =
 -- the segment behind its own; one that waits takes a Leave as well
 abbrev pub behind : List HistItem → ℕ → ℕ → ℕ
 behind items k session = if is_over items k session then k + 1 else k + 2
+
+-- ---- one after the other
 
 -- what teardowns say, and the segment behind theirs
 pub record Torn : Type 0 where
