@@ -2,7 +2,7 @@
 
 use crate::expr::parse_expr;
 use iso_lexer::{At, Name, Span, SqlSign};
-use sql_trees::{Expr, Operator, Tok, Truth, word_of};
+use sql_trees::{Expr, Operator, SqlFault, Tok, Truth, word_of};
 use std::alloc::{AllocError, Global};
 use std::test::Fail;
 
@@ -318,4 +318,17 @@ fn depth_is_limited(rt: HostRuntime) -> Result<(), Fail> {
         assert!(rt; got.as_str().ends_with(expected), "{text} gives {got}");
     }
     Ok(())
+}
+
+// Passes where any one allocation fails too: then the call answers Memory, and the next one reads the expression.
+#[test]
+fn want_of_memory_is_told_as_such(rt: HostRuntime) {
+    let text = "a + 1 in ( - b , ( 2 || 'c' ) ) or not d between 1 and 2 and e is not null";
+    let Ok(tokens) = tokens_of(rt.alloc(), text) else {
+        return;
+    };
+    if let Err(fault) = parse_expr(rt.alloc(), text.len(), &tokens) {
+        assert_eq!(rt; fault, SqlFault::Memory);
+        assert!(rt; parse_expr(rt.alloc(), text.len(), &tokens).is_ok());
+    }
 }

@@ -1,5 +1,5 @@
 -- The statements of a block are kept.
-use Rattle.std.proofs.Common.{◌≡◌, ℕ, zero, suc, ◌+◌, ◌<◌, ◌≤◌, ◌^◌, List, [], ◌∷◌, ◌++◌, length, Option, Some, None, refl, sym, ap, subst, ◌∙◌, arith, length-append}
+use Rattle.std.proofs.Common.{◌≡◌, ℕ, ◌+◌, ◌<◌, ◌^◌, List, [], ◌∷◌, ◌++◌, length, Option, Some, None, refl, ap, subst, ◌∙◌, arith, length-append}
 use Rattle.std.proofs.lemmas.Bool.{and_from, not_from_false}
 use Rattle.std.specs.List.{list_all}
 use Rattle.std.specs.Prelude.{Result, Ok, Err, Bool, true, false, not, ◌&&◌, nat_lt, if◌then◌else◌}
@@ -7,7 +7,6 @@ use Rattle.iso_lexer.specs.declared.token.At.{At}
 use Rattle.sql_trees.specs.declared.fault.SqlFault.{SqlFault}
 use Rattle.sql_trees.specs.declared.fault.SqlFault.TheVariants.{TooMany, DdlInSession}
 use Rattle.sql_trees.specs.declared.word.Word.TheVariants as words
-use Rattle.sql_trees.specs.declared.stmt.Level.{Level}
 use Rattle.sql_trees.specs.Statements.{StmtTree, Begin, Commit, Rollback, SetTransaction, SetDeadlockTimeout, DropTables}
 use Rattle.sql_trees.specs.Tokens.{Token, Tokens}
 use Rattle.sql_trees.specs.Tokens as tok
@@ -16,7 +15,7 @@ use Rattle.sql_parser.specs.declared.block.Role.{Role}
 use Rattle.sql_parser.specs.Readers.{items_at, keyword, past}
 use Rattle.sql_parser.specs.Transactions.{is_work, is_scope, is_to, is_setting, isolation_at, begin_of, begin_at, start_at, parameter_of, parameter_at, set_of, set_at}
 use Rattle.sql_parser.specs.Tables.{drop_add, drop_of, drop_names, drop_at, after_if}
-use Rattle.sql_parser.specs.Blocks.{is_ddl, is_session, is_semicolon, simple_of, simple_at, begun_of, begun_at, allowed_at, stmt_at, at_end, whole_at, piece_at, stmts_at, block_at}
+use Rattle.sql_parser.specs.Blocks.{is_ddl, is_session, is_semicolon, simple_of, simple_at, begun_of, begun_at, stmt_at, at_end, whole_at, piece_at, stmts_at, block_at}
 use Rattle.sql_parser.specs.Kept.{is_kept, is_kept_in, makes_or_drops}
 use Rattle.sql_parser.proofs.Keeping.{Fine, FineOrNot, insert_fine, update_fine, delete_fine, select_fine}
 use Rattle.sql_parser.proofs.KeysKept.{create_fine}
@@ -119,7 +118,7 @@ module _ (last : ℕ) where
   at_end_ok r [] s e = e
   at_end_ok r (t ∷ ts) s e = absurd cc
 
-  whole_kept : (role : Role) (ts : Tokens) (s : StmtTree) → whole_at last role ts ≡ Ok s → length ts < 2 ^ 32 → is_kept_in role s ≡ true
+  pub whole_kept : (role : Role) (ts : Tokens) (s : StmtTree) → whole_at last role ts ≡ Ok s → length ts < 2 ^ 32 → is_kept_in role s ≡ true
   unfolding whole_at
   whole_kept role ts s e less =
       let x = bind_ok (stmt_at last role ts) (λ x. at_end last x.0 x.1) s e in

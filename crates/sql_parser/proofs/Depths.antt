@@ -1,11 +1,11 @@
 -- An expression that is read is no deeper than its depth as it was written, which is 64 at most.
-use Rattle.std.proofs.Common.{◌≡◌, ℕ, suc, ◌+◌, ◌<◌, ◌≤◌, List, [], ◌∷◌, refl, subst, arith}
+use Rattle.std.proofs.Common.{◌≡◌, ℕ, suc, ◌+◌, ◌<◌, ◌≤◌, subst, arith}
 use Rattle.std.proofs.lemmas.Bool.{lt-ltb}
-use Rattle.std.specs.Prelude.{Result, Ok, Err, Bool, true, max}
+use Rattle.std.specs.Prelude.{Ok, true, max}
 use Rattle.sql_trees.specs.Tokens.{Token, Tokens}
 use Rattle.sql_trees.specs.Trees.{Tree, Trees, none, more, Null, Flag, Number, Text, Column, Plus, Minus, Not, Binary, Is, In, Between}
 use Rattle.sql_expressions.specs.Build.{negated, push}
-use Rattle.sql_expressions.specs.Reading.{Found, expr_at, ◌>>=◌}
+use Rattle.sql_expressions.specs.Reading.{expr_at}
 use Rattle.sql_expressions.specs.Grammar.{Level, Spells, only, chain, negation, is, comparison, contained, between, minus, plus, parens, literal, Items, one, next, IsLeaf, number, text, column, yes, no, null}
 use Rattle.sql_expressions.proofs.Levels.{expr_begins}
 use Rattle.sql_parser.specs.Readers.{tree_at}

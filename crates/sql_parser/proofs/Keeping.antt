@@ -1,5 +1,5 @@
 -- What is read of INSERT, UPDATE, DELETE and SELECT is kept.
-use Rattle.std.proofs.Common.{◌≡◌, ℕ, zero, suc, List, [], ◌∷◌, ◌++◌, length, map, Option, Some, None, refl, sym, ap, subst, ◌∙◌, arith}
+use Rattle.std.proofs.Common.{◌≡◌, ℕ, List, [], ◌∷◌, ◌++◌, length, Option, Some, None, refl, sym, ap, subst, ◌∙◌}
 use Rattle.std.proofs.lemmas.Bool.{and_from, and_parts, or_parts, not_from_false}
 use Rattle.std.proofs.lemmas.List.{map-append}
 use Rattle.std.proofs.lemmas.List.Folds.{list_any-append}
@@ -47,7 +47,7 @@ differ_push (m ∷ ms) n h k =
 
 -- ---- rows
 
-abbrev width_behind : Option ℕ → List (List Tree) → Option ℕ
+abbrev pub width_behind : Option ℕ → List (List Tree) → Option ℕ
 width_behind w [] = w
 width_behind w (r ∷ rs) = width_behind (Some (length r)) rs
 
@@ -57,7 +57,7 @@ rows_push w (q ∷ rs) r h k =
     let p = and_parts (fits w (length q)) (rows_fit (Some (length q)) rs) h in
     and_from (fits w (length q)) (rows_fit (Some (length q)) (rs ++ r ∷ [])) p.0 (rows_push (Some (length q)) rs r p.1 k)
 
-behind_push : (w : Option ℕ) (rs : List (List Tree)) (r : List Tree) → width_behind w (rs ++ r ∷ []) ≡ Some (length r)
+pub behind_push : (w : Option ℕ) (rs : List (List Tree)) (r : List Tree) → width_behind w (rs ++ r ∷ []) ≡ Some (length r)
 behind_push w [] r = refl
 behind_push w (q ∷ rs) r = behind_push (Some (length q)) rs r
 

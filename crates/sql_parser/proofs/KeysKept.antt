@@ -1,26 +1,26 @@
 -- The keys of a table, where none has a fault, are kept.
-use Rattle.std.proofs.Common.{◌≡◌, ℕ, zero, suc, ◌+◌, ◌<◌, ◌≤◌, ◌^◌, List, [], ◌∷◌, ◌++◌, length, map, get_or, Option, Some, None, refl, sym, ap, subst, ◌∙◌, arith, append_assoc, append-nil, length-append}
+use Rattle.std.proofs.Common.{◌≡◌, ℕ, suc, ◌+◌, ◌<◌, ◌≤◌, ◌^◌, List, [], ◌∷◌, ◌++◌, length, map, get_or, Option, Some, None, refl, sym, ap, subst, ◌∙◌, arith, append_assoc, append-nil, length-append}
 use Rattle.std.proofs.lemmas.Bool.{and_from, and_parts, or_parts, not_from_false, not-true, lt-ltb, false_from_ne_true}
 use Rattle.std.proofs.lemmas.Bool.Decides.{Decides-eqb}
 use Rattle.std.proofs.lemmas.List.{map-append, length-map}
 use Rattle.std.proofs.lemmas.List.Folds.{list_any-append, list_all-append}
 use Rattle.std.proofs.lemmas.Slice.Eq.{bytes_eq-Decides}
 use Rattle.std.specs.List.{list_any, list_all, filter}
-use Rattle.std.specs.Prelude.{Result, Ok, Err, Bool, true, false, not, ◌&&◌, ◌||◌, ◌==◌, nat_lt, bytes_eq, if◌then◌else◌}
+use Rattle.std.specs.Prelude.{Result, Ok, Bool, true, false, not, ◌&&◌, ◌||◌, ◌==◌, nat_lt, bytes_eq, if◌then◌else◌}
 use Rattle.sql_trees.specs.declared.fault.SqlFault.{SqlFault}
 use Rattle.sql_trees.specs.declared.word.Word.TheVariants as words
-use Rattle.sql_trees.specs.Statements.{StmtTree, ColumnTree, KeyTree, CreateTree, Create}
+use Rattle.sql_trees.specs.Statements.{StmtTree, ColumnTree, KeyTree}
 use Rattle.sql_trees.specs.Tokens.{Tokens}
 use Rattle.sql_expressions.specs.Reading.{expect, is_close, is_open, is_word, ◌>>=◌}
 use Rattle.sql_parser.specs.Readers.{items_at, keyword, name_at}
 use Rattle.sql_parser.specs.Tables.{Placed, KeyRead, TableRead, is_among, placed_names, column_names, empty_table, key_name, made_name, first_place, first_lacking, text_fault, or_else, keys_fault, completed, place_among, places_in, resolved, is_kept, resolved_keys, declared, table_of, finished, table_add, create_at}
 use Rattle.sql_parser.specs.Kept.{all_differ, places_differ, names_at, key_fits, tree_name, table_kept}
-use Rattle.sql_parser.proofs.Keeping.{FineOrNot, Fine, differ_push, or_none}
+use Rattle.sql_parser.proofs.Keeping.{FineOrNot, differ_push, or_none}
 use Rattle.sql_parser.proofs.Steps.{bind_ok, ok_same}
 use Rattle.sql_parser.proofs.TablesKept.{TableWithin, key_differs, table_within, expect_shorter, name_shorter}
 
 -- the columns of a key are columns of the table
-abbrev key_among : List (List ℕ) → KeyRead → Bool
+abbrev pub key_among : List (List ℕ) → KeyRead → Bool
 key_among columns k = list_all (λ n. is_among n columns) (placed_names k.columns)
 
 -- ---- without a fault
@@ -111,7 +111,7 @@ module _ (table : List ℕ) (columns : List (List ℕ)) (primary : Bool) where
   abbrev kept_of : List KeyRead → List KeyRead
   kept_of ks = filter (is_kept primary) ks
 
-  names_kept : (ks : List KeyRead) → list_all (key_among columns) ks ≡ true → map (tree_name table columns) (map (resolved columns) (kept_of ks)) ≡ map (made_name table) (kept_of ks)
+  pub names_kept : (ks : List KeyRead) → list_all (key_among columns) ks ≡ true → map (tree_name table columns) (map (resolved columns) (kept_of ks)) ≡ map (made_name table) (kept_of ks)
   names_kept [] e = refl
   names_kept (k ∷ ks) e = of_test (is_kept primary k) (names_kept ks p.1)
     where
@@ -173,7 +173,7 @@ differ_insert (x ∷ xs) ys n h k l =
     (differ_insert xs ys n p.1 q.1 l)
 
 module _ (table : List ℕ) where
-  abbrev made : Bool → List KeyRead → List (List ℕ)
+  abbrev pub made : Bool → List KeyRead → List (List ℕ)
   made primary ks = map (made_name table) (filter (is_kept primary) ks)
 
   differ_parts : (ks : List KeyRead) → all_differ (map (made_name table) ks) ≡ true → all_differ (made true ks ++ made false ks) ≡ true
@@ -206,7 +206,7 @@ parts_length (k ∷ ks) = of_test k.primary (parts_length ks)
 
 -- ---- the table
 
-names_stay : (ks : List KeyRead) (cs : List ColumnTree) → column_names (map (completed ks) cs) ≡ column_names cs
+pub names_stay : (ks : List KeyRead) (cs : List ColumnTree) → column_names (map (completed ks) cs) ≡ column_names cs
 names_stay ks [] = refl
 names_stay ks (c ∷ cs) = ap (λ ns. c.name ∷ ns) (names_stay ks cs)
 

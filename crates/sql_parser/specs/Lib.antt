@@ -7,3 +7,6 @@ pub mod Blocks
 pub mod Views
 pub mod Texts
 pub mod Kept
+pub mod Grammar
+pub mod Stops
+pub mod Laws

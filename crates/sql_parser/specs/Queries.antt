@@ -12,7 +12,7 @@ use Rattle.sql_trees.specs.declared.stmt.Lock.TheVariants as locks
 use Rattle.sql_trees.specs.Statements.{StmtTree, ItemTree, All, Value, Aggregate, OrderTree, SelectTree, Selects}
 use Rattle.sql_trees.specs.Tokens.{Token, Tokens, named}
 use Rattle.sql_trees.specs.Tokens as tok
-use Rattle.sql_trees.specs.Trees.{Tree, AggTree, CountRows, Of}
+use Rattle.sql_trees.specs.Trees.{AggTree, CountRows, Of}
 use Rattle.sql_expressions.specs.Reading.{expect, is_open, is_close, ◌>>=◌}
 use Rattle.sql_expressions.specs.Reading.{is_word, after}
 use Rattle.sql_parser.specs.Readers.{keyword, name_at, tree_at, items_at}

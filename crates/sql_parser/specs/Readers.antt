@@ -1,15 +1,12 @@
 -- Parts of statements that several kinds of statement have, read from left to right with the first fault that is met.
-use Rattle.std.specs.Prelude.{◌≡◌, ℕ, zero, suc, ◌≤◌, Bool, true, false, ◌||◌, List, [], ◌∷◌, length, Option, Some, None, Result, Ok, Err, unwrap_or, if◌then◌else◌}
-use Rattle.iso_lexer.specs.declared.token.At.{At}
+use Rattle.std.specs.Prelude.{◌≡◌, ℕ, zero, suc, ◌≤◌, Bool, List, [], ◌∷◌, length, Option, Some, None, Result, Ok, Err, unwrap_or}
 use Rattle.sql_trees.specs.declared.fault.SqlFault.{SqlFault}
 use Rattle.sql_trees.specs.declared.fault.SqlFault.TheVariants.{LeftOut}
 use Rattle.sql_trees.specs.declared.word.Word.{Word}
-use Rattle.sql_trees.specs.declared.token.Tok.{Tok}
-use Rattle.sql_trees.specs.Words.{same_word}
 use Rattle.sql_trees.specs.Tokens.{Token, Tokens, named, tok_views}
 use Rattle.sql_trees.specs.Tokens as tok
 use Rattle.sql_trees.specs.Trees.{Tree}
-use Rattle.sql_expressions.specs.Reading.{Gives, after, after_comma, expect, expr_at, is_word, misplaced, ◌>>=◌}
+use Rattle.sql_expressions.specs.Reading.{after, after_comma, expect, expr_at, is_word, misplaced, ◌>>=◌}
 
 -- the tokens without the first, if it is of this kind
 abbrev pub past : (Token → Bool) → Tokens → Tokens

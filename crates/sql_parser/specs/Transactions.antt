@@ -1,14 +1,14 @@
 -- Statements on transactions (PostgreSQL manual: BEGIN, START TRANSACTION, COMMIT, ROLLBACK, SET TRANSACTION, SET).
-use Rattle.std.specs.Prelude.{ℕ, Bool, true, false, ◌||◌, List, [], ◌∷◌, Option, Some, None, Result, Ok, Err, if◌then◌else◌}
+use Rattle.std.specs.Prelude.{ℕ, Bool, true, false, ◌||◌, Option, Some, None, Result, Ok, Err}
 use Rattle.iso_lexer.specs.declared.sql_token.SqlSign.TheVariants as signs
 use Rattle.sql_trees.specs.declared.fault.SqlFault.{SqlFault}
 use Rattle.sql_trees.specs.declared.word.Word.TheVariants as words
 use Rattle.sql_trees.specs.declared.stmt.Level.{Level}
 use Rattle.sql_trees.specs.declared.stmt.Level.TheVariants.{ReadCommitted, RepeatableRead}
-use Rattle.sql_trees.specs.Statements.{StmtTree, Begin, Commit, Rollback, SetTransaction, SetDeadlockTimeout}
+use Rattle.sql_trees.specs.Statements.{StmtTree, Begin, SetTransaction, SetDeadlockTimeout}
 use Rattle.sql_trees.specs.Tokens.{Token, Tokens}
 use Rattle.sql_trees.specs.Tokens as tok
-use Rattle.sql_expressions.specs.Reading.{misplaced, expect, ◌>>=◌}
+use Rattle.sql_expressions.specs.Reading.{expect, ◌>>=◌}
 use Rattle.sql_expressions.specs.Reading.{is_word, after}
 use Rattle.sql_parser.specs.Readers.{past, keyword, misplaced_word}
 

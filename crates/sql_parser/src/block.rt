@@ -1,7 +1,7 @@
 //! Blocks of statements.
 
 ghost use Rattle.std.specs.List.{list_all};
-ghost use Rattle.std.specs.Prelude.{◌≡◌, true, ◌<◌, ◌≤◌, ◌^◌, [], IfOk, length, map, IfSome, vec_len, option_map};
+ghost use Rattle.std.specs.Prelude.{◌≡◌, ◌↔◌, true, ◌<◌, ◌≤◌, ◌^◌, [], IfOk, IsTrue, length, map, IfSome, vec_len, option_map};
 ghost use Rattle.sql_trees.specs.Statements.{stmt_of};
 ghost use Rattle.sql_trees.specs.Tokens.{tok_view, tok_views};
 ghost use Rattle.sql_expressions.specs.Reading.{Gives};
@@ -13,7 +13,7 @@ ghost use Rattle.sql_parser.specs.Kept.{is_kept_in};
 use crate::statement::stmt;
 use iso_lexer::{LexFault, SqlSign, sql_tokens};
 use sql_expressions::{Parser, Tokens};
-use sql_trees::{SqlFault, Stmt, Tok, classified};
+use sql_trees::{SqlFault, Stmt, Tok, classified, same_stmts};
 use std::alloc::Global;
 
 /// Where a block stands: in the setup or teardown of a whole spec, or in a session.
@@ -51,6 +51,14 @@ impl<'a> Block<'a> {
         ensures kept { list_all (is_kept_in self.now.role) (map stmt_of result.now) ≡ true }
     {
         &self.stmts
+    }
+
+    /// Whether two blocks are one: they stand in the same place, and have the same statements in the same order. Names and strings are
+    /// compared by the bytes that they stand for, all else as it stands.
+    pub fn same(&self, other: &Block<'_>) -> bool
+        ensures { IsTrue result ↔ ((self.now.role ≡ other.now.role) × (map stmt_of self.now.stmts.items ≡ map stmt_of other.now.stmts.items)) }
+    {
+        other.role == self.role && same_stmts(self.stmts(), other.stmts())
     }
 }
 

@@ -3,6 +3,7 @@
 
 mod block;
 mod change;
+mod laws;
 mod list;
 mod names;
 mod part;
@@ -13,6 +14,7 @@ mod table_keys;
 mod transaction;
 
 pub use block::{Block, MAX_STMTS, Role, parse_block};
+pub use laws::{block_faults_are_first, blocks_are_read, faults_are_first};
 
 #[cfg(test)]
 mod samples;

@@ -99,3 +99,16 @@ fn blocks_by_their_statements(rt: HostRuntime) -> Result<(), Fail> {
     assert!(rt; !same_stmts(&all, &[Stmt::Commit]));
     Ok(())
 }
+
+// Passes where any one allocation fails too: the next call has them all.
+#[test]
+fn want_of_memory_is_told_as_such(rt: HostRuntime) {
+    let token = At {
+        tok: SqlTok::Word("SELECT"),
+        span: Span { start: 0, end: 6 },
+    };
+    let tokens = [token; 20];
+    if classified(rt.alloc(), &tokens).is_err() {
+        assert!(rt; matches!(classified(rt.alloc(), &tokens), Ok(all) if all.len() == 20));
+    }
+}
