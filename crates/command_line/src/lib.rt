@@ -2,10 +2,10 @@
 #![tactic(auto)]
 
 mod options;
-mod serve;
+mod program;
 
 pub use options::{DEFAULT_LIMIT, Options, options_of, status_of};
-pub use serve::serve;
+pub use program::serve;
 
 #[cfg(test)]
 mod tests;

@@ -18,13 +18,40 @@ fn words_of(alloc: Global, words: &[&str]) -> Result<Vec<String>, AllocError> {
 fn words_give_options(rt: HostRuntime) -> Result<(), Fail> {
     let alloc = rt.alloc();
     let plain = options_of(alloc, words_of(alloc, &[])?.as_slice())?;
-    assert_eq!(rt; plain, Options { list: false, limit: 1_000_000 });
+    assert_eq!(rt;
+        plain,
+        Options {
+            list: false,
+            limit: 1_000_000
+        }
+    );
     let listed = options_of(alloc, words_of(alloc, &["--list"])?.as_slice())?;
-    assert_eq!(rt; listed, Options { list: true, limit: 1_000_000 });
+    assert_eq!(rt;
+        listed,
+        Options {
+            list: true,
+            limit: 1_000_000
+        }
+    );
     let none = options_of(alloc, words_of(alloc, &["--limit", "0"])?.as_slice())?;
-    assert_eq!(rt; none, Options { list: false, limit: 0 });
-    let most = options_of(alloc, words_of(alloc, &["--limit=4294967295", "--list"])?.as_slice())?;
-    assert_eq!(rt; most, Options { list: true, limit: 4_294_967_295 });
+    assert_eq!(rt;
+        none,
+        Options {
+            list: false,
+            limit: 0
+        }
+    );
+    let most = options_of(
+        alloc,
+        words_of(alloc, &["--limit=4294967295", "--list"])?.as_slice(),
+    )?;
+    assert_eq!(rt;
+        most,
+        Options {
+            list: true,
+            limit: 4_294_967_295
+        }
+    );
     Ok(())
 }
 

@@ -17,7 +17,7 @@ loop-permutations-preserved g c =
     let all = listed (spec_view c.args.spec.now) c.args.limit (permutations_of (spec_view c.args.spec.now)) in
     let more : c.loop-permutations.permutations.more ≡ c.advance.new.self.here ∷ c.advance.new.self.more = search rules in
     let some : 0 < c.loop-permutations.left = omega (arith, c.if-left-eq0.false) in
-    let line = c.as_slice.ensures.value ∙ c.in_ok-line.ensures ∙ ap (line_text (spec_view c.args.spec.now)) c.entries.ensures in
+    let line : c.as_slice.result.now ≡ line_text (spec_view c.args.spec.now) c.advance.new.self.here = c.as_slice.ensures.value ∙ c.in_ok-line.ensures ∙ ap (line_text (spec_view c.args.spec.now)) c.entries.ensures in
     goes_on (spec_view c.args.spec.now) c.loop-permutations.left (g.W.Sink.put_so_far c.args.out.now) (g.W.Sink.put_so_far c.loop-permutations.out) (g.W.Sink.put_so_far c.put.new.self) all c.loop-permutations.permutations.more c.advance.new.self.here c.advance.new.self.more c.as_slice.result.now
     c.loop-permutations.invariant more some line c.in_ok-put.ensures.bytes
 
