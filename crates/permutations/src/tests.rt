@@ -361,7 +361,7 @@ fn failing_reads_are_told_and_nothing_is_written(rt: HostRuntime) {
 
 #[test]
 fn failing_puts_are_told_on_each_device(rt: HostRuntime) {
-    let mut failed = 0;
+    let mut failed = 0_usize;
     for fails_at in 0..20 {
         let mut source = FromStd::new(TORN.as_bytes());
         let mut out = failing_at(fails_at);
@@ -369,7 +369,7 @@ fn failing_puts_are_told_on_each_device(rt: HostRuntime) {
         match run_spec(rt.alloc(), &mut source, &mut out, &mut notes, 1000) {
             Err(RunFault::Write) => {
                 assert!(rt; out.failed);
-                failed += 1;
+                failed = failed.saturating_add(1);
             }
             Ok(()) | Err(RunFault::Memory) => assert!(rt; !out.failed),
             Err(_) => assert!(rt; false, "refused"),
