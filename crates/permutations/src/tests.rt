@@ -18,6 +18,10 @@ const TWO_BY_TWO: &str = "session s1 step a1 { } step a2 { } session s2 step b1 
 /// A spec whose teardown fails.
 const TORN: &str = "session s step a { } teardown { SELECT 1/0 }";
 
+const TORN_TEXT: &str = "Parsed test spec with 1 sessions\n\nstarting permutation: a\nstep a: \n";
+
+const TORN_NOTES: &str = "isolationtester: teardown of session s failed: division by zero\n";
+
 fn run_bytes(
     alloc: Global,
     input: &[u8],
@@ -93,13 +97,7 @@ fn setups_and_teardowns_print_their_tables_and_fail_in_notes(
         "Parsed test spec with 1 sessions\n\nstarting permutation: a\n?column?\n--------\n       1\n(1 row)\n\n?column?\n--------\n       2\n(1 row)\n\nstep a: \n?column?\n--------\n       3\n(1 row)\n\n?column?\n--------\n       4\n(1 row)\n\n",
         "",
     )?;
-    prints(
-        &rt,
-        rt.alloc(),
-        TORN,
-        "Parsed test spec with 1 sessions\n\nstarting permutation: a\nstep a: \n",
-        "isolationtester: teardown of session s failed: division by zero\n",
-    )
+    prints(&rt, rt.alloc(), TORN, TORN_TEXT, TORN_NOTES)
 }
 
 #[test]
@@ -312,31 +310,39 @@ impl Source for FailingSource {
     }
 }
 
-/// Fails at a call.
+/// Takes the text that is to come, and fails at a call.
 #[derive(Drop)]
-struct FailingSink {
+struct FailingSink<'t> {
+    to_come: &'t [u8],
+    is_the_text: bool,
     calls: usize,
     fails_at: usize,
     failed: bool,
 }
 
-impl Sink for FailingSink {
+impl<'t> Sink for FailingSink<'t> {
     ghost put_so_far = { λ _. None };
 
     ghost failed = { λ s. s.failed };
 
-    fn put(&mut self, _bytes: &[u8]) -> Result<(), DeviceFault> {
+    fn put(&mut self, bytes: &[u8]) -> Result<(), DeviceFault> {
         if self.failed || self.calls == self.fails_at {
             self.failed = true;
             return Err(DeviceFault);
+        }
+        match self.to_come.strip_prefix(bytes) {
+            Some(rest) => self.to_come = rest,
+            None => self.is_the_text = false,
         }
         self.calls = self.calls.saturating_add(1);
         Ok(())
     }
 }
 
-fn failing_at(fails_at: usize) -> FailingSink {
+fn failing_at<'t>(fails_at: usize, text: &'t str) -> FailingSink<'t> {
     FailingSink {
+        to_come: text.as_bytes(),
+        is_the_text: true,
         calls: 0,
         fails_at,
         failed: false,
@@ -351,8 +357,8 @@ fn failing_reads_are_told_and_nothing_is_written(rt: HostRuntime) {
             fails_at,
             failed: false,
         };
-        let mut out = failing_at(usize::MAX);
-        let mut notes = failing_at(usize::MAX);
+        let mut out = failing_at(usize::MAX, TORN_TEXT);
+        let mut notes = failing_at(usize::MAX, TORN_NOTES);
         let run = run_spec(rt.alloc(), &mut source, &mut out, &mut notes, 1000);
         assert!(rt; matches!(run, Err(RunFault::Read) | Err(RunFault::Memory)));
         assert!(rt; out.calls == 0 && notes.calls == 0);
@@ -360,25 +366,34 @@ fn failing_reads_are_told_and_nothing_is_written(rt: HostRuntime) {
 }
 
 #[test]
-fn failing_puts_are_told_on_each_device(rt: HostRuntime) {
+fn failing_puts_are_told_and_leave_a_prefix(rt: HostRuntime) {
     let mut failed = 0_usize;
     for fails_at in 0..20 {
         let mut source = FromStd::new(TORN.as_bytes());
-        let mut out = failing_at(fails_at);
-        let mut notes = failing_at(usize::MAX);
-        match run_spec(rt.alloc(), &mut source, &mut out, &mut notes, 1000) {
+        let mut out = failing_at(fails_at, TORN_TEXT);
+        let mut notes = failing_at(usize::MAX, TORN_NOTES);
+        let run = run_spec(rt.alloc(), &mut source, &mut out, &mut notes, 1000);
+        assert!(rt; out.is_the_text && notes.is_the_text);
+        match run {
             Err(RunFault::Write) => {
                 assert!(rt; out.failed);
                 failed = failed.saturating_add(1);
             }
-            Ok(()) | Err(RunFault::Memory) => assert!(rt; !out.failed),
-            Err(_) => assert!(rt; false, "refused"),
+            Ok(()) => assert!(rt;
+                !out.failed && out.to_come.is_empty() && notes.to_come.is_empty()
+            ),
+            Err(fault) => assert!(rt; !out.failed && matches!(fault, RunFault::Memory)),
         }
     }
     assert!(rt; failed > 2);
+}
+
+#[test]
+fn notes_that_fail_are_told_behind_the_text_so_far(rt: HostRuntime) {
     let mut source = FromStd::new(TORN.as_bytes());
-    let mut out = failing_at(usize::MAX);
-    let mut notes = failing_at(0);
+    let mut out = failing_at(usize::MAX, TORN_TEXT);
+    let mut notes = failing_at(0, TORN_NOTES);
     let run = run_spec(rt.alloc(), &mut source, &mut out, &mut notes, 1000);
+    assert!(rt; out.is_the_text);
     assert!(rt; matches!(run, Err(RunFault::Write) | Err(RunFault::Memory)));
 }

@@ -5,7 +5,11 @@ mod course;
 mod entries;
 mod history;
 pub mod laws;
+#[cfg(test)]
+mod order_tests;
 mod plan;
+#[cfg(test)]
+mod samples;
 mod segments;
 mod telling;
 #[cfg(test)]

@@ -1,70 +1,14 @@
-//! What no clause says: that the calls succeed where memory is left, and the lines of histories made by hand. The orders are tested in `permutation_plans`.
+//! What no clause says: that the calls succeed where memory is left, and the lines of histories made by hand.
 //! A refused call is made again, so each test also passes where any one allocation fails.
 
 ghost use Rattle.std.specs.Prelude.{◌≡◌, ◌<◌, ◌^◌, ◌+◌, length};
 
 use super::*;
-use session_machine::{Event, HistItem, Order, Outcome, Reply, StmtFault};
+use crate::samples::{ends, entry, goes_on, launch, waits};
+use session_machine::HistItem;
 use spec_parser::{Entry, Marker};
 use std::alloc::{AllocError, Global};
 use std::process::Abort;
-
-fn launch<'t>(session: u32) -> HistItem<'t> {
-    HistItem {
-        event: Event::Launch { session, block: 0 },
-        reply: Reply {
-            outcome: Outcome::Launched,
-            ended: false,
-        },
-    }
-}
-
-fn step<'t>(session: u32, outcome: Outcome<'t>, ended: bool) -> HistItem<'t> {
-    HistItem {
-        event: Event::Step { session },
-        reply: Reply { outcome, ended },
-    }
-}
-
-/// A statement with another one behind it.
-fn goes_on<'t>(session: u32) -> HistItem<'t> {
-    step(session, Outcome::Done, false)
-}
-
-/// A block's last statement.
-fn ends<'t>(session: u32) -> HistItem<'t> {
-    step(session, Outcome::Done, true)
-}
-
-fn waits<'t>(session: u32) -> HistItem<'t> {
-    step(session, Outcome::Waits, false)
-}
-
-fn fails<'t>(session: u32) -> HistItem<'t> {
-    step(session, Outcome::Failed(StmtFault::TooManyValues), true)
-}
-
-fn leaves<'t>(session: u32) -> HistItem<'t> {
-    HistItem {
-        event: Event::Leave { session },
-        reply: Reply {
-            outcome: Outcome::Left,
-            ended: true,
-        },
-    }
-}
-
-fn entry(alloc: Global, session: u32, step: u32, markers: &[Marker]) -> Result<Entry, AllocError> {
-    let markers = match Vec::from_slice(alloc, markers) {
-        Ok(markers) => markers,
-        Err(_) => Vec::from_slice(alloc, markers)?,
-    };
-    Ok(Entry {
-        session,
-        step,
-        markers,
-    })
-}
 
 /// What is said of these entries, after so many segments of setups, where so many of their own segments are there.
 #[derive(Clone, Copy)]

@@ -1,10 +1,11 @@
 //! Texts of blocks and what they are read as.
 
-use crate::block::Role;
+use crate::block::{Role, parse_block};
 use crate::samples::{
     CHANGES, FAULTS, LEFT_OUT, NAMES_LEFT_OUT, NO_NAMES, QUERIES, TABLES, TRANSACTIONS,
 };
 use crate::shown::reading;
+use sql_trees::SqlFault;
 use std::alloc::Global;
 use std::test::Fail;
 
@@ -116,7 +117,7 @@ fn nested(
 }
 
 // How many times the opening and the close stand, the parts, and the end of what the block is read as.
-const NESTED: [(&str, usize, [&str; 5], &str); 19] = [
+const NESTED: [(&str, usize, [&str; 5], &str); 22] = [
     (
         "sixty_four_parentheses",
         64,
@@ -226,6 +227,24 @@ const NESTED: [(&str, usize, [&str; 5], &str); 19] = [
         "Q3 TooDeep at byte 7",
     ),
     (
+        "sixty-four NOTs in WHERE",
+        64,
+        ["DELETE FROM t WHERE ", "NOT ", "TRUE", "", ""],
+        "(NOT TRUE))))))))))))))))))))))))))))))))))))))))))))))))))))))))))))))))",
+    ),
+    (
+        "sixty-four signs in VALUES",
+        64,
+        ["INSERT INTO t VALUES (1), (", "+ ", "a", "", ")"],
+        "(+ a)))))))))))))))))))))))))))))))))))))))))))))))))))))))))))))))) )",
+    ),
+    (
+        "sixty-four parentheses in SET",
+        64,
+        ["UPDATE t SET a = ", "(", "1", ")", " WHERE TRUE"],
+        "UPDATE t, a = 1 WHERE TRUE",
+    ),
+    (
         "unterminated_comment",
         300,
         ["SELECT 1 /", "*/", "", "", ""],
@@ -240,5 +259,39 @@ fn depth_and_length(rt: HostRuntime) -> Result<(), Fail> {
         let got = reading(rt.alloc(), &text, Role::Session)?;
         assert!(rt; got.as_str().ends_with(expected), "{name}: {got}");
     }
+    Ok(())
+}
+
+// A block with each kind of statement.
+const ALL_KINDS: &str = "BEGIN ISOLATION LEVEL REPEATABLE READ; SET deadlock_timeout = '1s'; \
+    CREATE TABLE t (a INT PRIMARY KEY, b TEXT NOT NULL, UNIQUE (b, a)); INSERT INTO t (a, b) VALUES (1, 'x'), (2, 'y' || 'z'); \
+    UPDATE t SET a = a + 1, b = 'u' WHERE a IN (1, 2) AND NOT b IS NULL; DELETE FROM t WHERE a BETWEEN 1 AND 2; \
+    SELECT a AS c, -b FROM t WHERE a = 1 ORDER BY a DESC NULLS LAST, b FOR UPDATE; SELECT count(*), sum(a) FROM t; \
+    DROP TABLE IF EXISTS t, u; COMMIT";
+
+// Passes where any one allocation fails too: then the call answers Memory, and the next one reads the block.
+#[test]
+fn want_of_memory_is_told_as_such(rt: HostRuntime) {
+    if let Err(fault) = parse_block(rt.alloc(), ALL_KINDS, Role::Main) {
+        assert_eq!(rt; fault, SqlFault::Memory);
+        assert!(rt; parse_block(rt.alloc(), ALL_KINDS, Role::Main).is_ok());
+    }
+}
+
+#[test]
+fn blocks_compared(rt: HostRuntime) -> Result<(), Fail> {
+    let read = parse_block(rt.alloc(), "SELECT a FROM t; COMMIT", Role::Session)?;
+    let same = parse_block(
+        rt.alloc(),
+        " select A from \"t\";; END WORK;",
+        Role::Session,
+    )?;
+    let other = parse_block(rt.alloc(), "SELECT a FROM t; ROLLBACK", Role::Session)?;
+    let fewer = parse_block(rt.alloc(), "SELECT a FROM t", Role::Session)?;
+    let elsewhere = parse_block(rt.alloc(), "SELECT a FROM t; COMMIT", Role::Main)?;
+    assert!(rt; read.same(&same));
+    assert!(rt; !read.same(&other));
+    assert!(rt; !read.same(&fewer));
+    assert!(rt; !read.same(&elsewhere));
     Ok(())
 }

@@ -43,11 +43,11 @@ fn blocks<'a>(alloc: Global, filling: &'a str) -> Result<Vec<Block<'a>>> {
     Ok(blocks)
 }
 
-/// A step's outcome: how many rows it showed, if it showed any; and the microseconds that it took.
+/// A step's outcome: how many rows it showed, if it showed any; and the nanoseconds that it took.
 #[derive(Clone, Copy)]
 struct Stepped {
     rows: Option<usize>,
-    micros: u128,
+    nanos: u128,
 }
 
 fn step<'a, 't>(
@@ -59,12 +59,12 @@ fn step<'a, 't>(
     let Ok(reply) = engine.step(session) else {
         bail!("a step was refused");
     };
-    let micros = start.elapsed(rt)?.as_micros();
+    let nanos = start.elapsed(rt)?.as_nanos();
     let rows = match &reply.outcome {
         Outcome::Rows(set) => Some(set.rows().len()),
         _ => None,
     };
-    Ok(Stepped { rows, micros })
+    Ok(Stepped { rows, nanos })
 }
 
 /// Gives session 1 a block of one statement, and steps it.
@@ -101,8 +101,8 @@ fn measure<'a, 't>(
     };
     println!(rt; "a table of {count} rows: {before} are read, and {after} behind an INSERT")?;
     if with_times {
-        eprintln!(rt; "SELECT of {count} rows: {} µs", select.micros)?;
-        eprintln!(rt; "INSERT into {count} rows: {} µs", insert.micros)?;
+        eprintln!(rt; "SELECT of {count} rows: {} ns", select.nanos)?;
+        eprintln!(rt; "INSERT into {count} rows: {} ns", insert.nanos)?;
     }
     Ok(())
 }
