@@ -142,10 +142,8 @@ pub fn read_blocks<'a>(alloc: Global, parts: &[PlacedPart<'a>]) -> Result<Vec<Bl
 {
     let mut blocks = Vec::new(alloc);
     for placed in parts {
-        match read_block(alloc, placed) {
-            Ok(block) => blocks.push(block)?,
-            Err(fault) => return Err(fault),
-        }
+        let block = read_block(alloc, placed)?;
+        blocks.push(block)?;
     }
     Ok(blocks)
 }

@@ -66,14 +66,9 @@ fn run_permutation<W: Sink, N: Sink>(
     ensures write { IsErrOf result RunFault.Write → (W.failed out.new || N.failed notes.new) ≡ true }
     ensures kinds { IfErr result (λ e. is_of_one e ≡ true) }
 {
-    let engine = match run_of(alloc, spec, blocks, entries) {
-        Ok(engine) => engine,
-        Err(fault) => return Err(fault),
-    };
-    match write_permutation(alloc, spec, entries, engine.history(), out, notes) {
-        Ok(_) => Ok(()),
-        Err(fault) => Err(fault),
-    }
+    let engine = run_of(alloc, spec, blocks, entries)?;
+    write_permutation(alloc, spec, entries, engine.history(), out, notes)?;
+    Ok(())
 }
 
 /// Runs the permutations of a spec, up to so many.
@@ -103,16 +98,7 @@ fn run_permutations<W: Sink, N: Sink>(
             return Err(RunFault::TooManyPermutations);
         }
         left -= 1;
-        if let Err(fault) = run_permutation(
-            alloc,
-            spec,
-            blocks,
-            permutations.entries(),
-            out,
-            notes,
-        ) {
-            return Err(fault);
-        }
+        run_permutation(alloc, spec, blocks, permutations.entries(), out, notes)?;
     }
     Ok(())
 }
@@ -135,10 +121,7 @@ fn run_file<W: Sink, N: Sink>(
     ensures write { IsErrOf result RunFault.Write → (W.failed out.new || N.failed notes.new) ≡ true }
     ensures read { result ≢ Err RunFault.Read }
 {
-    let file = match read_file(alloc, bytes) {
-        Ok(file) => file,
-        Err(fault) => return Err(fault),
-    };
+    let file = read_file(alloc, bytes)?;
     if !all_run(&file.blocks) {
         return Err(RunFault::NotYet);
     }

@@ -1,3 +1,4 @@
+use Rattle.std.proofs.lemmas.Result.{err_from_is_err_and}
 use Rattle.std.proofs.Common.{sym, subst}
 use Rattle.std.specs.Prelude.{map}
 use Rattle.session_core.specs.Blocks.{blocks_of}
@@ -13,10 +14,12 @@ read_block-requires c = short_there c.args.parts.now c.loop-placed.placed-index 
 
 pub loop-placed-preserved : goal.loop-placed-preserved
 loop-placed-preserved c =
-    block_there c.args.parts.now c.loop-placed.blocks.items c.push.new.self.items c.in-Ok.block c.loop-placed.placed-index c.loop-placed-test.true c.in_ok-push-in-Ok.ensures.items c.in-Ok.ensures c.loop-placed.invariant
+    block_there c.args.parts.now c.loop-placed.blocks.items c.push.new.self.items c.in_ok-block.block c.loop-placed.placed-index c.loop-placed-test.true c.in_ok-push.ensures.items c.in_ok-block.ensures c.loop-placed.invariant
 
-pub returns-in-Err : goal.returns-in-Err
-returns-in-Err c = fault_there c.args.parts.now c.loop-placed.blocks.items c.loop-placed.placed-index c.in-Err.fault c.loop-placed-test.true c.in-Err.ensures c.loop-placed.invariant
+pub returns-in_err-block : goal.returns-in_err-block
+returns-in_err-block c =
+    let p = err_from_is_err_and c.from_residual.result c.from_residual.ensures.1 in
+    rw (p.1, p.2) (fault_there c.args.parts.now c.loop-placed.blocks.items c.loop-placed.placed-index c.in_err-block.field-0.0 c.loop-placed-test.true c.in_err-block.ensures c.loop-placed.invariant)
 
 pub returns : goal.returns
 returns c = end_there c.args.parts.now c.loop-placed.blocks.items c.loop-placed.placed-index c.loop-placed-test.false c.loop-placed.invariant

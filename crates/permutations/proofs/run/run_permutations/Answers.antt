@@ -1,3 +1,4 @@
+use Rattle.std.proofs.lemmas.Result.{err_from_is_err_and}
 use Rattle.std.proofs.Common.{◌≡◌, ◌∷◌, ◌<◌, [], List, map, sym, subst, ap, ◌∙◌, rules, arith}
 use Rattle.session_core.specs.Blocks.{blocks_of}
 use Rattle.spec_parser.specs.Trees.{EntryTree, entry_view, spec_view}
@@ -22,29 +23,31 @@ returns-then-left-eq0-clause-told g c =
     c.loop-permutations.invariant more c.if-left-eq0.true in
     λ _. (end.said, end.prints, end.told)
 
-pub returns-in-Err-clause-told : goal.returns-in-Err-clause-told
-returns-in-Err-clause-told g c =
+pub returns-in_err-run_permutation-clause-told : goal.returns-in_err-run_permutation-clause-told
+returns-in_err-run_permutation-clause-told g c =
     let next : c.loop-permutations.permutations.more ≡ c.advance.new.self.here ∷ c.advance.new.self.more = search rules in
     let more = next ∙ ap (λ (p : List EntryTree). p ∷ c.advance.new.self.more) (sym c.entries.ensures) in
     let some : 0 < c.loop-permutations.left = omega (arith, c.if-left-eq0.false) in
-    λ early.
+    let p = err_from_is_err_and c.from_residual-in_err-run_permutation.result c.from_residual-in_err-run_permutation.ensures.1 in
+    rw (p.1, p.2) (λ early.
     let end = run_stops (spec_view c.args.spec.now) (blocks_of c.args.blocks.now)
     (g.W.Sink.put_so_far c.args.out.now) (g.W.Sink.put_so_far c.loop-permutations.out) (g.W.Sink.put_so_far c.run_permutation.new.out)
     (g.N.Sink.put_so_far c.args.notes.now) (g.N.Sink.put_so_far c.loop-permutations.notes) (g.N.Sink.put_so_far c.run_permutation.new.notes)
-    c.args.limit (permutations_of (spec_view c.args.spec.now)) c.loop-permutations.left c.loop-permutations.permutations.more (map entry_view c.entries.result.now) c.advance.new.self.more c.in-Err.fault
-    c.loop-permutations.invariant more some (c.in-Err.ensures.told early) in
-    (end.said, end.prints, end.told)
+    c.args.limit (permutations_of (spec_view c.args.spec.now)) c.loop-permutations.left c.loop-permutations.permutations.more (map entry_view c.entries.result.now) c.advance.new.self.more c.in_err-run_permutation.field-0.0
+    c.loop-permutations.invariant more some (c.in_err-run_permutation.ensures.told early) in
+    (end.said, end.prints, end.told))
 
-pub returns-in-Err-clause-broken : goal.returns-in-Err-clause-broken
-returns-in-Err-clause-broken g c =
+pub returns-in_err-run_permutation-clause-broken : goal.returns-in_err-run_permutation-clause-broken
+returns-in_err-run_permutation-clause-broken g c =
     let more : c.loop-permutations.permutations.more ≡ c.advance.new.self.here ∷ c.advance.new.self.more = search rules in
     let some : 0 < c.loop-permutations.left = omega (arith, c.if-left-eq0.false) in
-    λ broken.
-    let same = c.in-Err.ensures.broken broken in
+    let p = err_from_is_err_and c.from_residual-in_err-run_permutation.result c.from_residual-in_err-run_permutation.ensures.1 in
+    rw (p.1, p.2) (λ broken.
+    let same = c.in_err-run_permutation.ensures.broken broken in
     rw (same.0, same.1) (breaks (spec_view c.args.spec.now) (blocks_of c.args.blocks.now)
     (g.W.Sink.put_so_far c.args.out.now) (g.W.Sink.put_so_far c.loop-permutations.out) (g.N.Sink.put_so_far c.args.notes.now) (g.N.Sink.put_so_far c.loop-permutations.notes)
     c.args.limit (permutations_of (spec_view c.args.spec.now)) c.loop-permutations.left c.loop-permutations.permutations.more c.advance.new.self.here c.advance.new.self.more
-    c.loop-permutations.invariant more some)
+    c.loop-permutations.invariant more some))
 
 pub loop-permutations-preserved : goal.loop-permutations-preserved
 loop-permutations-preserved g c =
@@ -55,7 +58,7 @@ loop-permutations-preserved g c =
     (g.W.Sink.put_so_far c.args.out.now) (g.W.Sink.put_so_far c.loop-permutations.out) (g.W.Sink.put_so_far c.run_permutation.new.out)
     (g.N.Sink.put_so_far c.args.notes.now) (g.N.Sink.put_so_far c.loop-permutations.notes) (g.N.Sink.put_so_far c.run_permutation.new.notes)
     c.args.limit (permutations_of (spec_view c.args.spec.now)) c.loop-permutations.left c.loop-permutations.permutations.more (map entry_view c.entries.result.now) c.advance.new.self.more
-    c.loop-permutations.invariant more some (c.in_default.ensures.told (search rules))
+    c.loop-permutations.invariant more some (c.in_ok-run_permutation.ensures.told (search rules))
 
 pub returns-clause-told : goal.returns-clause-told
 returns-clause-told g c =
