@@ -46,13 +46,8 @@ pub fn read_file(alloc: Global, bytes: &[u8]) -> Result<SpecFile<'_>, RunFault>
     specs_stand();
     specs_are_slices();
     let text = text_of(bytes)?;
-    let spec = match parse_spec(alloc, text) {
-        Ok(spec) => spec,
-        Err(fault) => return Err(RunFault::from(fault)),
-    };
+    let spec = parse_spec(alloc, text)?;
     let parts = blocks_in(alloc, &spec)?;
-    match read_blocks(alloc, &parts) {
-        Ok(blocks) => Ok(SpecFile { spec, blocks }),
-        Err(fault) => Err(fault),
-    }
+    let blocks = read_blocks(alloc, &parts)?;
+    Ok(SpecFile { spec, blocks })
 }

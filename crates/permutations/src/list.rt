@@ -52,10 +52,8 @@ fn list_file<W: Sink>(alloc: Global, bytes: &[u8], out: &mut W, limit: u64) -> R
     ensures write { IsErrOf result RunFault.Write → W.failed out.new ≡ true }
     ensures read { result ≢ Err RunFault.Read }
 {
-    match read_file(alloc, bytes) {
-        Ok(file) => list_permutations(alloc, &file.spec, out, limit),
-        Err(fault) => Err(fault),
-    }
+    let file = read_file(alloc, bytes)?;
+    list_permutations(alloc, &file.spec, out, limit)
 }
 
 /// Reads a spec file, and writes a line for each of its permutations. After `limit` lines, with one more permutation

@@ -25,8 +25,6 @@ pub fn write_permutation<W: Sink, N: Sink>(
         (W.put_so_far out.old) (W.put_so_far out.new) (N.put_so_far notes.old) (N.put_so_far notes.new)
         (W.failed out.old) (W.failed out.new) (N.failed notes.old) (N.failed notes.new) result }
 {
-    match write_report(alloc, spec, entries, items, out, notes) {
-        Ok(ended) => Ok(ended),
-        Err(fault) => Err(RunFault::from(fault)),
-    }
+    let ended = write_report(alloc, spec, entries, items, out, notes)?;
+    Ok(ended)
 }

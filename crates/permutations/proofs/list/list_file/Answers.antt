@@ -1,9 +1,12 @@
+use Rattle.std.proofs.lemmas.Result.{err_from_is_err_and}
 use Rattle.permutations.specs.BlockAnswers.{file_view}
 use Rattle.permutations.proofs.Listing.{refused_list, file_listed}
 use Rattle.permutations.proofs.list.list_file.Goals as goal
 
-pub returns-in-Err-clause-refused : goal.returns-in-Err-clause-refused
-returns-in-Err-clause-refused g c = λ refusal. refused_list c.args.bytes.now c.args.limit c.in-Err.fault c.in-Err.ensures.err refusal
+pub returns-in_err-file-clause-refused : goal.returns-in_err-file-clause-refused
+returns-in_err-file-clause-refused g c =
+    let p = err_from_is_err_and c.from_residual.result c.from_residual.ensures.1 in
+    rw (p.1, p.2) (λ refusal. refused_list c.args.bytes.now c.args.limit c.in_err-file.field-0.0 c.in_err-file.ensures.err refusal)
 
-pub returns-in-Ok-clause-lists : goal.returns-in-Ok-clause-lists
-returns-in-Ok-clause-lists g c = λ ended. (_, file_listed c.args.bytes.now c.args.limit (file_view c.in-Ok.file) c.in-Ok.ensures.ok, c.list_permutations.ensures.lists ended)
+pub returns-clause-lists : goal.returns-clause-lists
+returns-clause-lists g c = λ ended. (_, file_listed c.args.bytes.now c.args.limit (file_view c.in_ok-file.file) c.in_ok-file.ensures.ok, c.list_permutations.ensures.lists ended)
