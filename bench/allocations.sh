@@ -32,7 +32,7 @@ END
 
 # The test ended with want of memory, and with nothing else
 is_told() {
-  grep -qE '^error: (AllocError|AllocFailed \{ \.\. \}|Memory)$' "$room/said" && ! grep -q '^assertion failed' "$room/said"
+  grep -qE '^[Ee]rror: (AllocError|AllocFailed \{ \.\. \}|Memory)$' "$room/said" && ! grep -q '^assertion failed' "$room/said"
 }
 
 # The number of allocations that were refused to the test, of the runs that ended with it, and of those that went wrong
