@@ -124,8 +124,8 @@ fn each_permutation_runs_on_a_new_engine(rt: HostRuntime) -> Result<(), RunFault
 
 #[test]
 fn a_setup_that_fails_ends_the_run(rt: HostRuntime) -> Result<(), AllocError> {
-    let mut out = Vec::new(rt.alloc());
-    let mut notes = Vec::new(rt.alloc());
+    let mut out = room_for(rt.alloc(), 100)?;
+    let mut notes = room_for(rt.alloc(), 100)?;
     let file = "setup { SELECT 1/0; } session s step a { }";
     match run_bytes(rt.alloc(), file.as_bytes(), &mut out, &mut notes, 1000) {
         Err(RunFault::SetupFailed { text }) => {
@@ -141,10 +141,10 @@ fn a_setup_that_fails_ends_the_run(rt: HostRuntime) -> Result<(), AllocError> {
 }
 
 #[test]
-fn as_many_permutations_run_as_may(rt: HostRuntime) {
+fn as_many_permutations_run_as_may(rt: HostRuntime) -> Result<(), AllocError> {
     for (limit, whole) in [(0, false), (1, false), (5, false), (6, true), (7, true)] {
-        let mut out = Vec::new(rt.alloc());
-        let mut notes = Vec::new(rt.alloc());
+        let mut out = room_for(rt.alloc(), 1000)?;
+        let mut notes = room_for(rt.alloc(), 100)?;
         let run = run_bytes(
             rt.alloc(),
             TWO_BY_TWO.as_bytes(),
@@ -160,10 +160,11 @@ fn as_many_permutations_run_as_may(rt: HostRuntime) {
             Err(_) => assert!(rt; false, "refused"),
         }
     }
+    Ok(())
 }
 
 #[test]
-fn permutations_are_listed_as_far_as_may(rt: HostRuntime) {
+fn permutations_are_listed_as_far_as_may(rt: HostRuntime) -> Result<(), AllocError> {
     for (limit, text) in [
         (0, ""),
         (1, "permutation \"a1\" \"a2\" \"b1\" \"b2\"\n"),
@@ -172,21 +173,22 @@ fn permutations_are_listed_as_far_as_may(rt: HostRuntime) {
             "permutation \"a1\" \"a2\" \"b1\" \"b2\"\npermutation \"a1\" \"b1\" \"a2\" \"b2\"\n",
         ),
     ] {
-        let mut out = Vec::new(rt.alloc());
+        let mut out = room_for(rt.alloc(), 1000)?;
         match list_bytes(rt.alloc(), TWO_BY_TWO.as_bytes(), &mut out, limit) {
             Err(RunFault::TooManyPermutations) => assert_eq!(rt; out.as_slice(), text.as_bytes()),
             Err(RunFault::Memory) => {}
             _ => assert!(rt; false, "all listed"),
         }
     }
+    Ok(())
 }
 
 #[test]
 fn what_does_not_run_yet_is_said_before_any_output_and_listed(
     rt: HostRuntime,
 ) -> Result<(), AllocError> {
-    let mut out = Vec::new(rt.alloc());
-    let mut notes = Vec::new(rt.alloc());
+    let mut out = room_for(rt.alloc(), 100)?;
+    let mut notes = room_for(rt.alloc(), 100)?;
     let file = "session s step a { UPDATE t SET x = 1 }";
     let run = run_bytes(rt.alloc(), file.as_bytes(), &mut out, &mut notes, 1000);
     assert!(rt; matches!(run, Err(RunFault::NotYet) | Err(RunFault::Memory)));
@@ -200,17 +202,21 @@ fn what_does_not_run_yet_is_said_before_any_output_and_listed(
 
 #[test]
 fn longest_file_runs_and_one_byte_more_is_too_long(rt: HostRuntime) -> Result<(), RunFault> {
-    let mut out = Vec::new(rt.alloc());
-    let mut notes = Vec::new(rt.alloc());
+    let mut out = room_for(rt.alloc(), 1000)?;
+    let mut notes = room_for(rt.alloc(), 100)?;
     let longest = lengthened(rt.alloc(), LITERALS.as_bytes(), LONGEST_FILE)?;
     run_bytes(rt.alloc(), &longest, &mut out, &mut notes, 1000)?;
     assert_eq!(rt; out.as_slice(), TEXT.as_bytes());
     out.clear();
     for first in [LITERALS.as_bytes(), b"\xff".as_slice()] {
         let longer = lengthened(rt.alloc(), first, LONGEST_FILE + 1)?;
+        let run = match run_bytes(rt.alloc(), &longer, &mut out, &mut notes, 1000) {
+            Err(RunFault::Memory) => run_bytes(rt.alloc(), &longer, &mut out, &mut notes, 1000),
+            run => run,
+        };
         assert!(rt;
             matches!(
-                run_bytes(rt.alloc(), &longer, &mut out, &mut notes, 1000),
+                run,
                 Err(RunFault::Lex(Fault {
                     kind: FaultKind::FileTooLong,
                     at: 1_048_576
