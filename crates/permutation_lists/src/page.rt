@@ -39,7 +39,8 @@ impl Page {
     }
 
     pub fn push(&mut self, text: &[u8]) -> Result<(), AllocError>
-        ensures { OnOk result (self.new.bytes.items ≡ self.old.bytes.items ++ text.now) }
+        ensures bytes { OnOk result (self.new.bytes.items ≡ self.old.bytes.items ++ text.now) }
+        ensures failed { OnOk result (self.new.failed ≡ self.old.failed) }
     {
         self.bytes.extend_from_slice(text)
     }
