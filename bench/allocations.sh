@@ -30,9 +30,9 @@ void *realloc(void *place, unsigned long size) { return is_refused() ? 0 : __lib
 END
 "$kit/toolchain/bin/clang" --target=x86_64-unknown-linux-gnu -fuse-ld=lld -shared -fPIC -nostdlib -fno-builtin -o "$room/refuse.so" "$room/refuse.c"
 
-# The test ended with want of memory, and with nothing else
+# The test ended with want of memory, or shows it as what came of a text, and nothing else
 is_told() {
-  grep -qE '^[Ee]rror: (AllocError|AllocFailed \{ \.\. \}|Memory)$' "$room/said" && ! grep -q '^assertion failed' "$room/said"
+  grep -qE '^[Ee]rror: (AllocError|AllocFailed \{ \.\. \}|Memory|"out of memory")$| gives Memory$|^ +left: "Memory"$' "$room/said" && ! grep -q '^assertion failed' "$room/said"
 }
 
 # The number of allocations that were refused to the test, of the runs that ended with it, and of those that went wrong
