@@ -7,3 +7,4 @@ pub mod Polls
 pub mod Tried
 pub mod ReportPoints
 pub mod Examples
+pub mod Fronts

@@ -6,3 +6,4 @@ pub mod Telling
 pub mod Trying
 pub mod Due
 pub mod Tries
+pub mod Fronts

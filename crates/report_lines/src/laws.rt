@@ -1,11 +1,15 @@
 //! Laws of the report, as contracts of functions that do nothing.
 
-ghost use Rattle.std.specs.Prelude.{◌≡◌, ◌+◌, ◌≤◌, ◌↔◌, ℕ, List, Contains, count_by, true};
+ghost use Rattle.std.specs.Prelude.{◌≡◌, ◌+◌, ◌≤◌, ◌↔◌, ◌∷◌, ℕ, List, Contains, count_by, true};
 ghost use Rattle.report_lines.specs.declared.history.Line.{Line};
 ghost use Rattle.report_lines.specs.declared.history.Moment.{Moment};
 ghost use Rattle.report_lines.specs.History.{Setting};
 ghost use Rattle.report_lines.specs.Report.{report, reports, polled, poll};
 ghost use Rattle.report_lines.specs.Tries.{tries, said, IsReportPoint};
+ghost use Rattle.session_machine.specs.declared.reply.HistItem.{HistItem};
+ghost use Rattle.report_lines.specs.Starts.{is_order};
+ghost use Rattle.report_lines.specs.Due.{orders};
+ghost use Rattle.report_lines.specs.Fronts.{longer};
 
 /// However many passes were made at a moment, no more would report anything.
 pub fn no_further_pass()
@@ -26,4 +30,10 @@ pub fn each_is_reported_at_its_first_chance()
 /// No instance is reported twice.
 pub fn no_step_is_reported_twice()
     ensures { (c : Setting) (there i : ℕ) → count_by (reports i) (report c there).lines ≤ 1 }
+{}
+
+/// What was told before an order stays so, whatever the history goes on with.
+pub fn what_was_told_stays()
+    ensures { (c : Setting) (item : HistItem) (more : List HistItem) (there : ℕ) → is_order item.event ≡ true → orders c.items ≡ c.setups + there →
+        report (longer c (item ∷ more)) there ≡ report c there }
 {}

@@ -1,0 +1,144 @@
+-- What is said of a front of a history stays so where the history goes on with an order.
+use Rattle.std.proofs.Common.{◌≡◌, ℕ, zero, suc, ◌+◌, ◌-◌, ◌<◌, ◌≤◌, List, [], ◌∷◌, ◌++◌, length, take, drop, length-drop, refl, ap, sym, ◌∙◌, arith, true, false, Bool, not, cond, ◌&&◌, nat_lt, if◌then◌else◌, slice_range}
+use Rattle.std.specs.List.{list_any, filter, fold}
+use Rattle.std.proofs.lemmas.List.{take-append-le, drop-append-le}
+use Rattle.std.proofs.lemmas.List.Sums.{fold-append}
+use Rattle.session_machine.specs.declared.reply.HistItem.{HistItem}
+use Rattle.report_lines.specs.declared.history.Line.{Line}
+use Rattle.report_lines.specs.declared.history.Line.TheVariants.{AtOnce, Waiting, Completed}
+use Rattle.report_lines.specs.declared.history.Moment.{Moment}
+use Rattle.report_lines.specs.declared.history.Stand.TheVariants.{Whole, Invalid, Due}
+use Rattle.report_lines.specs.Starts.{start, is_order, ends_in}
+use Rattle.report_lines.specs.Due.{orders}
+use Rattle.report_lines.specs.History.{Setting, session_at, seen_before, has_ended, is_named, is_starred}
+use Rattle.report_lines.specs.Report.{Report, is_reported, active, instances, before, after, may_report, first_try, retry, pass, goes_on, polled, poll, is_of, is_busy, own_retry, made_way, launched, is_empty, report_from, report}
+use Rattle.report_lines.specs.Fronts.{longer}
+use Rattle.report_lines.proofs.Found.{start_within}
+
+-- ---- where the orders stand
+
+first_stays : (b : Bool) (s t : ℕ) → s ≡ t → cond b 0 (s + 1) ≡ cond b 0 (t + 1)
+first_stays b s t same = ap (λ k. cond b 0 (k + 1)) same
+
+next_stays : (b : Bool) (n k s t u v : ℕ) → suc k ≤ (if b then suc n else n) → (k ≤ n → s ≡ t) → (suc k ≤ n → u ≡ v) → cond b (s + 1) (u + 1) ≡ cond b (t + 1) (v + 1)
+next_stays true n k s t u v few one other = ap (λ j. j + 1) (one (omega (arith, few)))
+next_stays false n k s t u v few one other = ap (λ j. j + 1) (other few)
+
+orders_more : (b : Bool) (item : HistItem) (items : List HistItem) → length (cond b (item ∷ items) items) ≡ (if b then suc (length items) else length items)
+orders_more true item items = refl
+orders_more false item items = refl
+
+-- so many orders begin where they began
+start_stays : (front : List HistItem) (item : HistItem) (more : List HistItem) (j : ℕ) → is_order item.event ≡ true → j ≤ orders front → start (front ++ item ∷ more) j ≡ start front j
+start_stays [] item more zero ordered few = rw ordered refl
+start_stays [] item more (suc j) ordered few = absurd (omega (arith, few))
+start_stays (x ∷ xs) item more zero ordered few = first_stays (is_order x.event) (start (xs ++ item ∷ more) zero) (start xs zero) (start_stays xs item more zero ordered (omega arith))
+start_stays (x ∷ xs) item more (suc j) ordered few =
+    let less : suc j ≤ (if is_order x.event then suc (orders xs) else orders xs) = let all = orders_more (is_order x.event) x (filter (λ i. is_order i.event) xs) in omega (arith, few, all) in
+    next_stays (is_order x.event) (orders xs) j (start (xs ++ item ∷ more) j) (start xs j) (start (xs ++ item ∷ more) (suc j)) (start xs (suc j)) less
+    (start_stays xs item more j ordered) (start_stays xs item more (suc j) ordered)
+
+-- ---- what has ended
+
+range_stays : (front rest : List HistItem) (from to : ℕ) → from ≤ length front → to ≤ length front → slice_range (front ++ rest) from to ≡ slice_range front from to
+range_stays front rest from to low high =
+    let long = length-drop from front in
+    ap (take (to - from)) (drop-append-le from front rest low) ∙ take-append-le (to - from) (drop from front) rest (omega arith)
+
+-- the moments of these entries, and what has ended at them, are the same in the longer history
+record Stays (c : Setting) (more : List HistItem) (there : ℕ) : Type 0 where
+  seen : (e : ℕ) → e ≤ there → seen_before (longer c more) e ≡ seen_before c e
+  ended : (e i : ℕ) → e ≤ there → i ≤ there → has_ended (longer c more) (seen_before c e) i ≡ has_ended c (seen_before c e) i
+
+-- at this moment the blocks of these entries have ended in both histories or in neither
+abbrev EndAlike : Setting → List HistItem → ℕ → Moment → Type 0
+EndAlike c more there m = (i : ℕ) → i ≤ there → has_ended (longer c more) m.seen i ≡ has_ended c m.seen i
+
+-- ---- the tries
+
+may_same : (c : Setting) (more : List HistItem) (there : ℕ) (m : Moment) (lines : List Line) (i : ℕ) → EndAlike c more there m → i ≤ there → may_report (longer c more) m lines i ≡ may_report c m lines i
+may_same c more there m lines i same le = ap (λ b. b && not (list_any (is_named c i) (active lines m.launched))) (same i le)
+
+retry_same : (c : Setting) (more : List HistItem) (there : ℕ) (m : Moment) (lines : List Line) (i : ℕ) → EndAlike c more there m → i ≤ there → retry (longer c more) m lines i ≡ retry c m lines i
+retry_same c more there m lines i same le = ap (λ b. if not (is_reported lines i) && b then lines ++ Completed i m.seen ∷ [] else lines) (may_same c more there m lines i same le)
+
+own_same : (c : Setting) (more : List HistItem) (there : ℕ) (m : Moment) (session : ℕ) (lines : List Line) (i : ℕ) → EndAlike c more there m → i ≤ there → own_retry (longer c more) m session lines i ≡ own_retry c m session lines i
+own_same c more there m session lines i same le = ap (λ w. if is_of c session i then w else lines) (retry_same c more there m lines i same le)
+
+fold_same : (f g : List Line → ℕ → List Line) (n : ℕ) (lines : List Line) → ((w : List Line) (i : ℕ) → i < n → f w i ≡ g w i) → fold f lines (instances n) ≡ fold g lines (instances n)
+fold_same f g zero lines same = refl
+fold_same f g (suc n) lines same =
+    fold-append f lines (instances n) (n ∷ [])
+    ∙ same (fold f lines (instances n)) n (omega arith)
+    ∙ ap (λ w. g w n) (fold_same f g n lines (λ w i less. same w i (omega (arith, less))))
+    ∙ sym (fold-append g lines (instances n) (n ∷ []))
+
+pass_same : (c : Setting) (more : List HistItem) (there : ℕ) (m : Moment) (lines : List Line) → EndAlike c more there m → m.joined ≤ there → pass (longer c more) m lines ≡ pass c m lines
+pass_same c more there m lines same le = fold_same (retry (longer c more) m) (retry c m) m.joined lines (λ w i less. retry_same c more there m w i same (omega (arith, less)))
+
+polled_same : (c : Setting) (more : List HistItem) (there : ℕ) (m : Moment) (count : ℕ) (lines : List Line) → EndAlike c more there m → m.joined ≤ there → polled (longer c more) m count lines ≡ polled c m count lines
+polled_same c more there m zero lines same le = refl
+polled_same c more there m (suc count) lines same le =
+    ap (λ (new : List Line). if goes_on c m lines new then polled (longer c more) m count new else new) (pass_same c more there m lines same le)
+    ∙ ap (λ (w : List Line). if goes_on c m lines (pass c m lines) then w else pass c m lines) (polled_same c more there m count (pass c m lines) same le)
+
+poll_same : (c : Setting) (more : List HistItem) (there : ℕ) (m : Moment) (lines : List Line) → EndAlike c more there m → m.joined ≤ there → poll (longer c more) m lines ≡ poll c m lines
+poll_same c more there m lines same le = polled_same c more there m (m.joined + 1) lines same le
+
+first_same : (c : Setting) (more : List HistItem) (there : ℕ) (m : Moment) (lines : List Line) (i : ℕ) → EndAlike c more there m → i ≤ there → first_try (longer c more) m lines i ≡ first_try c m lines i
+first_same c more there m lines i same le = ap (λ b. lines ++ (if b && not (is_starred c i) then AtOnce i m.seen else Waiting i) ∷ []) (may_same c more there m lines i same le)
+
+-- ---- the entries
+
+before_same : (c : Setting) (more : List HistItem) (there e : ℕ) → Stays c more there → e ≤ there → before (longer c more) e ≡ before c e
+before_same c more there e stays le = ap (λ (s : ℕ). record { seen = s; launched = e; joined = e }) (stays.seen e le)
+
+after_same : (c : Setting) (more : List HistItem) (there e : ℕ) → Stays c more there → e + 1 ≤ there → after (longer c more) e ≡ after c e
+after_same c more there e stays le = ap (λ (s : ℕ). record { seen = s; launched = e + 1; joined = e }) (stays.seen (e + 1) le)
+
+before_poll : (c : Setting) (more : List HistItem) (there e : ℕ) (lines : List Line) → Stays c more there → e ≤ there → poll (longer c more) (before (longer c more) e) lines ≡ poll c (before c e) lines
+before_poll c more there e lines stays le =
+    ap (λ (m : Moment). poll (longer c more) m lines) (before_same c more there e stays le)
+    ∙ poll_same c more there (before c e) lines (λ i low. stays.ended e i le low) le
+
+way_same : (c : Setting) (more : List HistItem) (there e : ℕ) (lines : List Line) → Stays c more there → e ≤ there → made_way (longer c more) lines e ≡ made_way c lines e
+way_same c more there e lines stays le =
+    let same : EndAlike c more there (before c e) = λ i low. stays.ended e i le low in
+    ap (λ (m : Moment). if is_busy c lines e then poll (longer c more) m (fold (own_retry (longer c more) m (session_at c e)) lines (instances e)) else lines) (before_same c more there e stays le)
+    ∙ ap (λ (w : List Line). if is_busy c lines e then w else lines)
+    (poll_same c more there (before c e) (fold (own_retry (longer c more) (before c e) (session_at c e)) lines (instances e)) same le
+    ∙ ap (poll c (before c e)) (fold_same (own_retry (longer c more) (before c e) (session_at c e)) (own_retry c (before c e) (session_at c e)) e lines (λ w i less. own_same c more there (before c e) (session_at c e) w i same (omega (arith, less, le)))))
+
+launched_same : (c : Setting) (more : List HistItem) (there e : ℕ) (lines : List Line) → Stays c more there → e + 1 ≤ there → launched (longer c more) lines e ≡ launched c lines e
+launched_same c more there e lines stays le =
+    let same : EndAlike c more there (after c e) = λ i low. stays.ended (e + 1) i le low in
+    ap (λ (m : Moment). poll (longer c more) m (first_try (longer c more) m lines e)) (after_same c more there e stays le)
+    ∙ poll_same c more there (after c e) (first_try (longer c more) (after c e) lines e) same (omega (arith, le))
+    ∙ ap (poll c (after c e)) (first_same c more there (after c e) lines e same (omega (arith, le)))
+
+if_same : {A : Type 0} (b : Bool) (x y z : A) → (true ≡ b → x ≡ y) → (if b then x else z) ≡ (if b then y else z)
+if_same true x y z same = same refl
+if_same false x y z same = refl
+
+from_same : (c : Setting) (more : List HistItem) (there e rest : ℕ) (lines : List Line) → Stays c more there → e ≤ there → report_from (longer c more) e rest there lines ≡ report_from c e rest there lines
+from_same c more there e zero lines stays le =
+    ap (λ (all : List Line). record { lines = all; stand = if is_empty (active all e) then Whole else Invalid }) (before_poll c more there e lines stays le)
+from_same c more there e (suc rest) lines stays le =
+    let way = made_way c lines e in
+    ap (λ (w : List Line). if is_busy c w e then record { lines = w; stand = Invalid } else (if nat_lt e there then report_from (longer c more) (e + 1) rest there (launched (longer c more) w e) else record { lines = w; stand = Due e })) (way_same c more there e lines stays le)
+    ∙ ap (λ (r : Report). if is_busy c way e then record { lines = way; stand = Invalid } else r)
+    (if_same (nat_lt e there) (report_from (longer c more) (e + 1) rest there (launched (longer c more) way e)) (report_from c (e + 1) rest there (launched c way e)) (record { lines = way; stand = Due e })
+    (λ less. let next : e + 1 ≤ there = grind arith in ap (report_from (longer c more) (e + 1) rest there) (launched_same c more there e way stays next) ∙ from_same c more there (e + 1) rest (launched c way e) stays next))
+
+stays_so : (c : Setting) (item : HistItem) (more : List HistItem) (there : ℕ) → is_order item.event ≡ true → orders c.items ≡ c.setups + there → Stays c (item ∷ more) there
+stays_so c item more there ordered all =
+    let seen : (e : ℕ) → e ≤ there → seen_before (longer c (item ∷ more)) e ≡ seen_before c e = λ e le. start_stays c.items item more (c.setups + e) ordered (omega (arith, le, all)) in
+    record {
+      seen = seen;
+      ended = λ e i le low.
+          ap (λ s. list_any (ends_in (session_at c i)) (slice_range (c.items ++ item ∷ more) s (seen_before c e))) (seen i low)
+          ∙ ap (list_any (ends_in (session_at c i))) (range_stays c.items (item ∷ more) (seen_before c i) (seen_before c e) (start_within c.items (c.setups + i)) (start_within c.items (c.setups + e)));
+    }
+
+pub front_stays : (c : Setting) (item : HistItem) (more : List HistItem) (there : ℕ) → is_order item.event ≡ true → orders c.items ≡ c.setups + there → report (longer c (item ∷ more)) there ≡ report c there
+front_stays c item more there ordered all = from_same c (item ∷ more) there 0 (length c.entries) [] (stays_so c item more there ordered all) (omega arith)
