@@ -1,18 +1,25 @@
 -- What is said of a front of a history stays so where the history goes on with an order.
-use Rattle.std.proofs.Common.{◌≡◌, ℕ, zero, suc, ◌+◌, ◌-◌, ◌<◌, ◌≤◌, List, [], ◌∷◌, ◌++◌, length, take, drop, length-drop, refl, ap, sym, ◌∙◌, arith, true, false, Bool, not, cond, ◌&&◌, nat_lt, if◌then◌else◌, slice_range}
+use Rattle.std.proofs.Common.{◌≡◌, ℕ, zero, suc, ◌+◌, ◌-◌, ◌<◌, ◌≤◌, ◌⊎◌, inl, inr, List, [], ◌∷◌, ◌++◌, length, take, drop, length-drop, refl, ap, sym, ◌∙◌, arith, true, false, Bool, not, cond, ◌&&◌, nat_lt, if◌then◌else◌, slice_range}
 use Rattle.std.specs.List.{list_any, filter, fold}
 use Rattle.std.proofs.lemmas.List.{take-append-le, drop-append-le}
 use Rattle.std.proofs.lemmas.List.Sums.{fold-append}
+use Rattle.std.proofs.lemmas.Bool.{cases_lt}
 use Rattle.session_machine.specs.declared.reply.HistItem.{HistItem}
 use Rattle.report_lines.specs.declared.history.Line.{Line}
 use Rattle.report_lines.specs.declared.history.Line.TheVariants.{AtOnce, Waiting, Completed}
 use Rattle.report_lines.specs.declared.history.Moment.{Moment}
 use Rattle.report_lines.specs.declared.history.Stand.TheVariants.{Whole, Invalid, Due}
 use Rattle.report_lines.specs.Starts.{start, is_order, ends_in}
-use Rattle.report_lines.specs.Due.{orders}
+use Rattle.report_lines.specs.Due.{Planned, orders, segment, fails, is_over, went_well, due_setup, torn_down, or_else, due_last, due_entry, due_at, due}
 use Rattle.report_lines.specs.History.{Setting, session_at, seen_before, has_ended, is_named, is_starred}
 use Rattle.report_lines.specs.Report.{Report, is_reported, active, instances, before, after, may_report, first_try, retry, pass, goes_on, polled, poll, is_of, is_busy, own_retry, made_way, launched, is_empty, report_from, report}
-use Rattle.report_lines.specs.Fronts.{longer}
+use Rattle.report_lines.specs.Fronts.{longer, longer_plan}
+use Rattle.report_lines.specs.declared.history.Task.{Task}
+use Rattle.report_lines.specs.declared.history.TornDown.{TornDown}
+use Rattle.report_lines.specs.declared.history.Stand.{Stand}
+use Rattle.session_machine.specs.declared.event.Order.{Order}
+use Rattle.session_machine.specs.declared.event.Order.TheVariants.{Launch, Leave, Stop}
+use Rattle.std.specs.Prelude.{nat_le, Option, Some}
 use Rattle.report_lines.proofs.Found.{start_within}
 
 -- ---- where the orders stand
@@ -142,3 +149,81 @@ stays_so c item more there ordered all =
 
 pub front_stays : (c : Setting) (item : HistItem) (more : List HistItem) (there : ℕ) → is_order item.event ≡ true → orders c.items ≡ c.setups + there → report (longer c (item ∷ more)) there ≡ report c there
 front_stays c item more there ordered all = from_same c (item ∷ more) there 0 (length c.entries) [] (stays_so c item more there ordered all) (omega arith)
+
+-- ---- the next order
+
+segment_stays : (front : List HistItem) (item : HistItem) (more : List HistItem) (k : ℕ) → is_order item.event ≡ true → k < orders front → segment (front ++ item ∷ more) k ≡ segment front k
+segment_stays front item more k ordered less =
+    ap (λ a. slice_range (front ++ item ∷ more) a (start (front ++ item ∷ more) (k + 1))) (start_stays front item more k ordered (omega (arith, less)))
+    ∙ ap (λ b. slice_range (front ++ item ∷ more) (start front k) b) (start_stays front item more (k + 1) ordered (omega (arith, less)))
+    ∙ range_stays front (item ∷ more) (start front k) (start front (k + 1)) (start_within front k) (start_within front (k + 1))
+
+unless_same : {A : Type 0} (b : Bool) (x y z : A) → (false ≡ b → x ≡ y) → (if b then z else x) ≡ (if b then z else y)
+unless_same true x y z same = refl
+unless_same false x y z same = same refl
+
+setup_stays : (front : List HistItem) (item : HistItem) (more : List HistItem) (k : ℕ) (ts : List Task) → is_order item.event ≡ true → due_setup (front ++ item ∷ more) (orders front) k ts ≡ due_setup front (orders front) k ts
+setup_stays front item more k [] ordered = refl
+setup_stays front item more k (t ∷ ts) ordered =
+    unless_same (nat_le (orders front) k)
+    (if went_well (front ++ item ∷ more) k t.session then due_setup (front ++ item ∷ more) (orders front) (k + 1) ts else Some Stop)
+    (if went_well front k t.session then due_setup front (orders front) (k + 1) ts else Some Stop)
+    (Some (Launch t.session t.block))
+    (λ some. let less : k < orders front = grind arith in
+    ap (λ (w : List HistItem). if list_any (ends_in t.session) w && not (list_any fails w) then due_setup (front ++ item ∷ more) (orders front) (k + 1) ts else Some Stop) (segment_stays front item more k ordered less)
+    ∙ ap (λ (o : Option Order). if went_well front k t.session then o else Some Stop) (setup_stays front item more (k + 1) ts ordered))
+
+torn_stays : (front : List HistItem) (item : HistItem) (more : List HistItem) (k : ℕ) (ts : List Task) → is_order item.event ≡ true → torn_down (front ++ item ∷ more) (orders front) k ts ≡ torn_down front (orders front) k ts
+torn_stays front item more k [] ordered = refl
+torn_stays front item more k (t ∷ ts) ordered =
+    let d = front ++ item ∷ more in
+    let there = orders front in
+    unless_same (nat_le there k)
+    (if is_over d k t.session then torn_down d there (k + 1) ts else (if nat_le there (k + 1) then record { orders = k; due = Some (Leave t.session) } else torn_down d there (k + 2) ts))
+    (if is_over front k t.session then torn_down front there (k + 1) ts else (if nat_le there (k + 1) then record { orders = k; due = Some (Leave t.session) } else torn_down front there (k + 2) ts))
+    (record { orders = k; due = Some (Launch t.session t.block) })
+    (λ some. let less : k < orders front = grind arith in
+    ap (λ (w : List HistItem). if list_any (ends_in t.session) w then torn_down d there (k + 1) ts else (if nat_le there (k + 1) then record { orders = k; due = Some (Leave t.session) } else torn_down d there (k + 2) ts)) (segment_stays front item more k ordered less)
+    ∙ ap (λ (x : TornDown). if is_over front k t.session then x else (if nat_le there (k + 1) then record { orders = k; due = Some (Leave t.session) } else torn_down d there (k + 2) ts)) (torn_stays front item more (k + 1) ts ordered)
+    ∙ ap (λ (x : TornDown). if is_over front k t.session then torn_down front there (k + 1) ts else (if nat_le there (k + 1) then record { orders = k; due = Some (Leave t.session) } else x)) (torn_stays front item more (k + 2) ts ordered))
+
+last_stays : (p : Planned) (item : HistItem) (more : List HistItem) (w : TornDown) → is_order item.event ≡ true → due_last (longer_plan p (item ∷ more)) (p.setting.items ++ item ∷ more) (orders p.setting.items) w ≡ due_last p p.setting.items (orders p.setting.items) w
+last_stays p item more w ordered =
+    let there = orders p.setting.items in
+    ap (λ (x : TornDown). or_else w.due (if nat_lt there (w.orders + p.sessions) then Leave (there - w.orders + 1) else or_else x.due Stop))
+    (torn_stays p.setting.items item more (w.orders + p.sessions) p.last ordered)
+
+entry_stays : (p : Planned) (item : HistItem) (more : List HistItem) (stand : Stand) → is_order item.event ≡ true → due_entry (longer_plan p (item ∷ more)) (p.setting.items ++ item ∷ more) (orders p.setting.items) stand ≡ due_entry p p.setting.items (orders p.setting.items) stand
+entry_stays p item more (Due e) ordered = refl
+entry_stays p item more Invalid ordered = refl
+entry_stays p item more Whole ordered =
+    ap (due_last (longer_plan p (item ∷ more)) (p.setting.items ++ item ∷ more) (orders p.setting.items)) (torn_stays p.setting.items item more (length p.setups + length p.tasks) p.teardowns ordered)
+    ∙ last_stays p item more (torn_down p.setting.items (orders p.setting.items) (length p.setups + length p.tasks) p.teardowns) ordered
+
+-- where setups are still due, nothing else is
+case_first : (b g : Bool) (x y : Order) (some stop : Order) (rest : Option Order) → (false ≡ b → or_else rest x ≡ or_else rest y) → or_else (if b then Some some else (if g then rest else Some stop)) x ≡ or_else (if b then Some some else (if g then rest else Some stop)) y
+case_first true g x y some stop rest same = refl
+case_first false true x y some stop rest same = same refl
+case_first false false x y some stop rest same = refl
+
+setups_first : (items : List HistItem) (there k : ℕ) (ts : List Task) (x y : Order) → there < k + length ts → k ≤ there → or_else (due_setup items there k ts) x ≡ or_else (due_setup items there k ts) y
+setups_first items there k [] x y less le = absurd (omega (arith, less, le))
+setups_first items there k (t ∷ ts) x y less le =
+    case_first (nat_le there k) (went_well items k t.session) x y (Launch t.session t.block) Stop (due_setup items there (k + 1) ts)
+    (λ past. let next : k + 1 ≤ there = grind arith in setups_first items there (k + 1) ts x y (omega (arith, less)) next)
+
+due_case : (p : Planned) (item : HistItem) (more : List HistItem) → is_order item.event ≡ true → p.setting.setups ≡ length p.setups → (orders p.setting.items < length p.setups) ⊎ (length p.setups ≤ orders p.setting.items) → due_at (longer_plan p (item ∷ more)) (orders p.setting.items) ≡ due p
+due_case p item more ordered setups (inr le) =
+    let there = orders p.setting.items in
+    let split : there ≡ p.setting.setups + (there - length p.setups) = omega (arith, le, setups) in
+    ap (λ (o : Option Order). or_else o (due_entry (longer_plan p (item ∷ more)) (p.setting.items ++ item ∷ more) there (report (longer p.setting (item ∷ more)) (there - length p.setups)).stand)) (setup_stays p.setting.items item more 0 p.setups ordered)
+    ∙ ap (λ (r : Report). or_else (due_setup p.setting.items there 0 p.setups) (due_entry (longer_plan p (item ∷ more)) (p.setting.items ++ item ∷ more) there r.stand)) (front_stays p.setting item more (there - length p.setups) ordered split)
+    ∙ ap (or_else (due_setup p.setting.items there 0 p.setups)) (entry_stays p item more (report p.setting (there - length p.setups)).stand ordered)
+due_case p item more ordered setups (inl less) =
+    let there = orders p.setting.items in
+    let other = due_entry (longer_plan p (item ∷ more)) (p.setting.items ++ item ∷ more) there (report (longer p.setting (item ∷ more)) (there - length p.setups)).stand in
+    ap (λ (o : Option Order). or_else o other) (setup_stays p.setting.items item more 0 p.setups ordered)
+    ∙ setups_first p.setting.items there 0 p.setups other (due_entry p p.setting.items there (report p.setting (there - length p.setups)).stand) (omega (arith, less)) (omega arith)
+
+pub due_stays : (p : Planned) (item : HistItem) (more : List HistItem) → is_order item.event ≡ true → p.setting.setups ≡ length p.setups → due_at (longer_plan p (item ∷ more)) (orders p.setting.items) ≡ due p
+due_stays p item more ordered setups = due_case p item more ordered setups (cases_lt (orders p.setting.items) (length p.setups))

@@ -89,9 +89,12 @@ due_entry plan items there Invalid = Stop
 due_entry plan items there Whole =
     due_last plan items there (torn_down items there (length plan.setups + length plan.tasks) plan.teardowns)
 
+-- the next order where so many orders of a history are there
+abbrev pub due_at : Planned → ℕ → Order
+due_at plan there =
+    let items = plan.setting.items in
+    or_else (due_setup items there 0 plan.setups) (due_entry plan items there (report plan.setting (there - length plan.setups)).stand)
+
 -- the next order after a history
 abbrev pub due : Planned → Order
-due plan =
-    let items = plan.setting.items in
-    let there = orders items in
-    or_else (due_setup items there 0 plan.setups) (due_entry plan items there (report plan.setting (there - length plan.setups)).stand)
+due plan = due_at plan (orders plan.setting.items)

@@ -1,6 +1,6 @@
 //! Laws of the report, as contracts of functions that do nothing.
 
-ghost use Rattle.std.specs.Prelude.{◌≡◌, ◌+◌, ◌≤◌, ◌↔◌, ◌∷◌, ℕ, List, Contains, count_by, true};
+ghost use Rattle.std.specs.Prelude.{◌≡◌, ◌+◌, ◌≤◌, ◌↔◌, ◌∷◌, ℕ, List, Contains, count_by, length, true};
 ghost use Rattle.report_lines.specs.declared.history.Line.{Line};
 ghost use Rattle.report_lines.specs.declared.history.Moment.{Moment};
 ghost use Rattle.report_lines.specs.History.{Setting};
@@ -8,8 +8,8 @@ ghost use Rattle.report_lines.specs.Report.{report, reports, polled, poll};
 ghost use Rattle.report_lines.specs.Tries.{tries, said, IsReportPoint};
 ghost use Rattle.session_machine.specs.declared.reply.HistItem.{HistItem};
 ghost use Rattle.report_lines.specs.Starts.{is_order};
-ghost use Rattle.report_lines.specs.Due.{orders};
-ghost use Rattle.report_lines.specs.Fronts.{longer};
+ghost use Rattle.report_lines.specs.Due.{Planned, orders, due_at, due};
+ghost use Rattle.report_lines.specs.Fronts.{longer, longer_plan};
 
 /// However many passes were made at a moment, no more would report anything.
 pub fn no_further_pass()
@@ -36,4 +36,10 @@ pub fn no_step_is_reported_twice()
 pub fn what_was_told_stays()
     ensures { (c : Setting) (item : HistItem) (more : List HistItem) (there : ℕ) → is_order item.event ≡ true → orders c.items ≡ c.setups + there →
         report (longer c (item ∷ more)) there ≡ report c there }
+{}
+
+/// What was due before an order can be told from the whole history.
+pub fn what_was_due_stays()
+    ensures { (p : Planned) (item : HistItem) (more : List HistItem) → is_order item.event ≡ true → p.setting.setups ≡ length p.setups →
+        due_at (longer_plan p (item ∷ more)) (orders p.setting.items) ≡ due p }
 {}

@@ -158,7 +158,7 @@ fn is_failed(outcome: &Outcome<'_>) -> bool
 fn starts(alloc: Global, items: &[HistItem<'_>]) -> Result<Vec<Start>, AllocError>
     ensures { IfOk result (λ starts. starts.items ≡ starts_from 0 0 items.now) }
 {
-    let mut starts = Vec::new(alloc);
+    let mut starts = Vec::with_capacity(alloc, items.len())?;
     let mut finished = 0;
     for (place, item) in items.iter().enumerate() {
         if is_order(&item.event) {
@@ -174,7 +174,7 @@ fn starts(alloc: Global, items: &[HistItem<'_>]) -> Result<Vec<Start>, AllocErro
 fn finishes(alloc: Global, items: &[HistItem<'_>]) -> Result<Vec<Finish>, AllocError>
     ensures { IfOk result (λ finishes. finishes.items ≡ finishes_from 0 items.now) }
 {
-    let mut finishes = Vec::new(alloc);
+    let mut finishes = Vec::with_capacity(alloc, items.len())?;
     for (place, item) in items.iter().enumerate() {
         if item.reply.ended {
             finishes.push(Finish {

@@ -61,14 +61,15 @@ fn is_chosen(course: &Course<'_>, m: Moment, chosen: Chosen, entry: usize) -> bo
 }
 
 impl Told {
-    fn new(alloc: Global) -> Told
-        ensures { result ≡ record { lines = []; launched = 0 } }
+    /// With room for so many entries, of each of which two lines are told at most.
+    fn new(alloc: Global, entries: usize) -> Result<Told, AllocError>
+        ensures { IfOk result (λ told. told ≡ record { lines = []; launched = 0 }) }
     {
-        Told {
-            lines: Vec::new(alloc),
-            waiting: Vec::new(alloc),
+        Ok(Told {
+            lines: Vec::with_capacity(alloc, entries.saturating_mul(2))?,
+            waiting: Vec::with_capacity(alloc, entries)?,
             launched: 0,
-        }
+        })
     }
 
     /// The lines so far, in order.
@@ -355,7 +356,7 @@ pub fn told_lines(
 ) -> Result<(Told, Stand), AllocError>
     ensures { IfOk result (λ told. report course.now there ≡ record { lines = told.0.lines; stand = told.1 }) }
 {
-    let mut told = Told::new(alloc);
+    let mut told = Told::new(alloc, course.len())?;
     for entry in 0..course.len() {
         told.make_way(course, entry)?;
         if told.is_busy(course, entry) {
