@@ -1,8 +1,8 @@
 #!/usr/bin/env bash
 # Times the built program on all 1,680 interleavings of three sessions of three steps, on all 924 of two sessions of six, and on one permutation of
-# 1,000 entries; a table is made, filled and dropped in each permutation. Prints permutations a second, the best of five runs.
+# 1,000 entries; a table is made, filled and dropped in each permutation. Prints permutations a second, of the best of five runs.
 # Where PostgreSQL 15 and its isolationtester are on the machine (Debian's package postgresql-15), a private cluster is started in a temporary folder
-# (unix socket only, fsync off), the real tool runs the same files, its text is compared with ours, and the ratio is printed.
+# (unix socket only, fsync off), the real tool runs the same files, five times too, its text is compared with ours, and the ratio of the best runs is printed.
 # Build the program first: ./isolationtester < examples/specs/literals.spec
 set -eu
 here=$(cd "$(dirname "$0")/.." && pwd)
@@ -76,16 +76,16 @@ millis() {
   echo $(((to - from) / 1000000))
 }
 
-# the least of five
-ours() {
-  local best= ms
+# best SPEC COMMAND..: the least of five runs
+best() {
+  local least= ms spec=$1
+  shift
   for _ in 1 2 3 4 5; do
-    ms=$(millis "$program" < "$room/$1")
-    if [ -z "$best" ] || [ "$ms" -lt "$best" ]; then best=$ms; fi
+    ms=$(millis "$@" < "$room/$spec")
+    if [ -z "$least" ] || [ "$ms" -lt "$least" ]; then least=$ms; fi
   done
-  cp "$room/out" "$room/$1.ours"
-  [ "$best" -gt 0 ] || best=1
-  echo "$best"
+  [ "$least" -gt 0 ] || least=1
+  echo "$least"
 }
 
 if [ -x "$real" ] && [ -x "$lib/bin/initdb" ]; then
@@ -103,10 +103,11 @@ fi
 # name, permutations, what it is
 compare() {
   local mine theirs said
-  mine=$(ours "$1")
+  mine=$(best "$1" "$program")
+  cp "$room/out" "$room/$1.ours"
   printf '%-46s %6d ms, %8d permutations a second' "$3" "$mine" $(($2 * 1000 / mine))
   if [ -n "$data" ]; then
-    theirs=$(millis "$real" "host=$room/socket user=tester dbname=postgres" < "$room/$1")
+    theirs=$(best "$1" "$real" "host=$room/socket user=tester dbname=postgres")
     if cmp -s "$room/out" "$room/$1.ours"; then said="the same text"; else said="ANOTHER TEXT"; fi
     printf '; the real tool %6d ms: %d times as long, %s' "$theirs" $((theirs / mine)) "$said"
   fi

@@ -1,2 +1,3 @@
 pub mod OneHistory
 pub mod Working
+pub mod Following

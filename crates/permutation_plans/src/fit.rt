@@ -1,10 +1,12 @@
 //! Whether a history launched what its permutation launches.
-ghost use Rattle.std.specs.Prelude.{◌≡◌, ◌↔◌, ◌<◌, ◌^◌, [], length, map, IsTrue, IfOk};
+ghost use Rattle.std.specs.Prelude.{◌≡◌, ◌↔◌, ◌<◌, ◌^◌, [], length, map, IsTrue, IfOk, OnOk};
 ghost use Rattle.spec_parser.specs.Trees.{spec_view, entry_view};
-ghost use Rattle.permutation_plans.specs.Launches.{due_after};
+ghost use Rattle.report_lines.specs.Progress.{Follows};
+ghost use Rattle.permutation_plans.specs.Launches.{plan_of, due_after};
 ghost use Rattle.permutation_plans.specs.Regular.{IsOrdered, FitsAfter, Fits};
 
 use crate::launches::Launches;
+use report_lines::Progress;
 use session_machine::{Event, HistItem, Order};
 use spec_parser::{Entry, Spec};
 use std::alloc::{AllocError, Global};
@@ -16,18 +18,38 @@ fn is_ordered(
     entries: &[Entry],
     before: &[HistItem<'_>],
     event: Event,
+    progress: &mut Progress,
 ) -> Result<bool, AllocError>
-    ensures { IfOk result (λ ordered. IsTrue ordered ↔ IsOrdered event (due_after launches.now (map entry_view entries.now) before.now)) }
+    requires follows { Follows (plan_of launches.now (map entry_view entries.now) before.now).setting progress.old }
+    ensures ordered { IfOk result (λ ordered. IsTrue ordered ↔ IsOrdered event (due_after launches.now (map entry_view entries.now) before.now)) }
+    ensures follows { OnOk result (Follows (plan_of launches.now (map entry_view entries.now) before.now).setting progress.new) }
 {
     match event {
         Event::Launch { session, block } => {
-            Ok(launches.due(alloc, entries, before)? == Order::Launch { session, block })
+            let order = launches.go_on(alloc, entries, before, progress)?;
+            Ok(order == Order::Launch { session, block })
         }
         Event::Step { .. } => Ok(true),
         Event::Leave { session } => {
-            Ok(launches.due(alloc, entries, before)? == Order::Leave { session })
+            let order = launches.go_on(alloc, entries, before, progress)?;
+            Ok(order == Order::Leave { session })
         }
     }
+}
+
+/// Whether nothing is due after these items.
+fn is_over(
+    alloc: Global,
+    launches: &Launches,
+    entries: &[Entry],
+    items: &[HistItem<'_>],
+    progress: &mut Progress,
+) -> Result<bool, AllocError>
+    requires { Follows (plan_of launches.now (map entry_view entries.now) items.now).setting progress.old }
+    ensures { IfOk result (λ over. IsTrue over ↔ (due_after launches.now (map entry_view entries.now) items.now ≡ Order.Stop)) }
+{
+    let order = launches.go_on(alloc, entries, items, progress)?;
+    Ok(order == Order::Stop)
 }
 
 /// Whether each Launch and Leave of the items is due after those before it, and none is due at the end.
@@ -39,12 +61,20 @@ fn fits(
 ) -> Result<bool, AllocError>
     ensures { IfOk result (λ fit. IsTrue fit ↔ FitsAfter (due_after launches.now (map entry_view entries.now)) [] items.now) }
 {
+    let mut progress = launches.begin(alloc, entries)?;
     for (place, item) in items.iter().enumerate() {
-        if !is_ordered(alloc, launches, entries, &items[..place], item.event)? {
+        if !is_ordered(
+            alloc,
+            launches,
+            entries,
+            &items[..place],
+            item.event,
+            &mut progress,
+        )? {
             return Ok(false);
         }
     }
-    Ok(launches.due(alloc, entries, items)? == Order::Stop)
+    is_over(alloc, launches, entries, items, &mut progress)
 }
 
 /// Whether a history launches what the permutation of these entries launches, all of it and in its order.

@@ -1,9 +1,10 @@
 //! What a permutation launches, in its order.
 ghost use Rattle.std.specs.Prelude.{◌≡◌, ◌+◌, ◌<◌, ◌^◌, ◌++◌, length, map, option_map, IfOk, OnOk};
 ghost use Rattle.spec_parser.specs.Trees.{part_view, session_view, spec_view, entry_view};
-ghost use Rattle.permutation_plans.specs.Launches.{task, task_if, own_tasks, step_of, block_of_step, task_of_entry, launches, due_after};
+ghost use Rattle.permutation_plans.specs.Launches.{task, task_if, own_tasks, step_of, block_of_step, task_of_entry, launches, plan_of, due_after};
+ghost use Rattle.report_lines.specs.Progress.{Follows};
 
-use report_lines::{Plan, Schedule, Task};
+use report_lines::{Plan, Progress, Schedule, Task};
 use session_machine::{HistItem, Order};
 use spec_parser::{Entry, Part, SessionPart, Spec};
 use std::alloc::{AllocError, Global};
@@ -104,7 +105,10 @@ fn tasks(alloc: Global, spec: &Spec<'_>, entries: &[Entry]) -> Result<Vec<Task>,
 }
 
 impl Launches {
-    ghost use Rattle.permutation_plans.specs.Launches.{launches, due_after};
+    ghost use Rattle.std.specs.Prelude.{List};
+    ghost use Rattle.session_machine.specs.declared.reply.HistItem.{HistItem};
+    ghost use Rattle.report_lines.specs.Progress.{Follows};
+    ghost use Rattle.permutation_plans.specs.Launches.{launches, plan_of, due_after};
 
     /// What a permutation of the spec launches.
     pub fn of(alloc: Global, spec: &Spec<'_>, entries: &[Entry]) -> Result<Launches, AllocError>
@@ -133,18 +137,44 @@ impl Launches {
     ) -> Result<Order, AllocError>
         ensures { IfOk result (λ order. order ≡ due_after self.now (map entry_view entries.now) items.now) }
     {
-        due_of(self, alloc, entries, items)
+        let mut progress = self.begin(alloc, entries)?;
+        self.go_on(alloc, entries, items, &mut progress)
+    }
+
+    /// What is kept before anything has come.
+    pub fn begin(&self, alloc: Global, entries: &[Entry]) -> Result<Progress, AllocError>
+        ensures { IfOk result (λ p. (items : List HistItem) → Follows (plan_of self.now (map entry_view entries.now) items).setting p) }
+    {
+        Progress::new(alloc, entries, self.setups.len())
+    }
+
+    /// The next order, by what was kept of a front of the history; the same is then kept of the whole history.
+    pub fn go_on(
+        &self,
+        alloc: Global,
+        entries: &[Entry],
+        items: &[HistItem<'_>],
+        progress: &mut Progress,
+    ) -> Result<Order, AllocError>
+        requires follows { Follows (plan_of self.now (map entry_view entries.now) items.now).setting progress.old }
+        ensures order { IfOk result (λ order. order ≡ due_after self.now (map entry_view entries.now) items.now) }
+        ensures follows { OnOk result (Follows (plan_of self.now (map entry_view entries.now) items.now).setting progress.new) }
+    {
+        order_on(self, alloc, entries, items, progress)
     }
 }
 
 /// The same, all of it lent for one lifetime, as a plan holds it.
-fn due_of<'a>(
+fn order_on<'a>(
     launches: &'a Launches,
     alloc: Global,
     entries: &'a [Entry],
     items: &'a [HistItem<'a>],
+    progress: &mut Progress,
 ) -> Result<Order, AllocError>
-    ensures { IfOk result (λ order. order ≡ due_after launches.now (map entry_view entries.now) items.now) }
+    requires follows { Follows (plan_of launches.now (map entry_view entries.now) items.now).setting progress.old }
+    ensures order { IfOk result (λ order. order ≡ due_after launches.now (map entry_view entries.now) items.now) }
+    ensures follows { OnOk result (Follows (plan_of launches.now (map entry_view entries.now) items.now).setting progress.new) }
 {
     let schedule = Schedule {
         setups: &launches.setups,
@@ -153,5 +183,5 @@ fn due_of<'a>(
         sessions: launches.sessions,
         last: &launches.last,
     };
-    Plan::new(entries, items, &schedule).due(alloc)
+    Plan::new(entries, items, &schedule).go_on(alloc, progress)
 }

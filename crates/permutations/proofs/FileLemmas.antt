@@ -1,10 +1,9 @@
 -- What the parts of a file answer, put together.
-use Rattle.std.proofs.Common.{◌≡◌, ◌≢◌, ℕ, zero, suc, ◌+◌, ◌<◌, ◌≤◌, ◌^◌, List, [], ◌∷◌, ◌++◌, map, flat_map, length, IsUtf8, Result, Ok, Err, refl, sym, subst, ◌∙◌, arith, append_assoc}
-use Rattle.std.specs.Prelude.{option_to_list, slice_index_or}
+use Rattle.std.proofs.Common.{◌≡◌, ◌≢◌, ℕ, suc, ◌≤◌, List, [], ◌∷◌, ◌++◌, map, flat_map, length, IsUtf8, Ok, Err, refl, sym, subst, arith, append_assoc}
+use Rattle.std.specs.Prelude.{option_to_list}
 use Rattle.std.specs.Global.{Vec}
 use Rattle.std.specs.List.{All, AllByRecursion}
 use Rattle.sql_parser.specs.declared.block.Block.{Block}
-use Rattle.session_machine.specs.Machine.{Blocks}
 use Rattle.session_core.specs.Blocks.{blocks_of}
 use Rattle.spec_parser.specs.declared.fault.SpecFault.{SpecFault}
 use Rattle.spec_parser.specs.declared.fault.SpecFault.TheVariants as faults
@@ -16,7 +15,7 @@ use Rattle.permutations.specs.declared.fault.RunFault.TheVariants as told
 use Rattle.permutations.specs.Faults.{spec_fault}
 use Rattle.permutations.specs.Blocks.{Placed, main_block, session_block, blocks_in, BlocksRead}
 use Rattle.permutations.specs.BlockAnswers.{SayAll, HasShortText}
-use Rattle.permutations.specs.Files.{File, FileIs, no_spec, no_sql, is_spec}
+use Rattle.permutations.specs.Files.{FileIs, no_spec, no_sql, is_spec}
 
 refused : (bytes : List ℕ) (f : SpecFault) → length bytes ≤ 1048576 → IsUtf8 bytes → Answers bytes (Err f) → spec_fault f ≢ told.Memory → FileIs bytes (Err (spec_fault f))
 refused bytes faults.Memory short utf8 a differs = absurd (differs refl)

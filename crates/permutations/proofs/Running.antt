@@ -1,5 +1,5 @@
 -- A run that came to its end.
-use Rattle.std.proofs.Common.{◌≡◌, ℕ, length, List, Option, Some, None, IsTrue, true, false, refl, sym, ap, subst, ◌∙◌}
+use Rattle.std.proofs.Common.{◌≡◌, ℕ, length, List, Option, Some, None, IsTrue, true, ap, subst, ◌∙◌}
 use Rattle.std.specs.Prelude.{IfSome}
 use Rattle.session_machine.specs.declared.event.Mode.{Mode}
 use Rattle.session_machine.specs.declared.event.Mode.TheVariants.{Directed}

@@ -1,5 +1,5 @@
 -- The answer to writing a permutation, as the answer to its run.
-use Rattle.std.proofs.Common.{◌≡◌, ℕ, List, map, Bool, true, ◌||◌, Option, Result, Ok, Err, refl, sym, ap, subst, ◌∙◌}
+use Rattle.std.proofs.Common.{◌≡◌, ℕ, List, Bool, true, ◌||◌, Option, Result, Ok, Err, refl, sym, subst, ◌∙◌}
 use Rattle.std.specs.Prelude.{string_bytes, IsTrue}
 use Rattle.session_machine.specs.declared.reply.HistItem.{HistItem}
 use Rattle.session_machine.specs.Machine.{Blocks}

@@ -1,10 +1,10 @@
 -- The run of a whole file.
-use Rattle.std.proofs.Common.{◌≡◌, ◌≢◌, ℕ, ◌<◌, Bool, true, false, List, [], ◌++◌, Option, Result, Ok, Err, refl, sym, ap, subst, ◌∙◌}
+use Rattle.std.proofs.Common.{◌≡◌, ◌≢◌, ℕ, Bool, true, false, List, [], Option, Result, Ok, Err, sym, subst, ◌∙◌}
 use Rattle.std.specs.Io.KnownBytes.{Appends}
 use Rattle.permutation_lists.specs.Permutations.{permutations_of}
 use Rattle.permutations.specs.declared.fault.RunFault.{RunFault}
 use Rattle.permutations.specs.declared.fault.RunFault.TheVariants as faults
-use Rattle.permutations.specs.Said.{Said, behind, too_many}
+use Rattle.permutations.specs.Said.{Said, behind}
 use Rattle.permutations.specs.FirstLine.{first_line}
 use Rattle.permutations.specs.Files.{File, FileIs}
 use Rattle.permutations.specs.Prints.{Prints, all_run, FileSays, refused, not_yet, says}

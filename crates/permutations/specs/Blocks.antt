@@ -1,7 +1,7 @@
 -- The blocks of a file, and the statements that they are.
 use Rattle.std.specs.Prelude.{◌≡◌, List, [], ◌∷◌, ◌++◌, map, flat_map, option_to_list, Result, Ok, Err}
 use Rattle.sql_trees.specs.declared.fault.SqlFault.{SqlFault}
-use Rattle.sql_trees.specs.declared.fault.SqlFault.TheVariants.{Memory, Lex, Syntax, LeftOut, TooDeep, TooMany, DdlInSession, BadColumns}
+use Rattle.sql_trees.specs.declared.fault.SqlFault.TheVariants.{Memory}
 use Rattle.sql_trees.specs.Statements.{StmtTree}
 use Rattle.sql_parser.specs.declared.block.Role.{Role}
 use Rattle.sql_parser.specs.declared.block.Role.TheVariants.{Main, Session}

@@ -2,14 +2,21 @@
 use Rattle.std.specs.Prelude.{List}
 use Rattle.session_machine.specs.declared.event.Order.{Order}
 use Rattle.session_machine.specs.declared.reply.HistItem.{HistItem}
+use Rattle.report_lines.specs.declared.progress.Progress.{Progress}
+use Rattle.report_lines.specs.Progress.{Follows}
 use Rattle.spec_parser.specs.Trees.{EntryTree}
-use Rattle.permutation_plans.specs.Launches.{Launches, due_after}
+use Rattle.permutation_plans.specs.Launches.{Launches, plan_of, due_after}
 
--- what is launched, and the entries
+-- what is launched, the entries, and what is kept between two orders
 pub record Planning : Type 0 where
   pub launches : Launches
   pub entries : List EntryTree
+  pub progress : Progress
 
 -- the order that is due after these items
 abbrev pub order_after : Planning → List HistItem → Order
 order_after plan items = due_after plan.launches plan.entries items
+
+-- what is kept is of a front of these items
+abbrev pub IsFollowing : Planning → List HistItem → Type 0
+IsFollowing plan items = Follows (plan_of plan.launches plan.entries items).setting plan.progress

@@ -1,5 +1,5 @@
 -- What running a file's permutations says.
-use Rattle.std.specs.Prelude.{◌≡◌, ℕ, zero, suc, Bool, true, false, List, [], ◌∷◌, ◌++◌, Result, Ok, Err}
+use Rattle.std.specs.Prelude.{◌≡◌, ℕ, zero, suc, Bool, true, false, List, [], ◌∷◌, Result, Ok, Err}
 use Rattle.std.specs.List.{list_all}
 use Rattle.session_machine.specs.declared.reply.HistItem.{HistItem}
 use Rattle.session_machine.specs.Machine.{Blocks}
@@ -11,7 +11,7 @@ use Rattle.report_text.specs.Said as report
 use Rattle.report_text.specs.Permutation.{permutation_says}
 use Rattle.permutations.specs.declared.fault.RunFault.{RunFault}
 use Rattle.permutations.specs.declared.fault.RunFault.TheVariants as faults
-use Rattle.permutations.specs.Said.{Ending, Said, ended, behind, whole, setup_failed, setup_waits, too_many}
+use Rattle.permutations.specs.Said.{Said, ended, behind, whole, setup_failed, setup_waits, too_many}
 use Rattle.permutations.specs.FirstLine.{first_line}
 use Rattle.permutations.specs.Files.{File, FileIs}
 

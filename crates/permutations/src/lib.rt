@@ -22,4 +22,8 @@ pub use report_text::Ended;
 pub use run::run_spec;
 
 #[cfg(test)]
+mod list_tests;
+#[cfg(test)]
+mod samples;
+#[cfg(test)]
 mod tests;

@@ -1,11 +1,12 @@
 //! The run of one permutation, on one thread.
 
-ghost use Rattle.std.specs.Prelude.{◌≡◌, ◌⊎◌, map, IfOk, IfErr};
+ghost use Rattle.std.specs.Prelude.{◌≡◌, ◌⊎◌, map, IfOk, IfErr, OnOk};
 ghost use Rattle.session_core.specs.Blocks.{blocks_of};
 ghost use Rattle.session_core.specs.Engines.{IsOf};
 ghost use Rattle.spec_parser.specs.Trees.{entry_view, spec_view};
 ghost use Rattle.spec_parser.specs.Stands.{Stands};
 ghost use Rattle.permutation_plans.specs.Regular.{IsRegular};
+ghost use Rattle.permutations.specs.Plans.{IsFollowing};
 
 use crate::fault::RunFault;
 use crate::plan::Plan;
@@ -13,7 +14,7 @@ use permutation_plans::launches_fit;
 use row_versions::ListStore;
 use session_core::EngineState;
 use session_machine::{EngineFault, Mode, Reply, Turn};
-use session_threads::{Driver, Order};
+use session_threads::Order;
 use spec_parser::{Entry, Spec};
 use sql_parser::Block;
 use std::alloc::{AllocError, Global};
@@ -33,9 +34,11 @@ fn do_order<'a, 't>(
     plan: &mut Plan<'_>,
     engine: &mut EngineState<'a, 't, ListStore>,
 ) -> Result<bool, AllocError>
+    requires follows { IsFollowing plan.old engine.old.history }
+    ensures follows { OnOk result (IsFollowing plan.new engine.new.history) }
     ensures same { IsOf engine.new engine.old.blocks engine.old.count engine.old.mode }
 {
-    match plan.next(alloc, engine)? {
+    match plan.go_on(alloc, engine.history())? {
         Order::Launch { session, block } => is_done(engine.launch(session, block)),
         Order::Leave { session } => is_done(engine.leave(session)),
         Order::Stop => Ok(false),
@@ -48,6 +51,8 @@ fn advance<'a, 't>(
     plan: &mut Plan<'_>,
     engine: &mut EngineState<'a, 't, ListStore>,
 ) -> Result<bool, AllocError>
+    requires follows { IsFollowing plan.old engine.old.history }
+    ensures follows { OnOk result (IsFollowing plan.new engine.new.history) }
     ensures same { IsOf engine.new engine.old.blocks engine.old.count engine.old.mode }
 {
     match engine.turn() {
@@ -63,6 +68,7 @@ fn run_to_end<'a, 't>(
     plan: &mut Plan<'_>,
     engine: &mut EngineState<'a, 't, ListStore>,
 ) -> Result<(), AllocError>
+    requires follows { IsFollowing plan.old engine.old.history }
     ensures same { IsOf engine.new engine.old.blocks engine.old.count engine.old.mode }
 {
     for _ in 0..u64::MAX {

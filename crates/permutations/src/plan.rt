@@ -1,13 +1,15 @@
 //! A permutation as the driver of its run.
 
-ghost use Rattle.std.specs.Prelude.{◌≡◌, ◌<◌, ◌^◌, length, map, IfOk};
+ghost use Rattle.std.specs.Prelude.{◌≡◌, ◌<◌, ◌^◌, length, map, IfOk, OnOk};
 ghost use Rattle.spec_parser.specs.Trees.{entry_view, spec_view};
 ghost use Rattle.permutation_plans.specs.Launches.{launches};
-ghost use Rattle.permutations.specs.Plans.{order_after};
+ghost use Rattle.permutations.specs.Plans.{order_after, IsFollowing};
 
 use permutation_plans::Launches;
+use report_lines::Progress;
 use row_versions::Versions;
 use session_core::EngineState;
+use session_machine::HistItem;
 use session_threads::{Driver, Order};
 use spec_parser::{Entry, Spec};
 use std::alloc::{AllocError, Global};
@@ -18,6 +20,7 @@ use std::marker::Model;
 pub struct Plan<'s> {
     launches: Launches,
     entries: &'s [Entry],
+    progress: Progress,
 }
 
 impl<'s> Model for Plan<'s> {
@@ -27,22 +30,42 @@ impl<'s> Model for Plan<'s> {
 
     ghost Value = { Planning };
 
-    ghost view = { λ p. record { launches = p.launches; entries = map entry_view p.entries.now } };
+    ghost view = { λ p. record { launches = p.launches; entries = map entry_view p.entries.now; progress = p.progress } };
 }
 
 impl<'s> Plan<'s> {
+    ghost use Rattle.std.specs.Prelude.{List};
+    ghost use Rattle.session_machine.specs.declared.reply.HistItem.{HistItem};
+    ghost use Rattle.permutations.specs.Plans.{order_after, IsFollowing};
+
     /// The plan of the spec's permutation that has these entries.
     pub fn new(alloc: Global, spec: &Spec<'_>, entries: &'s [Entry]) -> Result<Plan<'s>, AllocError>
         requires { length spec.now.sessions.items < 2 ^ 32 }
-        ensures { IfOk result (λ p. p ≡ record { launches = launches (spec_view spec.now) (map entry_view entries.now); entries = map entry_view entries.now }) }
+        ensures plan { IfOk result (λ p. (p.launches ≡ launches (spec_view spec.now) (map entry_view entries.now)) × (p.entries ≡ map entry_view entries.now)) }
+        ensures follows { IfOk result (λ p. (items : List HistItem) → IsFollowing p items) }
     {
+        let launches = Launches::of(alloc, spec, entries)?;
+        let progress = launches.begin(alloc, entries)?;
         Ok(Plan {
-            launches: Launches::of(alloc, spec, entries)?,
+            launches,
             entries,
+            progress,
         })
+    }
+
+    /// The next order, by what was kept of a front of the history when it was last asked for.
+    pub fn go_on(&mut self, alloc: Global, items: &[HistItem<'_>]) -> Result<Order, AllocError>
+        requires follows { IsFollowing self.old items.now }
+        ensures order { IfOk result (λ order. order ≡ order_after self.old items.now) }
+        ensures follows { OnOk result (IsFollowing self.new items.now) }
+        ensures same { (self.new.launches ≡ self.old.launches) × (self.new.entries ≡ self.old.entries) }
+    {
+        self.launches
+            .go_on(alloc, self.entries, items, &mut self.progress)
     }
 }
 
+/// It can be asked after any history, and goes through the whole of it.
 impl<'s, V: Versions> Driver<V> for Plan<'s> {
     ghost order_after = { order_after };
 

@@ -1,9 +1,14 @@
 //! What no clause says: that the calls succeed where memory is left, and the texts of worked files.
 
-ghost use Rattle.std.specs.Prelude.{None};
-
 use super::*;
-use iso_lexer::{DeviceFault, Fault, FaultKind, FromStd, LONGEST_FILE, Sink, Source};
+use crate::file::read_file;
+use crate::samples::{TWO_BY_TWO, failing_at, reading_fails_at};
+use iso_lexer::{Fault, FaultKind, FromStd, LONGEST_FILE};
+use permutation_lists::Permutations;
+use row_versions::ListStore;
+use session_core::EngineState;
+use session_machine::Mode;
+use session_threads::{Driver, Order};
 use std::alloc::{AllocError, Global};
 use std::process::Abort;
 use std::test::*;
@@ -12,8 +17,6 @@ const LITERALS: &str = "session s step a { SELECT 1; } step b { SELECT 22, 21474
 
 const TEXT: &str =
     "Parsed test spec with 1 sessions\n\nstarting permutation: a b\nstep a: SELECT 1;\n?column?\n--------\n       1\n(1 row)\n\nstep b: SELECT 22, 2147483647\n?column?|  ?column?\n--------+----------\n      22|2147483647\n(1 row)\n\n";
-
-const TWO_BY_TWO: &str = "session s1 step a1 { } step a2 { } session s2 step b1 { } step b2 { }";
 
 /// A spec whose teardown fails.
 const TORN: &str = "session s step a { } teardown { SELECT 1/0 }";
@@ -164,26 +167,6 @@ fn as_many_permutations_run_as_may(rt: HostRuntime) -> Result<(), AllocError> {
 }
 
 #[test]
-fn permutations_are_listed_as_far_as_may(rt: HostRuntime) -> Result<(), AllocError> {
-    for (limit, text) in [
-        (0, ""),
-        (1, "permutation \"a1\" \"a2\" \"b1\" \"b2\"\n"),
-        (
-            2,
-            "permutation \"a1\" \"a2\" \"b1\" \"b2\"\npermutation \"a1\" \"b1\" \"a2\" \"b2\"\n",
-        ),
-    ] {
-        let mut out = room_for(rt.alloc(), 1000)?;
-        match list_bytes(rt.alloc(), TWO_BY_TWO.as_bytes(), &mut out, limit) {
-            Err(RunFault::TooManyPermutations) => assert_eq!(rt; out.as_slice(), text.as_bytes()),
-            Err(RunFault::Memory) => {}
-            _ => assert!(rt; false, "all listed"),
-        }
-    }
-    Ok(())
-}
-
-#[test]
 fn what_does_not_run_yet_is_said_before_any_output_and_listed(
     rt: HostRuntime,
 ) -> Result<(), AllocError> {
@@ -288,81 +271,10 @@ fn statuses_are_those_of_the_faults(rt: HostRuntime) -> Result<(), AllocError> {
     Ok(())
 }
 
-/// Gives a file a byte at a time, and fails at a call.
-#[derive(Drop)]
-struct FailingSource {
-    given: usize,
-    fails_at: usize,
-    failed: bool,
-}
-
-impl Source for FailingSource {
-    ghost left = { λ _. None };
-
-    ghost failed = { λ s. s.failed };
-
-    fn read(&mut self, buf: &mut [u8]) -> Result<usize, DeviceFault> {
-        if self.failed || self.given == self.fails_at {
-            self.failed = true;
-            return Err(DeviceFault);
-        }
-        let bytes = TORN.as_bytes();
-        if self.given >= bytes.len() || buf.is_empty() {
-            return Ok(0);
-        }
-        buf[0] = bytes[self.given];
-        self.given += 1;
-        Ok(1)
-    }
-}
-
-/// Takes the text that is to come, and fails at a call.
-#[derive(Drop)]
-struct FailingSink<'t> {
-    to_come: &'t [u8],
-    is_the_text: bool,
-    calls: usize,
-    fails_at: usize,
-    failed: bool,
-}
-
-impl<'t> Sink for FailingSink<'t> {
-    ghost put_so_far = { λ _. None };
-
-    ghost failed = { λ s. s.failed };
-
-    fn put(&mut self, bytes: &[u8]) -> Result<(), DeviceFault> {
-        if self.failed || self.calls == self.fails_at {
-            self.failed = true;
-            return Err(DeviceFault);
-        }
-        match self.to_come.strip_prefix(bytes) {
-            Some(rest) => self.to_come = rest,
-            None => self.is_the_text = false,
-        }
-        self.calls = self.calls.saturating_add(1);
-        Ok(())
-    }
-}
-
-fn failing_at<'t>(fails_at: usize, text: &'t str) -> FailingSink<'t> {
-    FailingSink {
-        to_come: text.as_bytes(),
-        is_the_text: true,
-        calls: 0,
-        fails_at,
-        failed: false,
-    }
-}
-
 #[test]
 fn failing_reads_are_told_and_nothing_is_written(rt: HostRuntime) {
-    for fails_at in 0..TORN.len() {
-        let mut source = FailingSource {
-            given: 0,
-            fails_at,
-            failed: false,
-        };
+    for fails_at in 0..=TORN.len() {
+        let mut source = reading_fails_at(fails_at, TORN.as_bytes());
         let mut out = failing_at(usize::MAX, TORN_TEXT);
         let mut notes = failing_at(usize::MAX, TORN_NOTES);
         let run = run_spec(rt.alloc(), &mut source, &mut out, &mut notes, 1000);
@@ -402,4 +314,30 @@ fn notes_that_fail_are_told_behind_the_text_so_far(rt: HostRuntime) {
     let run = run_spec(rt.alloc(), &mut source, &mut out, &mut notes, 1000);
     assert!(rt; out.is_the_text);
     assert!(rt; matches!(run, Err(RunFault::Write) | Err(RunFault::Memory)));
+}
+
+/// The first order of a file's first permutation, of one session, by its plan as a driver.
+fn first_order(alloc: Global, text: &str) -> Result<Order, RunFault> {
+    let file = read_file(alloc, text.as_bytes())?;
+    let mut permutations = Permutations::of(alloc, &file.spec)?;
+    permutations.advance(alloc)?;
+    let store = ListStore::new(alloc);
+    let engine = EngineState::new(alloc, &file.blocks, 1, Mode::Directed, store)?;
+    let mut plan = Plan::new(alloc, &file.spec, permutations.entries())?;
+    Ok(plan.next(alloc, &engine)?)
+}
+
+#[test]
+fn a_plan_is_a_driver(rt: HostRuntime) -> Result<(), RunFault> {
+    let alloc = rt.alloc();
+    let first = match first_order(alloc, LITERALS) {
+        Ok(order) => order,
+        Err(_) => first_order(alloc, LITERALS)?,
+    };
+    let launch = Order::Launch {
+        session: 1,
+        block: 0,
+    };
+    assert_eq!(&rt; first, launch);
+    Ok(())
 }

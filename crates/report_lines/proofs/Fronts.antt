@@ -45,6 +45,25 @@ start_stays (x ∷ xs) item more (suc j) ordered few =
     next_stays (is_order x.event) (orders xs) j (start (xs ++ item ∷ more) j) (start xs j) (start (xs ++ item ∷ more) (suc j)) (start xs (suc j)) less
     (start_stays xs item more j ordered) (start_stays xs item more (suc j) ordered)
 
+kept_first : (b : Bool) (n s t : ℕ) → zero < (if b then suc n else n) → (zero < n → s ≡ t) → cond b 0 (s + 1) ≡ cond b 0 (t + 1)
+kept_first true n s t few same = refl
+kept_first false n s t few same = ap (λ k. k + 1) (same few)
+
+kept_next : (b : Bool) (n k s t u v : ℕ) → suc k < (if b then suc n else n) → (k < n → s ≡ t) → (suc k < n → u ≡ v) → cond b (s + 1) (u + 1) ≡ cond b (t + 1) (v + 1)
+kept_next true n k s t u v few one other = ap (λ j. j + 1) (one (omega (arith, few)))
+kept_next false n k s t u v few one other = ap (λ j. j + 1) (other few)
+
+-- an order that is there begins where it began, whatever follows
+pub start_kept : (front more : List HistItem) (j : ℕ) → j < orders front → start (front ++ more) j ≡ start front j
+start_kept [] more j few = absurd (omega (arith, few))
+start_kept (x ∷ xs) more zero few =
+    let less : zero < (if is_order x.event then suc (orders xs) else orders xs) = let all = orders_more (is_order x.event) x (filter (λ i. is_order i.event) xs) in omega (arith, few, all) in
+    kept_first (is_order x.event) (orders xs) (start (xs ++ more) zero) (start xs zero) less (start_kept xs more zero)
+start_kept (x ∷ xs) more (suc j) few =
+    let less : suc j < (if is_order x.event then suc (orders xs) else orders xs) = let all = orders_more (is_order x.event) x (filter (λ i. is_order i.event) xs) in omega (arith, few, all) in
+    kept_next (is_order x.event) (orders xs) j (start (xs ++ more) j) (start xs j) (start (xs ++ more) (suc j)) (start xs (suc j)) less
+    (start_kept xs more j) (start_kept xs more (suc j))
+
 -- ---- what has ended
 
 range_stays : (front rest : List HistItem) (from to : ℕ) → from ≤ length front → to ≤ length front → slice_range (front ++ rest) from to ≡ slice_range front from to
@@ -149,6 +168,20 @@ stays_so c item more there ordered all =
 
 pub front_stays : (c : Setting) (item : HistItem) (more : List HistItem) (there : ℕ) → is_order item.event ≡ true → orders c.items ≡ c.setups + there → report (longer c (item ∷ more)) there ≡ report c there
 front_stays c item more there ordered all = from_same c (item ∷ more) there 0 (length c.entries) [] (stays_so c item more there ordered all) (omega arith)
+
+stays_kept : (c : Setting) (more : List HistItem) (there : ℕ) → c.setups + there < orders c.items → Stays c more there
+stays_kept c more there past =
+    let seen : (e : ℕ) → e ≤ there → seen_before (longer c more) e ≡ seen_before c e = λ e le. start_kept c.items more (c.setups + e) (omega (arith, le, past)) in
+    record {
+      seen = seen;
+      ended = λ e i le low.
+          ap (λ s. list_any (ends_in (session_at c i)) (slice_range (c.items ++ more) s (seen_before c e))) (seen i low)
+          ∙ ap (list_any (ends_in (session_at c i))) (range_stays c.items more (seen_before c i) (seen_before c e) (start_within c.items (c.setups + i)) (start_within c.items (c.setups + e)));
+    }
+
+-- what was told before an order that is there stays so, whatever follows
+pub past_stays : (c : Setting) (more : List HistItem) (there : ℕ) → c.setups + there < orders c.items → report (longer c more) there ≡ report c there
+past_stays c more there past = from_same c more there 0 (length c.entries) [] (stays_kept c more there past) (omega arith)
 
 -- ---- the next order
 

@@ -8,3 +8,4 @@ pub mod Tried
 pub mod ReportPoints
 pub mod Examples
 pub mod Fronts
+pub mod Keeping

@@ -1,27 +1,131 @@
 -- How the report goes on at each entry.
-use Rattle.std.proofs.Common.{◌≡◌, ℕ, suc, ◌+◌, ◌-◌, ◌<◌, ◌≤◌, List, refl, ap, sym, ◌∙◌, arith, true, false, if◌then◌else◌, nat_lt}
+use Rattle.std.proofs.Common.{◌≡◌, ℕ, zero, suc, ◌+◌, ◌-◌, ◌<◌, ◌≤◌, List, [], length, refl, ap, sym, ◌∙◌, arith, Bool, true, false, if◌then◌else◌, nat_lt}
 use Rattle.report_lines.specs.declared.history.Line.{Line}
+use Rattle.report_lines.specs.declared.history.Stand.{Stand}
 use Rattle.report_lines.specs.declared.history.Stand.TheVariants.{Due, Whole, Invalid}
 use Rattle.report_lines.specs.History.{Setting}
-use Rattle.report_lines.specs.Report.{report_from, made_way, launched, poll, before, is_busy, is_empty, active}
+use Rattle.report_lines.specs.Report.{Report, report, report_from, made_way, launched, poll, before, is_busy, is_empty, active}
 
-pub report_stuck : (c : Setting) (n e there : ℕ) (lines way : List Line) → e < n → way ≡ made_way c lines e → is_busy c way e ≡ true → report_from c e (n - e) there lines ≡ record { lines = way; stand = Invalid }
-report_stuck c n e there lines way h is busy =
+-- where the entries come to an end
+pub report_end : (c : Setting) (n e there : ℕ) (lines : List Line) → n ≤ e → report_from c e (n - e) there lines ≡ (let all = poll c (before c e) lines in record { lines = all; stand = if is_empty (active all e) then Whole else Invalid })
+report_end c n e there lines h = let over : n - e ≡ 0 = omega arith in rw over refl
+
+-- at an entry of which no segment is there
+pub report_stuck : (c : Setting) (n e : ℕ) (lines way : List Line) → e < n → way ≡ made_way c lines e → is_busy c way e ≡ true → report_from c e (n - e) e lines ≡ record { lines = way; stand = Invalid }
+report_stuck c n e lines way h is busy =
     let more : n - e ≡ suc (n - (e + 1)) = omega arith in
     let busy_way : is_busy c (made_way c lines e) e ≡ true = ap (λ (w : List Line). is_busy c w e) (sym is) ∙ busy in
     rw (more, busy_way, is) refl
 
-pub report_due : (c : Setting) (n e there : ℕ) (lines way : List Line) → e < n → way ≡ made_way c lines e → is_busy c way e ≡ false → nat_lt e there ≡ false → report_from c e (n - e) there lines ≡ record { lines = way; stand = Due e }
-report_due c n e there lines way h is free absent =
+pub report_due : (c : Setting) (n e : ℕ) (lines way : List Line) → e < n → way ≡ made_way c lines e → is_busy c way e ≡ false → report_from c e (n - e) e lines ≡ record { lines = way; stand = Due e }
+report_due c n e lines way h is free =
     let more : n - e ≡ suc (n - (e + 1)) = omega arith in
+    let absent : nat_lt e e ≡ false = grind arith in
     let free_way : is_busy c (made_way c lines e) e ≡ false = ap (λ (w : List Line). is_busy c w e) (sym is) ∙ free in
     rw (more, free_way, absent, is) refl
 
-pub report_on : (c : Setting) (n e there : ℕ) (lines way : List Line) → e < n → way ≡ made_way c lines e → is_busy c way e ≡ false → nat_lt e there ≡ true → report_from c e (n - e) there lines ≡ report_from c (e + 1) (n - (e + 1)) there (launched c way e)
-report_on c n e there lines way h is free present =
-    let more : n - e ≡ suc (n - (e + 1)) = omega arith in
-    let free_way : is_busy c (made_way c lines e) e ≡ false = ap (λ (w : List Line). is_busy c w e) (sym is) ∙ free in
-    rw (more, free_way, present, is) refl
+-- ---- with no segment
 
-pub report_end : (c : Setting) (n e there : ℕ) (lines : List Line) → n ≤ e → report_from c e (n - e) there lines ≡ (let all = poll c (before c e) lines in record { lines = all; stand = if is_empty (active all e) then Whole else Invalid })
-report_end c n e there lines h = let over : n - e ≡ 0 = omega arith in rw over refl
+pub report_none : (c : Setting) → length c.entries ≡ 0 → report c 0 ≡ record { lines = []; stand = Whole }
+report_none c none = rw none refl
+
+pub report_some : (c : Setting) (more : ℕ) → length c.entries ≡ suc more → report c 0 ≡ record { lines = []; stand = Due 0 }
+report_some c more some = rw some refl
+
+same_first : (c d : Setting) (n : ℕ) → length c.entries ≡ n → length d.entries ≡ n → report c 0 ≡ report d 0
+same_first c d zero one other = report_none c one ∙ sym (report_none d other)
+same_first c d (suc n) one other = report_some c n one ∙ sym (report_some d n other)
+
+-- it is the same whatever the history is
+pub first_same : (c d : Setting) → length c.entries ≡ length d.entries → report c 0 ≡ report d 0
+first_same c d same = same_first c d (length d.entries) same refl
+
+-- ---- with a segment more
+
+pub whole_due : (d : ℕ) → (let s : Stand = Whole in let t : Stand = Due d in s ≡ t) → ⊥
+whole_due d h = cc
+
+pub invalid_due : (d : ℕ) → (let s : Stand = Invalid in let t : Stand = Due d in s ≡ t) → ⊥
+invalid_due d h = cc
+
+same_due : (e d : ℕ) → (let s : Stand = Due e in let t : Stand = Due d in s ≡ t) → e ≡ d
+same_due e d h = cc
+
+ends_so : (b : Bool) (d : ℕ) → (if b then Whole else Invalid) ≡ Due d → ⊥
+ends_so true d h = whole_due d h
+ends_so false d h = invalid_due d h
+
+-- an entry is due, as the first without a segment
+record Next (c : Setting) (e rest there : ℕ) (lines way : List Line) (d : ℕ) : Type 0 where
+  first : d ≡ there
+  within : there < e + rest
+  goes_on : report_from c e rest (there + 1) lines ≡ report_from c (there + 1) (e + rest - (there + 1)) (there + 1) (launched c way there)
+
+next_case : (c : Setting) (e rest there : ℕ) (lines way : List Line) (d : ℕ) (busy past : Bool) → busy ≡ is_busy c (made_way c lines e) e → past ≡ nat_lt e there → e ≤ there
+    → (e + 1 ≤ there → report_from c (e + 1) rest there (launched c (made_way c lines e) e) ≡ record { lines = way; stand = Due d } → Next c (e + 1) rest there (launched c (made_way c lines e) e) way d)
+    → (if busy then record { lines = made_way c lines e; stand = Invalid } else (if past then report_from c (e + 1) rest there (launched c (made_way c lines e) e) else record { lines = made_way c lines e; stand = Due e })) ≡ record { lines = way; stand = Due d }
+    → Next c e (suc rest) there lines way d
+next_case c e rest there lines way d true past is_b is_p le later h = absurd (invalid_due d (ap (λ (r : Report). r.stand) h))
+next_case c e rest there lines way d false true is_b is_p le later h =
+    let more : e + 1 ≤ there = grind arith in
+    let n = later more h in
+    let on : nat_lt e (there + 1) ≡ true = grind arith in
+    let far : e + 1 + rest ≡ e + suc rest = omega arith in
+    record {
+      first = n.first;
+      within = omega (arith, n.within);
+      goes_on = rw (sym is_b, on) (n.goes_on ∙ ap (λ k. report_from c (there + 1) (k - (there + 1)) (there + 1) (launched c way there)) far);
+    }
+next_case c e rest there lines way d false false is_b is_p le later h =
+    let same : e ≡ there = grind arith in
+    let on : nat_lt e (there + 1) ≡ true = grind arith in
+    let left : rest ≡ e + suc rest - (there + 1) = omega (arith, same) in
+    let lines_are : made_way c lines e ≡ way = ap (λ (r : Report). r.lines) h in
+    let due_is = same_due e d (ap (λ (r : Report). r.stand) h) in
+    record {
+      first = sym due_is ∙ same;
+      within = omega (arith, same);
+      goes_on = rw (sym is_b, on) (ap (λ (w : List Line). report_from c (e + 1) rest (there + 1) (launched c w e)) lines_are
+          ∙ ap (λ k. report_from c (k + 1) rest (there + 1) (launched c way k)) same
+          ∙ ap (λ k. report_from c (there + 1) k (there + 1) (launched c way there)) left);
+    }
+
+from_next : (c : Setting) (e rest there : ℕ) (lines way : List Line) (d : ℕ) → e ≤ there → report_from c e rest there lines ≡ record { lines = way; stand = Due d } → Next c e rest there lines way d
+from_next c e zero there lines way d le h = absurd (ends_so (is_empty (active (poll c (before c e) lines) e)) d (ap (λ (r : Report). r.stand) h))
+from_next c e (suc rest) there lines way d le h =
+    next_case c e rest there lines way d (is_busy c (made_way c lines e) e) (nat_lt e there) refl refl le
+    (λ more h'. from_next c (e + 1) rest there (launched c (made_way c lines e) e) way d more h') h
+
+pub report_next : (c : Setting) (there : ℕ) (way : List Line) (d : ℕ) → report c there ≡ record { lines = way; stand = Due d } → report c (there + 1) ≡ report_from c (there + 1) (length c.entries - (there + 1)) (there + 1) (launched c way there)
+report_next c there way d h =
+    let n = from_next c 0 (length c.entries) there [] way d (omega arith) h in
+    let all : 0 + length c.entries ≡ length c.entries = omega arith in
+    n.goes_on ∙ ap (λ k. report_from c (there + 1) (k - (there + 1)) (there + 1) (launched c way there)) all
+
+abbrev pub is_due : Stand → Bool
+is_due (Due d) = true
+is_due Whole = false
+is_due Invalid = false
+
+not_due : (s : Stand) (e : ℕ) → is_due s ≡ false → Due e ≡ s → ⊥
+not_due (Due d) e over h = cc
+not_due Whole e over h = whole_due e (sym h)
+not_due Invalid e over h = invalid_due e (sym h)
+
+over_case : (c : Setting) (e rest there : ℕ) (lines way : List Line) (s : Stand) (busy past : Bool) → busy ≡ is_busy c (made_way c lines e) e → past ≡ nat_lt e there → is_due s ≡ false
+    → (report_from c (e + 1) rest there (launched c (made_way c lines e) e) ≡ record { lines = way; stand = s } → report_from c (e + 1) rest (there + 1) (launched c (made_way c lines e) e) ≡ record { lines = way; stand = s })
+    → (if busy then record { lines = made_way c lines e; stand = Invalid } else (if past then report_from c (e + 1) rest there (launched c (made_way c lines e) e) else record { lines = made_way c lines e; stand = Due e })) ≡ record { lines = way; stand = s }
+    → report_from c e (suc rest) (there + 1) lines ≡ record { lines = way; stand = s }
+over_case c e rest there lines way s true past is_b is_p over later h = rw (sym is_b) h
+over_case c e rest there lines way s false true is_b is_p over later h = let on : nat_lt e (there + 1) ≡ true = grind arith in rw (sym is_b, on) (later h)
+over_case c e rest there lines way s false false is_b is_p over later h = absurd (not_due s e over (ap (λ (r : Report). r.stand) h))
+
+from_over : (c : Setting) (e rest there : ℕ) (lines way : List Line) (s : Stand) → is_due s ≡ false → report_from c e rest there lines ≡ record { lines = way; stand = s } → report_from c e rest (there + 1) lines ≡ record { lines = way; stand = s }
+from_over c e zero there lines way s over h = h
+from_over c e (suc rest) there lines way s over h =
+    over_case c e rest there lines way s (is_busy c (made_way c lines e) e) (nat_lt e there) refl refl over
+    (from_over c (e + 1) rest there (launched c (made_way c lines e) e) way s over) h
+
+-- what is whole or invalid stays so
+pub report_over : (c : Setting) (there : ℕ) (way : List Line) (s : Stand) → is_due s ≡ false → report c there ≡ record { lines = way; stand = s } → report c (there + 1) ≡ record { lines = way; stand = s }
+report_over c there way s over h = from_over c 0 (length c.entries) there [] way s over h

@@ -7,3 +7,4 @@ pub mod Trying
 pub mod Due
 pub mod Tries
 pub mod Fronts
+pub mod Progress

@@ -8,9 +8,11 @@ pub mod laws;
 #[cfg(test)]
 mod order_tests;
 mod plan;
+mod progress;
 #[cfg(test)]
 mod samples;
 mod segments;
+mod sight;
 mod telling;
 #[cfg(test)]
 mod tests;
@@ -20,4 +22,5 @@ pub use entries::{ends_in, session_of};
 pub use history::{Line, Moment, Stand, Task};
 pub use plan::{Plan, Schedule};
 pub use segments::{Segments, any_ends, any_fails};
-pub use telling::{Told, told_lines};
+pub use progress::{Progress, told_lines};
+pub use telling::Told;

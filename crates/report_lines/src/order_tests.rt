@@ -65,10 +65,10 @@ fn due<'a>(
     }
 }
 
-fn segments_of<'a>(alloc: Global, items: &'a [HistItem<'a>]) -> Result<Segments<'a>, AllocError> {
-    match Segments::new(alloc, items) {
-        Ok(segments) => Ok(segments),
-        Err(_) => Segments::new(alloc, items),
+fn course_of<'a>(alloc: Global, items: &'a [HistItem<'a>]) -> Result<Course<'a>, AllocError> {
+    match Course::new(alloc, &[], items, 0) {
+        Ok(course) => Ok(course),
+        Err(_) => Course::new(alloc, &[], items, 0),
     }
 }
 
@@ -80,7 +80,8 @@ fn follow(
     orders: &[Order],
 ) -> Result<(), AllocError> {
     let entries = [entry(alloc, 1, 0, &[])?, entry(alloc, 2, 0, &[])?];
-    let segments = segments_of(alloc, items)?;
+    let course = course_of(alloc, items)?;
+    let segments = course.segments();
     assert_eq!(rt; segments.count(), orders.len());
     for (number, order) in orders.iter().enumerate() {
         let so_far = segments.start(number).min(items.len());
@@ -212,9 +213,10 @@ fn an_invalid_permutation_ends_without_teardown(rt: HostRuntime) -> Result<(), A
     follow(&rt, rt.alloc(), &items, &orders)
 }
 
-/// The history of `segments_are_cut_at_orders`.
+/// The history of `segments_are_cut_at_orders`, in a function of its own, since a course holds it for one lifetime.
 fn is_cut(rt: &impl Abort, alloc: Global, items: &[HistItem<'_>]) -> Result<(), AllocError> {
-    let segments = segments_of(alloc, items)?;
+    let course = course_of(alloc, items)?;
+    let segments = course.segments();
     assert_eq!(rt; segments.count(), 3);
     assert_eq!(rt; segments.items().len(), 6);
     assert_eq!(rt; segments.start(1), 3);
@@ -241,4 +243,73 @@ fn segments_are_cut_at_orders(rt: HostRuntime) -> Result<(), AllocError> {
     assert!(&rt; ends_in(2, &items[5]) && !ends_in(2, &items[4]));
     assert_eq!(&rt; session_of(&items[3].event), 1);
     is_cut(&rt, rt.alloc(), &items)
+}
+
+/// Two steps of one session, and nothing else.
+const TWO_STEPS: Schedule<'static> = Schedule {
+    setups: &[],
+    tasks: &[
+        Task {
+            session: 1,
+            block: 0,
+        },
+        Task {
+            session: 1,
+            block: 1,
+        },
+    ],
+    teardowns: &[],
+    sessions: 1,
+    last: &[],
+};
+
+/// What is due after the first item, and then after all of them.
+fn asked_twice<'a>(
+    alloc: Global,
+    entries: &'a [Entry],
+    items: &'a [HistItem<'a>],
+) -> Result<(Order, Order), AllocError>
+    requires entries { length entries.now + 3 < 2 ^ 64 }
+    requires items { 1 < length items.now }
+{
+    let mut progress = Progress::new(alloc, entries, 0)?;
+    let early = Plan::new(entries, &items[..1], &TWO_STEPS).go_on(alloc, &mut progress)?;
+    let late = Plan::new(entries, items, &TWO_STEPS).go_on(alloc, &mut progress)?;
+    Ok((early, late))
+}
+
+/// The same; what was refused memory answers when it is asked again.
+fn orders_of<'a>(
+    alloc: Global,
+    entries: &'a [Entry],
+    items: &'a [HistItem<'a>],
+) -> Result<(Order, Order), AllocError>
+    requires entries { length entries.now + 3 < 2 ^ 64 }
+    requires items { 1 < length items.now }
+{
+    match asked_twice(alloc, entries, items) {
+        Ok(orders) => Ok(orders),
+        Err(_) => asked_twice(alloc, entries, items),
+    }
+}
+
+/// The history of `a_segment_that_has_grown_is_told_anew`: as long as the first step isn't done, the second one can't be launched.
+fn is_told_anew(
+    rt: &impl Abort,
+    alloc: Global,
+    items: &[HistItem<'_>],
+) -> Result<(), AllocError>
+    requires { 1 < length items.now }
+{
+    let entries = [entry(alloc, 1, 0, &[])?, entry(alloc, 1, 1, &[])?];
+    let (early, late) = orders_of(alloc, &entries, items)?;
+    assert_eq!(rt; early, Order::Stop);
+    assert_eq!(rt; late, launch_of(1, 1));
+    Ok(())
+}
+
+#[test]
+fn a_segment_that_has_grown_is_told_anew(rt: HostRuntime) -> Result<(), AllocError> {
+    let items = [launch(1), ends(1)];
+    is_told_anew(&rt, rt.alloc(), &items)
 }

@@ -1,12 +1,12 @@
 //! The next order of a permutation, from its history alone.
-ghost use Rattle.std.specs.Prelude.{◌≡◌, ◌+◌, ◌-◌, ◌<◌, ◌≤◌, ◌^◌, ℕ, not, ◌&&◌, length, map, IfOk, drop, Option, Some, None};
+ghost use Rattle.std.specs.Prelude.{◌≡◌, ◌+◌, ◌-◌, ◌<◌, ◌≤◌, ◌^◌, ℕ, not, ◌&&◌, length, map, IfOk, OnOk, drop, Option, Some, None};
 ghost use Rattle.spec_parser.specs.Trees.{entry_view};
 ghost use Rattle.report_lines.specs.Due.{is_over, went_well, orders, due_setup, torn_down, task_of, due_last, due_entry, due, or_else};
+ghost use Rattle.report_lines.specs.Progress.{Follows, IsSettled};
 
-use crate::course::Course;
 use crate::history::{Stand, Task, TornDown};
+use crate::progress::Progress;
 use crate::segments::Segments;
-use crate::telling::told_lines;
 use session_machine::{HistItem, Order};
 use spec_parser::Entry;
 use std::alloc::{AllocError, Global};
@@ -178,14 +178,32 @@ impl<'a> Plan<'a> {
     pub fn due(&self, alloc: Global) -> Result<Order, AllocError>
         ensures { IfOk result (λ order. order ≡ due self.now) }
     {
-        let course = Course::new(alloc, self.entries, self.items, self.setups.len())?;
-        let segments = course.segments();
-        let there = segments.count();
-        if let Some(order) = due_setup(segments, there, self.setups) {
-            return Ok(order);
-        }
-        let told = told_lines(alloc, &course, there.saturating_sub(self.setups.len()))?;
-        Ok(self.due_entry(segments, there, told.1))
+        let mut progress = Progress::new(alloc, self.entries, self.setups.len())?;
+        self.go_on(alloc, &mut progress)
+    }
+
+    /// The next order, by what was kept of a front of the history, such as nothing; the same is then kept of the whole.
+    /// Fails only where memory is refused.
+    pub fn go_on(&self, alloc: Global, progress: &mut Progress) -> Result<Order, AllocError>
+        requires follows { Follows self.now.setting progress.old }
+        ensures order { IfOk result (λ order. order ≡ due self.now) }
+        ensures follows { OnOk result (Follows self.now.setting progress.new) }
+    {
+        progress.reach(alloc, self.entries, self.setups.len(), self.items)?;
+        Ok(due_by(self, progress))
+    }
+}
+
+/// The next order, by what is kept of the whole history.
+fn due_by<'a>(plan: &'a Plan<'a>, progress: &'a Progress) -> Order
+    requires { IsSettled plan.now.setting progress.now }
+    ensures { result ≡ due plan.now }
+{
+    let segments = progress.segments(plan.items);
+    let there = segments.count();
+    match due_setup(&segments, there, plan.setups) {
+        Some(order) => order,
+        None => plan.due_entry(&segments, there, progress.stand()),
     }
 }
 

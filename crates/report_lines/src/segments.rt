@@ -1,11 +1,11 @@
 //! A history with the places of its orders.
-ghost use Rattle.std.specs.Prelude.{◌≡◌, ◌+◌, ◌<◌, ◌≤◌, ◌^◌, ◌++◌, length, drop, IfOk, slice_range};
+ghost use Rattle.std.specs.Prelude.{◌≡◌, ◌+◌, ◌<◌, ◌≤◌, ◌^◌, ◌++◌, length, IfOk, slice_range};
 ghost use Rattle.std.specs.List.{list_any};
 ghost use Rattle.report_lines.specs.Starts.{start, ends_in};
 ghost use Rattle.report_lines.specs.Due.{segment, is_failed, fails, is_over, went_well, orders};
-ghost use Rattle.report_lines.specs.Places.{starts_from, finishes_from, first_place, first_finish};
+ghost use Rattle.report_lines.specs.Places.{starts_from};
 
-use crate::entries::{self, is_order, session_of};
+use crate::entries::{self, is_order};
 use session_machine::{HistItem, Outcome};
 use std::alloc::{AllocError, Global};
 use std::marker::Model;
@@ -14,52 +14,36 @@ use std::marker::Model;
 #[derive(Drop)]
 pub struct Segments<'a> {
     history: &'a [HistItem<'a>],
-    starts: Vec<Start>,
-    finishes: Vec<Finish>,
-}
-
-/// The place of an order, and how many items before it end a block.
-#[derive(Clone, Copy)]
-struct Start {
-    place: usize,
-    finished: usize,
-}
-
-/// The place of an item that ends a block, and its session.
-#[derive(Clone, Copy)]
-struct Finish {
-    place: usize,
-    session: u32,
+    starts: &'a [usize],
 }
 
 impl<'a> Model for Segments<'a> {
-    ghost use Rattle.std.specs.Prelude.{◌≡◌, List};
+    ghost use Rattle.std.specs.Prelude.{List};
     ghost use Rattle.session_machine.specs.declared.reply.HistItem.{HistItem};
 
     ghost Value = { List HistItem };
 
-    ghost use Rattle.report_lines.specs.Places.{starts_from, finishes_from, IsFound};
+    ghost use Rattle.report_lines.specs.Places.{IsFound};
 
     ghost view = { λ s. s.history.now };
 
-    ghost invariant = { λ s. IsFound s.history.now s.starts.items s.finishes.items };
+    ghost invariant = { λ s. IsFound s.history.now s.starts.now };
 }
 
 impl<'a> Segments<'a> {
     ghost use Rattle.report_lines.specs.Starts.{start};
     ghost use Rattle.report_lines.specs.Due.{segment, is_over, went_well, orders};
+    ghost use Rattle.report_lines.specs.Places.{starts_from};
 
-    /// Finds the orders of a history. Fails only where memory is refused.
-    pub fn new(alloc: Global, items: &'a [HistItem<'a>]) -> Result<Segments<'a>, AllocError>
-        ensures { IfOk result (λ segments. segments ≡ items.now) }
+    /// A history whose orders stand at these places.
+    pub(crate) fn new(items: &'a [HistItem<'a>], starts: &'a [usize]) -> Segments<'a>
+        requires { starts.now ≡ starts_from 0 items.now }
+        ensures { result ≡ items.now }
     {
-        let starts = starts(alloc, items)?;
-        let finishes = finishes(alloc, items)?;
-        Ok(Segments {
+        Segments {
             history: items,
             starts,
-            finishes,
-        })
+        }
     }
 
     /// The whole history.
@@ -82,7 +66,7 @@ impl<'a> Segments<'a> {
         ensures within { result ≤ length self.now }
     {
         match self.starts.get(number) {
-            Some(start) => start.place,
+            Some(place) => *place,
             None => self.items().len(),
         }
     }
@@ -118,21 +102,6 @@ impl<'a> Segments<'a> {
         let failed = any_fails(self.segment(number));
         over && !failed
     }
-
-    /// The place of the first item from this order's on that ends the session's block; behind all items where none does.
-    pub(crate) fn end(&self, number: usize, session: u32) -> usize
-        ensures { result ≡ start self.now number + first_place (ends_in session) (drop (start self.now number) self.now) }
-    {
-        match self.starts.get(number) {
-            Some(start) => finish_from(
-                self.finishes.as_slice(),
-                start.finished,
-                session,
-                self.items().len(),
-            ),
-            None => self.items().len(),
-        }
-    }
 }
 
 /// Whether an item of these ends the session's block.
@@ -155,53 +124,15 @@ fn is_failed(outcome: &Outcome<'_>) -> bool
     matches!(outcome, Outcome::Failed(_))
 }
 
-fn starts(alloc: Global, items: &[HistItem<'_>]) -> Result<Vec<Start>, AllocError>
-    ensures { IfOk result (λ starts. starts.items ≡ starts_from 0 0 items.now) }
+/// The places of the orders of a history. Fails only where memory is refused.
+pub(crate) fn starts(alloc: Global, items: &[HistItem<'_>]) -> Result<Vec<usize>, AllocError>
+    ensures { IfOk result (λ starts. starts.items ≡ starts_from 0 items.now) }
 {
     let mut starts = Vec::with_capacity(alloc, items.len())?;
-    let mut finished = 0;
     for (place, item) in items.iter().enumerate() {
         if is_order(&item.event) {
-            starts.push(Start { place, finished })?;
-        }
-        if item.reply.ended {
-            finished += 1;
+            starts.push(place)?;
         }
     }
     Ok(starts)
-}
-
-fn finishes(alloc: Global, items: &[HistItem<'_>]) -> Result<Vec<Finish>, AllocError>
-    ensures { IfOk result (λ finishes. finishes.items ≡ finishes_from 0 items.now) }
-{
-    let mut finishes = Vec::with_capacity(alloc, items.len())?;
-    for (place, item) in items.iter().enumerate() {
-        if item.reply.ended {
-            finishes.push(Finish {
-                place,
-                session: session_of(&item.event),
-            })?;
-        }
-    }
-    Ok(finishes)
-}
-
-/// The place of the session's first one of these from this number on; `none` where there is none.
-fn finish_from(finishes: &[Finish], from: usize, session: u32, none: usize) -> usize
-    requires { from ≤ length finishes.now }
-    ensures { result ≡ first_finish session none (drop from finishes.now) }
-{
-    first_finish(&finishes[from..], session, none)
-}
-
-/// The place of the session's first one of these; `none` where there is none.
-fn first_finish(finishes: &[Finish], session: u32, none: usize) -> usize
-    ensures { result ≡ first_finish session none finishes.now }
-{
-    for finish in finishes {
-        if finish.session == session {
-            return finish.place;
-        }
-    }
-    none
 }

@@ -1,13 +1,14 @@
 //! The lines of the entries, told in order with a list of the steps that wait.
 ghost use Rattle.std.specs.Prelude.{◌≡◌, ◌+◌, ◌-◌, ◌<◌, ◌≤◌, ◌^◌, ◌==◌, ◌&&◌, ℕ, not, nat_lt, [], ◌∷◌, ◌++◌, length, slice_get, OnOk, IfOk, OnSome, Some, None, if◌then◌else◌, vec_len, vec_capacity};
 ghost use Rattle.std.specs.List.{list_any, filter, fold};
-ghost use Rattle.report_lines.specs.Telling.{Telling, IsKept};
+ghost use Rattle.report_lines.specs.Telling.{Telling, IsKept, IsAt, Tells};
+ghost use Rattle.report_lines.specs.Due.{orders};
 ghost use Rattle.report_lines.specs.History.{session_at, is_named, is_marked, has_ended, seen_before};
 ghost use Rattle.report_lines.specs.Trying.{is_chosen, chosen_retry, still_told};
 ghost use Rattle.report_lines.specs.Report.{is_reported, active, may_report, first_try, retry, own_retry, pass, goes_on, polled, poll, is_busy, is_of, made_way, launched, before, after, report, report_from, instances, is_empty};
 
-use crate::course::Course;
 use crate::history::{Line, Moment, Stand};
+use crate::sight::Sight;
 use std::alloc::{AllocError, Global};
 use std::marker::Model;
 
@@ -51,18 +52,18 @@ enum Chosen {
     Own(u32),
 }
 
-fn is_chosen(course: &Course<'_>, m: Moment, chosen: Chosen, entry: usize) -> bool
-    ensures { result ≡ is_chosen course.now m chosen entry }
+fn is_chosen(sight: &Sight<'_>, m: Moment, chosen: Chosen, entry: usize) -> bool
+    ensures { result ≡ is_chosen sight.now m chosen entry }
 {
     match chosen {
         Chosen::Joined => entry < m.joined,
-        Chosen::Own(session) => course.session_at(entry) == session,
+        Chosen::Own(session) => sight.session_at(entry) == session,
     }
 }
 
 impl Told {
     /// With room for so many entries, of each of which two lines are told at most.
-    fn new(alloc: Global, entries: usize) -> Result<Told, AllocError>
+    pub(crate) fn new(alloc: Global, entries: usize) -> Result<Told, AllocError>
         ensures { IfOk result (λ told. told ≡ record { lines = []; launched = 0 }) }
     {
         Ok(Told {
@@ -89,26 +90,26 @@ impl Told {
 
     /// Whether a step that an entry's markers name is active.
     #[tactic(auto, using(crate::proofs::Waits::unmarked))]
-    fn is_held(&self, course: &Course<'_>, entry: usize) -> bool
-        ensures { result ≡ list_any (is_named course.now entry) (active self.now.lines self.now.launched) }
+    fn is_held(&self, sight: &Sight<'_>, entry: usize) -> bool
+        ensures { result ≡ list_any (is_named sight.now entry) (active self.now.lines self.now.launched) }
     {
-        if !course.is_marked(entry) {
+        if !sight.is_marked(entry) {
             return false;
         }
-        self.waiting.iter().any(|j| course.is_named(entry, *j))
+        self.waiting.iter().any(|j| sight.is_named(entry, *j))
     }
 
     /// Whether a launched entry can be reported.
-    fn may_report(&self, course: &Course<'_>, m: Moment, entry: usize) -> bool
-        requires entry { entry < length course.now.entries }
-        requires seen { m.seen ≤ length course.now.items }
+    fn may_report(&self, sight: &Sight<'_>, m: Moment, entry: usize) -> bool
+        requires entry { entry < length sight.now.entries }
+        requires seen { m.seen ≡ length sight.now.items }
         requires launched { m.launched ≡ self.now.launched }
-        ensures { result ≡ may_report course.now m self.now.lines entry }
+        ensures { result ≡ may_report sight.now m self.now.lines entry }
     {
-        if !course.has_ended(m.seen, entry) {
+        if !sight.has_ended(entry) {
             return false;
         }
-        !self.is_held(course, entry)
+        !self.is_held(sight, entry)
     }
 
     fn complete(&mut self, entry: usize, seen: usize) -> Result<(), AllocError>
@@ -121,34 +122,34 @@ impl Told {
     }
 
     /// Whether a step of the waiting list is tried now, and can be reported.
-    fn completes(&self, course: &Course<'_>, m: Moment, chosen: Chosen, entry: usize) -> bool
-        requires entry { entry < length course.now.entries }
-        requires seen { m.seen ≤ length course.now.items }
+    fn completes(&self, sight: &Sight<'_>, m: Moment, chosen: Chosen, entry: usize) -> bool
+        requires entry { entry < length sight.now.entries }
+        requires seen { m.seen ≡ length sight.now.items }
         requires launched { m.launched ≡ self.now.launched }
-        ensures { result ≡ (is_chosen course.now m chosen entry && may_report course.now m self.now.lines entry) }
+        ensures { result ≡ (is_chosen sight.now m chosen entry && may_report sight.now m self.now.lines entry) }
     {
-        is_chosen(course, m, chosen, entry) && self.may_report(course, m, entry)
+        is_chosen(sight, m, chosen, entry) && self.may_report(sight, m, entry)
     }
 
     /// Tries the step at this place of the waiting list, and gives the place of the next one.
     fn try_at(
         &mut self,
-        course: &Course<'_>,
+        sight: &Sight<'_>,
         m: Moment,
         chosen: Chosen,
         place: usize,
     ) -> Result<usize, AllocError>
-        requires entries { self.old.launched ≤ length course.now.entries }
-        requires seen { m.seen ≤ length course.now.items }
+        requires entries { self.old.launched ≤ length sight.now.entries }
+        requires seen { m.seen ≡ length sight.now.items }
         requires launched { m.launched ≡ self.old.launched }
         ensures launched { OnOk result (self.new.launched ≡ self.old.launched) }
-        ensures lines { IfOk result (λ next. still_told course.now m chosen self.new.lines self.new.launched next ≡ still_told course.now m chosen self.old.lines self.old.launched place) }
+        ensures lines { IfOk result (λ next. still_told sight.now m chosen self.new.lines self.new.launched next ≡ still_told sight.now m chosen self.old.lines self.old.launched place) }
         ensures fewer { IfOk result (λ next. length (active self.new.lines self.new.launched) - next ≤ length (active self.old.lines self.old.launched) - (place + 1)) }
     {
         let Some(entry) = self.waiting_at(place) else {
             return Ok(place);
         };
-        if self.completes(course, m, chosen, entry) {
+        if self.completes(sight, m, chosen, entry) {
             self.complete(entry, m.seen)?;
             Ok(place)
         } else {
@@ -159,70 +160,70 @@ impl Told {
     /// Tries the chosen steps of the waiting list once, in order.
     fn go_through(
         &mut self,
-        course: &Course<'_>,
+        sight: &Sight<'_>,
         m: Moment,
         chosen: Chosen,
     ) -> Result<(), AllocError>
-        requires entries { self.old.launched ≤ length course.now.entries }
-        requires seen { m.seen ≤ length course.now.items }
+        requires entries { self.old.launched ≤ length sight.now.entries }
+        requires seen { m.seen ≡ length sight.now.items }
         requires launched { m.launched ≡ self.old.launched }
-        ensures { OnOk result (self.new ≡ record self.old { lines = fold (chosen_retry course.now m chosen) self.old.lines (instances self.old.launched) }) }
+        ensures { OnOk result (self.new ≡ record self.old { lines = fold (chosen_retry sight.now m chosen) self.old.lines (instances self.old.launched) }) }
     {
         let mut place = 0;
         for _turn in 0..self.waiting.len() {
-            place = self.try_at(course, m, chosen, place)?;
+            place = self.try_at(sight, m, chosen, place)?;
         }
         Ok(())
     }
 
     /// Goes through the waiting list once.
-    fn pass(&mut self, course: &Course<'_>, m: Moment) -> Result<(), AllocError>
+    fn pass(&mut self, sight: &Sight<'_>, m: Moment) -> Result<(), AllocError>
         requires joined { m.joined ≤ m.launched }
-        requires entries { self.old.launched ≤ length course.now.entries }
-        requires seen { m.seen ≤ length course.now.items }
+        requires entries { self.old.launched ≤ length sight.now.entries }
+        requires seen { m.seen ≡ length sight.now.items }
         requires launched { m.launched ≡ self.old.launched }
-        ensures { OnOk result (self.new ≡ record self.old { lines = pass course.now m self.old.lines }) }
+        ensures { OnOk result (self.new ≡ record self.old { lines = pass sight.now m self.old.lines }) }
     {
-        self.go_through(course, m, Chosen::Joined)?;
+        self.go_through(sight, m, Chosen::Joined)?;
         Ok(())
     }
 
     /// Whether a step that remains on the waiting list has a marker.
-    fn has_marked(&self, course: &Course<'_>, joined: usize) -> bool
-        ensures { result ≡ list_any (λ j. nat_lt j joined && is_marked course.now j) (active self.now.lines self.now.launched) }
+    fn has_marked(&self, sight: &Sight<'_>, joined: usize) -> bool
+        ensures { result ≡ list_any (λ j. nat_lt j joined && is_marked sight.now j) (active self.now.lines self.now.launched) }
     {
         self.waiting
             .iter()
-            .any(|j| *j < joined && course.is_marked(*j))
+            .any(|j| *j < joined && sight.is_marked(*j))
     }
 
     /// Goes through the waiting list once, and says whether to go through it again.
-    fn turn(&mut self, course: &Course<'_>, m: Moment) -> Result<bool, AllocError>
+    fn turn(&mut self, sight: &Sight<'_>, m: Moment) -> Result<bool, AllocError>
         requires joined { m.joined ≤ m.launched }
-        requires entries { self.old.launched ≤ length course.now.entries }
-        requires seen { m.seen ≤ length course.now.items }
+        requires entries { self.old.launched ≤ length sight.now.entries }
+        requires seen { m.seen ≡ length sight.now.items }
         requires launched { m.launched ≡ self.old.launched }
-        ensures lines { OnOk result (self.new ≡ record self.old { lines = pass course.now m self.old.lines }) }
-        ensures again { IfOk result (λ again. again ≡ goes_on course.now m self.old.lines self.new.lines) }
+        ensures lines { OnOk result (self.new ≡ record self.old { lines = pass sight.now m self.old.lines }) }
+        ensures again { IfOk result (λ again. again ≡ goes_on sight.now m self.old.lines self.new.lines) }
     {
         let had = self.lines.len();
-        self.pass(course, m)?;
+        self.pass(sight, m)?;
         if self.lines.len() <= had {
             return Ok(false);
         }
-        Ok(self.has_marked(course, m.joined))
+        Ok(self.has_marked(sight, m.joined))
     }
 
-    fn poll(&mut self, course: &Course<'_>, m: Moment) -> Result<(), AllocError>
+    fn poll(&mut self, sight: &Sight<'_>, m: Moment) -> Result<(), AllocError>
         requires joined { m.joined ≤ m.launched }
-        requires entries { self.old.launched ≤ length course.now.entries }
-        requires room { length course.now.entries + 1 < 2 ^ 64 }
-        requires seen { m.seen ≤ length course.now.items }
+        requires entries { self.old.launched ≤ length sight.now.entries }
+        requires room { length sight.now.entries + 1 < 2 ^ 64 }
+        requires seen { m.seen ≡ length sight.now.items }
         requires launched { m.launched ≡ self.old.launched }
-        ensures { OnOk result (self.new ≡ record self.old { lines = poll course.now m self.old.lines }) }
+        ensures { OnOk result (self.new ≡ record self.old { lines = poll sight.now m self.old.lines }) }
     {
         for _turn in 0..m.joined + 1 {
-            if !self.turn(course, m)? {
+            if !self.turn(sight, m)? {
                 return Ok(());
             }
         }
@@ -230,11 +231,11 @@ impl Told {
     }
 
     /// Whether a step that the next entry's markers name is active once that entry is launched.
-    fn is_held_first(&self, course: &Course<'_>) -> bool
-        ensures { result ≡ list_any (is_named course.now self.now.launched) (active self.now.lines (self.now.launched + 1)) }
+    fn is_held_first(&self, sight: &Sight<'_>) -> bool
+        ensures { result ≡ list_any (is_named sight.now self.now.launched) (active self.now.lines (self.now.launched + 1)) }
     {
-        let held = self.is_held(course, self.launched);
-        let by_itself = course.is_named(self.launched, self.launched);
+        let held = self.is_held(sight, self.launched);
+        let by_itself = sight.is_named(self.launched, self.launched);
         held || by_itself
     }
 
@@ -266,16 +267,16 @@ impl Told {
     }
 
     /// Launches the next entry, and tries it for the first time.
-    fn begin(&mut self, course: &Course<'_>, m: Moment) -> Result<(), AllocError>
-        requires entries { self.old.launched < length course.now.entries }
-        requires room { length course.now.entries + 1 < 2 ^ 64 }
-        requires seen { m.seen ≤ length course.now.items }
+    fn begin(&mut self, sight: &Sight<'_>, m: Moment) -> Result<(), AllocError>
+        requires entries { self.old.launched < length sight.now.entries }
+        requires room { length sight.now.entries + 1 < 2 ^ 64 }
+        requires seen { m.seen ≡ length sight.now.items }
         requires launched { m.launched ≡ self.old.launched + 1 }
-        ensures { OnOk result (self.new ≡ record { lines = first_try course.now m self.old.lines self.old.launched; launched = self.old.launched + 1 }) }
+        ensures { OnOk result (self.new ≡ record { lines = first_try sight.now m self.old.lines self.old.launched; launched = self.old.launched + 1 }) }
     {
-        let ended = course.has_ended(m.seen, self.launched);
-        let held = self.is_held_first(course);
-        let starred = course.is_starred(self.launched);
+        let ended = sight.has_ended(self.launched);
+        let held = self.is_held_first(sight);
+        let starred = sight.is_starred(self.launched);
         if ended && !held && !starred {
             self.launch_reported(m.seen)
         } else {
@@ -284,89 +285,109 @@ impl Told {
     }
 
     /// Whether the session of the next entry has an active step.
-    fn is_busy(&self, course: &Course<'_>, entry: usize) -> bool
+    fn is_busy(&self, sight: &Sight<'_>, entry: usize) -> bool
         requires { entry ≡ self.now.launched }
-        ensures { result ≡ is_busy course.now self.now.lines entry }
+        ensures { result ≡ is_busy sight.now self.now.lines entry }
     {
-        let session = course.session_at(entry);
-        self.has_of(course, session)
+        let session = sight.session_at(entry);
+        self.has_of(sight, session)
     }
 
     /// Whether a step of the session is active.
-    fn has_of(&self, course: &Course<'_>, session: u32) -> bool
-        ensures { result ≡ list_any (is_of course.now session) (active self.now.lines self.now.launched) }
+    fn has_of(&self, sight: &Sight<'_>, session: u32) -> bool
+        ensures { result ≡ list_any (is_of sight.now session) (active self.now.lines self.now.launched) }
     {
         self.waiting
             .iter()
-            .any(|j| course.session_at(*j) == session)
+            .any(|j| sight.session_at(*j) == session)
     }
 
     /// Tries the session's steps again.
-    fn retry_own(&mut self, course: &Course<'_>, m: Moment, session: u32) -> Result<(), AllocError>
-        requires entries { self.old.launched ≤ length course.now.entries }
-        requires seen { m.seen ≤ length course.now.items }
+    fn retry_own(&mut self, sight: &Sight<'_>, m: Moment, session: u32) -> Result<(), AllocError>
+        requires entries { self.old.launched ≤ length sight.now.entries }
+        requires seen { m.seen ≡ length sight.now.items }
         requires launched { m.launched ≡ self.old.launched }
-        ensures { OnOk result (self.new ≡ record self.old { lines = fold (own_retry course.now m session) self.old.lines (instances self.old.launched) }) }
+        ensures { OnOk result (self.new ≡ record self.old { lines = fold (own_retry sight.now m session) self.old.lines (instances self.old.launched) }) }
     {
-        self.go_through(course, m, Chosen::Own(session))?;
+        self.go_through(sight, m, Chosen::Own(session))?;
         Ok(())
     }
 
     /// The tries before an entry's Launch.
-    fn make_way(&mut self, course: &Course<'_>, entry: usize) -> Result<(), AllocError>
+    fn make_way(&mut self, sight: &Sight<'_>, entry: usize) -> Result<(), AllocError>
         requires next { entry ≡ self.old.launched }
-        requires entries { entry ≤ length course.now.entries }
-        ensures { OnOk result (self.new ≡ record self.old { lines = made_way course.now self.old.lines entry }) }
+        requires entries { entry ≤ length sight.now.entries }
+        requires now { orders sight.now.items ≤ sight.now.setups + entry }
+        ensures { OnOk result (self.new ≡ record self.old { lines = made_way sight.now self.old.lines entry }) }
     {
-        if self.is_busy(course, entry) {
-            let m = course.before(entry);
-            self.retry_own(course, m, course.session_at(entry))?;
-            self.poll(course, m)?;
+        if self.is_busy(sight, entry) {
+            let m = sight.before(entry);
+            self.retry_own(sight, m, sight.session_at(entry))?;
+            self.poll(sight, m)?;
         }
         Ok(())
     }
 
     /// The next entry's Launch and the tries after it.
-    fn launch(&mut self, course: &Course<'_>) -> Result<(), AllocError>
-        requires entries { self.old.launched < length course.now.entries }
-        ensures { OnOk result (self.new ≡ record { lines = launched course.now self.old.lines self.old.launched; launched = self.old.launched + 1 }) }
+    fn launch(&mut self, sight: &Sight<'_>) -> Result<(), AllocError>
+        requires entries { self.old.launched < length sight.now.entries }
+        requires now { orders sight.now.items ≤ sight.now.setups + self.old.launched + 1 }
+        ensures { OnOk result (self.new ≡ record { lines = launched sight.now self.old.lines self.old.launched; launched = self.old.launched + 1 }) }
     {
-        let m = course.after(self.launched);
-        self.begin(course, m)?;
-        self.poll(course, m)
+        let m = sight.after(self.launched);
+        self.begin(sight, m)?;
+        self.poll(sight, m)
     }
 
     /// The tries after the last entry; says whether no step is left.
-    fn finish(&mut self, course: &Course<'_>) -> Result<bool, AllocError>
-        requires all { self.old.launched ≡ length course.now.entries }
-        ensures lines { OnOk result (self.new ≡ record self.old { lines = poll course.now (before course.now self.old.launched) self.old.lines }) }
+    fn finish(&mut self, sight: &Sight<'_>) -> Result<bool, AllocError>
+        requires all { self.old.launched ≡ length sight.now.entries }
+        requires now { orders sight.now.items ≤ sight.now.setups + self.old.launched }
+        ensures lines { OnOk result (self.new ≡ record self.old { lines = poll sight.now (before sight.now self.old.launched) self.old.lines }) }
         ensures done { IfOk result (λ done. done ≡ is_empty (active self.new.lines self.new.launched)) }
     {
-        let m = course.before(self.launched);
-        self.poll(course, m)?;
+        let m = sight.before(self.launched);
+        self.poll(sight, m)?;
         Ok(self.waiting.is_empty())
     }
-}
 
-/// The lines of the entries of which so many segments are there, and how far they have come.
-pub fn told_lines(
-    alloc: Global,
-    course: &Course<'_>,
-    there: usize,
-) -> Result<(Told, Stand), AllocError>
-    ensures { IfOk result (λ told. report course.now there ≡ record { lines = told.0.lines; stand = told.1 }) }
-{
-    let mut told = Told::new(alloc, course.len())?;
-    for entry in 0..course.len() {
-        told.make_way(course, entry)?;
-        if told.is_busy(course, entry) {
-            return Ok((told, Stand::Invalid));
+    /// The tries before an entry's Launch, or after the last entry; says how far the entries have come.
+    fn arrive(&mut self, sight: &Sight<'_>, entry: usize) -> Result<Stand, AllocError>
+        requires next { entry ≡ self.old.launched }
+        requires entries { entry ≤ length sight.now.entries }
+        requires now { orders sight.now.items ≤ sight.now.setups + entry }
+        ensures told { IfOk result (λ stand. report_from sight.now entry (length sight.now.entries - entry) entry self.old.lines ≡ record { lines = self.new.lines; stand = stand }) }
+        ensures at { IfOk result (λ stand. IsAt sight.now entry self.new.launched stand) }
+    {
+        if entry == sight.len() {
+            let done = self.finish(sight)?;
+            return Ok(if done { Stand::Whole } else { Stand::Invalid });
         }
-        if entry >= there {
-            return Ok((told, Stand::Due(entry)));
+        self.make_way(sight, entry)?;
+        if self.is_busy(sight, entry) {
+            Ok(Stand::Invalid)
+        } else {
+            Ok(Stand::Due(entry))
         }
-        told.launch(course)?;
     }
-    let done = told.finish(course)?;
-    Ok((told, if done { Stand::Whole } else { Stand::Invalid }))
+
+    /// The next segment has come; before it there were so many of entries.
+    pub(crate) fn go_on(
+        &mut self,
+        sight: &Sight<'_>,
+        stand: Stand,
+        there: usize,
+    ) -> Result<Stand, AllocError>
+        requires orders { orders sight.now.items ≡ sight.now.setups + there + 1 }
+        requires told { Tells sight.now there self.old stand }
+        ensures { IfOk result (λ next. Tells sight.now (there + 1) self.new next) }
+    {
+        match stand {
+            Stand::Due(_) => {
+                self.launch(sight)?;
+                self.arrive(sight, self.launched)
+            }
+            Stand::Whole | Stand::Invalid => Ok(stand),
+        }
+    }
 }

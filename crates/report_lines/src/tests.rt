@@ -10,20 +10,19 @@ use spec_parser::{Entry, Marker};
 use std::alloc::{AllocError, Global};
 use std::process::Abort;
 
-/// What is said of these entries, after so many segments of setups, where so many of their own segments are there.
+/// What is said of these entries, after so many segments of setups.
 #[derive(Clone, Copy)]
 struct Case<'a> {
     entries: &'a [Entry],
     items: &'a [HistItem<'a>],
     setups: usize,
-    there: usize,
 }
 
 fn told(alloc: Global, case: &Case<'_>) -> Result<(Told, Stand), AllocError>
     requires { case.now.setups + length case.now.entries.now + 1 < 2 ^ 64 }
 {
     let course = Course::new(alloc, case.entries, case.items, case.setups)?;
-    told_lines(alloc, &course, case.there)
+    told_lines(alloc, &course)
 }
 
 /// These lines are said, and the history has come so far.
@@ -55,7 +54,6 @@ fn star_marker(rt: HostRuntime) -> Result<(), AllocError> {
         ],
         items: &[launch(1), ends(1), launch(2), ends(2)],
         setups: 0,
-        there: 2,
     };
     let lines = [
         Line::Waiting { entry: 0 },
@@ -98,7 +96,6 @@ fn marker_waits_for_report(rt: HostRuntime) -> Result<(), AllocError> {
             ends(2),
         ],
         setups: 2,
-        there: 4,
     };
     let lines = [
         Line::AtOnce { entry: 0, seen: 7 },
@@ -137,7 +134,6 @@ fn invalid_permutation(rt: HostRuntime) -> Result<(), AllocError> {
             waits(2),
         ],
         setups: 3,
-        there: 2,
     };
     let lines = [
         Line::AtOnce { entry: 0, seen: 9 },
@@ -153,7 +149,6 @@ fn a_step_that_still_waits_at_the_end_is_invalid(rt: HostRuntime) -> Result<(), 
         entries: &[entry(alloc, 1, 0, &[])?],
         items: &[launch(1), waits(1)],
         setups: 0,
-        there: 1,
     };
     says(
         &rt,
@@ -193,7 +188,6 @@ fn a_second_pass_follows_where_one_with_a_marker_remains(
             ends(2),
         ],
         setups: 0,
-        there: 4,
     };
     let lines = [
         Line::AtOnce { entry: 0, seen: 2 },
@@ -217,7 +211,6 @@ fn a_step_is_reported_before_its_session_goes_on(rt: HostRuntime) -> Result<(), 
         ],
         items: &[launch(1), ends(1)],
         setups: 0,
-        there: 1,
     };
     let lines = [
         Line::Waiting { entry: 0 },

@@ -32,7 +32,7 @@ fn push_entry_replies(
     requires { entry < length course.now.entries }
     ensures { OnOk result (page.new.bytes.items ≡ page.old.bytes.items ++ entry_replies course.now entry seen) }
 {
-    let items = course.segments().items();
+    let items = course.items();
     let replies = between(items, course.seen_before(entry), seen);
     push_replies(page, course.session_at(entry), replies)
 }

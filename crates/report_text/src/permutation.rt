@@ -1,6 +1,6 @@
 //! The report of a permutation with its history.
 
-ghost use Rattle.std.specs.Prelude.{◌≡◌, ◌++◌, ◌+◌, ◌<◌, ◌^◌, length, map, flat_map, OnOk, IfOk};
+ghost use Rattle.std.specs.Prelude.{◌≡◌, ◌++◌, ◌+◌, ◌-◌, ◌<◌, ◌^◌, length, map, flat_map, OnOk, IfOk};
 ghost use Rattle.std.specs.Io.KnownBytes.{Appends};
 ghost use Rattle.spec_parser.specs.Trees.{entry_view, session_view, spec_view};
 ghost use Rattle.report_lines.specs.Due.{orders};
@@ -49,7 +49,7 @@ fn put_front<W: Sink>(
 {
     let mut page = Page::new(alloc);
     push_starting(&mut page, &spec.sessions, course.entries())?;
-    let came = push_setups(&mut page, course.segments(), setups)?;
+    let came = push_setups(&mut page, &course.segments(), setups)?;
     put_page(out, &page)?;
     Ok(came)
 }
@@ -102,19 +102,18 @@ fn put_stand<W: Sink>(out: &mut W, stand: Stand) -> Result<Ended, PutFault>
     }
 }
 
-/// Puts the entries' lines, of which so many segments are there.
+/// Puts the entries' lines.
 fn put_entries<W: Sink>(
     alloc: Global,
     out: &mut W,
     sessions: &[SessionPart<'_>],
     course: &Course<'_>,
-    there: usize,
 ) -> Result<Ended, PutFault>
-    ensures bytes { OnOk result (Appends (W.put_so_far out.old) (W.put_so_far out.new) (entries_say (map session_view sessions.now) course.now there).text) }
-    ensures ending { IfOk result (λ ended. ended_as ended ≡ (entries_say (map session_view sessions.now) course.now there).ending) }
+    ensures bytes { OnOk result (Appends (W.put_so_far out.old) (W.put_so_far out.new) (entries_say (map session_view sessions.now) course.now (orders course.now.items - course.now.setups)).text) }
+    ensures ending { IfOk result (λ ended. ended_as ended ≡ (entries_say (map session_view sessions.now) course.now (orders course.now.items - course.now.setups)).ending) }
     ensures fails { TellsPut (W.failed out.old) (W.failed out.new) result }
 {
-    let (told, stand) = told_lines(alloc, course, there)?;
+    let (told, stand) = told_lines(alloc, course)?;
     let mut page = Page::new(alloc);
     put_lines(out, &mut page, sessions, course, told.lines())?;
     put_stand(out, stand)
@@ -136,7 +135,7 @@ fn put_teardowns<W: Sink, N: Sink>(
     ensures fails { TellsPuts (W.failed out.old) (W.failed out.new) (N.failed notes.old) (N.failed notes.new) result }
 {
     let mut pages = Pages::new(alloc);
-    push_teardowns(alloc, &mut pages, spec, course.segments(), there, first)?;
+    push_teardowns(alloc, &mut pages, spec, &course.segments(), there, first)?;
     put_page(out, &pages.text)?;
     put_page(notes, &pages.notes)
 }
@@ -159,13 +158,7 @@ fn put_rest<W: Sink, N: Sink>(
     ensures fails { TellsPuts (W.failed out.old) (W.failed out.new) (N.failed notes.old) (N.failed notes.new) result }
 {
     let there = course.segments().count();
-    match put_entries(
-        alloc,
-        out,
-        &spec.sessions,
-        course,
-        there.saturating_sub(setups),
-    )? {
+    match put_entries(alloc, out, &spec.sessions, course)? {
         Ended::Invalid => Ok(Ended::Invalid),
         Ended::Whole => {
             put_teardowns(

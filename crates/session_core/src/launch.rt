@@ -3,8 +3,8 @@ ghost use Rattle.std.specs.Prelude.{◌≡◌, ◌≤◌, ◌<◌, ◌==◌, tru
 ghost use Rattle.std.specs.List.{list_all, list_any};
 ghost use Rattle.sql_trees.specs.Statements.{stmt_of};
 ghost use Rattle.session_machine.specs.Tables.{Database};
-ghost use Rattle.session_machine.specs.Statements.{runs};
-ghost use Rattle.session_machine.specs.Machine.{Machine, first_place, is_allowed, is_definition, next, stmts_at, with_session};
+ghost use Rattle.session_machine.specs.Statements.{is_definition, runs};
+ghost use Rattle.session_machine.specs.Machine.{Machine, first_place, is_allowed, next, stmts_at, with_session};
 ghost use Rattle.session_machine.specs.Engine.{answered};
 ghost use Rattle.session_core.specs.Blocks.{blocks_of};
 ghost use Rattle.session_core.specs.Sessions.{AllOver, between};

@@ -2,12 +2,12 @@
 use Rattle.std.specs.Prelude.{ℕ, ◌+◌, ◌==◌, nat_lt, Bool, true, false, not, ◌&&◌, ◌||◌, List, [], ◌∷◌, length, replicate, Option, Some, None, option_map, option_and_then, is_some, is_none, slice_get, slice_set, if◌then◌else◌, Result, Ok, Err}
 use Rattle.std.specs.List.{list_any, list_all}
 use Rattle.std.specs.Option.{option_or}
-use Rattle.sql_trees.specs.Statements.{StmtTree, Create, DropTables}
+use Rattle.sql_trees.specs.Statements.{StmtTree}
 use Rattle.sql_values.specs.declared.value.Value.{Value}
 use Rattle.row_versions.specs.Log.{empty_content}
 use Rattle.session_machine.specs.declared.session.Place.{Place}
 use Rattle.session_machine.specs.declared.session.Transaction.{Transaction}
-use Rattle.session_machine.specs.declared.session.Transaction.TheVariants.{Closed, Open, Aborted}
+use Rattle.session_machine.specs.declared.session.Transaction.TheVariants.{Closed, Open}
 use Rattle.session_machine.specs.declared.session.Waiting.{Waiting}
 use Rattle.session_machine.specs.declared.session.Progress.{Progress}
 use Rattle.session_machine.specs.declared.session.Session.{Session}
@@ -16,14 +16,14 @@ use Rattle.session_machine.specs.declared.event.Event.TheVariants.{Launch, Step,
 use Rattle.session_machine.specs.declared.event.Mode.{Mode}
 use Rattle.session_machine.specs.declared.event.Mode.TheVariants.{Directed, Free}
 use Rattle.session_machine.specs.declared.reply.Outcome.{Outcome}
-use Rattle.session_machine.specs.declared.reply.Outcome.TheVariants.{Launched, Done, Rows, Waits, Failed, Left}
+use Rattle.session_machine.specs.declared.reply.Outcome.TheVariants.{Launched, Failed, Left}
 use Rattle.session_machine.specs.declared.reply.Reply.{Reply}
 use Rattle.session_machine.specs.declared.fault.Refusal.{Refusal}
 use Rattle.session_machine.specs.declared.fault.Refusal.TheVariants.{Busy, NotYourTurn, StillBlocked, Idle, NoSession, BlockNotAllowed}
 use Rattle.session_machine.specs.Tables.{Database, find_table}
 use Rattle.session_machine.specs.Transactions.{committed, rolled_back, own_of, view_now}
 use Rattle.session_machine.specs.Queries.{rows_shown}
-use Rattle.session_machine.specs.Statements.{Did, run_stmt, runs}
+use Rattle.session_machine.specs.Statements.{Did, run_stmt, is_definition, runs}
 use Rattle.session_machine.specs.Blockers.{is_blocked}
 
 -- what all sessions share, and what each does
@@ -31,7 +31,6 @@ pub record Machine : Type 0 where
   pub db : Database
   pub sessions : List Session
 
--- a block is its statements
 abbrev pub Blocks : Type 0
 Blocks = List (List StmtTree)
 
@@ -45,17 +44,11 @@ empty_database = record { content = empty_content; catalog = record { tables = [
 abbrev pub opening : ℕ → Machine
 opening count = record { db = empty_database; sessions = replicate (count + 1) at_rest }
 
--- the statements of the block with this number
 abbrev pub stmts_at : Blocks → ℕ → List StmtTree
 stmts_at blocks k = stmts_of (slice_get blocks k) where
   stmts_of : Option (List StmtTree) → List StmtTree
   stmts_of None = []
   stmts_of (Some stmts) = stmts
-
-abbrev pub is_definition : StmtTree → Bool
-is_definition (Create c) = true
-is_definition (DropTables d) = true
-is_definition stmt = false
 
 -- the session may be given the block: it is there, all of it runs, and tables are made and dropped by the control session alone
 abbrev pub is_allowed : Blocks → ℕ → ℕ → Bool
@@ -66,7 +59,6 @@ is_allowed blocks session k =
 abbrev pub is_busy : Session → Bool
 is_busy s = is_some s.place
 
--- the wait of its statement
 abbrev pub wait_of : Session → Option Waiting
 wait_of s = option_and_then (λ (p : Progress). p.wait) s.statement
 
@@ -81,9 +73,7 @@ first_ready k (s ∷ ss) = if is_ready s then Some k else first_ready (k + 1) ss
 
 abbrev pub is_stopped : Database → Transaction → Option Waiting → Bool
 is_stopped db (Open t) (Some w) = is_blocked db w.request t.tx
-is_stopped db (Open t) None = false
-is_stopped db Closed w = false
-is_stopped db Aborted w = false
+is_stopped db transaction wait = false
 
 -- the session waits, and what it asked for is still held against it
 abbrev pub is_still_blocked : Database → Session → Bool
@@ -104,11 +94,10 @@ abbrev pub earliest_free : Database → ℕ → List Session → Option (ℕ × 
 earliest_free db k [] = None
 earliest_free db k (s ∷ ss) = sooner (free_wait db s) k (earliest_free db (k + 1) ss)
 
--- whose turn it is: the least session that can go on without waiting, else the earliest wait that nothing blocks
+-- whose turn it is: the least session that can go on without waiting, else the earliest wait that nothing blocks; quiet, where there is neither
 abbrev pub turn_in : Machine → Option ℕ
 turn_in m = option_or (first_ready 0 m.sessions) (option_map (λ (w : ℕ × ℕ). w.1) (earliest_free m.db 0 m.sessions))
 
--- nothing goes on by itself
 abbrev pub is_quiet : Machine → Bool
 is_quiet m = is_none (turn_in m)
 
@@ -120,7 +109,6 @@ abbrev pub is_directed : Mode → Bool
 is_directed Directed = true
 is_directed Free = false
 
--- a new state and a reply
 pub record Next : Type 0 where
   pub machine : Machine
   pub reply : Reply
@@ -142,27 +130,19 @@ launched m session s place = record {
 abbrev pub launch_of : Blocks → Mode → Machine → ℕ → ℕ → Option Session → Result Next Refusal
 launch_of blocks mode m session block None = Err NoSession
 launch_of blocks mode m session block (Some s) =
-    if not (is_allowed blocks session block)
-    then Err BlockNotAllowed
-    else if is_busy s
-    then Err Busy
-    else if is_directed mode && not (is_quiet m)
-    then Err NotYourTurn
+    if not (is_allowed blocks session block) then Err BlockNotAllowed
+    else if is_busy s then Err Busy
+    else if is_directed mode && not (is_quiet m) then Err NotYourTurn
     else Ok (launched m session s (first_place block (stmts_at blocks block)))
 
 abbrev pub is_failed : Outcome → Bool
 is_failed (Failed fault) = true
-is_failed Launched = false
-is_failed Done = false
-is_failed (Rows set) = false
-is_failed Waits = false
-is_failed Left = false
+is_failed outcome = false
 
 -- an implicit transaction is committed with the block's last statement
 abbrev pub closed_at_end : Did → Transaction → Did
-closed_at_end d Closed = d
-closed_at_end d Aborted = d
 closed_at_end d (Open t) = if t.explicit then d else record { db = committed d.db t.tx; transaction = Closed; outcome = d.outcome }
+closed_at_end d transaction = d
 
 abbrev pub finished : Machine → ℕ → Did → Option Place → Next
 finished m session d place = record {
@@ -173,19 +153,15 @@ finished m session d place = record {
 -- after a statement the rest of the block is dropped if it failed; else the session ends its block, or goes on
 abbrev pub after_stmt : Machine → ℕ → Place → ℕ → Did → Next
 after_stmt m session place count d =
-    if is_failed d.outcome
-    then finished m session d None
-    else if nat_lt (place.next + 1) count
-    then finished m session d (Some (record { block = place.block; next = place.next + 1 }))
+    if is_failed d.outcome then finished m session d None
+    else if nat_lt (place.next + 1) count then finished m session d (Some (record { block = place.block; next = place.next + 1 }))
     else finished m session (closed_at_end d d.transaction) None
 
 abbrev pub step_stmt : Mode → Machine → ℕ → Session → Place → ℕ → Option StmtTree → Result Next Refusal
 step_stmt mode m session s place count None = Err Idle
 step_stmt mode m session s place count (Some stmt) =
-    if is_directed mode && not (is_turn (turn_in m) session)
-    then Err NotYourTurn
-    else if is_still_blocked m.db s
-    then Err StillBlocked
+    if is_directed mode && not (is_turn (turn_in m) session) then Err NotYourTurn
+    else if is_still_blocked m.db s then Err StillBlocked
     else Ok (after_stmt m session place count (run_stmt m.db s.transaction stmt))
 
 abbrev pub step_at : Blocks → Mode → Machine → ℕ → Session → Option Place → Result Next Refusal
@@ -199,19 +175,14 @@ step_of blocks mode m session (Some s) = step_at blocks mode m session s s.place
 
 -- a session that leaves rolls its open transaction back
 abbrev pub left_behind : Database → Transaction → Database
-left_behind db Closed = db
-left_behind db Aborted = db
 left_behind db (Open t) = rolled_back db t.tx
+left_behind db transaction = db
 
 abbrev pub leave_of : Mode → Machine → ℕ → Option Session → Result Next Refusal
 leave_of mode m session None = Err NoSession
 leave_of mode m session (Some s) =
-    if is_directed mode && not (is_quiet m)
-    then Err NotYourTurn
-    else Ok (record {
-      machine = with_session m (left_behind m.db s.transaction) session at_rest;
-      reply = record { outcome = Left; ended = true };
-    })
+    if is_directed mode && not (is_quiet m) then Err NotYourTurn
+    else Ok (record { machine = with_session m (left_behind m.db s.transaction) session at_rest; reply = record { outcome = Left; ended = true } })
 
 -- what an event makes of the machine, with the reply to it, or why it is refused
 abbrev pub next : Blocks → Mode → Machine → Event → Result Next Refusal

@@ -1,8 +1,8 @@
 -- What a statement leaves and answers, by what its session's transaction is (PostgreSQL manual, the pages of the statements, and 13.2).
-use Rattle.std.specs.Prelude.{ℕ, Bool, true, false, not, ◌&&◌, List, [], ◌∷◌, length, Option, Some, None, option_map, is_some, is_none, unwrap_or, slice_get, Result, Ok, Err, if◌then◌else◌}
+use Rattle.std.specs.Prelude.{ℕ, Bool, true, false, not, ◌&&◌, List, [], ◌∷◌, ◌++◌, length, Option, Some, None, option_map, is_some, is_none, unwrap_or, slice_get, Result, Ok, Err, if◌then◌else◌}
 use Rattle.std.specs.List.{list_all}
 use Rattle.sql_trees.specs.declared.stmt.Level.{Level}
-use Rattle.sql_trees.specs.declared.stmt.Level.TheVariants.{ReadCommitted}
+use Rattle.sql_trees.specs.declared.stmt.Level.TheVariants.{ReadCommitted, RepeatableRead}
 use Rattle.sql_trees.specs.Trees.{Tree}
 use Rattle.sql_trees.specs.Statements.{StmtTree, ColumnTree, CreateTree, DropTree, InsertTree, SelectTree, ItemTree, Begin, Commit, Rollback, SetTransaction, SetDeadlockTimeout, Create, DropTables, Inserts, Updates, Deletes, Selects}
 use Rattle.sql_trees.specs.Statements as item
@@ -10,6 +10,7 @@ use Rattle.sql_values.specs.declared.value.Value.{Value}
 use Rattle.sql_values.specs.declared.fault.ValueFault.{ValueFault}
 use Rattle.sql_values.specs.declared.fault.ValueFault.TheVariants.{NoColumn}
 use Rattle.result_tables.specs.Results.{Results}
+use Rattle.row_versions.specs.declared.names.TxId.{TxId}
 use Rattle.row_versions.specs.Log.{Content, after_write, new_row}
 use Rattle.session_machine.specs.declared.session.OpenTransaction.{OpenTransaction}
 use Rattle.session_machine.specs.declared.session.Transaction.{Transaction}
@@ -18,8 +19,8 @@ use Rattle.session_machine.specs.declared.fault.StmtFault.{StmtFault}
 use Rattle.session_machine.specs.declared.fault.StmtFault.TheVariants.{Value as OfValue, NoColumnOf, NoTable, NoTableToDrop, TableExists, NullValue, TooManyValues, Aborted, LevelTooLate}
 use Rattle.session_machine.specs.declared.reply.Outcome.{Outcome}
 use Rattle.session_machine.specs.declared.reply.Outcome.TheVariants.{Done, Rows, Failed}
-use Rattle.session_machine.specs.Tables.{Database, Catalog, Table, find_table, with_table, with_drop}
-use Rattle.session_machine.specs.Transactions.{fresh, begun, committed, rolled_back, view_of, moved_on, after_failure, is_level}
+use Rattle.session_machine.specs.Tables.{Database, Catalog, Table, find_table}
+use Rattle.session_machine.specs.Transactions.{fresh, begun, committed, rolled_back, view_of, moved_on, after_failure}
 use Rattle.session_machine.specs.Queries.{Target, result_of, rows_shown, targets_of, new_values, null_in, some_too_long, lacking_rows}
 
 -- what a statement leaves of the database and of its session's transaction, and what came of it
@@ -42,6 +43,13 @@ turns db t = record { db = db; transaction = t; outcome = Done }
 
 abbrev pub columns_at : Catalog → ℕ → List ColumnTree
 columns_at catalog k = unwrap_or (option_map (λ (t : Table). t.made.columns) (slice_get catalog.tables k)) []
+
+-- what a CREATE and a DROP make of the catalog
+abbrev pub with_table : Catalog → CreateTree → TxId → Catalog
+with_table catalog made by = record catalog { tables = catalog.tables ++ record { made = made; by = by } ∷ [] }
+
+abbrev pub with_drop : Catalog → ℕ → TxId → Catalog
+with_drop catalog k by = record catalog { drops = catalog.drops ++ record { table = k; by = by } ∷ [] }
 
 abbrev pub create : Database → OpenTransaction → CreateTree → Option ℕ → Did
 create db t made (Some k) = fails db t (TableExists made.name)
@@ -128,6 +136,12 @@ abbrev pub select_from : Database → OpenTransaction → SelectTree → Option 
 select_from db t s None = answered db t (result_of s [] ([] ∷ []))
 select_from db t s (Some name) = select_in db t s name (find_table db (Some t.tx) name)
 
+-- the levels are the same
+abbrev pub is_level : Level → Level → Bool
+is_level ReadCommitted ReadCommitted = true
+is_level RepeatableRead RepeatableRead = true
+is_level a b = false
+
 -- the level is set before the transaction's first query, or stays
 abbrev pub level_set : Database → OpenTransaction → Bool → Level → Did
 level_set db t explicit level =
@@ -213,3 +227,8 @@ runs (Inserts i) = true
 runs (Updates u) = false
 runs (Deletes d) = false
 runs (Selects s) = select_runs s
+
+abbrev pub is_definition : StmtTree → Bool
+is_definition (Create c) = true
+is_definition (DropTables d) = true
+is_definition stmt = false

@@ -1,6 +1,5 @@
--- Tables, and which of them a name means: what was made or dropped counts once it is committed, and for its own transaction at once
--- (PostgreSQL manual, 13.2, on what a transaction sees).
-use Rattle.std.specs.Prelude.{ℕ, ◌+◌, ◌==◌, Bool, false, not, ◌&&◌, ◌||◌, List, [], ◌∷◌, ◌++◌, Option, Some, None, bytes_eq, if◌then◌else◌}
+-- Tables, and which of them a name means: what was made or dropped counts once committed, and for its own transaction at once (PostgreSQL manual, 13.2).
+use Rattle.std.specs.Prelude.{ℕ, ◌+◌, ◌==◌, Bool, false, not, ◌&&◌, ◌||◌, List, [], ◌∷◌, Option, Some, None, bytes_eq, if◌then◌else◌}
 use Rattle.std.specs.List.{list_any}
 use Rattle.sql_trees.specs.Statements.{CreateTree}
 use Rattle.row_versions.specs.declared.names.TxId.{TxId}
@@ -36,7 +35,6 @@ is_own (Some own) tx = own.0 == tx.0
 abbrev pub counts : Content → Option TxId → TxId → Bool
 counts c own tx = has_committed c tx || is_own own tx
 
--- a DROP of that table counts
 abbrev pub is_dropped : Content → Option TxId → List Dropped → ℕ → Bool
 is_dropped c own drops k = list_any (λ (d : Dropped). (d.table == k) && counts c own d.by) drops
 
@@ -52,11 +50,3 @@ find_from c own drops name k (t ∷ ts) = if is_meant c own drops name k t then 
 -- the place of the table that the name means
 abbrev pub find_table : Database → Option TxId → List ℕ → Option ℕ
 find_table db own name = find_from db.content own db.catalog.drops name 0 db.catalog.tables
-
--- a table more
-abbrev pub with_table : Catalog → CreateTree → TxId → Catalog
-with_table catalog made by = record catalog { tables = catalog.tables ++ record { made = made; by = by } ∷ [] }
-
--- a DROP more
-abbrev pub with_drop : Catalog → ℕ → TxId → Catalog
-with_drop catalog k by = record catalog { drops = catalog.drops ++ record { table = k; by = by } ∷ [] }

@@ -1,5 +1,5 @@
 -- Transactions of sessions: how they begin, what their statements see, and how they end (PostgreSQL manual, 13.2).
-use Rattle.std.specs.Prelude.{ℕ, ◌+◌, ◌==◌, Bool, true, false, not, List, filter, Option, Some, None, unwrap_or, if◌then◌else◌}
+use Rattle.std.specs.Prelude.{ℕ, ◌+◌, ◌==◌, Bool, not, List, filter, Option, Some, None, unwrap_or, if◌then◌else◌}
 use Rattle.sql_trees.specs.declared.stmt.Level.{Level}
 use Rattle.sql_trees.specs.declared.stmt.Level.TheVariants.{ReadCommitted, RepeatableRead}
 use Rattle.row_versions.specs.declared.names.TxId.{TxId}
@@ -15,15 +15,12 @@ use Rattle.session_machine.specs.Tables.{Database}
 abbrev pub fresh : Content → Level → Bool → OpenTransaction
 fresh c level explicit = record { tx = next_tx c; explicit = explicit; level = level; snapshot = None; command = 0 }
 
--- a transaction has begun
 abbrev pub begun : Database → Database
 begun db = record db { content = after_begin db.content }
 
--- the transaction's locks are free
 abbrev pub released : TxId → List Held → List Held
 released tx held = filter (λ (h : Held). not (h.tx.0 == tx.0)) held
 
--- it commits, or is rolled back
 abbrev pub committed : Database → TxId → Database
 committed db tx = record db { content = after_commit db.content tx; held = released tx db.held }
 
@@ -47,24 +44,14 @@ view_of c t = record { tx = Some t.tx; commits = commits_seen t.level c t; comma
 abbrev pub moved_on : Content → OpenTransaction → OpenTransaction
 moved_on c t = record t { snapshot = Some (first_commits c t); command = t.command + 1 }
 
--- what is left of a transaction in which a statement failed
 abbrev pub after_failure : OpenTransaction → Transaction
 after_failure t = if t.explicit then Aborted else Closed
 
 -- who sees, and what, in a query that begins now: without a transaction what is committed
 abbrev pub own_of : Transaction → Option TxId
-own_of Closed = None
-own_of Aborted = None
 own_of (Open t) = Some t.tx
+own_of transaction = None
 
 abbrev pub view_now : Content → Transaction → View
-view_now c Closed = record { tx = None; commits = commit_count c; command = 0 }
-view_now c Aborted = record { tx = None; commits = commit_count c; command = 0 }
 view_now c (Open t) = view_of c t
-
--- the levels are the same
-abbrev pub is_level : Level → Level → Bool
-is_level ReadCommitted ReadCommitted = true
-is_level RepeatableRead RepeatableRead = true
-is_level ReadCommitted RepeatableRead = false
-is_level RepeatableRead ReadCommitted = false
+view_now c transaction = record { tx = None; commits = commit_count c; command = 0 }

@@ -3,8 +3,7 @@
 ghost use Rattle.std.specs.Prelude.{◌≡◌, not, map};
 ghost use Rattle.std.specs.List.{list_all};
 ghost use Rattle.sql_trees.specs.Statements.{item_of, select_of, stmt_of};
-ghost use Rattle.session_machine.specs.Statements.{is_aggregate, runs, select_runs};
-ghost use Rattle.session_machine.specs.Machine.{is_definition};
+ghost use Rattle.session_machine.specs.Statements.{is_aggregate, is_definition, runs, select_runs};
 
 use sql_trees::{Item, Select, Stmt};
 

@@ -3,8 +3,8 @@
 ghost use Rattle.std.specs.Prelude.{◌≡◌, ◌<◌, [], length, map, IfSome, OnOk};
 ghost use Rattle.sql_trees.specs.Statements.{create_of, column_of, name_of};
 ghost use Rattle.row_versions.specs.Log.{Content};
-ghost use Rattle.session_machine.specs.Tables.{is_own, counts, is_dropped, is_meant, find_from, with_table, with_drop};
-ghost use Rattle.session_machine.specs.Statements.{columns_at};
+ghost use Rattle.session_machine.specs.Tables.{is_own, counts, is_dropped, is_meant, find_from};
+ghost use Rattle.session_machine.specs.Statements.{columns_at, with_table, with_drop};
 
 use crate::table::{Dropped, Table};
 use iso_lexer::{Name, same_name};

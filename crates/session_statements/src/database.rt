@@ -5,10 +5,10 @@ ghost use Rattle.std.specs.Global.{Vec};
 ghost use Rattle.sql_trees.specs.Statements.{create_of, column_of, name_of};
 ghost use Rattle.sql_values.specs.declared.value.Value.{Value};
 ghost use Rattle.row_versions.specs.Log.{empty_content, IsOpen, after_write};
-ghost use Rattle.session_machine.specs.Tables.{find_table, with_table, with_drop};
+ghost use Rattle.session_machine.specs.Tables.{find_table};
 ghost use Rattle.session_machine.specs.Transactions.{committed, rolled_back, begun, fresh, first_commits, commits_seen, view_of, moved_on, own_of, view_now};
 ghost use Rattle.session_machine.specs.Queries.{rows_shown};
-ghost use Rattle.session_machine.specs.Statements.{columns_at, inserted};
+ghost use Rattle.session_machine.specs.Statements.{columns_at, with_table, with_drop, inserted};
 ghost use Rattle.session_machine.specs.Machine.{empty_database, visible_to};
 
 use crate::catalog::Catalog;

@@ -4,8 +4,8 @@ ghost use Rattle.std.specs.Prelude.{◌≡◌, is_some};
 ghost use Rattle.sql_trees.specs.Statements.{stmt_of};
 ghost use Rattle.row_versions.specs.Log.{IsOpen};
 ghost use Rattle.session_machine.specs.Tables.{Database as DatabaseFacts};
-ghost use Rattle.session_machine.specs.Transactions.{after_failure, is_level};
-ghost use Rattle.session_machine.specs.Statements.{fails, turns, level_set, begin_in, is_end, run_aborted};
+ghost use Rattle.session_machine.specs.Transactions.{after_failure};
+ghost use Rattle.session_machine.specs.Statements.{fails, turns, is_level, level_set, begin_in, is_end, run_aborted};
 
 use crate::database::Database;
 use row_versions::Versions;

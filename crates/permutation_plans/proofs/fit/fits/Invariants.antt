@@ -1,10 +1,13 @@
 use Rattle.std.proofs.Common.{◌↔◌, [], map, take, drop}
 use Rattle.spec_parser.specs.Trees.{entry_view}
-use Rattle.permutation_plans.specs.Launches.{due_after}
+use Rattle.report_lines.specs.Progress.{Follows}
+use Rattle.permutation_plans.specs.Launches.{plan_of, due_after}
 use Rattle.permutation_plans.specs.Regular.{FitsAfter}
 use Rattle.permutation_plans.proofs.fit.fits.Given as goal
 
 abbrev pub invariant-loop-place : goal.invariant-loop-place
-invariant-loop-place l =
-    FitsAfter (due_after l.launches (map entry_view l.entries)) (take l.place l.items) (drop l.place l.items)
-    ↔ FitsAfter (due_after l.launches (map entry_view l.entries)) [] l.items
+invariant-loop-place l = record {
+  fit : FitsAfter (due_after l.launches (map entry_view l.entries)) (take l.place l.items) (drop l.place l.items)
+      ↔ FitsAfter (due_after l.launches (map entry_view l.entries)) [] l.items;
+  follows : Follows (plan_of l.launches (map entry_view l.entries) (take l.place l.items)).setting l.progress;
+}

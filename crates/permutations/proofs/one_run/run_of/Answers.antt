@@ -1,4 +1,4 @@
-use Rattle.std.proofs.Common.{◌≡◌, List, map, sym, subst, arith, rules}
+use Rattle.std.proofs.Common.{List, map, sym, subst, arith, rules}
 use Rattle.std.proofs.lemmas.List.{length-map}
 use Rattle.session_machine.specs.declared.reply.HistItem.{HistItem}
 use Rattle.session_core.specs.Blocks.{blocks_of}

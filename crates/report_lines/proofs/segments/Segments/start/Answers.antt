@@ -1,28 +1,24 @@
 use Rattle.std.proofs.Common.{◌≡◌, ◌≤◌, List, length, ap, sym, ◌∙◌, arith}
 use Rattle.session_machine.specs.declared.reply.HistItem.{HistItem}
 use Rattle.report_lines.specs.Starts.{start}
-use Rattle.report_lines.specs.Places.{starts_from}
 use Rattle.report_lines.proofs.Found.{start_found, start_missing, start_within}
 use Rattle.report_lines.proofs.segments.Segments.start.Goals as goal
 
 pub returns-in-Some-clause-exact : goal.returns-in-Some-clause-exact
 returns-in-Some-clause-exact c =
-    let is : c.deref.result.now ≡ starts_from 0 0 c.self.inside.history.now = c.deref.ensures.value ∙ c.self.invariant.starts_are in
-    start_found c.self.inside.history.now c.deref.result.now c.args.number c.in-Some.start.now is c.in-Some.ensures.lookup.0 c.in-Some.ensures.lookup.1
+    start_found c.self.inside.history.now c.self.inside.starts.now c.args.number c.in-Some.place.now c.self.invariant c.in-Some.ensures.lookup.0 c.in-Some.ensures.lookup.1
     ∙ ap (λ (w : List HistItem). start w c.args.number) c.self.view_is
 
 pub returns-in-Some-clause-within : goal.returns-in-Some-clause-within
 returns-in-Some-clause-within c =
-    let is : c.deref.result.now ≡ starts_from 0 0 c.self.inside.history.now = c.deref.ensures.value ∙ c.self.invariant.starts_are in
-    let at : c.in-Some.start.now.place ≡ start c.self.inside.history.now c.args.number = start_found c.self.inside.history.now c.deref.result.now c.args.number c.in-Some.start.now is c.in-Some.ensures.lookup.0 c.in-Some.ensures.lookup.1 in
+    let at : c.in-Some.place.now ≡ start c.self.inside.history.now c.args.number = start_found c.self.inside.history.now c.self.inside.starts.now c.args.number c.in-Some.place.now c.self.invariant c.in-Some.ensures.lookup.0 c.in-Some.ensures.lookup.1 in
     let within : start c.self.inside.history.now c.args.number ≤ length c.self.inside.history.now = start_within c.self.inside.history.now c.args.number in
     let long : length c.self.inside.history.now ≡ length c.args.self.now = ap (λ (w : List HistItem). length w) c.self.view_is in
     omega arith
 
 pub returns-in-None-clause-exact : goal.returns-in-None-clause-exact
 returns-in-None-clause-exact c =
-    let is : c.deref.result.now ≡ starts_from 0 0 c.self.inside.history.now = c.deref.ensures.value ∙ c.self.invariant.starts_are in
     let same : c.items.result.now ≡ c.self.inside.history.now = c.items.ensures ∙ sym c.self.view_is in
     ap (λ (w : List HistItem). length w) same
-    ∙ start_missing c.self.inside.history.now c.deref.result.now c.args.number is c.in-None.ensures.lookup.0
+    ∙ start_missing c.self.inside.history.now c.self.inside.starts.now c.args.number c.self.invariant c.in-None.ensures.lookup.0
     ∙ ap (λ (w : List HistItem). start w c.args.number) c.self.view_is

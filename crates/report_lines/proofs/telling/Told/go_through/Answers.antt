@@ -13,7 +13,7 @@ loop-turn-init c =
     ap length c.self.invariant.waits ∙ ap (λ (t : Telling). length (active t.lines t.launched)) c.self.view_is in
     record {
       launched = refl;
-      lines = sym (through_waiting c.args.course.now c.args.m c.args.chosen c.args.self.now.lines c.args.self.now.launched);
+      lines = sym (through_waiting c.args.sight.now c.args.m c.args.chosen c.args.self.now.lines c.args.self.now.launched);
       fewer = omega (arith, c.self.inside.waiting.ok.0);
     }
 
@@ -21,6 +21,6 @@ pub returns : goal.returns
 returns c =
     let told : List Line → ℕ → Telling = λ lines launched. record { lines = lines; launched = launched } in
     let over : length (active c.loop-turn.self.lines c.loop-turn.self.launched) ≤ c.loop-turn.place = omega arith in
-    let lines = sym (through_end c.args.course.now c.args.m c.args.chosen c.loop-turn.self.lines c.loop-turn.self.launched c.loop-turn.place over) ∙ c.loop-turn.invariant.lines in
+    let lines = sym (through_end c.args.sight.now c.args.m c.args.chosen c.loop-turn.self.lines c.loop-turn.self.launched c.loop-turn.place over) ∙ c.loop-turn.invariant.lines in
     ap (λ (x : List Line). told x c.loop-turn.self.launched) lines
-    ∙ ap (told (fold (chosen_retry c.args.course.now c.args.m c.args.chosen) c.args.self.now.lines (instances c.args.self.now.launched))) c.loop-turn.invariant.launched
+    ∙ ap (told (fold (chosen_retry c.args.sight.now c.args.m c.args.chosen) c.args.self.now.lines (instances c.args.self.now.launched))) c.loop-turn.invariant.launched

@@ -7,6 +7,6 @@ use Rattle.report_lines.proofs.telling.Told.go_through.Given as goal
 abbrev pub invariant-loop-turn : goal.invariant-loop-turn
 invariant-loop-turn l = record {
   launched : l.self.launched ≡ l.initial.self.launched;
-  lines : still_told l.course l.m l.chosen l.self.lines l.self.launched l.place ≡ fold (chosen_retry l.course l.m l.chosen) l.initial.self.lines (instances l.initial.self.launched);
+  lines : still_told l.sight l.m l.chosen l.self.lines l.self.launched l.place ≡ fold (chosen_retry l.sight l.m l.chosen) l.initial.self.lines (instances l.initial.self.launched);
   fewer : length (active l.self.lines l.self.launched) - l.place ≤ l._turn-end - l._turn;
 }

@@ -8,4 +8,4 @@ pub returns : goal.returns
 returns c =
     let told : List Line → Telling = λ lines. record { lines = lines; launched = c.args.self.now.launched } in
     let few : c.args.m.joined ≤ c.args.self.now.launched = omega (arith, c.requires.joined, c.requires.launched) in
-    c.in_ok-go_through.ensures ∙ ap told (joined_pass c.args.course.now c.args.m c.args.self.now.lines c.args.self.now.launched few)
+    c.in_ok-go_through.ensures ∙ ap told (joined_pass c.args.sight.now c.args.m c.args.self.now.lines c.args.self.now.launched few)

@@ -22,9 +22,9 @@ pub returns-in_ok-complete-clause-lines : goal.returns-in_ok-complete-clause-lin
 returns-in_ok-complete-clause-lines c =
     let told = c.args.self.now in
     let at : slice_get (active told.lines told.launched) c.args.place ≡ Some c.in-Some.entry = sym c.waiting_at.ensures.entry ∙ c.in-Some.is in
-    let can : (is_chosen c.args.course.now c.args.m c.args.chosen c.in-Some.entry && may_report c.args.course.now c.args.m told.lines c.in-Some.entry) ≡ true = sym c.completes.ensures ∙ c.if-completes.true in
-    ap (λ (t : Telling). still_told c.args.course.now c.args.m c.args.chosen t.lines t.launched c.args.place) c.in_ok-complete.ensures
-    ∙ try_reports c.args.course.now c.args.m c.args.chosen told.lines told.launched c.args.place c.in-Some.entry at can
+    let can : (is_chosen c.args.sight.now c.args.m c.args.chosen c.in-Some.entry && may_report c.args.sight.now c.args.m told.lines c.in-Some.entry) ≡ true = sym c.completes.ensures ∙ c.if-completes.true in
+    ap (λ (t : Telling). still_told c.args.sight.now c.args.m c.args.chosen t.lines t.launched c.args.place) c.in_ok-complete.ensures
+    ∙ try_reports c.args.sight.now c.args.m c.args.chosen told.lines told.launched c.args.place c.in-Some.entry at can
 
 pub returns-in_ok-complete-clause-fewer : goal.returns-in_ok-complete-clause-fewer
 returns-in_ok-complete-clause-fewer c =
@@ -38,5 +38,5 @@ pub returns-else-completes-clause-lines : goal.returns-else-completes-clause-lin
 returns-else-completes-clause-lines c =
     let told = c.args.self.now in
     let at : slice_get (active told.lines told.launched) c.args.place ≡ Some c.in-Some.entry = sym c.waiting_at.ensures.entry ∙ c.in-Some.is in
-    let cannot : (is_chosen c.args.course.now c.args.m c.args.chosen c.in-Some.entry && may_report c.args.course.now c.args.m told.lines c.in-Some.entry) ≡ false = sym c.completes.ensures ∙ c.if-completes.false in
-    try_passes c.args.course.now c.args.m c.args.chosen told.lines told.launched c.args.place c.in-Some.entry at cannot
+    let cannot : (is_chosen c.args.sight.now c.args.m c.args.chosen c.in-Some.entry && may_report c.args.sight.now c.args.m told.lines c.in-Some.entry) ≡ false = sym c.completes.ensures ∙ c.if-completes.false in
+    try_passes c.args.sight.now c.args.m c.args.chosen told.lines told.launched c.args.place c.in-Some.entry at cannot

@@ -1,0 +1,336 @@
+-- What is kept of a permutation, as its history goes on.
+use Rattle.std.proofs.Common.{◌≡◌, ◌≢◌, ◌==◌, ◌&&◌, append-nil, ℕ, zero, suc, ◌+◌, ◌-◌, ◌<◌, ◌≤◌, ◌⊎◌, inl, inr, List, [], ◌∷◌, ◌++◌, length, length-append, length-take, take, take-take, get_or, refl, ap, sym, ◌∙◌, subst, arith, true, false, Bool, cond, if◌then◌else◌, nat_lt, Some, slice_get, slice_set}
+use Rattle.std.specs.Prelude.{IfOk, Result, Ok, Err}
+use Rattle.std.specs.List.{filter}
+use Rattle.std.proofs.lemmas.List.Elements.{filter-append}
+use Rattle.std.proofs.lemmas.List.{get_or-set_same, get_or-set_other, length-set, take_more}
+use Rattle.std.proofs.lemmas.Option.{slice_get-get_or}
+use Rattle.std.proofs.lemmas.Bool.{cases_lt}
+use Rattle.session_machine.specs.declared.reply.HistItem.{HistItem}
+use Rattle.report_lines.specs.declared.history.Stand.{Stand}
+use Rattle.report_lines.specs.declared.history.Stand.TheVariants.{Due, Whole, Invalid}
+use Rattle.report_lines.specs.declared.progress.Progress.{Progress}
+use Rattle.report_lines.specs.Starts.{is_order, session_of, ends_in}
+use Rattle.report_lines.specs.Due.{orders}
+use Rattle.report_lines.specs.History.{Setting}
+use Rattle.report_lines.specs.Report.{report, report_from, launched}
+use Rattle.report_lines.specs.Telling.{Telling, IsAt, Tells}
+use Rattle.report_lines.specs.Places.{starts_from, last_end, IsTimed, IsSeen, IsZeros, ended_behind, ends_after, starts_after}
+use Rattle.report_lines.specs.Progress.{Keeps, Lags, IsSettled, IsNoted, Follows, front}
+use Rattle.report_lines.specs.Fronts.{longer}
+use Rattle.report_lines.proofs.Reports.{first_same, report_next, report_over, whole_due, invalid_due}
+use Rattle.report_lines.proofs.Fronts.{front_stays, past_stays}
+use Rattle.report_lines.proofs.Found.{count_found}
+
+-- ---- one item more
+
+one_more : (b : Bool) (p : ℕ) (rest : List ℕ) (new : List ℕ) → cond b (p ∷ rest ++ new) (rest ++ new) ≡ cond b (p ∷ rest) rest ++ new
+one_more true p rest new = refl
+one_more false p rest new = refl
+
+last_place : (b : Bool) (p q : ℕ) → p ≡ q → cond b (p ∷ []) [] ≡ (if b then q ∷ [] else [])
+last_place true p q same = ap (λ k. k ∷ []) same
+last_place false p q same = refl
+
+-- the places of the orders
+abbrev added : HistItem → ℕ → List ℕ
+added item place = if is_order item.event then place ∷ [] else []
+
+pub starts_more : (items : List HistItem) (p : ℕ) (item : HistItem) → starts_from p (items ++ item ∷ []) ≡ starts_from p items ++ (if is_order item.event then (p + length items) ∷ [] else [])
+starts_more [] p item = last_place (is_order item.event) p (p + 0) (omega arith)
+starts_more (x ∷ xs) p item =
+    let same : p + 1 + length xs ≡ p + length (x ∷ xs) = omega arith in
+    ap (λ (w : List ℕ). cond (is_order x.event) (p ∷ w) w) (starts_more xs (p + 1) item ∙ ap (λ k. starts_from (p + 1) xs ++ added item k) same)
+    ∙ one_more (is_order x.event) p (starts_from (p + 1) xs) (added item (p + length (x ∷ xs)))
+
+last_more : (session p found : ℕ) (items : List HistItem) (item : HistItem) → last_end session p found (items ++ item ∷ []) ≡ (if ends_in session item then (p + length items + 1) else last_end session p found items)
+last_more session p found [] item = let same : p + 0 + 1 ≡ p + 1 = omega arith in ap (λ k. if ends_in session item then k else found) (sym same)
+last_more session p found (x ∷ xs) item =
+    let now = if ends_in session x then (p + 1) else found in
+    let same : p + 1 + length xs + 1 ≡ p + length (x ∷ xs) + 1 = omega arith in
+    last_more session (p + 1) now xs item ∙ ap (λ k. if ends_in session item then k else last_end session (p + 1) now xs) same
+
+one_order : (b : Bool) (item : HistItem) → b ≡ true → length (cond b (item ∷ []) []) ≡ 1
+one_order true item h = refl
+one_order false item h = cc
+
+no_order : (b : Bool) (item : HistItem) → b ≡ false → length (cond b (item ∷ []) []) ≡ 0
+no_order true item h = cc
+no_order false item h = refl
+
+orders_snoc : (items : List HistItem) (item : HistItem) → orders (items ++ item ∷ []) ≡ orders items + length (cond (is_order item.event) (item ∷ []) [])
+orders_snoc items item =
+    ap length (filter-append (λ (i : HistItem). is_order i.event) items (item ∷ []))
+    ∙ length-append (filter (λ (i : HistItem). is_order i.event) items) (filter (λ (i : HistItem). is_order i.event) (item ∷ []))
+
+-- ---- what was told stays
+
+is_at_longer : (c : Setting) (more : List HistItem) (there launched : ℕ) (s : Stand) → IsAt c there launched s → IsAt (longer c more) there launched s
+is_at_longer c more there launched (Due e) h = h
+is_at_longer c more there launched Whole h = h
+is_at_longer c more there launched Invalid h = h
+
+tells_longer : (c : Setting) (more : List HistItem) (there : ℕ) (t : Telling) (s : Stand) → report (longer c more) there ≡ report c there → Tells c there t s → Tells (longer c more) there t s
+tells_longer c more there t s same h = record { report_is = same ∙ h.report_is; at = is_at_longer c more there t.launched s h.at }
+
+-- before an order
+before_order : (c : Setting) (item : HistItem) (there : ℕ) → is_order item.event ≡ true → there ≡ orders c.items - c.setups → (orders c.items < c.setups) ⊎ (c.setups ≤ orders c.items) → report (longer c (item ∷ [])) there ≡ report c there
+before_order c item there ordered is (inl few) =
+    let none : there ≡ 0 = omega (arith, is, few) in
+    rw none (first_same (longer c (item ∷ [])) c refl)
+before_order c item there ordered is (inr enough) =
+    let all : orders c.items ≡ c.setups + there = omega (arith, is, enough) in
+    front_stays c item [] there ordered all
+
+-- within a segment that is not told
+within_segment : (c : Setting) (item : HistItem) (there : ℕ) → there ≡ orders c.items - (c.setups + 1) → there ≤ orders c.items - c.setups → (c.setups < orders c.items) ⊎ (orders c.items ≤ c.setups) → report (longer c (item ∷ [])) there ≡ report c there
+within_segment c item there lags low (inl past) = past_stays c (item ∷ []) there (omega (arith, lags, past))
+within_segment c item there lags low (inr few) =
+    let none : there ≡ 0 = omega (arith, low, few) in
+    rw none (first_same (longer c (item ∷ [])) c refl)
+
+
+-- ---- what is kept stays right
+
+abbrev Apart : ℕ → ℕ → Type 0
+Apart a b = (a < b) ⊎ (b < a)
+
+not_same : (a b : ℕ) → Apart a b → b ≢ a
+not_same a b (inl less) same = omega (arith, less, same)
+not_same a b (inr more) same = omega (arith, more, same)
+
+differ : (a b : ℕ) → Apart a b → (a == b) ≡ false
+differ a b (inl less) = grind arith
+differ a b (inr more) = grind arith
+
+ended_other : (b : Bool) (last : List ℕ) (session place k : ℕ) → Apart session k → get_or (if b then slice_set last session place else last) k 0 ≡ get_or last k 0
+ended_other true last session place k apart = get_or-set_other last session k place 0 (not_same session k apart)
+ended_other false last session place k apart = refl
+
+ended_apart : (last : List ℕ) (session place k : ℕ) → Apart session k → get_or (ended_behind last session place) k 0 ≡ (if session == k then place else get_or last k 0)
+ended_apart last session place k apart = rw (differ session k apart) (ended_other (nat_lt session (length last)) last session place k apart)
+
+ended_case : (last : List ℕ) (session place k : ℕ) → k < length last → (session < k) ⊎ (k ≤ session) → (k < session) ⊎ (session ≤ k) → get_or (ended_behind last session place) k 0 ≡ (if session == k then place else get_or last k 0)
+ended_case last session place k within (inl less) other = ended_apart last session place k (inl less)
+ended_case last session place k within (inr le) (inl more) = ended_apart last session place k (inr more)
+ended_case last session place k within (inr le) (inr ge) =
+    let same : session ≡ k = omega arith in
+    let is : (k == k) ≡ true = grind arith in
+    let there : nat_lt k (length last) ≡ true = grind arith in
+    rw (same, is, there) (get_or-set_same last k place 0 within)
+
+ended_at : (last : List ℕ) (session place k : ℕ) → k < length last → get_or (ended_behind last session place) k 0 ≡ (if session == k then place else get_or last k 0)
+ended_at last session place k within = ended_case last session place k within (cases_lt session k) (cases_lt k session)
+
+length_case : (b : Bool) (last : List ℕ) (session place : ℕ) → length (if b then slice_set last session place else last) ≡ length last
+length_case true last session place = length-set last session place
+length_case false last session place = refl
+
+length_after : (b : Bool) (last : List ℕ) (session place : ℕ) → length (if b then ended_behind last session place else last) ≡ length last
+length_after true last session place = length_case (nat_lt session (length last)) last session place
+length_after false last session place = refl
+
+after_case : (b e : Bool) (session place k old : ℕ) (last : List ℕ) → k < length last → e ≡ (session == k) → get_or last k 0 ≡ old → get_or (if b then ended_behind last session place else last) k 0 ≡ (if e && b then place else old)
+after_case true true session place k old last within is so_far = ended_at last session place k within ∙ ap (λ b. if b then place else get_or last k 0) (sym is)
+after_case true false session place k old last within is so_far = ended_at last session place k within ∙ ap (λ b. if b then place else get_or last k 0) (sym is) ∙ so_far
+after_case false true session place k old last within is so_far = so_far
+after_case false false session place k old last within is so_far = so_far
+
+timed_more : (c : Setting) (item : HistItem) (last : List ℕ) → IsTimed c last → IsTimed (longer c (item ∷ [])) (ends_after item (length c.items + 1) last)
+timed_more c item last timed = record {
+  room = timed.room;
+  ends_at = λ k within.
+      let long = length_after item.reply.ended last (session_of item.event) (length c.items + 1) in
+      let less : k < length last = omega (arith, within, long) in
+      let place : 0 + length c.items + 1 ≡ length c.items + 1 = omega arith in
+      after_case item.reply.ended (session_of item.event == k) (session_of item.event) (length c.items + 1) k (last_end k 0 0 c.items) last less refl (timed.ends_at k less)
+      ∙ sym (last_more k 0 0 c.items item ∙ ap (λ j. if ends_in k item then j else last_end k 0 0 c.items) place);
+}
+
+starts_case : (b : Bool) (starts : List ℕ) (p q : ℕ) → p ≡ q → (if b then starts ++ p ∷ [] else starts) ≡ starts ++ (if b then q ∷ [] else [])
+starts_case true starts p q same = ap (λ k. starts ++ k ∷ []) same
+starts_case false starts p q same = sym (append-nil starts)
+
+seen_more : (c : Setting) (item : HistItem) (starts last : List ℕ) (place : ℕ) → place ≡ length c.items → IsSeen c starts last → IsSeen (longer c (item ∷ [])) (starts_after item place starts) (ends_after item (place + 1) last)
+seen_more c item starts last place is seen = record {
+  starts_are =
+      let at : place ≡ 0 + length c.items = omega (arith, is) in
+      starts_case (is_order item.event) starts place (0 + length c.items) at
+      ∙ ap (λ (w : List ℕ). w ++ (if is_order item.event then (0 + length c.items) ∷ [] else [])) seen.starts_are
+      ∙ sym (starts_more c.items 0 item);
+  timed = subst (λ k. IsTimed (longer c (item ∷ [])) (ends_after item (k + 1) last)) (sym is) (timed_more c item last seen.timed);
+}
+
+keeps_next : (c : Setting) (item : HistItem) (p q : Progress) → Keeps c p → report (longer c (item ∷ [])) p.there ≡ report c p.there → p.there ≡ orders (c.items ++ item ∷ []) - (c.setups + 1) → IsNoted item p q → Keeps (longer c (item ∷ [])) q
+keeps_next c item p q kept same lags n =
+    let long = length-append c.items (item ∷ []) in
+    let at = kept.seen_are in
+    let seen = n.seen_is in
+    let there = n.there_is in
+    let found : IsSeen (longer c (item ∷ [])) q.starts.items q.last.items =
+    subst (λ (w : List ℕ). IsSeen (longer c (item ∷ [])) q.starts.items w) (sym n.last_is)
+    (subst (λ (w : List ℕ). IsSeen (longer c (item ∷ [])) w (ends_after item (p.seen + 1) p.last.items)) (sym n.starts_are)
+    (seen_more c item p.starts.items p.last.items p.seen at kept.found)) in
+    let tells : Tells (longer c (item ∷ [])) q.there q.told q.stand =
+    subst (λ k. Tells (longer c (item ∷ [])) k q.told q.stand) (sym there)
+    (subst (λ (t : Telling). Tells (longer c (item ∷ [])) p.there t q.stand) (sym n.told_is)
+    (subst (λ (s : Stand). Tells (longer c (item ∷ [])) p.there p.told s) (sym n.stand_is)
+    (tells_longer c (item ∷ []) p.there p.told p.stand same kept.told))) in
+    record {
+      seen_are = omega (arith, seen, at, long);
+      found = found;
+      told = tells;
+      low = omega (arith, lags, there);
+      high = omega (arith, lags, there);
+    }
+
+-- an order follows what is told
+order_lags : (c : Setting) (item : HistItem) (there : ℕ) → is_order item.event ≡ true → there ≡ orders c.items - c.setups → there ≡ orders (c.items ++ item ∷ []) - (c.setups + 1)
+order_lags c item there ordered is =
+    let more = orders_snoc c.items item in
+    let one = one_order (is_order item.event) item ordered in
+    omega (arith, is, more, one)
+
+order_stays : (c : Setting) (item : HistItem) (there : ℕ) → is_order item.event ≡ true → there ≡ orders c.items - c.setups → report (longer c (item ∷ [])) there ≡ report c there
+order_stays c item there ordered is = before_order c item there ordered is (cases_lt (orders c.items) c.setups)
+
+-- a Step follows within the last segment
+step_lags : (c : Setting) (item : HistItem) (there : ℕ) → is_order item.event ≡ false → there ≡ orders c.items - (c.setups + 1) → there ≡ orders (c.items ++ item ∷ []) - (c.setups + 1)
+step_lags c item there step is =
+    let more = orders_snoc c.items item in
+    let none = no_order (is_order item.event) item step in
+    omega (arith, is, more, none)
+
+step_stays : (c : Setting) (item : HistItem) (there : ℕ) → there ≡ orders c.items - (c.setups + 1) → there ≤ orders c.items - c.setups → report (longer c (item ∷ [])) there ≡ report c there
+step_stays c item there is low = within_segment c item there is low (cases_lt c.setups (orders c.items))
+
+-- what is kept once an order has come, and that its segment isn't told
+pub seen_order : (c : Setting) (item : HistItem) (p q : Progress) → IsSettled c p → is_order item.event ≡ true → IsNoted item p q → Keeps (longer c (item ∷ [])) q
+seen_order c item p q settled ordered n = keeps_next c item p q settled.kept (order_stays c item p.there ordered settled.all) (order_lags c item p.there ordered settled.all) n
+
+pub order_waits : (c : Setting) (item : HistItem) (p q : Progress) → IsSettled c p → is_order item.event ≡ true → IsNoted item p q → Lags (longer c (item ∷ [])) q
+order_waits c item p q settled ordered n = n.there_is ∙ order_lags c item p.there ordered settled.all
+
+in_segment : (c : Setting) (item : HistItem) (p : Progress) → is_order item.event ≡ false → (is_order item.event ≡ true) ⊎ Lags c p → Lags c p
+in_segment c item p step (inl ordered) = cc
+in_segment c item p step (inr lags) = lags
+
+-- the same for a Step
+pub seen_step : (c : Setting) (item : HistItem) (p q : Progress) → Keeps c p → (is_order item.event ≡ true) ⊎ Lags c p → is_order item.event ≡ false → IsNoted item p q → Keeps (longer c (item ∷ [])) q
+seen_step c item p q kept next step n =
+    let lags = in_segment c item p step next in
+    keeps_next c item p q kept (step_stays c item p.there lags kept.low) (step_lags c item p.there step lags) n
+
+pub step_waits : (c : Setting) (item : HistItem) (p q : Progress) → (is_order item.event ≡ true) ⊎ Lags c p → is_order item.event ≡ false → IsNoted item p q → Lags (longer c (item ∷ [])) q
+step_waits c item p q next step n = n.there_is ∙ step_lags c item p.there step (in_segment c item p step next)
+
+zeros_case : (xs : List ℕ) (k : ℕ) → get_or xs k 0 ≡ 0 → get_or (xs ++ 0 ∷ []) k 0 ≡ 0
+zeros_case [] zero h = refl
+zeros_case [] (suc k) h = refl
+zeros_case (x ∷ xs) zero h = h
+zeros_case (x ∷ xs) (suc k) h = zeros_case xs k h
+
+pub zeros_more : (xs ys : List ℕ) → IsZeros xs → ys ≡ xs ++ 0 ∷ [] → IsZeros ys
+zeros_more xs ys zeros is = λ k. ap (λ (w : List ℕ). get_or w k 0) is ∙ zeros_case xs k (zeros k)
+
+-- ---- the next segment is told
+
+pub both : {X E : Type 0} (r : Result X E) (P Q R : X → Type 0) → ((x : X) → P x → Q x → R x) → IfOk r P → IfOk r Q → IfOk r R
+both (Ok x) P Q R f p q = f x p q
+both (Err e) P Q R f p q = tt
+
+pub tells_over : (c : Setting) (there : ℕ) (t : Telling) (s : Stand) → Tells c there t s → (s ≡ Whole) ⊎ (s ≡ Invalid) → Tells c (there + 1) t s
+tells_over c there t (Due e) told (inl h) = absurd (whole_due e (sym h))
+tells_over c there t (Due e) told (inr h) = absurd (invalid_due e (sym h))
+tells_over c there t Whole told h = record { report_is = report_over c there t.lines Whole refl told.report_is; at = told.at }
+tells_over c there t Invalid told h = record { report_is = report_over c there t.lines Invalid refl told.report_is; at = told.at }
+
+tells_due : (c : Setting) (there e : ℕ) (t new : Telling) (next : Stand) → Tells c there t (Due e)
+    → report_from c (there + 1) (length c.entries - (there + 1)) (there + 1) (launched c t.lines there) ≡ record { lines = new.lines; stand = next } → IsAt c (there + 1) new.launched next → Tells c (there + 1) new next
+tells_due c there e t new next told h at = record { report_is = report_next c there t.lines e told.report_is ∙ h; at = at }
+
+pub tells_next : (c : Setting) (there e l : ℕ) (t mid new : Telling) (s next : Stand) → Tells c there t s → s ≡ Due e → mid ≡ record { lines = launched c t.lines t.launched; launched = t.launched + 1 } → l ≡ mid.launched
+    → report_from c l (length c.entries - l) l mid.lines ≡ record { lines = new.lines; stand = next } → IsAt c l new.launched next → Tells c (there + 1) new next
+tells_next c there e l t mid new s next told due is at_l h at =
+    let so : Tells c there t (Due e) = subst (λ (x : Stand). Tells c there t x) due told in
+    let first : there ≡ t.launched = so.at.1.0 in
+    let count : mid.launched ≡ t.launched + 1 = ap (λ (x : Telling). x.launched) is in
+    let there_is : l ≡ there + 1 = omega (arith, first, count, at_l) in
+    let lines : mid.lines ≡ launched c t.lines there = ap (λ (x : Telling). x.lines) is ∙ ap (launched c t.lines) (sym first) in
+    tells_due c there e t new next so
+    (subst (λ k. report_from c k (length c.entries - k) k (launched c t.lines there) ≡ record { lines = new.lines; stand = next }) there_is
+    (ap (report_from c l (length c.entries - l) l) (sym lines) ∙ h))
+    (subst (λ k. IsAt c k new.launched next) there_is at)
+
+starts_count : (c : Setting) (p : Progress) → Keeps c p → length p.starts.items ≡ orders c.items
+starts_count c p kept = ap length kept.found.starts_are ∙ count_found c.items 0
+
+pub settled_already : (c : Setting) (p : Progress) → Keeps c p → length p.starts.items - c.setups ≡ p.there → IsSettled c p
+settled_already c p kept all = let count = starts_count c p kept in record { kept = kept; all = omega (arith, all, count) }
+
+not_there_case : (n s there : ℕ) → there ≤ n - s → n - s ≤ there + 1 → (n - s ≡ there → ⊥) → (n - s < there + 1) ⊎ (there + 1 ≤ n - s) → n ≡ s + there + 1
+not_there_case n s there low high differs (inl less) = absurd (differs (omega (arith, less, low)))
+not_there_case n s there low high differs (inr more) = omega (arith, more, high)
+
+not_there : (n s there : ℕ) → there ≤ n - s → n - s ≤ there + 1 → (n - s ≡ there → ⊥) → n ≡ s + there + 1
+not_there n s there low high differs = not_there_case n s there low high differs (cases_lt (n - s) (there + 1))
+
+pub one_behind : (c : Setting) (p : Progress) → Keeps c p → (length p.starts.items - c.setups ≡ p.there → ⊥) → orders c.items ≡ c.setups + p.there + 1
+one_behind c p kept differs =
+    let count = starts_count c p kept in
+    let low = kept.low in
+    let high = kept.high in
+    not_there (orders c.items) c.setups p.there low high (λ same. differs (omega (arith, count, same)))
+
+pub settled_next : (c : Setting) (p q : Progress) → Keeps c p → orders c.items ≡ c.setups + p.there + 1 → q.starts ≡ p.starts → q.last ≡ p.last → q.seen ≡ p.seen → q.there ≡ p.there + 1 → Tells c (p.there + 1) q.told q.stand → IsSettled c q
+settled_next c p q kept behind starts last seen there told =
+    let seen_are = kept.seen_are in
+    record {
+      kept = record {
+        seen_are = seen ∙ seen_are;
+        found = subst (λ (w : List ℕ). IsSeen c q.starts.items w) (sym (ap (λ v. v.items) last)) (subst (λ (w : List ℕ). IsSeen c w p.last.items) (sym (ap (λ v. v.items) starts)) kept.found);
+        told = subst (λ k. Tells c k q.told q.stand) (sym there) told;
+        low = omega (arith, behind, there);
+        high = omega (arith, behind, there);
+      };
+      all = omega (arith, behind, there);
+    }
+
+pub room_to_tell : (c : Setting) (p : Progress) → Keeps c p → orders c.items ≡ c.setups + p.there + 1 → p.there + 1 ≤ length p.starts.items
+room_to_tell c p kept behind = let count = starts_count c p kept in omega (arith, behind, count)
+
+-- ---- which item comes next
+
+past_end : (items : List HistItem) (k : ℕ) (item : HistItem) → length items ≤ k → slice_get items k ≡ Some item → ⊥
+past_end [] k item over h = cc
+past_end (x ∷ xs) zero item over h = absurd (omega (arith, over))
+past_end (x ∷ xs) (suc k) item over h = past_end xs k item (omega (arith, over)) h
+
+pub lags_so : (c : Setting) (p : Progress) → Follows c p → length p.starts.items - (c.setups + 1) ≡ p.there → Lags (front c p.seen) p
+lags_so c p follows is = let count = starts_count (front c p.seen) p follows.kept in omega (arith, count, is)
+
+pub none_next : (c : Setting) (p : Progress) (item : HistItem) → length c.items ≤ p.seen → slice_get c.items p.seen ≡ Some item → ⊥
+none_next c p item over h = past_end c.items p.seen item over h
+
+pub order_next : (items : List HistItem) (k : ℕ) (item other : HistItem) → true ≡ nat_lt k (length items) → item ≡ get_or items k item → slice_get items k ≡ Some other → item ≡ other
+order_next items k item other within at h =
+    let less : k < length items = grind arith in
+    let same = slice_get-get_or items k item less in
+    cc
+
+pub one_further : (items : List HistItem) (k : ℕ) (item : HistItem) → k < length items → item ≡ get_or items k item → take (k + 1) items ≡ take k items ++ item ∷ []
+one_further items k item less at = take_more items k item less ∙ ap (λ (x : HistItem). take k items ++ x ∷ []) (sym at)
+
+pub settled_tells : (c : Setting) (p : Progress) → IsSettled c p → report c (orders c.items - c.setups) ≡ record { lines = p.told.lines; stand = p.stand }
+settled_tells c p settled = ap (report c) (sym settled.all) ∙ settled.kept.told.report_is
+
+-- what is kept of a front is kept of the whole
+pub follows_whole : (c : Setting) (k : ℕ) (p : Progress) → Follows (front c k) p → Follows c p
+follows_whole c k p follows =
+    let few = follows.few in
+    let short = length-take k c.items in
+    let within : p.seen ≤ k = omega arith in
+    record {
+      few = omega arith;
+      kept = subst (λ (w : List HistItem). Keeps (record { entries = c.entries; items = w; setups = c.setups }) p) (take-take p.seen k c.items within) follows.kept;
+    }

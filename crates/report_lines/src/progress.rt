@@ -1,0 +1,226 @@
+//! What is kept of a permutation between two of its orders, so that its plan goes on from where it stood.
+ghost use Rattle.std.specs.Prelude.{◌≡◌, ◌+◌, ◌-◌, ◌<◌, ◌^◌, ◌++◌, ◌⊎◌, [], ◌∷◌, length, IfOk, OnOk, IsTrue, true};
+ghost use Rattle.report_lines.specs.Starts.{is_order};
+ghost use Rattle.report_lines.specs.Due.{orders};
+ghost use Rattle.report_lines.specs.Report.{report};
+ghost use Rattle.report_lines.specs.Places.{starts_from, starts_after, ended_behind, ends_after, IsZeros};
+ghost use Rattle.report_lines.specs.Progress.{Keeps, Lags, IsSettled, IsNext, IsNoted, Follows, setting_of};
+
+use crate::course::Course;
+use crate::entries::{is_order, session_of};
+use crate::history::Stand;
+use crate::segments::Segments;
+use crate::sight::Sight;
+use crate::telling::Told;
+use session_machine::HistItem;
+use spec_parser::Entry;
+use std::alloc::{AllocError, Global};
+
+/// The orders so far, what is said of the entries, and how far they have come.
+#[derive(Drop)]
+pub struct Progress {
+    starts: Vec<usize>,
+    // Behind which item the last block of each session ended.
+    last: Vec<usize>,
+    told: Told,
+    stand: Stand,
+    // So many items have come, and so many segments of entries are told.
+    seen: usize,
+    there: usize,
+}
+
+/// As many zeros as the entries' sessions need.
+fn no_ends(alloc: Global, entries: &[Entry]) -> Result<Vec<usize>, AllocError>
+    ensures { IfOk result (λ last. IsZeros last.items) }
+{
+    let mut sessions = 0;
+    for entry in entries {
+        sessions = sessions.max(entry.session as usize + 1);
+    }
+    let mut last = Vec::with_capacity(alloc, sessions)?;
+    for _ in 0..sessions {
+        last.push(0)?;
+    }
+    Ok(last)
+}
+
+/// A block of the session ended behind this item.
+fn end_behind(last: &mut Vec<usize>, session: u32, place: usize)
+    ensures { last.new.items ≡ ended_behind last.old.items session place }
+{
+    if let Some(end) = last.get_mut(session as usize) {
+        *end = place;
+    }
+}
+
+/// Where the item ends a block, that block ended behind it.
+fn note_end(last: &mut Vec<usize>, item: &HistItem<'_>, place: usize)
+    ensures { last.new.items ≡ ends_after item.now place last.old.items }
+{
+    if item.reply.ended {
+        end_behind(last, session_of(&item.event), place);
+    }
+}
+
+/// Where the item is an order, it stands at this place.
+fn note_start(
+    starts: &mut Vec<usize>,
+    item: &HistItem<'_>,
+    place: usize,
+) -> Result<(), AllocError>
+    ensures { OnOk result (starts.new.items ≡ starts_after item.now place starts.old.items) }
+{
+    if is_order(&item.event) {
+        starts.push(place)?;
+    }
+    Ok(())
+}
+
+impl Progress {
+    /// Before anything has come.
+    pub fn new(alloc: Global, entries: &[Entry], setups: usize) -> Result<Progress, AllocError>
+        requires { setups + length entries.now + 1 < 2 ^ 64 }
+        ensures { IfOk result (λ p. Keeps (setting_of entries.now [] setups) p) }
+    {
+        let stand = if entries.is_empty() {
+            Stand::Whole
+        } else {
+            Stand::Due(0)
+        };
+        Ok(Progress {
+            starts: Vec::new(alloc),
+            last: no_ends(alloc, entries)?,
+            told: Told::new(alloc, entries.len())?,
+            stand,
+            seen: 0,
+            there: 0,
+        })
+    }
+
+    /// Tells the last segment, if it is an entry's and isn't told.
+    fn settle(
+        &mut self,
+        entries: &[Entry],
+        setups: usize,
+        items: &[HistItem<'_>],
+    ) -> Result<(), AllocError>
+        requires { Keeps (setting_of entries.now items.now setups) self.old }
+        ensures { OnOk result (IsSettled (setting_of entries.now items.now setups) self.new) }
+    {
+        if self.starts.len().saturating_sub(setups) == self.there {
+            return Ok(());
+        }
+        let sight = Sight::new(entries, items, setups, &self.starts, &self.last);
+        self.stand = self.told.go_on(&sight, self.stand, self.there)?;
+        self.there += 1;
+        Ok(())
+    }
+
+    /// The next item has come.
+    fn note(&mut self, item: &HistItem<'_>) -> Result<(), AllocError>
+        requires { self.old.seen + 1 < 2 ^ 64 }
+        ensures { OnOk result (IsNoted item.now self.old self.new) }
+    {
+        note_start(&mut self.starts, item, self.seen)?;
+        note_end(&mut self.last, item, self.seen + 1);
+        self.seen += 1;
+        Ok(())
+    }
+
+    /// The next item has come: an order, or a Step of the last one's segment.
+    fn see(
+        &mut self,
+        entries: &[Entry],
+        setups: usize,
+        front: &[HistItem<'_>],
+        item: &HistItem<'_>,
+    ) -> Result<(), AllocError>
+        requires kept { Keeps (setting_of entries.now front.now setups) self.old }
+        requires next { (is_order item.now.event ≡ true) ⊎ Lags (setting_of entries.now front.now setups) self.old }
+        requires room { length front.now + 1 < 2 ^ 64 }
+        ensures kept { OnOk result (Keeps (setting_of entries.now (front.now ++ item.now ∷ []) setups) self.new) }
+        ensures lags { OnOk result (Lags (setting_of entries.now (front.now ++ item.now ∷ []) setups) self.new) }
+    {
+        if is_order(&item.event) {
+            self.settle(entries, setups, front)?;
+            self.note(item)
+        } else {
+            self.note(item)
+        }
+    }
+
+    /// The items behind those that have come.
+    fn see_all(
+        &mut self,
+        entries: &[Entry],
+        setups: usize,
+        items: &[HistItem<'_>],
+    ) -> Result<(), AllocError>
+        requires follows { Follows (setting_of entries.now items.now setups) self.old }
+        requires next { IsNext (setting_of entries.now items.now setups) self.old }
+        ensures { OnOk result (Keeps (setting_of entries.now items.now setups) self.new) }
+    {
+        for place in self.seen..items.len() {
+            self.see(entries, setups, &items[..place], &items[place])?;
+        }
+        Ok(())
+    }
+
+    /// Whether the item behind those that have come is an order, or belongs to a segment that isn't told.
+    fn goes_on(&self, entries: &[Entry], setups: usize, items: &[HistItem<'_>]) -> bool
+        requires follows { Follows (setting_of entries.now items.now setups) self.now }
+        ensures { IsTrue result → IsNext (setting_of entries.now items.now setups) self.now }
+    {
+        if self.starts.len().saturating_sub(setups + 1) == self.there {
+            return true;
+        }
+        match items.get(self.seen) {
+            None => true,
+            Some(item) => is_order(&item.event),
+        }
+    }
+
+    /// Goes on to the end of these items. What was told of a segment that has grown since is told anew, from the first item on.
+    pub(crate) fn reach(
+        &mut self,
+        alloc: Global,
+        entries: &[Entry],
+        setups: usize,
+        items: &[HistItem<'_>],
+    ) -> Result<(), AllocError>
+        requires room { setups + length entries.now + 1 < 2 ^ 64 }
+        requires follows { Follows (setting_of entries.now items.now setups) self.old }
+        ensures { OnOk result (IsSettled (setting_of entries.now items.now setups) self.new) }
+    {
+        if !self.goes_on(entries, setups, items) {
+            *self = Progress::new(alloc, entries, setups)?;
+        }
+        self.see_all(entries, setups, items)?;
+        self.settle(entries, setups, items)
+    }
+
+    /// The items that have come, cut into segments.
+    pub(crate) fn segments<'a>(&'a self, items: &'a [HistItem<'a>]) -> Segments<'a>
+        requires { self.now.starts.items ≡ starts_from 0 items.now }
+        ensures { result ≡ items.now }
+    {
+        Segments::new(items, &self.starts)
+    }
+
+    /// How far the entries have come.
+    pub(crate) fn stand(&self) -> Stand
+        ensures { result ≡ self.now.stand }
+    {
+        self.stand
+    }
+}
+
+/// The lines of the entries, and how far they have come.
+pub fn told_lines(alloc: Global, course: &Course<'_>) -> Result<(Told, Stand), AllocError>
+    ensures { IfOk result (λ told. report course.now (orders course.now.items - course.now.setups) ≡ record { lines = told.0.lines; stand = told.1 }) }
+{
+    let mut progress = Progress::new(alloc, course.entries(), course.setups())?;
+    progress.reach(alloc, course.entries(), course.setups(), course.items())?;
+    let Progress { told, stand, .. } = progress;
+    Ok((told, stand))
+}
