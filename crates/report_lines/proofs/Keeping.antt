@@ -89,7 +89,6 @@ within_segment c item there lags low (inr few) =
     let none : there ≡ 0 = omega (arith, low, few) in
     rw none (first_same (longer c (item ∷ [])) c refl)
 
-
 -- ---- what is kept stays right
 
 abbrev Apart : ℕ → ℕ → Type 0

@@ -21,6 +21,6 @@ pub use course::Course;
 pub use entries::{ends_in, session_of};
 pub use history::{Line, Moment, Stand, Task};
 pub use plan::{Plan, Schedule};
-pub use segments::{Segments, any_ends, any_fails};
 pub use progress::{Progress, told_lines};
+pub use segments::{Segments, any_ends, any_fails};
 pub use telling::Told;

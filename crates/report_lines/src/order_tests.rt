@@ -294,11 +294,7 @@ fn orders_of<'a>(
 }
 
 /// The history of `a_segment_that_has_grown_is_told_anew`: as long as the first step isn't done, the second one can't be launched.
-fn is_told_anew(
-    rt: &impl Abort,
-    alloc: Global,
-    items: &[HistItem<'_>],
-) -> Result<(), AllocError>
+fn is_told_anew(rt: &impl Abort, alloc: Global, items: &[HistItem<'_>]) -> Result<(), AllocError>
     requires { 1 < length items.now }
 {
     let entries = [entry(alloc, 1, 0, &[])?, entry(alloc, 1, 1, &[])?];

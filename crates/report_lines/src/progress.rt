@@ -63,11 +63,7 @@ fn note_end(last: &mut Vec<usize>, item: &HistItem<'_>, place: usize)
 }
 
 /// Where the item is an order, it stands at this place.
-fn note_start(
-    starts: &mut Vec<usize>,
-    item: &HistItem<'_>,
-    place: usize,
-) -> Result<(), AllocError>
+fn note_start(starts: &mut Vec<usize>, item: &HistItem<'_>, place: usize) -> Result<(), AllocError>
     ensures { OnOk result (starts.new.items ≡ starts_after item.now place starts.old.items) }
 {
     if is_order(&item.event) {

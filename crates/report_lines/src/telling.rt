@@ -158,12 +158,7 @@ impl Told {
     }
 
     /// Tries the chosen steps of the waiting list once, in order.
-    fn go_through(
-        &mut self,
-        sight: &Sight<'_>,
-        m: Moment,
-        chosen: Chosen,
-    ) -> Result<(), AllocError>
+    fn go_through(&mut self, sight: &Sight<'_>, m: Moment, chosen: Chosen) -> Result<(), AllocError>
         requires entries { self.old.launched ≤ length sight.now.entries }
         requires seen { m.seen ≡ length sight.now.items }
         requires launched { m.launched ≡ self.old.launched }
@@ -297,9 +292,7 @@ impl Told {
     fn has_of(&self, sight: &Sight<'_>, session: u32) -> bool
         ensures { result ≡ list_any (is_of sight.now session) (active self.now.lines self.now.launched) }
     {
-        self.waiting
-            .iter()
-            .any(|j| sight.session_at(*j) == session)
+        self.waiting.iter().any(|j| sight.session_at(*j) == session)
     }
 
     /// Tries the session's steps again.

@@ -28,4 +28,3 @@ returns-else-is_order-clause-lags c =
     let course : Setting = record { entries = map entry_view c.args.entries.now; items = c.args.front.now; setups = c.args.setups } in
     on_ok_weaker c.note-else-is_order.result
     (λ noted. step_waits course c.args.item.now c.args.self.now c.note-else-is_order.new.self c.requires.next (sym c.if-is_order.ensures) noted) c.note-else-is_order.ensures
-
