@@ -10,14 +10,15 @@ trap 'rm -rf "$room"' EXIT
 best() {
   local best=
   for _ in 1 2 3 4 5; do
-    local from to ms
-    from=$(date +%s%N)
+    local from to us
+    # the shell's own clock: it needs no process that would be timed too
+    from=${EPOCHREALTIME/[.,]/}
     "$program" < "$1" > "$room/out" || true
-    to=$(date +%s%N)
-    ms=$(((to - from) / 10000))
-    if [ -z "$best" ] || [ "$ms" -lt "$best" ]; then best=$ms; fi
+    to=${EPOCHREALTIME/[.,]/}
+    us=$((to - from))
+    if [ -z "$best" ] || [ "$us" -lt "$best" ]; then best=$us; fi
   done
-  printf '%-44s %6d.%02d ms, %9d bytes out\n' "$2" $((best / 100)) $((best % 100)) "$(wc -c < "$room/out")"
+  printf '%-44s %6d.%02d ms, %9d bytes out\n' "$2" $((best / 1000)) $((best % 1000 / 10)) "$(wc -c < "$room/out")"
 }
 
 python3 - "$room" <<'PY'

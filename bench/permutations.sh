@@ -67,24 +67,23 @@ SPEC
   echo
 } > "$room/long"
 
-# milliseconds of a command, its output in $room/out
-millis() {
+# microseconds of a command, its output in $room/out; the shell's own clock needs no process that would be timed too
+micros() {
   local from to
-  from=$(date +%s%N)
+  from=${EPOCHREALTIME/[.,]/}
   "$@" > "$room/out" || true
-  to=$(date +%s%N)
-  echo $(((to - from) / 1000000))
+  to=${EPOCHREALTIME/[.,]/}
+  echo $((to - from))
 }
 
 # best SPEC COMMAND..: the least of five runs
 best() {
-  local least= ms spec=$1
+  local least= us spec=$1
   shift
   for _ in 1 2 3 4 5; do
-    ms=$(millis "$@" < "$room/$spec")
-    if [ -z "$least" ] || [ "$ms" -lt "$least" ]; then least=$ms; fi
+    us=$(micros "$@" < "$room/$spec")
+    if [ -z "$least" ] || [ "$us" -lt "$least" ]; then least=$us; fi
   done
-  [ "$least" -gt 0 ] || least=1
   echo "$least"
 }
 
@@ -105,11 +104,11 @@ compare() {
   local mine theirs said
   mine=$(best "$1" "$program")
   cp "$room/out" "$room/$1.ours"
-  printf '%-46s %6d ms, %8d permutations a second' "$3" "$mine" $(($2 * 1000 / mine))
+  printf '%-46s %4d.%d ms, %8d permutations a second' "$3" $((mine / 1000)) $((mine % 1000 / 100)) $(($2 * 1000000 / mine))
   if [ -n "$data" ]; then
     theirs=$(best "$1" "$real" "host=$room/socket user=tester dbname=postgres")
     if cmp -s "$room/out" "$room/$1.ours"; then said="the same text"; else said="ANOTHER TEXT"; fi
-    printf '; the real tool %6d ms: %d times as long, %s' "$theirs" $((theirs / mine)) "$said"
+    printf '; the real tool %6d ms: %d times as long, %s' $((theirs / 1000)) $((theirs / mine)) "$said"
   fi
   echo
 }

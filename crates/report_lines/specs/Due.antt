@@ -38,10 +38,11 @@ is_failed Left = false
 abbrev pub fails : HistItem → Bool
 fails item = is_failed item.reply.outcome
 
--- the segment's block ended, and without a failure
+-- the segment's block ended
 abbrev pub is_over : List HistItem → ℕ → ℕ → Bool
 is_over items k session = list_any (ends_in session) (segment items k)
 
+-- it ended, and nothing in the segment failed
 abbrev pub went_well : List HistItem → ℕ → ℕ → Bool
 went_well items k session = is_over items k session && not (list_any fails (segment items k))
 
