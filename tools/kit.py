@@ -1,0 +1,147 @@
+"""What the scripts of this repository share: the crates, by the kit's command rt; what is looked at before any proof; what each wrong body was tried on."""
+import copy
+import hashlib
+import importlib.machinery
+import importlib.util
+import os
+import re
+import shutil
+import sys
+import tempfile
+
+TOP = os.path.dirname(os.path.dirname(os.path.realpath(__file__)))
+TRIED = f"{TOP}/wrong_bodies.txt"
+
+
+def load():
+    """Returns rt as a module, so that crates are proved and edits are judged here just as the gate does it."""
+    found = shutil.which("rt")
+    if not found:
+        sys.exit("rt, the command of the Rattle kit, is not on the path")
+    sys.dont_write_bytecode = True
+    loader = importlib.machinery.SourceFileLoader("rt", os.path.realpath(found))
+    made = importlib.util.module_from_spec(importlib.util.spec_from_loader("rt", loader))
+    loader.exec_module(made)
+    # (its first call sets a signal's handler, which only the main thread may)
+    made.rtlib.guarded()
+    return made
+
+
+rt = load()
+rtlib = rt.rtlib
+
+
+class Kept(rt.Crate):
+    """A crate that is proved by the gate's rules, but over what earlier checks of it kept in out/."""
+
+    def words(self, flags, tests=False, keeps=True, as_source=False):
+        return [*super().words(flags, tests, keeps, as_source), *rtlib.KEPT]
+
+    def make(self, jobs):
+        """Proves the crate and builds its library or program. Returns a status, 0 where all went well."""
+        flags, to = ["--jobs", str(jobs)], f"out/{self.name}"
+        os.makedirs(f"{self.folder}/out", exist_ok=True)
+        if not self.is_program:
+            return self.build_rlib(flags, anew=True)
+        built = ["--toolchain", f"{rt.KIT}/toolchain", "--backend", "llvm", "-o", f"{to}.o"]
+        return self.prove(["build", *self.words(flags), *built]) or self.link(f"{to}.o", to)
+
+    def make_tests(self, jobs):
+        """Proves and builds the crate's tests. Returns a status."""
+        return self.ci(["--jobs", str(jobs)], tests=True)
+
+
+def crates(kind=rt.Crate):
+    """Returns all crates, lowest first."""
+    if kind is Kept:
+        # (the gate refuses the word that a check over kept work ends its last line with)
+        rtlib.VERDICT = re.compile(rtlib.VERDICT.pattern.replace("statements=trusted", "statements=trusted( incremental=trusted)?"), re.M)
+    kind.allowed = rt.handles_of(TOP)
+    rtlib.Crate = kind
+    return sorted(rtlib.crates_below(f"{TOP}/crates"), key=lambda it: len(it.below()))
+
+
+def quietly(crate, call):
+    """Calls with a copy of the crate whose output is shown only where it fails. Returns whether all went well."""
+    crate = copy.copy(crate)
+    with tempfile.TemporaryFile("a+", errors="replace") as crate.out:
+        try:
+            status = call(crate)
+        except SystemExit:
+            status = 1
+        if status:
+            crate.out.seek(0)
+            print(f"== {crate.name}\n{crate.out.read()}", end="", flush=True)
+    return not status
+
+
+def named(words, among):
+    """Returns the crates with these names, all where none is given."""
+    unknown = sorted({*words} - {it.name for it in among})
+    if unknown:
+        sys.exit(f"crates.txt names no crate {', '.join(unknown)}")
+    return [it for it in among if not words or it.name in words]
+
+
+def edits_in(crate, room):
+    """Returns the edits that lie in a folder of the crate, must-fail or wrong_bodies."""
+    folder = f"{crate.folder}/{room}"
+    names = sorted(os.listdir(folder)) if os.path.isdir(folder) else []
+    return [f"{folder}/{it}" for it in names if it.endswith(".edit")]
+
+
+def refusals(crate, among):
+    """Looks at what the gate looks at before any proof. Returns how many things are wrong; each is printed."""
+    wrong = 0
+    looks = [
+        lambda: rtlib.stop_on_links(crate.folder),
+        lambda: rtlib.stop_on_unread(crate.folder, among),
+        lambda: rtlib.stop_on_text(crate, "verdict"),
+        lambda: rt.stop_on_words(crate),
+    ]
+    for look in looks:
+        try:
+            look()
+        except SystemExit:
+            wrong += 1
+    if rtlib.fmt(crate.folder, "--check", sys.stdout):
+        print(f"{crate.name}: run rt fmt in its folder")
+        wrong += 1
+    for edit in [*edits_in(crate, "must-fail"), *edits_in(crate, "wrong_bodies")]:
+        why = rt.read_edit(edit, crate.folder)[1]
+        if why:
+            print(f"{os.path.relpath(edit, TOP)}: {why}")
+            wrong += 1
+    return wrong
+
+
+def files_below(folder):
+    return sorted(f"{at}/{it}" for at, _, names in os.walk(folder) for it in names)
+
+
+def state_of(crate):
+    """Returns a sum of all that a wrong body's refusal rests on: the crate's text, its wrong bodies, and the definitions of the crates below it."""
+    rooms = [f"{crate.folder}/{it}" for it in ("src", "specs", "proofs", "wrong_bodies")]
+    rooms += [f"{it.folder}/specs" for it in sorted(crate.below(), key=lambda it: it.name)]
+    state = hashlib.sha256()
+    for file in (it for room in rooms for it in files_below(room)):
+        with open(file, "rb") as it:
+            state.update(repr((os.path.relpath(file, TOP), it.read())).encode())
+    return state.hexdigest()[:16]
+
+
+def line_of(crate):
+    """Returns the line that says that all wrong bodies of the crate, as it stands, are refused."""
+    return f"{crate.name}: {len(edits_in(crate, 'wrong_bodies'))} refused, state {state_of(crate)}"
+
+
+def lines_tried():
+    """Returns the lines of wrong_bodies.txt, by crate."""
+    text = rtlib.text_of(TRIED) or ""
+    return {it.partition(":")[0]: it for it in text.splitlines() if it and not it.startswith("#")}
+
+
+def untried(among):
+    """Returns the crates whose wrong bodies were not all tried and refused on the text as it stands."""
+    tried = lines_tried()
+    return [it for it in among if edits_in(it, "wrong_bodies") and tried.get(it.name) != line_of(it)]
