@@ -115,6 +115,30 @@ def refusals(crate, among):
     return wrong
 
 
+def tried_in_turn(crate, edits):
+    """Tries edits of a proved crate one after the other, as the gate does, over a copy of what its check kept. Returns for each whether it is refused, and what to say."""
+    with tempfile.TemporaryDirectory(prefix="rt-edits-") as room:
+        kept = shutil.copytree(f"{crate.folder}/{rtlib.KEPT[1]}", f"{room}/kept")
+        tried = [rt.must_fail(crate, it, ["--jobs", "1"], kept) for it in edits]
+        is_sound = not rt.checked(crate, {}, ["--jobs", "1"], kept).returncode
+    return tried if is_sound else [rt.must_fail(crate, it, ["--jobs", "1"]) for it in edits]
+
+
+def rows_lacking(among):
+    """Looks whether each wrong body has its row in docs/WRONG_BODIES.md, and each row its wrong body. Returns how many don't; each is printed."""
+    rows, crate = set(), ""
+    for line in (rtlib.text_of(f"{TOP}/docs/WRONG_BODIES.md") or "").splitlines():
+        crate = line[4:-1] if line.startswith("## `") else crate
+        if line.startswith(("| `", "| **`")):
+            rows |= {(crate, name) for name in re.findall(r"`(\w+)`", line.split("|")[1])}
+    edits = {(it.name, os.path.basename(edit)[:-5]) for it in among for room in ("must-fail", "wrong_bodies") for edit in edits_in(it, room)}
+    for crate, name in sorted(edits - rows):
+        print(f"crates/{crate}: {name}.edit has no row in docs/WRONG_BODIES.md")
+    for crate, name in sorted(rows - edits):
+        print(f"docs/WRONG_BODIES.md: the crate {crate} has no edit {name}")
+    return len(edits ^ rows)
+
+
 def files_below(folder):
     return sorted(f"{at}/{it}" for at, _, names in os.walk(folder) for it in names)
 
