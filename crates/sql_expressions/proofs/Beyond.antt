@@ -196,12 +196,12 @@ module _ (last : ℕ) where
   is_with : (ts : Tokens) (w t : At Token) (truth : Truth) → Reads CMP ts → IsWord words.Is w.tok → truth_of t.tok ≡ Some truth → Reads IS (ts ++ w ∷ t ∷ [])
   unfolding is_at
   is_with ts w t truth r g h = λ n rest s. rw (append_assoc ts (w ∷ t ∷ []) rest)
-      (fits_bind (w ∷ t ∷ rest) rest _ _ (r n (w ∷ t ∷ rest) (rw g.1 refl)) (λ v. rw (g.1, truth_is_no_not last t.tok truth h, h) (fits_deeper rest w.span.start v.1 _ (λ x. read (Is v.0 false truth, x) refl))))
+      (fits_bind (w ∷ t ∷ rest) rest _ _ (r n (w ∷ t ∷ rest) (rw g.1 refl)) (λ v. rw g.1 (fits_deeper rest w.span.start v.1 _ (λ x. rw (truth_is_no_not last t.tok truth h, h) (read (Is v.0 false truth, x) refl)))))
 
   is_not_with : (ts : Tokens) (w u t : At Token) (truth : Truth) → Reads CMP ts → IsWord words.Is w.tok → IsWord words.Not u.tok → truth_of t.tok ≡ Some truth → Reads IS (ts ++ w ∷ u ∷ t ∷ [])
   unfolding is_at
   is_not_with ts w u t truth r g k h = λ n rest s. rw (append_assoc ts (w ∷ u ∷ t ∷ []) rest)
-      (fits_bind (w ∷ u ∷ t ∷ rest) rest _ _ (r n (w ∷ u ∷ t ∷ rest) (rw g.1 refl)) (λ v. rw (g.1, k.1, h) (fits_deeper rest w.span.start v.1 _ (λ x. read (Is v.0 true truth, x) refl))))
+      (fits_bind (w ∷ u ∷ t ∷ rest) rest _ _ (r n (w ∷ u ∷ t ∷ rest) (rw g.1 refl)) (λ v. rw g.1 (fits_deeper rest w.span.start v.1 _ (λ x. rw (k.1, h) (read (Is v.0 true truth, x) refl)))))
 
   claim_is : (ts ws : Tokens) (t : At Token) (neg : Bool) (truth : Truth) → Reads CMP ts → IsIs neg ws → truth_of t.tok ≡ Some truth → Reads IS (ts ++ (ws ++ t ∷ []))
   claim_is ts ws t false truth r i h = subst (λ x. Reads IS (ts ++ (x ++ t ∷ []))) (sym i.1) (is_with ts i.0 t truth r i.2 h)
@@ -210,15 +210,15 @@ module _ (last : ℕ) where
   between_read : (n : ℕ) (neg : Bool) (place : ℕ) (us vs rest : Tokens) (t : At Token) (e : Tree) (b : ℕ) → Reads CAT us → IsWord words.And t.tok → Reads CAT vs → Stops INN rest → Fits rest (between_at last (inside last n) neg place e b (us ++ (t ∷ (vs ++ rest))))
   unfolding between_at
   between_read n neg place us vs rest t e b q h r s =
-      fits_deeper rest place b _ (λ here. fits_bind (t ∷ (vs ++ rest)) rest _ _ (q n (t ∷ (vs ++ rest)) (rw h.1 refl)) (λ v. rw h.1
-      (fits_bind rest rest _ _ (r n rest (stops_below INN rest s)) (λ w. fits_deeper rest place (max b (max v.1 w.1)) _ (λ x. read (Between e neg v.0 w.0, x) refl)))))
+      fits_deeper rest place b _ (λ here. fits_bind (t ∷ (vs ++ rest)) rest _ _ (q n (t ∷ (vs ++ rest)) (rw h.1 refl)) (λ v. fits_deeper rest place (max b v.1) _ (λ there. rw h.1
+      (fits_bind rest rest _ _ (r n rest (stops_below INN rest s)) (λ w. fits_deeper rest place (max b (max v.1 w.1)) _ (λ x. read (Between e neg v.0 w.0, x) refl))))))
 
   claim_between : (ts ws us vs : Tokens) (t : At Token) (neg : Bool) → Reads CAT ts → IsBetween neg ws → Reads CAT us → IsWord words.And t.tok → Reads CAT vs → Reads INN (ts ++ (ws ++ (us ++ t ∷ vs)))
   unfolding inn_at
   claim_between ts ws us vs t false p i q h r = λ n rest s. rw (assoc_between last ts ws us vs rest t, i.1)
       (fits_bind (i.0 ∷ (us ++ (t ∷ (vs ++ rest)))) rest _ _ (p n (i.0 ∷ (us ++ (t ∷ (vs ++ rest)))) (rw i.2.1 refl)) (λ v. rw i.2.1 (between_read n false i.0.span.start us vs rest t v.0 v.1 q h r s)))
   claim_between ts ws us vs t true p i q h r = λ n rest s. rw (assoc_between last ts ws us vs rest t, i.2)
-      (fits_bind (i.0 ∷ i.1 ∷ (us ++ (t ∷ (vs ++ rest)))) rest _ _ (p n (i.0 ∷ i.1 ∷ (us ++ (t ∷ (vs ++ rest)))) (rw i.3.1 refl)) (λ v. rw (i.3.1, i.4.1) (between_read n true i.0.span.start us vs rest t v.0 v.1 q h r s)))
+      (fits_bind (i.0 ∷ i.1 ∷ (us ++ (t ∷ (vs ++ rest)))) rest _ _ (p n (i.0 ∷ i.1 ∷ (us ++ (t ∷ (vs ++ rest)))) (rw i.3.1 refl)) (λ v. rw i.3.1 (fits_deeper rest i.0.span.start v.1 _ (λ here. rw i.4.1 (between_read n true i.0.span.start us vs rest t v.0 v.1 q h r s)))))
 
   abbrev ListsAll : Tokens → Type 0
   ListsAll us = (n place : ℕ) (rest : Tokens) → Stops OR rest → Lists (inside last n Whole place) (us ++ rest) rest
@@ -247,7 +247,7 @@ module _ (last : ℕ) where
   claim_in ts ws us t u false p i h k g = λ n rest s. rw (assoc_in last ts ws us rest t u, i.1)
       (fits_bind (i.0 ∷ t ∷ (us ++ (u ∷ rest))) rest _ _ (p n (i.0 ∷ t ∷ (us ++ (u ∷ rest))) (rw i.2.1 refl)) (λ v. rw i.2.1 (in_read n false i.0.span.start us rest t u v.0 v.1 h k g)))
   claim_in ts ws us t u true p i h k g = λ n rest s. rw (assoc_in last ts ws us rest t u, i.2)
-      (fits_bind (i.0 ∷ i.1 ∷ t ∷ (us ++ (u ∷ rest))) rest _ _ (p n (i.0 ∷ i.1 ∷ t ∷ (us ++ (u ∷ rest))) (rw i.3.1 refl)) (λ v. rw (i.3.1, i.4.1) (in_read n true i.0.span.start us rest t u v.0 v.1 h k g)))
+      (fits_bind (i.0 ∷ i.1 ∷ t ∷ (us ++ (u ∷ rest))) rest _ _ (p n (i.0 ∷ i.1 ∷ t ∷ (us ++ (u ∷ rest))) (rw i.3.1 refl)) (λ v. rw i.3.1 (fits_deeper rest i.0.span.start v.1 _ (λ here. rw i.4.1 (in_read n true i.0.span.start us rest t u v.0 v.1 h k g)))))
 
   claim_leaf : (t : At Token) (e : Tree) → IsLeaf t.tok e → Reads PRIM (t ∷ [])
   claim_leaf t e p = λ n rest s. read (e, 0) (leaf_read last n t t.tok e refl p rest s)

@@ -383,12 +383,12 @@ module _ (last : ℕ) where
   is_with : (n : ℕ) (ts : Tokens) (w t : At Token) (truth : Truth) (e : Tree) (d : ℕ) → Reads n CMP ts e d → IsWord words.Is w.tok → truth_of t.tok ≡ Some truth → d < 64 → Reads n IS (ts ++ w ∷ t ∷ []) (Is e false truth) (d + 1)
   unfolding is_at
   is_with n ts w t truth e d r g h lt = λ rest s.
-      rw (append_assoc ts (w ∷ t ∷ []) rest, r (w ∷ t ∷ rest) (rw g.1 refl), g.1, truth_is_no_not t.tok truth h, h, deeper_at w.span.start d lt) refl
+      rw (append_assoc ts (w ∷ t ∷ []) rest, r (w ∷ t ∷ rest) (rw g.1 refl), g.1, deeper_at w.span.start d lt, truth_is_no_not t.tok truth h, h) refl
 
   is_not_with : (n : ℕ) (ts : Tokens) (w v t : At Token) (truth : Truth) (e : Tree) (d : ℕ) → Reads n CMP ts e d → IsWord words.Is w.tok → IsWord words.Not v.tok → truth_of t.tok ≡ Some truth → d < 64 → Reads n IS (ts ++ w ∷ v ∷ t ∷ []) (Is e true truth) (d + 1)
   unfolding is_at
   is_not_with n ts w v t truth e d r g k h lt = λ rest s.
-      rw (append_assoc ts (w ∷ v ∷ t ∷ []) rest, r (w ∷ v ∷ t ∷ rest) (rw g.1 refl), g.1, k.1, h, deeper_at w.span.start d lt) refl
+      rw (append_assoc ts (w ∷ v ∷ t ∷ []) rest, r (w ∷ v ∷ t ∷ rest) (rw g.1 refl), g.1, deeper_at w.span.start d lt, k.1, h) refl
 
   claim_is : (n : ℕ) (ts ws : Tokens) (t : At Token) (no' : Bool) (truth : Truth) (e : Tree) (d : ℕ) → Reads n CMP ts e d → IsIs no' ws → truth_of t.tok ≡ Some truth → d < 64 → Reads n IS (ts ++ (ws ++ t ∷ [])) (Is e no' truth) (d + 1)
   claim_is n ts ws t false truth e d r i h lt = subst (λ x. Reads n IS (ts ++ (x ++ t ∷ [])) (Is e false truth) (d + 1)) (sym i.1) (is_with n ts i.0 t truth e d r i.2 h lt)
@@ -398,7 +398,7 @@ module _ (last : ℕ) where
       between_at last (inside last n) no' place e b (us ++ (t ∷ (vs ++ rest))) ≡ Ok (made (Between e no' low high) (max b (max c d) + 1) rest)
   unfolding between_at
   between_read n no' place us vs rest t e low high b c d q h r lt s =
-      rw (deeper_at place b (omega arith), q (t ∷ (vs ++ rest)) (rw h.1 refl), h.1, r rest (stops_below INN rest s), deeper_at place (max b (max c d)) lt) refl
+      rw (deeper_at place b (omega arith), q (t ∷ (vs ++ rest)) (rw h.1 refl), deeper_at place (max b c) (omega arith), h.1, r rest (stops_below INN rest s), deeper_at place (max b (max c d)) lt) refl
 
   pub assoc_between : (ts ws us vs rest : Tokens) (t : At Token) → (ts ++ (ws ++ (us ++ t ∷ vs))) ++ rest ≡ ts ++ (ws ++ (us ++ (t ∷ (vs ++ rest))))
   assoc_between ts ws us vs rest t = append_assoc ts _ rest ∙ ap (λ x. ts ++ x) (append_assoc ws _ rest ∙ ap (λ x. ws ++ x) (append_assoc us (t ∷ vs) rest))
@@ -408,7 +408,7 @@ module _ (last : ℕ) where
   claim_between n ts ws us vs t false e low high b c d p i q h r lt = λ rest s.
       rw (assoc_between ts ws us vs rest t, i.1, p (i.0 ∷ (us ++ (t ∷ (vs ++ rest)))) (rw i.2.1 refl), i.2.1) (between_read n false i.0.span.start us vs rest t e low high b c d q h r lt s)
   claim_between n ts ws us vs t true e low high b c d p i q h r lt = λ rest s.
-      rw (assoc_between ts ws us vs rest t, i.2, p (i.0 ∷ i.1 ∷ (us ++ (t ∷ (vs ++ rest)))) (rw i.3.1 refl), i.3.1, i.4.1) (between_read n true i.0.span.start us vs rest t e low high b c d q h r lt s)
+      rw (assoc_between ts ws us vs rest t, i.2, p (i.0 ∷ i.1 ∷ (us ++ (t ∷ (vs ++ rest)))) (rw i.3.1 refl), i.3.1, deeper_at i.0.span.start b (omega arith), i.4.1) (between_read n true i.0.span.start us vs rest t e low high b c d q h r lt s)
 
   -- the list comes to these items, and goes on behind them
   record Comes_list (reader : Reader) (ts : Tokens) (l : Found_list) : Type 0 where
@@ -455,7 +455,7 @@ module _ (last : ℕ) where
   claim_in n ts ws us t u false e es c d p i h k g lt = λ rest s.
       rw (assoc_in ts ws us rest t u, i.1, p (i.0 ∷ t ∷ (us ++ (u ∷ rest))) (rw i.2.1 refl), i.2.1) (in_read n false i.0.span.start us rest t u e es c d h k g lt)
   claim_in n ts ws us t u true e es c d p i h k g lt = λ rest s.
-      rw (assoc_in ts ws us rest t u, i.2, p (i.0 ∷ i.1 ∷ t ∷ (us ++ (u ∷ rest))) (rw i.3.1 refl), i.3.1, i.4.1) (in_read n true i.0.span.start us rest t u e es c d h k g lt)
+      rw (assoc_in ts ws us rest t u, i.2, p (i.0 ∷ i.1 ∷ t ∷ (us ++ (u ∷ rest))) (rw i.3.1 refl), i.3.1, deeper_at i.0.span.start c (omega arith), i.4.1) (in_read n true i.0.span.start us rest t u e es c d h k g lt)
 
   mutual
     complete : {n : ℕ} {l : Level} {ts : Tokens} {e : Tree} {d : ℕ} → Spells n l ts e d → Claim n l ts e d

@@ -14,7 +14,7 @@ use Rattle.sql_trees.specs.declared.expr.Operator.{Operator}
 use Rattle.sql_trees.specs.declared.expr.Truth.{Truth}
 use Rattle.sql_trees.specs.Trees.{Tree, Trees, Null, Flag, Number, Text, Column, Plus, Minus, Not, Binary, Is, In, Between, more, none}
 use Rattle.sql_expressions.specs.Build.{negated, push}
-use Rattle.sql_expressions.specs.Reading.{is_call, name_at, Found, Found_op, Found_list, Reader, leaf, deeper, join, next_op, comparison_op, expect, misplaced, is_open, is_close, is_and, is_not, is_is, truth_of, place_of, column_at, parens_at, prim_of, prim_at, sign_at, una_of, una_at, mul_at, add_at, cat_at, in_at, between_at, not_in_of, not_in_at, inn_of, inn_more, inn_at, cmp_more, cmp_at, is_node, is_of, is_tail, is_more, is_at, negation_at, not_at, and_at, or_at, at_level, inside, expr_at, list_at, list_more, ◌>>=◌}
+use Rattle.sql_expressions.specs.Reading.{is_call, name_at, Found, Found_op, Found_list, Reader, leaf, deeper, join, next_op, comparison_op, expect, misplaced, is_open, is_close, is_and, is_not, is_is, truth_of, place_of, column_at, parens_at, prim_of, prim_at, sign_at, una_of, una_at, mul_at, add_at, cat_at, in_at, between_at, not_in_of, not_in_at, inn_of, inn_more, inn_at, cmp_more, cmp_at, is_node, is_of, is_tail, is_from, is_more, is_at, negation_at, not_at, and_at, or_at, at_level, inside, expr_at, list_at, list_more, ◌>>=◌}
 use Rattle.sql_expressions.specs.Grammar.{Begins, IsWord, Level, OR, AND, NOT, IS, CMP, INN, CAT, ADD, MUL, UNA, PRIM, Spells, only, chain, negation, is, comparison, contained, between, minus, plus, parens, literal, Items, one, next, IsLeaf, number, text, column, yes, no, null, IsIn, IsBetween, IsIs}
 use Rattle.sql_expressions.proofs.Steps.{bind_ok, deeper_ok, expect_ok, next_op_ok, is_close_true, is_open_true, is_and_true, is_not_true, is_is_true}
 use Rattle.sql_expressions.proofs.Sound.{Took, took_up, Sound, joined_as, chain_sound, Took_list, list_sound}
@@ -159,9 +159,10 @@ module _ (last n : ℕ) (inside' : Opened → ℕ → Reader) where
     between_sound : (no' : Bool) (ws ts us : Tokens) (place : ℕ) (a f : Found) (k : Took (Spells n CAT) ts a) → a.rest ≡ ws ++ us → IsBetween no' ws → between_at last inside' no' place a.tree a.depth us ≡ Ok f → Took (Spells n INN) ts f
     unfolding between_at
     between_sound no' ws ts us place a f k w i e =
-        let s1 = bind_ok (deeper place a.depth) (λ here. cat_at last inside' us >>= λ low. expect last is_and low.rest >>= λ rest. cat_at last inside' rest >>= λ high. deeper place (max a.depth (max low.depth high.depth)) >>= λ d. Ok (record { tree = Between a.tree no' low.tree high.tree; depth = d; rest = high.rest })) f e in
-        let s2 = bind_ok (cat_at last inside' us) (λ low. expect last is_and low.rest >>= λ rest. cat_at last inside' rest >>= λ high. deeper place (max a.depth (max low.depth high.depth)) >>= λ d. Ok (record { tree = Between a.tree no' low.tree high.tree; depth = d; rest = high.rest })) f s1.2 in
-        let s3 = bind_ok (expect last is_and s2.0.rest) (λ rest. cat_at last inside' rest >>= λ high. deeper place (max a.depth (max s2.0.depth high.depth)) >>= λ d. Ok (record { tree = Between a.tree no' s2.0.tree high.tree; depth = d; rest = high.rest })) f s2.2 in
+        let s1 = bind_ok (deeper place a.depth) (λ here. cat_at last inside' us >>= λ low. deeper place (max a.depth low.depth) >>= λ there. expect last is_and low.rest >>= λ rest. cat_at last inside' rest >>= λ high. deeper place (max a.depth (max low.depth high.depth)) >>= λ d. Ok (record { tree = Between a.tree no' low.tree high.tree; depth = d; rest = high.rest })) f e in
+        let s2 = bind_ok (cat_at last inside' us) (λ low. deeper place (max a.depth low.depth) >>= λ there. expect last is_and low.rest >>= λ rest. cat_at last inside' rest >>= λ high. deeper place (max a.depth (max low.depth high.depth)) >>= λ d. Ok (record { tree = Between a.tree no' low.tree high.tree; depth = d; rest = high.rest })) f s1.2 in
+        let b2 = bind_ok (deeper place (max a.depth s2.0.depth)) (λ there. expect last is_and s2.0.rest >>= λ rest. cat_at last inside' rest >>= λ high. deeper place (max a.depth (max s2.0.depth high.depth)) >>= λ d. Ok (record { tree = Between a.tree no' s2.0.tree high.tree; depth = d; rest = high.rest })) f s2.2 in
+        let s3 = bind_ok (expect last is_and s2.0.rest) (λ rest. cat_at last inside' rest >>= λ high. deeper place (max a.depth (max s2.0.depth high.depth)) >>= λ d. Ok (record { tree = Between a.tree no' s2.0.tree high.tree; depth = d; rest = high.rest })) f b2.2 in
         let s4 = bind_ok (cat_at last inside' s3.0) (λ high. deeper place (max a.depth (max s2.0.depth high.depth)) >>= λ d. Ok (record { tree = Between a.tree no' s2.0.tree high.tree; depth = d; rest = high.rest })) f s3.2 in
         let s5 = bind_ok (deeper place (max a.depth (max s2.0.depth s4.0.depth))) (λ d. Ok (record { tree = Between a.tree no' s2.0.tree s4.0.tree; depth = d; rest = s4.0.rest })) f s4.2 in
         let low = cat_sound us s2.0 s2.1 in
@@ -190,7 +191,9 @@ module _ (last n : ℕ) (inside' : Opened → ℕ → Reader) where
     inn_of_sound : (x : Token) (ts us : Tokens) (t : At Token) (a f : Found) (k : Took (Spells n CAT) ts a) → t.tok ≡ x → a.rest ≡ t ∷ us → inn_of last inside' x t.span.start a us ≡ Ok f → Took (Spells n INN) ts f
     inn_of_sound (tok.word words.In s) ts us t a f k h w e = in_sound false (t ∷ []) ts us t.span.start a f k w (t, refl, (s, h)) e
     inn_of_sound (tok.word words.Between s) ts us t a f k h w e = between_sound false (t ∷ []) ts us t.span.start a f k w (t, refl, (s, h)) e
-    inn_of_sound (tok.word words.Not s) ts us t a f k h w e = not_in_at_sound ts us t t.span.start a f k (s, h) w e
+    inn_of_sound (tok.word words.Not s) ts us t a f k h w e =
+        let s1 = bind_ok (deeper t.span.start a.depth) (λ here. not_in_at last inside' t.span.start a us) f e in
+        not_in_at_sound ts us t t.span.start a f k (s, h) w s1.2
     inn_of_sound _ ts us t a f k h w e = up_inn ts a f k e
 
     inn_more_sound : (ts us : Tokens) (a f : Found) (k : Took (Spells n CAT) ts a) → a.rest ≡ us → inn_more last inside' a us ≡ Ok f → Took (Spells n INN) ts f
@@ -216,27 +219,31 @@ module _ (last n : ℕ) (inside' : Opened → ℕ → Reader) where
             let s2 = bind_ok (inn_at last inside' o.rest) (λ b. join o a b) f s1.2 in
             joined_as (Spells n INN) (Spells n INN) (Spells n CMP) comparison_op (λ fs bs t o a b c d p h q l. comparison fs bs t o a b c d p h q l) ts a s2.0 f o k g (inn_sound o.rest s2.0 s2.1) s2.2
 
-    is_node_sound : (o : Option Truth) (no' : Bool) (ws ts us : Tokens) (t : At Token) (place : ℕ) (a f : Found) (k : Took (Spells n CMP) ts a) → truth_of t.tok ≡ o → a.rest ≡ ws ++ t ∷ us → IsIs no' ws → is_node last o no' place a.tree a.depth t us ≡ Ok f → Took (Spells n IS) ts f
-    is_node_sound None no' ws ts us t place a f k h w i e = absurd cc
-    is_node_sound (Some truth) no' ws ts us t place a f k h w i e =
-        let s = bind_ok (deeper place a.depth) (λ d. Ok (record { tree = Is a.tree no' truth; depth = d; rest = us })) f e in
-        let d = deeper_ok place a.depth s.0 s.1 in
+    is_node_sound : (o : Option Truth) (no' : Bool) (ws ts us : Tokens) (t : At Token) (a f : Found) (k : Took (Spells n CMP) ts a) → a.depth < 64 → truth_of t.tok ≡ o → a.rest ≡ ws ++ t ∷ us → IsIs no' ws → is_node last o no' a.tree (a.depth + 1) t us ≡ Ok f → Took (Spells n IS) ts f
+    is_node_sound None no' ws ts us t a f k lt h w i e = absurd cc
+    is_node_sound (Some truth) no' ws ts us t a f k lt h w i e =
         let made : Found = record { tree = Is a.tree no' truth; depth = a.depth + 1; rest = us } in
-        let same : made ≡ f = ap (λ x. record { tree = Is a.tree no' truth; depth = x; rest = us }) (sym d.1) ∙ cc in
+        let same : made ≡ f = cc in
         subst (Took (Spells n IS) ts) same (extend (Spells n CMP) (Spells n IS) ts (ws ++ t ∷ []) a made k (w ∙ sym (append_assoc ws (t ∷ []) us))
-        (is k.front ws t no' truth a.tree a.depth k.spells i h d.0))
+        (is k.front ws t no' truth a.tree a.depth k.spells i h lt))
 
-    is_of_sound : (no' : Bool) (ws ts us : Tokens) (place : ℕ) (a f : Found) (k : Took (Spells n CMP) ts a) → a.rest ≡ ws ++ us → IsIs no' ws → is_of last no' place a.tree a.depth us ≡ Ok f → Took (Spells n IS) ts f
-    is_of_sound no' ws ts [] place a f k w i e = absurd cc
-    is_of_sound no' ws ts (t ∷ us) place a f k w i e = is_node_sound (truth_of t.tok) no' ws ts us t place a f k refl w i e
+    is_of_sound : (no' : Bool) (ws ts us : Tokens) (a f : Found) (k : Took (Spells n CMP) ts a) → a.depth < 64 → a.rest ≡ ws ++ us → IsIs no' ws → is_of last no' a.tree (a.depth + 1) us ≡ Ok f → Took (Spells n IS) ts f
+    is_of_sound no' ws ts [] a f k lt w i e = absurd cc
+    is_of_sound no' ws ts (t ∷ us) a f k lt w i e = is_node_sound (truth_of t.tok) no' ws ts us t a f k lt refl w i e
 
-    is_tail_sound : (ts us : Tokens) (t : At Token) (a f : Found) (k : Took (Spells n CMP) ts a) → IsWord words.Is t.tok → a.rest ≡ t ∷ us → is_tail last t.span.start a.tree a.depth us ≡ Ok f → Took (Spells n IS) ts f
-    is_tail_sound ts [] t a f k h w e = absurd cc
-    is_tail_sound ts (u ∷ us) t a f k h w e = of_test (is_not u.tok) refl e
+    is_tail_sound : (ts us : Tokens) (t : At Token) (a f : Found) (k : Took (Spells n CMP) ts a) → a.depth < 64 → IsWord words.Is t.tok → a.rest ≡ t ∷ us → is_tail last a.tree (a.depth + 1) us ≡ Ok f → Took (Spells n IS) ts f
+    is_tail_sound ts [] t a f k lt h w e = absurd cc
+    is_tail_sound ts (u ∷ us) t a f k lt h w e = of_test (is_not u.tok) refl e
       where
-        of_test : (b : Bool) → is_not u.tok ≡ b → (let r : Result Found SqlFault = if b then is_of last true t.span.start a.tree a.depth us else is_of last false t.span.start a.tree a.depth (u ∷ us) in r ≡ Ok f) → Took (Spells n IS) ts f
-        of_test true g q = is_of_sound true (t ∷ u ∷ []) ts us t.span.start a f k w (t, u, refl, h, is_not_true u.tok g) q
-        of_test false g q = is_of_sound false (t ∷ []) ts (u ∷ us) t.span.start a f k w (t, refl, h) q
+        of_test : (b : Bool) → is_not u.tok ≡ b → (let r : Result Found SqlFault = if b then is_of last true a.tree (a.depth + 1) us else is_of last false a.tree (a.depth + 1) (u ∷ us) in r ≡ Ok f) → Took (Spells n IS) ts f
+        of_test true g q = is_of_sound true (t ∷ u ∷ []) ts us a f k lt w (t, u, refl, h, is_not_true u.tok g) q
+        of_test false g q = is_of_sound false (t ∷ []) ts (u ∷ us) a f k lt w (t, refl, h) q
+
+    is_from_sound : (ts us : Tokens) (t : At Token) (a f : Found) (k : Took (Spells n CMP) ts a) → IsWord words.Is t.tok → a.rest ≡ t ∷ us → is_from last t.span.start a us ≡ Ok f → Took (Spells n IS) ts f
+    is_from_sound ts us t a f k h w e =
+        let s = bind_ok (deeper t.span.start a.depth) (λ d. is_tail last a.tree d us) f e in
+        let d = deeper_ok t.span.start a.depth s.0 s.1 in
+        is_tail_sound ts us t a f k d.0 h w (subst (λ x. is_tail last a.tree x us ≡ Ok f) d.1 s.2)
 
     up_is : (ts : Tokens) (a f : Found) → Took (Spells n CMP) ts a → (let r : Result Found SqlFault = Ok a in r ≡ Ok f) → Took (Spells n IS) ts f
     up_is ts a f k h = let same : a ≡ f = cc in subst (Took (Spells n IS) ts) same (took_up (Spells n CMP) (Spells n IS) (λ us x c p. only IS us x c p) ts a k)
@@ -245,8 +252,8 @@ module _ (last n : ℕ) (inside' : Opened → ℕ → Reader) where
     is_more_sound ts [] a f k w e = up_is ts a f k e
     is_more_sound ts (t ∷ us) a f k w e = of_test (is_is t.tok) refl e
       where
-        of_test : (b : Bool) → is_is t.tok ≡ b → (let r : Result Found SqlFault = if b then is_tail last t.span.start a.tree a.depth us else Ok a in r ≡ Ok f) → Took (Spells n IS) ts f
-        of_test true g q = is_tail_sound ts us t a f k (is_is_true t.tok g) w q
+        of_test : (b : Bool) → is_is t.tok ≡ b → (let r : Result Found SqlFault = if b then is_from last t.span.start a us else Ok a in r ≡ Ok f) → Took (Spells n IS) ts f
+        of_test true g q = is_from_sound ts us t a f k (is_is_true t.tok g) w q
         of_test false g q = up_is ts a f k q
 
     is_sound : Sound (Spells n IS) (is_at last inside')

@@ -5,7 +5,6 @@ pub mod Sound
 pub mod Levels
 pub mod Shortens
 pub mod Complete
-pub mod Lists
 pub mod Shapes
 pub mod Local
 pub mod Tails

@@ -14,7 +14,7 @@ use Rattle.sql_trees.specs.Tokens.{Token, Tokens, named}
 use Rattle.sql_trees.specs.Tokens as tok
 use Rattle.sql_trees.specs.Trees.{Tree, Null, Flag, Number, Text, Column, Plus, Not, Binary, Is, In, Between, undoubled}
 use Rattle.sql_expressions.specs.Build.{negated}
-use Rattle.sql_expressions.specs.Reading.{Found, Found_list, Reader, leaf, deeper, join, next_op, comparison_op, expect, is_open, is_close, is_and, is_not, is_is, is_call, truth_of, place_of, column_at, name_at, parens_at, prim_of, prim_at, sign_at, una_of, una_at, mul_at, add_at, cat_at, in_at, between_at, not_in_of, not_in_at, inn_of, inn_more, inn_at, cmp_more, cmp_at, is_node, is_of, is_tail, is_more, is_at, negation_at, not_at, and_at, or_at, at_level, inside, expr_at, list_at, ◌>>=◌}
+use Rattle.sql_expressions.specs.Reading.{Found, Found_list, Reader, leaf, deeper, join, next_op, comparison_op, expect, is_open, is_close, is_and, is_not, is_is, is_call, truth_of, place_of, column_at, name_at, parens_at, prim_of, prim_at, sign_at, una_of, una_at, mul_at, add_at, cat_at, in_at, between_at, not_in_of, not_in_at, inn_of, inn_more, inn_at, cmp_more, cmp_at, is_node, is_of, is_tail, is_from, is_more, is_at, negation_at, not_at, and_at, or_at, at_level, inside, expr_at, list_at, ◌>>=◌}
 use Rattle.sql_expressions.specs.Grammar.{IsWord, OR, AND, NOT, IS, CMP, INN, CAT, ADD, MUL, UNA, PRIM, IsLeaf, number, text, column, yes, no, null, IsIn, IsBetween, IsIs}
 use Rattle.sql_expressions.specs.Laws.{Spelled}
 use Rattle.sql_expressions.proofs.Steps.{is_open_true, is_close_true, is_and_true, is_not_true, is_is_true}
@@ -41,15 +41,15 @@ module _ (last : ℕ) where
   is_null : (neg : Bool) → AfterIs neg (some_token (tok.word words.Null []) ∷ [])
   is_null neg fs ws s i = is_spelled fs ws (some_token (tok.word words.Null [])) neg truths.Null s i refl
 
-  is_node_local : (neg : Bool) (place : ℕ) (e : Tree) (d : ℕ) (t : At Token) (us : Tokens) (o : Option Truth) → truth_of t.tok ≡ o → Local last seen (AfterIs neg) (is_of last neg place e d) (t ∷ us)
-  is_node_local neg place e d t us None h = stuck_at last seen (AfterIs neg) (is_of last neg place e d) t us (some_token (tok.word words.Null []) ∷ [], is_null neg) (λ vs. ap (λ o. is_node last o neg place e d t vs) h)
-  is_node_local neg place e d t us (Some w) h =
-      behind last (Nothing last) (AfterIs neg) (λ vs. is_node last (Some w) neg place e d t vs) (is_of last neg place e d) t us (λ xs n fs ws s i. rw n (is_spelled fs ws t neg w s i h)) (λ vs. ap (λ o. is_node last o neg place e d t vs) h)
-      (deeper_then last seen (Nothing last) place d (λ x vs. Ok (seen (Is e neg w, x) vs)) (λ vs. is_node last (Some w) neg place e d t vs) us (λ others. refl) (gives last seen (Nothing last) (Is e neg w, d + 1) us refl))
+  is_node_local : (neg : Bool) (e : Tree) (d : ℕ) (t : At Token) (us : Tokens) (o : Option Truth) → truth_of t.tok ≡ o → Local last seen (AfterIs neg) (is_of last neg e d) (t ∷ us)
+  is_node_local neg e d t us None h = stuck_at last seen (AfterIs neg) (is_of last neg e d) t us (some_token (tok.word words.Null []) ∷ [], is_null neg) (λ vs. ap (λ o. is_node last o neg e d t vs) h)
+  is_node_local neg e d t us (Some w) h =
+      behind last (Nothing last) (AfterIs neg) (λ vs. Ok (seen (Is e neg w, d) vs)) (is_of last neg e d) t us (λ xs n fs ws s i. rw n (is_spelled fs ws t neg w s i h)) (λ vs. ap (λ o. is_node last o neg e d t vs) h)
+      (gives last seen (Nothing last) (Is e neg w, d) us refl)
 
-  is_of_local : (neg : Bool) (place : ℕ) (e : Tree) (d : ℕ) (ts : Tokens) → Local last seen (AfterIs neg) (is_of last neg place e d) ts
-  is_of_local neg place e d [] = stuck_end last seen (AfterIs neg) (is_of last neg place e d) (some_token (tok.word words.Null []) ∷ [], is_null neg) refl
-  is_of_local neg place e d (t ∷ us) = is_node_local neg place e d t us (truth_of t.tok) refl
+  is_of_local : (neg : Bool) (e : Tree) (d : ℕ) (ts : Tokens) → Local last seen (AfterIs neg) (is_of last neg e d) ts
+  is_of_local neg e d [] = stuck_end last seen (AfterIs neg) (is_of last neg e d) (some_token (tok.word words.Null []) ∷ [], is_null neg) refl
+  is_of_local neg e d (t ∷ us) = is_node_local neg e d t us (truth_of t.tok) refl
 
   -- behind a first IS
   abbrev BehindIs : At Token → Tokens → Type 0
@@ -61,16 +61,18 @@ module _ (last : ℕ) where
   is_not_up : (w t : At Token) → IsWord words.Is w.tok → IsWord words.Not t.tok → (xs : Tokens) → AfterIs true xs → BehindIs w (t ∷ xs)
   is_not_up w t h g xs m = λ fs s. m fs (w ∷ t ∷ []) s (w, t, refl, h, g)
 
-  is_tail_token : (w : At Token) (e : Tree) (d : ℕ) (t : At Token) (us : Tokens) (b : Bool) → IsWord words.Is w.tok → is_not t.tok ≡ b → Local last seen (BehindIs w) (is_tail last w.span.start e d) (t ∷ us)
-  is_tail_token w e d t us true h g = behind last (AfterIs true) (BehindIs w) (is_of last true w.span.start e d) (is_tail last w.span.start e d) t us (is_not_up w t h (is_not_true t.tok g)) (λ vs. rw g refl) (is_of_local true w.span.start e d us)
-  is_tail_token w e d t us false h g = switch_at last (AfterIs false) (BehindIs w) (is_of last false w.span.start e d) (is_tail last w.span.start e d) t us (is_up w h) (λ vs. rw g refl) (is_of_local false w.span.start e d (t ∷ us))
+  is_tail_token : (w : At Token) (e : Tree) (d : ℕ) (t : At Token) (us : Tokens) (b : Bool) → IsWord words.Is w.tok → is_not t.tok ≡ b → Local last seen (BehindIs w) (is_tail last e d) (t ∷ us)
+  is_tail_token w e d t us true h g = behind last (AfterIs true) (BehindIs w) (is_of last true e d) (is_tail last e d) t us (is_not_up w t h (is_not_true t.tok g)) (λ vs. rw g refl) (is_of_local true e d us)
+  is_tail_token w e d t us false h g = switch_at last (AfterIs false) (BehindIs w) (is_of last false e d) (is_tail last e d) t us (is_up w h) (λ vs. rw g refl) (is_of_local false e d (t ∷ us))
 
-  is_tail_local : (w : At Token) (e : Tree) (d : ℕ) (ts : Tokens) → IsWord words.Is w.tok → Local last seen (BehindIs w) (is_tail last w.span.start e d) ts
-  is_tail_local w e d [] h = switch_end last (AfterIs false) (BehindIs w) (is_of last false w.span.start e d) (is_tail last w.span.start e d) (is_up w h) refl (is_of_local false w.span.start e d [])
+  is_tail_local : (w : At Token) (e : Tree) (d : ℕ) (ts : Tokens) → IsWord words.Is w.tok → Local last seen (BehindIs w) (is_tail last e d) ts
+  is_tail_local w e d [] h = switch_end last (AfterIs false) (BehindIs w) (is_of last false e d) (is_tail last e d) (is_up w h) refl (is_of_local false e d [])
   is_tail_local w e d (t ∷ us) h = is_tail_token w e d t us (is_not t.tok) h refl
 
   is_more_token : (v : Tree × ℕ) (t : At Token) (us : Tokens) (b : Bool) → is_is t.tok ≡ b → Local last seen (Tail CMP IS) (λ r. is_more last (seen v r) r) (t ∷ us)
-  is_more_token v t us true h = behind last (BehindIs t) (Tail CMP IS) (is_tail last t.span.start v.0 v.1) (λ r. is_more last (seen v r) r) t us (λ xs m. m) (λ vs. rw h refl) (is_tail_local t v.0 v.1 us (is_is_true t.tok h))
+  is_more_token v t us true h =
+      behind last (BehindIs t) (Tail CMP IS) (λ vs. deeper t.span.start v.1 >>= λ x. is_tail last v.0 x vs) (λ r. is_more last (seen v r) r) t us (λ xs m. m) (λ vs. rw h refl)
+      (deeper_then last seen (BehindIs t) t.span.start v.1 (λ x vs. is_tail last v.0 x vs) _ us (λ others. refl) (is_tail_local t v.0 (v.1 + 1) us (is_is_true t.tok h)))
   is_more_token v t us false h = at_token last seen (Tail CMP IS) (λ r. is_more last (seen v r) r) (Ok v) t us (λ vs. rw h refl) (no_tail IS)
 
   is_more_local : (v : Tree × ℕ) (ts : Tokens) → Local last seen (Tail CMP IS) (λ r. is_more last (seen v r) r) ts
@@ -202,7 +204,7 @@ module _ (last : ℕ) where
     abbrev high_end : Bool → ℕ → Tree → ℕ → Found → Found → Result Found SqlFault
     high_end neg place e d low high = deeper place (max d (max low.depth high.depth)) >>= λ x. Ok (record { tree = Between e neg low.tree high.tree; depth = x; rest = high.rest })
 
-    between_is : (neg : Bool) (place : ℕ) (e : Tree) (d : ℕ) (ts : Tokens) → between_at last inside' neg place e d ts ≡ (deeper place d >>= λ here. cat_at last inside' ts >>= λ low. expect last is_and low.rest >>= λ b. cat_at last inside' b >>= high_end neg place e d low)
+    between_is : (neg : Bool) (place : ℕ) (e : Tree) (d : ℕ) (ts : Tokens) → between_at last inside' neg place e d ts ≡ (deeper place d >>= λ here. cat_at last inside' ts >>= λ low. deeper place (max d low.depth) >>= λ there. expect last is_and low.rest >>= λ b. cat_at last inside' b >>= high_end neg place e d low)
     unfolding between_at
     between_is neg place e d ts = refl
 
@@ -212,9 +214,10 @@ module _ (last : ℕ) where
         (λ u is. checked last seen (Spelled CAT) (cat_at last inside') (high_end neg place e d (seen v [])) place (λ w. max d (max v.1 w.1)) (λ w x. (Between e neg v.0 w.0, x)) _ (λ w r. refl) (cat_local _))
 
     between_local : (neg : Bool) (place : ℕ) (e : Tree) (d : ℕ) (ts : Tokens) → Local last seen (AfterBetween neg) (between_at last inside' neg place e d) ts
-    between_local neg place e d ts = deeper_then last seen (AfterBetween neg) place d (λ x r. cat_at last inside' r >>= λ low. expect last is_and low.rest >>= λ b. cat_at last inside' b >>= high_end neg place e d low) (between_at last inside' neg place e d) ts (between_is neg place e d)
-        (in_turn last (Spelled CAT) AndHigh (AfterBetween neg) (cat_at last inside') (λ low. expect last is_and low.rest >>= λ b. cat_at last inside' b >>= high_end neg place e d low) ts and_number'
-        (λ xs ys s a fs ws p i. rw a.2 (between_spelled fs ws xs a.1 a.0 neg p i s a.3 a.4)) (cat_local ts) (λ v is. high_local neg place e d v _))
+    between_local neg place e d ts = deeper_then last seen (AfterBetween neg) place d (λ x r. cat_at last inside' r >>= λ low. deeper place (max d low.depth) >>= λ there. expect last is_and low.rest >>= λ b. cat_at last inside' b >>= high_end neg place e d low) (between_at last inside' neg place e d) ts (between_is neg place e d)
+        (in_turn last (Spelled CAT) AndHigh (AfterBetween neg) (cat_at last inside') (λ low. deeper place (max d low.depth) >>= λ there. expect last is_and low.rest >>= λ b. cat_at last inside' b >>= high_end neg place e d low) ts and_number'
+        (λ xs ys s a fs ws p i. rw a.2 (between_spelled fs ws xs a.1 a.0 neg p i s a.3 a.4)) (cat_local ts)
+        (λ v is. deeper_then last seen AndHigh place (max d v.1) (λ x r. expect last is_and r >>= λ b. cat_at last inside' b >>= high_end neg place e d (seen v [])) _ _ (λ others. refl) (high_local neg place e d v _)))
 
     -- ---- IN and BETWEEN, with NOT or without
 
@@ -247,7 +250,9 @@ module _ (last : ℕ) where
     inn_token : (x : Token) (v : Tree × ℕ) (t : At Token) (us : Tokens) → t.tok ≡ x → Local last seen (Tail CAT INN) (λ r. inn_more last inside' (seen v r) r) (t ∷ us)
     inn_token (tok.word words.In s) v t us h = behind last (AfterIn false) (Tail CAT INN) (in_at last inside' false t.span.start v.0 v.1) (λ r. inn_more last inside' (seen v r) r) t us (λ xs m fs p. m fs (t ∷ []) p (t, refl, (s, h))) (λ vs. ap (λ y. inn_of last inside' y t.span.start (seen v (t ∷ vs)) vs) h) (in_local false t.span.start v.0 v.1 us)
     inn_token (tok.word words.Between s) v t us h = behind last (AfterBetween false) (Tail CAT INN) (between_at last inside' false t.span.start v.0 v.1) (λ r. inn_more last inside' (seen v r) r) t us (λ xs m fs p. m fs (t ∷ []) p (t, refl, (s, h))) (λ vs. ap (λ y. inn_of last inside' y t.span.start (seen v (t ∷ vs)) vs) h) (between_local false t.span.start v.0 v.1 us)
-    inn_token (tok.word words.Not s) v t us h = behind last (BehindNot t) (Tail CAT INN) (λ r. not_in_at last inside' t.span.start (seen v []) r) (λ r. inn_more last inside' (seen v r) r) t us (λ xs m. m) (λ vs. ap (λ y. inn_of last inside' y t.span.start (seen v (t ∷ vs)) vs) h ∙ not_in_same t.span.start v (t ∷ vs) vs) (not_in_local t v us (s, h))
+    inn_token (tok.word words.Not s) v t us h =
+        behind last (BehindNot t) (Tail CAT INN) (λ vs. deeper t.span.start v.1 >>= λ here. not_in_at last inside' t.span.start (seen v []) vs) (λ r. inn_more last inside' (seen v r) r) t us (λ xs m. m) (λ vs. ap (λ y. inn_of last inside' y t.span.start (seen v (t ∷ vs)) vs) h ∙ ap (λ (r : Result Found SqlFault). deeper t.span.start v.1 >>= λ here. r) (not_in_same t.span.start v (t ∷ vs) vs))
+        (deeper_then last seen (BehindNot t) t.span.start v.1 (λ x vs. not_in_at last inside' t.span.start (seen v []) vs) _ us (λ others. refl) (not_in_local t v us (s, h)))
     inn_token x v t us h = at_token last seen (Tail CAT INN) (λ r. inn_more last inside' (seen v r) r) (Ok v) t us (λ vs. ap (λ y. inn_of last inside' y t.span.start (seen v (t ∷ vs)) vs) h) (no_tail INN)
 
     inn_more_local : (v : Tree × ℕ) (ts : Tokens) → Local last seen (Tail CAT INN) (λ r. inn_more last inside' (seen v r) r) ts

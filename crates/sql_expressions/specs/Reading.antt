@@ -1,10 +1,7 @@
 -- Reading an expression from left to right, with the first fault that is met.
 use Rattle.std.specs.Prelude.{◌≡◌, ℕ, zero, suc, ◌+◌, max, Bool, true, false, List, [], ◌∷◌, length, Option, Some, None, Result, Ok, Err, nat_lt, if◌then◌else◌}
 use Rattle.iso_lexer.specs.declared.token.At.{At}
-use Rattle.iso_lexer.specs.declared.sql_token.SqlSign.{SqlSign}
 use Rattle.iso_lexer.specs.declared.sql_token.SqlSign.TheVariants as signs
-use Rattle.iso_lexer.specs.contracts.sql_token.SqlSign as sql_sign
-use denote.Enum.Bare.{sameb}
 use Rattle.sql_trees.specs.declared.fault.SqlFault.{SqlFault}
 use Rattle.sql_trees.specs.declared.fault.SqlFault.TheVariants.{Memory, Syntax, LeftOut, TooDeep}
 use Rattle.sql_trees.specs.declared.word.Word.{Word}
@@ -138,11 +135,6 @@ abbrev pub is_word : Word → Token → Bool
 is_word w (tok.word v s) = same_word v w
 is_word w _ = false
 
--- the token is this sign
-abbrev pub is_sign : SqlSign → Token → Bool
-is_sign s (tok.sign t) = sameb sql_sign.the_type t s
-is_sign s _ = false
-
 abbrev pub truth_of : Token → Option Truth
 truth_of (tok.word words.Null s) = Some truth.Null
 truth_of (tok.word words.True s) = Some truth.True
@@ -260,32 +252,28 @@ module _ (last : ℕ) where
   column_first [] = Err (misplaced [])
   column_first (t ∷ ts) = name_at (named t.tok) t ts
 
-  -- a name, where it stands, and the tokens after it
-  abbrev pub name_of : Option (List ℕ) → At Token → Tokens → Result (List ℕ × ℕ × Tokens) SqlFault
-  name_of None t ts = Err (misplaced (t ∷ ts))
-  name_of (Some n) t ts = Ok (n, t.span.start, ts)
+  -- what an IS asks for, whose node has this depth
+  abbrev pub is_node : Option Truth → Bool → Tree → ℕ → At Token → Tokens → Result Found SqlFault
+  is_node None negated e depth t ts = Err (misplaced (t ∷ ts))
+  is_node (Some w) negated e depth t ts = Ok (record { tree = Is e negated w; depth = depth; rest = ts })
 
-  abbrev pub name_next : Tokens → Result (List ℕ × ℕ × Tokens) SqlFault
-  name_next [] = Err (misplaced [])
-  name_next (t ∷ ts) = name_of (named t.tok) t ts
+  abbrev pub is_of : Bool → Tree → ℕ → Tokens → Result Found SqlFault
+  is_of negated e depth [] = Err (misplaced [])
+  is_of negated e depth (t ∷ ts) = is_node (truth_of t.tok) negated e depth t ts
 
-  abbrev pub is_node : Option Truth → Bool → ℕ → Tree → ℕ → At Token → Tokens → Result Found SqlFault
-  is_node None negated place e depth t ts = Err (misplaced (t ∷ ts))
-  is_node (Some w) negated place e depth t ts = do
-    d ← deeper place depth
-    Ok (record { tree = Is e negated w; depth = d; rest = ts })
+  abbrev pub is_tail : Tree → ℕ → Tokens → Result Found SqlFault
+  is_tail e depth [] = is_of false e depth []
+  is_tail e depth (t ∷ ts) = if is_not t.tok then is_of true e depth ts else is_of false e depth (t ∷ ts)
 
-  abbrev pub is_of : Bool → ℕ → Tree → ℕ → Tokens → Result Found SqlFault
-  is_of negated place e depth [] = Err (misplaced [])
-  is_of negated place e depth (t ∷ ts) = is_node (truth_of t.tok) negated place e depth t ts
-
-  abbrev pub is_tail : ℕ → Tree → ℕ → Tokens → Result Found SqlFault
-  is_tail place e depth [] = is_of false place e depth []
-  is_tail place e depth (t ∷ ts) = if is_not t.tok then is_of true place e depth ts else is_of false place e depth (t ∷ ts)
+  -- behind an IS at this place, which makes the node, whatever stands behind it
+  abbrev pub is_from : ℕ → Found → Tokens → Result Found SqlFault
+  is_from place a ts = do
+    d ← deeper place a.depth
+    is_tail a.tree d ts
 
   abbrev pub is_more : Found → Tokens → Result Found SqlFault
   is_more a [] = Ok a
-  is_more a (t ∷ ts) = if is_is t.tok then is_tail t.span.start a.tree a.depth ts else Ok a
+  is_more a (t ∷ ts) = if is_is t.tok then is_from t.span.start a ts else Ok a
 
   module _ (inside : Opened → ℕ → Reader) where
     unfoldable pub parens_at : ℕ → Reader
@@ -346,6 +334,7 @@ module _ (last : ℕ) where
     between_at negated place left depth ts = do
       here ← deeper place depth
       low ← cat_at ts
+      there ← deeper place (max depth low.depth)
       behind ← expect is_and low.rest
       high ← cat_at behind
       d ← deeper place (max depth (max low.depth high.depth))
@@ -361,10 +350,16 @@ module _ (last : ℕ) where
     not_in_at place a [] = Err (misplaced [])
     not_in_at place a (t ∷ ts) = not_in_of t.tok place a t ts
 
+    -- behind a NOT at this place, which makes the node, whatever stands behind it
+    abbrev pub not_in_from : ℕ → Found → Tokens → Result Found SqlFault
+    not_in_from place a ts = do
+      here ← deeper place a.depth
+      not_in_at place a ts
+
     abbrev pub inn_of : Token → ℕ → Found → Tokens → Result Found SqlFault
     inn_of (tok.word words.In s) place a ts = in_at false place a.tree a.depth ts
     inn_of (tok.word words.Between s) place a ts = between_at false place a.tree a.depth ts
-    inn_of (tok.word words.Not s) place a ts = not_in_at place a ts
+    inn_of (tok.word words.Not s) place a ts = not_in_from place a ts
     inn_of _ place a ts = Ok a
 
     abbrev pub inn_more : Found → Tokens → Result Found SqlFault

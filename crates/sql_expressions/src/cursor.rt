@@ -1,12 +1,11 @@
 //! Where reading stands in the tokens.
 
 ghost use Rattle.std.specs.Prelude.{◌≡◌, option_map};
-ghost use Rattle.sql_trees.specs.Statements.{name_of};
 ghost use Rattle.sql_trees.specs.Tokens.{tok_views};
-ghost use Rattle.sql_expressions.specs.Reading.{Gives, after, after_comma, expect, is_and, is_close, is_open, is_sign, is_word, misplaced, name_next, place_of};
+ghost use Rattle.sql_expressions.specs.Reading.{Gives, after_comma, expect, is_and, is_close, is_open, misplaced, place_of};
 
 use crate::operator::is_left_out;
-use iso_lexer::{At, Name, SqlSign};
+use iso_lexer::{At, SqlSign};
 use sql_trees::{SqlFault, Tok, Word};
 use std::alloc::Global;
 
@@ -36,77 +35,7 @@ pub fn after_comma<'t, 'a>(tokens: Tokens<'t, 'a>) -> Option<Tokens<'t, 'a>>
     }
 }
 
-/// The tokens after this keyword, if it stands next.
-pub fn after_word<'t, 'a>(word: Word, tokens: Tokens<'t, 'a>) -> Option<Tokens<'t, 'a>>
-    ensures { option_map (λ rest. tok_views rest.now) result ≡ after (is_word word) (tok_views tokens.now) }
-{
-    let [token, rest @ ..] = tokens else {
-        return None;
-    };
-    match token.tok {
-        Tok::Word(next, _) if next.is(word) => Some(rest),
-        _ => None,
-    }
-}
-
-/// The tokens after this sign, if it stands next.
-pub fn after_sign<'t, 'a>(sign: SqlSign, tokens: Tokens<'t, 'a>) -> Option<Tokens<'t, 'a>>
-    ensures { option_map (λ rest. tok_views rest.now) result ≡ after (is_sign sign) (tok_views tokens.now) }
-{
-    let [token, rest @ ..] = tokens else {
-        return None;
-    };
-    match token.tok {
-        Tok::Sign(next) if next == sign => Some(rest),
-        _ => None,
-    }
-}
-
 impl Parser {
-    /// The tokens behind this keyword, which has to stand next.
-    pub fn word<'t, 'a>(
-        self,
-        word: Word,
-        tokens: Tokens<'t, 'a>,
-    ) -> Result<Tokens<'t, 'a>, SqlFault>
-        ensures { Gives (λ rest. tok_views rest.now) result (expect self.text_len (is_word word) (tok_views tokens.now)) }
-    {
-        match after_word(word, tokens) {
-            Some(rest) => Ok(rest),
-            None => Err(self.misplaced(tokens)),
-        }
-    }
-
-    /// The tokens behind this sign, which has to stand next.
-    pub fn sign<'t, 'a>(
-        self,
-        sign: SqlSign,
-        tokens: Tokens<'t, 'a>,
-    ) -> Result<Tokens<'t, 'a>, SqlFault>
-        ensures { Gives (λ rest. tok_views rest.now) result (expect self.text_len (is_sign sign) (tok_views tokens.now)) }
-    {
-        match after_sign(sign, tokens) {
-            Some(rest) => Ok(rest),
-            None => Err(self.misplaced(tokens)),
-        }
-    }
-
-    /// The name that has to stand next, where it stands, and the tokens behind it.
-    pub fn name<'t, 'a>(
-        self,
-        tokens: Tokens<'t, 'a>,
-    ) -> Result<(Name<'a>, usize, Tokens<'t, 'a>), SqlFault>
-        ensures { Gives (λ x. (name_of x.0, x.1, tok_views x.2.now)) result (name_next self.text_len (tok_views tokens.now)) }
-    {
-        let [token, rest @ ..] = tokens else {
-            return Err(self.misplaced(tokens));
-        };
-        match token.tok.name() {
-            Some(name) => Ok((name, token.span.start, rest)),
-            None => Err(self.misplaced(tokens)),
-        }
-    }
-
     /// The fault at the first token, which no rule allows.
     pub fn misplaced(self, tokens: &[At<Tok>]) -> SqlFault
         ensures { result ≡ misplaced self.text_len (tok_views tokens.now) }

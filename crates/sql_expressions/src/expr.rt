@@ -6,7 +6,7 @@ ghost use Rattle.sql_trees.specs.Tokens.{Tokens, tok_view, tok_views, tok_at};
 ghost use Rattle.sql_trees.specs.Trees.{Tree, tree_of};
 ghost use Rattle.sql_expressions.specs.Build.{negated};
 ghost use Rattle.sql_expressions.specs.Grammar.{Begins, Ends, Spells, OR};
-ghost use Rattle.sql_expressions.specs.Reading.{Gives, Found_op, Found_list, found, found_list, deeper, join, comparison_op, chain_op, next_op, column_first, prim_at, una_at, chain_at, operand_at, in_at, between_at, not_in_at, inn_at, cmp_at, is_of, is_tail, is_more, is_at, not_at, inside, list_at, expr_at};
+ghost use Rattle.sql_expressions.specs.Reading.{Gives, Found_op, Found_list, found, found_list, deeper, join, comparison_op, chain_op, next_op, column_first, prim_at, una_at, chain_at, operand_at, in_at, between_at, not_in_from, inn_at, cmp_at, is_of, is_tail, is_more, is_at, not_at, inside, list_at, expr_at};
 
 use crate::cursor::{Parser, Tokens, after_comma};
 use crate::level::{Chain, Opened};
@@ -135,15 +135,15 @@ impl Parser {
         }
     }
 
-    // What an `IS` at this place asks for.
+    // What an `IS` asks for, whose node has this depth.
     fn is_test<'t, 'a>(
         self,
         negated: bool,
-        place: usize,
-        left: Parsed<'a>,
+        operand: Expr<'a>,
+        depth: usize,
         tokens: Tokens<'t, 'a>,
     ) -> Read<'t, 'a>
-        ensures { Gives (λ x. found x.0 x.1.now) result (is_of self.text_len negated place (tree_of left.entry.expr) left.entry.depth (tok_views tokens.now)) }
+        ensures { Gives (λ x. found x.0 x.1.now) result (is_of self.text_len negated (tree_of operand.entry) depth (tok_views tokens.now)) }
     {
         let [token, rest @ ..] = tokens else {
             return Err(self.misplaced(tokens));
@@ -151,14 +151,18 @@ impl Parser {
         let Some(truth) = truth_of(token.tok) else {
             return Err(self.misplaced(tokens));
         };
-        let depth = deeper(place, left.depth)?;
-        let expr = Expr::Is(Box::new(self.alloc, left.expr)?, negated, truth);
+        let expr = Expr::Is(Box::new(self.alloc, operand)?, negated, truth);
         Ok((Parsed { expr, depth }, rest))
     }
 
-    // What an `IS` or `IS NOT` at this place asks for.
-    fn is_tail<'t, 'a>(self, place: usize, left: Parsed<'a>, tokens: Tokens<'t, 'a>) -> Read<'t, 'a>
-        ensures { Gives (λ x. found x.0 x.1.now) result (is_tail self.text_len place (tree_of left.entry.expr) left.entry.depth (tok_views tokens.now)) }
+    // What an `IS` or `IS NOT` asks for, whose node has this depth.
+    fn is_tail<'t, 'a>(
+        self,
+        operand: Expr<'a>,
+        depth: usize,
+        tokens: Tokens<'t, 'a>,
+    ) -> Read<'t, 'a>
+        ensures { Gives (λ x. found x.0 x.1.now) result (is_tail self.text_len (tree_of operand.entry) depth (tok_views tokens.now)) }
     {
         match tokens {
             [
@@ -167,8 +171,8 @@ impl Parser {
                     ..
                 },
                 rest @ ..,
-            ] => self.is_test(true, place, left, rest),
-            _ => self.is_test(false, place, left, tokens),
+            ] => self.is_test(true, operand, depth, rest),
+            _ => self.is_test(false, operand, depth, tokens),
         }
     }
 
@@ -183,7 +187,10 @@ impl Parser {
                     span,
                 },
                 rest @ ..,
-            ] => self.is_tail(span.start, left, rest),
+            ] => {
+                let depth = deeper(span.start, left.depth)?;
+                self.is_tail(left.expr, depth, rest)
+            }
             _ => Ok((left, tokens)),
         }
     }
@@ -349,8 +356,9 @@ impl Parser {
         room: usize,
         tokens: Tokens<'t, 'a>,
     ) -> Read<'t, 'a>
-        ensures { Gives (λ x. found x.0 x.1.now) result (not_in_at self.text_len (inside self.text_len room) place (found left.entry tokens.now) (tok_views tokens.now)) }
+        ensures { Gives (λ x. found x.0 x.1.now) result (not_in_from self.text_len (inside self.text_len room) place (found left.entry tokens.now) (tok_views tokens.now)) }
     {
+        deeper(place, left.depth)?;
         let [token, after @ ..] = tokens else {
             return Err(self.misplaced(tokens));
         };
@@ -375,6 +383,7 @@ impl Parser {
     {
         deeper(place, left.depth)?;
         let (low, rest) = self.chain(Chain::Concat, room, tokens)?;
+        deeper(place, left.depth.max(low.depth))?;
         let rest = self.and(rest)?;
         let (high, rest) = self.chain(Chain::Concat, room, rest)?;
         let depth = deeper(place, left.depth.max(low.depth.max(high.depth)))?;

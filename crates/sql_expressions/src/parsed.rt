@@ -1,7 +1,7 @@
 use sql_trees::Expr;
 
 /// An expression, and its depth as it was written.
-#[derive(Debug, Drop)]
+#[derive(Drop)]
 pub struct Parsed<'a> {
     pub expr: Expr<'a>,
     pub depth: usize,

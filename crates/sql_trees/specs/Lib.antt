@@ -1,5 +1,6 @@
 pub mod Trees
 pub mod Statements
+pub mod Keywords
 pub mod Words
 pub mod Tokens
 pub mod Faults

@@ -1,11 +1,11 @@
 -- Keywords, and what they are to the grammar.
-use Rattle.std.specs.Prelude.{ℕ, Bool, true, false, List, [], ◌∷◌, map, if◌then◌else◌}
+use Rattle.std.specs.Prelude.{ℕ, Bool, true, false, List, [], ◌∷◌, map, filter, if◌then◌else◌}
 use denote.Enum.Bare.{sameb}
 use Rattle.std.specs.Str.{str_eq_ignore_ascii_case}
 use Rattle.sql_trees.specs.declared.word.Word.{Word}
 use Rattle.sql_trees.specs.declared.word.Word.TheVariants as words
 use Rattle.sql_trees.specs.contracts.word.Word.{the_type}
-use Rattle.sql_trees.specs.declared.word.TheConstants.{KEYWORDS}
+use Rattle.sql_trees.specs.Keywords.{keywords}
 
 -- the first word of a table that is spelled so, in any case of its letters (PostgreSQL manual, 4.1.1)
 abbrev pub first_spelled : List (List ℕ × Word) → List ℕ → Word
@@ -14,9 +14,9 @@ first_spelled (k ∷ ks) text = if str_eq_ignore_ascii_case k.0 text then k.1 el
 
 -- the keyword that a word is
 unfoldable pub word_of : List ℕ → Word
-word_of = first_spelled (map (λ k. (k.0.now, k.1)) KEYWORDS)
+word_of = first_spelled keywords
 
--- a word that is no name, unless it stands in quotes (PostgreSQL manual, appendix C)
+-- a word that is no name, unless it stands in quotes
 abbrev pub is_reserved : Word → Bool
 is_reserved words.Excluded = true
 is_reserved words.And = true
@@ -53,6 +53,10 @@ is_left_out words.Key = true
 is_left_out words.Read = true
 is_left_out words.Select = true
 is_left_out _ = false
+
+-- the words of this class, as they are spelled
+abbrev pub spellings : (Word → Bool) → List (List ℕ)
+spellings class = map (λ k. k.0) (filter (λ k. class k.1) keywords)
 
 -- the name of an aggregate
 abbrev pub is_aggregate : Word → Bool

@@ -2,7 +2,7 @@
 
 use iso_lexer::Name;
 
-#[derive(Clone, Copy, Debug, PartialEq, Eq)]
+#[derive(Clone, Copy, PartialEq, Eq)]
 pub enum Operator {
     Or,
     And,
@@ -21,7 +21,7 @@ pub enum Operator {
 }
 
 /// What an `IS` asks for.
-#[derive(Clone, Copy, Debug, PartialEq, Eq)]
+#[derive(Clone, Copy, PartialEq, Eq)]
 pub enum Truth {
     Null,
     True,
@@ -30,7 +30,7 @@ pub enum Truth {
 }
 
 /// An expression. Its names and strings are slices of the text, as they are written.
-#[derive(Debug, Drop)]
+#[derive(Drop)]
 pub enum Expr<'a> {
     Null,
     Bool(bool),
@@ -51,7 +51,7 @@ pub enum Expr<'a> {
     Between(Box<Expr<'a>>, bool, Box<Expr<'a>>, Box<Expr<'a>>),
 }
 
-#[derive(Clone, Copy, Debug, PartialEq, Eq)]
+#[derive(Clone, Copy, PartialEq, Eq)]
 pub enum AggKind {
     Count,
     Sum,
@@ -60,7 +60,7 @@ pub enum AggKind {
 }
 
 /// An aggregate.
-#[derive(Debug, Drop)]
+#[derive(Drop)]
 pub enum Agg<'a> {
     /// `count(*)`
     CountRows,

@@ -12,7 +12,7 @@ pub enum Kind {
 }
 
 /// How the values of one key are sorted.
-#[derive(Clone, Copy, Debug, PartialEq, Eq)]
+#[derive(Clone, Copy, PartialEq, Eq)]
 pub struct Dir {
     pub desc: bool,
     pub nulls_first: bool,

@@ -20,49 +20,49 @@ pub struct Column<'a> {
 }
 
 /// A key of CREATE TABLE: its columns, by their places.
-#[derive(Debug, Drop)]
+#[derive(Drop)]
 pub struct Key {
     pub primary: bool,
     pub columns: Vec<u32>,
 }
 
 /// CREATE TABLE. The keys stand in their declared order: the primary key first, then the others in the order of the text.
-#[derive(Debug, Drop)]
+#[derive(Drop)]
 pub struct CreateTable<'a> {
     pub name: Name<'a>,
     pub columns: Vec<Column<'a>>,
     pub keys: Vec<Key>,
 }
 
-#[derive(Debug, Drop)]
+#[derive(Drop)]
 pub struct DropTable<'a> {
     pub if_exists: bool,
     pub names: Vec<Name<'a>>,
 }
 
 /// INSERT. Without a list of columns the values go to the first columns of the table.
-#[derive(Debug, Drop)]
+#[derive(Drop)]
 pub struct Insert<'a> {
     pub table: Name<'a>,
     pub columns: Option<Vec<Name<'a>>>,
     pub rows: Vec<Vec<Expr<'a>>>,
 }
 
-#[derive(Debug, Drop)]
+#[derive(Drop)]
 pub struct Update<'a> {
     pub table: Name<'a>,
     pub sets: Vec<(Name<'a>, Expr<'a>)>,
     pub filter: Option<Expr<'a>>,
 }
 
-#[derive(Debug, Drop)]
+#[derive(Drop)]
 pub struct Delete<'a> {
     pub table: Name<'a>,
     pub filter: Option<Expr<'a>>,
 }
 
 /// An item of a SELECT, with the name given to it.
-#[derive(Debug, Drop)]
+#[derive(Drop)]
 pub enum Item<'a> {
     /// `*`
     All,
@@ -70,20 +70,20 @@ pub enum Item<'a> {
     Agg(Agg<'a>, Option<Name<'a>>),
 }
 
-#[derive(Debug, Drop)]
+#[derive(Drop)]
 pub struct OrderKey<'a> {
     pub expr: Expr<'a>,
     pub dir: Dir,
 }
 
 /// What a SELECT locks its rows with.
-#[derive(Clone, Copy, Debug, PartialEq, Eq)]
+#[derive(Clone, Copy, PartialEq, Eq)]
 pub enum Lock {
     Share,
     Update,
 }
 
-#[derive(Debug, Drop)]
+#[derive(Drop)]
 pub struct Select<'a> {
     pub items: Vec<Item<'a>>,
     pub table: Option<Name<'a>>,
@@ -93,7 +93,7 @@ pub struct Select<'a> {
 }
 
 /// A statement.
-#[derive(Debug, Drop)]
+#[derive(Drop)]
 pub enum Stmt<'a> {
     /// BEGIN or START TRANSACTION
     Begin(Option<Level>),

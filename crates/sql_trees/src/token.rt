@@ -10,7 +10,7 @@ use iso_lexer::{At, Name, SqlSign, SqlTok};
 use std::alloc::{AllocError, Global};
 
 /// A token of SQL text, over slices of the text.
-#[derive(Clone, Copy, Debug)]
+#[derive(Clone, Copy)]
 pub enum Tok<'a> {
     /// An unquoted word as it is spelled, and the keyword that it is.
     Word(Word, &'a str),

@@ -2,10 +2,11 @@
 
 ghost use Rattle.std.specs.Prelude.{◌≡◌, ◌↔◌, IsTrue, map};
 ghost use Rattle.std.specs.Str.{str_eq_ignore_ascii_case};
-ghost use Rattle.sql_trees.specs.Words.{first_spelled, word_of, same_word, is_reserved, is_left_out, is_aggregate};
+ghost use Rattle.sql_trees.specs.Keywords.{reserved_words, left_out_words};
+ghost use Rattle.sql_trees.specs.Words.{first_spelled, word_of, same_word, spellings, is_reserved, is_left_out, is_aggregate};
 
 /// What a word is to the grammar. Synonyms are one.
-#[derive(Clone, Copy, Debug, PartialEq, Eq)]
+#[derive(Clone, Copy, PartialEq, Eq)]
 pub enum Word {
     /// No keyword.
     Plain,
@@ -78,8 +79,7 @@ pub enum Word {
     Work,
 }
 
-/// The spellings of keywords, each once.
-pub const KEYWORDS: [(&str, Word); 127] = [
+const KEYWORDS: [(&str, Word); 127] = [
     ("abort", Word::Abort),
     ("all", Word::Excluded),
     ("alter", Word::LeftOut),
@@ -228,12 +228,17 @@ fn first_spelled(mut table: &[(&str, Word)], text: &str) -> Word
 }
 
 /// The keyword that is spelled so, in any case.
-#[tactic(auto, unfolding(crate::specs::Words::word_of))]
 pub fn word_of(text: &str) -> Word
     ensures { result ≡ word_of text.now }
 {
     first_spelled(&KEYWORDS, text)
 }
+
+/// Which words are in each class.
+pub fn words_are_classed()
+    ensures reserved { spellings is_reserved ≡ reserved_words }
+    ensures left_out { spellings is_left_out ≡ left_out_words }
+{}
 
 impl Word {
     /// Whether the word is no name, unless it stands in quotes.
