@@ -1,0 +1,5 @@
+pub mod Paths
+pub mod Reaching
+pub mod Against
+pub mod Waiting
+pub mod Holding
