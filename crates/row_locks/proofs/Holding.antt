@@ -16,7 +16,7 @@ use Rattle.row_locks.specs.declared.held.Strength.TheVariants.{Share, Exclusive}
 use Rattle.row_locks.specs.declared.held.Held.{Held}
 use Rattle.row_locks.specs.Members.{has, same_tx}
 use Rattle.row_locks.specs.Held.{conflicts, is_against, holders_against, same_strength, same_lock, holds, IsReleased, is_open_fate, is_open, lock_of_write, held_locks}
-use Rattle.row_locks.specs.Laws.{SameButFor, BlockersHoldInConflict, DoingAddsOnlyTheDoer, EndsLetGo, BeginningsHoldNothing}
+use Rattle.row_locks.specs.Laws.{SameLocks, SameButFor, BlockersHoldInConflict, BlockersByWhatIsHeld, DoingAddsOnlyTheDoer, EndsLetGo, BeginningsHoldNothing}
 use Rattle.row_locks.proofs.Reaching.{or_cases, or_left, or_right, and_both, both_and, same_is, is_same}
 use Rattle.row_locks.proofs.Waiting.{bool_is}
 
@@ -102,10 +102,22 @@ blockers_hold held row tx s u = (
       some_against held row tx s h k.1.1 (both_and ((row.0 == row.0) && not (same_tx u tx)) (conflicts k.1.0 s) (both_and (row.0 == row.0) (not (same_tx u tx)) (eq-eqb row.0 row.0 refl) (ap not (other_tx u tx k.0))) k.1.2),
 )
 
-both_ways : (a b : Bool) → (a ≡ true → b ≡ true) → (b ≡ true → a ≡ true) → a ≡ b
+pub both_ways : (a b : Bool) → (a ≡ true → b ≡ true) → (b ≡ true → a ≡ true) → a ≡ b
 both_ways true b to from = sym (to refl)
 both_ways false true to from = from refl
 both_ways false false to from = refl
+
+-- whom the locks of others block, they block where the same are held
+still_against : (held others : List Held) → SameLocks held others → (row : RowId) (tx : TxId) (s : Strength) (u : TxId) → has (holders_against held row tx s) u ≡ true → has (holders_against others row tx s) u ≡ true
+still_against held others same row tx s u e =
+    let k = (blockers_hold held row tx s u).0 e in
+    (blockers_hold others row tx s u).1 (k.0, (k.1.0, sym (same (record { row = row; tx = u; strength = k.1.0 })) ∙ k.1.1, k.1.2))
+
+pub by_what_is_held : BlockersByWhatIsHeld
+by_what_is_held held others same row tx s u =
+    both_ways (has (holders_against held row tx s) u) (has (holders_against others row tx s) u)
+    (still_against held others same row tx s u)
+    (still_against others held (λ h. sym (same h)) row tx s u)
 
 -- where the others hold the same, they block the same
 less_against : (x : TxId) (old new : List Held) → SameButFor x old new → (row : RowId) (tx : TxId) (s : Strength) (u : TxId) → (u ≡ x → ⊥) → has (holders_against old row tx s) u ≡ true → has (holders_against new row tx s) u ≡ true

@@ -3,3 +3,4 @@ pub mod Reaching
 pub mod Against
 pub mod Waiting
 pub mod Holding
+pub mod Pairs

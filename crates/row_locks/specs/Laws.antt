@@ -19,6 +19,15 @@ BlockersHoldInConflict = (held : List Held) (row : RowId) (tx : TxId) (strength 
     → IsTrue (has (holders_against held row tx strength) u)
     ↔ ((u ≢ tx) × ((k : Strength) × IsTrue (holds held (record { row = row; tx = u; strength = k })) × IsTrue (conflicts k strength)))
 
+-- the same locks are held, in whatever order
+abbrev pub SameLocks : List Held → List Held → Type 0
+SameLocks held others = (h : Held) → holds held h ≡ holds others h
+
+-- who blocks is a matter of which locks are held alone
+abbrev pub BlockersByWhatIsHeld : Type 0
+BlockersByWhatIsHeld = (held others : List Held) → SameLocks held others → (row : RowId) (tx : TxId) (strength : Strength) (u : TxId)
+    → has (holders_against held row tx strength) u ≡ has (holders_against others row tx strength) u
+
 -- but for the transaction's own locks, the same are held
 abbrev pub SameButFor : TxId → List Held → List Held → Type 0
 SameButFor x old new = (h : Held) → h.tx ≢ x → holds new h ≡ holds old h
@@ -54,6 +63,15 @@ BeginningsHoldNothing = (c : Content) (taken : List Held) → SameButFor (next_t
 abbrev pub CycleTestIsExact : Type 0
 CycleTestIsExact = (waits : List Waiting) (tx : TxId) (blockers : List TxId)
     → (closes waits tx blockers ≡ true) ↔ Closes (blocks waits) tx blockers
+
+-- the same transactions are blocked by the same, in whatever order they wait
+abbrev pub SamePairs : List Waiting → List Waiting → Type 0
+SamePairs waits others = (a b : TxId) → blocks waits a b ≡ blocks others a b
+
+-- whether a cycle is closed is a matter of who is blocked by whom alone
+abbrev pub CyclesByWhoBlocks : Type 0
+CyclesByWhoBlocks = (waits others : List Waiting) → SamePairs waits others → (tx : TxId) (found blockers : List TxId)
+    → ((u : TxId) → has found u ≡ has blockers u) → closes waits tx found ≡ closes others tx blockers
 
 -- each blocker after is one before, or the transaction itself, of another
 abbrev pub GrowsOnlyBy : TxId → (TxId → TxId → Bool) → (TxId → TxId → Bool) → Type 0

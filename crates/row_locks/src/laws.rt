@@ -1,9 +1,14 @@
 //! Laws of locks and waits: each function's contract is one of them, and its body does nothing.
-ghost use Rattle.row_locks.specs.Laws.{BlockersHoldInConflict, DoingAddsOnlyTheDoer, LocksAreHeld, WritesHoldTheirRow, EndsLetGo, BeginningsHoldNothing, CycleTestIsExact, NoCycleAppears, WaitsLeadToAnEnd};
+ghost use Rattle.row_locks.specs.Laws.{BlockersHoldInConflict, BlockersByWhatIsHeld, DoingAddsOnlyTheDoer, LocksAreHeld, WritesHoldTheirRow, EndsLetGo, BeginningsHoldNothing, CycleTestIsExact, CyclesByWhoBlocks, NoCycleAppears, WaitsLeadToAnEnd};
 
 /// The blockers of a row request are exactly the other transactions that hold the row in conflict.
 pub fn blockers_hold_in_conflict()
     ensures { BlockersHoldInConflict }
+{}
+
+/// Who blocks is a matter of which locks are held alone.
+pub fn blockers_by_what_is_held()
+    ensures { BlockersByWhatIsHeld }
 {}
 
 /// What one transaction does adds at most itself to the blockers of others.
@@ -34,6 +39,11 @@ pub fn beginnings_hold_nothing()
 /// The test for a cycle passes exactly where some path closes one.
 pub fn cycle_test_is_exact()
     ensures { CycleTestIsExact }
+{}
+
+/// Whether a cycle is closed is a matter of who is blocked by whom alone.
+pub fn cycles_by_who_blocks()
+    ensures { CyclesByWhoBlocks }
 {}
 
 /// Whichever way transactions block one another, no cycle of waits appears unasked.
