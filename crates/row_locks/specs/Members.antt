@@ -1,0 +1,17 @@
+-- Transactions, and lists of them.
+use Rattle.std.specs.Prelude.{◌≡◌, ◌==◌, Bool, false, true, List, [], ◌∷◌}
+use Rattle.std.specs.List.{list_any}
+use Rattle.row_versions.specs.declared.names.TxId.{TxId}
+
+-- the two are one transaction
+abbrev pub same_tx : TxId → TxId → Bool
+same_tx a b = a.0 == b.0
+
+-- the transaction is in the list
+abbrev pub has : List TxId → TxId → Bool
+has list tx = list_any (λ other. same_tx other tx) list
+
+-- none is in the list twice
+abbrev pub is_distinct : List TxId → Type 0
+is_distinct [] = Unit {0}
+is_distinct (tx ∷ rest) = (has rest tx ≡ false) × is_distinct rest

@@ -1,0 +1,21 @@
+-- Words of the search for a cycle.
+use Rattle.std.specs.Prelude.{ℕ, Bool, false, List, [], Option, Some, None, slice_get}
+use Rattle.row_versions.specs.declared.names.TxId.{TxId}
+use Rattle.row_locks.specs.Members.{has}
+use Rattle.row_locks.specs.Waiting.{Waiting}
+
+abbrev pub blockers_in : Option Waiting → List TxId
+blockers_in None = []
+blockers_in (Some w) = w.blockers
+
+-- whom the one at this place waits for
+abbrev pub blockers_at : List Waiting → ℕ → List TxId
+blockers_at waits place = blockers_in (slice_get waits place)
+
+abbrev pub is_reached_in : List TxId → Option Waiting → Bool
+is_reached_in reached None = false
+is_reached_in reached (Some w) = has reached w.tx
+
+-- the one that waits at this place is reached
+abbrev pub is_reached : List Waiting → List TxId → ℕ → Bool
+is_reached waits reached place = is_reached_in reached (slice_get waits place)

@@ -1,0 +1,13 @@
+//! The locks that transactions hold on rows, and the transactions that wait.
+#![tactic(auto)]
+
+mod held;
+pub mod laws;
+mod lock_table;
+mod members;
+mod wait;
+mod waits;
+
+pub use held::{Held, Strength};
+pub use lock_table::LockTable;
+pub use waits::Waits;
