@@ -6,14 +6,8 @@ use std::alloc::Global;
 use std::process::Abort;
 use std::test::Fail;
 
-/// A token as a row of a table: its kind, its text, and the bytes from `start` up to `end`.
-#[derive(Clone, Copy)]
-struct Row {
-    kind: &'static str,
-    text: &'static str,
-    start: usize,
-    end: usize,
-}
+/// A token: its kind, its text, the byte at which it begins, and the one behind it.
+type Row = (&'static str, &'static str, usize, usize);
 
 fn word_of(keyword: Keyword) -> &'static str {
     match keyword {
@@ -57,10 +51,10 @@ fn text_of<'a>(tok: &SpecTok<'a>) -> &'a str {
 }
 
 fn is_told(token: &At<SpecTok<'_>>, row: &Row) -> bool {
-    kind_of(&token.tok) == row.kind
-        && text_of(&token.tok) == row.text
-        && token.span.start == row.start
-        && token.span.end == row.end
+    kind_of(&token.tok) == row.0
+        && text_of(&token.tok) == row.1
+        && token.span.start == row.2
+        && token.span.end == row.3
 }
 
 /// Asked again where memory was refused.
@@ -75,18 +69,9 @@ fn tokens_are(rt: &impl Abort, alloc: Global, text: &str, rows: &[Row]) -> Resul
     let tokens = tokens_of(alloc, text)?;
     holds(rt, tokens.len() == rows.len(), text);
     for (token, row) in tokens.iter().zip(rows.iter()) {
-        holds(rt, is_told(token, row), row.kind);
+        holds(rt, is_told(token, row), row.0);
     }
     Ok(())
-}
-
-const fn told(kind: &'static str, text: &'static str, start: usize, end: usize) -> Row {
-    Row {
-        kind,
-        text,
-        start,
-        end,
-    }
 }
 
 #[test]
@@ -96,11 +81,11 @@ fn a_step_has_five_tokens(rt: HostRuntime) -> Result<(), Fail> {
         rt.alloc(),
         "session \"a\"\"b\" step \u{e9}$ {  SELECT 1; } # end\n",
         &[
-            told("session", "", 0, 7),
-            told("quoted", "a\"\"b", 8, 14),
-            told("step", "", 15, 19),
-            told("plain", "\u{e9}$", 20, 23),
-            told("block", "SELECT 1;", 24, 38),
+            ("session", "", 0, 7),
+            ("quoted", "a\"\"b", 8, 14),
+            ("step", "", 15, 19),
+            ("plain", "\u{e9}$", 20, 23),
+            ("block", "SELECT 1;", 24, 38),
         ],
     )
 }
@@ -112,17 +97,17 @@ fn marks_digits_and_words_are_tokens(rt: HostRuntime) -> Result<(), Fail> {
         rt.alloc(),
         "permutation FOO(*,b notices 12)setup teardown",
         &[
-            told("permutation", "", 0, 11),
-            told("plain", "FOO", 12, 15),
-            told("(", "", 15, 16),
-            told("*", "", 16, 17),
-            told(",", "", 17, 18),
-            told("plain", "b", 18, 19),
-            told("notices", "", 20, 27),
-            told("digits", "12", 28, 30),
-            told(")", "", 30, 31),
-            told("setup", "", 31, 36),
-            told("teardown", "", 37, 45),
+            ("permutation", "", 0, 11),
+            ("plain", "FOO", 12, 15),
+            ("(", "", 15, 16),
+            ("*", "", 16, 17),
+            (",", "", 17, 18),
+            ("plain", "b", 18, 19),
+            ("notices", "", 20, 27),
+            ("digits", "12", 28, 30),
+            (")", "", 30, 31),
+            ("setup", "", 31, 36),
+            ("teardown", "", 37, 45),
         ],
     )
 }

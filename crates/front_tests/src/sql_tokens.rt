@@ -6,46 +6,8 @@ use std::alloc::Global;
 use std::process::Abort;
 use std::test::Fail;
 
-/// A token as a row of a table: its kind, its text, and the bytes from `start` up to `end`.
-#[derive(Clone, Copy)]
-struct Row {
-    kind: &'static str,
-    text: &'static str,
-    start: usize,
-    end: usize,
-}
-
-const fn told(kind: &'static str, text: &'static str, start: usize, end: usize) -> Row {
-    Row {
-        kind,
-        text,
-        start,
-        end,
-    }
-}
-
-fn sign_name(sign: SqlSign) -> &'static str {
-    match sign {
-        SqlSign::NotEqual => "<>",
-        SqlSign::AtMost => "<=",
-        SqlSign::AtLeast => ">=",
-        SqlSign::Concat => "||",
-        SqlSign::Cast => "::",
-        SqlSign::Open => "(",
-        SqlSign::Close => ")",
-        SqlSign::Comma => ",",
-        SqlSign::Semicolon => ";",
-        SqlSign::Plus => "+",
-        SqlSign::Minus => "-",
-        SqlSign::Star => "*",
-        SqlSign::Slash => "/",
-        SqlSign::Percent => "%",
-        SqlSign::Equal => "=",
-        SqlSign::Less => "<",
-        SqlSign::Greater => ">",
-        SqlSign::Dot => ".",
-    }
-}
+/// A token: its kind, its text, the byte at which it begins, and the one behind it.
+type Row = (&'static str, &'static str, usize, usize);
 
 fn kind_of(tok: &SqlTok<'_>) -> &'static str {
     match tok {
@@ -53,7 +15,7 @@ fn kind_of(tok: &SqlTok<'_>) -> &'static str {
         SqlTok::Quoted(_) => "quoted",
         SqlTok::Text(_) => "string",
         SqlTok::Number(_) => "number",
-        SqlTok::Sign(sign) => sign_name(*sign),
+        SqlTok::Sign(_) => "sign",
     }
 }
 
@@ -65,10 +27,10 @@ fn text_of<'a>(tok: &SqlTok<'a>) -> &'a str {
 }
 
 fn is_told(token: &At<SqlTok<'_>>, row: &Row) -> bool {
-    kind_of(&token.tok) == row.kind
-        && text_of(&token.tok) == row.text
-        && token.span.start == row.start
-        && token.span.end == row.end
+    kind_of(&token.tok) == row.0
+        && text_of(&token.tok) == row.1
+        && token.span.start == row.2
+        && token.span.end == row.3
 }
 
 /// Asked again where memory was refused.
@@ -83,7 +45,7 @@ fn tokens_are(rt: &impl Abort, alloc: Global, text: &str, rows: &[Row]) -> Resul
     let tokens = tokens_of(alloc, text)?;
     holds(rt, tokens.len() == rows.len(), text);
     for (token, row) in tokens.iter().zip(rows.iter()) {
-        holds(rt, is_told(token, row), row.kind);
+        holds(rt, is_told(token, row), row.0);
     }
     Ok(())
 }
@@ -95,46 +57,50 @@ fn a_select_has_its_words_names_and_strings(rt: HostRuntime) -> Result<(), Fail>
         rt.alloc(),
         "SELECT \"a\nb\", 'Dianne''s horse' -- till the line's end\nFROM t$1;",
         &[
-            told("word", "SELECT", 0, 6),
-            told("quoted", "a\nb", 7, 12),
-            told(",", "", 12, 13),
-            told("string", "Dianne''s horse", 14, 31),
-            told("word", "FROM", 55, 59),
-            told("word", "t$1", 60, 63),
-            told(";", "", 63, 64),
+            ("word", "SELECT", 0, 6),
+            ("quoted", "a\nb", 7, 12),
+            ("sign", "", 12, 13),
+            ("string", "Dianne''s horse", 14, 31),
+            ("word", "FROM", 55, 59),
+            ("word", "t$1", 60, 63),
+            ("sign", "", 63, 64),
         ],
     )
 }
 
+/// The text is this one sign.
+fn is_sign(alloc: Global, text: &str, sign: SqlSign) -> bool {
+    let Ok(tokens) = tokens_of(alloc, text) else {
+        return false;
+    };
+    tokens.len() == 1 && matches!(tokens[0].tok, SqlTok::Sign(s) if s == sign)
+}
+
 #[test]
-fn the_longest_sign_is_taken(rt: HostRuntime) -> Result<(), Fail> {
-    tokens_are(
-        &rt,
-        rt.alloc(),
-        "<>!=<=>=||::(),+*-/%=<>.< >;",
-        &[
-            told("<>", "", 0, 2),
-            told("<>", "", 2, 4),
-            told("<=", "", 4, 6),
-            told(">=", "", 6, 8),
-            told("||", "", 8, 10),
-            told("::", "", 10, 12),
-            told("(", "", 12, 13),
-            told(")", "", 13, 14),
-            told(",", "", 14, 15),
-            told("+", "", 15, 16),
-            told("*", "", 16, 17),
-            told("-", "", 17, 18),
-            told("/", "", 18, 19),
-            told("%", "", 19, 20),
-            told("=", "", 20, 21),
-            told("<>", "", 21, 23),
-            told(".", "", 23, 24),
-            told("<", "", 24, 25),
-            told(">", "", 26, 27),
-            told(";", "", 27, 28),
-        ],
-    )
+fn signs_are_taken_whole(rt: HostRuntime) {
+    for (text, sign) in [
+        ("<>", SqlSign::NotEqual),
+        ("!=", SqlSign::NotEqual),
+        ("<=", SqlSign::AtMost),
+        (">=", SqlSign::AtLeast),
+        ("||", SqlSign::Concat),
+        ("::", SqlSign::Cast),
+        ("(", SqlSign::Open),
+        (")", SqlSign::Close),
+        (",", SqlSign::Comma),
+        (";", SqlSign::Semicolon),
+        ("+", SqlSign::Plus),
+        ("-", SqlSign::Minus),
+        ("*", SqlSign::Star),
+        ("/", SqlSign::Slash),
+        ("%", SqlSign::Percent),
+        ("=", SqlSign::Equal),
+        ("<", SqlSign::Less),
+        (">", SqlSign::Greater),
+        (".", SqlSign::Dot),
+    ] {
+        holds(&rt, is_sign(rt.alloc(), text, sign), text);
+    }
 }
 
 /// The one token of the text is this number.

@@ -16,6 +16,3 @@ pub use numeric::is_numeric;
 pub use result_set::ResultSet;
 pub use table::write_table;
 pub use title::{Title, TitleName};
-
-#[cfg(test)]
-mod tests;

@@ -11,6 +11,3 @@ pub use list_store::ListStore;
 pub use names::{RowId, TableId, TxId};
 pub use versions::Versions;
 pub use write::{Fate, Seen, View, Write};
-
-#[cfg(test)]
-mod tests;

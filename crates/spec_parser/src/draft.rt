@@ -20,7 +20,7 @@ pub struct StepDraft<'a> {
 
 #[derive(Drop)]
 pub struct SessionDraft<'a> {
-    pub name: Name<'a>,
+    pub name: PlacedName<'a>,
     pub setup: Option<Part<'a>>,
     pub steps: Vec<StepDraft<'a>>,
     pub teardown: Option<Part<'a>>,

@@ -29,6 +29,3 @@ pub use sorting::order;
 pub use sql_trees::{Dir, Kind};
 pub use text::Text;
 pub use value::Value;
-
-#[cfg(test)]
-mod tests;

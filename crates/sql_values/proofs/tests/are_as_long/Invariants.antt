@@ -1,8 +1,0 @@
-use Rattle.std.proofs.Common.{◌≡◌, ℕ, ◌<◌, List, length}
-use Rattle.std.specs.Prelude.{slice_index_or}
-use Rattle.sql_values.specs.declared.value.Value.{Value}
-use Rattle.sql_values.proofs.tests.are_as_long.Given as goal
-
-abbrev pub invariant-loop-row : goal.invariant-loop-row
-invariant-loop-row l =
-    (k : ℕ) (d : List Value) → k < l.row-index → length (slice_index_or l.rows k d) ≡ l.long

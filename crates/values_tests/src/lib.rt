@@ -1,0 +1,16 @@
+//! Tests of values, row versions and tables, by what these crates give to callers. They pass where any one allocation fails, too: what was refused memory
+//! is asked again.
+#![tactic(auto)]
+
+#[cfg(test)]
+mod expressions;
+#[cfg(test)]
+mod sorting;
+#[cfg(test)]
+mod summing;
+#[cfg(test)]
+mod tables;
+#[cfg(test)]
+mod told;
+#[cfg(test)]
+mod versions;
