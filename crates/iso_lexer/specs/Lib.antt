@@ -9,5 +9,6 @@ pub mod SpecText
 pub mod SpecSpelling
 pub mod SqlText
 pub mod SqlSpelling
+pub mod FaultText
 pub mod Fronts
 pub mod Devices

@@ -1,37 +1,30 @@
 //! Why a text has no tokens.
 
-ghost use Rattle.std.specs.Prelude.{◌≡◌};
+ghost use Rattle.std.specs.Prelude.{◌≡◌, Some};
 ghost use Rattle.iso_lexer.specs.declared.fault.LexFault.TheVariants.{Memory};
+ghost use Rattle.iso_lexer.specs.FaultText.{kind_text, fault_text};
 
 use std::alloc::{AllocError, AllocFailed};
-use thiserror::Error;
+use std::fmt;
 
 /// What is wrong with a text.
-#[derive(Clone, Copy, Debug, PartialEq, Eq, Error)]
+#[derive(Clone, Copy, Debug, PartialEq, Eq)]
 pub enum FaultKind {
     /// A block without its closing brace, at the opening one.
-    #[error("L1 UnterminatedBlock")]
     UnterminatedBlock,
     /// A quoted name without its closing quote, at the opening one.
-    #[error("L2 UnterminatedName")]
     UnterminatedName,
     /// A newline in a quoted name of a spec file, at that newline.
-    #[error("L3 NewlineInName")]
     NewlineInName,
     /// A byte that begins no token there.
-    #[error("L4 UnexpectedByte")]
     UnexpectedByte,
     /// A spec file of more than 1,048,576 bytes, at the first byte too many.
-    #[error("L5 FileTooLong")]
     FileTooLong,
     /// A string without its closing quote, at the opening one.
-    #[error("L6 UnterminatedString")]
     UnterminatedString,
     /// A comment without its end, at its outermost opening.
-    #[error("L7 UnterminatedComment")]
     UnterminatedComment,
     /// A number over 9223372036854775807, at its first digit.
-    #[error("L8 NumberTooLarge")]
     NumberTooLarge,
 }
 
@@ -40,6 +33,32 @@ pub enum FaultKind {
 pub struct Fault {
     pub kind: FaultKind,
     pub at: usize,
+}
+
+/// Prints the number and the name.
+impl fmt::Display for FaultKind {
+    ghost output = { λ kind. Some (kind_text kind) };
+
+    fn fmt<W: fmt::Write>(&self, f: &mut fmt::Formatter<W>) -> fmt::Result {
+        f.write_str(match self {
+            FaultKind::UnterminatedBlock => "L1 UnterminatedBlock",
+            FaultKind::UnterminatedName => "L2 UnterminatedName",
+            FaultKind::NewlineInName => "L3 NewlineInName",
+            FaultKind::UnexpectedByte => "L4 UnexpectedByte",
+            FaultKind::FileTooLong => "L5 FileTooLong",
+            FaultKind::UnterminatedString => "L6 UnterminatedString",
+            FaultKind::UnterminatedComment => "L7 UnterminatedComment",
+            FaultKind::NumberTooLarge => "L8 NumberTooLarge",
+        })
+    }
+}
+
+impl fmt::Display for Fault {
+    ghost output = { λ fault. Some (fault_text fault) };
+
+    fn fmt<W: fmt::Write>(&self, f: &mut fmt::Formatter<W>) -> fmt::Result {
+        write!(f, "{} at byte {}", self.kind, self.at)
+    }
 }
 
 #[derive(Debug, Drop)]

@@ -36,6 +36,3 @@ pub use std_device::FromStd;
 pub use token::{At, Span};
 pub use whole::{LONGEST_FILE, ReadFault, read_all};
 pub use write::write_name;
-
-#[cfg(test)]
-mod tests;

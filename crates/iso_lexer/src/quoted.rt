@@ -8,7 +8,7 @@ use crate::fault::FaultKind;
 use crate::piece::Piece;
 
 /// How a quoted text goes on behind its opening quote.
-#[derive(Clone, Copy, Debug)]
+#[derive(Clone, Copy)]
 pub enum Quoted {
     /// Closed within so many bytes, the closing quote among them.
     Closed(usize),

@@ -4,7 +4,7 @@ ghost use Rattle.std.specs.Prelude.{◌≡◌};
 ghost use Rattle.std.specs.List.{prefix_len, suffix_len};
 ghost use Rattle.iso_lexer.specs.Bytes.{is_blank, is_line_end, is_name_start, is_name_byte, passes, run_of, after_run, trimmed};
 
-#[derive(Clone, Copy, Debug)]
+#[derive(Clone, Copy)]
 pub enum Run {
     Blanks,
     Comment,

@@ -1,8 +1,8 @@
 //! Reading all of a source.
 
-ghost use Rattle.std.specs.Prelude.{◌≡◌, ◌<◌, true, IfOk, IsErrOf};
+ghost use Rattle.std.specs.Prelude.{◌≡◌, ◌<◌, true, IfOk, OnErr, IsErrOf};
 ghost use Rattle.iso_lexer.specs.declared.whole.ReadFault.TheVariants.{Memory, Device};
-ghost use Rattle.iso_lexer.specs.Devices.{IsFront};
+ghost use Rattle.iso_lexer.specs.Devices.{IsFront, TakesFew};
 
 use crate::device::{DeviceFault, Source};
 use std::alloc::{AllocError, Global};
@@ -42,6 +42,7 @@ pub fn read_all<S: Source>(
     ensures bytes { IfOk result (λ v. IsFront limit (S.left source.old) (S.left source.new) v.items) }
     ensures device { IsErrOf result ReadFault.Device → S.failed source.new ≡ true }
     ensures failed { 0 < limit → S.failed source.new ≡ true → IsErrOf result ReadFault.Device }
+    ensures few { OnErr result (TakesFew limit (S.left source.old) (S.left source.new)) }
     ensures stays { S.failed source.old ≡ true → S.failed source.new ≡ true }
 {
     let mut bytes = Vec::new(alloc);

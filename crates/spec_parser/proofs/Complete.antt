@@ -280,7 +280,7 @@ abbrev BehindSession : List (At Token) → Type 0
 BehindSession rest = NotFirst (is_word Step) rest × NotFirst (is_word Teardown) rest
 
 abbrev session_of : NameAt → Option PartTree → List NamedStep → Option PartTree → NamedSession
-session_of n setup steps teardown = record { name = n.name; setup = setup; steps = steps; teardown = teardown }
+session_of n setup steps teardown = record { name = n; setup = setup; steps = steps; teardown = teardown }
 
 abbrev TornDown : NameAt → Option PartTree → List NamedStep → Grammar NamedSession
 TornDown n setup steps = Maybe (block_behind Teardown) ▸ λ teardown. gives (session_of n setup steps teardown)

@@ -12,7 +12,6 @@ use Rattle.iso_lexer.specs.declared.spec_token.Keyword.TheVariants.{Permutation,
 use Rattle.iso_lexer.specs.declared.spec_token.Sign.TheVariants.{Open, Close, Comma, Star}
 use Rattle.iso_lexer.specs.declared.runs.Run.TheVariants.{Blanks}
 use Rattle.iso_lexer.specs.Bytes.{passes as passes_run, is_blank, run_of, trimmed}
-use Rattle.iso_lexer.specs.Names.{Written}
 use Rattle.iso_lexer.specs.SpecTokens.{Token, keyword, name, digits, sign, block}
 use Rattle.iso_lexer.specs.SpecText.{block_of}
 use Rattle.iso_lexer.specs.SpecSpelling.{NameSpells, Spells, LiesAt}
@@ -50,7 +49,7 @@ join_all P (x ∷ xs) ys (p, h) k = (p, join_all P xs ys h k)
 
 pub record Gist : Type 0 where
   pub parts : List PartTree
-  pub names : List Written
+  pub names : List NameAt
   pub sessions : ℕ
   pub steps : ℕ
 
@@ -89,7 +88,7 @@ then_has c ts xs ys g h e m n =
     subst (λ d. Moves c d ts (joined g h)) (sym (past_twice c xs ys) ∙ ap (past c) (sym e)) (moves_then c (past c xs) (past (past c xs) ys) ts xs ys g h e m n)
 
 -- the same gist, in other words
-pub like : (c d : Counts) (ts : List (At Token)) (g : Gist) (ps : List PartTree) (ns : List Written) (k j : ℕ) → Moves c d ts g → g.parts ≡ ps → g.names ≡ ns → g.sessions ≡ k → g.steps ≡ j → Moves c d ts (record { parts = ps; names = ns; sessions = k; steps = j })
+pub like : (c d : Counts) (ts : List (At Token)) (g : Gist) (ps : List PartTree) (ns : List NameAt) (k j : ℕ) → Moves c d ts g → g.parts ≡ ps → g.names ≡ ns → g.sessions ≡ k → g.steps ≡ j → Moves c d ts (record { parts = ps; names = ns; sessions = k; steps = j })
 like c d ts g ps ns k j m p n s t = subst (Moves c d ts) (λ i. record { parts = p i; names = n i; sessions = s i; steps = t i }) m
 
 pub quiet : (c : Counts) (ts : List (At Token)) → Moves c c ts nothing
@@ -113,25 +112,25 @@ pub step_word : (c : Counts) (ts : List (At Token)) (u : Unit {0}) → one (the_
 step_word c ts u h = word_has Step c ts u a_step h (record { blocks = omega arith; sessions = omega arith; steps = omega arith; numbered = refl; parts_lie = λ text all. tt; names_lie = λ text all. tt })
 
 -- a name, where it is that of a session or step
-abbrev a_name : Written → Gist
+abbrev a_name : NameAt → Gist
 a_name n = record { parts = []; names = n ∷ []; sessions = 0; steps = 0 }
 
-named_is : (at : ℕ) (t : Token) (n : NameAt) (s : List ℕ) → name_in at t ≡ Some n → Spells t s → NameSpells n.name s
-named_is at (name m) n s e h = subst (λ (k : NameAt). NameSpells k.name s) (same_Some _ _ e) h
-named_is at (keyword k) n s e h = absurd cc
-named_is at (digits d) n s e h = absurd cc
-named_is at (sign g) n s e h = absurd cc
-named_is at (block k b) n s e h = absurd cc
+named_is : (text : List ℕ) (start end : ℕ) (t : Token) (n : NameAt) → name_in start t ≡ Some n → Spells t (slice_range text start end) → NameSpells n.name (slice_range text n.at end)
+named_is text start end (name m) n e h = subst (λ (k : NameAt). NameSpells k.name (slice_range text k.at end)) (same_Some _ _ e) h
+named_is text start end (keyword k) n e h = absurd cc
+named_is text start end (digits d) n e h = absurd cc
+named_is text start end (sign g) n e h = absurd cc
+named_is text start end (block k b) n e h = absurd cc
 
-name_has : (c : Counts) (ts : List (At Token)) (n : NameAt) → one the_name c ts n → Moves c (past c ts) ts (a_name n.name)
+name_has : (c : Counts) (ts : List (At Token)) (n : NameAt) → one the_name c ts n → Moves c (past c ts) ts (a_name n)
 name_has c ts n (t, e, is) =
-    subst (λ d. Moves c d ts (a_name n.name)) (sym (name_past c ts n (t, e, is))) (record {
+    subst (λ d. Moves c d ts (a_name n)) (sym (name_past c ts n (t, e, is))) (record {
       blocks = omega arith;
       sessions = omega arith;
       steps = omega arith;
       numbered = refl;
       parts_lie = λ text all. tt;
-      names_lie = λ text all. let lies = (subst (AllByRecursion (LiesAt text)) e all).0 in (record { from = t.span.start; to = t.span.end; within = lies.0; slice = named_is t.span.start t.tok n _ is lies.1 }, tt);
+      names_lie = λ text all. let lies = (subst (AllByRecursion (LiesAt text)) e all).0 in (record { end = t.span.end; within = lies.0; slice = named_is text t.span.start t.span.end t.tok n is lies.1 }, tt);
     })
 
 -- ---- a block lies where it says
@@ -228,21 +227,21 @@ pub teardown_has : Has (block_behind Teardown) (λ p. parts_gist (p ∷ []))
 teardown_has c ts p (u, xs, ys, e, w, b) = then_has c ts xs ys nothing (parts_gist (p ∷ [])) e (word_has Teardown c xs u nothing w (quiet c xs)) (block_has (past c xs) ys p b)
 
 abbrev pub step_gist : NamedStep → Gist
-step_gist s = record { parts = s.part ∷ []; names = s.name.name ∷ []; sessions = 0; steps = 1 }
+step_gist s = record { parts = s.part ∷ []; names = s.name ∷ []; sessions = 0; steps = 1 }
 
 pub step_has : Has step step_gist
 step_has c ts z (u, xs, ys, e, w, (n, us, vs, d, nm, (b, ws, zs, f, bl, (nil, is)))) =
     let block_on = then_has (past (past c xs) us) vs ws zs (parts_gist (b ∷ [])) nothing f (block_has (past (past c xs) us) ws b bl) (nil_has (past (past (past c xs) us) ws) zs nil) in
-    let name_on = then_has (past c xs) ys us vs (a_name n.name) (parts_gist (b ∷ [])) d (name_has (past c xs) us n nm) block_on in
+    let name_on = then_has (past c xs) ys us vs (a_name n) (parts_gist (b ∷ [])) d (name_has (past c xs) us n nm) block_on in
     subst (λ (s : NamedStep). Moves c (past c ts) ts (step_gist s)) (sym is) (then_has c ts xs ys a_step _ e (step_word c xs u w) name_on)
 
 steps_parts : (ss : List NamedStep) → (gists step_gist ss).parts ≡ map (λ (x : StepTree). x.part) (map step_tree ss)
 steps_parts [] = refl
 steps_parts (s ∷ ss) = ap (λ ps. s.part ∷ ps) (steps_parts ss)
 
-steps_names : (ss : List NamedStep) → (gists step_gist ss).names ≡ map (λ (x : StepTree). x.name) (map step_tree ss)
+steps_names : (ss : List NamedStep) → (gists step_gist ss).names ≡ map (λ (x : NamedStep). x.name) ss
 steps_names [] = refl
-steps_names (s ∷ ss) = ap (λ ns. s.name.name ∷ ns) (steps_names ss)
+steps_names (s ∷ ss) = ap (λ ns. s.name ∷ ns) (steps_names ss)
 
 steps_none : (ss : List NamedStep) → (gists step_gist ss).sessions ≡ 0
 steps_none [] = refl
@@ -253,13 +252,13 @@ steps_count [] = refl
 steps_count (s ∷ ss) = omega (arith, steps_count ss)
 
 abbrev steps_gist : List NamedStep → Gist
-steps_gist ss = record { parts = map (λ (x : StepTree). x.part) (map step_tree ss); names = map (λ (x : StepTree). x.name) (map step_tree ss); sessions = 0; steps = length ss }
+steps_gist ss = record { parts = map (λ (x : StepTree). x.part) (map step_tree ss); names = map (λ (x : NamedStep). x.name) ss; sessions = 0; steps = length ss }
 
 steps_have : (c : Counts) (ts : List (At Token)) (ss : List NamedStep) → Many step c ts ss → Moves c (past c ts) ts (steps_gist ss)
 steps_have c ts ss m = like c (past c ts) ts (gists step_gist ss) _ _ _ _ (many_has step step_gist step_has c ts ss m) (steps_parts ss) (steps_names ss) (steps_none ss) (steps_count ss)
 
 abbrev pub session_gist : NamedSession → Gist
-session_gist s = record { parts = session_parts (session_tree s); names = session_names (session_tree s); sessions = 1; steps = length s.steps }
+session_gist s = record { parts = session_parts (session_tree s); names = session_names s; sessions = 1; steps = length s.steps }
 
 pub session_has : Has session session_gist
 session_has c ts z (u, xs, ys, e, w, (n, us, vs, d, nm, (o, ws, zs, f, mo, (ss, ps, qs, g, st, (t, rs, os, h, mt, (nil, is)))))) =
@@ -270,12 +269,12 @@ session_has c ts z (u, xs, ys, e, w, (n, us, vs, d, nm, (o, ws, zs, f, mo, (ss, 
     let teardown_on = then_has c4 qs rs os (parts_gist (option_to_list t)) nothing h (maybe_has (block_behind Teardown) teardown_has c4 rs t mt) (nil_has (past c4 rs) os nil) in
     let steps_on = then_has c3 zs ps qs (steps_gist ss) _ g (steps_have c3 ps ss st.0) teardown_on in
     let setup_on = then_has c2 vs ws zs (parts_gist (option_to_list o)) _ f (maybe_has (block_behind Setup) setup_has c2 ws o mo) steps_on in
-    let name_on = then_has c1 ys us vs (a_name n.name) _ d (name_has c1 us n nm) setup_on in
+    let name_on = then_has c1 ys us vs (a_name n) _ d (name_has c1 us n nm) setup_on in
     let whole = then_has c ts xs ys a_session _ e (session_word c xs u w) name_on in
-    let s : NamedSession = record { name = n.name; setup = o; steps = ss; teardown = t } in
-    subst (λ (s : NamedSession). Moves c (past c ts) ts (session_gist s)) (sym is) (like c (past c ts) ts _ (session_parts (session_tree s)) (session_names (session_tree s)) 1 (length ss) whole
+    let s : NamedSession = record { name = n; setup = o; steps = ss; teardown = t } in
+    subst (λ (s : NamedSession). Moves c (past c ts) ts (session_gist s)) (sym is) (like c (past c ts) ts _ (session_parts (session_tree s)) (session_names s) 1 (length ss) whole
     (ap (λ l. option_to_list o ++ (map (λ (x : StepTree). x.part) (map step_tree ss) ++ l)) (append-nil (option_to_list t)))
-    (ap (λ l. n.name ∷ l) (append-nil (map (λ (x : StepTree). x.name) (map step_tree ss))))
+    (ap (λ l. n ∷ l) (append-nil (map (λ (x : NamedStep). x.name) ss)))
     refl
     (omega arith))
 
@@ -283,9 +282,9 @@ sessions_parts : (ss : List NamedSession) → (gists session_gist ss).parts ≡ 
 sessions_parts [] = refl
 sessions_parts (s ∷ ss) = ap (λ ps. session_parts (session_tree s) ++ ps) (sessions_parts ss)
 
-sessions_names : (ss : List NamedSession) → (gists session_gist ss).names ≡ flat_map session_names (map session_tree ss)
+sessions_names : (ss : List NamedSession) → (gists session_gist ss).names ≡ flat_map session_names ss
 sessions_names [] = refl
-sessions_names (s ∷ ss) = ap (λ ns. session_names (session_tree s) ++ ns) (sessions_names ss)
+sessions_names (s ∷ ss) = ap (λ ns. session_names s ++ ns) (sessions_names ss)
 
 sessions_count : (ss : List NamedSession) → (gists session_gist ss).sessions ≡ length ss
 sessions_count [] = refl
@@ -300,7 +299,7 @@ sessions_steps k [] = refl
 sessions_steps k (s ∷ ss) = omega (arith, steps_len k 0 s.steps, sessions_steps (k + 1) ss, length-append (steps_from k 0 s.steps) (sessions_from (k + 1) ss))
 
 abbrev sessions_gist : List NamedSession → Gist
-sessions_gist ss = record { parts = flat_map session_parts (map session_tree ss); names = flat_map session_names (map session_tree ss); sessions = length ss; steps = length (sessions_from 1 ss) }
+sessions_gist ss = record { parts = flat_map session_parts (map session_tree ss); names = flat_map session_names ss; sessions = length ss; steps = length (sessions_from 1 ss) }
 
 sessions_have : (c : Counts) (ts : List (At Token)) (ss : List NamedSession) → Many session c ts ss → Moves c (past c ts) ts (sessions_gist ss)
 sessions_have c ts ss m = like c (past c ts) ts (gists session_gist ss) _ _ _ _ (many_has session session_gist session_has c ts ss m) (sessions_parts ss) (sessions_names ss) (sessions_count ss) (sessions_steps 1 ss)
@@ -369,7 +368,7 @@ perms_quiet = many_quiet perm perm_quiet
 abbrev pub file_gist : FileTree → Gist
 file_gist f = record {
   parts = f.setups ++ (option_to_list f.teardown ++ flat_map session_parts (map session_tree f.sessions));
-  names = flat_map session_names (map session_tree f.sessions);
+  names = flat_map session_names f.sessions;
   sessions = length f.sessions;
   steps = length (sessions_from 1 f.sessions);
 }
@@ -386,6 +385,6 @@ file_has c ts z (ps, xs, ys, e, m, (t, us, vs, d, mt, (ss, ws, zs, f, ms, (es, q
     let file_is : FileTree = record { setups = ps; teardown = t; sessions = ss; perms = es } in
     subst (λ (s : FileTree). Moves c (past c ts) ts (file_gist s)) (sym is) (like c (past c ts) ts _ (file_gist file_is).parts (file_gist file_is).names (length ss) (length (sessions_from 1 ss)) whole
     (ap (λ l. ps ++ (option_to_list t ++ l)) (append-nil (flat_map session_parts (map session_tree ss))))
-    (append-nil (flat_map session_names (map session_tree ss)))
+    (append-nil (flat_map session_names ss))
     (omega arith)
     (omega arith))

@@ -169,7 +169,7 @@ unfolding steps_at
 steps_keep = some_keep what.Step (starts_word Step) (λ k. step_at) step_keeps
 
 abbrev session_of : NameAt → Option PartTree → List NamedStep → Option PartTree → NamedSession
-session_of n setup ss teardown = record { name = n.name; setup = setup; steps = ss; teardown = teardown }
+session_of n setup ss teardown = record { name = n; setup = setup; steps = ss; teardown = teardown }
 
 session_end_keeps : (n : NameAt) → Keeps (λ r. setup_at r >>= λ setup. steps_at setup.1 >>= λ ss. teardown_at ss.1 >>= λ teardown. (Ok (session_of n setup.0 ss.0 teardown.0), teardown.1))
 session_end_keeps n = keeps_then setup_at (λ setup. steps_at setup.1 >>= λ ss. teardown_at ss.1 >>= λ teardown. (Ok (session_of n setup.0 ss.0 teardown.0), teardown.1)) setup_keeps

@@ -139,7 +139,7 @@ unfolding steps_at
 steps_end = some_ends what.Step (starts_word Step) (λ k. step_at) (λ k. step_ends)
 
 abbrev session_of : NameAt → Option PartTree → List NamedStep → Option PartTree → NamedSession
-session_of n setup ss teardown = record { name = n.name; setup = setup; steps = ss; teardown = teardown }
+session_of n setup ss teardown = record { name = n; setup = setup; steps = ss; teardown = teardown }
 
 session_ends : Ends session_at
 unfolding session_at

@@ -148,7 +148,7 @@ steps_stop = some_stop step_grammar what.Step (starts_word Step) (λ k. step_at)
 -- ---- sessions
 
 abbrev session_of : NameAt → Option PartTree → List NamedStep → Option PartTree → NamedSession
-session_of n setup ss teardown = record { name = n.name; setup = setup; steps = ss; teardown = teardown }
+session_of n setup ss teardown = record { name = n; setup = setup; steps = ss; teardown = teardown }
 
 abbrev session_end : NameAt × Rest → Read NamedSession
 session_end n = setup_at n.1 >>= λ setup. steps_at setup.1 >>= λ ss. teardown_at ss.1 >>= λ teardown. (Ok (session_of n.0 setup.0 ss.0 teardown.0), teardown.1)

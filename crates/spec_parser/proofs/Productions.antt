@@ -128,7 +128,7 @@ steps_local = some_local step what.Step (starts_word Step) (λ k. step_at) step_
 -- ---- sessions
 
 abbrev session_of : NameAt → Option PartTree → List NamedStep → Option PartTree → NamedSession
-session_of n setup steps teardown = record { name = n.name; setup = setup; steps = steps; teardown = teardown }
+session_of n setup steps teardown = record { name = n; setup = setup; steps = steps; teardown = teardown }
 
 abbrev TornDown : NameAt → Option PartTree → List NamedStep → Grammar NamedSession
 TornDown n setup steps = Maybe (block_behind Teardown) ▸ λ teardown. gives (session_of n setup steps teardown)

@@ -15,7 +15,7 @@ use Rattle.spec_parser.specs.Grammar.{Grammar, Many, none, more, perm, file}
 use Rattle.spec_parser.specs.Grammar.{session as session_grammar}
 use Rattle.spec_parser.specs.Names.{StepAt, steps_from, sessions_from, step_tree, session_tree}
 use Rattle.spec_parser.specs.IsSpec.{IsShort, Names, MarkerIs, EntryIs, PermIs, IsSpec}
-use Rattle.spec_parser.specs.Stands.{StepStands, MarkerStands, EntryStands, PermStands, session_parts, session_names, parts_of, names_of, PartLies, NameLies, Stands, LiesIn}
+use Rattle.spec_parser.specs.Stands.{StepStands, MarkerStands, EntryStands, PermStands, session_parts, parts_of, names_of, PartLies, NameLies, Stands, LiesIn}
 use Rattle.spec_parser.proofs.Gists.{file_has, steps_len}
 use Rattle.spec_parser.proofs.Limits.{all_from, all_to}
 
@@ -170,6 +170,7 @@ pub specs_lie : (text : List ℕ) (s : SpecTree) (h : IsSpec text s) → AllByRe
 specs_lie text s h lies =
     let m = file_has start h.tokens h.file h.grammar in
     record {
+      spec = h;
       parts = all_from (PartLies text) (parts_of s) (subst (AllByRecursion (PartLies text)) (sym (parts_are text s h)) (m.parts_lie text lies));
-      names = all_from (NameLies text) (names_of s) (subst (AllByRecursion (NameLies text)) (ap (λ (l : List SessionTree). flat_map session_names l) (sym h.sessions)) (m.names_lie text lies));
+      names = all_from (NameLies text) (names_of h.file) (m.names_lie text lies);
     }

@@ -68,7 +68,7 @@ session = do
   setup ← Maybe (block_behind Setup)
   steps ← some step
   teardown ← Maybe (block_behind Teardown)
-  gives (record { name = n.name; setup = setup; steps = steps; teardown = teardown })
+  gives (record { name = n; setup = setup; steps = steps; teardown = teardown })
 
 -- "*" | name
 abbrev pub marker : Grammar MarkerTree

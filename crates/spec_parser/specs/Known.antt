@@ -1,10 +1,10 @@
 -- What contracts see of the steps by name, and of what was resolved.
-use Rattle.std.specs.Prelude.{◌≡◌, Result, Ok, Err}
+use Rattle.std.specs.Prelude.{◌≡◌, ◌<◌, List, length, find, IsSome, Result, Ok, Err}
 use Rattle.spec_parser.specs.declared.known.KnownStep.{KnownStep}
 use Rattle.spec_parser.specs.declared.fault.SpecFault.{SpecFault}
 use Rattle.spec_parser.specs.declared.fault.SpecFault.TheVariants as faults
-use Rattle.spec_parser.specs.Trees.{placed_view}
-use Rattle.spec_parser.specs.Names.{StepAt}
+use Rattle.spec_parser.specs.Trees.{placed_view, NamedEntry}
+use Rattle.spec_parser.specs.Names.{StepAt, is_named}
 
 abbrev pub known_view : KnownStep → StepAt
 known_view s = record { name = placed_view s.name; session = s.session; step = s.step }
@@ -23,3 +23,8 @@ FailsWith (faults.Limit at) wanted = wanted ≡ Err (faults.Limit at)
 abbrev pub IsAs : {X Y : Type 0} → (X → Y) → Result X SpecFault → Result Y SpecFault → Type 0
 IsAs view (Ok x) wanted = wanted ≡ Ok (view x)
 IsAs view (Err e) wanted = FailsWith e wanted
+
+-- an entry whose step is there, and which has markers
+pub record WantsRoom (known : List StepAt) (e : NamedEntry) : Type 0 where
+  pub step : IsSome (find (is_named e.name.name) known)
+  pub markers : 0 < length e.markers

@@ -1,5 +1,6 @@
 pub mod Trees
 pub mod Faults
+pub mod FaultText
 pub mod Places
 pub mod Counts
 pub mod Reading

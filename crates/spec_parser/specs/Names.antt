@@ -74,7 +74,7 @@ abbrev pub step_tree : NamedStep → StepTree
 step_tree s = record { name = s.name.name; part = s.part }
 
 abbrev pub session_tree : NamedSession → SessionTree
-session_tree s = record { name = s.name; setup = s.setup; steps = map step_tree s.steps; teardown = s.teardown }
+session_tree s = record { name = s.name.name; setup = s.setup; steps = map step_tree s.steps; teardown = s.teardown }
 
 abbrev pub without_repeat : Option ℕ → Result SpecTree SpecFault → Result SpecTree SpecFault
 without_repeat (Some at) spec = Err (DuplicateStep at)

@@ -209,7 +209,7 @@ session_at r = do
   setup ← setup_at n.1
   steps ← steps_at setup.1
   teardown ← teardown_at steps.1
-  (Ok (record { name = n.0.name; setup = setup.0; steps = steps.0; teardown = teardown.0 }), teardown.1)
+  (Ok (record { name = n.0; setup = setup.0; steps = steps.0; teardown = teardown.0 }), teardown.1)
 
 unfoldable pub sessions_at : Rest → Read (List NamedSession)
 sessions_at r = some_at what.Session (starts_word Session) (λ k. session_at) r

@@ -1,11 +1,11 @@
 -- What holds of every spec: numbers, counts and places.
 use Rattle.std.specs.Prelude.{◌≡◌, ◌≤◌, ◌<◌, ◌+◌, ◌-◌, ℕ, List, ◌∷◌, ◌++◌, length, map, All, slice_index_or, flat_map, option_to_list, slice_range}
 use Rattle.std.specs.List.{range_with_len}
-use Rattle.iso_lexer.specs.Names.{Written}
 use Rattle.iso_lexer.specs.SpecSpelling.{NameSpells}
 use Rattle.spec_parser.specs.declared.tree.Marker.{Marker}
 use Rattle.spec_parser.specs.declared.tree.Marker.TheVariants as markers
-use Rattle.spec_parser.specs.Trees.{PartTree, StepTree, SessionTree, EntryTree, SpecTree}
+use Rattle.spec_parser.specs.Trees.{PartTree, StepTree, SessionTree, EntryTree, SpecTree, NameAt, NamedStep, NamedSession, FileTree}
+use Rattle.spec_parser.specs.IsSpec.{IsSpec}
 
 -- ---- numbers
 
@@ -38,24 +38,23 @@ session_parts s = option_to_list s.setup ++ (map (λ (x : StepTree). x.part) s.s
 abbrev pub parts_of : SpecTree → List PartTree
 parts_of s = s.setups ++ (option_to_list s.teardown ++ flat_map session_parts s.sessions)
 
-abbrev pub session_names : SessionTree → List Written
-session_names s = s.name ∷ map (λ (x : StepTree). x.name) s.steps
+abbrev pub session_names : NamedSession → List NameAt
+session_names s = s.name ∷ map (λ (x : NamedStep). x.name) s.steps
 
--- the names of all sessions and steps, in file order
-abbrev pub names_of : SpecTree → List Written
-names_of s = flat_map session_names s.sessions
+-- the names of all sessions and steps with their places, in file order
+abbrev pub names_of : FileTree → List NameAt
+names_of f = flat_map session_names f.sessions
 
 -- a block's text is the slice of the text at its place
 pub record PartLies (text : List ℕ) (p : PartTree) : Type 0 where
   pub within : p.at + length p.sql ≤ length text
   pub slice : slice_range text p.at (p.at + length p.sql) ≡ p.sql
 
--- a name is a slice of the text as it is spelled, with its quotes
-pub record NameLies (text : List ℕ) (n : Written) : Type 0 where
-  pub from : ℕ
-  pub to : ℕ
-  pub within : to ≤ length text
-  pub slice : NameSpells n (slice_range text from to)
+-- a name is the slice of the text at its place as it is spelled, with its quotes
+pub record NameLies (text : List ℕ) (n : NameAt) : Type 0 where
+  pub end : ℕ
+  pub within : end ≤ length text
+  pub slice : NameSpells n.name (slice_range text n.at end)
 
 -- ---- the whole
 
@@ -68,6 +67,8 @@ pub record Stands (s : SpecTree) : Type 0 where
   -- the blocks have the numbers from 0, in file order
   pub numbered : map (λ (p : PartTree). p.block) (parts_of s) ≡ range_with_len 0 (length (parts_of s))
 
+-- the text is this spec, and has its blocks and names where it says
 pub record LiesIn (text : List ℕ) (s : SpecTree) : Type 0 where
+  pub spec : IsSpec text s
   pub parts : All (PartLies text) (parts_of s)
-  pub names : All (NameLies text) (names_of s)
+  pub names : All (NameLies text) (names_of spec.file)

@@ -75,7 +75,7 @@ pub record NamedStep : Type 0 where
   pub part : PartTree
 
 pub record NamedSession : Type 0 where
-  pub name : Written
+  pub name : NameAt
   pub setup : Option PartTree
   pub steps : List NamedStep
   pub teardown : Option PartTree
@@ -101,7 +101,7 @@ abbrev pub draft_view : StepDraft → NamedStep
 draft_view s = record { name = placed_view s.name; part = part_view s.part }
 
 abbrev pub session_draft_view : SessionDraft → NamedSession
-session_draft_view s = record { name = name_view s.name; setup = option_map part_view s.setup; steps = map draft_view s.steps.items; teardown = option_map part_view s.teardown }
+session_draft_view s = record { name = placed_view s.name; setup = option_map part_view s.setup; steps = map draft_view s.steps.items; teardown = option_map part_view s.teardown }
 
 abbrev pub marker_view : MarkerName → MarkerTree
 marker_view markers.Star = star

@@ -1,13 +1,14 @@
 //! Why a file is no spec.
 
-ghost use Rattle.std.specs.Prelude.{◌≡◌};
+ghost use Rattle.std.specs.Prelude.{◌≡◌, Some};
 ghost use Rattle.spec_parser.specs.Faults.{lexer_fault, stopped};
+ghost use Rattle.spec_parser.specs.FaultText.{what_text, spec_fault_text};
 ghost use Rattle.spec_parser.specs.declared.fault.Halt.TheVariants.{Memory};
 ghost use Rattle.spec_parser.specs.declared.fault.SpecFault.TheVariants.{Memory as NoMemory};
 
 use iso_lexer::{Fault, LexFault};
 use std::alloc::{AllocError, AllocFailed};
-use thiserror::Error;
+use std::fmt;
 
 /// What would have gone on with the file.
 #[derive(Clone, Copy, Debug, PartialEq, Eq)]
@@ -22,28 +23,54 @@ pub enum What {
 }
 
 /// Why a file is no spec; `at` is a byte of the file.
-#[derive(Debug, Drop, Error)]
+#[derive(Debug, Drop)]
 pub enum SpecFault {
-    #[error("Memory")]
     Memory,
-    #[error("{} at byte {}", .0.kind, .0.at)]
     Lex(Fault),
-    #[error("S1 Expected {what:?} at byte {at}")]
     Expected { what: What, at: usize },
-    #[error("S2 DuplicateStep at byte {at}")]
     DuplicateStep { at: usize },
-    #[error("S3 UndefinedStep at byte {at}")]
     UndefinedStep { at: usize },
-    #[error("S4 UndefinedMarker at byte {at}")]
     UndefinedMarker { at: usize },
-    #[error("S5 NoticesLeftOut at byte {at}")]
     NoticesLeftOut { at: usize },
-    #[error("S6 Limit at byte {at}")]
     Limit { at: usize },
 }
 
+impl fmt::Display for What {
+    ghost output = { λ what. Some (what_text what) };
+
+    fn fmt<W: fmt::Write>(&self, f: &mut fmt::Formatter<W>) -> fmt::Result {
+        f.write_str(match self {
+            What::Session => "Session",
+            What::Step => "Step",
+            What::Name => "Name",
+            What::Block => "Block",
+            What::Marker => "Marker",
+            What::CommaOrClose => "CommaOrClose",
+            What::Item => "Item",
+        })
+    }
+}
+
+/// Prints the number, the name and the byte.
+impl fmt::Display for SpecFault {
+    ghost output = { λ fault. Some (spec_fault_text fault) };
+
+    fn fmt<W: fmt::Write>(&self, f: &mut fmt::Formatter<W>) -> fmt::Result {
+        match self {
+            SpecFault::Memory => write!(f, "Memory"),
+            SpecFault::Lex(fault) => write!(f, "{fault}"),
+            SpecFault::Expected { what, at } => write!(f, "S1 Expected {what} at byte {at}"),
+            SpecFault::DuplicateStep { at } => write!(f, "S2 DuplicateStep at byte {at}"),
+            SpecFault::UndefinedStep { at } => write!(f, "S3 UndefinedStep at byte {at}"),
+            SpecFault::UndefinedMarker { at } => write!(f, "S4 UndefinedMarker at byte {at}"),
+            SpecFault::NoticesLeftOut { at } => write!(f, "S5 NoticesLeftOut at byte {at}"),
+            SpecFault::Limit { at } => write!(f, "S6 Limit at byte {at}"),
+        }
+    }
+}
+
 /// Why reading stops before a token.
-#[derive(Clone, Copy, Debug)]
+#[derive(Clone, Copy)]
 pub enum Stop {
     Expected(What),
     NoticesLeftOut,
@@ -51,7 +78,7 @@ pub enum Stop {
 }
 
 /// Why reading the tokens ended early: want of memory, or a stop at a byte of the file.
-#[derive(Debug, Drop)]
+#[derive(Drop)]
 pub enum Halt {
     Memory,
     At(Stop, usize),

@@ -11,7 +11,7 @@ use iso_lexer::{Name, same_name};
 use std::alloc::{AllocError, Global};
 
 /// A step of the file: its name, its session, from 1, and its number in that, from 0.
-#[derive(Clone, Copy, Debug)]
+#[derive(Clone, Copy)]
 pub struct KnownStep<'a> {
     pub name: PlacedName<'a>,
     pub session: u32,

@@ -21,6 +21,3 @@ pub use laws::{
 };
 pub use parse::parse_spec;
 pub use tree::{Entry, Marker, Part, SessionPart, Spec, StepPart};
-
-#[cfg(test)]
-mod tests;

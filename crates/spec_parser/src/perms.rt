@@ -9,7 +9,7 @@ use std::alloc::Global;
 const MOST_ENTRIES: usize = 1000;
 
 impl<'t, 'a> Reader<'t, 'a> {
-    ghost use Rattle.std.specs.Prelude.{option_map, map};
+    ghost use Rattle.std.specs.Prelude.{◌≢◌, Err, option_map, map};
     ghost use Rattle.spec_parser.specs.Trees.{placed_view, marker_view, entry_name_view, perm_names_view};
     ghost use Rattle.spec_parser.specs.Reading.{no_notices, marker_at, next_marker_at, next_markers_at, markers_at, some_markers_at, entry_at, entries_at, perm_at, perms_at, all_at, starts_name};
     ghost use Rattle.spec_parser.specs.Readers.{rest_of, Same, Gives, behind};
@@ -17,6 +17,7 @@ impl<'t, 'a> Reader<'t, 'a> {
     #[tactic(auto, unfolding(crate::specs::Reading::no_notices))]
     fn no_notices(&self, name: PlacedName<'a>) -> Result<MarkerName<'a>, Halt>
         ensures reads { Gives self.now.end (λ x. (marker_view x, rest_of self.now)) result (no_notices (placed_view name.entry) (rest_of self.now)) }
+        ensures calm { result ≢ Err Halt.Memory }
     {
         if self.starts_word(Keyword::Notices) {
             return Err(self.stop(Stop::NoticesLeftOut));
@@ -28,6 +29,7 @@ impl<'t, 'a> Reader<'t, 'a> {
     fn marker(&mut self) -> Result<MarkerName<'a>, Halt>
         ensures same { Same self.old self.new }
         ensures reads { Gives self.old.end (λ x. (marker_view x, rest_of self.new)) result (marker_at (rest_of self.old)) }
+        ensures calm { result ≢ Err Halt.Memory }
     {
         if self.starts_sign(Sign::Star) {
             self.sign(Sign::Star, What::Marker)?;
@@ -41,6 +43,7 @@ impl<'t, 'a> Reader<'t, 'a> {
     fn next_marker(&mut self) -> Result<MarkerName<'a>, Halt>
         ensures same { Same self.old self.new }
         ensures reads { Gives self.old.end (λ x. (marker_view x, rest_of self.new)) result (next_marker_at (rest_of self.old)) }
+        ensures calm { result ≢ Err Halt.Memory }
     {
         self.sign(Sign::Comma, What::CommaOrClose)?;
         self.marker()

@@ -26,7 +26,7 @@ pub struct Reader<'t, 'a> {
 }
 
 impl<'t, 'a> Reader<'t, 'a> {
-    ghost use Rattle.std.specs.Prelude.{◌≡◌, ◌<◌, ◌^◌, [], length, MatchOption};
+    ghost use Rattle.std.specs.Prelude.{◌≡◌, ◌≢◌, ◌<◌, ◌^◌, [], length, Err, MatchOption};
     ghost use Rattle.iso_lexer.specs.SpecTokens.{at_view, at_views, name, block};
     ghost use Rattle.spec_parser.specs.Trees.{part_view, placed_view};
     ghost use Rattle.spec_parser.specs.Counts.{start};
@@ -127,7 +127,8 @@ impl<'t, 'a> Reader<'t, 'a> {
 
     #[tactic(auto, unfolding(crate::specs::Reading::end_at))]
     pub fn end(&self) -> Result<(), Halt>
-        ensures { Gives self.now.end (λ x. (x, rest_of self.now)) result (end_at (rest_of self.now)) }
+        ensures reads { Gives self.now.end (λ x. (x, rest_of self.now)) result (end_at (rest_of self.now)) }
+        ensures calm { result ≢ Err Halt.Memory }
     {
         match self.peek() {
             None => Ok(()),
@@ -139,6 +140,7 @@ impl<'t, 'a> Reader<'t, 'a> {
     pub fn word(&mut self, word: Keyword, what: What) -> Result<(), Halt>
         ensures same { Same self.old self.new }
         ensures reads { Gives self.old.end (λ x. (x, rest_of self.new)) result (word_at word what (rest_of self.old)) }
+        ensures calm { result ≢ Err Halt.Memory }
     {
         match self.peek() {
             None => Err(Halt::At(Stop::Expected(what), self.end)),
@@ -161,6 +163,7 @@ impl<'t, 'a> Reader<'t, 'a> {
     pub fn sign(&mut self, sign: Sign, what: What) -> Result<(), Halt>
         ensures same { Same self.old self.new }
         ensures reads { Gives self.old.end (λ x. (x, rest_of self.new)) result (sign_at sign what (rest_of self.old)) }
+        ensures calm { result ≢ Err Halt.Memory }
     {
         match self.peek() {
             None => Err(Halt::At(Stop::Expected(what), self.end)),
@@ -178,6 +181,7 @@ impl<'t, 'a> Reader<'t, 'a> {
     pub fn name(&mut self, what: What) -> Result<PlacedName<'a>, Halt>
         ensures same { Same self.old self.new }
         ensures reads { Gives self.old.end (λ x. (placed_view x, rest_of self.new)) result (name_at what (rest_of self.old)) }
+        ensures calm { result ≢ Err Halt.Memory }
     {
         match self.peek() {
             None => Err(Halt::At(Stop::Expected(what), self.end)),
@@ -198,6 +202,7 @@ impl<'t, 'a> Reader<'t, 'a> {
     pub fn block(&mut self) -> Result<Part<'a>, Halt>
         ensures same { Same self.old self.new }
         ensures reads { Gives self.old.end (λ x. (part_view x, rest_of self.new)) result (block_at (rest_of self.old)) }
+        ensures calm { result ≢ Err Halt.Memory }
     {
         match self.peek() {
             None => Err(Halt::At(Stop::Expected(What::Block), self.end)),

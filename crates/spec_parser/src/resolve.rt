@@ -1,9 +1,9 @@
 //! Looks up the names of permutations.
 
-ghost use Rattle.std.specs.Prelude.{◌≡◌, map, IfOk};
+ghost use Rattle.std.specs.Prelude.{◌≡◌, ◌<◌, length, map, IfOk, IsErrOf};
 ghost use Rattle.spec_parser.specs.Trees.{step_view, session_view, entry_view, perm_view, draft_view, session_draft_view, marker_view, entry_name_view, perm_names_view};
 ghost use Rattle.spec_parser.specs.Names.{each, known_marker, known_entry, known_perms, step_tree, session_tree};
-ghost use Rattle.spec_parser.specs.Known.{known_view, IsAs};
+ghost use Rattle.spec_parser.specs.Known.{known_view, IsAs, WantsRoom};
 
 use crate::draft::{EntryName, MarkerName, SessionDraft, StepDraft};
 use crate::fault::SpecFault;
@@ -12,7 +12,7 @@ use crate::tree::{Entry, Marker, SessionPart, StepPart};
 use std::alloc::{AllocError, Global};
 
 fn known_marker(known: &[KnownStep<'_>], marker: &MarkerName<'_>) -> Result<Marker, SpecFault>
-    ensures { IsAs (λ m. m) result (known_marker (map known_view known.now) (marker_view marker.now)) }
+    ensures { result ≡ known_marker (map known_view known.now) (marker_view marker.now) }
 {
     match marker {
         MarkerName::Star => Ok(Marker::Star),
@@ -31,7 +31,8 @@ fn known_markers(
     known: &[KnownStep<'_>],
     markers: &[MarkerName<'_>],
 ) -> Result<Vec<Marker>, SpecFault>
-    ensures { IsAs (λ v. v.items) result (each (known_marker (map known_view known.now)) (map marker_view markers.now)) }
+    ensures are { IsAs (λ v. v.items) result (each (known_marker (map known_view known.now)) (map marker_view markers.now)) }
+    ensures room { IsErrOf result SpecFault.Memory → 0 < length markers.now }
 {
     let mut items = Vec::new(alloc);
     for name in markers {
@@ -46,7 +47,8 @@ fn known_entry(
     known: &[KnownStep<'_>],
     entry: &EntryName<'_>,
 ) -> Result<Entry, SpecFault>
-    ensures { IsAs entry_view result (known_entry (map known_view known.now) (entry_name_view entry.now)) }
+    ensures is { IsAs entry_view result (known_entry (map known_view known.now) (entry_name_view entry.now)) }
+    ensures room { IsErrOf result SpecFault.Memory → WantsRoom (map known_view known.now) (entry_name_view entry.now) }
 {
     let Some(step) = find_step(known, &entry.name.name) else {
         return Err(SpecFault::UndefinedStep { at: entry.name.at });
@@ -111,7 +113,7 @@ fn session_part<'a>(
 {
     let steps = step_parts(alloc, &session.steps)?;
     Ok(SessionPart {
-        name: session.name,
+        name: session.name.name,
         setup: session.setup,
         steps,
         teardown: session.teardown,

@@ -12,7 +12,7 @@ const MOST_SESSIONS: usize = 64;
 const MOST_STEPS: usize = 1000;
 
 impl<'t, 'a> Reader<'t, 'a> {
-    ghost use Rattle.std.specs.Prelude.{◌<◌, ◌^◌, IfOk, vec_len, option_map, map};
+    ghost use Rattle.std.specs.Prelude.{◌≢◌, ◌<◌, ◌^◌, Err, IfOk, vec_len, option_map, map};
     ghost use Rattle.iso_lexer.specs.declared.spec_token.Keyword.TheVariants.{Session, Step};
     ghost use Rattle.spec_parser.specs.Trees.{part_view, placed_view, draft_view, session_draft_view};
     ghost use Rattle.spec_parser.specs.Reading.{name_within, block_after, setup_at, teardown_at, setups_at, step_at, steps_at, session_at, sessions_at, all_at, starts_word};
@@ -23,6 +23,7 @@ impl<'t, 'a> Reader<'t, 'a> {
     pub fn name_within(&mut self, before: usize, most: usize) -> Result<PlacedName<'a>, Halt>
         ensures same { Same self.old self.new }
         ensures reads { Gives self.old.end (λ x. (placed_view x, rest_of self.new)) result (name_within before most (rest_of self.old)) }
+        ensures calm { result ≢ Err Halt.Memory }
     {
         if before < most {
             self.name(What::Name)
@@ -37,6 +38,7 @@ impl<'t, 'a> Reader<'t, 'a> {
     fn block_after(&mut self, word: Keyword) -> Result<Part<'a>, Halt>
         ensures same { Same self.old self.new }
         ensures reads { Gives self.old.end (λ x. (part_view x, rest_of self.new)) result (block_after word (rest_of self.old)) }
+        ensures calm { result ≢ Err Halt.Memory }
     {
         self.word(word, What::Item)?;
         self.block()
@@ -46,6 +48,7 @@ impl<'t, 'a> Reader<'t, 'a> {
     fn setup(&mut self) -> Result<Option<Part<'a>>, Halt>
         ensures same { Same self.old self.new }
         ensures reads { Gives self.old.end (λ x. (option_map part_view x, rest_of self.new)) result (setup_at (rest_of self.old)) }
+        ensures calm { result ≢ Err Halt.Memory }
     {
         if !self.starts_word(Keyword::Setup) {
             return Ok(None);
@@ -58,6 +61,7 @@ impl<'t, 'a> Reader<'t, 'a> {
     pub fn teardown(&mut self) -> Result<Option<Part<'a>>, Halt>
         ensures same { Same self.old self.new }
         ensures reads { Gives self.old.end (λ x. (option_map part_view x, rest_of self.new)) result (teardown_at (rest_of self.old)) }
+        ensures calm { result ≢ Err Halt.Memory }
     {
         if !self.starts_word(Keyword::Teardown) {
             return Ok(None);
@@ -82,6 +86,7 @@ impl<'t, 'a> Reader<'t, 'a> {
     fn step(&mut self) -> Result<StepDraft<'a>, Halt>
         ensures same { Same self.old self.new }
         ensures reads { Gives self.old.end (λ x. (draft_view x, rest_of self.new)) result (step_at (rest_of self.old)) }
+        ensures calm { result ≢ Err Halt.Memory }
     {
         let before = self.steps_so_far();
         self.word(Keyword::Step, What::Item)?;
@@ -127,7 +132,7 @@ impl<'t, 'a> Reader<'t, 'a> {
         let steps = self.steps(alloc)?;
         let teardown = self.teardown()?;
         Ok(SessionDraft {
-            name: name.name,
+            name,
             setup,
             steps,
             teardown,

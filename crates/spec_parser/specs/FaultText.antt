@@ -1,0 +1,26 @@
+-- What is printed of a fault.
+use Rattle.std.specs.Prelude.{ℕ, List, ◌++◌, codes}
+use Rattle.iso_lexer.specs.FaultText.{placed, fault_text}
+use Rattle.spec_parser.specs.declared.fault.What.{What}
+use Rattle.spec_parser.specs.declared.fault.What.TheVariants.{Session, Step, Name, Block, Marker, CommaOrClose, Item}
+use Rattle.spec_parser.specs.declared.fault.SpecFault.{SpecFault}
+use Rattle.spec_parser.specs.declared.fault.SpecFault.TheVariants as faults
+
+abbrev pub what_text : What → List ℕ
+what_text Session = codes "Session"
+what_text Step = codes "Step"
+what_text Name = codes "Name"
+what_text Block = codes "Block"
+what_text Marker = codes "Marker"
+what_text CommaOrClose = codes "CommaOrClose"
+what_text Item = codes "Item"
+
+abbrev pub spec_fault_text : SpecFault → List ℕ
+spec_fault_text faults.Memory = codes "Memory"
+spec_fault_text (faults.Lex fault) = fault_text fault
+spec_fault_text (faults.Expected what at) = placed (codes "S1 Expected " ++ what_text what) at
+spec_fault_text (faults.DuplicateStep at) = placed (codes "S2 DuplicateStep") at
+spec_fault_text (faults.UndefinedStep at) = placed (codes "S3 UndefinedStep") at
+spec_fault_text (faults.UndefinedMarker at) = placed (codes "S4 UndefinedMarker") at
+spec_fault_text (faults.NoticesLeftOut at) = placed (codes "S5 NoticesLeftOut") at
+spec_fault_text (faults.Limit at) = placed (codes "S6 Limit") at
