@@ -256,7 +256,7 @@ module _ (last n : ℕ) (inside' : Opened → ℕ → Reader) (opens : Opens las
   in_open_tells : (neg : Bool) (place : ℕ) (left : Tree) (d : ℕ) (t : At Token) (ts : Tokens) → t.tok ≡ tok.sign signs.Open → Deep {A = Found} (At_or place (t ∷ ts)) (list_at (inside' Whole t.span.start) ts >>= λ items. deeper place (max d items.depth) >>= λ x. expect last is_close items.rest >>= λ rest. Ok (record { tree = tree.In left neg items.trees; depth = x; rest = rest }))
   in_open_tells neg place left d t ts g =
       next_in _ (list_at (inside' Whole t.span.start) ts) _ (list_tells (inside' Whole t.span.start) (λ us e c. (m : ℕ) × (n ≡ suc m) × Spells m OR us e c) (λ us f is. let k = opens Whole t.span.start us f is in record { front = k.2.front; whole = k.2.whole; some = k.2.some; spells = (k.0, k.1, k.2.spells) }) ts _
-        (λ us s. up _ _ (inside' Whole t.span.start us) (λ q m. inr (first_or t ts (ap goes_on g) q (lifted us s q m))) (deep Whole t.span.start us)) ts ([], refl)) (λ items is.
+      (λ us s. up _ _ (inside' Whole t.span.start us) (λ q m. inr (first_or t ts (ap goes_on g) q (lifted us s q m))) (deep Whole t.span.start us)) ts ([], refl)) (λ items is.
       next_in _ (deeper place (max d items.depth)) _ (tested _ place (max d items.depth) (inl refl)) (λ x is'.
       next_in _ (expect last is_close items.rest) _ (expected _ is_close items.rest) (λ rest is''. given _ _)))
     where
