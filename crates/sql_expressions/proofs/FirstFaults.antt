@@ -1,14 +1,16 @@
 -- The laws of where reading stops.
-use Rattle.std.proofs.Common.{◌≡◌, ℕ, ◌++◌, ◌⊎◌, inl, inr, sym, ap, ◌∙◌}
+use Rattle.std.proofs.Common.{◌≡◌, ℕ, [], ◌∷◌, ◌++◌, ◌⊎◌, inl, inr, refl, sym, ap, subst, ◌∙◌}
 use Rattle.std.specs.Prelude.{Result, Ok, Err}
 use Rattle.sql_trees.specs.declared.fault.SqlFault.{SqlFault}
 use Rattle.sql_trees.specs.declared.fault.SqlFault.TheVariants.{Syntax, TooDeep}
 use Rattle.sql_trees.specs.Tokens.{Tokens}
 use Rattle.sql_trees.specs.Trees.{Tree}
-use Rattle.sql_expressions.specs.Reading.{Found, expr_at}
+use Rattle.sql_expressions.specs.Reading.{Found, place_of, expr_at}
 use Rattle.sql_expressions.specs.Grammar.{OR}
-use Rattle.sql_expressions.specs.Laws.{head, Spelled, StopsFirst, FaultsAreFirst, TakesFront, FrontsAreTaken, ExpressionsAreRead}
+use Rattle.sql_expressions.specs.Laws.{head, Spelled, IsRefusal, Refuses, ended, misplaced, StopsFirst, FaultsAreFirst, first, DeepFirst, DeepIsFirst, TakesFront, FrontsAreTaken, ExpressionsAreRead}
+use Rattle.sql_expressions.proofs.Complete.{expr_complete}
 use Rattle.sql_expressions.proofs.Beyond.{read_or_deep}
+use Rattle.sql_expressions.proofs.Deep.{expr_tells}
 use Rattle.sql_expressions.proofs.Local.{put, Means, is_read}
 use Rattle.sql_expressions.proofs.Tails.{seen}
 use Rattle.sql_expressions.proofs.Stops.{expr_local}
@@ -22,35 +24,79 @@ ok_same f g h = cc
 no_both : (f : Found) (e : SqlFault) → ◌≡◌ {A = Result Found SqlFault} (Ok f) (Err e) → ⊥
 no_both f e h = cc
 
-deep_is_no_syntax : (q place : ℕ) → TooDeep q ≡ Syntax place → ⊥
-deep_is_no_syntax q place e = cc
+deep_is_no_refusal : (q : ℕ) (fault : SqlFault) → TooDeep q ≡ fault → IsRefusal fault → ⊥
+deep_is_no_refusal q fault e r = subst IsRefusal (sym e) r
 
--- what is read or too deep is no syntax fault
-not_stopped : (last place : ℕ) (fs bs : Tokens) → ((e : Tree) × (d : ℕ) × (expr_at last (fs ++ bs) ≡ Ok (record { tree = e; depth = d; rest = bs }))) ⊎ ((q : ℕ) × (expr_at last (fs ++ bs) ≡ Err (TooDeep q))) → expr_at last (fs ++ bs) ≡ Err (Syntax place) → ⊥
-not_stopped last place fs bs (inl (e, d, h)) g = no_both (record { tree = e; depth = d; rest = bs }) (Syntax place) (sym h ∙ g)
-not_stopped last place fs bs (inr (q, h)) g = deep_is_no_syntax q place (err_same (TooDeep q) (Syntax place) (sym h ∙ g))
+-- what is read or too deep is not refused
+not_stopped : (last : ℕ) (fault : SqlFault) (fs bs : Tokens) → IsRefusal fault → ((e : Tree) × (d : ℕ) × (expr_at last (fs ++ bs) ≡ Ok (record { tree = e; depth = d; rest = bs }))) ⊎ ((q : ℕ) × (expr_at last (fs ++ bs) ≡ Err (TooDeep q))) → expr_at last (fs ++ bs) ≡ Err fault → ⊥
+not_stopped last fault fs bs r (inl (e, d, h)) g = no_both (record { tree = e; depth = d; rest = bs }) fault (sym h ∙ g)
+not_stopped last fault fs bs r (inr (q, h)) g = deep_is_no_refusal q fault (err_same (TooDeep q) fault (sym h ∙ g)) r
 
-stops_from : (last place : ℕ) (ts front rest : Tokens) (out : Result (Tree × ℕ) SqlFault) → put seen out rest ≡ Err (Syntax place) → ts ≡ front ++ rest
-    → ((others : Tokens) → head others ≡ head rest → expr_at last (front ++ others) ≡ put seen out others) → Means last (Spelled OR) out front rest → StopsFirst last ts place
-stops_from last place ts front rest (Ok v) is split local means = absurd (no_both (seen v rest) (Syntax place) is)
-stops_from last place ts front rest (Err e) is split local means =
-    let same = err_same e (Syntax place) is in
-    let m = means place same in
+stops_from : (last : ℕ) (fault : SqlFault) (ts front rest : Tokens) (out : Result (Tree × ℕ) SqlFault) → IsRefusal fault → put seen out rest ≡ Err fault → ts ≡ front ++ rest
+    → ((others : Tokens) → head others ≡ head rest → expr_at last (front ++ others) ≡ put seen out others) → Means last (Spelled OR) out front rest → StopsFirst last ts fault
+stops_from last fault ts front rest (Ok v) r is split local means = absurd (no_both (seen v rest) fault is)
+stops_from last fault ts front rest (Err e) r is split local means =
+    let same = err_same e fault is in
     record {
       front = front;
       rest = rest;
       split = split;
-      here = m.0;
-      begins = m.1;
+      refuses = subst (Refuses last front rest) same (means.0 (subst IsRefusal (sym same) r));
+      begins = means.1;
       stays = λ others h. local others h ∙ ap Err same;
       stuck = λ others fs bs h parts spelled ends.
-          not_stopped last place fs bs (read_or_deep last fs bs spelled ends) (ap (expr_at last) (sym parts) ∙ local others h ∙ ap Err same);
+          not_stopped last fault fs bs r (read_or_deep last fs bs spelled ends) (ap (expr_at last) (sym parts) ∙ local others h ∙ ap Err same);
     }
 
-pub faults_are_first : FaultsAreFirst
-faults_are_first last place ts e =
+pub refusals_are_first : FaultsAreFirst
+refusals_are_first last ts fault r e =
     let l = expr_local last ts in
-    stops_from last place ts l.front l.rest l.out (sym (is_read last (Spelled OR) (expr_at last) ts l) ∙ e) l.split l.local l.means
+    stops_from last fault ts l.front l.rest l.out r (sym (is_read last (Spelled OR) (expr_at last) ts l) ∙ e) l.split l.local l.means
+
+-- what was read and the next token of a list with no more
+first_head : (ts : Tokens) → head (first ts) ≡ head ts
+first_head [] = refl
+first_head (t ∷ ts) = refl
+
+deep_from : (last place : ℕ) (ts front rest : Tokens) (out : Result (Tree × ℕ) SqlFault) → put seen out rest ≡ Err (TooDeep place) → ts ≡ front ++ rest
+    → ((others : Tokens) → head others ≡ head rest → expr_at last (front ++ others) ≡ put seen out others) → Means last (Spelled OR) out front rest → DeepFirst last ts place
+deep_from last place ts front rest (Ok v) is split local means = absurd (no_both (seen v rest) (TooDeep place) is)
+deep_from last place ts front rest (Err f) is split local means =
+    let same = err_same f (TooDeep place) is in
+    record {
+      front = front;
+      rest = rest;
+      split = split;
+      makes = expr_tells last place (front ++ first rest) (local (first rest) (first_head rest) ∙ ap Err same);
+      begins = means.1;
+      stays = λ others h. local others h ∙ ap Err same;
+      beyond = λ others fs bs e d h parts spelled ends.
+          no_both (record { tree = e; depth = d; rest = bs }) (TooDeep place) (sym (expr_complete last spelled bs ends) ∙ ap (expr_at last) (sym parts) ∙ local others h ∙ ap Err same);
+    }
+
+pub deep_is_first : DeepIsFirst
+deep_is_first last place ts e =
+    let l = expr_local last ts in
+    deep_from last place ts l.front l.rest l.out (sym (is_read last (Spelled OR) (expr_at last) ts l) ∙ e) l.split l.local l.means
+
+-- where a syntax fault stands
+syntax_here : (last place : ℕ) (front rest : Tokens) → Refuses last front rest (Syntax place) → place ≡ place_of last rest
+syntax_here last _ _ _ (ended front) = refl
+syntax_here last _ _ _ (misplaced front rest t h) = refl
+
+-- the same of a syntax fault, with its place
+pub record SyntaxFirst (last : ℕ) (ts : Tokens) (place : ℕ) : Type 0 where
+  pub front : Tokens
+  pub rest : Tokens
+  pub split : ts ≡ front ++ rest
+  pub here : place ≡ place_of last rest
+  pub begins : (more : Tokens) × Spelled OR (front ++ more)
+  pub stays : (others : Tokens) → head others ≡ head rest → expr_at last (front ++ others) ≡ Err (Syntax place)
+
+pub faults_are_first : (last place : ℕ) (ts : Tokens) → expr_at last ts ≡ Err (Syntax place) → SyntaxFirst last ts place
+faults_are_first last place ts e =
+    let s = refusals_are_first last ts (Syntax place) tt e in
+    record { front = s.front; rest = s.rest; split = s.split; here = syntax_here last place s.front s.rest s.refuses; begins = s.begins; stays = s.stays }
 
 takes_from : (last : ℕ) (ts front rest : Tokens) (f : Found) (out : Result (Tree × ℕ) SqlFault) → put seen out rest ≡ Ok f → ts ≡ front ++ rest
     → ((others : Tokens) → head others ≡ head rest → expr_at last (front ++ others) ≡ put seen out others) → TakesFront last ts f

@@ -110,19 +110,19 @@ module _ (last n : ℕ) (inside' : Opened → ℕ → Reader) where
     una_of_sound (tok.sign signs.Plus) t ts f h e = sign_sound Plus t ts f (λ m us x c p l. plus us t x c h p l) e
     una_of_sound _ t ts f h e = took_up _ _ (λ us x c p. only UNA us x c p) _ _ (prim_sound (t ∷ ts) f e)
 
-    una_sound : Sound (Spells n UNA) (una_at last inside')
+    pub una_sound : Sound (Spells n UNA) (una_at last inside')
     una_sound [] f e = absurd cc
     una_sound (t ∷ ts) f e = una_of_sound t.tok t ts f refl e
 
-    mul_sound : Sound (Spells n MUL) (mul_at last inside')
+    pub mul_sound : Sound (Spells n MUL) (mul_at last inside')
     unfolding mul_at
     mul_sound = chain_sound _ _ (Spells n UNA) (Spells n MUL) una_sound (λ fs bs t o a b c d p h q l. chain MUL fs bs t o a b c d p h q l) (λ ts e d p. only MUL ts e d p)
 
-    add_sound : Sound (Spells n ADD) (add_at last inside')
+    pub add_sound : Sound (Spells n ADD) (add_at last inside')
     unfolding add_at
     add_sound = chain_sound _ _ (Spells n MUL) (Spells n ADD) mul_sound (λ fs bs t o a b c d p h q l. chain ADD fs bs t o a b c d p h q l) (λ ts e d p. only ADD ts e d p)
 
-    cat_sound : Sound (Spells n CAT) (cat_at last inside')
+    pub cat_sound : Sound (Spells n CAT) (cat_at last inside')
     unfolding cat_at
     cat_sound = chain_sound _ _ (Spells n ADD) (Spells n CAT) add_sound (λ fs bs t o a b c d p h q l. chain CAT fs bs t o a b c d p h q l) (λ ts e d p. only CAT ts e d p)
 
@@ -200,13 +200,13 @@ module _ (last n : ℕ) (inside' : Opened → ℕ → Reader) where
     inn_more_sound ts [] a f k w e = up_inn ts a f k e
     inn_more_sound ts (t ∷ us) a f k w e = inn_of_sound t.tok ts us t a f k refl w e
 
-    inn_sound : Sound (Spells n INN) (inn_at last inside')
+    pub inn_sound : Sound (Spells n INN) (inn_at last inside')
     unfolding inn_at
     inn_sound ts f e =
         let s = bind_ok (cat_at last inside' ts) (λ a. inn_more last inside' a a.rest) f e in
         inn_more_sound ts s.0.rest s.0 f (cat_sound ts s.0 s.1) refl s.2
 
-    cmp_sound : Sound (Spells n CMP) (cmp_at last inside')
+    pub cmp_sound : Sound (Spells n CMP) (cmp_at last inside')
     unfolding cmp_at
     cmp_sound ts f e =
         let s = bind_ok (inn_at last inside' ts) (λ a. cmp_more last inside' (next_op comparison_op a.rest) a) f e in
@@ -270,7 +270,7 @@ module _ (last n : ℕ) (inside' : Opened → ℕ → Reader) where
         let k = opens Negation t.span.start ts s1.0 s1.1 in
         behind (Spells k.0 NOT) (Spells n NOT) Not t ts s1.0 f t.span.start s2.0 k.2 s2.1 s2.2 (λ us x c p l. subst (λ m. Spells m NOT (t ∷ us) (Not x) (c + 1)) (sym k.1) (negation us t x c h p l))
 
-    not_sound : Sound (Spells n NOT) (not_at last inside')
+    pub not_sound : Sound (Spells n NOT) (not_at last inside')
     not_sound [] f e = took_up (Spells n IS) (Spells n NOT) (λ us x c p. only NOT us x c p) [] f (is_sound [] f e)
     not_sound (t ∷ ts) f e = of_test (is_not t.tok) refl e
       where
@@ -278,7 +278,7 @@ module _ (last n : ℕ) (inside' : Opened → ℕ → Reader) where
         of_test true g q = negation_sound t ts f (is_not_true t.tok g) q
         of_test false g q = took_up (Spells n IS) (Spells n NOT) (λ us x c p. only NOT us x c p) (t ∷ ts) f (is_sound (t ∷ ts) f q)
 
-    and_sound : Sound (Spells n AND) (and_at last inside')
+    pub and_sound : Sound (Spells n AND) (and_at last inside')
     unfolding and_at
     and_sound = chain_sound _ _ (Spells n NOT) (Spells n AND) not_sound (λ fs bs t o a b c d p h q l. chain AND fs bs t o a b c d p h q l) (λ ts e d p. only AND ts e d p)
 

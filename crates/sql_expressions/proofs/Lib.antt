@@ -10,4 +10,5 @@ pub mod Local
 pub mod Tails
 pub mod Stops
 pub mod Beyond
+pub mod Deep
 pub mod FirstFaults

@@ -1,13 +1,16 @@
 -- Where reading stops depends on the tokens up to there alone: the forms that readings are made of.
-use Rattle.std.proofs.Common.{◌≡◌, ℕ, ◌+◌, Bool, true, false, [], ◌∷◌, ◌++◌, Option, Some, None, refl, sym, ap, subst, ◌∙◌, append_assoc}
-use Rattle.std.specs.Prelude.{Result, Ok, Err, nat_lt}
+use Rattle.std.proofs.Common.{◌≡◌, ℕ, ◌+◌, Bool, true, false, List, [], ◌∷◌, ◌++◌, Option, Some, None, refl, sym, ap, subst, ◌∙◌, append_assoc}
+use Rattle.std.specs.Prelude.{Result, Ok, Err, nat_lt, if◌then◌else◌}
 use Rattle.std.proofs.lemmas.List.{append-nil}
 use Rattle.iso_lexer.specs.declared.token.At.{At}
 use Rattle.sql_trees.specs.declared.fault.SqlFault.{SqlFault}
 use Rattle.sql_trees.specs.declared.fault.SqlFault.TheVariants.{Syntax, LeftOut, TooDeep}
-use Rattle.sql_trees.specs.Tokens.{Token, Tokens}
-use Rattle.sql_expressions.specs.Reading.{misplaced, place_of, left_out, deeper, expect, ◌>>=◌}
-use Rattle.sql_expressions.specs.Laws.{head}
+use Rattle.iso_lexer.specs.declared.sql_token.SqlSign.TheVariants as signs
+use Rattle.sql_trees.specs.Tokens.{Token, Tokens, named}
+use Rattle.sql_trees.specs.Tokens as tok
+use Rattle.sql_expressions.specs.Reading.{left_out, is_call, deeper, expect, ◌>>=◌}
+use Rattle.sql_expressions.specs.Reading as reading
+use Rattle.sql_expressions.specs.Laws.{head, IsRefusal, Refuses, ended, misplaced, excluded, called}
 
 some_same : (s t : At Token) → ◌≡◌ {A = Option (At Token)} (Some s) (Some t) → s ≡ t
 some_same s t e = cc
@@ -33,14 +36,22 @@ put build (Ok v) others = Ok (build v others)
 put build (Err e) others = Err e
 
 module _ (last : ℕ) where
-  -- a syntax fault stands at the next token, and the tokens before it begin something that is in the grammar
+  -- behind more tokens the next one is refused in the same way
+  pub refuses_behind : (before front rest : Tokens) (e : SqlFault) → Refuses last front rest e → Refuses last (before ++ front) rest e
+  refuses_behind before _ _ _ (ended front) = ended (before ++ front)
+  refuses_behind before _ _ _ (misplaced front rest t h) = misplaced (before ++ front) rest t h
+  refuses_behind before _ _ _ (excluded front rest t h) = excluded (before ++ front) rest t h
+  refuses_behind before _ _ _ (called front rest name paren n h g) =
+      subst (λ (x : Tokens). Refuses last x (paren ∷ rest) (LeftOut (if is_call name.tok then name.span.start else paren.span.start))) (append_assoc before front (name ∷ [])) (called (before ++ front) rest name paren n h g)
+
+  -- the tokens begin something that is in the grammar, and where they are refused, it is by the next token
   abbrev pub Stops : (Tokens → Type 0) → SqlFault → Tokens → Tokens → Type 0
-  Stops G e front rest = (place : ℕ) → e ≡ Syntax place → (place ≡ place_of last rest) × ((more : Tokens) × G (front ++ more))
+  Stops G e front rest = (IsRefusal e → Refuses last front rest e) × ((more : Tokens) × G (front ++ more))
 
   -- what is read is in the grammar, or reading stops
   abbrev pub Means : {A : Type 0} → (Tokens → Type 0) → Result A SqlFault → Tokens → Tokens → Type 0
   Means G (Ok v) front rest = G front
-  Means G (Err e) front rest = (place : ℕ) → e ≡ Syntax place → (place ≡ place_of last rest) × ((more : Tokens) × G (front ++ more))
+  Means G (Err e) front rest = (IsRefusal e → Refuses last front rest e) × ((more : Tokens) × G (front ++ more))
 
   -- a reading takes the front of the tokens, and answers the same for each list that has this front and the same token behind it
   pub record Local {A Y : Type 0} (build : A → Tokens → Y) (G : Tokens → Type 0) (p : Tokens → Result Y SqlFault) (ts : Tokens) : Type 0 where
@@ -66,43 +77,41 @@ module _ (last : ℕ) where
   pub at_token : {A Y : Type 0} (build : A → Tokens → Y) (G : Tokens → Type 0) (p : Tokens → Result Y SqlFault) (out : Result A SqlFault) (t : At Token) (us : Tokens) → ((vs : Tokens) → p (t ∷ vs) ≡ put build out (t ∷ vs)) → Means G out [] (t ∷ us) → Local build G p (t ∷ us)
   at_token build G p out t us f m = at_once build G p out (t ∷ us) (λ others h. let w = first_is t others h in subst (λ us. p us ≡ put build out us) (sym w.1) (f w.0)) m
 
-  deep_is_no_syntax : (q place : ℕ) → TooDeep q ≡ Syntax place → ⊥
-  deep_is_no_syntax q place e = cc
-
-  left_out_is_no_syntax : (q place : ℕ) → LeftOut q ≡ Syntax place → ⊥
-  left_out_is_no_syntax q place e = cc
-
   -- too deep, whatever comes
-  pub deep_always : {A Y : Type 0} (build : A → Tokens → Y) (G : Tokens → Type 0) (p : Tokens → Result Y SqlFault) (q : ℕ) (ts : Tokens) → ((others : Tokens) → p others ≡ Err (TooDeep q)) → Local build G p ts
-  deep_always build G p q ts f = at_once build G p (Err (TooDeep q)) ts (λ others h. f others) (λ place e. absurd (deep_is_no_syntax q place e))
+  pub deep_always : {A Y : Type 0} (build : A → Tokens → Y) (G : Tokens → Type 0) (p : Tokens → Result Y SqlFault) (q : ℕ) (ts : Tokens) → Inhabited G → ((others : Tokens) → p others ≡ Err (TooDeep q)) → Local build G p ts
+  deep_always build G p q ts g f = at_once build G p (Err (TooDeep q)) ts (λ others h. f others) (λ r. absurd r, g)
 
-  pub deep_at : {A Y : Type 0} (build : A → Tokens → Y) (G : Tokens → Type 0) (p : Tokens → Result Y SqlFault) (q : ℕ) (t : At Token) (us : Tokens) → ((vs : Tokens) → p (t ∷ vs) ≡ Err (TooDeep q)) → Local build G p (t ∷ us)
-  deep_at build G p q t us f = at_token build G p (Err (TooDeep q)) t us f (λ place e. absurd (deep_is_no_syntax q place e))
+  pub deep_at : {A Y : Type 0} (build : A → Tokens → Y) (G : Tokens → Type 0) (p : Tokens → Result Y SqlFault) (q : ℕ) (t : At Token) (us : Tokens) → Inhabited G → ((vs : Tokens) → p (t ∷ vs) ≡ Err (TooDeep q)) → Local build G p (t ∷ us)
+  deep_at build G p q t us g f = at_token build G p (Err (TooDeep q)) t us f (λ r. absurd r, g)
 
-  pub left_out_at : {A Y : Type 0} (build : A → Tokens → Y) (G : Tokens → Type 0) (p : Tokens → Result Y SqlFault) (q : ℕ) (t : At Token) (us : Tokens) → ((vs : Tokens) → p (t ∷ vs) ≡ Err (LeftOut q)) → Local build G p (t ∷ us)
-  left_out_at build G p q t us f = at_token build G p (Err (LeftOut q)) t us f (λ place e. absurd (left_out_is_no_syntax q place e))
+  -- a call behind a name
+  pub called_at : {A Y : Type 0} (build : A → Tokens → Y) (G : Tokens → Type 0) (p : Tokens → Result Y SqlFault) (t u : At Token) (us : Tokens) (n : List ℕ) → named t.tok ≡ Some n → u.tok ≡ tok.sign signs.Open → G (t ∷ []) → ((vs : Tokens) → p (t ∷ u ∷ vs) ≡ Err (LeftOut (if is_call t.tok then t.span.start else u.span.start))) → Local build G p (t ∷ u ∷ us)
+  called_at build G p t u us n h o g f = record {
+    out = Err (LeftOut (if is_call t.tok then t.span.start else u.span.start));
+    front = t ∷ [];
+    rest = u ∷ us;
+    split = refl;
+    local = λ others e. let w = first_is u others e in subst (λ vs. p (t ∷ vs) ≡ Err (LeftOut (if is_call t.tok then t.span.start else u.span.start))) (sym w.1) (f w.0);
+    means = (λ r. called [] us t u n h o, ([], g));
+  }
 
-  syntax_same : (p q : ℕ) → Syntax p ≡ Syntax q → p ≡ q
-  syntax_same p q e = cc
-
-  -- a syntax fault stands at the first token, or at the end
-  misplaced_place : (ts : Tokens) (place : ℕ) → misplaced last ts ≡ Syntax place → place ≡ place_of last ts
-  misplaced_place [] place e = sym (syntax_same last place e)
-  misplaced_place (t ∷ ts) place e = of_test (left_out t.tok) refl e
+  -- what is said of a next token that no rule allows
+  misplaced_refuses : (t : At Token) (us : Tokens) → Refuses last [] (t ∷ us) (reading.misplaced last (t ∷ us))
+  misplaced_refuses t us = of_test (left_out t.tok) refl
     where
-      of_test : (b : Bool) → left_out t.tok ≡ b → misplaced last (t ∷ ts) ≡ Syntax place → place ≡ t.span.start
-      of_test true h g = absurd (let w : LeftOut t.span.start ≡ Syntax place = (sym (rw h refl)) ∙ g in cc)
-      of_test false h g = let w : Syntax t.span.start ≡ Syntax place = (sym (rw h refl)) ∙ g in cc
+      of_test : (b : Bool) → left_out t.tok ≡ b → Refuses last [] (t ∷ us) (reading.misplaced last (t ∷ us))
+      of_test true h = rw h (excluded [] us t h)
+      of_test false h = rw h (misplaced [] us t h)
 
   pub stuck_end : {A Y : Type 0} (build : A → Tokens → Y) (G : Tokens → Type 0) (p : Tokens → Result Y SqlFault) → Inhabited G → p [] ≡ Err (Syntax last) → Local build G p []
-  stuck_end build G p g e = at_end build G p (Err (Syntax last)) e (λ place h. (sym (syntax_same last place h), g))
+  stuck_end build G p g e = at_end build G p (Err (Syntax last)) e (λ r. ended [], g)
 
-  pub stuck_at : {A Y : Type 0} (build : A → Tokens → Y) (G : Tokens → Type 0) (p : Tokens → Result Y SqlFault) (t : At Token) (us : Tokens) → Inhabited G → ((vs : Tokens) → p (t ∷ vs) ≡ Err (misplaced last (t ∷ vs))) → Local build G p (t ∷ us)
-  stuck_at build G p t us g f = at_token build G p (Err (misplaced last (t ∷ us))) t us f (λ place h. (misplaced_place (t ∷ us) place h, g))
+  pub stuck_at : {A Y : Type 0} (build : A → Tokens → Y) (G : Tokens → Type 0) (p : Tokens → Result Y SqlFault) (t : At Token) (us : Tokens) → Inhabited G → ((vs : Tokens) → p (t ∷ vs) ≡ Err (reading.misplaced last (t ∷ vs))) → Local build G p (t ∷ us)
+  stuck_at build G p t us g f = at_token build G p (Err (reading.misplaced last (t ∷ us))) t us f (λ r. misplaced_refuses t us, g)
 
-  means_up : {A : Type 0} (G K : Tokens → Type 0) (out : Result A SqlFault) (xs ys rest : Tokens) → (G xs → K ys) → ((more : Tokens) → G (xs ++ more) → K (ys ++ more)) → Means G out xs rest → Means K out ys rest
-  means_up G K (Ok v) xs ys rest up ups m = up m
-  means_up G K (Err e) xs ys rest up ups m = λ place h. let n = m place h in (n.0, (n.1.0, ups n.1.0 n.1.1))
+  means_up : {A : Type 0} (G K : Tokens → Type 0) (out : Result A SqlFault) (xs ys rest : Tokens) → ((e : SqlFault) → Refuses last xs rest e → Refuses last ys rest e) → (G xs → K ys) → ((more : Tokens) → G (xs ++ more) → K (ys ++ more)) → Means G out xs rest → Means K out ys rest
+  means_up G K (Ok v) xs ys rest told up ups m = up m
+  means_up G K (Err e) xs ys rest told up ups m = (λ r. told e (m.0 r), (m.1.0, ups m.1.0 m.1.1))
 
   -- ---- a reading as another one
 
@@ -113,7 +122,7 @@ module _ (last : ℕ) where
     rest = l.rest;
     split = l.split;
     local = λ others h. same (l.front ++ others) (head_after l.front others l.rest h ∙ ap head (sym l.split)) ∙ l.local others h;
-    means = means_up G K l.out l.front l.front l.rest (up l.front) (λ more. up (l.front ++ more)) l.means;
+    means = means_up G K l.out l.front l.front l.rest (λ e r. r) (up l.front) (λ more. up (l.front ++ more)) l.means;
   }
 
   -- behind a first token
@@ -124,21 +133,18 @@ module _ (last : ℕ) where
     rest = l.rest;
     split = ap (λ (r : Tokens). t ∷ r) l.split;
     local = λ others h. same (l.front ++ others) ∙ l.local others h;
-    means = means_up G K l.out l.front (t ∷ l.front) l.rest (up l.front) (λ more. up (l.front ++ more)) l.means;
+    means = means_up G K l.out l.front (t ∷ l.front) l.rest (refuses_behind (t ∷ []) l.front l.rest) (up l.front) (λ more. up (l.front ++ more)) l.means;
   }
 
   -- ---- one after another
 
   seq_means : {B : Type 0} (G H K : Tokens → Type 0) (front next rest : Tokens) (out : Result B SqlFault) → ((xs ys : Tokens) → G xs → H ys → K (xs ++ ys)) → G front → Means H out next rest → Means K out (front ++ next) rest
   seq_means G H K front next rest (Ok w) join g m = join front next g m
-  seq_means G H K front next rest (Err e) join g m = λ place h.
-      let n = m place h in
-      (n.0, (n.1.0, subst K (sym (append_assoc front next n.1.0)) (join front (next ++ n.1.0) g n.1.1)))
+  seq_means G H K front next rest (Err e) join g m =
+      (λ r. refuses_behind front next rest e (m.0 r), (m.1.0, subst K (sym (append_assoc front next m.1.0)) (join front (next ++ m.1.0) g m.1.1)))
 
   seq_stop : (G H K : Tokens → Type 0) (front rest : Tokens) (e : SqlFault) → Inhabited H → ((xs ys : Tokens) → G xs → H ys → K (xs ++ ys)) → Stops G e front rest → Stops K e front rest
-  seq_stop G H K front rest e some join m = λ place h.
-      let n = m place h in
-      (n.0, (n.1.0 ++ some.0, subst K (append_assoc front n.1.0 some.0) (join (front ++ n.1.0) some.0 n.1.1 some.1)))
+  seq_stop G H K front rest e some join m = (m.0, (m.1.0 ++ some.0, subst K (append_assoc front m.1.0 some.0) (join (front ++ m.1.0) some.0 m.1.1 some.1)))
 
   seq_case : {A B Y Z : Type 0} (build : A → Tokens → Y) (make : B → Tokens → Z) (G H K : Tokens → Type 0) (p : Tokens → Result Y SqlFault) (k : Y → Result Z SqlFault) (ts : Tokens) (out : Result A SqlFault) (front rest : Tokens) → ts ≡ front ++ rest
       → ((others : Tokens) → head others ≡ head rest → p (front ++ others) ≡ put build out others) → Means G out front rest
@@ -196,13 +202,21 @@ module _ (last : ℕ) where
   deep_enough : (place d : ℕ) → nat_lt d 64 ≡ true → deeper place d ≡ Ok (d + 1)
   deep_enough place d h = rw h refl
 
+  some_of : {A : Type 0} (G : Tokens → Type 0) (out : Result A SqlFault) (front rest : Tokens) → Means G out front rest → Inhabited G
+  some_of G (Ok v) front rest m = (front, m)
+  some_of G (Err e) front rest m = (front ++ m.1.0, m.1.1)
+
+  -- what is read is the beginning of something
+  inhabited : {A Y : Type 0} {build : A → Tokens → Y} {p : Tokens → Result Y SqlFault} {ts : Tokens} (G : Tokens → Type 0) → Local build G p ts → Inhabited G
+  inhabited G l = some_of G l.out l.front l.rest l.means
+
   -- a test of the depth, and what follows it
   pub deeper_then : {B Z : Type 0} (make : B → Tokens → Z) (G : Tokens → Type 0) (place d : ℕ) (k : ℕ → Tokens → Result Z SqlFault) (p : Tokens → Result Z SqlFault) (ts : Tokens) → ((others : Tokens) → p others ≡ (deeper place d >>= λ x. k x others)) → Local make G (k (d + 1)) ts → Local make G p ts
   deeper_then make G place d k p ts same l = of_test (nat_lt d 64) refl
     where
       of_test : (b : Bool) → nat_lt d 64 ≡ b → Local make G p ts
       of_test true h = same_at G G (k (d + 1)) p ts (λ xs g. g) (λ us e. same us ∙ ap (λ r. r >>= λ x. k x us) (deep_enough place d h)) l
-      of_test false h = deep_always make G p place ts (λ us. same us ∙ ap (λ r. r >>= λ x. k x us) (too_deep place d h))
+      of_test false h = deep_always make G p place ts (inhabited G l) (λ us. same us ∙ ap (λ r. r >>= λ x. k x us) (too_deep place d h))
 
   -- what was read becomes something else
   pub mapped : {A B Y Z : Type 0} {build : A → Tokens → Y} (make : B → Tokens → Z) (G : Tokens → Type 0) (p : Tokens → Result Y SqlFault) (k : Y → Result Z SqlFault) (g : A → B) (ts : Tokens) → ((v : A) (r : Tokens) → k (build v r) ≡ Ok (make (g v) r)) → Local build G p ts → Local make G (λ r. p r >>= k) ts

@@ -20,7 +20,7 @@ use Rattle.sql_expressions.specs.Laws.{Spelled}
 use Rattle.sql_expressions.proofs.Steps.{is_open_true, is_close_true, is_and_true, is_not_true, is_is_true}
 use Rattle.sql_expressions.proofs.Levels.{level_of}
 use Rattle.sql_expressions.proofs.Shapes.{Listed, only_spelled, comparison_spelled, negation_spelled, minus_spelled, plus_spelled, parens_spelled, leaf_spelled, is_spelled, between_spelled, contained_spelled, some_token, a_number, prim_number, una_number, mul_number, add_number, cat_number, not_number, and_number, or_number}
-use Rattle.sql_expressions.proofs.Local.{Local, Nothing, One, Inhabited, at_end, at_token, left_out_at, stuck_end, stuck_at, behind, in_turn, gives, deeper_then, mapped, checked, deep_always, expect_local, switch_at, switch_end}
+use Rattle.sql_expressions.proofs.Local.{Local, Nothing, One, Inhabited, at_end, at_token, called_at, stuck_end, stuck_at, behind, in_turn, gives, deeper_then, mapped, checked, deep_always, expect_local, switch_at, switch_end}
 use Rattle.sql_expressions.proofs.Tails.{seen, Tail, no_tail, Reads, chain_local, list_local}
 use Rattle.sql_expressions.proofs.Shapes.{one_listed}
 use Rattle.sql_expressions.proofs.Shortens.{shortens}
@@ -81,20 +81,21 @@ module _ (last : ℕ) where
 
   -- ---- names
 
-  column_local : (t : At Token) (n : List ℕ) (ts : Tokens) → Local last seen (Nothing last) (column_at last t n) ts
-  column_local t n [] = at_end last seen (Nothing last) (column_at last t n) (Ok (Column n, 0)) refl refl
-  column_local t n (u ∷ us) = of_test (is_open u.tok) refl
-    where
-      of_test : (b : Bool) → is_open u.tok ≡ b → Local last seen (Nothing last) (column_at last t n) (u ∷ us)
-      of_test true h = left_out_at last seen (Nothing last) (column_at last t n) (if is_call t.tok then t.span.start else u.span.start) u us (λ vs. rw h refl)
-      of_test false h = at_token last seen (Nothing last) (column_at last t n) (Ok (Column n, 0)) u us (λ vs. rw h refl) refl
-
   one_leaf : (t : At Token) (e : Tree) → IsLeaf t.tok e → (xs : Tokens) → Nothing last xs → Spelled PRIM (t ∷ xs)
   one_leaf t e p xs n = rw n (leaf_spelled t e p)
 
+  -- a column, or a call behind its name
+  column_token : (p : Reader) (t : At Token) (us : Tokens) (n : List ℕ) → IsLeaf t.tok (Column n) → named t.tok ≡ Some n → ((vs : Tokens) → p (t ∷ vs) ≡ column_at last t n vs) → Local last seen (Spelled PRIM) p (t ∷ us)
+  column_token p t [] n is h same = behind last (Nothing last) (Spelled PRIM) (column_at last t n) p t [] (one_leaf t (Column n) is) same (at_end last seen (Nothing last) (column_at last t n) (Ok (Column n, 0)) refl refl)
+  column_token p t (u ∷ us) n is h same = of_test (is_open u.tok) refl
+    where
+      of_test : (b : Bool) → is_open u.tok ≡ b → Local last seen (Spelled PRIM) p (t ∷ u ∷ us)
+      of_test true o = called_at last seen (Spelled PRIM) p t u us n h (is_open_true u.tok o) (leaf_spelled t (Column n) is) (λ vs. same (u ∷ vs) ∙ rw o refl)
+      of_test false o = behind last (Nothing last) (Spelled PRIM) (column_at last t n) p t (u ∷ us) (one_leaf t (Column n) is) same (at_token last seen (Nothing last) (column_at last t n) (Ok (Column n, 0)) u us (λ vs. rw o refl) refl)
+
   name_token : (p : Reader) (t : At Token) (us : Tokens) (o : Option (List ℕ)) → named t.tok ≡ o → ((vs : Tokens) → p (t ∷ vs) ≡ name_at last o t vs) → Local last seen (Spelled PRIM) p (t ∷ us)
   name_token p t us None h same = stuck_at last seen (Spelled PRIM) p t us (a_number, prim_number) same
-  name_token p t us (Some n) h same = behind last (Nothing last) (Spelled PRIM) (column_at last t n) p t us (one_leaf t (Column n) (column t.tok n h)) same (column_local t n us)
+  name_token p t us (Some n) h same = column_token p t us n (column t.tok n h) h same
 
   leaf_token : (p : Reader) (t : At Token) (us : Tokens) (e : Tree) → IsLeaf t.tok e → ((vs : Tokens) → p (t ∷ vs) ≡ leaf e vs) → Local last seen (Spelled PRIM) p (t ∷ us)
   leaf_token p t us e is same = behind last (Nothing last) (Spelled PRIM) (leaf e) p t us (one_leaf t e is) same (gives last seen (Nothing last) (e, 0) us refl)
@@ -309,10 +310,16 @@ module _ (last : ℕ) where
     level_local Negation = not_local
     level_local Unary = una_local
 
+-- something is behind each opening
+level_number : (level : Opened) → (ts : Tokens) × Spelled (level_of level) ts
+level_number Whole = (a_number, or_number)
+level_number Negation = (a_number, not_number)
+level_number Unary = (a_number, una_number)
+
 -- behind an opening
 pub inside_local : (last n : ℕ) (level : Opened) (place : ℕ) → Reads last (level_of level) (inside last n level place)
 unfolding inside
-inside_local last zero level place ts = deep_always last seen (Spelled (level_of level)) (inside last zero level place) place ts (λ others. refl)
+inside_local last zero level place ts = deep_always last seen (Spelled (level_of level)) (inside last zero level place) place ts (level_number level) (λ others. refl)
 inside_local last (suc n) level place ts = level_local last (inside last n) (λ l p us. inside_local last n l p us) (λ p us f e. shortens last n p Whole us f e) level ts
 
 pub expr_local : (last : ℕ) → Reads last OR (expr_at last)

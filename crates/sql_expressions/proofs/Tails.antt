@@ -85,7 +85,7 @@ module _ (last : ℕ) where
 
     chain_end_token : (v : Tree × ℕ) (t : At Token) (us : Tokens) (m : Option Operator) → binary l t.tok ≡ m → Local last seen (Tail l l) (λ r. chain_more operand (binary l) zero (seen v r)) (t ∷ us)
     chain_end_token v t us None h = at_token last seen (Tail l l) (λ r. chain_more operand (binary l) zero (seen v r)) (Ok v) t us (λ vs. chain_none zero v t vs h) (same_tail l)
-    chain_end_token v t us (Some o) h = deep_at last seen (Tail l l) (λ r. chain_more operand (binary l) zero (seen v r)) t.span.start t us (λ vs. chain_full v t vs o h)
+    chain_end_token v t us (Some o) h = deep_at last seen (Tail l l) (λ r. chain_more operand (binary l) zero (seen v r)) t.span.start t us ([], same_tail l) (λ vs. chain_full v t vs o h)
 
     chain_tail : (n : ℕ) (v : Tree × ℕ) (ts : Tokens) → Local last seen (Tail l l) (λ r. chain_more operand (binary l) n (seen v r)) ts
     chain_tail n v [] = at_end last seen (Tail l l) (λ r. chain_more operand (binary l) n (seen v r)) (Ok v) (chain_nothing n v) (same_tail l)

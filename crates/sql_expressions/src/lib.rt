@@ -10,7 +10,7 @@ mod parsed;
 
 pub use cursor::{Parser, Tokens, after_comma};
 pub use expr::{MAX_DEPTH, Read, parse_expr};
-pub use laws::{expressions_are_read, faults_are_first, fronts_are_taken};
+pub use laws::{deep_is_first, expressions_are_read, faults_are_first, fronts_are_taken};
 pub use parsed::Parsed;
 
 #[cfg(test)]

@@ -4,4 +4,5 @@ pub mod Keywords
 pub mod Words
 pub mod Tokens
 pub mod Faults
+pub mod FaultText
 pub mod Same

@@ -1,40 +1,53 @@
 //! Why a block of SQL text was not read.
 
-ghost use Rattle.std.specs.Prelude.{◌≡◌, ◌+◌, ◌<◌, ◌^◌};
+ghost use Rattle.std.specs.Prelude.{◌≡◌, ◌+◌, ◌<◌, ◌^◌, Some};
 ghost use Rattle.sql_trees.specs.declared.fault.SqlFault.TheVariants.{Memory};
 ghost use Rattle.sql_trees.specs.Faults.{place, moved};
+ghost use Rattle.sql_trees.specs.FaultText.{sql_fault_text};
 
 use iso_lexer::Fault;
 use std::alloc::{AllocError, AllocFailed};
-use thiserror::Error;
+use std::error::Error;
+use std::fmt;
 
 /// The first fault of a block, with the byte at which it stands.
-#[derive(Clone, Copy, Debug, PartialEq, Eq, Error)]
+#[derive(Clone, Copy, Debug, PartialEq, Eq)]
 pub enum SqlFault {
-    #[error("Memory")]
     Memory,
     /// The text has no tokens.
-    #[error("{} at byte {}", .0.kind, .0.at)]
     Lex(Fault),
     /// No rule allows the token there, or the text's end.
-    #[error("Q1 Syntax at byte {0}")]
     Syntax(usize),
     /// A part of SQL that is left out begins there.
-    #[error("Q2 LeftOut at byte {0}")]
     LeftOut(usize),
     /// The token there makes an expression deeper than 64, or is the 65th that is open.
-    #[error("Q3 TooDeep at byte {0}")]
     TooDeep(usize),
     /// Statement 257 begins there.
-    #[error("Q4 TooMany at byte {0}")]
     TooMany(usize),
     /// A CREATE or DROP in a session's block.
-    #[error("Q5 DdlInSession at byte {0}")]
     DdlInSession(usize),
     /// A column or key that stands there twice, or that the table lacks.
-    #[error("Q6 BadColumns at byte {0}")]
     BadColumns(usize),
 }
+
+impl fmt::Display for SqlFault {
+    ghost output = { λ fault. Some (sql_fault_text fault) };
+
+    fn fmt<W: fmt::Write>(&self, f: &mut fmt::Formatter<W>) -> fmt::Result {
+        match self {
+            SqlFault::Memory => f.write_str("Memory"),
+            SqlFault::Lex(fault) => write!(f, "{fault}"),
+            SqlFault::Syntax(at) => write!(f, "Q1 Syntax at byte {at}"),
+            SqlFault::LeftOut(at) => write!(f, "Q2 LeftOut at byte {at}"),
+            SqlFault::TooDeep(at) => write!(f, "Q3 TooDeep at byte {at}"),
+            SqlFault::TooMany(at) => write!(f, "Q4 TooMany at byte {at}"),
+            SqlFault::DdlInSession(at) => write!(f, "Q5 DdlInSession at byte {at}"),
+            SqlFault::BadColumns(at) => write!(f, "Q6 BadColumns at byte {at}"),
+        }
+    }
+}
+
+impl Error for SqlFault {}
 
 impl From<AllocError> for SqlFault {
     ghost from_gives = { λ _ e. e ≡ Memory };
