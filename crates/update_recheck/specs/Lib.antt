@@ -1,0 +1,5 @@
+pub mod Asked
+pub mod Outcome
+pub mod Settling
+pub mod Found
+pub mod Laws

@@ -1,0 +1,49 @@
+-- What `settle` answers, and the locks after it.
+use Rattle.std.specs.Prelude.{◌≡◌, Bool, true, false, List, Option, Some, None}
+use Rattle.row_versions.specs.declared.names.TxId.{TxId}
+use Rattle.row_locks.specs.declared.held.Held.{Held}
+use Rattle.row_locks.specs.Members.{has, is_distinct}
+use Rattle.row_locks.specs.Held.{IsTaken}
+use Rattle.update_recheck.specs.declared.ask.Settled.{Settled}
+use Rattle.update_recheck.specs.declared.ask.Settled.TheVariants.{Take, Skip, Wait, Deadlock, Serialize, Fault}
+use Rattle.update_recheck.specs.Asked.{Asked}
+use Rattle.update_recheck.specs.Outcome.{Holders, Outcome}
+use Rattle.update_recheck.specs.Outcome.Holders.{Nobody, Others, OthersInACycle}
+use Rattle.update_recheck.specs.Outcome.Outcome.{Takes, Skips, Waits, Deadlocks, Serializes, Faults}
+
+-- the outcome that an answer names
+abbrev pub outcome_of : Settled → Outcome
+outcome_of (Take seen) = Takes seen
+outcome_of Skip = Skips
+outcome_of (Wait blockers) = Waits
+outcome_of Deadlock = Deadlocks
+outcome_of Serialize = Serializes
+outcome_of (Fault fault) = Faults fault
+
+-- the same are in both lists
+abbrev pub SameMembers : List TxId → List TxId → Type 0
+SameMembers found others = (u : TxId) → has found u ≡ has others u
+
+-- a wait is for those blockers, each once; no other answer names anyone
+abbrev pub WaitsFor : List TxId → Settled → Type 0
+WaitsFor blockers (Take seen) = Unit {0}
+WaitsFor blockers Skip = Unit {0}
+WaitsFor blockers (Wait found) = SameMembers found.items blockers × is_distinct found.items
+WaitsFor blockers Deadlock = Unit {0}
+WaitsFor blockers Serialize = Unit {0}
+WaitsFor blockers (Fault fault) = Unit {0}
+
+-- the lock of a target
+abbrev pub lock_of : Asked → Held
+lock_of ask = record { row = ask.seen.row; tx = ask.tx; strength = ask.strength }
+
+-- the locks afterwards: those before, and the lock where one is taken
+abbrev pub LocksAfter : Bool → List Held → Held → List Held → Type 0
+LocksAfter true old lock new = IsTaken old lock new
+LocksAfter false old lock new = new ≡ old
+
+-- what stops a target before its version is looked at
+abbrev pub stop_of : Holders → Option Outcome
+stop_of Nobody = None
+stop_of Others = Some Waits
+stop_of OthersInACycle = Some Deadlocks

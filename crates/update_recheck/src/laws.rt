@@ -1,0 +1,7 @@
+//! Laws of the outcome: each function's contract is one of them, and its body does nothing.
+ghost use Rattle.update_recheck.specs.Laws.{OutcomesByWhatIsHeld};
+
+/// What comes of a target is a matter of which locks are held and who is blocked by whom, and not of their order.
+pub fn outcomes_by_what_is_held()
+    ensures { OutcomesByWhatIsHeld }
+{}

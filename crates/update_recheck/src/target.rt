@@ -1,0 +1,158 @@
+//! Settling one target row.
+ghost use Rattle.std.specs.Prelude.{◌≡◌, List, length, IfOk, IfSome, OnOk, OnErr, option_map};
+ghost use Rattle.sql_values.specs.Expressions.{passes};
+ghost use Rattle.row_versions.specs.declared.names.TxId.{TxId};
+ghost use Rattle.row_locks.specs.Held.{IsTaken};
+ghost use Rattle.row_locks.specs.Waiting.{is_none_of};
+ghost use Rattle.row_locks.specs.Cycles.{closes};
+ghost use Rattle.update_recheck.specs.Asked.{Fits, asked};
+ghost use Rattle.update_recheck.specs.Outcome.{blockers, holders, is_locked, is_target_locked, read_committed, rechecked, repeatable_read, target_outcome};
+ghost use Rattle.update_recheck.specs.Settling.{LocksAfter, SameMembers, WaitsFor, lock_of, outcome_of, stop_of};
+ghost use Rattle.update_recheck.specs.Found.{told, IsWhole};
+
+use crate::ask::{Ask, Settled};
+use crate::newest::{Newest, newest_version};
+use row_locks::{LockTable, Waits};
+use row_versions::{Seen, TxId, Versions};
+use smallvec::SmallVec;
+use sql_trees::Level;
+use sql_values::{Row, ValueFault, passes};
+use std::alloc::{AllocError, Global};
+
+/// Settles one target. Where the row is locked, that lock is taken and no other; the condition is evaluated before, so
+/// that want of memory leaves the locks as they were. A fault of the condition leaves the row locked.
+pub fn settle<'t, V: Versions>(
+    alloc: Global,
+    store: &V,
+    locks: &mut LockTable,
+    waits: &Waits,
+    ask: &Ask<'_, 't>,
+) -> Result<Settled<'t>, AllocError>
+    requires { Fits (V.content store.now) (asked ask.now) }
+    ensures outcome { IfOk result (λ s. outcome_of s ≡ target_outcome (V.content store.now) locks.old waits.now (asked ask.now)) }
+    ensures blockers { IfOk result (λ s. WaitsFor (blockers locks.old (asked ask.now)) s) }
+    ensures locks { OnOk result (LocksAfter (is_target_locked (V.content store.now) locks.old waits.now (asked ask.now)) locks.old (lock_of (asked ask.now)) locks.new) }
+    ensures err { OnErr result (locks.new ≡ locks.old) }
+{
+    let newest = newest_version(store, ask);
+    match ask.level {
+        Level::ReadCommitted => settle_read_committed(alloc, locks, waits, ask, newest),
+        Level::RepeatableRead => settle_repeatable_read(locks, waits, ask, newest),
+    }
+}
+
+/// At Read Committed: waits for who holds the row, and then goes by its newest version.
+fn settle_read_committed<'t>(
+    alloc: Global,
+    locks: &mut LockTable,
+    waits: &Waits,
+    ask: &Ask<'_, 't>,
+    newest: Newest<'_>,
+) -> Result<Settled<'t>, AllocError>
+    requires { IsWhole (asked ask.now) newest }
+    ensures outcome { IfOk result (λ s. outcome_of s ≡ read_committed (asked ask.now).seen (holders locks.old waits.now (asked ask.now)) (told (asked ask.now) newest.entry)) }
+    ensures blockers { IfOk result (λ s. WaitsFor (blockers locks.old (asked ask.now)) s) }
+    ensures locks { OnOk result (LocksAfter (is_locked Level.ReadCommitted (holders locks.old waits.now (asked ask.now)) (told (asked ask.now) newest.entry)) locks.old (lock_of (asked ask.now)) locks.new) }
+    ensures err { OnErr result (locks.new ≡ locks.old) }
+{
+    if let Some(stop) = stopped(locks, waits, ask)? {
+        return Ok(stop);
+    }
+    match newest {
+        Newest::Gone => Ok(Settled::Skip),
+        Newest::Same => locked(locks, ask, Settled::Take(ask.seen)),
+        Newest::Newer(newer, row) => {
+            let settled = recheck(alloc, ask, newer, row)?;
+            locked(locks, ask, settled)
+        }
+    }
+}
+
+/// At Repeatable Read: a changed row is lost, and for who holds an unchanged one it waits.
+fn settle_repeatable_read<'t>(
+    locks: &mut LockTable,
+    waits: &Waits,
+    ask: &Ask<'_, 't>,
+    newest: Newest<'_>,
+) -> Result<Settled<'t>, AllocError>
+    ensures outcome { IfOk result (λ s. outcome_of s ≡ repeatable_read (asked ask.now).seen (holders locks.old waits.now (asked ask.now)) (told (asked ask.now) newest.entry)) }
+    ensures blockers { IfOk result (λ s. WaitsFor (blockers locks.old (asked ask.now)) s) }
+    ensures locks { OnOk result (LocksAfter (is_locked Level.RepeatableRead (holders locks.old waits.now (asked ask.now)) (told (asked ask.now) newest.entry)) locks.old (lock_of (asked ask.now)) locks.new) }
+    ensures err { OnErr result (locks.new ≡ locks.old) }
+{
+    match newest {
+        Newest::Same => {}
+        _ => return Ok(Settled::Serialize),
+    }
+    match stopped(locks, waits, ask)? {
+        Some(stop) => Ok(stop),
+        None => locked(locks, ask, Settled::Take(ask.seen)),
+    }
+}
+
+/// What comes of a target that others hold in conflict.
+fn stopped<'t>(
+    locks: &LockTable,
+    waits: &Waits,
+    ask: &Ask<'_, 't>,
+) -> Result<Option<Settled<'t>>, AllocError>
+    ensures stop { IfOk result (λ stop. option_map outcome_of stop ≡ stop_of (holders locks.now waits.now (asked ask.now))) }
+    ensures blockers { IfOk result (λ stop. IfSome stop (λ s. WaitsFor (blockers locks.now (asked ask.now)) s)) }
+{
+    let found = locks.against(ask.seen.row, ask.tx, ask.strength)?;
+    if is_nobody(&found) {
+        return Ok(None);
+    }
+    if is_deadlock(waits, ask.tx, &found)? {
+        return Ok(Some(Settled::Deadlock));
+    }
+    Ok(Some(Settled::Wait(found)))
+}
+
+/// Whether nobody was found.
+fn is_nobody(found: &SmallVec<TxId, 4>) -> bool
+    ensures { (others : List TxId) → SameMembers found.now.items others → result ≡ is_none_of others }
+{
+    found.is_empty()
+}
+
+/// Whether a wait of the transaction for those would close a cycle.
+fn is_deadlock(waits: &Waits, tx: TxId, found: &SmallVec<TxId, 4>) -> Result<bool, AllocError>
+    ensures { IfOk result (λ fails. (others : List TxId) → SameMembers found.now.items others → fails ≡ closes waits.now tx others) }
+{
+    let fails = waits.closes(tx, found)?;
+    Ok(fails)
+}
+
+/// What comes of a newer version: WHERE is evaluated again.
+fn recheck<'t>(
+    alloc: Global,
+    ask: &Ask<'_, 't>,
+    newer: Seen,
+    row: &Row,
+) -> Result<Settled<'t>, AllocError>
+    requires { length row.now ≡ length (asked ask.now).cols }
+    ensures outcome { IfOk result (λ s. outcome_of s ≡ rechecked newer (passes (asked ask.now).condition (asked ask.now).cols row.now)) }
+    ensures blockers { IfOk result (λ s. (others : List TxId) → WaitsFor others s) }
+{
+    match passes(alloc, ask.filter, ask.cols, row) {
+        Ok(true) => Ok(Settled::Take(newer)),
+        Ok(false) => Ok(Settled::Skip),
+        Err(ValueFault::Memory) => Err(AllocError),
+        Err(fault) => Ok(Settled::Fault(fault)),
+    }
+}
+
+/// Locks the row, and answers this.
+fn locked<'t>(
+    locks: &mut LockTable,
+    ask: &Ask<'_, 't>,
+    settled: Settled<'t>,
+) -> Result<Settled<'t>, AllocError>
+    ensures same { IfOk result (λ s. s ≡ settled.entry) }
+    ensures locks { OnOk result (IsTaken locks.old (lock_of (asked ask.now)) locks.new) }
+    ensures err { OnErr result (locks.new ≡ locks.old) }
+{
+    locks.take(ask.seen.row, ask.tx, ask.strength)?;
+    Ok(settled)
+}
