@@ -12,6 +12,3 @@ pub use cursor::{Parser, Tokens, after_comma, after_sign, after_word};
 pub use expr::{MAX_DEPTH, Read, parse_expr};
 pub use laws::{expressions_are_read, faults_are_first, fronts_are_taken};
 pub use parsed::Parsed;
-
-#[cfg(test)]
-mod tests;

@@ -22,6 +22,3 @@ pub use stmt::{
 };
 pub use token::{Tok, classified};
 pub use word::{KEYWORDS, Word, word_of};
-
-#[cfg(test)]
-mod tests;
