@@ -4,6 +4,7 @@ pub mod Tables
 pub mod Changes
 pub mod Queries
 pub mod Blocks
+pub mod BlockViews
 pub mod Views
 pub mod Texts
 pub mod Kept

@@ -15,6 +15,7 @@ use iso_lexer::{LexFault, SqlSign, sql_tokens};
 use sql_expressions::{Parser, Tokens};
 use sql_trees::{SqlFault, Stmt, Tok, classified, same_stmts};
 use std::alloc::Global;
+use std::marker::Model;
 
 /// Where a block stands: in the setup or teardown of a whole spec, or in a session.
 #[derive(Clone, Copy, Debug, PartialEq, Eq)]
@@ -28,12 +29,29 @@ pub enum Role {
 pub const MAX_STMTS: usize = 256;
 
 /// The statements of a block of SQL text. Only `parse_block` makes one.
-#[derive(Debug, Drop)]
+#[derive(Drop)]
 pub struct Block<'a> {
     role: Role,
     stmts: Vec<Stmt<'a>>,
-    ghost few: { vec_len stmts ≤ 256 },
-    ghost kept: { list_all (is_kept_in role) (map stmt_of stmts.items) ≡ true },
+}
+
+impl<'a> Model for Block<'a> {
+    ghost use Rattle.std.specs.Coded.{codes};
+    ghost use Rattle.std.specs.List.{list_all};
+    ghost use Rattle.std.specs.Prelude.{◌≡◌, ◌≤◌, true, [], map, vec_len};
+    ghost use mir.Syntax.{named};
+    ghost use Rattle.sql_trees.specs.contracts.expr.Expr as expr;
+    ghost use Rattle.sql_trees.specs.Statements.{stmt_of};
+    ghost use Rattle.sql_parser.specs.BlockViews.{BlockView};
+    ghost use Rattle.sql_parser.specs.Kept.{is_kept_in};
+
+    ghost Value = { BlockView };
+
+    ghost coded = { Prim.hlevel (codes, (expr.the_row (record { mir = named 0; lft = [] })).coded) };
+
+    ghost view = { λ b. record { role = b.role; stmts = b.stmts.items } };
+
+    ghost invariant = { λ b. (vec_len b.stmts ≤ 256) × (list_all (is_kept_in b.role) (map stmt_of b.stmts.items) ≡ true) };
 }
 
 impl<'a> Block<'a> {
@@ -46,7 +64,7 @@ impl<'a> Block<'a> {
 
     /// The statements.
     pub fn stmts(&self) -> &[Stmt<'a>]
-        ensures lends { result.now ≡ self.now.stmts.items }
+        ensures lends { result.now ≡ self.now.stmts }
         ensures few { length result.now ≤ 256 }
         ensures kept { list_all (is_kept_in self.now.role) (map stmt_of result.now) ≡ true }
     {
@@ -56,7 +74,7 @@ impl<'a> Block<'a> {
     /// Whether two blocks are one: they stand in the same place, and have the same statements in the same order. Names and strings are
     /// compared by the bytes that they stand for, all else as it stands.
     pub fn same(&self, other: &Block<'_>) -> bool
-        ensures { IsTrue result ↔ ((self.now.role ≡ other.now.role) × (map stmt_of self.now.stmts.items ≡ map stmt_of other.now.stmts.items)) }
+        ensures { IsTrue result ↔ ((self.now.role ≡ other.now.role) × (map stmt_of self.now.stmts ≡ map stmt_of other.now.stmts)) }
     {
         other.role == self.role && same_stmts(self.stmts(), other.stmts())
     }
@@ -169,7 +187,7 @@ fn parse_tokens<'a>(
     tokens: Tokens<'_, 'a>,
 ) -> Result<Block<'a>, SqlFault>
     requires { length tokens.now < 2 ^ 32 }
-    ensures exact { Gives (λ b. map stmt_of b.stmts.items) result (block_at parser.text_len role (tok_views tokens.now)) }
+    ensures exact { Gives (λ b. map stmt_of b.stmts) result (block_at parser.text_len role (tok_views tokens.now)) }
     ensures role { IfOk result (λ b. b.role ≡ role) }
 {
     let stmts = read_stmts(parser, role, tokens)?;
@@ -179,7 +197,7 @@ fn parse_tokens<'a>(
 /// The block that this text is, or its first fault: faults of the text's tokens come before all others.
 pub fn parse_block<'a>(alloc: Global, text: &'a str, role: Role) -> Result<Block<'a>, SqlFault>
     requires { length text.now < 2 ^ 32 }
-    ensures exact { Parses text.now role (seen (λ b. map stmt_of b.stmts.items) result) }
+    ensures exact { Parses text.now role (seen (λ b. map stmt_of b.stmts) result) }
     ensures role { IfOk result (λ b. b.role ≡ role) }
 {
     let lexed = match sql_tokens(alloc, text) {

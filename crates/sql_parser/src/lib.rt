@@ -15,10 +15,3 @@ mod transaction;
 
 pub use block::{Block, MAX_STMTS, Role, parse_block};
 pub use laws::{block_faults_are_first, blocks_are_read, faults_are_first};
-
-#[cfg(test)]
-mod samples;
-#[cfg(test)]
-mod shown;
-#[cfg(test)]
-mod tests;

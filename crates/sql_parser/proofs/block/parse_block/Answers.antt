@@ -16,5 +16,5 @@ parse_tokens-requires c =
 pub returns-clause-exact : goal.returns-clause-exact
 returns-clause-exact c =
     let same : tok_views c.deref-2.result.now ≡ map classify_at (sql_at_views c.in-Ok.lexed.items) = ap tok_views c.deref-2.ensures.value ∙ (c.in_ok-tokens.ensures {u = tt} ∙ ap (λ xs. map classify_at (sql_at_views xs)) c.deref.ensures.value) in
-    parses (λ b. map stmt_of b.stmts.items) c.args.text.now c.args.role (sql_at_views c.in-Ok.lexed.items) c.parse_tokens.result c.in-Ok.ensures
-    (subst (λ ts. Gives (λ b. map stmt_of b.stmts.items) c.parse_tokens.result (block_at (length c.args.text.now) c.args.role ts)) same c.parse_tokens.ensures.exact)
+    parses (λ b. map stmt_of b.stmts) c.args.text.now c.args.role (sql_at_views c.in-Ok.lexed.items) c.parse_tokens.result c.in-Ok.ensures
+    (subst (λ ts. Gives (λ b. map stmt_of b.stmts) c.parse_tokens.result (block_at (length c.args.text.now) c.args.role ts)) same c.parse_tokens.ensures.exact)

@@ -1,0 +1,129 @@
+//! Strings, words and statements that are one, and some that are not.
+
+use crate::asked::{block_of, holds};
+use iso_lexer::{At, Span, SqlTok};
+use sql_parser::Role;
+use sql_trees::{Tok, Word, classified, same_stmt, same_stmts, same_text, word_of};
+use std::alloc::Global;
+
+// What stands between the quotes of two strings, and whether they are one.
+const STRINGS: [(&str, &str, bool); 8] = [
+    ("", "", true),
+    ("it''s", "it''s", true),
+    ("it''s", "it's", true),
+    ("'a", "'b", false),
+    ("''a", "'a", true),
+    ("''''", "''", false),
+    ("a'", "a", false),
+    ("A", "a", false),
+];
+
+#[test]
+fn strings_by_what_they_stand_for(rt: HostRuntime) {
+    for (text, other, same) in STRINGS {
+        holds(&rt, same_text(text, other) == same, text);
+    }
+}
+
+// Whether the token is a name, behind its keyword or as no keyword.
+fn is_keyword(tok: SqlTok<'_>, word: Word, alloc: Global) -> bool {
+    let token = At {
+        tok,
+        span: Span { start: 0, end: 6 },
+    };
+    match classified(alloc, &[token]) {
+        Ok(all) => match all.as_slice() {
+            [
+                At {
+                    tok: Tok::Word(found, _),
+                    ..
+                },
+            ] => *found == word,
+            _ => false,
+        },
+        Err(_) => false,
+    }
+}
+
+#[test]
+fn words_have_their_keywords(rt: HostRuntime) {
+    let alloc = rt.alloc();
+    holds(&rt, word_of("SeLeCt") == Word::Select, "SeLeCt");
+    holds(
+        &rt,
+        is_keyword(SqlTok::Word("select"), Word::Select, alloc),
+        "select",
+    );
+    holds(
+        &rt,
+        is_keyword(SqlTok::Word("selects"), Word::Plain, alloc),
+        "selects",
+    );
+    holds(
+        &rt,
+        !is_keyword(SqlTok::Quoted("select"), Word::Select, alloc),
+        "\"select\"",
+    );
+}
+
+// Whether the first statements are one, and whether all are.
+fn are_first_and_all(alloc: Global, text: &str, other: &str, first: bool, all: bool) -> bool {
+    let Ok(read) = block_of(alloc, Role::Main, text) else {
+        return false;
+    };
+    let Ok(same) = block_of(alloc, Role::Session, other) else {
+        return false;
+    };
+    match (read.stmts(), same.stmts()) {
+        ([a, ..], [b, ..]) => {
+            same_stmt(a, b) == first && same_stmts(read.stmts(), same.stmts()) == all
+        }
+        _ => false,
+    }
+}
+
+// Two blocks, whether their first statements are one, and whether all are.
+const PAIRS: [(&str, &str, bool, bool); 4] = [
+    (
+        "SELECT max('it''s') FROM T",
+        "select MAX('it''s') from \"t\"",
+        true,
+        true,
+    ),
+    ("SELECT max('its')", "SELECT max('it''s')", false, false),
+    (
+        "BEGIN; DELETE FROM T",
+        "BEGIN; DELETE FROM \"T\"",
+        true,
+        false,
+    ),
+    ("BEGIN; DELETE FROM T", "BEGIN", true, false),
+];
+
+#[test]
+fn statements_by_decoded_names(rt: HostRuntime) {
+    for (text, other, first, all) in PAIRS {
+        holds(
+            &rt,
+            are_first_and_all(rt.alloc(), text, other, first, all),
+            text,
+        );
+    }
+}
+
+// Whether blocks of one text in two places are one.
+fn is_one_in_both_places(alloc: Global, text: &str) -> bool {
+    let Ok(read) = block_of(alloc, Role::Session, text) else {
+        return true;
+    };
+    match block_of(alloc, Role::Main, text) {
+        Ok(elsewhere) => read.same(&elsewhere),
+        Err(_) => true,
+    }
+}
+
+#[test]
+fn a_block_stands_in_its_place(rt: HostRuntime) {
+    let text = "SELECT a FROM t; COMMIT";
+    holds(&rt, !is_one_in_both_places(rt.alloc(), text), text);
+}
