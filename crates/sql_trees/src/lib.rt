@@ -21,4 +21,4 @@ pub use stmt::{
     Update,
 };
 pub use token::{Tok, classified};
-pub use word::{KEYWORDS, Word, word_of, words_are_classed};
+pub use word::{Word, word_of, words_are_classed};
