@@ -5,14 +5,11 @@ ghost use Rattle.result_tables.specs.declared.fault.TableFault.TheVariants.{Memo
 
 use iso_lexer::DeviceFault;
 use std::alloc::{AllocError, AllocFailed};
-use thiserror::Error;
 
-#[derive(Debug, Drop, Error)]
+#[derive(Debug, Drop)]
 pub enum TableFault {
-    #[error("Memory")]
     Memory,
-    /// The sink failed.
-    #[error("P1 Write")]
+    /// P1: the sink failed.
     Write,
 }
 

@@ -2,8 +2,8 @@
 
 ghost use Rattle.std.specs.Prelude.{◌≡◌, ◌≢◌, ◌^◌, pos, neg_ℤ, ◌+ℤ◌, ◌≤ℤ◌, ◌∷◌, All, length, map, Ok, Err, Some, MatchResult, if◌then◌else◌};
 ghost use Rattle.std.specs.List.{list_all};
-ghost use Rattle.sql_trees.specs.Trees.{tree_of, agg_of};
-ghost use Rattle.sql_values.specs.Values.{Answers};
+ghost use Rattle.sql_trees.specs.Trees.{tree_of, agg_of, CountRows};
+ghost use Rattle.sql_values.specs.Values.{Answers, bigint};
 ghost use Rattle.sql_values.specs.Aggregates.{values, total, sum, is_number, is_text, beats, best, extreme, summary, aggregate};
 
 use crate::arithmetic::bigint;
@@ -154,7 +154,9 @@ pub fn aggregate<'a>(
     rows: &[&Row],
 ) -> Result<Value, ValueFault<'a>>
     requires { All (λ row. length row.now ≡ length cols.now) rows.now }
-    ensures { Answers result (aggregate (agg_of agg.now) cols.now (map (λ row. row.now) rows.now)) }
+    ensures exact { Answers result (aggregate (agg_of agg.now) cols.now (map (λ row. row.now) rows.now)) }
+    // Rows are counted without growing anything.
+    ensures rows_counted { agg_of agg.now ≡ CountRows → result ≡ bigint (pos (length rows.now)) }
 {
     let (kind, expr) = match agg {
         Agg::CountRows => return bigint(rows.len() as i128),

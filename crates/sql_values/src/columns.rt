@@ -9,7 +9,7 @@ use sql_trees::Column;
 use std::marker::Model;
 
 /// Columns in their order: contracts see their names, decoded, with their kinds.
-#[derive(Debug, Drop)]
+#[derive(Drop)]
 pub struct Columns<'a> {
     columns: &'a [Column<'a>],
 }

@@ -1,6 +1,6 @@
 //! The value of an expression at a row.
 
-ghost use Rattle.std.specs.Prelude.{◌≡◌, ◌≢◌, length, option_map, true, false, Ok};
+ghost use Rattle.std.specs.Prelude.{◌≡◌, ◌≢◌, length, option_map, true, false, Ok, None};
 ghost use Rattle.iso_lexer.specs.Names.{name_view, decoded};
 ghost use Rattle.sql_trees.specs.Trees.{tree_of, trees};
 ghost use Rattle.sql_trees.specs.declared.expr.Operator.TheVariants.{AtMost};
@@ -188,7 +188,9 @@ pub fn passes<'a>(
     row: &Row,
 ) -> Result<bool, ValueFault<'a>>
     requires { length row.now ≡ length cols.now }
-    ensures { Answers result (passes (option_map (λ expr. tree_of expr.now) filter.entry) cols.now row.now) }
+    ensures exact { Answers result (passes (option_map (λ expr. tree_of expr.now) filter.entry) cols.now row.now) }
+    // Without a condition there is nothing to grow.
+    ensures unasked { filter.entry ≡ None → result ≡ Ok true }
 {
     let Some(filter) = filter else {
         return Ok(true);

@@ -6,9 +6,7 @@ ghost use Rattle.sql_values.specs.declared.fault.ValueFault.TheVariants.{Memory}
 
 use iso_lexer::Name;
 use std::alloc::{AllocError, AllocFailed};
-use std::fmt;
 use std::marker::Model;
-use thiserror::Error;
 
 /// The name of a column, which contracts see as the bytes that it stands for.
 #[derive(Debug, Drop)]
@@ -40,56 +38,19 @@ impl<'a> ColumnName<'a> {
     }
 }
 
-/// The bytes that the name stands for.
-impl fmt::Display for ColumnName<'_> {
-    fn fmt<W: fmt::Write>(&self, f: &mut fmt::Formatter<W>) -> fmt::Result {
-        match self.name {
-            Name::Plain(text) => f.write_str(text),
-            Name::Quoted(text) => write_undoubled(text, f),
-            Name::Folded(text) => write_folded(text, f),
-        }
-    }
-}
-
-fn write_undoubled<W: fmt::Write>(text: &str, f: &mut fmt::Formatter<W>) -> fmt::Result {
-    let mut is_second = false;
-    for c in text.chars() {
-        if is_second {
-            is_second = false;
-        } else {
-            is_second = c == '"';
-            f.write_char(c)?;
-        }
-    }
-    Ok(())
-}
-
-fn write_folded<W: fmt::Write>(text: &str, f: &mut fmt::Formatter<W>) -> fmt::Result {
-    for c in text.chars() {
-        f.write_char(c.to_ascii_lowercase())?;
-    }
-    Ok(())
-}
-
 /// Why an expression has no value. The names V1 to V5 are those of the faults that the program reports.
-#[derive(Debug, Drop, Error)]
+#[derive(Debug, Drop)]
 pub enum ValueFault<'a> {
     /// V1
-    #[error("division by zero")]
     DivisionByZero,
     /// V2: outside of 32 bits
-    #[error("integer out of range")]
     IntegerRange,
     /// V3: outside of 64 bits
-    #[error("bigint out of range")]
     BigintRange,
     /// V4
-    #[error("type mismatch")]
     TypeMismatch,
     /// V5
-    #[error("column \"{0}\" does not exist")]
     NoColumn(ColumnName<'a>),
-    #[error("out of memory")]
     Memory,
 }
 

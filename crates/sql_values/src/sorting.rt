@@ -1,6 +1,6 @@
 //! The order of rows.
 
-ghost use Rattle.std.specs.Prelude.{◌≡◌, ◌≢◌, ◌+◌, IfOk, All, length, MatchResult, true, false, unwrap_or, slice_get, slice_index_or};
+ghost use Rattle.std.specs.Prelude.{◌≡◌, ◌≢◌, ◌↔◌, ◌+◌, IfOk, IfErr, All, length, true, false, unwrap_or, slice_get, slice_index_or};
 ghost use Rattle.std.specs.List.{range_with_len};
 ghost use Rattle.sql_values.specs.declared.value.Value.TheVariants.{Null};
 ghost use Rattle.sql_values.specs.Sorting.{kind_rank, full_order, null_place, key_order, key, keys_at, row_order, IsSortedOrder, key_values, all_compare_with, all_compare, can_sort};
@@ -164,8 +164,10 @@ fn sorted(alloc: Global, keys: &[Row], by: &[Dir]) -> Result<Vec<usize>, AllocEr
 /// A key of which some value can't be compared with the first one that isn't NULL is a type mismatch.
 pub fn order<'a>(alloc: Global, keys: &[Row], by: &[Dir]) -> Result<Vec<usize>, ValueFault<'a>>
     requires { All (λ row. length row ≡ length by.now) keys.now }
-    ensures { MatchResult result (λ places. (can_sort 0 by.now keys.now ≡ true) × IsSortedOrder by.now keys.now places.items)
-        (λ fault. fault ≢ ValueFault.Memory → (can_sort 0 by.now keys.now ≡ false) × (fault ≡ ValueFault.TypeMismatch)) }
+    ensures sorted { IfOk result (λ places. IsSortedOrder by.now keys.now places.items) }
+    // A mismatch is told exactly where the keys don't compare, also where memory is short.
+    ensures mismatch { (result ≡ Err ValueFault.TypeMismatch) ↔ (can_sort 0 by.now keys.now ≡ false) }
+    ensures nothing_else { IfErr result (λ fault. fault ≢ ValueFault.TypeMismatch → fault ≡ ValueFault.Memory) }
 {
     if !can_sort(by, keys) {
         return Err(ValueFault::TypeMismatch);
