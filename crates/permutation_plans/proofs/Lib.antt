@@ -1,3 +1,4 @@
 pub mod OneHistory
 pub mod Working
 pub mod Following
+pub mod Whole

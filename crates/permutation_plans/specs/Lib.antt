@@ -1,3 +1,4 @@
 pub mod Launches
 pub mod Regular
 pub mod Worked
+pub mod Whole

@@ -1,7 +1,8 @@
 //! Whether a history launched what its permutation launches.
-ghost use Rattle.std.specs.Prelude.{◌≡◌, ◌↔◌, ◌<◌, ◌^◌, [], length, map, IsTrue, IfOk, OnOk};
+ghost use Rattle.std.specs.Prelude.{◌≡◌, ◌↔◌, ◌<◌, ◌^◌, [], length, map, IsTrue, true, IfOk, OnOk, OnErr};
 ghost use Rattle.spec_parser.specs.Trees.{spec_view, entry_view};
 ghost use Rattle.report_lines.specs.Progress.{Follows};
+ghost use Rattle.report_lines.specs.Starts.{is_order};
 ghost use Rattle.permutation_plans.specs.Launches.{plan_of, due_after};
 ghost use Rattle.permutation_plans.specs.Regular.{IsOrdered, FitsAfter, Fits};
 
@@ -23,6 +24,7 @@ fn is_ordered(
     requires follows { Follows (plan_of launches.now (map entry_view entries.now) before.now).setting progress.old }
     ensures ordered { IfOk result (λ ordered. IsTrue ordered ↔ IsOrdered event (due_after launches.now (map entry_view entries.now) before.now)) }
     ensures follows { OnOk result (Follows (plan_of launches.now (map entry_view entries.now) before.now).setting progress.new) }
+    ensures memory { OnErr result (is_order event ≡ true) }
 {
     match event {
         Event::Launch { session, block } => {

@@ -3,6 +3,7 @@ ghost use Rattle.std.specs.Prelude.{map};
 ghost use Rattle.spec_parser.specs.Trees.{spec_view, entry_view};
 ghost use Rattle.permutation_plans.specs.Regular.{HasOneHistory, EachHasOneHistory};
 ghost use Rattle.permutation_plans.specs.Worked.{WorkedHistory};
+ghost use Rattle.permutation_plans.specs.Whole.{NextIsDue, WorkedGoesWell};
 
 use spec_parser::{Entry, Spec};
 
@@ -19,4 +20,14 @@ pub fn each_has_one_history()
 /// A permutation of two sessions, with a setup, a teardown and a marker, has a regular history.
 pub fn worked_history()
     ensures { WorkedHistory }
+{}
+
+/// As long as all goes well, what is due after a history is the next of the orders of the whole permutation.
+pub fn the_next_order_is_due()
+    ensures { NextIsDue }
+{}
+
+/// In the worked history all goes well.
+pub fn worked_goes_well()
+    ensures { WorkedGoesWell }
 {}

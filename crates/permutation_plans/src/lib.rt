@@ -7,6 +7,3 @@ pub mod laws;
 
 pub use fit::launches_fit;
 pub use launches::Launches;
-
-#[cfg(test)]
-mod tests;

@@ -9,7 +9,8 @@ use Rattle.spec_parser.specs.declared.tree.Marker.{Marker}
 use Rattle.spec_parser.specs.declared.tree.Marker.TheVariants.{Star, Step as Named}
 use Rattle.report_lines.specs.declared.history.Stand.TheVariants.{Due, Whole, Invalid}
 use Rattle.session_machine.specs.declared.event.Order.TheVariants.{Launch as LaunchOf, Leave as LeaveOf, Stop}
-use Rattle.report_lines.specs.Due.{due, Planned}
+use Rattle.report_lines.specs.Starts.{start}
+use Rattle.report_lines.specs.Due.{due, Planned, orders, segment, is_over, went_well}
 use Rattle.report_lines.specs.declared.history.Task.{Task}
 use Rattle.spec_parser.specs.Trees.{EntryTree}
 use Rattle.session_machine.specs.declared.fault.StmtFault.TheVariants.{TooManyValues}
@@ -146,3 +147,76 @@ last_due = refl
 
 over_due : due (plan (torn ++ leaves 1 ∷ leaves 2 ∷ begins 0 ∷ does 0 Done true ∷ [])) ≡ Stop
 over_due = refl
+
+torn_well_due : due (plan (entered ++ begins 2 ∷ does 2 Done true ∷ [])) ≡ LeaveOf 1
+torn_well_due = refl
+
+failed_last_due : due (plan (torn ++ leaves 1 ∷ leaves 2 ∷ begins 0 ∷ does 0 (Failed TooManyValues) true ∷ [])) ≡ Stop
+failed_last_due = refl
+
+waiting_setup_due : due (plan (begins 0 ∷ does 0 Waits false ∷ [])) ≡ Stop
+waiting_setup_due = refl
+
+late_failure_due : due (plan (begins 0 ∷ does 0 Done false ∷ does 0 (Failed TooManyValues) true ∷ [])) ≡ Stop
+late_failure_due = refl
+
+-- setups of the file and of session 1, and one step
+abbrev two_setups : List HistItem → Planned
+two_setups items = record {
+  setups = task 0 0 ∷ task 1 1 ∷ [];
+  setting = record { entries = entry 1 0 [] ∷ []; items = items; setups = 2 };
+  tasks = task 1 3 ∷ [];
+  teardowns = [];
+  sessions = 1;
+  last = [];
+}
+
+second_setup_due : due (two_setups (begins 0 ∷ does 0 Done false ∷ does 0 Done true ∷ [])) ≡ LaunchOf 1 1
+second_setup_due = refl
+
+first_step_due : due (two_setups (begins 0 ∷ does 0 Done true ∷ begins 1 ∷ does 1 Done true ∷ [])) ≡ LaunchOf 1 3
+first_step_due = refl
+
+second_fails_due : due (two_setups (begins 0 ∷ does 0 Done true ∷ begins 1 ∷ does 1 (Failed TooManyValues) true ∷ [])) ≡ Stop
+second_fails_due = refl
+
+-- a step that still waits at the end
+abbrev waits_on : Setting
+waits_on = record { entries = entry 1 0 [] ∷ []; items = begins 1 ∷ does 1 Waits false ∷ []; setups = 0 }
+
+waits_on_lines : (report waits_on 1).lines ≡ Waiting 0 ∷ []
+waits_on_lines = refl
+
+waits_on_ends : (report waits_on 1).stand ≡ Invalid
+waits_on_ends = refl
+
+-- three segments: of three items, of one, and of two
+abbrev cut : List HistItem
+cut = begins 0 ∷ does 0 Done false ∷ does 0 (Failed TooManyValues) true ∷ leaves 1 ∷ begins 2 ∷ does 2 Done true ∷ []
+
+cut_orders : orders cut ≡ 3
+cut_orders = refl
+
+cut_starts : start cut 1 ≡ 3
+cut_starts = refl
+
+cut_ends : start cut 3 ≡ 6
+cut_ends = refl
+
+cut_last : segment cut 2 ≡ begins 2 ∷ does 2 Done true ∷ []
+cut_last = refl
+
+cut_behind : segment cut 3 ≡ []
+cut_behind = refl
+
+cut_over : is_over cut 0 0 ≡ true
+cut_over = refl
+
+cut_other : is_over cut 0 1 ≡ false
+cut_other = refl
+
+cut_well : went_well cut 2 2 ≡ true
+cut_well = refl
+
+cut_failed : went_well cut 0 0 ≡ false
+cut_failed = refl

@@ -9,3 +9,4 @@ pub mod ReportPoints
 pub mod Examples
 pub mod Fronts
 pub mod Keeping
+pub mod Invalid

@@ -73,9 +73,9 @@ untried_waits c [] i h = refl
 untried_waits c (t ∷ earlier) i h = untried_case (i == t.entry) (list_any (is_try_of i) earlier) (was_reported c earlier i) (is_met c earlier t) h (untried_waits c earlier i)
 
 -- the lines are those of the tries, and just the instances of so many entries have been tried
-record Follows (c : Setting) (n : ℕ) (lines : List Line) (ts : List Try) : Type 0 where
-  told : lines ≡ said c ts
-  tried : (i : ℕ) → is_untried ts i ≡ not (nat_lt i n)
+pub record Follows (c : Setting) (n : ℕ) (lines : List Line) (ts : List Try) : Type 0 where
+  pub told : lines ≡ said c ts
+  pub tried : (i : ℕ) → is_untried ts i ≡ not (nat_lt i n)
 
 tried_case : (i j n : ℕ) (b tried : Bool) → (b ≡ true → j < n) → not tried ≡ not (nat_lt j n) → not (b || tried) ≡ not (nat_lt j n)
 tried_case i j n true tried less h = ap not (sym (lt-ltb j n (less refl)))
@@ -96,7 +96,7 @@ follows_each c m n low high (x ∷ xs) lines ts h le f =
     let room = between_length (x + 1) high xs h.1 in
     follows_each c m n (x + 1) high xs (retry c m lines x) (record { entry = x; moment = m } ∷ ts) h.1 le (follows_retry c m n lines ts x (omega arith) f)
 
-follows_active : (c : Setting) (n : ℕ) (lines : List Line) (ts : List Try) (k : ℕ) → Follows c n lines ts → active lines k ≡ still_active c ts k
+pub follows_active : (c : Setting) (n : ℕ) (lines : List Line) (ts : List Try) (k : ℕ) → Follows c n lines ts → active lines k ≡ still_active c ts k
 follows_active c n lines ts k f = ap (λ (w : List Line). active w k) f.told ∙ said_active c ts k
 
 rises : (c : Setting) (ts : List Try) (k : ℕ) → Between 0 k (still_active c ts k)
@@ -155,14 +155,14 @@ polled_case : (c : Setting) (m : Moment) (n k : ℕ) (new : List Line) (ts : Lis
 polled_case c m n k new ts a true is now rest = rw is rest
 polled_case c m n k new ts a false is now rest = rw is now
 
-follows_polled : (c : Setting) (m : Moment) (n k : ℕ) (lines : List Line) (ts : List Try) → m.joined ≤ n → m.joined ≤ m.launched → Follows c n lines ts → Follows c n (polled c m k lines) (passes c m k ts)
+pub follows_polled : (c : Setting) (m : Moment) (n k : ℕ) (lines : List Line) (ts : List Try) → m.joined ≤ n → m.joined ≤ m.launched → Follows c n lines ts → Follows c n (polled c m k lines) (passes c m k ts)
 follows_polled c m n zero lines ts le few f = f
 follows_polled c m n (suc k) lines ts le few f =
     let new = follows_pass c m n lines ts le f in
     polled_case c m n k (pass c m lines) (gone_through c m ts) (goes_on c m lines (pass c m lines)) (wants_another c m ts (gone_through c m ts)) (follows_on c m n lines ts le few f) new
     (follows_polled c m n k (pass c m lines) (gone_through c m ts) le few new)
 
-follows_busy : (c : Setting) (e : ℕ) (lines : List Line) (ts : List Try) → Follows c e lines ts → is_busy c lines e ≡ has_active c ts e
+pub follows_busy : (c : Setting) (e : ℕ) (lines : List Line) (ts : List Try) → Follows c e lines ts → is_busy c lines e ≡ has_active c ts e
 follows_busy c e lines ts f = ap (list_any (is_of c (session_at c e))) (follows_active c e lines ts e f)
 
 follows_own : (c : Setting) (m : Moment) (s e : ℕ) (lines : List Line) (ts : List Try) → Follows c e lines ts → Follows c e (fold (own_retry c m s) lines (instances e)) (try_each m ts (filter (is_of c s) (still_active c ts e)))
@@ -174,7 +174,7 @@ way_case : (c : Setting) (e : ℕ) (lines tried : List Line) (ts tried_ts : List
 way_case c e lines tried ts tried_ts a true is busy free = rw is busy
 way_case c e lines tried ts tried_ts a false is busy free = rw is free
 
-follows_way : (c : Setting) (e : ℕ) (lines : List Line) (ts : List Try) → Follows c e lines ts → Follows c e (made_way c lines e) (tries_before c ts e)
+pub follows_way : (c : Setting) (e : ℕ) (lines : List Line) (ts : List Try) → Follows c e lines ts → Follows c e (made_way c lines e) (tries_before c ts e)
 follows_way c e lines ts f =
     let m = before c e in
     let s = session_at c e in
@@ -202,7 +202,7 @@ follows_first c m e lines ts f =
       tried = λ j. next_case j e (j == e) (list_any (is_try_of j) ts) (eqb-true j e) (eqb-false j e) (f.tried j);
     }
 
-follows_launch : (c : Setting) (e : ℕ) (lines : List Line) (ts : List Try) → Follows c e lines ts → Follows c (e + 1) (launched c lines e) (tries_after c ts e)
+pub follows_launch : (c : Setting) (e : ℕ) (lines : List Line) (ts : List Try) → Follows c e lines ts → Follows c (e + 1) (launched c lines e) (tries_after c ts e)
 follows_launch c e lines ts f =
     let m = after c e in
     follows_polled c m (e + 1) (m.joined + 1) (first_try c m lines e) (record { entry = e; moment = m } ∷ ts) (omega arith) (omega arith) (follows_first c m e lines ts f)

@@ -8,3 +8,4 @@ pub mod Due
 pub mod Tries
 pub mod Fronts
 pub mod Progress
+pub mod Invalid

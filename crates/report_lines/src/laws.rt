@@ -10,6 +10,8 @@ ghost use Rattle.session_machine.specs.declared.reply.HistItem.{HistItem};
 ghost use Rattle.report_lines.specs.Starts.{is_order};
 ghost use Rattle.report_lines.specs.Due.{Planned, orders, due_at, due};
 ghost use Rattle.report_lines.specs.Fronts.{longer, longer_plan};
+ghost use Rattle.report_lines.specs.Invalid.{IsInvalid};
+ghost use Rattle.report_lines.specs.declared.history.Stand.TheVariants.{Invalid};
 
 /// However many passes were made at a moment, no more would report anything.
 pub fn no_further_pass()
@@ -30,6 +32,11 @@ pub fn each_is_reported_at_its_first_chance()
 /// No instance is reported twice.
 pub fn no_step_is_reported_twice()
     ensures { (c : Setting) (there i : ℕ) → count_by (reports i) (report c there).lines ≤ 1 }
+{}
+
+/// A permutation is invalid exactly where a session's step is still active when its next one's turn comes, or some step at the end.
+pub fn invalid_where_a_step_is_still_active()
+    ensures { (c : Setting) (there : ℕ) → (report c there).stand ≡ Invalid ↔ IsInvalid c there }
 {}
 
 /// What was told before an order stays so, whatever the history goes on with.

@@ -5,17 +5,11 @@ mod course;
 mod entries;
 mod history;
 pub mod laws;
-#[cfg(test)]
-mod order_tests;
 mod plan;
 mod progress;
-#[cfg(test)]
-mod samples;
 mod segments;
 mod sight;
 mod telling;
-#[cfg(test)]
-mod tests;
 
 pub use course::Course;
 pub use entries::{ends_in, session_of};

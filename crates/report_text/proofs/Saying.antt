@@ -1,14 +1,15 @@
 -- One thing said after another.
-use Rattle.std.proofs.Common.{◌≡◌, ℕ, ◌≤◌, ◌++◌, List, [], ◌∷◌, Bool, true, false, Option, refl, sym, ap, subst, ◌∙◌, arith, append-nil, append_assoc}
-use Rattle.std.specs.Io.KnownBytes.{Appends}
-use Rattle.std.proofs.KnownBytes.{Appends-nil, Appends-trans}
-use Rattle.std.specs.Prelude.{◌+◌, nat_le, if◌then◌else◌}
+use Rattle.std.proofs.Common.{◌≡◌, ℕ, ◌≤◌, ◌++◌, List, [], ◌∷◌, Bool, true, false, Result, Ok, Err, OnOk, refl, sym, ap, ◌∙◌, arith, append-nil, append_assoc}
+use Rattle.std.specs.Prelude.{◌+◌, nat_le, IfOk, if◌then◌else◌}
 use Rattle.session_machine.specs.declared.reply.HistItem.{HistItem}
 use Rattle.spec_parser.specs.Trees.{EntryTree}
 use Rattle.report_lines.specs.History.{Setting}
 use Rattle.report_lines.specs.Due.{went_well}
 use Rattle.report_text.specs.Said.{Ending, whole, Said, says, is_whole, ◌>>◌}
 use Rattle.report_text.specs.Setups.{setups_say}
+use Rattle.report_text.specs.Answers.{ending_of}
+use Rattle.report_text.specs.declared.fault.Ending.{Ending as Found}
+use Rattle.report_text.specs.declared.fault.Ending.TheVariants as found
 
 pub after_whole : (a b : Said) → a.ending ≡ whole → (a >> b) ≡ record { text = a.text ++ b.text; notes = a.notes ++ b.notes; ending = b.ending }
 after_whole a b e = rw e refl
@@ -36,27 +37,44 @@ setups_notes items there k (s ∷ ss) =
 pub gone_text : (page left old all : List ℕ) → left ≡ [] → page ++ left ≡ old ++ all → page ≡ old ++ all
 gone_text page left old all e h = sym (append-nil page) ∙ ap (λ l. page ++ l) (sym e) ∙ h
 
+pub text_after : (a b : Said) (old mid new : List ℕ) → a.ending ≡ whole → mid ≡ old ++ a.text → new ≡ mid ++ b.text → new ≡ old ++ (a >> b).text
+text_after a b old mid new w e h =
+    h ∙ ap (λ l. l ++ b.text) e ∙ append_assoc old a.text b.text ∙ ap (λ (t : Said). old ++ t.text) (sym (after_whole a b w))
+
 -- ---- something, then what may end the report, then the rest
 
-pub ends_well : (a : List ℕ) (s r : Said) (e : Ending) → s.ending ≡ whole → e ≡ r.ending → e ≡ (says a >> s >> r).ending
-ends_well a s r e w h = rw (after_whole s r w) h
+pub text_well : {A E : Type 0} (q : Result A E) (a : List ℕ) (s r : Said) (old mid new : List ℕ)
+    → s.ending ≡ whole → mid ≡ old ++ (a ++ s.text) → OnOk q (new ≡ mid ++ r.text) → OnOk q (new ≡ old ++ (says a >> s >> r).text)
+text_well (Ok x) a s r old mid new w e h =
+    h ∙ ap (λ l. l ++ r.text) e ∙ append_assoc old (a ++ s.text) r.text
+    ∙ ap (λ l. old ++ l) (append_assoc a s.text r.text ∙ ap (λ (t : Said). a ++ t.text) (sym (after_whole s r w)))
+text_well (Err x) a s r old mid new w e h = tt
 
-pub puts_well : (a : List ℕ) (s r : Said) (old mid new : Option (List ℕ)) → s.ending ≡ whole → Appends old mid (a ++ s.text) → Appends mid new r.text → Appends old new (says a >> s >> r).text
-puts_well a s r old mid new w h k =
-    subst (Appends old new) (append_assoc a s.text r.text ∙ ap (λ (t : Said). a ++ t.text) (sym (after_whole s r w))) (Appends-trans old mid new (a ++ s.text) r.text h k)
+pub notes_well : {A E : Type 0} (q : Result A E) (a : List ℕ) (s r : Said) (old new : List ℕ)
+    → s.ending ≡ whole → s.notes ≡ [] → OnOk q (new ≡ old ++ r.notes) → OnOk q (new ≡ old ++ (says a >> s >> r).notes)
+notes_well (Ok x) a s r old new w n h = h ∙ ap (λ l. old ++ l) (ap (λ l. l ++ r.notes) (sym n) ∙ ap (λ (t : Said). t.notes) (sym (after_whole s r w)))
+notes_well (Err x) a s r old new w n h = tt
 
-pub notes_well : (a : List ℕ) (s r : Said) (old new : Option (List ℕ)) → s.ending ≡ whole → s.notes ≡ [] → Appends old new r.notes → Appends old new (says a >> s >> r).notes
-notes_well a s r old new w n h =
-    subst (Appends old new) (ap (λ l. l ++ r.notes) (sym n) ∙ ap (λ (t : Said). t.notes) (sym (after_whole s r w))) h
+pub ends_well : {E : Type 0} (q : Result Found E) (a : List ℕ) (s r : Said)
+    → s.ending ≡ whole → IfOk q (λ e. ending_of e ≡ r.ending) → IfOk q (λ e. ending_of e ≡ (says a >> s >> r).ending)
+ends_well (Ok e) a s r w h = h ∙ ap (λ (t : Said). t.ending) (sym (after_whole s r w))
+ends_well (Err x) a s r w h = tt
+
+pub text_early : (a : List ℕ) (s r : Said) (old new : List ℕ) → is_whole s.ending ≡ false → new ≡ old ++ (a ++ s.text) → new ≡ old ++ (says a >> s >> r).text
+text_early a s r old new w h = h ∙ ap (λ (t : Said). old ++ (a ++ t.text)) (sym (at_end s r w))
+
+pub notes_early : (a : List ℕ) (s r : Said) (old : List ℕ) → is_whole s.ending ≡ false → s.notes ≡ [] → old ≡ old ++ (says a >> s >> r).notes
+notes_early a s r old w n = sym (append-nil old) ∙ ap (λ l. old ++ l) (sym n ∙ ap (λ (t : Said). t.notes) (sym (at_end s r w)))
 
 pub ends_early : (a : List ℕ) (s r : Said) (e : Ending) → is_whole s.ending ≡ false → e ≡ s.ending → e ≡ (says a >> s >> r).ending
-ends_early a s r e w h = rw (at_end s r w) h
+ends_early a s r e w h = h ∙ ap (λ (t : Said). t.ending) (sym (at_end s r w))
 
-pub puts_early : (a : List ℕ) (s r : Said) (old new : Option (List ℕ)) → is_whole s.ending ≡ false → Appends old new (a ++ s.text) → Appends old new (says a >> s >> r).text
-puts_early a s r old new w h = subst (Appends old new) (ap (λ (t : Said). a ++ t.text) (sym (at_end s r w))) h
-
-pub notes_early : (a : List ℕ) (s r : Said) (old : Option (List ℕ)) → is_whole s.ending ≡ false → s.notes ≡ [] → Appends old old (says a >> s >> r).notes
-notes_early a s r old w n = subst (Appends old old) (sym n ∙ ap (λ (t : Said). t.notes) (sym (at_end s r w))) (Appends-nil old)
+-- an ending other than Whole ends the report
+pub ended : (e : Found) → (e ≡ found.Whole → ⊥) → is_whole (ending_of e) ≡ false
+ended found.Whole h = absurd (h refl)
+ended found.Invalid h = refl
+ended (found.SetupFailed text) h = refl
+ended found.SetupWaits h = refl
 
 -- a setting, by its parts
 abbrev pub setting_of : List EntryTree → List HistItem → ℕ → Setting

@@ -6,5 +6,5 @@ pub mod Said
 pub mod Setups
 pub mod Teardowns
 pub mod Permutation
-pub mod Faults
+pub mod Fronts
 pub mod Answers

@@ -1,12 +1,11 @@
 //! How the report of a permutation ends.
 
 ghost use Rattle.std.specs.Prelude.{◌≡◌};
-ghost use Rattle.report_text.specs.declared.fault.ReportFault.TheVariants.{Memory};
-ghost use Rattle.report_text.specs.declared.fault.PutFault.TheVariants.{Memory as PutMemory, Write as PutWrite};
+ghost use Rattle.report_text.specs.declared.fault.ReportFault.TheVariants.{Memory, Write};
+ghost use Rattle.report_text.specs.Answers.{answer_of};
 
 use iso_lexer::DeviceFault;
 use std::alloc::AllocError;
-use thiserror::Error;
 
 /// How a permutation ended.
 #[derive(Clone, Copy, Debug, PartialEq, Eq)]
@@ -17,43 +16,15 @@ pub enum Ended {
     Invalid,
 }
 
-/// Why a permutation was not reported to its end. The names R2, R6 and R7 are those of the faults that the program reports.
-#[derive(Debug, Drop, Error)]
+/// Why a permutation was not reported to its end.
+#[derive(Debug, Drop)]
 pub enum ReportFault {
-    /// R2: one of the two sinks failed.
-    #[error("R2 Write")]
+    /// One of the two sinks failed.
     Write,
-    #[error("Memory")]
     Memory,
-    /// R6: a setup failed, with this text.
-    #[error("R6 SetupFailed: {text}")]
+    /// A setup failed, with this text.
     SetupFailed { text: String },
-    /// R7
-    #[error("R7 SetupWaits")]
     SetupWaits,
-}
-
-/// Why a piece of a report was not put.
-#[derive(Clone, Copy, Debug)]
-pub enum PutFault {
-    Write,
-    Memory,
-}
-
-impl From<AllocError> for PutFault {
-    ghost from_gives = { λ _ e. e ≡ PutMemory };
-
-    fn from(_e: AllocError) -> PutFault {
-        PutFault::Memory
-    }
-}
-
-impl From<DeviceFault> for PutFault {
-    ghost from_gives = { λ _ e. e ≡ PutWrite };
-
-    fn from(_e: DeviceFault) -> PutFault {
-        PutFault::Write
-    }
 }
 
 impl From<AllocError> for ReportFault {
@@ -64,15 +35,32 @@ impl From<AllocError> for ReportFault {
     }
 }
 
-impl From<PutFault> for ReportFault {
-    ghost use Rattle.report_text.specs.Faults.{report_fault};
+impl From<DeviceFault> for ReportFault {
+    ghost from_gives = { λ _ e. e ≡ Write };
 
-    ghost from_gives = { λ f e. e ≡ report_fault f };
+    fn from(_e: DeviceFault) -> ReportFault {
+        ReportFault::Write
+    }
+}
 
-    fn from(f: PutFault) -> ReportFault {
-        match f {
-            PutFault::Write => ReportFault::Write,
-            PutFault::Memory => ReportFault::Memory,
-        }
+/// How a report ends, sinks and memory apart.
+#[derive(Drop)]
+pub enum Ending {
+    Whole,
+    Invalid,
+    /// A setup failed, with this text.
+    SetupFailed(String),
+    SetupWaits,
+}
+
+/// What is answered of an ending.
+pub fn answer_of(ending: Ending) -> Result<Ended, ReportFault>
+    ensures { result ≡ answer_of ending }
+{
+    match ending {
+        Ending::Whole => Ok(Ended::Whole),
+        Ending::Invalid => Ok(Ended::Invalid),
+        Ending::SetupFailed(text) => Err(ReportFault::SetupFailed { text }),
+        Ending::SetupWaits => Err(ReportFault::SetupWaits),
     }
 }

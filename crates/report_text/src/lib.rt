@@ -16,6 +16,3 @@ mod teardowns;
 
 pub use fault::{Ended, ReportFault};
 pub use permutation::write_permutation;
-
-#[cfg(test)]
-mod tests;

@@ -1,6 +1,6 @@
 //! A piece of text, before it goes out.
 
-ghost use Rattle.std.specs.Prelude.{◌≡◌, ◌++◌, [], OnOk, Some};
+ghost use Rattle.std.specs.Prelude.{◌≡◌, ◌++◌, ◌+◌, ◌<◌, [], false, length, OnOk, OnErr, Some, vec_len, vec_capacity};
 ghost use Rattle.iso_lexer.specs.Names.{name_view, decoded};
 
 use iso_lexer::{DeviceFault, Name, Sink, write_name};
@@ -15,7 +15,8 @@ pub struct Page {
 
 impl Page {
     pub fn new(alloc: Global) -> Page
-        ensures { result.bytes.items ≡ [] }
+        ensures bytes { result.bytes.items ≡ [] }
+        ensures failed { result.failed ≡ false }
     {
         Page {
             bytes: Vec::new(alloc),
@@ -33,15 +34,10 @@ impl Page {
         self.bytes.as_slice()
     }
 
-    /// Makes the page empty.
-    pub fn clear(&mut self)
-        ensures { self.new.bytes.items ≡ [] }
-    {
-        self.bytes.clear();
-    }
-
     pub fn push(&mut self, text: &[u8]) -> Result<(), AllocError>
-        ensures { OnOk result (self.new.bytes.items ≡ self.old.bytes.items ++ text.now) }
+        ensures bytes { OnOk result (self.new.bytes.items ≡ self.old.bytes.items ++ text.now) }
+        ensures failed { self.new.failed ≡ self.old.failed }
+        ensures full { OnErr result (vec_capacity self.old.bytes < vec_len self.old.bytes + length text.now) }
     {
         self.bytes.extend_from_slice(text)
     }

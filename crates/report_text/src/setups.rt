@@ -8,6 +8,7 @@ ghost use Rattle.report_text.specs.Replies.{last_outcome};
 ghost use Rattle.report_text.specs.Setups.{setup_ending, setups_say};
 ghost use Rattle.report_text.specs.Answers.{ending_of};
 
+use crate::fault::Ending;
 use crate::fault_text::push_fault;
 use crate::page::Page;
 use crate::replies::push_last_rows;
@@ -15,16 +16,6 @@ use crate::segments::went_well;
 use report_lines::Segments;
 use session_machine::{HistItem, Outcome, StmtFault};
 use std::alloc::{AllocError, Global};
-
-/// What has become of setups.
-#[derive(Debug, Drop)]
-pub enum SetUp {
-    /// Each that is there went well.
-    Well,
-    /// One failed, with this text.
-    Failed(String),
-    Waits,
-}
 
 fn text_of(alloc: Global, fault: &StmtFault<'_>) -> Result<String, AllocError>
     ensures { IfOk result (λ text. string_bytes text ≡ utf8_lossy (fault_text fault.now)) }
@@ -34,38 +25,38 @@ fn text_of(alloc: Global, fault: &StmtFault<'_>) -> Result<String, AllocError>
     String::from_utf8_lossy(alloc, page.bytes())
 }
 
-fn setup_ending(alloc: Global, outcome: &Outcome<'_>) -> Result<SetUp, AllocError>
-    ensures { IfOk result (λ came. ending_of came ≡ setup_ending outcome.now) }
+fn setup_ending(alloc: Global, outcome: &Outcome<'_>) -> Result<Ending, AllocError>
+    ensures { IfOk result (λ ending. ending_of ending ≡ setup_ending outcome.now) }
 {
     match outcome {
-        Outcome::Failed(fault) => Ok(SetUp::Failed(text_of(alloc, fault)?)),
-        _ => Ok(SetUp::Waits),
+        Outcome::Failed(fault) => Ok(Ending::SetupFailed(text_of(alloc, fault)?)),
+        _ => Ok(Ending::SetupWaits),
     }
 }
 
 /// Why a setup did not go well, by what came last of it.
-fn last_ending(alloc: Global, segment: &[HistItem<'_>]) -> Result<SetUp, AllocError>
-    ensures { IfOk result (λ came. ending_of came ≡ setup_ending (last_outcome segment.now)) }
+fn last_ending(alloc: Global, segment: &[HistItem<'_>]) -> Result<Ending, AllocError>
+    ensures { IfOk result (λ ending. ending_of ending ≡ setup_ending (last_outcome segment.now)) }
 {
     match segment.last() {
         Some(item) => setup_ending(alloc, &item.reply.outcome),
-        None => Ok(SetUp::Waits),
+        None => Ok(Ending::SetupWaits),
     }
 }
 
-/// Pushes what the setups of these sessions say, as far as they are there.
+/// Pushes what the setups of these sessions say, as far as they are there: the ending is Whole where each of those went well.
 pub fn push_setups(
     page: &mut Page,
     segments: &Segments<'_>,
     sessions: &[usize],
-) -> Result<SetUp, AllocError>
+) -> Result<Ending, AllocError>
     ensures text { OnOk result (page.new.bytes.items ≡ page.old.bytes.items ++ (setups_say segments.now (orders segments.now) 0 sessions.now).text) }
-    ensures ending { IfOk result (λ came. ending_of came ≡ (setups_say segments.now (orders segments.now) 0 sessions.now).ending) }
+    ensures ending { IfOk result (λ ending. ending_of ending ≡ (setups_say segments.now (orders segments.now) 0 sessions.now).ending) }
 {
     let there = segments.count();
     for (number, session) in sessions.iter().enumerate() {
         if there <= number {
-            return Ok(SetUp::Well);
+            return Ok(Ending::Whole);
         }
         let segment = segments.segment(number);
         if !went_well(segment, *session) {
@@ -73,5 +64,5 @@ pub fn push_setups(
         }
         push_last_rows(page, segment)?;
     }
-    Ok(SetUp::Well)
+    Ok(Ending::Whole)
 }

@@ -127,7 +127,6 @@ fn push_last(
 
 /// Pushes what all teardowns say, from a segment on.
 pub fn push_teardowns(
-    alloc: Global,
     pages: &mut Pages,
     spec: &Spec<'_>,
     segments: &Segments<'_>,
@@ -138,7 +137,7 @@ pub fn push_teardowns(
     ensures text { OnOk result (pages.new.text.bytes.items ≡ pages.old.text.bytes.items ++ (teardowns_say (spec_view spec.now) segments.now there first).text) }
     ensures notes { OnOk result (pages.new.notes.bytes.items ≡ pages.old.notes.bytes.items ++ (teardowns_say (spec_view spec.now) segments.now there first).notes) }
 {
-    let teardowns = teardowns_of(alloc, spec)?;
+    let teardowns = teardowns_of(pages.text.alloc(), spec)?;
     let next = push_torn(pages, &spec.sessions, segments, there, first, &teardowns)?;
     push_last(
         pages,

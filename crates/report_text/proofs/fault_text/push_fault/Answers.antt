@@ -5,16 +5,16 @@ use Rattle.report_text.proofs.fault_text.push_fault.Goals as goal
 pub returns-in_ok-push_relation-in-TableExists : goal.returns-in_ok-push_relation-in-TableExists
 unfolding fault_text
 returns-in_ok-push_relation-in-TableExists c =
-    rw c.in-TableExists.is (pushed2 _ _ _ _ _ _ c.in_ok-push_relation-in-TableExists.ensures c.push-in-TableExists.ensures)
+    rw c.in-TableExists.is (pushed2 _ _ _ _ _ _ c.in_ok-push_relation-in-TableExists.ensures c.push-in-TableExists.ensures.bytes)
 
 pub returns-in-TooManyValues : goal.returns-in-TooManyValues
 unfolding fault_text
-returns-in-TooManyValues c = rw c.in-TooManyValues.is c.push-in-TooManyValues.ensures
+returns-in-TooManyValues c = rw c.in-TooManyValues.is c.push-in-TooManyValues.ensures.bytes
 
 pub returns-in-Aborted : goal.returns-in-Aborted
 unfolding fault_text
-returns-in-Aborted c = rw c.in-Aborted.is c.push-in-Aborted.ensures
+returns-in-Aborted c = rw c.in-Aborted.is c.push-in-Aborted.ensures.bytes
 
 pub returns-in-LevelTooLate : goal.returns-in-LevelTooLate
 unfolding fault_text
-returns-in-LevelTooLate c = rw c.in-LevelTooLate.is c.push-in-LevelTooLate.ensures
+returns-in-LevelTooLate c = rw c.in-LevelTooLate.is c.push-in-LevelTooLate.ensures.bytes

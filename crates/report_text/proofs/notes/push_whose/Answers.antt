@@ -9,4 +9,4 @@ pub returns-in_ok-push-in-Some : goal.returns-in_ok-push-in-Some
 returns-in_ok-push-in-Some c =
     let named : session_numbered (map session_view c.args.sessions.now) c.args.session ≡ Some (session_view c.in-Some.session.now) =
     sym c.session_numbered.ensures ∙ ap (λ o. option_map session_view (option_copied o)) c.in-Some.is in
-    rw named (pushed2 _ _ _ _ _ _ c.in_ok-push-in-Some.ensures c.push_name.ensures)
+    rw named (pushed2 _ _ _ _ _ _ c.in_ok-push-in-Some.ensures.bytes c.push_name.ensures)

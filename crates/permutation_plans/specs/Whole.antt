@@ -1,0 +1,54 @@
+-- The orders of a permutation in which no block fails or waits, and that the next of them is due.
+use Rattle.std.specs.Prelude.{◌≡◌, ◌≢◌, ℕ, zero, suc, ◌+◌, ◌-◌, ◌<◌, true, List, [], ◌∷◌, ◌++◌, length, map, slice_get}
+use Rattle.session_machine.specs.declared.event.Order.{Order}
+use Rattle.session_machine.specs.declared.event.Order.TheVariants.{Launch, Leave, Stop}
+use Rattle.session_machine.specs.declared.reply.HistItem.{HistItem}
+use Rattle.spec_parser.specs.Trees.{EntryTree, SpecTree}
+use Rattle.report_lines.specs.declared.history.Task.{Task}
+use Rattle.report_lines.specs.declared.history.Stand.TheVariants.{Invalid}
+use Rattle.report_lines.specs.Report.{report}
+use Rattle.report_lines.specs.Due.{Planned, or_else, orders, went_well, is_over}
+use Rattle.permutation_plans.specs.Launches.{Launches, launches, planned, due_in}
+use Rattle.permutation_plans.specs.Worked.{worked_spec, worked_entries, worked_items}
+
+abbrev pub launch : Task → Order
+launch t = Launch t.session t.block
+
+-- so many sessions leave, from this one on
+abbrev pub leaves : ℕ → ℕ → List Order
+leaves session zero = []
+leaves session (suc n) = Leave session ∷ leaves (session + 1) n
+
+-- the setups of the file and of its sessions, the entries' steps, the sessions' teardowns, each session leaves, the teardown of the file
+abbrev pub whole_orders : Launches → List Order
+whole_orders l = map launch l.setups ++ (map launch l.tasks ++ (map launch l.teardowns ++ (leaves 1 l.sessions ++ map launch l.last)))
+
+-- the order of this number, from 0; behind the last one a Stop
+abbrev pub order_at : List Order → ℕ → Order
+order_at os k = or_else (slice_get os k) Stop
+
+-- of these setups, the first of which has this number, each that is there ended, and nothing in it failed
+abbrev pub AreWell : List HistItem → ℕ → ℕ → List Task → Type 0
+AreWell items there k [] = Unit {0}
+AreWell items there k (t ∷ ts) = (k < there → went_well items k t.session ≡ true) × AreWell items there (k + 1) ts
+
+-- of these teardowns each that is there ended
+abbrev pub AreOver : List HistItem → ℕ → ℕ → List Task → Type 0
+AreOver items there k [] = Unit {0}
+AreOver items there k (t ∷ ts) = (k < there → is_over items k t.session ≡ true) × AreOver items there (k + 1) ts
+
+-- so far no setup failed or waits, no teardown waits, and the permutation is not invalid
+pub record GoesWell (p : Planned) : Type 0 where
+  pub setups : AreWell p.setting.items (orders p.setting.items) 0 p.setups
+  pub entries : (report p.setting (orders p.setting.items - length p.setups)).stand ≢ Invalid
+  pub teardowns : AreOver p.setting.items (orders p.setting.items) (length p.setups + length p.tasks) p.teardowns
+  pub last : AreOver p.setting.items (orders p.setting.items) (length p.setups + length p.tasks + length p.teardowns + p.sessions) p.last
+
+-- as long as all goes well, what is due after a history is the next of those orders
+abbrev pub NextIsDue : Type 0
+NextIsDue = (spec : SpecTree) (entries : List EntryTree) (items : List HistItem) → GoesWell (planned spec entries items)
+    → due_in spec entries items ≡ order_at (whole_orders (launches spec entries)) (orders items)
+
+-- in the worked history all goes well
+abbrev pub WorkedGoesWell : Type 0
+WorkedGoesWell = GoesWell (planned worked_spec worked_entries worked_items)
