@@ -6,6 +6,3 @@ mod program;
 
 pub use options::{DEFAULT_LIMIT, Options, options_of, status_of};
 pub use program::serve;
-
-#[cfg(test)]
-mod tests;

@@ -20,10 +20,3 @@ pub use plan::Plan;
 pub use report::write_permutation;
 pub use report_text::Ended;
 pub use run::run_spec;
-
-#[cfg(test)]
-mod list_tests;
-#[cfg(test)]
-mod samples;
-#[cfg(test)]
-mod tests;

@@ -1,0 +1,57 @@
+//! The longest file, and what doesn't run yet.
+
+use crate::asking::{holds, served};
+use crate::devices::{Gives, Takes};
+use iso_lexer::{FromStd, LONGEST_FILE};
+use std::alloc::{AllocError, Global};
+
+const ONE_STEP: &str = "session s step a { }";
+
+const ONE_STEP_TEXT: &str =
+    "Parsed test spec with 1 sessions\n\nstarting permutation: a\nstep a: \n";
+
+const TOO_LONG: &str = "isolationtester: L5 FileTooLong at byte 1048576\n";
+
+/// `first` with newlines behind it, so many bytes in all.
+fn lengthened(alloc: Global, first: &[u8], len: usize) -> Result<Vec<u8>, AllocError> {
+    let mut bytes = Vec::from_slice(alloc, first)?;
+    for _ in bytes.len()..len {
+        bytes.push(b'\n')?;
+    }
+    Ok(bytes)
+}
+
+/// A file is looked at for its length before it is looked at for UTF-8.
+#[test]
+fn the_longest_file_runs_and_one_byte_more_is_too_long(rt: HostRuntime) -> Result<(), AllocError> {
+    for (first, len, text, line, ends) in [
+        (ONE_STEP.as_bytes(), LONGEST_FILE, ONE_STEP_TEXT, "", 0),
+        (ONE_STEP.as_bytes(), LONGEST_FILE + 1, "", TOO_LONG, 1),
+        (b"\xff".as_slice(), LONGEST_FILE + 1, "", TOO_LONG, 1),
+    ] {
+        let file = lengthened(rt.alloc(), first, len)?;
+        let mut input = FromStd::new(file.as_slice());
+        let mut out = Takes::new(text, usize::MAX);
+        let mut err = Takes::new(line, usize::MAX);
+        let status = served(rt.alloc(), &[], &mut input, &mut out, &mut err)?;
+        holds(&rt, status == ends, "the status");
+        holds(&rt, out.lacks(0) && err.lacks(0), "the text");
+    }
+    Ok(())
+}
+
+#[test]
+fn what_does_not_run_yet_is_listed(rt: HostRuntime) -> Result<(), AllocError> {
+    for (words, text, line, ends) in [
+        ([].as_slice(), "", "isolationtester: R12 NotYet\n", 1),
+        (["--list"].as_slice(), "permutation \"a\"\n", "", 0),
+    ] {
+        let mut input = Gives::new("session s step a { UPDATE t SET x = 1 }", usize::MAX);
+        let mut out = Takes::new(text, usize::MAX);
+        let mut err = Takes::new(line, usize::MAX);
+        let status = served(rt.alloc(), words, &mut input, &mut out, &mut err)?;
+        holds(&rt, status == ends, "the status");
+        holds(&rt, out.lacks(0) && err.lacks(0), "the text");
+    }
+    Ok(())
+}

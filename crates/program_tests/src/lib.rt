@@ -1,0 +1,18 @@
+//! The tests of `permutations` and `command_line`, over their public calls alone: the words of a command line, devices that fail,
+//! the longest file, and the printed line of each fault. What an example file shows has no test.
+#![tactic(auto)]
+
+#[cfg(test)]
+mod asking;
+#[cfg(test)]
+mod devices;
+#[cfg(test)]
+mod failures;
+#[cfg(test)]
+mod fault_lines;
+#[cfg(test)]
+mod files;
+#[cfg(test)]
+mod plans;
+#[cfg(test)]
+mod words;

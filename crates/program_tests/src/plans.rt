@@ -1,0 +1,43 @@
+//! A plan as a driver.
+
+use crate::asking::holds;
+use permutation_lists::Permutations;
+use permutations::Plan;
+use row_versions::{ListStore, Versions};
+use session_core::EngineState;
+use session_machine::Mode;
+use session_threads::{Driver, Order};
+use spec_parser::{Spec, parse_spec};
+use std::alloc::{AllocError, Global};
+use std::test::Fail;
+
+fn asked<V: Versions, D: Driver<V>>(
+    alloc: Global,
+    driver: &mut D,
+    engine: &EngineState<'_, '_, V>,
+) -> Result<Order, AllocError> {
+    driver.next(alloc, engine)
+}
+
+/// The first order of the first permutation of a spec of one session.
+fn first_order(alloc: Global, spec: &Spec<'_>) -> Result<Order, AllocError> {
+    let mut permutations = Permutations::of(alloc, spec)?;
+    permutations.advance(alloc)?;
+    let engine = EngineState::new(alloc, &[], 1, Mode::Directed, ListStore::new(alloc))?;
+    let mut plan = Plan::new(alloc, spec, permutations.entries())?;
+    asked(alloc, &mut plan, &engine)
+}
+
+#[test]
+fn a_plan_is_a_driver(rt: HostRuntime) -> Result<(), Fail> {
+    let Ok(spec) = parse_spec(rt.alloc(), "session s step a { }") else {
+        return Err(Fail::new("no spec"));
+    };
+    let launch = Order::Launch {
+        session: 1,
+        block: 0,
+    };
+    let first = first_order(rt.alloc(), &spec)?;
+    holds(&rt, first == launch, "the first block");
+    Ok(())
+}
