@@ -1,7 +1,7 @@
 -- The search for what is reached finds all of it, and nothing else.
-use Rattle.std.proofs.Common.{◌≡◌, ◌↔◌, refl, sym, ◌∙◌, ap, subst, ◌⊎◌, inl, inr, Bool, true, false, cond, not, ◌||◌, ◌&&◌, ◌==◌, ℕ, zero, suc, ◌<◌, ◌≤◌, ◌+◌, List, [], ◌∷◌, ◌++◌, length, arith, get_or, take, drop, rules}
-use Rattle.std.specs.Prelude.{Option, Some, None, slice_get, position, IsTrue, remove, nat_lt}
-use Rattle.std.specs.List.{list_any, position_or_len}
+use Rattle.std.proofs.Common.{◌≡◌, ◌↔◌, refl, sym, ◌∙◌, ap, subst, ◌⊎◌, inl, inr, Bool, true, false, cond, not, ◌||◌, ◌&&◌, ℕ, zero, suc, ◌<◌, ◌≤◌, ◌+◌, List, [], ◌∷◌, ◌++◌, length, arith, get_or}
+use Rattle.std.specs.Prelude.{Option, Some, None, slice_get, position, IsTrue, remove}
+use Rattle.std.specs.List.{position_or_len}
 use Rattle.std.proofs.lemmas.Bool.{eqb-true, eq-eqb, cases_lt}
 use Rattle.std.proofs.lemmas.List.{append-nil}
 use Rattle.std.proofs.lemmas.List.Folds.{list_any-append}
@@ -10,7 +10,7 @@ use Rattle.row_versions.specs.declared.names.TxId.{TxId}
 use Rattle.row_locks.specs.Members.{has, same_tx}
 use Rattle.row_locks.specs.Waiting.{Waiting}
 use Rattle.row_locks.specs.Searching.{blockers_at, blockers_in, is_reached, is_reached_in}
-use Rattle.row_locks.specs.Cycles.{Path, Leads, Closes, NoCycle, blocks}
+use Rattle.row_locks.specs.Cycles.{Path, Leads, Closes, blocks}
 use Rattle.row_locks.proofs.Paths.{one_step, leads_on, nowhere}
 
 pub or_cases : (p q : Bool) → (p || q) ≡ true → (p ≡ true) ⊎ (q ≡ true)

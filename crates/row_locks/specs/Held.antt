@@ -23,7 +23,7 @@ conflicts Exclusive Exclusive = true
 abbrev pub is_against : RowId → TxId → Strength → Held → Bool
 is_against row tx strength h = ((h.row.0 == row.0) && not (same_tx h.tx tx)) && conflicts h.strength strength
 
--- the blockers of a row request: those that hold the row in conflict
+-- the blockers of a row request: the others that hold the row in conflict; they are open, since locks are let go at a transaction's end
 abbrev pub holders_against : List Held → RowId → TxId → Strength → List TxId
 holders_against held row tx strength = map (λ h. h.tx) (filter (is_against row tx strength) held)
 

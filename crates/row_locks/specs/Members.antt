@@ -1,5 +1,5 @@
 -- Transactions, and lists of them.
-use Rattle.std.specs.Prelude.{◌≡◌, ◌==◌, Bool, false, true, List, [], ◌∷◌}
+use Rattle.std.specs.Prelude.{◌≡◌, ◌==◌, Bool, false, List, [], ◌∷◌}
 use Rattle.std.specs.List.{list_any}
 use Rattle.row_versions.specs.declared.names.TxId.{TxId}
 

@@ -1,5 +1,5 @@
 -- Who stops a target, by any list of those that hold it.
-use Rattle.std.proofs.Common.{◌≡◌, refl, sym, ◌∙◌, ap, Bool, true, false, List, [], ◌∷◌}
+use Rattle.std.proofs.Common.{◌≡◌, refl, ap, Bool, true, false, List, [], ◌∷◌}
 use Rattle.std.specs.Prelude.{Some, None}
 use Rattle.row_versions.specs.declared.names.TxId.{TxId}
 use Rattle.row_locks.specs.Members.{has, same_tx}

@@ -1,4 +1,4 @@
-use Rattle.std.proofs.Common.{rules, ◌≡◌, ◌∙◌, ap, not, ◌==◌, filter}
+use Rattle.std.proofs.Common.{rules, ◌∙◌, ap, not, ◌==◌, filter}
 use Rattle.std.proofs.lemmas.Fn.{filter_same}
 use Rattle.row_locks.specs.Held.{holds}
 use Rattle.row_locks.proofs.Holding.{released}

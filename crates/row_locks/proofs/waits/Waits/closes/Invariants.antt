@@ -1,8 +1,4 @@
-use Rattle.std.proofs.Common.{◌≡◌, ◌<◌, ℕ, true, length, ◌⊎◌}
-use Rattle.row_versions.specs.declared.names.TxId.{TxId}
-use Rattle.row_locks.specs.Members.{has}
-use Rattle.row_locks.specs.Searching.{blockers_at}
-use Rattle.row_locks.specs.Cycles.{Closes, blocks}
+use Rattle.std.proofs.Common.{◌<◌, ℕ, length}
 use Rattle.row_locks.proofs.Reaching.{IsLeft, Spreads}
 use Rattle.row_locks.proofs.waits.Waits.closes.Given as goal
 
