@@ -6,25 +6,25 @@ use Rattle.std.specs.List.{list_all}
 use Rattle.std.specs.Prelude.{Result, Ok, Err, not, nat_lt, if◌then◌else◌}
 use Rattle.iso_lexer.specs.declared.token.At.{At}
 use Rattle.sql_trees.specs.declared.fault.SqlFault.{SqlFault}
-use Rattle.sql_trees.specs.declared.fault.SqlFault.TheVariants.{TooMany}
-use Rattle.sql_trees.specs.Faults.{place}
+use Rattle.sql_trees.specs.declared.fault.SqlFault.TheVariants.{Syntax, TooMany}
 use Rattle.sql_trees.specs.Statements.{StmtTree}
 use Rattle.sql_trees.specs.Tokens.{Token, Tokens}
+use Rattle.sql_trees.specs.Tokens as tok
+use Rattle.iso_lexer.specs.declared.sql_token.SqlSign.TheVariants as signs
 use Rattle.sql_trees.specs.Trees.{Tree}
-use Rattle.sql_expressions.specs.Reading.{place_of, ◌>>=◌}
+use Rattle.sql_expressions.specs.Reading.{expr_at, misplaced, place_of, ◌>>=◌}
 use Rattle.sql_expressions.specs.Laws.{head}
 use Rattle.sql_parser.specs.declared.block.Role.{Role}
 use Rattle.sql_parser.specs.Blocks.{is_semicolon, whole_at, piece_at, stmts_at}
 use Rattle.sql_parser.specs.Kept.{is_kept_in}
 use Rattle.sql_parser.specs.Grammar.{Is, RowIs, is_row, Spells, PieceIs, no_stmt, a_stmt, BlockIs, last_piece, next_piece, Shallow, OfAnyDepth}
-use Rattle.sql_parser.specs.Stops.{Stands, at_next, at_row, IsStop}
+use Rattle.sql_parser.specs.Stops.{Refuses, at_next, at_word, at_name, at_row, in_expression, WantsWords, IsStop}
 use Rattle.sql_parser.specs.Laws.{Excepted, Stops, BlockStops, at_block_token, in_a_statement, BlockFaultsAreFirst, at_token, elsewhere}
 use Rattle.sql_parser.proofs.Steps.{bind_ok, when_ok}
-use Rattle.sql_parser.proofs.Locals.{stands_behind}
 use Rattle.sql_parser.proofs.ExprLocals.{some_of_any_depth, of_any_depth_starts, any_depth_local, one_name}
 use Rattle.sql_parser.proofs.BlockLocals.{stmt_local}
 use Rattle.sql_parser.proofs.BlocksKept.{whole_kept}
-use Rattle.sql_parser.proofs.BlocksRead.{whole_taken, whole_sound, piece_of, last_of}
+use Rattle.sql_parser.proofs.BlocksRead.{free_of, whole_taken, whole_sound, piece_of, last_of}
 use Rattle.sql_parser.proofs.Frees.{is_free, Free}
 use Rattle.sql_parser.proofs.FirstFaults.{faults_are_first}
 
@@ -48,7 +48,7 @@ pub data Split : Tokens → Type 0 where
   whole : (ts : Tokens) → Free ts → Split ts
   ended : (ts us : Tokens) (c : At Token) → Free ts → Is is_semicolon c → Split (ts ++ c ∷ us)
 
-split : (ts : Tokens) → Split ts
+pub split : (ts : Tokens) → Split ts
 split [] = whole [] refl
 split (t ∷ ts) = of_test (is_semicolon t.tok) refl (split ts)
   where
@@ -60,17 +60,42 @@ split (t ∷ ts) = of_test (is_semicolon t.tok) refl (split ts)
     of_test true h s = ended [] ts t refl h
     of_test false h s = of_split ts h s
 
--- what stands at a piece's end is at the place of what is behind it
-stands_on : (last : ℕ) (behind front rest : Tokens) (p : ℕ) → Stands (place_of last behind) OfAnyDepth front rest p → Stands last OfAnyDepth front (rest ++ behind) p
-stands_on last behind _ _ _ (at_next front rest) = subst (Stands last OfAnyDepth front (rest ++ behind)) (of_rest rest) (at_next front (rest ++ behind))
+-- a semicolon is refused as Syntax
+semicolon_next : (last : ℕ) (c : At Token) (us : Tokens) → Is is_semicolon c → misplaced last (c ∷ us) ≡ Syntax c.span.start
+semicolon_next last c us h = of_tok c.tok refl h
   where
-    of_rest : (us : Tokens) → place_of last (us ++ behind) ≡ place_of (place_of last behind) us
-    of_rest [] = refl
-    of_rest (u ∷ us) = refl
-stands_on last behind _ _ _ (at_row before row rest es r) = subst (Stands last OfAnyDepth (before ++ row) (rest ++ behind)) (of_row row es r) (at_row before row (rest ++ behind) es r)
-  where
-    of_row : (xs : Tokens) (es : List Tree) → RowIs OfAnyDepth xs es → place_of last xs ≡ place_of (place_of last behind) xs
-    of_row _ _ (is_row o c ts es ho q hc) = refl
+    of_tok : (x : Token) → c.tok ≡ x → is_semicolon x ≡ true → misplaced last (c ∷ us) ≡ Syntax c.span.start
+    of_tok (tok.sign signs.Semicolon) e g = rw e refl
+    of_tok _ e g = absurd cc
+
+-- what is refused at a piece's end is refused where what is behind it begins
+module _ (last : ℕ) (behind : Tokens) (first_behind : (c : At Token) (us : Tokens) → behind ≡ c ∷ us → Is is_semicolon c) (W V : Type 0) (up : W → V) where
+  of_rest : (us : Tokens) → place_of last (us ++ behind) ≡ place_of (place_of last behind) us
+  of_rest [] = refl
+  of_rest (u ∷ us) = refl
+
+  of_row : (xs : Tokens) (es : List Tree) → RowIs OfAnyDepth xs es → place_of last xs ≡ place_of (place_of last behind) xs
+  of_row _ _ (is_row o c ts es ho q hc) = refl
+
+  of_next : (us bs : Tokens) → behind ≡ bs → misplaced last (us ++ bs) ≡ misplaced (place_of last bs) us
+  of_next [] [] e = refl
+  of_next [] (c ∷ bs) e = semicolon_next last c bs (first_behind c bs e)
+  of_next (u ∷ us) bs e = refl
+
+  stands_on : (front rest : Tokens) (f : SqlFault) → Refuses (place_of last behind) OfAnyDepth W front rest f → Refuses last OfAnyDepth V front (rest ++ behind) f
+  stands_on _ _ _ (at_next front rest) = subst (Refuses last OfAnyDepth V front (rest ++ behind)) (of_next rest behind refl) (at_next front (rest ++ behind))
+  stands_on _ _ _ (at_word front rest t w h) = at_word front (rest ++ behind) t (up w) h
+  stands_on _ _ _ (at_name front rest t n h) = at_name front (rest ++ behind) t n h
+  stands_on _ _ _ (at_row before row rest es r) = subst (λ q. Refuses last OfAnyDepth V (before ++ row) (rest ++ behind) (Syntax q)) (of_row row es r) (at_row before row (rest ++ behind) es r)
+  stands_on _ _ _ (in_expression before here rest bs is) =
+      let b : place_of last (rest ++ (bs ++ behind)) ≡ place_of (place_of last behind) (rest ++ bs) = ap (place_of last) (sym (append_assoc rest bs behind)) ∙ of_rest (rest ++ bs) in
+      subst (λ us. Refuses last OfAnyDepth V (before ++ here) us (Syntax (place_of (place_of last behind) (rest ++ bs)))) (sym (append_assoc rest bs behind))
+      (subst (λ q. Refuses last OfAnyDepth V (before ++ here) (rest ++ (bs ++ behind)) (Syntax q)) b
+      (in_expression before here rest (bs ++ behind) (ap (λ n. expr_at n (here ++ rest)) (of_rest bs) ∙ (is ∙ ap (λ q. Err (Syntax q)) (sym b)))))
+
+wants_on : (xs ys : Tokens) → WantsWords xs → WantsWords (xs ++ ys)
+wants_on [] ys w = absurd w
+wants_on (x ∷ xs) ys w = w
 
 -- a piece that is read, and is none
 piece_whole : (last : ℕ) (role : Role) (ss more : List StmtTree) (ts : Tokens) → 0 < length ts → piece_at last role ss ts ≡ Ok more → (s : StmtTree) × (whole_at last role ts ≡ Ok s)
@@ -87,7 +112,7 @@ piece_any last role ss more [] e = ([], no_stmt)
 piece_any last role ss more (t ∷ ts) e =
     let a = when_ok (nat_lt (length ss) 256) (TooMany t.span.start) (whole_at last role (t ∷ ts) >>= λ s. Ok (ss ++ s ∷ [])) more e in
     let s = bind_ok (whole_at last role (t ∷ ts)) (λ s. Ok (ss ++ s ∷ [])) more a.1 in
-    (s.0 ∷ [], a_stmt (t ∷ ts) s.0 (whole_taken last OfAnyDepth (Unit {0}) role (t ∷ ts) s.0 (stmt_local last OfAnyDepth (Unit {0}) some_of_any_depth (any_depth_local last) of_any_depth_starts (one_name last) role (t ∷ ts)) s.1))
+    (s.0 ∷ [], a_stmt (t ∷ ts) s.0 (whole_taken last OfAnyDepth (Unit {0}) (Unit {0}) role (t ∷ ts) s.0 (stmt_local last OfAnyDepth (Unit {0}) (Unit {0}) some_of_any_depth (any_depth_local last (Unit {0})) of_any_depth_starts (one_name last) role (t ∷ ts) (free_of last role (t ∷ ts) s.0 s.1) (λ w. tt)) s.1))
 
 module _ (role : Role) (f : SqlFault) (stops : IsStop f) where
   -- the same, behind whatever statements
@@ -95,7 +120,7 @@ module _ (role : Role) (f : SqlFault) (stops : IsStop f) where
     pub front : Tokens
     pub rest : Tokens
     pub parts : ts ≡ front ++ rest
-    pub stands : Stands last OfAnyDepth front rest (place f)
+    pub refuses : (before here : Tokens) × (front ≡ before ++ here) × Refuses last OfAnyDepth (WantsWords (here ++ rest)) here rest f
     pub begins : (more : Tokens) × (ss : List StmtTree) × BlockIs OfAnyDepth (front ++ more) ss
     pub none : (n : ℕ) (ss more : List StmtTree) (others : Tokens) → head others ≡ head rest → length (front ++ others) < 2 ^ 32 → stmts_at n role ss [] (front ++ others) ≡ Ok more → ⊥
 
@@ -164,7 +189,7 @@ module _ (role : Role) (f : SqlFault) (stops : IsStop f) where
       front = s.front;
       rest = s.rest ++ behind;
       parts = ap (λ xs. xs ++ behind) s.split ∙ append_assoc s.front s.rest behind;
-      stands = stands_on last behind s.front s.rest (place f) s.stands;
+      refuses = ([], s.front, refl, stands_on last behind first_behind (WantsWords piece) (WantsWords (s.front ++ (s.rest ++ behind))) (λ w. subst WantsWords (ap (λ xs. xs ++ behind) s.split ∙ append_assoc s.front s.rest behind) (wants_on piece behind w)) s.front s.rest f s.refuses);
       begins = (s.begins.0, s.begins.1 ∷ [], last_piece (s.front ++ s.begins.0) (s.begins.1 ∷ []) (a_stmt (s.front ++ s.begins.0) s.begins.1 s.begins.2));
       none = λ n ss more others h less e. not_read piece s.front s.rest free s.split some s.none n ss more others (split others) h less e;
     })
@@ -177,7 +202,7 @@ module _ (role : Role) (f : SqlFault) (stops : IsStop f) where
     front = piece ++ c ∷ s.front;
     rest = s.rest;
     parts = ap (λ xs. piece ++ c ∷ xs) s.parts ∙ sym (append_assoc piece (c ∷ s.front) s.rest);
-    stands = subst (λ xs. Stands last OfAnyDepth xs s.rest (place f)) (append_assoc piece (c ∷ []) s.front) (stands_behind last OfAnyDepth (piece ++ c ∷ []) s.front s.rest (place f) s.stands);
+    refuses = (piece ++ c ∷ s.refuses.0, s.refuses.1, ap (λ xs. piece ++ c ∷ xs) s.refuses.2 ∙ sym (append_assoc piece (c ∷ s.refuses.0) s.refuses.1), s.refuses.3);
     begins = (s.begins.0, ps ++ s.begins.1, subst (λ xs. BlockIs OfAnyDepth xs (ps ++ s.begins.1)) (sym (append_assoc piece (c ∷ s.front) s.begins.0)) (next_piece piece (s.front ++ s.begins.0) ps s.begins.1 c p hc s.begins.2));
     none = λ n ss more others h less e.
         let split' : (piece ++ c ∷ s.front) ++ others ≡ piece ++ c ∷ (s.front ++ others) = append_assoc piece (c ∷ s.front) others in
@@ -225,7 +250,7 @@ block_faults_are_first last role ts f stops e = of_ends (whole_block role f stop
       front = s.front;
       rest = s.rest;
       split = s.parts;
-      stands = s.stands;
+      refuses = s.refuses;
       begins = s.begins;
       none = λ n others ss h less read. s.none n [] ss others h less read;
     })

@@ -6,7 +6,7 @@ use Rattle.std.specs.List.{list_all}
 use Rattle.std.specs.Prelude.{Result, Ok, Err, not, ◌&&◌, nat_lt, option_map, if◌then◌else◌}
 use Rattle.iso_lexer.specs.declared.token.At.{At}
 use Rattle.sql_trees.specs.declared.fault.SqlFault.{SqlFault}
-use Rattle.sql_trees.specs.declared.fault.SqlFault.TheVariants.{TooMany}
+use Rattle.sql_trees.specs.declared.fault.SqlFault.TheVariants.{TooMany, DdlInSession}
 use Rattle.sql_trees.specs.declared.word.Word.TheVariants as words
 use Rattle.sql_trees.specs.Statements.{StmtTree, SetTree, OrderTree, DropTables, Inserts, Updates, Selects}
 use Rattle.sql_trees.specs.Tokens.{Token, Tokens}
@@ -26,7 +26,7 @@ use Rattle.sql_parser.proofs.Locals.{Local, took, stopped, refused}
 use Rattle.sql_parser.proofs.ExprLocals.{some_shallow, shallow_starts, shallow_local, one_name}
 use Rattle.sql_parser.proofs.StmtLocals.{word_is}
 use Rattle.sql_parser.proofs.QueryLocals.{Shown, shown, no_columns, no_query, Whole}
-use Rattle.sql_parser.proofs.BlockLocals.{stmt_local}
+use Rattle.sql_parser.proofs.BlockLocals.{barred, barred_is, stmt_local}
 use Rattle.sql_parser.proofs.CompleteStmts.{begun_reads, start_reads, work_reads, set_transaction_reads, set_timeout_reads, drop_reads, drop_if_reads, insert_reads, update_reads, delete_reads}
 use Rattle.sql_parser.proofs.CompleteQueries.{select_reads}
 use Rattle.sql_parser.proofs.CompleteTables.{table_fits, create_reads}
@@ -37,19 +37,19 @@ no_both x e h = cc
 
 -- ---- what is read is spelled
 
-shown_ok : (r : Result StmtTree SqlFault) (s t : StmtTree) → Shown r t → r ≡ Ok s → t ≡ s
-shown_ok _ s _ (shown t) h = ok_same t s h
-shown_ok _ s _ (no_columns place t) h = absurd (no_both s _ (sym h))
-shown_ok _ s _ (no_query place q n) h = absurd (no_both s _ (sym h))
+shown_ok : (us : Tokens) (r : Result StmtTree SqlFault) (s t : StmtTree) → Shown us r t → r ≡ Ok s → t ≡ s
+shown_ok us _ s _ (shown t) h = ok_same t s h
+shown_ok us _ s _ (no_columns place name t k) h = absurd (no_both s _ (sym h))
+shown_ok us _ s _ (no_query t ts q n k) h = absurd (no_both s _ (sym h))
 
 module _ (last : ℕ) where
   at_end_ok : (r : Result StmtTree SqlFault) (ts : Tokens) (s : StmtTree) → at_end last r ts ≡ Ok s → (r ≡ Ok s) × (ts ≡ [])
   at_end_ok r [] s e = (e, refl)
   at_end_ok r (t ∷ ts) s e = absurd cc
 
-  pub whole_taken : (E : Tokens → Tree → Type 0) (Any : Type 0) (role : Role) (ts : Tokens) (s : StmtTree) → Local last E Any (Whole E) (stmt_at last role) ts → whole_at last role ts ≡ Ok s → Spells E ts s
+  pub whole_taken : (E : Tokens → Tree → Type 0) (W Any : Type 0) (role : Role) (ts : Tokens) (s : StmtTree) → Local last E W Any (Whole E) (stmt_at last role) ts → whole_at last role ts ≡ Ok s → Spells E ts s
   unfolding whole_at
-  whole_taken E Any role ts s l e = of_local l
+  whole_taken E W Any role ts s l e = of_local l
     where
       x : (y : Result StmtTree SqlFault × Tokens) × (stmt_at last role ts ≡ Ok y) × (at_end last y.0 y.1 ≡ Ok s)
       x = bind_ok (stmt_at last role ts) (λ y. at_end last y.0 y.1) s e
@@ -57,17 +57,25 @@ module _ (last : ℕ) where
       z : (x.0.0 ≡ Ok s) × (x.0.1 ≡ [])
       z = at_end_ok x.0.0 x.0.1 s x.2
 
-      of_local : Local last E Any (Whole E) (stmt_at last role) ts → Spells E ts s
+      of_local : Local last E W Any (Whole E) (stmt_at last role) ts → Spells E ts s
       of_local (took v front rest split local q) =
           let same : (v, rest) ≡ x.0 = ok_same (v, rest) x.0 (sym (ap (stmt_at last role) split ∙ local rest refl) ∙ x.1) in
-          let stmt : q.stmt ≡ s = shown_ok v s q.stmt q.shows (ap (λ (y : Result StmtTree SqlFault × Tokens). y.0) same ∙ z.0) in
+          let stmt : q.stmt ≡ s = shown_ok front v s q.stmt q.shows (ap (λ (y : Result StmtTree SqlFault × Tokens). y.0) same ∙ z.0) in
           let all : ts ≡ front = split ∙ (ap (λ r. front ++ r) (ap (λ (y : Result StmtTree SqlFault × Tokens). y.1) same ∙ z.1) ∙ append-nil front) in
           subst (λ us. Spells E us s) (sym all) (subst (Spells E front) stmt q.spells)
       of_local (stopped f front rest split local b) = absurd (no_both x.0 f (sym x.1 ∙ (ap (stmt_at last role) split ∙ local rest refl)))
       of_local (refused f h w) = absurd (no_both x.0 f (sym x.1 ∙ h))
 
+  pub free_of : (role : Role) (ts : Tokens) (s : StmtTree) → whole_at last role ts ≡ Ok s → barred role ts ≡ false
+  free_of role [] s e = refl
+  free_of role (t ∷ ts) s e = of_test (barred role (t ∷ ts)) refl
+    where
+      of_test : (b : Bool) → barred role (t ∷ ts) ≡ b → barred role (t ∷ ts) ≡ false
+      of_test true h = absurd (no_both s (DdlInSession t.span.start) (sym e ∙ barred_is last role t ts h))
+      of_test false h = h
+
   pub whole_sound : (role : Role) (ts : Tokens) (s : StmtTree) → whole_at last role ts ≡ Ok s → Spells Shallow ts s
-  whole_sound role ts s e = whole_taken Shallow ⊥ role ts s (stmt_local last Shallow ⊥ some_shallow (shallow_local last) shallow_starts (one_name last) role ts) e
+  whole_sound role ts s e = whole_taken Shallow (Unit {0}) ⊥ role ts s (stmt_local last Shallow (Unit {0}) ⊥ some_shallow (shallow_local last) shallow_starts (one_name last) role ts (free_of role ts s e) (λ w. tt)) e
 
   -- what a piece adds is spelled by it
   record Added (ss more : List StmtTree) (ts : Tokens) (P : Tokens → List StmtTree → Type 0) : Type 0 where
@@ -157,7 +165,7 @@ module _ (last : ℕ) where
   unfolding whole_at stmt_at
   no_tokens role = refl
 
-  piece_reads : (role : Role) (ss rs : List StmtTree) (ts : Tokens) → PieceIs Shallow ts rs → list_all (is_kept_in role) rs ≡ true → length ss + length rs ≤ 256 → piece_at last role ss ts ≡ Ok (ss ++ rs)
+  pub piece_reads : (role : Role) (ss rs : List StmtTree) (ts : Tokens) → PieceIs Shallow ts rs → list_all (is_kept_in role) rs ≡ true → length ss + length rs ≤ 256 → piece_at last role ss ts ≡ Ok (ss ++ rs)
   unfolding piece_at
   piece_reads role ss _ _ no_stmt h le = ap Ok (sym (append-nil ss))
   piece_reads role ss _ _ (a_stmt ts s q) h le = of_tokens ts (whole_reads role ts s q (and_parts (is_kept_in role s) true h).0)
@@ -191,7 +199,7 @@ last_of last role ss piece (t ∷ ts) f =
     not_not true e = absurd cc
     not_not false e = refl
 
-piece_free : (ts : Tokens) (ss : List StmtTree) → PieceIs Shallow ts ss → Free ts
+pub piece_free : (ts : Tokens) (ss : List StmtTree) → PieceIs Shallow ts ss → Free ts
 piece_free _ _ no_stmt = refl
 piece_free _ _ (a_stmt ts s q) = stmt_free ts s q
 

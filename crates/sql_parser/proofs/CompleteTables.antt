@@ -239,14 +239,14 @@ module _ (last : ℕ) where
   said_at c s ts = constraints_at last c (length ts) s ts
 
   says_nothing : (c : Placed) (s : Constraints) (rest : Tokens) → Unconstrained rest → said_at c s rest ≡ Ok (s, rest)
-  says_nothing c s [] u = says_end last Shallow ⊥ 0 c s
-  says_nothing c s (t ∷ ts) u = says_no_more last Shallow ⊥ (length (t ∷ ts)) c s t ts u
+  says_nothing c s [] u = says_end last Shallow (Unit {0}) ⊥ 0 c s
+  says_nothing c s (t ∷ ts) u = says_no_more last Shallow (Unit {0}) ⊥ (length (t ∷ ts)) c s t ts u
 
   says_reads : (c : Placed) {s : Constraints} {ts : Tokens} {v : Constraints} → Says c s ts v → (rest : Tokens) → Unconstrained rest → said_at c s (ts ++ rest) ≡ Ok (v, rest)
   says_reads c (no_more s) rest f = says_nothing c s rest f
-  says_reads c (not_null s v n u ts hn hu k) rest f = let w = word_is words.Not n.tok hn in not_turn last Shallow ⊥ c s n (u ∷ (ts ++ rest)) w.0 w.1 ∙ rw hu (says_reads c k rest f)
-  says_reads c (primary_key s v p u ts hp hu k) rest f = let w = word_is words.Primary p.tok hp in primary_turn last Shallow ⊥ c s p (u ∷ (ts ++ rest)) w.0 w.1 ∙ rw hu (says_reads c k rest f)
-  says_reads c (unique_key s v u ts hu k) rest f = let w = word_is words.Unique u.tok hu in unique_turn last Shallow ⊥ c s u (ts ++ rest) w.0 w.1 ∙ says_reads c k rest f
+  says_reads c (not_null s v n u ts hn hu k) rest f = let w = word_is words.Not n.tok hn in not_turn last Shallow (Unit {0}) ⊥ c s n (u ∷ (ts ++ rest)) w.0 w.1 ∙ rw hu (says_reads c k rest f)
+  says_reads c (primary_key s v p u ts hp hu k) rest f = let w = word_is words.Primary p.tok hp in primary_turn last Shallow (Unit {0}) ⊥ c s p (u ∷ (ts ++ rest)) w.0 w.1 ∙ rw hu (says_reads c k rest f)
+  says_reads c (unique_key s v u ts hu k) rest f = let w = word_is words.Unique u.tok hu in unique_turn last Shallow (Unit {0}) ⊥ c s u (ts ++ rest) w.0 w.1 ∙ says_reads c k rest f
 
   key_pop : (ks : List KeyRead) (k : KeyRead) → list_all key_differs (ks ++ k ∷ []) ≡ true → (list_all key_differs ks ≡ true) × (key_differs k ≡ true)
   key_pop ks k h =
@@ -282,7 +282,7 @@ module _ (last : ℕ) where
 
   column_reads : (t : TableRead) (n k : At Token) (name : List ℕ) (kind : Kind) (ts rest : Tokens) (s : Constraints) → Names name n → kind_of k.tok ≡ Some kind → Says (placed name n) (record { not_null = false; keys = t.keys }) ts s → is_among name (column_names t.columns) ≡ false → Unconstrained rest → column_at last t (n ∷ k ∷ (ts ++ rest)) ≡ Ok (with_column (placed name n) kind s t, rest)
   unfolding column_at
-  column_reads t n k name kind ts rest s hn hk says none free = rw (hn, none) (kind_turn last Shallow ⊥ (placed name n) t k (ts ++ rest) kind hk ∙ rw (says_reads (placed name n) says rest free) refl)
+  column_reads t n k name kind ts rest s hn hk says none free = rw (hn, none) (kind_turn last Shallow (Unit {0}) ⊥ (placed name n) t k (ts ++ rest) kind hk ∙ rw (says_reads (placed name n) says rest free) refl)
 
   parts_come : (s t : TableRead) (ts : Tokens) → AddsPart s ts t → Apart t → Apart s
   parts_come _ _ _ (a_column t n k name kind ts s hn hk says) f = ((column_pop t.columns (record { name = name; kind = kind; not_null = s.not_null }) f.0).0, says_back (placed name n) says f.1)

@@ -1,14 +1,14 @@
 -- Expressions are read as far as their tokens allow.
 use Rattle.std.proofs.Common.{◌≡◌, ℕ, false, List, [], ◌∷◌, ◌++◌, refl, sym, ap, subst, ◌∙◌}
 use Rattle.std.specs.Prelude.{Result, Ok, Err}
-use Rattle.std.proofs.lemmas.List.{append_cancel_right}
+use Rattle.std.proofs.lemmas.List.{append_cancel_right, append-nil}
 use Rattle.iso_lexer.specs.declared.token.At.{At}
 use Rattle.sql_trees.specs.declared.fault.SqlFault.{SqlFault}
-use Rattle.sql_trees.specs.declared.fault.SqlFault.TheVariants.{Syntax, LeftOut}
+use Rattle.sql_trees.specs.declared.fault.SqlFault.TheVariants.{Syntax}
 use Rattle.sql_trees.specs.Tokens.{Token, Tokens, named}
 use Rattle.sql_trees.specs.Tokens as tok
 use Rattle.sql_trees.specs.Trees.{Tree, Column, Number}
-use Rattle.sql_expressions.specs.Reading.{Found, expr_at, ◌>>=◌}
+use Rattle.sql_expressions.specs.Reading.{Found, expr_at, place_of, ◌>>=◌}
 use Rattle.sql_expressions.specs.Grammar.{OR, AND, NOT, IS, CMP, INN, CAT, ADD, MUL, UNA, SpellsIn, only, literal, IsLeaf, column, number}
 use Rattle.sql_expressions.specs.Laws.{Spelled}
 use Rattle.sql_expressions.proofs.Complete.{expr_complete, spells_starts}
@@ -17,8 +17,8 @@ use Rattle.sql_expressions.proofs.Levels.{expr_begins}
 use Rattle.sql_expressions.proofs.Shapes.{a_number, some_token}
 use Rattle.sql_parser.specs.Readers.{tree_at}
 use Rattle.sql_parser.specs.Grammar.{Names, Shallow, OfAnyDepth}
-use Rattle.sql_parser.specs.Stops.{Stands, at_next}
-use Rattle.sql_parser.proofs.Locals.{Inhabited, Local, took, stopped, refused, no_stop, of_expr}
+use Rattle.sql_parser.specs.Stops.{Refuses, in_expression}
+use Rattle.sql_parser.proofs.Locals.{Inhabited, Local, took, stopped, refused}
 
 leaf_spells : (t : At Token) (e : Tree) → IsLeaf t.tok e → SpellsIn 64 64 OR (t ∷ []) e 0
 leaf_spells t e h =
@@ -45,10 +45,17 @@ module _ (last : ℕ) where
   pub one_name : (t : At Token) (n : List ℕ) → Names n t → (e : Tree) × (tree_at last (t ∷ []) ≡ Ok (e, []))
   one_name t n h = (Column n, ap (λ r. r >>= λ f. Ok (f.tree, f.rest)) (expr_complete last (leaf_spells t (Column n) (column t.tok n h)) [] tt))
 
-  local_of : (E : Tokens → Tree → Type 0) (Any : Type 0) → ((front : Tokens) (e : Tree) → Shallow front e → E front e) → (Any → (front more : Tokens) → Spelled OR (front ++ more) → (e : Tree) × E (front ++ more) e) → (ts : Tokens) → Local last E Any E (tree_at last) ts
-  local_of E Any up ups ts = of_result (expr_at last ts) refl
+  local_of : (E : Tokens → Tree → Type 0) (W Any : Type 0) → ((front : Tokens) (e : Tree) → Shallow front e → E front e) → (Any → (front more : Tokens) → Spelled OR (front ++ more) → (e : Tree) × E (front ++ more) e) → (ts : Tokens) → Local last E W Any E (tree_at last) ts
+  local_of E W Any up ups ts = of_result (expr_at last ts) refl
     where
-      of_result : (r : Result Found SqlFault) → expr_at last ts ≡ r → Local last E Any E (tree_at last) ts
+      stands_at : (front rest : Tokens) (p : ℕ) → p ≡ place_of last rest → expr_at last (front ++ rest) ≡ Err (Syntax p) → Refuses last E W front rest (Syntax p)
+      stands_at front rest p here h =
+          let same : place_of last (rest ++ []) ≡ place_of last rest = ap (place_of last) (append-nil rest) in
+          subst (λ us. Refuses last E W front us (Syntax p)) (append-nil rest)
+          (subst (λ q. Refuses last E W front (rest ++ []) (Syntax q)) (same ∙ sym here)
+          (in_expression [] front rest [] (h ∙ ap (λ q. Err (Syntax q)) (here ∙ sym same))))
+
+      of_result : (r : Result Found SqlFault) → expr_at last ts ≡ r → Local last E W Any E (tree_at last) ts
       of_result (Ok f) is =
           let k = fronts_are_taken last ts f is in
           let b = expr_begins last ts f is in
@@ -60,13 +67,12 @@ module _ (last : ℕ) where
           let u = ups any k.front k.begins.0 k.begins.1 in
           record {
             begins = (k.begins.0, u.0, u.1);
-            stands = subst (Stands last E k.front k.rest) (sym k.here) (at_next k.front k.rest);
+            stands = stands_at k.front k.rest p k.here (ap (expr_at last) (sym k.split) ∙ is);
           })
-      of_result (Err (LeftOut p)) is = refused (LeftOut p) (ap (λ r. r >>= λ g. Ok (g.tree, g.rest)) is) (of_expr [] ts p refl refl is)
-      of_result (Err e) is = refused e (ap (λ r. r >>= λ g. Ok (g.tree, g.rest)) is) (no_stop (λ s. s))
+      of_result (Err e) is = refused e (ap (λ r. r >>= λ g. Ok (g.tree, g.rest)) is) (record { before = []; here = ts; split = refl; refuses = is })
 
-  pub shallow_local : (ts : Tokens) → Local last Shallow ⊥ Shallow (tree_at last) ts
-  shallow_local ts = local_of Shallow ⊥ (λ front e s. s) (λ any front more s. absurd any) ts
+  pub shallow_local : (ts : Tokens) → Local last Shallow (Unit {0}) ⊥ Shallow (tree_at last) ts
+  shallow_local ts = local_of Shallow (Unit {0}) ⊥ (λ front e s. s) (λ any front more s. absurd any) ts
 
-  pub any_depth_local : (ts : Tokens) → Local last OfAnyDepth (Unit {0}) OfAnyDepth (tree_at last) ts
-  any_depth_local ts = local_of OfAnyDepth (Unit {0}) deepened (λ any front more s. (s.2, (s.0, s.1, s.3, s.4))) ts
+  pub any_depth_local : (W : Type 0) (ts : Tokens) → Local last OfAnyDepth W (Unit {0}) OfAnyDepth (tree_at last) ts
+  any_depth_local W ts = local_of OfAnyDepth W (Unit {0}) deepened (λ any front more s. (s.2, (s.0, s.1, s.3, s.4))) ts

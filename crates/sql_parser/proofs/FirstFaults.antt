@@ -1,10 +1,9 @@
 -- The laws of where reading a statement stops.
-use Rattle.std.proofs.Common.{◌≡◌, ℕ, [], ◌∷◌, ◌++◌, Some, refl, sym, ap, subst, ◌∙◌, append-nil}
+use Rattle.std.proofs.Common.{◌≡◌, ℕ, Bool, true, false, [], ◌∷◌, ◌++◌, Some, refl, sym, ap, subst, ◌∙◌, append-nil}
 use Rattle.std.specs.Prelude.{Result, Ok, Err}
 use Rattle.iso_lexer.specs.declared.token.At.{At}
 use Rattle.sql_trees.specs.declared.fault.SqlFault.{SqlFault}
-use Rattle.sql_trees.specs.declared.fault.SqlFault.TheVariants.{BadColumns}
-use Rattle.sql_trees.specs.Faults.{place}
+use Rattle.sql_trees.specs.declared.fault.SqlFault.TheVariants.{BadColumns, LeftOut, DdlInSession}
 use Rattle.sql_trees.specs.Statements.{StmtTree}
 use Rattle.sql_trees.specs.Tokens.{Token, Tokens}
 use Rattle.sql_expressions.specs.Reading.{misplaced, ◌>>=◌}
@@ -13,12 +12,12 @@ use Rattle.sql_expressions.proofs.Local.{first_is}
 use Rattle.sql_parser.specs.declared.block.Role.{Role}
 use Rattle.sql_parser.specs.Blocks.{stmt_at, at_end, whole_at}
 use Rattle.sql_parser.specs.Grammar.{Spells, OfAnyDepth}
-use Rattle.sql_parser.specs.Stops.{Stands, at_next, IsStop}
-use Rattle.sql_parser.specs.Laws.{StopsFirst, Stops, at_token, elsewhere, in_expression, whole_query, FaultsAreFirst}
-use Rattle.sql_parser.proofs.Locals.{Local, took, stopped, refused, Excuse, no_stop, of_expr, misplaced_place}
+use Rattle.sql_parser.specs.Stops.{Refuses, at_next, WantsWords, IsStop}
+use Rattle.sql_parser.specs.Laws.{StopsFirst, Stops, at_token, elsewhere, of_expression, whole_query, whole_table, FaultsAreFirst}
+use Rattle.sql_parser.proofs.Locals.{Local, took, stopped, refused, Excuse}
 use Rattle.sql_parser.proofs.ExprLocals.{some_of_any_depth, of_any_depth_starts, any_depth_local, one_name}
 use Rattle.sql_parser.proofs.QueryLocals.{Shown, shown, no_columns, no_query, Whole}
-use Rattle.sql_parser.proofs.BlockLocals.{stmt_local}
+use Rattle.sql_parser.proofs.BlockLocals.{barred, barred_is, stmt_local}
 use Rattle.sql_parser.proofs.BlocksRead.{whole_reads}
 
 err_same : {A : Type 0} (e f : SqlFault) → ◌≡◌ {A = Result A SqlFault} (Err e) (Err f) → e ≡ f
@@ -29,12 +28,12 @@ no_both x e h = cc
 
 module _ (last : ℕ) (role : Role) (ts : Tokens) (f : SqlFault) (stops : IsStop f) where
   -- a fault that other lists meet too is none of a statement
-  first : (front rest : Tokens) → ts ≡ front ++ rest → Stands last OfAnyDepth front rest (place f) → ((more : Tokens) × (s : StmtTree) × Spells OfAnyDepth (front ++ more) s) → ((others : Tokens) → head others ≡ head rest → whole_at last role (front ++ others) ≡ Err f) → StopsFirst last role ts f
-  first front rest split stands begins stays = record {
+  first : (front rest : Tokens) → ts ≡ front ++ rest → Refuses last OfAnyDepth (WantsWords ts) front rest f → ((more : Tokens) × (s : StmtTree) × Spells OfAnyDepth (front ++ more) s) → ((others : Tokens) → head others ≡ head rest → whole_at last role (front ++ others) ≡ Err f) → StopsFirst last role ts f
+  first front rest split refuses begins stays = record {
     front = front;
     rest = rest;
     split = split;
-    stands = stands;
+    refuses = refuses;
     begins = begins;
     stays = stays;
     none = λ others s h q kept. no_both s f (sym (whole_reads last role (front ++ others) s q kept) ∙ stays others h);
@@ -44,34 +43,41 @@ module _ (last : ℕ) (role : Role) (ts : Tokens) (f : SqlFault) (stops : IsStop
   unfolding whole_at
   whole_is us vs r e = rw e refl
 
-  of_shown : (r : Result StmtTree SqlFault) (s : StmtTree) → Shown r s → r ≡ Err f → Spells OfAnyDepth ts s → Stops last role ts f
-  of_shown _ _ (shown s) h q = absurd (no_both s f h)
-  of_shown _ _ (no_columns place s) h q = absurd (subst IsStop (sym (err_same (BadColumns place) f h)) stops)
-  of_shown _ _ (no_query place s n) h q = elsewhere (whole_query s n q)
+  of_shown : (us : Tokens) → ts ≡ us → (r : Result StmtTree SqlFault) (s : StmtTree) → Shown us r s → r ≡ Err f → Spells OfAnyDepth ts s → Stops last role ts f
+  of_shown us same _ _ (shown s) h q = absurd (no_both s f h)
+  of_shown us same _ _ (no_columns place name t k) h q = elsewhere (whole_table name t place (sym (err_same (BadColumns place) f h)) k q)
+  of_shown us same _ _ (no_query s vs q n k) h p = elsewhere (whole_query s vs q (same ∙ n) (sym (err_same (LeftOut s.span.start) f h)) k p)
 
   -- a token behind the statement
   behind : (v : Result StmtTree SqlFault) (front us : Tokens) (t : At Token) → ts ≡ front ++ t ∷ us → ((others : Tokens) → head others ≡ Some t → stmt_at last role (front ++ others) ≡ Ok (v, others)) → Whole OfAnyDepth front v → f ≡ misplaced last (t ∷ us) → Stops last role ts f
   behind v front us t split local q is = at_token (first front (t ∷ us) split
-      (subst (Stands last OfAnyDepth front (t ∷ us)) (sym (ap place is ∙ misplaced_place last OfAnyDepth (Unit {0}) (t ∷ us))) (at_next front (t ∷ us)))
+      (subst (Refuses last OfAnyDepth (WantsWords ts) front (t ∷ us)) (sym is) (at_next front (t ∷ us)))
       ([], q.stmt, subst (λ xs. Spells OfAnyDepth xs q.stmt) (sym (append-nil front)) q.spells)
       (λ others h. let w = first_is t others h in whole_is (front ++ others) [] (Ok (v, others)) (local others h) ∙ (ap (at_end last v) w.1 ∙ ap Err (sym is))))
 
   of_end : (v : Result StmtTree SqlFault) (front rest : Tokens) → ts ≡ front ++ rest → ((others : Tokens) → head others ≡ head rest → stmt_at last role (front ++ others) ≡ Ok (v, others)) → Whole OfAnyDepth front v → at_end last v rest ≡ Err f → Stops last role ts f
-  of_end v front [] split local q h = of_shown v q.stmt q.shows h (subst (λ xs. Spells OfAnyDepth xs q.stmt) (sym (split ∙ append-nil front)) q.spells)
+  of_end v front [] split local q h = of_shown front (split ∙ append-nil front) v q.stmt q.shows h (subst (λ xs. Spells OfAnyDepth xs q.stmt) (sym (split ∙ append-nil front)) q.spells)
   of_end v front (t ∷ us) split local q h = behind v front us t split local q (sym (err_same (misplaced last (t ∷ us)) f h))
 
   of_excuse : (e : SqlFault) → e ≡ f → Excuse last e ts → Stops last role ts f
-  of_excuse e same (no_stop n) = absurd (n (subst IsStop (sym same) stops))
-  of_excuse e same (of_expr before us n h split is) = elsewhere (in_expression before us n (sym same ∙ h) split (is ∙ ap Err same))
+  of_excuse e same x = elsewhere (of_expression x.before x.here x.split (x.refuses ∙ ap Err same))
 
-  of_local : whole_at last role ts ≡ Err f → Local last OfAnyDepth (Unit {0}) (Whole OfAnyDepth) (stmt_at last role) ts → Stops last role ts f
+  of_local : whole_at last role ts ≡ Err f → Local last OfAnyDepth (WantsWords ts) (Unit {0}) (Whole OfAnyDepth) (stmt_at last role) ts → Stops last role ts f
   of_local e (took v front rest split local q) = of_end v front rest split local q (sym (whole_is ts [] (Ok (v, rest)) (ap (stmt_at last role) split ∙ local rest refl)) ∙ e)
   of_local e (stopped g front rest split local b) =
       let same : g ≡ f = err_same g f (sym (whole_is ts [] (Err g) (ap (stmt_at last role) split ∙ local rest refl)) ∙ e) in
       let c = b tt in
-      at_token (first front rest split (subst (λ h. Stands last OfAnyDepth front rest (place h)) same c.stands) (c.begins.0, c.begins.2.stmt, c.begins.2.spells)
+      at_token (first front rest split (subst (Refuses last OfAnyDepth (WantsWords ts) front rest) same c.stands) (c.begins.0, c.begins.2.stmt, c.begins.2.spells)
       (λ others h. whole_is (front ++ others) [] (Err g) (local others h) ∙ ap Err same))
   of_local e (refused g h x) = of_excuse g (err_same g f (sym (whole_is ts [] (Err g) h) ∙ e)) x
 
 pub faults_are_first : FaultsAreFirst
-faults_are_first last role ts f stops e = of_local last role ts f stops e (stmt_local last OfAnyDepth (Unit {0}) some_of_any_depth (any_depth_local last) of_any_depth_starts (one_name last) role ts)
+faults_are_first last role ts f stops e = of_test (barred role ts) refl
+  where
+    no_ddl : (us : Tokens) → barred role us ≡ true → whole_at last role us ≡ Err f → ⊥
+    no_ddl [] h g = cc
+    no_ddl (t ∷ us) h g = subst IsStop (sym (err_same (DdlInSession t.span.start) f (sym (barred_is last role t us h) ∙ g))) stops
+
+    of_test : (b : Bool) → barred role ts ≡ b → Stops last role ts f
+    of_test true h = absurd (no_ddl ts h e)
+    of_test false h = of_local last role ts f stops e (stmt_local last OfAnyDepth (WantsWords ts) (Unit {0}) some_of_any_depth (any_depth_local last (WantsWords ts)) of_any_depth_starts (one_name last) role ts h (λ w. w))

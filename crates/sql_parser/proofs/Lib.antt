@@ -14,7 +14,9 @@ pub mod Frees
 pub mod BlockLocals
 pub mod BlocksRead
 pub mod FirstFaults
+pub mod ExprFaults
 pub mod BlockFaults
+pub mod Limits
 pub mod Going
 pub mod Counts
 pub mod Depths

@@ -3,8 +3,7 @@ use Rattle.std.proofs.Common.{◌≡◌, ℕ, zero, suc, ◌≤◌, Bool, true, 
 use Rattle.std.specs.Prelude.{Result, Ok, Err}
 use Rattle.iso_lexer.specs.declared.token.At.{At}
 use Rattle.sql_trees.specs.declared.fault.SqlFault.{SqlFault}
-use Rattle.sql_trees.specs.declared.fault.SqlFault.TheVariants.{LeftOut}
-use Rattle.sql_trees.specs.Faults.{place}
+use Rattle.sql_trees.specs.declared.fault.SqlFault.TheVariants.{Syntax}
 use Rattle.sql_trees.specs.Tokens.{Token, Tokens, named}
 use Rattle.sql_trees.specs.Trees.{Tree}
 use Rattle.sql_expressions.specs.Reading.{misplaced, place_of, left_out, expect, expr_at, is_comma, ◌>>=◌}
@@ -12,7 +11,7 @@ use Rattle.sql_expressions.specs.Laws.{head}
 use Rattle.sql_expressions.proofs.Local.{first_is, nothing_is, head_after}
 use Rattle.sql_parser.specs.Readers.{name_at, named_at, more_at, items_at}
 use Rattle.sql_parser.specs.Grammar.{Is, Names, NameIs, is_name, Commas, last_item, next_item}
-use Rattle.sql_parser.specs.Stops.{Stands, at_next, at_row, IsStop}
+use Rattle.sql_parser.specs.Stops.{Refuses, at_next, at_word, at_name, at_row, in_expression}
 
 abbrev pub Reader : Type 0 → Type 0
 Reader A = Tokens → Result (A × Tokens) SqlFault
@@ -21,30 +20,39 @@ Reader A = Tokens → Result (A × Tokens) SqlFault
 abbrev pub Inhabited : {A : Type 0} → (Tokens → A → Type 0) → Type 0
 Inhabited Q = (ys : Tokens) × (w : _) × Q ys w
 
--- why nothing is said of a fault: it is no fault of a token, or what says so is the reading of an expression
-pub data Excuse (last : ℕ) (e : SqlFault) (ts : Tokens) : Type 0 where
-  no_stop : (IsStop e → ⊥) → Excuse last e ts
-  of_expr : (before us : Tokens) (n : ℕ) → e ≡ LeftOut n → ts ≡ before ++ us → expr_at last us ≡ Err e → Excuse last e ts
+-- why nothing is said of a fault: what says so is the reading of an expression
+pub record Excuse (last : ℕ) (e : SqlFault) (ts : Tokens) : Type 0 where
+  pub before : Tokens
+  pub here : Tokens
+  pub split : ts ≡ before ++ here
+  pub refuses : expr_at last here ≡ Err e
 
 -- it is the same behind more tokens
 pub excused_behind : (last : ℕ) (e : SqlFault) (fs ts : Tokens) → Excuse last e ts → Excuse last e (fs ++ ts)
-excused_behind last e fs ts (no_stop f) = no_stop f
-excused_behind last e fs ts (of_expr before us n h split is) = of_expr (fs ++ before) us n h (ap (λ r. fs ++ r) split ∙ sym (append_assoc fs before us)) is
+excused_behind last e fs ts x = record {
+  before = fs ++ x.before;
+  here = x.here;
+  split = ap (λ r. fs ++ r) x.split ∙ sym (append_assoc fs x.before x.here);
+  refuses = x.refuses;
+}
 
-module _ (last : ℕ) (E : Tokens → Tree → Type 0) where
-  pub stands_behind : (fs front rest : Tokens) (p : ℕ) → Stands last E front rest p → Stands last E (fs ++ front) rest p
+module _ (last : ℕ) (E : Tokens → Tree → Type 0) (W : Type 0) where
+  pub stands_behind : (fs front rest : Tokens) (f : SqlFault) → Refuses last E W front rest f → Refuses last E W (fs ++ front) rest f
   stands_behind fs _ _ _ (at_next front rest) = at_next (fs ++ front) rest
-  stands_behind fs _ _ _ (at_row before row rest es r) = subst (λ x. Stands last E x rest (place_of last row)) (append_assoc fs before row) (at_row (fs ++ before) row rest es r)
+  stands_behind fs _ _ _ (at_word front rest t w h) = at_word (fs ++ front) rest t w h
+  stands_behind fs _ _ _ (at_name front rest t n h) = at_name (fs ++ front) rest t n h
+  stands_behind fs _ _ _ (at_row before row rest es r) = subst (λ x. Refuses last E W x rest (Syntax (place_of last row))) (append_assoc fs before row) (at_row (fs ++ before) row rest es r)
+  stands_behind fs _ _ _ (in_expression before here rest behind is) = subst (λ x. Refuses last E W x (rest ++ behind) (Syntax (place_of last (rest ++ behind)))) (append_assoc fs before here) (in_expression (fs ++ before) here rest behind is)
 
 -- a reading that answers, and what follows it
 answers_on : {A B : Type 0} (p : Reader A) (k : A → Reader B) (ts us : Tokens) (v : A) (r : Result (B × Tokens) SqlFault) → p ts ≡ Ok (v, us) → k v us ≡ r → (p ts >>= λ x. k x.0 x.1) ≡ r
 answers_on p k ts us v r h e = ap (λ (x : Result _ SqlFault). x >>= λ y. k y.0 y.1) h ∙ e
 
-module _ (last : ℕ) (E : Tokens → Tree → Type 0) (Any : Type 0) where
+module _ (last : ℕ) (E : Tokens → Tree → Type 0) (W Any : Type 0) where
   -- the tokens before the fault begin something that is in the grammar, and the fault stands where they end
   pub record Begun {A : Type 0} (Q : Tokens → A → Type 0) (e : SqlFault) (front rest : Tokens) : Type 0 where
     pub begins : (more : Tokens) × (v : A) × Q (front ++ more) v
-    pub stands : Stands last E front rest (place e)
+    pub stands : Refuses last E W front rest e
 
   -- a reading takes the front of the tokens, and answers the same for each list that has this front and the same token behind it
   pub data Local {A : Type 0} (Q : Tokens → A → Type 0) (p : Reader A) (ts : Tokens) : Type 0 where
@@ -63,40 +71,26 @@ module _ (last : ℕ) (E : Tokens → Tree → Type 0) (Any : Type 0) where
   pub gives_end : {A : Type 0} (Q : Tokens → A → Type 0) (p : Reader A) (v : A) → p [] ≡ Ok (v, []) → Q [] v → Local Q p []
   gives_end Q p v f q = took v [] [] refl (λ others h. subst (λ vs. p vs ≡ Ok (v, vs)) (sym (nothing_is others h)) f) q
 
-  pub misplaced_place : (ts : Tokens) → place (misplaced last ts) ≡ place_of last ts
-  misplaced_place [] = refl
-  misplaced_place (t ∷ ts) = of_test (left_out t.tok) refl
-    where
-      of_test : (b : Bool) → left_out t.tok ≡ b → place (misplaced last (t ∷ ts)) ≡ t.span.start
-      of_test true h = rw h refl
-      of_test false h = rw h refl
-
   -- a fault at the next token
-  pub stuck_at : {A : Type 0} (Q : Tokens → A → Type 0) (p : Reader A) (e : SqlFault) (t : At Token) (us : Tokens) → Inhabited Q → place e ≡ t.span.start → ((vs : Tokens) → p (t ∷ vs) ≡ Err e) → Local Q p (t ∷ us)
-  stuck_at Q p e t us some h f = stopped e [] (t ∷ us) refl (λ others g. let w = first_is t others g in subst (λ vs. p vs ≡ Err e) (sym w.1) (f w.0)) (λ any. record {
-    begins = some;
-    stands = subst (Stands last E [] (t ∷ us)) (sym h) (at_next [] (t ∷ us));
-  })
+  pub stuck_at : {A : Type 0} (Q : Tokens → A → Type 0) (p : Reader A) (e : SqlFault) (t : At Token) (us : Tokens) → Inhabited Q → Refuses last E W [] (t ∷ us) e → ((vs : Tokens) → p (t ∷ vs) ≡ Err e) → Local Q p (t ∷ us)
+  stuck_at Q p e t us some h f = stopped e [] (t ∷ us) refl (λ others g. let w = first_is t others g in subst (λ vs. p vs ≡ Err e) (sym w.1) (f w.0)) (λ any. record { begins = some; stands = h })
 
-  pub stuck_end : {A : Type 0} (Q : Tokens → A → Type 0) (p : Reader A) (e : SqlFault) → Inhabited Q → place e ≡ last → p [] ≡ Err e → Local Q p []
-  stuck_end Q p e some h f = stopped e [] [] refl (λ others g. subst (λ vs. p vs ≡ Err e) (sym (nothing_is others g)) f) (λ any. record {
-    begins = some;
-    stands = subst (Stands last E [] []) (sym h) (at_next [] []);
-  })
+  pub stuck_end : {A : Type 0} (Q : Tokens → A → Type 0) (p : Reader A) (e : SqlFault) → Inhabited Q → Refuses last E W [] [] e → p [] ≡ Err e → Local Q p []
+  stuck_end Q p e some h f = stopped e [] [] refl (λ others g. subst (λ vs. p vs ≡ Err e) (sym (nothing_is others g)) f) (λ any. record { begins = some; stands = h })
 
   -- the same where the fault is the one of a token that no rule allows
   pub no_rule_at : {A : Type 0} (Q : Tokens → A → Type 0) (p : Reader A) (t : At Token) (us : Tokens) → Inhabited Q → ((vs : Tokens) → p (t ∷ vs) ≡ Err (misplaced last (t ∷ vs))) → Local Q p (t ∷ us)
-  no_rule_at Q p t us some f = stuck_at Q p (misplaced last (t ∷ us)) t us some (misplaced_place (t ∷ us)) f
+  no_rule_at Q p t us some f = stuck_at Q p (misplaced last (t ∷ us)) t us some (at_next [] (t ∷ us)) f
 
   pub no_rule_end : {A : Type 0} (Q : Tokens → A → Type 0) (p : Reader A) → Inhabited Q → p [] ≡ Err (misplaced last []) → Local Q p []
-  no_rule_end Q p some f = stuck_end Q p (misplaced last []) some refl f
+  no_rule_end Q p some f = stuck_end Q p (misplaced last []) some (at_next [] []) f
 
   -- ---- a reading as another one
 
   begun_behind : {A : Type 0} (Q : Tokens → A → Type 0) (e : SqlFault) (fs front rest : Tokens) → Begun (λ xs v. Q (fs ++ xs) v) e front rest → Begun Q e (fs ++ front) rest
   begun_behind Q e fs front rest b = record {
     begins = (b.begins.0, b.begins.1, subst (λ xs. Q xs b.begins.1) (sym (append_assoc fs front b.begins.0)) b.begins.2);
-    stands = stands_behind last E fs front rest (place e) b.stands;
+    stands = stands_behind last E W fs front rest e b.stands;
   }
 
   -- behind a first token

@@ -19,30 +19,31 @@ use Rattle.sql_expressions.specs.Reading.{expect, is_word, is_open, is_close, af
 use Rattle.sql_expressions.specs.Laws.{head}
 use Rattle.sql_expressions.proofs.Local.{first_is, head_after}
 use Rattle.sql_parser.specs.Readers.{keyword, name_at, tree_at, items_at}
+use Rattle.sql_parser.specs.Tables.{TableRead, keys_fault, column_names}
 use Rattle.sql_parser.specs.Changes.{filter_at}
 use Rattle.sql_parser.specs.Queries.{is_star, agg_kind, call_of, call_at, rows_of, maybe_name, direction_of, direction_at, alias_of, alias_at, agg_of, agg_at, item_of, item_star, item_at, item_add, from_of, from_at, nulls_end, nulls_of, nulls_at, order_add, order_of, order_at, lock_end, lock_of, lock_at, is_allowed, query_of, select_at}
-use Rattle.sql_parser.specs.Grammar.{Is, Key, Names, Commas, AliasIs, no_alias, as_alias, bare_alias, AggIs, all_rows, of_values, AddsItem, a_star, a_value, an_aggregate, FromIs, no_table, from_table, DirectionIs, as_ever, ascending, descending, NullsAre, unsaid, nulls_first, nulls_last, AddsKey, adds_key, OrderIs, unordered, ordered, LockIs, no_lock, for_update, for_share, WhereIs, unfiltered, Spells, select}
+use Rattle.sql_parser.specs.Grammar.{created, Is, Key, Names, Commas, AliasIs, no_alias, as_alias, bare_alias, AggIs, all_rows, of_values, AddsItem, a_star, a_value, an_aggregate, FromIs, no_table, from_table, DirectionIs, as_ever, ascending, descending, NullsAre, unsaid, nulls_first, nulls_last, AddsKey, adds_key, OrderIs, unordered, ordered, LockIs, no_lock, for_update, for_share, WhereIs, unfiltered, Spells, select}
 use Rattle.sql_parser.proofs.Locals.{Reader, Inhabited, Local, Begun, took, stopped, refused, gives, gives_at, gives_end, behind, same_at, switch_at, switch_end, in_turn, mapped, token_then, token_last, name_then, either, list_local, some_list}
 use Rattle.sql_parser.proofs.StmtLocals.{a_word, a_sign, a_name, the_name, key_is}
 use Rattle.sql_parser.proofs.ChangeLocals.{where_local}
 
 -- a statement that was read, or what is wrong with the whole of it
-pub data Shown : Result StmtTree SqlFault → StmtTree → Type 0 where
-  shown : (s : StmtTree) → Shown (Ok s) s
-  no_columns : (place : ℕ) (s : StmtTree) → Shown (Err (BadColumns place)) s
-  no_query : (place : ℕ) (q : SelectTree) → is_allowed q ≡ false → Shown (Err (LeftOut place)) (Selects q)
+pub data Shown (ts : Tokens) : Result StmtTree SqlFault → StmtTree → Type 0 where
+  shown : (s : StmtTree) → Shown ts (Ok s) s
+  no_columns : (place : ℕ) (name : List ℕ) (t : TableRead) → keys_fault name (column_names t.columns) [] t.keys ≡ Some place → Shown ts (Err (BadColumns place)) (created name t)
+  no_query : (s : At Token) (us : Tokens) (q : SelectTree) → ts ≡ s ∷ us → is_allowed q ≡ false → Shown ts (Err (LeftOut s.span.start)) (Selects q)
 
 pub record Whole (E : Tokens → Tree → Type 0) (ts : Tokens) (r : Result StmtTree SqlFault) : Type 0 where
   pub stmt : StmtTree
   pub spells : Spells E ts stmt
-  pub shows : Shown r stmt
+  pub shows : Shown ts r stmt
 
-pub query_shown : (place : ℕ) (q : SelectTree) → Shown (query_of place q) (Selects q)
-query_shown place q = of_test (is_allowed q) refl
+pub query_shown : (s : At Token) (us : Tokens) (q : SelectTree) → Shown (s ∷ us) (query_of s.span.start q) (Selects q)
+query_shown s us q = of_test (is_allowed q) refl
   where
-    of_test : (b : Bool) → is_allowed q ≡ b → Shown (if b then Ok (Selects q) else Err (LeftOut place)) (Selects q)
+    of_test : (b : Bool) → is_allowed q ≡ b → Shown (s ∷ us) (if b then Ok (Selects q) else Err (LeftOut s.span.start)) (Selects q)
     of_test true h = shown (Selects q)
-    of_test false h = no_query place q h
+    of_test false h = no_query s us q refl h
 
 -- what stands behind a first token decides whether a call stands there
 after_same : (is_it : Token → Bool) (xs ys : Tokens) → head xs ≡ head ys → after is_it xs ≡ None → after is_it ys ≡ None
@@ -64,40 +65,40 @@ call_none (Some k) xs ys h e = of_after (after is_open xs) refl e
     of_after None g f = ap (call_of (Some k)) (after_same is_open xs ys h g)
     of_after (Some us) g f = absurd cc
 
-module _ (last : ℕ) (E : Tokens → Tree → Type 0) (Any : Type 0) (an_expr : Inhabited E) (exprs : (ts : Tokens) → Local last E Any E (tree_at last) ts)
+module _ (last : ℕ) (E : Tokens → Tree → Type 0) (W Any : Type 0) (an_expr : Inhabited E) (exprs : (ts : Tokens) → Local last E W Any E (tree_at last) ts)
     (some_token : (xs : Tokens) (e : Tree) → E xs e → (t : At Token) × (us : Tokens) × (xs ≡ t ∷ us))
     (one_name : (t : At Token) (n : List ℕ) → Names n t → (e : Tree) × (tree_at last (t ∷ []) ≡ Ok (e, []))) where
   -- ---- items
 
-  maybe_local : (ts : Tokens) → Local last E Any AliasIs (λ r. Ok (maybe_name r)) ts
-  maybe_local [] = gives_end last E Any AliasIs (λ r. Ok (maybe_name r)) None refl no_alias
+  maybe_local : (ts : Tokens) → Local last E W Any AliasIs (λ r. Ok (maybe_name r)) ts
+  maybe_local [] = gives_end last E W Any AliasIs (λ r. Ok (maybe_name r)) None refl no_alias
   maybe_local (t ∷ us) = of_name (named t.tok) refl
     where
-      of_name : (o : Option (List ℕ)) → named t.tok ≡ o → Local last E Any AliasIs (λ r. Ok (maybe_name r)) (t ∷ us)
-      of_name None h = gives_at last E Any AliasIs (λ r. Ok (maybe_name r)) None t us (λ vs. rw h refl) no_alias
-      of_name (Some n) h = behind last E Any AliasIs (λ r. Ok (Some n, r)) (λ r. Ok (maybe_name r)) t us (λ vs. rw h refl) (gives last E Any (λ xs w. AliasIs (t ∷ xs) w) (Some n) us (bare_alias t n h))
+      of_name : (o : Option (List ℕ)) → named t.tok ≡ o → Local last E W Any AliasIs (λ r. Ok (maybe_name r)) (t ∷ us)
+      of_name None h = gives_at last E W Any AliasIs (λ r. Ok (maybe_name r)) None t us (λ vs. rw h refl) no_alias
+      of_name (Some n) h = behind last E W Any AliasIs (λ r. Ok (Some n, r)) (λ r. Ok (maybe_name r)) t us (λ vs. rw h refl) (gives last E W Any (λ xs w. AliasIs (t ∷ xs) w) (Some n) us (bare_alias t n h))
 
-  alias_local : (ts : Tokens) → Local last E Any AliasIs (alias_at last) ts
+  alias_local : (ts : Tokens) → Local last E W Any AliasIs (alias_at last) ts
   unfolding alias_at
-  alias_local ts = either last E Any AliasIs (is_word words.As) (λ us. name_at last us >>= λ x. Ok (Some x.0, x.1)) (λ us. Ok (maybe_name us)) (λ r. alias_of last (after (is_word words.As) r) r) ts
+  alias_local ts = either last E W Any AliasIs (is_word words.As) (λ us. name_at last us >>= λ x. Ok (Some x.0, x.1)) (λ us. Ok (maybe_name us)) (λ r. alias_of last (after (is_word words.As) r) r) ts
       (λ a vs h. rw h refl) (λ a vs h. rw h refl) refl
-      (λ a us ha. name_then last E Any (λ xs w. AliasIs (a ∷ xs) w) (λ n r. Ok (Some n, r)) us (a_name ∷ [], Some the_name, as_alias a a_name the_name ha refl) (λ t n vs hn. gives last E Any (λ xs w. AliasIs (a ∷ t ∷ xs) w) (Some n) vs (as_alias a t n ha hn)))
+      (λ a us ha. name_then last E W Any (λ xs w. AliasIs (a ∷ xs) w) (λ n r. Ok (Some n, r)) us (a_name ∷ [], Some the_name, as_alias a a_name the_name ha refl) (λ t n vs hn. gives last E W Any (λ xs w. AliasIs (a ∷ t ∷ xs) w) (Some n) vs (as_alias a t n ha hn)))
       (maybe_local ts)
 
   agg_some : (k o : At Token) (kind : AggKind) → agg_kind k.tok ≡ Some kind → Is is_open o → Inhabited (λ xs w. AggIs E (k ∷ o ∷ xs) w)
   agg_some k o kind hk ho = (an_expr.0 ++ a_sign signs.Close ∷ [], Of kind an_expr.1, of_values k o (a_sign signs.Close) kind an_expr.0 an_expr.1 hk ho an_expr.2 refl)
 
-  of_local : (k o : At Token) (kind : AggKind) → agg_kind k.tok ≡ Some kind → Is is_open o → (ts : Tokens) → Local last E Any (λ xs w. AggIs E (k ∷ o ∷ xs) w) (λ r. tree_at last r >>= λ e. expect last is_close e.1 >>= λ rest. Ok (Of kind e.0, rest)) ts
-  of_local k o kind hk ho ts = in_turn last E Any E (λ xs w. AggIs E (k ∷ o ∷ xs) w) (tree_at last) (λ e r. expect last is_close r >>= λ rest. Ok (Of kind e, rest)) ts
+  of_local : (k o : At Token) (kind : AggKind) → agg_kind k.tok ≡ Some kind → Is is_open o → (ts : Tokens) → Local last E W Any (λ xs w. AggIs E (k ∷ o ∷ xs) w) (λ r. tree_at last r >>= λ e. expect last is_close e.1 >>= λ rest. Ok (Of kind e.0, rest)) ts
+  of_local k o kind hk ho ts = in_turn last E W Any E (λ xs w. AggIs E (k ∷ o ∷ xs) w) (tree_at last) (λ e r. expect last is_close r >>= λ rest. Ok (Of kind e, rest)) ts
       (λ xs e q. (a_sign signs.Close ∷ [], Of kind e, of_values k o (a_sign signs.Close) kind xs e hk ho q refl))
       (exprs ts)
-      (λ e xs rest split q. token_last last E Any (λ ys w. AggIs E (k ∷ o ∷ (xs ++ ys)) w) is_close (Of kind e) rest (a_sign signs.Close ∷ [], Of kind e, of_values k o (a_sign signs.Close) kind xs e hk ho q refl) (λ c hc. of_values k o c kind xs e hk ho q hc))
+      (λ e xs rest split q. token_last last E W Any (λ ys w. AggIs E (k ∷ o ∷ (xs ++ ys)) w) is_close (Of kind e) rest (a_sign signs.Close ∷ [], Of kind e, of_values k o (a_sign signs.Close) kind xs e hk ho q refl) (λ c hc. of_values k o c kind xs e hk ho q hc))
 
-  agg_local : (k o : At Token) (kind : AggKind) → agg_kind k.tok ≡ Some kind → Is is_open o → (ts : Tokens) → Local last E Any (λ xs w. AggIs E (k ∷ o ∷ xs) w) (agg_at last kind) ts
+  agg_local : (k o : At Token) (kind : AggKind) → agg_kind k.tok ≡ Some kind → Is is_open o → (ts : Tokens) → Local last E W Any (λ xs w. AggIs E (k ∷ o ∷ xs) w) (agg_at last kind) ts
   unfolding agg_at
-  agg_local k o aggs.Count hk ho ts = either last E Any (λ xs w. AggIs E (k ∷ o ∷ xs) w) is_star (λ us. expect last is_close us >>= λ rest. Ok (CountRows, rest)) (λ r. tree_at last r >>= λ e. expect last is_close e.1 >>= λ rest. Ok (Of aggs.Count e.0, rest)) (λ r. agg_of last (rows_of aggs.Count r) aggs.Count r) ts
+  agg_local k o aggs.Count hk ho ts = either last E W Any (λ xs w. AggIs E (k ∷ o ∷ xs) w) is_star (λ us. expect last is_close us >>= λ rest. Ok (CountRows, rest)) (λ r. tree_at last r >>= λ e. expect last is_close e.1 >>= λ rest. Ok (Of aggs.Count e.0, rest)) (λ r. agg_of last (rows_of aggs.Count r) aggs.Count r) ts
       (λ s vs h. rw h refl) (λ s vs h. rw h refl) refl
-      (λ s us hs. token_last last E Any (λ xs w. AggIs E (k ∷ o ∷ s ∷ xs) w) is_close CountRows us (a_sign signs.Close ∷ [], CountRows, all_rows k o s (a_sign signs.Close) hk ho hs refl) (λ c hc. all_rows k o s c hk ho hs hc))
+      (λ s us hs. token_last last E W Any (λ xs w. AggIs E (k ∷ o ∷ s ∷ xs) w) is_close CountRows us (a_sign signs.Close ∷ [], CountRows, all_rows k o s (a_sign signs.Close) hk ho hs refl) (λ c hc. all_rows k o s c hk ho hs hc))
       (of_local k o aggs.Count hk ho ts)
   agg_local k o aggs.Sum hk ho ts = of_local k o aggs.Sum hk ho ts
   agg_local k o aggs.Min hk ho ts = of_local k o aggs.Min hk ho ts
@@ -122,20 +123,20 @@ module _ (last : ℕ) (E : Tokens → Tree → Type 0) (Any : Type 0) (an_expr :
   some_item : Inhabited ItemIs
   some_item = (an_expr.0, Value an_expr.1 None, value_none an_expr.0 an_expr.1 an_expr.2)
 
-  expr_item_local : (ts : Tokens) → Local last E Any ItemIs expr_item ts
-  expr_item_local ts = in_turn last E Any E ItemIs (tree_at last) (λ e r. alias_at last r >>= λ n. Ok (Value e n.0, n.1)) ts
+  expr_item_local : (ts : Tokens) → Local last E W Any ItemIs expr_item ts
+  expr_item_local ts = in_turn last E W Any E ItemIs (tree_at last) (λ e r. alias_at last r >>= λ n. Ok (Value e n.0, n.1)) ts
       (λ xs e q. ([], Value e None, λ is. a_value is xs [] e None q no_alias))
       (exprs ts)
-      (λ e xs rest split q. mapped last E Any AliasIs (λ ys w. ItemIs (xs ++ ys) w) (alias_at last) (Value e) rest (λ ys n k is. a_value is xs ys e n q k) (alias_local rest))
+      (λ e xs rest split q. mapped last E W Any AliasIs (λ ys w. ItemIs (xs ++ ys) w) (alias_at last) (Value e) rest (λ ys n k is. a_value is xs ys e n q k) (alias_local rest))
 
   agg_none : (k o : At Token) (xs : Tokens) (a : AggTree) → AggIs E (k ∷ o ∷ xs) a → ItemIs (k ∷ o ∷ (xs ++ [])) (Aggregate a None)
   agg_none k o xs a q is = an_aggregate is (k ∷ o ∷ xs) [] a None q no_alias
 
-  call_item_local : (k o : At Token) (kind : AggKind) → agg_kind k.tok ≡ Some kind → Is is_open o → (ts : Tokens) → Local last E Any (λ xs w. ItemIs (k ∷ o ∷ xs) w) (call_item kind) ts
-  call_item_local k o kind hk ho ts = in_turn last E Any (λ xs w. AggIs E (k ∷ o ∷ xs) w) (λ xs w. ItemIs (k ∷ o ∷ xs) w) (agg_at last kind) (λ a r. alias_at last r >>= λ n. Ok (Aggregate a n.0, n.1)) ts
+  call_item_local : (k o : At Token) (kind : AggKind) → agg_kind k.tok ≡ Some kind → Is is_open o → (ts : Tokens) → Local last E W Any (λ xs w. ItemIs (k ∷ o ∷ xs) w) (call_item kind) ts
+  call_item_local k o kind hk ho ts = in_turn last E W Any (λ xs w. AggIs E (k ∷ o ∷ xs) w) (λ xs w. ItemIs (k ∷ o ∷ xs) w) (agg_at last kind) (λ a r. alias_at last r >>= λ n. Ok (Aggregate a n.0, n.1)) ts
       (λ xs a q. ([], Aggregate a None, agg_none k o xs a q))
       (agg_local k o kind hk ho ts)
-      (λ a xs rest split q. mapped last E Any AliasIs (λ ys w. ItemIs (k ∷ o ∷ (xs ++ ys)) w) (alias_at last) (Aggregate a) rest (λ ys n j is. an_aggregate is (k ∷ o ∷ xs) ys a n q j) (alias_local rest))
+      (λ a xs rest split q. mapped last E W Any AliasIs (λ ys w. ItemIs (k ∷ o ∷ (xs ++ ys)) w) (alias_at last) (Aggregate a) rest (λ ys n j is. an_aggregate is (k ∷ o ∷ xs) ys a n q j) (alias_local rest))
 
   -- where no call stands, an expression does
   item_same : (t : At Token) (us vs : Tokens) → head vs ≡ head us → call_at (t ∷ us) ≡ None → item_of_call (t ∷ vs) ≡ expr_item (t ∷ vs)
@@ -173,66 +174,66 @@ module _ (last : ℕ) (E : Tokens → Tree → Type 0) (Any : Type 0) (an_expr :
       of_agg _ _ (all_rows k o s c hk ho hs hc) us = (k, o ∷ s ∷ c ∷ us, refl)
       of_agg _ _ (of_values k o c kind xs e hk ho q hc) us = (k, o ∷ ((xs ++ c ∷ []) ++ us), refl)
 
-  no_call_local : (t : At Token) (us : Tokens) (n : List ℕ) → Names n t → call_at (t ∷ us) ≡ None → Local last E Any ItemIs item_of_call (t ∷ us)
+  no_call_local : (t : At Token) (us : Tokens) (n : List ℕ) → Names n t → call_at (t ∷ us) ≡ None → Local last E W Any ItemIs item_of_call (t ∷ us)
   no_call_local t us n hn none = of_expr (expr_item_local (t ∷ us))
     where
-      of_front : (e : SqlFault) (front rest : Tokens) → t ∷ us ≡ front ++ rest → ((others : Tokens) → head others ≡ head rest → expr_item (front ++ others) ≡ Err e) → (Any → Begun last E Any ItemIs e front rest) → Local last E Any ItemIs item_of_call (t ∷ us)
+      of_front : (e : SqlFault) (front rest : Tokens) → t ∷ us ≡ front ++ rest → ((others : Tokens) → head others ≡ head rest → expr_item (front ++ others) ≡ Err e) → (Any → Begun last E W Any ItemIs e front rest) → Local last E W Any ItemIs item_of_call (t ∷ us)
       of_front e [] rest split local b = let r = name_reads t n hn in absurd (ok_is_no_err (r.0, []) e (sym r.1 ∙ local (t ∷ []) (ap head split)))
       of_front e (f ∷ fs) rest split local b = stopped e (f ∷ fs) rest split (λ others h. front_same t us (f ∷ fs) rest others none split h f fs refl ∙ local others h) b
 
-      of_expr : Local last E Any ItemIs expr_item (t ∷ us) → Local last E Any ItemIs item_of_call (t ∷ us)
+      of_expr : Local last E W Any ItemIs expr_item (t ∷ us) → Local last E W Any ItemIs item_of_call (t ∷ us)
       of_expr (took i front rest split local q) = let k = item_some [] (i ∷ []) front (q []) in took i front rest split (λ others h. front_same t us front rest others none split h k.0 k.1 k.2 ∙ local others h) q
       of_expr (stopped e front rest split local b) = of_front e front rest split local b
       of_expr (refused e h x) = refused e (item_same t us us refl none ∙ h) x
 
-  item_token_local : (t : At Token) (us : Tokens) (k : Option AggKind) → agg_kind t.tok ≡ k → Local last E Any ItemIs item_of_call (t ∷ us)
-  item_token_local t us None h = switch_at last E Any ItemIs expr_item item_of_call t us (λ vs. rw h refl) (expr_item_local (t ∷ us))
+  item_token_local : (t : At Token) (us : Tokens) (k : Option AggKind) → agg_kind t.tok ≡ k → Local last E W Any ItemIs item_of_call (t ∷ us)
+  item_token_local t us None h = switch_at last E W Any ItemIs expr_item item_of_call t us (λ vs. rw h refl) (expr_item_local (t ∷ us))
   item_token_local t us (Some k) h = let n = agg_named t.tok k h in of_next us (after is_open us) refl n.0 n.1
     where
-      of_next : (ws : Tokens) (o : Option Tokens) → after is_open ws ≡ o → (n : List ℕ) → Names n t → Local last E Any ItemIs item_of_call (t ∷ ws)
+      of_next : (ws : Tokens) (o : Option Tokens) → after is_open ws ≡ o → (n : List ℕ) → Names n t → Local last E W Any ItemIs item_of_call (t ∷ ws)
       of_next ws None g n hn = no_call_local t ws n hn (rw (h, g) refl)
       of_next [] (Some vs) g n hn = absurd cc
       of_next (o ∷ ws) (Some vs) g n hn = of_open (is_open o.tok) refl g
         where
-          of_open : (b : Bool) → is_open o.tok ≡ b → (if b then Some ws else None) ≡ Some vs → Local last E Any ItemIs item_of_call (t ∷ o ∷ ws)
-          of_open true f j = behind last E Any ItemIs (λ r. item_of_call (t ∷ r)) item_of_call t (o ∷ ws) (λ xs. refl) (behind last E Any (λ xs w. ItemIs (t ∷ xs) w) (call_item k) (λ r. item_of_call (t ∷ r)) o ws (λ xs. rw (h, f) refl) (call_item_local t o k h f ws))
+          of_open : (b : Bool) → is_open o.tok ≡ b → (if b then Some ws else None) ≡ Some vs → Local last E W Any ItemIs item_of_call (t ∷ o ∷ ws)
+          of_open true f j = behind last E W Any ItemIs (λ r. item_of_call (t ∷ r)) item_of_call t (o ∷ ws) (λ xs. refl) (behind last E W Any (λ xs w. ItemIs (t ∷ xs) w) (call_item k) (λ r. item_of_call (t ∷ r)) o ws (λ xs. rw (h, f) refl) (call_item_local t o k h f ws))
           of_open false f j = absurd cc
 
-  item_call_local : (ts : Tokens) → Local last E Any ItemIs item_of_call ts
-  item_call_local [] = switch_end last E Any ItemIs expr_item item_of_call refl (expr_item_local [])
+  item_call_local : (ts : Tokens) → Local last E W Any ItemIs item_of_call ts
+  item_call_local [] = switch_end last E W Any ItemIs expr_item item_of_call refl (expr_item_local [])
   item_call_local (t ∷ us) = item_token_local t us (agg_kind t.tok) refl
 
-  item_local : (ts : Tokens) → Local last E Any ItemIs (item_at last) ts
+  item_local : (ts : Tokens) → Local last E W Any ItemIs (item_at last) ts
   unfolding item_at
-  item_local ts = either last E Any ItemIs is_star (λ rest. Ok (All, rest)) item_of_call (λ r. item_star last (after is_star r) r) ts
+  item_local ts = either last E W Any ItemIs is_star (λ rest. Ok (All, rest)) item_of_call (λ r. item_star last (after is_star r) r) ts
       (λ s vs h. rw h refl) (λ s vs h. rw h refl) refl
-      (λ s us hs. gives last E Any (λ xs w. ItemIs (s ∷ xs) w) All us (λ is. a_star is s hs))
+      (λ s us hs. gives last E W Any (λ xs w. ItemIs (s ∷ xs) w) All us (λ is. a_star is s hs))
       (item_call_local ts)
 
-  item_add_local : (is : List ItemTree) (ts : Tokens) → Local last E Any (AddsItem E is) (item_add last is) ts
-  item_add_local is ts = mapped last E Any ItemIs (AddsItem E is) (item_at last) (λ i. is ++ i ∷ []) ts (λ xs i q. q is) (item_local ts)
+  item_add_local : (is : List ItemTree) (ts : Tokens) → Local last E W Any (AddsItem E is) (item_add last is) ts
+  item_add_local is ts = mapped last E W Any ItemIs (AddsItem E is) (item_at last) (λ i. is ++ i ∷ []) ts (λ xs i q. q is) (item_local ts)
 
   adds_some_item : (is : List ItemTree) → Inhabited (AddsItem E is)
   adds_some_item is = (a_sign signs.Star ∷ [], is ++ All ∷ [], a_star is (a_sign signs.Star) refl)
 
   -- ---- FROM, ORDER BY and FOR
 
-  from_local : (ts : Tokens) → Local last E Any FromIs (from_at last) ts
+  from_local : (ts : Tokens) → Local last E W Any FromIs (from_at last) ts
   unfolding from_at
-  from_local ts = either last E Any FromIs (is_word words.From) (λ us. name_at last us >>= λ x. Ok (Some x.0, x.1)) (λ us. Ok (None, us)) (λ r. from_of last (after (is_word words.From) r) r) ts
+  from_local ts = either last E W Any FromIs (is_word words.From) (λ us. name_at last us >>= λ x. Ok (Some x.0, x.1)) (λ us. Ok (None, us)) (λ r. from_of last (after (is_word words.From) r) r) ts
       (λ f vs h. rw h refl) (λ f vs h. rw h refl) refl
-      (λ f us hf. name_then last E Any (λ xs w. FromIs (f ∷ xs) w) (λ n r. Ok (Some n, r)) us (a_name ∷ [], Some the_name, from_table f a_name the_name hf refl) (λ t n vs hn. gives last E Any (λ xs w. FromIs (f ∷ t ∷ xs) w) (Some n) vs (from_table f t n hf hn)))
-      (gives last E Any FromIs None ts no_table)
+      (λ f us hf. name_then last E W Any (λ xs w. FromIs (f ∷ xs) w) (λ n r. Ok (Some n, r)) us (a_name ∷ [], Some the_name, from_table f a_name the_name hf refl) (λ t n vs hn. gives last E W Any (λ xs w. FromIs (f ∷ t ∷ xs) w) (Some n) vs (from_table f t n hf hn)))
+      (gives last E W Any FromIs None ts no_table)
 
-  nulls_local : (down : Bool) (ts : Tokens) → Local last E Any (NullsAre down) (nulls_at last down) ts
+  nulls_local : (down : Bool) (ts : Tokens) → Local last E W Any (NullsAre down) (nulls_at last down) ts
   unfolding nulls_at
-  nulls_local down ts = either last E Any (NullsAre down) (is_word words.Nulls) (λ us. nulls_end last (after (is_word words.First) us) us) (λ us. Ok (down, us)) (λ r. nulls_of last down (after (is_word words.Nulls) r) r) ts
+  nulls_local down ts = either last E W Any (NullsAre down) (is_word words.Nulls) (λ us. nulls_end last (after (is_word words.First) us) us) (λ us. Ok (down, us)) (λ r. nulls_of last down (after (is_word words.Nulls) r) r) ts
       (λ n vs h. rw h refl) (λ n vs h. rw h refl) refl
-      (λ n us hn. either last E Any (λ xs w. NullsAre down (n ∷ xs) w) (is_word words.First) (λ rest. Ok (true, rest)) (λ vs. keyword last words.Last vs >>= λ rest. Ok (false, rest)) (λ vs. nulls_end last (after (is_word words.First) vs) vs) us
+      (λ n us hn. either last E W Any (λ xs w. NullsAre down (n ∷ xs) w) (is_word words.First) (λ rest. Ok (true, rest)) (λ vs. keyword last words.Last vs >>= λ rest. Ok (false, rest)) (λ vs. nulls_end last (after (is_word words.First) vs) vs) us
       (λ f vs h. rw h refl) (λ f vs h. rw h refl) refl
-      (λ f vs hf. gives last E Any (λ xs w. NullsAre down (n ∷ f ∷ xs) w) true vs (nulls_first n f hn hf))
-      (token_last last E Any (λ xs w. NullsAre down (n ∷ xs) w) (is_word words.Last) false us (a_word words.Last ∷ [], false, nulls_last n (a_word words.Last) hn (key_is words.Last [])) (λ l hl. nulls_last n l hn hl)))
-      (gives last E Any (NullsAre down) down ts unsaid)
+      (λ f vs hf. gives last E W Any (λ xs w. NullsAre down (n ∷ f ∷ xs) w) true vs (nulls_first n f hn hf))
+      (token_last last E W Any (λ xs w. NullsAre down (n ∷ xs) w) (is_word words.Last) false us (a_word words.Last ∷ [], false, nulls_last n (a_word words.Last) hn (key_is words.Last [])) (λ l hl. nulls_last n l hn hl)))
+      (gives last E W Any (NullsAre down) down ts unsaid)
 
   abbrev one_key : Tree → Bool → Bool → OrderTree
   one_key e desc first = record { expr = e; dir = record { desc = desc; nulls_first = first } }
@@ -241,22 +242,22 @@ module _ (last : ℕ) (E : Tokens → Tree → Type 0) (Any : Type 0) (an_expr :
   keys_with ks e desc r = nulls_at last desc r >>= λ n. Ok (ks ++ one_key e desc n.0 ∷ [], n.1)
 
   -- the direction of a key, and where NULL stands
-  direction_local : (K : Tokens → List OrderTree → Type 0) (ks : List OrderTree) (e : Tree) → ((ds ns : Tokens) (desc first : Bool) → DirectionIs ds desc → NullsAre desc ns first → K (ds ++ ns) (ks ++ one_key e desc first ∷ [])) → (ts : Tokens) → Local last E Any K (λ r. keys_with ks e (direction_at r).0 (direction_at r).1) ts
+  direction_local : (K : Tokens → List OrderTree → Type 0) (ks : List OrderTree) (e : Tree) → ((ds ns : Tokens) (desc first : Bool) → DirectionIs ds desc → NullsAre desc ns first → K (ds ++ ns) (ks ++ one_key e desc first ∷ [])) → (ts : Tokens) → Local last E W Any K (λ r. keys_with ks e (direction_at r).0 (direction_at r).1) ts
   unfolding direction_at
-  direction_local K ks e up ts = either last E Any K (is_word words.Asc) (keys_with ks e false) (λ r. keys_with ks e (direction_of None (after (is_word words.Desc) r) r).0 (direction_of None (after (is_word words.Desc) r) r).1) (λ r. keys_with ks e (direction_of (after (is_word words.Asc) r) (after (is_word words.Desc) r) r).0 (direction_of (after (is_word words.Asc) r) (after (is_word words.Desc) r) r).1) ts
+  direction_local K ks e up ts = either last E W Any K (is_word words.Asc) (keys_with ks e false) (λ r. keys_with ks e (direction_of None (after (is_word words.Desc) r) r).0 (direction_of None (after (is_word words.Desc) r) r).1) (λ r. keys_with ks e (direction_of (after (is_word words.Asc) r) (after (is_word words.Desc) r) r).0 (direction_of (after (is_word words.Asc) r) (after (is_word words.Desc) r) r).1) ts
       (λ a vs h. rw h refl) (λ a vs h. rw h refl) refl
       (λ a us ha. keys (λ xs w. K (a ∷ xs) w) false (λ ns first k. up (a ∷ []) ns false first (ascending a ha) k) us)
-      (either last E Any K (is_word words.Desc) (keys_with ks e true) (keys_with ks e false) (λ r. keys_with ks e (direction_of None (after (is_word words.Desc) r) r).0 (direction_of None (after (is_word words.Desc) r) r).1) ts
+      (either last E W Any K (is_word words.Desc) (keys_with ks e true) (keys_with ks e false) (λ r. keys_with ks e (direction_of None (after (is_word words.Desc) r) r).0 (direction_of None (after (is_word words.Desc) r) r).1) ts
       (λ d vs h. rw h refl) (λ d vs h. rw h refl) refl
       (λ d us hd. keys (λ xs w. K (d ∷ xs) w) true (λ ns first k. up (d ∷ []) ns true first (descending d hd) k) us)
       (keys K false (λ ns first k. up [] ns false first as_ever k) ts))
     where
-      keys : (Q : Tokens → List OrderTree → Type 0) (desc : Bool) → ((ns : Tokens) (first : Bool) → NullsAre desc ns first → Q ns (ks ++ one_key e desc first ∷ [])) → (us : Tokens) → Local last E Any Q (keys_with ks e desc) us
-      keys Q desc q us = mapped last E Any (NullsAre desc) Q (nulls_at last desc) (λ first. ks ++ one_key e desc first ∷ []) us q (nulls_local desc us)
+      keys : (Q : Tokens → List OrderTree → Type 0) (desc : Bool) → ((ns : Tokens) (first : Bool) → NullsAre desc ns first → Q ns (ks ++ one_key e desc first ∷ [])) → (us : Tokens) → Local last E W Any Q (keys_with ks e desc) us
+      keys Q desc q us = mapped last E W Any (NullsAre desc) Q (nulls_at last desc) (λ first. ks ++ one_key e desc first ∷ []) us q (nulls_local desc us)
 
-  order_add_local : (ks : List OrderTree) (ts : Tokens) → Local last E Any (AddsKey E ks) (order_add last ks) ts
+  order_add_local : (ks : List OrderTree) (ts : Tokens) → Local last E W Any (AddsKey E ks) (order_add last ks) ts
   unfolding order_add
-  order_add_local ks ts = in_turn last E Any E (AddsKey E ks) (tree_at last) (λ e r. keys_with ks e (direction_at r).0 (direction_at r).1) ts
+  order_add_local ks ts = in_turn last E W Any E (AddsKey E ks) (tree_at last) (λ e r. keys_with ks e (direction_at r).0 (direction_at r).1) ts
       (λ xs e q. ([], ks ++ one_key e false false ∷ [], adds_key ks xs [] [] e false false q as_ever unsaid))
       (exprs ts)
       (λ e xs rest split q. direction_local (λ ys w. AddsKey E ks (xs ++ ys) w) ks e (λ ds ns desc first d n. adds_key ks xs ds ns e desc first q d n) rest)
@@ -264,24 +265,24 @@ module _ (last : ℕ) (E : Tokens → Tree → Type 0) (Any : Type 0) (an_expr :
   adds_some_key : (ks : List OrderTree) → Inhabited (AddsKey E ks)
   adds_some_key ks = (an_expr.0 ++ [], ks ++ one_key an_expr.1 false false ∷ [], adds_key ks an_expr.0 [] [] an_expr.1 false false an_expr.2 as_ever unsaid)
 
-  order_local : (ts : Tokens) → Local last E Any (OrderIs E) (order_at last) ts
+  order_local : (ts : Tokens) → Local last E W Any (OrderIs E) (order_at last) ts
   unfolding order_at
-  order_local ts = either last E Any (OrderIs E) (is_word words.Order) (λ us. keyword last words.By us >>= items_at (order_add last) []) (λ us. Ok ([], us)) (λ r. order_of last (after (is_word words.Order) r) r) ts
+  order_local ts = either last E W Any (OrderIs E) (is_word words.Order) (λ us. keyword last words.By us >>= items_at (order_add last) []) (λ us. Ok ([], us)) (λ r. order_of last (after (is_word words.Order) r) r) ts
       (λ o vs h. rw h refl) (λ o vs h. rw h refl) refl
-      (λ o us ho. let a = some_list last E Any (order_add last) (AddsKey E) adds_some_key order_add_local [] in
-      token_then last E Any (λ xs w. OrderIs E (o ∷ xs) w) (is_word words.By) (items_at (order_add last) []) us (a_word words.By ∷ a.0, a.1, ordered o (a_word words.By) a.0 a.1 ho (key_is words.By []) a.2) (λ b vs hb.
-      same_at last E Any (Commas (AddsKey E) []) (λ xs w. OrderIs E (o ∷ b ∷ xs) w) (items_at (order_add last) []) (items_at (order_add last) []) vs (λ xs ks q. ordered o b xs ks ho hb q) (λ ws h. refl) (list_local last E Any (order_add last) (AddsKey E) adds_some_key order_add_local [] vs)))
-      (gives last E Any (OrderIs E) [] ts unordered)
+      (λ o us ho. let a = some_list last E W Any (order_add last) (AddsKey E) adds_some_key order_add_local [] in
+      token_then last E W Any (λ xs w. OrderIs E (o ∷ xs) w) (is_word words.By) (items_at (order_add last) []) us (a_word words.By ∷ a.0, a.1, ordered o (a_word words.By) a.0 a.1 ho (key_is words.By []) a.2) (λ b vs hb.
+      same_at last E W Any (Commas (AddsKey E) []) (λ xs w. OrderIs E (o ∷ b ∷ xs) w) (items_at (order_add last) []) (items_at (order_add last) []) vs (λ xs ks q. ordered o b xs ks ho hb q) (λ ws h. refl) (list_local last E W Any (order_add last) (AddsKey E) adds_some_key order_add_local [] vs)))
+      (gives last E W Any (OrderIs E) [] ts unordered)
 
-  lock_local : (ts : Tokens) → Local last E Any LockIs (lock_at last) ts
+  lock_local : (ts : Tokens) → Local last E W Any LockIs (lock_at last) ts
   unfolding lock_at
-  lock_local ts = either last E Any LockIs (is_word words.For) (λ us. lock_end last (after (is_word words.Update) us) us) (λ us. Ok (None, us)) (λ r. lock_of last (after (is_word words.For) r) r) ts
+  lock_local ts = either last E W Any LockIs (is_word words.For) (λ us. lock_end last (after (is_word words.Update) us) us) (λ us. Ok (None, us)) (λ r. lock_of last (after (is_word words.For) r) r) ts
       (λ f vs h. rw h refl) (λ f vs h. rw h refl) refl
-      (λ f us hf. either last E Any (λ xs w. LockIs (f ∷ xs) w) (is_word words.Update) (λ rest. Ok (Some locks.Update, rest)) (λ vs. keyword last words.Share vs >>= λ rest. Ok (Some locks.Share, rest)) (λ vs. lock_end last (after (is_word words.Update) vs) vs) us
+      (λ f us hf. either last E W Any (λ xs w. LockIs (f ∷ xs) w) (is_word words.Update) (λ rest. Ok (Some locks.Update, rest)) (λ vs. keyword last words.Share vs >>= λ rest. Ok (Some locks.Share, rest)) (λ vs. lock_end last (after (is_word words.Update) vs) vs) us
       (λ u vs h. rw h refl) (λ u vs h. rw h refl) refl
-      (λ u vs hu. gives last E Any (λ xs w. LockIs (f ∷ u ∷ xs) w) (Some locks.Update) vs (for_update f u hf hu))
-      (token_last last E Any (λ xs w. LockIs (f ∷ xs) w) (is_word words.Share) (Some locks.Share) us (a_word words.Share ∷ [], Some locks.Share, for_share f (a_word words.Share) hf (key_is words.Share [])) (λ s hs. for_share f s hf hs)))
-      (gives last E Any LockIs None ts no_lock)
+      (λ u vs hu. gives last E W Any (λ xs w. LockIs (f ∷ u ∷ xs) w) (Some locks.Update) vs (for_update f u hf hu))
+      (token_last last E W Any (λ xs w. LockIs (f ∷ xs) w) (is_word words.Share) (Some locks.Share) us (a_word words.Share ∷ [], Some locks.Share, for_share f (a_word words.Share) hf (key_is words.Share [])) (λ s hs. for_share f s hf hs)))
+      (gives last E W Any LockIs None ts no_lock)
 
   -- ---- SELECT
 
@@ -292,23 +293,23 @@ module _ (last : ℕ) (E : Tokens → Tree → Type 0) (Any : Type 0) (an_expr :
   whole_of s hs is fs ws os ls i t f o l a b c d e = record {
     stmt = Selects (selected i t f o l);
     spells = select s is fs ws os ls i t f o l hs a b c d e;
-    shows = query_shown s.span.start (selected i t f o l);
+    shows = query_shown s (is ++ (fs ++ (ws ++ (os ++ ls)))) (selected i t f o l);
   }
 
-  pub select_local : (s : At Token) → Key words.Select s → (ts : Tokens) → Local last E Any (λ xs r. Whole E (s ∷ xs) r) (select_at last s.span.start) ts
+  pub select_local : (s : At Token) → Key words.Select s → (ts : Tokens) → Local last E W Any (λ xs r. Whole E (s ∷ xs) r) (select_at last s.span.start) ts
   unfolding select_at
   select_local s hs ts =
       let p = s.span.start in
-      in_turn last E Any (Commas (AddsItem E) []) (λ xs r. Whole E (s ∷ xs) r) (items_at (item_add last) []) (λ i r. from_at last r >>= λ t. filter_at last t.1 >>= λ f. order_at last f.1 >>= λ o. lock_at last o.1 >>= λ l. Ok (query_of p (selected i t.0 f.0 o.0 l.0), l.1)) ts
+      in_turn last E W Any (Commas (AddsItem E) []) (λ xs r. Whole E (s ∷ xs) r) (items_at (item_add last) []) (λ i r. from_at last r >>= λ t. filter_at last t.1 >>= λ f. order_at last f.1 >>= λ o. lock_at last o.1 >>= λ l. Ok (query_of p (selected i t.0 f.0 o.0 l.0), l.1)) ts
       (λ is i a. ([], query_of p (selected i None None [] None), whole_of s hs is [] [] [] [] i None None [] None a no_table unfiltered unordered no_lock))
-      (list_local last E Any (item_add last) (AddsItem E) adds_some_item item_add_local [] ts) (λ i is us e1 a.
-      in_turn last E Any FromIs (λ xs r. Whole E (s ∷ (is ++ xs)) r) (from_at last) (λ t r. filter_at last r >>= λ f. order_at last f.1 >>= λ o. lock_at last o.1 >>= λ l. Ok (query_of p (selected i t f.0 o.0 l.0), l.1)) us
+      (list_local last E W Any (item_add last) (AddsItem E) adds_some_item item_add_local [] ts) (λ i is us e1 a.
+      in_turn last E W Any FromIs (λ xs r. Whole E (s ∷ (is ++ xs)) r) (from_at last) (λ t r. filter_at last r >>= λ f. order_at last f.1 >>= λ o. lock_at last o.1 >>= λ l. Ok (query_of p (selected i t f.0 o.0 l.0), l.1)) us
       (λ fs t b. ([], query_of p (selected i t None [] None), whole_of s hs is fs [] [] [] i t None [] None a b unfiltered unordered no_lock))
       (from_local us) (λ t fs vs e2 b.
-      in_turn last E Any (WhereIs E) (λ xs r. Whole E (s ∷ (is ++ (fs ++ xs))) r) (filter_at last) (λ f r. order_at last r >>= λ o. lock_at last o.1 >>= λ l. Ok (query_of p (selected i t f o.0 l.0), l.1)) vs
+      in_turn last E W Any (WhereIs E) (λ xs r. Whole E (s ∷ (is ++ (fs ++ xs))) r) (filter_at last) (λ f r. order_at last r >>= λ o. lock_at last o.1 >>= λ l. Ok (query_of p (selected i t f o.0 l.0), l.1)) vs
       (λ ws f c. ([], query_of p (selected i t f [] None), whole_of s hs is fs ws [] [] i t f [] None a b c unordered no_lock))
-      (where_local last E Any an_expr exprs vs) (λ f ws xs e3 c.
-      in_turn last E Any (OrderIs E) (λ xs r. Whole E (s ∷ (is ++ (fs ++ (ws ++ xs)))) r) (order_at last) (λ o r. lock_at last r >>= λ l. Ok (query_of p (selected i t f o l.0), l.1)) xs
+      (where_local last E W Any an_expr exprs vs) (λ f ws xs e3 c.
+      in_turn last E W Any (OrderIs E) (λ xs r. Whole E (s ∷ (is ++ (fs ++ (ws ++ xs)))) r) (order_at last) (λ o r. lock_at last r >>= λ l. Ok (query_of p (selected i t f o l.0), l.1)) xs
       (λ os o d. ([], query_of p (selected i t f o None), whole_of s hs is fs ws os [] i t f o None a b c d no_lock))
       (order_local xs) (λ o os ys e4 d.
-      mapped last E Any LockIs (λ xs r. Whole E (s ∷ (is ++ (fs ++ (ws ++ (os ++ xs))))) r) (lock_at last) (λ l. query_of p (selected i t f o l)) ys (λ ls l e. whole_of s hs is fs ws os ls i t f o l a b c d e) (lock_local ys)))))
+      mapped last E W Any LockIs (λ xs r. Whole E (s ∷ (is ++ (fs ++ (ws ++ (os ++ xs))))) r) (lock_at last) (λ l. query_of p (selected i t f o l)) ys (λ ls l e. whole_of s hs is fs ws os ls i t f o l a b c d e) (lock_local ys)))))

@@ -16,51 +16,48 @@ use Rattle.sql_expressions.specs.Reading.{place_of, expect, is_word, is_open, is
 use Rattle.sql_parser.specs.Readers.{keyword, misplaced_word, name_at, items_at}
 use Rattle.sql_parser.specs.Tables.{Placed, KeyRead, TableRead, Constraints, is_among, placed_names, column_names, empty_table, with_key, with_column, key_limit, kind_of, kind_at, is_constraint, key_add, key_at, constraint_of, constraint_at, constraints_at, limits_at, column_behind, column_at, table_item, table_add}
 use Rattle.sql_parser.specs.Grammar.{Is, Key, Names, Commas, placed, AddsColumn, adds_column, Says, no_more, not_null, primary_key, unique_key, AddsPart, a_column, a_primary, a_unique}
-use Rattle.sql_parser.specs.Stops.{IsStop}
-use Rattle.sql_parser.proofs.Locals.{Reader, Inhabited, Local, refused, no_stop, gives, gives_at, gives_end, no_rule_at, no_rule_end, behind, same_at, switch_at, switch_end, in_turn, mapped, token_in, token_then, token_last, either, list_local, some_list}
+use Rattle.sql_parser.specs.Stops.{at_name}
+use Rattle.sql_parser.proofs.Locals.{Reader, Inhabited, Local, gives, gives_at, gives_end, stuck_at, no_rule_at, no_rule_end, behind, same_at, switch_at, switch_end, in_turn, mapped, token_in, token_then, token_last, either, list_local, some_list}
 use Rattle.sql_parser.proofs.Steps.{bind_ok, ok_same}
 use Rattle.sql_parser.proofs.TablesKept.{expect_shorter}
 use Rattle.sql_parser.proofs.StmtLocals.{a_word, a_sign, a_name, the_name, key_is, no_word}
 
-bad_columns_is_no_stop : (n : ℕ) → IsStop (BadColumns n) → ⊥
-bad_columns_is_no_stop n s = s
-
-module _ (last : ℕ) (E : Tokens → Tree → Type 0) (Any : Type 0) where
+module _ (last : ℕ) (E : Tokens → Tree → Type 0) (W Any : Type 0) where
   -- ---- keys
 
   adds_some_column : (ns : List Placed) → Inhabited (AddsColumn ns)
   adds_some_column ns = (a_name ∷ [], ns ++ placed the_name a_name ∷ [], adds_column ns a_name the_name refl)
 
   -- a name that may not stand there twice
-  pub distinct_local : {B : Type 0} (K : Tokens → B → Type 0) (test : List ℕ → Bool) (k : List ℕ → ℕ → Reader B) (ts : Tokens) → Inhabited K → ((t : At Token) (n : List ℕ) (us : Tokens) → Names n t → Local last E Any (λ xs w. K (t ∷ xs) w) (k n t.span.start) us) → Local last E Any K (λ r. name_at last r >>= λ x. if test x.0 then Err (BadColumns (place_of last r)) else k x.0 (place_of last r) x.1) ts
-  distinct_local K test k [] some next = no_rule_end last E Any K (λ r. name_at last r >>= λ x. if test x.0 then Err (BadColumns (place_of last r)) else k x.0 (place_of last r) x.1) some refl
+  pub distinct_local : {B : Type 0} (K : Tokens → B → Type 0) (test : List ℕ → Bool) (k : List ℕ → ℕ → Reader B) (ts : Tokens) → Inhabited K → ((t : At Token) (n : List ℕ) (us : Tokens) → Names n t → Local last E W Any (λ xs w. K (t ∷ xs) w) (k n t.span.start) us) → Local last E W Any K (λ r. name_at last r >>= λ x. if test x.0 then Err (BadColumns (place_of last r)) else k x.0 (place_of last r) x.1) ts
+  distinct_local K test k [] some next = no_rule_end last E W Any K (λ r. name_at last r >>= λ x. if test x.0 then Err (BadColumns (place_of last r)) else k x.0 (place_of last r) x.1) some refl
   distinct_local K test k (t ∷ us) some next = of_name (named t.tok) refl
     where
-      of_test : (n : List ℕ) → named t.tok ≡ Some n → (b : Bool) → test n ≡ b → Local last E Any K (λ r. name_at last r >>= λ x. if test x.0 then Err (BadColumns (place_of last r)) else k x.0 (place_of last r) x.1) (t ∷ us)
-      of_test n h true g = refused (BadColumns t.span.start) (rw (h, g) refl) (no_stop (bad_columns_is_no_stop t.span.start))
-      of_test n h false g = behind last E Any K (k n t.span.start) (λ r. name_at last r >>= λ x. if test x.0 then Err (BadColumns (place_of last r)) else k x.0 (place_of last r) x.1) t us (λ vs. rw (h, g) refl) (next t n us h)
+      of_test : (n : List ℕ) → named t.tok ≡ Some n → (b : Bool) → test n ≡ b → Local last E W Any K (λ r. name_at last r >>= λ x. if test x.0 then Err (BadColumns (place_of last r)) else k x.0 (place_of last r) x.1) (t ∷ us)
+      of_test n h true g = stuck_at last E W Any K (λ r. name_at last r >>= λ x. if test x.0 then Err (BadColumns (place_of last r)) else k x.0 (place_of last r) x.1) (BadColumns t.span.start) t us some (at_name [] us t n h) (λ vs. rw (h, g) refl)
+      of_test n h false g = behind last E W Any K (k n t.span.start) (λ r. name_at last r >>= λ x. if test x.0 then Err (BadColumns (place_of last r)) else k x.0 (place_of last r) x.1) t us (λ vs. rw (h, g) refl) (next t n us h)
 
-      of_name : (o : Option (List ℕ)) → named t.tok ≡ o → Local last E Any K (λ r. name_at last r >>= λ x. if test x.0 then Err (BadColumns (place_of last r)) else k x.0 (place_of last r) x.1) (t ∷ us)
-      of_name None h = no_rule_at last E Any K (λ r. name_at last r >>= λ x. if test x.0 then Err (BadColumns (place_of last r)) else k x.0 (place_of last r) x.1) t us some (λ vs. rw h refl)
+      of_name : (o : Option (List ℕ)) → named t.tok ≡ o → Local last E W Any K (λ r. name_at last r >>= λ x. if test x.0 then Err (BadColumns (place_of last r)) else k x.0 (place_of last r) x.1) (t ∷ us)
+      of_name None h = no_rule_at last E W Any K (λ r. name_at last r >>= λ x. if test x.0 then Err (BadColumns (place_of last r)) else k x.0 (place_of last r) x.1) t us some (λ vs. rw h refl)
       of_name (Some n) h = of_test n h (test n) refl
 
-  column_add_local : (ns : List Placed) (ts : Tokens) → Local last E Any (AddsColumn ns) (key_add last ns) ts
-  column_add_local ns ts = distinct_local (AddsColumn ns) (λ n. is_among n (placed_names ns)) (λ n p r. Ok (ns ++ (record { name = n; place = p }) ∷ [], r)) ts (adds_some_column ns) (λ t n us h. gives last E Any (λ xs w. AddsColumn ns (t ∷ xs) w) (ns ++ placed n t ∷ []) us (adds_column ns t n h))
+  column_add_local : (ns : List Placed) (ts : Tokens) → Local last E W Any (AddsColumn ns) (key_add last ns) ts
+  column_add_local ns ts = distinct_local (AddsColumn ns) (λ n. is_among n (placed_names ns)) (λ n p r. Ok (ns ++ (record { name = n; place = p }) ∷ [], r)) ts (adds_some_column ns) (λ t n us h. gives last E W Any (λ xs w. AddsColumn ns (t ∷ xs) w) (ns ++ placed n t ∷ []) us (adds_column ns t n h))
 
   some_columns : Inhabited (Commas AddsColumn [])
-  some_columns = some_list last E Any (key_add last) AddsColumn adds_some_column column_add_local []
+  some_columns = some_list last E W Any (key_add last) AddsColumn adds_some_column column_add_local []
 
   -- a key's columns in parentheses
-  key_local : (K : Tokens → TableRead → Type 0) (p : Bool) (t : TableRead) (ts : Tokens) → ((o c : At Token) (xs : Tokens) (ns : List Placed) → Is is_open o → Commas AddsColumn [] xs ns → Is is_close c → K (o ∷ (xs ++ c ∷ [])) (with_key p ns t)) → Local last E Any K (key_at last p t) ts
+  key_local : (K : Tokens → TableRead → Type 0) (p : Bool) (t : TableRead) (ts : Tokens) → ((o c : At Token) (xs : Tokens) (ns : List Placed) → Is is_open o → Commas AddsColumn [] xs ns → Is is_close c → K (o ∷ (xs ++ c ∷ [])) (with_key p ns t)) → Local last E W Any K (key_at last p t) ts
   unfolding key_at
   key_local K p t ts up =
       let s = some_columns in
-      token_then last E Any K is_open (λ us. items_at (key_add last) [] us >>= λ x. expect last is_close x.1 >>= λ rest. Ok (with_key p x.0 t, rest)) ts
+      token_then last E W Any K is_open (λ us. items_at (key_add last) [] us >>= λ x. expect last is_close x.1 >>= λ rest. Ok (with_key p x.0 t, rest)) ts
       (a_sign signs.Open ∷ (s.0 ++ a_sign signs.Close ∷ []), with_key p s.1 t, up (a_sign signs.Open) (a_sign signs.Close) s.0 s.1 refl s.2 refl)
-      (λ o us ho. in_turn last E Any (Commas AddsColumn []) (λ xs w. K (o ∷ xs) w) (items_at (key_add last) []) (λ v r. expect last is_close r >>= λ rest. Ok (with_key p v t, rest)) us
+      (λ o us ho. in_turn last E W Any (Commas AddsColumn []) (λ xs w. K (o ∷ xs) w) (items_at (key_add last) []) (λ v r. expect last is_close r >>= λ rest. Ok (with_key p v t, rest)) us
       (λ xs ns q. (a_sign signs.Close ∷ [], with_key p ns t, up o (a_sign signs.Close) xs ns ho q refl))
-      (list_local last E Any (key_add last) AddsColumn adds_some_column column_add_local [] us)
-      (λ ns xs rest split q. token_last last E Any (λ ys w. K (o ∷ (xs ++ ys)) w) is_close (with_key p ns t) rest (a_sign signs.Close ∷ [], with_key p ns t, up o (a_sign signs.Close) xs ns ho q refl) (λ c hc. up o c xs ns ho q hc)))
+      (list_local last E W Any (key_add last) AddsColumn adds_some_column column_add_local [] us)
+      (λ ns xs rest split q. token_last last E W Any (λ ys w. K (o ∷ (xs ++ ys)) w) is_close (with_key p ns t) rest (a_sign signs.Close ∷ [], with_key p ns t, up o (a_sign signs.Close) xs ns ho q refl) (λ c hc. up o c xs ns ho q hc)))
 
   -- ---- columns
 
@@ -127,29 +124,29 @@ module _ (last : ℕ) (E : Tokens → Tree → Type 0) (Any : Type 0) where
   key_of w x t s h g = ap (is_word w) (h ∙ g) ∙ key_is w s
 
   -- a second word of a constraint, and what follows it
-  word_then : (m : ℕ) (c : Placed) (v : Constraints) (K : Tokens → Constraints → Type 0) (key : Word) (ts : Tokens) → length ts ≤ m → ((u : At Token) (xs : Tokens) (z : Constraints) → Key key u → Says c v xs z → K (u ∷ xs) z) → ((w : Constraints) (vs : Tokens) → length vs ≤ m → Local last E Any (Says c w) (says_at c w) vs) → Local last E Any K (λ r. keyword last key r >>= says_at c v) ts
-  word_then m c v K key ts le up ih = token_in last E Any K (is_word key) (says_at c v) ts (a_word key ∷ [], v, up (a_word key) [] v (key_is key []) (no_more v))
-      (λ u us split h. same_at last E Any (Says c v) (λ xs w. K (u ∷ xs) w) (says_at c v) (says_at c v) us (λ xs z q. up u xs z h q) (λ vs g. refl) (ih v us (omega (arith, ap length split))))
+  word_then : (m : ℕ) (c : Placed) (v : Constraints) (K : Tokens → Constraints → Type 0) (key : Word) (ts : Tokens) → length ts ≤ m → ((u : At Token) (xs : Tokens) (z : Constraints) → Key key u → Says c v xs z → K (u ∷ xs) z) → ((w : Constraints) (vs : Tokens) → length vs ≤ m → Local last E W Any (Says c w) (says_at c w) vs) → Local last E W Any K (λ r. keyword last key r >>= says_at c v) ts
+  word_then m c v K key ts le up ih = token_in last E W Any K (is_word key) (says_at c v) ts (a_word key ∷ [], v, up (a_word key) [] v (key_is key []) (no_more v))
+      (λ u us split h. same_at last E W Any (Says c v) (λ xs w. K (u ∷ xs) w) (says_at c v) (says_at c v) us (λ xs z q. up u xs z h q) (λ vs g. refl) (ih v us (omega (arith, ap length split))))
 
-  says_token : (m : ℕ) (c : Placed) (s : Constraints) (t : At Token) (us : Tokens) (x : Token) → t.tok ≡ x → is_constraint x ≡ true → length us ≤ m → ((v : Constraints) (vs : Tokens) → length vs ≤ m → Local last E Any (Says c v) (says_at c v) vs) → Local last E Any (Says c s) (says_at c s) (t ∷ us)
-  says_token m c s t us (tok.word words.Not w) h g le ih = behind last E Any (Says c s) (λ vs. keyword last words.Null vs >>= says_at c (none_null s)) (says_at c s) t us (λ vs. not_turn c s t vs w h)
+  says_token : (m : ℕ) (c : Placed) (s : Constraints) (t : At Token) (us : Tokens) (x : Token) → t.tok ≡ x → is_constraint x ≡ true → length us ≤ m → ((v : Constraints) (vs : Tokens) → length vs ≤ m → Local last E W Any (Says c v) (says_at c v) vs) → Local last E W Any (Says c s) (says_at c s) (t ∷ us)
+  says_token m c s t us (tok.word words.Not w) h g le ih = behind last E W Any (Says c s) (λ vs. keyword last words.Null vs >>= says_at c (none_null s)) (says_at c s) t us (λ vs. not_turn c s t vs w h)
       (word_then m c (none_null s) (λ xs v. Says c s (t ∷ xs) v) words.Null us le (λ u xs z hu q. not_null s z t u xs (key_of words.Not (tok.word words.Not w) t w h refl) hu q) ih)
-  says_token m c s t us (tok.word words.Primary w) h g le ih = behind last E Any (Says c s) (λ vs. keyword last words.Key vs >>= says_at c (key_limit true c s)) (says_at c s) t us (λ vs. primary_turn c s t vs w h)
+  says_token m c s t us (tok.word words.Primary w) h g le ih = behind last E W Any (Says c s) (λ vs. keyword last words.Key vs >>= says_at c (key_limit true c s)) (says_at c s) t us (λ vs. primary_turn c s t vs w h)
       (word_then m c (key_limit true c s) (λ xs v. Says c s (t ∷ xs) v) words.Key us le (λ u xs z hu q. primary_key s z t u xs (key_of words.Primary (tok.word words.Primary w) t w h refl) hu q) ih)
-  says_token m c s t us (tok.word words.Unique w) h g le ih = behind last E Any (Says c s) (says_at c (key_limit false c s)) (says_at c s) t us (λ vs. unique_turn c s t vs w h)
-      (same_at last E Any (Says c (key_limit false c s)) (λ xs v. Says c s (t ∷ xs) v) (says_at c (key_limit false c s)) (says_at c (key_limit false c s)) us (λ xs z q. unique_key s z t xs (key_of words.Unique (tok.word words.Unique w) t w h refl) q) (λ vs e. refl) (ih (key_limit false c s) us le))
+  says_token m c s t us (tok.word words.Unique w) h g le ih = behind last E W Any (Says c s) (says_at c (key_limit false c s)) (says_at c s) t us (λ vs. unique_turn c s t vs w h)
+      (same_at last E W Any (Says c (key_limit false c s)) (λ xs v. Says c s (t ∷ xs) v) (says_at c (key_limit false c s)) (says_at c (key_limit false c s)) us (λ xs z q. unique_key s z t xs (key_of words.Unique (tok.word words.Unique w) t w h refl) q) (λ vs e. refl) (ih (key_limit false c s) us le))
   says_token m c s t us _ h g le ih = absurd cc
 
-  says_case : (m : ℕ) (c : Placed) (s : Constraints) (t : At Token) (us : Tokens) (b : Bool) → is_constraint t.tok ≡ b → length us ≤ m → ((v : Constraints) (vs : Tokens) → length vs ≤ m → Local last E Any (Says c v) (says_at c v) vs) → Local last E Any (Says c s) (says_at c s) (t ∷ us)
-  says_case m c s t us false h le ih = gives_at last E Any (Says c s) (says_at c s) s t us (λ vs. says_no_more (length (t ∷ vs)) c s t vs h) (no_more s)
+  says_case : (m : ℕ) (c : Placed) (s : Constraints) (t : At Token) (us : Tokens) (b : Bool) → is_constraint t.tok ≡ b → length us ≤ m → ((v : Constraints) (vs : Tokens) → length vs ≤ m → Local last E W Any (Says c v) (says_at c v) vs) → Local last E W Any (Says c s) (says_at c s) (t ∷ us)
+  says_case m c s t us false h le ih = gives_at last E W Any (Says c s) (says_at c s) s t us (λ vs. says_no_more (length (t ∷ vs)) c s t vs h) (no_more s)
   says_case m c s t us true h le ih = says_token m c s t us t.tok refl h le ih
 
-  says_within : (m : ℕ) (c : Placed) (s : Constraints) (ts : Tokens) → length ts ≤ m → Local last E Any (Says c s) (says_at c s) ts
-  says_within m c s [] le = gives_end last E Any (Says c s) (says_at c s) s (says_end 0 c s) (no_more s)
+  says_within : (m : ℕ) (c : Placed) (s : Constraints) (ts : Tokens) → length ts ≤ m → Local last E W Any (Says c s) (says_at c s) ts
+  says_within m c s [] le = gives_end last E W Any (Says c s) (says_at c s) s (says_end 0 c s) (no_more s)
   says_within zero c s (t ∷ us) le = absurd (omega arith)
   says_within (suc m) c s (t ∷ us) le = says_case m c s t us (is_constraint t.tok) refl (omega arith) (λ v vs h. says_within m c v vs h)
 
-  says_local : (c : Placed) (s : Constraints) (ts : Tokens) → Local last E Any (Says c s) (says_at c s) ts
+  says_local : (c : Placed) (s : Constraints) (ts : Tokens) → Local last E W Any (Says c s) (says_at c s) ts
   says_local c s ts = says_within (length ts) c s ts (omega arith)
 
   abbrev pub nothing_said : List KeyRead → Constraints
@@ -189,39 +186,39 @@ module _ (last : ℕ) (E : Tokens → Tree → Type 0) (Any : Type 0) where
   kind_none : (c : Placed) (t : TableRead) (k : At Token) (vs : Tokens) → kind_of k.tok ≡ None → column_behind last c t (k ∷ vs) ≡ Err (misplaced_word last (k ∷ vs))
   kind_none c t k vs h = behind_is c t (k ∷ vs) ∙ rw h refl
 
-  behind_local : (t : TableRead) (n : At Token) (name : List ℕ) → Names name n → (ts : Tokens) → Local last E Any (λ xs w. AddsPart t (n ∷ xs) w) (column_behind last (placed name n) t) ts
+  behind_local : W → (t : TableRead) (n : At Token) (name : List ℕ) → Names name n → (ts : Tokens) → Local last E W Any (λ xs w. AddsPart t (n ∷ xs) w) (column_behind last (placed name n) t) ts
   unfolding a_kind
-  behind_local t n name hn [] = switch_end last E Any (λ xs w. AddsPart t (n ∷ xs) w) (λ r. Err (misplaced_word last r)) (column_behind last (placed name n) t) (behind_is (placed name n) t []) (no_word last E Any (λ xs w. AddsPart t (n ∷ xs) w) []
+  behind_local w t n name hn [] = switch_end last E W Any (λ xs w. AddsPart t (n ∷ xs) w) (λ r. Err (misplaced_word last r)) (column_behind last (placed name n) t) (behind_is (placed name n) t []) (no_word last E W Any (λ xs w. AddsPart t (n ∷ xs) w) w []
       (a_kind ∷ [], with_column (placed name n) kinds.Int (nothing_said t.keys) t, a_column t n a_kind name kinds.Int [] (nothing_said t.keys) hn refl (no_more (nothing_said t.keys))))
-  behind_local t n name hn (k ∷ us) = of_kind (kind_of k.tok) refl
+  behind_local w t n name hn (k ∷ us) = of_kind (kind_of k.tok) refl
     where
-      of_kind : (o : Option Kind) → kind_of k.tok ≡ o → Local last E Any (λ xs w. AddsPart t (n ∷ xs) w) (column_behind last (placed name n) t) (k ∷ us)
-      of_kind None h = switch_at last E Any (λ xs w. AddsPart t (n ∷ xs) w) (λ r. Err (misplaced_word last r)) (column_behind last (placed name n) t) k us (λ vs. kind_none (placed name n) t k vs h) (no_word last E Any (λ xs w. AddsPart t (n ∷ xs) w) (k ∷ us)
+      of_kind : (o : Option Kind) → kind_of k.tok ≡ o → Local last E W Any (λ xs w. AddsPart t (n ∷ xs) w) (column_behind last (placed name n) t) (k ∷ us)
+      of_kind None h = switch_at last E W Any (λ xs w. AddsPart t (n ∷ xs) w) (λ r. Err (misplaced_word last r)) (column_behind last (placed name n) t) k us (λ vs. kind_none (placed name n) t k vs h) (no_word last E W Any (λ xs w. AddsPart t (n ∷ xs) w) w (k ∷ us)
           (a_kind ∷ [], with_column (placed name n) kinds.Int (nothing_said t.keys) t, a_column t n a_kind name kinds.Int [] (nothing_said t.keys) hn refl (no_more (nothing_said t.keys))))
-      of_kind (Some kind) h = behind last E Any (λ xs w. AddsPart t (n ∷ xs) w) (λ vs. says_at (placed name n) (nothing_said t.keys) vs >>= with_said (placed name n) kind t) (column_behind last (placed name n) t) k us (λ vs. kind_turn (placed name n) t k vs kind h)
-          (mapped last E Any (Says (placed name n) (nothing_said t.keys)) (λ xs w. AddsPart t (n ∷ k ∷ xs) w) (says_at (placed name n) (nothing_said t.keys)) (λ s. with_column (placed name n) kind s t) us (λ xs s q. a_column t n k name kind xs s hn h q) (says_local (placed name n) (nothing_said t.keys) us))
+      of_kind (Some kind) h = behind last E W Any (λ xs w. AddsPart t (n ∷ xs) w) (λ vs. says_at (placed name n) (nothing_said t.keys) vs >>= with_said (placed name n) kind t) (column_behind last (placed name n) t) k us (λ vs. kind_turn (placed name n) t k vs kind h)
+          (mapped last E W Any (Says (placed name n) (nothing_said t.keys)) (λ xs w. AddsPart t (n ∷ k ∷ xs) w) (says_at (placed name n) (nothing_said t.keys)) (λ s. with_column (placed name n) kind s t) us (λ xs s q. a_column t n k name kind xs s hn h q) (says_local (placed name n) (nothing_said t.keys) us))
 
-  column_local : (t : TableRead) (ts : Tokens) → Local last E Any (AddsPart t) (column_at last t) ts
+  column_local : W → (t : TableRead) (ts : Tokens) → Local last E W Any (AddsPart t) (column_at last t) ts
   unfolding column_at
-  column_local t ts = distinct_local (AddsPart t) (λ n. is_among n (column_names t.columns)) (λ n p. column_behind last (record { name = n; place = p }) t) ts (some_part t) (λ n name us hn. behind_local t n name hn us)
+  column_local w t ts = distinct_local (AddsPart t) (λ n. is_among n (column_names t.columns)) (λ n p. column_behind last (record { name = n; place = p }) t) ts (some_part t) (λ n name us hn. behind_local w t n name hn us)
 
   part_is : (t : TableRead) (ts : Tokens) → table_add last t ts ≡ table_item last (after (is_word words.Primary) ts) (after (is_word words.Unique) ts) t ts
   unfolding table_add
   part_is t ts = refl
 
-  part_local : (t : TableRead) (ts : Tokens) → Local last E Any (AddsPart t) (table_add last t) ts
-  part_local t ts = either last E Any (AddsPart t) (is_word words.Primary) (λ us. keyword last words.Key us >>= key_at last true t) (λ us. table_item last None (after (is_word words.Unique) us) t us) (table_add last t) ts
+  part_local : W → (t : TableRead) (ts : Tokens) → Local last E W Any (AddsPart t) (table_add last t) ts
+  part_local w t ts = either last E W Any (AddsPart t) (is_word words.Primary) (λ us. keyword last words.Key us >>= key_at last true t) (λ us. table_item last None (after (is_word words.Unique) us) t us) (table_add last t) ts
       (λ p vs h. part_is t (p ∷ vs) ∙ rw h refl) (λ p vs h. part_is t (p ∷ vs) ∙ rw h refl) (part_is t [])
-      (λ p us hp. let s = some_columns in token_then last E Any (λ xs w. AddsPart t (p ∷ xs) w) (is_word words.Key) (key_at last true t) us
+      (λ p us hp. let s = some_columns in token_then last E W Any (λ xs w. AddsPart t (p ∷ xs) w) (is_word words.Key) (key_at last true t) us
       (a_word words.Key ∷ a_sign signs.Open ∷ (s.0 ++ a_sign signs.Close ∷ []), with_key true s.1 t, a_primary t p (a_word words.Key) (a_sign signs.Open) (a_sign signs.Close) s.0 s.1 hp (key_is words.Key []) refl s.2 refl)
       (λ k vs hk. key_local (λ xs w. AddsPart t (p ∷ k ∷ xs) w) true t vs (λ o c xs ns ho q hc. a_primary t p k o c xs ns hp hk ho q hc)))
-      (either last E Any (AddsPart t) (is_word words.Unique) (key_at last false t) (column_at last t) (λ us. table_item last None (after (is_word words.Unique) us) t us) ts
+      (either last E W Any (AddsPart t) (is_word words.Unique) (key_at last false t) (column_at last t) (λ us. table_item last None (after (is_word words.Unique) us) t us) ts
       (λ u vs h. rw h refl) (λ u vs h. rw h refl) refl
       (λ u us hu. key_local (λ xs w. AddsPart t (u ∷ xs) w) false t us (λ o c xs ns ho q hc. a_unique t u o c xs ns hu ho q hc))
-      (column_local t ts))
+      (column_local w t ts))
 
-  pub parts_local : (ts : Tokens) → Local last E Any (Commas AddsPart empty_table) (items_at (table_add last) empty_table) ts
-  parts_local ts = list_local last E Any (table_add last) AddsPart some_part part_local empty_table ts
+  pub parts_local : W → (ts : Tokens) → Local last E W Any (Commas AddsPart empty_table) (items_at (table_add last) empty_table) ts
+  parts_local w ts = list_local last E W Any (table_add last) AddsPart some_part (part_local w) empty_table ts
 
-  pub some_parts : Inhabited (Commas AddsPart empty_table)
-  some_parts = some_list last E Any (table_add last) AddsPart some_part part_local empty_table
+  pub some_parts : W → Inhabited (Commas AddsPart empty_table)
+  some_parts w = some_list last E W Any (table_add last) AddsPart some_part (part_local w) empty_table

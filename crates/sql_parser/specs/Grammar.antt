@@ -216,6 +216,11 @@ pub data BlockIs (E : Tokens → Tree → Type 0) : Tokens → List StmtTree →
   last_piece : (ts : Tokens) (ss : List StmtTree) → PieceIs E ts ss → BlockIs E ts ss
   next_piece : (ts us : Tokens) (ss rs : List StmtTree) (c : At Token) → PieceIs E ts ss → Is is_semicolon c → BlockIs E us rs → BlockIs E (ts ++ c ∷ us) (ss ++ rs)
 
+-- {[stmt] ";"}: statements with a semicolon behind each
+pub data EndedAre (E : Tokens → Tree → Type 0) : Tokens → List StmtTree → Type 0 where
+  no_pieces : EndedAre E [] []
+  ended_piece : (ts us : Tokens) (ss rs : List StmtTree) (c : At Token) → PieceIs E ts ss → Is is_semicolon c → EndedAre E us rs → EndedAre E (ts ++ c ∷ us) (ss ++ rs)
+
 -- ---- expressions
 
 -- the tokens spell the expression, no deeper than 64 and with no more than 64 openings within one another

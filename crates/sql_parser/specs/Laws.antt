@@ -1,46 +1,49 @@
 -- What is so of every list of tokens.
-use Rattle.std.specs.Prelude.{◌≡◌, ◌↔◌, ◌<◌, ◌≤◌, ◌^◌, ◌++◌, ℕ, true, false, List, length, Ok, Err}
+use Rattle.std.specs.Prelude.{◌≡◌, ◌↔◌, ◌<◌, ◌≤◌, ◌^◌, [], ◌∷◌, ◌++◌, ℕ, true, false, List, length, Some, Ok, Err}
+use Rattle.iso_lexer.specs.declared.token.At.{At}
 use Rattle.std.specs.List.{list_all}
 use Rattle.sql_trees.specs.declared.fault.SqlFault.{SqlFault}
-use Rattle.sql_trees.specs.declared.fault.SqlFault.TheVariants.{LeftOut}
-use Rattle.sql_trees.specs.Faults.{place}
+use Rattle.sql_trees.specs.declared.fault.SqlFault.TheVariants.{LeftOut, TooMany, BadColumns, DdlInSession}
 use Rattle.sql_trees.specs.Statements.{StmtTree, SelectTree, Selects}
-use Rattle.sql_trees.specs.Tokens.{Tokens}
+use Rattle.sql_trees.specs.Tokens.{Token, Tokens}
 use Rattle.sql_expressions.specs.Reading.{expr_at, place_of}
 use Rattle.sql_expressions.specs.Laws.{head}
 use Rattle.sql_parser.specs.declared.block.Role.{Role}
-use Rattle.sql_parser.specs.Blocks.{block_at, whole_at}
-use Rattle.sql_parser.specs.Grammar.{BlockIs, Spells, Shallow, OfAnyDepth}
+use Rattle.sql_parser.specs.Blocks.{is_session, is_ddl, is_semicolon, block_at, whole_at}
+use Rattle.sql_parser.specs.Tables.{TableRead, keys_fault, column_names}
+use Rattle.sql_parser.specs.Grammar.{BlockIs, EndedAre, Spells, Shallow, OfAnyDepth, created}
 use Rattle.sql_parser.specs.Kept.{is_kept_in}
 use Rattle.sql_parser.specs.Queries.{is_allowed}
-use Rattle.sql_parser.specs.Stops.{Stands, IsStop}
+use Rattle.sql_parser.specs.Stops.{Refuses, WantsWords, IsStop}
 
 -- The tokens are read as these statements exactly where they spell them, there are 256 at most, and each is one that a block keeps.
 abbrev pub BlocksAreRead : Type 0
 BlocksAreRead = (last : ℕ) (role : Role) (ts : Tokens) (ss : List StmtTree) → length ts < 2 ^ 32 → (block_at last role ts ≡ Ok ss) ↔ (BlockIs Shallow ts ss × (length ss ≤ 256) × (list_all (is_kept_in role) ss ≡ true))
 
--- The tokens that were read begin a statement, whatever its depth and its names, and the fault stands where they end. Reading stops there too in each
--- list that has the same tokens up to there and the same next token; so no such list spells a statement that a block keeps.
+-- The tokens that were read begin a statement, whatever its depth and its names, and the next one is refused. Reading stops there too in each list that
+-- has the same tokens up to there and the same next token; so no such list spells a statement that a block keeps.
 pub record StopsFirst (last : ℕ) (role : Role) (ts : Tokens) (f : SqlFault) : Type 0 where
   pub front : Tokens
   pub rest : Tokens
   pub split : ts ≡ front ++ rest
-  pub stands : Stands last OfAnyDepth front rest (place f)
+  pub refuses : Refuses last OfAnyDepth (WantsWords ts) front rest f
   pub begins : (more : Tokens) × (s : StmtTree) × Spells OfAnyDepth (front ++ more) s
   pub stays : (others : Tokens) → head others ≡ head rest → whole_at last role (front ++ others) ≡ Err f
   pub none : (others : Tokens) (s : StmtTree) → head others ≡ head rest → Spells Shallow (front ++ others) s → is_kept_in role s ≡ true → ⊥
 
--- What the laws leave out: an expression that says that a part is left out, and a whole SELECT whose parts don't go together.
+-- What is no fault of one token of the statement: one of an expression; at its SELECT that of a whole query whose parts don't go together; and that of the keys
+-- of a whole table, at the first name or key that is wrong.
 pub data Excepted (last : ℕ) (ts : Tokens) (f : SqlFault) : Type 0 where
-  in_expression : (before us : Tokens) (n : ℕ) → f ≡ LeftOut n → ts ≡ before ++ us → expr_at last us ≡ Err f → Excepted last ts f
-  whole_query : (q : SelectTree) → is_allowed q ≡ false → Spells OfAnyDepth ts (Selects q) → Excepted last ts f
+  of_expression : (before us : Tokens) → ts ≡ before ++ us → expr_at last us ≡ Err f → Excepted last ts f
+  whole_query : (s : At Token) (us : Tokens) (q : SelectTree) → ts ≡ s ∷ us → f ≡ LeftOut s.span.start → is_allowed q ≡ false → Spells OfAnyDepth ts (Selects q) → Excepted last ts f
+  whole_table : (name : List ℕ) (t : TableRead) (n : ℕ) → f ≡ BadColumns n → keys_fault name (column_names t.columns) [] t.keys ≡ Some n → Spells OfAnyDepth ts (created name t) → Excepted last ts f
 
--- Where a statement is refused at a token: there the first token stands that can't be, or the laws leave the fault out.
+-- Where a statement is refused: at the first token that can't stand there, or as the exceptions say.
 pub data Stops (last : ℕ) (role : Role) (ts : Tokens) (f : SqlFault) : Type 0 where
   at_token : StopsFirst last role ts f → Stops last role ts f
   elsewhere : Excepted last ts f → Stops last role ts f
 
--- A statement that is refused as Syntax or LeftOut is refused at its first fault. last is the text's length, or where the next semicolon stands.
+-- A statement that is refused as Syntax, LeftOut or BadColumns is refused at its first fault. last is the text's length, or where the next semicolon stands.
 abbrev pub FaultsAreFirst : Type 0
 FaultsAreFirst = (last : ℕ) (role : Role) (ts : Tokens) (f : SqlFault) → IsStop f → whole_at last role ts ≡ Err f → Stops last role ts f
 
@@ -49,7 +52,7 @@ pub record BlockStopsFirst (last : ℕ) (role : Role) (ts : Tokens) (f : SqlFaul
   pub front : Tokens
   pub rest : Tokens
   pub split : ts ≡ front ++ rest
-  pub stands : Stands last OfAnyDepth front rest (place f)
+  pub refuses : (before here : Tokens) × (front ≡ before ++ here) × Refuses last OfAnyDepth (WantsWords (here ++ rest)) here rest f
   pub begins : (more : Tokens) × (ss : List StmtTree) × BlockIs OfAnyDepth (front ++ more) ss
   pub none : (n : ℕ) (others : Tokens) (ss : List StmtTree) → head others ≡ head rest → length (front ++ others) < 2 ^ 32 → block_at n role (front ++ others) ≡ Ok ss → ⊥
 
@@ -57,6 +60,32 @@ pub data BlockStops (last : ℕ) (role : Role) (ts : Tokens) (f : SqlFault) : Ty
   at_block_token : BlockStopsFirst last role ts f → BlockStops last role ts f
   in_a_statement : (before stmt behind : Tokens) → ts ≡ before ++ (stmt ++ behind) → Excepted (place_of last behind) stmt f → BlockStops last role ts f
 
--- A block that is refused as Syntax or LeftOut is refused at its first fault.
+-- A block that is refused as Syntax, LeftOut or BadColumns is refused at its first fault.
 abbrev pub BlockFaultsAreFirst : Type 0
 BlockFaultsAreFirst = (last : ℕ) (role : Role) (ts : Tokens) (f : SqlFault) → IsStop f → block_at last role ts ≡ Err f → BlockStops last role ts f
+
+-- a session's block, where these tokens begin with CREATE or DROP, at this place
+abbrev pub BeginsDdl : Role → Tokens → ℕ → Type 0
+BeginsDdl role [] place = ⊥
+BeginsDdl role (t ∷ ts) place = (is_session role ≡ true) × (is_ddl t.tok ≡ true) × (place ≡ t.span.start)
+
+-- A statement is refused as DdlInSession exactly where it begins so.
+abbrev pub DdlIsRefused : Type 0
+DdlIsRefused = (last place : ℕ) (role : Role) (ts : Tokens) → (whole_at last role ts ≡ Err (DdlInSession place)) ↔ BeginsDdl role ts place
+
+-- 256 statements that a block keeps, with a semicolon behind each, and the first token of one more, at this place
+pub record BeginsOneMore (role : Role) (ts : Tokens) (place : ℕ) : Type 0 where
+  pub front : Tokens
+  pub first : At Token
+  pub rest : Tokens
+  pub split : ts ≡ front ++ first ∷ rest
+  pub here : place ≡ first.span.start
+  pub begins : is_semicolon first.tok ≡ false
+  pub stmts : List StmtTree
+  pub spells : EndedAre Shallow front stmts
+  pub full : length stmts ≡ 256
+  pub kept : list_all (is_kept_in role) stmts ≡ true
+
+-- A block is refused as TooMany exactly there.
+abbrev pub TooManyIsRefused : Type 0
+TooManyIsRefused = (last place : ℕ) (role : Role) (ts : Tokens) → length ts < 2 ^ 32 → (block_at last role ts ≡ Err (TooMany place)) ↔ BeginsOneMore role ts place

@@ -1,19 +1,41 @@
--- Where reading stops.
-use Rattle.std.specs.Prelude.{ℕ, List, ◌++◌}
+-- Where a statement is refused, and with which fault.
+use Rattle.std.specs.Prelude.{◌≡◌, ℕ, Bool, true, false, ◌||◌, List, [], ◌∷◌, ◌++◌, Err}
+use Rattle.iso_lexer.specs.declared.token.At.{At}
 use Rattle.sql_trees.specs.declared.fault.SqlFault.{SqlFault}
-use Rattle.sql_trees.specs.declared.fault.SqlFault.TheVariants.{Syntax, LeftOut}
-use Rattle.sql_trees.specs.Tokens.{Tokens}
+use Rattle.sql_trees.specs.declared.fault.SqlFault.TheVariants.{Syntax, LeftOut, BadColumns}
+use Rattle.sql_trees.specs.declared.word.Word.TheVariants as words
+use Rattle.sql_trees.specs.Tokens.{Token, Tokens}
+use Rattle.sql_trees.specs.Tokens as tok
 use Rattle.sql_trees.specs.Trees.{Tree}
-use Rattle.sql_expressions.specs.Reading.{place_of}
-use Rattle.sql_parser.specs.Grammar.{RowIs}
+use Rattle.sql_expressions.specs.Reading.{misplaced, place_of, expr_at, is_word}
+use Rattle.sql_parser.specs.Grammar.{Names, RowIs}
 
--- a fault at a token that no rule allows
+-- a fault of one token that can't stand there
 abbrev pub IsStop : SqlFault → Type 0
 IsStop (Syntax n) = Unit {0}
 IsStop (LeftOut n) = Unit {0}
+IsStop (BadColumns n) = Unit {0}
 IsStop _ = ⊥
 
--- Where a syntax fault stands, of which this much has been read: at the next token, or at the first token of a whole row of VALUES that ends there.
-pub data Stands (last : ℕ) (E : Tokens → Tree → Type 0) : Tokens → Tokens → ℕ → Type 0 where
-  at_next : (front rest : Tokens) → Stands last E front rest (place_of last rest)
-  at_row : (before row rest : Tokens) (es : List Tree) → RowIs E row es → Stands last E (before ++ row) rest (place_of last row)
+abbrev pub is_unquoted : Token → Bool
+is_unquoted (tok.word w s) = true
+is_unquoted _ = false
+
+-- a statement that has kinds, or a parameter behind SET
+abbrev pub WantsWords : Tokens → Type 0
+WantsWords [] = ⊥
+WantsWords (t ∷ ts) = (is_word words.Create t.tok || is_word words.Set t.tok) ≡ true
+
+-- How a statement of which this much has been read is refused at the next token, or at the text's end. last is the text's length, or where the next
+-- semicolon stands; W says that the statement has kinds or a parameter.
+pub data Refuses (last : ℕ) (E : Tokens → Tree → Type 0) (W : Type 0) : Tokens → Tokens → SqlFault → Type 0 where
+  -- as LeftOut, if the token stands for a part of SQL that is left out, else as Syntax
+  at_next : (front rest : Tokens) → Refuses last E W front rest (misplaced last rest)
+  -- as LeftOut at any unquoted word, where a kind or a parameter has to stand
+  at_word : (front rest : Tokens) (t : At Token) → W → is_unquoted t.tok ≡ true → Refuses last E W front (t ∷ rest) (LeftOut t.span.start)
+  -- as BadColumns at a name, where it may not stand again
+  at_name : (front rest : Tokens) (t : At Token) (n : List ℕ) → Names n t → Refuses last E W front (t ∷ rest) (BadColumns t.span.start)
+  -- as Syntax at the first token of a whole row of VALUES that ends there
+  at_row : (before row rest : Tokens) (es : List Tree) → RowIs E row es → Refuses last E W (before ++ row) rest (Syntax (place_of last row))
+  -- as Syntax, where reading an expression of the statement ends so
+  in_expression : (before here rest behind : Tokens) → expr_at (place_of last behind) (here ++ rest) ≡ Err (Syntax (place_of last (rest ++ behind))) → Refuses last E W (before ++ here) (rest ++ behind) (Syntax (place_of last (rest ++ behind)))

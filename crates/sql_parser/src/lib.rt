@@ -14,4 +14,6 @@ mod table_keys;
 mod transaction;
 
 pub use block::{Block, MAX_STMTS, Role, parse_block};
-pub use laws::{block_faults_are_first, blocks_are_read, faults_are_first};
+pub use laws::{
+    block_faults_are_first, blocks_are_read, ddl_is_refused, faults_are_first, too_many_is_refused,
+};
