@@ -1,0 +1,268 @@
+//! Every cell of level, row, request, holder and WHERE, worked from the definitions. Run also with
+//! `rt try --test --fail-alloc N` for each N: a call that was refused leaves the locks as they were, and is made again.
+ghost use Rattle.std.specs.Prelude.{IsTrue};
+ghost use Rattle.update_recheck.specs.Asked.{Fits, asked};
+
+use crate::stores::{ASKER, Change, ROW, changed};
+use iso_lexer::Name;
+use row_locks::{LockTable, Strength, Waits};
+use row_versions::{Seen, TxId, Versions, View};
+use smallvec::SmallVec;
+use sql_trees::{Column, Expr, Kind, Level, Operator};
+use sql_values::Columns;
+use std::alloc::{AllocError, Global};
+use std::process::Abort;
+use std::test::Fail;
+use update_recheck::{Ask, Settled, settle};
+
+const HOLDER: TxId = TxId(3);
+
+const PROBE: TxId = TxId(4);
+
+const COLUMNS: [Column<'static>; 1] = [Column {
+    name: Name::Plain("n"),
+    kind: Kind::Int,
+    not_null: false,
+}];
+
+/// Whether the store's newest version of the target has a value for each column.
+fn fits<V: Versions>(store: &V, ask: &Ask<'_, '_>) -> bool
+    ensures { IsTrue result → Fits (V.content store.now) (asked ask.now) }
+{
+    let Some(newest) = store.newest(ask.seen.row, ask.tx) else {
+        return true;
+    };
+    match store.values(&newest) {
+        Some(row) => row.values().len() == ask.cols.len(),
+        None => true,
+    }
+}
+
+fn equal(alloc: Global, digits: u64) -> Result<Expr<'static>, AllocError> {
+    let number = Expr::Number {
+        negative: false,
+        digits,
+    };
+    let left = Box::new(alloc, Expr::Column(Name::Folded("n")))?;
+    Ok(Expr::Binary(Operator::Equal, left, Box::new(alloc, number)?))
+}
+
+/// `'a' || 'b' = 'ab'`, which makes a text.
+fn made_text(alloc: Global) -> Result<Expr<'static>, AllocError> {
+    let left = Box::new(alloc, Expr::Text("a"))?;
+    let right = Box::new(alloc, Expr::Text("b"))?;
+    let made = Box::new(alloc, Expr::Binary(Operator::Concat, left, right))?;
+    Ok(Expr::Binary(Operator::Equal, made, Box::new(alloc, Expr::Text("ab"))?))
+}
+
+/// Conditions that at 20 are true, false (and true at 10), NULL, and no condition; then one that makes a text.
+fn condition(alloc: Global, which: usize) -> Result<Expr<'static>, AllocError> {
+    match which {
+        0 => equal(alloc, 20),
+        1 => equal(alloc, 10),
+        2 => Ok(Expr::Null),
+        3 => Ok(Expr::Text("no condition")),
+        _ => made_text(alloc),
+    }
+}
+
+fn some_condition(alloc: Global, which: usize) -> Result<Expr<'static>, Fail> {
+    match condition(alloc, which) {
+        Ok(expr) => Ok(expr),
+        Err(_) => Ok(condition(alloc, which)?),
+    }
+}
+
+/// The holder's lock on the row, if it has one.
+fn locks_of(alloc: Global, held: Option<Strength>) -> Result<LockTable, Fail> {
+    let mut locks = LockTable::new(alloc);
+    if let Some(strength) = held {
+        if locks.take(ROW, HOLDER, strength).is_err() {
+            locks.take(ROW, HOLDER, strength)?;
+        }
+    }
+    Ok(locks)
+}
+
+fn list_of(alloc: Global, tx: TxId) -> Result<SmallVec<TxId, 4>, Fail> {
+    let mut list = SmallVec::new(alloc);
+    list.push(tx)?;
+    Ok(list)
+}
+
+/// The waits: none, or the holder waits for the asker.
+fn waits_of(alloc: Global, closing: bool) -> Result<Waits, Fail> {
+    let mut waits = Waits::new(alloc);
+    if closing && waits.add(HOLDER, list_of(alloc, ASKER)?).is_err() {
+        waits.add(HOLDER, list_of(alloc, ASKER)?)?;
+    }
+    Ok(waits)
+}
+
+/// Whether the asker holds the row.
+fn is_locked(locks: &LockTable) -> Result<bool, Fail> {
+    let holders = locks.against(ROW, PROBE, Strength::Exclusive)?;
+    Ok(holders.iter().any(|tx| tx.0 == ASKER.0))
+}
+
+/// What `settle` answers; where it is refused memory the row isn't locked, and it is asked again.
+fn settled<V: Versions>(
+    rt: &impl Abort,
+    alloc: Global,
+    store: &V,
+    locks: &mut LockTable,
+    waits: &Waits,
+    ask: &Ask<'_, 'static>,
+) -> Result<Settled<'static>, Fail> {
+    assert!(rt; fits(store, ask));
+    if let Ok(settled) = settle(alloc, store, locks, waits, ask) {
+        return Ok(settled);
+    }
+    assert!(rt; !is_locked(locks)?);
+    Ok(settle(alloc, store, locks, waits, ask)?)
+}
+
+/// The letter of what came of a target that was found at this place.
+fn letter(settled: &Settled<'_>, place: u64, is_locked: bool) -> u8 {
+    match (settled, is_locked) {
+        (Settled::Take(taken), true) => { if taken.place == place { b'T' } else { b'N' } }
+        (Settled::Skip, false) => b'S',
+        (Settled::Skip, true) => b'K',
+        (Settled::Fault(_), true) => b'F',
+        (Settled::Wait(_), false) => b'W',
+        (Settled::Deadlock, false) => b'D',
+        (Settled::Serialize, false) => b'Z',
+        _ => b'?',
+    }
+}
+
+/// A target: at which level it is asked for, what became of it, how strongly it is wanted.
+#[derive(Clone, Copy)]
+pub struct Target {
+    pub level: Level,
+    pub change: Change,
+    pub strength: Strength,
+}
+
+/// The letter of what comes of the target with that condition.
+pub fn came(
+    rt: &impl Abort,
+    alloc: Global,
+    target: Target,
+    held: Option<Strength>,
+    closing: bool,
+    which: usize,
+) -> Result<u8, Fail> {
+    let is_own = matches!(target.change, Change::Own);
+    let place = if is_own { 1 } else { 0 };
+    let view = View {
+        tx: Some(ASKER),
+        commits: 1,
+        command: place,
+    };
+    let condition = some_condition(alloc, which)?;
+    let cols = Columns::of(&COLUMNS);
+    let ask = Ask {
+        tx: ASKER,
+        level: target.level,
+        view,
+        seen: Seen { row: ROW, place },
+        strength: target.strength,
+        filter: Some(&condition),
+        cols: &cols,
+    };
+    let store = changed(alloc, target.change)?;
+    let mut locks = locks_of(alloc, held)?;
+    let waits = waits_of(alloc, closing)?;
+    let settled = settled(rt, alloc, &store, &mut locks, &waits, &ask)?;
+    Ok(letter(&settled, place, is_locked(&locks)?))
+}
+
+/// The target under each condition, and once more where the holder waits for the asker: a wait would close a cycle.
+fn four_cells(
+    rt: &impl Abort,
+    alloc: Global,
+    target: Target,
+    held: Option<Strength>,
+    wanted: &[u8; 4],
+) -> Result<(), Fail> {
+    for which in 0..4 {
+        let want = wanted[which];
+        assert!(rt; came(rt, alloc, target, held, false, which)? == want);
+        let in_a_cycle = if want == b'W' { b'D' } else { want };
+        assert!(rt; came(rt, alloc, target, held, true, which)? == in_a_cycle);
+    }
+    Ok(())
+}
+
+/// For each level, row and request, with a row that is free, held in share and held exclusively: what comes of the
+/// target where WHERE, at the newest version, is true, false, NULL and no condition. T: the row is taken as it was
+/// found. N: its newest version is taken. K: it is passed over and stays locked. F: the fault is told and it stays
+/// locked. Nothing else locks it. S: it is passed over. W: it waits. Z: it can't serialize.
+#[test]
+fn each_cell_is_settled_as_defined(rt: HostRuntime) -> Result<(), Fail> {
+    use Change::{Gone, Newer, Own, RolledBack, Unchanged};
+    use Level::{ReadCommitted, RepeatableRead};
+    use Strength::{Exclusive, Share};
+    let cells = [
+        (
+            ReadCommitted,
+            Unchanged,
+            Exclusive,
+            b"TTTT",
+            b"WWWW",
+            b"WWWW",
+        ),
+        (
+            ReadCommitted,
+            RolledBack,
+            Exclusive,
+            b"TTTT",
+            b"WWWW",
+            b"WWWW",
+        ),
+        (ReadCommitted, Newer, Exclusive, b"NKKF", b"WWWW", b"WWWW"),
+        (ReadCommitted, Gone, Exclusive, b"SSSS", b"WWWW", b"WWWW"),
+        (ReadCommitted, Own, Exclusive, b"TTTT", b"WWWW", b"WWWW"),
+        (ReadCommitted, Unchanged, Share, b"TTTT", b"TTTT", b"WWWW"),
+        (ReadCommitted, RolledBack, Share, b"TTTT", b"TTTT", b"WWWW"),
+        (ReadCommitted, Newer, Share, b"NKKF", b"NKKF", b"WWWW"),
+        (ReadCommitted, Gone, Share, b"SSSS", b"SSSS", b"WWWW"),
+        (ReadCommitted, Own, Share, b"TTTT", b"TTTT", b"WWWW"),
+        (
+            RepeatableRead,
+            Unchanged,
+            Exclusive,
+            b"TTTT",
+            b"WWWW",
+            b"WWWW",
+        ),
+        (
+            RepeatableRead,
+            RolledBack,
+            Exclusive,
+            b"TTTT",
+            b"WWWW",
+            b"WWWW",
+        ),
+        (RepeatableRead, Newer, Exclusive, b"ZZZZ", b"ZZZZ", b"ZZZZ"),
+        (RepeatableRead, Gone, Exclusive, b"ZZZZ", b"ZZZZ", b"ZZZZ"),
+        (RepeatableRead, Own, Exclusive, b"TTTT", b"WWWW", b"WWWW"),
+        (RepeatableRead, Unchanged, Share, b"TTTT", b"TTTT", b"WWWW"),
+        (RepeatableRead, RolledBack, Share, b"TTTT", b"TTTT", b"WWWW"),
+        (RepeatableRead, Newer, Share, b"ZZZZ", b"ZZZZ", b"ZZZZ"),
+        (RepeatableRead, Gone, Share, b"ZZZZ", b"ZZZZ", b"ZZZZ"),
+        (RepeatableRead, Own, Share, b"TTTT", b"TTTT", b"WWWW"),
+    ];
+    for (level, change, strength, free, shared, exclusive) in cells {
+        let target = Target {
+            level,
+            change,
+            strength,
+        };
+        four_cells(&rt, rt.alloc(), target, None, free)?;
+        four_cells(&rt, rt.alloc(), target, Some(Share), shared)?;
+        four_cells(&rt, rt.alloc(), target, Some(Exclusive), exclusive)?;
+    }
+    Ok(())
+}

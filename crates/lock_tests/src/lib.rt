@@ -1,0 +1,11 @@
+//! Tests of row locks, waits and the update recheck.
+#![tactic(auto)]
+
+#[cfg(test)]
+mod cells;
+#[cfg(test)]
+mod locks_and_waits;
+#[cfg(test)]
+mod memory;
+#[cfg(test)]
+mod stores;
