@@ -6,7 +6,7 @@ use Rattle.session_machine.specs.Machine.{Blocks}
 
 -- a block is its statements, as decoded trees
 abbrev pub block_of : Block → List StmtTree
-block_of b = map stmt_of b.stmts.items
+block_of b = map stmt_of b.stmts
 
 abbrev pub blocks_of : List Block → Blocks
 blocks_of bs = map block_of bs
