@@ -1,12 +1,12 @@
 #!/usr/bin/env bash
 # Times spec_tokens and parse_spec on files of half a mebibyte and of one, the least of fifty readings in five runs, and says how many times as long the
-# second takes. Prove and build the program first: rt run in crates/reading_times
+# second takes. Prove and build the program first: rt run in crates/timings
 # The C library is told to keep freed memory, so that the times are those of reading and not of pages that are new to the process.
 set -eu
 here=$(cd "$(dirname "$0")/.." && pwd)
 export MALLOC_MMAP_THRESHOLD_=1073741824 MALLOC_TRIM_THRESHOLD_=4294967296
-program="$here/crates/reading_times/out/reading_times"
-for _ in $(seq 5); do "$program" times 2>&1 > /dev/null; done | awk -F';' '
+program="$here/crates/timings/out/timings"
+for _ in $(seq 5); do "$program" reading 2>&1 > /dev/null; done | awk -F';' '
   { key = $1 ";" $2 }
   !(key in lexer) { order[++n] = key; lexer[key] = $3; parser[key] = $4 }
   $3 < lexer[key] { lexer[key] = $3 }

@@ -3,7 +3,7 @@ use Rattle.std.proofs.Common.{◌≡◌, ℕ, ◌+◌, ◌-◌, ◌<◌, ◌≤�
 use Rattle.std.specs.Prelude.{map, slice_range}
 use Rattle.std.specs.List.{AllByRecursion}
 use Rattle.std.proofs.lemmas.List.{append-nil, map-append, drop-drop}
-use Rattle.iso_lexer.specs.Lexing.{Front, gap, token, fault, made, Reads, ends, takes, fails, in_front, between, SpelledAt}
+use Rattle.iso_lexer.specs.Lexing.{Front, gap, token, fault, made, Reads, ends, takes, fails, in_front, between, SpelledAt, HasToken, here, behind}
 use Rattle.iso_lexer.specs.Lexing.{passes as skips}
 use Rattle.iso_lexer.specs.declared.fault.Fault.{Fault}
 use Rattle.iso_lexer.specs.declared.fault.FaultKind.{FaultKind}
@@ -35,6 +35,7 @@ pub record Rules {T : Type 0} (front : List ℕ → Front T) : Type 0 where
 pub record SoFar {T : Type 0} (front : List ℕ → Front T) (text : List ℕ) (tokens : List (At T)) (rest : List ℕ) : Type 0 where
   pub within : length rest ≤ length text
   pub told : (answer : Result (List (At T)) Fault) → Reads front (length text) rest answer → Reads front (length text) text (in_front tokens answer)
+  pub more : HasToken front rest → HasToken front text
 
 in_front_nothing : {T : Type 0} (answer : Result (List (At T)) Fault) → in_front [] answer ≡ answer
 in_front_nothing (Ok ts) = refl
@@ -49,7 +50,7 @@ views_push view xs x ys e = ap (map view) e ∙ map-append view xs (x ∷ [])
 
 module _ {T : Type 0} (front : List ℕ → Front T) (rules : Rules front) where
   pub starts : (text : List ℕ) → SoFar front text [] text
-  starts text = record { within = omega arith; told = λ answer h. rw in_front_nothing h }
+  starts text = record { within = omega arith; told = λ answer h. rw in_front_nothing h; more = λ h. h }
 
   pub shorter_at : (rest : List ℕ) (f : Front T) → 0 < length rest → f ≡ front rest → Shorter (length rest) f
   shorter_at rest f lt e = rw e (rules.shorter rest lt)
@@ -58,13 +59,18 @@ module _ {T : Type 0} (front : List ℕ → Front T) (rules : Rules front) where
   on_gap text tokens rest after lt e so = record {
     within = let shorter : length after < length rest = shorter_at rest (gap after) lt e in omega (arith, so.within);
     told = λ answer h. so.told answer (skips after lt (sym e) h);
+    more = λ h. so.more (behind after lt (sym e) h);
   }
 
   pub on_token : (text : List ℕ) (tokens : List (At T)) (rest after : List ℕ) (t : T) → 0 < length rest → token t after ≡ front rest → SoFar front text tokens rest → SoFar front text (tokens ++ between (length text) rest t after ∷ []) after
   on_token text tokens rest after t lt e so = record {
     within = let shorter : length after < length rest = shorter_at rest (token t after) lt e in omega (arith, so.within);
     told = λ answer h. subst (Reads front (length text) text) (in_front_twice tokens (between (length text) rest t after ∷ []) answer) (so.told _ (takes t after (sym e) h refl));
+    more = λ h. so.more (here t after (sym e));
   }
+
+  pub has_token : (text : List ℕ) (tokens : List (At T)) (rest after : List ℕ) (t : T) → token t after ≡ front rest → SoFar front text tokens rest → HasToken front text
+  has_token text tokens rest after t e so = so.more (here t after (sym e))
 
   pub on_fault : (text : List ℕ) (tokens : List (At T)) (rest : List ℕ) (kind : FaultKind) (n : ℕ) → fault kind n ≡ front rest → SoFar front text tokens rest → Reads front (length text) text (Err (record { kind = kind; at = length text - length rest + n }))
   on_fault text tokens rest kind n e so = so.told (Err (record { kind = kind; at = length text - length rest + n })) (fails kind n (sym e) refl)

@@ -32,6 +32,11 @@ pub data Reads {T : Type 0} (front : List ℕ → Front T) (total : ℕ) : List 
   takes : {text : List ℕ} (t : T) (rest : List ℕ) {more answer : Result (List (At T)) Fault} → front text ≡ token t rest → Reads front total rest more → answer ≡ in_front (between total text t rest ∷ []) more → Reads front total text answer
   fails : {text : List ℕ} (kind : FaultKind) (n : ℕ) {answer : Result (List (At T)) Fault} → front text ≡ fault kind n → answer ≡ Err (record { kind = kind; at = total - length text + n }) → Reads front total text answer
 
+-- A token stands in the text, and before it nothing but what doesn't count.
+pub data HasToken {T : Type 0} (front : List ℕ → Front T) : List ℕ → Type 0 where
+  here : {text : List ℕ} (t : T) (rest : List ℕ) → front text ≡ token t rest → HasToken front text
+  behind : {text : List ℕ} (rest : List ℕ) → 0 < length text → front text ≡ gap rest → HasToken front rest → HasToken front text
+
 -- the slice of the text at the token's span is the token as it is spelled
 abbrev pub SpelledAt : {T : Type 0} → (T → List ℕ → Type 0) → List ℕ → At T → Type 0
 SpelledAt Spells text t = (t.span.end ≤ length text) × Spells t.tok (slice_range text t.span.start t.span.end)

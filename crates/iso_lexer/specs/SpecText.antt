@@ -1,5 +1,5 @@
 -- The tokens of a spec file, or the first fault of one.
-use Rattle.std.specs.Prelude.{◌≡◌, ℕ, ◌+◌, true, false, ◌||◌, ◌==◌, List, [], ◌∷◌, length, take, drop, Option, Some, None, Result, Ok, Err, if◌then◌else◌, bytes_eq, codes, nat_lt, MatchBool}
+use Rattle.std.specs.Prelude.{◌≡◌, ◌≤◌, ℕ, ◌+◌, true, false, ◌||◌, ◌==◌, List, [], ◌∷◌, length, take, drop, Option, Some, None, Result, Ok, Err, if◌then◌else◌, bytes_eq, codes, nat_lt, MatchBool}
 use Rattle.std.specs.Global.{Vec}
 use Rattle.std.specs.List.{position_or_len}
 use Rattle.std.specs.Char.{is_ascii_digit}
@@ -17,7 +17,7 @@ use Rattle.iso_lexer.specs.declared.runs.Run.TheVariants.{Blanks, Comment, Word,
 use Rattle.iso_lexer.specs.Bytes.{is_blank, is_name_start, run_of, after_run, trimmed}
 use Rattle.iso_lexer.specs.Names.{plain, quoted}
 use Rattle.iso_lexer.specs.SpecTokens.{Token, keyword, name, digits, sign, block, at_views}
-use Rattle.iso_lexer.specs.Lexing.{Front, gap, token, fault, made, Reads}
+use Rattle.iso_lexer.specs.Lexing.{Front, gap, token, fault, made, Reads, HasToken}
 use Rattle.iso_lexer.specs.Quotes.{quoted_from, quoted_front}
 
 abbrev pub keyword_of : List ℕ → Option Keyword
@@ -84,8 +84,13 @@ front (b ∷ bs) = if is_name_start b then word_front (b ∷ bs) else ascii_fron
 abbrev pub Lexes : List ℕ → Result (List (At Token)) Fault → Type 0
 Lexes text answer = MatchBool (nat_lt 1048576 (length text)) (answer ≡ Err (record { kind = FileTooLong; at = 1048576 })) (Reads front (length text) text answer)
 
+-- room is wanted only of a file that isn't too long, and has a token before any fault
+pub record WantsRoom (text : List ℕ) : Type 0 where
+  pub short : length text ≤ 1048576
+  pub token : HasToken front text
+
 -- What was returned is so, unless memory ran out.
 abbrev pub Answers : List ℕ → Result (Vec (At SpecTok)) LexFault → Type 0
 Answers text (Ok ts) = Lexes text (Ok (at_views ts.items))
-Answers text (Err errors.Memory) = Unit {0}
+Answers text (Err errors.Memory) = WantsRoom text
 Answers text (Err (errors.Fault f)) = Lexes text (Err f)

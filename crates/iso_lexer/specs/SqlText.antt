@@ -15,7 +15,7 @@ use Rattle.iso_lexer.specs.declared.token.At.{At}
 use Rattle.iso_lexer.specs.declared.runs.Run.TheVariants.{Comment, Word, Digits}
 use Rattle.iso_lexer.specs.Bytes.{is_blank, is_name_start, is_name_byte, run_of, after_run}
 use Rattle.iso_lexer.specs.SqlTokens.{SqlToken, word, quoted_word, string, number, sql_sign, sql_at_views}
-use Rattle.iso_lexer.specs.Lexing.{Front, gap, token, fault, made, Reads}
+use Rattle.iso_lexer.specs.Lexing.{Front, gap, token, fault, made, Reads, HasToken}
 use Rattle.iso_lexer.specs.Quotes.{quoted_from, quoted_front}
 use Rattle.iso_lexer.specs.Comments.{after_comment}
 
@@ -100,8 +100,8 @@ sql_front (b ∷ bs) = if is_name_start b then word_front (b ∷ bs) else ascii_
 abbrev pub SqlLexes : List ℕ → Result (List (At SqlToken)) Fault → Type 0
 SqlLexes text answer = Reads sql_front (length text) text answer
 
--- What was returned is so, unless memory ran out.
+-- What was returned is so, unless memory ran out, which is wanted only of a text that has a token before any fault.
 abbrev pub SqlAnswers : List ℕ → Result (Vec (At SqlTok)) LexFault → Type 0
 SqlAnswers text (Ok ts) = SqlLexes text (Ok (sql_at_views ts.items))
-SqlAnswers text (Err errors.Memory) = Unit {0}
+SqlAnswers text (Err errors.Memory) = HasToken sql_front text
 SqlAnswers text (Err (errors.Fault f)) = SqlLexes text (Err f)

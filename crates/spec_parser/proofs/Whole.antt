@@ -4,7 +4,7 @@ use Rattle.iso_lexer.specs.declared.token.At.{At}
 use Rattle.iso_lexer.specs.declared.fault.LexFault.{LexFault}
 use Rattle.iso_lexer.specs.declared.fault.LexFault.TheVariants as lexer
 use Rattle.iso_lexer.specs.SpecTokens.{Token}
-use Rattle.iso_lexer.specs.SpecText.{Lexes}
+use Rattle.iso_lexer.specs.SpecText.{Lexes, WantsRoom}
 use Rattle.spec_parser.specs.declared.fault.Stop.{Stop}
 use Rattle.spec_parser.specs.declared.fault.Stop.TheVariants.{Expected, NoticesLeftOut, OverLimit}
 use Rattle.spec_parser.specs.declared.fault.Halt.{Halt}
@@ -21,7 +21,7 @@ use Rattle.spec_parser.specs.Known.{FailsWith}
 use Rattle.spec_parser.specs.SpecText.{SpecReads, no_tokens, tokens, finished, Answers}
 
 abbrev LexAnswers : List ℕ → LexFault → Type 0
-LexAnswers text lexer.Memory = Unit {0}
+LexAnswers text lexer.Memory = WantsRoom text
 LexAnswers text (lexer.Fault f) = Lexes text (Err f)
 
 pub on_lexer_fault : (text : List ℕ) (f : LexFault) → LexAnswers text f → Answers text (Err (lexer_fault f))

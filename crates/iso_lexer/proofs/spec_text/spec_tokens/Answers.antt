@@ -3,9 +3,9 @@ use Rattle.std.proofs.lemmas.List.{nil_from_length}
 use Rattle.std.proofs.lemmas.Bool.{eqb-true}
 use Rattle.std.proofs.ResultArms.{chosen}
 use Rattle.iso_lexer.specs.SpecTokens.{token_view, at_view, at_views}
-use Rattle.iso_lexer.specs.SpecText.{front}
+use Rattle.iso_lexer.specs.SpecText.{front, WantsRoom}
 use Rattle.iso_lexer.specs.Lexing.{gap, token, fault}
-use Rattle.iso_lexer.proofs.Lexing.{SoFar, shorter_at, on_gap, on_token, on_fault, on_end, views_push}
+use Rattle.iso_lexer.proofs.Lexing.{SoFar, shorter_at, on_gap, on_token, on_fault, on_end, has_token, views_push}
 use Rattle.iso_lexer.proofs.SpecRules.{spec_rules, lexes}
 use Rattle.iso_lexer.proofs.spec_text.spec_tokens.Goals as goal
 
@@ -23,6 +23,14 @@ overflow_sub-end c = (on_token front spec_rules c.args.text.now (at_views c.loop
 
 pub loop-rest-smaller : goal.loop-rest-smaller
 loop-rest-smaller c = shorter_at front spec_rules c.loop-rest.rest.now (token (token_view c.in-Token.tok) c.in-Token.after.now) (search rules) c.in-Token.ensures
+
+pub returns-in_err-push-in-Token : goal.returns-in_err-push-in-Token
+returns-in_err-push-in-Token c =
+    let room : WantsRoom c.args.text.now = record {
+      short = omega arith;
+      token = has_token front spec_rules c.args.text.now (at_views c.loop-rest.tokens.items) c.loop-rest.rest.now c.in-Token.after.now (token_view c.in-Token.tok) c.in-Token.ensures c.loop-rest.invariant.so_far;
+    } in
+    search (rules, room)
 
 pub loop-rest-preserved : goal.loop-rest-preserved
 loop-rest-preserved c =

@@ -4,8 +4,8 @@ use Rattle.std.proofs.lemmas.Bool.{eqb-true}
 use Rattle.std.proofs.ResultArms.{chosen}
 use Rattle.iso_lexer.specs.SqlTokens.{sql_view, sql_at_view, sql_at_views}
 use Rattle.iso_lexer.specs.SqlText.{sql_front}
-use Rattle.iso_lexer.specs.Lexing.{gap, token, fault}
-use Rattle.iso_lexer.proofs.Lexing.{SoFar, shorter_at, on_gap, on_token, on_fault, on_end, views_push}
+use Rattle.iso_lexer.specs.Lexing.{gap, token, fault, HasToken}
+use Rattle.iso_lexer.proofs.Lexing.{SoFar, shorter_at, on_gap, on_token, on_fault, on_end, has_token, views_push}
 use Rattle.iso_lexer.proofs.SqlRules.{sql_rules}
 use Rattle.iso_lexer.proofs.sql_text.sql_tokens.Goals as goal
 
@@ -23,6 +23,11 @@ overflow_sub-end c = (on_token sql_front sql_rules c.args.text.now (sql_at_views
 
 pub loop-rest-smaller : goal.loop-rest-smaller
 loop-rest-smaller c = shorter_at sql_front sql_rules c.loop-rest.rest.now (token (sql_view c.in-Token.tok) c.in-Token.after.now) (search rules) c.in-Token.ensures
+
+pub returns-in_err-push-in-Token : goal.returns-in_err-push-in-Token
+returns-in_err-push-in-Token c =
+    let room : HasToken sql_front c.args.text.now = has_token sql_front sql_rules c.args.text.now (sql_at_views c.loop-rest.tokens.items) c.loop-rest.rest.now c.in-Token.after.now (sql_view c.in-Token.tok) c.in-Token.ensures c.loop-rest.invariant.so_far in
+    search (rules, room)
 
 pub loop-rest-preserved : goal.loop-rest-preserved
 loop-rest-preserved c =

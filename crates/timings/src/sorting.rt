@@ -1,12 +1,10 @@
-//! Sorts rows by a key, and says how many; with an argument also how long it took, on standard error.
-#![tactic(auto)]
+//! Sorts rows by a key, and says how many.
 
 ghost use Rattle.std.specs.Prelude.{◌≡◌, length, All, IfOk};
 
 use anyhow::{Result, bail};
 use sql_values::{Dir, Row, Value, order};
 use std::alloc::{AllocError, Global};
-use std::env;
 use std::time::Instant;
 
 /// Rows of one whole number each, in no order.
@@ -30,19 +28,18 @@ fn key(alloc: Global, number: i32) -> Result<Row, AllocError>
     Ok(Row::from_vec(values))
 }
 
-fn main(rt: HostRuntime) -> Result<()> {
-    let with_times = env::args(&rt)?.count() > 1;
+pub fn run(rt: &HostRuntime, with_times: bool) -> Result<()> {
     let by = [Dir {
         desc: false,
         nulls_first: false,
     }];
     for count in [1_000, 10_000] {
         let rows = keys(rt.alloc(), count)?;
-        let start = Instant::now(&rt)?;
+        let start = Instant::now(rt)?;
         let Ok(sorted) = order(rt.alloc(), &rows, &by) else {
             bail!("the rows could not be sorted");
         };
-        let time = start.elapsed(&rt)?;
+        let time = start.elapsed(rt)?;
         println!(rt; "{} rows in order", sorted.len())?;
         if with_times {
             let micros = time.as_micros();

@@ -1,12 +1,9 @@
-//! Reads spec files of half a mebibyte and of one, and says what they hold; with an argument also how long it took, on
-//! standard error.
-#![tactic(auto)]
+//! Reads spec files of half a mebibyte and of one, and says what they hold.
 
 use anyhow::{Result, bail};
 use iso_lexer::spec_tokens;
 use spec_parser::parse_spec;
 use std::alloc::{AllocError, Global};
-use std::env;
 use std::time::Instant;
 
 const HEAD: &str = "session s step a { } step b { }\n";
@@ -57,17 +54,16 @@ fn read(rt: &HostRuntime, name: &str, text: &str, with_times: bool) -> Result<()
     Ok(())
 }
 
-fn main(rt: HostRuntime) -> Result<()> {
-    let with_times = env::args(&rt)?.count() > 1;
+pub fn run(rt: &HostRuntime, with_times: bool) -> Result<()> {
     for (name, line, half, whole) in [
         ("permutations", "permutation a b b a\n", 26_212, 52_427),
         ("markers", "permutation b a(b,*)\n", 24_964, 49_930),
         ("comments", "# one line of a note\n", 24_964, 49_930),
     ] {
         let text = file_of(rt.alloc(), line, half)?;
-        read(&rt, name, text.as_str(), with_times)?;
+        read(rt, name, text.as_str(), with_times)?;
         let text = file_of(rt.alloc(), line, whole)?;
-        read(&rt, name, text.as_str(), with_times)?;
+        read(rt, name, text.as_str(), with_times)?;
     }
     Ok(())
 }

@@ -1,6 +1,4 @@
-//! Steps a SELECT and an INSERT on tables of 10, 100 and 1,000 rows, and says what came of them; with an argument also how
-//! long each step took, on standard error.
-#![tactic(auto)]
+//! Steps a SELECT and an INSERT on tables of 10, 100 and 1,000 rows, and says what came of them.
 
 use anyhow::{Result, bail};
 use row_versions::ListStore;
@@ -8,7 +6,6 @@ use session_core::EngineState;
 use session_machine::{Mode, Outcome};
 use sql_parser::{Block, Role, parse_block};
 use std::alloc::{AllocError, Global};
-use std::env;
 use std::time::Instant;
 
 /// A table of so many rows, each a number and a text.
@@ -79,23 +76,36 @@ fn step_of_block<'a, 't>(
     step(rt, engine, 1)
 }
 
-/// Fills the table, reads it and puts a row into it.
-fn measure<'a, 't>(
-    rt: &HostRuntime,
-    blocks: &'a [Block<'t>],
-    count: u32,
-    with_times: bool,
-) -> Result<()> {
-    let store = ListStore::new(rt.alloc());
-    let mut engine = EngineState::new(rt.alloc(), blocks, 1, Mode::Directed, store)?;
+/// Runs block 0, which has two statements.
+fn fill<'a, 't>(rt: &HostRuntime, engine: &mut EngineState<'a, 't, ListStore>) -> Result<()> {
     if engine.launch(0, 0).is_err() {
         bail!("the setup was refused");
     }
-    step(rt, &mut engine, 0)?;
-    step(rt, &mut engine, 0)?;
-    let select = step_of_block(rt, &mut engine, 1)?;
-    let insert = step_of_block(rt, &mut engine, 2)?;
-    let seen = step_of_block(rt, &mut engine, 1)?;
+    step(rt, engine, 0)?;
+    step(rt, engine, 0)?;
+    Ok(())
+}
+
+/// Fills the table, reads it, puts a row into it and reads it again: what came of the last three.
+fn three_steps<'a, 't>(
+    rt: &HostRuntime,
+    engine: &mut EngineState<'a, 't, ListStore>,
+) -> Result<[Stepped; 3]> {
+    fill(rt, engine)?;
+    let select = step_of_block(rt, engine, 1)?;
+    let insert = step_of_block(rt, engine, 2)?;
+    let seen = step_of_block(rt, engine, 1)?;
+    Ok([select, insert, seen])
+}
+
+fn measured<'a, 't>(rt: &HostRuntime, blocks: &'a [Block<'t>]) -> Result<[Stepped; 3]> {
+    let store = ListStore::new(rt.alloc());
+    let mut engine = EngineState::new(rt.alloc(), blocks, 1, Mode::Directed, store)?;
+    three_steps(rt, &mut engine)
+}
+
+fn tell(rt: &HostRuntime, count: u32, steps: [Stepped; 3], with_times: bool) -> Result<()> {
+    let [select, insert, seen] = steps;
     let (Some(before), Some(after)) = (select.rows, seen.rows) else {
         bail!("no rows");
     };
@@ -107,12 +117,12 @@ fn measure<'a, 't>(
     Ok(())
 }
 
-fn main(rt: HostRuntime) -> Result<()> {
-    let with_times = env::args(&rt)?.count() > 1;
+pub fn run(rt: &HostRuntime, with_times: bool) -> Result<()> {
     for count in [10, 100, 1_000] {
         let text = filling(rt.alloc(), count)?;
         let blocks = blocks(rt.alloc(), text.as_str())?;
-        measure(&rt, &blocks, count, with_times)?;
+        let steps = measured(rt, &blocks)?;
+        tell(rt, count, steps, with_times)?;
     }
     Ok(())
 }

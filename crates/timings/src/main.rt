@@ -1,0 +1,30 @@
+//! Times reading, sorting or steps, as the word says, and says on standard error how long each took. Without a word all of them
+//! run, and no time is told.
+#![tactic(auto)]
+
+mod reading;
+mod sorting;
+mod steps;
+
+use anyhow::{Result, bail};
+use std::env;
+
+fn timed(rt: &HostRuntime, word: &str) -> Result<()> {
+    match word {
+        "reading" => reading::run(rt, true),
+        "sorting" => sorting::run(rt, true),
+        "steps" => steps::run(rt, true),
+        _ => bail!("the word is reading, sorting or steps"),
+    }
+}
+
+fn main(rt: HostRuntime) -> Result<()> {
+    match env::args(&rt)?.nth(1) {
+        Some(word) => timed(&rt, word.as_str()),
+        None => {
+            reading::run(&rt, false)?;
+            sorting::run(&rt, false)?;
+            steps::run(&rt, false)
+        }
+    }
+}
