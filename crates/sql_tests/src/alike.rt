@@ -2,8 +2,9 @@
 
 use crate::asked::{are_one, block_of, differ, holds};
 use sql_parser::Role;
-use sql_trees::{Level, Lock, Stmt};
+use sql_trees::{Key, Level, Lock, Stmt};
 use std::alloc::Global;
+use std::process::Abort;
 
 // Statements of a session.
 const STATEMENTS: [(&str, &str); 37] = [
@@ -191,16 +192,22 @@ const UNLIKE: [(&str, &str); 20] = [
     ("DELETE FROM t", "DELETE FROM t WHERE TRUE"),
 ];
 
+fn all_one(rt: &impl Abort, alloc: Global, role: Role, rows: &[(&str, &str)]) {
+    for (text, other) in rows {
+        holds(rt, are_one(alloc, role, *text, *other), *text);
+    }
+}
+
 #[test]
 fn texts_of_one_block(rt: HostRuntime) {
-    for (text, other) in STATEMENTS {
-        holds(&rt, are_one(rt.alloc(), Role::Session, text, other), text);
-    }
-    for (text, other) in TABLES {
-        holds(&rt, are_one(rt.alloc(), Role::Main, text, other), text);
-    }
-    for (text, other) in UNLIKE {
-        holds(&rt, differ(rt.alloc(), Role::Main, text, other), text);
+    all_one(&rt, rt.alloc(), Role::Session, STATEMENTS.as_slice());
+    all_one(&rt, rt.alloc(), Role::Main, TABLES.as_slice());
+}
+
+#[test]
+fn texts_of_blocks_that_differ(rt: HostRuntime) {
+    for (text, other) in UNLIKE.as_slice() {
+        holds(&rt, differ(rt.alloc(), Role::Main, *text, *other), *text);
     }
 }
 
@@ -273,25 +280,32 @@ const KINDS: [(&str, &str); 17] = [
 
 #[test]
 fn kinds_of_statements(rt: HostRuntime) {
-    for (text, told) in KINDS {
-        holds(&rt, is_one(rt.alloc(), text, told), text);
+    for (text, told) in KINDS.as_slice() {
+        holds(&rt, is_one(rt.alloc(), *text, *told), *text);
     }
 }
 
-// Whether a main block's text is one CREATE TABLE whose keys have columns at these places, the first of them the primary one.
-fn has_keys(alloc: Global, text: &str, keys: [&[u32]; 2]) -> bool {
+// Whether the keys have columns at these places, the first of them the primary one.
+fn are_keys(keys: &[Key], places: [&[u32]; 2]) -> bool {
+    let [first, second] = places;
+    match keys {
+        [a, b] => {
+            a.primary
+                && !b.primary
+                && a.columns.as_slice() == first
+                && b.columns.as_slice() == second
+        }
+        _ => false,
+    }
+}
+
+// Whether a main block's text begins with a CREATE TABLE of these keys.
+fn has_keys(alloc: Global, text: &str, places: [&[u32]; 2]) -> bool {
     let Ok(block) = block_of(alloc, Role::Main, text) else {
         return false;
     };
-    let [Stmt::CreateTable(create)] = block.stmts() else {
-        return false;
-    };
-    let [first, second] = keys;
-    match create.keys.as_slice() {
-        [a, b] => a.primary
-            && !b.primary
-            && a.columns.as_slice() == first
-            && b.columns.as_slice() == second,
+    match block.stmts().first() {
+        Some(Stmt::CreateTable(create)) => are_keys(&create.keys, places),
         _ => false,
     }
 }

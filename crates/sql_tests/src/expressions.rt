@@ -80,13 +80,17 @@ const REFUSED: [(&str, &str); 14] = [
 ];
 
 #[test]
-fn expressions_and_faults(rt: HostRuntime) {
-    for (text, depth, left, plain) in READ {
-        let read = is_read_as(rt.alloc(), (text, depth, left), plain);
-        holds(&rt, read, text);
+fn expressions_in_parentheses(rt: HostRuntime) {
+    for (text, depth, left, plain) in READ.as_slice() {
+        let read = is_read_as(rt.alloc(), (*text, *depth, *left), *plain);
+        holds(&rt, read, *text);
     }
-    for (text, fault) in REFUSED {
-        holds(&rt, is_no_expression(rt.alloc(), text, fault), text);
+}
+
+#[test]
+fn texts_that_are_no_expressions(rt: HostRuntime) {
+    for (text, fault) in REFUSED.as_slice() {
+        holds(&rt, is_no_expression(rt.alloc(), *text, *fault), *text);
     }
 }
 
@@ -201,7 +205,7 @@ const TOPS: [(&str, &str); 36] = [
 
 #[test]
 fn each_form_at_the_top(rt: HostRuntime) {
-    for (text, told) in TOPS {
-        holds(&rt, is_at_top(rt.alloc(), text, told), text);
+    for (text, told) in TOPS.as_slice() {
+        holds(&rt, is_at_top(rt.alloc(), *text, *told), *text);
     }
 }

@@ -1,8 +1,9 @@
 //! Texts that are no block, each with its fault and the byte at which it stands.
 
-use crate::asked::{are_one, block_of, holds, is_refused};
+use crate::asked::{holds, is_refused};
 use sql_parser::Role;
 use std::alloc::Global;
+use std::process::Abort;
 
 // What makes and drops tables, in a main block.
 const TABLES: [(&str, &str); 36] = [
@@ -211,16 +212,14 @@ const STATEMENTS: [(&str, &str); 103] = [
     ("foo; CREATE; SELECT #", "L4 UnexpectedByte at byte 20"),
 ];
 
+fn all_refused(rt: &impl Abort, alloc: Global, role: Role, rows: &[(&str, &str)]) {
+    for (text, fault) in rows {
+        holds(rt, is_refused(alloc, role, *text, *fault), *text);
+    }
+}
+
 #[test]
 fn faults_and_their_places(rt: HostRuntime) {
-    for (text, fault) in TABLES {
-        holds(&rt, is_refused(rt.alloc(), Role::Main, text, fault), text);
-    }
-    for (text, fault) in STATEMENTS {
-        holds(
-            &rt,
-            is_refused(rt.alloc(), Role::Session, text, fault),
-            text,
-        );
-    }
+    all_refused(&rt, rt.alloc(), Role::Main, TABLES.as_slice());
+    all_refused(&rt, rt.alloc(), Role::Session, STATEMENTS.as_slice());
 }

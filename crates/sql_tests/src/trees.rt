@@ -25,23 +25,18 @@ fn strings_by_what_they_stand_for(rt: HostRuntime) {
     }
 }
 
-// Whether the token is a name, behind its keyword or as no keyword.
+// Whether the token has this keyword.
 fn is_keyword(tok: SqlTok<'_>, word: Word, alloc: Global) -> bool {
     let token = At {
         tok,
         span: Span { start: 0, end: 6 },
     };
-    match classified(alloc, &[token]) {
-        Ok(all) => match all.as_slice() {
-            [
-                At {
-                    tok: Tok::Word(found, _),
-                    ..
-                },
-            ] => *found == word,
-            _ => false,
-        },
-        Err(_) => false,
+    let Ok(all) = classified(alloc, &[token]) else {
+        return false;
+    };
+    match all.first() {
+        Some(found) => matches!(found.tok, Tok::Word(keyword, _) if keyword == word),
+        None => false,
     }
 }
 

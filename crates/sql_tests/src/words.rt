@@ -3,6 +3,7 @@
 use crate::asked::{block_of, holds, is_refused};
 use sql_parser::Role;
 use std::alloc::{AllocError, Global};
+use std::process::Abort;
 
 // Words that are no names and stand for a part that is left out.
 const LEFT_OUT: [&str; 41] = [
@@ -106,24 +107,54 @@ fn is_read(alloc: Global, front: &str, word: &str, back: &str) -> bool {
     }
 }
 
+fn all_refused(rt: &impl Abort, alloc: Global, front: &str, words: &[&str], fault: &str) {
+    for word in words {
+        holds(rt, is_refused_behind(alloc, front, *word, fault), *word);
+    }
+}
+
+fn all_read(rt: &impl Abort, alloc: Global, front: &str, words: &[&str], back: &str) {
+    for word in words {
+        holds(rt, is_read(alloc, front, *word, back), *word);
+    }
+}
+
 #[test]
-fn words_and_names(rt: HostRuntime) {
-    let (alias, table, quoted) = ("SELECT a FROM t ", "DROP TABLE ", "DROP TABLE \"");
-    for word in LEFT_OUT {
-        let left_out = is_refused_behind(rt.alloc(), alias, word, "Q2 LeftOut at byte 16");
-        holds(&rt, left_out, word);
-        let left_out = is_refused_behind(rt.alloc(), table, word, "Q2 LeftOut at byte 11");
-        holds(&rt, left_out, word);
-        holds(&rt, is_read(rt.alloc(), quoted, word, "\""), word);
-    }
-    for word in NAMES_LEFT_OUT {
-        let left_out = is_refused_behind(rt.alloc(), alias, word, "Q2 LeftOut at byte 16");
-        holds(&rt, left_out, word);
-        holds(&rt, is_read(rt.alloc(), table, word, ""), word);
-    }
-    for word in NO_NAMES {
-        let syntax = is_refused_behind(rt.alloc(), table, word, "Q1 Syntax at byte 11");
-        holds(&rt, syntax, word);
-        holds(&rt, is_read(rt.alloc(), quoted, word, "\""), word);
-    }
+fn words_that_are_no_alias(rt: HostRuntime) {
+    let front = "SELECT a FROM t ";
+    let fault = "Q2 LeftOut at byte 16";
+    all_refused(&rt, rt.alloc(), front, LEFT_OUT.as_slice(), fault);
+    all_refused(&rt, rt.alloc(), front, NAMES_LEFT_OUT.as_slice(), fault);
+}
+
+#[test]
+fn words_that_are_no_names(rt: HostRuntime) {
+    let front = "DROP TABLE ";
+    all_refused(
+        &rt,
+        rt.alloc(),
+        front,
+        LEFT_OUT.as_slice(),
+        "Q2 LeftOut at byte 11",
+    );
+    all_refused(
+        &rt,
+        rt.alloc(),
+        front,
+        NO_NAMES.as_slice(),
+        "Q1 Syntax at byte 11",
+    );
+}
+
+#[test]
+fn words_that_are_names(rt: HostRuntime) {
+    all_read(
+        &rt,
+        rt.alloc(),
+        "DROP TABLE ",
+        NAMES_LEFT_OUT.as_slice(),
+        "",
+    );
+    all_read(&rt, rt.alloc(), "DROP TABLE \"", LEFT_OUT.as_slice(), "\"");
+    all_read(&rt, rt.alloc(), "DROP TABLE \"", NO_NAMES.as_slice(), "\"");
 }
