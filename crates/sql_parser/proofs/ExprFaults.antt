@@ -14,7 +14,7 @@ use Rattle.sql_trees.specs.Trees.{Tree, Plus, Column}
 use Rattle.sql_expressions.specs.declared.level.Opened.{Opened}
 use Rattle.sql_expressions.specs.declared.level.Opened.TheVariants.{Whole, Negation, Unary}
 use Rattle.sql_expressions.specs.Build.{negated}
-use Rattle.sql_expressions.specs.Reading.{Found, Found_op, Found_list, Reader, leaf, misplaced, place_of, left_out, is_call, is_open, is_close, is_and, is_not, is_is, truth_of, deeper, expect, found_op, next_op, join, chain_end, chain_turn, chain_more, chain, product_op, sum_op, concat_op, comparison_op, and_op, or_op, after_comma, list_turn, list_more, list_at, column_at, name_at, is_node, is_of, is_tail, is_more, parens_at, prim_of, prim_at, sign_at, una_of, una_at, mul_at, add_at, cat_at, in_at, between_at, not_in_of, not_in_at, inn_of, inn_more, inn_at, cmp_more, cmp_at, is_at, negation_at, not_at, and_at, or_at, at_level, inside, expr_at, ◌>>=◌}
+use Rattle.sql_expressions.specs.Reading.{Found, Found_op, Found_list, Reader, leaf, misplaced, place_of, left_out, is_call, is_open, is_close, is_and, is_not, is_is, truth_of, deeper, expect, found_op, next_op, join, chain_end, chain_turn, chain_more, chain, product_op, sum_op, concat_op, comparison_op, and_op, or_op, after_comma, list_turn, list_more, list_at, column_at, name_at, is_node, is_of, is_tail, is_from, is_more, parens_at, prim_of, prim_at, sign_at, una_of, una_at, mul_at, add_at, cat_at, in_at, between_at, not_in_of, not_in_at, not_in_from, inn_of, inn_more, inn_at, cmp_more, cmp_at, is_at, negation_at, not_at, and_at, or_at, at_level, inside, expr_at, ◌>>=◌}
 
 abbrev pub IsExprFault : SqlFault → Type 0
 IsExprFault (Syntax n) = Unit {0}
@@ -101,28 +101,31 @@ module _ (last : ℕ) where
   name_told None t ts = misplaced_told (t ∷ ts)
   name_told (Some n) t ts = column_told t n ts
 
-  is_node_told : (o : Option Truth) (neg : Bool) (place : ℕ) (e : Tree) (d : ℕ) (t : At Token) (ts : Tokens) → Told (is_node last o neg place e d t ts)
-  is_node_told None neg place e d t ts = misplaced_told (t ∷ ts)
-  is_node_told (Some w) neg place e d t ts = on _ _ (deeper_told place d) (λ x. tt)
+  is_node_told : (o : Option Truth) (neg : Bool) (e : Tree) (d : ℕ) (t : At Token) (ts : Tokens) → Told (is_node last o neg e d t ts)
+  is_node_told None neg e d t ts = misplaced_told (t ∷ ts)
+  is_node_told (Some w) neg e d t ts = tt
 
-  is_of_told : (neg : Bool) (place : ℕ) (e : Tree) (d : ℕ) (ts : Tokens) → Told (is_of last neg place e d ts)
-  is_of_told neg place e d [] = tt
-  is_of_told neg place e d (t ∷ ts) = is_node_told (truth_of t.tok) neg place e d t ts
+  is_of_told : (neg : Bool) (e : Tree) (d : ℕ) (ts : Tokens) → Told (is_of last neg e d ts)
+  is_of_told neg e d [] = tt
+  is_of_told neg e d (t ∷ ts) = is_node_told (truth_of t.tok) neg e d t ts
 
-  is_tail_told : (place : ℕ) (e : Tree) (d : ℕ) (ts : Tokens) → Told (is_tail last place e d ts)
-  is_tail_told place e d [] = tt
-  is_tail_told place e d (t ∷ ts) = of_test (is_not t.tok)
+  is_tail_told : (e : Tree) (d : ℕ) (ts : Tokens) → Told (is_tail last e d ts)
+  is_tail_told e d [] = tt
+  is_tail_told e d (t ∷ ts) = of_test (is_not t.tok)
     where
-      of_test : (b : Bool) → Told (if b then is_of last true place e d ts else is_of last false place e d (t ∷ ts))
-      of_test true = is_of_told true place e d ts
-      of_test false = is_of_told false place e d (t ∷ ts)
+      of_test : (b : Bool) → Told (if b then is_of last true e d ts else is_of last false e d (t ∷ ts))
+      of_test true = is_of_told true e d ts
+      of_test false = is_of_told false e d (t ∷ ts)
+
+  is_from_told : (place : ℕ) (a : Found) (ts : Tokens) → Told (is_from last place a ts)
+  is_from_told place a ts = on _ _ (deeper_told place a.depth) (λ d. is_tail_told a.tree d ts)
 
   is_more_told : (a : Found) (ts : Tokens) → Told (is_more last a ts)
   is_more_told a [] = tt
   is_more_told a (t ∷ ts) = of_test (is_is t.tok)
     where
-      of_test : (b : Bool) → Told (if b then is_tail last t.span.start a.tree a.depth ts else Ok a)
-      of_test true = is_tail_told t.span.start a.tree a.depth ts
+      of_test : (b : Bool) → Told (if b then is_from last t.span.start a ts else Ok a)
+      of_test true = is_from_told t.span.start a ts
       of_test false = tt
 
   module _ (within : Opened → ℕ → Reader) (told : (l : Opened) (place : ℕ) (ts : Tokens) → Told (within l place ts)) where
@@ -174,7 +177,7 @@ module _ (last : ℕ) where
 
     between_told : (neg : Bool) (place : ℕ) (e : Tree) (d : ℕ) (ts : Tokens) → Told (between_at last within neg place e d ts)
     unfolding between_at
-    between_told neg place e d ts = on _ _ (deeper_told place d) (λ here. on _ _ (cat_told ts) (λ low. on _ _ (expect_told is_and low.rest) (λ us. on _ _ (cat_told us) (λ high. on _ _ (deeper_told place (max d (max low.depth high.depth))) (λ x. tt)))))
+    between_told neg place e d ts = on _ _ (deeper_told place d) (λ here. on _ _ (cat_told ts) (λ low. on _ _ (deeper_told place (max d low.depth)) (λ there. on _ _ (expect_told is_and low.rest) (λ us. on _ _ (cat_told us) (λ high. on _ _ (deeper_told place (max d (max low.depth high.depth))) (λ x. tt))))))
 
     not_in_of_told : (x : Token) (place : ℕ) (a : Found) (t : At Token) (ts : Tokens) → Told (not_in_of last within x place a t ts)
     not_in_of_told (tok.word words.In s) place a t ts = in_told true place a.tree a.depth ts
@@ -185,10 +188,13 @@ module _ (last : ℕ) where
     not_in_told place a [] = tt
     not_in_told place a (t ∷ ts) = not_in_of_told t.tok place a t ts
 
+    not_in_from_told : (place : ℕ) (a : Found) (ts : Tokens) → Told (not_in_from last within place a ts)
+    not_in_from_told place a ts = on _ _ (deeper_told place a.depth) (λ here. not_in_told place a ts)
+
     inn_of_told : (x : Token) (place : ℕ) (a : Found) (ts : Tokens) → Told (inn_of last within x place a ts)
     inn_of_told (tok.word words.In s) place a ts = in_told false place a.tree a.depth ts
     inn_of_told (tok.word words.Between s) place a ts = between_told false place a.tree a.depth ts
-    inn_of_told (tok.word words.Not s) place a ts = not_in_told place a ts
+    inn_of_told (tok.word words.Not s) place a ts = not_in_from_told place a ts
     inn_of_told _ place a ts = tt
 
     inn_more_told : (a : Found) (ts : Tokens) → Told (inn_more last within a ts)
