@@ -16,9 +16,6 @@ use std::alloc::{AllocError, Global};
 use std::marker::Model;
 use steps::{advance, fill};
 
-#[cfg(test)]
-mod tests;
-
 /// The interleavings that are still to be given, in lexicographic order.
 #[derive(Drop)]
 pub struct Interleavings {

@@ -1,5 +1,5 @@
 -- Entries of turns, and how long the lists of turns are.
-use Rattle.std.proofs.Common.{◌≡◌, ℕ, zero, suc, ◌+◌, ◌<◌, ◌≤◌, ◌^◌, List, [], ◌∷◌, ◌++◌, map, flat_map, sum, length, Bool, true, false, take, get_or, refl, sym, ap, subst, ◌∙◌, arith, append_assoc}
+use Rattle.std.proofs.Common.{◌≡◌, ℕ, zero, suc, ◌+◌, ◌<◌, ◌≤◌, ◌^◌, List, [], ◌∷◌, ◌++◌, map, flat_map, sum, length, Bool, true, false, take, get_or, refl, sym, ap, ◌∙◌, arith, append_assoc}
 use Rattle.std.specs.Prelude.{◌==◌}
 use Rattle.std.proofs.lemmas.Bool.{eqb-true}
 use Rattle.std.proofs.lemmas.List.{take_more, map-append, get_or-map, length-map}
@@ -13,7 +13,7 @@ use Rattle.std.specs.Global.{Vec}
 use Rattle.spec_parser.specs.declared.tree.Entry.{Entry}
 use Rattle.spec_parser.specs.declared.tree.Spec.{Spec}
 use Rattle.spec_parser.specs.declared.tree.SessionPart.{SessionPart}
-use Rattle.spec_parser.specs.Trees.{EntryTree, StepTree, SessionTree, entry_view, perm_view, step_view, session_view, spec_view}
+use Rattle.spec_parser.specs.Trees.{EntryTree, SessionTree, entry_view, perm_view, step_view, session_view, spec_view}
 use Rattle.permutation_lists.specs.Permutations.{entry_after, entries_after, entries_of, step_count, lines_or_all, permutations_of}
 use Rattle.permutation_lists.specs.Coming.{AreShort}
 

@@ -1,5 +1,5 @@
 -- The permutation that comes now, and those behind it.
-use Rattle.std.specs.Prelude.{ℕ, ◌^◌, ◌<◌, List, [], length, map}
+use Rattle.std.specs.Prelude.{ℕ, ◌^◌, ◌<◌, List, length, map}
 use Rattle.std.specs.List.{AllByRecursion}
 use Rattle.spec_parser.specs.Trees.{EntryTree, entry_view, perm_view}
 use Rattle.permutation_lists.specs.declared.permutations.Way.{Way}

@@ -8,6 +8,3 @@ mod turns;
 
 pub use line::line_of;
 pub use permutations::Permutations;
-
-#[cfg(test)]
-mod tests;

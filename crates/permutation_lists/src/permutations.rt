@@ -1,6 +1,6 @@
 //! The permutations of a spec, one after the other.
 
-ghost use Rattle.std.specs.Prelude.{◌≡◌, ◌<◌, ◌^◌, [], ◌∷◌, length, map, IfOk};
+ghost use Rattle.std.specs.Prelude.{◌≡◌, ◌≢◌, ◌<◌, ◌^◌, [], ◌∷◌, length, map, IfOk, OnErr};
 ghost use Rattle.std.specs.Bool.{OnTrue, OnFalse};
 ghost use Rattle.interleavings.specs.Interleavings.{interleavings};
 ghost use Rattle.spec_parser.specs.Trees.{entry_view, spec_view};
@@ -75,10 +75,11 @@ impl<'s> Permutations<'s> {
         }
     }
 
-    /// Goes on to the next permutation, or answers false where there is none.
+    /// Goes on to the next permutation, or answers false where there is none. Where memory was refused, that one may be lost.
     pub fn advance(&mut self, alloc: Global) -> Result<bool, AllocError>
         ensures more { IfOk result (λ more. OnTrue more (self.old.more ≡ self.new.here ∷ self.new.more)) }
         ensures over { IfOk result (λ more. OnFalse more (self.old.more ≡ [])) }
+        ensures memory { OnErr result (self.old.more ≢ []) }
     {
         match &mut self.way {
             Way::Lines(here, more) => {

@@ -1,6 +1,5 @@
-use Rattle.std.proofs.Common.{◌∙◌, List, [], sym, ap, rules}
+use Rattle.std.proofs.Common.{List, [], ap}
 use Rattle.spec_parser.specs.Trees.{EntryTree}
-use Rattle.permutation_lists.specs.Coming.{Coming}
 use Rattle.permutation_lists.proofs.EntriesOf.{lines_there, no_lines}
 use Rattle.permutation_lists.proofs.permutations.Permutations.of.Goals as goal
 

@@ -1,0 +1,69 @@
+//! The interleavings of counts, and the lines that list a file's permutations.
+
+ghost use Rattle.std.specs.Prelude.{◌<◌, ◌^◌, length, IfOk};
+ghost use Rattle.spec_parser.specs.Trees.{spec_view};
+ghost use Rattle.spec_parser.specs.Stands.{Stands};
+
+use crate::histories::holds;
+use interleavings::Interleavings;
+use permutation_lists::{Permutations, line_of};
+use spec_parser::{Spec, SpecFault, parse_spec, specs_stand};
+use std::alloc::{AllocError, Global};
+use std::test::Fail;
+
+/// So many lists are given for these counts.
+fn number(alloc: Global, counts: &[u32]) -> Result<u32, AllocError>
+    requires { length counts.now < 2 ^ 32 }
+{
+    let mut all = Interleavings::new(alloc, counts)?;
+    let mut out = Vec::new(alloc);
+    for given in 0..10_000 {
+        if !all.next(&mut out)? {
+            return Ok(given);
+        }
+    }
+    Ok(10_000)
+}
+
+#[test]
+fn their_number_is_the_multinomial(rt: HostRuntime) -> Result<(), AllocError> {
+    holds(&rt, number(rt.alloc(), &[3, 3, 3])? == 1680);
+    holds(&rt, number(rt.alloc(), &[6, 0, 6])? == 924);
+    Ok(())
+}
+
+fn read(alloc: Global, text: &str) -> Result<Spec<'_>, SpecFault>
+    ensures { IfOk result (λ spec. Stands (spec_view spec)) }
+{
+    specs_stand();
+    parse_spec(alloc, text)
+}
+
+/// All lines of a file, which is a spec.
+fn lines(alloc: Global, text: &str) -> Result<Vec<u8>, AllocError> {
+    let spec = match read(alloc, text) {
+        Ok(spec) => spec,
+        Err(_) => return Err(AllocError),
+    };
+    let mut permutations = Permutations::of(alloc, &spec)?;
+    let mut lines = Vec::new(alloc);
+    for _ in 0..10_000 {
+        if !permutations.advance(alloc)? {
+            return Ok(lines);
+        }
+        let line = line_of(alloc, &spec, permutations.entries())?;
+        lines.extend_from_slice(&line)?;
+    }
+    Ok(lines)
+}
+
+#[test]
+fn lines_are_listed_as_they_stand(rt: HostRuntime) -> Result<(), Fail> {
+    let text =
+        "session s step a { } step \"b\"\"c\" { } permutation a(*, \"b\"\"c\") \"b\"\"c\"(a) a permutation \"b\"\"c\"";
+    let wanted =
+        "permutation \"a\"(*, \"b\"\"c\") \"b\"\"c\"(\"a\") \"a\"\npermutation \"b\"\"c\"\n";
+    let found = lines(rt.alloc(), text)?;
+    holds(&rt, found.as_slice() == wanted.as_bytes());
+    Ok(())
+}

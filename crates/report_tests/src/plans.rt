@@ -1,0 +1,171 @@
+//! Which histories fit a permutation, and which order comes next.
+
+use crate::histories::{done, holds, launch, leave};
+use permutation_plans::{Launches, launches_fit};
+use session_machine::{HistItem, Order};
+use spec_parser::parse_spec;
+use std::alloc::{AllocError, Global};
+use std::test::Fail;
+
+/// Block 0 is that of step a, block 1 that of step b.
+const STAR_MARKER: &str =
+    "session s1 step a { SELECT 1 AS x; } session s2 step b { SELECT 2; } permutation a(*) b";
+
+/// Block 0 is the main setup, block 1 step a, blocks 2 to 4 the setup, the step and the teardown of session 2.
+const SETUPS_AND_TEARDOWNS: &str =
+    "setup { CREATE TABLE t (x int); } session s1 step a { INSERT INTO t VALUES (7); } session s2 setup { BEGIN ISOLATION LEVEL REPEATABLE READ; } step r { SELECT * FROM t; } teardown { COMMIT; } permutation r a r";
+
+/// An order that a permutation gives: a Launch, or a Leave.
+#[derive(Clone, Copy)]
+enum Part {
+    To(u32, u32),
+    Out(u32),
+}
+
+use Part::{Out, To};
+
+struct Case {
+    text: &'static str,
+    parts: &'static [Part],
+    fits: bool,
+}
+
+const CASES: [Case; 10] = [
+    Case {
+        text: STAR_MARKER,
+        parts: &[To(1, 0), To(2, 1), Out(1), Out(2)],
+        fits: true,
+    },
+    // cut off
+    Case {
+        text: STAR_MARKER,
+        parts: &[To(1, 0), To(2, 1), Out(1)],
+        fits: false,
+    },
+    Case {
+        text: STAR_MARKER,
+        parts: &[],
+        fits: false,
+    },
+    // gone on
+    Case {
+        text: STAR_MARKER,
+        parts: &[To(1, 0), To(2, 1), Out(1), Out(2), Out(2)],
+        fits: false,
+    },
+    // another block, session, order
+    Case {
+        text: STAR_MARKER,
+        parts: &[To(1, 0), To(2, 0), Out(1), Out(2)],
+        fits: false,
+    },
+    Case {
+        text: STAR_MARKER,
+        parts: &[To(1, 0), To(1, 1), Out(1), Out(2)],
+        fits: false,
+    },
+    Case {
+        text: STAR_MARKER,
+        parts: &[To(2, 1), To(1, 0), Out(1), Out(2)],
+        fits: false,
+    },
+    Case {
+        text: SETUPS_AND_TEARDOWNS,
+        parts: &[
+            To(0, 0),
+            To(2, 2),
+            To(2, 3),
+            To(1, 1),
+            To(2, 3),
+            To(2, 4),
+            Out(1),
+            Out(2),
+        ],
+        fits: true,
+    },
+    // without the main setup, and without the last Leave
+    Case {
+        text: SETUPS_AND_TEARDOWNS,
+        parts: &[
+            To(2, 2),
+            To(2, 3),
+            To(1, 1),
+            To(2, 3),
+            To(2, 4),
+            Out(1),
+            Out(2),
+        ],
+        fits: false,
+    },
+    Case {
+        text: SETUPS_AND_TEARDOWNS,
+        parts: &[
+            To(0, 0),
+            To(2, 2),
+            To(2, 3),
+            To(1, 1),
+            To(2, 3),
+            To(2, 4),
+            Out(1),
+        ],
+        fits: false,
+    },
+];
+
+/// The history of these orders, each Launch with the one Step of its block.
+fn history<'a>(alloc: Global, parts: &[Part]) -> Result<Vec<HistItem<'a>>, AllocError> {
+    let mut items = Vec::new(alloc);
+    for part in parts {
+        match *part {
+            To(session, block) => {
+                items.push(launch(session, block))?;
+                items.push(done(session))?;
+            }
+            Out(session) => items.push(leave(session))?,
+        }
+    }
+    Ok(items)
+}
+
+/// Whether the history of these orders fits the first permutation of the text. None where memory was refused.
+fn fits(alloc: Global, case: &Case) -> Option<bool> {
+    let spec = parse_spec(alloc, case.text).ok()?;
+    let items = history(alloc, case.parts).ok()?;
+    let entries = spec.perms.first()?;
+    if spec.sessions.len() > 64 {
+        return None;
+    }
+    launches_fit(alloc, &spec, entries, &items).ok()
+}
+
+#[test]
+fn histories_fit(rt: HostRuntime) -> Result<(), Fail> {
+    for case in &CASES {
+        let fit = fits(rt.alloc(), case).ok_or("out of memory")?;
+        holds(&rt, fit == case.fits);
+    }
+    Ok(())
+}
+
+/// The order after the two setups. None where memory was refused.
+fn third_order(alloc: Global) -> Option<Order> {
+    let spec = parse_spec(alloc, SETUPS_AND_TEARDOWNS).ok()?;
+    let entries = spec.perms.first()?;
+    if spec.sessions.len() > 64 {
+        return None;
+    }
+    let launches = Launches::of(alloc, &spec, entries).ok()?;
+    let items = history(alloc, &[To(0, 0), To(2, 2)]).ok()?;
+    launches.due(alloc, entries, &items).ok()
+}
+
+#[test]
+fn the_first_step_is_due_after_the_setups(rt: HostRuntime) -> Result<(), Fail> {
+    let order = third_order(rt.alloc()).ok_or("out of memory")?;
+    let wanted = Order::Launch {
+        session: 2,
+        block: 3,
+    };
+    holds(&rt, order == wanted);
+    Ok(())
+}
