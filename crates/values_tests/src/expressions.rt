@@ -3,7 +3,7 @@
 
 use crate::told::{constant, expression, holds, is_answer};
 use iso_lexer::Name;
-use sql_trees::Column;
+use sql_trees::{Column, Expr};
 use sql_values::{Columns, Kind, Row, Text, Value, assign, compare, copy_row, eval, passes};
 use std::alloc::{AllocError, Global};
 use std::cmp::Ordering;
@@ -42,32 +42,38 @@ fn two_values(alloc: Global) -> Result<Row, AllocError> {
     Ok(Row::from_vec(values))
 }
 
-fn has_value(alloc: Global, text: &str, words: &str) -> Result<bool, AllocError> {
-    let Some(expr) = expression(alloc, text)? else {
-        return Ok(false);
-    };
+/// What is asked of an expression at the row.
+fn is_so_at(
+    alloc: Global,
+    asked: Asked,
+    expr: &Expr<'_>,
+    row: &Row,
+    words: &str,
+) -> Result<bool, AllocError> {
     let columns = columns();
     let cols = Columns::of(&columns);
-    let row = two_values(alloc)?;
     if row.values().len() != cols.len() {
         return Ok(false);
     }
-    is_answer(eval(alloc, &expr, &cols, &row), words)
-}
-
-fn is_passed(alloc: Global, text: &str, words: &str) -> Result<bool, AllocError> {
-    let Some(expr) = expression(alloc, text)? else {
-        return Ok(false);
-    };
-    let columns = columns();
-    let cols = Columns::of(&columns);
-    let row = two_values(alloc)?;
-    if row.values().len() != cols.len() {
-        return Ok(false);
+    if let Asked::Value = asked {
+        return is_answer(eval(alloc, expr, &cols, row), words);
     }
-    match passes(alloc, Some(&expr), &cols, &row) {
+    match passes(alloc, Some(expr), &cols, row) {
         Ok(passed) => is_answer(Ok(Value::Bool(passed)), words),
         Err(fault) => is_answer(Err(fault), words),
+    }
+}
+
+fn is_so_of(
+    alloc: Global,
+    asked: Asked,
+    row: &Row,
+    text: &str,
+    words: &str,
+) -> Result<bool, AllocError> {
+    match expression(alloc, text)? {
+        Some(expr) => is_so_at(alloc, asked, &expr, row, words),
+        None => Ok(false),
     }
 }
 
@@ -79,11 +85,11 @@ fn is_taken(alloc: Global, kind: Kind, text: &str, words: &str) -> Result<bool, 
 }
 
 fn is_so(alloc: Global, asked: Asked, text: &str, words: &str) -> Result<bool, AllocError> {
-    match asked {
-        Asked::Value => has_value(alloc, text, words),
-        Asked::Passes => is_passed(alloc, text, words),
-        Asked::Taken(kind) => is_taken(alloc, kind, text, words),
+    if let Asked::Taken(kind) = asked {
+        return is_taken(alloc, kind, text, words);
     }
+    let row = two_values(alloc)?;
+    is_so_of(alloc, asked, &row, text, words)
 }
 
 /// Asked again where memory was refused.
@@ -283,26 +289,28 @@ fn in_and_between(rt: HostRuntime) {
     all_are_so(&rt, rt.alloc(), Asked::Value, &IN_AND_BETWEEN);
 }
 
+const COLUMNS: [(&str, &str); 4] = [
+    ("a + 1", "int 8"),
+    ("\"b\"\"B\"", "text x"),
+    ("\"A\"\"1\"", "no column A\"1"),
+    ("Bb", "no column bb"),
+];
+
 #[test]
 fn columns_by_name(rt: HostRuntime) {
-    let cases = [
-        ("a + 1", "int 8"),
-        ("\"b\"\"B\"", "text x"),
-        ("\"A\"\"1\"", "no column A\"1"),
-        ("Bb", "no column bb"),
-    ];
-    all_are_so(&rt, rt.alloc(), Asked::Value, &cases);
+    all_are_so(&rt, rt.alloc(), Asked::Value, &COLUMNS);
 }
+
+const PASSED: [(&str, &str); 4] = [
+    ("a = 7", "true"),
+    ("a = 8", "false"),
+    ("NULL", "false"),
+    ("a", "type mismatch"),
+];
 
 #[test]
 fn rows_that_pass(rt: HostRuntime) {
-    let cases = [
-        ("a = 7", "true"),
-        ("a = 8", "false"),
-        ("NULL", "false"),
-        ("a", "type mismatch"),
-    ];
-    all_are_so(&rt, rt.alloc(), Asked::Passes, &cases);
+    all_are_so(&rt, rt.alloc(), Asked::Passes, &PASSED);
 }
 
 const INTEGERS: [(&str, &str); 6] = [
@@ -314,15 +322,18 @@ const INTEGERS: [(&str, &str); 6] = [
     ("TRUE", "type mismatch"),
 ];
 
+const BIGINTS: [(&str, &str); 2] = [("1", "bigint 1"), ("2147483648", "bigint 2147483648")];
+
+const TEXTS: [(&str, &str); 2] = [("'a'", "text a"), ("1", "type mismatch")];
+
+const BOOLEANS: [(&str, &str); 3] = [("NULL", "NULL"), ("TRUE", "true"), ("1", "type mismatch")];
+
 #[test]
 fn taken_by_columns(rt: HostRuntime) {
-    let bigints = [("1", "bigint 1"), ("2147483648", "bigint 2147483648")];
-    let texts = [("'a'", "text a"), ("1", "type mismatch")];
-    let booleans = [("NULL", "NULL"), ("TRUE", "true"), ("1", "type mismatch")];
     all_are_so(&rt, rt.alloc(), Asked::Taken(Kind::Int), &INTEGERS);
-    all_are_so(&rt, rt.alloc(), Asked::Taken(Kind::Big), &bigints);
-    all_are_so(&rt, rt.alloc(), Asked::Taken(Kind::Text), &texts);
-    all_are_so(&rt, rt.alloc(), Asked::Taken(Kind::Bool), &booleans);
+    all_are_so(&rt, rt.alloc(), Asked::Taken(Kind::Big), &BIGINTS);
+    all_are_so(&rt, rt.alloc(), Asked::Taken(Kind::Text), &TEXTS);
+    all_are_so(&rt, rt.alloc(), Asked::Taken(Kind::Bool), &BOOLEANS);
 }
 
 fn compare_as(a: &Value, b: &Value, order: Option<Ordering>) -> bool {
@@ -338,10 +349,14 @@ fn compared(rt: HostRuntime) {
     holds(&rt, compare_as(&two, &Value::Bool(true), None));
 }
 
+fn is_copied(alloc: Global, row: &Row) -> Result<bool, AllocError> {
+    let copy = copy_row(alloc, row)?;
+    Ok(row.same(&copy))
+}
+
 fn copy_is_same(alloc: Global) -> Result<bool, AllocError> {
     let row = two_values(alloc)?;
-    let copy = copy_row(alloc, &row)?;
-    Ok(row.same(&copy))
+    is_copied(alloc, &row)
 }
 
 #[test]

@@ -1,9 +1,11 @@
-//! Tests of values, row versions and tables, by what these crates give to callers. They pass where any one allocation fails, too: what was refused memory
+//! Tests of values, row versions, unique keys and tables, by what these crates give to callers. They pass where any one allocation fails, too: what was refused memory
 //! is asked again.
 #![tactic(auto)]
 
 #[cfg(test)]
 mod expressions;
+#[cfg(test)]
+mod keys;
 #[cfg(test)]
 mod sorting;
 #[cfg(test)]

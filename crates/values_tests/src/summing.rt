@@ -14,36 +14,60 @@ fn are_as_long(rows: &[&Row], long: usize) -> bool
     rows.iter().all(|row| row.values().len() == long)
 }
 
-fn gives(alloc: Global, agg: &Agg<'_>, rows: &[Row], words: &str) -> Result<bool, AllocError> {
+fn lent<'r>(alloc: Global, rows: &'r [Row]) -> Result<Vec<&'r Row>, AllocError> {
+    let mut lent = Vec::new(alloc);
+    for row in rows {
+        lent.push(row)?;
+    }
+    Ok(lent)
+}
+
+fn gives(alloc: Global, agg: &Agg<'_>, rows: &[&Row], words: &str) -> Result<bool, AllocError> {
     let column = [Column {
         name: Name::Folded("x"),
         kind: Kind::Int,
         not_null: false,
     }];
-    let mut lent = Vec::new(alloc);
-    for row in rows {
-        lent.push(row)?;
-    }
     let cols = Columns::of(&column);
-    if !are_as_long(&lent, cols.len()) {
+    if !are_as_long(rows, cols.len()) {
         return Ok(false);
     }
-    is_answer(aggregate(alloc, agg, &cols, &lent), words)
+    is_answer(aggregate(alloc, agg, &cols, rows), words)
+}
+
+fn gives_of(alloc: Global, agg: &Agg<'_>, rows: &[Row], words: &str) -> Result<bool, AllocError> {
+    let lent = lent(alloc, rows)?;
+    gives(alloc, agg, &lent, words)
 }
 
 /// An aggregate, the rows, and the answer in words.
 type Case = (Option<AggKind>, &'static str, &'static str, &'static str);
 
-fn is_so(alloc: Global, case: &Case) -> Result<bool, AllocError> {
-    let (kind, text, rows, words) = *case;
-    let rows = rows_of(alloc, rows)?;
+/// The aggregate of that kind, where the text is an expression.
+fn agg_of<'a>(
+    alloc: Global,
+    kind: Option<AggKind>,
+    text: &'a str,
+) -> Result<Option<Agg<'a>>, AllocError> {
     let Some(kind) = kind else {
-        return gives(alloc, &Agg::CountRows, &rows, words);
+        return Ok(Some(Agg::CountRows));
     };
     match expression(alloc, text)? {
-        Some(expr) => gives(alloc, &Agg::Of(kind, expr), &rows, words),
+        Some(expr) => Ok(Some(Agg::Of(kind, expr))),
+        None => Ok(None),
+    }
+}
+
+fn is_so_of(alloc: Global, rows: &[Row], case: &Case) -> Result<bool, AllocError> {
+    match agg_of(alloc, case.0, case.1)? {
+        Some(agg) => gives_of(alloc, &agg, rows, case.3),
         None => Ok(false),
     }
+}
+
+fn is_so(alloc: Global, case: &Case) -> Result<bool, AllocError> {
+    let rows = rows_of(alloc, case.2)?;
+    is_so_of(alloc, &rows, case)
 }
 
 fn is_so_at_last(alloc: Global, case: &Case) -> bool {

@@ -96,12 +96,23 @@ fn named(name: Name<'_>) -> Title<'_> {
     Title::Column(TitleName::new(name))
 }
 
-/// A text that looks like a number, another one, and NULL.
-fn numbers(alloc: Global) -> Result<ResultSet<'static>, AllocError> {
+fn text_row(alloc: Global, bytes: &str) -> Result<Row, AllocError> {
+    let mut values = Vec::new(alloc);
+    values.push(text(alloc, bytes)?)?;
+    Ok(Row::from_vec(values))
+}
+
+/// Two texts that look like numbers, and an empty one.
+fn number_rows(alloc: Global) -> Result<Vec<Row>, AllocError> {
     let mut rows = Vec::new(alloc);
-    rows.push(Row::from_vec(vec![in alloc; text(alloc, "12")?]?))?;
-    rows.push(Row::from_vec(vec![in alloc; text(alloc, "-3")?]?))?;
-    rows.push(Row::from_vec(vec![in alloc; Value::Null]?))?;
+    for bytes in ["12", "-3", ""] {
+        rows.push(text_row(alloc, bytes)?)?;
+    }
+    Ok(rows)
+}
+
+fn numbers(alloc: Global) -> Result<ResultSet<'static>, AllocError> {
+    let rows = number_rows(alloc)?;
     set(vec![in alloc; named(Name::Folded("c"))]?, rows)
 }
 

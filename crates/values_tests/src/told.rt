@@ -93,17 +93,33 @@ pub(crate) fn is_answer(
     }
 }
 
-/// The value of an expression without columns, where it has one.
-pub(crate) fn constant(alloc: Global, text: &str) -> Result<Option<Value>, AllocError> {
-    let Some(expr) = expression(alloc, text)? else {
+/// The value at a row without columns, where it has one.
+fn value_alone(alloc: Global, expr: &Expr<'_>, row: &Row) -> Result<Option<Value>, AllocError> {
+    let cols = Columns::of(&[]);
+    if row.values().len() != cols.len() {
         return Ok(None);
-    };
-    let row = Row::from_vec(Vec::new(alloc));
-    match eval(alloc, &expr, &Columns::of(&[]), &row) {
+    }
+    match eval(alloc, expr, &cols, row) {
         Ok(value) => Ok(Some(value)),
         Err(ValueFault::Memory) => Err(AllocError),
         Err(_) => Ok(None),
     }
+}
+
+/// The value of an expression without columns, where it has one.
+pub(crate) fn constant(alloc: Global, text: &str) -> Result<Option<Value>, AllocError> {
+    let row = Row::from_vec(Vec::new(alloc));
+    match expression(alloc, text)? {
+        Some(expr) => value_alone(alloc, &expr, &row),
+        None => Ok(None),
+    }
+}
+
+fn push_row(alloc: Global, rows: &mut Vec<Row>, value: Value) -> Result<(), AllocError> {
+    let mut values = Vec::new(alloc);
+    values.push(value)?;
+    rows.push(Row::from_vec(values))?;
+    Ok(())
 }
 
 /// Rows of one value each, of expressions between blanks. One that has no value has no row.
@@ -111,7 +127,7 @@ pub(crate) fn rows_of(alloc: Global, words: &str) -> Result<Vec<Row>, AllocError
     let mut rows = Vec::new(alloc);
     for word in words.split_whitespace() {
         if let Some(value) = constant(alloc, word)? {
-            rows.push(Row::from_vec(vec![in alloc; value]?))?;
+            push_row(alloc, &mut rows, value)?;
         }
     }
     Ok(rows)

@@ -1,6 +1,6 @@
 //! Worked stories of rows, over each store.
-ghost use Rattle.std.specs.Prelude.{◌≡◌, IfOk};
-ghost use Rattle.row_versions.specs.Log.{Content, after_begin, empty_content, next_tx};
+ghost use Rattle.std.specs.Prelude.{◌≡◌};
+ghost use Rattle.row_versions.specs.Log.{empty_content};
 
 use crate::told::holds;
 use row_versions::{ListStore, RowId, Seen, TableId, TxId, Versions, View};
@@ -11,9 +11,10 @@ const TABLE: TableId = TableId(7);
 
 const OTHER: TableId = TableId(8);
 
-/// A row of one number.
-fn number(alloc: Global, n: i32) -> Result<Option<Row>, AllocError> {
-    Ok(Some(Row::from_vec(vec![in alloc; Value::Int(n)]?)))
+fn row_of(alloc: Global, n: i32) -> Result<Row, AllocError> {
+    let mut values = Vec::new(alloc);
+    values.push(Value::Int(n))?;
+    Ok(Row::from_vec(values))
 }
 
 fn is_number(row: Option<&Row>, n: i32) -> bool {
@@ -23,24 +24,6 @@ fn is_number(row: Option<&Row>, n: i32) -> bool {
             _ => false,
         },
         None => false,
-    }
-}
-
-/// What a reader without a transaction sees after so many commits.
-fn after(commits: u64) -> View {
-    View {
-        tx: None,
-        commits,
-        command: 0,
-    }
-}
-
-/// What this command of the transaction sees after so many commits.
-fn own(tx: u64, commits: u64, command: u64) -> View {
-    View {
-        tx: Some(TxId(tx)),
-        commits,
-        command,
     }
 }
 
@@ -63,13 +46,33 @@ fn are_shown<V: Versions>(store: &V, rows: &[Seen], shown: &[Shown]) -> bool {
     true
 }
 
-/// What a view shows in a table.
-type Showing<'a> = (View, TableId, &'a [Shown]);
+/// What is seen after so many commits, by this command of a transaction or without one, in a table.
+type Showing = (u64, Option<(u64, u64)>, TableId, &'static [Shown]);
 
-fn shows_all<V: Versions>(store: &V, showings: &[Showing<'_>]) -> Result<bool, AllocError> {
-    for (view, table, shown) in showings {
-        let rows = store.rows(view, *table)?;
-        if !are_shown(store, &rows, shown) {
+fn view_of(showing: &Showing) -> View {
+    let commits = showing.0;
+    match showing.1 {
+        Some((tx, command)) => View {
+            tx: Some(TxId(tx)),
+            commits,
+            command,
+        },
+        None => View {
+            tx: None,
+            commits,
+            command: 0,
+        },
+    }
+}
+
+fn shows<V: Versions>(store: &V, showing: &Showing) -> Result<bool, AllocError> {
+    let rows = store.rows(&view_of(showing), showing.2)?;
+    Ok(are_shown(store, &rows, showing.3))
+}
+
+fn shows_all<V: Versions>(store: &V, showings: &[Showing]) -> Result<bool, AllocError> {
+    for showing in showings {
+        if !shows(store, showing)? {
             return Ok(false);
         }
     }
@@ -85,81 +88,80 @@ fn newest_is<V: Versions>(store: &V, row: u64, tx: u64, place: Option<u64>) -> b
     }
 }
 
-fn write<V: Versions>(
-    store: &mut V,
-    tx: TxId,
-    row: Option<RowId>,
-    values: Option<Row>,
-) -> Result<(), AllocError>
+/// A write: of this transaction, of this row or a new one, with a number unless it deletes the row.
+type Put = (u64, Option<u64>, Option<i32>);
+
+fn put<V: Versions>(alloc: Global, store: &mut V, put: &Put) -> Result<(), AllocError>
     ensures { (V.content store.new).fates ≡ (V.content store.old).fates }
 {
-    match store.write(tx, 0, TABLE, row, values) {
+    let row = match put.1 {
+        Some(row) => Some(RowId(row)),
+        None => None,
+    };
+    let values = match put.2 {
+        Some(n) => Some(row_of(alloc, n)?),
+        None => None,
+    };
+    match store.write(TxId(put.0), 0, TABLE, row, values) {
         Ok(_) => Ok(()),
         Err(_) => Err(AllocError),
     }
 }
 
-/// Two rows are inserted and committed: nobody sees an open transaction's writes, nor does its own command that made them.
+fn put_all<V: Versions>(alloc: Global, store: &mut V, puts: &[Put]) -> Result<(), AllocError>
+    ensures { (V.content store.new).fates ≡ (V.content store.old).fates }
+{
+    for one in puts {
+        put(alloc, store, one)?;
+    }
+    Ok(())
+}
+
+const TWO_ROWS: [Put; 2] = [(0, None, Some(10)), (0, None, Some(20))];
+
+/// Nobody sees an open transaction's writes, nor does its own command that made them.
+const OPEN: [Showing; 3] = [
+    (1, None, TABLE, &[]),
+    (0, Some((0, 0)), TABLE, &[]),
+    (0, Some((0, 1)), TABLE, &[(0, 0, 10), (1, 1, 20)]),
+];
+
+const COMMITTED: [Showing; 3] = [
+    (0, None, TABLE, &[]),
+    (1, None, TABLE, &[(0, 0, 10), (1, 1, 20)]),
+    (1, None, OTHER, &[]),
+];
+
+/// Two rows are inserted and committed.
 fn inserts<V: Versions>(alloc: Global, store: &mut V) -> Result<bool, AllocError>
     requires { V.content store.old ≡ empty_content }
 {
     let maker = store.begin()?;
-    write(store, maker, None, number(alloc, 10)?)?;
-    write(store, maker, None, number(alloc, 20)?)?;
-    let both = [(0, 0, 10), (1, 1, 20)];
-    let open = [
-        (after(1), TABLE, [].as_slice()),
-        (own(0, 0, 0), TABLE, &[]),
-        (own(0, 0, 1), TABLE, &both),
-    ];
-    let before = shows_all(store, &open)? && !store.has_committed(maker);
+    put_all(alloc, store, &TWO_ROWS)?;
+    let before = shows_all(store, &OPEN)? && !store.has_committed(maker);
     store.commit(maker);
-    let committed = [
-        (after(0), TABLE, [].as_slice()),
-        (after(1), TABLE, &both),
-        (after(1), OTHER, &[]),
-    ];
-    Ok(
-        before
-            && shows_all(store, &committed)?
-            && store.has_committed(maker)
-            && store.committed() == 1,
-    )
+    let after = shows_all(store, &COMMITTED)? && store.has_committed(maker);
+    Ok(before && after && store.committed() == 1)
 }
 
-/// Of two committed rows one transaction updates the first and is rolled back, and another deletes the second and
-/// commits. Each sees its own write alone, an updated row where its new version was written.
-fn changes<V: Versions>(alloc: Global, store: &mut V) -> Result<bool, AllocError>
-    requires { V.content store.old ≡ empty_content }
-{
-    let maker = store.begin()?;
-    let updater = store.begin()?;
-    let deleter = store.begin()?;
-    write(store, maker, None, number(alloc, 10)?)?;
-    write(store, maker, None, number(alloc, 20)?)?;
-    store.commit(maker);
-    write(store, updater, Some(RowId(0)), number(alloc, 11)?)?;
-    write(store, deleter, Some(RowId(1)), None)?;
-    let both = [(0, 0, 10), (1, 1, 20)];
-    let open = [
-        (after(1), TABLE, both.as_slice()),
-        (own(1, 1, 1), TABLE, &[(1, 1, 20), (0, 2, 11)]),
-        (own(2, 1, 1), TABLE, &[(0, 0, 10)]),
-    ];
-    let before = shows_all(store, &open)? && are_newest(store);
-    store.roll_back(updater);
-    store.commit(deleter);
-    let ended = [
-        (after(1), TABLE, both.as_slice()),
-        (after(2), TABLE, &[(0, 0, 10)]),
-    ];
-    Ok(
-        before
-            && shows_all(store, &ended)?
-            && store.committed() == 2
-            && !store.has_committed(updater),
-    )
-}
+const UPDATE_AND_DELETE: [Put; 4] = [
+    (0, None, Some(10)),
+    (0, None, Some(20)),
+    (1, Some(0), Some(11)),
+    (2, Some(1), None),
+];
+
+/// Each sees its own write alone, an updated row where its new version was written.
+const OWN: [Showing; 3] = [
+    (1, None, TABLE, &[(0, 0, 10), (1, 1, 20)]),
+    (1, Some((1, 1)), TABLE, &[(1, 1, 20), (0, 2, 11)]),
+    (1, Some((2, 1)), TABLE, &[(0, 0, 10)]),
+];
+
+const ENDED: [Showing; 2] = [
+    (1, None, TABLE, &[(0, 0, 10), (1, 1, 20)]),
+    (2, None, TABLE, &[(0, 0, 10)]),
+];
 
 /// While both are open, each has its own write as the newest version. The last write left no values.
 fn are_newest<V: Versions>(store: &V) -> bool {
@@ -173,6 +175,22 @@ fn are_newest<V: Versions>(store: &V) -> bool {
         && newest_is(store, 1, 2, Some(3))
         && newest_is(store, 9, 0, None)
         && store.values(&gone).is_none()
+}
+
+/// Of two committed rows one transaction updates the first and is rolled back, and another deletes the second and commits.
+fn changes<V: Versions>(alloc: Global, store: &mut V) -> Result<bool, AllocError>
+    requires { V.content store.old ≡ empty_content }
+{
+    let maker = store.begin()?;
+    let updater = store.begin()?;
+    let deleter = store.begin()?;
+    put_all(alloc, store, &UPDATE_AND_DELETE)?;
+    store.commit(maker);
+    let before = shows_all(store, &OWN)? && are_newest(store);
+    store.roll_back(updater);
+    store.commit(deleter);
+    let after = shows_all(store, &ENDED)? && !store.has_committed(updater);
+    Ok(before && after && store.committed() == 2)
 }
 
 #[test]

@@ -1,0 +1,127 @@
+-- What an index that is up to date finds is what the log says.
+use Rattle.std.proofs.Common.{◌≡◌, ◌≢◌, refl, sym, ◌∙◌, ap, subst, Bool, true, false, not, ◌||◌, ◌&&◌, ◌==◌, ℕ, ◌<◌, List, [], ◌∷◌, length, map, filter}
+use Rattle.std.specs.Prelude.{Option, Some, None}
+use Rattle.std.specs.List.{list_any}
+use Rattle.sql_values.specs.declared.value.Value.{Value}
+use Rattle.row_versions.specs.declared.names.TxId.{TxId}
+use Rattle.row_versions.specs.declared.names.RowId.{RowId}
+use Rattle.row_versions.specs.declared.names.TableId.{TableId}
+use Rattle.row_versions.specs.declared.write.Fate.{Fate}
+use Rattle.row_versions.specs.declared.write.Fate.TheVariants.{Open, RolledBack, Committed}
+use Rattle.row_versions.specs.Log.{Content, IsOpen, fate_of, has_committed, is_committed}
+use Rattle.unique_keys.specs.declared.noted.Noted.{Noted}
+use Rattle.unique_keys.specs.declared.keys.Check.{Check}
+use Rattle.unique_keys.specs.declared.keys.Check.TheVariants.{Free, Taken, Held}
+use Rattle.unique_keys.specs.Members.{same_tx, EachOnce, is_open, is_open_fate}
+use Rattle.unique_keys.specs.Keys.{Keys, has_key}
+use Rattle.unique_keys.specs.Writes.{writes, stands, IsUpToDate}
+use Rattle.unique_keys.specs.Finding.{last_of, version_has, is_committed_version, committed_has, own_has, is_in_way, blockers_among, counts_for, is_version_for, is_another, newest_has, takes, is_taken_among}
+use Rattle.unique_keys.specs.Checks.{blockers, is_taken, IsFree, FreeBefore, FindsKey, Finds, FindsKeys}
+use Rattle.unique_keys.proofs.Filtered.{list_any-filter, filter-filter, last_of-filter}
+use Rattle.unique_keys.proofs.Listed.{same_is}
+
+-- whoever stands and hasn't committed is open
+open_or_committed : (f : Option Fate) → (is_open_fate f || is_committed f) ≡ true → not (is_committed f) ≡ is_open_fate f
+open_or_committed None h = cc
+open_or_committed (Some Open) h = refl
+open_or_committed (Some RolledBack) h = cc
+open_or_committed (Some (Committed k)) h = refl
+
+and_left : (a b : Bool) → (a && b) ≡ true → a ≡ true
+and_left true b h = refl
+and_left false b h = cc
+
+and_right : (a b : Bool) → (a && b) ≡ true → b ≡ true
+and_right true b h = h
+and_right false b h = cc
+
+or_left : (a b : Bool) → a ≡ true → (a || b) ≡ true
+or_left true b h = refl
+or_left false b h = cc
+
+or_right : (a b : Bool) → b ≡ true → (a || b) ≡ true
+or_right true b h = refl
+or_right false b h = h
+
+open_is : (fates : List Fate) (a b : TxId) → same_tx a b ≡ true → is_open fates b ≡ true → is_open fates a ≡ true
+open_is fates a b e h = subst (λ t. is_open fates t ≡ true) (sym (same_is a b e)) h
+
+-- both parts are the same where the transaction is active, and else both are false
+while_active : (t n one other : Bool) (z y : Bool) → one ≡ other → (other ≡ true → z ≡ y) → ((t && (n && one)) && z) ≡ ((t && (n && other)) && y)
+while_active t n one true z y e h = ap (λ v. (t && (n && v)) && z) e ∙ ap (λ v. (t && (n && true)) && v) (h refl)
+while_active true true one false z y e h = ap (λ v. v && z) e
+while_active true false one false z y e h = refl
+while_active false n one false z y e h = refl
+
+counts_stands : (c : Content) (tx : TxId) → IsOpen c tx → (w : Noted) → counts_for (has_committed c) tx w ≡ true → stands c.fates w ≡ true
+counts_stands c tx h w k = cases (has_committed c w.tx) refl k where
+  cases : (a : Bool) → has_committed c w.tx ≡ a → (a || same_tx w.tx tx) ≡ true → stands c.fates w ≡ true
+  cases true e k = or_right (is_open c.fates w.tx) (has_committed c w.tx) e
+  cases false e k = or_left (is_open c.fates w.tx) (has_committed c w.tx) (open_is c.fates w.tx tx k (ap is_open_fate h))
+
+newest_same : (c : Content) (tx : TxId) → IsOpen c tx → (columns : List ℕ) (asked : List Value) (row : RowId)
+    → newest_has (has_committed c) (filter (stands c.fates) (writes c)) columns asked row tx ≡ newest_has (has_committed c) (writes c) columns asked row tx
+newest_same c tx h columns asked row =
+    ap (λ v. version_has columns asked v)
+    (last_of-filter (stands c.fates) (is_version_for (has_committed c) row tx) (λ w k. counts_stands c tx h w (and_right (w.row.0 == row.0) (counts_for (has_committed c) tx w) k)) (writes c))
+
+pub taken_same : (c : Content) (index : List Noted) (tx : TxId) → IsUpToDate index c → IsOpen c tx → (table : TableId) (except : Option RowId) (asked : List Value) (columns : List ℕ)
+    → is_taken_among (has_committed c) index table tx except asked columns ≡ is_taken c table tx except asked columns
+taken_same c index tx up h table except asked columns =
+    ap (λ v. is_taken_among (has_committed c) v table tx except asked columns) up
+    ∙ list_any-filter (stands c.fates) (takes (has_committed c) (filter (stands c.fates) (writes c)) table tx except asked columns) (takes (has_committed c) (writes c) table tx except asked columns)
+    (λ w. ap (λ v. ((w.table.0 == table.0) && (is_another except w.row && counts_for (has_committed c) tx w)) && v) (newest_same c tx h columns asked w.row))
+    (λ w k. counts_stands c tx h w (and_right (is_another except w.row) (counts_for (has_committed c) tx w) (and_right (w.table.0 == table.0) (is_another except w.row && counts_for (has_committed c) tx w)
+    (and_left ((w.table.0 == table.0) && (is_another except w.row && counts_for (has_committed c) tx w)) (newest_has (has_committed c) (writes c) columns asked w.row tx) k))))
+    (writes c)
+
+committed_same : (c : Content) (columns : List ℕ) (asked : List Value) (row : RowId)
+    → committed_has (has_committed c) (filter (stands c.fates) (writes c)) columns asked row ≡ committed_has (has_committed c) (writes c) columns asked row
+committed_same c columns asked row =
+    ap (λ v. version_has columns asked v)
+    (last_of-filter (stands c.fates) (is_committed_version (has_committed c) row) (λ w k. or_right (is_open c.fates w.tx) (has_committed c w.tx) (and_right (w.row.0 == row.0) (has_committed c w.tx) k)) (writes c))
+
+own_same : (c : Content) (columns : List ℕ) (asked : List Value) (row : RowId) (u : TxId) → is_open c.fates u ≡ true
+    → own_has (filter (stands c.fates) (writes c)) columns asked row u ≡ own_has (writes c) columns asked row u
+own_same c columns asked row u h =
+    list_any-filter (stands c.fates) (λ v. ((v.row.0 == row.0) && same_tx v.tx u) && has_key columns asked v.values) (λ v. ((v.row.0 == row.0) && same_tx v.tx u) && has_key columns asked v.values)
+    (λ v. refl)
+    (λ v k. or_left (is_open c.fates v.tx) (has_committed c v.tx) (open_is c.fates v.tx u (and_right (v.row.0 == row.0) (same_tx v.tx u) (and_left ((v.row.0 == row.0) && same_tx v.tx u) (has_key columns asked v.values) k)) h))
+    (writes c)
+
+-- a write that stands is in the way by the index where it is by the log
+way_same : (c : Content) (table : TableId) (tx : TxId) (asked : List Value) (columns : List ℕ) (w : Noted) → stands c.fates w ≡ true
+    → is_in_way (has_committed c) (λ u. not (has_committed c u)) (filter (stands c.fates) (writes c)) table columns asked tx w ≡ is_in_way (has_committed c) (is_open c.fates) (writes c) table columns asked tx w
+way_same c table tx asked columns w s =
+    while_active (w.table.0 == table.0) (not (same_tx w.tx tx)) (not (has_committed c w.tx)) (is_open c.fates w.tx) _ _ (open_or_committed (fate_of c.fates w.tx) s)
+    (λ h. ap (λ v. v || own_has (filter (stands c.fates) (writes c)) columns asked w.row w.tx) (committed_same c columns asked w.row)
+    ∙ ap (λ v. committed_has (has_committed c) (writes c) columns asked w.row || v) (own_same c columns asked w.row w.tx h))
+
+pub blockers_same : (c : Content) (index : List Noted) → IsUpToDate index c → (table : TableId) (tx : TxId) (asked : List Value) (columns : List ℕ)
+    → blockers_among (has_committed c) (λ u. not (has_committed c u)) index table tx asked columns ≡ blockers c table tx asked columns
+blockers_same c index up table tx asked columns =
+    ap (λ v. blockers_among (has_committed c) (λ u. not (has_committed c u)) v table tx asked columns) up
+    ∙ ap (λ ws. map (λ (w : Noted). w.tx) ws) (filter-filter (stands c.fates) (is_in_way (has_committed c) (λ u. not (has_committed c u)) (filter (stands c.fates) (writes c)) table columns asked tx) (is_in_way (has_committed c) (is_open c.fates) (writes c) table columns asked tx)
+    (λ w s. way_same c table tx asked columns w s)
+    (λ w k. or_left (is_open c.fates w.tx) (has_committed c w.tx) (active w k))
+    (writes c)) where
+      active : (w : Noted) → is_in_way (has_committed c) (is_open c.fates) (writes c) table columns asked tx w ≡ true → is_open c.fates w.tx ≡ true
+      active w k =
+          and_right (not (same_tx w.tx tx)) (is_open c.fates w.tx) (and_right (w.table.0 == table.0) (not (same_tx w.tx tx) && is_open c.fates w.tx)
+          (and_left ((w.table.0 == table.0) && (not (same_tx w.tx tx) && is_open c.fates w.tx)) (committed_has (has_committed c) (writes c) columns asked w.row || own_has (writes c) columns asked w.row w.tx) k))
+
+free_same : (by who : List ℕ → List TxId) (taken has : List ℕ → Bool) → ((k : List ℕ) → by k ≡ who k) → ((k : List ℕ) → taken k ≡ has k) → (columns : List ℕ) → IsFree by taken columns → IsFree who has columns
+free_same by who taken has e1 e2 columns f = (sym (e1 columns) ∙ f.0, sym (e2 columns) ∙ f.1)
+
+-- what is found is the same where blockers and takers are
+finds_same : (by who : List ℕ → List TxId) (taken has : List ℕ → Bool) → ((k : List ℕ) → by k ≡ who k) → ((k : List ℕ) → taken k ≡ has k) → (t : Keys) (check : Check) → Finds by taken t check → Finds who has t check
+finds_same by who taken has e1 e2 t Free f = λ key l. free_same by who taken has e1 e2 _ (f key l)
+finds_same by who taken has e1 e2 t (Taken key) f = (f.0, λ k l. free_same by who taken has e1 e2 _ (f.1 k l), (sym (e1 _) ∙ f.2.0, sym (e2 _) ∙ f.2.1))
+finds_same by who taken has e1 e2 t (Held key some) f = (f.0, λ k l. free_same by who taken has e1 e2 _ (f.1 k l), (λ none. f.2.0 (e1 _ ∙ none), subst (λ v. EachOnce v some.items) (e1 _) f.2.1))
+
+-- what an index that is up to date finds of the keys is what the log says
+pub finds_exactly : (c : Content) (index : List Noted) (tx : TxId) (except : Option RowId) (asked : List Value) (t : Keys) (check : Check)
+    → Finds (blockers_among (has_committed c) (λ u. not (has_committed c u)) index t.table tx asked) (is_taken_among (has_committed c) index t.table tx except asked) t check
+    → IsUpToDate index c → IsOpen c tx → FindsKeys c t asked tx except check
+finds_exactly c index tx except asked t check f up h =
+    finds_same _ _ _ _ (blockers_same c index up t.table tx asked) (taken_same c index tx up h t.table except asked) t check f

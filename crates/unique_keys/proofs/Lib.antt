@@ -1,0 +1,6 @@
+mod Filtered
+mod Listed
+mod Exact
+mod Found
+mod Nulls
+mod Keeping

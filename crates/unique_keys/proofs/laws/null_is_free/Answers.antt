@@ -1,0 +1,9 @@
+use Rattle.row_versions.specs.Log.{has_committed}
+use Rattle.unique_keys.specs.Members.{is_open}
+use Rattle.unique_keys.specs.Writes.{writes}
+use Rattle.unique_keys.proofs.Nulls.{null_blocked_by_none, null_taken_by_none}
+use Rattle.unique_keys.proofs.laws.null_is_free.Goals as goal
+
+pub returns : goal.returns
+returns c = λ content table tx except asked columns h.
+    (null_blocked_by_none (has_committed content) (is_open content.fates) (writes content) table tx asked columns h, null_taken_by_none (has_committed content) (writes content) table tx except asked columns h)

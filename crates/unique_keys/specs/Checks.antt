@@ -1,0 +1,47 @@
+-- Held, taken, free: what PostgreSQL does where a row's keys are checked (13.2.1 on what others have not committed, 5.5.3 on unique constraints).
+use Rattle.std.specs.Prelude.{◌≡◌, ◌≢◌, ℕ, ◌<◌, Bool, true, false, List, [], Option, length}
+use Rattle.sql_values.specs.declared.value.Value.{Value}
+use Rattle.row_versions.specs.declared.names.TxId.{TxId}
+use Rattle.row_versions.specs.declared.names.RowId.{RowId}
+use Rattle.row_versions.specs.declared.names.TableId.{TableId}
+use Rattle.row_versions.specs.Log.{Content, has_committed}
+use Rattle.unique_keys.specs.declared.keys.Check.{Check}
+use Rattle.unique_keys.specs.declared.keys.Check.TheVariants.{Free, Taken, Held}
+use Rattle.unique_keys.specs.declared.key_index.Found.{Found}
+use Rattle.unique_keys.specs.declared.key_index.Found.TheVariants as found
+use Rattle.unique_keys.specs.Members.{EachOnce, is_open}
+use Rattle.unique_keys.specs.Keys.{Keys, columns_at}
+use Rattle.unique_keys.specs.Writes.{writes}
+use Rattle.unique_keys.specs.Finding.{blockers_among, is_taken_among}
+
+-- the blockers of a key request: the other open transactions that wrote a row of the table whose newest committed version, or any version by that transaction, has the key
+abbrev pub blockers : Content → TableId → TxId → List Value → List ℕ → List TxId
+blockers c table tx asked columns = blockers_among (has_committed c) (is_open c.fates) (writes c) table tx asked columns
+
+-- the newest version for the transaction of another row of the table has the key
+abbrev pub is_taken : Content → TableId → TxId → Option RowId → List Value → List ℕ → Bool
+is_taken c table tx except asked columns = is_taken_among (has_committed c) (writes c) table tx except asked columns
+
+-- a key is free where nobody blocks it and no other row has it
+abbrev pub IsFree : (List ℕ → List TxId) → (List ℕ → Bool) → List ℕ → Type 0
+IsFree by taken columns = (by columns ≡ []) × (taken columns ≡ false)
+
+-- all keys before that number are free
+abbrev pub FreeBefore : (List ℕ → List TxId) → (List ℕ → Bool) → Keys → ℕ → Type 0
+FreeBefore by taken t n = (key : ℕ) → key < n → IsFree by taken (columns_at t key)
+
+-- what is found of one key: it is held where it has blockers, and else taken where another row has it
+abbrev pub FindsKey : (List ℕ → List TxId) → (List ℕ → Bool) → List ℕ → Found → Type 0
+FindsKey by taken columns found.Free = IsFree by taken columns
+FindsKey by taken columns found.Taken = (by columns ≡ []) × (taken columns ≡ true)
+FindsKey by taken columns (found.Held who) = (by columns ≢ []) × EachOnce (by columns) who.items
+
+-- what is found of the keys: the first one in declared order that isn't free decides
+abbrev pub Finds : (List ℕ → List TxId) → (List ℕ → Bool) → Keys → Check → Type 0
+Finds by taken t Free = FreeBefore by taken t (length t.keys)
+Finds by taken t (Taken key) = (key < length t.keys) × FreeBefore by taken t key × FindsKey by taken (columns_at t key) found.Taken
+Finds by taken t (Held key who) = (key < length t.keys) × FreeBefore by taken t key × FindsKey by taken (columns_at t key) (found.Held who)
+
+-- what is found of the keys of a row that the transaction is about to write, in place of the row that is left aside or as a new one
+abbrev pub FindsKeys : Content → Keys → List Value → TxId → Option RowId → Check → Type 0
+FindsKeys c t asked tx except check = Finds (blockers c t.table tx asked) (is_taken c t.table tx except asked) t check

@@ -1,0 +1,68 @@
+-- Who stands in the way of a key, and which row has it. What has committed and what is open is asked of two tests, so that the same is said of the log and of
+-- what is noted of it.
+use Rattle.std.specs.Prelude.{ℕ, ◌==◌, Bool, true, false, not, ◌&&◌, ◌||◌, List, Option, Some, None, map, filter, find, reverse}
+use Rattle.std.specs.List.{list_any}
+use Rattle.sql_values.specs.declared.value.Value.{Value}
+use Rattle.row_versions.specs.declared.names.TxId.{TxId}
+use Rattle.row_versions.specs.declared.names.RowId.{RowId}
+use Rattle.row_versions.specs.declared.names.TableId.{TableId}
+use Rattle.unique_keys.specs.declared.noted.Noted.{Noted}
+use Rattle.unique_keys.specs.Members.{same_tx}
+use Rattle.unique_keys.specs.Keys.{has_key}
+
+-- the last of the writes that passes the test
+abbrev pub last_of : (Noted → Bool) → List Noted → Option Noted
+last_of p ws = find p (reverse ws)
+
+-- some version is there, and it has the key
+abbrev pub version_has : List ℕ → List Value → Option Noted → Bool
+version_has columns asked None = false
+version_has columns asked (Some w) = has_key columns asked w.values
+
+-- it is a committed write of the row
+abbrev pub is_committed_version : (TxId → Bool) → RowId → Noted → Bool
+is_committed_version committed row w = (w.row.0 == row.0) && committed w.tx
+
+-- the row's newest committed version has the key
+abbrev pub committed_has : (TxId → Bool) → List Noted → List ℕ → List Value → RowId → Bool
+committed_has committed ws columns asked row = version_has columns asked (last_of (is_committed_version committed row) ws)
+
+-- some version of the row by the transaction has the key
+abbrev pub own_has : List Noted → List ℕ → List Value → RowId → TxId → Bool
+own_has ws columns asked row u = list_any (λ v. ((v.row.0 == row.0) && same_tx v.tx u) && has_key columns asked v.values) ws
+
+-- it is another open transaction's write of a row of the table whose newest committed version, or any version by that transaction, has the key
+abbrev pub is_in_way : (TxId → Bool) → (TxId → Bool) → List Noted → TableId → List ℕ → List Value → TxId → Noted → Bool
+is_in_way committed active ws table columns asked tx w =
+    ((w.table.0 == table.0) && (not (same_tx w.tx tx) && active w.tx))
+    && (committed_has committed ws columns asked w.row || own_has ws columns asked w.row w.tx)
+
+-- those transactions
+abbrev pub blockers_among : (TxId → Bool) → (TxId → Bool) → List Noted → TableId → TxId → List Value → List ℕ → List TxId
+blockers_among committed active ws table tx asked columns = map (λ w. w.tx) (filter (is_in_way committed active ws table columns asked tx) ws)
+
+-- the write counts for the transaction: it is committed, or its own
+abbrev pub counts_for : (TxId → Bool) → TxId → Noted → Bool
+counts_for committed tx w = committed w.tx || same_tx w.tx tx
+
+-- it is a version of the row for the transaction
+abbrev pub is_version_for : (TxId → Bool) → RowId → TxId → Noted → Bool
+is_version_for committed row tx w = (w.row.0 == row.0) && counts_for committed tx w
+
+-- the row's newest version for the transaction has the key
+abbrev pub newest_has : (TxId → Bool) → List Noted → List ℕ → List Value → RowId → TxId → Bool
+newest_has committed ws columns asked row tx = version_has columns asked (last_of (is_version_for committed row tx) ws)
+
+-- the row isn't the one that is left aside
+abbrev pub is_another : Option RowId → RowId → Bool
+is_another None row = true
+is_another (Some except) row = not (row.0 == except.0)
+
+-- it is a write of another row of the table whose newest version for the transaction has the key
+abbrev pub takes : (TxId → Bool) → List Noted → TableId → TxId → Option RowId → List Value → List ℕ → Noted → Bool
+takes committed ws table tx except asked columns w =
+    ((w.table.0 == table.0) && (is_another except w.row && counts_for committed tx w)) && newest_has committed ws columns asked w.row tx
+
+-- some other row of the table has the key
+abbrev pub is_taken_among : (TxId → Bool) → List Noted → TableId → TxId → Option RowId → List Value → List ℕ → Bool
+is_taken_among committed ws table tx except asked columns = list_any (takes committed ws table tx except asked columns) ws

@@ -1,0 +1,28 @@
+-- What an index of keys notes of the writes of the log.
+use Rattle.std.specs.Prelude.{◌≡◌, Bool, not, ◌||◌, List, map, filter}
+use Rattle.row_versions.specs.declared.names.TxId.{TxId}
+use Rattle.row_versions.specs.declared.write.Write.{Write}
+use Rattle.row_versions.specs.declared.write.Fate.{Fate}
+use Rattle.row_versions.specs.Log.{Content, fate_of, is_committed}
+use Rattle.unique_keys.specs.declared.noted.Noted.{Noted}
+use Rattle.unique_keys.specs.Members.{same_tx, is_open}
+
+-- a write without the number of its command
+abbrev pub noted_of : Write → Noted
+noted_of w = record { table = w.table; row = w.row; tx = w.tx; values = w.values }
+
+-- all writes, in the order made
+abbrev pub writes : Content → List Noted
+writes c = map noted_of c.log
+
+-- the write's transaction is open or has committed: it wasn't rolled back
+abbrev pub stands : List Fate → Noted → Bool
+stands fates w = is_open fates w.tx || is_committed (fate_of fates w.tx)
+
+-- the index is up to date: it has noted every write, and forgotten every transaction that was rolled back
+abbrev pub IsUpToDate : List Noted → Content → Type 0
+IsUpToDate index c = index ≡ filter (stands c.fates) (writes c)
+
+-- what is left without the transaction's writes
+abbrev pub without : TxId → List Noted → List Noted
+without tx index = filter (λ w. not (same_tx w.tx tx)) index

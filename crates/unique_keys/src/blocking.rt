@@ -1,0 +1,126 @@
+//! Who stands in the way of a key.
+ghost use Rattle.std.specs.Prelude.{◌≡◌, not, ◌&&◌, IfOk, if◌then◌else◌};
+ghost use Rattle.row_versions.specs.Log.{has_committed};
+ghost use Rattle.unique_keys.specs.Members.{EachOnce, has, is_none};
+ghost use Rattle.unique_keys.specs.Keys.{has_key};
+ghost use Rattle.unique_keys.specs.Finding.{is_committed_version, committed_has, own_has, is_in_way, blockers_among};
+
+use crate::noted::{Noted, has_key};
+use row_versions::{RowId, TableId, TxId, Versions};
+use smallvec::SmallVec;
+use sql_values::Value;
+use std::alloc::{AllocError, Global};
+
+fn has(list: &[TxId], tx: TxId) -> bool
+    ensures { result ≡ has list.now tx }
+{
+    list.iter().any(|other| other.0 == tx.0)
+}
+
+/// Whether nobody is in the list.
+pub fn is_none(list: &[TxId]) -> bool
+    ensures { result ≡ is_none list.now }
+{
+    match list {
+        [] => true,
+        _ => false,
+    }
+}
+
+/// Whether the row's newest committed version has the key, by what is known without this write.
+fn committed_after<V: Versions>(
+    store: &V,
+    columns: &[u32],
+    asked: &[Value],
+    row: RowId,
+    note: &Noted,
+    before: bool,
+) -> bool
+    ensures { result ≡ (if is_committed_version (has_committed (V.content store.now)) row note.now then has_key columns.now asked.now note.now.values else before) }
+{
+    if note.row.0 == row.0 && store.has_committed(note.tx) {
+        has_key(columns, asked, note)
+    } else {
+        before
+    }
+}
+
+fn committed_has<V: Versions>(
+    store: &V,
+    notes: &[Noted],
+    columns: &[u32],
+    asked: &[Value],
+    row: RowId,
+) -> bool
+    ensures { result ≡ committed_has (has_committed (V.content store.now)) notes.now columns.now asked.now row }
+{
+    let mut has = false;
+    for note in notes {
+        has = committed_after(store, columns, asked, row, note, has);
+    }
+    has
+}
+
+fn own_has(notes: &[Noted], columns: &[u32], asked: &[Value], row: RowId, tx: TxId) -> bool
+    ensures { result ≡ own_has notes.now columns.now asked.now row tx }
+{
+    notes.iter().any(|note| note.row.0 == row.0
+        && note.tx.0 == tx.0
+        && has_key(columns, asked, note))
+}
+
+/// Whether the write stands in the way: whoever is noted and hasn't committed is open.
+fn is_in_way<V: Versions>(
+    store: &V,
+    notes: &[Noted],
+    table: TableId,
+    columns: &[u32],
+    asked: &[Value],
+    tx: TxId,
+    note: &Noted,
+) -> bool
+    ensures { result ≡ is_in_way (has_committed (V.content store.now)) (λ u. not (has_committed (V.content store.now) u)) notes.now table columns.now asked.now tx note.now }
+{
+    note.table.0 == table.0
+        && note.tx.0 != tx.0
+        && !store.has_committed(note.tx)
+        && (committed_has(store, notes, columns, asked, note.row)
+            || own_has(notes, columns, asked, note.row, note.tx))
+}
+
+/// Whether the write stands in the way and its transaction isn't found yet.
+fn is_new_in_way<V: Versions>(
+    store: &V,
+    notes: &[Noted],
+    table: TableId,
+    columns: &[u32],
+    asked: &[Value],
+    tx: TxId,
+    note: &Noted,
+    found: &[TxId],
+) -> bool
+    ensures { result ≡ (is_in_way (has_committed (V.content store.now)) (λ u. not (has_committed (V.content store.now) u)) notes.now table columns.now asked.now tx note.now && not (has found.now note.now.tx)) }
+{
+    is_in_way(store, notes, table, columns, asked, tx, note) && !has(found, note.tx)
+}
+
+/// The transactions that stand in the way, each once.
+pub fn blockers<V: Versions>(
+    alloc: Global,
+    store: &V,
+    notes: &[Noted],
+    table: TableId,
+    columns: &[u32],
+    asked: &[Value],
+    tx: TxId,
+) -> Result<SmallVec<TxId, 4>, AllocError>
+    ensures { IfOk result (λ by. EachOnce (blockers_among (has_committed (V.content store.now)) (λ u. not (has_committed (V.content store.now) u)) notes.now table tx asked.now columns.now) by.items) }
+{
+    let mut by: SmallVec<TxId, 4> = SmallVec::new(alloc);
+    for note in notes {
+        if is_new_in_way(store, notes, table, columns, asked, tx, note, &by) {
+            by.push(note.tx)?;
+        }
+    }
+    Ok(by)
+}

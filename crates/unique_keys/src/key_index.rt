@@ -1,0 +1,176 @@
+//! The index of unique keys.
+ghost use Rattle.std.specs.Prelude.{◌≡◌, ◌<◌, ◌^◌, ℕ, List, [], ◌∷◌, ◌++◌, not, length, OnOk, OnErr, IfOk};
+ghost use Rattle.std.specs.Option.{option_copied};
+ghost use Rattle.row_versions.specs.Log.{Content, IsOpen, has_committed};
+ghost use Rattle.unique_keys.specs.declared.noted.Noted.{Noted};
+ghost use Rattle.unique_keys.specs.Members.{EachOnce};
+ghost use Rattle.unique_keys.specs.Keys.{columns_at};
+ghost use Rattle.unique_keys.specs.Writes.{IsUpToDate, without};
+ghost use Rattle.unique_keys.specs.Finding.{blockers_among, is_taken_among};
+ghost use Rattle.unique_keys.specs.Checks.{FindsKey, FindsKeys, blockers};
+
+use crate::blocking::{blockers, is_none};
+use crate::keys::{Check, TableKeys};
+use crate::noted::Noted;
+use crate::taken::is_taken;
+use row_versions::{RowId, TableId, TxId, Versions};
+use smallvec::SmallVec;
+use sql_values::{Row, Value};
+use std::alloc::{AllocError, Global};
+use std::marker::Model;
+
+/// What is noted of the writes of all transactions: a list, searched anew at each question.
+/// It keeps the allocator that it was made with.
+#[derive(Drop)]
+pub struct KeyIndex {
+    noted: Vec<Noted>,
+}
+
+impl Model for KeyIndex {
+    ghost use Rattle.std.specs.Prelude.{List};
+    ghost use Rattle.unique_keys.specs.declared.noted.Noted.{Noted};
+
+    ghost Value = { List Noted };
+
+    ghost view = { λ s. s.noted.items };
+}
+
+/// What is found of one key.
+#[derive(Drop)]
+pub enum Found {
+    Free,
+    Taken,
+    Held(SmallVec<TxId, 4>),
+}
+
+impl KeyIndex {
+    /// Nothing is noted. It takes no memory.
+    pub fn new(alloc: Global) -> KeyIndex
+        ensures { result ≡ [] }
+    {
+        KeyIndex {
+            noted: Vec::new(alloc),
+        }
+    }
+
+    /// A write of the transaction enters the index, and the room is made in which it leaves. Without values it deletes the row.
+    pub fn note(
+        &mut self,
+        keys: &TableKeys,
+        row: RowId,
+        tx: TxId,
+        values: Option<&Row>,
+    ) -> Result<(), AllocError>
+        ensures ok { OnOk result (self.new ≡ self.old ++ record { table = keys.now.table; row = row; tx = tx; values = option_copied values.entry } ∷ []) }
+        ensures err { OnErr result (self.new ≡ self.old) }
+    {
+        let values = match values {
+            Some(values) => Some(values.copied(*self.noted.allocator())?),
+            None => None,
+        };
+        self.noted.push(Noted {
+            table: keys.table,
+            row,
+            tx,
+            values,
+        })?;
+        Ok(())
+    }
+
+    /// A transaction that was rolled back leaves the index, as if it had never written. It takes no memory.
+    pub fn forget(&mut self, tx: TxId)
+        ensures { self.new ≡ without tx self.old }
+    {
+        self.noted.retain(|note| note.tx.0 != tx.0);
+    }
+
+    fn find<V: Versions>(
+        &self,
+        store: &V,
+        table: TableId,
+        columns: &[u32],
+        asked: &[Value],
+        tx: TxId,
+        except: Option<RowId>,
+    ) -> Result<Found, AllocError>
+        ensures { IfOk result (FindsKey (blockers_among (has_committed (V.content store.now)) (λ u. not (has_committed (V.content store.now) u)) self.now table tx asked.now)
+            (is_taken_among (has_committed (V.content store.now)) self.now table tx except asked.now) columns.now) }
+    {
+        let notes = self.noted.as_slice();
+        let alloc = *self.noted.allocator();
+        let by = blockers(alloc, store, notes, table, columns, asked, tx)?;
+        if is_none(&by) {
+            if is_taken(store, notes, table, columns, asked, tx, except) {
+                return Ok(Found::Taken);
+            }
+            return Ok(Found::Free);
+        }
+        Ok(Found::Held(by))
+    }
+
+    /// What is found of a row's keys, where the transaction is about to write these values in place of that row, or as a new one.
+    pub fn check<V: Versions>(
+        &self,
+        store: &V,
+        keys: &TableKeys,
+        values: &Row,
+        tx: TxId,
+        except: Option<RowId>,
+    ) -> Result<Check, AllocError>
+        requires { length keys.now.keys < 2 ^ 32 }
+        ensures { IfOk result (λ check. IsUpToDate self.now (V.content store.now) → IsOpen (V.content store.now) tx
+            → FindsKeys (V.content store.now) keys.now values.now tx except check) }
+    {
+        let all = keys.keys.as_slice();
+        for key in 0..all.len() {
+            let columns = columns_at(keys, key);
+            match self.find(store, keys.table, columns, values.values(), tx, except)? {
+                Found::Free => {}
+                Found::Taken => return Ok(Check::Taken { key: key as u32 }),
+                Found::Held(by) => {
+                    return Ok(Check::Held {
+                        key: key as u32,
+                        by,
+                    });
+                }
+            }
+        }
+        Ok(Check::Free)
+    }
+
+    /// The transactions that the key of that number waits for, each once.
+    pub fn holders<V: Versions>(
+        &self,
+        store: &V,
+        keys: &TableKeys,
+        key: u32,
+        values: &Row,
+        tx: TxId,
+    ) -> Result<SmallVec<TxId, 4>, AllocError>
+        ensures { IfOk result (λ by. IsUpToDate self.now (V.content store.now) → IsOpen (V.content store.now) tx
+            → EachOnce (blockers (V.content store.now) keys.now.table tx values.now (columns_at keys.now key)) by.items) }
+    {
+        let alloc = *self.noted.allocator();
+        let notes = self.noted.as_slice();
+        let columns = columns_at(keys, key as usize);
+        blockers(
+            alloc,
+            store,
+            notes,
+            keys.table,
+            columns,
+            values.values(),
+            tx,
+        )
+    }
+}
+
+/// The columns of the key of that number.
+fn columns_at(keys: &TableKeys, key: usize) -> &[u32]
+    ensures { result.now ≡ columns_at keys.now key }
+{
+    match keys.keys.get(key) {
+        Some(columns) => columns.as_slice(),
+        None => &[],
+    }
+}

@@ -1,0 +1,94 @@
+//! Which row has a key.
+ghost use Rattle.std.specs.Prelude.{◌≡◌, if◌then◌else◌};
+ghost use Rattle.row_versions.specs.Log.{has_committed};
+ghost use Rattle.unique_keys.specs.Keys.{has_key};
+ghost use Rattle.unique_keys.specs.Finding.{counts_for, is_version_for, is_another, newest_has, takes, is_taken_among};
+
+use crate::noted::{Noted, has_key};
+use row_versions::{RowId, TableId, TxId, Versions};
+use sql_values::Value;
+
+/// Whether the write counts for the transaction: it is committed, or its own.
+fn counts_for<V: Versions>(store: &V, tx: TxId, note: &Noted) -> bool
+    ensures { result ≡ counts_for (has_committed (V.content store.now)) tx note.now }
+{
+    store.has_committed(note.tx) || note.tx.0 == tx.0
+}
+
+/// Whether the row's newest version for the transaction has the key, by what is known without this write.
+fn newest_after<V: Versions>(
+    store: &V,
+    columns: &[u32],
+    asked: &[Value],
+    row: RowId,
+    tx: TxId,
+    note: &Noted,
+    before: bool,
+) -> bool
+    ensures { result ≡ (if is_version_for (has_committed (V.content store.now)) row tx note.now then has_key columns.now asked.now note.now.values else before) }
+{
+    if note.row.0 == row.0 && counts_for(store, tx, note) {
+        has_key(columns, asked, note)
+    } else {
+        before
+    }
+}
+
+fn newest_has<V: Versions>(
+    store: &V,
+    notes: &[Noted],
+    columns: &[u32],
+    asked: &[Value],
+    row: RowId,
+    tx: TxId,
+) -> bool
+    ensures { result ≡ newest_has (has_committed (V.content store.now)) notes.now columns.now asked.now row tx }
+{
+    let mut has = false;
+    for note in notes {
+        has = newest_after(store, columns, asked, row, tx, note, has);
+    }
+    has
+}
+
+fn is_another(except: Option<RowId>, row: RowId) -> bool
+    ensures { result ≡ is_another except row }
+{
+    match except {
+        Some(except) => row.0 != except.0,
+        None => true,
+    }
+}
+
+fn takes<V: Versions>(
+    store: &V,
+    notes: &[Noted],
+    table: TableId,
+    columns: &[u32],
+    asked: &[Value],
+    tx: TxId,
+    except: Option<RowId>,
+    note: &Noted,
+) -> bool
+    ensures { result ≡ takes (has_committed (V.content store.now)) notes.now table tx except asked.now columns.now note.now }
+{
+    note.table.0 == table.0
+        && is_another(except, note.row)
+        && counts_for(store, tx, note)
+        && newest_has(store, notes, columns, asked, note.row, tx)
+}
+
+/// Whether some other row of the table has the key.
+pub fn is_taken<V: Versions>(
+    store: &V,
+    notes: &[Noted],
+    table: TableId,
+    columns: &[u32],
+    asked: &[Value],
+    tx: TxId,
+    except: Option<RowId>,
+) -> bool
+    ensures { result ≡ is_taken_among (has_committed (V.content store.now)) notes.now table tx except asked.now columns.now }
+{
+    notes.iter().any(|note| takes(store, notes, table, columns, asked, tx, except, note))
+}

@@ -1,0 +1,265 @@
+//! Keys that are held, taken or free, worked from the definitions.
+ghost use Rattle.std.specs.Prelude.{◌≡◌};
+ghost use Rattle.row_versions.specs.Log.{empty_content};
+
+use crate::told::holds;
+use row_versions::{ListStore, RowId, TableId, TxId, Versions};
+use sql_values::{Row, Value};
+use std::alloc::{AllocError, Global};
+use unique_keys::{Check, KeyIndex, TableKeys};
+
+const TABLE: TableId = TableId(7);
+
+const OTHER: TableId = TableId(8);
+
+/// What two columns hold: NULL, or a number.
+type Pair = (Option<i32>, Option<i32>);
+
+fn value_of(number: Option<i32>) -> Value {
+    match number {
+        Some(n) => Value::Int(n),
+        None => Value::Null,
+    }
+}
+
+fn row_of(alloc: Global, pair: Pair) -> Result<Row, AllocError> {
+    Ok(Row::from_vec(vec![in alloc; value_of(pair.0), value_of(pair.1)]?))
+}
+
+/// A key on each column.
+fn two_keys(alloc: Global, table: TableId) -> Result<TableKeys, AllocError> {
+    let first = vec![in alloc; 0u32]?;
+    let second = vec![in alloc; 1u32]?;
+    let keys = vec![in alloc; first, second]?;
+    Ok(TableKeys { table, keys })
+}
+
+/// One key on both columns.
+fn wide_key(alloc: Global) -> Result<TableKeys, AllocError> {
+    let both = vec![in alloc; 0u32, 1u32]?;
+    let keys = vec![in alloc; both]?;
+    Ok(TableKeys { table: TABLE, keys })
+}
+
+/// A write: of this transaction, of this row or a new one, with these values unless it deletes the row.
+type Put = (u64, Option<u64>, Option<Pair>);
+
+fn pair_row(alloc: Global, pair: Option<Pair>) -> Result<Option<Row>, AllocError> {
+    match pair {
+        Some(pair) => Ok(Some(row_of(alloc, pair)?)),
+        None => Ok(None),
+    }
+}
+
+fn row_id(row: Option<u64>) -> Option<RowId> {
+    match row {
+        Some(row) => Some(RowId(row)),
+        None => None,
+    }
+}
+
+/// Writes, and notes the write.
+fn put<V: Versions>(
+    alloc: Global,
+    store: &mut V,
+    index: &mut KeyIndex,
+    keys: &TableKeys,
+    put: &Put,
+) -> Result<(), AllocError>
+    ensures { (V.content store.new).fates ≡ (V.content store.old).fates }
+{
+    let (tx, row, pair) = *put;
+    let noted = pair_row(alloc, pair)?;
+    let values = pair_row(alloc, pair)?;
+    match store.write(TxId(tx), 0, keys.table, row_id(row), values) {
+        Ok(made) => index.note(keys, made, TxId(tx), noted.as_ref()),
+        Err(_) => Err(AllocError),
+    }
+}
+
+fn put_all<V: Versions>(
+    alloc: Global,
+    store: &mut V,
+    index: &mut KeyIndex,
+    keys: &TableKeys,
+    puts: &[Put],
+) -> Result<(), AllocError>
+    ensures { (V.content store.new).fates ≡ (V.content store.old).fates }
+{
+    for one in puts {
+        put(alloc, store, index, keys, one)?;
+    }
+    Ok(())
+}
+
+/// The writes of one that commits, one that is rolled back, two that stay open and the one that asks, which is number 4.
+const PUTS: [Put; 13] = [
+    (0, None, Some((Some(1), Some(10)))),
+    (0, None, Some((Some(2), Some(20)))),
+    (0, None, Some((Some(3), None))),
+    (0, None, Some((Some(4), Some(40)))),
+    (0, Some(3), None),
+    (1, None, Some((Some(9), Some(90)))),
+    (1, Some(2), Some((Some(30), None))),
+    (2, Some(0), Some((Some(5), Some(10)))),
+    (2, None, Some((Some(6), Some(60)))),
+    (2, Some(8), Some((Some(7), Some(60)))),
+    (3, None, Some((Some(5), Some(50)))),
+    (4, Some(1), None),
+    (4, None, Some((Some(8), Some(80)))),
+];
+
+/// All of them, and a row of another table.
+fn tell(alloc: Global, store: &mut ListStore, index: &mut KeyIndex) -> Result<(), AllocError>
+    requires { store.old ≡ empty_content }
+{
+    let made = store.begin()?;
+    let failed = store.begin()?;
+    store.begin()?;
+    store.begin()?;
+    store.begin()?;
+    put_all(alloc, store, index, &two_keys(alloc, TABLE)?, &PUTS)?;
+    let other = [(0, None, Some((Some(12), Some(120))))];
+    put_all(alloc, store, index, &two_keys(alloc, OTHER)?, &other)?;
+    store.commit(made);
+    store.roll_back(failed);
+    index.forget(failed);
+    Ok(())
+}
+
+/// Whether these are found, in any order.
+fn are(found: &[TxId], wanted: &[u64]) -> bool {
+    found.len() == wanted.len() && found.iter().all(|tx| wanted.contains(&tx.0))
+}
+
+/// What is wanted of a row's keys.
+#[derive(Clone, Copy)]
+enum Wanted {
+    Free,
+    Taken(u32),
+    Held(u32, &'static [u64]),
+}
+
+fn is_found(check: &Check, wanted: Wanted) -> bool {
+    match (check, wanted) {
+        (Check::Free, Wanted::Free) => true,
+        (Check::Taken { key }, Wanted::Taken(wanted)) => *key == wanted,
+        (Check::Held { key, by }, Wanted::Held(wanted, who)) => *key == wanted && are(by, who),
+        _ => false,
+    }
+}
+
+/// Who asks, for which values, in place of which row, and what is found.
+type Case = (u64, Pair, Option<u64>, Wanted);
+
+const CASES: [Case; 25] = [
+    (4, (Some(11), Some(110)), None, Wanted::Free),
+    // Of an open transaction's row: as it was committed, as it is, as it was in between.
+    (4, (Some(1), Some(11)), None, Wanted::Held(0, &[2])),
+    (4, (Some(7), Some(11)), None, Wanted::Held(0, &[2])),
+    (4, (Some(6), Some(11)), None, Wanted::Held(0, &[2])),
+    (4, (Some(11), Some(60)), None, Wanted::Held(1, &[2])),
+    // Two open transactions have it.
+    (4, (Some(5), Some(11)), None, Wanted::Held(0, &[2, 3])),
+    (2, (Some(5), Some(11)), None, Wanted::Held(0, &[3])),
+    // An open transaction deleted it.
+    (2, (Some(2), Some(11)), None, Wanted::Held(0, &[4])),
+    // A committed row has it, or an own one.
+    (4, (Some(3), Some(11)), None, Wanted::Taken(0)),
+    (4, (Some(8), Some(11)), None, Wanted::Taken(0)),
+    (4, (Some(11), Some(80)), None, Wanted::Taken(1)),
+    (2, (Some(7), Some(11)), None, Wanted::Taken(0)),
+    // The first key that isn't free decides.
+    (4, (Some(3), Some(10)), None, Wanted::Taken(0)),
+    (4, (Some(2), Some(10)), None, Wanted::Held(1, &[2])),
+    // The row that is written itself doesn't count.
+    (4, (Some(8), Some(80)), Some(12), Wanted::Free),
+    (4, (Some(3), None), Some(2), Wanted::Free),
+    // An own row that is deleted, or has another key by now; a row that is gone; one that was rolled back; one of another table.
+    (4, (Some(2), Some(20)), None, Wanted::Free),
+    (2, (Some(6), Some(11)), None, Wanted::Free),
+    (4, (Some(4), Some(40)), None, Wanted::Free),
+    (4, (Some(9), Some(90)), None, Wanted::Free),
+    (4, (Some(30), Some(11)), None, Wanted::Free),
+    (4, (Some(12), Some(120)), None, Wanted::Free),
+    // NULL is free, also where a row has NULL.
+    (4, (None, None), None, Wanted::Free),
+    (4, (Some(11), None), None, Wanted::Free),
+    (4, (None, Some(10)), None, Wanted::Held(1, &[2])),
+];
+
+const WIDE: [Case; 5] = [
+    (4, (Some(1), Some(10)), None, Wanted::Held(0, &[2])),
+    (4, (Some(1), Some(20)), None, Wanted::Free),
+    (4, (Some(1), Some(80)), None, Wanted::Free),
+    (4, (Some(3), None), None, Wanted::Free),
+    (4, (Some(8), Some(80)), None, Wanted::Taken(0)),
+];
+
+fn finds(
+    alloc: Global,
+    store: &ListStore,
+    index: &KeyIndex,
+    keys: &TableKeys,
+    case: &Case,
+) -> Result<bool, AllocError> {
+    let (tx, pair, except, wanted) = *case;
+    let all = keys.keys.as_slice();
+    if all.len() > 2 {
+        return Ok(false);
+    }
+    let asked = row_of(alloc, pair)?;
+    let check = index.check(store, keys, &asked, TxId(tx), row_id(except))?;
+    Ok(is_found(&check, wanted))
+}
+
+fn finds_all(
+    alloc: Global,
+    store: &ListStore,
+    index: &KeyIndex,
+    keys: &TableKeys,
+    cases: &[Case],
+) -> Result<bool, AllocError> {
+    for case in cases {
+        if !finds(alloc, store, index, keys, case)? {
+            return Ok(false);
+        }
+    }
+    Ok(true)
+}
+
+fn key_waits_for(
+    alloc: Global,
+    store: &ListStore,
+    index: &KeyIndex,
+    key: u32,
+    wanted: &[u64],
+) -> Result<bool, AllocError> {
+    let keys = two_keys(alloc, TABLE)?;
+    let asked = row_of(alloc, (Some(5), Some(60)))?;
+    let by = index.holders(store, &keys, key, &asked, TxId(4))?;
+    Ok(are(&by, wanted))
+}
+
+fn keys_are_found(alloc: Global) -> Result<bool, AllocError> {
+    let mut store = ListStore::new(alloc);
+    let mut index = KeyIndex::new(alloc);
+    tell(alloc, &mut store, &mut index)?;
+    let found = finds_all(alloc, &store, &index, &two_keys(alloc, TABLE)?, &CASES)?;
+    let wide = finds_all(alloc, &store, &index, &wide_key(alloc)?, &WIDE)?;
+    Ok(
+        found
+            && wide
+            && key_waits_for(alloc, &store, &index, 0, &[2, 3])?
+            && key_waits_for(alloc, &store, &index, 1, &[2])?,
+    )
+}
+
+#[test]
+fn keys_are_held_taken_or_free(rt: HostRuntime) {
+    let found = match keys_are_found(rt.alloc()) {
+        Err(_) => keys_are_found(rt.alloc()),
+        found => found,
+    };
+    holds(&rt, found == Ok(true));
+}
