@@ -1,7 +1,6 @@
 //! A plan as a driver.
 
 use crate::asking::holds;
-use permutation_lists::Permutations;
 use permutations::Plan;
 use row_versions::{ListStore, Versions};
 use session_core::EngineState;
@@ -19,18 +18,22 @@ fn asked<V: Versions, D: Driver<V>>(
     driver.next(alloc, engine)
 }
 
-/// The first order of the first permutation of a spec of one session.
-fn first_order(alloc: Global, spec: &Spec<'_>) -> Result<Order, AllocError> {
-    let mut permutations = Permutations::of(alloc, spec)?;
-    permutations.advance(alloc)?;
+/// The first order of the first permutation line of a spec of few sessions; none where there is no such line.
+fn first_order(alloc: Global, spec: &Spec<'_>) -> Result<Option<Order>, AllocError> {
+    let Some(entries) = spec.perms.first() else {
+        return Ok(None);
+    };
+    if spec.sessions.len() > 64 {
+        return Ok(None);
+    }
     let engine = EngineState::new(alloc, &[], 1, Mode::Directed, ListStore::new(alloc))?;
-    let mut plan = Plan::new(alloc, spec, permutations.entries())?;
-    asked(alloc, &mut plan, &engine)
+    let mut plan = Plan::new(alloc, spec, entries)?;
+    Ok(Some(asked(alloc, &mut plan, &engine)?))
 }
 
 #[test]
 fn a_plan_is_a_driver(rt: HostRuntime) -> Result<(), Fail> {
-    let Ok(spec) = parse_spec(rt.alloc(), "session s step a { }") else {
+    let Ok(spec) = parse_spec(rt.alloc(), "session s step a { } permutation a") else {
         return Err(Fail::new("no spec"));
     };
     let launch = Order::Launch {
@@ -38,6 +41,6 @@ fn a_plan_is_a_driver(rt: HostRuntime) -> Result<(), Fail> {
         block: 0,
     };
     let first = first_order(rt.alloc(), &spec)?;
-    holds(&rt, first == launch, "the first block");
+    holds(&rt, first == Some(launch), "the first block");
     Ok(())
 }
