@@ -8,7 +8,7 @@ use Rattle.sql_parser.specs.declared.block.Block.{Block}
 use Rattle.session_core.specs.Blocks.{block_of, blocks_of}
 
 -- the statements of a block that is there
-pub stmts_are : (bs : List Block) (k : ℕ) (b : Block) → slice_get bs k ≡ Some b → stmts_at (blocks_of bs) k ≡ map stmt_of b.stmts.items
+pub stmts_are : (bs : List Block) (k : ℕ) (b : Block) → slice_get bs k ≡ Some b → stmts_at (blocks_of bs) k ≡ map stmt_of b.stmts
 stmts_are bs k b h = rw (slice_get-map block_of bs k, h) refl
 
 -- a block that isn't there has none

@@ -6,19 +6,20 @@ use Rattle.std.specs.List.{list_all}
 use Rattle.std.specs.Prelude.{Result, Ok, Err, not, nat_lt, if◌then◌else◌}
 use Rattle.iso_lexer.specs.declared.token.At.{At}
 use Rattle.sql_trees.specs.declared.fault.SqlFault.{SqlFault}
-use Rattle.sql_trees.specs.declared.fault.SqlFault.TheVariants.{Syntax, TooMany}
+use Rattle.sql_trees.specs.declared.fault.SqlFault.TheVariants.{Syntax, LeftOut, TooDeep, TooMany}
 use Rattle.sql_trees.specs.Statements.{StmtTree}
 use Rattle.sql_trees.specs.Tokens.{Token, Tokens}
 use Rattle.sql_trees.specs.Tokens as tok
 use Rattle.iso_lexer.specs.declared.sql_token.SqlSign.TheVariants as signs
 use Rattle.sql_trees.specs.Trees.{Tree}
-use Rattle.sql_expressions.specs.Reading.{expr_at, misplaced, place_of, ◌>>=◌}
-use Rattle.sql_expressions.specs.Laws.{head}
+use Rattle.sql_expressions.specs.Reading.{is_call, misplaced, place_of, ◌>>=◌}
+use Rattle.sql_expressions.specs.Laws.{head, Makes, first}
+use Rattle.sql_expressions.specs.Laws as expr
 use Rattle.sql_parser.specs.declared.block.Role.{Role}
 use Rattle.sql_parser.specs.Blocks.{is_semicolon, whole_at, piece_at, stmts_at}
 use Rattle.sql_parser.specs.Kept.{is_kept_in}
 use Rattle.sql_parser.specs.Grammar.{Is, RowIs, is_row, Spells, PieceIs, no_stmt, a_stmt, BlockIs, last_piece, next_piece, Shallow, OfAnyDepth}
-use Rattle.sql_parser.specs.Stops.{Refuses, at_next, at_word, at_name, at_row, in_expression, WantsWords, IsStop}
+use Rattle.sql_parser.specs.Stops.{Refuses, at_next, at_word, at_name, at_row, in_expression, too_deep, WantsWords, IsStop}
 use Rattle.sql_parser.specs.Laws.{Excepted, Stops, BlockStops, at_block_token, in_a_statement, BlockFaultsAreFirst, at_token, elsewhere}
 use Rattle.sql_parser.proofs.Steps.{bind_ok, when_ok}
 use Rattle.sql_parser.proofs.ExprLocals.{some_of_any_depth, of_any_depth_starts, any_depth_local, one_name}
@@ -82,16 +83,26 @@ module _ (last : ℕ) (behind : Tokens) (first_behind : (c : At Token) (us : Tok
   of_next [] (c ∷ bs) e = semicolon_next last c bs (first_behind c bs e)
   of_next (u ∷ us) bs e = refl
 
+  of_refuses : (before here rest : Tokens) (f : SqlFault) → expr.Refuses (place_of last behind) here rest f → Refuses last OfAnyDepth V (before ++ here) (rest ++ behind) f
+  of_refuses before _ _ _ (expr.ended here) = subst (Refuses last OfAnyDepth V (before ++ here) behind) (of_next [] behind refl) (at_next (before ++ here) behind)
+  of_refuses before _ _ _ (expr.misplaced here rest t h) = in_expression before here (t ∷ (rest ++ behind)) (Syntax t.span.start) (expr.misplaced here (rest ++ behind) t h)
+  of_refuses before _ _ _ (expr.excluded here rest t h) = in_expression before here (t ∷ (rest ++ behind)) (LeftOut t.span.start) (expr.excluded here (rest ++ behind) t h)
+  of_refuses before _ _ _ (expr.called first' rest name open' n h g) = in_expression before (first' ++ name ∷ []) (open' ∷ (rest ++ behind)) (LeftOut (if is_call name.tok then name.span.start else open'.span.start)) (expr.called first' (rest ++ behind) name open' n h g)
+
+  makes_more : (place : ℕ) (xs ys : Tokens) → Makes place xs → Makes place (xs ++ ys)
+  makes_more place xs ys m = (m.0, m.1 ++ ys, m.2, ap (λ zs. zs ++ ys) m.3 ∙ append_assoc m.0 (m.2 ∷ m.1) ys, m.4, m.5)
+
+  makes_on : (place : ℕ) (here rest : Tokens) → Makes place (here ++ first rest) → Makes place (here ++ first (rest ++ behind))
+  makes_on place here [] m = makes_more place here (first behind) (subst (Makes place) (append-nil here) m)
+  makes_on place here (t ∷ us) m = m
+
   stands_on : (front rest : Tokens) (f : SqlFault) → Refuses (place_of last behind) OfAnyDepth W front rest f → Refuses last OfAnyDepth V front (rest ++ behind) f
   stands_on _ _ _ (at_next front rest) = subst (Refuses last OfAnyDepth V front (rest ++ behind)) (of_next rest behind refl) (at_next front (rest ++ behind))
   stands_on _ _ _ (at_word front rest t w h) = at_word front (rest ++ behind) t (up w) h
   stands_on _ _ _ (at_name front rest t n h) = at_name front (rest ++ behind) t n h
   stands_on _ _ _ (at_row before row rest es r) = subst (λ q. Refuses last OfAnyDepth V (before ++ row) (rest ++ behind) (Syntax q)) (of_row row es r) (at_row before row (rest ++ behind) es r)
-  stands_on _ _ _ (in_expression before here rest bs is) =
-      let b : place_of last (rest ++ (bs ++ behind)) ≡ place_of (place_of last behind) (rest ++ bs) = ap (place_of last) (sym (append_assoc rest bs behind)) ∙ of_rest (rest ++ bs) in
-      subst (λ us. Refuses last OfAnyDepth V (before ++ here) us (Syntax (place_of (place_of last behind) (rest ++ bs)))) (sym (append_assoc rest bs behind))
-      (subst (λ q. Refuses last OfAnyDepth V (before ++ here) (rest ++ (bs ++ behind)) (Syntax q)) b
-      (in_expression before here rest (bs ++ behind) (ap (λ n. expr_at n (here ++ rest)) (of_rest bs) ∙ (is ∙ ap (λ q. Err (Syntax q)) (sym b)))))
+  stands_on _ _ _ (in_expression before here rest f r) = of_refuses before here rest f r
+  stands_on _ _ _ (too_deep before here rest place m) = too_deep before here (rest ++ behind) place (makes_on place here rest m)
 
 wants_on : (xs ys : Tokens) → WantsWords xs → WantsWords (xs ++ ys)
 wants_on [] ys w = absurd w

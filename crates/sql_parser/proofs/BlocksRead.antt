@@ -22,7 +22,7 @@ use Rattle.sql_parser.specs.Grammar.{Is, Spells, begin, start, commit, end, roll
 use Rattle.sql_parser.specs.Laws.{BlocksAreRead}
 use Rattle.sql_parser.proofs.BlocksKept.{block_kept}
 use Rattle.sql_parser.proofs.Steps.{bind_ok, ok_same, when_ok}
-use Rattle.sql_parser.proofs.Locals.{Local, took, stopped, refused}
+use Rattle.sql_parser.proofs.Locals.{Local, took, stopped}
 use Rattle.sql_parser.proofs.ExprLocals.{some_shallow, shallow_starts, shallow_local, one_name}
 use Rattle.sql_parser.proofs.StmtLocals.{word_is}
 use Rattle.sql_parser.proofs.QueryLocals.{Shown, shown, no_columns, no_query, Whole}
@@ -64,7 +64,6 @@ module _ (last : ℕ) where
           let all : ts ≡ front = split ∙ (ap (λ r. front ++ r) (ap (λ (y : Result StmtTree SqlFault × Tokens). y.1) same ∙ z.1) ∙ append-nil front) in
           subst (λ us. Spells E us s) (sym all) (subst (Spells E front) stmt q.spells)
       of_local (stopped f front rest split local b) = absurd (no_both x.0 f (sym x.1 ∙ (ap (stmt_at last role) split ∙ local rest refl)))
-      of_local (refused f h w) = absurd (no_both x.0 f (sym x.1 ∙ h))
 
   pub free_of : (role : Role) (ts : Tokens) (s : StmtTree) → whole_at last role ts ≡ Ok s → barred role ts ≡ false
   free_of role [] s e = refl

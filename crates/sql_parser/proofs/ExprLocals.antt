@@ -1,24 +1,25 @@
 -- Expressions are read as far as their tokens allow.
 use Rattle.std.proofs.Common.{◌≡◌, ℕ, false, List, [], ◌∷◌, ◌++◌, refl, sym, ap, subst, ◌∙◌}
 use Rattle.std.specs.Prelude.{Result, Ok, Err}
-use Rattle.std.proofs.lemmas.List.{append_cancel_right, append-nil}
+use Rattle.std.proofs.lemmas.List.{append_cancel_right}
 use Rattle.iso_lexer.specs.declared.token.At.{At}
 use Rattle.sql_trees.specs.declared.fault.SqlFault.{SqlFault}
-use Rattle.sql_trees.specs.declared.fault.SqlFault.TheVariants.{Syntax}
+use Rattle.sql_trees.specs.declared.fault.SqlFault.TheVariants.{Syntax, LeftOut, TooDeep}
 use Rattle.sql_trees.specs.Tokens.{Token, Tokens, named}
 use Rattle.sql_trees.specs.Tokens as tok
 use Rattle.sql_trees.specs.Trees.{Tree, Column, Number}
-use Rattle.sql_expressions.specs.Reading.{Found, expr_at, place_of, ◌>>=◌}
+use Rattle.sql_expressions.specs.Reading.{Found, expr_at, ◌>>=◌}
 use Rattle.sql_expressions.specs.Grammar.{OR, AND, NOT, IS, CMP, INN, CAT, ADD, MUL, UNA, SpellsIn, only, literal, IsLeaf, column, number}
-use Rattle.sql_expressions.specs.Laws.{Spelled}
+use Rattle.sql_expressions.specs.Laws.{Spelled, StopsFirst, DeepFirst}
 use Rattle.sql_expressions.proofs.Complete.{expr_complete, spells_starts}
-use Rattle.sql_expressions.proofs.FirstFaults.{faults_are_first, fronts_are_taken}
+use Rattle.sql_expressions.proofs.FirstFaults.{refusals_are_first, deep_is_first, fronts_are_taken}
 use Rattle.sql_expressions.proofs.Levels.{expr_begins}
 use Rattle.sql_expressions.proofs.Shapes.{a_number, some_token}
 use Rattle.sql_parser.specs.Readers.{tree_at}
 use Rattle.sql_parser.specs.Grammar.{Names, Shallow, OfAnyDepth}
-use Rattle.sql_parser.specs.Stops.{Refuses, in_expression}
-use Rattle.sql_parser.proofs.Locals.{Inhabited, Local, took, stopped, refused}
+use Rattle.sql_parser.specs.Stops.{Refuses, in_expression, too_deep}
+use Rattle.sql_parser.proofs.Locals.{Inhabited, Local, took, stopped}
+use Rattle.sql_parser.proofs.ExprFaults.{expr_told}
 
 leaf_spells : (t : At Token) (e : Tree) → IsLeaf t.tok e → SpellsIn 64 64 OR (t ∷ []) e 0
 leaf_spells t e h =
@@ -48,12 +49,15 @@ module _ (last : ℕ) where
   local_of : (E : Tokens → Tree → Type 0) (W Any : Type 0) → ((front : Tokens) (e : Tree) → Shallow front e → E front e) → (Any → (front more : Tokens) → Spelled OR (front ++ more) → (e : Tree) × E (front ++ more) e) → (ts : Tokens) → Local last E W Any E (tree_at last) ts
   local_of E W Any up ups ts = of_result (expr_at last ts) refl
     where
-      stands_at : (front rest : Tokens) (p : ℕ) → p ≡ place_of last rest → expr_at last (front ++ rest) ≡ Err (Syntax p) → Refuses last E W front rest (Syntax p)
-      stands_at front rest p here h =
-          let same : place_of last (rest ++ []) ≡ place_of last rest = ap (place_of last) (append-nil rest) in
-          subst (λ us. Refuses last E W front us (Syntax p)) (append-nil rest)
-          (subst (λ q. Refuses last E W front (rest ++ []) (Syntax q)) (same ∙ sym here)
-          (in_expression [] front rest [] (h ∙ ap (λ q. Err (Syntax q)) (here ∙ sym same))))
+      refused : (f : SqlFault) (k : StopsFirst last ts f) → Local last E W Any E (tree_at last) ts
+      refused f k = stopped f k.front k.rest k.split (λ others h. ap (λ r. r >>= λ g. Ok (g.tree, g.rest)) (k.stays others h)) (λ any.
+          let u = ups any k.front k.begins.0 k.begins.1 in
+          record { begins = (k.begins.0, u.0, u.1); stands = in_expression [] k.front k.rest f k.refuses })
+
+      too_far : (place : ℕ) (k : DeepFirst last ts place) → Local last E W Any E (tree_at last) ts
+      too_far place k = stopped (TooDeep place) k.front k.rest k.split (λ others h. ap (λ r. r >>= λ g. Ok (g.tree, g.rest)) (k.stays others h)) (λ any.
+          let u = ups any k.front k.begins.0 k.begins.1 in
+          record { begins = (k.begins.0, u.0, u.1); stands = too_deep [] k.front k.rest place k.makes })
 
       of_result : (r : Result Found SqlFault) → expr_at last ts ≡ r → Local last E W Any E (tree_at last) ts
       of_result (Ok f) is =
@@ -61,15 +65,10 @@ module _ (last : ℕ) where
           let b = expr_begins last ts f is in
           let same : b.front ≡ k.front = append_cancel_right b.front k.front f.rest (sym b.whole ∙ k.split) in
           took f.tree k.front f.rest k.split (λ others h. ap (λ r. r >>= λ g. Ok (g.tree, g.rest)) (k.stays others h)) (up k.front f.tree (f.depth, subst (λ xs. SpellsIn 64 64 OR xs f.tree f.depth) same b.spells))
-      of_result (Err (Syntax p)) is =
-          let k = faults_are_first last p ts is in
-          stopped (Syntax p) k.front k.rest k.split (λ others h. ap (λ r. r >>= λ g. Ok (g.tree, g.rest)) (k.stays others h)) (λ any.
-          let u = ups any k.front k.begins.0 k.begins.1 in
-          record {
-            begins = (k.begins.0, u.0, u.1);
-            stands = stands_at k.front k.rest p k.here (ap (expr_at last) (sym k.split) ∙ is);
-          })
-      of_result (Err e) is = refused e (ap (λ r. r >>= λ g. Ok (g.tree, g.rest)) is) (record { before = []; here = ts; split = refl; refuses = is })
+      of_result (Err (Syntax p)) is = refused (Syntax p) (refusals_are_first last ts (Syntax p) tt is)
+      of_result (Err (LeftOut p)) is = refused (LeftOut p) (refusals_are_first last ts (LeftOut p) tt is)
+      of_result (Err (TooDeep p)) is = too_far p (deep_is_first last p ts is)
+      of_result (Err e) is = absurd (expr_told last ts e is)
 
   pub shallow_local : (ts : Tokens) → Local last Shallow (Unit {0}) ⊥ Shallow (tree_at last) ts
   shallow_local ts = local_of Shallow (Unit {0}) ⊥ (λ front e s. s) (λ any front more s. absurd any) ts

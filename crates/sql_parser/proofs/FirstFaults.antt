@@ -13,8 +13,8 @@ use Rattle.sql_parser.specs.declared.block.Role.{Role}
 use Rattle.sql_parser.specs.Blocks.{stmt_at, at_end, whole_at}
 use Rattle.sql_parser.specs.Grammar.{Spells, OfAnyDepth}
 use Rattle.sql_parser.specs.Stops.{Refuses, at_next, WantsWords, IsStop}
-use Rattle.sql_parser.specs.Laws.{StopsFirst, Stops, at_token, elsewhere, of_expression, whole_query, whole_table, FaultsAreFirst}
-use Rattle.sql_parser.proofs.Locals.{Local, took, stopped, refused, Excuse}
+use Rattle.sql_parser.specs.Laws.{StopsFirst, Stops, at_token, elsewhere, whole_query, whole_table, FaultsAreFirst}
+use Rattle.sql_parser.proofs.Locals.{Local, took, stopped}
 use Rattle.sql_parser.proofs.ExprLocals.{some_of_any_depth, of_any_depth_starts, any_depth_local, one_name}
 use Rattle.sql_parser.proofs.QueryLocals.{Shown, shown, no_columns, no_query, Whole}
 use Rattle.sql_parser.proofs.BlockLocals.{barred, barred_is, stmt_local}
@@ -59,9 +59,6 @@ module _ (last : ℕ) (role : Role) (ts : Tokens) (f : SqlFault) (stops : IsStop
   of_end v front [] split local q h = of_shown front (split ∙ append-nil front) v q.stmt q.shows h (subst (λ xs. Spells OfAnyDepth xs q.stmt) (sym (split ∙ append-nil front)) q.spells)
   of_end v front (t ∷ us) split local q h = behind v front us t split local q (sym (err_same (misplaced last (t ∷ us)) f h))
 
-  of_excuse : (e : SqlFault) → e ≡ f → Excuse last e ts → Stops last role ts f
-  of_excuse e same x = elsewhere (of_expression x.before x.here x.split (x.refuses ∙ ap Err same))
-
   of_local : whole_at last role ts ≡ Err f → Local last OfAnyDepth (WantsWords ts) (Unit {0}) (Whole OfAnyDepth) (stmt_at last role) ts → Stops last role ts f
   of_local e (took v front rest split local q) = of_end v front rest split local q (sym (whole_is ts [] (Ok (v, rest)) (ap (stmt_at last role) split ∙ local rest refl)) ∙ e)
   of_local e (stopped g front rest split local b) =
@@ -69,7 +66,6 @@ module _ (last : ℕ) (role : Role) (ts : Tokens) (f : SqlFault) (stops : IsStop
       let c = b tt in
       at_token (first front rest split (subst (Refuses last OfAnyDepth (WantsWords ts) front rest) same c.stands) (c.begins.0, c.begins.2.stmt, c.begins.2.spells)
       (λ others h. whole_is (front ++ others) [] (Err g) (local others h) ∙ ap Err same))
-  of_local e (refused g h x) = of_excuse g (err_same g f (sym (whole_is ts [] (Err g) h) ∙ e)) x
 
 pub faults_are_first : FaultsAreFirst
 faults_are_first last role ts f stops e = of_test (barred role ts) refl

@@ -5,6 +5,7 @@ pub mod StmtLocals
 pub mod TableLocals
 pub mod ChangeLocals
 pub mod QueryLocals
+pub mod ExprFaults
 pub mod ExprLocals
 pub mod Completes
 pub mod CompleteStmts
@@ -14,7 +15,6 @@ pub mod Frees
 pub mod BlockLocals
 pub mod BlocksRead
 pub mod FirstFaults
-pub mod ExprFaults
 pub mod BlockFaults
 pub mod Limits
 pub mod Going

@@ -10,16 +10,17 @@ use Rattle.sql_trees.specs.declared.fault.SqlFault.TheVariants.{Syntax, LeftOut,
 use Rattle.sql_trees.specs.Statements.{StmtTree}
 use Rattle.sql_trees.specs.Tokens.{Token, Tokens}
 use Rattle.sql_expressions.specs.Reading.{misplaced, ◌>>=◌}
+use Rattle.sql_expressions.specs.Laws as expr
 use Rattle.sql_parser.specs.declared.block.Role.{Role}
 use Rattle.sql_parser.specs.Blocks.{is_session, is_ddl, is_semicolon, stmt_at, at_end, whole_at, piece_at, stmts_at, block_at}
 use Rattle.sql_parser.specs.Kept.{is_kept_in}
 use Rattle.sql_parser.specs.Grammar.{Is, PieceIs, no_stmt, a_stmt, EndedAre, no_pieces, ended_piece, Shallow, OfAnyDepth}
-use Rattle.sql_parser.specs.Stops.{Refuses, at_next, at_word, at_name, at_row, in_expression}
+use Rattle.sql_parser.specs.Stops.{Refuses, at_next, at_word, at_name, at_row, in_expression, too_deep}
 use Rattle.sql_parser.specs.Laws.{BeginsDdl, DdlIsRefused, BeginsOneMore, TooManyIsRefused}
 use Rattle.sql_parser.proofs.Steps.{bind_ok, when_ok, ok_same}
-use Rattle.sql_parser.proofs.Locals.{Local, took, stopped, refused}
+use Rattle.sql_parser.proofs.Locals.{Local, took, stopped}
 use Rattle.sql_parser.proofs.ExprLocals.{some_of_any_depth, of_any_depth_starts, any_depth_local, one_name}
-use Rattle.sql_parser.proofs.ExprFaults.{IsExprFault, misplaced_told, expr_told}
+use Rattle.sql_parser.proofs.ExprFaults.{IsExprFault, misplaced_told}
 use Rattle.sql_parser.proofs.QueryLocals.{Shown, shown, no_columns, no_query, Whole}
 use Rattle.sql_parser.proofs.BlockLocals.{barred, barred_is, stmt_local}
 use Rattle.sql_parser.proofs.BlocksKept.{whole_kept}
@@ -49,12 +50,19 @@ of_expr (TooDeep n) h = tt
 of_expr _ h = absurd h
 
 module _ (last : ℕ) (role : Role) (ts : Tokens) (f : SqlFault) where
+  of_expression : (front rest : Tokens) (e : SqlFault) → expr.Refuses last front rest e → IsStmtFault e
+  of_expression _ _ _ (expr.ended front) = tt
+  of_expression _ _ _ (expr.misplaced front rest t h) = tt
+  of_expression _ _ _ (expr.excluded front rest t h) = tt
+  of_expression _ _ _ (expr.called before rest name open' n h g) = tt
+
   of_refuses : {W : Type 0} (front rest : Tokens) (e : SqlFault) → Refuses last OfAnyDepth W front rest e → IsStmtFault e
   of_refuses _ _ _ (at_next front rest) = of_expr (misplaced last rest) (misplaced_told last rest)
   of_refuses _ _ _ (at_word front rest t w h) = tt
   of_refuses _ _ _ (at_name front rest t n h) = tt
   of_refuses _ _ _ (at_row before row rest es r) = tt
-  of_refuses _ _ _ (in_expression before here rest behind is) = tt
+  of_refuses _ _ _ (in_expression before here rest e r) = of_expression here rest e r
+  of_refuses _ _ _ (too_deep before here rest place m) = tt
 
   of_shown : (us : Tokens) (r : Result StmtTree SqlFault) (s : StmtTree) → Shown us r s → r ≡ Err f → IsStmtFault f
   of_shown us _ _ (shown s) h = absurd (no_both s f h)
@@ -74,7 +82,6 @@ module _ (last : ℕ) (role : Role) (ts : Tokens) (f : SqlFault) where
   of_local e (stopped g front rest split local b) =
       let c = b tt in
       subst IsStmtFault (err_same g f (sym (whole_is ts (Err g) (ap (stmt_at last role) split ∙ local rest refl)) ∙ e)) (of_refuses front rest g c.stands)
-  of_local e (refused g h x) = subst IsStmtFault (err_same g f (sym (whole_is ts (Err g) h) ∙ e)) (of_expr g (expr_told last x.here g x.refuses))
 
   stmt_fault : barred role ts ≡ false → whole_at last role ts ≡ Err f → IsStmtFault f
   stmt_fault free e = of_local e (stmt_local last OfAnyDepth (Unit {0}) (Unit {0}) some_of_any_depth (any_depth_local last (Unit {0})) of_any_depth_starts (one_name last) role ts free (λ w. tt))

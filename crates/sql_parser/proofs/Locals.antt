@@ -3,15 +3,15 @@ use Rattle.std.proofs.Common.{◌≡◌, ℕ, zero, suc, ◌≤◌, Bool, true, 
 use Rattle.std.specs.Prelude.{Result, Ok, Err}
 use Rattle.iso_lexer.specs.declared.token.At.{At}
 use Rattle.sql_trees.specs.declared.fault.SqlFault.{SqlFault}
-use Rattle.sql_trees.specs.declared.fault.SqlFault.TheVariants.{Syntax}
+use Rattle.sql_trees.specs.declared.fault.SqlFault.TheVariants.{Syntax, TooDeep}
 use Rattle.sql_trees.specs.Tokens.{Token, Tokens, named}
 use Rattle.sql_trees.specs.Trees.{Tree}
-use Rattle.sql_expressions.specs.Reading.{misplaced, place_of, left_out, expect, expr_at, is_comma, ◌>>=◌}
+use Rattle.sql_expressions.specs.Reading.{misplaced, place_of, expect, is_comma, ◌>>=◌}
 use Rattle.sql_expressions.specs.Laws.{head}
 use Rattle.sql_expressions.proofs.Local.{first_is, nothing_is, head_after}
 use Rattle.sql_parser.specs.Readers.{name_at, named_at, more_at, items_at}
 use Rattle.sql_parser.specs.Grammar.{Is, Names, NameIs, is_name, Commas, last_item, next_item}
-use Rattle.sql_parser.specs.Stops.{Refuses, at_next, at_word, at_name, at_row, in_expression}
+use Rattle.sql_parser.specs.Stops.{Refuses, at_next, at_word, at_name, at_row, in_expression, too_deep}
 
 abbrev pub Reader : Type 0 → Type 0
 Reader A = Tokens → Result (A × Tokens) SqlFault
@@ -20,29 +20,14 @@ Reader A = Tokens → Result (A × Tokens) SqlFault
 abbrev pub Inhabited : {A : Type 0} → (Tokens → A → Type 0) → Type 0
 Inhabited Q = (ys : Tokens) × (w : _) × Q ys w
 
--- why nothing is said of a fault: what says so is the reading of an expression
-pub record Excuse (last : ℕ) (e : SqlFault) (ts : Tokens) : Type 0 where
-  pub before : Tokens
-  pub here : Tokens
-  pub split : ts ≡ before ++ here
-  pub refuses : expr_at last here ≡ Err e
-
--- it is the same behind more tokens
-pub excused_behind : (last : ℕ) (e : SqlFault) (fs ts : Tokens) → Excuse last e ts → Excuse last e (fs ++ ts)
-excused_behind last e fs ts x = record {
-  before = fs ++ x.before;
-  here = x.here;
-  split = ap (λ r. fs ++ r) x.split ∙ sym (append_assoc fs x.before x.here);
-  refuses = x.refuses;
-}
-
 module _ (last : ℕ) (E : Tokens → Tree → Type 0) (W : Type 0) where
   pub stands_behind : (fs front rest : Tokens) (f : SqlFault) → Refuses last E W front rest f → Refuses last E W (fs ++ front) rest f
   stands_behind fs _ _ _ (at_next front rest) = at_next (fs ++ front) rest
   stands_behind fs _ _ _ (at_word front rest t w h) = at_word (fs ++ front) rest t w h
   stands_behind fs _ _ _ (at_name front rest t n h) = at_name (fs ++ front) rest t n h
   stands_behind fs _ _ _ (at_row before row rest es r) = subst (λ x. Refuses last E W x rest (Syntax (place_of last row))) (append_assoc fs before row) (at_row (fs ++ before) row rest es r)
-  stands_behind fs _ _ _ (in_expression before here rest behind is) = subst (λ x. Refuses last E W x (rest ++ behind) (Syntax (place_of last (rest ++ behind)))) (append_assoc fs before here) (in_expression (fs ++ before) here rest behind is)
+  stands_behind fs _ _ _ (in_expression before here rest f r) = subst (λ x. Refuses last E W x rest f) (append_assoc fs before here) (in_expression (fs ++ before) here rest f r)
+  stands_behind fs _ _ _ (too_deep before here rest place m) = subst (λ x. Refuses last E W x rest (TooDeep place)) (append_assoc fs before here) (too_deep (fs ++ before) here rest place m)
 
 -- a reading that answers, and what follows it
 answers_on : {A B : Type 0} (p : Reader A) (k : A → Reader B) (ts us : Tokens) (v : A) (r : Result (B × Tokens) SqlFault) → p ts ≡ Ok (v, us) → k v us ≡ r → (p ts >>= λ x. k x.0 x.1) ≡ r
@@ -58,7 +43,6 @@ module _ (last : ℕ) (E : Tokens → Tree → Type 0) (W Any : Type 0) where
   pub data Local {A : Type 0} (Q : Tokens → A → Type 0) (p : Reader A) (ts : Tokens) : Type 0 where
     took : (v : A) (front rest : Tokens) → ts ≡ front ++ rest → ((others : Tokens) → head others ≡ head rest → p (front ++ others) ≡ Ok (v, others)) → Q front v → Local Q p ts
     stopped : (e : SqlFault) (front rest : Tokens) → ts ≡ front ++ rest → ((others : Tokens) → head others ≡ head rest → p (front ++ others) ≡ Err e) → (Any → Begun Q e front rest) → Local Q p ts
-    refused : (e : SqlFault) → p ts ≡ Err e → Excuse last e ts → Local Q p ts
 
   -- ---- what is answered at once
 
@@ -97,7 +81,6 @@ module _ (last : ℕ) (E : Tokens → Tree → Type 0) (W Any : Type 0) where
   pub behind : {A : Type 0} (Q : Tokens → A → Type 0) (p q : Reader A) (t : At Token) (us : Tokens) → ((vs : Tokens) → q (t ∷ vs) ≡ p vs) → Local (λ xs v. Q (t ∷ xs) v) p us → Local Q q (t ∷ us)
   behind Q p q t us same (took v front rest split local k) = took v (t ∷ front) rest (ap (λ (r : Tokens). t ∷ r) split) (λ others h. same (front ++ others) ∙ local others h) k
   behind Q p q t us same (stopped e front rest split local k) = stopped e (t ∷ front) rest (ap (λ (r : Tokens). t ∷ r) split) (λ others h. same (front ++ others) ∙ local others h) (λ any. begun_behind Q e (t ∷ []) front rest (k any))
-  behind Q p q t us same (refused e h x) = refused e (same us ∙ h) (excused_behind last e (t ∷ []) us x)
 
   -- with another grammar, where the first token decides
   pub same_at : {A : Type 0} (Q K : Tokens → A → Type 0) (p q : Reader A) (ts : Tokens) → ((xs : Tokens) (v : A) → Q xs v → K xs v) → ((us : Tokens) → head us ≡ head ts → q us ≡ p us) → Local Q p ts → Local K q ts
@@ -106,7 +89,6 @@ module _ (last : ℕ) (E : Tokens → Tree → Type 0) (W Any : Type 0) where
     begins = (b.begins.0, b.begins.1, up (front ++ b.begins.0) b.begins.1 b.begins.2);
     stands = b.stands;
   })
-  same_at Q K p q ts up same (refused e h x) = refused e (same ts refl ∙ h) x
 
   pub switch_at : {A : Type 0} (Q : Tokens → A → Type 0) (p q : Reader A) (t : At Token) (us : Tokens) → ((vs : Tokens) → q (t ∷ vs) ≡ p (t ∷ vs)) → Local Q p (t ∷ us) → Local Q q (t ∷ us)
   switch_at Q p q t us same l = same_at Q Q p q (t ∷ us) (λ xs v k. k) (λ ws h. let w = first_is t ws h in subst (λ xs. q xs ≡ p xs) (sym w.1) (same w.0)) l
@@ -124,7 +106,6 @@ module _ (last : ℕ) (E : Tokens → Tree → Type 0) (W Any : Type 0) where
       stopped e (front ++ mid) end (split ∙ ap (λ (r : Tokens). front ++ r) split' ∙ sym (append_assoc front mid end))
       (λ others h. ap (λ (us : Tokens). p us >>= λ x. k x.0 x.1) (append_assoc front mid others) ∙ answers_on p k (front ++ (mid ++ others)) (mid ++ others) v (Err e) (local (mid ++ others) (head_after mid others end h ∙ ap head (sym split'))) (local' others h))
       (λ any. begun_behind K e front mid end (b any))
-  turn_next K p k ts front rest v split local (refused e h x) = refused e (answers_on p k ts rest v (Err e) (ap p split ∙ local rest refl) h) (subst (Excuse last e) (sym split) (excused_behind last e front rest x))
 
   pub in_turn : {A B : Type 0} (Q : Tokens → A → Type 0) (K : Tokens → B → Type 0) (p : Reader A) (k : A → Reader B) (ts : Tokens) → ((xs : Tokens) (v : A) → Q xs v → Inhabited (λ ys w. K (xs ++ ys) w)) → Local Q p ts → ((v : A) (xs rest : Tokens) → ts ≡ xs ++ rest → Q xs v → Local (λ ys w. K (xs ++ ys) w) (k v) rest) → Local K (λ r. p r >>= λ x. k x.0 x.1) ts
   in_turn Q K p k ts some (took v front rest split local q) next = turn_next K p k ts front rest v split local (next v front rest split q)
@@ -135,7 +116,6 @@ module _ (last : ℕ) (E : Tokens → Tree → Type 0) (W Any : Type 0) where
         begins = (c.begins.0 ++ s.0, s.1, subst (λ xs. K xs s.1) (append_assoc front c.begins.0 s.0) s.2);
         stands = c.stands;
       })
-  in_turn Q K p k ts some (refused e h x) next = refused e (ap (λ (x : Result _ SqlFault). x >>= λ y. k y.0 y.1) h) x
 
   -- what was read becomes something else
   pub mapped : {A B : Type 0} (Q : Tokens → A → Type 0) (K : Tokens → B → Type 0) (p : Reader A) (g : A → B) (ts : Tokens) → ((xs : Tokens) (v : A) → Q xs v → K xs (g v)) → Local Q p ts → Local K (λ r. p r >>= λ x. Ok (g x.0, x.1)) ts
@@ -207,7 +187,6 @@ module _ (last : ℕ) (E : Tokens → Tree → Type 0) (W Any : Type 0) where
         let same : (v, rest) ≡ x = ok_same (v, rest) x (sym (local rest refl) ∙ ap (add s) (sym split) ∙ e) in
         omega (arith, ap length split, length-append front rest, ap (λ (y : S × Tokens). length y.1) same)
     left_over s ts x e (stopped g front rest split local b) = absurd (no_both x g (sym e ∙ ap (add s) split ∙ local rest refl))
-    left_over s ts x e (refused g h w) = absurd (no_both x g (sym e ∙ h))
 
     shorter : (s : S) (ts : Tokens) (x : S × Tokens) → add s ts ≡ Ok x → length x.1 ≤ length ts
     shorter s ts x e = left_over s ts x e (adds_local s ts)

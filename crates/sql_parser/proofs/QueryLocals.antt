@@ -23,7 +23,7 @@ use Rattle.sql_parser.specs.Tables.{TableRead, keys_fault, column_names}
 use Rattle.sql_parser.specs.Changes.{filter_at}
 use Rattle.sql_parser.specs.Queries.{is_star, agg_kind, call_of, call_at, rows_of, maybe_name, direction_of, direction_at, alias_of, alias_at, agg_of, agg_at, item_of, item_star, item_at, item_add, from_of, from_at, nulls_end, nulls_of, nulls_at, order_add, order_of, order_at, lock_end, lock_of, lock_at, is_allowed, query_of, select_at}
 use Rattle.sql_parser.specs.Grammar.{created, Is, Key, Names, Commas, AliasIs, no_alias, as_alias, bare_alias, AggIs, all_rows, of_values, AddsItem, a_star, a_value, an_aggregate, FromIs, no_table, from_table, DirectionIs, as_ever, ascending, descending, NullsAre, unsaid, nulls_first, nulls_last, AddsKey, adds_key, OrderIs, unordered, ordered, LockIs, no_lock, for_update, for_share, WhereIs, unfiltered, Spells, select}
-use Rattle.sql_parser.proofs.Locals.{Reader, Inhabited, Local, Begun, took, stopped, refused, gives, gives_at, gives_end, behind, same_at, switch_at, switch_end, in_turn, mapped, token_then, token_last, name_then, either, list_local, some_list}
+use Rattle.sql_parser.proofs.Locals.{Reader, Inhabited, Local, Begun, took, stopped, gives, gives_at, gives_end, behind, same_at, switch_at, switch_end, in_turn, mapped, token_then, token_last, name_then, either, list_local, some_list}
 use Rattle.sql_parser.proofs.StmtLocals.{a_word, a_sign, a_name, the_name, key_is}
 use Rattle.sql_parser.proofs.ChangeLocals.{where_local}
 
@@ -184,7 +184,6 @@ module _ (last : ℕ) (E : Tokens → Tree → Type 0) (W Any : Type 0) (an_expr
       of_expr : Local last E W Any ItemIs expr_item (t ∷ us) → Local last E W Any ItemIs item_of_call (t ∷ us)
       of_expr (took i front rest split local q) = let k = item_some [] (i ∷ []) front (q []) in took i front rest split (λ others h. front_same t us front rest others none split h k.0 k.1 k.2 ∙ local others h) q
       of_expr (stopped e front rest split local b) = of_front e front rest split local b
-      of_expr (refused e h x) = refused e (item_same t us us refl none ∙ h) x
 
   item_token_local : (t : At Token) (us : Tokens) (k : Option AggKind) → agg_kind t.tok ≡ k → Local last E W Any ItemIs item_of_call (t ∷ us)
   item_token_local t us None h = switch_at last E W Any ItemIs expr_item item_of_call t us (λ vs. rw h refl) (expr_item_local (t ∷ us))

@@ -6,7 +6,7 @@ use Rattle.sql_trees.specs.declared.fault.SqlFault.{SqlFault}
 use Rattle.sql_trees.specs.declared.fault.SqlFault.TheVariants.{LeftOut, TooMany, BadColumns, DdlInSession}
 use Rattle.sql_trees.specs.Statements.{StmtTree, SelectTree, Selects}
 use Rattle.sql_trees.specs.Tokens.{Token, Tokens}
-use Rattle.sql_expressions.specs.Reading.{expr_at, place_of}
+use Rattle.sql_expressions.specs.Reading.{place_of}
 use Rattle.sql_expressions.specs.Laws.{head}
 use Rattle.sql_parser.specs.declared.block.Role.{Role}
 use Rattle.sql_parser.specs.Blocks.{is_session, is_ddl, is_semicolon, block_at, whole_at}
@@ -31,10 +31,9 @@ pub record StopsFirst (last : ℕ) (role : Role) (ts : Tokens) (f : SqlFault) : 
   pub stays : (others : Tokens) → head others ≡ head rest → whole_at last role (front ++ others) ≡ Err f
   pub none : (others : Tokens) (s : StmtTree) → head others ≡ head rest → Spells Shallow (front ++ others) s → is_kept_in role s ≡ true → ⊥
 
--- What is no fault of one token of the statement: one of an expression; at its SELECT that of a whole query whose parts don't go together; and that of the keys
--- of a whole table, at the first name or key that is wrong.
+-- What is no fault of one token: at its SELECT that of a whole query whose parts don't go together, and that of the keys of a whole table, at the first name
+-- or key that is wrong.
 pub data Excepted (last : ℕ) (ts : Tokens) (f : SqlFault) : Type 0 where
-  of_expression : (before us : Tokens) → ts ≡ before ++ us → expr_at last us ≡ Err f → Excepted last ts f
   whole_query : (s : At Token) (us : Tokens) (q : SelectTree) → ts ≡ s ∷ us → f ≡ LeftOut s.span.start → is_allowed q ≡ false → Spells OfAnyDepth ts (Selects q) → Excepted last ts f
   whole_table : (name : List ℕ) (t : TableRead) (n : ℕ) → f ≡ BadColumns n → keys_fault name (column_names t.columns) [] t.keys ≡ Some n → Spells OfAnyDepth ts (created name t) → Excepted last ts f
 
@@ -43,7 +42,7 @@ pub data Stops (last : ℕ) (role : Role) (ts : Tokens) (f : SqlFault) : Type 0 
   at_token : StopsFirst last role ts f → Stops last role ts f
   elsewhere : Excepted last ts f → Stops last role ts f
 
--- A statement that is refused as Syntax, LeftOut or BadColumns is refused at its first fault. last is the text's length, or where the next semicolon stands.
+-- A statement that is refused as Syntax, LeftOut, TooDeep or BadColumns is refused at its first fault. last is the text's length, or where the next semicolon stands.
 abbrev pub FaultsAreFirst : Type 0
 FaultsAreFirst = (last : ℕ) (role : Role) (ts : Tokens) (f : SqlFault) → IsStop f → whole_at last role ts ≡ Err f → Stops last role ts f
 
@@ -60,7 +59,7 @@ pub data BlockStops (last : ℕ) (role : Role) (ts : Tokens) (f : SqlFault) : Ty
   at_block_token : BlockStopsFirst last role ts f → BlockStops last role ts f
   in_a_statement : (before stmt behind : Tokens) → ts ≡ before ++ (stmt ++ behind) → Excepted (place_of last behind) stmt f → BlockStops last role ts f
 
--- A block that is refused as Syntax, LeftOut or BadColumns is refused at its first fault.
+-- A block that is refused as Syntax, LeftOut, TooDeep or BadColumns is refused at its first fault.
 abbrev pub BlockFaultsAreFirst : Type 0
 BlockFaultsAreFirst = (last : ℕ) (role : Role) (ts : Tokens) (f : SqlFault) → IsStop f → block_at last role ts ≡ Err f → BlockStops last role ts f
 

@@ -1,19 +1,22 @@
 -- Where a statement is refused, and with which fault.
-use Rattle.std.specs.Prelude.{◌≡◌, ℕ, Bool, true, false, ◌||◌, List, [], ◌∷◌, ◌++◌, Err}
+use Rattle.std.specs.Prelude.{◌≡◌, ℕ, Bool, true, false, ◌||◌, List, [], ◌∷◌, ◌++◌}
 use Rattle.iso_lexer.specs.declared.token.At.{At}
 use Rattle.sql_trees.specs.declared.fault.SqlFault.{SqlFault}
-use Rattle.sql_trees.specs.declared.fault.SqlFault.TheVariants.{Syntax, LeftOut, BadColumns}
+use Rattle.sql_trees.specs.declared.fault.SqlFault.TheVariants.{Syntax, LeftOut, TooDeep, BadColumns}
 use Rattle.sql_trees.specs.declared.word.Word.TheVariants as words
 use Rattle.sql_trees.specs.Tokens.{Token, Tokens}
 use Rattle.sql_trees.specs.Tokens as tok
 use Rattle.sql_trees.specs.Trees.{Tree}
-use Rattle.sql_expressions.specs.Reading.{misplaced, place_of, expr_at, is_word}
+use Rattle.sql_expressions.specs.Reading.{misplaced, place_of, is_word}
+use Rattle.sql_expressions.specs.Laws.{Makes, first}
+use Rattle.sql_expressions.specs.Laws as expr
 use Rattle.sql_parser.specs.Grammar.{Names, RowIs}
 
 -- a fault of one token that can't stand there
 abbrev pub IsStop : SqlFault → Type 0
 IsStop (Syntax n) = Unit {0}
 IsStop (LeftOut n) = Unit {0}
+IsStop (TooDeep n) = Unit {0}
 IsStop (BadColumns n) = Unit {0}
 IsStop _ = ⊥
 
@@ -37,5 +40,7 @@ pub data Refuses (last : ℕ) (E : Tokens → Tree → Type 0) (W : Type 0) : To
   at_name : (front rest : Tokens) (t : At Token) (n : List ℕ) → Names n t → Refuses last E W front (t ∷ rest) (BadColumns t.span.start)
   -- as Syntax at the first token of a whole row of VALUES that ends there
   at_row : (before row rest : Tokens) (es : List Tree) → RowIs E row es → Refuses last E W (before ++ row) rest (Syntax (place_of last row))
-  -- as Syntax, where reading an expression of the statement ends so
-  in_expression : (before here rest behind : Tokens) → expr_at (place_of last behind) (here ++ rest) ≡ Err (Syntax (place_of last (rest ++ behind))) → Refuses last E W (before ++ here) (rest ++ behind) (Syntax (place_of last (rest ++ behind)))
+  -- as an expression is refused, of which this much has been read
+  in_expression : (before here rest : Tokens) (f : SqlFault) → expr.Refuses last here rest f → Refuses last E W (before ++ here) rest f
+  -- as TooDeep at a token of an expression that makes a node
+  too_deep : (before here rest : Tokens) (place : ℕ) → Makes place (here ++ first rest) → Refuses last E W (before ++ here) rest (TooDeep place)

@@ -8,7 +8,7 @@ use Rattle.unique_keys.proofs.key_index.KeyIndex.check.Goals as goal
 
 pub returns-in-Taken : goal.returns-in-Taken
 returns-in-Taken g c =
-    let long : c.len-key-end.result ≡ length c.args.keys.now.keys = c.len-key-end.ensures ∙ ap length c.as_slice-all.ensures.value ∙ sym (length-map c.keys.inside.keys.items (λ k. k.items)) ∙ ap (λ t. length t.keys) c.keys.view_is in
+    let long : length c.as_slice-all.result.now ≡ length c.args.keys.now.keys = ap length c.as_slice-all.ensures.value ∙ sym (length-map c.keys.inside.keys.items (λ k. k.items)) ∙ ap (λ t. length t.keys) c.keys.view_is in
     finds_exactly (g.V.Versions.content c.args.store.now) c.args.self.now c.args.tx c.args.except c.args.values.now c.args.keys.now (check.Taken c.loop-key.key) (
       omega (arith, long, c.loop-key-test.true),
       c.loop-key.invariant,
@@ -18,7 +18,7 @@ returns-in-Taken g c =
 
 pub returns-in-Held : goal.returns-in-Held
 returns-in-Held g c =
-    let long : c.len-key-end.result ≡ length c.args.keys.now.keys = c.len-key-end.ensures ∙ ap length c.as_slice-all.ensures.value ∙ sym (length-map c.keys.inside.keys.items (λ k. k.items)) ∙ ap (λ t. length t.keys) c.keys.view_is in
+    let long : length c.as_slice-all.result.now ≡ length c.args.keys.now.keys = ap length c.as_slice-all.ensures.value ∙ sym (length-map c.keys.inside.keys.items (λ k. k.items)) ∙ ap (λ t. length t.keys) c.keys.view_is in
     finds_exactly (g.V.Versions.content c.args.store.now) c.args.self.now c.args.tx c.args.except c.args.values.now c.args.keys.now (check.Held c.loop-key.key c.in-Held.by) (
       omega (arith, long, c.loop-key-test.true),
       c.loop-key.invariant,
@@ -28,6 +28,6 @@ returns-in-Held g c =
 
 pub returns : goal.returns
 returns g c =
-    let long : c.len-key-end.result ≡ length c.args.keys.now.keys = c.len-key-end.ensures ∙ ap length c.as_slice-all.ensures.value ∙ sym (length-map c.keys.inside.keys.items (λ k. k.items)) ∙ ap (λ t. length t.keys) c.keys.view_is in
+    let long : length c.as_slice-all.result.now ≡ length c.args.keys.now.keys = ap length c.as_slice-all.ensures.value ∙ sym (length-map c.keys.inside.keys.items (λ k. k.items)) ∙ ap (λ t. length t.keys) c.keys.view_is in
     finds_exactly (g.V.Versions.content c.args.store.now) c.args.self.now c.args.tx c.args.except c.args.values.now c.args.keys.now check.Free
     (λ key l. c.loop-key.invariant key (omega (arith, l, long, c.loop-key-test.false)))
