@@ -1,5 +1,5 @@
 -- What the parts of a file answer, put together.
-use Rattle.std.proofs.Common.{◌≡◌, ◌≢◌, ℕ, suc, ◌≤◌, List, [], ◌∷◌, ◌++◌, map, flat_map, length, IsUtf8, Ok, Err, refl, sym, subst, arith, append_assoc}
+use Rattle.std.proofs.Common.{◌≡◌, ◌≢◌, ℕ, suc, ◌≤◌, true, List, [], ◌∷◌, ◌++◌, map, flat_map, length, IsUtf8, Ok, Err, refl, sym, subst, arith, append_assoc}
 use Rattle.std.specs.Prelude.{option_to_list}
 use Rattle.std.specs.Global.{Vec}
 use Rattle.std.specs.List.{All, AllByRecursion}
@@ -13,6 +13,7 @@ use Rattle.spec_parser.specs.SpecText.{Answers, SpecReads}
 use Rattle.permutations.specs.declared.fault.RunFault.{RunFault}
 use Rattle.permutations.specs.declared.fault.RunFault.TheVariants as told
 use Rattle.permutations.specs.Faults.{spec_fault}
+use Rattle.permutations.specs.Runs.{is_of_reading}
 use Rattle.permutations.specs.Blocks.{Placed, main_block, session_block, blocks_in, BlocksRead}
 use Rattle.permutations.specs.BlockAnswers.{SayAll, HasShortText}
 use Rattle.permutations.specs.Files.{FileIs, no_spec, no_sql, is_spec}
@@ -60,6 +61,32 @@ block_refused bytes spec parts told.NotYet file says differs = absurd says
 
 pub whole_file : (bytes : List ℕ) (spec : SpecTree) (parts : List Placed) (bs : Vec Block) → IsSpecFile bytes spec parts → SayAll parts (Ok bs) → FileIs bytes (Ok (record { spec = spec; blocks = blocks_of bs.items }))
 whole_file bytes spec parts bs file says = is_spec spec (blocks_of bs.items) file.short file.utf8 file.reads (subst (λ ps. BlocksRead ps (Ok (blocks_of bs.items))) file.same says)
+
+-- ---- which faults there are
+
+pub spec_kind : (f : SpecFault) → is_of_reading (spec_fault f) ≡ true
+spec_kind faults.Memory = refl
+spec_kind (faults.Lex f) = refl
+spec_kind (faults.Expected w at) = refl
+spec_kind (faults.DuplicateStep at) = refl
+spec_kind (faults.UndefinedStep at) = refl
+spec_kind (faults.UndefinedMarker at) = refl
+spec_kind (faults.NoticesLeftOut at) = refl
+spec_kind (faults.Limit at) = refl
+
+pub blocks_kind : (parts : List Placed) (e : RunFault) → SayAll parts (Err e) → is_of_reading e ≡ true
+blocks_kind parts told.Memory says = refl
+blocks_kind parts (told.Sql f) says = refl
+blocks_kind parts told.Read says = absurd says
+blocks_kind parts told.Write says = absurd says
+blocks_kind parts (told.Lex f) says = absurd says
+blocks_kind parts (told.Spec f) says = absurd says
+blocks_kind parts (told.SetupFailed t) says = absurd says
+blocks_kind parts told.SetupWaits says = absurd says
+blocks_kind parts told.ScheduleBroken says = absurd says
+blocks_kind parts told.TooManyPermutations says = absurd says
+blocks_kind parts (told.NotUtf8 at) says = absurd says
+blocks_kind parts told.NotYet says = absurd says
 
 -- ---- each block is short
 

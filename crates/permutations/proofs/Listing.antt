@@ -1,13 +1,19 @@
 -- The loop over the permutations that are listed.
-use Rattle.std.proofs.Common.{◌≡◌, ◌≢◌, true, ℕ, zero, suc, ◌-◌, ◌<◌, List, [], ◌∷◌, ◌++◌, Option, Some, None, Result, Ok, Err, refl, sym, ap, subst, ◌∙◌, arith, append_assoc}
+use Rattle.std.proofs.Common.{◌≡◌, ◌≢◌, Bool, true, false, ℕ, zero, suc, ◌-◌, ◌<◌, List, [], ◌∷◌, ◌++◌, Option, Some, None, Result, Ok, Err, refl, sym, ap, subst, ◌∙◌, arith, append_assoc}
+use Rattle.std.specs.Prelude.{IfSome}
 use Rattle.std.proofs.lemmas.List.{append-nil}
 use Rattle.std.specs.Io.KnownBytes.{Appends}
 use Rattle.spec_parser.specs.Trees.{EntryTree, SpecTree}
 use Rattle.permutation_lists.specs.Lines.{line_text}
 use Rattle.permutations.specs.Said.{Said, Ending, ended, behind, whole, too_many}
-use Rattle.permutations.specs.Runs.{is_refusal, Answers, IsListed}
+use Rattle.permutations.specs.Runs.{is_refusal, is_of_reading, is_of_listing, Answers, IsListed}
+use Rattle.permutations.specs.Begun.{TookFront, ListBegun, nothing, begun}
 use Rattle.permutations.specs.declared.fault.RunFault.{RunFault}
 use Rattle.permutations.specs.declared.fault.RunFault.TheVariants.{TooManyPermutations, Memory}
+use Rattle.permutations.specs.declared.fault.RunFault.TheVariants as faults
+use Rattle.iso_lexer.specs.declared.whole.ReadFault.{ReadFault}
+use Rattle.iso_lexer.specs.declared.whole.ReadFault.TheVariants as read_faults
+use Rattle.permutations.specs.Faults.{read_fault}
 use Rattle.permutations.specs.Lists.{listed, FileLists, refused, lists}
 use Rattle.permutation_lists.specs.Permutations.{permutations_of}
 use Rattle.permutations.specs.Files.{File, FileIs}
@@ -78,3 +84,47 @@ refused_list bytes limit e is refusal = refused e (is (differs e refusal))
 
 pub file_listed : (bytes : List ℕ) (limit : ℕ) (file : File) → FileIs bytes (Ok file) → FileLists bytes limit (Ok (listed file.spec limit (permutations_of file.spec)))
 file_listed bytes limit file is = lists file is
+
+-- ---- what went out
+
+-- what went out so far is a front of the whole
+pub front_out : (failed : Bool) (old new : Option (List ℕ)) (all rest : Said) → SoFar old new all rest → TookFront failed old new all.text
+front_out true old new all rest so = tt
+front_out false old new all rest so = record { front = so.text; begins = record { rest = rest.text; is = ap (λ (s : Said). s.text) so.is }; went_out = so.out }
+
+-- a sink that has failed says nothing
+pub failed_out : (failed : Bool) (old new : Option (List ℕ)) (text : List ℕ) → failed ≡ true → TookFront failed old new text
+failed_out true old new text is = tt
+failed_out false old new text is = absurd cc
+
+pub took_nothing : (failed : Bool) (old : Option (List ℕ)) (text : List ℕ) → TookFront failed old old text
+took_nothing true old text = tt
+took_nothing false old text = record { front = []; begins = record { rest = text; is = refl }; went_out = appends_nothing old }
+
+pub nothing_out : (bytes : List ℕ) (limit : ℕ) (failed : Bool) (old : Option (List ℕ)) → ListBegun bytes limit failed old old
+nothing_out bytes limit failed old = nothing (took_nothing failed old [])
+
+pub list_begun : (bytes : List ℕ) (limit : ℕ) (file : File) (failed : Bool) (old new : Option (List ℕ)) → FileIs bytes (Ok file) → TookFront failed old new (listed file.spec limit (permutations_of file.spec)).text → ListBegun bytes limit failed old new
+list_begun bytes limit file failed old new is took = begun (listed file.spec limit (permutations_of file.spec)) (lists file is) took
+
+pub reading_lists : (e : RunFault) → is_of_reading e ≡ true → is_of_listing e ≡ true
+reading_lists (faults.Lex f) is = refl
+reading_lists (faults.Spec f) is = refl
+reading_lists (faults.Sql f) is = refl
+reading_lists (faults.NotUtf8 at) is = refl
+reading_lists faults.Memory is = refl
+reading_lists faults.Read is = refl
+reading_lists faults.Write is = refl
+reading_lists faults.TooManyPermutations is = refl
+reading_lists (faults.SetupFailed text) is = absurd cc
+reading_lists faults.SetupWaits is = absurd cc
+reading_lists faults.ScheduleBroken is = absurd cc
+reading_lists faults.NotYet is = absurd cc
+
+pub read_lists : (f : ReadFault) → is_of_listing (read_fault f) ≡ true
+read_lists read_faults.Memory = refl
+read_lists read_faults.Device = refl
+
+pub each_some : {A : Type 0} (P : A → Type 0) (o : Option A) → ((x : A) → P x) → IfSome o P
+each_some P None all = tt
+each_some P (Some x) all = all x

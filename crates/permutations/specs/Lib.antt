@@ -4,6 +4,8 @@ pub mod BlockAnswers
 pub mod Files
 pub mod Said
 pub mod Lists
+pub mod Begun
+pub mod Events
 pub mod FirstLine
 pub mod Prints
 pub mod Plans

@@ -37,6 +37,23 @@ is_of_one faults.ScheduleBroken = true
 is_of_one faults.Memory = true
 is_of_one _ = false
 
+-- a fault that reading a file may answer
+abbrev pub is_of_reading : RunFault → Bool
+is_of_reading (faults.Lex f) = true
+is_of_reading (faults.Spec f) = true
+is_of_reading (faults.Sql f) = true
+is_of_reading (faults.NotUtf8 at) = true
+is_of_reading faults.Memory = true
+is_of_reading _ = false
+
+-- a fault that a list may answer: it runs nothing
+abbrev pub is_of_listing : RunFault → Bool
+is_of_listing (faults.SetupFailed text) = false
+is_of_listing faults.SetupWaits = false
+is_of_listing faults.ScheduleBroken = false
+is_of_listing faults.NotYet = false
+is_of_listing _ = true
+
 abbrev pub has_ended : Result (Unit {0}) RunFault → Bool
 has_ended (Ok x) = true
 has_ended (Err e) = is_early_end e

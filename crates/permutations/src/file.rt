@@ -1,10 +1,11 @@
 //! A file as a spec with the statements of its blocks.
 
-ghost use Rattle.std.specs.Prelude.{◌≡◌, ◌≢◌, ◌≤◌, length, Ok, Err, IsUtf8, IfOk, IfErr};
+ghost use Rattle.std.specs.Prelude.{◌≡◌, ◌≢◌, ◌≤◌, length, true, Ok, Err, IsUtf8, IfOk, IfErr};
 ghost use Rattle.spec_parser.specs.Trees.{spec_view};
 ghost use Rattle.spec_parser.specs.Stands.{Stands};
 ghost use Rattle.permutations.specs.BlockAnswers.{file_view};
 ghost use Rattle.permutations.specs.Files.{FileIs};
+ghost use Rattle.permutations.specs.Runs.{is_refusal, is_of_reading};
 
 use crate::blocks::{blocks_in, read_blocks};
 use crate::fault::RunFault;
@@ -24,6 +25,8 @@ pub struct SpecFile<'a> {
 fn text_of(bytes: &[u8]) -> Result<&str, RunFault>
     ensures ok { IfOk result (λ text. (text.now ≡ bytes.now) × (length bytes.now ≤ 1048576) × IsUtf8 bytes.now) }
     ensures err { IfErr result (λ e. FileIs bytes.now (Err e)) }
+    ensures kinds { IfErr result (λ e. is_refusal e ≡ true) }
+    ensures read { IfErr result (λ e. is_of_reading e ≡ true) }
 {
     if bytes.len() > LONGEST_FILE {
         return Err(RunFault::Lex(Fault {
@@ -42,6 +45,7 @@ pub fn read_file(alloc: Global, bytes: &[u8]) -> Result<SpecFile<'_>, RunFault>
     ensures ok { IfOk result (λ file. FileIs bytes.now (Ok (file_view file))) }
     ensures stands { IfOk result (λ file. Stands (spec_view file.spec)) }
     ensures err { IfErr result (λ e. e ≢ RunFault.Memory → FileIs bytes.now (Err e)) }
+    ensures kinds { IfErr result (λ e. is_of_reading e ≡ true) }
 {
     specs_stand();
     specs_are_slices();

@@ -7,7 +7,8 @@ ghost use Rattle.spec_parser.specs.Trees.{spec_view};
 ghost use Rattle.spec_parser.specs.Stands.{Stands};
 ghost use Rattle.permutation_lists.specs.Permutations.{permutations_of};
 ghost use Rattle.permutations.specs.Lists.{listed, FileLists};
-ghost use Rattle.permutations.specs.Runs.{is_refusal, has_ended, has_read, IsListed};
+ghost use Rattle.permutations.specs.Runs.{is_refusal, is_of_listing, has_ended, has_read, IsListed};
+ghost use Rattle.permutations.specs.Begun.{TookFront, ListBegun};
 ghost use Rattle.permutations.specs.Said.{Said};
 
 use crate::fault::RunFault;
@@ -26,8 +27,10 @@ fn list_permutations<W: Sink>(
 ) -> Result<(), RunFault>
     requires { Stands (spec_view spec.now) }
     ensures lists { IsTrue (has_ended result) → IsListed (W.put_so_far out.old) (W.put_so_far out.new) result (listed (spec_view spec.now) limit (permutations_of (spec_view spec.now))) }
+    ensures begun { TookFront (W.failed out.new) (W.put_so_far out.old) (W.put_so_far out.new) (listed (spec_view spec.now) limit (permutations_of (spec_view spec.now))).text }
     ensures write { IsErrOf result RunFault.Write → W.failed out.new ≡ true }
-    ensures kinds { IfErr result (λ e. is_refusal e ≡ false) }
+    ensures kinds { IfErr result (λ e. is_of_listing e ≡ true) }
+    ensures no_refusal { IfErr result (λ e. is_refusal e ≡ false) }
     ensures read { result ≢ Err RunFault.Read }
 {
     let mut permutations = Permutations::of(alloc, spec)?;
@@ -49,7 +52,9 @@ fn list_file<W: Sink>(alloc: Global, bytes: &[u8], out: &mut W, limit: u64) -> R
         ((said : Said) × FileLists bytes.now limit (Ok said) × IsListed (W.put_so_far out.old) (W.put_so_far out.new) result said) }
     ensures refused { IfErr result (λ e. is_refusal e ≡ true → FileLists bytes.now limit (Err e)) }
     ensures untouched { IfErr result (λ e. is_refusal e ≡ true → out.new ≡ out.old) }
+    ensures begun { ListBegun bytes.now limit (W.failed out.new) (W.put_so_far out.old) (W.put_so_far out.new) }
     ensures write { IsErrOf result RunFault.Write → W.failed out.new ≡ true }
+    ensures kinds { IfErr result (λ e. is_of_listing e ≡ true) }
     ensures read { result ≢ Err RunFault.Read }
 {
     let file = read_file(alloc, bytes)?;
@@ -70,6 +75,7 @@ pub fn list_spec<S: Source, W: Sink>(
     ensures untouched { IfErr result (λ e. is_refusal e ≡ true → out.new ≡ out.old) }
     ensures read { IsErrOf result RunFault.Read ↔ (S.failed input.new ≡ true) }
     ensures unread { IsErrOf result RunFault.Read → out.new ≡ out.old }
+    ensures kinds { IfErr result (λ e. is_of_listing e ≡ true) }
     ensures write { IsErrOf result RunFault.Write → W.failed out.new ≡ true }
     ensures taken { IsTrue (has_read result) → ((bytes : List ℕ) × IsFront 1048577 (S.left input.old) (S.left input.new) bytes) }
 {

@@ -7,6 +7,7 @@ ghost use Rattle.spec_parser.specs.Trees.{entry_view, spec_view};
 ghost use Rattle.spec_parser.specs.Stands.{Stands};
 ghost use Rattle.permutation_plans.specs.Regular.{IsRegular};
 ghost use Rattle.permutations.specs.Plans.{IsFollowing};
+ghost use Rattle.permutations.specs.Events.{done_of};
 
 use crate::fault::RunFault;
 use crate::plan::Plan;
@@ -20,7 +21,9 @@ use sql_parser::Block;
 use std::alloc::{AllocError, Global};
 
 /// Whether an event was done. None is due that the engine refuses, and after one the run would be over.
-fn is_done(answer: Result<Reply<'_>, EngineFault>) -> Result<bool, AllocError> {
+fn is_done(answer: Result<Reply<'_>, EngineFault>) -> Result<bool, AllocError>
+    ensures { result ≡ done_of answer.entry }
+{
     match answer {
         Ok(_) => Ok(true),
         Err(EngineFault::Memory) => Err(AllocError),
