@@ -19,6 +19,6 @@ pub record IsWritten (spec : SpecTree) (entries : List EntryTree) (items : List 
   pub told : Result Ended ReportFault
   pub is : result ≡ told_as told
   pub ending : EndsAs (permutation_says spec entries items).ending told
-  pub text : Puts out_old out_new (permutation_says spec entries items).text told
-  pub notes : Puts notes_old notes_new (permutation_says spec entries items).notes told
+  pub text : Puts failed_new out_old out_new (permutation_says spec entries items).text told
+  pub notes : Puts noted_new notes_old notes_new (permutation_says spec entries items).notes told
   pub fails : TellsFailure failed_old failed_new noted_old noted_new told
