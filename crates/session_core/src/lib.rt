@@ -14,10 +14,3 @@ mod turns;
 
 pub use engine::EngineState;
 pub use replay::replays;
-
-#[cfg(test)]
-mod tests;
-#[cfg(test)]
-mod tests_by_entries;
-#[cfg(test)]
-mod trial;

@@ -8,3 +8,7 @@ pub mod Staying
 pub mod Snapshots
 pub mod Unseen
 pub mod Working
+pub mod Growing
+pub mod Orderly
+pub mod Positive
+pub mod Selecting

@@ -81,7 +81,7 @@ outcome_if : (b : Bool) (x y : Next) (o : Outcome) → x.reply.outcome ≡ o →
 outcome_if true x y o h k = h
 outcome_if false x y o h k = k
 
-after_outcome : (m : Machine) (i : ℕ) (place : Place) (count : ℕ) (d : Did) → (after_stmt m i place count d).reply.outcome ≡ d.outcome
+pub after_outcome : (m : Machine) (i : ℕ) (place : Place) (count : ℕ) (d : Did) → (after_stmt m i place count d).reply.outcome ≡ d.outcome
 after_outcome m i place count d =
     outcome_if (is_failed d.outcome) (finished m i d None) _ d.outcome refl
     (outcome_if (nat_lt (place.next + 1) count) (finished m i d (Some (record { block = place.block; next = place.next + 1 }))) (finished m i (closed_at_end d d.transaction) None) d.outcome

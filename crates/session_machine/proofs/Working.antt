@@ -1,6 +1,7 @@
 -- The worked history, by computation from state to state.
-use Rattle.std.proofs.Common.{◌≡◌, ℕ, true, false, List, [], ◌∷◌, take, subst, refl}
-use Rattle.std.specs.Prelude.{Option, Some, None, Ok}
+use Rattle.std.proofs.Common.{◌≡◌, ℕ, ◌<◌, true, false, List, [], ◌∷◌, length, take, subst, refl, arith}
+use Rattle.std.proofs.lemmas.Option.{slice_get_within}
+use Rattle.std.specs.Prelude.{Option, Some, None, slice_get, Ok}
 use Rattle.sql_trees.specs.declared.kind.Kind.TheVariants.{Int as Integer}
 use Rattle.sql_trees.specs.declared.stmt.Level.TheVariants.{ReadCommitted, RepeatableRead}
 use Rattle.sql_values.specs.declared.value.Value.{Value}
@@ -17,7 +18,8 @@ use Rattle.session_machine.specs.declared.reply.HistItem.{HistItem}
 use Rattle.session_machine.specs.Tables.{Table}
 use Rattle.session_machine.specs.Machine.{Machine, at_rest, opening, visible}
 use Rattle.session_machine.specs.Engine.{Follows}
-use Rattle.session_machine.specs.Worked.{worked_blocks, worked_items, WorkedHistory, WorkedStates, Waited, Apart, led_to, t, x, item, shown, one, two}
+use Rattle.session_machine.specs.Laws.{IsLastOf}
+use Rattle.session_machine.specs.Worked.{worked_blocks, worked_items, WorkedHistory, WorkedStates, Waited, Apart, Kept, Given, third, led_to, t, x, item, shown, one, two, three}
 use Rattle.session_machine.proofs.Replaying.{one_run}
 
 abbrev made : Table
@@ -106,6 +108,30 @@ m14 = state both after_leave (made ∷ []) at_rest (at 3 0 Closed) at_rest
 abbrev m15 : Machine
 m15 = state both (Committed 0 ∷ RolledBack ∷ Committed 1 ∷ Committed 2 ∷ Committed 3 ∷ []) (made ∷ []) at_rest at_rest at_rest
 
+abbrev writing : Option ℕ → ℕ → Transaction
+writing snapshot command = Open (record { tx = record { 0 = 5 }; explicit = true; level = ReadCommitted; snapshot = snapshot; command = command })
+
+abbrev all_three : List Write
+all_three = wrote 0 1 0 one ∷ wrote 2 0 1 two ∷ third ∷ []
+
+abbrev while_open : List Fate
+while_open = Committed 0 ∷ RolledBack ∷ Committed 1 ∷ Committed 2 ∷ Committed 3 ∷ OpenFate ∷ []
+
+abbrev m16 : Machine
+m16 = state both (Committed 0 ∷ RolledBack ∷ Committed 1 ∷ Committed 2 ∷ Committed 3 ∷ []) (made ∷ []) at_rest at_rest (at 4 0 Closed)
+
+abbrev m17 : Machine
+m17 = state both while_open (made ∷ []) at_rest at_rest (at 4 1 (writing None 0))
+
+abbrev m18 : Machine
+m18 = state all_three while_open (made ∷ []) at_rest at_rest (between (writing (Some 4) 1))
+
+abbrev m19 : Machine
+m19 = state all_three while_open (made ∷ []) at_rest at_rest (at 5 0 (writing (Some 4) 1))
+
+abbrev m20 : Machine
+m20 = state all_three (Committed 0 ∷ RolledBack ∷ Committed 1 ∷ Committed 2 ∷ Committed 3 ∷ Committed 4 ∷ []) (made ∷ []) at_rest at_rest at_rest
+
 abbrev To : Machine → HistItem → Machine → Type 0
 To m i n = Follows worked_blocks Directed m i n
 
@@ -154,14 +180,38 @@ step14 = refl
 step15 : To m14 (item (Step 1) (shown (one ∷ two ∷ [])) true) m15
 step15 = refl
 
+step16 : To m15 (item (Launch 2 4) Launched false) m16
+step16 = refl
+
+step17 : To m16 (item (Step 2) Done false) m17
+step17 = refl
+
+step18 : To m17 (item (Step 2) Done true) m18
+step18 = refl
+
+step19 : To m18 (item (Launch 2 5) Launched false) m19
+step19 = refl
+
+step20 : To m19 (item (Step 2) Done true) m20
+step20 = refl
+
 pub worked : WorkedHistory
-worked = (m15, (m1, step1, (m2, step2, (m3, step3, (m4, step4, (m5, step5, (m6, step6, (m7, step7, (m8, step8, (m9, step9, (m10, step10, (m11, step11, (m12, step12, (m13, step13, (m14, step14, (m15, step15, refl))))))))))))))))
+worked = (m20, (m1, step1, (m2, step2, (m3, step3, (m4, step4, (m5, step5, (m6, step6, (m7, step7, (m8, step8, (m9, step9, (m10, step10, (m11, step11, (m12, step12, (m13, step13, (m14, step14, (m15, step15, (m16, step16, (m17, step17, (m18, step18, (m19, step19, (m20, step20, refl)))))))))))))))))))))
 
 waited : Waited m9
 waited = record { busy = refl; early = refl; idle = refl; leaves_early = refl }
 
 are_apart : Apart m12
 are_apart = record { no_session = refl; definition = refl; no_block = refl; snapshot = refl; committed = refl; no_table = refl }
+
+the_last : (later : ℕ) (v : Write) → 2 < later → slice_get all_three later ≡ Some v → ⊥
+the_last later v l there = let w = slice_get_within all_three later v there in omega arith
+
+is_kept : Kept m18
+is_kept = record { last = record { there = refl; gave = refl; last = λ later v l there its. the_last later v l there }; not_yet = refl; its_own = refl; others = refl }
+
+is_given : Given m20
+is_given = record { last = record { there = refl; gave = refl; last = λ later v l there its. the_last later v l there }; committed = refl; its_own = refl; others = refl }
 
 -- each of these states is the one that its part of the history leads to
 states_are : (count : ℕ) (m n : Machine) → led_to count m → led_to count n → m ≡ n
@@ -172,4 +222,6 @@ worked_states = record {
   waited = λ m h. subst Waited (states_are 9 m9 m (m1, step1, (m2, step2, (m3, step3, (m4, step4, (m5, step5, (m6, step6, (m7, step7, (m8, step8, (m9, step9, refl))))))))) h) waited;
   apart = λ m h. subst Apart (states_are 12 m12 m (m1, step1, (m2, step2, (m3, step3, (m4, step4, (m5, step5, (m6, step6, (m7, step7, (m8, step8, (m9, step9, (m10, step10, (m11, step11, (m12, step12, refl)))))))))))) h) are_apart;
   left = λ m h. subst (λ (n : Machine). visible n 1 t ≡ Ok (Some (one ∷ two ∷ []))) (states_are 13 m13 m (m1, step1, (m2, step2, (m3, step3, (m4, step4, (m5, step5, (m6, step6, (m7, step7, (m8, step8, (m9, step9, (m10, step10, (m11, step11, (m12, step12, (m13, step13, refl))))))))))))) h) refl;
+  kept = λ m h. subst Kept (states_are 18 m18 m (m1, step1, (m2, step2, (m3, step3, (m4, step4, (m5, step5, (m6, step6, (m7, step7, (m8, step8, (m9, step9, (m10, step10, (m11, step11, (m12, step12, (m13, step13, (m14, step14, (m15, step15, (m16, step16, (m17, step17, (m18, step18, refl)))))))))))))))))) h) is_kept;
+  given = λ m h. subst Given (states_are 20 m20 m (m1, step1, (m2, step2, (m3, step3, (m4, step4, (m5, step5, (m6, step6, (m7, step7, (m8, step8, (m9, step9, (m10, step10, (m11, step11, (m12, step12, (m13, step13, (m14, step14, (m15, step15, (m16, step16, (m17, step17, (m18, step18, (m19, step19, (m20, step20, refl)))))))))))))))))))) h) is_given;
 }

@@ -1,11 +1,13 @@
--- A worked history: session 1 is in Repeatable Read when session 2 writes, and sees its row once it has left.
+-- A worked history: session 1 is in Repeatable Read when session 2 writes, and sees its row once it has left; then session 2 writes in a transaction that stays open, and commits it.
 use Rattle.std.specs.Prelude.{ℕ, Bool, true, false, List, [], ◌∷◌, take, ◌≡◌, Some, None, Ok, Err, pos}
 use Rattle.sql_trees.specs.declared.kind.Kind.TheVariants.{Int as Integer}
 use Rattle.sql_trees.specs.declared.stmt.Level.TheVariants.{RepeatableRead}
 use Rattle.sql_trees.specs.Trees.{Number}
-use Rattle.sql_trees.specs.Statements.{StmtTree, Begin, Create, Inserts, Selects, All}
+use Rattle.sql_trees.specs.Statements.{StmtTree, Begin, Commit, Create, Inserts, Selects, All}
 use Rattle.sql_values.specs.declared.value.Value.{Value}
 use Rattle.sql_values.specs.declared.value.Value.TheVariants.{Int}
+use Rattle.row_versions.specs.declared.write.Write.{Write}
+use Rattle.row_versions.specs.Log.{has_committed}
 use Rattle.result_tables.specs.declared.title.Title.TheVariants.{Column as Named}
 use Rattle.session_machine.specs.declared.event.Event.{Event}
 use Rattle.session_machine.specs.declared.event.Event.TheVariants.{Launch, Step, Leave}
@@ -16,6 +18,7 @@ use Rattle.session_machine.specs.declared.reply.HistItem.{HistItem}
 use Rattle.session_machine.specs.declared.fault.Refusal.TheVariants.{Busy, NotYourTurn, Idle, NoSession, BlockNotAllowed}
 use Rattle.session_machine.specs.Machine.{Machine, Blocks, next, opening, visible}
 use Rattle.session_machine.specs.Engine.{Run, IsLegal}
+use Rattle.session_machine.specs.Laws.{IsLastOf}
 
 abbrev pub t : List ℕ
 t = 116 ∷ []
@@ -37,6 +40,8 @@ worked_blocks =
     ∷ (Begin (Some RepeatableRead) ∷ select_from_t ∷ [])
     ∷ (insert_into_t 2 ∷ [])
     ∷ (select_from_t ∷ [])
+    ∷ (Begin None ∷ insert_into_t 3 ∷ [])
+    ∷ (Commit ∷ [])
     ∷ []
 
 abbrev pub item : Event → Outcome → Bool → HistItem
@@ -50,6 +55,9 @@ one = Int (pos 1) ∷ []
 
 abbrev pub two : List Value
 two = Int (pos 2) ∷ []
+
+abbrev pub three : List Value
+three = Int (pos 3) ∷ []
 
 abbrev pub worked_items : List HistItem
 worked_items =
@@ -68,6 +76,11 @@ worked_items =
     ∷ item (Leave 1) Left true
     ∷ item (Launch 1 3) Launched false
     ∷ item (Step 1) (shown (one ∷ two ∷ [])) true
+    ∷ item (Launch 2 4) Launched false
+    ∷ item (Step 2) Done false
+    ∷ item (Step 2) Done true
+    ∷ item (Launch 2 5) Launched false
+    ∷ item (Step 2) Done true
     ∷ []
 
 -- the history is legal
@@ -90,6 +103,24 @@ pub record Apart (m : Machine) : Type 0 where
   pub committed : visible m 2 t ≡ Ok (Some (one ∷ two ∷ []))
   pub no_table : visible m 2 (117 ∷ []) ≡ Ok None
 
+-- the write of session 2's transaction, which nobody follows
+abbrev pub third : Write
+third = record { tx = record { 0 = 5 }; command = 0; table = record { 0 = 0 }; row = record { 0 = 2 }; values = Some three }
+
+-- while the transaction is open its own session sees the row, and no other one does
+pub record Kept (m : Machine) : Type 0 where
+  pub last : IsLastOf m.db.content 2 third three
+  pub not_yet : has_committed m.db.content third.tx ≡ false
+  pub its_own : visible m 2 t ≡ Ok (Some (one ∷ two ∷ three ∷ []))
+  pub others : visible m 1 t ≡ Ok (Some (one ∷ two ∷ []))
+
+-- after the commit each session sees it
+pub record Given (m : Machine) : Type 0 where
+  pub last : IsLastOf m.db.content 2 third three
+  pub committed : has_committed m.db.content third.tx ≡ true
+  pub its_own : visible m 2 t ≡ Ok (Some (one ∷ two ∷ three ∷ []))
+  pub others : visible m 1 t ≡ Ok (Some (one ∷ two ∷ three ∷ []))
+
 abbrev pub led_to : ℕ → Machine → Type 0
 led_to count m = Run worked_blocks Directed (opening 2) (take count worked_items) m
 
@@ -98,3 +129,5 @@ pub record WorkedStates : Type 0 where
   pub waited : (m : Machine) → led_to 9 m → Waited m
   pub apart : (m : Machine) → led_to 12 m → Apart m
   pub left : (m : Machine) → led_to 13 m → visible m 1 t ≡ Ok (Some (one ∷ two ∷ []))
+  pub kept : (m : Machine) → led_to 18 m → Kept m
+  pub given : (m : Machine) → led_to 20 m → Given m

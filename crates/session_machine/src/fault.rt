@@ -2,7 +2,6 @@
 
 use iso_lexer::Ident;
 use sql_values::ValueFault;
-use thiserror::Error;
 
 /// Why the machine refuses an event.
 #[derive(Clone, Copy, Debug, PartialEq, Eq)]
@@ -15,32 +14,22 @@ pub enum Refusal {
     BlockNotAllowed,
 }
 
-/// Why the engine refuses an event: as the machine does, or for want of memory. E1 to E8 are the numbers that the program reports.
-#[derive(Clone, Copy, Debug, PartialEq, Eq, Error)]
+/// Why the engine refuses an event: as the machine does, or for want of memory.
+#[derive(Clone, Copy, Debug, PartialEq, Eq)]
 pub enum EngineFault {
-    /// E1: a block is in progress.
-    #[error("E1 Busy")]
+    /// A block is in progress.
     Busy,
-    /// E2, in directed mode: a Launch or Leave when the engine isn't quiet, or a Step out of turn.
-    #[error("E2 NotYourTurn")]
+    /// In directed mode: a Launch or Leave when the engine isn't quiet, or a Step out of turn.
     NotYourTurn,
-    /// E3: the session waits, and what it waits for still stands in its way.
-    #[error("E3 StillBlocked")]
+    /// The session waits, and what it waits for still stands in its way.
     StillBlocked,
-    /// E4: no block is in progress.
-    #[error("E4 Idle")]
+    /// No block is in progress.
     Idle,
-    /// E5: memory was refused in the middle of an event before.
-    #[error("E5 Spent")]
+    /// Memory was refused in the middle of an event before.
     Spent,
-    /// E6
-    #[error("E6 Memory")]
     Memory,
-    /// E7
-    #[error("E7 NoSession")]
     NoSession,
-    /// E8: no such block, or one that the session may not run.
-    #[error("E8 BlockNotAllowed")]
+    /// No such block, or one that the session may not run.
     BlockNotAllowed,
 }
 

@@ -18,6 +18,3 @@ pub use session::{
     Gathered, Held, OpenTransaction, Place, Progress, Request, Session, Strength, Transaction,
     Waiting,
 };
-
-#[cfg(test)]
-mod tests;

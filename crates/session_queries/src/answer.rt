@@ -1,6 +1,6 @@
 //! What a query answers.
 
-ghost use Rattle.std.specs.Prelude.{◌≡◌, ◌≢◌, ◌∷◌, ◌++◌, All, IfOk, OnOk, MatchResult, Ok, Err, length, map, option_map};
+ghost use Rattle.std.specs.Prelude.{◌≡◌, ◌≢◌, ◌∷◌, ◌++◌, All, IfOk, OnOk, IsErrOf, MatchResult, Ok, Err, None, length, map, option_map};
 ghost use Rattle.sql_trees.specs.Trees.{tree_of};
 ghost use Rattle.sql_trees.specs.Statements.{column_of, item_of, select_of};
 ghost use Rattle.sql_values.specs.Values.{Answers};
@@ -170,7 +170,8 @@ pub fn result_of<'a>(
     rows: &[&Row],
 ) -> Result<ResultSet<'a>, ValueFault<'a>>
     requires { All (λ row. length row.now ≡ length columns.now) rows.now }
-    ensures { Answers result (result_of (select_of select.now) (map column_of columns.now) (map (λ row. row.now) rows.now)) }
+    ensures answer { Answers result (result_of (select_of select.now) (map column_of columns.now) (map (λ row. row.now) rows.now)) }
+    ensures memory { IsErrOf result ValueFault.Memory → lacking_select (cols_of (map column_of columns.now)) (select_of select.now) ≡ None }
 {
     match lacking_select(columns, select) {
         Some(name) => Err(ValueFault::NoColumn(ColumnName::of(name.name()))),

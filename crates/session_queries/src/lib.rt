@@ -13,6 +13,3 @@ pub use lacking::{lacking_rows, lacking_select};
 pub use new_row::new_values;
 pub use target::{Target, Targets, targets_of};
 pub use values_check::{null_in, some_too_long};
-
-#[cfg(test)]
-mod tests;

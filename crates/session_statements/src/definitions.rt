@@ -1,6 +1,6 @@
 //! CREATE TABLE and DROP TABLE (PostgreSQL manual, the pages of both).
 
-ghost use Rattle.std.specs.Prelude.{◌≡◌, ◌+◌, ◌<◌, ◌^◌, Some, map, IfOk};
+ghost use Rattle.std.specs.Prelude.{◌≡◌, ◌+◌, ◌<◌, ◌^◌, Some, None, map, IfOk, OnErr};
 ghost use Rattle.sql_trees.specs.Statements.{create_of, drop_of, name_of};
 ghost use Rattle.row_versions.specs.Log.{IsOpen};
 ghost use Rattle.session_machine.specs.Tables.{find_table};
@@ -22,9 +22,10 @@ impl<'a, 't, V: Versions> Database<'a, 't, V> {
     ) -> Result<(Transaction, Outcome<'t>), AllocError>
         requires opened { IsOpen self.old.content by.now.tx }
         requires room { by.now.command + 1 < 2 ^ 64 }
-        ensures { IfOk result (λ left.
+        ensures did { IfOk result (λ left.
             create self.old by.now (create_of made.now) (find_table self.old (Some by.now.tx) (name_of made.now.name))
             ≡ record { db = self.new; transaction = left.0; outcome = left.1 }) }
+        ensures memory { OnErr result (find_table self.old (Some by.now.tx) (name_of made.now.name) ≡ None) }
     {
         if self.find_table(Some(by.tx), &made.name).is_some() {
             return Ok(self.fail(by, StmtFault::TableExists(Ident::new(made.name))));

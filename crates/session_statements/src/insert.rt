@@ -1,6 +1,6 @@
 //! INSERT (PostgreSQL manual, its page).
 
-ghost use Rattle.std.specs.Prelude.{◌≡◌, ◌≢◌, ◌+◌, ◌<◌, ◌^◌, Some, None, length, map, MatchOption, IfOk};
+ghost use Rattle.std.specs.Prelude.{◌≡◌, ◌≢◌, ◌+◌, ◌<◌, ◌^◌, Some, None, length, map, MatchOption, IfOk, OnErr, IsSome};
 ghost use Rattle.sql_trees.specs.Trees.{tree_of};
 ghost use Rattle.sql_trees.specs.Statements.{insert_of, exprs_of, name_of, column_of};
 ghost use Rattle.sql_values.specs.declared.fault.ValueFault.TheVariants.{Memory};
@@ -23,6 +23,7 @@ use std::alloc::AllocError;
 pub(crate) fn fault_of<'t>(fault: ValueFault<'t>) -> Result<StmtFault<'t>, AllocError>
     ensures fault { IfOk result (λ f. f ≡ StmtFault.Value fault.entry) }
     ensures other { IfOk result (λ f. fault.entry ≢ Memory) }
+    ensures memory { OnErr result (fault.entry ≡ Memory) }
 {
     match fault {
         ValueFault::Memory => Err(AllocError),
@@ -140,9 +141,10 @@ impl<'a, 't, V: Versions> Database<'a, 't, V> {
     ) -> Result<(Transaction, Outcome<'t>), AllocError>
         requires opened { IsOpen self.old.content by.now.tx }
         requires room { by.now.command + 1 < 2 ^ 64 }
-        ensures { IfOk result (λ left.
+        ensures did { IfOk result (λ left.
             insert self.old by.now (insert_of stmt.now) (find_table self.old (Some by.now.tx) (name_of stmt.now.table))
             ≡ record { db = self.new; transaction = left.0; outcome = left.1 }) }
+        ensures memory { OnErr result (IsSome (find_table self.old (Some by.now.tx) (name_of stmt.now.table))) }
     {
         let Some(place) = self.find_table(Some(by.tx), &stmt.table) else {
             return Ok(self.fail(by, StmtFault::NoTable(Ident::new(stmt.table))));

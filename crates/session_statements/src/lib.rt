@@ -11,6 +11,3 @@ mod table;
 mod transactions;
 
 pub use database::Database;
-
-#[cfg(test)]
-mod tests;

@@ -1,12 +1,13 @@
 //! A statement, by what its session's transaction is.
 
-ghost use Rattle.std.specs.Prelude.{◌≡◌, ◌+◌, ◌<◌, ◌^◌, IfOk};
+ghost use Rattle.std.specs.Prelude.{◌≡◌, ◌+◌, ◌<◌, ◌^◌, true, IfOk, OnErr};
 ghost use Rattle.sql_trees.specs.Statements.{stmt_of};
 ghost use Rattle.row_versions.specs.Log.{IsOpen};
 ghost use Rattle.session_machine.specs.declared.session.OpenTransaction.{OpenTransaction as OpenFacts};
 ghost use Rattle.session_machine.specs.Transactions.{begun, fresh};
 ghost use Rattle.session_machine.specs.Statements.{turns, run_open, run_closed, run_first, run_stmt};
 ghost use Rattle.session_machine.specs.Sound.{RowsFit};
+ghost use Rattle.session_statements.specs.Growing.{begins, is_query, may_grow};
 
 use crate::database::Database;
 use crate::transactions::run_aborted;
@@ -25,9 +26,10 @@ impl<'a, 't, V: Versions> Database<'a, 't, V> {
         requires opened { IsOpen self.old.content by.now.tx }
         requires room { by.now.command + 1 < 2 ^ 64 }
         requires fit { RowsFit self.old.content self.old.catalog }
-        ensures { IfOk result (λ left.
+        ensures did { IfOk result (λ left.
             run_open self.old by.now (stmt_of stmt.now)
             ≡ record { db = self.new; transaction = left.0; outcome = left.1 }) }
+        ensures memory { OnErr result (is_query (stmt_of stmt.now) ≡ true) }
     {
         match stmt {
             Stmt::Begin(level) => Ok(self.begin_again(by, *level)),
@@ -78,9 +80,10 @@ impl<'a, 't, V: Versions> Database<'a, 't, V> {
     /// A statement where no transaction is open.
     fn run_closed(&mut self, stmt: &'a Stmt<'t>) -> Result<(Transaction, Outcome<'t>), AllocError>
         requires fit { RowsFit self.old.content self.old.catalog }
-        ensures { IfOk result (λ left.
+        ensures did { IfOk result (λ left.
             run_closed self.old (stmt_of stmt.now)
             ≡ record { db = self.new; transaction = left.0; outcome = left.1 }) }
+        ensures memory { OnErr result (begins (stmt_of stmt.now) ≡ true) }
     {
         match stmt {
             Stmt::Begin(level) => self.begin_one(level.unwrap_or(Level::ReadCommitted), true),
@@ -102,9 +105,10 @@ impl<'a, 't, V: Versions> Database<'a, 't, V> {
         requires opened { (t : OpenFacts) → transaction.now ≡ Transaction.Open t → IsOpen self.old.content t.tx }
         requires room { (t : OpenFacts) → transaction.now ≡ Transaction.Open t → t.command + 1 < 2 ^ 64 }
         requires fit { RowsFit self.old.content self.old.catalog }
-        ensures { IfOk result (λ left.
+        ensures did { IfOk result (λ left.
             run_stmt self.old transaction.now (stmt_of stmt.now)
             ≡ record { db = self.new; transaction = left.0; outcome = left.1 }) }
+        ensures memory { OnErr result (may_grow transaction.now (stmt_of stmt.now) ≡ true) }
     {
         match transaction {
             Transaction::Closed => self.run_closed(stmt),

@@ -1,6 +1,6 @@
 //! SELECT (PostgreSQL manual, its page).
 
-ghost use Rattle.std.specs.Prelude.{◌≡◌, ◌+◌, ◌<◌, ◌^◌, [], ◌∷◌, Result, Some, length, option_map, IfOk};
+ghost use Rattle.std.specs.Prelude.{◌≡◌, ◌+◌, ◌<◌, ◌^◌, [], ◌∷◌, Result, Some, Err, length, option_map, IfOk, OnErr, IsSome};
 ghost use Rattle.sql_trees.specs.Statements.{select_of, name_of};
 ghost use Rattle.sql_values.specs.declared.fault.ValueFault.{ValueFault as ValueFaultFacts};
 ghost use Rattle.sql_values.specs.Values.{Answers};
@@ -57,8 +57,9 @@ impl<'a, 't, V: Versions> Database<'a, 't, V> {
     ) -> Result<(Transaction, Outcome<'t>), AllocError>
         requires opened { IsOpen self.old.content by.now.tx }
         requires room { by.now.command + 1 < 2 ^ 64 }
-        ensures { (due : Result Results ValueFaultFacts) → Answers made.entry due → IfOk result (λ left.
+        ensures did { (due : Result Results ValueFaultFacts) → Answers made.entry due → IfOk result (λ left.
             answered self.old by.now due ≡ record { db = self.new; transaction = left.0; outcome = left.1 }) }
+        ensures memory { OnErr result (made.entry ≡ Err ValueFault.Memory) }
     {
         match made {
             Ok(set) => {
@@ -81,9 +82,10 @@ impl<'a, 't, V: Versions> Database<'a, 't, V> {
         requires opened { IsOpen self.old.content by.now.tx }
         requires room { by.now.command + 1 < 2 ^ 64 }
         requires fit { RowsFit self.old.content self.old.catalog }
-        ensures { IfOk result (λ left.
+        ensures did { IfOk result (λ left.
             select_in self.old by.now (select_of stmt.now) (name_of name.entry) (find_table self.old (Some by.now.tx) (name_of name.entry))
             ≡ record { db = self.new; transaction = left.0; outcome = left.1 }) }
+        ensures memory { OnErr result (IsSome (find_table self.old (Some by.now.tx) (name_of name.entry))) }
     {
         let Some(place) = self.find_table(Some(by.tx), &name) else {
             return Ok(self.fail(by, StmtFault::NoTable(Ident::new(name))));

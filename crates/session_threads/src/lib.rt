@@ -5,6 +5,3 @@ mod driver;
 
 pub use driver::Driver;
 pub use session_machine::Order;
-
-#[cfg(test)]
-mod tests;

@@ -21,7 +21,7 @@ after_statement-after-requires-clause-opened g c t h =
     let s : Session = record { place = Some c.args.due.now.place; transaction = c.args.due.now.transaction; statement = None } in
     let live = sound_live _ _ c.requires.sound.0 c.args.session s c.requires.sound.2 c.requires.current in
     let left : IsLive c.run_statement.new.self.content c.in_ok-transaction.transaction =
-    subst (λ (d : Did). IsLive d.db.content d.transaction) c.in_ok-transaction.ensures
+    subst (λ (d : Did). IsLive d.db.content d.transaction) c.in_ok-transaction.ensures.did
     (leaves-run c.args.db.now c.args.due.now.transaction (stmt_of c.args.due.now.stmt.now) live).own in
     left t.tx.0 (ap tx_in h)
 
@@ -35,4 +35,4 @@ returns g c =
     let d : Did = record { db = c.run_statement.new.self; transaction = c.in_ok-transaction.transaction; outcome = c.in_ok-transaction.outcome } in
     after_is m c.args.session c.args.due.now.place c.args.due.now.count _ d
     c.after_statement-after.new.db c.after_statement-after.result c.session.result c.has_ended-ended.result _
-    c.in_ok-transaction.ensures (c.after_statement-after.ensures m c.args.session) c.session.ensures c.has_ended-ended.ensures c.set_session.ensures
+    c.in_ok-transaction.ensures.did (c.after_statement-after.ensures m c.args.session) c.session.ensures c.has_ended-ended.ensures c.set_session.ensures

@@ -1,0 +1,19 @@
+//! Tests of the engine, over public calls alone.
+#![tactic(auto)]
+
+#[cfg(test)]
+mod calls;
+#[cfg(test)]
+mod driven;
+#[cfg(test)]
+mod inserts;
+#[cfg(test)]
+mod selects;
+#[cfg(test)]
+mod sessions;
+#[cfg(test)]
+mod tables;
+#[cfg(test)]
+mod trial;
+#[cfg(test)]
+mod words;
