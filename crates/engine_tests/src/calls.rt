@@ -173,20 +173,50 @@ fn sees(
     Ok(())
 }
 
+/// What sessions see of a table.
+type Sight = (u32, &'static str, &'static str);
+
+const BEFORE: [Sight; 4] = [
+    (1, "t", " | 1"),
+    (2, "t", " | 1 | 2"),
+    (2, "u", "none"),
+    (3, "t", "NoSession"),
+];
+
+const AFTER: [Sight; 1] = [(1, "t", " | 1 | 2")];
+
+fn all_see(
+    rt: &impl Abort,
+    alloc: Global,
+    engine: &Engine<'_, '_>,
+    sights: &[Sight],
+) -> Result<(), Wrong> {
+    for (session, table, rows) in sights {
+        sees(rt, alloc, engine, *session, *table, *rows)?;
+    }
+    Ok(())
+}
+
 /// The calls with their answers, and what the sessions see behind them.
+fn run_calls(rt: &impl Abort, alloc: Global, engine: &mut Engine<'_, '_>) -> Result<(), Wrong> {
+    answers(rt, alloc, engine)?;
+    all_see(rt, alloc, engine, &BEFORE)?;
+    let leave = (Event::Leave { session: 1 }, "answered, ended");
+    has_answer(rt, alloc, engine, &leave)?;
+    all_see(rt, alloc, engine, &AFTER)
+}
+
+fn rests(rt: &impl Abort, engine: &Engine<'_, '_>, events: usize) {
+    holds(rt, "turn", matches!(engine.turn(), Turn::Driver));
+    holds(rt, "quiet", engine.quiet());
+    holds(rt, "events", engine.history().len() == events);
+}
+
 fn by_calls(rt: &impl Abort, alloc: Global, blocks: &[Block<'_>]) -> Result<(), Wrong> {
     let mut engine = engine_of(alloc, blocks, 2, Mode::Directed)?;
-    holds(rt, "turn", matches!(engine.turn(), Turn::Driver));
-    answers(rt, alloc, &mut engine)?;
-    sees(rt, alloc, &engine, 1, "t", " | 1")?;
-    sees(rt, alloc, &engine, 2, "t", " | 1 | 2")?;
-    sees(rt, alloc, &engine, 2, "u", "none")?;
-    sees(rt, alloc, &engine, 3, "t", "NoSession")?;
-    let leave = (Event::Leave { session: 1 }, "answered, ended");
-    has_answer(rt, alloc, &mut engine, &leave)?;
-    sees(rt, alloc, &engine, 1, "t", " | 1 | 2")?;
-    holds(rt, "quiet", engine.quiet());
-    holds(rt, "13 events", engine.history().len() == 13);
+    rests(rt, &engine, 0);
+    run_calls(rt, alloc, &mut engine)?;
+    rests(rt, &engine, 13);
     Ok(())
 }
 
@@ -204,11 +234,22 @@ fn with_other_end<'a>(
     Ok(items)
 }
 
+fn is_changed_legal(
+    alloc: Global,
+    blocks: &[Block<'_>],
+    history: &[HistItem<'_>],
+) -> Result<bool, AllocError> {
+    let changed = with_other_end(alloc, history)?;
+    replays(alloc, blocks, 2, Mode::Directed, &changed)
+}
+
 /// The history replays over these blocks and in either mode, and neither with another session count nor with a reply changed.
-fn by_replay(rt: &impl Abort, alloc: Global, blocks: &[Block<'_>]) -> Result<(), Wrong> {
-    let mut engine = engine_of(alloc, blocks, 2, Mode::Directed)?;
-    answers(rt, alloc, &mut engine)?;
-    let history = engine.history();
+fn replays_alone(
+    rt: &impl Abort,
+    alloc: Global,
+    blocks: &[Block<'_>],
+    history: &[HistItem<'_>],
+) -> Result<(), AllocError> {
     holds(
         rt,
         "directed",
@@ -220,13 +261,14 @@ fn by_replay(rt: &impl Abort, alloc: Global, blocks: &[Block<'_>]) -> Result<(),
         "one",
         !replays(alloc, blocks, 1, Mode::Directed, history)?,
     );
-    let changed = with_other_end(alloc, history)?;
-    holds(
-        rt,
-        "changed",
-        !replays(alloc, blocks, 2, Mode::Directed, &changed)?,
-    );
+    holds(rt, "changed", !is_changed_legal(alloc, blocks, history)?);
     Ok(())
+}
+
+fn by_replay(rt: &impl Abort, alloc: Global, blocks: &[Block<'_>]) -> Result<(), Wrong> {
+    let mut engine = engine_of(alloc, blocks, 2, Mode::Directed)?;
+    answers(rt, alloc, &mut engine)?;
+    Ok(replays_alone(rt, alloc, blocks, engine.history())?)
 }
 
 /// The engine is of these blocks in any spelling, and of none else, two sessions and the free mode.

@@ -1,6 +1,6 @@
 -- What holds of the writes and commits of every state that the machine comes to.
-use Rattle.std.proofs.Common.{◌≡◌, ℕ, zero, suc, ◌<◌, ◌≤◌, ◌+◌, Bool, true, false, List, [], ◌∷◌, ◌++◌, length, length-append, set, replicate, refl, ap, sym, ◌∙◌, subst, arith, inl, inr, ◌⊎◌, ⊎_elim}
-use Rattle.std.specs.Prelude.{Option, Some, None, unwrap_or, slice_get, Ok, not, nat_lt, if◌then◌else◌}
+use Rattle.std.proofs.Common.{◌≡◌, ℕ, zero, suc, ◌<◌, ◌≤◌, ◌+◌, Bool, true, false, List, [], ◌∷◌, ◌++◌, length, length-append, set, refl, ap, sym, ◌∙◌, subst, arith, inl, inr, ◌⊎◌, ⊎_elim}
+use Rattle.std.specs.Prelude.{Option, Some, None, unwrap_or, slice_get, Ok, nat_lt, if◌then◌else◌}
 use Rattle.std.proofs.lemmas.Bool.{cases_eq}
 use Rattle.std.proofs.lemmas.Option.{slice_get_within}
 use Rattle.sql_trees.specs.declared.stmt.Level.{Level}
@@ -10,7 +10,7 @@ use Rattle.row_versions.specs.declared.write.Write.{Write}
 use Rattle.row_versions.specs.declared.write.View.{View}
 use Rattle.row_versions.specs.declared.write.Fate.{Fate}
 use Rattle.row_versions.specs.declared.write.Fate.TheVariants.{Committed, Open as OpenFate}
-use Rattle.row_versions.specs.Log.{Content, IsOpen, commit_count}
+use Rattle.row_versions.specs.Log.{Content, IsOpen}
 use Rattle.session_machine.specs.declared.session.Place.{Place}
 use Rattle.session_machine.specs.declared.session.OpenTransaction.{OpenTransaction}
 use Rattle.session_machine.specs.declared.session.Transaction.{Transaction}
@@ -28,11 +28,11 @@ use Rattle.session_machine.specs.Statements.{Did, turns, run_open, run_first, ru
 use Rattle.session_machine.specs.Machine.{Machine, Blocks, Next, next, at_rest, opening, stmts_at, is_failed, first_place, launch_of, step_of, step_at, step_stmt, leave_of, left_behind, after_stmt, finished, closed_at_end}
 use Rattle.session_machine.specs.Engine.{Run}
 use Rattle.session_machine.specs.Sound.{IsSound, tx_in, tx_of, command_in, command_of}
-use Rattle.session_machine.proofs.Lists.{slice_get-set_same, slice_get-set_other, slice_get-append_left, slice_get-append_seam}
-use Rattle.session_machine.proofs.Keeping.{IsLive, Leaves, leaves-run}
+use Rattle.session_machine.proofs.Lists.{slice_get-set_same, slice_get-set_other, slice_get-append_seam}
+use Rattle.session_machine.proofs.Keeping.{IsLive, leaves-run}
 use Rattle.session_machine.proofs.Sound.{sound_live, sound_next, sound_opening, ok_launch, ok_step, ok_leave}
 use Rattle.session_machine.proofs.Staying.{hides-begin}
-use Rattle.session_machine.proofs.Growing.{Numbered, Grows, GoesOn, Does, does_open, grows_here, grows_on, grows_roll_back, grows_commit}
+use Rattle.session_machine.proofs.Growing.{Numbered, Grows, GoesOn, Does, does_open, grows_roll_back, grows_commit}
 
 -- each write, table and drop is of a transaction that has begun, and commits are numbered below their count
 pub record IsKnown (db : Database) : Type 0 where

@@ -1,5 +1,5 @@
 -- What a query sees for certain: what has committed, and what its own transaction wrote.
-use Rattle.std.proofs.Common.{◌≡◌, ℕ, zero, suc, ◌<◌, ◌≤◌, ◌+◌, Bool, true, false, ◌||◌, List, [], ◌∷◌, length, map, get_or, Contains, refl, ap, sym, ◌∙◌, subst, arith}
+use Rattle.std.proofs.Common.{◌≡◌, ℕ, zero, suc, ◌<◌, ◌+◌, Bool, true, false, ◌||◌, List, [], ◌∷◌, length, map, get_or, Contains, refl, ap, sym, ◌∙◌, subst, arith}
 use Rattle.std.specs.Prelude.{Option, Some, None, is_some, is_none, unwrap_or, option_and_then, slice_get, nat_lt, Ok, if◌then◌else◌}
 use Rattle.std.proofs.lemmas.Bool.{or_left, lt-ltb}
 use Rattle.std.proofs.lemmas.Option.{same_Some}
@@ -12,7 +12,7 @@ use Rattle.row_versions.specs.declared.write.View.{View}
 use Rattle.row_versions.specs.declared.write.Seen.{Seen}
 use Rattle.row_versions.specs.declared.write.Fate.{Fate}
 use Rattle.row_versions.specs.declared.write.Fate.TheVariants.{RolledBack, Committed, Open as OpenFate}
-use Rattle.row_versions.specs.Log.{Content, commit_count, fate_of, is_committed, has_committed, values_at, after_commit}
+use Rattle.row_versions.specs.Log.{Content, commit_count, fate_of, is_committed, has_committed, values_at}
 use Rattle.row_versions.specs.View.{sees, committed_before}
 use Rattle.row_versions.specs.Rows.{rows_of}
 use Rattle.row_versions.specs.Laws.{IsShown}
@@ -26,7 +26,6 @@ use Rattle.session_machine.specs.declared.session.Transaction.TheVariants.{Close
 use Rattle.session_machine.specs.declared.session.Session.{Session}
 use Rattle.session_machine.specs.declared.event.Event.TheVariants.{Step}
 use Rattle.session_machine.specs.declared.event.Mode.{Mode}
-use Rattle.session_machine.specs.declared.reply.HistItem.{HistItem}
 use Rattle.session_machine.specs.Tables.{Database}
 use Rattle.session_machine.specs.Transactions.{committed, view_now}
 use Rattle.session_machine.specs.Queries.{rows_shown}

@@ -1,6 +1,6 @@
 -- What a session would see of a table is what a SELECT of all its rows shows.
-use Rattle.std.proofs.Common.{◌≡◌, ◌≢◌, ℕ, suc, ◌<◌, ◌≤◌, ◌+◌, ◌==◌, Bool, true, false, cond, not, ◌&&◌, ◌||◌, List, [], ◌∷◌, ◌++◌, length, append-nil, refl, ap, sym, ◌∙◌, subst, arith}
-use Rattle.std.specs.Prelude.{Option, Some, None, option_map, is_some, unwrap_or, slice_get, bytes_eq, nat_lt, map, Result, Ok, if◌then◌else◌}
+use Rattle.std.proofs.Common.{◌≡◌, ◌≢◌, ℕ, suc, ◌<◌, ◌≤◌, ◌+◌, ◌==◌, Bool, false, cond, not, ◌&&◌, ◌||◌, List, [], ◌∷◌, ◌++◌, length, append-nil, refl, ap, sym, ◌∙◌, subst, arith}
+use Rattle.std.specs.Prelude.{Option, Some, None, option_map, is_some, unwrap_or, slice_get, bytes_eq, nat_lt, map, Result, Ok}
 use Rattle.std.specs.List.{list_any}
 use Rattle.std.proofs.lemmas.Bool.{ne_eqb, le-ltb, and_right}
 use Rattle.sql_trees.specs.declared.stmt.Level.TheVariants.{ReadCommitted}
@@ -17,20 +17,19 @@ use Rattle.row_versions.specs.declared.write.View.{View}
 use Rattle.row_versions.specs.declared.write.Seen.{Seen}
 use Rattle.row_versions.specs.declared.write.Fate.{Fate}
 use Rattle.row_versions.specs.declared.write.Fate.TheVariants.{Open as OpenFate}
-use Rattle.row_versions.specs.Log.{Content, commit_count, fate_of, is_committed, has_committed, values_at, next_tx, after_begin}
+use Rattle.row_versions.specs.Log.{Content, fate_of, is_committed, has_committed, values_at, next_tx, after_begin}
 use Rattle.row_versions.specs.View.{sees, committed_before}
 use Rattle.row_versions.specs.Rows.{replaces, rows_from}
 use Rattle.row_versions.proofs.Gets.{get-append_left}
 use Rattle.session_machine.specs.declared.session.OpenTransaction.{OpenTransaction}
 use Rattle.session_machine.specs.declared.session.Transaction.{Transaction}
 use Rattle.session_machine.specs.declared.session.Transaction.TheVariants.{Closed, Open, Aborted}
-use Rattle.session_machine.specs.declared.session.Session.{Session}
 use Rattle.session_machine.specs.declared.fault.Refusal.{Refusal}
 use Rattle.session_machine.specs.Tables.{Database, Table, Dropped, counts, is_dropped, is_meant, find_from, find_table}
 use Rattle.session_machine.specs.Transactions.{begun, fresh, view_of, view_now}
 use Rattle.session_machine.specs.Queries.{chosen, each, row_values, titles_of, result_of, cols_of, rows_shown}
-use Rattle.session_machine.specs.Statements.{Did, columns_at, answered, select_in, run_stmt}
-use Rattle.session_machine.specs.Machine.{Next, next, visible, visible_to, visible_for, after_stmt}
+use Rattle.session_machine.specs.Statements.{columns_at, answered, select_in, run_stmt}
+use Rattle.session_machine.specs.Machine.{Next, next, visible_to, visible_for}
 use Rattle.session_machine.specs.Laws.{VisibleIsSelected, select_all, shown_by}
 use Rattle.session_machine.proofs.Staying.{hides-begin, shown_stays}
 use Rattle.session_machine.proofs.Unseen.{after_outcome}

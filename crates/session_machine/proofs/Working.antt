@@ -1,5 +1,5 @@
 -- The worked history, by computation from state to state.
-use Rattle.std.proofs.Common.{◌≡◌, ℕ, ◌<◌, true, false, List, [], ◌∷◌, length, take, subst, refl, arith}
+use Rattle.std.proofs.Common.{◌≡◌, ℕ, ◌<◌, true, false, List, [], ◌∷◌, take, subst, refl, arith}
 use Rattle.std.proofs.lemmas.Option.{slice_get_within}
 use Rattle.std.specs.Prelude.{Option, Some, None, slice_get, Ok}
 use Rattle.sql_trees.specs.declared.kind.Kind.TheVariants.{Int as Integer}
@@ -18,8 +18,7 @@ use Rattle.session_machine.specs.declared.reply.HistItem.{HistItem}
 use Rattle.session_machine.specs.Tables.{Table}
 use Rattle.session_machine.specs.Machine.{Machine, at_rest, opening, visible}
 use Rattle.session_machine.specs.Engine.{Follows}
-use Rattle.session_machine.specs.Laws.{IsLastOf}
-use Rattle.session_machine.specs.Worked.{worked_blocks, worked_items, WorkedHistory, WorkedStates, Waited, Apart, Kept, Given, third, led_to, t, x, item, shown, one, two, three}
+use Rattle.session_machine.specs.Worked.{worked_blocks, worked_items, WorkedHistory, WorkedStates, Waited, Apart, Kept, Given, third, led_to, t, x, item, shown, one, two}
 use Rattle.session_machine.proofs.Replaying.{one_run}
 
 abbrev made : Table

@@ -3,7 +3,9 @@ use Rattle.std.specs.Prelude.{ℕ, ◌+◌, Bool, ◌&&◌, List, [], ◌∷◌,
 use Rattle.std.specs.List.{list_any}
 use Rattle.std.specs.Option.{option_or}
 use Rattle.sql_trees.specs.declared.kind.Kind.{Kind}
-use Rattle.sql_trees.specs.Trees.{Tree, Trees}
+use Rattle.sql_trees.specs.declared.expr.AggKind.{AggKind}
+use Rattle.sql_trees.specs.declared.expr.AggKind.TheVariants as agg_kind
+use Rattle.sql_trees.specs.Trees.{Tree, Trees, AggTree}
 use Rattle.sql_trees.specs.Trees as tree
 use Rattle.sql_trees.specs.Statements.{ColumnTree, ItemTree, SelectTree}
 use Rattle.sql_trees.specs.Statements as stmt
@@ -13,8 +15,9 @@ use Rattle.sql_values.specs.declared.fault.ValueFault.{ValueFault}
 use Rattle.sql_values.specs.declared.fault.ValueFault.TheVariants.{NoColumn}
 use Rattle.sql_values.specs.Values.{is_null, if_ok, assign}
 use Rattle.sql_values.specs.Expressions.{Cols, value, passes}
+use Rattle.sql_values.specs.Aggregates.{aggregate}
 use Rattle.result_tables.specs.declared.title.Title.{Title}
-use Rattle.result_tables.specs.declared.title.Title.TheVariants.{Column as Named, Unnamed}
+use Rattle.result_tables.specs.declared.title.Title.TheVariants.{Column as Named, Unnamed, Count, Sum, Min, Max}
 use Rattle.result_tables.specs.Results.{Results}
 use Rattle.row_versions.specs.declared.write.View.{View}
 use Rattle.row_versions.specs.declared.write.Seen.{Seen}
@@ -65,10 +68,14 @@ abbrev pub lacking_if : Cols → Option Tree → Option (List ℕ)
 lacking_if cols None = None
 lacking_if cols (Some e) = lacking cols e
 
+abbrev pub lacking_agg : Cols → AggTree → Option (List ℕ)
+lacking_agg cols tree.CountRows = None
+lacking_agg cols (tree.Of k e) = lacking cols e
+
 abbrev pub lacking_item : Cols → ItemTree → Option (List ℕ)
 lacking_item cols stmt.All = None
 lacking_item cols (stmt.Value e alias) = lacking cols e
-lacking_item cols (stmt.Aggregate a alias) = None
+lacking_item cols (stmt.Aggregate a alias) = lacking_agg cols a
 
 -- the first column that a SELECT names and its table lacks
 abbrev pub lacking_select : Cols → SelectTree → Option (List ℕ)
@@ -113,12 +120,53 @@ abbrev pub titles_of : List ColumnTree → List ItemTree → List Title
 titles_of columns [] = []
 titles_of columns (i ∷ is) = item_titles columns i ++ titles_of columns is
 
+-- an aggregate among the items, with the name given to it
+pub record Counted : Type 0 where
+  pub agg : AggTree
+  pub alias : Option (List ℕ)
+
+-- the aggregates among the items: a SELECT that has any has nothing else
+abbrev pub counted : List ItemTree → List Counted
+counted [] = []
+counted (stmt.All ∷ is) = counted is
+counted (stmt.Value e alias ∷ is) = counted is
+counted (stmt.Aggregate a alias ∷ is) = record { agg = a; alias = alias } ∷ counted is
+
+-- an aggregate without an alias has its own title (9.21)
+abbrev pub kind_title : AggKind → Title
+kind_title agg_kind.Count = Count
+kind_title agg_kind.Sum = Sum
+kind_title agg_kind.Min = Min
+kind_title agg_kind.Max = Max
+
+abbrev pub own_title : AggTree → Title
+own_title tree.CountRows = Count
+own_title (tree.Of k e) = kind_title k
+
+abbrev pub agg_title : AggTree → Option (List ℕ) → Title
+agg_title a None = own_title a
+agg_title a (Some alias) = Named alias
+
+-- the items at each of the rows, under their titles
+abbrev pub row_results : List ColumnTree → List ItemTree → List (List Value) → Result Results ValueFault
+row_results columns is taken =
+    if_ok (each (row_values (cols_of columns) is) taken) (λ shown. Ok (record { titles = titles_of columns is; rows = shown }))
+
+-- the aggregates over all of the rows, one after the other, as one row
+abbrev pub agg_results : List ColumnTree → List Counted → List (List Value) → Result Results ValueFault
+agg_results columns aggs taken =
+    if_ok (each (λ (a : Counted). aggregate a.agg (cols_of columns) taken) aggs)
+    (λ row. Ok (record { titles = map (λ (a : Counted). agg_title a.agg a.alias) aggs; rows = row ∷ [] }))
+
+-- what the items answer at the rows that are taken
+abbrev pub results_by : List ColumnTree → List ItemTree → List Counted → List (List Value) → Result Results ValueFault
+results_by columns is [] taken = row_results columns is taken
+results_by columns is (a ∷ more) taken = agg_results columns (a ∷ more) taken
+
 -- the result of a SELECT whose table has these columns and shows these rows: WHERE is tested at all of them before an item is evaluated
 abbrev pub result_of : SelectTree → List ColumnTree → List (List Value) → Result Results ValueFault
 result_of s columns rows = unless_lacking (lacking_select (cols_of columns) s)
-    (if_ok (chosen (cols_of columns) s.filter rows) (λ taken.
-    if_ok (each (row_values (cols_of columns) s.items) taken) (λ shown.
-    Ok (record { titles = titles_of columns s.items; rows = shown }))))
+    (if_ok (chosen (cols_of columns) s.filter rows) (results_by columns s.items (counted s.items)))
 
 -- the values of the rows that a view shows of the table
 abbrev pub rows_shown : Content → View → ℕ → List (List Value)

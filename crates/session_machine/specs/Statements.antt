@@ -1,11 +1,9 @@
 -- What a statement leaves and answers, by what its session's transaction is (PostgreSQL manual, the pages of the statements, and 13.2).
 use Rattle.std.specs.Prelude.{ℕ, Bool, true, false, not, ◌&&◌, List, [], ◌∷◌, ◌++◌, length, Option, Some, None, option_map, is_some, is_none, unwrap_or, slice_get, Result, Ok, Err, if◌then◌else◌}
-use Rattle.std.specs.List.{list_all}
 use Rattle.sql_trees.specs.declared.stmt.Level.{Level}
 use Rattle.sql_trees.specs.declared.stmt.Level.TheVariants.{ReadCommitted, RepeatableRead}
 use Rattle.sql_trees.specs.Trees.{Tree}
-use Rattle.sql_trees.specs.Statements.{StmtTree, ColumnTree, CreateTree, DropTree, InsertTree, SelectTree, ItemTree, Begin, Commit, Rollback, SetTransaction, SetDeadlockTimeout, Create, DropTables, Inserts, Updates, Deletes, Selects}
-use Rattle.sql_trees.specs.Statements as item
+use Rattle.sql_trees.specs.Statements.{StmtTree, ColumnTree, CreateTree, DropTree, InsertTree, SelectTree, Begin, Commit, Rollback, SetTransaction, SetDeadlockTimeout, Create, DropTables, Inserts, Updates, Deletes, Selects}
 use Rattle.sql_values.specs.declared.value.Value.{Value}
 use Rattle.sql_values.specs.declared.fault.ValueFault.{ValueFault}
 use Rattle.sql_values.specs.declared.fault.ValueFault.TheVariants.{NoColumn}
@@ -200,21 +198,16 @@ run_stmt db Closed stmt = run_closed db stmt
 run_stmt db (Open t) stmt = run_open db t stmt
 run_stmt db AbortedOne stmt = run_aborted db stmt
 
-abbrev pub is_aggregate : ItemTree → Bool
-is_aggregate item.All = false
-is_aggregate (item.Value e alias) = false
-is_aggregate (item.Aggregate a alias) = true
-
 -- the list is empty
 abbrev pub has_none : {A : Type 0} → List A → Bool
 has_none [] = true
 has_none (x ∷ xs) = false
 
--- a SELECT that locks, sorts and counts nothing
+-- a SELECT that locks and sorts nothing
 abbrev pub select_runs : SelectTree → Bool
-select_runs s = is_none s.lock && (has_none s.order && list_all (λ i. not (is_aggregate i)) s.items)
+select_runs s = is_none s.lock && has_none s.order
 
--- the statement can run by now: keys, updates, deletes, locks, orders and aggregates can't
+-- the statement can run by now: keys, updates, deletes, locks and orders can't
 abbrev pub runs : StmtTree → Bool
 runs (Begin level) = true
 runs Commit = true

@@ -1,39 +1,18 @@
 //! Which statements run, and which define tables.
 
-ghost use Rattle.std.specs.Prelude.{◌≡◌, not, map};
-ghost use Rattle.std.specs.List.{list_all};
-ghost use Rattle.sql_trees.specs.Statements.{item_of, select_of, stmt_of};
-ghost use Rattle.session_machine.specs.Statements.{is_aggregate, is_definition, runs, select_runs};
+ghost use Rattle.std.specs.Prelude.{◌≡◌};
+ghost use Rattle.sql_trees.specs.Statements.{select_of, stmt_of};
+ghost use Rattle.session_machine.specs.Statements.{is_definition, runs, select_runs};
 
-use sql_trees::{Item, Select, Stmt};
-
-fn is_aggregate(item: &Item<'_>) -> bool
-    ensures { result ≡ is_aggregate (item_of item.now) }
-{
-    match item {
-        Item::All | Item::Expr(_, _) => false,
-        Item::Agg(_, _) => true,
-    }
-}
-
-fn has_no_aggregate(items: &[Item<'_>]) -> bool
-    ensures { result ≡ list_all (λ i. not (is_aggregate i)) (map item_of items.now) }
-{
-    for item in items {
-        if is_aggregate(item) {
-            return false;
-        }
-    }
-    true
-}
+use sql_trees::{Select, Stmt};
 
 fn select_can_run(select: &Select<'_>) -> bool
     ensures { result ≡ select_runs (select_of select.now) }
 {
-    select.lock.is_none() && select.order.is_empty() && has_no_aggregate(&select.items)
+    select.lock.is_none() && select.order.is_empty()
 }
 
-/// Whether the statement runs by now: a statement that needs keys, updates, deletes, locks, orders or aggregates doesn't.
+/// Whether the statement runs by now: a statement that needs keys, updates, deletes, locks or orders doesn't.
 pub fn can_run(stmt: &Stmt<'_>) -> bool
     ensures { result ≡ runs (stmt_of stmt.now) }
 {

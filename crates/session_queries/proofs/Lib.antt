@@ -5,3 +5,4 @@ pub mod Even
 pub mod Filling
 pub mod Fronts
 pub mod Selecting
+pub mod Counting

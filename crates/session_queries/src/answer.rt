@@ -1,19 +1,21 @@
 //! What a query answers.
 
-ghost use Rattle.std.specs.Prelude.{◌≡◌, ◌≢◌, ◌∷◌, ◌++◌, All, IfOk, OnOk, IsErrOf, MatchResult, Ok, Err, None, length, map, option_map};
+ghost use Rattle.std.specs.Prelude.{◌≡◌, ◌≢◌, ◌∷◌, ◌++◌, All, IfOk, OnOk, IsErrOf, MatchResult, Ok, Err, None, [], length, map, not, option_map};
 ghost use Rattle.sql_trees.specs.Trees.{tree_of};
 ghost use Rattle.sql_trees.specs.Statements.{column_of, item_of, select_of};
 ghost use Rattle.sql_values.specs.Values.{Answers};
+ghost use Rattle.sql_values.specs.Aggregates.{aggregate};
 ghost use Rattle.sql_values.specs.Expressions.{passes};
-ghost use Rattle.session_machine.specs.Queries.{chosen, cols_of, each, item_values, lacking_select, result_of, row_values};
+ghost use Rattle.session_machine.specs.Queries.{Counted, agg_results, chosen, cols_of, counted, each, item_values, lacking_select, result_of, row_results, row_values};
+ghost use Rattle.session_machine.specs.Statements.{has_none};
 ghost use Rattle.session_queries.specs.Answers.{answered, selected};
 ghost use Rattle.session_queries.specs.Fronts.{in_front};
 
 use crate::lacking::lacking_select;
-use crate::titles::titles_of;
+use crate::titles::{agg_titles, titles_of};
 use result_tables::ResultSet;
 use sql_trees::{Column, Expr, Item, Select};
-use sql_values::{ColumnName, Columns, Row, Value, ValueFault, eval, passes};
+use sql_values::{ColumnName, Columns, Row, Value, ValueFault, aggregate, eval, passes};
 use std::alloc::{AllocError, Global};
 
 /// The columns as expressions know them.
@@ -131,7 +133,83 @@ fn shown<'a>(
     Ok(shown)
 }
 
+/// The items at each of the rows.
+fn row_results<'a>(
+    alloc: Global,
+    items: &[Item<'a>],
+    columns: &[Column<'a>],
+    taken: &[&Row],
+) -> Result<ResultSet<'a>, ValueFault<'a>>
+    requires { All (λ row. length row.now ≡ length columns.now) taken.now }
+    ensures { Answers result (row_results (map column_of columns.now) (map item_of items.now) (map (λ row. row.now) taken.now)) }
+{
+    let cols = known(&*columns);
+    let rows = shown(alloc, items, &cols, taken)?;
+    let titles = titles_of(alloc, columns, items)?;
+    Ok(ResultSet::new(titles, rows))
+}
+
+fn is_counted(items: &[Item<'_>]) -> bool
+    ensures { result ≡ not (has_none (counted (map item_of items.now))) }
+{
+    for item in items {
+        if let Item::Agg(_, _) = item {
+            return true;
+        }
+    }
+    false
+}
+
+/// The values of the aggregates among the items, one after the other.
+fn agg_values<'a>(
+    alloc: Global,
+    items: &[Item<'a>],
+    columns: &Columns<'_>,
+    taken: &[&Row],
+) -> Result<Vec<Value>, ValueFault<'a>>
+    requires { All (λ row. length row.now ≡ length columns.now) taken.now }
+    ensures values { MatchResult result
+        (λ values. each (λ (a : Counted). aggregate a.agg columns.now (map (λ row. row.now) taken.now)) (counted (map item_of items.now)) ≡ Ok values.items)
+        (λ fault. fault ≢ ValueFault.Memory → each (λ (a : Counted). aggregate a.agg columns.now (map (λ row. row.now) taken.now)) (counted (map item_of items.now)) ≡ Err fault) }
+    ensures long { IfOk result (λ values. length values.items ≡ length (counted (map item_of items.now))) }
+{
+    let mut values = Vec::new(alloc);
+    for item in items {
+        if let Item::Agg(agg, _) = item {
+            values.push(aggregate(alloc, agg, columns, taken)?)?;
+        }
+    }
+    Ok(values)
+}
+
+fn one_row(alloc: Global, values: Vec<Value>) -> Result<Vec<Row>, AllocError>
+    ensures { IfOk result (λ rows. rows.items ≡ values.items ∷ []) }
+{
+    let mut rows = Vec::new(alloc);
+    rows.push(Row::from_vec(values))?;
+    Ok(rows)
+}
+
+/// The aggregates over all of the rows, as one row.
+#[tactic(auto, using(crate::proofs::Counting::one_even))]
+fn agg_results<'a>(
+    alloc: Global,
+    items: &[Item<'a>],
+    columns: &[Column<'a>],
+    taken: &[&Row],
+) -> Result<ResultSet<'a>, ValueFault<'a>>
+    requires { All (λ row. length row.now ≡ length columns.now) taken.now }
+    ensures { Answers result (agg_results (map column_of columns.now) (counted (map item_of items.now)) (map (λ row. row.now) taken.now)) }
+{
+    let cols = known(&*columns);
+    let values = agg_values(alloc, items, &cols, taken)?;
+    let titles = agg_titles(alloc, items)?;
+    let rows = one_row(alloc, values)?;
+    Ok(ResultSet::new(titles, rows))
+}
+
 /// The result of a SELECT whose WHERE passes these rows.
+#[tactic(auto, using(crate::proofs::Counting::by_rows, crate::proofs::Counting::by_aggregates))]
 fn answered<'a>(
     alloc: Global,
     items: &[Item<'a>],
@@ -141,10 +219,11 @@ fn answered<'a>(
     requires { All (λ row. length row.now ≡ length columns.now) taken.now }
     ensures { Answers result (answered (map column_of columns.now) (map item_of items.now) (map (λ row. row.now) taken.now)) }
 {
-    let cols = known(&*columns);
-    let rows = shown(alloc, items, &cols, taken)?;
-    let titles = titles_of(alloc, columns, items)?;
-    Ok(ResultSet::new(titles, rows))
+    if is_counted(items) {
+        agg_results(alloc, items, columns, taken)
+    } else {
+        row_results(alloc, items, columns, taken)
+    }
 }
 
 /// The result of a SELECT that names no column beside these.

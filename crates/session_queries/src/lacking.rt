@@ -1,12 +1,12 @@
 //! Columns that are named and aren't there.
 
 ghost use Rattle.std.specs.Prelude.{◌≡◌, [], map, option_map};
-ghost use Rattle.sql_trees.specs.Trees.{tree_of, trees, Column as NamedColumn};
+ghost use Rattle.sql_trees.specs.Trees.{agg_of, tree_of, trees, Column as NamedColumn};
 ghost use Rattle.sql_trees.specs.Statements.{column_of, exprs_of, item_of, name_of, select_of};
-ghost use Rattle.session_machine.specs.Queries.{cols_of, first_of, lacking, lacking_among, lacking_if, lacking_item, lacking_rows, lacking_select};
+ghost use Rattle.session_machine.specs.Queries.{cols_of, first_of, lacking, lacking_agg, lacking_among, lacking_if, lacking_item, lacking_rows, lacking_select};
 
 use iso_lexer::{Ident, Name};
-use sql_trees::{Column, Expr, Item, Select};
+use sql_trees::{Agg, Column, Expr, Item, Select};
 use sql_values::Columns;
 
 /// The name, if no column has it.
@@ -89,13 +89,22 @@ pub fn lacking_rows<'a>(rows: &[Vec<Expr<'a>>]) -> Option<Ident<'a>>
     None
 }
 
+fn lacking_agg<'a>(columns: &Columns<'_>, agg: &Agg<'a>) -> Option<Ident<'a>>
+    ensures { result ≡ lacking_agg columns.now (agg_of agg.now) }
+{
+    match agg {
+        Agg::CountRows => None,
+        Agg::Of(_, expr) => lacking(columns, expr),
+    }
+}
+
 fn lacking_item<'a>(columns: &Columns<'_>, item: &Item<'a>) -> Option<Ident<'a>>
     ensures { result ≡ lacking_item columns.now (item_of item.now) }
 {
     match item {
         Item::All => None,
         Item::Expr(expr, _) => lacking(columns, expr),
-        Item::Agg(_, _) => None,
+        Item::Agg(agg, _) => lacking_agg(columns, agg),
     }
 }
 

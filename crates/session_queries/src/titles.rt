@@ -1,13 +1,13 @@
 //! The titles of a query's result.
 
-ghost use Rattle.std.specs.Prelude.{◌≡◌, ◌++◌, IfOk, OnOk, map, option_map};
-ghost use Rattle.sql_trees.specs.Trees.{tree_of};
+ghost use Rattle.std.specs.Prelude.{◌≡◌, ◌++◌, IfOk, OnOk, length, map, option_map};
+ghost use Rattle.sql_trees.specs.Trees.{agg_of, tree_of};
 ghost use Rattle.sql_trees.specs.Statements.{All, column_of, item_of, name_of};
-ghost use Rattle.session_machine.specs.Queries.{title_of, title_or, item_titles, titles_of};
+ghost use Rattle.session_machine.specs.Queries.{Counted, agg_title, counted, item_titles, kind_title, own_title, title_of, title_or, titles_of};
 
 use iso_lexer::Name;
 use result_tables::{Title, TitleName};
-use sql_trees::{Column, Expr, Item};
+use sql_trees::{Agg, AggKind, Column, Expr, Item};
 use std::alloc::{AllocError, Global};
 
 /// An item without an alias has the name of the column that it is.
@@ -65,6 +65,50 @@ pub fn titles_of<'a>(
     let mut titles = Vec::new(alloc);
     for item in items {
         append_item(&mut titles, columns, item)?;
+    }
+    Ok(titles)
+}
+
+fn kind_title<'a>(kind: AggKind) -> Title<'a>
+    ensures { result ≡ kind_title kind }
+{
+    match kind {
+        AggKind::Count => Title::Count,
+        AggKind::Sum => Title::Sum,
+        AggKind::Min => Title::Min,
+        AggKind::Max => Title::Max,
+    }
+}
+
+fn own_title<'a>(agg: &Agg<'_>) -> Title<'a>
+    ensures { result ≡ own_title (agg_of agg.now) }
+{
+    match agg {
+        Agg::CountRows => Title::Count,
+        Agg::Of(kind, _) => kind_title(*kind),
+    }
+}
+
+/// An aggregate without an alias has its own title.
+fn agg_title<'a>(agg: &Agg<'a>, alias: Option<Name<'a>>) -> Title<'a>
+    ensures { result ≡ agg_title (agg_of agg.now) (option_map name_of alias.entry) }
+{
+    match alias {
+        Some(given) => Title::Column(TitleName::new(given)),
+        None => own_title(agg),
+    }
+}
+
+/// The titles of the aggregates among the items.
+pub fn agg_titles<'a>(alloc: Global, items: &[Item<'a>]) -> Result<Vec<Title<'a>>, AllocError>
+    ensures titles { IfOk result (λ titles. titles.items ≡ map (λ (a : Counted). agg_title a.agg a.alias) (counted (map item_of items.now))) }
+    ensures long { IfOk result (λ titles. length titles.items ≡ length (counted (map item_of items.now))) }
+{
+    let mut titles = Vec::new(alloc);
+    for item in items {
+        if let Item::Agg(agg, alias) = item {
+            titles.push(agg_title(agg, *alias))?;
+        }
     }
     Ok(titles)
 }

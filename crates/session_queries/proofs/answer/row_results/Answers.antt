@@ -2,7 +2,7 @@ use Rattle.std.proofs.Common.{◌≡◌, length, map}
 use Rattle.std.proofs.lemmas.List.Elements.{All-map}
 use Rattle.sql_trees.specs.Statements.{item_of}
 use Rattle.session_queries.proofs.Even.{result_even}
-use Rattle.session_queries.proofs.answer.answered.Goals as goal
+use Rattle.session_queries.proofs.answer.row_results.Goals as goal
 
 pub new-requires : goal.new-requires
 new-requires c =
