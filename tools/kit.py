@@ -115,13 +115,73 @@ def refusals(crate, among):
     return wrong
 
 
-def tried_in_turn(crate, edits):
-    """Tries edits of a proved crate one after the other, as the gate does, over a copy of what its check kept. Returns for each whether it is refused, and what to say."""
+def pairs_of(edit):
+    """Returns the changes of an edit, each as a file, what stands there, and what takes its place."""
+    path, old, pairs = "", None, []
+    for line in (rtlib.text_of(edit) or "").split("\n"):
+        if line.startswith("file: "):
+            path = line[len("file: ") :].strip()
+        elif line.startswith("old: "):
+            old = line[len("old: ") :]
+        elif line.startswith("new:") and path and old:
+            pairs.append((path, old, line[len("new:") :].removeprefix(" ")))
+            old = None
+    return pairs
+
+
+def function_at(text, at):
+    """Returns the name of the function that stands at this place, or nothing where none does."""
+    before = [it for it in re.finditer(r"^( *)(?:pub(?:\([^)]*\))? )?(?:const )?fn (\w+)", text[:at], re.M)]
+    if not before or re.search(rf"^{before[-1][1]}}}$", text[before[-1].end() : at], re.M):
+        return None
+    return before[-1][2]
+
+
+class Batch:
+    """Edits of functions whose names differ, to be tried in one check: a function is proved from the contracts of others, whatever their bodies are."""
+
+    def __init__(self):
+        self.texts, self.names, self.edits = {}, {}, []
+
+    def takes(self, crate, edit):
+        """Adds the edit, and returns whether that was possible."""
+        texts, names = dict(self.texts), set()
+        for path, old, new in pairs_of(edit):
+            text = texts.get(path) or rtlib.text_of(f"{crate.folder}/{path}") or ""
+            name = function_at(text, text.find(old))
+            if text.count(old) != 1 or not name or name in self.names:
+                return False
+            texts[path] = text.replace(old, new)
+            names.add(name)
+        self.texts = texts
+        self.names.update({name: edit for name in names})
+        self.edits.append(edit)
+        return True
+
+    def refused(self, crate, kept):
+        """Returns the edits of which a function isn't proved, none where the check doesn't come that far."""
+        ran = rt.checked(crate, self.texts, ["--jobs", "1"], kept)
+        lines = ran.stdout.rstrip("\n").split("\n")
+        if ran.returncode != 1 or not lines[-1].startswith("logic=not-proved") or any(rt.unread(it, self.texts) for it in lines):
+            return set()
+        failed = re.findall(r"^fn (\S+): not proved", ran.stdout, re.M)
+        parts = {part for it in failed for part in re.split(r"::|\+", it)}
+        return {edit for name, edit in self.names.items() if name in parts}
+
+
+def tried(crate, edits):
+    """Tries edits of a proved crate over a copy of what its check kept. Returns for each whether it is refused, and what to say."""
+    batches = []
+    for edit in edits:
+        if not any(len(it.edits) < 6 and it.takes(crate, edit) for it in batches):
+            batches.append(Batch())
+            batches[-1].takes(crate, edit)
     with tempfile.TemporaryDirectory(prefix="rt-edits-") as room:
         kept = shutil.copytree(f"{crate.folder}/{rtlib.KEPT[1]}", f"{room}/kept")
-        tried = [rt.must_fail(crate, it, ["--jobs", "1"], kept) for it in edits]
+        refused = {edit for it in batches if len(it.edits) > 1 for edit in it.refused(crate, kept)}
+        said = {edit: (True, "refused") if edit in refused else rt.must_fail(crate, edit, ["--jobs", "1"], kept) for edit in edits}
         is_sound = not rt.checked(crate, {}, ["--jobs", "1"], kept).returncode
-    return tried if is_sound else [rt.must_fail(crate, it, ["--jobs", "1"]) for it in edits]
+    return [said[it] if is_sound else rt.must_fail(crate, it, ["--jobs", "1"]) for it in edits]
 
 
 def rows_lacking(among):

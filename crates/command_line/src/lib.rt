@@ -1,6 +1,7 @@
 //! The program but for its devices: what the words of the command line ask for, what then runs, and the exit status.
 #![tactic(auto)]
 
+pub mod laws;
 mod options;
 mod program;
 

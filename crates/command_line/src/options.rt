@@ -1,5 +1,9 @@
 //! The options of the program.
 
+ghost use Rattle.std.specs.Prelude.{◌≡◌, map, IfOk, string_bytes, unwrap_or};
+ghost use Rattle.clap.specs.Words.{FailsBy, fault_of, kind_of};
+ghost use Rattle.command_line.specs.Options.{program, Gives, status_of};
+
 use clap::error::ErrorKind;
 use clap::{Arg, ArgAction, Command, Error, value_parser};
 use std::alloc::Global;
@@ -16,8 +20,21 @@ pub struct Options {
     pub limit: u64,
 }
 
-/// The options among the words of a command line, of which the first is the program's name.
-pub fn options_of(alloc: Global, words: &[String]) -> Result<Options, Error> {
+fn limit_of(given: Option<u32>) -> u64
+    ensures { result ≡ unwrap_or given DEFAULT_LIMIT }
+{
+    match given {
+        Some(limit) => u64::from(limit),
+        None => DEFAULT_LIMIT,
+    }
+}
+
+/// The options among the words of a command line, of which the first is the program's name. Want of memory may stand in the
+/// place of any answer.
+pub fn options_of(alloc: Global, words: &[String]) -> Result<Options, Error>
+    ensures gives { IfOk result (λ options. Gives (map string_bytes words.now) options) }
+    ensures refused { FailsBy (fault_of program (map string_bytes words.now)) result }
+{
     let list = Arg::new(alloc, "list")
         .long("list")
         .action(ArgAction::SetTrue)
@@ -34,14 +51,14 @@ pub fn options_of(alloc: Global, words: &[String]) -> Result<Options, Error> {
     let matches = command.try_get_matches_from(words)?;
     Ok(Options {
         list: matches.get_flag("list"),
-        limit: matches
-            .get_one::<u32>("limit")
-            .map_or(DEFAULT_LIMIT, u64::from),
+        limit: limit_of(matches.get_one::<u32>("limit")),
     })
 }
 
 /// The exit status where the words give no options: 0 after help was asked for, 3 where memory was refused, else 2.
-pub fn status_of(error: &Error) -> u8 {
+pub fn status_of(error: &Error) -> u8
+    ensures { result ≡ status_of (kind_of error.now) }
+{
     match error.kind() {
         ErrorKind::DisplayHelp | ErrorKind::DisplayVersion => 0,
         ErrorKind::OutOfMemory => 3,

@@ -1,25 +1,44 @@
 //! Runs the program over its devices.
 
+ghost use Rattle.std.specs.Prelude.{◌≡◌, ◌≢◌, [], map, string_bytes};
+ghost use Rattle.std.specs.Bool.{OnFalse};
+ghost use Rattle.std.specs.Io.KnownBytes.{Appends};
+ghost use Rattle.clap.specs.Words.{fault_of, kind_of};
+ghost use Rattle.command_line.specs.Options.{program};
+ghost use Rattle.command_line.specs.Shell.{IsServed, IsShown, Runs, TookLine, TellsFault, exit_status, is_request};
+
 use crate::options::{Options, options_of, status_of};
 use iso_lexer::{Sink, Source};
 use permutations::{RunFault, list_spec, run_spec};
 use std::alloc::Global;
 
+/// Puts a text; of a sink that fails there is no one to tell.
+fn put_text<N: Sink>(sink: &mut N, text: &[u8])
+    ensures { OnFalse (N.failed sink.new) (Appends (N.put_so_far sink.old) (N.put_so_far sink.new) text.now) }
+{
+    let _ = sink.put(text);
+}
+
 /// Puts a fault's line. Where memory for it is refused the line says so.
-fn put_fault<N: Sink>(alloc: Global, err: &mut N, fault: &RunFault) {
-    let _ = match format!(in alloc; "isolationtester: {fault}\n") {
-        Ok(line) => err.put(line.as_bytes()),
-        Err(_) => err.put(b"isolationtester: Memory\n"),
-    };
+fn put_fault<N: Sink>(alloc: Global, err: &mut N, fault: &RunFault)
+    ensures { TookLine fault.now (N.failed err.new) (N.put_so_far err.old) (N.put_so_far err.new) }
+{
+    match format!(in alloc; "isolationtester: {fault}\n") {
+        Ok(line) => put_text(err, line.as_bytes()),
+        Err(_) => put_text(err, b"isolationtester: Memory\n"),
+    }
 }
 
 /// Puts what clap says of words that give no options: help goes to the output, a mistake to the errors.
-fn put_error<W: Sink, N: Sink>(alloc: Global, out: &mut W, err: &mut N, error: &clap::Error) {
-    let _ = match format!(in alloc; "{error}") {
-        Ok(text) if error.use_stderr() => err.put(text.as_bytes()),
-        Ok(text) => out.put(text.as_bytes()),
-        Err(_) => err.put(b"isolationtester: Memory\n"),
-    };
+fn put_error<W: Sink, N: Sink>(alloc: Global, out: &mut W, err: &mut N, error: &clap::Error)
+    ensures { IsShown (is_request (kind_of error.now)) (W.failed out.new) (W.put_so_far out.old) (W.put_so_far out.new)
+        (N.failed err.new) (N.put_so_far err.old) (N.put_so_far err.new) }
+{
+    match format!(in alloc; "{error}") {
+        Ok(text) if error.use_stderr() => put_text(err, text.as_bytes()),
+        Ok(text) => put_text(out, text.as_bytes()),
+        Err(_) => put_text(err, b"isolationtester: Memory\n"),
+    }
 }
 
 fn run<S: Source, W: Sink, N: Sink>(
@@ -28,11 +47,27 @@ fn run<S: Source, W: Sink, N: Sink>(
     input: &mut S,
     out: &mut W,
     err: &mut N,
-) -> Result<(), RunFault> {
+) -> Result<(), RunFault>
+    ensures { Runs options (S.left input.old) (W.put_so_far out.old) (W.put_so_far out.new) (N.put_so_far err.old) (N.put_so_far err.new) result }
+{
     if options.list {
         list_spec(alloc, input, out, options.limit)
     } else {
         run_spec(alloc, input, out, err, options.limit)
+    }
+}
+
+/// The exit status of a run, whose fault is told.
+fn end<N: Sink>(alloc: Global, answer: Result<(), RunFault>, err: &mut N) -> u8
+    ensures status { result ≡ exit_status answer }
+    ensures told { TellsFault answer (N.failed err.new) (N.put_so_far err.old) (N.put_so_far err.new) }
+{
+    match answer {
+        Ok(()) => 0,
+        Err(fault) => {
+            put_fault(alloc, err, &fault);
+            fault.status()
+        }
     }
 }
 
@@ -45,19 +80,19 @@ pub fn serve<S: Source, W: Sink, N: Sink>(
     input: &mut S,
     out: &mut W,
     err: &mut N,
-) -> u8 {
-    let options = match options_of(alloc, words) {
-        Ok(options) => options,
+) -> u8
+    ensures serves { IsServed (map string_bytes words.now) (S.left input.old) (W.failed out.new) (W.put_so_far out.old) (W.put_so_far out.new)
+        (N.failed err.new) (N.put_so_far err.old) (N.put_so_far err.new) result }
+    ensures unread { fault_of program (map string_bytes words.now) ≢ [] → input.new ≡ input.old }
+{
+    match options_of(alloc, words) {
+        Ok(options) => {
+            let answer = run(alloc, options, input, out, err);
+            end(alloc, answer, err)
+        }
         Err(error) => {
             put_error(alloc, out, err, &error);
-            return status_of(&error);
-        }
-    };
-    match run(alloc, options, input, out, err) {
-        Ok(()) => 0,
-        Err(fault) => {
-            put_fault(alloc, err, &fault);
-            fault.status()
+            status_of(&error)
         }
     }
 }

@@ -1,4 +1,5 @@
 pub mod Faults
+pub mod FaultText
 pub mod Blocks
 pub mod BlockAnswers
 pub mod Files

@@ -1,9 +1,10 @@
 //! Why a file was not run to its end.
 
-ghost use Rattle.std.specs.Prelude.{◌≡◌};
+ghost use Rattle.std.specs.Prelude.{◌≡◌, ◌+◌, ◌<◌, ◌^◌, Some};
 ghost use Rattle.sql_trees.specs.Faults.{place};
 ghost use Rattle.permutations.specs.declared.fault.RunFault.TheVariants.{Write, Memory};
 ghost use Rattle.permutations.specs.Faults.{read_fault, spec_fault, report_fault};
+ghost use Rattle.permutations.specs.FaultText.{shift_of, block_fault_text, fault_text};
 ghost use Rattle.permutations.specs.Runs.{status_of};
 
 use iso_lexer::{DeviceFault, Fault, ReadFault};
@@ -12,7 +13,6 @@ use spec_parser::SpecFault;
 use sql_trees::SqlFault;
 use std::alloc::{AllocError, AllocFailed};
 use std::fmt;
-use thiserror::Error;
 
 /// The fault of a block, with its byte in the block, and the byte of the file at which the block begins.
 #[derive(Clone, Copy, Debug, PartialEq, Eq)]
@@ -36,57 +36,79 @@ fn place_of(fault: SqlFault) -> usize
     }
 }
 
+/// How far a fault is moved that is told with its byte in the file.
+fn shift_of(told: &BlockFault) -> usize
+    ensures shift { result ≡ shift_of told.now }
+    ensures fits { place told.now.fault + result < 2 ^ 64 }
+{
+    let at = place_of(told.fault);
+    if at <= usize::MAX - told.block {
+        told.block
+    } else {
+        0
+    }
+}
+
 /// Prints the place in the file.
 impl fmt::Display for BlockFault {
+    ghost output = { λ told. Some (block_fault_text told) };
+
     fn fmt<W: fmt::Write>(&self, f: &mut fmt::Formatter<W>) -> fmt::Result {
         let fault = self.fault;
-        let moved = if place_of(fault) < usize::MAX - self.block {
-            fault.moved(self.block)
-        } else {
-            fault
-        };
+        let moved = fault.moved(shift_of(self));
         write!(f, "{moved}")
     }
 }
 
 /// Why a file was not run to its end.
-#[derive(Debug, Drop, Error)]
+#[derive(Debug, Drop)]
 pub enum RunFault {
     /// The input failed.
-    #[error("R1 Read")]
     Read,
     /// The output failed.
-    #[error("R2 Write")]
     Write,
     /// The file has no tokens.
-    #[error("{} at byte {}", .0.kind, .0.at)]
     Lex(Fault),
     /// The file is no spec.
-    #[error("{0}")]
     Spec(SpecFault),
     /// A block is no SQL of the subset.
-    #[error("{0}")]
     Sql(BlockFault),
     /// A setup failed, with this text.
-    #[error("R6 SetupFailed: {text}")]
     SetupFailed { text: String },
     /// A setup waits.
-    #[error("R7 SetupWaits")]
     SetupWaits,
     /// A run's launches are not those of its permutation.
-    #[error("R8 ScheduleBroken")]
     ScheduleBroken,
     /// As many permutations as may run have run, and there is one more.
-    #[error("R9 TooManyPermutations")]
     TooManyPermutations,
     /// The file is no UTF-8 from this byte on.
-    #[error("R11 NotUtf8 at byte {0}")]
     NotUtf8(usize),
     /// The file needs what doesn't run yet.
-    #[error("R12 NotYet")]
     NotYet,
-    #[error("Memory")]
+    /// Memory was refused.
     Memory,
+}
+
+/// Prints the number and the name, and the byte of the file where it has one.
+impl fmt::Display for RunFault {
+    ghost output = { λ fault. Some (fault_text fault) };
+
+    fn fmt<W: fmt::Write>(&self, f: &mut fmt::Formatter<W>) -> fmt::Result {
+        match self {
+            RunFault::Read => write!(f, "R1 Read"),
+            RunFault::Write => write!(f, "R2 Write"),
+            RunFault::Lex(fault) => write!(f, "{fault}"),
+            RunFault::Spec(fault) => write!(f, "{fault}"),
+            RunFault::Sql(fault) => write!(f, "{fault}"),
+            RunFault::SetupFailed { text } => write!(f, "R6 SetupFailed: {text}"),
+            RunFault::SetupWaits => write!(f, "R7 SetupWaits"),
+            RunFault::ScheduleBroken => write!(f, "R8 ScheduleBroken"),
+            RunFault::TooManyPermutations => write!(f, "R9 TooManyPermutations"),
+            RunFault::NotUtf8(at) => write!(f, "R11 NotUtf8 at byte {at}"),
+            RunFault::NotYet => write!(f, "R12 NotYet"),
+            RunFault::Memory => write!(f, "Memory"),
+        }
+    }
 }
 
 impl From<AllocError> for RunFault {
