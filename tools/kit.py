@@ -164,7 +164,8 @@ class Batch:
         lines = ran.stdout.rstrip("\n").split("\n")
         if ran.returncode != 1 or not lines[-1].startswith("logic=not-proved") or any(rt.unread(it, self.texts) for it in lines):
             return set()
-        failed = re.findall(r"^fn (\S+): not proved", ran.stdout, re.M)
+        # (a function that only calls one that isn't proved says so)
+        failed = re.findall(r"^fn (\S+): (?:not proved|no proof: (?!it calls))", ran.stdout, re.M)
         parts = {part for it in failed for part in re.split(r"::|\+", it)}
         return {edit for name, edit in self.names.items() if name in parts}
 

@@ -1,5 +1,5 @@
 -- What a sink took, where it has not failed.
-use Rattle.std.proofs.Common.{◌≡◌, ◌≢◌, ◌⊎◌, ◌×◌, ℕ, Bool, true, false, List, Option, Result, Ok, Err, is_err, sym, subst, inl, inr}
+use Rattle.std.proofs.Common.{◌≡◌, ◌≢◌, ◌⊎◌, ℕ, Bool, true, false, List, Option, Result, Ok, Err, is_err, sym, subst, inl, inr}
 use Rattle.std.specs.Prelude.{OnOk}
 use Rattle.std.specs.Bool.{OnFalse}
 use Rattle.std.specs.Io.KnownBytes.{Appends}
