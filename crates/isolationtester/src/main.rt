@@ -1,4 +1,4 @@
-//! Replays a spec file from standard input, and prints what PostgreSQL's isolation tester would expect of it.
+//! Runs the spec file that comes on standard input, and prints the report of each of its permutations.
 #![tactic(auto)]
 
 use command_line::serve;
