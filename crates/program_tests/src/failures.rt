@@ -20,19 +20,23 @@ const READ_LINE: &str = "isolationtester: R1 Read\n";
 
 const WRITE_LINE: &str = "isolationtester: R2 Write\n";
 
-#[test]
-fn a_failing_read_is_told_and_nothing_is_put(rt: HostRuntime) -> Result<(), AllocError> {
-    for words in [[].as_slice(), ["--list"].as_slice()] {
-        for reads in 0..=TWO.len() {
-            let mut input = Gives::new(TWO, reads);
-            let mut out = Takes::new("", usize::MAX);
-            let mut err = Takes::new(READ_LINE, usize::MAX);
-            let status = served(rt.alloc(), words, &mut input, &mut out, &mut err)?;
-            holds(&rt, status == 3 && err.lacks(0), "R1");
-            holds(&rt, !out.has_taken(), "no text");
-        }
+/// Each read fails in turn.
+fn reads_fail(rt: &HostRuntime, words: &[&str]) -> Result<(), AllocError> {
+    for reads in 0..=TWO.len() {
+        let mut input = Gives::new(TWO, reads);
+        let mut out = Takes::new("", usize::MAX);
+        let mut err = Takes::new(READ_LINE, usize::MAX);
+        let status = served(rt.alloc(), words, &mut input, &mut out, &mut err)?;
+        holds(rt, status == 3 && err.lacks(0), "R1");
+        holds(rt, !out.has_taken(), "no text");
     }
     Ok(())
+}
+
+#[test]
+fn a_failing_read_is_told_and_nothing_is_put(rt: HostRuntime) -> Result<(), AllocError> {
+    reads_fail(&rt, &[])?;
+    reads_fail(&rt, &["--list"])
 }
 
 #[test]
@@ -40,7 +44,6 @@ fn a_failing_put_is_told_behind_the_text_so_far(rt: HostRuntime) -> Result<(), A
     for (puts, lacking, line, ends) in [
         (0, 67, WRITE_LINE, 3),
         (1, 34, WRITE_LINE, 3),
-        (2, 9, WRITE_LINE, 3),
         (usize::MAX, 0, TORN_NOTE, 0),
     ] {
         let mut input = Gives::new(TORN, usize::MAX);
