@@ -2,7 +2,8 @@
 
 use crate::asking::{holds, served};
 use crate::devices::{Gives, Takes};
-use std::alloc::AllocError;
+use std::alloc::{AllocError, Global};
+use std::process::Abort;
 
 /// A spec whose teardown fails, what it prints, and its note.
 const TORN: &str = "session s step a { } teardown { SELECT 1/0 }";
@@ -21,12 +22,12 @@ const READ_LINE: &str = "isolationtester: R1 Read\n";
 const WRITE_LINE: &str = "isolationtester: R2 Write\n";
 
 /// Each read fails in turn.
-fn reads_fail(rt: &HostRuntime, words: &[&str]) -> Result<(), AllocError> {
+fn reads_fail(rt: &impl Abort, alloc: Global, words: &[&str]) -> Result<(), AllocError> {
     for reads in 0..=TWO.len() {
         let mut input = Gives::new(TWO, reads);
         let mut out = Takes::new("", usize::MAX);
         let mut err = Takes::new(READ_LINE, usize::MAX);
-        let status = served(rt.alloc(), words, &mut input, &mut out, &mut err)?;
+        let status = served(alloc, words, &mut input, &mut out, &mut err)?;
         holds(rt, status == 3 && err.lacks(0), "R1");
         holds(rt, !out.has_taken(), "no text");
     }
@@ -35,8 +36,8 @@ fn reads_fail(rt: &HostRuntime, words: &[&str]) -> Result<(), AllocError> {
 
 #[test]
 fn a_failing_read_is_told_and_nothing_is_put(rt: HostRuntime) -> Result<(), AllocError> {
-    reads_fail(&rt, &[])?;
-    reads_fail(&rt, &["--list"])
+    reads_fail(&rt, rt.alloc(), &[])?;
+    reads_fail(&rt, rt.alloc(), &["--list"])
 }
 
 #[test]
