@@ -31,7 +31,8 @@ use Rattle.session_machine.specs.declared.session.Transaction.TheVariants.{Close
 use Rattle.session_machine.specs.declared.fault.StmtFault.{StmtFault}
 use Rattle.session_machine.specs.Tables.{Database, Catalog, Table, Dropped, is_meant, find_from, find_table}
 use Rattle.session_machine.specs.Transactions.{fresh, begun}
-use Rattle.session_machine.specs.Queries.{Target, each, assigned, placed, new_values, null_in, rows_shown, targets_of, some_too_long, lacking_rows}
+use Rattle.session_queries.specs.Queries.{Target, each, assigned, placed, new_values, null_in, targets_of, some_too_long, lacking_rows}
+use Rattle.session_machine.specs.Views.{rows_shown}
 use Rattle.session_machine.specs.Statements.{Did, InsertedUpTo, columns_at, with_table, with_drop, create, dropped_at, dropped, drop_ended, inserted, insert_checked, insert_row, insert_rows, insert_ended, insert_all, insert_fitting, insert_to, insert, answered, select_in, select_from, is_level, level_set, run_open, run_closed, run_stmt, is_end}
 use Rattle.session_machine.specs.Sound.{RowsFit}
 use Rattle.session_machine.proofs.Lists.{slice_get-append_left}

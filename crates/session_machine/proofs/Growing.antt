@@ -22,7 +22,7 @@ use Rattle.session_machine.specs.declared.fault.StmtFault.TheVariants.{TooManyVa
 use Rattle.session_machine.specs.declared.reply.Outcome.{Outcome}
 use Rattle.session_machine.specs.Tables.{Database, Table, Dropped, find_table}
 use Rattle.session_machine.specs.Transactions.{committed, rolled_back, moved_on}
-use Rattle.session_machine.specs.Queries.{Target, new_values, null_in, targets_of, some_too_long, lacking_rows}
+use Rattle.session_queries.specs.Queries.{Target, new_values, null_in, targets_of, some_too_long, lacking_rows}
 use Rattle.session_machine.specs.Statements.{Did, InsertedUpTo, DroppedUpTo, fails, answers, turns, columns_at, with_table, with_drop, create, dropped_at, dropped, drop_ended, inserted, insert_checked, insert_row, insert_rows, insert_ended, insert_all, insert_fitting, insert_to, insert, answered, select_in, select_from, is_level, level_set, run_open}
 use Rattle.session_machine.proofs.Lists.{slice_get-set_other}
 use Rattle.session_machine.proofs.Staying.{count-roll_back}

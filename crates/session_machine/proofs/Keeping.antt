@@ -20,7 +20,7 @@ use Rattle.session_machine.specs.declared.fault.StmtFault.TheVariants.{TooManyVa
 use Rattle.session_machine.specs.declared.reply.Outcome.TheVariants.{Failed}
 use Rattle.session_machine.specs.Tables.{Database, find_table}
 use Rattle.session_machine.specs.Transactions.{fresh, begun, after_failure, moved_on}
-use Rattle.session_machine.specs.Queries.{Target, new_values, null_in, targets_of, some_too_long, lacking_rows}
+use Rattle.session_queries.specs.Queries.{Target, new_values, null_in, targets_of, some_too_long, lacking_rows}
 use Rattle.session_machine.specs.Statements.{Did, InsertedUpTo, DroppedUpTo, fails, turns, columns_at, with_drop, create, dropped_at, dropped, drop_ended, inserted, insert_checked, insert_row, insert_rows, insert_ended, insert_all, insert_fitting, insert_to, insert, answered, select_in, select_from, is_level, level_set, run_open, run_first, run_closed, run_stmt, is_end}
 use Rattle.session_machine.specs.Sound.{tx_in, command_in}
 use Rattle.session_machine.proofs.Lists.{slice_get-set_other, slice_get-append_left, slice_get-append_seam}

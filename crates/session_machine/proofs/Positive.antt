@@ -28,7 +28,7 @@ use Rattle.session_machine.specs.declared.event.Event.TheVariants.{Step}
 use Rattle.session_machine.specs.declared.event.Mode.{Mode}
 use Rattle.session_machine.specs.Tables.{Database}
 use Rattle.session_machine.specs.Transactions.{committed, view_now}
-use Rattle.session_machine.specs.Queries.{rows_shown}
+use Rattle.session_machine.specs.Views.{rows_shown}
 use Rattle.session_machine.specs.Statements.{Did, turns, run_stmt, is_level}
 use Rattle.session_machine.specs.Machine.{Machine, Blocks, Next, next, stmts_at, step_of, step_at, step_stmt, after_stmt, finished}
 use Rattle.session_machine.specs.Sound.{tx_in, command_in}

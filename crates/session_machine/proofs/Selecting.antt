@@ -27,7 +27,8 @@ use Rattle.session_machine.specs.declared.session.Transaction.TheVariants.{Close
 use Rattle.session_machine.specs.declared.fault.Refusal.{Refusal}
 use Rattle.session_machine.specs.Tables.{Database, Table, Dropped, counts, is_dropped, is_meant, find_from, find_table}
 use Rattle.session_machine.specs.Transactions.{begun, fresh, view_of, view_now}
-use Rattle.session_machine.specs.Queries.{chosen, each, row_values, titles_of, result_of, cols_of, rows_shown}
+use Rattle.session_queries.specs.Queries.{chosen, each, row_values, titles_of, result_of, cols_of}
+use Rattle.session_machine.specs.Views.{rows_shown}
 use Rattle.session_machine.specs.Statements.{columns_at, answered, select_in, run_stmt}
 use Rattle.session_machine.specs.Machine.{Next, next, visible_to, visible_for}
 use Rattle.session_machine.specs.Laws.{VisibleIsSelected, select_all, shown_by}

@@ -24,7 +24,7 @@ use Rattle.session_machine.specs.declared.reply.Outcome.TheVariants.{Failed}
 use Rattle.session_machine.specs.declared.reply.HistItem.{HistItem}
 use Rattle.session_machine.specs.Tables.{Database, find_table}
 use Rattle.session_machine.specs.Transactions.{begun, committed, fresh, after_failure, moved_on}
-use Rattle.session_machine.specs.Queries.{Target, targets_of, some_too_long, lacking_rows}
+use Rattle.session_queries.specs.Queries.{Target, targets_of, some_too_long, lacking_rows}
 use Rattle.session_machine.specs.Statements.{Did, fails, turns, columns_at, create, dropped, drop_ended, insert_rows, insert_ended, insert_all, insert_fitting, insert_to, insert, answered, select_in, select_from, is_level, level_set, run_open, run_first, run_closed, run_stmt, is_end}
 use Rattle.session_machine.specs.Machine.{Machine, Blocks, Next, next, at_rest, opening, stmts_at, is_failed, first_place, launch_of, step_of, step_at, step_stmt, leave_of, after_stmt, finished, closed_at_end}
 use Rattle.session_machine.specs.Engine.{Run}

@@ -31,7 +31,8 @@ use Rattle.session_machine.specs.declared.fault.StmtFault.TheVariants.{TooManyVa
 use Rattle.session_machine.specs.declared.reply.Outcome.TheVariants.{Failed}
 use Rattle.session_machine.specs.Tables.{Database, find_table}
 use Rattle.session_machine.specs.Transactions.{fresh, begun, committed}
-use Rattle.session_machine.specs.Queries.{Target, new_values, null_in, rows_shown, targets_of, some_too_long, lacking_rows}
+use Rattle.session_queries.specs.Queries.{Target, new_values, null_in, targets_of, some_too_long, lacking_rows}
+use Rattle.session_machine.specs.Views.{rows_shown}
 use Rattle.session_machine.specs.Statements.{Did, InsertedUpTo, fails, turns, columns_at, create, drop_ended, inserted, insert_checked, insert_row, insert_rows, insert_ended, insert_all, insert_fitting, insert_to, insert, answered, select_in, select_from, is_level, level_set, run_open, run_first, run_closed, run_aborted, run_stmt, is_end}
 use Rattle.session_machine.specs.declared.session.Place.{Place}
 use Rattle.session_machine.specs.declared.session.Session.{Session}

@@ -19,7 +19,7 @@ use Rattle.session_machine.specs.declared.fault.StmtFault.{StmtFault}
 use Rattle.session_machine.specs.declared.reply.Outcome.{Outcome}
 use Rattle.session_machine.specs.declared.reply.Outcome.TheVariants.{Launched, Failed, Left}
 use Rattle.session_machine.specs.Transactions.{committed, commits_seen, view_of, view_now}
-use Rattle.session_machine.specs.Queries.{rows_shown}
+use Rattle.session_machine.specs.Views.{rows_shown}
 use Rattle.session_machine.specs.Statements.{Did, run_stmt}
 use Rattle.session_machine.specs.Machine.{Machine, Blocks, Next, next, opening, stmts_at, is_failed, launch_of, step_of, step_at, step_stmt, leave_of, after_stmt, finished, closed_at_end}
 use Rattle.session_machine.specs.Sound.{IsSound, tx_in}

@@ -20,7 +20,7 @@ use Rattle.session_machine.specs.declared.event.Event.TheVariants.{Launch, Step,
 use Rattle.session_machine.specs.declared.event.Mode.{Mode}
 use Rattle.session_machine.specs.declared.reply.HistItem.{HistItem}
 use Rattle.session_machine.specs.Transactions.{view_of, view_now}
-use Rattle.session_machine.specs.Queries.{rows_shown}
+use Rattle.session_machine.specs.Views.{rows_shown}
 use Rattle.session_machine.specs.Statements.{is_level}
 use Rattle.session_machine.specs.Machine.{Machine, Blocks, opening, stmts_at, visible}
 use Rattle.session_machine.specs.Engine.{Run, Follows, IsLegal}

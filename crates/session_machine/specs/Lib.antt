@@ -1,6 +1,6 @@
 pub mod Tables
 pub mod Transactions
-pub mod Queries
+pub mod Views
 pub mod Statements
 pub mod Blockers
 pub mod Machine

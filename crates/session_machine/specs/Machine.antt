@@ -22,7 +22,7 @@ use Rattle.session_machine.specs.declared.fault.Refusal.{Refusal}
 use Rattle.session_machine.specs.declared.fault.Refusal.TheVariants.{Busy, NotYourTurn, StillBlocked, Idle, NoSession, BlockNotAllowed}
 use Rattle.session_machine.specs.Tables.{Database, find_table}
 use Rattle.session_machine.specs.Transactions.{committed, rolled_back, own_of, view_now}
-use Rattle.session_machine.specs.Queries.{rows_shown}
+use Rattle.session_machine.specs.Views.{rows_shown}
 use Rattle.session_machine.specs.Statements.{Did, run_stmt, is_definition, runs}
 use Rattle.session_machine.specs.Blockers.{is_blocked}
 

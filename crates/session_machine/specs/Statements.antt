@@ -19,7 +19,8 @@ use Rattle.session_machine.specs.declared.reply.Outcome.{Outcome}
 use Rattle.session_machine.specs.declared.reply.Outcome.TheVariants.{Done, Rows, Failed}
 use Rattle.session_machine.specs.Tables.{Database, Catalog, Table, find_table}
 use Rattle.session_machine.specs.Transactions.{fresh, begun, committed, rolled_back, view_of, moved_on, after_failure}
-use Rattle.session_machine.specs.Queries.{Target, result_of, rows_shown, targets_of, new_values, null_in, some_too_long, lacking_rows}
+use Rattle.session_queries.specs.Queries.{has_none, Target, result_of, targets_of, new_values, null_in, some_too_long, lacking_rows}
+use Rattle.session_machine.specs.Views.{rows_shown}
 
 -- what a statement leaves of the database and of its session's transaction, and what came of it
 pub record Did : Type 0 where
@@ -197,11 +198,6 @@ abbrev pub run_stmt : Database → Transaction → StmtTree → Did
 run_stmt db Closed stmt = run_closed db stmt
 run_stmt db (Open t) stmt = run_open db t stmt
 run_stmt db AbortedOne stmt = run_aborted db stmt
-
--- the list is empty
-abbrev pub has_none : {A : Type 0} → List A → Bool
-has_none [] = true
-has_none (x ∷ xs) = false
 
 -- a SELECT that locks and sorts nothing
 abbrev pub select_runs : SelectTree → Bool

@@ -4,7 +4,7 @@ use Rattle.std.specs.Prelude.{Result, slice_set}
 use Rattle.sql_values.specs.declared.value.Value.{Value}
 use Rattle.sql_values.specs.declared.fault.ValueFault.{ValueFault}
 use Rattle.sql_values.specs.Values.{if_ok, assign}
-use Rattle.session_machine.specs.Queries.{Target, assigned, placed}
+use Rattle.session_queries.specs.Queries.{Target, assigned, placed}
 
 -- the row with the values at their places, as the columns take them
 abbrev pub filled : List Target → List Value → List Value → Result (List Value) ValueFault

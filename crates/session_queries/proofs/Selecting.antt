@@ -7,7 +7,7 @@ use Rattle.sql_values.specs.declared.fault.ValueFault.{ValueFault}
 use Rattle.sql_values.specs.Values.{Answers, if_ok}
 use Rattle.sql_values.specs.Expressions.{Cols}
 use Rattle.result_tables.specs.Results.{Results}
-use Rattle.session_machine.specs.Queries.{chosen, cols_of}
+use Rattle.session_queries.specs.Queries.{chosen, cols_of}
 use Rattle.session_queries.specs.Answers.{answered, selected}
 
 pub selected_from : {R : Type 0} (view : R → List Value) (s : SelectTree) (columns : List ColumnTree) (cols : Cols) (rows : List (List Value)) (taken lent : List R) (items : List ItemTree) (result : Result Results ValueFault) → cols ≡ cols_of columns → chosen cols s.filter rows ≡ Ok (map view taken) → lent ≡ taken → items ≡ s.items → Answers result (answered columns items (map view lent)) → Answers result (selected s columns rows)

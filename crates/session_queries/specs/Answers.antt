@@ -5,7 +5,7 @@ use Rattle.sql_values.specs.declared.value.Value.{Value}
 use Rattle.sql_values.specs.declared.fault.ValueFault.{ValueFault}
 use Rattle.sql_values.specs.Values.{if_ok}
 use Rattle.result_tables.specs.Results.{Results}
-use Rattle.session_machine.specs.Queries.{chosen, cols_of, counted, results_by}
+use Rattle.session_queries.specs.Queries.{chosen, cols_of, counted, results_by}
 
 -- the items at each of the rows, or the aggregates over all of them, under their titles
 abbrev pub answered : List ColumnTree → List ItemTree → List (List Value) → Result Results ValueFault

@@ -1,2 +1,3 @@
+pub mod Queries
 pub mod Answers
 pub mod Fronts

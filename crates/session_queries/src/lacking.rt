@@ -3,7 +3,7 @@
 ghost use Rattle.std.specs.Prelude.{◌≡◌, [], map, option_map};
 ghost use Rattle.sql_trees.specs.Trees.{agg_of, tree_of, trees, Column as NamedColumn};
 ghost use Rattle.sql_trees.specs.Statements.{column_of, exprs_of, item_of, name_of, select_of};
-ghost use Rattle.session_machine.specs.Queries.{cols_of, first_of, lacking, lacking_agg, lacking_among, lacking_if, lacking_item, lacking_rows, lacking_select};
+ghost use Rattle.session_queries.specs.Queries.{cols_of, first_of, lacking, lacking_agg, lacking_among, lacking_if, lacking_item, lacking_rows, lacking_select};
 
 use iso_lexer::{Ident, Name};
 use sql_trees::{Agg, Column, Expr, Item, Select};

@@ -5,7 +5,7 @@ ghost use Rattle.sql_trees.specs.Trees.{tree_of};
 ghost use Rattle.sql_values.specs.declared.value.Value.TheVariants.{Null as SqlNull};
 ghost use Rattle.sql_values.specs.Values.{Answers, if_ok};
 ghost use Rattle.sql_values.specs.Expressions.{value};
-ghost use Rattle.session_machine.specs.Queries.{each, assigned, placed, new_values};
+ghost use Rattle.session_queries.specs.Queries.{each, assigned, placed, new_values};
 
 use crate::target::{Target, Targets};
 use sql_trees::Expr;

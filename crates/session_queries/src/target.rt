@@ -2,7 +2,7 @@
 
 ghost use Rattle.std.specs.Prelude.{◌≡◌, ℕ, List, IfOk, length, map, option_map};
 ghost use Rattle.sql_trees.specs.Statements.{column_of, name_of, names_of};
-ghost use Rattle.session_machine.specs.Queries.{all_targets, named_targets, target_from, targets_of};
+ghost use Rattle.session_queries.specs.Queries.{all_targets, named_targets, target_from, targets_of};
 
 use iso_lexer::{Ident, Name, same_name};
 use sql_trees::{Column, Kind};
@@ -17,7 +17,7 @@ pub struct Target {
 }
 
 impl Model for Target {
-    ghost use Rattle.session_machine.specs.Queries as query;
+    ghost use Rattle.session_queries.specs.Queries as query;
 
     ghost Value = { query.Target };
 
@@ -53,7 +53,7 @@ pub struct Targets {
 
 impl Model for Targets {
     ghost use Rattle.std.specs.Prelude.{List};
-    ghost use Rattle.session_machine.specs.Queries as query;
+    ghost use Rattle.session_queries.specs.Queries as query;
 
     ghost Value = { List query.Target };
 

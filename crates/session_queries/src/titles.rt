@@ -3,7 +3,7 @@
 ghost use Rattle.std.specs.Prelude.{◌≡◌, ◌++◌, IfOk, OnOk, length, map, option_map};
 ghost use Rattle.sql_trees.specs.Trees.{agg_of, tree_of};
 ghost use Rattle.sql_trees.specs.Statements.{All, column_of, item_of, name_of};
-ghost use Rattle.session_machine.specs.Queries.{Counted, agg_title, counted, item_titles, kind_title, own_title, title_of, title_or, titles_of};
+ghost use Rattle.session_queries.specs.Queries.{Counted, agg_title, counted, item_titles, kind_title, own_title, title_of, title_or, titles_of};
 
 use iso_lexer::Name;
 use result_tables::{Title, TitleName};

@@ -7,7 +7,7 @@ use Rattle.sql_trees.specs.Statements.{ColumnTree}
 use Rattle.row_versions.specs.Log.{Content}
 use Rattle.session_machine.specs.declared.session.OpenTransaction.{OpenTransaction}
 use Rattle.session_machine.specs.declared.fault.StmtFault.{StmtFault}
-use Rattle.session_machine.specs.Queries.{Target, new_values}
+use Rattle.session_queries.specs.Queries.{Target, new_values}
 use Rattle.session_machine.specs.Statements.{InsertedUpTo, insert_row, insert_rows}
 use Rattle.session_statements.specs.Inserting.{row_ended}
 

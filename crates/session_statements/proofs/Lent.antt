@@ -7,7 +7,7 @@ use Rattle.sql_values.specs.declared.value.Value.{Value}
 use Rattle.row_versions.specs.declared.write.View.{View}
 use Rattle.row_versions.specs.Log.{Content}
 use Rattle.session_machine.specs.Tables.{Catalog, Table}
-use Rattle.session_machine.specs.Queries.{rows_shown}
+use Rattle.session_machine.specs.Views.{rows_shown}
 use Rattle.session_machine.specs.Statements.{columns_at}
 use Rattle.session_machine.specs.Sound.{RowsFit}
 use Rattle.session_machine.proofs.Fitting.{rows_shown_fit}

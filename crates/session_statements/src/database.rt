@@ -7,7 +7,7 @@ ghost use Rattle.sql_values.specs.declared.value.Value.{Value};
 ghost use Rattle.row_versions.specs.Log.{empty_content, IsOpen, after_write};
 ghost use Rattle.session_machine.specs.Tables.{find_table};
 ghost use Rattle.session_machine.specs.Transactions.{committed, rolled_back, begun, fresh, first_commits, commits_seen, view_of, moved_on, own_of, view_now};
-ghost use Rattle.session_machine.specs.Queries.{rows_shown};
+ghost use Rattle.session_machine.specs.Views.{rows_shown};
 ghost use Rattle.session_machine.specs.Statements.{columns_at, with_table, with_drop, inserted};
 ghost use Rattle.session_machine.specs.Machine.{empty_database, visible_to};
 

@@ -6,7 +6,7 @@ ghost use Rattle.sql_trees.specs.Statements.{insert_of, exprs_of, name_of, colum
 ghost use Rattle.sql_values.specs.declared.fault.ValueFault.TheVariants.{Memory};
 ghost use Rattle.row_versions.specs.Log.{Content, IsOpen};
 ghost use Rattle.session_machine.specs.Tables.{find_table};
-ghost use Rattle.session_machine.specs.Queries.{new_values, lacking_rows};
+ghost use Rattle.session_queries.specs.Queries.{new_values, lacking_rows};
 ghost use Rattle.session_statements.specs.Inserting.{row_ended};
 ghost use Rattle.session_machine.specs.Statements.{InsertedUpTo, columns_at, insert_row, insert_rows, insert_all, insert_fitting, insert};
 

@@ -8,7 +8,8 @@ ghost use Rattle.result_tables.specs.Results.{Results};
 ghost use Rattle.row_versions.specs.Log.{IsOpen};
 ghost use Rattle.session_machine.specs.Tables.{find_table};
 ghost use Rattle.session_machine.specs.Transactions.{view_of};
-ghost use Rattle.session_machine.specs.Queries.{result_of, rows_shown};
+ghost use Rattle.session_queries.specs.Queries.{result_of};
+ghost use Rattle.session_machine.specs.Views.{rows_shown};
 ghost use Rattle.session_machine.specs.Statements.{columns_at, answered, select_in, select_from};
 ghost use Rattle.session_machine.specs.Sound.{RowsFit};
 

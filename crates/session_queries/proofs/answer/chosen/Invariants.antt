@@ -1,7 +1,7 @@
 use Rattle.std.proofs.Common.{◌≡◌, drop, length, map}
 use Rattle.std.specs.Prelude.{All, option_map}
 use Rattle.sql_trees.specs.Trees.{tree_of}
-use Rattle.session_machine.specs.Queries.{chosen}
+use Rattle.session_queries.specs.Queries.{chosen}
 use Rattle.session_queries.specs.Fronts.{in_front}
 use Rattle.session_queries.proofs.answer.chosen.Given as goal
 

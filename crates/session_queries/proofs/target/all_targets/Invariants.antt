@@ -1,6 +1,6 @@
 use Rattle.std.proofs.Common.{◌≡◌, ◌++◌, drop, map}
 use Rattle.sql_trees.specs.Statements.{column_of}
-use Rattle.session_machine.specs.Queries.{all_targets}
+use Rattle.session_queries.specs.Queries.{all_targets}
 use Rattle.session_queries.proofs.target.all_targets.Given as goal
 
 abbrev pub invariant-loop-place : goal.invariant-loop-place

@@ -1,6 +1,6 @@
 use Rattle.std.proofs.Common.{◌≡◌, drop, map}
 use Rattle.sql_trees.specs.Statements.{column_of, name_of}
-use Rattle.session_machine.specs.Queries.{named_targets}
+use Rattle.session_queries.specs.Queries.{named_targets}
 use Rattle.session_queries.specs.Fronts.{in_front}
 use Rattle.session_queries.proofs.target.named_targets.Given as goal
 

@@ -1,6 +1,6 @@
 use Rattle.std.proofs.Common.{◌≡◌, drop, map}
 use Rattle.sql_trees.specs.Statements.{column_of, name_of}
-use Rattle.session_machine.specs.Queries.{target_from}
+use Rattle.session_queries.specs.Queries.{target_from}
 use Rattle.session_queries.proofs.target.target_of.Given as goal
 
 abbrev pub invariant-loop-place : goal.invariant-loop-place

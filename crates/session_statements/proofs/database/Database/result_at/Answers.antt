@@ -2,7 +2,7 @@ use Rattle.std.proofs.Common.{◌≡◌, ◌∙◌, sym, ap, length, map, Bor}
 use Rattle.std.proofs.lemmas.List.{length-map}
 use Rattle.sql_trees.specs.Statements.{column_of}
 use Rattle.sql_values.specs.declared.row.Row.{Row}
-use Rattle.session_machine.specs.Queries.{rows_shown}
+use Rattle.session_machine.specs.Views.{rows_shown}
 use Rattle.session_machine.specs.Statements.{columns_at}
 use Rattle.session_statements.proofs.Lent.{lent_fit}
 use Rattle.session_statements.proofs.database.Database.result_at.Goals as goal

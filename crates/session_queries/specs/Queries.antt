@@ -1,5 +1,5 @@
 -- What a query answers at the rows of its table, and what an INSERT makes of its values (PostgreSQL manual, SELECT and INSERT).
-use Rattle.std.specs.Prelude.{ℕ, ◌+◌, Bool, ◌&&◌, List, [], ◌∷◌, ◌++◌, length, map, replicate, Option, Some, None, is_some, unwrap_or, position, bytes_eq, slice_set, nat_lt, Result, Ok, Err, if◌then◌else◌}
+use Rattle.std.specs.Prelude.{ℕ, ◌+◌, Bool, true, false, ◌&&◌, List, [], ◌∷◌, ◌++◌, length, map, replicate, Option, Some, None, is_some, position, bytes_eq, slice_set, nat_lt, Result, Ok, Err, if◌then◌else◌}
 use Rattle.std.specs.List.{list_any}
 use Rattle.std.specs.Option.{option_or}
 use Rattle.sql_trees.specs.declared.kind.Kind.{Kind}
@@ -19,10 +19,6 @@ use Rattle.sql_values.specs.Aggregates.{aggregate}
 use Rattle.result_tables.specs.declared.title.Title.{Title}
 use Rattle.result_tables.specs.declared.title.Title.TheVariants.{Column as Named, Unnamed, Count, Sum, Min, Max}
 use Rattle.result_tables.specs.Results.{Results}
-use Rattle.row_versions.specs.declared.write.View.{View}
-use Rattle.row_versions.specs.declared.write.Seen.{Seen}
-use Rattle.row_versions.specs.Log.{Content, values_at}
-use Rattle.row_versions.specs.Rows.{rows_of}
 
 -- the first answer that is one
 abbrev pub first_of : {A B : Type 0} → (A → Option B) → List A → Option B
@@ -120,6 +116,11 @@ abbrev pub titles_of : List ColumnTree → List ItemTree → List Title
 titles_of columns [] = []
 titles_of columns (i ∷ is) = item_titles columns i ++ titles_of columns is
 
+-- the list is empty
+abbrev pub has_none : {A : Type 0} → List A → Bool
+has_none [] = true
+has_none (x ∷ xs) = false
+
 -- an aggregate among the items, with the name given to it
 pub record Counted : Type 0 where
   pub agg : AggTree
@@ -167,10 +168,6 @@ results_by columns is (a ∷ more) taken = agg_results columns (a ∷ more) take
 abbrev pub result_of : SelectTree → List ColumnTree → List (List Value) → Result Results ValueFault
 result_of s columns rows = unless_lacking (lacking_select (cols_of columns) s)
     (if_ok (chosen (cols_of columns) s.filter rows) (results_by columns s.items (counted s.items)))
-
--- the values of the rows that a view shows of the table
-abbrev pub rows_shown : Content → View → ℕ → List (List Value)
-rows_shown c view k = map (λ (s : Seen). unwrap_or (values_at c s.place) []) (rows_of c view (record { 0 = k }))
 
 -- where a value of an INSERT goes: a column's place, and its kind
 pub record Target : Type 0 where
