@@ -1,5 +1,5 @@
 -- Held locks, and who stands against a request (PostgreSQL manual, 13.3.2).
-use Rattle.std.specs.Prelude.{◌≡◌, ◌==◌, Bool, true, false, not, ◌&&◌, ◌||◌, List, ◌++◌, Option, Some, None, map, filter}
+use Rattle.std.specs.Prelude.{◌≡◌, ◌==◌, Bool, true, false, not, ◌&&◌, ◌||◌, List, [], ◌∷◌, ◌++◌, Option, Some, None, map, filter}
 use Rattle.std.specs.List.{list_any}
 use Rattle.row_versions.specs.declared.names.TxId.{TxId}
 use Rattle.row_versions.specs.declared.names.RowId.{RowId}
@@ -40,6 +40,13 @@ same_lock a b = ((a.row.0 == b.row.0) && same_tx a.tx b.tx) && same_strength a.s
 -- the lock is held
 abbrev pub holds : List Held → Held → Bool
 holds held h = list_any (λ other. same_lock other h) held
+
+-- what is held once a lock is taken, and once a transaction lets go of all that it held
+abbrev pub with_lock : List Held → Held → List Held
+with_lock held lock = held ++ lock ∷ []
+
+abbrev pub released : TxId → List Held → List Held
+released tx held = filter (λ h. not (same_tx h.tx tx)) held
 
 -- after a lock was taken, what was held before is held, and that lock
 abbrev pub IsTaken : List Held → Held → List Held → Type 0

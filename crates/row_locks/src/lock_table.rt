@@ -1,8 +1,9 @@
 //! The locks that are held.
 ghost use Rattle.std.specs.Prelude.{◌≡◌, List, [], ◌∷◌, ◌++◌, not, ◌&&◌, OnOk, OnErr, IfOk};
 ghost use Rattle.row_locks.specs.Members.{has, is_distinct};
+ghost use Rattle.row_locks.specs.Waiting.{is_none_of};
 ghost use Rattle.row_locks.specs.declared.held.Held.{Held};
-ghost use Rattle.row_locks.specs.Held.{is_against, holders_against, IsTaken, IsReleased};
+ghost use Rattle.row_locks.specs.Held.{is_against, holders_against, with_lock, released, IsTaken, IsReleased};
 
 use crate::held::{Held, Strength, is_against};
 use crate::members::has;
@@ -11,7 +12,7 @@ use smallvec::SmallVec;
 use std::alloc::{AllocError, Global};
 use std::marker::Model;
 
-/// The locks that are held: contracts ask of each lock whether it is among them, and never where.
+/// The locks that are held, in the order in which they were taken.
 #[derive(Drop)]
 pub struct LockTable {
     held: Vec<Held>,
@@ -36,6 +37,7 @@ impl LockTable {
     /// The transaction holds the row from now on, and the room is made in which it lets go.
     pub fn take(&mut self, row: RowId, tx: TxId, strength: Strength) -> Result<(), AllocError>
         ensures ok { OnOk result (IsTaken self.old (record { row = row; tx = tx; strength = strength }) self.new) }
+        ensures last { OnOk result (self.new ≡ with_lock self.old (record { row = row; tx = tx; strength = strength })) }
         ensures err { OnErr result (self.new ≡ self.old) }
     {
         self.held.push(Held { row, tx, strength })?;
@@ -61,9 +63,20 @@ impl LockTable {
         Ok(found)
     }
 
+    /// Whether another transaction holds the row in conflict. It takes no memory.
+    #[tactic(auto, using(crate::proofs::Against::some_are_against))]
+    pub fn is_blocked(&self, row: RowId, tx: TxId, strength: Strength) -> bool
+        ensures { result ≡ not (is_none_of (holders_against self.now row tx strength)) }
+    {
+        self.held
+            .iter()
+            .any(|held| is_against(held, row, tx, strength))
+    }
+
     /// The transaction holds nothing any more. It takes no memory.
     pub fn release(&mut self, tx: TxId)
-        ensures { IsReleased self.old tx self.new }
+        ensures held { IsReleased self.old tx self.new }
+        ensures same { self.new ≡ released tx self.old }
     {
         self.held.retain(|held| held.tx.0 != tx.0);
     }

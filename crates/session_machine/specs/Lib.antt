@@ -1,10 +1,11 @@
 pub mod Tables
 pub mod Transactions
 pub mod Views
+pub mod Waits
 pub mod Statements
-pub mod Blockers
+pub mod Walks
+pub mod Rows
+pub mod Running
 pub mod Machine
 pub mod Engine
 pub mod Sound
-pub mod Laws
-pub mod Worked

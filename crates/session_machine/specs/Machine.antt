@@ -1,5 +1,5 @@
 -- The machine of all sessions: what an event makes of it and answers, or why it is refused.
-use Rattle.std.specs.Prelude.{ℕ, ◌+◌, ◌==◌, nat_lt, Bool, true, false, not, ◌&&◌, ◌||◌, List, [], ◌∷◌, length, replicate, Option, Some, None, option_map, option_and_then, is_some, is_none, slice_get, slice_set, if◌then◌else◌, Result, Ok, Err}
+use Rattle.std.specs.Prelude.{ℕ, ◌+◌, ◌==◌, nat_lt, Bool, true, false, not, ◌&&◌, ◌||◌, List, [], ◌∷◌, length, replicate, Option, Some, None, option_map, is_some, is_none, slice_get, slice_set, if◌then◌else◌, Result, Ok, Err}
 use Rattle.std.specs.List.{list_any, list_all}
 use Rattle.std.specs.Option.{option_or}
 use Rattle.sql_trees.specs.Statements.{StmtTree}
@@ -9,27 +9,28 @@ use Rattle.session_machine.specs.declared.session.Place.{Place}
 use Rattle.session_machine.specs.declared.session.Transaction.{Transaction}
 use Rattle.session_machine.specs.declared.session.Transaction.TheVariants.{Closed, Open}
 use Rattle.session_machine.specs.declared.session.Waiting.{Waiting}
-use Rattle.session_machine.specs.declared.session.Progress.{Progress}
 use Rattle.session_machine.specs.declared.session.Session.{Session}
 use Rattle.session_machine.specs.declared.event.Event.{Event}
 use Rattle.session_machine.specs.declared.event.Event.TheVariants.{Launch, Step, Leave}
 use Rattle.session_machine.specs.declared.event.Mode.{Mode}
 use Rattle.session_machine.specs.declared.event.Mode.TheVariants.{Directed, Free}
 use Rattle.session_machine.specs.declared.reply.Outcome.{Outcome}
-use Rattle.session_machine.specs.declared.reply.Outcome.TheVariants.{Launched, Failed, Left}
+use Rattle.session_machine.specs.declared.reply.Outcome.TheVariants.{Launched, Failed, Waits, Left}
 use Rattle.session_machine.specs.declared.reply.Reply.{Reply}
 use Rattle.session_machine.specs.declared.fault.Refusal.{Refusal}
 use Rattle.session_machine.specs.declared.fault.Refusal.TheVariants.{Busy, NotYourTurn, StillBlocked, Idle, NoSession, BlockNotAllowed}
 use Rattle.session_machine.specs.Tables.{Database, find_table}
 use Rattle.session_machine.specs.Transactions.{committed, rolled_back, own_of, view_now}
 use Rattle.session_machine.specs.Views.{rows_shown}
-use Rattle.session_machine.specs.Statements.{Did, run_stmt, is_definition, runs}
-use Rattle.session_machine.specs.Blockers.{is_blocked}
+use Rattle.session_machine.specs.Waits.{is_blocked, wait_of}
+use Rattle.session_machine.specs.Statements.{Did, Around}
+use Rattle.session_machine.specs.Running.{run_stmt, is_definition, runs}
 
--- what all sessions share, and what each does
+-- what all sessions share, what each does, and how many events there were
 pub record Machine : Type 0 where
   pub db : Database
   pub sessions : List Session
+  pub events : ℕ
 
 abbrev pub Blocks : Type 0
 Blocks = List (List StmtTree)
@@ -42,7 +43,7 @@ empty_database = record { content = empty_content; catalog = record { tables = [
 
 -- nothing has happened; beside the control session, which is session 0, there are so many
 abbrev pub opening : ℕ → Machine
-opening count = record { db = empty_database; sessions = replicate (count + 1) at_rest }
+opening count = record { db = empty_database; sessions = replicate (count + 1) at_rest; events = 0 }
 
 abbrev pub stmts_at : Blocks → ℕ → List StmtTree
 stmts_at blocks k = stmts_of (slice_get blocks k) where
@@ -58,9 +59,6 @@ is_allowed blocks session k =
 -- the session is in its block
 abbrev pub is_busy : Session → Bool
 is_busy s = is_some s.place
-
-abbrev pub wait_of : Session → Option Waiting
-wait_of s = option_and_then (λ (p : Progress). p.wait) s.statement
 
 -- the session is in its block and doesn't wait
 abbrev pub is_ready : Session → Bool
@@ -83,20 +81,25 @@ is_still_blocked db s = is_stopped db s.transaction (wait_of s)
 abbrev pub free_wait : Database → Session → Option ℕ
 free_wait db s = if is_still_blocked db s then None else option_map (λ (w : Waiting). w.number) (wait_of s)
 
--- the sooner of two waits, each with its session
-abbrev pub sooner : Option ℕ → ℕ → Option (ℕ × ℕ) → Option (ℕ × ℕ)
+-- a wait that nothing blocks any more: its number, and its session
+pub record FreeWait : Type 0 where
+  pub number : ℕ
+  pub session : ℕ
+
+-- the sooner of a session's wait and another
+abbrev pub sooner : Option ℕ → ℕ → Option FreeWait → Option FreeWait
 sooner None k other = other
-sooner (Some n) k None = Some (n, k)
-sooner (Some n) k (Some other) = if nat_lt other.0 n then Some other else Some (n, k)
+sooner (Some n) k None = Some (record { number = n; session = k })
+sooner (Some n) k (Some other) = if nat_lt other.number n then Some other else Some (record { number = n; session = k })
 
 -- of the waits that nothing blocks the one with the least number, from the session on
-abbrev pub earliest_free : Database → ℕ → List Session → Option (ℕ × ℕ)
+abbrev pub earliest_free : Database → ℕ → List Session → Option FreeWait
 earliest_free db k [] = None
 earliest_free db k (s ∷ ss) = sooner (free_wait db s) k (earliest_free db (k + 1) ss)
 
 -- whose turn it is: the least session that can go on without waiting, else the earliest wait that nothing blocks; quiet, where there is neither
 abbrev pub turn_in : Machine → Option ℕ
-turn_in m = option_or (first_ready 0 m.sessions) (option_map (λ (w : ℕ × ℕ). w.1) (earliest_free m.db 0 m.sessions))
+turn_in m = option_or (first_ready 0 m.sessions) (option_map (λ (w : FreeWait). w.session) (earliest_free m.db 0 m.sessions))
 
 abbrev pub is_quiet : Machine → Bool
 is_quiet m = is_none (turn_in m)
@@ -114,7 +117,7 @@ pub record Next : Type 0 where
   pub reply : Reply
 
 abbrev pub with_session : Machine → Database → ℕ → Session → Machine
-with_session m db k s = record { db = db; sessions = slice_set m.sessions k s }
+with_session m db k s = record { db = db; sessions = slice_set m.sessions k s; events = m.events + 1 }
 
 -- where a session stands that is given these statements: a block without statements ends at once
 abbrev pub first_place : ℕ → List StmtTree → Option Place
@@ -141,7 +144,7 @@ is_failed outcome = false
 
 -- an implicit transaction is committed with the block's last statement
 abbrev pub closed_at_end : Did → Transaction → Did
-closed_at_end d (Open t) = if t.explicit then d else record { db = committed d.db t.tx; transaction = Closed; outcome = d.outcome }
+closed_at_end d (Open t) = if t.explicit then d else record { db = committed d.db t.tx; transaction = Closed; statement = None; outcome = d.outcome }
 closed_at_end d transaction = d
 
 abbrev pub finished : Machine → ℕ → Did → Option Place → Next
@@ -150,19 +153,33 @@ finished m session d place = record {
   reply = record { outcome = d.outcome; ended = is_none place };
 }
 
--- after a statement the rest of the block is dropped if it failed; else the session ends its block, or goes on
-abbrev pub after_stmt : Machine → ℕ → Place → ℕ → Did → Next
-after_stmt m session place count d =
+-- a session that waits stays at its statement
+abbrev pub waits_there : Machine → ℕ → Place → Did → Next
+waits_there m session place d = record {
+  machine = with_session m d.db session (record { place = Some place; transaction = d.transaction; statement = d.statement });
+  reply = record { outcome = d.outcome; ended = false };
+}
+
+-- after a statement that is over the rest of the block is dropped if it failed; else the session ends its block, or goes on
+abbrev pub after_end : Machine → ℕ → Place → ℕ → Did → Next
+after_end m session place count d =
     if is_failed d.outcome then finished m session d None
     else if nat_lt (place.next + 1) count then finished m session d (Some (record { block = place.block; next = place.next + 1 }))
     else finished m session (closed_at_end d d.transaction) None
+
+abbrev pub after_stmt : Machine → ℕ → Place → ℕ → Did → Next
+after_stmt m session place count d = if is_some d.statement then waits_there m session place d else after_end m session place count d
+
+-- what a statement of the session finds around it: while it runs, the session doesn't wait
+abbrev pub around : Machine → ℕ → Session → Around
+around m session s = record { sessions = slice_set m.sessions session (record s { statement = None }); number = m.events }
 
 abbrev pub step_stmt : Mode → Machine → ℕ → Session → Place → ℕ → Option StmtTree → Result Next Refusal
 step_stmt mode m session s place count None = Err Idle
 step_stmt mode m session s place count (Some stmt) =
     if is_directed mode && not (is_turn (turn_in m) session) then Err NotYourTurn
     else if is_still_blocked m.db s then Err StillBlocked
-    else Ok (after_stmt m session place count (run_stmt m.db s.transaction stmt))
+    else Ok (after_stmt m session place count (run_stmt m.db s.transaction s.statement (around m session s) stmt))
 
 abbrev pub step_at : Blocks → Mode → Machine → ℕ → Session → Option Place → Result Next Refusal
 step_at blocks mode m session s None = Err Idle
@@ -191,12 +208,12 @@ next blocks mode m (Step session) = step_of blocks mode m session (slice_get m.s
 next blocks mode m (Leave session) = leave_of mode m session (slice_get m.sessions session)
 
 -- what a SELECT that begins now would show of the table: none where there is no such table
-abbrev pub visible_to : Database → Transaction → List ℕ → Option (List (List Value))
-visible_to db t name = option_map (rows_shown db.content (view_now db.content t)) (find_table db (own_of t) name)
+abbrev pub visible_to : Database → Session → List ℕ → Option (List (List Value))
+visible_to db s name = option_map (rows_shown db.content (view_now db.content s.transaction s.statement)) (find_table db (own_of s.transaction) name)
 
 abbrev pub visible_for : Machine → List ℕ → Option Session → Result (Option (List (List Value))) Refusal
 visible_for m name None = Err NoSession
-visible_for m name (Some s) = Ok (visible_to m.db s.transaction name)
+visible_for m name (Some s) = Ok (visible_to m.db s name)
 
 -- the rows of the table that the session would see now
 abbrev pub visible : Machine → ℕ → List ℕ → Result (Option (List (List Value))) Refusal

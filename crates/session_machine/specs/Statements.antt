@@ -1,44 +1,45 @@
--- What a statement leaves and answers, by what its session's transaction is (PostgreSQL manual, the pages of the statements, and 13.2).
-use Rattle.std.specs.Prelude.{ℕ, Bool, true, false, not, ◌&&◌, List, [], ◌∷◌, ◌++◌, length, Option, Some, None, option_map, is_some, is_none, unwrap_or, slice_get, Result, Ok, Err, if◌then◌else◌}
+-- What a statement leaves and answers that is no query of rows: how transactions begin and end, how tables are made and dropped (PostgreSQL manual, the pages of the statements, and 13.2).
+use Rattle.std.specs.Prelude.{ℕ, Bool, true, false, not, ◌&&◌, List, [], ◌∷◌, ◌++◌, Option, Some, None, option_map, is_some, unwrap_or, slice_get, if◌then◌else◌}
 use Rattle.sql_trees.specs.declared.stmt.Level.{Level}
 use Rattle.sql_trees.specs.declared.stmt.Level.TheVariants.{ReadCommitted, RepeatableRead}
-use Rattle.sql_trees.specs.Trees.{Tree}
-use Rattle.sql_trees.specs.Statements.{StmtTree, ColumnTree, CreateTree, DropTree, InsertTree, SelectTree, Begin, Commit, Rollback, SetTransaction, SetDeadlockTimeout, Create, DropTables, Inserts, Updates, Deletes, Selects}
-use Rattle.sql_values.specs.declared.value.Value.{Value}
-use Rattle.sql_values.specs.declared.fault.ValueFault.{ValueFault}
-use Rattle.sql_values.specs.declared.fault.ValueFault.TheVariants.{NoColumn}
-use Rattle.result_tables.specs.Results.{Results}
+use Rattle.sql_trees.specs.Statements.{StmtTree, ColumnTree, CreateTree, DropTree, Commit, Rollback}
 use Rattle.row_versions.specs.declared.names.TxId.{TxId}
-use Rattle.row_versions.specs.Log.{Content, after_write, new_row}
+use Rattle.row_versions.specs.Log.{Content}
 use Rattle.session_machine.specs.declared.session.OpenTransaction.{OpenTransaction}
 use Rattle.session_machine.specs.declared.session.Transaction.{Transaction}
 use Rattle.session_machine.specs.declared.session.Transaction.TheVariants.{Closed, Open, Aborted as AbortedOne}
+use Rattle.session_machine.specs.declared.session.Progress.{Progress}
+use Rattle.session_machine.specs.declared.session.Session.{Session}
 use Rattle.session_machine.specs.declared.fault.StmtFault.{StmtFault}
-use Rattle.session_machine.specs.declared.fault.StmtFault.TheVariants.{Value as OfValue, NoColumnOf, NoTable, NoTableToDrop, TableExists, NullValue, TooManyValues, Aborted, LevelTooLate}
+use Rattle.session_machine.specs.declared.fault.StmtFault.TheVariants.{NoTableToDrop, TableExists, Aborted, LevelTooLate}
 use Rattle.session_machine.specs.declared.reply.Outcome.{Outcome}
-use Rattle.session_machine.specs.declared.reply.Outcome.TheVariants.{Done, Rows, Failed}
+use Rattle.session_machine.specs.declared.reply.Outcome.TheVariants.{Done, Failed}
 use Rattle.session_machine.specs.Tables.{Database, Catalog, Table, find_table}
-use Rattle.session_machine.specs.Transactions.{fresh, begun, committed, rolled_back, view_of, moved_on, after_failure}
-use Rattle.session_queries.specs.Queries.{has_none, Target, result_of, targets_of, new_values, null_in, some_too_long, lacking_rows}
-use Rattle.session_machine.specs.Views.{rows_shown}
+use Rattle.session_machine.specs.Transactions.{committed, rolled_back, moved_on, after_failure}
 
--- what a statement leaves of the database and of its session's transaction, and what came of it
+-- what a statement leaves of the database and of its session's transaction, where it is in the middle of its targets, and what came of it
 pub record Did : Type 0 where
   pub db : Database
   pub transaction : Transaction
+  pub statement : Option Progress
   pub outcome : Outcome
+
+-- what a statement finds around it: the sessions, of which others may wait, and the number of a wait that begins now
+pub record Around : Type 0 where
+  pub sessions : List Session
+  pub number : ℕ
 
 -- a failed statement undoes its transaction, and its locks are free at once
 abbrev pub fails : Database → OpenTransaction → StmtFault → Did
-fails db t fault = record { db = rolled_back db t.tx; transaction = after_failure t; outcome = Failed fault }
+fails db t fault = record { db = rolled_back db t.tx; transaction = after_failure t; statement = None; outcome = Failed fault }
 
 -- a query did this; it began at the content that is given
 abbrev pub answers : Content → Database → OpenTransaction → Outcome → Did
-answers before db t outcome = record { db = db; transaction = Open (moved_on before t); outcome = outcome }
+answers before db t outcome = record { db = db; transaction = Open (moved_on before t); statement = None; outcome = outcome }
 
 -- nothing but the transaction changes
 abbrev pub turns : Database → Transaction → Did
-turns db t = record { db = db; transaction = t; outcome = Done }
+turns db t = record { db = db; transaction = t; statement = None; outcome = Done }
 
 abbrev pub columns_at : Catalog → ℕ → List ColumnTree
 columns_at catalog k = unwrap_or (option_map (λ (t : Table). t.made.columns) (slice_get catalog.tables k)) []
@@ -75,66 +76,6 @@ drop_ended before t db (Some name) = fails db t (NoTableToDrop name)
 abbrev pub drop_tables : Database → OpenTransaction → DropTree → Did
 drop_tables db t d = let e = dropped db t d.if_exists d.names in drop_ended db.content t e.db e.missing
 
--- a new row is written
-abbrev pub inserted : Content → OpenTransaction → ℕ → List Value → Content
-inserted c t k values = after_write c (record { tx = t.tx; command = t.command; table = record { 0 = k }; row = new_row c; values = Some values })
-
--- what an INSERT has written, and the fault that ended it
-pub record InsertedUpTo : Type 0 where
-  pub content : Content
-  pub fault : Option StmtFault
-
--- a row that has no NULL where none may be is written, and the others follow
-abbrev pub insert_checked : Content → OpenTransaction → List ℕ → ℕ → List Value → (Content → InsertedUpTo) → Option (List ℕ) → InsertedUpTo
-insert_checked c t name k values others (Some column) = record { content = c; fault = Some (NullValue column name) }
-insert_checked c t name k values others None = others (inserted c t k values)
-
-abbrev pub insert_row : Content → OpenTransaction → List ℕ → ℕ → List ColumnTree → (Content → InsertedUpTo) → Result (List Value) ValueFault → InsertedUpTo
-insert_row c t name k columns others (Err fault) = record { content = c; fault = Some (OfValue fault) }
-insert_row c t name k columns others (Ok values) = insert_checked c t name k values others (null_in columns values)
-
--- one row after the other is evaluated, assigned, checked and written
-abbrev pub insert_rows : Content → OpenTransaction → List ℕ → ℕ → List ColumnTree → List Target → List (List Tree) → InsertedUpTo
-insert_rows c t name k columns targets [] = record { content = c; fault = None }
-insert_rows c t name k columns targets (row ∷ rows) =
-    insert_row c t name k columns (λ d. insert_rows d t name k columns targets rows) (new_values (length columns) targets row)
-
-abbrev pub insert_ended : Content → OpenTransaction → Database → Option StmtFault → Did
-insert_ended before t db None = answers before db t Done
-insert_ended before t db (Some fault) = fails db t fault
-
-abbrev pub insert_all : Database → OpenTransaction → InsertTree → ℕ → List Target → Did
-insert_all db t i k targets =
-    let e = insert_rows db.content t i.table k (columns_at db.catalog k) targets i.rows in
-    insert_ended db.content t (record db { content = e.content }) e.fault
-
--- the VALUES name no column, and no row has more of them than there are columns
-abbrev pub insert_fitting : Database → OpenTransaction → InsertTree → ℕ → List Target → Option (List ℕ) → Did
-insert_fitting db t i k targets (Some name) = fails db t (OfValue (NoColumn name))
-insert_fitting db t i k targets None =
-    if some_too_long (length targets) i.rows then fails db t TooManyValues else insert_all db t i k targets
-
-abbrev pub insert_to : Database → OpenTransaction → InsertTree → ℕ → Result (List Target) (List ℕ) → Did
-insert_to db t i k (Err column) = fails db t (NoColumnOf column i.table)
-insert_to db t i k (Ok targets) = insert_fitting db t i k targets (lacking_rows i.rows)
-
-abbrev pub insert : Database → OpenTransaction → InsertTree → Option ℕ → Did
-insert db t i None = fails db t (NoTable i.table)
-insert db t i (Some k) = insert_to db t i k (targets_of (columns_at db.catalog k) i.columns)
-
-abbrev pub answered : Database → OpenTransaction → Result Results ValueFault → Did
-answered db t (Ok set) = answers db.content db t (Rows set)
-answered db t (Err fault) = fails db t (OfValue fault)
-
-abbrev pub select_in : Database → OpenTransaction → SelectTree → List ℕ → Option ℕ → Did
-select_in db t s name None = fails db t (NoTable name)
-select_in db t s name (Some k) = answered db t (result_of s (columns_at db.catalog k) (rows_shown db.content (view_of db.content t) k))
-
--- without FROM there is one row, without columns
-abbrev pub select_from : Database → OpenTransaction → SelectTree → Option (List ℕ) → Did
-select_from db t s None = answered db t (result_of s [] ([] ∷ []))
-select_from db t s (Some name) = select_in db t s name (find_table db (Some t.tx) name)
-
 -- the levels are the same
 abbrev pub is_level : Level → Level → Bool
 is_level ReadCommitted ReadCommitted = true
@@ -152,38 +93,6 @@ level_set db t explicit level =
 abbrev pub begin_in : Database → OpenTransaction → Option Level → Did
 begin_in db t level = if t.explicit then turns db (Open t) else level_set db t true (unwrap_or level t.level)
 
--- a statement of an open transaction; of UPDATE and DELETE no block is launched yet
-abbrev pub run_open : Database → OpenTransaction → StmtTree → Did
-run_open db t (Begin level) = begin_in db t level
-run_open db t Commit = turns (committed db t.tx) Closed
-run_open db t Rollback = turns (rolled_back db t.tx) Closed
-run_open db t (SetTransaction level) = level_set db t t.explicit level
-run_open db t SetDeadlockTimeout = turns db (Open t)
-run_open db t (Create c) = create db t c (find_table db (Some t.tx) c.name)
-run_open db t (DropTables d) = drop_tables db t d
-run_open db t (Inserts i) = insert db t i (find_table db (Some t.tx) i.table)
-run_open db t (Updates u) = turns db (Open t)
-run_open db t (Deletes d) = turns db (Open t)
-run_open db t (Selects s) = select_from db t s s.table
-
--- an implicit transaction begins, at Read Committed, and the statement is its first
-abbrev pub run_first : Database → StmtTree → Did
-run_first db stmt = run_open (begun db) (fresh db.content ReadCommitted false) stmt
-
--- a statement where no transaction is open
-abbrev pub run_closed : Database → StmtTree → Did
-run_closed db (Begin level) = turns (begun db) (Open (fresh db.content (unwrap_or level ReadCommitted) true))
-run_closed db Commit = turns db Closed
-run_closed db Rollback = turns db Closed
-run_closed db (SetTransaction level) = turns (begun db) (Open (fresh db.content level false))
-run_closed db SetDeadlockTimeout = turns db Closed
-run_closed db (Create c) = run_first db (Create c)
-run_closed db (DropTables d) = run_first db (DropTables d)
-run_closed db (Inserts i) = run_first db (Inserts i)
-run_closed db (Updates u) = run_first db (Updates u)
-run_closed db (Deletes d) = run_first db (Deletes d)
-run_closed db (Selects s) = run_first db (Selects s)
-
 abbrev pub is_end : StmtTree → Bool
 is_end Commit = true
 is_end Rollback = true
@@ -191,33 +100,4 @@ is_end stmt = false
 
 -- in an aborted transaction all but COMMIT and ROLLBACK fail
 abbrev pub run_aborted : Database → StmtTree → Did
-run_aborted db stmt = if is_end stmt then turns db Closed else record { db = db; transaction = AbortedOne; outcome = Failed Aborted }
-
--- a statement, by what its session's transaction is
-abbrev pub run_stmt : Database → Transaction → StmtTree → Did
-run_stmt db Closed stmt = run_closed db stmt
-run_stmt db (Open t) stmt = run_open db t stmt
-run_stmt db AbortedOne stmt = run_aborted db stmt
-
--- a SELECT that locks and sorts nothing
-abbrev pub select_runs : SelectTree → Bool
-select_runs s = is_none s.lock && has_none s.order
-
--- the statement can run by now: keys, updates, deletes, locks and orders can't
-abbrev pub runs : StmtTree → Bool
-runs (Begin level) = true
-runs Commit = true
-runs Rollback = true
-runs (SetTransaction level) = true
-runs SetDeadlockTimeout = true
-runs (Create c) = has_none c.keys
-runs (DropTables d) = true
-runs (Inserts i) = true
-runs (Updates u) = false
-runs (Deletes d) = false
-runs (Selects s) = select_runs s
-
-abbrev pub is_definition : StmtTree → Bool
-is_definition (Create c) = true
-is_definition (DropTables d) = true
-is_definition stmt = false
+run_aborted db stmt = if is_end stmt then turns db Closed else record { db = db; transaction = AbortedOne; statement = None; outcome = Failed Aborted }

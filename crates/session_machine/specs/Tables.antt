@@ -4,7 +4,7 @@ use Rattle.std.specs.List.{list_any}
 use Rattle.sql_trees.specs.Statements.{CreateTree}
 use Rattle.row_versions.specs.declared.names.TxId.{TxId}
 use Rattle.row_versions.specs.Log.{Content, has_committed}
-use Rattle.session_machine.specs.declared.session.Held.{Held}
+use Rattle.row_locks.specs.declared.held.Held.{Held}
 
 -- a table: its CREATE, and the transaction that made it
 pub record Table : Type 0 where
@@ -21,7 +21,7 @@ pub record Catalog : Type 0 where
   pub tables : List Table
   pub drops : List Dropped
 
--- what all sessions share: writes and fates, tables, and the locks that were taken
+-- what all sessions share: writes and fates, tables, and the locks that are held: those of targets that were settled, and of rows that were made (13.3.2)
 pub record Database : Type 0 where
   pub content : Content
   pub catalog : Catalog

@@ -4,11 +4,12 @@ use Rattle.sql_trees.specs.declared.stmt.Level.{Level}
 use Rattle.sql_trees.specs.declared.stmt.Level.TheVariants.{ReadCommitted, RepeatableRead}
 use Rattle.row_versions.specs.declared.names.TxId.{TxId}
 use Rattle.row_versions.specs.declared.write.View.{View}
+use Rattle.row_locks.specs.Held.{released}
 use Rattle.row_versions.specs.Log.{Content, commit_count, next_tx, after_begin, after_commit, after_roll_back}
 use Rattle.session_machine.specs.declared.session.OpenTransaction.{OpenTransaction}
 use Rattle.session_machine.specs.declared.session.Transaction.{Transaction}
 use Rattle.session_machine.specs.declared.session.Transaction.TheVariants.{Closed, Open, Aborted}
-use Rattle.session_machine.specs.declared.session.Held.{Held}
+use Rattle.session_machine.specs.declared.session.Progress.{Progress}
 use Rattle.session_machine.specs.Tables.{Database}
 
 -- the transaction that begins next, of which nothing was asked yet
@@ -17,9 +18,6 @@ fresh c level explicit = record { tx = next_tx c; explicit = explicit; level = l
 
 abbrev pub begun : Database → Database
 begun db = record db { content = after_begin db.content }
-
-abbrev pub released : TxId → List Held → List Held
-released tx held = filter (λ (h : Held). not (h.tx.0 == tx.0)) held
 
 abbrev pub committed : Database → TxId → Database
 committed db tx = record db { content = after_commit db.content tx; held = released tx db.held }
@@ -40,6 +38,10 @@ commits_seen RepeatableRead c t = first_commits c t
 abbrev pub view_of : Content → OpenTransaction → View
 view_of c t = record { tx = Some t.tx; commits = commits_seen t.level c t; command = t.command }
 
+-- the transaction once a query has begun: its snapshot is taken
+abbrev pub started : Content → OpenTransaction → OpenTransaction
+started c t = record t { snapshot = Some (first_commits c t) }
+
 -- the transaction after a query
 abbrev pub moved_on : Content → OpenTransaction → OpenTransaction
 moved_on c t = record t { snapshot = Some (first_commits c t); command = t.command + 1 }
@@ -52,6 +54,8 @@ abbrev pub own_of : Transaction → Option TxId
 own_of (Open t) = Some t.tx
 own_of transaction = None
 
-abbrev pub view_now : Content → Transaction → View
-view_now c (Open t) = view_of c t
-view_now c transaction = record { tx = None; commits = commit_count c; command = 0 }
+-- in the middle of a statement also what that has written so far
+abbrev pub view_now : Content → Transaction → Option Progress → View
+view_now c (Open t) None = view_of c t
+view_now c (Open t) (Some p) = view_of c (record t { command = t.command + 1 })
+view_now c transaction statement = record { tx = None; commits = commit_count c; command = 0 }

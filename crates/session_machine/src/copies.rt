@@ -40,6 +40,9 @@ impl<'a> StmtFault<'a> {
                 table: table.again(),
             },
             StmtFault::TooManyValues => StmtFault::TooManyValues,
+            StmtFault::NoPosition(position) => StmtFault::NoPosition(*position),
+            StmtFault::NotSerializable => StmtFault::NotSerializable,
+            StmtFault::Deadlock => StmtFault::Deadlock,
             StmtFault::Aborted => StmtFault::Aborted,
             StmtFault::LevelTooLate => StmtFault::LevelTooLate,
         }

@@ -46,6 +46,12 @@ pub enum StmtFault<'a> {
     TableExists(Ident<'a>),
     NullValue { column: Ident<'a>, table: Ident<'a> },
     TooManyValues,
+    /// ORDER BY names a position that isn't in the select list.
+    NoPosition(i128),
+    /// Others changed or deleted the row after the transaction's snapshot.
+    NotSerializable,
+    /// The wait would close a cycle.
+    Deadlock,
     /// The transaction failed before.
     Aborted,
     /// The level changes after the transaction's first query.

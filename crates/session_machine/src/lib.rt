@@ -4,7 +4,6 @@
 mod copies;
 mod event;
 mod fault;
-pub mod laws;
 mod reply;
 mod running;
 mod same;
@@ -15,6 +14,5 @@ pub use fault::{EngineFault, Refusal, StmtFault};
 pub use reply::{HistItem, Outcome, Reply};
 pub use running::{can_run, is_definition};
 pub use session::{
-    Gathered, Held, OpenTransaction, Place, Progress, Request, Session, Strength, Transaction,
-    Waiting,
+    Gathered, OpenTransaction, Place, Progress, Request, Session, Transaction, Waiting,
 };

@@ -3,6 +3,7 @@
 ghost use Rattle.std.specs.Prelude.{◌≡◌};
 ghost use Rattle.session_machine.specs.Machine.{at_rest};
 
+use row_locks::Strength;
 use row_versions::{RowId, TableId, TxId, View};
 use sql_trees::Level;
 use sql_values::Row;
@@ -37,39 +38,15 @@ pub enum Transaction {
     Aborted,
 }
 
-/// How a row is held or asked for.
-#[derive(Clone, Copy, Debug, PartialEq, Eq)]
-pub enum Strength {
-    /// It agrees with itself alone.
-    Share,
-    Exclusive,
-}
-
-/// A lock that a transaction took.
-#[derive(Clone, Copy, Debug, PartialEq, Eq)]
-pub struct Held {
-    pub row: RowId,
-    pub tx: TxId,
-    pub strength: Strength,
-}
-
 /// What a statement waits for.
-#[derive(Debug, Drop)]
+#[derive(Clone, Copy, Debug, PartialEq, Eq)]
 pub enum Request {
-    Row {
-        row: RowId,
-        strength: Strength,
-    },
-    /// The table's key with this number, for a row of these values.
-    Key {
-        table: TableId,
-        key: u32,
-        values: Row,
-    },
+    /// A row, to be held this strongly.
+    Row { row: RowId, strength: Strength },
 }
 
-/// A wait, numbered when it began, with the request that it began with.
-#[derive(Debug, Drop)]
+/// A wait, with the number of the event in which it began and the request that it began with.
+#[derive(Clone, Copy, Debug, PartialEq, Eq)]
 pub struct Waiting {
     pub number: u64,
     pub request: Request,
@@ -90,14 +67,29 @@ impl Model for Gathered {
     ghost view = { λ g. g.rows.items };
 }
 
-/// A statement in progress: its table, its view, the place of the row that it is at, and what it has answered so far.
+impl Gathered {
+    pub fn of(rows: Vec<Row>) -> Gathered
+        ensures { result ≡ rows.entry.items }
+    {
+        Gathered { rows }
+    }
+
+    pub fn into_rows(self) -> Vec<Row>
+        ensures { result.items ≡ self.entry }
+    {
+        self.rows
+    }
+}
+
+/// A statement in the middle of its targets: its table, its view, the place among its targets of the one that it is
+/// at, what it has answered so far, and what it waits for there.
 #[derive(Debug, Drop)]
 pub struct Progress {
     pub table: TableId,
     pub view: View,
-    pub place: u64,
+    pub place: usize,
     pub rows: Gathered,
-    pub wait: Option<Waiting>,
+    pub wait: Waiting,
 }
 
 /// A session.
@@ -106,6 +98,7 @@ pub struct Session {
     /// Where it stands in its block, if it has one.
     pub place: Option<Place>,
     pub transaction: Transaction,
+    /// The statement that it is in the middle of, which waits.
     pub statement: Option<Progress>,
 }
 

@@ -3,7 +3,7 @@ use Rattle.std.specs.Prelude.{◌≡◌, Bool, true, false, List, Option, Some, 
 use Rattle.row_versions.specs.declared.names.TxId.{TxId}
 use Rattle.row_locks.specs.declared.held.Held.{Held}
 use Rattle.row_locks.specs.Members.{has, is_distinct}
-use Rattle.row_locks.specs.Held.{IsTaken}
+use Rattle.row_locks.specs.Held.{IsTaken, with_lock}
 use Rattle.update_recheck.specs.declared.ask.Settled.{Settled}
 use Rattle.update_recheck.specs.declared.ask.Settled.TheVariants.{Take, Skip, Wait, Deadlock, Serialize, Fault}
 use Rattle.update_recheck.specs.Asked.{Asked}
@@ -41,6 +41,11 @@ lock_of ask = record { row = ask.seen.row; tx = ask.tx; strength = ask.strength 
 abbrev pub LocksAfter : Bool → List Held → Held → List Held → Type 0
 LocksAfter true old lock new = IsTaken old lock new
 LocksAfter false old lock new = new ≡ old
+
+-- the same as a list: the lock stands last
+abbrev pub locks_after : Bool → List Held → Held → List Held
+locks_after true held lock = with_lock held lock
+locks_after false held lock = held
 
 -- what stops a target before its version is looked at
 abbrev pub stop_of : Holders → Option Outcome

@@ -2,12 +2,12 @@
 ghost use Rattle.std.specs.Prelude.{◌≡◌, List, length, IfOk, IfSome, OnOk, OnErr, option_map};
 ghost use Rattle.sql_values.specs.Expressions.{passes};
 ghost use Rattle.row_versions.specs.declared.names.TxId.{TxId};
-ghost use Rattle.row_locks.specs.Held.{IsTaken};
+ghost use Rattle.row_locks.specs.Held.{IsTaken, with_lock};
 ghost use Rattle.row_locks.specs.Waiting.{is_none_of};
 ghost use Rattle.row_locks.specs.Cycles.{closes};
 ghost use Rattle.update_recheck.specs.Asked.{Fits, asked};
 ghost use Rattle.update_recheck.specs.Outcome.{blockers, holders, is_locked, is_target_locked, read_committed, rechecked, repeatable_read, target_outcome};
-ghost use Rattle.update_recheck.specs.Settling.{LocksAfter, SameMembers, WaitsFor, lock_of, outcome_of, stop_of};
+ghost use Rattle.update_recheck.specs.Settling.{LocksAfter, locks_after, SameMembers, WaitsFor, lock_of, outcome_of, stop_of};
 ghost use Rattle.update_recheck.specs.Found.{told, IsWhole};
 
 use crate::ask::{Ask, Settled};
@@ -32,6 +32,7 @@ pub fn settle<'t, V: Versions>(
     ensures outcome { IfOk result (λ s. outcome_of s ≡ target_outcome (V.content store.now) locks.old waits.now (asked ask.now)) }
     ensures blockers { IfOk result (λ s. WaitsFor (blockers locks.old (asked ask.now)) s) }
     ensures locks { OnOk result (LocksAfter (is_target_locked (V.content store.now) locks.old waits.now (asked ask.now)) locks.old (lock_of (asked ask.now)) locks.new) }
+    ensures last { OnOk result (locks.new ≡ locks_after (is_target_locked (V.content store.now) locks.old waits.now (asked ask.now)) locks.old (lock_of (asked ask.now))) }
     ensures err { OnErr result (locks.new ≡ locks.old) }
 {
     let newest = newest_version(store, ask);
@@ -53,6 +54,7 @@ fn settle_read_committed<'t>(
     ensures outcome { IfOk result (λ s. outcome_of s ≡ read_committed (asked ask.now).seen (holders locks.old waits.now (asked ask.now)) (told (asked ask.now) newest.entry)) }
     ensures blockers { IfOk result (λ s. WaitsFor (blockers locks.old (asked ask.now)) s) }
     ensures locks { OnOk result (LocksAfter (is_locked Level.ReadCommitted (holders locks.old waits.now (asked ask.now)) (told (asked ask.now) newest.entry)) locks.old (lock_of (asked ask.now)) locks.new) }
+    ensures last { OnOk result (locks.new ≡ locks_after (is_locked Level.ReadCommitted (holders locks.old waits.now (asked ask.now)) (told (asked ask.now) newest.entry)) locks.old (lock_of (asked ask.now))) }
     ensures err { OnErr result (locks.new ≡ locks.old) }
 {
     if let Some(stop) = stopped(locks, waits, ask)? {
@@ -78,6 +80,7 @@ fn settle_repeatable_read<'t>(
     ensures outcome { IfOk result (λ s. outcome_of s ≡ repeatable_read (asked ask.now).seen (holders locks.old waits.now (asked ask.now)) (told (asked ask.now) newest.entry)) }
     ensures blockers { IfOk result (λ s. WaitsFor (blockers locks.old (asked ask.now)) s) }
     ensures locks { OnOk result (LocksAfter (is_locked Level.RepeatableRead (holders locks.old waits.now (asked ask.now)) (told (asked ask.now) newest.entry)) locks.old (lock_of (asked ask.now)) locks.new) }
+    ensures last { OnOk result (locks.new ≡ locks_after (is_locked Level.RepeatableRead (holders locks.old waits.now (asked ask.now)) (told (asked ask.now) newest.entry)) locks.old (lock_of (asked ask.now))) }
     ensures err { OnErr result (locks.new ≡ locks.old) }
 {
     match newest {
@@ -151,6 +154,7 @@ fn locked<'t>(
 ) -> Result<Settled<'t>, AllocError>
     ensures same { IfOk result (λ s. s ≡ settled.entry) }
     ensures locks { OnOk result (IsTaken locks.old (lock_of (asked ask.now)) locks.new) }
+    ensures last { OnOk result (locks.new ≡ with_lock locks.old (lock_of (asked ask.now))) }
     ensures err { OnErr result (locks.new ≡ locks.old) }
 {
     locks.take(ask.seen.row, ask.tx, ask.strength)?;

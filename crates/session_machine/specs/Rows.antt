@@ -1,0 +1,151 @@
+-- What a statement does with rows: SELECT, INSERT, and UPDATE, DELETE and a locking SELECT at each of their targets (PostgreSQL manual, 13.2.1 and 13.3.2, and the pages of the statements).
+use Rattle.std.specs.Prelude.{ℕ, Bool, true, false, List, [], ◌∷◌, length, Option, Some, None, unwrap_or, slice_get, filter_map, Result, Ok, Err, if◌then◌else◌}
+use Rattle.sql_trees.specs.declared.stmt.Lock.{Lock}
+use Rattle.sql_trees.specs.declared.stmt.Lock.TheVariants as lock
+use Rattle.sql_trees.specs.Trees.{Tree}
+use Rattle.sql_trees.specs.Statements.{ColumnTree, InsertTree, UpdateTree, DeleteTree, SelectTree}
+use Rattle.sql_values.specs.declared.value.Value.{Value}
+use Rattle.sql_values.specs.declared.fault.ValueFault.{ValueFault}
+use Rattle.sql_values.specs.Expressions.{Cols}
+use Rattle.session_queries.specs.Queries.{Target, cols_of, new_values, null_in, row_values, passing, taken, updated}
+use Rattle.row_versions.specs.declared.names.RowId.{RowId}
+use Rattle.row_versions.specs.declared.write.View.{View}
+use Rattle.row_versions.specs.declared.write.Seen.{Seen}
+use Rattle.row_versions.specs.Log.{values_at, new_row, after_write}
+use Rattle.row_versions.specs.Rows.{rows_of}
+use Rattle.row_locks.specs.declared.held.Strength.{Strength}
+use Rattle.row_locks.specs.declared.held.Strength.TheVariants.{Share, Exclusive}
+use Rattle.row_locks.specs.declared.held.Held.{Held}
+use Rattle.row_locks.specs.Held.{with_lock}
+use Rattle.update_recheck.specs.Asked.{Asked}
+use Rattle.update_recheck.specs.Outcome.{Outcome, target_outcome, is_target_locked}
+use Rattle.update_recheck.specs.Outcome.Outcome.{Takes, Skips, Waits, Deadlocks, Serializes, Faults}
+use Rattle.update_recheck.specs.Settling.{lock_of, locks_after}
+use Rattle.session_machine.specs.declared.session.OpenTransaction.{OpenTransaction}
+use Rattle.session_machine.specs.declared.session.Request.TheVariants.{Row}
+use Rattle.session_machine.specs.declared.fault.StmtFault.TheVariants.{Value as OfValue, NullValue, NotSerializable, Deadlock}
+use Rattle.session_machine.specs.Tables.{Database}
+use Rattle.session_machine.specs.Views.{rows_shown}
+use Rattle.session_machine.specs.Waits.{waits_in}
+use Rattle.session_machine.specs.Statements.{Around, columns_at}
+use Rattle.session_machine.specs.Walks.{Visit, Walk, Blocked, Fails, stops, goes_on}
+
+-- a statement at work: in this transaction, at the table of this place, with this view, and what it finds around it
+pub record Work : Type 0 where
+  pub t : OpenTransaction
+  pub table : ℕ
+  pub view : View
+  pub around : Around
+
+abbrev pub columns_in : Database → Work → List ColumnTree
+columns_in db w = columns_at db.catalog w.table
+
+abbrev pub cols_in : Database → Work → Cols
+cols_in db w = cols_of (columns_in db w)
+
+-- a write of a row of the table; without values it deletes the row
+abbrev pub written : Database → Work → RowId → Option (List Value) → Database
+written db w row values = record db {
+  content = after_write db.content (record { tx = w.t.tx; command = w.t.command; table = record { 0 = w.table }; row = row; values = values });
+}
+
+-- a new row is written, and its transaction holds it alone
+abbrev pub inserted : Database → Work → List Value → Database
+inserted db w values = record (written db w (new_row db.content) (Some values)) {
+  held = with_lock db.held (record { row = new_row db.content; tx = w.t.tx; strength = Exclusive });
+}
+
+-- the row isn't written where it has NULL in a column that may not be
+abbrev pub unless_null : List ℕ → Database → Database → Option (List ℕ) → Visit
+unless_null name db after (Some column) = stops db (Fails (NullValue column name))
+unless_null name db after None = goes_on after []
+
+-- INSERT at a row of its VALUES, with these values
+abbrev pub insert_made : Work → List ℕ → Database → Result (List Value) ValueFault → Visit
+insert_made w name db (Err fault) = stops db (Fails (OfValue fault))
+insert_made w name db (Ok values) = unless_null name db (inserted db w values) (null_in (columns_in db w) values)
+
+-- INSERT at a row of its VALUES: it is evaluated, assigned, checked and written
+abbrev pub insert_at : Work → List ℕ → List Target → Database → List Tree → Visit
+insert_at w name targets db row = insert_made w name db (new_values (length (columns_in db w)) targets row)
+
+-- one target, as it is asked for
+abbrev pub ask : Database → Work → Strength → Option Tree → Seen → Asked
+ask db w strength filter seen = record {
+  tx = w.t.tx; level = w.t.level; view = w.view; seen = seen; strength = strength; condition = filter; cols = cols_in db w;
+}
+
+-- the locks once the target is settled
+abbrev pub settled : Database → Work → Asked → Database
+settled db w a = record db { held = locks_after (is_target_locked db.content db.held (waits_in db w.around.sessions) a) db.held (lock_of a) }
+
+-- what is done at a target that came to this: with the version that it takes, or without any
+abbrev pub at_outcome : (Database → Seen → Visit) → Database → Asked → Outcome → Visit
+at_outcome use db a (Takes seen) = use db seen
+at_outcome use db a Skips = goes_on db []
+at_outcome use db a Waits = stops db (Blocked (Row a.seen.row a.strength))
+at_outcome use db a Deadlocks = stops db (Fails Deadlock)
+at_outcome use db a Serializes = stops db (Fails NotSerializable)
+at_outcome use db a (Faults fault) = stops db (Fails (OfValue fault))
+
+-- a target is settled first, and then used
+abbrev pub at_target : (Database → Seen → Visit) → Database → Work → Asked → Visit
+at_target use db w a = at_outcome use (settled db w a) a (target_outcome db.content db.held (waits_in db w.around.sessions) a)
+
+-- the values of the version
+abbrev pub values_of : Database → Seen → List Value
+values_of db seen = unwrap_or (values_at db.content seen.place) []
+
+-- UPDATE with the version that it takes
+abbrev pub update_made : Work → List ℕ → Database → RowId → Result (List Value) ValueFault → Visit
+update_made w name db row (Err fault) = stops db (Fails (OfValue fault))
+update_made w name db row (Ok values) = unless_null name db (written db w row (Some values)) (null_in (columns_in db w) values)
+
+abbrev pub update_with : Work → UpdateTree → List Target → Database → Seen → Visit
+update_with w u targets db seen = update_made w u.table db seen.row (updated (cols_in db w) targets u.sets (values_of db seen))
+
+abbrev pub update_at : Work → UpdateTree → List Target → Database → Seen → Visit
+update_at w u targets db seen = at_target (update_with w u targets) db w (ask db w Exclusive u.filter seen)
+
+-- DELETE with the version that it takes
+abbrev pub delete_with : Work → Database → Seen → Visit
+delete_with w db seen = goes_on (written db w seen.row None) []
+
+abbrev pub delete_at : Work → DeleteTree → Database → Seen → Visit
+delete_at w d db seen = at_target (delete_with w) db w (ask db w Exclusive d.filter seen)
+
+-- a locking SELECT with the version that it takes
+abbrev pub lock_made : Database → Result (List Value) ValueFault → Visit
+lock_made db (Err fault) = stops db (Fails (OfValue fault))
+lock_made db (Ok row) = goes_on db (row ∷ [])
+
+abbrev pub lock_with : Work → SelectTree → Database → Seen → Visit
+lock_with w s db seen = lock_made db (row_values (cols_in db w) s.items (values_of db seen))
+
+-- FOR SHARE shares the row; FOR UPDATE holds it alone
+abbrev pub strength_of : Lock → Strength
+strength_of lock.Share = Share
+strength_of lock.Update = Exclusive
+
+abbrev pub lock_at : Work → SelectTree → Lock → Database → Seen → Visit
+lock_at w s l db seen = at_target (lock_with w s) db w (ask db w (strength_of l) s.filter seen)
+
+-- the versions that the statement's view shows of its table, and their values
+abbrev pub seen_by : Database → Work → List Seen
+seen_by db w = rows_of db.content w.view (record { 0 = w.table })
+
+abbrev pub shown_to : Database → Work → List (List Value)
+shown_to db w = rows_shown db.content w.view w.table
+
+-- the versions at these places
+abbrev pub at_places : List Seen → Result (List ℕ) ValueFault → Result (List Seen) ValueFault
+at_places seen (Err fault) = Err fault
+at_places seen (Ok places) = Ok (filter_map (slice_get seen) places)
+
+-- the targets of UPDATE and DELETE: the versions that their view shows and that pass WHERE
+abbrev pub passing_targets : Database → Work → Option Tree → Result (List Seen) ValueFault
+passing_targets db w filter = at_places (seen_by db w) (passing (cols_in db w) filter 0 (shown_to db w))
+
+-- those of a locking SELECT, as ORDER BY sorts them
+abbrev pub taken_targets : Database → Work → SelectTree → Result (List Seen) ValueFault
+taken_targets db w s = at_places (seen_by db w) (taken s (columns_in db w) (shown_to db w))

@@ -1,0 +1,36 @@
+-- Who waits for whom, in the present state (PostgreSQL manual, 13.3.2).
+use Rattle.std.specs.Prelude.{Bool, true, false, not, List, Option, Some, None, option_map, filter_map}
+use Rattle.row_versions.specs.declared.names.TxId.{TxId}
+use Rattle.row_locks.specs.Held.{holders_against}
+use Rattle.row_locks.specs.Waiting.{Waiting, is_none_of}
+use Rattle.session_machine.specs.declared.session.Request.{Request}
+use Rattle.session_machine.specs.declared.session.Request.TheVariants.{Row}
+use Rattle.session_machine.specs.declared.session.Waiting.{Waiting as Wait}
+use Rattle.session_machine.specs.declared.session.Transaction.{Transaction}
+use Rattle.session_machine.specs.declared.session.Transaction.TheVariants.{Open}
+use Rattle.session_machine.specs.declared.session.Progress.{Progress}
+use Rattle.session_machine.specs.declared.session.Session.{Session}
+use Rattle.session_machine.specs.Tables.{Database}
+
+-- the transactions that stand in the way of a request: the others that hold the row in conflict
+abbrev pub blockers : Database → Request → TxId → List TxId
+blockers db (Row row strength) tx = holders_against db.held row tx strength
+
+abbrev pub is_blocked : Database → Request → TxId → Bool
+is_blocked db request tx = not (is_none_of (blockers db request tx))
+
+-- what a session waits for, if it waits
+abbrev pub wait_of : Session → Option Wait
+wait_of s = option_map (λ (p : Progress). p.wait) s.statement
+
+abbrev pub waiting : Database → Transaction → Option Wait → Option Waiting
+waiting db (Open t) (Some w) = Some (record { tx = t.tx; blockers = blockers db w.request t.tx })
+waiting db transaction wait = None
+
+-- the session's transaction, with those that it waits for
+abbrev pub waiting_in : Database → Session → Option Waiting
+waiting_in db s = waiting db s.transaction (wait_of s)
+
+-- all that wait, each with its blockers now
+abbrev pub waits_in : Database → List Session → List Waiting
+waits_in db sessions = filter_map (waiting_in db) sessions

@@ -1,0 +1,49 @@
+-- How a statement goes from one of its targets to the next, up to the one at which it stops.
+use Rattle.std.specs.Prelude.{ℕ, ◌+◌, List, [], ◌∷◌, ◌++◌, drop, Option, Some, None, Result, Ok, Err}
+use Rattle.sql_values.specs.declared.value.Value.{Value}
+use Rattle.sql_values.specs.declared.fault.ValueFault.{ValueFault}
+use Rattle.session_machine.specs.declared.session.Request.{Request}
+use Rattle.session_machine.specs.declared.fault.StmtFault.{StmtFault}
+use Rattle.session_machine.specs.declared.fault.StmtFault.TheVariants.{Value as OfValue}
+use Rattle.session_machine.specs.Tables.{Database}
+
+-- what stops a statement: it has to wait for this, or fails
+pub data Stop : Type 0 where
+  Blocked : Request → Stop
+  Fails : StmtFault → Stop
+
+-- what was done at one target: the database after it, the rows that are answered for it, and what stops the statement there
+pub record Visit : Type 0 where
+  pub db : Database
+  pub rows : List (List Value)
+  pub stop : Option Stop
+
+-- where a statement has come to: the database, the place of its target, the rows so far, and what stopped it, if it isn't done
+pub record Walk : Type 0 where
+  pub db : Database
+  pub place : ℕ
+  pub rows : List (List Value)
+  pub stop : Option Stop
+
+abbrev pub stops : Database → Stop → Visit
+stops db stop = record { db = db; rows = []; stop = Some stop }
+
+abbrev pub goes_on : Database → List (List Value) → Visit
+goes_on db rows = record { db = db; rows = rows; stop = None }
+
+-- at the target of this place the statement stops, or it goes on behind it
+abbrev pub unless_stopped : Visit → ℕ → List (List Value) → Option Stop → Walk → Walk
+unless_stopped v place rows (Some stop) behind = record { db = v.db; place = place; rows = rows; stop = Some stop }
+unless_stopped v place rows None behind = behind
+
+-- one target after the other is visited, from this place on
+abbrev pub walked : {A : Type 0} → (Database → A → Visit) → Database → ℕ → List (List Value) → List A → Walk
+walked visit db place rows [] = record { db = db; place = place; rows = rows; stop = None }
+walked visit db place rows (x ∷ xs) =
+    let v = visit db x in
+    unless_stopped v place rows v.stop (walked visit v.db (place + 1) (rows ++ v.rows) xs)
+
+-- a statement goes on from its place among these targets; where they couldn't be found, it fails
+abbrev pub walked_from : {A : Type 0} → (Database → A → Visit) → Database → ℕ → List (List Value) → Result (List A) ValueFault → Walk
+walked_from visit db place rows (Err fault) = record { db = db; place = place; rows = rows; stop = Some (Fails (OfValue fault)) }
+walked_from visit db place rows (Ok targets) = walked visit db place rows (drop place targets)
