@@ -1,5 +1,6 @@
 -- What a query answers at the rows of its table, and what an INSERT makes of its values (PostgreSQL manual, SELECT and INSERT).
-use Rattle.std.specs.Prelude.{ℕ, ◌+◌, Bool, true, false, ◌&&◌, List, [], ◌∷◌, ◌++◌, length, map, replicate, Option, Some, None, is_some, position, bytes_eq, slice_set, nat_lt, Result, Ok, Err, if◌then◌else◌}
+use Rattle.std.specs.Prelude.{ℕ, ◌+◌, ◌-◌, ◌==◌, ℤ, pos, Bool, true, false, ◌&&◌, List, [], ◌∷◌, ◌++◌, length, map, replicate, Option, Some, None, is_some, unwrap_or}
+use Rattle.std.specs.Prelude.{position, bytes_eq, slice_set, slice_index_or, nat_lt, Result, Ok, Err, if◌then◌else◌}
 use Rattle.std.specs.List.{list_any}
 use Rattle.std.specs.Option.{option_or}
 use Rattle.sql_trees.specs.declared.kind.Kind.{Kind}
@@ -7,18 +8,22 @@ use Rattle.sql_trees.specs.declared.expr.AggKind.{AggKind}
 use Rattle.sql_trees.specs.declared.expr.AggKind.TheVariants as agg_kind
 use Rattle.sql_trees.specs.Trees.{Tree, Trees, AggTree}
 use Rattle.sql_trees.specs.Trees as tree
-use Rattle.sql_trees.specs.Statements.{ColumnTree, ItemTree, SelectTree}
+use Rattle.sql_trees.specs.declared.kind.Dir.{Dir}
+use Rattle.sql_trees.specs.Statements.{ColumnTree, ItemTree, OrderTree, SelectTree}
 use Rattle.sql_trees.specs.Statements as stmt
 use Rattle.sql_values.specs.declared.value.Value.{Value}
 use Rattle.sql_values.specs.declared.value.Value.TheVariants.{Null}
 use Rattle.sql_values.specs.declared.fault.ValueFault.{ValueFault}
-use Rattle.sql_values.specs.declared.fault.ValueFault.TheVariants.{NoColumn}
-use Rattle.sql_values.specs.Values.{is_null, if_ok, assign}
+use Rattle.sql_values.specs.declared.fault.ValueFault.TheVariants.{NoColumn, TypeMismatch}
+use Rattle.sql_values.specs.Values.{Answer, is_null, if_ok, assign}
+use Rattle.sql_values.specs.Arithmetic.{signed}
+use Rattle.sql_values.specs.Sorting.{can_sort, key}
 use Rattle.sql_values.specs.Expressions.{Cols, value, passes}
 use Rattle.sql_values.specs.Aggregates.{aggregate}
 use Rattle.result_tables.specs.declared.title.Title.{Title}
 use Rattle.result_tables.specs.declared.title.Title.TheVariants.{Column as Named, Unnamed, Count, Sum, Min, Max}
 use Rattle.result_tables.specs.Results.{Results}
+use Rattle.session_queries.specs.Ordering.{rows_at, sorted_places}
 
 -- the first answer that is one
 abbrev pub first_of : {A B : Type 0} → (A → Option B) → List A → Option B
@@ -73,20 +78,33 @@ lacking_item cols stmt.All = None
 lacking_item cols (stmt.Value e alias) = lacking cols e
 lacking_item cols (stmt.Aggregate a alias) = lacking_agg cols a
 
--- the first column that a SELECT names and its table lacks
+-- the expression of the first item that has this alias
+abbrev pub aliased : List ItemTree → List ℕ → Option Tree
+aliased [] name = None
+aliased (stmt.Value e (Some alias) ∷ is) name = if bytes_eq name alias then Some e else aliased is name
+aliased (i ∷ is) name = aliased is name
+
+-- a key of ORDER BY that is a bare name means the item with that alias, if there is one
+abbrev pub lacking_key : Cols → List ItemTree → Tree → Option (List ℕ)
+lacking_key cols is (tree.Column name) = if is_some (aliased is name) then None else lacking cols (tree.Column name)
+lacking_key cols is e = lacking cols e
+
+-- the first column that a SELECT names and its table lacks: of its items, then of WHERE, then of ORDER BY
 abbrev pub lacking_select : Cols → SelectTree → Option (List ℕ)
-lacking_select cols s = option_or (first_of (lacking_item cols) s.items) (lacking_if cols s.filter)
+lacking_select cols s =
+    option_or (first_of (lacking_item cols) s.items)
+    (option_or (lacking_if cols s.filter) (first_of (λ (k : OrderTree). lacking_key cols s.items k.expr) s.order))
 
 -- a column that isn't there is a fault before any row is looked at
 abbrev pub unless_lacking : {A : Type 0} → Option (List ℕ) → Result A ValueFault → Result A ValueFault
 unless_lacking None answer = answer
 unless_lacking (Some name) answer = Err (NoColumn name)
 
--- the rows that pass WHERE
-abbrev pub chosen : Cols → Option Tree → List (List Value) → Result (List (List Value)) ValueFault
-chosen cols filter [] = Ok []
-chosen cols filter (row ∷ rows) =
-    if_ok (passes filter cols row) (λ p. if_ok (chosen cols filter rows) (λ rest. Ok (if p then row ∷ rest else rest)))
+-- the places, counted from k, of the rows that pass WHERE
+abbrev pub passing : Cols → Option Tree → ℕ → List (List Value) → Result (List ℕ) ValueFault
+passing cols filter k [] = Ok []
+passing cols filter k (row ∷ rows) =
+    if_ok (passes filter cols row) (λ p. if_ok (passing cols filter (k + 1) rows) (λ rest. Ok (if p then k ∷ rest else rest)))
 
 -- what an item answers at a row
 abbrev pub item_values : Cols → List Value → ItemTree → Result (List Value) ValueFault
@@ -115,6 +133,48 @@ item_titles columns (stmt.Aggregate a alias) = []
 abbrev pub titles_of : List ColumnTree → List ItemTree → List Title
 titles_of columns [] = []
 titles_of columns (i ∷ is) = item_titles columns i ++ titles_of columns is
+
+-- the number is none of the result's columns, which are counted from 1
+abbrev pub unlisted : ℕ → Tree → Option ℤ
+unlisted width (tree.Number true n) = Some (signed true n)
+unlisted width (tree.Number false n) = if nat_lt 0 n && nat_lt n (width + 1) then None else Some (pos n)
+unlisted width e = None
+
+-- the first key of ORDER BY that is a number and no position in the select list
+abbrev pub wrong_position : List ColumnTree → SelectTree → Option ℤ
+wrong_position columns s = first_of (λ (k : OrderTree). unlisted (length (titles_of columns s.items)) k.expr) s.order
+
+-- the value that the result has at the row in its column k, counted from 0; NULL where it has no such column
+abbrev pub shown_at : Cols → List ItemTree → List Value → ℕ → Answer
+shown_at cols [] row k = Ok Null
+shown_at cols (stmt.All ∷ is) row k = if nat_lt k (length row) then Ok (key k row) else shown_at cols is row (k - length row)
+shown_at cols (stmt.Value e alias ∷ is) row k = if k == 0 then value e cols row else shown_at cols is row (k - 1)
+shown_at cols (stmt.Aggregate a alias ∷ is) row k = shown_at cols is row k
+
+-- the value of a key of ORDER BY at a row: a number literal means that column of the result, and a bare name the item with that alias, if there is one
+abbrev pub key_value : Cols → List ItemTree → List Value → Tree → Answer
+key_value cols is row (tree.Number true n) = Ok Null
+key_value cols is row (tree.Number false n) = if n == 0 then Ok Null else shown_at cols is row (n - 1)
+key_value cols is row (tree.Column name) = value (unwrap_or (aliased is name) (tree.Column name)) cols row
+key_value cols is row e = value e cols row
+
+-- the keys of a row, from the left
+abbrev pub keys_of : Cols → List ItemTree → List OrderTree → List Value → Result (List Value) ValueFault
+keys_of cols is order row = each (λ (k : OrderTree). key_value cols is row k.expr) order
+
+-- the places in the order of their rows' keys, if the keys can be sorted
+abbrev pub by_keys : List Dir → List ℕ → List (List Value) → Result (List ℕ) ValueFault
+by_keys by places keys = if can_sort 0 by keys then Ok (map (λ i. slice_index_or places i 0) (sorted_places by keys)) else Err TypeMismatch
+
+-- the places as ORDER BY sorts them: the keys of all their rows are evaluated, row by row, before any are compared
+abbrev pub ordered : Cols → List ItemTree → List OrderTree → List (List Value) → List ℕ → Result (List ℕ) ValueFault
+ordered cols is [] rows places = Ok places
+ordered cols is (k ∷ ks) rows places =
+    if_ok (each (keys_of cols is (k ∷ ks)) (rows_at rows places)) (by_keys (map (λ (k : OrderTree). k.dir) (k ∷ ks)) places)
+
+-- the places of the rows that pass WHERE, as ORDER BY sorts them
+abbrev pub taken : SelectTree → List ColumnTree → List (List Value) → Result (List ℕ) ValueFault
+taken s columns rows = if_ok (passing (cols_of columns) s.filter 0 rows) (ordered (cols_of columns) s.items s.order rows)
 
 -- the list is empty
 abbrev pub has_none : {A : Type 0} → List A → Bool
@@ -164,12 +224,12 @@ abbrev pub results_by : List ColumnTree → List ItemTree → List Counted → L
 results_by columns is [] taken = row_results columns is taken
 results_by columns is (a ∷ more) taken = agg_results columns (a ∷ more) taken
 
--- the result of a SELECT whose table has these columns and shows these rows: WHERE is tested at all of them before an item is evaluated
+-- the result of a SELECT whose table has these columns and shows these rows: WHERE is tested at all of them, then they are sorted, and then the items are evaluated
 abbrev pub result_of : SelectTree → List ColumnTree → List (List Value) → Result Results ValueFault
 result_of s columns rows = unless_lacking (lacking_select (cols_of columns) s)
-    (if_ok (chosen (cols_of columns) s.filter rows) (results_by columns s.items (counted s.items)))
+    (if_ok (taken s columns rows) (λ places. results_by columns s.items (counted s.items) (rows_at rows places)))
 
--- where a value of an INSERT goes: a column's place, and its kind
+-- where a value of an INSERT or UPDATE goes: a column's place, and its kind
 pub record Target : Type 0 where
   pub place : ℕ
   pub kind : Kind

@@ -6,7 +6,7 @@ ghost use Rattle.sql_trees.specs.Statements.{column_of, item_of, select_of};
 ghost use Rattle.sql_values.specs.Values.{Answers};
 ghost use Rattle.sql_values.specs.Aggregates.{aggregate};
 ghost use Rattle.sql_values.specs.Expressions.{passes};
-ghost use Rattle.session_queries.specs.Queries.{Counted, agg_results, chosen, cols_of, counted, each, item_values, lacking_select, result_of, row_results, row_values};
+ghost use Rattle.session_queries.specs.Queries.{Counted, agg_results, cols_of, counted, each, item_values, lacking_select, result_of, row_results, row_values};
 ghost use Rattle.session_queries.specs.Queries.{has_none};
 ghost use Rattle.session_queries.specs.Answers.{answered, selected};
 ghost use Rattle.session_queries.specs.Fronts.{in_front};
