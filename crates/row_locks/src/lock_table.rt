@@ -1,5 +1,6 @@
 //! The locks that are held.
 ghost use Rattle.std.specs.Prelude.{◌≡◌, List, [], ◌∷◌, ◌++◌, not, ◌&&◌, OnOk, OnErr, IfOk};
+ghost use Rattle.std.specs.List.{list_any};
 ghost use Rattle.row_locks.specs.Members.{has, is_distinct};
 ghost use Rattle.row_locks.specs.Waiting.{is_none_of};
 ghost use Rattle.row_locks.specs.declared.held.Held.{Held};
@@ -68,9 +69,7 @@ impl LockTable {
     pub fn is_blocked(&self, row: RowId, tx: TxId, strength: Strength) -> bool
         ensures { result ≡ not (is_none_of (holders_against self.now row tx strength)) }
     {
-        self.held
-            .iter()
-            .any(|held| is_against(held, row, tx, strength))
+        is_any_against(&self.held, row, tx, strength)
     }
 
     /// The transaction holds nothing any more. It takes no memory.
@@ -80,6 +79,13 @@ impl LockTable {
     {
         self.held.retain(|held| held.tx.0 != tx.0);
     }
+}
+
+/// Whether some lock stands against the request.
+fn is_any_against(held: &[Held], row: RowId, tx: TxId, strength: Strength) -> bool
+    ensures { result ≡ list_any (is_against row tx strength) held.now }
+{
+    held.iter().any(|lock| is_against(lock, row, tx, strength))
 }
 
 /// Whether the lock stands against the request and its holder isn't found yet.
