@@ -7,7 +7,8 @@ use Rattle.sql_trees.specs.Statements.{ColumnTree, InsertTree, UpdateTree, Delet
 use Rattle.sql_values.specs.declared.value.Value.{Value}
 use Rattle.sql_values.specs.declared.fault.ValueFault.{ValueFault}
 use Rattle.sql_values.specs.Expressions.{Cols}
-use Rattle.session_queries.specs.Queries.{Target, cols_of, new_values, null_in, row_values, passing, taken, updated}
+use Rattle.session_queries.specs.Queries.{Target, cols_of, new_values, null_in, row_values, passing, taken}
+use Rattle.session_queries.specs.Updates.{updated}
 use Rattle.row_versions.specs.declared.names.RowId.{RowId}
 use Rattle.row_versions.specs.declared.write.View.{View}
 use Rattle.row_versions.specs.declared.write.Seen.{Seen}
@@ -81,16 +82,16 @@ settled db w a = record db { held = locks_after (is_target_locked db.content db.
 
 -- what is done at a target that came to this: with the version that it takes, or without any
 abbrev pub at_outcome : (Database → Seen → Visit) → Database → Asked → Outcome → Visit
-at_outcome use db a (Takes seen) = use db seen
-at_outcome use db a Skips = goes_on db []
-at_outcome use db a Waits = stops db (Blocked (Row a.seen.row a.strength))
-at_outcome use db a Deadlocks = stops db (Fails Deadlock)
-at_outcome use db a Serializes = stops db (Fails NotSerializable)
-at_outcome use db a (Faults fault) = stops db (Fails (OfValue fault))
+at_outcome act db a (Takes seen) = act db seen
+at_outcome act db a Skips = goes_on db []
+at_outcome act db a Waits = stops db (Blocked (Row a.seen.row a.strength))
+at_outcome act db a Deadlocks = stops db (Fails Deadlock)
+at_outcome act db a Serializes = stops db (Fails NotSerializable)
+at_outcome act db a (Faults fault) = stops db (Fails (OfValue fault))
 
--- a target is settled first, and then used
+-- a target is settled first, and then acted on
 abbrev pub at_target : (Database → Seen → Visit) → Database → Work → Asked → Visit
-at_target use db w a = at_outcome use (settled db w a) a (target_outcome db.content db.held (waits_in db w.around.sessions) a)
+at_target act db w a = at_outcome act (settled db w a) a (target_outcome db.content db.held (waits_in db w.around.sessions) a)
 
 -- the values of the version
 abbrev pub values_of : Database → Seen → List Value

@@ -7,7 +7,8 @@ use Rattle.sql_values.specs.declared.value.Value.{Value}
 use Rattle.sql_values.specs.declared.fault.ValueFault.{ValueFault}
 use Rattle.sql_values.specs.declared.fault.ValueFault.TheVariants.{NoColumn}
 use Rattle.result_tables.specs.Results.{Results}
-use Rattle.session_queries.specs.Queries.{Target, cols_of, has_none, lacking_if, lacking_rows, lacking_select, lacking_update, result_of, set_targets, some_too_long, targets_of, titles_of, wrong_position}
+use Rattle.session_queries.specs.Queries.{Target, cols_of, has_none, lacking_if, lacking_rows, lacking_select, result_of, some_too_long, targets_of, titles_of, wrong_position}
+use Rattle.session_queries.specs.Updates.{lacking_update, set_targets}
 use Rattle.row_versions.specs.declared.write.Seen.{Seen}
 use Rattle.row_versions.specs.Log.{Content}
 use Rattle.session_machine.specs.declared.session.OpenTransaction.{OpenTransaction}

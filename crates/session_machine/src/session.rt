@@ -69,13 +69,13 @@ impl Model for Gathered {
 
 impl Gathered {
     pub fn of(rows: Vec<Row>) -> Gathered
-        ensures { result ≡ rows.entry.items }
+        ensures { result ≡ rows.items }
     {
         Gathered { rows }
     }
 
     pub fn into_rows(self) -> Vec<Row>
-        ensures { result.items ≡ self.entry }
+        ensures { result.items ≡ self }
     {
         self.rows
     }
