@@ -21,7 +21,11 @@ key_read k [] x less h = absurd (omega arith)
 key_read zero (v ∷ row) x less h = sym h
 key_read (suc k) (v ∷ row) x less h = key_read k row x (omega arith) h
 
-picked_by : (b : Bool) (picked : List ℕ) → b ≡ true → (if b then Ok {E = ValueFault} picked else Err TypeMismatch) ≡ Ok picked
+-- what sorting answers, by whether the keys can be sorted
+abbrev judged : Bool → List ℕ → Result (List ℕ) ValueFault
+judged b picked = if b then Ok picked else Err TypeMismatch
+
+picked_by : (b : Bool) (picked : List ℕ) → b ≡ true → judged b picked ≡ Ok picked
 picked_by true picked h = refl
 picked_by false picked h = absurd cc
 
@@ -36,7 +40,7 @@ picked_in_order by places keys sorted picked can order is =
     ∙ ap (λ ps. Ok (map (λ i. slice_index_or places i 0) ps)) order
     ∙ ap Ok (sym is)
 
-all_picked : (P : ℕ → Type 0) (b : Bool) (these those : List ℕ) → All P these → (if b then Ok {E = ValueFault} these else Err TypeMismatch) ≡ Ok those → All P those
+all_picked : (P : ℕ → Type 0) (b : Bool) (these those : List ℕ) → All P these → judged b these ≡ Ok those → All P those
 all_picked P true these those h is =
     let same : these ≡ those = cc in
     subst (All P) same h

@@ -29,6 +29,7 @@ pub fn aliased<'e, 'a>(items: &'e [Item<'a>], name: &Name<'_>) -> Option<&'e Exp
 }
 
 /// The value that the result has at the row in that column, counted from 0, or NULL where it has no such column.
+#[tactic(auto, using(crate::proofs::Picking::key_read))]
 fn shown_at<'a>(
     alloc: Global,
     place: u64,
