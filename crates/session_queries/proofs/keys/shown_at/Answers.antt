@@ -1,7 +1,5 @@
-use Rattle.std.proofs.Common.{◌≡◌, List, ◌∷◌, length, drop, map, arith, ap}
+use Rattle.std.proofs.Common.{◌≡◌, length, arith, ap}
 use Rattle.std.proofs.lemmas.Grind.{common_steps}
-use Rattle.sql_values.specs.Sorting.{key}
-use Rattle.session_queries.specs.Queries.{shown_at}
 use Rattle.session_queries.proofs.Picking.{key_read}
 use Rattle.session_queries.proofs.keys.shown_at.Goals as goal
 
