@@ -38,7 +38,7 @@ fn rows_of(alloc: Global, columns: &[Column<'_>], insert: &Insert<'_>) -> Result
     Ok(rows)
 }
 
-fn lent<'r>(alloc: Global, rows: &'r [Row]) -> Result<Vec<&'r Row>, AllocError> {
+pub fn lent<'r>(alloc: Global, rows: &'r [Row]) -> Result<Vec<&'r Row>, AllocError> {
     let mut lent = Vec::new(alloc);
     for row in rows {
         lent.push(row)?;
@@ -174,7 +174,7 @@ fn say_delete(
     }
 }
 
-fn say<'a>(
+pub fn say<'a>(
     alloc: Global,
     stmt: &Stmt<'a>,
     columns: &[Column<'a>],
@@ -191,7 +191,7 @@ fn say<'a>(
 }
 
 /// The one statement of the block.
-fn only<'b, 'a>(block: &'b Block<'a>) -> Result<&'b Stmt<'a>, Wrong> {
+pub fn only<'b, 'a>(block: &'b Block<'a>) -> Result<&'b Stmt<'a>, Wrong> {
     match block.stmts() {
         [stmt] => Ok(stmt),
         _ => Err(Wrong::Written("other statements")),
