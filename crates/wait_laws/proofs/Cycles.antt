@@ -1,0 +1,363 @@
+-- No cycle of waits appears.
+use Rattle.std.proofs.Common.{◌≡◌, refl, sym, ◌∙◌, ap, subst, ◌⊎◌, inl, inr, ⊎_elim, Bool, true, false, ◌||◌, ◌&&◌, not, cond, ℕ, zero, suc, ◌<◌, ◌≤◌, ◌+◌, List, [], ◌∷◌, ◌++◌, length, length-append, length-set, set, map, filter, replicate, arith}
+use Rattle.std.specs.Prelude.{Option, Some, None, slice_get, Ok}
+use Rattle.std.specs.List.{list_any}
+use Rattle.std.proofs.lemmas.Bool.{cases_eq}
+use Rattle.std.proofs.lemmas.Option.{slice_get_within}
+use Rattle.row_versions.specs.declared.names.TxId.{TxId}
+use Rattle.row_versions.specs.declared.names.RowId.{RowId}
+use Rattle.row_versions.specs.declared.write.View.{View}
+use Rattle.row_versions.specs.declared.write.Fate.TheVariants.{RolledBack, Committed, Open as OpenFate}
+use Rattle.row_versions.specs.Log.{commit_count, next_tx}
+use Rattle.row_locks.specs.declared.held.Strength.{Strength}
+use Rattle.row_locks.specs.declared.held.Held.{Held}
+use Rattle.row_locks.specs.Members.{has, same_tx}
+use Rattle.row_locks.specs.Held.{is_against, holders_against, released, with_lock}
+use Rattle.row_locks.specs.Cycles.{blocks, Closes, NoCycle, AllEnd, closes}
+use Rattle.row_locks.proofs.Paths.{run_kept, wait_kept, no_cycle_less}
+use Rattle.row_locks.proofs.Reaching.{or_cases, or_left, or_right, is_same, same_is}
+use Rattle.row_locks.proofs.Waiting.{bool_is, closes_says, walk_ends}
+use Rattle.session_machine.specs.declared.session.OpenTransaction.{OpenTransaction}
+use Rattle.session_machine.specs.declared.session.Request.{Request}
+use Rattle.session_machine.specs.declared.session.Request.TheVariants.{Row}
+use Rattle.session_machine.specs.declared.session.Transaction.{Transaction}
+use Rattle.session_machine.specs.declared.session.Transaction.TheVariants.{Closed, Open, Aborted}
+use Rattle.session_machine.specs.declared.session.Progress.{Progress}
+use Rattle.session_machine.specs.declared.session.Session.{Session}
+use Rattle.session_machine.specs.declared.event.Event.{Event}
+use Rattle.session_machine.specs.declared.event.Mode.{Mode}
+use Rattle.session_machine.specs.Tables.{Database}
+use Rattle.session_machine.specs.Transactions.{begun}
+use Rattle.session_machine.specs.Waits.{blockers, waits_in}
+use Rattle.session_machine.specs.Machine.{Machine, Blocks, Next, next, opening, around, with_session, at_rest, empty_database}
+use Rattle.session_machine.specs.Sound.{tx_in, tx_of}
+use Rattle.wait_laws.specs.Laws.{NoCycleOfWaits}
+use Rattle.wait_laws.proofs.Lists.{slice_get-set_same, slice_get-set_other}
+use Rattle.wait_laws.proofs.Doing.{Keeps, Refused, Ran, doer, start, Allows}
+use Rattle.wait_laws.proofs.Events.{number_of, session_there, left_as, Rests, Moved, moved, always}
+use Rattle.wait_laws.proofs.Edges.{Edge, edge_from, edge_to}
+
+-- the transactions of sessions have begun, and no two sessions have one
+pub record IsApart (db : Database) (ss : List Session) : Type 0 where
+  pub known : (i n : ℕ) → tx_of (slice_get ss i) ≡ Some n → n < length db.content.fates
+  pub apart : (i j n : ℕ) → tx_of (slice_get ss i) ≡ Some n → tx_of (slice_get ss j) ≡ Some n → i ≡ j
+
+-- the transaction alone may stand against more requests
+pub record Adds (x : TxId) (db e : Database) : Type 0 where
+  pub long : length db.content.fates ≤ length e.content.fates
+  pub begun : x.0 < length e.content.fates
+  pub against : (r : Request) (tx u : TxId) → (u ≡ x → ⊥) → has (blockers e r tx) u ≡ true → has (blockers db r tx) u ≡ true
+
+-- a lock more
+against_more : (held : List Held) (h : Held) (row : RowId) (tx : TxId) (strength : Strength) (u : TxId) → (u ≡ h.tx → ⊥)
+    → has (holders_against (held ++ h ∷ []) row tx strength) u ≡ true → has (holders_against held row tx strength) u ≡ true
+against_more [] h row tx strength u ne e = at (is_against row tx strength h) e where
+  at : (b : Bool) → has (map (λ (g : Held). g.tx) (cond b (h ∷ []) [])) u ≡ true → false ≡ true
+  at true k = elim (or_cases (same_tx h.tx u) false k) [ inl m ↦ absurd (ne (sym (same_is h.tx u m))) | inr m ↦ m ]
+  at false k = k
+against_more (g ∷ held) h row tx strength u ne e = at (against_more held h row tx strength u ne) (is_against row tx strength g) e where
+  at : (has (holders_against (held ++ h ∷ []) row tx strength) u ≡ true → has (holders_against held row tx strength) u ≡ true) → (b : Bool)
+      → has (map (λ (g : Held). g.tx) (cond b (g ∷ filter (is_against row tx strength) (held ++ h ∷ [])) (filter (is_against row tx strength) (held ++ h ∷ [])))) u ≡ true
+      → has (map (λ (g : Held). g.tx) (cond b (g ∷ filter (is_against row tx strength) held) (filter (is_against row tx strength) held))) u ≡ true
+  at on true k = elim (or_cases (same_tx g.tx u) (has (holders_against (held ++ h ∷ []) row tx strength) u) k) [
+    | inl m ↦ or_left (same_tx g.tx u) (has (holders_against held row tx strength) u) m
+    | inr m ↦ or_right (same_tx g.tx u) (has (holders_against held row tx strength) u) (on m)
+  ]
+  at on false k = on k
+
+-- fewer locks
+against_fewer : (held : List Held) (x : TxId) (row : RowId) (tx : TxId) (strength : Strength) (u : TxId)
+    → has (holders_against (released x held) row tx strength) u ≡ true → has (holders_against held row tx strength) u ≡ true
+against_fewer [] x row tx strength u e = e
+against_fewer (g ∷ held) x row tx strength u e = keep (against_fewer held x row tx strength u) (not (same_tx g.tx x)) e where
+  later : (b : Bool) → has (holders_against held row tx strength) u ≡ true
+      → has (map (λ (g : Held). g.tx) (cond b (g ∷ filter (is_against row tx strength) held) (filter (is_against row tx strength) held))) u ≡ true
+  later true k = or_right (same_tx g.tx u) (has (holders_against held row tx strength) u) k
+  later false k = k
+
+  at : (has (holders_against (released x held) row tx strength) u ≡ true → has (holders_against held row tx strength) u ≡ true) → (b : Bool)
+      → has (map (λ (g : Held). g.tx) (cond b (g ∷ filter (is_against row tx strength) (released x held)) (filter (is_against row tx strength) (released x held)))) u ≡ true
+      → has (map (λ (g : Held). g.tx) (cond b (g ∷ filter (is_against row tx strength) held) (filter (is_against row tx strength) held))) u ≡ true
+  at on true k = elim (or_cases (same_tx g.tx u) (has (holders_against (released x held) row tx strength) u) k) [
+    | inl m ↦ or_left (same_tx g.tx u) (has (holders_against held row tx strength) u) m
+    | inr m ↦ or_right (same_tx g.tx u) (has (holders_against held row tx strength) u) (on m)
+  ]
+  at on false k = on k
+
+  keep : (has (holders_against (released x held) row tx strength) u ≡ true → has (holders_against held row tx strength) u ≡ true) → (b : Bool) → has (holders_against (cond b (g ∷ released x held) (released x held)) row tx strength) u ≡ true → has (holders_against (g ∷ held) row tx strength) u ≡ true
+  keep on true k = at on (is_against row tx strength g) k
+  keep on false k = later (is_against row tx strength g) (on k)
+
+adds_keeps : (x : TxId) (db : Database) → Keeps x (Adds x db) (Adds x db)
+adds_keeps x db = record {
+  lock = λ d h own p. record {
+    long = p.long;
+    begun = p.begun;
+    against = λ r tx u ne e. p.against r tx u ne (locked d h own r tx u ne e);
+  };
+  write = λ d w own held p. record { long = p.long; begun = p.begun; against = p.against };
+  define = λ d catalog p. record { long = p.long; begun = p.begun; against = p.against };
+  commit = λ d p. record {
+    long = rw length-set (p.long);
+    begun = rw length-set (p.begun);
+    against = λ r tx u ne e. p.against r tx u ne (freed d r tx u e);
+  };
+  roll_back = λ d p. record {
+    long = rw length-set (p.long);
+    begun = rw length-set (p.begun);
+    against = λ r tx u ne e. p.against r tx u ne (freed d r tx u e);
+  };
+  rest = λ d p. p;
+} where
+  locked : (d : Database) (h : Held) → h.tx ≡ x → (r : Request) (tx u : TxId) → (u ≡ x → ⊥) → has (blockers (record d { held = with_lock d.held h }) r tx) u ≡ true
+      → has (blockers d r tx) u ≡ true
+  locked d h own (Row row strength) tx u ne e = against_more d.held h row tx strength u (λ k. ne (k ∙ own)) e
+
+  freed : (d : Database) (r : Request) (tx u : TxId) → has (blockers (record d { held = released x d.held }) r tx) u ≡ true → has (blockers d r tx) u ≡ true
+  freed d (Row row strength) tx u e = against_fewer d.held x row tx strength u e
+
+-- what holds of the waits of every state
+pub record IsOrderly (m : Machine) : Type 0 where
+  pub sessions : IsApart m.db m.sessions
+  pub free : NoCycle (blocks (waits_in m.db m.sessions))
+
+no_session : (s : Session) → None ≡ Some s → ⊥
+no_session s h = cc
+
+same_session : (s u : Session) → Some s ≡ Some u → s ≡ u
+same_session s u h = cc
+
+no_progress : (p : Progress) → None ≡ Some p → ⊥
+no_progress p h = cc
+
+same_progress : (p q : Progress) → Some p ≡ Some q → p ≡ q
+same_progress p q h = cc
+
+-- in sessions of which one changed that one waits, or another does
+edge_set : (db : Database) (ss : List Session) (i : ℕ) (s u : Session) (a b : TxId) → slice_get ss i ≡ Some s → blocks (waits_in db (set ss i u)) a b ≡ true
+    → Edge db u a b ⊎ ((j : ℕ) × (v : Session) × (j ≡ i → ⊥) × (slice_get ss j ≡ Some v) × Edge db v a b)
+edge_set db ss i s u a b at h =
+    let r = edge_from db (set ss i u) a b h in
+    ⊎_elim
+    (λ e. inl (subst (λ (y : Session). Edge db y a b)
+    (same_session r.1 u (sym r.2 ∙ (ap (slice_get (set ss i u)) e ∙ slice_get-set_same ss i u (slice_get_within ss i s at)))) r.3))
+    (λ ne. inr (r.0, r.1, ne, sym (slice_get-set_other ss i r.0 u ne) ∙ r.2, r.3))
+    (cases_eq r.0 i)
+
+edge_other : (db : Database) (ss : List Session) (i j : ℕ) (u v : Session) (a b : TxId) → (j ≡ i → ⊥) → slice_get ss j ≡ Some v → Edge db v a b
+    → blocks (waits_in db (set ss i u)) a b ≡ true
+edge_other db ss i j u v a b ne at e = edge_to db (set ss i u) j v a b (slice_get-set_other ss i j u ne ∙ at) e
+
+-- where a session waits no more there is no cycle
+free_without : (db : Database) (ss : List Session) (i : ℕ) (s u : Session) → slice_get ss i ≡ Some s → u.statement ≡ None → NoCycle (blocks (waits_in db ss))
+    → NoCycle (blocks (waits_in db (set ss i u)))
+free_without db ss i s u at over free =
+    no_cycle_less (blocks (waits_in db ss)) (blocks (waits_in db (set ss i u))) free
+    (λ a b e. elim (edge_set db ss i s u a b at e) [
+      | inl k ↦ absurd (no_progress k.p (sym over ∙ k.at))
+      | inr k ↦ edge_to db ss k.0 k.1 a b k.3 k.4
+    ])
+
+-- a session's transaction after an event is the one before, or a new one
+pub apart_set : (db e : Database) (ss : List Session) (i : ℕ) (s u : Session) → IsApart db ss → slice_get ss i ≡ Some s → length db.content.fates ≤ length e.content.fates
+    → ((n : ℕ) → tx_in u.transaction ≡ Some n → ((tx_in s.transaction ≡ Some n) ⊎ (n ≡ length db.content.fates)) × (n < length e.content.fates)) → IsApart e (set ss i u)
+apart_set db e ss i s u old at long own = record { known = known; apart = apart } where
+  here : slice_get (set ss i u) i ≡ Some u
+  here = slice_get-set_same ss i u (slice_get_within ss i s at)
+
+  there : (j : ℕ) → (j ≡ i → ⊥) → slice_get (set ss i u) j ≡ slice_get ss j
+  there j ne = slice_get-set_other ss i j u ne
+
+  at_i : (j n : ℕ) → j ≡ i → tx_of (slice_get (set ss i u) j) ≡ Some n → tx_in u.transaction ≡ Some n
+  at_i j n is h = ap tx_of (sym (ap (slice_get (set ss i u)) is ∙ here)) ∙ h
+
+  known : (j n : ℕ) → tx_of (slice_get (set ss i u) j) ≡ Some n → n < length e.content.fates
+  known j n h =
+      ⊎_elim
+      (λ is. (own n (at_i j n is h)).1)
+      (λ ne. let l = old.known j n (ap tx_of (sym (there j ne)) ∙ h) in omega arith)
+      (cases_eq j i)
+
+  mixed : (j n : ℕ) → (j ≡ i → ⊥) → tx_in u.transaction ≡ Some n → tx_of (slice_get (set ss i u) j) ≡ Some n → ⊥
+  mixed j n ne h k =
+      let o : tx_of (slice_get ss j) ≡ Some n = ap tx_of (sym (there j ne)) ∙ k in
+      ⊎_elim
+      (λ f. ne (old.apart j i n o (ap tx_of at ∙ f)))
+      (λ (f : n ≡ length db.content.fates). let l = old.known j n o in let z : ⊥ = omega arith in z)
+      (own n h).0
+
+  apart : (j k n : ℕ) → tx_of (slice_get (set ss i u) j) ≡ Some n → tx_of (slice_get (set ss i u) k) ≡ Some n → j ≡ k
+  apart j k n h l =
+      ⊎_elim
+      (λ x. ⊎_elim (λ f. x ∙ sym f) (λ nf. absurd (mixed k n nf (at_i j n x h) l)) (cases_eq k i))
+      (λ ne. ⊎_elim
+      (λ f. absurd (mixed j n ne (at_i k n f l) h))
+      (λ nf. old.apart j k n (ap tx_of (sym (there j ne)) ∙ h) (ap tx_of (sym (there k nf)) ∙ l))
+      (cases_eq k i))
+      (cases_eq j i)
+
+open_tx : (tr : Transaction) (n : ℕ) → tx_in tr ≡ Some n → (t : OpenTransaction) × (tr ≡ Open t) × (t.tx.0 ≡ n)
+open_tx Closed n h = cc
+open_tx Aborted n h = cc
+open_tx (Open t) n h = (t, refl, cc)
+
+-- a doer is the session's transaction, or a new one
+doer_is : (db : Database) (tr : Transaction) (t : OpenTransaction) → t.tx ≡ doer db tr → (tx_in tr ≡ Some t.tx.0) ⊎ (t.tx.0 ≡ length db.content.fates)
+doer_is db Closed t e = inr (ap (λ (x : TxId). x.0) e)
+doer_is db Aborted t e = inr (ap (λ (x : TxId). x.0) e)
+doer_is db (Open v) t e = inl (ap (λ (x : TxId). Some x.0) (sym e))
+
+pub allows_all : (db : Database) (tr : Transaction) (statement : Option Progress) → Allows (λ v. Unit {0}) db tr statement
+allows_all db Closed statement = tt
+allows_all db Aborted statement = tt
+allows_all db (Open t) None = tt
+allows_all db (Open t) (Some p) = (tt, tt)
+
+-- at its start nothing was added
+adds_start : (db : Database) (tr : Transaction) → ((n : ℕ) → tx_in tr ≡ Some n → n < length db.content.fates) → Adds (doer db tr) db (start db tr)
+adds_start db Closed known = record {
+  long = rw (length-append db.content.fates (OpenFate ∷ [])) (omega arith);
+  begun = rw (length-append db.content.fates (OpenFate ∷ [])) (omega arith);
+  against = λ r tx u ne e. same r tx u e;
+} where
+  same : (r : Request) (tx u : TxId) → has (blockers (begun db) r tx) u ≡ true → has (blockers db r tx) u ≡ true
+  same (Row row strength) tx u e = e
+adds_start db Aborted known = record {
+  long = rw (length-append db.content.fates (OpenFate ∷ [])) (omega arith);
+  begun = rw (length-append db.content.fates (OpenFate ∷ [])) (omega arith);
+  against = λ r tx u ne e. same r tx u e;
+} where
+  same : (r : Request) (tx u : TxId) → has (blockers (begun db) r tx) u ≡ true → has (blockers db r tx) u ≡ true
+  same (Row row strength) tx u e = e
+adds_start db (Open t) known = record { long = omega arith; begun = known t.tx.0 refl; against = λ r tx u ne e. e }
+
+pub apart_moved : (m : Machine) (i : ℕ) (s : Session) (after : Machine) → IsApart m.db m.sessions → slice_get m.sessions i ≡ Some s
+    → Moved (Adds (doer m.db s.transaction) m.db) (Adds (doer m.db s.transaction) m.db) (λ v. Unit {0}) m i s after → IsApart after.db after.sessions
+apart_moved m i s after old at k = subst (λ (y : Machine). IsApart y.db y.sessions) (sym k.is) (by k.did) where
+  by : Rests m s k.e k.u ⊎ Ran (doer m.db s.transaction) (Adds (doer m.db s.transaction) m.db) (Adds (doer m.db s.transaction) m.db) (λ v. Unit {0}) (around m i s).sessions (left_as k.e k.u)
+      → IsApart k.e (set m.sessions i k.u)
+  by (inl r) =
+      let same : length m.db.content.fates ≡ length k.e.content.fates = ap (λ (d : Database). length d.content.fates) (sym r.same) in
+      apart_set m.db k.e m.sessions i s k.u old at (omega arith)
+      (λ n h.
+      let o = open_tx k.u.transaction n h in
+      let f : tx_in s.transaction ≡ Some n = ap tx_in (r.its o.0 o.1) ∙ ap Some o.2 in
+      let l = old.known i n (ap tx_of at ∙ f) in
+      (inl f, omega arith))
+  by (inr r) =
+      let long = r.db.long in
+      let begun = r.db.begun in
+      apart_set m.db k.e m.sessions i s k.u old at long
+      (λ n h.
+      let o = open_tx k.u.transaction n h in
+      let own = r.own o.0 o.1 in
+      let z : (doer m.db s.transaction).0 ≡ n = ap (λ (x : TxId). x.0) (sym own.0) ∙ o.2 in
+      (subst (λ y. (tx_in s.transaction ≡ Some y) ⊎ (y ≡ length m.db.content.fates)) o.2 (doer_is m.db s.transaction o.0 own.0), omega arith))
+
+false_true : (b : Bool) → b ≡ false → b ≡ true → ⊥
+false_true true h k = cc
+false_true false h k = cc
+
+-- no other session has the doer's transaction
+no_other : (m : Machine) (i j : ℕ) (s v : Session) (t : OpenTransaction) → IsApart m.db m.sessions → slice_get m.sessions i ≡ Some s → (j ≡ i → ⊥) → slice_get m.sessions j ≡ Some v
+    → v.transaction ≡ Open t → t.tx ≡ doer m.db s.transaction → ⊥
+no_other m i j s v t old at ne there is own =
+    let f : tx_of (slice_get m.sessions j) ≡ Some t.tx.0 = ap tx_of there ∙ ap tx_in is in
+    ⊎_elim
+    (λ k. ne (old.apart j i t.tx.0 f (ap tx_of at ∙ k)))
+    (λ (k : t.tx.0 ≡ length m.db.content.fates). let l = old.known j t.tx.0 f in let z : ⊥ = omega arith in z)
+    (doer_is m.db s.transaction t own)
+
+free_moved : (m : Machine) (i : ℕ) (s : Session) (after : Machine) → IsOrderly m → slice_get m.sessions i ≡ Some s
+    → Moved (Adds (doer m.db s.transaction) m.db) (Adds (doer m.db s.transaction) m.db) (λ v. Unit {0}) m i s after → NoCycle (blocks (waits_in after.db after.sessions))
+free_moved m i s after old at k = subst (λ (y : Machine). NoCycle (blocks (waits_in y.db y.sessions))) (sym k.is) (by k.did) where
+  x : TxId
+  x = doer m.db s.transaction
+
+  idle : Session
+  idle = record s { statement = None }
+
+  before : List Session
+  before = set m.sessions i idle
+
+  by : Rests m s k.e k.u ⊎ Ran x (Adds x m.db) (Adds x m.db) (λ v. Unit {0}) before (left_as k.e k.u) → NoCycle (blocks (waits_in k.e (set m.sessions i k.u)))
+  by (inl r) =
+      subst (λ (d : Database). NoCycle (blocks (waits_in d (set m.sessions i k.u)))) (sym r.same)
+      (free_without m.db m.sessions i s k.u at r.over old.free)
+  by (inr r) = ends k.u.statement refl where
+    start_free : NoCycle (blocks (waits_in m.db before))
+    start_free = free_without m.db m.sessions i s idle at refl old.free
+
+    grows : (a b : TxId) → blocks (waits_in k.e before) a b ≡ true → (b ≡ x) ⊎ (blocks (waits_in m.db before) a b ≡ true)
+    grows a b e = elim (bool_is (same_tx b x)) [
+      | inl y ↦ inl (same_is b x y)
+      | inr ne ↦
+          let w = edge_from k.e before a b e in
+          let g = w.3 in
+          inr (edge_to m.db before w.0 w.1 a b w.2
+          (record { t = g.t; p = g.p; open_now = g.open_now; at = g.at; its = g.its;
+              against = r.db.against g.p.wait.request a b (λ f. false_true (same_tx b x) ne (subst (λ y. same_tx b y ≡ true) f (is_same b))) g.against }))
+    ]
+
+    nobody : (b : TxId) → blocks (waits_in k.e before) x b ≡ true → ⊥
+    nobody b e = elim (edge_set k.e m.sessions i s idle x b at e) [
+      | inl w ↦ no_progress w.p w.at
+      | inr w ↦ no_other m i w.0 s w.1 w.4.t old.sessions at w.2 w.3 w.4.open_now w.4.its
+    ]
+
+    ends : (o : Option Progress) → k.u.statement ≡ o → NoCycle (blocks (waits_in k.e (set m.sessions i k.u)))
+    ends None over =
+        no_cycle_less (blocks (waits_in k.e before)) (blocks (waits_in k.e (set m.sessions i k.u)))
+        (run_kept (blocks (waits_in m.db before)) (blocks (waits_in k.e before)) x start_free grows nobody)
+        (λ a b e. elim (edge_set k.e m.sessions i s k.u a b at e) [
+          | inl w ↦ absurd (no_progress w.p (sym over ∙ w.at))
+          | inr w ↦ edge_other k.e m.sessions i w.0 idle w.1 a b w.2 w.3 w.4
+        ])
+    ends (Some p) is =
+        let refused = (r.waits p is).0 in
+        let bs = blockers k.e p.wait.request x in
+        wait_kept (blocks (waits_in m.db before)) (blocks (waits_in k.e before)) (blocks (waits_in k.e (set m.sessions i k.u))) x bs start_free grows
+        (λ a b e. elim (edge_set k.e m.sessions i s k.u a b at e) [
+          | inl w ↦
+              let same : w.p ≡ p = same_progress w.p p (sym w.at ∙ is) in
+              let own : a ≡ x = sym w.its ∙ (r.own w.t w.open_now).0 in
+              inl (own, subst (λ (y : TxId). has (blockers k.e p.wait.request y) b ≡ true) own
+              (subst (λ (q : Progress). has (blockers k.e q.wait.request a) b ≡ true) same w.against))
+          | inr w ↦ inr (edge_other k.e m.sessions i w.0 idle w.1 a b w.2 w.3 w.4)
+        ])
+        (λ c. false_true (closes (waits_in k.e before) x bs) refused.free ((closes_says (waits_in k.e before) x bs).1 c))
+        nobody
+
+pub orderly_next : (blocks : Blocks) (mode : Mode) (m : Machine) (event : Event) (n : Next) → IsOrderly m → next blocks mode m event ≡ Ok n → IsOrderly n.machine
+orderly_next blocks mode m event n old h =
+    let there = session_there blocks mode m event n h in
+    let s = there.0 in
+    let x = doer m.db s.transaction in
+    let i = number_of event in
+    let k = moved (Adds x m.db) (Adds x m.db) (λ v. Unit {0}) blocks mode m event s n there.1 (adds_keeps x m.db) (allows_all m.db s.transaction s.statement)
+    (adds_start m.db s.transaction (λ q f. old.sessions.known i q (ap tx_of there.1 ∙ f))) h in
+    record {
+      sessions = apart_moved m i s n.machine old.sessions there.1 k;
+      free = free_moved m i s n.machine old there.1 k;
+    }
+
+rest_tx : (count i n : ℕ) → tx_of (slice_get (replicate count at_rest) i) ≡ Some n → ⊥
+rest_tx zero i n h = cc
+rest_tx (suc count) zero n h = cc
+rest_tx (suc count) (suc i) n h = rest_tx count i n h
+
+rest_edge : (count j : ℕ) (s : Session) (a b : TxId) → slice_get (replicate count at_rest) j ≡ Some s → Edge empty_database s a b → ⊥
+rest_edge zero j s a b h e = no_session s h
+rest_edge (suc count) zero s a b h e = no_progress e.p (ap (λ (y : Session). y.statement) (same_session at_rest s h) ∙ e.at)
+rest_edge (suc count) (suc j) s a b h e = rest_edge count j s a b h e
+
+pub orderly_opening : (count : ℕ) → IsOrderly (opening count)
+orderly_opening count = record {
+  sessions = record { known = λ i n h. absurd (rest_tx (count + 1) i n h); apart = λ i j n h k. absurd (rest_tx (count + 1) i n h) };
+  free = λ a b e l. let w = edge_from empty_database (replicate (count + 1) at_rest) a b e in rest_edge (count + 1) w.0 w.1 a b w.2 w.3;
+}
+
+pub no_cycle_of_waits : NoCycleOfWaits
+no_cycle_of_waits given mode count m reached =
+    let o = always IsOrderly given mode (orderly_next given mode) reached.0 (opening count) m (orderly_opening count) reached.1 in
+    (o.free, walk_ends (waits_in m.db m.sessions) o.free)

@@ -1,0 +1,487 @@
+-- What a statement does, step by step: it takes locks, writes rows that it holds, makes and drops tables, and ends; and where it waits, its wait closes no cycle.
+use Rattle.std.proofs.Common.{◌≡◌, refl, sym, ◌∙◌, ap, subst, ◌⊎◌, inl, inr, Bool, true, false, not, ℕ, ◌+◌, List, [], ◌∷◌, ◌++◌}
+use Rattle.std.specs.Prelude.{ℤ, Option, Some, None, drop, is_some, unwrap_or, Result, Ok, Err, ◌&&◌, if◌then◌else◌}
+use Rattle.std.specs.Option.{option_or}
+use Rattle.sql_trees.specs.declared.stmt.Level.{Level}
+use Rattle.sql_trees.specs.declared.stmt.Level.TheVariants.{ReadCommitted, RepeatableRead}
+use Rattle.sql_trees.specs.declared.stmt.Lock.{Lock}
+use Rattle.sql_trees.specs.Trees.{Tree}
+use Rattle.sql_trees.specs.Statements.{StmtTree, CreateTree, InsertTree, UpdateTree, DeleteTree, SelectTree, Begin, Commit, Rollback, SetTransaction, SetDeadlockTimeout, Create, DropTables, Inserts, Updates, Deletes, Selects}
+use Rattle.sql_values.specs.declared.value.Value.{Value}
+use Rattle.sql_values.specs.declared.fault.ValueFault.{ValueFault}
+use Rattle.result_tables.specs.Results.{Results}
+use Rattle.session_queries.specs.Queries.{Target, cols_of, lacking_if, lacking_rows, lacking_select, new_values, null_in, result_of, row_values, some_too_long, targets_of, titles_of, wrong_position}
+use Rattle.session_queries.specs.Updates.{lacking_update, set_targets, updated}
+use Rattle.row_versions.specs.declared.names.TxId.{TxId}
+use Rattle.row_versions.specs.declared.names.RowId.{RowId}
+use Rattle.row_versions.specs.declared.write.Write.{Write}
+use Rattle.row_versions.specs.declared.write.View.{View}
+use Rattle.row_versions.specs.declared.write.Seen.{Seen}
+use Rattle.row_versions.specs.Log.{Content, next_tx, new_row, values_at, after_write}
+use Rattle.row_versions.specs.Newest.{is_version, newest_from, newest_of}
+use Rattle.row_locks.specs.declared.held.Strength.{Strength}
+use Rattle.row_locks.specs.declared.held.Strength.TheVariants.{Exclusive}
+use Rattle.row_locks.specs.declared.held.Held.{Held}
+use Rattle.row_locks.specs.Held.{holds, lock_of_write, with_lock}
+use Rattle.row_locks.specs.Waiting.{is_none_of}
+use Rattle.row_locks.specs.Cycles.{closes}
+use Rattle.update_recheck.specs.Asked.{Asked}
+use Rattle.update_recheck.specs.Outcome.{Holders, Nobody, Others, OthersInACycle, Version, Same, Gone, Newer, Outcome, holders, holders_of, is_locked, newest_version, outcome, version_at, version_of}
+use Rattle.update_recheck.specs.Settling.{lock_of, locks_after}
+use Rattle.session_machine.specs.declared.session.OpenTransaction.{OpenTransaction}
+use Rattle.session_machine.specs.declared.session.Transaction.{Transaction}
+use Rattle.session_machine.specs.declared.session.Transaction.TheVariants.{Closed, Open, Aborted}
+use Rattle.session_machine.specs.declared.session.Progress.{Progress}
+use Rattle.session_machine.specs.declared.session.Session.{Session}
+use Rattle.session_machine.specs.declared.session.Request.{Request}
+use Rattle.session_machine.specs.declared.session.Request.TheVariants.{Row}
+use Rattle.session_machine.specs.declared.fault.StmtFault.{StmtFault}
+use Rattle.session_machine.specs.declared.reply.Outcome.{Outcome as Reply}
+use Rattle.session_machine.specs.declared.reply.Outcome.TheVariants.{Rows, Failed}
+use Rattle.session_machine.specs.declared.fault.StmtFault.TheVariants.{Aborted as AbortedFault}
+use Rattle.session_machine.specs.Tables.{Database, Catalog, find_table}
+use Rattle.session_machine.specs.Transactions.{begun, committed, fresh, rolled_back, view_of}
+use Rattle.session_machine.specs.Waits.{blockers, is_blocked, waits_in}
+use Rattle.session_machine.specs.Statements.{Around, Did, DroppedUpTo, fails, answers, turns, columns_at, create, dropped, dropped_at, drop_ended, level_set, is_level, run_aborted, with_drop, is_end}
+use Rattle.session_machine.specs.Walks.{Stop, Visit, Walk, Blocked, Fails, stops, goes_on, unless_stopped, walked, walked_from}
+use Rattle.session_machine.specs.Rows.{Work, columns_in, cols_in, written, inserted, unless_null, insert_made, insert_at, ask, at_outcome, at_target, values_of, update_made, update_with, update_at, delete_with, delete_at, lock_made, lock_with, lock_at, strength_of, passing_targets, taken_targets}
+use Rattle.session_machine.specs.Running.{beginning, going_on, pauses, comes_to, ended, done, insert_all, insert_fitting, insert_to, insert, assigned_to, update_from, update_fitting, update_to, update, delete_from, delete_fitting, delete, lock_from, answered, select_rows, unless_wrong, select_in, select_at, select, run_open, run_first, run_closed, lock_again, run_on, run_stmt}
+use Rattle.wait_laws.proofs.Lists.{holds_last}
+
+-- what a transaction may do keeps the one while it runs, and leads to the other where it ends
+pub record Keeps (x : TxId) (P Q : Database → Type 0) : Type 0 where
+  pub lock : (d : Database) (h : Held) → h.tx ≡ x → P d → P (record d { held = with_lock d.held h })
+  pub write : (d : Database) (w : Write) → w.tx ≡ x → holds d.held (lock_of_write w) ≡ true → P d → P (record d { content = after_write d.content w })
+  pub define : (d : Database) (catalog : Catalog) → P d → P (record d { catalog = catalog })
+  pub commit : (d : Database) → P d → Q (committed d x)
+  pub roll_back : (d : Database) → P d → Q (rolled_back d x)
+  pub rest : (d : Database) → P d → Q d
+
+-- the request is blocked, and a wait for its blockers closes no cycle
+pub record Refused (x : TxId) (ss : List Session) (db : Database) (r : Request) : Type 0 where
+  pub free : closes (waits_in db ss) x (blockers db r x) ≡ false
+  pub stopped : is_blocked db r x ≡ true
+
+-- where a walk has come to
+pub record Comes (x : TxId) (P : Database → Type 0) (ss : List Session) (db : Database) (stop : Option Stop) : Type 0 where
+  pub kept : P db
+  pub blocked : (r : Request) → stop ≡ Some (Blocked r) → Refused x ss db r
+
+-- what a statement left
+pub record Ran (x : TxId) (P Q : Database → Type 0) (V : View → Type 0) (ss : List Session) (d : Did) : Type 0 where
+  pub db : Q d.db
+  pub own : (u : OpenTransaction) → d.transaction ≡ Open u → (u.tx ≡ x) × P d.db
+  pub waits : (p : Progress) → d.statement ≡ Some p → Refused x ss d.db p.wait.request × V p.view × ((u : OpenTransaction) × (d.transaction ≡ Open u))
+
+goes_not : (s : StmtFault) (r : Request) → Some (Fails s) ≡ Some (Blocked r) → ⊥
+goes_not s r h = cc
+
+none_not : {A : Type 0} (a : A) → None ≡ Some a → ⊥
+none_not a h = cc
+
+same_request : (r q : Request) → Some (Blocked r) ≡ Some (Blocked q) → r ≡ q
+same_request r q h = cc
+
+comes_on : (x : TxId) (P : Database → Type 0) (ss : List Session) (db : Database) (rows : List (List Value)) → P db → Comes x P ss (goes_on db rows).db (goes_on db rows).stop
+comes_on x P ss db rows p = record { kept = p; blocked = λ r h. absurd (none_not (Blocked r) h) }
+
+comes_fails : (x : TxId) (P : Database → Type 0) (ss : List Session) (db : Database) (fault : StmtFault) → P db → Comes x P ss db (Some (Fails fault))
+comes_fails x P ss db fault p = record { kept = p; blocked = λ r h. absurd (goes_not fault r h) }
+
+comes_blocked : (x : TxId) (P : Database → Type 0) (ss : List Session) (db : Database) (request : Request) → P db → Refused x ss db request
+    → Comes x P ss db (Some (Blocked request))
+comes_blocked x P ss db request p k = record { kept = p; blocked = λ r h. subst (λ q. Refused x ss db q) (same_request request r h) k }
+
+-- a walk keeps what each visit keeps
+pub comes_walked : {A : Type 0} (x : TxId) (P : Database → Type 0) (ss : List Session) (visit : Database → A → Visit)
+    → ((d : Database) (a : A) → P d → Comes x P ss (visit d a).db (visit d a).stop)
+    → (db : Database) (place : ℕ) (rows : List (List Value)) (xs : List A) → P db
+    → Comes x P ss (walked visit db place rows xs).db (walked visit db place rows xs).stop
+comes_walked x P ss visit each db place rows [] p = record { kept = p; blocked = λ r h. absurd (none_not (Blocked r) h) }
+comes_walked x P ss visit each db place rows (a ∷ more) p =
+    let v = visit db a in
+    let c = each db a p in
+    behind v.stop refl (comes_walked x P ss visit each v.db (place + 1) (rows ++ v.rows) more c.kept) where
+      behind : (o : Option Stop) → o ≡ (visit db a).stop → (let w = walked visit (visit db a).db (place + 1) (rows ++ (visit db a).rows) more in Comes x P ss w.db w.stop)
+          → (let w = unless_stopped (visit db a) place rows o (walked visit (visit db a).db (place + 1) (rows ++ (visit db a).rows) more) in Comes x P ss w.db w.stop)
+      behind None e k = k
+      behind (Some stop) e k = subst (λ o. Comes x P ss (visit db a).db o) (sym e) (each db a p)
+
+comes_from : {A : Type 0} (x : TxId) (P : Database → Type 0) (ss : List Session) (visit : Database → A → Visit)
+    → ((d : Database) (a : A) → P d → Comes x P ss (visit d a).db (visit d a).stop)
+    → (db : Database) (place : ℕ) (rows : List (List Value)) (targets : Result (List A) ValueFault) → P db
+    → Comes x P ss (walked_from visit db place rows targets).db (walked_from visit db place rows targets).stop
+comes_from x P ss visit each db place rows (Err fault) p = comes_fails x P ss db _ p
+comes_from x P ss visit each db place rows (Ok targets) p = comes_walked x P ss visit each db place rows (drop place targets) p
+
+-- who waits has blockers, and closes no cycle
+others_say : (bs : List TxId) (closing : Bool) → holders_of bs closing ≡ Others → (closing ≡ false) × (not (is_none_of bs) ≡ true)
+others_say [] closing h = cc
+others_say (b ∷ bs) true h = cc
+others_say (b ∷ bs) false h = (refl, refl)
+
+-- the newest version of a row is of the row
+newest_row : (c : Content) (row : RowId) (tx : TxId) (m : Seen) → newest_of c row tx ≡ Some m → m.row ≡ row
+newest_row c row tx m h = from 0 c.log h where
+  at : (o : Option Seen) (b : Bool) (place : ℕ) → (o ≡ Some m → m.row ≡ row)
+      → (let later : Option Seen = if b then Some (record { row = row; place = place }) else None in option_or o later ≡ Some m) → m.row ≡ row
+  at (Some n) b place k e = k e
+  at None true place k e = ap (λ (o : Option Seen). (unwrap_or o m).row) (sym e)
+  at None false place k e = absurd (none_not m e)
+
+  from : (place : ℕ) (log : List Write) → newest_from c.fates row tx place log ≡ Some m → m.row ≡ row
+  from place [] e = absurd (none_not m e)
+  from place (w ∷ later) e = at (newest_from c.fates row tx (place + 1) later) (is_version c.fates row tx w) place (from (place + 1) later) e
+
+newer_row : (c : Content) (a : Asked) (m : Seen) (r : Result Bool ValueFault) → newest_version c a ≡ Newer m r → m.row ≡ a.seen.row
+newer_row c a m r h = by (newest_of c a.seen.row a.tx) refl h where
+  same_newer : (n : Seen) (s : Result Bool ValueFault) → Newer n s ≡ Newer m r → n ≡ m
+  same_newer n s e = cc
+
+  gone_not : Gone ≡ Newer m r → ⊥
+  gone_not e = cc
+
+  same_not : Same ≡ Newer m r → ⊥
+  same_not e = cc
+
+  by_place : (n : Seen) (b : Bool) (s : Result Bool ValueFault) → (let v : Version = if b then Same else Newer n s in v ≡ Newer m r) → n ≡ m
+  by_place n true s e = absurd (same_not e)
+  by_place n false s e = same_newer n s e
+
+  by_values : (n : Seen) (o : Option (List Value)) → version_at a n o ≡ Newer m r → n ≡ m
+  by_values n None e = absurd (gone_not e)
+  by_values n (Some values) e = by_place n _ _ e
+
+  by : (o : Option Seen) → o ≡ newest_of c a.seen.row a.tx → version_of c a o ≡ Newer m r → m.row ≡ a.seen.row
+  by None e k = absurd (gone_not k)
+  by (Some n) e k = newest_row c a.seen.row a.tx m (sym e ∙ ap Some (by_values n (values_at c n.place) k))
+
+-- a target: what is done with a version of the row once its lock is held
+at_case : (x : TxId) (P : Database → Type 0) (ss : List Session) (act : Database → Seen → Visit) (db : Database) (a : Asked) (l : Level) (hs : Holders) (v : Version)
+    → P db → P (record db { held = with_lock db.held (lock_of a) })
+    → ((d : Database) (seen : Seen) → P d → holds d.held (lock_of a) ≡ true → seen.row ≡ a.seen.row → Comes x P ss (act d seen).db (act d seen).stop)
+    → (hs ≡ Others → Refused x ss db (Row a.seen.row a.strength))
+    → ((m : Seen) (r : Result Bool ValueFault) → v ≡ Newer m r → m.row ≡ a.seen.row)
+    → (let y = at_outcome act (record db { held = locks_after (is_locked l hs v) db.held (lock_of a) }) a (outcome l a.seen hs v) in Comes x P ss y.db y.stop)
+at_case x P ss act db a ReadCommitted OthersInACycle v p q does refused named = comes_fails x P ss db _ p
+at_case x P ss act db a ReadCommitted Others v p q does refused named = comes_blocked x P ss db _ p (refused refl)
+at_case x P ss act db a ReadCommitted Nobody Gone p q does refused named = comes_on x P ss db [] p
+at_case x P ss act db a ReadCommitted Nobody Same p q does refused named =
+    does (record db { held = with_lock db.held (lock_of a) }) a.seen q (holds_last db.held (lock_of a)) refl
+at_case x P ss act db a ReadCommitted Nobody (Newer m (Ok true)) p q does refused named =
+    does (record db { held = with_lock db.held (lock_of a) }) m q (holds_last db.held (lock_of a)) (named m (Ok true) refl)
+at_case x P ss act db a ReadCommitted Nobody (Newer m (Ok false)) p q does refused named = comes_on x P ss _ [] q
+at_case x P ss act db a ReadCommitted Nobody (Newer m (Err fault)) p q does refused named = comes_fails x P ss _ _ q
+at_case x P ss act db a RepeatableRead hs Gone p q does refused named = at_gone hs where
+  at_gone : (h : Holders) → (let y = at_outcome act (record db { held = locks_after (is_locked RepeatableRead h Gone) db.held (lock_of a) }) a (outcome RepeatableRead a.seen h Gone) in Comes x P ss y.db y.stop)
+  at_gone Nobody = comes_fails x P ss db _ p
+  at_gone Others = comes_fails x P ss db _ p
+  at_gone OthersInACycle = comes_fails x P ss db _ p
+at_case x P ss act db a RepeatableRead hs (Newer m r) p q does refused named = at_newer hs where
+  at_newer : (h : Holders) → (let y = at_outcome act (record db { held = locks_after (is_locked RepeatableRead h (Newer m r)) db.held (lock_of a) }) a (outcome RepeatableRead a.seen h (Newer m r)) in Comes x P ss y.db y.stop)
+  at_newer Nobody = comes_fails x P ss db _ p
+  at_newer Others = comes_fails x P ss db _ p
+  at_newer OthersInACycle = comes_fails x P ss db _ p
+at_case x P ss act db a RepeatableRead OthersInACycle Same p q does refused named = comes_fails x P ss db _ p
+at_case x P ss act db a RepeatableRead Others Same p q does refused named = comes_blocked x P ss db _ p (refused refl)
+at_case x P ss act db a RepeatableRead Nobody Same p q does refused named =
+    does (record db { held = with_lock db.held (lock_of a) }) a.seen q (holds_last db.held (lock_of a)) refl
+
+comes_target : (P Q : Database → Type 0) (act : Database → Seen → Visit) (db : Database) (w : Work) (a : Asked) → a.tx ≡ w.t.tx → Keeps w.t.tx P Q → P db
+    → ((d : Database) (seen : Seen) → P d → holds d.held (lock_of a) ≡ true → seen.row ≡ a.seen.row → Comes w.t.tx P w.around.sessions (act d seen).db (act d seen).stop)
+    → Comes w.t.tx P w.around.sessions (at_target act db w a).db (at_target act db w a).stop
+comes_target P Q act db w a own keeps p does =
+    at_case w.t.tx P w.around.sessions act db a a.level (holders db.held (waits_in db w.around.sessions) a) (newest_version db.content a) p (keeps.lock db (lock_of a) own p) does
+    (λ e. let o = others_say _ _ e in subst (λ t. Refused t w.around.sessions db (Row a.seen.row a.strength)) own (record { free = o.0; stopped = o.1 }))
+    (newer_row db.content a)
+
+-- a write of a held row
+writes : (P Q : Database → Type 0) (d : Database) (w : Work) (a : Asked) (row : RowId) (values : Option (List Value)) → a.tx ≡ w.t.tx → a.strength ≡ Exclusive → Keeps w.t.tx P Q → P d
+    → holds d.held (lock_of a) ≡ true → row ≡ a.seen.row → P (written d w row values)
+writes P Q d w a row values own strong keeps p held named =
+    keeps.write d (record { tx = w.t.tx; command = w.t.command; table = record { 0 = w.table }; row = row; values = values }) refl
+    (subst (λ h. holds d.held h ≡ true) (same_lock_of a w.t.tx row own strong named) held) p where
+      same_lock_of : (b : Asked) (tx : TxId) (r : RowId) → b.tx ≡ tx → b.strength ≡ Exclusive → r ≡ b.seen.row
+          → lock_of b ≡ record { row = r; tx = tx; strength = Exclusive }
+      same_lock_of b tx r e f g =
+          let mk : RowId → TxId → Strength → Held = λ r t s. record { row = r; tx = t; strength = s } in
+          ap (λ y. mk y b.tx b.strength) (sym g) ∙ (ap (λ y. mk r y b.strength) e ∙ ap (λ y. mk r tx y) f)
+
+comes_unless_null : (x : TxId) (P : Database → Type 0) (ss : List Session) (name : List ℕ) (db after : Database) (o : Option (List ℕ)) → P db → P after
+    → Comes x P ss (unless_null name db after o).db (unless_null name db after o).stop
+comes_unless_null x P ss name db after (Some column) p q = comes_fails x P ss db _ p
+comes_unless_null x P ss name db after None p q = comes_on x P ss after [] q
+
+comes_update_at : (P Q : Database → Type 0) (w : Work) (u : UpdateTree) (targets : List Target) → Keeps w.t.tx P Q → (db : Database) (seen : Seen) → P db
+    → Comes w.t.tx P w.around.sessions (update_at w u targets db seen).db (update_at w u targets db seen).stop
+comes_update_at P Q w u targets keeps db seen p = comes_target P Q (update_with w u targets) db w a refl keeps p (λ d s q held named. made d s q held named (updated (cols_in d w) targets u.sets (values_of d s))) where
+  a : Asked
+  a = ask db w Exclusive u.filter seen
+
+  made : (d : Database) (s : Seen) → P d → holds d.held (lock_of a) ≡ true → s.row ≡ a.seen.row → (r : Result (List Value) ValueFault)
+      → Comes w.t.tx P w.around.sessions (update_made w u.table d s.row r).db (update_made w u.table d s.row r).stop
+  made d s q held named (Err fault) = comes_fails w.t.tx P w.around.sessions d _ q
+  made d s q held named (Ok values) = comes_unless_null w.t.tx P w.around.sessions u.table d _ _ q (writes P Q d w a s.row (Some values) refl refl keeps q held named)
+
+comes_delete_at : (P Q : Database → Type 0) (w : Work) (e : DeleteTree) → Keeps w.t.tx P Q → (db : Database) (seen : Seen) → P db
+    → Comes w.t.tx P w.around.sessions (delete_at w e db seen).db (delete_at w e db seen).stop
+comes_delete_at P Q w e keeps db seen p =
+    comes_target P Q (delete_with w) db w (ask db w Exclusive e.filter seen) refl keeps p
+    (λ d s q held named. comes_on w.t.tx P w.around.sessions _ [] (writes P Q d w (ask db w Exclusive e.filter seen) s.row None refl refl keeps q held named))
+
+comes_lock_at : (P Q : Database → Type 0) (w : Work) (s : SelectTree) (l : Lock) → Keeps w.t.tx P Q → (db : Database) (seen : Seen) → P db
+    → Comes w.t.tx P w.around.sessions (lock_at w s l db seen).db (lock_at w s l db seen).stop
+comes_lock_at P Q w s l keeps db seen p =
+    comes_target P Q (lock_with w s) db w (ask db w (strength_of l) s.filter seen) refl keeps p (λ d v q held named. made d q (row_values (cols_in d w) s.items (values_of d v))) where
+      made : (d : Database) → P d → (r : Result (List Value) ValueFault) → Comes w.t.tx P w.around.sessions (lock_made d r).db (lock_made d r).stop
+      made d q (Err fault) = comes_fails w.t.tx P w.around.sessions d _ q
+      made d q (Ok row) = comes_on w.t.tx P w.around.sessions d (row ∷ []) q
+
+comes_insert_at : (P Q : Database → Type 0) (w : Work) (name : List ℕ) (targets : List Target) → Keeps w.t.tx P Q → (db : Database) (row : List Tree) → P db
+    → Comes w.t.tx P w.around.sessions (insert_at w name targets db row).db (insert_at w name targets db row).stop
+comes_insert_at P Q w name targets keeps db row p = made (new_values _ targets row) where
+  made : (r : Result (List Value) ValueFault) → Comes w.t.tx P w.around.sessions (insert_made w name db r).db (insert_made w name db r).stop
+  made (Err fault) = comes_fails w.t.tx P w.around.sessions db _ p
+  made (Ok values) =
+      let h : Held = record { row = new_row db.content; tx = w.t.tx; strength = Exclusive } in
+      let locked : Database = record db { held = with_lock db.held h } in
+      comes_unless_null w.t.tx P w.around.sessions name db _ _ p
+      (keeps.write locked (record { tx = w.t.tx; command = w.t.command; table = record { 0 = w.table }; row = new_row db.content; values = Some values }) refl
+      (holds_last db.held h) (keeps.lock db h refl p))
+
+same_open : (t u : OpenTransaction) → Open t ≡ Open u → t ≡ u
+same_open t u h = cc
+
+ran_fails : (P Q : Database → Type 0) (V : View → Type 0) (ss : List Session) (e : Database) (t : OpenTransaction) (fault : StmtFault) → Keeps t.tx P Q → P e
+    → Ran t.tx P Q V ss (fails e t fault)
+ran_fails P Q V ss e t fault keeps p = record { db = keeps.roll_back e p; own = λ u h. absurd (never t.explicit u h); waits = λ q h. absurd (none_not q h) } where
+  never : (b : Bool) (u : OpenTransaction) → (if b then Aborted else Closed) ≡ Open u → ⊥
+  never true u h = cc
+  never false u h = cc
+
+ran_open : (P Q : Database → Type 0) (V : View → Type 0) (ss : List Session) (e : Database) (t v : OpenTransaction) (outcome : Reply) → v.tx ≡ t.tx → Keeps t.tx P Q → P e
+    → Ran t.tx P Q V ss (record { db = e; transaction = Open v; statement = None; outcome = outcome })
+ran_open P Q V ss e t v outcome same keeps p =
+    record { db = keeps.rest e p; own = λ u h. (ap (λ (y : OpenTransaction). y.tx) (sym (same_open v u h)) ∙ same, p); waits = λ q h. absurd (none_not q h) }
+
+ran_closed : (P Q : Database → Type 0) (V : View → Type 0) (ss : List Session) (x : TxId) (e : Database) → Q e → Ran x P Q V ss (turns e Closed)
+ran_closed P Q V ss x e q = record { db = q; own = λ u h. absurd (never u h); waits = λ q h. absurd (none_not q h) } where
+  never : (u : OpenTransaction) → Closed ≡ Open u → ⊥
+  never u h = cc
+
+ran_if : (P Q : Database → Type 0) (V : View → Type 0) (ss : List Session) (x : TxId) (b : Bool) (d e : Did) → Ran x P Q V ss d → Ran x P Q V ss e → Ran x P Q V ss (if b then d else e)
+ran_if P Q V ss x true d e h k = h
+ran_if P Q V ss x false d e h k = k
+
+-- a statement at work comes to its end, waits, or fails
+ran_ended : (P Q : Database → Type 0) (V : View → Type 0) (before : Content) (w : Work) (f : List (List Value) → Reply) (k : Walk) → Keeps w.t.tx P Q → V w.view
+    → Comes w.t.tx P w.around.sessions k.db k.stop → Ran w.t.tx P Q V w.around.sessions (ended before w f k)
+ran_ended P Q V before w f k keeps view c = by k.stop c.blocked where
+  same_progress : (p q : Progress) → Some p ≡ Some q → p ≡ q
+  same_progress p q h = cc
+
+  by : (o : Option Stop) → ((r : Request) → o ≡ Some (Blocked r) → Refused w.t.tx w.around.sessions k.db r) → Ran w.t.tx P Q V w.around.sessions (comes_to before w f k o)
+  by None blocked = ran_open P Q V w.around.sessions k.db w.t _ (f k.rows) refl keeps c.kept
+  by (Some (Fails fault)) blocked = ran_fails P Q V w.around.sessions k.db w.t fault keeps c.kept
+  by (Some (Blocked r)) blocked = record {
+    db = keeps.rest k.db c.kept;
+    own = λ u h. (ap (λ (y : OpenTransaction). y.tx) (sym (same_open _ u h)), c.kept);
+    waits = λ q h.
+        let same = same_progress _ q h in
+        (subst (λ (y : Progress). Refused w.t.tx w.around.sessions k.db y.wait.request) same (blocked r refl), subst (λ (y : Progress). V y.view) same view, (_, refl));
+  }
+
+ran_insert_to : (P Q : Database → Type 0) (V : View → Type 0) (db : Database) (w : Work) (i : InsertTree) (r : Result (List Target) (List ℕ)) → Keeps w.t.tx P Q → V w.view → P db
+    → Ran w.t.tx P Q V w.around.sessions (insert_to db w i r)
+ran_insert_to P Q V db w i (Err column) keeps view p = ran_fails P Q V w.around.sessions db w.t _ keeps p
+ran_insert_to P Q V db w i (Ok targets) keeps view p = fitting (lacking_rows i.rows) where
+  fitting : (o : Option (List ℕ)) → Ran w.t.tx P Q V w.around.sessions (insert_fitting db w i targets o)
+  fitting (Some name) = ran_fails P Q V w.around.sessions db w.t _ keeps p
+  fitting None =
+      ran_if P Q V w.around.sessions w.t.tx _ _ _ (ran_fails P Q V w.around.sessions db w.t _ keeps p)
+      (ran_ended P Q V db.content w done _ keeps view (comes_walked w.t.tx P w.around.sessions _ (comes_insert_at P Q w i.table targets keeps) db 0 [] i.rows p))
+
+ran_update_from : (P Q : Database → Type 0) (V : View → Type 0) (db : Database) (w : Work) (u : UpdateTree) (place : ℕ) (rows : List (List Value)) → Keeps w.t.tx P Q → V w.view → P db
+    → Ran w.t.tx P Q V w.around.sessions (update_from db w u place rows)
+ran_update_from P Q V db w u place rows keeps view p =
+    ran_ended P Q V db.content w done _ keeps view
+    (comes_from w.t.tx P w.around.sessions _ (comes_update_at P Q w u (assigned_to (set_targets (columns_in db w) u.sets)) keeps) db place rows (passing_targets db w u.filter) p)
+
+ran_update_to : (P Q : Database → Type 0) (V : View → Type 0) (db : Database) (w : Work) (u : UpdateTree) (r : Result (List Target) (List ℕ)) → Keeps w.t.tx P Q → V w.view → P db
+    → Ran w.t.tx P Q V w.around.sessions (update_to db w u r)
+ran_update_to P Q V db w u (Err column) keeps view p = ran_fails P Q V w.around.sessions db w.t _ keeps p
+ran_update_to P Q V db w u (Ok targets) keeps view p = fitting (lacking_update (cols_of (columns_in db w)) u) where
+  fitting : (o : Option (List ℕ)) → Ran w.t.tx P Q V w.around.sessions (update_fitting db w u o)
+  fitting (Some name) = ran_fails P Q V w.around.sessions db w.t _ keeps p
+  fitting None = ran_update_from P Q V db w u 0 [] keeps view p
+
+ran_delete_from : (P Q : Database → Type 0) (V : View → Type 0) (db : Database) (w : Work) (e : DeleteTree) (place : ℕ) (rows : List (List Value)) → Keeps w.t.tx P Q → V w.view → P db
+    → Ran w.t.tx P Q V w.around.sessions (delete_from db w e place rows)
+ran_delete_from P Q V db w e place rows keeps view p =
+    ran_ended P Q V db.content w done _ keeps view
+    (comes_from w.t.tx P w.around.sessions _ (comes_delete_at P Q w e keeps) db place rows (passing_targets db w e.filter) p)
+
+ran_delete_fitting : (P Q : Database → Type 0) (V : View → Type 0) (db : Database) (w : Work) (e : DeleteTree) (o : Option (List ℕ)) → Keeps w.t.tx P Q → V w.view → P db
+    → Ran w.t.tx P Q V w.around.sessions (delete_fitting db w e o)
+ran_delete_fitting P Q V db w e (Some name) keeps view p = ran_fails P Q V w.around.sessions db w.t _ keeps p
+ran_delete_fitting P Q V db w e None keeps view p = ran_delete_from P Q V db w e 0 [] keeps view p
+
+ran_lock_from : (P Q : Database → Type 0) (V : View → Type 0) (db : Database) (w : Work) (s : SelectTree) (l : Lock) (place : ℕ) (rows : List (List Value)) → Keeps w.t.tx P Q → V w.view → P db
+    → Ran w.t.tx P Q V w.around.sessions (lock_from db w s l place rows)
+ran_lock_from P Q V db w s l place rows keeps view p =
+    let shown : List (List Value) → Reply = λ y. Rows (record { titles = titles_of (columns_in db w) s.items; rows = y }) in
+    ran_ended P Q V db.content w shown (walked_from (lock_at w s l) db place rows (taken_targets db w s)) keeps view
+    (comes_from w.t.tx P w.around.sessions _ (comes_lock_at P Q w s l keeps) db place rows (taken_targets db w s) p)
+
+ran_answered : (P Q : Database → Type 0) (V : View → Type 0) (ss : List Session) (db : Database) (t : OpenTransaction) (r : Result Results ValueFault) → Keeps t.tx P Q → P db
+    → Ran t.tx P Q V ss (answered db t r)
+ran_answered P Q V ss db t (Ok set) keeps p = ran_open P Q V ss db t _ _ refl keeps p
+ran_answered P Q V ss db t (Err fault) keeps p = ran_fails P Q V ss db t _ keeps p
+
+ran_unless_wrong : (P Q : Database → Type 0) (V : View → Type 0) (ss : List Session) (db : Database) (t : OpenTransaction) (o : Option (List ℕ)) (n : Option ℤ) (due : Did) → Keeps t.tx P Q → P db
+    → Ran t.tx P Q V ss due → Ran t.tx P Q V ss (unless_wrong db t o n due)
+ran_unless_wrong P Q V ss db t (Some name) n due keeps p k = ran_fails P Q V ss db t _ keeps p
+ran_unless_wrong P Q V ss db t None (Some n) due keeps p k = ran_fails P Q V ss db t _ keeps p
+ran_unless_wrong P Q V ss db t None None due keeps p k = k
+
+ran_select_rows : (P Q : Database → Type 0) (V : View → Type 0) (db : Database) (w : Work) (s : SelectTree) (o : Option Lock) → Keeps w.t.tx P Q → V w.view → P db
+    → Ran w.t.tx P Q V w.around.sessions (select_rows db w s o)
+ran_select_rows P Q V db w s None keeps view p = ran_answered P Q V w.around.sessions db w.t _ keeps p
+ran_select_rows P Q V db w s (Some l) keeps view p = ran_lock_from P Q V db w s l 0 [] keeps view p
+
+ran_select_in : (P Q : Database → Type 0) (V : View → Type 0) (db : Database) (w : Work) (s : SelectTree) → Keeps w.t.tx P Q → V w.view → P db
+    → Ran w.t.tx P Q V w.around.sessions (select_in db w s)
+ran_select_in P Q V db w s keeps view p = ran_unless_wrong P Q V w.around.sessions db w.t _ _ _ keeps p (ran_select_rows P Q V db w s s.lock keeps view p)
+
+ran_select : (P Q : Database → Type 0) (V : View → Type 0) (db : Database) (t : OpenTransaction) (around : Around) (s : SelectTree) (o : Option (List ℕ))
+    → Keeps t.tx P Q → V (view_of db.content t) → P db → Ran t.tx P Q V around.sessions (select db t around s o)
+ran_select P Q V db t around s None keeps view p = ran_unless_wrong P Q V around.sessions db t _ _ _ keeps p (ran_answered P Q V around.sessions db t _ keeps p)
+ran_select P Q V db t around s (Some name) keeps view p = at (find_table db (Some t.tx) name) where
+  at : (k : Option ℕ) → Ran t.tx P Q V around.sessions (select_at db t around s name k)
+  at None = ran_fails P Q V around.sessions db t _ keeps p
+  at (Some k) = ran_select_in P Q V db (beginning db t around k) s keeps view p
+
+kept_dropped : (P Q : Database → Type 0) (t : OpenTransaction) (if_exists : Bool) (names : List (List ℕ)) → Keeps t.tx P Q → (db : Database) → P db → P (dropped db t if_exists names).db
+kept_dropped P Q t if_exists [] keeps db p = p
+kept_dropped P Q t if_exists (name ∷ names) keeps db p = at (λ d. kept_dropped P Q t if_exists names keeps d) (find_table db (Some t.tx) name) where
+  missing : (b : Bool) → P (dropped db t if_exists names).db → (let e : DroppedUpTo = if b then dropped db t if_exists names else record { db = db; missing = Some name } in P e.db)
+  missing true q = q
+  missing false q = p
+
+  at : ((d : Database) → P d → P (dropped d t if_exists names).db) → (o : Option ℕ) → P (dropped_at db t if_exists name (λ d. dropped d t if_exists names) o).db
+  at on (Some k) = on _ (keeps.define db (with_drop db.catalog k t.tx) p)
+  at on None = missing if_exists (on db p)
+
+ran_drop : (P Q : Database → Type 0) (V : View → Type 0) (ss : List Session) (before : Content) (t : OpenTransaction) (e : Database) (o : Option (List ℕ)) → Keeps t.tx P Q → P e
+    → Ran t.tx P Q V ss (drop_ended before t e o)
+ran_drop P Q V ss before t e None keeps p = ran_open P Q V ss e t _ _ refl keeps p
+ran_drop P Q V ss before t e (Some name) keeps p = ran_fails P Q V ss e t _ keeps p
+
+ran_level : (P Q : Database → Type 0) (V : View → Type 0) (ss : List Session) (db : Database) (t : OpenTransaction) (explicit : Bool) (level : Level) → Keeps t.tx P Q → P db
+    → Ran t.tx P Q V ss (level_set db t explicit level)
+ran_level P Q V ss db t explicit level keeps p =
+    ran_if P Q V ss t.tx _ _ _ (ran_fails P Q V ss db t _ keeps p) (ran_open P Q V ss db t (record t { explicit = explicit; level = level }) _ refl keeps p)
+
+-- a statement that begins in an open transaction
+pub ran_begins : (P Q : Database → Type 0) (V : View → Type 0) (db : Database) (t : OpenTransaction) (around : Around) (stmt : StmtTree)
+    → Keeps t.tx P Q → V (view_of db.content t) → P db → Ran t.tx P Q V around.sessions (run_open db t around stmt)
+ran_begins P Q V db t around (Begin level) keeps view p =
+    ran_if P Q V around.sessions t.tx t.explicit _ _ (ran_open P Q V around.sessions db t t _ refl keeps p) (ran_level P Q V around.sessions db t true (unwrap_or level t.level) keeps p)
+ran_begins P Q V db t around Commit keeps view p = ran_closed P Q V around.sessions t.tx _ (keeps.commit db p)
+ran_begins P Q V db t around Rollback keeps view p = ran_closed P Q V around.sessions t.tx _ (keeps.roll_back db p)
+ran_begins P Q V db t around (SetTransaction level) keeps view p = ran_level P Q V around.sessions db t t.explicit level keeps p
+ran_begins P Q V db t around SetDeadlockTimeout keeps view p = ran_open P Q V around.sessions db t t _ refl keeps p
+ran_begins P Q V db t around (Create c) keeps view p = at (find_table db (Some t.tx) c.name) where
+  at : (o : Option ℕ) → Ran t.tx P Q V around.sessions (create db t c o)
+  at (Some k) = ran_fails P Q V around.sessions db t _ keeps p
+  at None = ran_open P Q V around.sessions _ t _ _ refl keeps (keeps.define db _ p)
+ran_begins P Q V db t around (DropTables d) keeps view p = ran_drop P Q V around.sessions db.content t _ _ keeps (kept_dropped P Q t d.if_exists d.names keeps db p)
+ran_begins P Q V db t around (Inserts i) keeps view p = at (find_table db (Some t.tx) i.table) where
+  at : (o : Option ℕ) → Ran t.tx P Q V around.sessions (insert db t around i o)
+  at None = ran_fails P Q V around.sessions db t _ keeps p
+  at (Some k) = ran_insert_to P Q V db (beginning db t around k) i _ keeps view p
+ran_begins P Q V db t around (Updates u) keeps view p = at (find_table db (Some t.tx) u.table) where
+  at : (o : Option ℕ) → Ran t.tx P Q V around.sessions (update db t around u o)
+  at None = ran_fails P Q V around.sessions db t _ keeps p
+  at (Some k) = ran_update_to P Q V db (beginning db t around k) u _ keeps view p
+ran_begins P Q V db t around (Deletes d) keeps view p = at (find_table db (Some t.tx) d.table) where
+  at : (o : Option ℕ) → Ran t.tx P Q V around.sessions (delete db t around d o)
+  at None = ran_fails P Q V around.sessions db t _ keeps p
+  at (Some k) = ran_delete_fitting P Q V db (beginning db t around k) d _ keeps view p
+ran_begins P Q V db t around (Selects s) keeps view p = ran_select P Q V db t around s s.table keeps view p
+
+-- one that goes on
+pub ran_on : (P Q : Database → Type 0) (V : View → Type 0) (db : Database) (t : OpenTransaction) (around : Around) (g : Progress) (stmt : StmtTree)
+    → Keeps t.tx P Q → V (view_of db.content t) → V g.view → P db → Ran t.tx P Q V around.sessions (run_on db t around g stmt)
+ran_on P Q V db t around g (Updates u) keeps view own p = ran_update_from P Q V db (going_on t around g) u g.place g.rows keeps own p
+ran_on P Q V db t around g (Deletes d) keeps view own p = ran_delete_from P Q V db (going_on t around g) d g.place g.rows keeps own p
+ran_on P Q V db t around g (Selects s) keeps view own p = again s.lock where
+  again : (o : Option Lock) → Ran t.tx P Q V around.sessions (lock_again db t around s g o)
+  again None = ran_begins P Q V db t around (Selects s) keeps view p
+  again (Some l) = ran_lock_from P Q V db (going_on t around g) s l g.place g.rows keeps own p
+ran_on P Q V db t around g (Begin level) keeps view own p = ran_begins P Q V db t around (Begin level) keeps view p
+ran_on P Q V db t around g Commit keeps view own p = ran_begins P Q V db t around Commit keeps view p
+ran_on P Q V db t around g Rollback keeps view own p = ran_begins P Q V db t around Rollback keeps view p
+ran_on P Q V db t around g (SetTransaction level) keeps view own p = ran_begins P Q V db t around (SetTransaction level) keeps view p
+ran_on P Q V db t around g SetDeadlockTimeout keeps view own p = ran_begins P Q V db t around SetDeadlockTimeout keeps view p
+ran_on P Q V db t around g (Create c) keeps view own p = ran_begins P Q V db t around (Create c) keeps view p
+ran_on P Q V db t around g (DropTables d) keeps view own p = ran_begins P Q V db t around (DropTables d) keeps view p
+ran_on P Q V db t around g (Inserts i) keeps view own p = ran_begins P Q V db t around (Inserts i) keeps view p
+
+-- who does what a statement of the session does: its transaction, or the one that begins
+abbrev pub doer : Database → Transaction → TxId
+doer db Closed = next_tx db.content
+doer db (Open t) = t.tx
+doer db Aborted = next_tx db.content
+
+-- where it does it
+abbrev pub start : Database → Transaction → Database
+start db Closed = begun db
+start db (Open t) = db
+start db Aborted = begun db
+
+-- the views that it may have
+abbrev pub Allows : (View → Type 0) → Database → Transaction → Option Progress → Type 0
+Allows V db Closed statement = V (view_of (begun db).content (fresh db.content ReadCommitted false))
+Allows V db (Open t) None = V (view_of db.content t)
+Allows V db (Open t) (Some g) = V (view_of db.content t) × V g.view
+Allows V db Aborted statement = Unit {0}
+
+-- nothing was done, and no transaction is open
+pub record Idles (db : Database) (d : Did) : Type 0 where
+  pub same : d.db ≡ db
+  pub over : d.statement ≡ None
+  pub shut : (u : OpenTransaction) → d.transaction ≡ Open u → ⊥
+
+-- a statement did nothing, or what its transaction may do
+pub does_stmt : (P Q : Database → Type 0) (V : View → Type 0) (db : Database) (tr : Transaction) (statement : Option Progress) (around : Around) (stmt : StmtTree)
+    → Keeps (doer db tr) P Q → Allows V db tr statement → P (start db tr)
+    → Idles db (run_stmt db tr statement around stmt) ⊎ Ran (doer db tr) P Q V around.sessions (run_stmt db tr statement around stmt)
+does_stmt P Q V db Aborted statement around stmt keeps view p = inl (by (is_end stmt)) where
+  by : (b : Bool) → (let d : Did = if b then turns db Closed else record { db = db; transaction = Aborted; statement = None; outcome = Failed AbortedFault } in Idles db d)
+  by true = record { same = refl; over = refl; shut = λ u h. cc }
+  by false = record { same = refl; over = refl; shut = λ u h. cc }
+does_stmt P Q V db (Open t) None around stmt keeps view p = inr (ran_begins P Q V db t around stmt keeps view p)
+does_stmt P Q V db (Open t) (Some g) around stmt keeps view p = inr (ran_on P Q V db t around g stmt keeps view.0 view.1 p)
+does_stmt P Q V db Closed statement around stmt keeps view p = by stmt where
+  first : OpenTransaction
+  first = fresh db.content ReadCommitted false
+
+  idles : Idles db (turns db Closed)
+  idles = record { same = refl; over = refl; shut = λ u h. cc }
+
+  run : (s : StmtTree) → Idles db (run_first db around s) ⊎ Ran first.tx P Q V around.sessions (run_first db around s)
+  run s = inr (ran_begins P Q V (begun db) first around s keeps view p)
+
+  by : (s : StmtTree) → Idles db (run_closed db around s) ⊎ Ran first.tx P Q V around.sessions (run_closed db around s)
+  by (Begin level) = inr (ran_open P Q V around.sessions (begun db) first (fresh db.content (unwrap_or level ReadCommitted) true) _ refl keeps p)
+  by Commit = inl idles
+  by Rollback = inl idles
+  by (SetTransaction level) = inr (ran_open P Q V around.sessions (begun db) first (fresh db.content level false) _ refl keeps p)
+  by SetDeadlockTimeout = inl idles
+  by (Create c) = run (Create c)
+  by (DropTables d) = run (DropTables d)
+  by (Inserts i) = run (Inserts i)
+  by (Updates u) = run (Updates u)
+  by (Deletes d) = run (Deletes d)
+  by (Selects s) = run (Selects s)

@@ -1,0 +1,12 @@
+//! Laws of waits: each function's contract is one of them, and its body does nothing.
+ghost use Rattle.wait_laws.specs.Laws.{NoCycleOfWaits, DeadlockIsExact};
+
+/// In no state do transactions wait in a cycle, and from each its blockers lead to one that waits for nobody.
+pub fn no_cycle_of_waits()
+    ensures { NoCycleOfWaits }
+{}
+
+/// A target is answered as a deadlock exactly where a wait for its blockers would close a cycle, and as a wait exactly where it has blockers and closes none.
+pub fn deadlock_is_exact()
+    ensures { DeadlockIsExact }
+{}
