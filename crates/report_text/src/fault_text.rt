@@ -1,11 +1,13 @@
 //! What a statement that fails prints.
 
-ghost use Rattle.std.specs.Prelude.{◌≡◌, ◌++◌, OnOk};
+ghost use Rattle.std.specs.Prelude.{◌≡◌, ◌++◌, OnOk, codes};
+ghost use Rattle.std.specs.Fmt.{signed_decimal};
 ghost use Rattle.iso_lexer.specs.Names.{name_view, decoded};
 ghost use Rattle.report_text.specs.FaultText.{in_quotes, the_column, the_relation, the_table, column_of, value_fault_text, fault_text};
 
 use crate::page::{Page, push_name};
 use iso_lexer::{Ident, Name};
+use itoa::Buffer;
 use session_machine::StmtFault;
 use sql_values::ValueFault;
 use std::alloc::AllocError;
@@ -64,6 +66,16 @@ fn push_table(page: &mut Page, name: &Ident<'_>) -> Result<(), AllocError>
     push_quoted(page, &name.name())
 }
 
+/// Of a position of ORDER BY.
+fn push_position(page: &mut Page, position: i128) -> Result<(), AllocError>
+    ensures { OnOk result (page.new.bytes.items ≡ page.old.bytes.items ++ (codes "ORDER BY position " ++ signed_decimal position ++ codes " is not in select list")) }
+{
+    let mut buffer = Buffer::new();
+    page.push(b"ORDER BY position ")?;
+    page.push(buffer.format(position).as_bytes())?;
+    page.push(b" is not in select list")
+}
+
 /// Pushes the text of a fault.
 #[tactic(auto, unfolding(crate::specs::FaultText::fault_text))]
 pub fn push_fault(page: &mut Page, fault: &StmtFault<'_>) -> Result<(), AllocError>
@@ -93,6 +105,7 @@ pub fn push_fault(page: &mut Page, fault: &StmtFault<'_>) -> Result<(), AllocErr
             page.push(b" violates not-null constraint")
         }
         StmtFault::TooManyValues => page.push(b"INSERT has more expressions than target columns"),
+        StmtFault::NoPosition(position) => push_position(page, *position),
         StmtFault::Aborted => page.push(
             b"current transaction is aborted, commands ignored until end of transaction block",
         ),

@@ -217,7 +217,7 @@ fit_insert db t i own (Some k) e fit =
     let at = find_table_within db own i.table k e in
     fit_insert_to db t i k at.0 (targets_of (columns_at db.catalog k) i.columns) fit at.1
 
-fit_answered : (db : Database) (t : OpenTransaction) (r : Result Results ValueFault) → Fits db → FitsDid (answered db t r)
+fit_answered : (db : Database) (t : OpenTransaction) (r : Result Results StmtFault) → Fits db → FitsDid (answered db t r)
 fit_answered db t (Ok set) fit = fit
 fit_answered db t (Err fault) fit = fit
 

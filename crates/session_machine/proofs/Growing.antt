@@ -250,7 +250,7 @@ does_insert : (db : Database) (t : OpenTransaction) (i : InsertTree) (o : Option
 does_insert db t i None is_open = does_fails db db t _ is_open (grows_here t db)
 does_insert db t i (Some k) is_open = does_insert_to db t i k (targets_of (columns_at db.catalog k) i.columns) is_open
 
-does_answered : (db : Database) (t : OpenTransaction) (r : Result Results ValueFault) → IsOpen db.content t.tx → Does db t (answered db t r)
+does_answered : (db : Database) (t : OpenTransaction) (r : Result Results StmtFault) → IsOpen db.content t.tx → Does db t (answered db t r)
 does_answered db t (Ok set) is_open = does_answers db.content db db t _ (grows_here t db)
 does_answered db t (Err fault) is_open = does_fails db db t _ is_open (grows_here t db)
 

@@ -164,7 +164,7 @@ kept-insert : (db : Database) (t : OpenTransaction) (i : InsertTree) (o : Option
 kept-insert db t i None live = keeps-fails db.content db.content t refl
 kept-insert db t i (Some k) live = kept-insert_to db t i k (targets_of (columns_at db.catalog k) i.columns) live
 
-kept-answered : (db : Database) (t : OpenTransaction) (r : Result Results ValueFault) → IsLive db.content (Open t) → Kept db (Open t) (answered db t r)
+kept-answered : (db : Database) (t : OpenTransaction) (r : Result Results StmtFault) → IsLive db.content (Open t) → Kept db (Open t) (answered db t r)
 kept-answered db t (Ok set) live = keeps-answers db.content db.content t live refl
 kept-answered db t (Err fault) live = keeps-fails db.content db.content t refl
 

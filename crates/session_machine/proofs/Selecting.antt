@@ -25,11 +25,17 @@ use Rattle.session_machine.specs.declared.session.OpenTransaction.{OpenTransacti
 use Rattle.session_machine.specs.declared.session.Transaction.{Transaction}
 use Rattle.session_machine.specs.declared.session.Transaction.TheVariants.{Closed, Open, Aborted}
 use Rattle.session_machine.specs.declared.fault.Refusal.{Refusal}
+use Rattle.session_machine.specs.declared.fault.StmtFault.{StmtFault}
 use Rattle.session_machine.specs.Tables.{Database, Table, Dropped, counts, is_dropped, is_meant, find_from, find_table}
 use Rattle.session_machine.specs.Transactions.{begun, fresh, view_of, view_now}
-use Rattle.session_queries.specs.Queries.{chosen, each, row_values, titles_of, result_of, cols_of}
+use Rattle.session_queries.specs.Ordering.{rows_at}
+use Rattle.session_queries.specs.Queries.{passing, each, row_values, titles_of, result_of, cols_of}
+use Rattle.sql_values.specs.Sorting.{keys_at}
+use Rattle.std.specs.List.{range_with_len}
+use Rattle.std.proofs.lemmas.List.{ext_get_or}
+use Rattle.std.proofs.lemmas.List.FromFn.{get_or-map-range_with_len, length-map-range_with_len}
 use Rattle.session_machine.specs.Views.{rows_shown}
-use Rattle.session_machine.specs.Statements.{columns_at, answered, select_in, run_stmt}
+use Rattle.session_machine.specs.Statements.{columns_at, unless_unlisted, answered, select_in, run_stmt}
 use Rattle.session_machine.specs.Machine.{Next, next, visible_to, visible_for}
 use Rattle.session_machine.specs.Laws.{VisibleIsSelected, select_all, shown_by}
 use Rattle.session_machine.proofs.Staying.{hides-begin, shown_stays}
@@ -40,10 +46,19 @@ use Rattle.session_machine.proofs.Positive.{begins_due}
 abbrev ok_rows : List (List Value) → Result (List (List Value)) ValueFault
 ok_rows rows = Ok rows
 
+abbrev ok_places : List ℕ → Result (List ℕ) ValueFault
+ok_places places = Ok places
+
 -- without WHERE each row is taken, and all of it is shown
-chosen_all : (cols : Cols) (rows : List (List Value)) → chosen cols None rows ≡ Ok rows
-chosen_all cols [] = refl
-chosen_all cols (row ∷ rows) = ap (λ (r : Result (List (List Value)) ValueFault). if_ok r (λ rest. ok_rows (row ∷ rest))) (chosen_all cols rows)
+passing_all : (cols : Cols) (k : ℕ) (rows : List (List Value)) → passing cols None k rows ≡ Ok (range_with_len k (length rows))
+passing_all cols k [] = refl
+passing_all cols k (row ∷ rows) = ap (λ (r : Result (List ℕ) ValueFault). if_ok r (λ rest. ok_places (k ∷ rest))) (passing_all cols (k + 1) rows)
+
+rows_at_all : (rows : List (List Value)) → rows_at rows (range_with_len 0 (length rows)) ≡ rows
+rows_at_all rows =
+    let long = length-map-range_with_len (keys_at rows) 0 (length rows) in
+    ext_get_or [] (rows_at rows (range_with_len 0 (length rows))) rows long
+    (λ i l. get_or-map-range_with_len (keys_at rows) 0 (length rows) i i [] (omega (arith, l, long)) (omega arith))
 
 each_all : (cols : Cols) (rows : List (List Value)) → each (row_values cols (All ∷ [])) rows ≡ Ok rows
 each_all cols [] = refl
@@ -57,14 +72,15 @@ all_of name = record { items = All ∷ []; table = Some name; filter = None; ord
 all_shown : (name : List ℕ) (columns : List ColumnTree) (rows : List (List Value)) → result_of (all_of name) columns rows ≡ Ok (record { titles = titles_of columns (All ∷ []); rows = rows })
 all_shown name columns rows =
     let f : List (List Value) → Result Results ValueFault = λ shown. Ok (record { titles = titles_of columns (All ∷ []); rows = shown }) in
-    ap (λ (r : Result (List (List Value)) ValueFault). if_ok r (λ taken. if_ok (each (row_values (cols_of columns) (All ∷ [])) taken) f)) (chosen_all (cols_of columns) rows)
-    ∙ ap (λ (r : Result (List (List Value)) ValueFault). if_ok r f) (each_all (cols_of columns) rows)
+    ap (λ (r : Result (List ℕ) ValueFault). if_ok (if_ok r ok_places) (λ places. if_ok (each (row_values (cols_of columns) (All ∷ [])) (rows_at rows places)) f)) (passing_all (cols_of columns) 0 rows)
+    ∙ (ap (λ taken. if_ok (each (row_values (cols_of columns) (All ∷ [])) taken) f) (rows_at_all rows)
+    ∙ ap (λ (r : Result (List (List Value)) ValueFault). if_ok r f) (each_all (cols_of columns) rows))
 
 shown_in : (db : Database) (t : OpenTransaction) (name : List ℕ) (o : Option ℕ)
     → shown_by (select_in db t (all_of name) name o).outcome ≡ Some (option_map (rows_shown db.content (view_of db.content t)) o)
 shown_in db t name None = refl
 shown_in db t name (Some k) =
-    ap (λ (r : Result Results ValueFault). shown_by (answered db t r).outcome) (all_shown name (columns_at db.catalog k) (rows_shown db.content (view_of db.content t) k))
+    ap (λ (r : Result Results ValueFault). shown_by (answered db t (unless_unlisted None r)).outcome) (all_shown name (columns_at db.catalog k) (rows_shown db.content (view_of db.content t) k))
 
 -- a transaction that begins makes no table known, and hides none
 counts_same : (c : Content) (tx : TxId) → tx.0 < length c.fates → counts (after_begin c) (Some (next_tx c)) tx ≡ counts c None tx

@@ -97,7 +97,7 @@ by-insert : (db : Database) (t : OpenTransaction) (i : InsertTree) (o : Option �
 by-insert db t i None h = by-fails _ t
 by-insert db t i (Some k) h = by-insert_to db t i k (targets_of (columns_at db.catalog k) i.columns) h
 
-by-answered : (db : Database) (t : OpenTransaction) (r : Result Results ValueFault) → Began db t → IsBy (commit_count db.content) (answered db t r)
+by-answered : (db : Database) (t : OpenTransaction) (r : Result Results StmtFault) → Began db t → IsBy (commit_count db.content) (answered db t r)
 by-answered db t (Ok set) h = by-moved db.content t h
 by-answered db t (Err fault) h = by-fails _ t
 

@@ -230,7 +230,7 @@ hides-insert : (view : View) (db : Database) (t : OpenTransaction) (i : InsertTr
 hides-insert view db t i None is_open other = hides-roll_back view db.content t.tx is_open
 hides-insert view db t i (Some k) is_open other = hides-insert_to view db t i k (targets_of (columns_at db.catalog k) i.columns) is_open other
 
-hides-answered : (view : View) (db : Database) (t : OpenTransaction) (r : Result Results ValueFault) → IsOpen db.content t.tx → HidesDid view db (answered db t r)
+hides-answered : (view : View) (db : Database) (t : OpenTransaction) (r : Result Results StmtFault) → IsOpen db.content t.tx → HidesDid view db (answered db t r)
 hides-answered view db t (Ok set) is_open = hides_here view db.content
 hides-answered view db t (Err fault) is_open = hides-roll_back view db.content t.tx is_open
 

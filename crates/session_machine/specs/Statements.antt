@@ -1,5 +1,5 @@
 -- What a statement leaves and answers, by what its session's transaction is (PostgreSQL manual, the pages of the statements, and 13.2).
-use Rattle.std.specs.Prelude.{ℕ, Bool, true, false, not, ◌&&◌, List, [], ◌∷◌, ◌++◌, length, Option, Some, None, option_map, is_some, is_none, unwrap_or, slice_get, Result, Ok, Err, if◌then◌else◌}
+use Rattle.std.specs.Prelude.{ℕ, ℤ, Bool, true, false, not, ◌&&◌, List, [], ◌∷◌, ◌++◌, length, Option, Some, None, option_map, is_some, is_none, unwrap_or, slice_get, Result, Ok, Err, if◌then◌else◌}
 use Rattle.sql_trees.specs.declared.stmt.Level.{Level}
 use Rattle.sql_trees.specs.declared.stmt.Level.TheVariants.{ReadCommitted, RepeatableRead}
 use Rattle.sql_trees.specs.Trees.{Tree}
@@ -14,12 +14,12 @@ use Rattle.session_machine.specs.declared.session.OpenTransaction.{OpenTransacti
 use Rattle.session_machine.specs.declared.session.Transaction.{Transaction}
 use Rattle.session_machine.specs.declared.session.Transaction.TheVariants.{Closed, Open, Aborted as AbortedOne}
 use Rattle.session_machine.specs.declared.fault.StmtFault.{StmtFault}
-use Rattle.session_machine.specs.declared.fault.StmtFault.TheVariants.{Value as OfValue, NoColumnOf, NoTable, NoTableToDrop, TableExists, NullValue, TooManyValues, Aborted, LevelTooLate}
+use Rattle.session_machine.specs.declared.fault.StmtFault.TheVariants.{Value as OfValue, NoColumnOf, NoTable, NoTableToDrop, TableExists, NullValue, TooManyValues, NoPosition, Aborted, LevelTooLate}
 use Rattle.session_machine.specs.declared.reply.Outcome.{Outcome}
 use Rattle.session_machine.specs.declared.reply.Outcome.TheVariants.{Done, Rows, Failed}
 use Rattle.session_machine.specs.Tables.{Database, Catalog, Table, find_table}
 use Rattle.session_machine.specs.Transactions.{fresh, begun, committed, rolled_back, view_of, moved_on, after_failure}
-use Rattle.session_queries.specs.Queries.{has_none, Target, result_of, targets_of, new_values, null_in, some_too_long, lacking_rows}
+use Rattle.session_queries.specs.Queries.{has_none, Target, cols_of, lacking_select, wrong_position, result_of, targets_of, new_values, null_in, some_too_long, lacking_rows}
 use Rattle.session_machine.specs.Views.{rows_shown}
 
 -- what a statement leaves of the database and of its session's transaction, and what came of it
@@ -122,17 +122,31 @@ abbrev pub insert : Database → OpenTransaction → InsertTree → Option ℕ �
 insert db t i None = fails db t (NoTable i.table)
 insert db t i (Some k) = insert_to db t i k (targets_of (columns_at db.catalog k) i.columns)
 
-abbrev pub answered : Database → OpenTransaction → Result Results ValueFault → Did
+-- where all columns are there, the first position of ORDER BY that isn't in the select list
+abbrev pub first_unlisted : Option (List ℕ) → Option ℤ → Option ℤ
+first_unlisted None position = position
+first_unlisted (Some name) position = None
+
+abbrev pub unless_unlisted : Option ℤ → Result Results ValueFault → Result Results StmtFault
+unless_unlisted (Some n) result = Err (NoPosition n)
+unless_unlisted None (Ok set) = Ok set
+unless_unlisted None (Err fault) = Err (OfValue fault)
+
+-- the result of a SELECT whose table has these columns and shows these rows, or why it fails: columns are looked up first, then positions, and then rows
+abbrev pub select_result : SelectTree → List ColumnTree → List (List Value) → Result Results StmtFault
+select_result s columns rows = unless_unlisted (first_unlisted (lacking_select (cols_of columns) s) (wrong_position columns s)) (result_of s columns rows)
+
+abbrev pub answered : Database → OpenTransaction → Result Results StmtFault → Did
 answered db t (Ok set) = answers db.content db t (Rows set)
-answered db t (Err fault) = fails db t (OfValue fault)
+answered db t (Err fault) = fails db t fault
 
 abbrev pub select_in : Database → OpenTransaction → SelectTree → List ℕ → Option ℕ → Did
 select_in db t s name None = fails db t (NoTable name)
-select_in db t s name (Some k) = answered db t (result_of s (columns_at db.catalog k) (rows_shown db.content (view_of db.content t) k))
+select_in db t s name (Some k) = answered db t (select_result s (columns_at db.catalog k) (rows_shown db.content (view_of db.content t) k))
 
 -- without FROM there is one row, without columns
 abbrev pub select_from : Database → OpenTransaction → SelectTree → Option (List ℕ) → Did
-select_from db t s None = answered db t (result_of s [] ([] ∷ []))
+select_from db t s None = answered db t (select_result s [] ([] ∷ []))
 select_from db t s (Some name) = select_in db t s name (find_table db (Some t.tx) name)
 
 -- the levels are the same
@@ -199,11 +213,7 @@ run_stmt db Closed stmt = run_closed db stmt
 run_stmt db (Open t) stmt = run_open db t stmt
 run_stmt db AbortedOne stmt = run_aborted db stmt
 
--- a SELECT that locks and sorts nothing
-abbrev pub select_runs : SelectTree → Bool
-select_runs s = is_none s.lock && has_none s.order
-
--- the statement can run by now: keys, updates, deletes, locks and orders can't
+-- the statement can run by now: keys, updates, deletes and locks can't
 abbrev pub runs : StmtTree → Bool
 runs (Begin level) = true
 runs Commit = true
@@ -215,7 +225,7 @@ runs (DropTables d) = true
 runs (Inserts i) = true
 runs (Updates u) = false
 runs (Deletes d) = false
-runs (Selects s) = select_runs s
+runs (Selects s) = is_none s.lock
 
 abbrev pub is_definition : StmtTree → Bool
 is_definition (Create c) = true

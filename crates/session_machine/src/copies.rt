@@ -40,6 +40,7 @@ impl<'a> StmtFault<'a> {
                 table: table.again(),
             },
             StmtFault::TooManyValues => StmtFault::TooManyValues,
+            StmtFault::NoPosition(position) => StmtFault::NoPosition(*position),
             StmtFault::Aborted => StmtFault::Aborted,
             StmtFault::LevelTooLate => StmtFault::LevelTooLate,
         }

@@ -46,6 +46,8 @@ pub enum StmtFault<'a> {
     TableExists(Ident<'a>),
     NullValue { column: Ident<'a>, table: Ident<'a> },
     TooManyValues,
+    /// ORDER BY names a position that isn't in the select list.
+    NoPosition(i128),
     /// The transaction failed before.
     Aborted,
     /// The level changes after the transaction's first query.

@@ -1,18 +1,12 @@
 //! Which statements run, and which define tables.
 
 ghost use Rattle.std.specs.Prelude.{◌≡◌};
-ghost use Rattle.sql_trees.specs.Statements.{select_of, stmt_of};
-ghost use Rattle.session_machine.specs.Statements.{is_definition, runs, select_runs};
+ghost use Rattle.sql_trees.specs.Statements.{stmt_of};
+ghost use Rattle.session_machine.specs.Statements.{is_definition, runs};
 
-use sql_trees::{Select, Stmt};
+use sql_trees::Stmt;
 
-fn select_can_run(select: &Select<'_>) -> bool
-    ensures { result ≡ select_runs (select_of select.now) }
-{
-    select.lock.is_none() && select.order.is_empty()
-}
-
-/// Whether the statement runs by now: a statement that needs keys, updates, deletes, locks or orders doesn't.
+/// Whether the statement runs by now: a statement that needs keys, updates, deletes or locks doesn't.
 pub fn can_run(stmt: &Stmt<'_>) -> bool
     ensures { result ≡ runs (stmt_of stmt.now) }
 {
@@ -26,7 +20,7 @@ pub fn can_run(stmt: &Stmt<'_>) -> bool
         | Stmt::Insert(_) => true,
         Stmt::CreateTable(table) => table.keys.is_empty(),
         Stmt::Update(_) | Stmt::Delete(_) => false,
-        Stmt::Select(select) => select_can_run(select),
+        Stmt::Select(select) => select.lock.is_none(),
     }
 }
 

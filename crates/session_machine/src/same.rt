@@ -57,6 +57,7 @@ impl<'a> StmtFault<'a> {
                 },
             ) => x.same(y) && s.same(t),
             (StmtFault::TooManyValues, StmtFault::TooManyValues) => true,
+            (StmtFault::NoPosition(x), StmtFault::NoPosition(y)) => x == y,
             (StmtFault::Aborted, StmtFault::Aborted) => true,
             (StmtFault::LevelTooLate, StmtFault::LevelTooLate) => true,
             _ => false,

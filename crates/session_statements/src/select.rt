@@ -1,16 +1,13 @@
 //! SELECT (PostgreSQL manual, its page).
 
-ghost use Rattle.std.specs.Prelude.{◌≡◌, ◌+◌, ◌<◌, ◌^◌, [], ◌∷◌, Result, Some, Err, length, option_map, IfOk, OnErr, IsSome};
-ghost use Rattle.sql_trees.specs.Statements.{select_of, name_of};
-ghost use Rattle.sql_values.specs.declared.fault.ValueFault.{ValueFault as ValueFaultFacts};
-ghost use Rattle.sql_values.specs.Values.{Answers};
-ghost use Rattle.result_tables.specs.Results.{Results};
+ghost use Rattle.std.specs.Prelude.{◌≡◌, ◌+◌, ◌<◌, ◌^◌, [], ◌∷◌, All, Some, length, map, option_map, IfOk, OnErr, IsSome};
+ghost use Rattle.sql_trees.specs.Statements.{column_of, select_of, name_of};
 ghost use Rattle.row_versions.specs.Log.{IsOpen};
 ghost use Rattle.session_machine.specs.Tables.{find_table};
 ghost use Rattle.session_machine.specs.Transactions.{view_of};
-ghost use Rattle.session_queries.specs.Queries.{result_of};
+ghost use Rattle.session_queries.specs.Queries.{cols_of, lacking_select, wrong_position};
 ghost use Rattle.session_machine.specs.Views.{rows_shown};
-ghost use Rattle.session_machine.specs.Statements.{columns_at, answered, select_in, select_from};
+ghost use Rattle.session_machine.specs.Statements.{columns_at, answered, first_unlisted, select_in, select_from, select_result};
 ghost use Rattle.session_machine.specs.Sound.{RowsFit};
 
 use crate::database::Database;
@@ -19,17 +16,49 @@ use iso_lexer::{Ident, Name};
 use result_tables::ResultSet;
 use row_versions::Versions;
 use session_machine::{OpenTransaction, Outcome, StmtFault, Transaction};
-use session_queries::result_of;
-use sql_trees::Select;
-use sql_values::{Row, ValueFault};
+use session_queries::{lacking_select, result_of, wrong_position};
+use sql_trees::{Column, Select};
+use sql_values::Row;
 use std::alloc::{AllocError, Global};
 
-/// The result of a SELECT without FROM: there is one row, without columns.
-fn constant_result<'t>(alloc: Global, stmt: &Select<'t>) -> Result<ResultSet<'t>, ValueFault<'t>>
-    ensures { Answers result (result_of (select_of stmt.now) [] ([] ∷ [])) }
+/// The first position of ORDER BY that isn't in the select list, where all columns are there.
+fn first_unlisted(columns: &[Column<'_>], stmt: &Select<'_>) -> Option<i128>
+    ensures { result ≡ first_unlisted (lacking_select (cols_of (map column_of columns.now)) (select_of stmt.now)) (wrong_position (map column_of columns.now) (select_of stmt.now)) }
+{
+    if lacking_select(columns, stmt).is_some() {
+        return None;
+    }
+    wrong_position(columns, stmt)
+}
+
+/// The result of a SELECT whose table has these columns and shows these rows, or why it fails.
+fn select_result<'t>(
+    alloc: Global,
+    stmt: &Select<'t>,
+    columns: &[Column<'t>],
+    rows: &[&Row],
+) -> Result<Result<ResultSet<'t>, StmtFault<'t>>, AllocError>
+    requires { All (λ row. length row.now ≡ length columns.now) rows.now }
+    ensures { IfOk result (λ made. made ≡ select_result (select_of stmt.now) (map column_of columns.now) (map (λ row. row.now) rows.now)) }
+{
+    if let Some(position) = first_unlisted(columns, stmt) {
+        return Ok(Err(StmtFault::NoPosition(position)));
+    }
+    match result_of(alloc, stmt, columns, rows) {
+        Ok(set) => Ok(Ok(set)),
+        Err(fault) => Ok(Err(fault_of(fault)?)),
+    }
+}
+
+/// The same of a SELECT without FROM: there is one row, without columns.
+fn constant_result<'t>(
+    alloc: Global,
+    stmt: &Select<'t>,
+) -> Result<Result<ResultSet<'t>, StmtFault<'t>>, AllocError>
+    ensures { IfOk result (λ made. made ≡ select_result (select_of stmt.now) [] ([] ∷ [])) }
 {
     let empty = Row::from_vec(Vec::new(alloc));
-    result_of(alloc, stmt, &[], &[&empty])
+    select_result(alloc, stmt, &[], &[&empty])
 }
 
 impl<'a, 't, V: Versions> Database<'a, 't, V> {
@@ -39,38 +68,33 @@ impl<'a, 't, V: Versions> Database<'a, 't, V> {
         by: &OpenTransaction,
         stmt: &'a Select<'t>,
         place: usize,
-    ) -> Result<ResultSet<'t>, ValueFault<'t>>
+    ) -> Result<Result<ResultSet<'t>, StmtFault<'t>>, AllocError>
         requires within { place < length self.now.catalog.tables }
         requires fit { RowsFit self.now.content self.now.catalog }
-        ensures { Answers result (result_of (select_of stmt.now) (columns_at self.now.catalog place) (rows_shown self.now.content (view_of self.now.content by.now) place)) }
+        ensures { IfOk result (λ made. made ≡ select_result (select_of stmt.now) (columns_at self.now.catalog place) (rows_shown self.now.content (view_of self.now.content by.now) place)) }
     {
         let empty = Row::from_vec(Vec::new(self.alloc));
         let view = self.view_of(by);
         let rows = self.rows_shown(&view, place, &empty)?;
-        result_of(self.alloc, stmt, self.columns(place), rows.as_slice())
+        select_result(self.alloc, stmt, self.columns(place), rows.as_slice())
     }
 
     /// The SELECT has this result, or fails.
     fn answer(
         &mut self,
         by: &OpenTransaction,
-        made: Result<ResultSet<'t>, ValueFault<'t>>,
-    ) -> Result<(Transaction, Outcome<'t>), AllocError>
+        made: Result<ResultSet<'t>, StmtFault<'t>>,
+    ) -> (Transaction, Outcome<'t>)
         requires opened { IsOpen self.old.content by.now.tx }
         requires room { by.now.command + 1 < 2 ^ 64 }
-        ensures did { (due : Result Results ValueFaultFacts) → Answers made.entry due → IfOk result (λ left.
-            answered self.old by.now due ≡ record { db = self.new; transaction = left.0; outcome = left.1 }) }
-        ensures memory { OnErr result (made.entry ≡ Err ValueFault.Memory) }
+        ensures { answered self.old by.now made.entry ≡ record { db = self.new; transaction = result.0; outcome = result.1 } }
     {
         match made {
             Ok(set) => {
                 let after = self.after_query(by);
-                Ok((Transaction::Open(after), Outcome::Rows(set)))
+                (Transaction::Open(after), Outcome::Rows(set))
             }
-            Err(fault) => {
-                let fault = fault_of(fault)?;
-                Ok(self.fail(by, fault))
-            }
+            Err(fault) => self.fail(by, fault),
         }
     }
 
@@ -91,8 +115,8 @@ impl<'a, 't, V: Versions> Database<'a, 't, V> {
         let Some(place) = self.find_table(Some(by.tx), &name) else {
             return Ok(self.fail(by, StmtFault::NoTable(Ident::new(name))));
         };
-        let made = self.result_at(by, stmt, place);
-        self.answer(by, made)
+        let made = self.result_at(by, stmt, place)?;
+        Ok(self.answer(by, made))
     }
 
     /// SELECT: what its view shows, or the fault of its first row that has one.
@@ -111,8 +135,8 @@ impl<'a, 't, V: Versions> Database<'a, 't, V> {
         match stmt.table {
             Some(name) => self.select_in(by, stmt, name),
             None => {
-                let made = constant_result(self.alloc, stmt);
-                self.answer(by, made)
+                let made = constant_result(self.alloc, stmt)?;
+                Ok(self.answer(by, made))
             }
         }
     }
