@@ -4,6 +4,8 @@
 #[cfg(test)]
 mod changes;
 #[cfg(test)]
+mod mixed;
+#[cfg(test)]
 mod orders;
 #[cfg(test)]
 mod tables;

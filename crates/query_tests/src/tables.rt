@@ -9,6 +9,7 @@ use session_queries::{
     lacking_filter, lacking_select, lacking_update, new_values, passing_places, result_of,
     row_values, set_targets, taken_places, targets_of, updated_values, wrong_position,
 };
+use sql_parser::Block;
 use sql_trees::{Column, Delete, Insert, Select, Stmt, Update};
 use sql_values::Row;
 use std::alloc::{AllocError, Global};
@@ -37,7 +38,7 @@ fn rows_of(alloc: Global, columns: &[Column<'_>], insert: &Insert<'_>) -> Result
     Ok(rows)
 }
 
-fn lent<'r>(alloc: Global, rows: &'r [Row]) -> Result<Vec<&'r Row>, AllocError> {
+pub fn lent<'r>(alloc: Global, rows: &'r [Row]) -> Result<Vec<&'r Row>, AllocError> {
     let mut lent = Vec::new(alloc);
     for row in rows {
         lent.push(row)?;
@@ -173,7 +174,7 @@ fn say_delete(
     }
 }
 
-fn say<'a>(
+pub fn say<'a>(
     alloc: Global,
     stmt: &Stmt<'a>,
     columns: &[Column<'a>],
@@ -189,23 +190,28 @@ fn say<'a>(
     Ok(words)
 }
 
+/// The one statement of the block.
+pub fn only<'b, 'a>(block: &'b Block<'a>) -> Result<&'b Stmt<'a>, Wrong> {
+    match block.stmts() {
+        [stmt] => Ok(stmt),
+        _ => Err(Wrong::Written("other statements")),
+    }
+}
+
 /// What the statement says of the table with the rows of the INSERT.
 fn said(alloc: Global, insert: &str, stmt: &str) -> Result<String, Wrong> {
-    let (table, insert, stmt) = (
-        block(alloc, TABLE)?,
-        block(alloc, insert)?,
-        block(alloc, stmt)?,
-    );
-    let ([Stmt::CreateTable(table)], [Stmt::Insert(insert)], [stmt]) = (
-        table.stmts(),
-        insert.stmts(),
-        stmt.stmts(),
-    ) else {
-        return Err(Wrong::Written("other statements"));
+    let table = block(alloc, TABLE)?;
+    let Stmt::CreateTable(table) = only(&table)? else {
+        return Err(Wrong::Written("no table"));
     };
+    let insert = block(alloc, insert)?;
+    let Stmt::Insert(insert) = only(&insert)? else {
+        return Err(Wrong::Written("no rows"));
+    };
+    let stmt = block(alloc, stmt)?;
     let rows = rows_of(alloc, &table.columns, insert)?;
     let rows = lent(alloc, &rows)?;
-    say(alloc, stmt, &table.columns, &rows)
+    say(alloc, only(&stmt)?, &table.columns, &rows)
 }
 
 /// Whether the statement says this, asked again where memory was refused.
