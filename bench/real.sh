@@ -63,18 +63,18 @@ for spec in "$folder"/*.spec; do
   [ -e "$spec" ] || break
   name=$(basename "$spec" .spec)
   run "$spec"
-  [ -z "$into" ] || cp "$room/out" "$into/$name.out"
   expected=$folder/../expected/$name.out
   [ -e "$expected" ] || expected=$folder/$name.out
   [ -e "$expected" ] || expected=/dev/null
   if cmp -s "$expected" "$room/out"; then
     equal=$((equal + 1))
-    continue
+  else
+    differ=$((differ + 1))
+    if [ "$expected" = /dev/null ]; then echo "$name: no expected text"; else echo "$name differs:"; fi
+    diff "$expected" "$room/out" | sed 's/^/    /' || true
+    grep -v '^unused step name' "$room/err" | sed 's/^/    standard error: /' || true
   fi
-  differ=$((differ + 1))
-  if [ "$expected" = /dev/null ]; then echo "$name: no expected text"; else echo "$name differs:"; fi
-  diff "$expected" "$room/out" | sed 's/^/    /' || true
-  grep -v '^unused step name' "$room/err" | sed 's/^/    standard error: /' || true
+  [ -z "$into" ] || cp "$room/out" "$into/$name.out"
 done
 echo "$equal equal, $differ differ"
 [ "$differ" = 0 ]
