@@ -9,13 +9,12 @@ mod reading;
 mod table;
 
 use anyhow::{Context, Result, anyhow};
-use spec_parser::parse_spec;
-use std::process::ExitCode;
-use std::{env, fs, io};
-
 use names::columns_of;
 use picture::picture_of;
 use reading::runs_in;
+use spec_parser::parse_spec;
+use std::process::ExitCode;
+use std::{env, fs, io};
 use table::table_of;
 
 /// The status where the words of the command line are refused.

@@ -7,8 +7,11 @@ use std::alloc::{AllocError, Global};
 
 // All in pixels.
 const LINE: usize = 17;
+
 const PAD: usize = 8;
+
 const GAP: usize = 10;
+
 const MARGIN: usize = 20;
 /// Ten characters of the type are so wide.
 const TEN_CHARS: usize = 80;
@@ -61,7 +64,14 @@ fn put_escaped(out: &mut String, text: &str) -> Result<(), AllocError> {
     Ok(())
 }
 
-fn put_text(alloc: Global, out: &mut String, class: &str, x: usize, y: usize, text: &str) -> Result<(), AllocError> {
+fn put_text(
+    alloc: Global,
+    out: &mut String,
+    class: &str,
+    x: usize,
+    y: usize,
+    text: &str,
+) -> Result<(), AllocError> {
     let open = format!(in alloc; "<text class=\"{class}\" x=\"{x}\" y=\"{y}\">")?;
     out.push_str(open.as_str())?;
     put_escaped(out, text)?;
@@ -71,9 +81,11 @@ fn put_text(alloc: Global, out: &mut String, class: &str, x: usize, y: usize, te
 /// Puts a bar from where the lane's step began to wait down to `to`.
 fn put_bar(alloc: Global, out: &mut String, lane: &mut Lane, to: usize) -> Result<(), AllocError> {
     if let Some(from) = lane.waits_from.take() {
-        let x = lane.left.saturating_add(PAD);
+        let x = lane.left.saturating_add(lane.width / 2).saturating_sub(PAD);
         let height = to.saturating_sub(from);
-        let bar = format!(in alloc; "<rect class=\"bar\" x=\"{x}\" y=\"{from}\" width=\"8\" height=\"{height}\"/>\n")?;
+        let bar = format!(in alloc;
+            "<rect class=\"bar\" x=\"{x}\" y=\"{from}\" width=\"16\" height=\"{height}\"/>\n"
+        )?;
         out.push_str(bar.as_str())?;
     }
     Ok(())
@@ -90,23 +102,41 @@ fn class_of(event: &Event) -> &'static str {
 }
 
 /// Puts an event's box with its top at `top`, and gives its height.
-fn put_box(alloc: Global, out: &mut String, lane: &Lane, top: usize, event: &Event) -> Result<usize, AllocError> {
+fn put_box(
+    alloc: Global,
+    out: &mut String,
+    lane: &Lane,
+    top: usize,
+    event: &Event,
+) -> Result<usize, AllocError> {
     let height = event.lines.len().saturating_mul(LINE).saturating_add(PAD);
     let class = class_of(event);
     let x = lane.left;
     let width = lane.width;
-    let frame = format!(in alloc; "<rect class=\"{class}\" x=\"{x}\" y=\"{top}\" width=\"{width}\" height=\"{height}\" rx=\"4\"/>\n")?;
+    let frame = format!(in alloc;
+        "<rect class=\"{class}\" x=\"{x}\" y=\"{top}\" width=\"{width}\" height=\"{height}\" rx=\"4\"/>\n"
+    )?;
     out.push_str(frame.as_str())?;
     let mut y = top;
     for line in &event.lines {
         y = y.saturating_add(LINE);
-        let class = if line.as_str().starts_with("ERROR:") { "error" } else { "line" };
+        let class = if line.as_str().starts_with("ERROR:") {
+            "error"
+        } else {
+            "line"
+        };
         put_text(alloc, out, class, x.saturating_add(PAD), y, line.as_str())?;
     }
     Ok(height)
 }
 
-fn put_heads(alloc: Global, out: &mut String, columns: &[Column], lanes: &[Lane], y: usize) -> Result<(), AllocError> {
+fn put_heads(
+    alloc: Global,
+    out: &mut String,
+    columns: &[Column],
+    lanes: &[Lane],
+    y: usize,
+) -> Result<(), AllocError> {
     for (column, lane) in columns.iter().zip(lanes.iter()) {
         let middle = lane.left.saturating_add(lane.width / 2);
         put_text(alloc, out, "head", middle, y, column.name.as_str())?;
@@ -115,17 +145,31 @@ fn put_heads(alloc: Global, out: &mut String, columns: &[Column], lanes: &[Lane]
 }
 
 /// Puts each lane's line from `top` to `end`.
-fn put_lives(alloc: Global, out: &mut String, lanes: &[Lane], top: usize, end: usize) -> Result<(), AllocError> {
+fn put_lives(
+    alloc: Global,
+    out: &mut String,
+    lanes: &[Lane],
+    top: usize,
+    end: usize,
+) -> Result<(), AllocError> {
     for lane in lanes {
         let x = lane.left.saturating_add(lane.width / 2);
-        let life = format!(in alloc; "<line class=\"life\" x1=\"{x}\" y1=\"{top}\" x2=\"{x}\" y2=\"{end}\"/>\n")?;
+        let life = format!(in alloc;
+            "<line class=\"life\" x1=\"{x}\" y1=\"{top}\" x2=\"{x}\" y2=\"{end}\"/>\n"
+        )?;
         out.push_str(life.as_str())?;
     }
     Ok(())
 }
 
 /// Puts the events of a permutation from `top` on, and gives where they end.
-fn put_events(alloc: Global, out: &mut String, lanes: &mut Vec<Lane>, run: &Run, top: usize) -> Result<usize, AllocError> {
+fn put_events(
+    alloc: Global,
+    out: &mut String,
+    lanes: &mut Vec<Lane>,
+    run: &Run,
+    top: usize,
+) -> Result<usize, AllocError> {
     let mut y = top;
     for event in &run.events {
         if let Some(lane) = lanes.get_mut(event.column) {
@@ -145,7 +189,13 @@ fn put_events(alloc: Global, out: &mut String, lanes: &mut Vec<Lane>, run: &Run,
 }
 
 /// Puts a permutation from `top` on, and gives where it ends.
-fn put_run(alloc: Global, out: &mut String, columns: &[Column], run: &Run, top: usize) -> Result<usize, AllocError> {
+fn put_run(
+    alloc: Global,
+    out: &mut String,
+    columns: &[Column],
+    run: &Run,
+    top: usize,
+) -> Result<usize, AllocError> {
     let mut lanes = lanes_of(alloc, columns, run)?;
     let title = top.saturating_add(LINE);
     let heads = title.saturating_add(2 * LINE);
@@ -157,7 +207,14 @@ fn put_run(alloc: Global, out: &mut String, columns: &[Column], run: &Run, top: 
     put_lives(alloc, out, &lanes, first, end)?;
     out.push_str(events.as_str())?;
     if run.is_invalid {
-        put_text(alloc, out, "error", MARGIN, end.saturating_add(LINE), "invalid permutation detected")?;
+        put_text(
+            alloc,
+            out,
+            "error",
+            MARGIN,
+            end.saturating_add(LINE),
+            "invalid permutation detected",
+        )?;
     }
     Ok(end.saturating_add(2 * LINE))
 }
@@ -169,19 +226,27 @@ fn width_of(alloc: Global, columns: &[Column], run: &Run) -> Result<usize, Alloc
         Some(lane) => lane.left.saturating_add(lane.width),
         None => 0,
     };
-    Ok(right.max(title.saturating_add(MARGIN)).saturating_add(MARGIN))
+    Ok(
+        right
+            .max(title.saturating_add(MARGIN))
+            .saturating_add(MARGIN),
+    )
 }
 
 /// The permutations as an SVG file, one below the other.
 pub fn picture_of(alloc: Global, columns: &[Column], runs: &[Run]) -> Result<String, AllocError> {
     let mut body = String::new(alloc);
-    let mut height = 0usize;
+    let mut height = PAD;
     let mut width = 0usize;
     for run in runs {
         height = put_run(alloc, &mut body, columns, run, height)?;
         width = width_of(alloc, columns, run)?.max(width);
     }
     let body = body.as_str();
-    let size = format!(in alloc; "width=\"{width}\" height=\"{height}\" viewBox=\"0 0 {width} {height}\"")?;
-    format!(in alloc; "<svg xmlns=\"http://www.w3.org/2000/svg\" {size}>\n{STYLE}<rect width=\"100%\" height=\"100%\" fill=\"white\"/>\n{body}</svg>\n")
+    let size = format!(in alloc;
+        "width=\"{width}\" height=\"{height}\" viewBox=\"0 0 {width} {height}\""
+    )?;
+    format!(in alloc;
+        "<svg xmlns=\"http://www.w3.org/2000/svg\" xml:space=\"preserve\" {size}>\n{STYLE}<rect width=\"100%\" height=\"100%\" fill=\"white\"/>\n{body}</svg>\n"
+    )
 }

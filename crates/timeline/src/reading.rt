@@ -26,7 +26,9 @@ pub struct Event {
 impl Event {
     /// Whether a statement of the step failed.
     pub fn is_failed(&self) -> bool {
-        self.lines.iter().any(|line| line.as_str().starts_with("ERROR:"))
+        self.lines
+            .iter()
+            .any(|line| line.as_str().starts_with("ERROR:"))
     }
 }
 
@@ -86,7 +88,11 @@ fn told_by(sql: &str) -> Told {
 
 fn event_of(alloc: Global, column: usize, sql: &str, line: &str) -> Result<Event, AllocError> {
     let mut lines = Vec::new(alloc);
-    put_broken(alloc, &mut lines, line.strip_prefix("step ").unwrap_or(line))?;
+    put_broken(
+        alloc,
+        &mut lines,
+        line.strip_prefix("step ").unwrap_or(line),
+    )?;
     Ok(Event {
         column,
         told: told_by(sql),
@@ -105,7 +111,12 @@ fn put_below(alloc: Global, run: &mut Run, line: &str) -> Result<(), AllocError>
     Ok(())
 }
 
-fn put_line(alloc: Global, columns: &[Column], run: &mut Run, line: &str) -> Result<(), AllocError> {
+fn put_line(
+    alloc: Global,
+    columns: &[Column],
+    run: &mut Run,
+    line: &str,
+) -> Result<(), AllocError> {
     if let Some((column, sql)) = step_of(columns, line) {
         run.events.push(event_of(alloc, column, sql, line)?)?;
     } else if line == "invalid permutation detected" {

@@ -66,7 +66,12 @@ fn put_row(
     out.push('\n')
 }
 
-fn put_heads(alloc: Global, out: &mut String, columns: &[Column], widths: &[usize]) -> Result<(), AllocError> {
+fn put_heads(
+    alloc: Global,
+    out: &mut String,
+    columns: &[Column],
+    widths: &[usize],
+) -> Result<(), AllocError> {
     let mut heads = String::from_str(alloc, "   ")?;
     let mut rule = String::from_str(alloc, "---")?;
     for (column, width) in columns.iter().zip(widths.iter()) {
@@ -93,7 +98,14 @@ fn put_event(
 ) -> Result<(), AllocError> {
     let mut label = format!(in alloc; "{number:>3}")?;
     for line in &event.lines {
-        put_row(alloc, out, widths, waits, label.as_str(), (event.column, line.as_str()))?;
+        put_row(
+            alloc,
+            out,
+            widths,
+            waits,
+            label.as_str(),
+            (event.column, line.as_str()),
+        )?;
         label = String::new(alloc);
     }
     if let Some(wait) = waits.get_mut(event.column) {
@@ -102,7 +114,12 @@ fn put_event(
     Ok(())
 }
 
-fn put_run(alloc: Global, out: &mut String, columns: &[Column], run: &Run) -> Result<(), AllocError> {
+fn put_run(
+    alloc: Global,
+    out: &mut String,
+    columns: &[Column],
+    run: &Run,
+) -> Result<(), AllocError> {
     let widths = widths_of(alloc, columns, run)?;
     let mut waits = nobody(alloc, columns)?;
     out.push_str(run.title.as_str())?;
