@@ -7,20 +7,13 @@
 set -eu
 here=$(cd "$(dirname "$0")/.." && pwd)
 program="$here/crates/isolationtester/out/isolationtester"
-lib=/usr/lib/postgresql/15
-real=$lib/lib/pgxs/src/test/isolation/isolationtester
+. "$here/bench/cluster.sh"
 room=$(mktemp -d)
-data=
 finish() {
-  [ -z "$data" ] || as_owner "$lib/bin/pg_ctl" -D "$data" -m immediate stop > /dev/null 2>&1 || true
+  stop_cluster
   rm -rf "$room"
 }
 trap finish EXIT
-
-# postgres refuses to run as root
-as_owner() {
-  if [ "$(id -u)" = 0 ]; then setpriv --reuid postgres --regid postgres --clear-groups "$@"; else "$@"; fi
-}
 
 table='setup { CREATE TABLE t (k int, v int); INSERT INTO t VALUES (1, 10), (2, 20); }
 teardown { DROP TABLE t; }'
@@ -87,14 +80,8 @@ best() {
   echo "$least"
 }
 
-if [ -x "$real" ] && [ -x "$lib/bin/initdb" ]; then
-  chmod 755 "$room"
-  mkdir "$room/cluster" "$room/socket"
-  [ "$(id -u)" != 0 ] || chown postgres "$room/cluster" "$room/socket"
-  as_owner "$lib/bin/initdb" -D "$room/cluster" -A trust -U tester > /dev/null
-  data="$room/cluster"
-  as_owner "$lib/bin/pg_ctl" -D "$data" -w -l "$room/cluster/log" \
-    -o "-c listen_addresses='' -c unix_socket_directories='$room/socket' -c fsync=off" start > /dev/null
+if has_real; then
+  start_cluster "$room"
 else
   echo "No isolationtester of PostgreSQL 15 here: ours alone."
 fi
@@ -105,7 +92,7 @@ compare() {
   mine=$(best "$1" "$program")
   cp "$room/out" "$room/$1.ours"
   printf '%-46s %4d.%d ms, %8d permutations a second' "$3" $((mine / 1000)) $((mine % 1000 / 100)) $(($2 * 1000000 / mine))
-  if [ -n "$data" ]; then
+  if [ -n "$cluster" ]; then
     theirs=$(best "$1" "$real" "host=$room/socket user=tester dbname=postgres")
     if cmp -s "$room/out" "$room/$1.ours"; then said="the same text"; else said="ANOTHER TEXT"; fi
     printf '; the real tool %6d ms: %d times as long, %s' $((theirs / 1000)) $((theirs / mine)) "$said"

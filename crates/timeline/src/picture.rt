@@ -1,0 +1,252 @@
+//! Permutations as a picture.
+
+use crate::names::Column;
+use crate::reading::{Event, Run, Told};
+use crate::table::widths_of;
+use std::alloc::{AllocError, Global};
+
+// All in pixels.
+const LINE: usize = 17;
+
+const PAD: usize = 8;
+
+const GAP: usize = 10;
+
+const MARGIN: usize = 20;
+/// Ten characters of the type are so wide.
+const TEN_CHARS: usize = 80;
+
+const STYLE: &str = "<style>
+text { font: 13px monospace; white-space: pre; fill: #222 }
+.title { font: 15px sans-serif; fill: #555 }
+.head { font: bold 15px sans-serif; text-anchor: middle }
+.done { fill: #eef4fb; stroke: #7a9cc6 }
+.failed { fill: #fdecea; stroke: #c0392b }
+.waits { fill: #fff6dd; stroke: #d8a200 }
+.bar { fill: #f3d27a }
+.life { stroke: #ccc }
+text.error { fill: #c0392b; font-weight: bold }
+</style>
+";
+
+/// A session's column in the picture, and since when it waits.
+#[derive(Debug, Drop)]
+struct Lane {
+    left: usize,
+    width: usize,
+    waits_from: Option<usize>,
+}
+
+fn lanes_of(alloc: Global, columns: &[Column], run: &Run) -> Result<Vec<Lane>, AllocError> {
+    let mut lanes = Vec::new(alloc);
+    let mut left = MARGIN;
+    for chars in &widths_of(alloc, columns, run)? {
+        let width = chars.saturating_mul(TEN_CHARS) / 10;
+        let width = width.saturating_add(2 * PAD);
+        lanes.push(Lane {
+            left,
+            width,
+            waits_from: None,
+        })?;
+        left = left.saturating_add(width).saturating_add(2 * GAP);
+    }
+    Ok(lanes)
+}
+
+fn put_escaped(out: &mut String, text: &str) -> Result<(), AllocError> {
+    for ch in text.chars() {
+        match ch {
+            '<' => out.push_str("&lt;")?,
+            '&' => out.push_str("&amp;")?,
+            _ => out.push(ch)?,
+        }
+    }
+    Ok(())
+}
+
+fn put_text(
+    alloc: Global,
+    out: &mut String,
+    class: &str,
+    x: usize,
+    y: usize,
+    text: &str,
+) -> Result<(), AllocError> {
+    let open = format!(in alloc; "<text class=\"{class}\" x=\"{x}\" y=\"{y}\">")?;
+    out.push_str(open.as_str())?;
+    put_escaped(out, text)?;
+    out.push_str("</text>\n")
+}
+
+/// Puts a bar from where the lane's step began to wait down to `to`.
+fn put_bar(alloc: Global, out: &mut String, lane: &mut Lane, to: usize) -> Result<(), AllocError> {
+    if let Some(from) = lane.waits_from.take() {
+        let x = lane.left.saturating_add(lane.width / 2).saturating_sub(PAD);
+        let height = to.saturating_sub(from);
+        let bar = format!(in alloc;
+            "<rect class=\"bar\" x=\"{x}\" y=\"{from}\" width=\"16\" height=\"{height}\"/>\n"
+        )?;
+        out.push_str(bar.as_str())?;
+    }
+    Ok(())
+}
+
+fn class_of(event: &Event) -> &'static str {
+    if event.is_failed() {
+        "failed"
+    } else if event.told == Told::Waits {
+        "waits"
+    } else {
+        "done"
+    }
+}
+
+/// Puts an event's box with its top at `top`, and gives its height.
+fn put_box(
+    alloc: Global,
+    out: &mut String,
+    lane: &Lane,
+    top: usize,
+    event: &Event,
+) -> Result<usize, AllocError> {
+    let height = event.lines.len().saturating_mul(LINE).saturating_add(PAD);
+    let class = class_of(event);
+    let x = lane.left;
+    let width = lane.width;
+    let frame = format!(in alloc;
+        "<rect class=\"{class}\" x=\"{x}\" y=\"{top}\" width=\"{width}\" height=\"{height}\" rx=\"4\"/>\n"
+    )?;
+    out.push_str(frame.as_str())?;
+    let mut y = top;
+    for line in &event.lines {
+        y = y.saturating_add(LINE);
+        let class = if line.as_str().starts_with("ERROR:") {
+            "error"
+        } else {
+            "line"
+        };
+        put_text(alloc, out, class, x.saturating_add(PAD), y, line.as_str())?;
+    }
+    Ok(height)
+}
+
+fn put_heads(
+    alloc: Global,
+    out: &mut String,
+    columns: &[Column],
+    lanes: &[Lane],
+    y: usize,
+) -> Result<(), AllocError> {
+    for (column, lane) in columns.iter().zip(lanes.iter()) {
+        let middle = lane.left.saturating_add(lane.width / 2);
+        put_text(alloc, out, "head", middle, y, column.name.as_str())?;
+    }
+    Ok(())
+}
+
+/// Puts each lane's line from `top` to `end`.
+fn put_lives(
+    alloc: Global,
+    out: &mut String,
+    lanes: &[Lane],
+    top: usize,
+    end: usize,
+) -> Result<(), AllocError> {
+    for lane in lanes {
+        let x = lane.left.saturating_add(lane.width / 2);
+        let life = format!(in alloc;
+            "<line class=\"life\" x1=\"{x}\" y1=\"{top}\" x2=\"{x}\" y2=\"{end}\"/>\n"
+        )?;
+        out.push_str(life.as_str())?;
+    }
+    Ok(())
+}
+
+/// Puts the events of a permutation from `top` on, and gives where they end.
+fn put_events(
+    alloc: Global,
+    out: &mut String,
+    lanes: &mut Vec<Lane>,
+    run: &Run,
+    top: usize,
+) -> Result<usize, AllocError> {
+    let mut y = top;
+    for event in &run.events {
+        if let Some(lane) = lanes.get_mut(event.column) {
+            put_bar(alloc, out, lane, y)?;
+            let height = put_box(alloc, out, lane, y, event)?;
+            y = y.saturating_add(height);
+            if event.told == Told::Waits {
+                lane.waits_from = Some(y);
+            }
+            y = y.saturating_add(GAP);
+        }
+    }
+    for lane in lanes {
+        put_bar(alloc, out, lane, y)?;
+    }
+    Ok(y)
+}
+
+/// Puts a permutation from `top` on, and gives where it ends.
+fn put_run(
+    alloc: Global,
+    out: &mut String,
+    columns: &[Column],
+    run: &Run,
+    top: usize,
+) -> Result<usize, AllocError> {
+    let mut lanes = lanes_of(alloc, columns, run)?;
+    let title = top.saturating_add(LINE);
+    let heads = title.saturating_add(2 * LINE);
+    let first = heads.saturating_add(GAP);
+    let mut events = String::new(alloc);
+    let end = put_events(alloc, &mut events, &mut lanes, run, first)?;
+    put_text(alloc, out, "title", MARGIN, title, run.title.as_str())?;
+    put_heads(alloc, out, columns, &lanes, heads)?;
+    put_lives(alloc, out, &lanes, first, end)?;
+    out.push_str(events.as_str())?;
+    if run.is_invalid {
+        put_text(
+            alloc,
+            out,
+            "error",
+            MARGIN,
+            end.saturating_add(LINE),
+            "invalid permutation detected",
+        )?;
+    }
+    Ok(end.saturating_add(2 * LINE))
+}
+
+fn width_of(alloc: Global, columns: &[Column], run: &Run) -> Result<usize, AllocError> {
+    let lanes = lanes_of(alloc, columns, run)?;
+    let title = run.title.as_str().chars().count().saturating_mul(TEN_CHARS) / 10;
+    let right = match lanes.last() {
+        Some(lane) => lane.left.saturating_add(lane.width),
+        None => 0,
+    };
+    Ok(
+        right
+            .max(title.saturating_add(MARGIN))
+            .saturating_add(MARGIN),
+    )
+}
+
+/// The permutations as an SVG file, one below the other.
+pub fn picture_of(alloc: Global, columns: &[Column], runs: &[Run]) -> Result<String, AllocError> {
+    let mut body = String::new(alloc);
+    let mut height = PAD;
+    let mut width = 0usize;
+    for run in runs {
+        height = put_run(alloc, &mut body, columns, run, height)?;
+        width = width_of(alloc, columns, run)?.max(width);
+    }
+    let body = body.as_str();
+    let size = format!(in alloc;
+        "width=\"{width}\" height=\"{height}\" viewBox=\"0 0 {width} {height}\""
+    )?;
+    format!(in alloc;
+        "<svg xmlns=\"http://www.w3.org/2000/svg\" xml:space=\"preserve\" {size}>\n{STYLE}<rect width=\"100%\" height=\"100%\" fill=\"white\"/>\n{body}</svg>\n"
+    )
+}
