@@ -38,16 +38,16 @@ const RESPELT: [Line<'static>; 4] = [
     (1, "SELECT * FROM T", ""),
 ];
 
-fn launch(session: u32, block: u32) -> Event {
+pub fn launch(session: u32, block: u32) -> Event {
     Event::Launch { session, block }
 }
 
-fn step(session: u32) -> Event {
+pub fn step(session: u32) -> Event {
     Event::Step { session }
 }
 
 /// An event, and its answer.
-type Call = (Event, &'static str);
+pub type Call = (Event, &'static str);
 
 fn calls() -> [Call; 19] {
     [
@@ -115,7 +115,7 @@ fn is_spent(rt: &impl Abort, alloc: Global, engine: &mut Engine<'_, '_>) -> Resu
     Ok(())
 }
 
-fn has_answer(
+pub fn has_answer(
     rt: &impl Abort,
     alloc: Global,
     engine: &mut Engine<'_, '_>,
@@ -174,7 +174,7 @@ fn sees(
 }
 
 /// What sessions see of a table.
-type Sight = (u32, &'static str, &'static str);
+pub type Sight = (u32, &'static str, &'static str);
 
 const BEFORE: [Sight; 4] = [
     (1, "t", " | 1"),
@@ -185,7 +185,7 @@ const BEFORE: [Sight; 4] = [
 
 const AFTER: [Sight; 1] = [(1, "t", " | 1 | 2")];
 
-fn all_see(
+pub fn all_see(
     rt: &impl Abort,
     alloc: Global,
     engine: &Engine<'_, '_>,

@@ -18,4 +18,6 @@ mod tables;
 #[cfg(test)]
 mod trial;
 #[cfg(test)]
+mod waits;
+#[cfg(test)]
 mod words;

@@ -39,7 +39,7 @@ fn check_blocks<'t>(
     blocks: &[Block<'t>],
     lines: &[Line<'_>],
 ) -> Result<(), Wrong> {
-    let mut engine = engine_of(alloc, blocks, 2, Mode::Directed)?;
+    let mut engine = engine_of(alloc, blocks, 4, Mode::Directed)?;
     let mut block: u32 = 0;
     for (session, sql, says) in lines {
         let words = said(alloc, &mut engine, *session, block)?;

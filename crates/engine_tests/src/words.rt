@@ -80,6 +80,9 @@ fn fault_text(fault: &StmtFault<'_>) -> &'static str {
         StmtFault::TableExists(_) => " there is ",
         StmtFault::NullValue { .. } => " null in ",
         StmtFault::TooManyValues => " too many values",
+        StmtFault::NoPosition(_) => " no position",
+        StmtFault::NotSerializable => " not serializable",
+        StmtFault::Deadlock => " deadlock",
         StmtFault::Aborted => " aborted",
         StmtFault::LevelTooLate => " too late",
     }

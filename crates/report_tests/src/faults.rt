@@ -38,7 +38,7 @@ fn prints(alloc: Global, fault: StmtFault<'_>, wanted: &str) -> Result<bool, &'s
     Ok(is_error(run.out.text(), wanted))
 }
 
-const TEXTS: [&str; 8] = [
+const TEXTS: [&str; 11] = [
     "column \"c\" of relation \"t\" does not exist",
     "relation \"t\" does not exist",
     "table \"t\" does not exist",
@@ -47,6 +47,9 @@ const TEXTS: [&str; 8] = [
     "INSERT has more expressions than target columns",
     "current transaction is aborted, commands ignored until end of transaction block",
     "SET TRANSACTION ISOLATION LEVEL must be called before any query",
+    "ORDER BY position -3 is not in select list",
+    "could not serialize access due to concurrent update",
+    "deadlock detected",
 ];
 
 /// The fault that has the text at this place.
@@ -65,7 +68,10 @@ fn fault(place: usize) -> StmtFault<'static> {
         },
         5 => StmtFault::TooManyValues,
         6 => StmtFault::Aborted,
-        _ => StmtFault::LevelTooLate,
+        7 => StmtFault::LevelTooLate,
+        8 => StmtFault::NoPosition(-3),
+        9 => StmtFault::NotSerializable,
+        _ => StmtFault::Deadlock,
     }
 }
 

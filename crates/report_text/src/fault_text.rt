@@ -2,10 +2,11 @@
 
 ghost use Rattle.std.specs.Prelude.{◌≡◌, ◌++◌, OnOk};
 ghost use Rattle.iso_lexer.specs.Names.{name_view, decoded};
-ghost use Rattle.report_text.specs.FaultText.{in_quotes, the_column, the_relation, the_table, column_of, value_fault_text, fault_text};
+ghost use Rattle.report_text.specs.FaultText.{in_quotes, the_column, the_relation, the_table, column_of, position_fault_text, value_fault_text, fault_text};
 
 use crate::page::{Page, push_name};
 use iso_lexer::{Ident, Name};
+use itoa::Buffer;
 use session_machine::StmtFault;
 use sql_values::ValueFault;
 use std::alloc::AllocError;
@@ -64,6 +65,15 @@ fn push_table(page: &mut Page, name: &Ident<'_>) -> Result<(), AllocError>
     push_quoted(page, &name.name())
 }
 
+fn push_position_fault(page: &mut Page, position: i128) -> Result<(), AllocError>
+    ensures { OnOk result (page.new.bytes.items ≡ page.old.bytes.items ++ position_fault_text position) }
+{
+    let mut buffer = Buffer::new();
+    page.push(b"ORDER BY position ")?;
+    page.push(buffer.format(position).as_bytes())?;
+    page.push(b" is not in select list")
+}
+
 /// Pushes the text of a fault.
 #[tactic(auto, unfolding(crate::specs::FaultText::fault_text))]
 pub fn push_fault(page: &mut Page, fault: &StmtFault<'_>) -> Result<(), AllocError>
@@ -93,6 +103,11 @@ pub fn push_fault(page: &mut Page, fault: &StmtFault<'_>) -> Result<(), AllocErr
             page.push(b" violates not-null constraint")
         }
         StmtFault::TooManyValues => page.push(b"INSERT has more expressions than target columns"),
+        StmtFault::NoPosition(position) => push_position_fault(page, *position),
+        StmtFault::NotSerializable => {
+            page.push(b"could not serialize access due to concurrent update")
+        }
+        StmtFault::Deadlock => page.push(b"deadlock detected"),
         StmtFault::Aborted => page.push(
             b"current transaction is aborted, commands ignored until end of transaction block",
         ),

@@ -9,7 +9,7 @@ use Rattle.session_machine.specs.declared.reply.Reply.{Reply}
 use Rattle.session_machine.specs.declared.reply.HistItem.{HistItem}
 use Rattle.session_machine.specs.Machine.{Machine, Blocks, Next, next, visible, visible_for, visible_to}
 use Rattle.session_machine.specs.Engine.{Engine, answered}
-use Rattle.session_machine.proofs.Replaying.{answered_ok}
+use Rattle.session_core.proofs.Replaying.{answered_ok}
 use Rattle.session_core.specs.Engines.{Goes, IsDue}
 
 -- an event with a reply goes
@@ -20,7 +20,7 @@ goes blocks mode m after event reply h = (record { machine = after; reply = repl
 -- to a session that is there each table is shown, or that there is none
 pub shows : (m : Machine) (session : ℕ) (name : List ℕ) (s : Session) → slice_get m.sessions session ≡ Some s
     → (rows : Option (List (List Value))) × (visible m session name ≡ Ok rows)
-shows m session name s e = (visible_to m.db s.transaction name, ap (visible_for m name) e)
+shows m session name s e = (visible_to m.db s name, ap (visible_for m name) e)
 
 -- an event that the machine of an engine doesn't refuse is due, where the engine isn't spent
 pub due : (blocks : Blocks) (count : ℕ) (mode : Mode) (m : Machine) (history : List HistItem) (spent : Bool) (event : Event) (e : Engine)

@@ -1,6 +1,5 @@
-pub mod NoWaits
 pub mod BlockLemmas
-pub mod Stepping
-pub mod Events
-pub mod Opening
 pub mod Going
+pub mod Opening
+pub mod Replaying
+pub mod Stepping

@@ -1,4 +1,3 @@
 pub mod Blocks
-pub mod Sessions
 pub mod Engines
 pub mod TreeCodes

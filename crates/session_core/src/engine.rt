@@ -11,6 +11,7 @@ ghost use Rattle.session_core.specs.Engines.{IsDue, IsOf, is_quiet_in};
 use crate::live::Live;
 use crate::same_blocks::same_blocks;
 use row_versions::Versions;
+use session_laws::laws::stays_sound;
 use session_machine::{EngineFault, Event, HistItem, Mode, Refusal, Reply, Turn};
 use sql_parser::Block;
 use sql_values::Row;
@@ -34,7 +35,7 @@ impl<'a, 't, V: Versions> Model for EngineState<'a, 't, V> {
     ghost use Rattle.std.specs.Prelude.{◌≡◌, false, length, Some, None, if◌then◌else◌};
     ghost use Rattle.session_machine.specs.Machine.{opening};
     ghost use Rattle.session_machine.specs.Engine.{Engine, IsLegal, Run};
-    ghost use Rattle.session_machine.specs.Sound.{IsSound};
+    ghost use Rattle.session_machine.specs.Sound.{IsSoundMachine};
     ghost use Rattle.session_core.specs.Blocks.{blocks_of};
     ghost use Rattle.session_core.specs.TreeCodes.{tree_code};
     ghost use Rattle.std.specs.Coded.{codes};
@@ -52,8 +53,7 @@ impl<'a, 't, V: Versions> Model for EngineState<'a, 't, V> {
     } };
 
     ghost invariant = { λ e. IsLegal (blocks_of e.blocks.now) e.count e.mode e.history.items
-        × (e.spent ≡ false →
-        IsSound e.live.db e.live.sessions (length e.history.items)
+        × (e.spent ≡ false → IsSoundMachine e.live × (e.live.events ≡ length e.history.items)
         × Run (blocks_of e.blocks.now) e.mode (opening e.count) e.history.items e.live) };
 }
 
@@ -99,6 +99,7 @@ impl<'a, 't, V: Versions> EngineState<'a, 't, V> {
         requires empty { V.content store ≡ empty_content }
         ensures { IfOk result (λ e. e ≡ opened (blocks_of blocks.now) count mode) }
     {
+        stays_sound();
         let live = Live::new(alloc, count, store)?;
         Ok(EngineState {
             blocks,
@@ -116,6 +117,7 @@ impl<'a, 't, V: Versions> EngineState<'a, 't, V> {
         ensures due { IsErrOf result EngineFault.Memory → IsDue self.old event }
         ensures same { IsOf self.new self.old.blocks self.old.count self.old.mode }
     {
+        stays_sound();
         if self.spent {
             return Err(EngineFault::Spent);
         }
@@ -148,7 +150,7 @@ impl<'a, 't, V: Versions> EngineState<'a, 't, V> {
         self.act(Event::Launch { session, block })
     }
 
-    /// Begins the session's next statement. After a want of memory the engine is spent.
+    /// Begins the session's next statement, or goes on with the one that waits. After a want of memory the engine is spent.
     pub fn step(&mut self, session: u32) -> Result<Reply<'t>, EngineFault>
         ensures memory { IsErrOf result EngineFault.Memory → self.new ≡ spent_engine self.old }
         ensures answer { result ≢ Err EngineFault.Memory → engine_after self.old (Event.Step session) ≡ record { engine = self.new; answer = result } }
@@ -206,8 +208,9 @@ impl<'a, 't, V: Versions> EngineState<'a, 't, V> {
         !self.spent && self.live.turn().is_none()
     }
 
-    /// What a SELECT of the session that begins now would show of the table; for a session without a transaction,
-    /// or with one that has failed, that is what is committed. `None` stands for no such table.
+    /// What a SELECT of the session that begins now would show of the table: in the middle of a statement also what
+    /// that has written so far; for a session without a transaction, or with one that has failed, what is committed.
+    /// `None` stands for no such table.
     pub fn visible(&self, session: u32, table: &str) -> Result<Option<Vec<Row>>, EngineFault>
         ensures ok { IfOk result (λ rows. visible_in self.now.machine session table.now ≡ Ok (option_map (λ (v : VecFacts (List SqlValue)). v.items) rows)) }
         ensures refused { IfErr result (λ fault. fault ≢ EngineFault.Memory → visible_in self.now.machine session table.now ≡ Err fault) }

@@ -1,19 +1,17 @@
 //! A session is given a block.
-ghost use Rattle.std.specs.Prelude.{◌≡◌, ◌≤◌, ◌<◌, ◌==◌, true, false, not, ◌&&◌, ◌||◌, IfOk, IfErr, MatchOption, Option, Some, None, Ok, Err, is_none, length, map, slice_get};
+ghost use Rattle.std.specs.Prelude.{◌≡◌, ◌≤◌, ◌<◌, ◌+◌, ◌^◌, ◌==◌, true, false, not, ◌&&◌, ◌||◌, IfOk, IfErr, MatchOption, Option, Some, None, Ok, Err, is_none, length, map, slice_get};
 ghost use Rattle.std.specs.List.{list_all, list_any};
 ghost use Rattle.sql_trees.specs.Statements.{stmt_of};
-ghost use Rattle.session_machine.specs.Tables.{Database};
-ghost use Rattle.session_machine.specs.Statements.{is_definition, runs};
-ghost use Rattle.session_machine.specs.Machine.{Machine, first_place, is_allowed, next, stmts_at, with_session};
+ghost use Rattle.session_machine.specs.Running.{is_definition, runs};
+ghost use Rattle.session_machine.specs.Machine.{first_place, is_allowed, next, stmts_at, with_session};
 ghost use Rattle.session_machine.specs.Engine.{answered};
 ghost use Rattle.session_core.specs.Blocks.{blocks_of};
-ghost use Rattle.session_core.specs.Sessions.{AllOver, between};
 
 use crate::block_stmts::block_stmts;
-use crate::standing::{Standing, has_ended, set_session, standing_at};
-use crate::turns::must_wait_for_rest;
+use crate::live::Live;
+use row_versions::Versions;
 use session_machine::{
-    Event, Mode, Outcome, Place, Refusal, Reply, Session, can_run, is_definition,
+    Event, Mode, Outcome, Place, Refusal, Reply, Session, Transaction, can_run, is_definition,
 };
 use sql_parser::Block;
 use sql_trees::Stmt;
@@ -73,63 +71,82 @@ fn start_of(block: u32, stmts: &[Stmt<'_>]) -> Option<Place>
     }
 }
 
-/// What the session does once it is given the block, or why it may not be.
-fn launched<'a, 't>(
-    blocks: &'a [Block<'t>],
-    mode: Mode,
-    sessions: &[Session],
-    session: u32,
-    block: u32,
-) -> Result<Standing, Refusal>
-    requires { AllOver sessions.now }
-    ensures within { IfOk result (λ _. session < length sessions.now) }
-    ensures ok { (db : Database) → IfOk result (λ after.
-        let m : Machine = record { db = db; sessions = sessions.now } in
-        next (blocks_of blocks.now) mode m (Event.Launch session block)
-        ≡ Ok (record { machine = with_session m db session (between after); reply = record { outcome = Outcome.Launched; ended = is_none after.place } })) }
-    ensures refused { (db : Database) → IfErr result (λ refusal.
-        next (blocks_of blocks.now) mode (record { db = db; sessions = sessions.now }) (Event.Launch session block) ≡ Err refusal) }
-{
-    let Some(current) = standing_at(sessions, session) else {
-        return Err(Refusal::NoSession);
-    };
-    let Some(stmts) = allowed_stmts(blocks, session, block) else {
-        return Err(Refusal::BlockNotAllowed);
-    };
-    if current.place.is_some() {
-        return Err(Refusal::Busy);
-    }
-    if must_wait_for_rest(mode, sessions) {
-        return Err(Refusal::NotYourTurn);
-    }
-    Ok(Standing {
-        place: start_of(block, stmts),
-        transaction: current.transaction,
-    })
+/// Where a session stands that is given a block, and its transaction.
+#[derive(Drop)]
+struct Launching {
+    place: Option<Place>,
+    transaction: Transaction,
 }
 
-/// Gives a session a block, or says why not.
-pub fn launch<'a, 't>(
-    sessions: &mut Vec<Session>,
-    blocks: &'a [Block<'t>],
-    mode: Mode,
-    session: u32,
-    block: u32,
-) -> Result<Reply<'t>, Refusal>
-    requires { AllOver sessions.old.items }
-    ensures { (db : Database) →
-        let old : Machine = record { db = db; sessions = sessions.old.items } in
-        let new : Machine = record { db = db; sessions = sessions.new.items } in
-        answered old (next (blocks_of blocks.now) mode old (Event.Launch session block)) ≡ record { machine = new; answer = result } }
-{
-    match launched(blocks, mode, sessions, session, block) {
-        Ok(after) => {
-            set_session(sessions, session, after.session());
-            Ok(Reply {
-                outcome: Outcome::Launched,
-                ended: has_ended(after.place),
-            })
+impl Launching {
+    /// The session.
+    fn session(self) -> Session
+        ensures { result ≡ record { place = self.place; transaction = self.transaction; statement = None } }
+    {
+        Session {
+            place: self.place,
+            transaction: self.transaction,
+            statement: None,
         }
-        Err(refusal) => Err(refusal),
+    }
+}
+
+impl<'a, 't, V: Versions> Live<'a, 't, V> {
+    /// Where the session stands once it is given the block, or why it may not be.
+    fn place_at_launch(
+        &self,
+        blocks: &'a [Block<'t>],
+        mode: Mode,
+        session: u32,
+        block: u32,
+    ) -> Result<Launching, Refusal>
+        ensures within { IfOk result (λ _. session < length self.now.sessions) }
+        ensures ok { IfOk result (λ after. next (blocks_of blocks.now) mode self.now (Event.Launch session block)
+            ≡ Ok (record {
+              machine = with_session self.now self.now.db session (record { place = after.place; transaction = after.transaction; statement = None });
+              reply = record { outcome = Outcome.Launched; ended = is_none after.place };
+            })) }
+        ensures refused { IfErr result (λ refusal. next (blocks_of blocks.now) mode self.now (Event.Launch session block) ≡ Err refusal) }
+    {
+        let Some(current) = self.session_at(session) else {
+            return Err(Refusal::NoSession);
+        };
+        let Some(stmts) = allowed_stmts(blocks, session, block) else {
+            return Err(Refusal::BlockNotAllowed);
+        };
+        if current.place.is_some() {
+            return Err(Refusal::Busy);
+        }
+        if self.must_wait_for_rest(mode) {
+            return Err(Refusal::NotYourTurn);
+        }
+        Ok(Launching {
+            place: start_of(block, stmts),
+            transaction: current.transaction,
+        })
+    }
+
+    /// Gives a session a block, or says why not.
+    pub fn launch(
+        &mut self,
+        blocks: &'a [Block<'t>],
+        mode: Mode,
+        session: u32,
+        block: u32,
+    ) -> Result<Reply<'t>, Refusal>
+        requires room { self.old.events + 1 < 2 ^ 64 }
+        ensures { answered self.old (next (blocks_of blocks.now) mode self.old (Event.Launch session block)) ≡ record { machine = self.new; answer = result } }
+    {
+        match self.place_at_launch(blocks, mode, session, block) {
+            Ok(after) => {
+                let ended = after.place.is_none();
+                self.set_session(session, after.session());
+                Ok(Reply {
+                    outcome: Outcome::Launched,
+                    ended,
+                })
+            }
+            Err(refusal) => Err(refusal),
+        }
     }
 }

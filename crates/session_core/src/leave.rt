@@ -1,40 +1,17 @@
 //! A session leaves.
-ghost use Rattle.std.specs.Prelude.{◌≡◌, ◌<◌, ℕ, true, IfOk, IfErr, List, Some, None, Ok, Err, length, slice_get};
+ghost use Rattle.std.specs.Prelude.{◌≡◌, ◌<◌, ◌+◌, ◌^◌, true, IfOk, IfErr, Ok, Err, length, slice_get};
 ghost use Rattle.row_versions.specs.Log.{IsOpen};
 ghost use Rattle.session_machine.specs.declared.session.OpenTransaction.{OpenTransaction};
-ghost use Rattle.session_machine.specs.Tables.{Database as DbFacts};
-ghost use Rattle.session_machine.specs.Machine.{Blocks, Machine, at_rest, left_behind, next, with_session};
+ghost use Rattle.session_machine.specs.Machine.{at_rest, leave_of, left_behind, with_session};
 ghost use Rattle.session_machine.specs.Engine.{answered};
-ghost use Rattle.session_machine.specs.Sound.{IsSound};
-ghost use Rattle.session_core.specs.Sessions.{AllOver, between};
+ghost use Rattle.session_machine.specs.Sound.{IsSoundMachine};
 
-use crate::standing::{Standing, set_session, standing_at};
-use crate::turns::must_wait_for_rest;
+use crate::live::Live;
 use row_versions::Versions;
-use session_machine::{Event, Mode, Outcome, Refusal, Reply, Session, Transaction};
+use session_machine::{Mode, Outcome, Refusal, Reply, Session, Transaction};
 use session_statements::Database;
 
-/// What the session that leaves was doing, or why it may not leave.
-fn leaving(mode: Mode, sessions: &[Session], session: u32) -> Result<Standing, Refusal>
-    requires { AllOver sessions.now }
-    ensures current { IfOk result (λ current. slice_get sessions.now session ≡ Some (between current)) }
-    ensures ok { (blocks : Blocks) (db : DbFacts) → IfOk result (λ current.
-        let m : Machine = record { db = db; sessions = sessions.now } in
-        next blocks mode m (Event.Leave session)
-        ≡ Ok (record { machine = with_session m (left_behind db current.transaction) session at_rest; reply = record { outcome = Outcome.Left; ended = true } })) }
-    ensures refused { (blocks : Blocks) (db : DbFacts) → IfErr result (λ refusal.
-        next blocks mode (record { db = db; sessions = sessions.now }) (Event.Leave session) ≡ Err refusal) }
-{
-    let Some(current) = standing_at(sessions, session) else {
-        return Err(Refusal::NoSession);
-    };
-    if must_wait_for_rest(mode, sessions) {
-        return Err(Refusal::NotYourTurn);
-    }
-    Ok(current)
-}
-
-/// Rolls an open transaction back.
+/// Rolls an open transaction back, which lets go of its locks.
 fn undo<'a, 't, V: Versions>(db: &mut Database<'a, 't, V>, transaction: Transaction)
     requires { (t : OpenTransaction) → transaction ≡ Transaction.Open t → IsOpen db.old.content t.tx }
     ensures { db.new ≡ left_behind db.old transaction }
@@ -44,28 +21,42 @@ fn undo<'a, 't, V: Versions>(db: &mut Database<'a, 't, V>, transaction: Transact
     }
 }
 
-/// Rolls a session's open transaction back and drops its block, or says why not.
-pub fn leave<'a, 't, V: Versions>(
-    db: &mut Database<'a, 't, V>,
-    sessions: &mut Vec<Session>,
-    mode: Mode,
-    session: u32,
-) -> Result<Reply<'t>, Refusal>
-    requires sound { (events : ℕ) × IsSound db.old sessions.old.items events }
-    ensures { (blocks : Blocks) →
-        let old : Machine = record { db = db.old; sessions = sessions.old.items } in
-        let new : Machine = record { db = db.new; sessions = sessions.new.items } in
-        answered old (next blocks mode old (Event.Leave session)) ≡ record { machine = new; answer = result } }
-{
-    match leaving(mode, sessions, session) {
-        Ok(current) => {
-            undo(db, current.transaction);
-            set_session(sessions, session, Session::at_rest());
-            Ok(Reply {
-                outcome: Outcome::Left,
-                ended: true,
-            })
+impl<'a, 't, V: Versions> Live<'a, 't, V> {
+    /// The transaction of the session that leaves, or why it may not leave.
+    #[tactic(auto, using(crate::proofs::Stepping::opened_at))]
+    fn leaving(&self, mode: Mode, session: u32) -> Result<Transaction, Refusal>
+        requires sound { IsSoundMachine self.now }
+        ensures within { IfOk result (λ _. session < length self.now.sessions) }
+        ensures opened { (t : OpenTransaction) → IfOk result (λ transaction. transaction ≡ Transaction.Open t → IsOpen self.now.db.content t.tx) }
+        ensures ok { IfOk result (λ transaction. leave_of mode self.now session (slice_get self.now.sessions session)
+            ≡ Ok (record { machine = with_session self.now (left_behind self.now.db transaction) session at_rest; reply = record { outcome = Outcome.Left; ended = true } })) }
+        ensures refused { IfErr result (λ refusal. leave_of mode self.now session (slice_get self.now.sessions session) ≡ Err refusal) }
+    {
+        let Some(current) = self.session_at(session) else {
+            return Err(Refusal::NoSession);
+        };
+        if self.must_wait_for_rest(mode) {
+            return Err(Refusal::NotYourTurn);
         }
-        Err(refusal) => Err(refusal),
+        Ok(current.transaction)
+    }
+
+    /// Rolls a session's open transaction back and drops its block, or says why not.
+    pub fn leave(&mut self, mode: Mode, session: u32) -> Result<Reply<'t>, Refusal>
+        requires sound { IsSoundMachine self.old }
+        requires room { self.old.events + 1 < 2 ^ 64 }
+        ensures { answered self.old (leave_of mode self.old session (slice_get self.old.sessions session)) ≡ record { machine = self.new; answer = result } }
+    {
+        match self.leaving(mode, session) {
+            Ok(transaction) => {
+                undo(&mut self.db, transaction);
+                self.set_session(session, Session::at_rest());
+                Ok(Reply {
+                    outcome: Outcome::Left,
+                    ended: true,
+                })
+            }
+            Err(refusal) => Err(refusal),
+        }
     }
 }

@@ -8,9 +8,9 @@ mod leave;
 mod live;
 mod replay;
 mod same_blocks;
-mod standing;
 mod step;
 mod turns;
+mod waits;
 
 pub use engine::EngineState;
 pub use replay::replays;

@@ -1,20 +1,14 @@
 //! The machine over a store.
-ghost use Rattle.std.specs.Prelude.{◌≡◌, ◌≢◌, ◌+◌, ◌<◌, ◌≤◌, ◌^◌, ℕ, List, IfOk, IfErr, OnErr, IfSome, Option, Some, None, Result, Ok, Err, option_map, length, slice_get};
+ghost use Rattle.std.specs.Prelude.{◌≡◌, ◌+◌, ◌<◌, ◌≤◌, ◌^◌, List, IfOk, IfErr, OnErr, Option, Ok, Err, option_map, length, slice_get};
 ghost use Rattle.std.specs.Global.{Vec as VecFacts};
 ghost use Rattle.sql_values.specs.declared.value.Value.{Value as SqlValue};
 ghost use Rattle.row_versions.specs.Log.{empty_content};
-ghost use Rattle.session_machine.specs.Sound.{IsSound};
-ghost use Rattle.session_machine.specs.Machine.{Blocks, Next, next, opening, turn_in, visible};
+ghost use Rattle.session_machine.specs.Sound.{IsSoundMachine};
+ghost use Rattle.session_machine.specs.Machine.{next, opening, visible, with_session};
 ghost use Rattle.session_machine.specs.Engine.{answered};
 ghost use Rattle.session_core.specs.Blocks.{blocks_of};
 ghost use Rattle.session_core.specs.Engines.{Goes};
-ghost use Rattle.session_core.specs.Sessions.{AllOver};
 
-use crate::launch::launch;
-use crate::leave::leave;
-use crate::standing::standing_at;
-use crate::step::step;
-use crate::turns::turn_among;
 use iso_lexer::Name;
 use row_versions::Versions;
 use session_machine::{Event, Mode, Refusal, Reply, Session};
@@ -24,11 +18,12 @@ use sql_values::Row;
 use std::alloc::{AllocError, Global};
 use std::marker::Model;
 
-/// The sessions over a store, which contracts see as the machine.
+/// The sessions over a store, and how many events there were, which contracts see as the machine.
 #[derive(Drop)]
 pub struct Live<'a, 't, V: Versions> {
-    db: Database<'a, 't, V>,
-    sessions: Vec<Session>,
+    pub(crate) db: Database<'a, 't, V>,
+    pub(crate) sessions: Vec<Session>,
+    pub(crate) events: u64,
 }
 
 impl<'a, 't, V: Versions> Model for Live<'a, 't, V> {
@@ -36,7 +31,7 @@ impl<'a, 't, V: Versions> Model for Live<'a, 't, V> {
 
     ghost Value = { Machine };
 
-    ghost view = { λ e. record { db = e.db; sessions = e.sessions.items } };
+    ghost view = { λ e. record { db = e.db; sessions = e.sessions.items; events = e.events } };
 }
 
 impl<'a, 't, V: Versions> Live<'a, 't, V> {
@@ -53,49 +48,18 @@ impl<'a, 't, V: Versions> Live<'a, 't, V> {
         Ok(Live {
             db: Database::new(alloc, store),
             sessions,
+            events: 0,
         })
     }
 
-    /// Whose turn it is.
-    pub fn turn(&self) -> Option<usize>
-        requires { AllOver self.now.sessions }
-        ensures turn { result ≡ turn_in self.now }
-        ensures within { IfSome result (λ k. k < length self.now.sessions) }
+    /// Has the session of that number go on as this one, which ends an event.
+    pub fn set_session(&mut self, session: u32, after: Session)
+        requires within { session < length self.old.sessions }
+        requires room { self.old.events + 1 < 2 ^ 64 }
+        ensures { self.new ≡ with_session self.old self.old.db session after }
     {
-        turn_among(&self.sessions)
-    }
-
-    fn launch(
-        &mut self,
-        blocks: &'a [Block<'t>],
-        mode: Mode,
-        session: u32,
-        block: u32,
-    ) -> Result<Reply<'t>, Refusal>
-        requires { AllOver self.old.sessions }
-        ensures { answered self.old (next (blocks_of blocks.now) mode self.old (Event.Launch session block)) ≡ record { machine = self.new; answer = result } }
-    {
-        launch(&mut self.sessions, blocks, mode, session, block)
-    }
-
-    fn leave(&mut self, mode: Mode, session: u32) -> Result<Reply<'t>, Refusal>
-        requires sound { (events : ℕ) × IsSound self.old.db self.old.sessions events }
-        ensures { (blocks : Blocks) → answered self.old (next blocks mode self.old (Event.Leave session)) ≡ record { machine = self.new; answer = result } }
-    {
-        leave(&mut self.db, &mut self.sessions, mode, session)
-    }
-
-    fn step(
-        &mut self,
-        blocks: &'a [Block<'t>],
-        mode: Mode,
-        session: u32,
-    ) -> Result<Result<Reply<'t>, Refusal>, AllocError>
-        requires sound { (events : ℕ) × (events + 1 < 2 ^ 64) × IsSound self.old.db self.old.sessions events }
-        ensures answer { IfOk result (λ answer. answered self.old (next (blocks_of blocks.now) mode self.old (Event.Step session)) ≡ record { machine = self.new; answer = answer }) }
-        ensures due { OnErr result (Goes (blocks_of blocks.now) mode self.old (Event.Step session)) }
-    {
-        step(&mut self.db, &mut self.sessions, blocks, mode, session)
+        self.sessions[session as usize] = after;
+        self.events += 1;
     }
 
     /// Does an event.
@@ -105,7 +69,8 @@ impl<'a, 't, V: Versions> Live<'a, 't, V> {
         mode: Mode,
         event: Event,
     ) -> Result<Result<Reply<'t>, Refusal>, AllocError>
-        requires sound { (events : ℕ) × (events + 1 < 2 ^ 64) × IsSound self.old.db self.old.sessions events }
+        requires sound { IsSoundMachine self.old }
+        requires room { self.old.events + 1 < 2 ^ 64 }
         ensures answer { IfOk result (λ answer. answered self.old (next (blocks_of blocks.now) mode self.old event) ≡ record { machine = self.new; answer = answer }) }
         ensures due { OnErr result (Goes (blocks_of blocks.now) mode self.old event) }
     {
@@ -116,20 +81,28 @@ impl<'a, 't, V: Versions> Live<'a, 't, V> {
         }
     }
 
+    /// The session of that number, if there is one.
+    pub fn session_at(&self, session: u32) -> Option<&Session>
+        ensures { slice_get self.now.sessions session ≡ option_map (λ s. s.now) result }
+    {
+        self.sessions.get(session as usize)
+    }
+
     /// What a SELECT of the session that begins now would show of the table.
     pub fn visible(
         &self,
         session: u32,
         table: &str,
     ) -> Result<Result<Option<Vec<Row>>, Refusal>, AllocError>
-        requires { AllOver self.now.sessions }
+        requires sound { IsSoundMachine self.now }
+        requires room { self.now.events + 1 < 2 ^ 64 }
         ensures ok { IfOk result (λ answer. IfOk answer (λ rows. visible self.now session table.now ≡ Ok (option_map (λ (v : VecFacts (List SqlValue)). v.items) rows))) }
         ensures refused { IfOk result (λ answer. IfErr answer (λ refusal. visible self.now session table.now ≡ Err refusal)) }
         ensures memory { OnErr result ((rows : Option (List (List SqlValue))) × (visible self.now session table.now ≡ Ok rows)) }
     {
-        let Some(current) = standing_at(&self.sessions, session) else {
+        let Some(current) = self.session_at(session) else {
             return Ok(Err(Refusal::NoSession));
         };
-        Ok(Ok(self.db.visible(&current.transaction, &Name::Plain(table))?))
+        Ok(Ok(self.db.visible(current, &Name::Plain(table))?))
     }
 }

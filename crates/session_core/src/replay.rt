@@ -1,12 +1,13 @@
 //! Whether a history is one of the machine's.
 ghost use Rattle.std.specs.Prelude.{◌≡◌, ◌↔◌, ◌+◌, ◌<◌, ◌≤◌, ◌^◌, ℕ, IsTrue, IfOk, true, false, length};
-ghost use Rattle.session_machine.specs.Sound.{IsSound};
+ghost use Rattle.session_machine.specs.Sound.{IsSoundMachine};
 ghost use Rattle.session_machine.specs.Machine.{Machine, opening};
 ghost use Rattle.session_machine.specs.Engine.{Follows, IsLegal, Run};
 ghost use Rattle.session_core.specs.Blocks.{blocks_of};
 
 use crate::live::Live;
 use row_versions::{ListStore, Versions};
+use session_laws::laws::stays_sound;
 use session_machine::{HistItem, Mode};
 use sql_parser::Block;
 use std::alloc::{AllocError, Global};
@@ -18,7 +19,8 @@ fn agrees<'a, 't, V: Versions>(
     mode: Mode,
     item: &HistItem<'_>,
 ) -> Result<bool, AllocError>
-    requires sound { (events : ℕ) × (events + 1 < 2 ^ 64) × IsSound live.old.db live.old.sessions events }
+    requires sound { IsSoundMachine live.old }
+    requires room { live.old.events + 1 < 2 ^ 64 }
     ensures yes { IfOk result (λ agrees. agrees ≡ true → Follows (blocks_of blocks.now) mode live.old item.now live.new) }
     ensures no { IfOk result (λ agrees. agrees ≡ false → (after : Machine) → Follows (blocks_of blocks.now) mode live.old item.now after → ⊥) }
 {
@@ -40,6 +42,7 @@ pub fn replays<'a, 't>(
     requires few { count ≤ 64 }
     ensures { IfOk result (λ legal. IsTrue legal ↔ IsLegal (blocks_of blocks.now) count mode history.now) }
 {
+    stays_sound();
     let mut live = Live::new(alloc, count, ListStore::new(alloc))?;
     for item in history {
         if !agrees(&mut live, blocks, mode, item)? {

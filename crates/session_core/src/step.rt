@@ -1,73 +1,38 @@
-//! A session's next statement is run.
-ghost use Rattle.std.specs.Prelude.{◌≡◌, ◌+◌, ◌<◌, ◌^◌, ℕ, IfOk, IfErr, OnErr, Some, None, Ok, Err, length, slice_get};
+//! A session's statement begins, or goes on where it waits.
+ghost use Rattle.std.specs.Prelude.{◌≡◌, ◌+◌, ◌<◌, ◌^◌, ℕ, false, IfOk, IfErr, IfSome, OnErr, Some, None, Ok, Err, is_none, length, slice_get, slice_set};
 ghost use Rattle.row_versions.specs.Log.{IsOpen};
 ghost use Rattle.sql_trees.specs.Statements.{stmt_of};
 ghost use Rattle.session_machine.specs.declared.session.OpenTransaction.{OpenTransaction};
-ghost use Rattle.session_machine.specs.Tables.{Database as DbFacts};
-ghost use Rattle.session_machine.specs.Statements.{run_stmt};
-ghost use Rattle.session_machine.specs.Sound.{IsSound};
+ghost use Rattle.session_machine.specs.declared.session.Session.{Session as SessionFacts};
+ghost use Rattle.session_machine.specs.Running.{run_stmt};
+ghost use Rattle.session_machine.specs.Sound.{IsSoundMachine};
 ghost use Rattle.session_machine.specs.Engine.{answered};
-ghost use Rattle.session_machine.specs.Machine.{Machine, after_stmt, closed_at_end, finished, is_failed, next};
+ghost use Rattle.session_machine.specs.Machine.{Machine, after_end, after_stmt, around, finished, closed_at_end, is_failed, is_still_blocked, next, with_session};
 ghost use Rattle.session_core.specs.Blocks.{blocks_of};
 ghost use Rattle.session_core.specs.Engines.{Goes};
-ghost use Rattle.session_core.specs.Sessions.{AllOver, between};
 
-use crate::block_stmts::stmt_at;
-use crate::standing::{Standing, has_ended, set_session, standing_at};
-use crate::turns::must_wait_for_turn;
+use crate::block_stmts::{StmtAt, stmt_at};
+use crate::live::Live;
+use crate::waits::is_still_blocked;
 use row_versions::Versions;
+use session_laws::laws::stays_sound;
 use session_machine::{Event, Mode, Outcome, Place, Refusal, Reply, Session, Transaction};
-use session_statements::Database;
+use session_statements::{Around, Database, Did};
 use sql_parser::Block;
-use sql_trees::Stmt;
 use std::alloc::AllocError;
 
-/// The statement that a session's next step begins.
-#[derive(Drop)]
-pub struct Due<'a, 't> {
-    pub transaction: Transaction,
-    pub place: Place,
-    /// How many statements the block has.
-    pub count: usize,
-    pub stmt: &'a Stmt<'t>,
+/// The statement of a session's next step, and its place.
+#[derive(Clone, Copy)]
+struct Due<'a, 't> {
+    place: Place,
+    at: StmtAt<'a, 't>,
 }
 
-/// The statement that a session's next step begins, or why it may not.
-pub fn due_statement<'a, 't>(
-    blocks: &'a [Block<'t>],
-    mode: Mode,
-    sessions: &[Session],
-    session: u32,
-) -> Result<Due<'a, 't>, Refusal>
-    requires { AllOver sessions.now }
-    ensures current { IfOk result (λ d. slice_get sessions.now session ≡ Some (between (record { place = Some d.place; transaction = d.transaction }))) }
-    ensures within { IfOk result (λ d. d.place.next < d.count) }
-    ensures fits { IfOk result (λ d. d.count < 2 ^ 64) }
-    ensures ok { (db : DbFacts) → IfOk result (λ d.
-        let m : Machine = record { db = db; sessions = sessions.now } in
-        next (blocks_of blocks.now) mode m (Event.Step session)
-        ≡ Ok (after_stmt m session d.place d.count (run_stmt db d.transaction (stmt_of d.stmt.now)))) }
-    ensures refused { (db : DbFacts) → IfErr result (λ refusal.
-        next (blocks_of blocks.now) mode (record { db = db; sessions = sessions.now }) (Event.Step session) ≡ Err refusal) }
-{
-    let Some(current) = standing_at(sessions, session) else {
-        return Err(Refusal::NoSession);
-    };
-    let Some(place) = current.place else {
-        return Err(Refusal::Idle);
-    };
-    let Some(at) = stmt_at(blocks, &place) else {
-        return Err(Refusal::Idle);
-    };
-    if must_wait_for_turn(mode, sessions, session as usize) {
-        return Err(Refusal::NotYourTurn);
-    }
-    Ok(Due {
-        transaction: current.transaction,
-        place,
-        count: at.count,
-        stmt: at.stmt,
-    })
+/// Where a session goes after a statement, and what is left of its transaction.
+#[derive(Drop)]
+struct Standing {
+    place: Option<Place>,
+    transaction: Transaction,
 }
 
 fn has_failed(outcome: &Outcome<'_>) -> bool
@@ -83,8 +48,8 @@ fn end_block<'a, 't, V: Versions>(
 ) -> Transaction
     requires { (t : OpenTransaction) → transaction ≡ Transaction.Open t → IsOpen db.old.content t.tx }
     ensures { (outcome : Outcome) →
-        closed_at_end (record { db = db.old; transaction = transaction; outcome = outcome }) transaction
-        ≡ record { db = db.new; transaction = result; outcome = outcome } }
+        closed_at_end (record { db = db.old; transaction = transaction; statement = None; outcome = outcome }) transaction
+        ≡ record { db = db.new; transaction = result; statement = None; outcome = outcome } }
 {
     match transaction {
         Transaction::Open(by) if !by.explicit => {
@@ -95,8 +60,8 @@ fn end_block<'a, 't, V: Versions>(
     }
 }
 
-/// Where a session goes after a statement, and what is left of its transaction.
-pub fn after_statement<'a, 't, V: Versions>(
+/// Where a session goes after a statement that is over, and what is left of its transaction.
+fn after_end<'a, 't, V: Versions>(
     db: &mut Database<'a, 't, V>,
     place: Place,
     count: usize,
@@ -107,8 +72,8 @@ pub fn after_statement<'a, 't, V: Versions>(
     requires within { place.next < count }
     requires fits { count < 2 ^ 64 }
     ensures { (m : Machine) (session : ℕ) →
-        after_stmt m session place count (record { db = db.old; transaction = transaction; outcome = outcome.now })
-        ≡ finished m session (record { db = db.new; transaction = result.transaction; outcome = outcome.now }) result.place }
+        after_end m session place count (record { db = db.old; transaction = transaction; statement = None; outcome = outcome.now })
+        ≡ finished m session (record { db = db.new; transaction = result.transaction; statement = None; outcome = outcome.now }) result.place }
 {
     if has_failed(outcome) {
         return Standing {
@@ -132,46 +97,131 @@ pub fn after_statement<'a, 't, V: Versions>(
     }
 }
 
-/// Runs a session's next statement.
-pub fn run_due<'a, 't, V: Versions>(
-    db: &mut Database<'a, 't, V>,
-    sessions: &mut Vec<Session>,
-    session: u32,
-    due: &Due<'a, 't>,
-) -> Result<Reply<'t>, AllocError>
-    requires current { slice_get sessions.old.items session ≡ Some (between (record { place = Some due.now.place; transaction = due.now.transaction })) }
-    requires sound { (events : ℕ) × (events + 1 < 2 ^ 64) × IsSound db.old sessions.old.items events }
-    requires within { due.now.place.next < due.now.count }
-    requires fits { due.now.count < 2 ^ 64 }
-    ensures { IfOk result (λ reply.
-        after_stmt (record { db = db.old; sessions = sessions.old.items }) session due.now.place due.now.count
-        (run_stmt db.old due.now.transaction (stmt_of due.now.stmt.now))
-        ≡ record { machine = record { db = db.new; sessions = sessions.new.items }; reply = reply }) }
-{
-    let (transaction, outcome) = db.run_statement(&due.transaction, due.stmt)?;
-    let after = after_statement(db, due.place, due.count, transaction, &outcome);
-    let ended = has_ended(after.place);
-    set_session(sessions, session, after.session());
-    Ok(Reply { outcome, ended })
-}
+impl<'a, 't, V: Versions> Live<'a, 't, V> {
+    /// The statement of the session's next step, or why it may not take it.
+    fn due(&self, blocks: &'a [Block<'t>], mode: Mode, session: u32) -> Result<Due<'a, 't>, Refusal>
+        ensures within { IfOk result (λ d. d.place.next < d.at.count) }
+        ensures fits { IfOk result (λ d. d.at.count < 2 ^ 64) }
+        ensures ok { IfOk result (λ d. (s : SessionFacts) × (slice_get self.now.sessions session ≡ Some s) × (s.place ≡ Some d.place)
+            × (is_still_blocked self.now.db s ≡ false)
+            × (next (blocks_of blocks.now) mode self.now (Event.Step session)
+            ≡ Ok (after_stmt self.now session d.place d.at.count (run_stmt self.now.db s.transaction s.statement (around self.now session s) (stmt_of d.at.stmt.now))))) }
+        ensures refused { IfErr result (λ refusal. next (blocks_of blocks.now) mode self.now (Event.Step session) ≡ Err refusal) }
+    {
+        let Some(current) = self.session_at(session) else {
+            return Err(Refusal::NoSession);
+        };
+        let Some(place) = current.place else {
+            return Err(Refusal::Idle);
+        };
+        let Some(at) = stmt_at(blocks, &place) else {
+            return Err(Refusal::Idle);
+        };
+        if self.must_wait_for_turn(mode, session as usize) {
+            return Err(Refusal::NotYourTurn);
+        }
+        if is_still_blocked(&self.db, current) {
+            return Err(Refusal::StillBlocked);
+        }
+        Ok(Due { place, at })
+    }
 
-/// Begins the session's next statement, or says why not.
-pub fn step<'a, 't, V: Versions>(
-    db: &mut Database<'a, 't, V>,
-    sessions: &mut Vec<Session>,
-    blocks: &'a [Block<'t>],
-    mode: Mode,
-    session: u32,
-) -> Result<Result<Reply<'t>, Refusal>, AllocError>
-    requires sound { (events : ℕ) × (events + 1 < 2 ^ 64) × IsSound db.old sessions.old.items events }
-    ensures answer { IfOk result (λ answer.
-        let old : Machine = record { db = db.old; sessions = sessions.old.items } in
-        let new : Machine = record { db = db.new; sessions = sessions.new.items } in
-        answered old (next (blocks_of blocks.now) mode old (Event.Step session)) ≡ record { machine = new; answer = answer }) }
-    ensures due { OnErr result (Goes (blocks_of blocks.now) mode (record { db = db.old; sessions = sessions.old.items }) (Event.Step session)) }
-{
-    match due_statement(blocks, mode, sessions, session) {
-        Ok(due) => Ok(Ok(run_due(db, sessions, session, &due)?)),
-        Err(refusal) => Ok(Err(refusal)),
+    /// The session, out of which the statement that it is in the middle of is taken, if there is one.
+    fn take_session(&mut self, session: u32) -> Session
+        requires { session < length self.old.sessions }
+        ensures was { slice_get self.old.sessions session ≡ Some result }
+        ensures taken { self.new ≡ record self.old { sessions = slice_set self.old.sessions session (record result { statement = None }) } }
+    {
+        let current = &mut self.sessions[session as usize];
+        Session {
+            place: current.place,
+            transaction: current.transaction,
+            statement: current.statement.take(),
+        }
+    }
+
+    /// The session stays at its statement, or goes on behind it.
+    fn go_on(&mut self, session: u32, place: Place, count: usize, did: Did<'t>) -> Reply<'t>
+        requires there { session < length self.old.sessions }
+        requires room { self.old.events + 1 < 2 ^ 64 }
+        requires opened { (t : OpenTransaction) → did.transaction ≡ Transaction.Open t → IsOpen self.old.db.content t.tx }
+        requires within { place.next < count }
+        requires fits { count < 2 ^ 64 }
+        ensures { after_stmt self.old session place count
+            (record { db = self.old.db; transaction = did.entry.transaction; statement = did.entry.statement; outcome = did.entry.outcome })
+            ≡ record { machine = self.new; reply = result } }
+    {
+        if did.statement.is_some() {
+            self.set_session(
+                session,
+                Session {
+                    place: Some(place),
+                    transaction: did.transaction,
+                    statement: did.statement,
+                },
+            );
+            return Reply {
+                outcome: did.outcome,
+                ended: false,
+            };
+        }
+        let after = after_end(&mut self.db, place, count, did.transaction, &did.outcome);
+        let ended = after.place.is_none();
+        self.set_session(
+            session,
+            Session {
+                place: after.place,
+                transaction: after.transaction,
+                statement: None,
+            },
+        );
+        Reply {
+            outcome: did.outcome,
+            ended,
+        }
+    }
+
+    /// Runs the session's statement from its place on.
+    fn run(&mut self, session: u32, due: Due<'a, 't>) -> Result<Reply<'t>, AllocError>
+        requires sound { IsSoundMachine self.old }
+        requires room { self.old.events + 1 < 2 ^ 64 }
+        requires current { (s : SessionFacts) × (slice_get self.old.sessions session ≡ Some s) × (s.place ≡ Some due.place) × (is_still_blocked self.old.db s ≡ false) }
+        requires within { due.place.next < due.at.count }
+        requires fits { due.at.count < 2 ^ 64 }
+        ensures { IfOk result (λ reply. IfSome (slice_get self.old.sessions session) (λ s.
+            after_stmt self.old session due.entry.place due.entry.at.count
+            (run_stmt self.old.db s.transaction s.statement (around self.old session s) (stmt_of due.entry.at.stmt.now))
+            ≡ record { machine = self.new; reply = reply })) }
+    {
+        stays_sound();
+        let taken = self.take_session(session);
+        let transaction = taken.transaction;
+        let statement = taken.statement;
+        let around = Around {
+            sessions: &self.sessions,
+            number: self.events,
+        };
+        let did = self
+            .db
+            .run_statement(&transaction, statement, &around, due.at.stmt)?;
+        Ok(self.go_on(session, due.place, due.at.count, did))
+    }
+
+    /// Begins the session's next statement, or goes on with the one that waits, or says why not.
+    pub fn step(
+        &mut self,
+        blocks: &'a [Block<'t>],
+        mode: Mode,
+        session: u32,
+    ) -> Result<Result<Reply<'t>, Refusal>, AllocError>
+        requires sound { IsSoundMachine self.old }
+        requires room { self.old.events + 1 < 2 ^ 64 }
+        ensures answer { IfOk result (λ answer. answered self.old (next (blocks_of blocks.now) mode self.old (Event.Step session)) ≡ record { machine = self.new; answer = answer }) }
+        ensures due { OnErr result (Goes (blocks_of blocks.now) mode self.old (Event.Step session)) }
+    {
+        match self.due(blocks, mode, session) {
+            Ok(due) => Ok(Ok(self.run(session, due)?)),
+            Err(refusal) => Ok(Err(refusal)),
+        }
     }
 }

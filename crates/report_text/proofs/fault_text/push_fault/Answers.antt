@@ -11,6 +11,14 @@ pub returns-in-TooManyValues : goal.returns-in-TooManyValues
 unfolding fault_text
 returns-in-TooManyValues c = rw c.in-TooManyValues.is c.push-in-TooManyValues.ensures.bytes
 
+pub returns-in-NotSerializable : goal.returns-in-NotSerializable
+unfolding fault_text
+returns-in-NotSerializable c = rw c.in-NotSerializable.is c.push-in-NotSerializable.ensures.bytes
+
+pub returns-in-Deadlock : goal.returns-in-Deadlock
+unfolding fault_text
+returns-in-Deadlock c = rw c.in-Deadlock.is c.push-in-Deadlock.ensures.bytes
+
 pub returns-in-Aborted : goal.returns-in-Aborted
 unfolding fault_text
 returns-in-Aborted c = rw c.in-Aborted.is c.push-in-Aborted.ensures.bytes

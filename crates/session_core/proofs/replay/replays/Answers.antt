@@ -1,14 +1,13 @@
-use Rattle.std.proofs.Common.{◌≡◌, ◌↔◌, ◌+◌, [], refl, subst, drop}
+use Rattle.std.proofs.Common.{◌≡◌, ◌↔◌, ◌+◌, [], refl, ap, ◌∙◌, subst, drop}
 use Rattle.std.proofs.lemmas.List.{drop_all}
 use Rattle.session_machine.specs.Machine.{opening}
-use Rattle.session_machine.proofs.Sound.{sound_next, sound_opening}
-use Rattle.session_machine.proofs.Replaying.{LeadsOn, legal_step, legal_not, from_place}
+use Rattle.session_core.proofs.Replaying.{LeadsOn, legal_step, legal_not, from_place}
 use Rattle.session_core.specs.Blocks.{blocks_of}
 use Rattle.session_core.proofs.replay.replays.Goals as goal
 
 pub loop-item-init : goal.loop-item-init
 loop-item-init c =
-    rw c.in_ok-live.ensures (record { sound = sound_opening c.args.count c.requires.few; legal = (λ h. h, λ h. h) })
+    rw c.in_ok-live.ensures (record { sound = c.stays_sound.ensures.opens c.args.count c.requires.few; counted = refl; legal = (λ h. h, λ h. h) })
 
 pub returns-then-not-branch : goal.returns-then-not-branch
 returns-then-not-branch c =
@@ -26,8 +25,10 @@ loop-item-preserved c =
     let from = from_place c.args.history.now i c.item-item.result c.loop-item-test.true c.item-item.is in
     let legal = subst (λ items. LeadsOn blocks c.args.mode c.loop-item.live items ↔ LeadsOn blocks c.args.mode (opening c.args.count) c.args.history.now) from c.loop-item.invariant.legal in
     let follows = c.in_ok-agrees.ensures.yes c.if-not-branch.false in
+    let after = c.stays_sound.ensures.goes_on blocks c.args.mode c.loop-item.live c.item-item.result.event _ c.loop-item.invariant.sound follows in
     record {
-      sound = sound_next blocks c.args.mode c.loop-item.live c.item-item.result.event _ i c.loop-item.invariant.sound follows;
+      sound = after.0;
+      counted = after.1 ∙ ap (λ k. k + 1) c.loop-item.invariant.counted;
       legal = legal_step _ _ c.loop-item.live c.agrees.new.live c.item-item.result (drop (i + 1) c.args.history.now) _ _ follows legal;
     }
 

@@ -1,14 +1,15 @@
-use Rattle.std.proofs.Common.{◌↔◌, drop}
+use Rattle.std.proofs.Common.{◌≡◌, ◌↔◌, drop}
 use Rattle.session_machine.specs.Machine.{opening}
-use Rattle.session_machine.specs.Sound.{IsSound}
-use Rattle.session_machine.proofs.Replaying.{LeadsOn}
+use Rattle.session_machine.specs.Sound.{IsSoundMachine}
 use Rattle.session_core.specs.Blocks.{blocks_of}
+use Rattle.session_core.proofs.Replaying.{LeadsOn}
 use Rattle.session_core.proofs.replay.replays.Given as goal
 
 -- the items that are left go on from here exactly if all do from the opening
 abbrev pub invariant-loop-item : goal.invariant-loop-item
 invariant-loop-item l =
     record {
-      sound : IsSound l.live.db l.live.sessions l.item-index;
+      sound : IsSoundMachine l.live;
+      counted : l.live.events ≡ l.item-index;
       legal : LeadsOn (blocks_of l.blocks) l.mode l.live (drop l.item-index l.history) ↔ LeadsOn (blocks_of l.blocks) l.mode (opening l.count) l.history;
     }

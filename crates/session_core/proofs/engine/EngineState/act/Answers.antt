@@ -4,8 +4,8 @@ use Rattle.session_machine.specs.declared.reply.Reply.{Reply}
 use Rattle.session_machine.specs.declared.fault.Refusal.{Refusal}
 use Rattle.session_machine.specs.Machine.{Machine, opening, next}
 use Rattle.session_machine.specs.Engine.{Run, answered}
-use Rattle.session_machine.specs.Sound.{IsSound}
-use Rattle.session_machine.proofs.Replaying.{answered_err, goes_on}
+use Rattle.session_machine.specs.Sound.{IsSoundMachine}
+use Rattle.session_core.proofs.Replaying.{answered_err, goes_on}
 use Rattle.session_core.specs.Blocks.{blocks_of}
 use Rattle.session_core.proofs.Going.{due, goes}
 use Rattle.session_core.proofs.engine.EngineState.act.Goals as goal
@@ -15,11 +15,11 @@ pub invariant_of-self-in-Ok-note : goal.invariant_of-self-in-Ok-note
 invariant_of-self-in-Ok-note g c =
     let blocks = blocks_of c.self.inside.blocks.now in
     let fresh = c.if-self.false in
-    let h = goes_on blocks c.self.inside.mode (opening c.self.inside.count) c.self.inside.live c.act.new.self c.self.inside.history.items c.note.new.history.items c.args.event c.in-Ok-answer.reply
-    (c.self.invariant.1 fresh).0 (c.self.invariant.1 fresh).1
+    let h = goes_on c.stays_sound.ensures blocks c.self.inside.mode (opening c.self.inside.count) c.self.inside.live c.act.new.self c.self.inside.history.items c.note.new.history.items c.args.event c.in-Ok-answer.reply
+    (c.self.invariant.1 fresh).0 (c.self.invariant.1 fresh).1 (c.self.invariant.1 fresh).2
     (subst (λ (a : Result Reply Refusal). answered c.self.inside.live (next blocks c.self.inside.mode c.self.inside.live c.args.event) ≡ record { machine = c.act.new.self; answer = a }) c.in-Ok-answer.is c.in-Ok.ensures.answer)
     c.in-Ok-note.ensures.history in
-    ((c.act.new.self, h.1), λ _. h)
+    ((c.act.new.self, h.2), λ _. h)
 
 -- a refusal leaves the state
 pub invariant_of-self-in-Err-answer : goal.invariant_of-self-in-Err-answer
@@ -28,7 +28,7 @@ invariant_of-self-in-Err-answer g c =
     let same = answered_err c.self.inside.live c.act.new.self (next blocks c.self.inside.mode c.self.inside.live c.args.event) c.in-Err-answer.refusal
     (subst (λ (a : Result Reply Refusal). answered c.self.inside.live (next blocks c.self.inside.mode c.self.inside.live c.args.event) ≡ record { machine = c.act.new.self; answer = a }) c.in-Err-answer.is c.in-Ok.ensures.answer) in (
       c.self.invariant.0,
-      λ fresh. subst (λ (m : Machine). IsSound m.db m.sessions (length c.self.inside.history.items) × Run blocks c.self.inside.mode (opening c.self.inside.count) c.self.inside.history.items m)
+      λ fresh. subst (λ (m : Machine). IsSoundMachine m × (m.events ≡ length c.self.inside.history.items) × Run blocks c.self.inside.mode (opening c.self.inside.count) c.self.inside.history.items m)
           (sym same.1) (c.self.invariant.1 fresh),
     )
 

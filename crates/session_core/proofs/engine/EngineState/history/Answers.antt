@@ -10,4 +10,4 @@ pub returns-clause-leads : goal.returns-clause-leads
 returns-clause-leads g c =
     let e = c.self.inside in
     subst (λ (x : Engine). IfSome x.machine (λ m. Run x.blocks x.mode (opening x.count) x.history m)) c.self.view_is
-    (of_machine e.spent e.live (Run (blocks_of e.blocks.now) e.mode (opening e.count) e.history.items) (λ fresh. (c.self.invariant.1 fresh).1))
+    (of_machine e.spent e.live (Run (blocks_of e.blocks.now) e.mode (opening e.count) e.history.items) (λ fresh. (c.self.invariant.1 fresh).2))

@@ -1,0 +1,223 @@
+//! Statements that wait for rows that others hold, and what becomes of them (PostgreSQL manual, 13.2 and 13.3).
+
+use crate::calls::{Call, all_see, has_answer, launch, step};
+use crate::tables::check;
+use crate::trial::{Line, Wrong, blocks, engine_of};
+use session_machine::Mode;
+use sql_parser::Block;
+use std::alloc::Global;
+use std::process::Abort;
+use std::test::Fail;
+
+const ACCT: Line<'static> = (
+    0,
+    "CREATE TABLE acct (id int, bal int); INSERT INTO acct VALUES (1, 100), (2, 200)",
+    "",
+);
+
+const ADD: &str = "BEGIN; UPDATE acct SET bal = bal + 100 WHERE id = 1";
+
+const ADD_REPEATABLE: &str =
+    "BEGIN ISOLATION LEVEL REPEATABLE READ; UPDATE acct SET bal = bal + 100 WHERE id = 1";
+
+const ALL: &str = "COMMIT; SELECT * FROM acct ORDER BY id";
+
+#[test]
+fn an_update_waits_and_goes_on(rt: HostRuntime) -> Result<(), Fail> {
+    check(
+        &rt,
+        rt.alloc(),
+        &[
+            ACCT,
+            (1, ADD, ""),
+            (2, ADD, " waits"),
+            (1, "COMMIT", ""),
+            (2, ALL, " id bal | 1 300 | 2 200"),
+            (1, ADD, ""),
+            (2, ADD_REPEATABLE, " waits"),
+            (1, "COMMIT", " not serializable"),
+            (2, "SELECT * FROM acct", " aborted"),
+            (2, ALL, " id bal | 1 400 | 2 200"),
+            (1, ADD, ""),
+            (2, ADD_REPEATABLE, " waits"),
+            (1, "ROLLBACK", ""),
+            (2, ALL, " id bal | 1 500 | 2 200"),
+            (
+                1,
+                "BEGIN; SELECT * FROM acct WHERE id = 1 FOR UPDATE",
+                " id bal | 1 500",
+            ),
+            (2, ADD_REPEATABLE, " waits"),
+            (1, "COMMIT", ""),
+            (2, ALL, " id bal | 1 600 | 2 200"),
+        ],
+    )
+}
+
+#[test]
+fn conditions_are_asked_again(rt: HostRuntime) -> Result<(), Fail> {
+    check(
+        &rt,
+        rt.alloc(),
+        &[
+            (
+                0,
+                "CREATE TABLE website (hits int); INSERT INTO website VALUES (9), (10)",
+                "",
+            ),
+            (1, "BEGIN; UPDATE website SET hits = hits + 1", ""),
+            (2, "DELETE FROM website WHERE hits = 10", " waits"),
+            (1, "COMMIT", ""),
+            (
+                2,
+                "SELECT hits FROM website ORDER BY hits",
+                " hits | 10 | 11",
+            ),
+            (
+                0,
+                "CREATE TABLE q (id int, st int); INSERT INTO q VALUES (1, 0)",
+                "",
+            ),
+            (1, "BEGIN; UPDATE q SET st = 1", ""),
+            (2, "BEGIN; UPDATE q SET st = st + 4", " waits"),
+            (3, "UPDATE q SET id = 9 WHERE st = 0 OR st = 5", " waits"),
+            (1, "COMMIT", ""),
+            (2, "COMMIT", ""),
+            (3, "SELECT * FROM q", " id st | 9 5"),
+        ],
+    )
+}
+
+#[test]
+fn cycles_of_waits_are_refused(rt: HostRuntime) -> Result<(), Fail> {
+    check(
+        &rt,
+        rt.alloc(),
+        &[
+            ACCT,
+            (1, "BEGIN; UPDATE acct SET bal = 1 WHERE id = 1", ""),
+            (2, "BEGIN; UPDATE acct SET bal = 2 WHERE id = 2", ""),
+            (1, "UPDATE acct SET bal = 1 WHERE id = 2", " waits"),
+            (2, "UPDATE acct SET bal = 2 WHERE id = 1", " deadlock"),
+            (2, "COMMIT", ""),
+            (1, ALL, " id bal | 1 1 | 2 1"),
+            (
+                1,
+                "BEGIN; SELECT id FROM acct WHERE id = 1 FOR SHARE",
+                " id | 1",
+            ),
+            (
+                2,
+                "BEGIN; SELECT id FROM acct WHERE id = 1 FOR SHARE",
+                " id | 1",
+            ),
+            (3, "BEGIN; UPDATE acct SET bal = 0 WHERE id = 2", ""),
+            (3, "UPDATE acct SET bal = 0 WHERE id = 1", " waits"),
+            (
+                4,
+                "BEGIN; SELECT id FROM acct WHERE id = 1 FOR SHARE",
+                " id | 1",
+            ),
+            (4, "UPDATE acct SET bal = 5 WHERE id = 2", " deadlock"),
+            (1, "COMMIT", ""),
+            (2, "COMMIT", ""),
+            (3, ALL, " id bal | 1 0 | 2 0"),
+        ],
+    )
+}
+
+#[test]
+fn locks_are_shared_and_let_go(rt: HostRuntime) -> Result<(), Fail> {
+    check(
+        &rt,
+        rt.alloc(),
+        &[
+            ACCT,
+            (1, ADD, ""),
+            (1, "SELECT 1/0", " division by zero"),
+            (2, ADD, ""),
+            (1, "COMMIT", ""),
+            (2, ALL, " id bal | 1 200 | 2 200"),
+            (1, "BEGIN; UPDATE acct SET bal = 300 WHERE id = 1", ""),
+            (
+                2,
+                "BEGIN; SELECT * FROM acct ORDER BY bal FOR UPDATE",
+                " waits",
+            ),
+            (1, "COMMIT", " id bal | 1 300 | 2 200"),
+            (2, "COMMIT", ""),
+            (1, "BEGIN; UPDATE acct SET bal = 7 WHERE id = 1", ""),
+            (
+                3,
+                "SELECT 3 AS s, bal FROM acct WHERE id = 1 FOR SHARE",
+                " waits",
+            ),
+            (
+                2,
+                "SELECT 2 AS s, bal FROM acct WHERE id = 1 FOR SHARE",
+                " waits",
+            ),
+            (1, "COMMIT", " s bal | 3 7 s bal | 2 7"),
+        ],
+    )
+}
+
+/// Session 1 holds the second row, at which session 2 waits once it has written the first.
+const HELD: [Line<'static>; 3] = [
+    ACCT,
+    (1, "BEGIN; UPDATE acct SET bal = 0 WHERE id = 2", ""),
+    (2, "UPDATE acct SET bal = bal + 1", ""),
+];
+
+/// The events until session 2 waits, and its next step too soon.
+fn too_soon(refusal: &'static str) -> [Call; 9] {
+    [
+        (launch(0, 0), "answered"),
+        (step(0), "answered"),
+        (step(0), "answered, ended"),
+        (launch(1, 1), "answered"),
+        (step(1), "answered"),
+        (step(1), "answered, ended"),
+        (launch(2, 2), "answered"),
+        (step(2), "answered waits"),
+        (step(2), refusal),
+    ]
+}
+
+fn is_refused(
+    rt: &impl Abort,
+    alloc: Global,
+    blocks: &[Block<'_>],
+    mode: Mode,
+    refusal: &'static str,
+) -> Result<(), Wrong> {
+    let mut engine = engine_of(alloc, blocks, 2, mode)?;
+    let calls = too_soon(refusal);
+    for call in &calls {
+        has_answer(rt, alloc, &mut engine, call)?;
+    }
+    all_see(
+        rt,
+        alloc,
+        &engine,
+        &[
+            (0, "acct", " | 1 100 | 2 200"),
+            (1, "acct", " | 1 100 | 2 0"),
+            (2, "acct", " | 2 200 | 1 101"),
+        ],
+    )
+}
+
+fn refused_twice(rt: &impl Abort, alloc: Global) -> Result<(), Wrong> {
+    let blocks = blocks(alloc, &HELD)?;
+    is_refused(rt, alloc, &blocks, Mode::Directed, "NotYourTurn")?;
+    is_refused(rt, alloc, &blocks, Mode::Free, "StillBlocked")
+}
+
+#[test]
+fn a_session_that_waits_is_not_stepped(rt: HostRuntime) -> Result<(), Fail> {
+    match refused_twice(&rt, rt.alloc()) {
+        Err(Wrong::Memory) => Ok(refused_twice(&rt, rt.alloc())?),
+        answer => Ok(answer?),
+    }
+}
