@@ -1,14 +1,5 @@
 pub mod Lists
 pub mod Fitting
-pub mod Keeping
-pub mod Sound
-pub mod Replaying
-pub mod Turns
-pub mod Staying
-pub mod Snapshots
-pub mod Unseen
-pub mod Working
-pub mod Growing
-pub mod Orderly
-pub mod Positive
-pub mod Selecting
+pub mod Taking
+pub mod Writing
+pub mod Effects
