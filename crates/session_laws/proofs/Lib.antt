@@ -3,3 +3,5 @@ pub mod Fitting
 pub mod Taking
 pub mod Writing
 pub mod Effects
+pub mod Keeping
+pub mod Sound
