@@ -5,3 +5,5 @@ pub mod Writing
 pub mod Effects
 pub mod Keeping
 pub mod Sound
+pub mod Replaying
+pub mod Working

@@ -1,7 +1,34 @@
 //! Laws of histories: each function's contract is one of them, and its body does nothing.
 ghost use Rattle.session_machine.specs.Sound.{StaysSound};
+ghost use Rattle.session_laws.specs.Laws.{OneState, EventsGiveReplies, FirstPartsAreLegal};
+ghost use Rattle.session_laws.specs.Worked.{WorkedHistory, WorkedStates};
 
 /// The first state is sound, and each event leads from a sound state to a sound one.
 pub fn stays_sound()
     ensures { StaysSound }
+{}
+
+/// A history leads to one state.
+pub fn one_state()
+    ensures { OneState }
+{}
+
+/// Legal histories of the same events have the same replies.
+pub fn events_give_replies()
+    ensures { EventsGiveReplies }
+{}
+
+/// What came first in a legal history was legal.
+pub fn first_parts_are_legal()
+    ensures { FirstPartsAreLegal }
+{}
+
+/// A history of two sessions, one of them in Repeatable Read, is legal.
+pub fn worked_history()
+    ensures { WorkedHistory }
+{}
+
+/// What is refused on its way, and what the sessions see.
+pub fn worked_states()
+    ensures { WorkedStates }
 {}
