@@ -1,5 +1,5 @@
 -- What statements do to the state, and that what is so after each effect is so after each statement.
-use Rattle.std.proofs.Common.{◌≡◌, ℕ, ◌+◌, ◌<◌, Bool, true, false, List, [], ◌∷◌, length, refl, ap, sym, ◌∙◌, subst}
+use Rattle.std.proofs.Common.{◌≡◌, ℕ, zero, suc, arith, ◌+◌, ◌<◌, Bool, true, false, List, [], ◌∷◌, length, refl, ap, sym, ◌∙◌, subst}
 use Rattle.std.specs.Prelude.{ℤ, Option, Some, None, is_some, unwrap_or, slice_get, Result, Ok, Err, ◌&&◌, not, if◌then◌else◌}
 use Rattle.std.proofs.lemmas.Option.{slice_get_within}
 use Rattle.sql_trees.specs.declared.stmt.Level.{Level}
@@ -28,7 +28,7 @@ use Rattle.session_machine.specs.Views.{rows_shown}
 use Rattle.session_machine.specs.Statements.{Around, Did, DroppedUpTo, fails, answers, turns, columns_at, with_table, with_drop, create, dropped_at, dropped, drop_ended, drop_tables, is_level, level_set, begin_in, run_aborted, is_end}
 use Rattle.session_machine.specs.Walks.{Stop, Walk, Blocked, Fails, walked, walked_from}
 use Rattle.session_machine.specs.Rows.{Work, columns_in, insert_at, update_at, delete_at, lock_at, passing_targets, taken_targets}
-use Rattle.session_machine.specs.Running.{beginning, going_on, pauses, comes_to, ended, done, insert_all, insert_fitting, insert_to, insert, assigned_to, update_from, update_fitting, update_to, update, delete_from, delete_fitting, delete, lock_from, answered, select_rows, unless_wrong, select_in, select_at, select, run_open, run_closed, lock_again, run_on}
+use Rattle.session_machine.specs.Running.{beginning, going_on, pauses, comes_to, ended, done, insert_all, insert_fitting, insert_to, insert, assigned_to, update_from, update_fitting, update_to, update, delete_from, delete_fitting, delete, lock_from, answered, select_rows, unless_wrong, select_in, select_at, select, run_open, run_closed, lock_again, run_on, run_stmt}
 use Rattle.session_machine.specs.Sound.{RowsFit, RowsStay}
 use Rattle.session_laws.proofs.Fitting.{find_table_within, fit_tables}
 use Rattle.session_laws.proofs.Writing.{Lasts, Works, passing_of, taken_of, works_inserts, works_updates, works_deletes, works_locks}
@@ -260,3 +260,26 @@ after_aborted db M closes refuses stmt = at_end (is_end stmt) where
   at_end : (b : Bool) → M (if b then turns db Closed else record { db = db; transaction = Aborted; statement = None; outcome = Failed AbortedFault })
   at_end true = closes
   at_end false = refuses
+
+found_within : {A : Type 0} (xs : List A) (i : ℕ) → i < length xs → (x : A) × (slice_get xs i ≡ Some x)
+found_within [] i l = absurd (omega arith)
+found_within (x ∷ xs) zero l = (x, refl)
+found_within (x ∷ xs) (suc i) l = found_within xs i (omega arith)
+
+-- what is so after each effect, whatever the session's transaction, is so after each statement
+pub run_effects : (db : Database) (t : Transaction) (statement : Option Progress) (around : Around) (stmt : StmtTree) (P : OpenTransaction → Database → Type 0) (M : Did → Type 0)
+    → ((p : Progress) → statement ≡ Some p → p.table.0 < length db.catalog.tables)
+    → ((u : OpenTransaction) → t ≡ Open u → Effects db u around (P u) M)
+    → (t ≡ Closed → M (turns db Closed) × ((level : Level) (explicit : Bool) → M (turns (begun db) (Open (fresh db.content level explicit))))
+    × Effects (begun db) (fresh db.content ReadCommitted false) around (P (fresh db.content ReadCommitted false)) M)
+    → (t ≡ Aborted → M (turns db Closed) × M (record { db = db; transaction = Aborted; statement = None; outcome = Failed AbortedFault }))
+    → M (run_stmt db t statement around stmt)
+run_effects db Closed statement around stmt P M within opens closed aborted =
+    let u = fresh db.content ReadCommitted false in
+    let c = closed refl in
+    after_closed db around M c.0 c.1 (λ x. after_open (begun db) u around (P u) M c.2 x) stmt
+run_effects db (Open u) None around stmt P M within opens closed aborted = after_open db u around (P u) M (opens u refl) stmt
+run_effects db (Open u) (Some p) around stmt P M within opens closed aborted =
+    let table = found_within db.catalog.tables p.table.0 (within p refl) in
+    after_on db u around (P u) M (opens u refl) p table.0 table.1 stmt
+run_effects db Aborted statement around stmt P M within opens closed aborted = let a = aborted refl in after_aborted db M a.0 a.1 stmt

@@ -5,5 +5,9 @@ pub mod Writing
 pub mod Effects
 pub mod Keeping
 pub mod Sound
+pub mod Events
+pub mod Staying
 pub mod Replaying
 pub mod Working
+pub mod Snapshots
+pub mod Unseen

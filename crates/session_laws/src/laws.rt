@@ -1,6 +1,6 @@
 //! Laws of histories: each function's contract is one of them, and its body does nothing.
 ghost use Rattle.session_machine.specs.Sound.{StaysSound};
-ghost use Rattle.session_laws.specs.Laws.{OneState, EventsGiveReplies, FirstPartsAreLegal};
+ghost use Rattle.session_laws.specs.Laws.{OneState, EventsGiveReplies, FirstPartsAreLegal, SnapshotsStay, FailuresAreUnseen};
 ghost use Rattle.session_laws.specs.Worked.{WorkedHistory, WorkedStates};
 
 /// The first state is sound, and each event leads from a sound state to a sound one.
@@ -21,6 +21,16 @@ pub fn events_give_replies()
 /// What came first in a legal history was legal.
 pub fn first_parts_are_legal()
     ensures { FirstPartsAreLegal }
+{}
+
+/// In Repeatable Read what a transaction sees stays the same from its first query on, while others go on.
+pub fn snapshots_stay()
+    ensures { SnapshotsStay }
+{}
+
+/// Of a failed statement the other sessions see nothing.
+pub fn failures_are_unseen()
+    ensures { FailuresAreUnseen }
 {}
 
 /// A history of two sessions, one of them in Repeatable Read, is legal.
