@@ -1,29 +1,25 @@
--- A statement leaves the open transactions of other sessions open.
-use Rattle.std.proofs.Common.{◌≡◌, ◌≢◌, ℕ, ◌≤◌, ◌+◌, Bool, true, false, List, [], ◌∷◌, ◌++◌, length, refl, ap, sym, le_refl, ◌∙◌, subst, arith, inl, inr, ◌⊎◌}
-use Rattle.std.specs.Prelude.{Option, Some, None, is_some, unwrap_or, slice_get, Result, Ok, Err, ◌&&◌, not, if◌then◌else◌}
-use Rattle.std.proofs.lemmas.Option.{slice_get_within}
+-- A statement leaves the open transactions of other sessions open, rows that fit their tables, and itself where its table is there.
+use Rattle.std.proofs.Common.{◌≡◌, ◌≢◌, ℕ, ◌≤◌, ◌<◌, ◌+◌, zero, suc, Bool, true, false, List, [], ◌∷◌, ◌++◌, length, length-append, refl, ap, sym, le_refl, ◌∙◌, subst, arith, inl, inr, ◌⊎◌}
+use Rattle.std.specs.Prelude.{Option, Some, None, slice_get, if◌then◌else◌}
+use Rattle.std.proofs.lemmas.Option.{slice_get_within, same_Some}
 use Rattle.sql_trees.specs.declared.stmt.Level.{Level}
 use Rattle.sql_trees.specs.declared.stmt.Level.TheVariants.{ReadCommitted}
-use Rattle.sql_trees.specs.Trees.{Tree}
-use Rattle.sql_trees.specs.Statements.{StmtTree, ColumnTree, CreateTree, InsertTree, SelectTree, Begin, Commit, Rollback, SetTransaction, SetDeadlockTimeout, Create, DropTables, Inserts, Updates, Deletes, Selects}
-use Rattle.sql_values.specs.declared.value.Value.{Value}
-use Rattle.sql_values.specs.declared.fault.ValueFault.{ValueFault}
-use Rattle.result_tables.specs.Results.{Results}
+use Rattle.sql_trees.specs.Statements.{StmtTree}
 use Rattle.row_versions.specs.declared.write.Fate.{Fate}
 use Rattle.row_versions.specs.declared.write.Fate.TheVariants.{RolledBack, Committed, Open as OpenFate}
 use Rattle.row_versions.specs.Log.{Content, commit_count, after_end, after_begin, after_roll_back}
 use Rattle.session_machine.specs.declared.session.OpenTransaction.{OpenTransaction}
 use Rattle.session_machine.specs.declared.session.Transaction.{Transaction}
 use Rattle.session_machine.specs.declared.session.Transaction.TheVariants.{Closed, Open, Aborted}
-use Rattle.session_machine.specs.declared.fault.StmtFault.{StmtFault}
-use Rattle.session_machine.specs.declared.fault.StmtFault.TheVariants.{TooManyValues, LevelTooLate, Aborted as AbortedFault}
-use Rattle.session_machine.specs.declared.reply.Outcome.TheVariants.{Failed}
-use Rattle.session_machine.specs.Tables.{Database, find_table}
-use Rattle.session_machine.specs.Transactions.{fresh, begun, after_failure, moved_on}
-use Rattle.session_queries.specs.Queries.{Target, new_values, null_in, targets_of, some_too_long, lacking_rows}
-use Rattle.session_machine.specs.Statements.{Did, InsertedUpTo, DroppedUpTo, fails, turns, columns_at, with_drop, create, dropped_at, dropped, drop_ended, inserted, insert_checked, insert_row, insert_rows, insert_ended, insert_all, insert_fitting, insert_to, insert, answered, select_in, select_from, is_level, level_set, run_open, run_first, run_closed, run_stmt, is_end}
+use Rattle.session_machine.specs.declared.session.Progress.{Progress}
+use Rattle.session_machine.specs.Tables.{Database, Table}
+use Rattle.session_machine.specs.Transactions.{fresh, begun, started, after_failure, moved_on}
+use Rattle.session_machine.specs.Statements.{Around, Did, with_table}
+use Rattle.session_machine.specs.Running.{run_closed, run_open, run_stmt}
 use Rattle.session_machine.specs.Sound.{tx_in, command_in}
 use Rattle.session_laws.proofs.Lists.{slice_get-set_other, slice_get-append_left, slice_get-append_seam}
+use Rattle.session_laws.proofs.Writing.{Lasts}
+use Rattle.session_laws.proofs.Effects.{IsFirm, Effects, after_open, after_on, after_closed, after_aborted}
 
 -- the transaction, if there is one, is open
 abbrev pub IsLive : Content → Transaction → Type 0
@@ -69,9 +65,6 @@ keeps-on c d t u live e f g =
       command = g;
     }
 
-abbrev pub Kept : Database → Transaction → Did → Type 0
-Kept db t d = Keeps db.content t d.db.content d.transaction
-
 -- a failed statement, after others of the same fates
 pub keeps-fails : (c d : Content) (t : OpenTransaction) → d.fates ≡ c.fates → Keeps c (Open t) (after_roll_back d t.tx) (after_failure t)
 keeps-fails c d t same =
@@ -92,113 +85,6 @@ keeps-fails c d t same =
 -- a query that left the fates as they were
 pub keeps-answers : (c d : Content) (t : OpenTransaction) → IsLive c (Open t) → d.fates ≡ c.fates → Keeps c (Open t) d (Open (moved_on c t))
 keeps-answers c d t live same = keeps-on c d t (moved_on c t) live same refl (le_refl _)
-
-kept-if : (db : Database) (t : Transaction) (b : Bool) (x y : Did) → Kept db t x → Kept db t y → Kept db t (if b then x else y)
-kept-if db t true x y h k = h
-kept-if db t false x y h k = k
-
-kept-create : (db : Database) (t : OpenTransaction) (made : CreateTree) (o : Option ℕ) → IsLive db.content (Open t) → Kept db (Open t) (create db t made o)
-kept-create db t made (Some k) live = keeps-fails db.content db.content t refl
-kept-create db t made None live = keeps-answers db.content db.content t live refl
-
-pub dropped-content : (db : Database) (t : OpenTransaction) (if_exists : Bool) (names : List (List ℕ)) → (dropped db t if_exists names).db.content ≡ db.content
-dropped-content db t if_exists [] = refl
-dropped-content db t if_exists (name ∷ names) = at_found (λ d. dropped-content d t if_exists names) (find_table db (Some t.tx) name) where
-  at_missing : (b : Bool) → ((d : Database) → (dropped d t if_exists names).db.content ≡ d.content)
-      → (let e : DroppedUpTo = if b then dropped db t if_exists names else record { db = db; missing = Some name } in e.db.content ≡ db.content)
-  at_missing true rest = rest db
-  at_missing false rest = refl
-
-  at_found : ((d : Database) → (dropped d t if_exists names).db.content ≡ d.content) → (o : Option ℕ)
-      → (dropped_at db t if_exists name (λ d. dropped d t if_exists names) o).db.content ≡ db.content
-  at_found rest (Some k) = rest (record db { catalog = with_drop db.catalog k t.tx })
-  at_found rest None = at_missing if_exists rest
-
-kept-drop_ended : (db e : Database) (t : OpenTransaction) (o : Option (List ℕ)) → IsLive db.content (Open t) → e.content ≡ db.content
-    → Kept db (Open t) (drop_ended db.content t e o)
-kept-drop_ended db e t None live same = keeps-answers db.content e.content t live (ap (λ (c : Content). c.fates) same)
-kept-drop_ended db e t (Some name) live same = keeps-fails db.content e.content t (ap (λ (c : Content). c.fates) same)
-
--- INSERT writes, and no transaction begins or ends
-pub insert_rows-fates : (c : Content) (t : OpenTransaction) (name : List ℕ) (k : ℕ) (columns : List ColumnTree) (targets : List Target) (rows : List (List Tree))
-    → (insert_rows c t name k columns targets rows).content.fates ≡ c.fates
-insert_rows-fates c t name k columns targets [] = refl
-insert_rows-fates c t name k columns targets (row ∷ rows) =
-    at_values (λ d. insert_rows-fates d t name k columns targets rows) (new_values (length columns) targets row) where
-      others : Content → InsertedUpTo
-      others d = insert_rows d t name k columns targets rows
-
-      at_null : ((d : Content) → (others d).content.fates ≡ d.fates) → (values : List Value) (o : Option (List ℕ))
-          → (insert_checked c t name k values others o).content.fates ≡ c.fates
-      at_null rest values (Some column) = refl
-      at_null rest values None = rest (inserted c t k values)
-
-      at_values : ((d : Content) → (others d).content.fates ≡ d.fates) → (r : Result (List Value) ValueFault)
-          → (insert_row c t name k columns others r).content.fates ≡ c.fates
-      at_values rest (Err fault) = refl
-      at_values rest (Ok values) = at_null rest values (null_in columns values)
-
-kept-insert_ended : (db e : Database) (t : OpenTransaction) (o : Option StmtFault) → IsLive db.content (Open t) → e.content.fates ≡ db.content.fates
-    → Kept db (Open t) (insert_ended db.content t e o)
-kept-insert_ended db e t None live same = keeps-answers db.content e.content t live same
-kept-insert_ended db e t (Some fault) live same = keeps-fails db.content e.content t same
-
-kept-insert_all : (db : Database) (t : OpenTransaction) (i : InsertTree) (k : ℕ) (targets : List Target) → IsLive db.content (Open t) → Kept db (Open t) (insert_all db t i k targets)
-kept-insert_all db t i k targets live =
-    let e = insert_rows db.content t i.table k (columns_at db.catalog k) targets i.rows in
-    kept-insert_ended db (record db { content = e.content }) t e.fault live (insert_rows-fates db.content t i.table k (columns_at db.catalog k) targets i.rows)
-
-kept-fitting : (db : Database) (t : OpenTransaction) (i : InsertTree) (k : ℕ) (targets : List Target) (o : Option (List ℕ)) → IsLive db.content (Open t)
-    → Kept db (Open t) (insert_fitting db t i k targets o)
-kept-fitting db t i k targets (Some name) live = keeps-fails db.content db.content t refl
-kept-fitting db t i k targets None live =
-    kept-if db (Open t) (some_too_long (length targets) i.rows) (fails db t TooManyValues) (insert_all db t i k targets)
-    (keeps-fails db.content db.content t refl) (kept-insert_all db t i k targets live)
-
-kept-insert_to : (db : Database) (t : OpenTransaction) (i : InsertTree) (k : ℕ) (r : Result (List Target) (List ℕ)) → IsLive db.content (Open t)
-    → Kept db (Open t) (insert_to db t i k r)
-kept-insert_to db t i k (Err column) live = keeps-fails db.content db.content t refl
-kept-insert_to db t i k (Ok targets) live = kept-fitting db t i k targets (lacking_rows i.rows) live
-
-kept-insert : (db : Database) (t : OpenTransaction) (i : InsertTree) (o : Option ℕ) → IsLive db.content (Open t) → Kept db (Open t) (insert db t i o)
-kept-insert db t i None live = keeps-fails db.content db.content t refl
-kept-insert db t i (Some k) live = kept-insert_to db t i k (targets_of (columns_at db.catalog k) i.columns) live
-
-kept-answered : (db : Database) (t : OpenTransaction) (r : Result Results ValueFault) → IsLive db.content (Open t) → Kept db (Open t) (answered db t r)
-kept-answered db t (Ok set) live = keeps-answers db.content db.content t live refl
-kept-answered db t (Err fault) live = keeps-fails db.content db.content t refl
-
-kept-select_in : (db : Database) (t : OpenTransaction) (s : SelectTree) (name : List ℕ) (o : Option ℕ) → IsLive db.content (Open t) → Kept db (Open t) (select_in db t s name o)
-kept-select_in db t s name None live = keeps-fails db.content db.content t refl
-kept-select_in db t s name (Some k) live = kept-answered db t _ live
-
-kept-select : (db : Database) (t : OpenTransaction) (s : SelectTree) (o : Option (List ℕ)) → IsLive db.content (Open t) → Kept db (Open t) (select_from db t s o)
-kept-select db t s None live = kept-answered db t _ live
-kept-select db t s (Some name) live = kept-select_in db t s name (find_table db (Some t.tx) name) live
-
--- nothing but the level changes, or whether the transaction is explicit
-kept-as : (db : Database) (t u : OpenTransaction) → IsLive db.content (Open t) → u.tx.0 ≡ t.tx.0 → u.command ≡ t.command → Kept db (Open t) (turns db (Open u))
-kept-as db t u live e f = keeps-on db.content db.content t u live refl e (omega arith)
-
-kept-level : (db : Database) (t : OpenTransaction) (explicit : Bool) (level : Level) → IsLive db.content (Open t) → Kept db (Open t) (level_set db t explicit level)
-kept-level db t explicit level live =
-    kept-if db (Open t) (is_some t.snapshot && not (is_level t.level level)) (fails db t LevelTooLate) (turns db (Open (record t { explicit = explicit; level = level })))
-    (keeps-fails db.content db.content t refl)
-    (kept-as db t (record t { explicit = explicit; level = level }) live refl refl)
-
-kept-open : (db : Database) (t : OpenTransaction) (stmt : StmtTree) → IsLive db.content (Open t) → Kept db (Open t) (run_open db t stmt)
-kept-open db t (Begin level) live =
-    kept-if db (Open t) t.explicit (turns db (Open t)) (level_set db t true (unwrap_or level t.level)) (kept-as db t t live refl refl) (kept-level db t true (unwrap_or level t.level) live)
-kept-open db t Commit live = keeps-ended db.content t (Committed (commit_count db.content)) Closed refl refl
-kept-open db t Rollback live = keeps-ended db.content t RolledBack Closed refl refl
-kept-open db t (SetTransaction level) live = kept-level db t t.explicit level live
-kept-open db t SetDeadlockTimeout live = kept-as db t t live refl refl
-kept-open db t (Create c) live = kept-create db t c (find_table db (Some t.tx) c.name) live
-kept-open db t (DropTables d) live = kept-drop_ended db _ t _ live (dropped-content db t d.if_exists d.names)
-kept-open db t (Inserts i) live = kept-insert db t i (find_table db (Some t.tx) i.table) live
-kept-open db t (Updates u) live = kept-as db t t live refl refl
-kept-open db t (Deletes d) live = kept-as db t t live refl refl
-kept-open db t (Selects s) live = kept-select db t s s.table live
 
 -- nothing happens
 pub kept-none : (c : Content) (t u : Transaction) → tx_in u ≡ None → command_in u ≡ 0 → Keeps c t c u
@@ -224,33 +110,107 @@ leaves-begun c level explicit d u k =
       is_new : (n : ℕ) → length c.fates ≡ n → slice_get c.fates n ≡ Some OpenFate → ⊥
       is_new n e h = let w = slice_get_within c.fates n OpenFate h in omega arith
 
-leaves-first : (db : Database) (stmt : StmtTree) → let d = run_first db stmt in Leaves db.content Closed d.db.content d.transaction
-leaves-first db stmt =
-    leaves-begun db.content ReadCommitted false _ _ (kept-open (begun db) (fresh db.content ReadCommitted false) stmt (fresh-live db.content ReadCommitted false))
-
 leaves-opened : (db : Database) (level : Level) (explicit : Bool) → Leaves db.content Closed (after_begin db.content) (Open (fresh db.content level explicit))
 leaves-opened db level explicit =
     let t = fresh db.content level explicit in
     leaves-begun db.content level explicit (after_begin db.content) (Open t)
     (keeps-on (after_begin db.content) (after_begin db.content) t t (fresh-live db.content level explicit) refl refl (omega arith))
 
-leaves-closed : (db : Database) (stmt : StmtTree) → let d = run_closed db stmt in Leaves db.content Closed d.db.content d.transaction
-leaves-closed db (Begin level) = leaves-opened db (unwrap_or level ReadCommitted) true
-leaves-closed db Commit = leaves _ _ _ _ (kept-none db.content Closed Closed refl refl)
-leaves-closed db Rollback = leaves _ _ _ _ (kept-none db.content Closed Closed refl refl)
-leaves-closed db (SetTransaction level) = leaves-opened db level false
-leaves-closed db SetDeadlockTimeout = leaves _ _ _ _ (kept-none db.content Closed Closed refl refl)
-leaves-closed db (Create c) = leaves-first db (Create c)
-leaves-closed db (DropTables d) = leaves-first db (DropTables d)
-leaves-closed db (Inserts i) = leaves-first db (Inserts i)
-leaves-closed db (Updates u) = leaves-first db (Updates u)
-leaves-closed db (Deletes d) = leaves-first db (Deletes d)
-leaves-closed db (Selects s) = leaves-first db (Selects s)
+-- what else a statement leaves: firm rows, no table less, and where it is in the middle of its targets its table, and a wait that begins now
+pub record IsLeft (db : Database) (number : ℕ) (d : Did) : Type 0 where
+  pub firm : IsFirm d.db
+  pub longer : length db.catalog.tables ≤ length d.db.catalog.tables
+  pub within : (p : Progress) → d.statement ≡ Some p → p.table.0 < length d.db.catalog.tables
+  pub now : (p : Progress) → d.statement ≡ Some p → p.wait.number ≡ number
+
+no_progress : (p : Progress) → None ≡ Some p → ⊥
+no_progress p h = cc
+
+-- no statement is in the middle of its targets
+left-over : (db : Database) (number : ℕ) (d : Did) → IsFirm d.db → length db.catalog.tables ≤ length d.db.catalog.tables → d.statement ≡ None → IsLeft db number d
+left-over db number d firm longer none =
+    record { firm = firm; longer = longer; within = λ p e. absurd (no_progress p (sym none ∙ e)); now = λ p e. absurd (no_progress p (sym none ∙ e)) }
+
+-- the same transactions are open, and no table less
+pub record IsGrown (db e : Database) : Type 0 where
+  pub same : e.content.fates ≡ db.content.fates
+  pub longer : length db.catalog.tables ≤ length e.catalog.tables
+
+abbrev pub KeptAndLeft : Database → OpenTransaction → ℕ → Did → Type 0
+KeptAndLeft db t number d = Keeps db.content (Open t) d.db.content d.transaction × IsLeft db number d
+
+lasts-grown : (db : Database) (t : OpenTransaction) → Lasts t (IsGrown db)
+lasts-grown db t =
+    record {
+      lock = λ e held h. record { same = h.same; longer = h.longer };
+      write = λ e k row values h. record { same = h.same; longer = h.longer };
+      made = λ e made h.
+          let more = length-append e.catalog.tables (record { made = made; by = t.tx } ∷ []) in
+          let l = h.longer in
+          record { same = h.same; longer = omega arith };
+      dropped = λ e k h. record { same = h.same; longer = h.longer };
+    }
+
+pub effects-kept : (db : Database) (t : OpenTransaction) (around : Around) → IsLive db.content (Open t) → IsFirm db → Effects db t around (IsGrown db) (KeptAndLeft db t around.number)
+effects-kept db t around live firm =
+    record {
+      lasts = lasts-grown db t;
+      firm = firm;
+      here = record { same = refl; longer = le_refl _ };
+      answer = λ e outcome f h. (keeps-answers db.content e.content t live h.same, left-over db around.number _ (record { fit = f.fit; stay = f.stay }) h.longer refl);
+      fail = λ e fault f h. (keeps-fails db.content e.content t h.same, left-over db around.number _ (record { fit = f.fit; stay = f.stay }) h.longer refl);
+      turn = λ u tx command snapshot.
+          let c : u.command ≡ t.command = command in
+          (keeps-on db.content db.content t u live refl (ap (λ x. x.0) tx) (omega arith), left-over db around.number _ firm (le_refl _) refl);
+      commit = (keeps-ended db.content t (Committed (commit_count db.content)) Closed refl refl, left-over db around.number _ (record { fit = firm.fit; stay = firm.stay }) (le_refl _) refl);
+      roll_back = (keeps-ended db.content t RolledBack Closed refl refl, left-over db around.number _ (record { fit = firm.fit; stay = firm.stay }) (le_refl _) refl);
+      pause = λ k view walk request f h within. (
+        keeps-on db.content walk.db.content t (started db.content t) live h.same refl (let z : t.command ≤ t.command + 1 = omega arith in z),
+        record {
+          firm = f;
+          longer = h.longer;
+          within = λ p e. let s = same_Some _ p e in subst (λ (x : Progress). x.table.0 < length walk.db.catalog.tables) s within;
+          now = λ p e. let s = same_Some _ p e in ap (λ (x : Progress). x.wait.number) (sym s);
+        },
+      );
+    }
+
+abbrev pub Leaving : Database → Transaction → ℕ → Did → Type 0
+Leaving db t number d = Leaves db.content t d.db.content d.transaction × IsLeft db number d
+
+found_within : {A : Type 0} (xs : List A) (i : ℕ) → i < length xs → (x : A) × (slice_get xs i ≡ Some x)
+found_within [] i l = absurd (omega arith)
+found_within (x ∷ xs) zero l = (x, refl)
+found_within (x ∷ xs) (suc i) l = found_within xs i (omega arith)
+
+begun-firm : (db : Database) → IsFirm db → IsFirm (begun db)
+begun-firm db f = record { fit = f.fit; stay = f.stay }
+
+leaving-closed : (db : Database) (around : Around) → IsFirm db → (stmt : StmtTree) → Leaving db Closed around.number (run_closed db around stmt)
+leaving-closed db around firm stmt =
+    after_closed db around (Leaving db Closed around.number)
+    (leaves _ _ _ _ (kept-none db.content Closed Closed refl refl), left-over db around.number _ firm (le_refl _) refl)
+    (λ level explicit. (leaves-opened db level explicit, left-over db around.number _ (begun-firm db firm) (le_refl _) refl))
+    (λ stmt.
+    let t = fresh db.content ReadCommitted false in
+    let live = fresh-live db.content ReadCommitted false in
+    let k = after_open (begun db) t around (IsGrown (begun db)) (KeptAndLeft (begun db) t around.number) (effects-kept (begun db) t around live (begun-firm db firm)) stmt in
+    (leaves-begun db.content ReadCommitted false _ _ k.0, record { firm = k.1.firm; longer = k.1.longer; within = k.1.within; now = k.1.now }))
+    stmt
 
 -- a statement keeps the open transactions of others open, and its own if it has one
-pub leaves-run : (db : Database) (t : Transaction) (stmt : StmtTree) → IsLive db.content t → let d = run_stmt db t stmt in Leaves db.content t d.db.content d.transaction
-leaves-run db (Open t) stmt live = leaves _ _ _ _ (kept-open db t stmt live)
-leaves-run db Closed stmt live = leaves-closed db stmt
-leaves-run db Aborted stmt live =
-    leaves _ _ _ _
-    (kept-if db Aborted (is_end stmt) (turns db Closed) (record { db = db; transaction = Aborted; outcome = Failed AbortedFault }) (kept-none db.content Aborted Closed refl refl) (kept-none db.content Aborted Aborted refl refl))
+pub leaving-run : (db : Database) (t : Transaction) (statement : Option Progress) (around : Around) (stmt : StmtTree) → IsLive db.content t → IsFirm db
+    → ((p : Progress) → statement ≡ Some p → p.table.0 < length db.catalog.tables) → Leaving db t around.number (run_stmt db t statement around stmt)
+leaving-run db Closed statement around stmt live firm within = leaving-closed db around firm stmt
+leaving-run db (Open t) None around stmt live firm within =
+    let k = after_open db t around (IsGrown db) (KeptAndLeft db t around.number) (effects-kept db t around live firm) stmt in
+    (leaves _ _ _ _ k.0, k.1)
+leaving-run db (Open t) (Some p) around stmt live firm within =
+    let table = found_within db.catalog.tables p.table.0 (within p refl) in
+    let k = after_on db t around (IsGrown db) (KeptAndLeft db t around.number) (effects-kept db t around live firm) p table.0 table.1 stmt in
+    (leaves _ _ _ _ k.0, k.1)
+leaving-run db Aborted statement around stmt live firm within =
+    after_aborted db (Leaving db Aborted around.number)
+    (leaves _ _ _ _ (kept-none db.content Aborted Closed refl refl), left-over db around.number _ firm (le_refl _) refl)
+    (leaves _ _ _ _ (kept-none db.content Aborted Aborted refl refl), left-over db around.number _ firm (le_refl _) refl)
+    stmt

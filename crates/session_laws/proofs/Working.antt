@@ -8,6 +8,8 @@ use Rattle.sql_values.specs.declared.value.Value.{Value}
 use Rattle.row_versions.specs.declared.write.Write.{Write}
 use Rattle.row_versions.specs.declared.write.Fate.{Fate}
 use Rattle.row_versions.specs.declared.write.Fate.TheVariants.{RolledBack, Committed, Open as OpenFate}
+use Rattle.row_locks.specs.declared.held.Held.{Held}
+use Rattle.row_locks.specs.declared.held.Strength.TheVariants.{Exclusive}
 use Rattle.session_machine.specs.declared.session.Transaction.{Transaction}
 use Rattle.session_machine.specs.declared.session.Transaction.TheVariants.{Closed, Open}
 use Rattle.session_machine.specs.declared.session.Session.{Session}
@@ -27,11 +29,19 @@ made = record { made = record { name = t; columns = record { name = x; kind = In
 abbrev wrote : ℕ → ℕ → ℕ → List Value → Write
 wrote tx command row values = record { tx = record { 0 = tx }; command = command; table = record { 0 = 0 }; row = record { 0 = row }; values = Some values }
 
-abbrev state : List Write → List Fate → List Table → Session → Session → Session → Machine
-state log fates tables a b c = record {
-  db = record { content = record { log = log; fates = fates }; catalog = record { tables = tables; drops = [] }; held = [] };
+abbrev holding : ℕ → List Held → List Write → List Fate → List Table → Session → Session → Session → Machine
+holding events held log fates tables a b c = record {
+  db = record { content = record { log = log; fates = fates }; catalog = record { tables = tables; drops = [] }; held = held };
   sessions = a ∷ b ∷ c ∷ [];
+  events = events;
 }
+
+abbrev state : ℕ → List Write → List Fate → List Table → Session → Session → Session → Machine
+state events log fates tables a b c = holding events [] log fates tables a b c
+
+-- the row that session 2's open transaction made
+abbrev kept : List Held
+kept = record { row = record { 0 = 2 }; tx = record { 0 = 5 }; strength = Exclusive } ∷ []
 
 abbrev at : ℕ → ℕ → Transaction → Session
 at block next t = record { place = Some (record { block = block; next = next }); transaction = t; statement = None }
@@ -60,52 +70,52 @@ abbrev after_leave : List Fate
 after_leave = Committed 0 ∷ RolledBack ∷ Committed 1 ∷ Committed 2 ∷ []
 
 abbrev m0 : Machine
-m0 = state [] [] [] at_rest at_rest at_rest
+m0 = state 0 [] [] [] at_rest at_rest at_rest
 
 abbrev m1 : Machine
-m1 = state [] [] [] (at 0 0 Closed) at_rest at_rest
+m1 = state 1 [] [] [] (at 0 0 Closed) at_rest at_rest
 
 abbrev m2 : Machine
-m2 = state [] (OpenFate ∷ []) (made ∷ []) (at 0 1 making) at_rest at_rest
+m2 = state 2 [] (OpenFate ∷ []) (made ∷ []) (at 0 1 making) at_rest at_rest
 
 abbrev m3 : Machine
-m3 = state first (Committed 0 ∷ []) (made ∷ []) at_rest at_rest at_rest
+m3 = state 3 first (Committed 0 ∷ []) (made ∷ []) at_rest at_rest at_rest
 
 abbrev m4 : Machine
-m4 = state first (Committed 0 ∷ []) (made ∷ []) at_rest (at 1 0 Closed) at_rest
+m4 = state 4 first (Committed 0 ∷ []) (made ∷ []) at_rest (at 1 0 Closed) at_rest
 
 abbrev m5 : Machine
-m5 = state first (Committed 0 ∷ OpenFate ∷ []) (made ∷ []) at_rest (at 1 1 (reading None 0)) at_rest
+m5 = state 5 first (Committed 0 ∷ OpenFate ∷ []) (made ∷ []) at_rest (at 1 1 (reading None 0)) at_rest
 
 abbrev m6 : Machine
-m6 = state first (Committed 0 ∷ OpenFate ∷ []) (made ∷ []) at_rest (between (reading (Some 1) 1)) at_rest
+m6 = state 6 first (Committed 0 ∷ OpenFate ∷ []) (made ∷ []) at_rest (between (reading (Some 1) 1)) at_rest
 
 abbrev m7 : Machine
-m7 = state first (Committed 0 ∷ OpenFate ∷ []) (made ∷ []) at_rest (between (reading (Some 1) 1)) (at 2 0 Closed)
+m7 = state 7 first (Committed 0 ∷ OpenFate ∷ []) (made ∷ []) at_rest (between (reading (Some 1) 1)) (at 2 0 Closed)
 
 abbrev m8 : Machine
-m8 = state both (Committed 0 ∷ OpenFate ∷ Committed 1 ∷ []) (made ∷ []) at_rest (between (reading (Some 1) 1)) at_rest
+m8 = state 8 both (Committed 0 ∷ OpenFate ∷ Committed 1 ∷ []) (made ∷ []) at_rest (between (reading (Some 1) 1)) at_rest
 
 abbrev m9 : Machine
-m9 = state both (Committed 0 ∷ OpenFate ∷ Committed 1 ∷ []) (made ∷ []) at_rest (at 3 0 (reading (Some 1) 1)) at_rest
+m9 = state 9 both (Committed 0 ∷ OpenFate ∷ Committed 1 ∷ []) (made ∷ []) at_rest (at 3 0 (reading (Some 1) 1)) at_rest
 
 abbrev m10 : Machine
-m10 = state both (Committed 0 ∷ OpenFate ∷ Committed 1 ∷ []) (made ∷ []) at_rest (between (reading (Some 1) 2)) at_rest
+m10 = state 10 both (Committed 0 ∷ OpenFate ∷ Committed 1 ∷ []) (made ∷ []) at_rest (between (reading (Some 1) 2)) at_rest
 
 abbrev m11 : Machine
-m11 = state both (Committed 0 ∷ OpenFate ∷ Committed 1 ∷ []) (made ∷ []) at_rest (between (reading (Some 1) 2)) (at 3 0 Closed)
+m11 = state 11 both (Committed 0 ∷ OpenFate ∷ Committed 1 ∷ []) (made ∷ []) at_rest (between (reading (Some 1) 2)) (at 3 0 Closed)
 
 abbrev m12 : Machine
-m12 = state both before_leave (made ∷ []) at_rest (between (reading (Some 1) 2)) at_rest
+m12 = state 12 both before_leave (made ∷ []) at_rest (between (reading (Some 1) 2)) at_rest
 
 abbrev m13 : Machine
-m13 = state both after_leave (made ∷ []) at_rest at_rest at_rest
+m13 = state 13 both after_leave (made ∷ []) at_rest at_rest at_rest
 
 abbrev m14 : Machine
-m14 = state both after_leave (made ∷ []) at_rest (at 3 0 Closed) at_rest
+m14 = state 14 both after_leave (made ∷ []) at_rest (at 3 0 Closed) at_rest
 
 abbrev m15 : Machine
-m15 = state both (Committed 0 ∷ RolledBack ∷ Committed 1 ∷ Committed 2 ∷ Committed 3 ∷ []) (made ∷ []) at_rest at_rest at_rest
+m15 = state 15 both (Committed 0 ∷ RolledBack ∷ Committed 1 ∷ Committed 2 ∷ Committed 3 ∷ []) (made ∷ []) at_rest at_rest at_rest
 
 abbrev writing : Option ℕ → ℕ → Transaction
 writing snapshot command = Open (record { tx = record { 0 = 5 }; explicit = true; level = ReadCommitted; snapshot = snapshot; command = command })
@@ -117,19 +127,19 @@ abbrev while_open : List Fate
 while_open = Committed 0 ∷ RolledBack ∷ Committed 1 ∷ Committed 2 ∷ Committed 3 ∷ OpenFate ∷ []
 
 abbrev m16 : Machine
-m16 = state both (Committed 0 ∷ RolledBack ∷ Committed 1 ∷ Committed 2 ∷ Committed 3 ∷ []) (made ∷ []) at_rest at_rest (at 4 0 Closed)
+m16 = state 16 both (Committed 0 ∷ RolledBack ∷ Committed 1 ∷ Committed 2 ∷ Committed 3 ∷ []) (made ∷ []) at_rest at_rest (at 4 0 Closed)
 
 abbrev m17 : Machine
-m17 = state both while_open (made ∷ []) at_rest at_rest (at 4 1 (writing None 0))
+m17 = state 17 both while_open (made ∷ []) at_rest at_rest (at 4 1 (writing None 0))
 
 abbrev m18 : Machine
-m18 = state all_three while_open (made ∷ []) at_rest at_rest (between (writing (Some 4) 1))
+m18 = holding 18 kept all_three while_open (made ∷ []) at_rest at_rest (between (writing (Some 4) 1))
 
 abbrev m19 : Machine
-m19 = state all_three while_open (made ∷ []) at_rest at_rest (at 5 0 (writing (Some 4) 1))
+m19 = holding 19 kept all_three while_open (made ∷ []) at_rest at_rest (at 5 0 (writing (Some 4) 1))
 
 abbrev m20 : Machine
-m20 = state all_three (Committed 0 ∷ RolledBack ∷ Committed 1 ∷ Committed 2 ∷ Committed 3 ∷ Committed 4 ∷ []) (made ∷ []) at_rest at_rest at_rest
+m20 = state 20 all_three (Committed 0 ∷ RolledBack ∷ Committed 1 ∷ Committed 2 ∷ Committed 3 ∷ Committed 4 ∷ []) (made ∷ []) at_rest at_rest at_rest
 
 abbrev To : Machine → HistItem → Machine → Type 0
 To m i n = Follows worked_blocks Directed m i n
