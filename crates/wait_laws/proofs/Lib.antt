@@ -4,3 +4,4 @@ pub mod Deadlocks
 pub mod Events
 pub mod Edges
 pub mod Cycles
+pub mod Exclusion

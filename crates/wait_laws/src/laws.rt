@@ -1,5 +1,5 @@
 //! Laws of waits: each function's contract is one of them, and its body does nothing.
-ghost use Rattle.wait_laws.specs.Laws.{NoCycleOfWaits, DeadlockIsExact};
+ghost use Rattle.wait_laws.specs.Laws.{NoCycleOfWaits, DeadlockIsExact, WritesAreHeld, RestIsReached};
 
 /// In no state do transactions wait in a cycle, and from each its blockers lead to one that waits for nobody.
 pub fn no_cycle_of_waits()
@@ -9,4 +9,14 @@ pub fn no_cycle_of_waits()
 /// A target is answered as a deadlock exactly where a wait for its blockers would close a cycle, and as a wait exactly where it has blockers and closes none.
 pub fn deadlock_is_exact()
     ensures { DeadlockIsExact }
+{}
+
+/// A row that an open transaction wrote is held by it alone.
+pub fn writes_are_held()
+    ensures { WritesAreHeld }
+{}
+
+/// Each step comes nearer to rest, and only so many follow one another.
+pub fn rest_is_reached()
+    ensures { RestIsReached }
 {}
