@@ -5,3 +5,5 @@ pub mod Events
 pub mod Edges
 pub mod Cycles
 pub mod Exclusion
+pub mod Counting
+pub mod Rest
