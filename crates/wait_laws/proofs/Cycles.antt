@@ -96,7 +96,8 @@ adds_keeps x db = record {
     against = λ r tx u ne e. p.against r tx u ne (locked d h own r tx u ne e);
   };
   write = λ d w own held p. record { long = p.long; begun = p.begun; against = p.against };
-  define = λ d catalog p. record { long = p.long; begun = p.begun; against = p.against };
+  create = λ d made p. record { long = p.long; begun = p.begun; against = p.against };
+  drop = λ d k p. record { long = p.long; begun = p.begun; against = p.against };
   commit = λ d p. record {
     long = rw length-set (p.long);
     begun = rw length-set (p.begun);

@@ -116,7 +116,8 @@ held_keeps x = record {
       ];
     };
   };
-  define = λ d catalog p. record { begun = p.begun; all = record { known = p.all.known; held = p.all.held } };
+  create = λ d made p. record { begun = p.begun; all = record { known = p.all.known; held = p.all.held } };
+  drop = λ d k p. record { begun = p.begun; all = record { known = p.all.known; held = p.all.held } };
   commit = λ d p. held_ends x d (Committed (commit_count d.content)) (λ e. cc) p.all;
   roll_back = λ d p. held_ends x d RolledBack (λ e. cc) p.all;
   rest = λ d p. p.all;

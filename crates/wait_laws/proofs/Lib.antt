@@ -7,3 +7,5 @@ pub mod Cycles
 pub mod Exclusion
 pub mod Counting
 pub mod Rest
+pub mod Staying
+pub mod Snapshots

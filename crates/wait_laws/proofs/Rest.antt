@@ -32,7 +32,7 @@ use Rattle.session_machine.specs.declared.reply.HistItem.{HistItem}
 use Rattle.session_machine.specs.Tables.{Database}
 use Rattle.session_machine.specs.Transactions.{begun}
 use Rattle.session_machine.specs.Waits.{is_blocked, wait_of}
-use Rattle.session_machine.specs.Statements.{Did}
+use Rattle.session_machine.specs.Statements.{Did, with_table, with_drop}
 use Rattle.session_machine.specs.Running.{run_stmt}
 use Rattle.session_machine.specs.Machine.{Machine, Blocks, Next, next, stmts_at, is_busy, is_failed, is_stopped, is_still_blocked, finished, closed_at_end, waits_there, after_end, after_stmt, around, step_of, with_session}
 use Rattle.session_machine.specs.Engine.{Run}
@@ -59,7 +59,8 @@ still_keeps : (x : TxId) (db : Database) → Keeps x (Blocked_still db) (λ d. U
 still_keeps x db = record {
   lock = λ d h own p r tx e. blocked_more d h r tx (p r tx e);
   write = λ d w own held p r tx e. blocked_same d (record d { content = after_write d.content w }) refl r tx (p r tx e);
-  define = λ d catalog p r tx e. blocked_same d (record d { catalog = catalog }) refl r tx (p r tx e);
+  create = λ d made p r tx e. blocked_same d (record d { catalog = with_table d.catalog made x }) refl r tx (p r tx e);
+  drop = λ d k p r tx e. blocked_same d (record d { catalog = with_drop d.catalog k x }) refl r tx (p r tx e);
   commit = λ d p. tt;
   roll_back = λ d p. tt;
   rest = λ d p. tt;
@@ -188,7 +189,7 @@ same_sessions given mode m event n h =
     let s = there.0 in
     let x = doer m.db s.transaction in
     let k = moved (λ d. Unit {0}) (λ d. Unit {0}) (λ v. Unit {0}) given mode m event s n there.1
-    (record { lock = λ d h own p. tt; write = λ d w own held p. tt; define = λ d catalog p. tt; commit = λ d p. tt; roll_back = λ d p. tt; rest = λ d p. tt })
+    (record { lock = λ d h own p. tt; write = λ d w own held p. tt; create = λ d made p. tt; drop = λ d k p. tt; commit = λ d p. tt; roll_back = λ d p. tt; rest = λ d p. tt })
     (allows_all m.db s.transaction s.statement) tt h in
     ap (λ (y : Machine). length y.sessions) k.is ∙ length-set m.sessions (number_of event) k.u
 
