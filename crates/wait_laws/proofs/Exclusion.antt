@@ -1,24 +1,22 @@
 -- What an open transaction wrote is held by it alone.
-use Rattle.std.proofs.Common.{◌≡◌, ◌≢◌, refl, sym, ◌∙◌, ap, subst, ◌⊎◌, inl, inr, ⊎_elim, Bool, true, false, ◌||◌, ◌&&◌, ◌==◌, not, cond, ℕ, zero, suc, ◌<◌, ◌≤◌, ◌+◌, List, [], ◌∷◌, ◌++◌, length, length-append, length-set, set, filter, replicate, arith}
-use Rattle.std.specs.Prelude.{Option, Some, None, slice_get, Ok}
+use Rattle.std.proofs.Common.{◌≡◌, refl, sym, ◌∙◌, ap, subst, ◌⊎◌, inl, inr, ⊎_elim, Bool, true, false, ◌||◌, ◌&&◌, ◌==◌, not, cond, ℕ, zero, suc, ◌<◌, List, [], ◌∷◌, ◌++◌, length, length-append, length-set, set, arith}
+use Rattle.std.specs.Prelude.{Some, slice_get, Ok}
 use Rattle.std.proofs.lemmas.Bool.{cases_eq}
-use Rattle.std.proofs.lemmas.Option.{slice_get_within}
 use Rattle.row_versions.specs.declared.names.TxId.{TxId}
 use Rattle.row_versions.specs.declared.write.Write.{Write}
 use Rattle.row_versions.specs.declared.write.Fate.{Fate}
 use Rattle.row_versions.specs.declared.write.Fate.TheVariants.{RolledBack, Committed, Open as OpenFate}
-use Rattle.row_versions.specs.Log.{Content, IsOpen, commit_count}
+use Rattle.row_versions.specs.Log.{IsOpen, commit_count}
 use Rattle.row_versions.proofs.Gets.{get-append_left}
 use Rattle.row_locks.specs.declared.held.Strength.{Strength}
 use Rattle.row_locks.specs.declared.held.Strength.TheVariants.{Share, Exclusive}
 use Rattle.row_locks.specs.declared.held.Held.{Held}
 use Rattle.row_locks.specs.Members.{has, same_tx}
-use Rattle.row_locks.specs.Held.{conflicts, holders_against, holds, lock_of_write, released, same_lock, same_strength, with_lock}
+use Rattle.row_locks.specs.Held.{conflicts, holders_against, holds, lock_of_write, released, same_lock, same_strength}
 use Rattle.row_locks.specs.Waiting.{is_none_of}
 use Rattle.row_locks.proofs.Holding.{blockers_hold}
-use Rattle.row_locks.proofs.Reaching.{or_cases, or_left, or_right, and_both, same_is, is_same}
+use Rattle.row_locks.proofs.Reaching.{or_cases, or_left, or_right, and_both, same_is}
 use Rattle.row_locks.proofs.Waiting.{bool_is}
-use Rattle.session_machine.specs.declared.session.OpenTransaction.{OpenTransaction}
 use Rattle.session_machine.specs.declared.session.Transaction.{Transaction}
 use Rattle.session_machine.specs.declared.session.Transaction.TheVariants.{Closed, Open, Aborted}
 use Rattle.session_machine.specs.declared.session.Session.{Session}
@@ -28,10 +26,10 @@ use Rattle.session_machine.specs.Tables.{Database}
 use Rattle.session_machine.specs.Transactions.{begun}
 use Rattle.session_machine.specs.Machine.{Machine, Blocks, Next, next, opening, around}
 use Rattle.session_machine.specs.Sound.{tx_in, tx_of}
-use Rattle.wait_laws.specs.Laws.{IsHeldAlone, WritesAreHeld}
+use Rattle.wait_laws.specs.Laws.{session_of, IsHeldAlone, WritesAreHeld}
 use Rattle.wait_laws.proofs.Lists.{slice_get-set_other, holds_before}
 use Rattle.wait_laws.proofs.Doing.{Keeps, Ran, doer, start}
-use Rattle.wait_laws.proofs.Events.{number_of, session_there, left_as, Rests, Moved, moved, always}
+use Rattle.wait_laws.proofs.Events.{session_there, left_as, Rests, moved, always}
 use Rattle.wait_laws.proofs.Cycles.{IsOrderly, orderly_next, orderly_opening, allows_all}
 
 -- each write is of a transaction that has begun, and that holds its row while it is open
@@ -147,7 +145,7 @@ guarded_next blocks mode m event n old h =
     let there = session_there blocks mode m event n h in
     let s = there.0 in
     let x = doer m.db s.transaction in
-    let i = number_of event in
+    let i = session_of event in
     let k = moved (AreHeldBy x) AreHeld (λ v. Unit {0}) blocks mode m event s n there.1 (held_keeps x) (allows_all m.db s.transaction s.statement)
     (held_start m.db s.transaction (λ q f. old.orderly.sessions.known i q (ap tx_of there.1 ∙ f)) old.rows) h in
     record {

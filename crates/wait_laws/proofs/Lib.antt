@@ -9,3 +9,4 @@ pub mod Counting
 pub mod Rest
 pub mod Staying
 pub mod Snapshots
+pub mod Begun

@@ -1,13 +1,11 @@
 -- Each step comes nearer to rest.
-use Rattle.std.proofs.Common.{◌≡◌, refl, sym, ◌∙◌, ap, subst, ◌⊎◌, inl, inr, Bool, true, false, not, ◌&&◌, ℕ, ◌+◌, ◌-◌, ◌*◌, ◌<◌, ◌≤◌, List, [], ◌∷◌, length, length-set, set, sum_by, count_by, arith}
+use Rattle.std.proofs.Common.{◌≡◌, refl, sym, ◌∙◌, ap, subst, ◌⊎◌, inl, inr, Bool, true, false, not, ◌&&◌, ℕ, ◌+◌, ◌-◌, ◌*◌, ◌<◌, ◌≤◌, List, [], ◌∷◌, length, length-set, set, sum_by, arith}
 use Rattle.std.specs.Prelude.{Option, Some, None, is_some, nat_lt, option_map, slice_get, Ok, if◌then◌else◌}
 use Rattle.std.proofs.lemmas.Bool.{ltb-true}
 use Rattle.std.proofs.lemmas.Option.{slice_get_within}
 use Rattle.std.proofs.lemmas.Nat.{mul-add-lt}
 use Rattle.std.proofs.Math.Nat.{mul_comm}
-use Rattle.sql_trees.specs.Statements.{StmtTree}
 use Rattle.row_versions.specs.declared.names.TxId.{TxId}
-use Rattle.row_versions.specs.declared.write.View.{View}
 use Rattle.row_versions.specs.Log.{after_write}
 use Rattle.row_locks.specs.declared.held.Held.{Held}
 use Rattle.row_locks.specs.Held.{is_against, holders_against, with_lock}
@@ -34,12 +32,12 @@ use Rattle.session_machine.specs.Transactions.{begun}
 use Rattle.session_machine.specs.Waits.{is_blocked, wait_of}
 use Rattle.session_machine.specs.Statements.{Did, with_table, with_drop}
 use Rattle.session_machine.specs.Running.{run_stmt}
-use Rattle.session_machine.specs.Machine.{Machine, Blocks, Next, next, stmts_at, is_busy, is_failed, is_stopped, is_still_blocked, finished, closed_at_end, waits_there, after_end, after_stmt, around, step_of, with_session}
+use Rattle.session_machine.specs.Machine.{Machine, Blocks, Next, next, stmts_at, is_busy, is_failed, is_stopped, is_still_blocked, finished, closed_at_end, waits_there, after_end, after_stmt, around, step_of}
 use Rattle.session_machine.specs.Engine.{Run}
-use Rattle.wait_laws.specs.Laws.{left_from, left_of, statements_left, can_step, able, IsNearerRest, AreSteps, RestIsReached}
+use Rattle.wait_laws.specs.Laws.{session_of, left_from, left_of, statements_left, can_step, able, IsNearerRest, AreSteps, RestIsReached}
 use Rattle.wait_laws.proofs.Counting.{sum_set, count_set, count_most}
 use Rattle.wait_laws.proofs.Doing.{Keeps, Ran, Idles, doer, start, does_stmt}
-use Rattle.wait_laws.proofs.Events.{number_of, session_there, Stepped, stepped, moved}
+use Rattle.wait_laws.proofs.Events.{session_there, Stepped, stepped, moved}
 use Rattle.wait_laws.proofs.Cycles.{allows_all}
 
 -- what was blocked is blocked
@@ -165,8 +163,11 @@ nearer given mode m i n h =
               let own = r.own w.2.0 w.2.1 in
               let sums = sum_set (left_of given) m.sessions i s u at in
               let same : left_of given u ≡ left_of given s = sym left in
-              inr (omega arith, count_set (can_step d.db) (can_step m.db) m.sessions i s u at (could m.db d.db own.1) could_before
-              (stuck d.db u w.2.0 p w.2.1 is (subst (λ (x : TxId). is_blocked d.db p.wait.request x ≡ true) (sym own.0) w.0.stopped)))
+              inr (
+                omega arith,
+                count_set (can_step d.db) (can_step m.db) m.sessions i s u at (could m.db d.db own.1) could_before
+                    (stuck d.db u w.2.0 p w.2.1 is (subst (λ (x : TxId). is_blocked d.db p.wait.request x ≡ true) (sym own.0) w.0.stopped)),
+              )
         ]
 
         over : IsNearerRest given m (after_end m i k.place count d).machine
@@ -191,7 +192,7 @@ same_sessions given mode m event n h =
     let k = moved (λ d. Unit {0}) (λ d. Unit {0}) (λ v. Unit {0}) given mode m event s n there.1
     (record { lock = λ d h own p. tt; write = λ d w own held p. tt; create = λ d made p. tt; drop = λ d k p. tt; commit = λ d p. tt; roll_back = λ d p. tt; rest = λ d p. tt })
     (allows_all m.db s.transaction s.statement) tt h in
-    ap (λ (y : Machine). length y.sessions) k.is ∙ length-set m.sessions (number_of event) k.u
+    ap (λ (y : Machine). length y.sessions) k.is ∙ length-set m.sessions (session_of event) k.u
 
 bounded : (given : Blocks) (mode : Mode) (m after : Machine) (items : List HistItem) → Run given mode m items after → AreSteps items
     → length items ≤ statements_left given m * (length m.sessions + 1) + able m

@@ -1,6 +1,6 @@
 -- A transaction's snapshot is of commits that have been.
-use Rattle.std.proofs.Common.{◌≡◌, refl, sym, ◌∙◌, ap, subst, ◌⊎◌, inl, inr, Bool, true, false, not, ℕ, ◌+◌, ◌≤◌, List, [], ◌∷◌, arith}
-use Rattle.std.specs.Prelude.{ℤ, Option, Some, None, is_some, unwrap_or, slice_get, Result, Ok, Err, ◌&&◌, if◌then◌else◌}
+use Rattle.std.proofs.Common.{◌≡◌, refl, subst, Bool, true, false, ℕ, ◌≤◌, List, [], arith}
+use Rattle.std.specs.Prelude.{ℤ, Option, Some, None, unwrap_or, Result, Ok, Err, if◌then◌else◌}
 use Rattle.sql_trees.specs.declared.stmt.Level.{Level}
 use Rattle.sql_trees.specs.declared.stmt.Level.TheVariants.{ReadCommitted}
 use Rattle.sql_trees.specs.declared.stmt.Lock.{Lock}
@@ -8,7 +8,7 @@ use Rattle.sql_trees.specs.Statements.{StmtTree, InsertTree, UpdateTree, DeleteT
 use Rattle.sql_values.specs.declared.value.Value.{Value}
 use Rattle.sql_values.specs.declared.fault.ValueFault.{ValueFault}
 use Rattle.result_tables.specs.Results.{Results}
-use Rattle.session_queries.specs.Queries.{Target, cols_of, lacking_if, lacking_rows, lacking_select, result_of, some_too_long, targets_of, titles_of, wrong_position}
+use Rattle.session_queries.specs.Queries.{Target, cols_of, lacking_rows, titles_of}
 use Rattle.session_queries.specs.Updates.{lacking_update, set_targets}
 use Rattle.row_versions.specs.Log.{Content, commit_count}
 use Rattle.session_machine.specs.declared.session.OpenTransaction.{OpenTransaction}
@@ -21,7 +21,7 @@ use Rattle.session_machine.specs.declared.reply.Outcome.{Outcome}
 use Rattle.session_machine.specs.declared.reply.Outcome.TheVariants.{Failed, Rows}
 use Rattle.session_machine.specs.Tables.{Database, find_table}
 use Rattle.session_machine.specs.Transactions.{begun, fresh, moved_on, started}
-use Rattle.session_machine.specs.Statements.{Around, Did, fails, turns, create, drop_ended, dropped, level_set, run_aborted, is_end}
+use Rattle.session_machine.specs.Statements.{Around, Did, fails, turns, create, drop_ended, dropped, level_set, is_end}
 use Rattle.session_machine.specs.Walks.{Stop, Walk, Blocked, Fails, walked, walked_from}
 use Rattle.session_machine.specs.Rows.{Work, columns_in, insert_at, update_at, delete_at, lock_at, passing_targets, taken_targets}
 use Rattle.session_machine.specs.Running.{beginning, going_on, comes_to, ended, done, insert_all, update_from, delete_from, lock_from, assigned_to, insert_fitting, insert_to, insert, update_fitting, update_to, update, delete_fitting, delete, answered, select_rows, unless_wrong, select_at, select, run_open, run_first, run_closed, lock_again, run_on, run_stmt}

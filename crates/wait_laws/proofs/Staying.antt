@@ -1,5 +1,5 @@
 -- What a view shows stays as it is while other transactions go on.
-use Rattle.std.proofs.Common.{◌≡◌, ◌≢◌, ℕ, suc, ◌<◌, ◌≤◌, ◌+◌, cond, List, [], ◌∷◌, ◌++◌, length, length-append, set, get_or, map, refl, ap, sym, le_refl, ◌∙◌, arith, All}
+use Rattle.std.proofs.Common.{◌≡◌, ◌≢◌, ℕ, suc, ◌<◌, ◌≤◌, ◌+◌, cond, List, [], ◌∷◌, ◌++◌, length, length-append, set, get_or, map, refl, ap, le_refl, ◌∙◌, arith, All}
 use Rattle.std.specs.Prelude.{Option, Some, unwrap_or, option_and_then, slice_get, count_by}
 use Rattle.std.proofs.lemmas.List.Elements.{Contains-get_or}
 use Rattle.std.proofs.lemmas.List.Sums.{sum_by-append, sum_by-set}

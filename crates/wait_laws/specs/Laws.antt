@@ -2,9 +2,12 @@
 use Rattle.std.specs.Prelude.{◌≡◌, ◌≢◌, ◌↔◌, ◌⊎◌, ℕ, ◌+◌, ◌-◌, ◌*◌, ◌<◌, ◌≤◌, Bool, true, false, not, ◌&&◌, List, [], ◌∷◌, length, count_by, sum_by, Option, Some, None, slice_get, Ok, IsTrue}
 use Rattle.sql_trees.specs.declared.stmt.Level.{Level}
 use Rattle.sql_trees.specs.declared.stmt.Level.TheVariants.{ReadCommitted, RepeatableRead}
+use Rattle.sql_trees.specs.Trees.{Tree}
+use Rattle.sql_trees.specs.Statements.{SelectTree}
 use Rattle.row_versions.specs.declared.names.TxId.{TxId}
 use Rattle.row_versions.specs.declared.write.Write.{Write}
 use Rattle.row_versions.specs.Log.{Content, IsOpen}
+use Rattle.row_versions.specs.Rows.{rows_of}
 use Rattle.row_locks.specs.declared.held.Strength.{Strength}
 use Rattle.row_locks.specs.declared.held.Held.{Held}
 use Rattle.row_locks.specs.Held.{holds, lock_of_write}
@@ -13,14 +16,21 @@ use Rattle.row_locks.specs.Cycles.{blocks, Closes, NoCycle, AllEnd}
 use Rattle.update_recheck.specs.Asked.{Asked}
 use Rattle.update_recheck.specs.Outcome.{Version, Same, Gone, Newer, blockers, newest_version, target_outcome}
 use Rattle.update_recheck.specs.Outcome.Outcome.{Waits, Deadlocks}
+use Rattle.session_machine.specs.declared.session.OpenTransaction.{OpenTransaction}
 use Rattle.session_machine.specs.declared.session.Place.{Place}
+use Rattle.session_machine.specs.declared.session.Progress.{Progress}
 use Rattle.session_machine.specs.declared.session.Request.TheVariants.{Row}
 use Rattle.session_machine.specs.declared.session.Session.{Session}
-use Rattle.session_machine.specs.declared.event.Event.TheVariants.{Step}
+use Rattle.session_machine.specs.declared.event.Event.{Event}
+use Rattle.session_machine.specs.declared.event.Event.TheVariants.{Launch, Step, Leave}
 use Rattle.session_machine.specs.declared.event.Mode.{Mode}
 use Rattle.session_machine.specs.declared.reply.HistItem.{HistItem}
-use Rattle.session_machine.specs.Tables.{Database}
+use Rattle.session_machine.specs.Tables.{Database, Table}
+use Rattle.session_machine.specs.Views.{rows_shown}
 use Rattle.session_machine.specs.Waits.{is_blocked, waits_in}
+use Rattle.session_machine.specs.Statements.{Around}
+use Rattle.session_machine.specs.Rows.{passing_targets, taken_targets}
+use Rattle.session_machine.specs.Running.{going_on}
 use Rattle.session_machine.specs.Machine.{Machine, Blocks, Next, next, opening, stmts_at, is_busy, is_still_blocked}
 use Rattle.session_machine.specs.Engine.{Run}
 
@@ -60,6 +70,31 @@ pub record IsHeldAlone (db : Database) (w : Write) : Type 0 where
 abbrev pub WritesAreHeld : Type 0
 WritesAreHeld = (given : Blocks) (mode : Mode) (count : ℕ) (m : Machine) → Reaches given mode count m
     → (place : ℕ) (w : Write) → slice_get m.db.content.log place ≡ Some w → IsOpen m.db.content w.tx → IsHeldAlone m.db w
+
+-- the session that an event is of
+abbrev pub session_of : Event → ℕ
+session_of (Launch session block) = session
+session_of (Step session) = session
+session_of (Leave session) = session
+
+-- where a statement goes on, its targets are the same: those that pass WHERE, and those that a locking SELECT takes
+pub record SameTargets (before after : Database) (p : Progress) (t : OpenTransaction) (around : Around) : Type 0 where
+  pub passing : (filter : Option Tree) → passing_targets after (going_on t around p) filter ≡ passing_targets before (going_on t around p) filter
+  pub taken : (s : SelectTree) → taken_targets after (going_on t around p) s ≡ taken_targets before (going_on t around p) s
+
+-- where a statement goes on, its view shows the same versions of its table, with the same values; a table that is there stays, and so the targets are the same
+pub record FindsTheSame (before after : Database) (p : Progress) : Type 0 where
+  pub seen : rows_of after.content p.view p.table ≡ rows_of before.content p.view p.table
+  pub rows : rows_shown after.content p.view p.table.0 ≡ rows_shown before.content p.view p.table.0
+  pub table : (made : Table) → slice_get before.catalog.tables p.table.0 ≡ Some made → slice_get after.catalog.tables p.table.0 ≡ Some made
+  pub targets : (made : Table) → slice_get before.catalog.tables p.table.0 ≡ Some made → (t : OpenTransaction) (around : Around) → SameTargets before after p t around
+
+-- in every state a session in the middle of a statement, which waits, is left as it is by what is done to another session, and its statement finds the same when it goes on
+abbrev pub WaitsGoOnAsBegun : Type 0
+WaitsGoOnAsBegun = (given : Blocks) (mode : Mode) (count : ℕ) (m : Machine) → Reaches given mode count m
+    → (k : ℕ) (s : Session) (p : Progress) → slice_get m.sessions k ≡ Some s → s.statement ≡ Some p
+    → (event : Event) (n : Next) → next given mode m event ≡ Ok n → session_of event ≢ k
+    → (slice_get n.machine.sessions k ≡ Some s) × FindsTheSame m.db n.machine.db p
 
 -- how many statements of its block are before a session, the one that it is at among them
 abbrev pub left_from : Blocks → Option Place → ℕ

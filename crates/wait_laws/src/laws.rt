@@ -1,5 +1,5 @@
 //! Laws of waits: each function's contract is one of them, and its body does nothing.
-ghost use Rattle.wait_laws.specs.Laws.{NoCycleOfWaits, DeadlockIsExact, WritesAreHeld, RestIsReached};
+ghost use Rattle.wait_laws.specs.Laws.{NoCycleOfWaits, DeadlockIsExact, WritesAreHeld, WaitsGoOnAsBegun, RestIsReached};
 
 /// In no state do transactions wait in a cycle, and from each its blockers lead to one that waits for nobody.
 pub fn no_cycle_of_waits()
@@ -14,6 +14,11 @@ pub fn deadlock_is_exact()
 /// A row that an open transaction wrote is held by it alone.
 pub fn writes_are_held()
     ensures { WritesAreHeld }
+{}
+
+/// A session that waits is left as it is by what is done to others, and its statement finds the same rows when it goes on.
+pub fn waits_go_on_as_begun()
+    ensures { WaitsGoOnAsBegun }
 {}
 
 /// Each step comes nearer to rest, and only so many follow one another.
