@@ -1,19 +1,16 @@
 -- No cycle of waits appears.
-use Rattle.std.proofs.Common.{◌≡◌, refl, sym, ◌∙◌, ap, subst, ◌⊎◌, inl, inr, ⊎_elim, Bool, true, false, ◌||◌, ◌&&◌, not, cond, ℕ, zero, suc, ◌<◌, ◌≤◌, ◌+◌, List, [], ◌∷◌, ◌++◌, length, length-append, length-set, set, map, filter, replicate, arith}
+use Rattle.std.proofs.Common.{◌≡◌, refl, sym, ◌∙◌, ap, subst, ◌⊎◌, inl, inr, ⊎_elim, Bool, true, false, not, cond, ℕ, zero, suc, ◌<◌, ◌≤◌, ◌+◌, List, [], ◌∷◌, ◌++◌, length, length-append, length-set, set, map, filter, replicate, arith}
 use Rattle.std.specs.Prelude.{Option, Some, None, slice_get, Ok}
-use Rattle.std.specs.List.{list_any}
 use Rattle.std.proofs.lemmas.Bool.{cases_eq}
 use Rattle.std.proofs.lemmas.Option.{slice_get_within}
 use Rattle.row_versions.specs.declared.names.TxId.{TxId}
 use Rattle.row_versions.specs.declared.names.RowId.{RowId}
-use Rattle.row_versions.specs.declared.write.View.{View}
-use Rattle.row_versions.specs.declared.write.Fate.TheVariants.{RolledBack, Committed, Open as OpenFate}
-use Rattle.row_versions.specs.Log.{commit_count, next_tx}
+use Rattle.row_versions.specs.declared.write.Fate.TheVariants.{Open as OpenFate}
 use Rattle.row_locks.specs.declared.held.Strength.{Strength}
 use Rattle.row_locks.specs.declared.held.Held.{Held}
 use Rattle.row_locks.specs.Members.{has, same_tx}
 use Rattle.row_locks.specs.Held.{is_against, holders_against, released, with_lock}
-use Rattle.row_locks.specs.Cycles.{blocks, Closes, NoCycle, AllEnd, closes}
+use Rattle.row_locks.specs.Cycles.{blocks, NoCycle, closes}
 use Rattle.row_locks.proofs.Paths.{run_kept, wait_kept, no_cycle_less}
 use Rattle.row_locks.proofs.Reaching.{or_cases, or_left, or_right, is_same, same_is}
 use Rattle.row_locks.proofs.Waiting.{bool_is, closes_says, walk_ends}
@@ -29,12 +26,12 @@ use Rattle.session_machine.specs.declared.event.Mode.{Mode}
 use Rattle.session_machine.specs.Tables.{Database}
 use Rattle.session_machine.specs.Transactions.{begun}
 use Rattle.session_machine.specs.Waits.{blockers, waits_in}
-use Rattle.session_machine.specs.Machine.{Machine, Blocks, Next, next, opening, around, with_session, at_rest, empty_database}
+use Rattle.session_machine.specs.Machine.{Machine, Blocks, Next, next, opening, around, at_rest, empty_database}
 use Rattle.session_machine.specs.Sound.{tx_in, tx_of}
-use Rattle.wait_laws.specs.Laws.{NoCycleOfWaits}
+use Rattle.wait_laws.specs.Laws.{session_of, NoCycleOfWaits}
 use Rattle.wait_laws.proofs.Lists.{slice_get-set_same, slice_get-set_other}
-use Rattle.wait_laws.proofs.Doing.{Keeps, Refused, Ran, doer, start, Allows}
-use Rattle.wait_laws.proofs.Events.{number_of, session_there, left_as, Rests, Moved, moved, always}
+use Rattle.wait_laws.proofs.Doing.{Keeps, Ran, doer, start, Allows}
+use Rattle.wait_laws.proofs.Events.{session_there, left_as, Rests, Moved, moved, always}
 use Rattle.wait_laws.proofs.Edges.{Edge, edge_from, edge_to}
 
 -- the transactions of sessions have begun, and no two sessions have one
@@ -96,7 +93,8 @@ adds_keeps x db = record {
     against = λ r tx u ne e. p.against r tx u ne (locked d h own r tx u ne e);
   };
   write = λ d w own held p. record { long = p.long; begun = p.begun; against = p.against };
-  define = λ d catalog p. record { long = p.long; begun = p.begun; against = p.against };
+  create = λ d made p. record { long = p.long; begun = p.begun; against = p.against };
+  drop = λ d k p. record { long = p.long; begun = p.begun; against = p.against };
   commit = λ d p. record {
     long = rw length-set (p.long);
     begun = rw length-set (p.begun);
@@ -196,13 +194,13 @@ apart_set db e ss i s u old at long own = record { known = known; apart = apart 
       (cases_eq k i))
       (cases_eq j i)
 
-open_tx : (tr : Transaction) (n : ℕ) → tx_in tr ≡ Some n → (t : OpenTransaction) × (tr ≡ Open t) × (t.tx.0 ≡ n)
+pub open_tx : (tr : Transaction) (n : ℕ) → tx_in tr ≡ Some n → (t : OpenTransaction) × (tr ≡ Open t) × (t.tx.0 ≡ n)
 open_tx Closed n h = cc
 open_tx Aborted n h = cc
 open_tx (Open t) n h = (t, refl, cc)
 
 -- a doer is the session's transaction, or a new one
-doer_is : (db : Database) (tr : Transaction) (t : OpenTransaction) → t.tx ≡ doer db tr → (tx_in tr ≡ Some t.tx.0) ⊎ (t.tx.0 ≡ length db.content.fates)
+pub doer_is : (db : Database) (tr : Transaction) (t : OpenTransaction) → t.tx ≡ doer db tr → (tx_in tr ≡ Some t.tx.0) ⊎ (t.tx.0 ≡ length db.content.fates)
 doer_is db Closed t e = inr (ap (λ (x : TxId). x.0) e)
 doer_is db Aborted t e = inr (ap (λ (x : TxId). x.0) e)
 doer_is db (Open v) t e = inl (ap (λ (x : TxId). Some x.0) (sym e))
@@ -259,7 +257,7 @@ false_true true h k = cc
 false_true false h k = cc
 
 -- no other session has the doer's transaction
-no_other : (m : Machine) (i j : ℕ) (s v : Session) (t : OpenTransaction) → IsApart m.db m.sessions → slice_get m.sessions i ≡ Some s → (j ≡ i → ⊥) → slice_get m.sessions j ≡ Some v
+pub no_other : (m : Machine) (i j : ℕ) (s v : Session) (t : OpenTransaction) → IsApart m.db m.sessions → slice_get m.sessions i ≡ Some s → (j ≡ i → ⊥) → slice_get m.sessions j ≡ Some v
     → v.transaction ≡ Open t → t.tx ≡ doer m.db s.transaction → ⊥
 no_other m i j s v t old at ne there is own =
     let f : tx_of (slice_get m.sessions j) ≡ Some t.tx.0 = ap tx_of there ∙ ap tx_in is in
@@ -295,8 +293,14 @@ free_moved m i s after old at k = subst (λ (y : Machine). NoCycle (blocks (wait
           let w = edge_from k.e before a b e in
           let g = w.3 in
           inr (edge_to m.db before w.0 w.1 a b w.2
-          (record { t = g.t; p = g.p; open_now = g.open_now; at = g.at; its = g.its;
-              against = r.db.against g.p.wait.request a b (λ f. false_true (same_tx b x) ne (subst (λ y. same_tx b y ≡ true) f (is_same b))) g.against }))
+          (record {
+            t = g.t;
+            p = g.p;
+            open_now = g.open_now;
+            at = g.at;
+            its = g.its;
+            against = r.db.against g.p.wait.request a b (λ f. false_true (same_tx b x) ne (subst (λ y. same_tx b y ≡ true) f (is_same b))) g.against;
+          }))
     ]
 
     nobody : (b : TxId) → blocks (waits_in k.e before) x b ≡ true → ⊥
@@ -321,8 +325,11 @@ free_moved m i s after old at k = subst (λ (y : Machine). NoCycle (blocks (wait
           | inl w ↦
               let same : w.p ≡ p = same_progress w.p p (sym w.at ∙ is) in
               let own : a ≡ x = sym w.its ∙ (r.own w.t w.open_now).0 in
-              inl (own, subst (λ (y : TxId). has (blockers k.e p.wait.request y) b ≡ true) own
-              (subst (λ (q : Progress). has (blockers k.e q.wait.request a) b ≡ true) same w.against))
+              inl (
+                own,
+                subst (λ (y : TxId). has (blockers k.e p.wait.request y) b ≡ true) own
+                    (subst (λ (q : Progress). has (blockers k.e q.wait.request a) b ≡ true) same w.against),
+              )
           | inr w ↦ inr (edge_other k.e m.sessions i w.0 idle w.1 a b w.2 w.3 w.4)
         ])
         (λ c. false_true (closes (waits_in k.e before) x bs) refused.free ((closes_says (waits_in k.e before) x bs).1 c))
@@ -333,7 +340,7 @@ orderly_next blocks mode m event n old h =
     let there = session_there blocks mode m event n h in
     let s = there.0 in
     let x = doer m.db s.transaction in
-    let i = number_of event in
+    let i = session_of event in
     let k = moved (Adds x m.db) (Adds x m.db) (λ v. Unit {0}) blocks mode m event s n there.1 (adds_keeps x m.db) (allows_all m.db s.transaction s.statement)
     (adds_start m.db s.transaction (λ q f. old.sessions.known i q (ap tx_of there.1 ∙ f))) h in
     record {

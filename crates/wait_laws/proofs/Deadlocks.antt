@@ -1,6 +1,6 @@
 -- When a target is answered as a deadlock, and when as a wait.
-use Rattle.std.proofs.Common.{◌≡◌, ◌↔◌, refl, sym, ◌∙◌, ap, subst, Bool, true, false, ◌||◌, List, [], ◌∷◌}
-use Rattle.std.specs.Prelude.{Result, Ok, Err, IsTrue}
+use Rattle.std.proofs.Common.{◌≡◌, ◌↔◌, refl, Bool, true, false, List, [], ◌∷◌}
+use Rattle.std.specs.Prelude.{Result, Ok, Err}
 use Rattle.std.specs.List.{list_any}
 use Rattle.sql_trees.specs.declared.stmt.Level.{Level}
 use Rattle.sql_trees.specs.declared.stmt.Level.TheVariants.{ReadCommitted, RepeatableRead}
@@ -8,11 +8,11 @@ use Rattle.sql_values.specs.declared.fault.ValueFault.{ValueFault}
 use Rattle.row_versions.specs.declared.names.TxId.{TxId}
 use Rattle.row_versions.specs.declared.write.Seen.{Seen}
 use Rattle.row_locks.specs.Waiting.{is_none_of}
-use Rattle.row_locks.specs.Cycles.{blocks, Closes, leads, closes}
+use Rattle.row_locks.specs.Cycles.{leads, closes}
 use Rattle.row_locks.proofs.Waiting.{closes_says}
-use Rattle.update_recheck.specs.Outcome.{Holders, Nobody, Others, OthersInACycle, Version, Same, Gone, Newer, Outcome, blockers, holders_of, newest_version, outcome, rechecked}
-use Rattle.update_recheck.specs.Outcome.Outcome.{Takes, Skips, Waits, Deadlocks, Serializes, Faults}
-use Rattle.wait_laws.specs.Laws.{is_worth_a_wait, DeadlockIsExactAt, DeadlockIsExact}
+use Rattle.update_recheck.specs.Outcome.{Holders, Nobody, Others, OthersInACycle, Version, Same, Gone, Newer, blockers, holders_of, newest_version, outcome, rechecked}
+use Rattle.update_recheck.specs.Outcome.Outcome.{Waits, Deadlocks}
+use Rattle.wait_laws.specs.Laws.{is_worth_a_wait, DeadlockIsExact}
 
 -- what a list of blockers and the test for a cycle come to
 in_a_cycle : (bs : List TxId) (b : Bool) → (holders_of bs b ≡ OthersInACycle) ↔ ((is_none_of bs ≡ false) × (b ≡ true))

@@ -1,6 +1,6 @@
 -- What a statement does, step by step: it takes locks, writes rows that it holds, makes and drops tables, and ends; and where it waits, its wait closes no cycle.
 use Rattle.std.proofs.Common.{◌≡◌, refl, sym, ◌∙◌, ap, subst, ◌⊎◌, inl, inr, Bool, true, false, not, ℕ, ◌+◌, List, [], ◌∷◌, ◌++◌}
-use Rattle.std.specs.Prelude.{ℤ, Option, Some, None, drop, is_some, unwrap_or, Result, Ok, Err, ◌&&◌, if◌then◌else◌}
+use Rattle.std.specs.Prelude.{ℤ, Option, Some, None, drop, unwrap_or, Result, Ok, Err, if◌then◌else◌}
 use Rattle.std.specs.Option.{option_or}
 use Rattle.sql_trees.specs.declared.stmt.Level.{Level}
 use Rattle.sql_trees.specs.declared.stmt.Level.TheVariants.{ReadCommitted, RepeatableRead}
@@ -10,7 +10,7 @@ use Rattle.sql_trees.specs.Statements.{StmtTree, CreateTree, InsertTree, UpdateT
 use Rattle.sql_values.specs.declared.value.Value.{Value}
 use Rattle.sql_values.specs.declared.fault.ValueFault.{ValueFault}
 use Rattle.result_tables.specs.Results.{Results}
-use Rattle.session_queries.specs.Queries.{Target, cols_of, lacking_if, lacking_rows, lacking_select, new_values, null_in, result_of, row_values, some_too_long, targets_of, titles_of, wrong_position}
+use Rattle.session_queries.specs.Queries.{Target, cols_of, lacking_rows, new_values, row_values, titles_of}
 use Rattle.session_queries.specs.Updates.{lacking_update, set_targets, updated}
 use Rattle.row_versions.specs.declared.names.TxId.{TxId}
 use Rattle.row_versions.specs.declared.names.RowId.{RowId}
@@ -26,7 +26,7 @@ use Rattle.row_locks.specs.Held.{holds, lock_of_write, with_lock}
 use Rattle.row_locks.specs.Waiting.{is_none_of}
 use Rattle.row_locks.specs.Cycles.{closes}
 use Rattle.update_recheck.specs.Asked.{Asked}
-use Rattle.update_recheck.specs.Outcome.{Holders, Nobody, Others, OthersInACycle, Version, Same, Gone, Newer, Outcome, holders, holders_of, is_locked, newest_version, outcome, version_at, version_of}
+use Rattle.update_recheck.specs.Outcome.{Holders, Nobody, Others, OthersInACycle, Version, Same, Gone, Newer, holders, holders_of, is_locked, newest_version, outcome, version_at, version_of}
 use Rattle.update_recheck.specs.Settling.{lock_of, locks_after}
 use Rattle.session_machine.specs.declared.session.OpenTransaction.{OpenTransaction}
 use Rattle.session_machine.specs.declared.session.Transaction.{Transaction}
@@ -39,20 +39,21 @@ use Rattle.session_machine.specs.declared.fault.StmtFault.{StmtFault}
 use Rattle.session_machine.specs.declared.reply.Outcome.{Outcome as Reply}
 use Rattle.session_machine.specs.declared.reply.Outcome.TheVariants.{Rows, Failed}
 use Rattle.session_machine.specs.declared.fault.StmtFault.TheVariants.{Aborted as AbortedFault}
-use Rattle.session_machine.specs.Tables.{Database, Catalog, find_table}
+use Rattle.session_machine.specs.Tables.{Database, find_table}
 use Rattle.session_machine.specs.Transactions.{begun, committed, fresh, rolled_back, view_of}
 use Rattle.session_machine.specs.Waits.{blockers, is_blocked, waits_in}
-use Rattle.session_machine.specs.Statements.{Around, Did, DroppedUpTo, fails, answers, turns, columns_at, create, dropped, dropped_at, drop_ended, level_set, is_level, run_aborted, with_drop, is_end}
-use Rattle.session_machine.specs.Walks.{Stop, Visit, Walk, Blocked, Fails, stops, goes_on, unless_stopped, walked, walked_from}
-use Rattle.session_machine.specs.Rows.{Work, columns_in, cols_in, written, inserted, unless_null, insert_made, insert_at, ask, at_outcome, at_target, values_of, update_made, update_with, update_at, delete_with, delete_at, lock_made, lock_with, lock_at, strength_of, passing_targets, taken_targets}
-use Rattle.session_machine.specs.Running.{beginning, going_on, pauses, comes_to, ended, done, insert_all, insert_fitting, insert_to, insert, assigned_to, update_from, update_fitting, update_to, update, delete_from, delete_fitting, delete, lock_from, answered, select_rows, unless_wrong, select_in, select_at, select, run_open, run_first, run_closed, lock_again, run_on, run_stmt}
+use Rattle.session_machine.specs.Statements.{Around, Did, DroppedUpTo, fails, turns, create, dropped, dropped_at, drop_ended, level_set, with_table, with_drop, is_end}
+use Rattle.session_machine.specs.Walks.{Stop, Visit, Walk, Blocked, Fails, goes_on, unless_stopped, walked, walked_from}
+use Rattle.session_machine.specs.Rows.{Work, columns_in, cols_in, written, unless_null, insert_made, insert_at, ask, at_outcome, at_target, values_of, update_made, update_with, update_at, delete_with, delete_at, lock_made, lock_with, lock_at, strength_of, passing_targets, taken_targets}
+use Rattle.session_machine.specs.Running.{beginning, going_on, comes_to, ended, done, insert_fitting, insert_to, insert, assigned_to, update_from, update_fitting, update_to, update, delete_from, delete_fitting, delete, lock_from, answered, select_rows, unless_wrong, select_in, select_at, select, run_open, run_first, run_closed, lock_again, run_on, run_stmt}
 use Rattle.wait_laws.proofs.Lists.{holds_last}
 
 -- what a transaction may do keeps the one while it runs, and leads to the other where it ends
 pub record Keeps (x : TxId) (P Q : Database → Type 0) : Type 0 where
   pub lock : (d : Database) (h : Held) → h.tx ≡ x → P d → P (record d { held = with_lock d.held h })
   pub write : (d : Database) (w : Write) → w.tx ≡ x → holds d.held (lock_of_write w) ≡ true → P d → P (record d { content = after_write d.content w })
-  pub define : (d : Database) (catalog : Catalog) → P d → P (record d { catalog = catalog })
+  pub create : (d : Database) (made : CreateTree) → P d → P (record d { catalog = with_table d.catalog made x })
+  pub drop : (d : Database) (k : ℕ) → P d → P (record d { catalog = with_drop d.catalog k x })
   pub commit : (d : Database) → P d → Q (committed d x)
   pub roll_back : (d : Database) → P d → Q (rolled_back d x)
   pub rest : (d : Database) → P d → Q d
@@ -369,7 +370,7 @@ kept_dropped P Q t if_exists (name ∷ names) keeps db p = at (λ d. kept_droppe
   missing false q = p
 
   at : ((d : Database) → P d → P (dropped d t if_exists names).db) → (o : Option ℕ) → P (dropped_at db t if_exists name (λ d. dropped d t if_exists names) o).db
-  at on (Some k) = on _ (keeps.define db (with_drop db.catalog k t.tx) p)
+  at on (Some k) = on _ (keeps.drop db k p)
   at on None = missing if_exists (on db p)
 
 ran_drop : (P Q : Database → Type 0) (V : View → Type 0) (ss : List Session) (before : Content) (t : OpenTransaction) (e : Database) (o : Option (List ℕ)) → Keeps t.tx P Q → P e
@@ -394,7 +395,7 @@ ran_begins P Q V db t around SetDeadlockTimeout keeps view p = ran_open P Q V ar
 ran_begins P Q V db t around (Create c) keeps view p = at (find_table db (Some t.tx) c.name) where
   at : (o : Option ℕ) → Ran t.tx P Q V around.sessions (create db t c o)
   at (Some k) = ran_fails P Q V around.sessions db t _ keeps p
-  at None = ran_open P Q V around.sessions _ t _ _ refl keeps (keeps.define db _ p)
+  at None = ran_open P Q V around.sessions _ t _ _ refl keeps (keeps.create db c p)
 ran_begins P Q V db t around (DropTables d) keeps view p = ran_drop P Q V around.sessions db.content t _ _ keeps (kept_dropped P Q t d.if_exists d.names keeps db p)
 ran_begins P Q V db t around (Inserts i) keeps view p = at (find_table db (Some t.tx) i.table) where
   at : (o : Option ℕ) → Ran t.tx P Q V around.sessions (insert db t around i o)

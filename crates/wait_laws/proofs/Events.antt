@@ -1,6 +1,6 @@
 -- What an event makes of the machine: one session changes, as a statement may change it.
-use Rattle.std.proofs.Common.{◌≡◌, refl, sym, ◌∙◌, ap, subst, ◌⊎◌, inl, inr, Bool, true, false, not, ℕ, ◌+◌, List, [], ◌∷◌, length}
-use Rattle.std.specs.Prelude.{Option, Some, None, is_some, nat_lt, slice_get, slice_set, Result, Ok, Err, ◌&&◌, if◌then◌else◌}
+use Rattle.std.proofs.Common.{◌≡◌, refl, sym, ◌∙◌, ap, subst, ◌⊎◌, inl, inr, Bool, true, false, ℕ, ◌+◌, List, [], ◌∷◌, length}
+use Rattle.std.specs.Prelude.{Option, Some, None, is_some, nat_lt, slice_get, Result, Ok, Err, if◌then◌else◌}
 use Rattle.sql_trees.specs.Statements.{StmtTree}
 use Rattle.row_versions.specs.declared.write.View.{View}
 use Rattle.session_machine.specs.declared.session.OpenTransaction.{OpenTransaction}
@@ -13,28 +13,22 @@ use Rattle.session_machine.specs.declared.event.Event.{Event}
 use Rattle.session_machine.specs.declared.event.Event.TheVariants.{Launch, Step, Leave}
 use Rattle.session_machine.specs.declared.event.Mode.{Mode}
 use Rattle.session_machine.specs.declared.reply.HistItem.{HistItem}
-use Rattle.session_machine.specs.declared.reply.Outcome.{Outcome}
 use Rattle.session_machine.specs.declared.reply.Outcome.TheVariants.{Done}
 use Rattle.session_machine.specs.declared.fault.Refusal.{Refusal}
 use Rattle.session_machine.specs.declared.fault.Refusal.TheVariants.{Busy, NotYourTurn, StillBlocked, Idle, NoSession, BlockNotAllowed}
 use Rattle.session_machine.specs.Tables.{Database}
-use Rattle.session_machine.specs.Transactions.{committed, rolled_back}
+use Rattle.session_machine.specs.Transactions.{committed}
 use Rattle.session_machine.specs.Statements.{Did}
 use Rattle.session_machine.specs.Running.{run_stmt}
-use Rattle.session_machine.specs.Machine.{Machine, Blocks, Next, next, opening, stmts_at, is_allowed, is_busy, is_directed, is_quiet, is_turn, turn_in, is_still_blocked, is_failed, with_session, first_place, launched, launch_of, closed_at_end, finished, waits_there, after_end, after_stmt, around, step_stmt, step_at, step_of, left_behind, leave_of, at_rest}
-use Rattle.session_machine.specs.Engine.{Follows, Run}
+use Rattle.session_machine.specs.Machine.{Machine, Blocks, Next, next, stmts_at, is_still_blocked, is_failed, with_session, first_place, launch_of, closed_at_end, finished, waits_there, after_end, after_stmt, around, step_stmt, step_at, step_of, left_behind, leave_of, at_rest}
+use Rattle.session_machine.specs.Engine.{Run}
+use Rattle.wait_laws.specs.Laws.{session_of}
 use Rattle.wait_laws.proofs.Doing.{Keeps, Refused, Ran, Idles, doer, start, Allows, does_stmt}
-
--- the session that an event is done to
-abbrev pub number_of : Event → ℕ
-number_of (Launch session block) = session
-number_of (Step session) = session
-number_of (Leave session) = session
 
 err_not : (f : Refusal) (n : Next) → (let y : Result Next Refusal = Err f in y ≡ Ok n) → ⊥
 err_not f n h = cc
 
-ok_is : (a n : Next) → (let y : Result Next Refusal = Ok a in y ≡ Ok n) → n ≡ a
+pub ok_is : (a n : Next) → (let y : Result Next Refusal = Ok a in y ≡ Ok n) → n ≡ a
 ok_is a n h = cc
 
 pub ok_else : (f : Refusal) (b : Bool) (r : Result Next Refusal) (n : Next) → (let y : Result Next Refusal = if b then Err f else r in y ≡ Ok n) → (b ≡ false) × (r ≡ Ok n)
@@ -42,7 +36,7 @@ ok_else f true r n h = absurd (err_not f n h)
 ok_else f false r n h = (refl, h)
 
 -- an event that is accepted is of a session that is there
-pub session_there : (blocks : Blocks) (mode : Mode) (m : Machine) (event : Event) (n : Next) → next blocks mode m event ≡ Ok n → (s : Session) × (slice_get m.sessions (number_of event) ≡ Some s)
+pub session_there : (blocks : Blocks) (mode : Mode) (m : Machine) (event : Event) (n : Next) → next blocks mode m event ≡ Ok n → (s : Session) × (slice_get m.sessions (session_of event) ≡ Some s)
 session_there blocks mode m (Launch session block) n h = by (slice_get m.sessions session) h where
   by : (o : Option Session) → launch_of blocks mode m session block o ≡ Ok n → (s : Session) × (o ≡ Some s)
   by None k = absurd (err_not NoSession n k)
@@ -154,8 +148,10 @@ after m i place count d = at (is_some d.statement) where
 
   goes : (b : Bool) → (let y : Next = if b then finished m i d (Some (record { block = place.block; next = place.next + 1 })) else finished m i (closed_at_end d d.transaction) None in After m i d y)
   goes true = record {
-    e = d.db; u = record { place = Some (record { block = place.block; next = place.next + 1 }); transaction = d.transaction; statement = None };
-    is = refl; how = inl (refl, refl, inr refl);
+    e = d.db;
+    u = record { place = Some (record { block = place.block; next = place.next + 1 }); transaction = d.transaction; statement = None };
+    is = refl;
+    how = inl (refl, refl, inr refl);
   }
   goes false = ends d.transaction refl
 
@@ -225,9 +221,9 @@ moved_step P Q V blocks m i s n keeps view p k =
 
 -- what an event does: all of the session's own doing
 pub moved : (P Q : Database → Type 0) (V : View → Type 0) (blocks : Blocks) (mode : Mode) (m : Machine) (event : Event) (s : Session) (n : Next)
-    → slice_get m.sessions (number_of event) ≡ Some s
+    → slice_get m.sessions (session_of event) ≡ Some s
     → Keeps (doer m.db s.transaction) P Q → Allows V m.db s.transaction s.statement → P (start m.db s.transaction)
-    → next blocks mode m event ≡ Ok n → Moved P Q V m (number_of event) s n.machine
+    → next blocks mode m event ≡ Ok n → Moved P Q V m (session_of event) s n.machine
 moved P Q V blocks mode m (Launch session block) s n at keeps view p h =
     moved_launch P Q V blocks mode m session block s n (subst (λ o. launch_of blocks mode m session block o ≡ Ok n) at h)
 moved P Q V blocks mode m (Step session) s n at keeps view p h =

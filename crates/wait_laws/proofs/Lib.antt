@@ -4,3 +4,9 @@ pub mod Deadlocks
 pub mod Events
 pub mod Edges
 pub mod Cycles
+pub mod Exclusion
+pub mod Counting
+pub mod Rest
+pub mod Staying
+pub mod Snapshots
+pub mod Begun

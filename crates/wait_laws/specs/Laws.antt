@@ -1,18 +1,37 @@
 -- What holds of waits in every state that the machine comes to (PostgreSQL manual, 13.3.2 and 13.3.4). Each law stands on the contract of a function of `laws`.
-use Rattle.std.specs.Prelude.{◌≡◌, ◌↔◌, ℕ, Bool, true, false, List, IsTrue}
+use Rattle.std.specs.Prelude.{◌≡◌, ◌≢◌, ◌↔◌, ◌⊎◌, ℕ, ◌+◌, ◌-◌, ◌*◌, ◌<◌, ◌≤◌, Bool, true, false, not, ◌&&◌, List, [], ◌∷◌, length, count_by, sum_by, Option, Some, None, slice_get, Ok, IsTrue}
 use Rattle.sql_trees.specs.declared.stmt.Level.{Level}
 use Rattle.sql_trees.specs.declared.stmt.Level.TheVariants.{ReadCommitted, RepeatableRead}
-use Rattle.row_versions.specs.Log.{Content}
+use Rattle.sql_trees.specs.Trees.{Tree}
+use Rattle.sql_trees.specs.Statements.{SelectTree}
+use Rattle.row_versions.specs.declared.names.TxId.{TxId}
+use Rattle.row_versions.specs.declared.write.Write.{Write}
+use Rattle.row_versions.specs.Log.{Content, IsOpen}
+use Rattle.row_versions.specs.Rows.{rows_of}
+use Rattle.row_locks.specs.declared.held.Strength.{Strength}
 use Rattle.row_locks.specs.declared.held.Held.{Held}
+use Rattle.row_locks.specs.Held.{holds, lock_of_write}
 use Rattle.row_locks.specs.Waiting.{Waiting, is_none_of}
 use Rattle.row_locks.specs.Cycles.{blocks, Closes, NoCycle, AllEnd}
 use Rattle.update_recheck.specs.Asked.{Asked}
 use Rattle.update_recheck.specs.Outcome.{Version, Same, Gone, Newer, blockers, newest_version, target_outcome}
 use Rattle.update_recheck.specs.Outcome.Outcome.{Waits, Deadlocks}
+use Rattle.session_machine.specs.declared.session.OpenTransaction.{OpenTransaction}
+use Rattle.session_machine.specs.declared.session.Place.{Place}
+use Rattle.session_machine.specs.declared.session.Progress.{Progress}
+use Rattle.session_machine.specs.declared.session.Request.TheVariants.{Row}
+use Rattle.session_machine.specs.declared.session.Session.{Session}
+use Rattle.session_machine.specs.declared.event.Event.{Event}
+use Rattle.session_machine.specs.declared.event.Event.TheVariants.{Launch, Step, Leave}
 use Rattle.session_machine.specs.declared.event.Mode.{Mode}
 use Rattle.session_machine.specs.declared.reply.HistItem.{HistItem}
-use Rattle.session_machine.specs.Waits.{waits_in}
-use Rattle.session_machine.specs.Machine.{Machine, Blocks, opening}
+use Rattle.session_machine.specs.Tables.{Database, Table}
+use Rattle.session_machine.specs.Views.{rows_shown}
+use Rattle.session_machine.specs.Waits.{is_blocked, waits_in}
+use Rattle.session_machine.specs.Statements.{Around}
+use Rattle.session_machine.specs.Rows.{passing_targets, taken_targets}
+use Rattle.session_machine.specs.Running.{going_on}
+use Rattle.session_machine.specs.Machine.{Machine, Blocks, Next, next, opening, stmts_at, is_busy, is_still_blocked}
 use Rattle.session_machine.specs.Engine.{Run}
 
 -- the machine comes to the state, from its opening with so many sessions
@@ -41,3 +60,76 @@ pub record DeadlockIsExactAt (c : Content) (held : List Held) (waits : List Wait
 
 abbrev pub DeadlockIsExact : Type 0
 DeadlockIsExact = (c : Content) (held : List Held) (waits : List Waiting) (ask : Asked) → DeadlockIsExactAt c held waits ask
+
+-- a row that an open transaction wrote is held by it alone: the lock is held, and each request of another for the row is blocked (13.3.2)
+pub record IsHeldAlone (db : Database) (w : Write) : Type 0 where
+  pub held : IsTrue (holds db.held (lock_of_write w))
+  pub alone : (other : TxId) (strength : Strength) → other ≢ w.tx → IsTrue (is_blocked db (Row w.row strength) other)
+
+-- so is each row that an open transaction wrote, in every state
+abbrev pub WritesAreHeld : Type 0
+WritesAreHeld = (given : Blocks) (mode : Mode) (count : ℕ) (m : Machine) → Reaches given mode count m
+    → (place : ℕ) (w : Write) → slice_get m.db.content.log place ≡ Some w → IsOpen m.db.content w.tx → IsHeldAlone m.db w
+
+-- the session that an event is of
+abbrev pub session_of : Event → ℕ
+session_of (Launch session block) = session
+session_of (Step session) = session
+session_of (Leave session) = session
+
+-- where a statement goes on, its targets are the same: those that pass WHERE, and those that a locking SELECT takes
+pub record SameTargets (before after : Database) (p : Progress) (t : OpenTransaction) (around : Around) : Type 0 where
+  pub passing : (filter : Option Tree) → passing_targets after (going_on t around p) filter ≡ passing_targets before (going_on t around p) filter
+  pub taken : (s : SelectTree) → taken_targets after (going_on t around p) s ≡ taken_targets before (going_on t around p) s
+
+-- where a statement goes on, its view shows the same versions of its table, with the same values; a table that is there stays, and so the targets are the same
+pub record FindsTheSame (before after : Database) (p : Progress) : Type 0 where
+  pub seen : rows_of after.content p.view p.table ≡ rows_of before.content p.view p.table
+  pub rows : rows_shown after.content p.view p.table.0 ≡ rows_shown before.content p.view p.table.0
+  pub table : (made : Table) → slice_get before.catalog.tables p.table.0 ≡ Some made → slice_get after.catalog.tables p.table.0 ≡ Some made
+  pub targets : (made : Table) → slice_get before.catalog.tables p.table.0 ≡ Some made → (t : OpenTransaction) (around : Around) → SameTargets before after p t around
+
+-- in every state a session in the middle of a statement, which waits, is left as it is by what is done to another session, and its statement finds the same when it goes on
+abbrev pub WaitsGoOnAsBegun : Type 0
+WaitsGoOnAsBegun = (given : Blocks) (mode : Mode) (count : ℕ) (m : Machine) → Reaches given mode count m
+    → (k : ℕ) (s : Session) (p : Progress) → slice_get m.sessions k ≡ Some s → s.statement ≡ Some p
+    → (event : Event) (n : Next) → next given mode m event ≡ Ok n → session_of event ≢ k
+    → (slice_get n.machine.sessions k ≡ Some s) × FindsTheSame m.db n.machine.db p
+
+-- how many statements of its block are before a session, the one that it is at among them
+abbrev pub left_from : Blocks → Option Place → ℕ
+left_from given None = 0
+left_from given (Some place) = length (stmts_at given place.block) - place.next
+
+abbrev pub left_of : Blocks → Session → ℕ
+left_of given s = left_from given s.place
+
+-- how many are before all sessions
+abbrev pub statements_left : Blocks → Machine → ℕ
+statements_left given m = sum_by (left_of given) m.sessions
+
+-- the session is in its block, and what it waits for, if it waits, isn't held against it any more
+abbrev pub can_step : Database → Session → Bool
+can_step db s = is_busy s && not (is_still_blocked db s)
+
+-- how many sessions can step
+abbrev pub able : Machine → ℕ
+able m = count_by (can_step m.db) m.sessions
+
+-- fewer statements are left, or as many, and fewer sessions can step
+abbrev pub IsNearerRest : Blocks → Machine → Machine → Type 0
+IsNearerRest given m after =
+    (statements_left given after < statements_left given m)
+    ⊎ ((statements_left given after ≡ statements_left given m) × (able after < able m))
+
+-- all items are steps
+abbrev pub AreSteps : List HistItem → Type 0
+AreSteps [] = Unit {0}
+AreSteps (item ∷ items) = ((session : ℕ) × (item.event ≡ Step session)) × AreSteps items
+
+-- each step that is taken, in turn or not, comes nearer to rest; so where sessions are given no more blocks, rest is reached:
+-- no more steps follow one another than there are statements left, for each of them one of each session, and one of each that can step now
+pub record RestIsReached : Type 0 where
+  pub nearer : (given : Blocks) (mode : Mode) (m : Machine) (session : ℕ) (n : Next) → next given mode m (Step session) ≡ Ok n → IsNearerRest given m n.machine
+  pub bounded : (given : Blocks) (mode : Mode) (m after : Machine) (items : List HistItem) → Run given mode m items after → AreSteps items
+      → length items ≤ statements_left given m * (length m.sessions + 1) + able m

@@ -1,5 +1,5 @@
 //! Laws of waits: each function's contract is one of them, and its body does nothing.
-ghost use Rattle.wait_laws.specs.Laws.{NoCycleOfWaits, DeadlockIsExact};
+ghost use Rattle.wait_laws.specs.Laws.{NoCycleOfWaits, DeadlockIsExact, WritesAreHeld, WaitsGoOnAsBegun, RestIsReached};
 
 /// In no state do transactions wait in a cycle, and from each its blockers lead to one that waits for nobody.
 pub fn no_cycle_of_waits()
@@ -9,4 +9,19 @@ pub fn no_cycle_of_waits()
 /// A target is answered as a deadlock exactly where a wait for its blockers would close a cycle, and as a wait exactly where it has blockers and closes none.
 pub fn deadlock_is_exact()
     ensures { DeadlockIsExact }
+{}
+
+/// A row that an open transaction wrote is held by it alone.
+pub fn writes_are_held()
+    ensures { WritesAreHeld }
+{}
+
+/// A session that waits is left as it is by what is done to others, and its statement finds the same rows when it goes on.
+pub fn waits_go_on_as_begun()
+    ensures { WaitsGoOnAsBegun }
+{}
+
+/// Each step comes nearer to rest, and only so many follow one another.
+pub fn rest_is_reached()
+    ensures { RestIsReached }
 {}
