@@ -84,9 +84,12 @@ by-run : (db : Database) (t : Transaction) (statement : Option Progress) (around
 by-run db t statement around stmt firm within h =
     run_effects db t statement around stmt Nothing (IsBy (commit_count db.content)) within
     (λ u e. effects-by db u around firm (subst (λ x. snap_in x ≤ commit_count db.content) e h))
-    (λ e. (omega arith, λ level explicit. omega arith,
-    subst (λ k. Effects (begun db) (fresh db.content ReadCommitted false) around (Nothing (fresh db.content ReadCommitted false)) (IsBy k)) (hides-begin first_view db.content).same_count
-    (effects-by (begun db) (fresh db.content ReadCommitted false) around (record { fit = firm.fit; stay = firm.stay }) (omega arith))))
+    (λ e. (
+      omega arith,
+      λ level explicit. omega arith,
+      subst (λ k. Effects (begun db) (fresh db.content ReadCommitted false) around (Nothing (fresh db.content ReadCommitted false)) (IsBy k)) (hides-begin first_view db.content).same_count
+          (effects-by (begun db) (fresh db.content ReadCommitted false) around (record { fit = firm.fit; stay = firm.stay }) (omega arith)),
+    ))
     (λ e. (omega arith, omega arith))
 
 by-closes : (k : ℕ) (d : Did) (u : Transaction) → IsBy k d → IsBy k (closed_at_end d u)

@@ -73,7 +73,13 @@ insert_at w name targets db row = insert_made w name db (new_values (length (col
 -- one target, as it is asked for
 abbrev pub ask : Database → Work → Strength → Option Tree → Seen → Asked
 ask db w strength filter seen = record {
-  tx = w.t.tx; level = w.t.level; view = w.view; seen = seen; strength = strength; condition = filter; cols = cols_in db w;
+  tx = w.t.tx;
+  level = w.t.level;
+  view = w.view;
+  seen = seen;
+  strength = strength;
+  condition = filter;
+  cols = cols_in db w;
 }
 
 -- the locks once the target is settled
