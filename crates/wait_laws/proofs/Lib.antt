@@ -10,3 +10,4 @@ pub mod Rest
 pub mod Staying
 pub mod Snapshots
 pub mod Begun
+pub mod Turns

@@ -31,7 +31,7 @@ use Rattle.session_machine.specs.Waits.{is_blocked, waits_in}
 use Rattle.session_machine.specs.Statements.{Around}
 use Rattle.session_machine.specs.Rows.{passing_targets, taken_targets}
 use Rattle.session_machine.specs.Running.{going_on}
-use Rattle.session_machine.specs.Machine.{Machine, Blocks, Next, next, opening, stmts_at, is_busy, is_still_blocked}
+use Rattle.session_machine.specs.Machine.{Machine, Blocks, Next, next, opening, stmts_at, is_busy, is_still_blocked, turn_in}
 use Rattle.session_machine.specs.Engine.{Run}
 
 -- the machine comes to the state, from its opening with so many sessions
@@ -89,7 +89,8 @@ pub record FindsTheSame (before after : Database) (p : Progress) : Type 0 where
   pub table : (made : Table) → slice_get before.catalog.tables p.table.0 ≡ Some made → slice_get after.catalog.tables p.table.0 ≡ Some made
   pub targets : (made : Table) → slice_get before.catalog.tables p.table.0 ≡ Some made → (t : OpenTransaction) (around : Around) → SameTargets before after p t around
 
--- in every state a session in the middle of a statement, which waits, is left as it is by what is done to another session, and its statement finds the same when it goes on
+-- in every state a session in the middle of a statement, which waits, is left as it is by what is done to another session, and its statement finds the same when it goes on:
+-- whatever others commit meanwhile, its targets stay those of its view (13.2.1, 13.2.2)
 abbrev pub WaitsGoOnAsBegun : Type 0
 WaitsGoOnAsBegun = (given : Blocks) (mode : Mode) (count : ℕ) (m : Machine) → Reaches given mode count m
     → (k : ℕ) (s : Session) (p : Progress) → slice_get m.sessions k ≡ Some s → s.statement ≡ Some p
@@ -127,9 +128,11 @@ abbrev pub AreSteps : List HistItem → Type 0
 AreSteps [] = Unit {0}
 AreSteps (item ∷ items) = ((session : ℕ) × (item.event ≡ Step session)) × AreSteps items
 
--- each step that is taken, in turn or not, comes nearer to rest; so where sessions are given no more blocks, rest is reached:
--- no more steps follow one another than there are statements left, for each of them one of each session, and one of each that can step now
+-- each step that is taken, in turn or not, comes nearer to rest; so where sessions are given no more blocks, only so many steps follow one another:
+-- for each statement that is left one of each session and one more, and one of each session that can step now.
+-- In every state the step of the session whose turn it is is taken; so steps in turn come to a state in which it is nobody's turn
 pub record RestIsReached : Type 0 where
   pub nearer : (given : Blocks) (mode : Mode) (m : Machine) (session : ℕ) (n : Next) → next given mode m (Step session) ≡ Ok n → IsNearerRest given m n.machine
   pub bounded : (given : Blocks) (mode : Mode) (m after : Machine) (items : List HistItem) → Run given mode m items after → AreSteps items
       → length items ≤ statements_left given m * (length m.sessions + 1) + able m
+  pub in_turn : (given : Blocks) (mode : Mode) (count : ℕ) (m : Machine) → Reaches given mode count m → (k : ℕ) → turn_in m ≡ Some k → (n : Next) × (next given mode m (Step k) ≡ Ok n)
