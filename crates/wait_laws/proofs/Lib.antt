@@ -11,3 +11,4 @@ pub mod Staying
 pub mod Snapshots
 pub mod Begun
 pub mod Turns
+pub mod Again

@@ -2,8 +2,9 @@
 use Rattle.std.specs.Prelude.{◌≡◌, ◌≢◌, ◌↔◌, ◌⊎◌, ℕ, ◌+◌, ◌-◌, ◌*◌, ◌<◌, ◌≤◌, Bool, true, false, not, ◌&&◌, List, [], ◌∷◌, length, count_by, sum_by, Option, Some, None, slice_get, Ok, IsTrue}
 use Rattle.sql_trees.specs.declared.stmt.Level.{Level}
 use Rattle.sql_trees.specs.declared.stmt.Level.TheVariants.{ReadCommitted, RepeatableRead}
+use Rattle.sql_trees.specs.declared.stmt.Lock.{Lock}
 use Rattle.sql_trees.specs.Trees.{Tree}
-use Rattle.sql_trees.specs.Statements.{SelectTree}
+use Rattle.sql_trees.specs.Statements.{DeleteTree, SelectTree, UpdateTree, Deletes, Selects, Updates}
 use Rattle.row_versions.specs.declared.names.TxId.{TxId}
 use Rattle.row_versions.specs.declared.write.Write.{Write}
 use Rattle.row_versions.specs.Log.{Content, IsOpen}
@@ -21,6 +22,7 @@ use Rattle.session_machine.specs.declared.session.Place.{Place}
 use Rattle.session_machine.specs.declared.session.Progress.{Progress}
 use Rattle.session_machine.specs.declared.session.Request.TheVariants.{Row}
 use Rattle.session_machine.specs.declared.session.Session.{Session}
+use Rattle.session_machine.specs.declared.session.Transaction.TheVariants.{Open}
 use Rattle.session_machine.specs.declared.event.Event.{Event}
 use Rattle.session_machine.specs.declared.event.Event.TheVariants.{Launch, Step, Leave}
 use Rattle.session_machine.specs.declared.event.Mode.{Mode}
@@ -30,7 +32,7 @@ use Rattle.session_machine.specs.Views.{rows_shown}
 use Rattle.session_machine.specs.Waits.{is_blocked, waits_in}
 use Rattle.session_machine.specs.Statements.{Around}
 use Rattle.session_machine.specs.Rows.{passing_targets, taken_targets}
-use Rattle.session_machine.specs.Running.{going_on}
+use Rattle.session_machine.specs.Running.{going_on, run_stmt}
 use Rattle.session_machine.specs.Machine.{Machine, Blocks, Next, next, opening, stmts_at, is_busy, is_still_blocked, turn_in}
 use Rattle.session_machine.specs.Engine.{Run}
 
@@ -96,6 +98,21 @@ WaitsGoOnAsBegun = (given : Blocks) (mode : Mode) (count : ℕ) (m : Machine) �
     → (k : ℕ) (s : Session) (p : Progress) → slice_get m.sessions k ≡ Some s → s.statement ≡ Some p
     → (event : Event) (n : Next) → next given mode m event ≡ Ok n → session_of event ≢ k
     → (slice_get n.machine.sessions k ≡ Some s) × FindsTheSame m.db n.machine.db p
+
+-- the one is in the table and the view of the other, and its wait began now
+pub record IsInViewOf (p : Progress) (around : Around) (q : Progress) : Type 0 where
+  pub table : q.table ≡ p.table
+  pub view : q.view ≡ p.view
+  pub number : q.wait.number ≡ around.number
+
+-- a statement that goes on, and stops at a later target, is in its view and at its table still, and waits anew: its view is taken once, when it begins (13.2.1)
+pub record GoesOnInItsView (db : Database) (t : OpenTransaction) (around : Around) (p q : Progress) : Type 0 where
+  pub updates : (u : UpdateTree) → (run_stmt db (Open t) (Some p) around (Updates u)).statement ≡ Some q → IsInViewOf p around q
+  pub deletes : (d : DeleteTree) → (run_stmt db (Open t) (Some p) around (Deletes d)).statement ≡ Some q → IsInViewOf p around q
+  pub locks : (s : SelectTree) (l : Lock) → s.lock ≡ Some l → (run_stmt db (Open t) (Some p) around (Selects s)).statement ≡ Some q → IsInViewOf p around q
+
+abbrev pub StatementsGoOnInTheirView : Type 0
+StatementsGoOnInTheirView = (db : Database) (t : OpenTransaction) (around : Around) (p q : Progress) → GoesOnInItsView db t around p q
 
 -- how many statements of its block are before a session, the one that it is at among them
 abbrev pub left_from : Blocks → Option Place → ℕ
