@@ -10,3 +10,5 @@ pub mod Rest
 pub mod Staying
 pub mod Snapshots
 pub mod Begun
+pub mod Turns
+pub mod Again

@@ -39,6 +39,7 @@ use Rattle.wait_laws.proofs.Counting.{sum_set, count_set, count_most}
 use Rattle.wait_laws.proofs.Doing.{Keeps, Ran, Idles, doer, start, does_stmt}
 use Rattle.wait_laws.proofs.Events.{session_there, Stepped, stepped, moved}
 use Rattle.wait_laws.proofs.Cycles.{allows_all}
+use Rattle.wait_laws.proofs.Turns.{in_turn}
 
 -- what was blocked is blocked
 abbrev Blocked_still : Database → Database → Type 0
@@ -217,4 +218,4 @@ bounded given mode m after (item ∷ items) run steps =
     ]
 
 pub rest_is_reached : RestIsReached
-rest_is_reached = record { nearer = nearer; bounded = bounded }
+rest_is_reached = record { nearer = nearer; bounded = bounded; in_turn = in_turn }

@@ -2,8 +2,9 @@
 use Rattle.std.specs.Prelude.{◌≡◌, ◌≢◌, ◌↔◌, ◌⊎◌, ℕ, ◌+◌, ◌-◌, ◌*◌, ◌<◌, ◌≤◌, Bool, true, false, not, ◌&&◌, List, [], ◌∷◌, length, count_by, sum_by, Option, Some, None, slice_get, Ok, IsTrue}
 use Rattle.sql_trees.specs.declared.stmt.Level.{Level}
 use Rattle.sql_trees.specs.declared.stmt.Level.TheVariants.{ReadCommitted, RepeatableRead}
+use Rattle.sql_trees.specs.declared.stmt.Lock.{Lock}
 use Rattle.sql_trees.specs.Trees.{Tree}
-use Rattle.sql_trees.specs.Statements.{SelectTree}
+use Rattle.sql_trees.specs.Statements.{DeleteTree, SelectTree, UpdateTree, Deletes, Selects, Updates}
 use Rattle.row_versions.specs.declared.names.TxId.{TxId}
 use Rattle.row_versions.specs.declared.write.Write.{Write}
 use Rattle.row_versions.specs.Log.{Content, IsOpen}
@@ -21,6 +22,7 @@ use Rattle.session_machine.specs.declared.session.Place.{Place}
 use Rattle.session_machine.specs.declared.session.Progress.{Progress}
 use Rattle.session_machine.specs.declared.session.Request.TheVariants.{Row}
 use Rattle.session_machine.specs.declared.session.Session.{Session}
+use Rattle.session_machine.specs.declared.session.Transaction.TheVariants.{Open}
 use Rattle.session_machine.specs.declared.event.Event.{Event}
 use Rattle.session_machine.specs.declared.event.Event.TheVariants.{Launch, Step, Leave}
 use Rattle.session_machine.specs.declared.event.Mode.{Mode}
@@ -30,8 +32,8 @@ use Rattle.session_machine.specs.Views.{rows_shown}
 use Rattle.session_machine.specs.Waits.{is_blocked, waits_in}
 use Rattle.session_machine.specs.Statements.{Around}
 use Rattle.session_machine.specs.Rows.{passing_targets, taken_targets}
-use Rattle.session_machine.specs.Running.{going_on}
-use Rattle.session_machine.specs.Machine.{Machine, Blocks, Next, next, opening, stmts_at, is_busy, is_still_blocked}
+use Rattle.session_machine.specs.Running.{going_on, run_stmt}
+use Rattle.session_machine.specs.Machine.{Machine, Blocks, Next, next, opening, stmts_at, is_busy, is_still_blocked, turn_in}
 use Rattle.session_machine.specs.Engine.{Run}
 
 -- the machine comes to the state, from its opening with so many sessions
@@ -89,12 +91,28 @@ pub record FindsTheSame (before after : Database) (p : Progress) : Type 0 where
   pub table : (made : Table) → slice_get before.catalog.tables p.table.0 ≡ Some made → slice_get after.catalog.tables p.table.0 ≡ Some made
   pub targets : (made : Table) → slice_get before.catalog.tables p.table.0 ≡ Some made → (t : OpenTransaction) (around : Around) → SameTargets before after p t around
 
--- in every state a session in the middle of a statement, which waits, is left as it is by what is done to another session, and its statement finds the same when it goes on
+-- in every state a session in the middle of a statement, which waits, is left as it is by what is done to another session, and its statement finds the same when it goes on:
+-- whatever others commit meanwhile, its targets stay those of its view (13.2.1, 13.2.2)
 abbrev pub WaitsGoOnAsBegun : Type 0
 WaitsGoOnAsBegun = (given : Blocks) (mode : Mode) (count : ℕ) (m : Machine) → Reaches given mode count m
     → (k : ℕ) (s : Session) (p : Progress) → slice_get m.sessions k ≡ Some s → s.statement ≡ Some p
     → (event : Event) (n : Next) → next given mode m event ≡ Ok n → session_of event ≢ k
     → (slice_get n.machine.sessions k ≡ Some s) × FindsTheSame m.db n.machine.db p
+
+-- the one is in the table and the view of the other, and its wait began now
+pub record IsInViewOf (p : Progress) (around : Around) (q : Progress) : Type 0 where
+  pub table : q.table ≡ p.table
+  pub view : q.view ≡ p.view
+  pub number : q.wait.number ≡ around.number
+
+-- a statement that goes on, and stops at a later target, is in its view and at its table still, and waits anew: its view is taken once, when it begins (13.2.1)
+pub record GoesOnInItsView (db : Database) (t : OpenTransaction) (around : Around) (p q : Progress) : Type 0 where
+  pub updates : (u : UpdateTree) → (run_stmt db (Open t) (Some p) around (Updates u)).statement ≡ Some q → IsInViewOf p around q
+  pub deletes : (d : DeleteTree) → (run_stmt db (Open t) (Some p) around (Deletes d)).statement ≡ Some q → IsInViewOf p around q
+  pub locks : (s : SelectTree) (l : Lock) → s.lock ≡ Some l → (run_stmt db (Open t) (Some p) around (Selects s)).statement ≡ Some q → IsInViewOf p around q
+
+abbrev pub StatementsGoOnInTheirView : Type 0
+StatementsGoOnInTheirView = (db : Database) (t : OpenTransaction) (around : Around) (p q : Progress) → GoesOnInItsView db t around p q
 
 -- how many statements of its block are before a session, the one that it is at among them
 abbrev pub left_from : Blocks → Option Place → ℕ
@@ -127,9 +145,11 @@ abbrev pub AreSteps : List HistItem → Type 0
 AreSteps [] = Unit {0}
 AreSteps (item ∷ items) = ((session : ℕ) × (item.event ≡ Step session)) × AreSteps items
 
--- each step that is taken, in turn or not, comes nearer to rest; so where sessions are given no more blocks, rest is reached:
--- no more steps follow one another than there are statements left, for each of them one of each session, and one of each that can step now
+-- each step that is taken, in turn or not, comes nearer to rest; so where sessions are given no more blocks, only so many steps follow one another:
+-- for each statement that is left one of each session and one more, and one of each session that can step now.
+-- In every state the step of the session whose turn it is is taken; so steps in turn come to a state in which it is nobody's turn
 pub record RestIsReached : Type 0 where
   pub nearer : (given : Blocks) (mode : Mode) (m : Machine) (session : ℕ) (n : Next) → next given mode m (Step session) ≡ Ok n → IsNearerRest given m n.machine
   pub bounded : (given : Blocks) (mode : Mode) (m after : Machine) (items : List HistItem) → Run given mode m items after → AreSteps items
       → length items ≤ statements_left given m * (length m.sessions + 1) + able m
+  pub in_turn : (given : Blocks) (mode : Mode) (count : ℕ) (m : Machine) → Reaches given mode count m → (k : ℕ) → turn_in m ≡ Some k → (n : Next) × (next given mode m (Step k) ≡ Ok n)

@@ -1,5 +1,5 @@
 //! Laws of waits: each function's contract is one of them, and its body does nothing.
-ghost use Rattle.wait_laws.specs.Laws.{NoCycleOfWaits, DeadlockIsExact, WritesAreHeld, WaitsGoOnAsBegun, RestIsReached};
+ghost use Rattle.wait_laws.specs.Laws.{NoCycleOfWaits, DeadlockIsExact, WritesAreHeld, WaitsGoOnAsBegun, StatementsGoOnInTheirView, RestIsReached};
 
 /// In no state do transactions wait in a cycle, and from each its blockers lead to one that waits for nobody.
 pub fn no_cycle_of_waits()
@@ -19,6 +19,11 @@ pub fn writes_are_held()
 /// A session that waits is left as it is by what is done to others, and its statement finds the same rows when it goes on.
 pub fn waits_go_on_as_begun()
     ensures { WaitsGoOnAsBegun }
+{}
+
+/// A statement that goes on, and stops at a later target, is in its view and at its table still.
+pub fn statements_go_on_in_their_view()
+    ensures { StatementsGoOnInTheirView }
 {}
 
 /// Each step comes nearer to rest, and only so many follow one another.

@@ -1,0 +1,43 @@
+-- A statement that goes on does so in its view.
+use Rattle.std.proofs.Common.{◌≡◌, refl, subst, List}
+use Rattle.std.specs.Prelude.{Option, Some, None}
+use Rattle.sql_values.specs.declared.value.Value.{Value}
+use Rattle.session_queries.specs.Queries.{titles_of}
+use Rattle.session_queries.specs.Updates.{set_targets}
+use Rattle.row_versions.specs.Log.{Content}
+use Rattle.session_machine.specs.declared.session.OpenTransaction.{OpenTransaction}
+use Rattle.session_machine.specs.declared.session.Progress.{Progress}
+use Rattle.session_machine.specs.declared.reply.Outcome.{Outcome}
+use Rattle.session_machine.specs.declared.reply.Outcome.TheVariants.{Rows}
+use Rattle.session_machine.specs.Statements.{Around}
+use Rattle.session_machine.specs.Walks.{Stop, Walk, Blocked, Fails, walked_from}
+use Rattle.session_machine.specs.Rows.{columns_in, update_at, delete_at, lock_at, passing_targets, taken_targets}
+use Rattle.session_machine.specs.Running.{going_on, comes_to, ended, done, assigned_to, lock_again}
+use Rattle.wait_laws.specs.Laws.{IsInViewOf, StatementsGoOnInTheirView}
+
+no_progress : (p : Progress) → None ≡ Some p → ⊥
+no_progress p h = cc
+
+same_progress : (p q : Progress) → Some p ≡ Some q → p ≡ q
+same_progress p q h = cc
+
+-- a statement that stops stands in its view
+pub stands : (before : Content) (t : OpenTransaction) (around : Around) (p q : Progress) (f : List (List Value) → Outcome) (k : Walk)
+    → (ended before (going_on t around p) f k).statement ≡ Some q → IsInViewOf p around q
+stands before t around p q f k h = by k.stop h where
+  by : (o : Option Stop) → (comes_to before (going_on t around p) f k o).statement ≡ Some q → IsInViewOf p around q
+  by None e = absurd (no_progress q e)
+  by (Some (Fails fault)) e = absurd (no_progress q e)
+  by (Some (Blocked r)) e = subst (IsInViewOf p around) (same_progress _ q e) (record { table = refl; view = refl; number = refl })
+
+pub statements_go_on_in_their_view : StatementsGoOnInTheirView
+statements_go_on_in_their_view db t around p q =
+    let w = going_on t around p in
+    record {
+      updates = λ u h. stands db.content t around p q done (walked_from (update_at w u (assigned_to (set_targets (columns_in db w) u.sets))) db p.place p.rows (passing_targets db w u.filter)) h;
+      deletes = λ d h. stands db.content t around p q done (walked_from (delete_at w d) db p.place p.rows (passing_targets db w d.filter)) h;
+      locks = λ s l is h.
+          let shown : List (List Value) → Outcome = λ y. Rows (record { titles = titles_of (columns_in db w) s.items; rows = y }) in
+          stands db.content t around p q shown (walked_from (lock_at w s l) db p.place p.rows (taken_targets db w s))
+          (subst (λ o. (lock_again db t around s p o).statement ≡ Some q) is h);
+    }
