@@ -12,10 +12,14 @@ use Rattle.session_machine.specs.Machine.{Machine, Blocks, Next, next, stmts_at,
 use Rattle.session_laws.specs.Laws.{session_of}
 use Rattle.session_laws.proofs.Sound.{ok_launch, ok_step, ok_leave, ran, left_by}
 
+-- the session stands at this place, and at this statement
+abbrev pub due_at : Blocks → Session → Place → StmtTree → Type 0
+due_at blocks s place stmt = (s.place ≡ Some place) × (slice_get (stmts_at blocks place.block) place.next ≡ Some stmt)
+
 -- a session is launched, does its statement, or leaves
 pub event_cases : (blocks : Blocks) (mode : Mode) (m : Machine) (event : Event) (n : Next) (G : Next → Type 0) → next blocks mode m event ≡ Ok n
     → ((s : Session) (place : Option Place) → slice_get m.sessions (session_of event) ≡ Some s → G (launched m (session_of event) s place))
-    → ((s : Session) (place : Place) (count : ℕ) (stmt : StmtTree) → slice_get m.sessions (session_of event) ≡ Some s
+    → ((s : Session) (place : Place) (count : ℕ) (stmt : StmtTree) → slice_get m.sessions (session_of event) ≡ Some s → due_at blocks s place stmt
     → G (after_stmt m (session_of event) place count (ran m (session_of event) s stmt)))
     → ((s : Session) → slice_get m.sessions (session_of event) ≡ Some s → G (left_by m (session_of event) s)) → G n
 event_cases blocks mode m (Launch i block) n G h launches steps leaves = at_launch (slice_get m.sessions i) refl h where
@@ -23,17 +27,18 @@ event_cases blocks mode m (Launch i block) n G h launches steps leaves = at_laun
   at_launch None e h = cc
   at_launch (Some s) e h = subst G (ok_launch blocks mode m i block s n h) (launches s (first_place block (stmts_at blocks block)) e)
 event_cases blocks mode m (Step i) n G h launches steps leaves = at_step (slice_get m.sessions i) refl h where
-  at_stmt : (s : Session) (place : Place) (count : ℕ) (o : Option StmtTree) → slice_get m.sessions i ≡ Some s → step_stmt mode m i s place count o ≡ Ok n → G n
-  at_stmt s place count None e h = cc
-  at_stmt s place count (Some stmt) e h = subst G (ok_step mode m i s place count stmt n h) (steps s place count stmt e)
+  at_stmt : (s : Session) (place : Place) (count : ℕ) (o : Option StmtTree) → slice_get m.sessions i ≡ Some s → s.place ≡ Some place
+      → slice_get (stmts_at blocks place.block) place.next ≡ o → step_stmt mode m i s place count o ≡ Ok n → G n
+  at_stmt s place count None e f g h = cc
+  at_stmt s place count (Some stmt) e f g h = subst G (ok_step mode m i s place count stmt n h) (steps s place count stmt e (f, g))
 
-  at_place : (s : Session) (o : Option Place) → slice_get m.sessions i ≡ Some s → step_at blocks mode m i s o ≡ Ok n → G n
-  at_place s None e h = cc
-  at_place s (Some place) e h = at_stmt s place (length (stmts_at blocks place.block)) (slice_get (stmts_at blocks place.block) place.next) e h
+  at_place : (s : Session) (o : Option Place) → slice_get m.sessions i ≡ Some s → s.place ≡ o → step_at blocks mode m i s o ≡ Ok n → G n
+  at_place s None e f h = cc
+  at_place s (Some place) e f h = at_stmt s place (length (stmts_at blocks place.block)) (slice_get (stmts_at blocks place.block) place.next) e f refl h
 
   at_step : (o : Option Session) → slice_get m.sessions i ≡ o → step_of blocks mode m i o ≡ Ok n → G n
   at_step None e h = cc
-  at_step (Some s) e h = at_place s s.place e h
+  at_step (Some s) e h = at_place s s.place e refl h
 event_cases blocks mode m (Leave i) n G h launches steps leaves = at_leave (slice_get m.sessions i) refl h where
   at_leave : (o : Option Session) → slice_get m.sessions i ≡ o → leave_of mode m i o ≡ Ok n → G n
   at_leave None e h = cc

@@ -104,7 +104,7 @@ failed-hides : (view : View) (blocks : Blocks) (mode : Mode) (m : Machine) (even
 failed-hides view blocks mode m event n fault sound h failed apart =
     event_cases blocks mode m event n (λ x. x.reply.outcome ≡ Failed fault → Hides view m.db.content x.machine.db.content) h
     (λ s place at e. absurd (let z : ⊥ = cc in z))
-    (λ s place count stmt at e.
+    (λ s place count stmt at due e.
     let i = session_of event in
     let d = ran m i s stmt in
     let its : is_failed d.outcome ≡ true = ap is_failed (sym (after_outcome m i place count d) ∙ e) in
