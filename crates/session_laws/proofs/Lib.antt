@@ -11,3 +11,5 @@ pub mod Replaying
 pub mod Working
 pub mod Snapshots
 pub mod Unseen
+pub mod Growing
+pub mod Orderly
