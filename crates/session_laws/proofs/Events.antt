@@ -4,6 +4,7 @@ use Rattle.std.specs.Prelude.{Option, Some, None, is_some, slice_get, nat_lt, Ok
 use Rattle.sql_trees.specs.Statements.{StmtTree}
 use Rattle.session_machine.specs.declared.session.Place.{Place}
 use Rattle.session_machine.specs.declared.session.Session.{Session}
+use Rattle.session_machine.specs.declared.session.Progress.{Progress}
 use Rattle.session_machine.specs.declared.event.Event.{Event}
 use Rattle.session_machine.specs.declared.event.Event.TheVariants.{Launch, Step, Leave}
 use Rattle.session_machine.specs.declared.event.Mode.{Mode}
@@ -55,3 +56,18 @@ after_cases m i place count d G waits ends closes =
       either : (b : Bool) (x y : Next) → G x → G y → G (if b then x else y)
       either true x y h k = h
       either false x y h k = k
+
+-- the same, where it is known that a session that doesn't wait there is in no statement
+pub after_over : (m : Machine) (i : ℕ) (place : Place) (count : ℕ) (d : Did) (G : Next → Type 0) → G (waits_there m i place d) → (d.statement ≡ None → (place : Option Place) → G (finished m i d place))
+    → (d.statement ≡ None → G (finished m i (closed_at_end d d.transaction) None)) → G (after_stmt m i place count d)
+after_over m i place count d G waits ends closes = at_statement d.statement refl where
+  either : (b : Bool) (x y : Next) → G x → G y → G (if b then x else y)
+  either true x y h k = h
+  either false x y h k = k
+
+  at_statement : (o : Option Progress) → d.statement ≡ o → G (if is_some o then waits_there m i place d else after_end m i place count d)
+  at_statement (Some p) e = waits
+  at_statement None e =
+      either (is_failed d.outcome) (finished m i d None) _ (ends e None)
+      (either (nat_lt (place.next + 1) count) (finished m i d (Some (record { block = place.block; next = place.next + 1 }))) (finished m i (closed_at_end d d.transaction) None)
+      (ends e (Some (record { block = place.block; next = place.next + 1 }))) (closes e))

@@ -13,3 +13,4 @@ pub mod Snapshots
 pub mod Unseen
 pub mod Growing
 pub mod Orderly
+pub mod Ordering

@@ -50,10 +50,10 @@ pub record IsKnown (db : Database) : Type 0 where
 some_same : {a b : ℕ} → Some a ≡ Some b → a ≡ b
 some_same h = cc
 
-none_is : {a : ℕ} → None ≡ Some a → ⊥
+pub none_is : {a : ℕ} → None ≡ Some a → ⊥
 none_is h = cc
 
-known_grows : (t : OpenTransaction) (db e : Database) → IsOpen db.content t.tx → IsKnown db → Grows t db e → IsKnown e
+pub known_grows : (t : OpenTransaction) (db e : Database) → IsOpen db.content t.tx → IsKnown db → Grows t db e → IsKnown e
 known_grows t db e is_open known g =
     let own = slice_get_within db.content.fates t.tx.0 OpenFate is_open in
     let begun = g.begun in
@@ -189,7 +189,7 @@ effects-adds may db t e u around owns firm here strict =
       pause = λ k view walk request f h within. record { known = h.known; behind = λ k w at its. h.behind k w at (sym (some_same its)); writes = since_writes db t u walk.db owns h };
     }
 
-adds_none : (db : Database) (t u : Transaction) → tx_in u ≡ None → IsKnown db → Adds db t db u None
+pub adds_none : (db : Database) (t u : Transaction) → tx_in u ≡ None → IsKnown db → Adds db t db u None
 adds_none db t u e known = record { known = known; behind = λ p w at its. absurd (none_is (sym e ∙ its)); writes = λ p w at. inl at }
 
 -- a transaction that has just begun has written nothing
@@ -205,7 +205,7 @@ weaker : (t : OpenTransaction) (p : Option Progress) (k : ℕ) → k < command_n
 weaker t None k h = omega arith
 weaker t (Some p) k h = h
 
-adds_run : (db : Database) (t : Transaction) (statement : Option Progress) (around : Around) (stmt : StmtTree) → IsLive db.content t → IsFirm db
+pub adds_run : (db : Database) (t : Transaction) (statement : Option Progress) (around : Around) (stmt : StmtTree) → IsLive db.content t → IsFirm db
     → ((p : Progress) → statement ≡ Some p → p.table.0 < length db.catalog.tables) → IsKnown db → IsBehind db.content t statement → IsTurning statement stmt
     → AddsDid db t (run_stmt db t statement around stmt)
 adds_run db t statement around stmt live firm within known behind turning =
@@ -242,7 +242,7 @@ adds_run db t statement around stmt live firm within known behind turning =
       closes e = (adds_none db t Closed refl known, starts, begins)
 
 -- the end of a block
-adds_closes : (db : Database) (t : Transaction) (d : Did) (u : Transaction) → d.transaction ≡ u → d.statement ≡ None → IsLive d.db.content d.transaction → AddsDid db t d
+pub adds_closes : (db : Database) (t : Transaction) (d : Did) (u : Transaction) → d.transaction ≡ u → d.statement ≡ None → IsLive d.db.content d.transaction → AddsDid db t d
     → (let e = closed_at_end d u in Adds db t e.db e.transaction None)
 adds_closes db t d Closed e over live h = record { known = h.known; behind = λ p w at its. absurd (none_is (sym (ap tx_in e) ∙ its)); writes = h.writes }
 adds_closes db t d Aborted e over live h = record { known = h.known; behind = λ p w at its. absurd (none_is (sym (ap tx_in e) ∙ its)); writes = h.writes }
