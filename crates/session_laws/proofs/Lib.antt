@@ -14,3 +14,4 @@ pub mod Unseen
 pub mod Growing
 pub mod Orderly
 pub mod Ordering
+pub mod Positive

@@ -95,11 +95,13 @@ turning_over db Aborted statement around stmt h = after_aborted db (λ d. d.stat
 pub record IsOrderly (blocks : Blocks) (m : Machine) : Type 0 where
   pub known : IsKnown m.db
   pub behind : (i : ℕ) (s : Session) → slice_get m.sessions i ≡ Some s → IsBehind m.db.content s.transaction s.statement
+  pub idle : (i : ℕ) (s : Session) → slice_get m.sessions i ≡ Some s → s.place ≡ None → s.statement ≡ None
   pub turning : (i : ℕ) (s : Session) (place : Place) (stmt : StmtTree) → slice_get m.sessions i ≡ Some s → due_at blocks s place stmt → IsTurning s.statement stmt
 
 orderly_set : (blocks : Blocks) (m : Machine) (e : Database) (i : ℕ) (s u : Session) → IsSoundMachine m → IsOrderly blocks m → slice_get m.sessions i ≡ Some s
-    → Adds m.db s.transaction e u.transaction u.statement → ((place : Place) (stmt : StmtTree) → due_at blocks u place stmt → IsTurning u.statement stmt) → IsOrderly blocks (with_session m e i u)
-orderly_set blocks m e i s u sound orderly at adds turns_ok = record { known = adds.known; behind = behind; turning = turning } where
+    → Adds m.db s.transaction e u.transaction u.statement → ((place : Place) (stmt : StmtTree) → due_at blocks u place stmt → IsTurning u.statement stmt) → (u.place ≡ None → u.statement ≡ None)
+    → IsOrderly blocks (with_session m e i u)
+orderly_set blocks m e i s u sound orderly at adds turns_ok idles = record { known = adds.known; behind = behind; idle = idle; turning = turning } where
   here : slice_get (set m.sessions i u) i ≡ Some u
   here = slice_get-set_same m.sessions i u (slice_get_within m.sessions i s at)
 
@@ -126,6 +128,10 @@ orderly_set blocks m e i s u sound orderly at adds turns_ok = record { known = a
       (λ ne place w there its. orderly.behind j x (other j x ne h) place w (mine j x ne (other j x ne h) place w there its) its)
       (cases_eq j i)
 
+  idle : (j : ℕ) (x : Session) → slice_get (set m.sessions i u) j ≡ Some x → x.place ≡ None → x.statement ≡ None
+  idle j x h =
+      ⊎_elim (λ y. subst (λ (z : Session). z.place ≡ None → z.statement ≡ None) (is_u j x y h) idles) (λ ne. orderly.idle j x (other j x ne h)) (cases_eq j i)
+
   turning : (j : ℕ) (x : Session) (place : Place) (stmt : StmtTree) → slice_get (set m.sessions i u) j ≡ Some x → due_at blocks x place stmt → IsTurning x.statement stmt
   turning j x place stmt h =
       ⊎_elim (λ y. subst (λ (z : Session). due_at blocks z place stmt → IsTurning z.statement stmt) (is_u j x y h) (turns_ok place stmt))
@@ -151,3 +157,74 @@ pub orderly_step : (blocks : Blocks) (m : Machine) (i : ℕ) (s : Session) (plac
 orderly_step blocks m i s place count stmt sound orderly at due =
     adds_run m.db s.transaction s.statement (around m i s) stmt (sound_live m.db m.sessions m.events i s sound at) (sound_firm m.db m.sessions m.events sound)
     (sound_within m.db m.sessions m.events i s sound at) orderly.known (orderly.behind i s at) (orderly.turning i s place stmt at due)
+
+same_place : {a b : Place} → Some a ≡ Some b → a ≡ b
+same_place h = cc
+
+no_place : {A : Type 0} (place : Place) → Some place ≡ None → A
+no_place place h = absurd (let z : ⊥ = cc in z)
+
+orderly_next : (blocks : Blocks) (mode : Mode) (m : Machine) (event : Event) (n : Next) → IsSoundMachine m → IsOrderly blocks m → next blocks mode m event ≡ Ok n → NextOrderly blocks n
+orderly_next blocks mode m event n sound orderly h =
+    let i = session_of event in
+    event_cases blocks mode m event n (NextOrderly blocks) h
+    (λ s place at idle.
+    orderly_set blocks m m.db i s (record { place = place; transaction = s.transaction; statement = None }) sound orderly at
+    (record { known = orderly.known; behind = launched_behind m.db.content s.transaction s.statement (orderly.idle i s at idle) (orderly.behind i s at); writes = λ p w there. inl there })
+    (λ p x due ok. refl) (λ e. refl))
+    (λ s place count stmt at due.
+    let d = ran m i s stmt in
+    let adds = orderly_step blocks m i s place count stmt sound orderly at due in
+    let live = (sound_ran m i s stmt sound at).0.own in
+    after_over m i place count d (NextOrderly blocks)
+    (orderly_set blocks m d.db i s (record { place = Some place; transaction = d.transaction; statement = d.statement }) sound orderly at adds
+    (λ p x its ok.
+    let one : place ≡ p = same_place its.0 in
+    let two : stmt ≡ x = same_Some stmt x (sym due.1 ∙ (ap (λ (q : Place). slice_get (stmts_at blocks q.block) q.next) one ∙ its.1)) in
+    turning_over m.db s.transaction s.statement (around m i s) stmt (ap may_turn two ∙ ok))
+    (λ e. no_place place e))
+    (λ over p.
+    orderly_set blocks m d.db i s (record { place = p; transaction = d.transaction; statement = None }) sound orderly at (subst (Adds m.db s.transaction d.db d.transaction) over adds)
+    (λ q x its ok. refl) (λ e. refl))
+    (λ over.
+    let e = closed_at_end d d.transaction in
+    orderly_set blocks m e.db i s (record { place = None; transaction = e.transaction; statement = None }) sound orderly at
+    (adds_closes m.db s.transaction d d.transaction refl over live adds) (λ q x its ok. refl) (λ z. refl)))
+    (λ s at.
+    orderly_set blocks m (left_behind m.db s.transaction) i s at_rest sound orderly at
+    (adds_left m.db s.transaction (sound_live m.db m.sessions m.events i s sound at) orderly.known) (λ q x its ok. refl) (λ z. refl))
+
+-- so of each state that a run leads to
+abbrev pub SoundAndOrderly : Blocks → Machine → Type 0
+SoundAndOrderly blocks m = IsSoundMachine m × IsOrderly blocks m
+
+orderly_on : (blocks : Blocks) (mode : Mode) (m : Machine) (items : List HistItem) (after : Machine) → SoundAndOrderly blocks m → Run blocks mode m items after → SoundAndOrderly blocks after
+orderly_on blocks mode m [] after h run = subst (SoundAndOrderly blocks) (sym run) h
+orderly_on blocks mode m (item ∷ items) after h run =
+    let n : Next = record { machine = run.0; reply = item.reply } in
+    orderly_on blocks mode run.0 items after ((sound_next blocks mode m item.event n h.0 run.1).0, orderly_next blocks mode m item.event n h.0 h.1 run.1) run.2
+
+nothing_at : {A : Type 0} (k : ℕ) (x : A) → slice_get [] k ≡ Some x → ⊥
+nothing_at k x h = cc
+
+rests : (n i : ℕ) (s : Session) → slice_get (replicate n at_rest) i ≡ Some s → at_rest ≡ s
+rests zero i s h = cc
+rests (suc n) zero s h = same_Some at_rest s h
+rests (suc n) (suc i) s h = rests n i s h
+
+orderly_opening : (blocks : Blocks) (count : ℕ) → IsOrderly blocks (opening count)
+orderly_opening blocks count =
+    record {
+      known = record {
+        numbered = λ n k at. absurd (nothing_at n (Committed k) at);
+        writes = λ p w at. absurd (nothing_at p w at);
+        tables = λ k x at. absurd (nothing_at k x at);
+        drops = λ k x at. absurd (nothing_at k x at);
+      };
+      behind = λ i s at p w there its. absurd (nothing_at p w there);
+      idle = λ i s at e. ap (λ (x : Session). x.statement) (sym (rests (count + 1) i s at));
+      turning = λ i s place stmt at due ok. ap (λ (x : Session). x.statement) (sym (rests (count + 1) i s at));
+    }
+
+pub orderly_run : (blocks : Blocks) (count : ℕ) (mode : Mode) (items : List HistItem) (m : Machine) → count ≤ 64 → Run blocks mode (opening count) items m → SoundAndOrderly blocks m
+orderly_run blocks count mode items m few run = orderly_on blocks mode (opening count) items m (sound_opening count few, orderly_opening blocks count) run

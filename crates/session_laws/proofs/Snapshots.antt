@@ -122,7 +122,7 @@ all-next blocks mode m event n sound h all =
     let k = commit_count m.db.content in
     let i = session_of event in
     event_cases blocks mode m event n (NextBy k) h
-    (λ s place at. all_set k m.sessions i s (record { place = place; transaction = s.transaction; statement = None }) at all (mine k m i s at all))
+    (λ s place at idle. all_set k m.sessions i s (record { place = place; transaction = s.transaction; statement = None }) at all (mine k m i s at all))
     (λ s place count stmt at due.
     let d = ran m i s stmt in
     let by = by-run m.db s.transaction s.statement (around m i s) stmt (sound_firm m.db m.sessions m.events sound) (sound_within m.db m.sessions m.events i s sound at) (mine k m i s at all) in

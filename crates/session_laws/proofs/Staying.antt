@@ -271,7 +271,7 @@ pub stays-next : (view : View) (blocks : Blocks) (mode : Mode) (m : Machine) (ev
     → Stays view m.db.content n.machine.db.content
 stays-next view blocks mode m event n sound h apart earlier =
     event_cases blocks mode m event n (λ x. Stays view m.db.content x.machine.db.content) h
-    (λ s place at. stays_here view m.db.content)
+    (λ s place at idle. stays_here view m.db.content)
     (λ s place count stmt at due.
     let i = session_of event in
     let left = sound_ran m i s stmt sound at in

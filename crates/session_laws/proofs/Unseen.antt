@@ -103,7 +103,7 @@ failed-hides : (view : View) (blocks : Blocks) (mode : Mode) (m : Machine) (even
     → ((s : Session) → slice_get m.sessions (session_of event) ≡ Some s → IsApart view m.db.content s.transaction) → Hides view m.db.content n.machine.db.content
 failed-hides view blocks mode m event n fault sound h failed apart =
     event_cases blocks mode m event n (λ x. x.reply.outcome ≡ Failed fault → Hides view m.db.content x.machine.db.content) h
-    (λ s place at e. absurd (let z : ⊥ = cc in z))
+    (λ s place at idle e. absurd (let z : ⊥ = cc in z))
     (λ s place count stmt at due e.
     let i = session_of event in
     let d = ran m i s stmt in
