@@ -15,3 +15,4 @@ pub mod Growing
 pub mod Orderly
 pub mod Ordering
 pub mod Positive
+pub mod Selecting
