@@ -1,5 +1,5 @@
 -- What an event may lead to, so that what is so of each is so of the next state.
-use Rattle.std.proofs.Common.{◌≡◌, ℕ, ◌+◌, Bool, true, false, refl, sym, subst, length}
+use Rattle.std.proofs.Common.{◌≡◌, ℕ, ◌+◌, Bool, true, false, refl, subst, length}
 use Rattle.std.specs.Prelude.{Option, Some, None, is_some, slice_get, nat_lt, Ok, Err, not, ◌&&◌, if◌then◌else◌}
 use Rattle.sql_trees.specs.Statements.{StmtTree}
 use Rattle.session_machine.specs.declared.session.Place.{Place}
@@ -10,7 +10,7 @@ use Rattle.session_machine.specs.declared.event.Event.TheVariants.{Launch, Step,
 use Rattle.session_machine.specs.declared.event.Mode.{Mode}
 use Rattle.session_machine.specs.declared.fault.Refusal.TheVariants.{Busy, NotYourTurn, BlockNotAllowed}
 use Rattle.session_machine.specs.Statements.{Did}
-use Rattle.session_machine.specs.Machine.{Machine, Blocks, Next, next, stmts_at, is_failed, is_allowed, is_busy, is_directed, is_quiet, first_place, launched, launch_of, step_of, step_at, step_stmt, leave_of, after_end, after_stmt, waits_there, finished, closed_at_end}
+use Rattle.session_machine.specs.Machine.{Machine, Blocks, Next, next, stmts_at, is_failed, is_allowed, is_directed, is_quiet, first_place, launched, launch_of, step_of, step_at, step_stmt, leave_of, after_end, after_stmt, waits_there, finished, closed_at_end}
 use Rattle.session_laws.specs.Laws.{session_of}
 use Rattle.session_laws.proofs.Sound.{if_ok, ok_launch, ok_step, ok_leave, ran, left_by}
 

@@ -1,5 +1,5 @@
 -- A statement leaves the open transactions of other sessions open, rows that fit their tables, and itself where its table is there.
-use Rattle.std.proofs.Common.{◌≡◌, ◌≢◌, ℕ, ◌≤◌, ◌<◌, ◌+◌, zero, suc, Bool, true, false, List, [], ◌∷◌, ◌++◌, length, length-append, refl, ap, sym, le_refl, ◌∙◌, subst, arith, inl, inr, ◌⊎◌}
+use Rattle.std.proofs.Common.{◌≡◌, ◌≢◌, ℕ, ◌≤◌, ◌<◌, ◌+◌, Bool, true, false, List, [], ◌∷◌, ◌++◌, length, length-append, refl, ap, sym, le_refl, ◌∙◌, subst, arith, inl, inr, ◌⊎◌}
 use Rattle.std.specs.Prelude.{Option, Some, None, slice_get, if◌then◌else◌}
 use Rattle.std.proofs.lemmas.Option.{slice_get_within, same_Some}
 use Rattle.sql_trees.specs.declared.stmt.Level.{Level}
@@ -12,9 +12,9 @@ use Rattle.session_machine.specs.declared.session.OpenTransaction.{OpenTransacti
 use Rattle.session_machine.specs.declared.session.Transaction.{Transaction}
 use Rattle.session_machine.specs.declared.session.Transaction.TheVariants.{Closed, Open, Aborted}
 use Rattle.session_machine.specs.declared.session.Progress.{Progress}
-use Rattle.session_machine.specs.Tables.{Database, Table}
+use Rattle.session_machine.specs.Tables.{Database}
 use Rattle.session_machine.specs.Transactions.{fresh, begun, started, after_failure, moved_on}
-use Rattle.session_machine.specs.Statements.{Around, Did, with_table}
+use Rattle.session_machine.specs.Statements.{Around, Did}
 use Rattle.session_machine.specs.Running.{run_stmt}
 use Rattle.session_machine.specs.Sound.{tx_in, command_in}
 use Rattle.session_laws.proofs.Lists.{slice_get-set_other, slice_get-append_left, slice_get-append_seam}

@@ -1,12 +1,12 @@
 -- The writes and commits of every state that the machine comes to are in order.
-use Rattle.std.proofs.Common.{◌≡◌, ℕ, zero, suc, ◌<◌, ◌≤◌, ◌+◌, Bool, true, false, List, [], ◌∷◌, length, set, replicate, refl, ap, sym, ◌∙◌, subst, arith, inl, ⊎_elim}
+use Rattle.std.proofs.Common.{◌≡◌, ℕ, zero, suc, ◌≤◌, ◌+◌, Bool, true, false, List, [], ◌∷◌, set, replicate, refl, ap, sym, ◌∙◌, subst, arith, inl, ⊎_elim}
 use Rattle.std.specs.Prelude.{Option, Some, None, is_some, unwrap_or, slice_get, Ok, if◌then◌else◌, not, ◌&&◌}
 use Rattle.std.proofs.lemmas.Bool.{cases_eq}
 use Rattle.std.proofs.lemmas.Option.{slice_get_within, same_Some}
 use Rattle.sql_trees.specs.declared.stmt.Level.{Level}
 use Rattle.sql_trees.specs.Statements.{StmtTree, Begin, Commit, Rollback, SetTransaction, SetDeadlockTimeout, Create, DropTables, Inserts, Updates, Deletes, Selects}
 use Rattle.row_versions.specs.declared.write.Write.{Write}
-use Rattle.row_versions.specs.declared.write.Fate.TheVariants.{RolledBack, Committed, Open as OpenFate}
+use Rattle.row_versions.specs.declared.write.Fate.TheVariants.{Committed, Open as OpenFate}
 use Rattle.row_versions.specs.Log.{Content}
 use Rattle.session_machine.specs.declared.session.Place.{Place}
 use Rattle.session_machine.specs.declared.session.OpenTransaction.{OpenTransaction}

@@ -1,44 +1,32 @@
 -- What holds of the writes and commits of every state that the machine comes to.
-use Rattle.std.proofs.Common.{◌≡◌, ℕ, zero, suc, ◌<◌, ◌≤◌, ◌+◌, Bool, true, false, List, [], ◌∷◌, ◌++◌, length, length-append, set, refl, ap, sym, ◌∙◌, subst, arith, inl, inr, ◌⊎◌, ⊎_elim}
-use Rattle.std.specs.Prelude.{Option, Some, None, is_some, slice_get, Ok, if◌then◌else◌, option_and_then, not, ◌&&◌}
-use Rattle.std.proofs.lemmas.Bool.{cases_eq}
-use Rattle.std.proofs.lemmas.Option.{slice_get_within, same_Some}
+use Rattle.std.proofs.Common.{◌≡◌, ℕ, zero, suc, ◌<◌, ◌≤◌, ◌+◌, Bool, true, false, List, [], ◌∷◌, ◌++◌, length, length-append, refl, ap, sym, ◌∙◌, subst, arith, inl, inr, ◌⊎◌, ⊎_elim}
+use Rattle.std.specs.Prelude.{Option, Some, None, slice_get, if◌then◌else◌}
+use Rattle.std.proofs.lemmas.Option.{slice_get_within}
 use Rattle.sql_trees.specs.declared.stmt.Level.{Level}
 use Rattle.sql_trees.specs.declared.stmt.Level.TheVariants.{ReadCommitted}
-use Rattle.sql_trees.specs.Statements.{StmtTree, Begin, Commit, Rollback, SetTransaction, SetDeadlockTimeout, Create, DropTables, Inserts, Updates, Deletes, Selects}
+use Rattle.sql_trees.specs.Statements.{StmtTree}
 use Rattle.row_versions.specs.declared.names.TxId.{TxId}
 use Rattle.row_versions.specs.declared.write.Write.{Write}
 use Rattle.row_versions.specs.declared.write.View.{View}
 use Rattle.row_versions.specs.declared.write.Fate.{Fate}
 use Rattle.row_versions.specs.declared.write.Fate.TheVariants.{Committed, Open as OpenFate}
 use Rattle.row_versions.specs.Log.{Content, IsOpen}
-use Rattle.session_machine.specs.declared.session.Place.{Place}
 use Rattle.session_machine.specs.declared.session.OpenTransaction.{OpenTransaction}
 use Rattle.session_machine.specs.declared.session.Transaction.{Transaction}
 use Rattle.session_machine.specs.declared.session.Transaction.TheVariants.{Closed, Open, Aborted}
 use Rattle.session_machine.specs.declared.session.Progress.{Progress}
-use Rattle.session_machine.specs.declared.session.Session.{Session}
-use Rattle.session_machine.specs.declared.event.Event.{Event}
-use Rattle.session_machine.specs.declared.event.Mode.{Mode}
-use Rattle.session_machine.specs.declared.reply.HistItem.{HistItem}
 use Rattle.session_machine.specs.Tables.{Database, Table, Dropped}
 use Rattle.session_machine.specs.Transactions.{fresh, begun, committed, after_failure}
 use Rattle.session_machine.specs.Statements.{Around, Did, turns}
 use Rattle.session_machine.specs.Running.{run_stmt}
-use Rattle.session_machine.specs.Machine.{Machine, Blocks, Next, next, around, at_rest, opening, left_behind, closed_at_end}
-use Rattle.session_machine.specs.Engine.{Run}
-use Rattle.session_machine.specs.Sound.{IsSoundMachine, tx_in, tx_of}
-use Rattle.session_laws.specs.Laws.{session_of}
-use Rattle.row_versions.specs.declared.names.RowId.{RowId}
-use Rattle.sql_values.specs.declared.value.Value.{Value}
-use Rattle.session_laws.proofs.Lists.{slice_get-set_same, slice_get-set_other, slice_get-append_seam}
+use Rattle.session_machine.specs.Machine.{around, closed_at_end}
+use Rattle.session_machine.specs.Sound.{tx_in}
+use Rattle.session_laws.proofs.Lists.{slice_get-append_seam}
 use Rattle.session_laws.proofs.Writing.{Lasts}
 use Rattle.session_laws.proofs.Effects.{IsFirm, EffectsIf, may_turn, run_effects}
 use Rattle.session_laws.proofs.Keeping.{IsLive}
-use Rattle.session_laws.proofs.Events.{event_cases, after_cases}
-use Rattle.session_laws.proofs.Sound.{sound_live, sound_firm, sound_within, sound_ran, sound_next, sound_opening, ran}
 use Rattle.session_laws.proofs.Staying.{hides-begin}
-use Rattle.session_laws.proofs.Growing.{Numbered, Grows, grows_here, grows_on, grows_roll_back, grows_commit, lasts-grows}
+use Rattle.session_laws.proofs.Growing.{Numbered, Grows, grows_here, grows_roll_back, grows_commit, lasts-grows}
 
 -- each write, table and drop is of a transaction that has begun, and commits are numbered below their count
 pub record IsKnown (db : Database) : Type 0 where

@@ -24,7 +24,6 @@ use Rattle.session_machine.specs.Engine.{Run}
 use Rattle.session_machine.specs.Sound.{IsSoundMachine}
 use Rattle.session_laws.specs.Laws.{session_of}
 use Rattle.session_laws.proofs.Lists.{slice_get-set_same, slice_get-set_other}
-use Rattle.session_laws.proofs.Writing.{Lasts}
 use Rattle.session_laws.proofs.Effects.{IsFirm, Effects, run_effects}
 use Rattle.session_laws.proofs.Events.{event_cases, after_cases}
 use Rattle.session_laws.proofs.Sound.{sound_firm, sound_within, sound_next, sound_opening, ran}
@@ -84,9 +83,12 @@ by-run : (db : Database) (t : Transaction) (statement : Option Progress) (around
 by-run db t statement around stmt firm within h =
     run_effects true db t statement around stmt Nothing (IsBy (commit_count db.content)) (λ e. refl) within
     (λ u e. effects-by db u around firm (subst (λ x. snap_in x ≤ commit_count db.content) e h))
-    (λ e. (omega arith, λ level explicit. omega arith,
-    subst (λ k. Effects (begun db) (fresh db.content ReadCommitted false) around (Nothing (fresh db.content ReadCommitted false)) (IsBy k)) (hides-begin first_view db.content).same_count
-    (effects-by (begun db) (fresh db.content ReadCommitted false) around (record { fit = firm.fit; stay = firm.stay }) (omega arith))))
+    (λ e. (
+      omega arith,
+      λ level explicit. omega arith,
+      subst (λ k. Effects (begun db) (fresh db.content ReadCommitted false) around (Nothing (fresh db.content ReadCommitted false)) (IsBy k)) (hides-begin first_view db.content).same_count
+          (effects-by (begun db) (fresh db.content ReadCommitted false) around (record { fit = firm.fit; stay = firm.stay }) (omega arith)),
+    ))
     (λ e. (omega arith, omega arith))
 
 by-closes : (k : ℕ) (d : Did) (u : Transaction) → IsBy k d → IsBy k (closed_at_end d u)

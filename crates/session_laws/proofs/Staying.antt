@@ -1,5 +1,5 @@
 -- What a view shows stays as it is while other transactions go on.
-use Rattle.std.proofs.Common.{◌≡◌, ◌≢◌, ℕ, suc, ◌<◌, ◌≤◌, ◌+◌, Bool, true, false, cond, List, [], ◌∷◌, ◌++◌, length, length-append, set, get_or, map, refl, ap, sym, le_refl, ◌∙◌, subst, arith, All}
+use Rattle.std.proofs.Common.{◌≡◌, ◌≢◌, ℕ, suc, ◌<◌, ◌≤◌, ◌+◌, Bool, true, false, cond, List, [], ◌∷◌, ◌++◌, length, length-append, set, get_or, map, refl, ap, le_refl, ◌∙◌, arith, All}
 use Rattle.std.specs.Prelude.{Ok, Option, Some, None, unwrap_or, option_and_then, slice_get, count_by, if◌then◌else◌}
 use Rattle.std.proofs.lemmas.List.Elements.{Contains-get_or}
 use Rattle.std.proofs.lemmas.List.Sums.{sum_by-append, sum_by-set}
@@ -233,8 +233,11 @@ pub stays-run : (view : View) (db : Database) (t : Transaction) (statement : Opt
 stays-run view db t statement around stmt live firm within apart earlier =
     run_effects true db t statement around stmt (IsHidden view db.content) (StaysDid view db.content) (λ e. refl) within
     (λ u e. effects-stay view db.content db u around (not_own view db.content t u e apart) earlier firm (hidden-open view db t u e live))
-    (λ e. (stays_here view db.content, λ level explicit. stays-begin view db.content,
-    effects-stay view db.content (begun db) (fresh db.content ReadCommitted false) around apart.not_new earlier (begun-firm db firm) (hidden-begun view db)))
+    (λ e. (
+      stays_here view db.content,
+      λ level explicit. stays-begin view db.content,
+      effects-stay view db.content (begun db) (fresh db.content ReadCommitted false) around apart.not_new earlier (begun-firm db firm) (hidden-begun view db),
+    ))
     (λ e. (stays_here view db.content, stays_here view db.content))
 
 pub hides-run : (view : View) (db : Database) (t : Transaction) (statement : Option Progress) (around : Around) (stmt : StmtTree) → IsLive db.content t → IsFirm db
@@ -243,8 +246,11 @@ pub hides-run : (view : View) (db : Database) (t : Transaction) (statement : Opt
 hides-run view db t statement around stmt live firm within apart =
     run_effects true db t statement around stmt (IsHidden view db.content) (HidesFailed view db.content) (λ e. refl) within
     (λ u e. effects-hide view db.content db u around (not_own view db.content t u e apart) firm (hidden-open view db t u e live))
-    (λ e. (λ failed. hides_here view db.content, λ level explicit failed. hides-begin view db.content,
-    effects-hide view db.content (begun db) (fresh db.content ReadCommitted false) around apart.not_new (begun-firm db firm) (hidden-begun view db)))
+    (λ e. (
+      λ failed. hides_here view db.content,
+      λ level explicit failed. hides-begin view db.content,
+      effects-hide view db.content (begun db) (fresh db.content ReadCommitted false) around apart.not_new (begun-firm db firm) (hidden-begun view db),
+    ))
     (λ e. (λ failed. hides_here view db.content, λ failed. hides_here view db.content))
 
 -- the end of a block
