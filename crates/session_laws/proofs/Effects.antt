@@ -1,5 +1,5 @@
 -- What statements do to the state, and that what is so after each effect is so after each statement.
-use Rattle.std.proofs.Common.{◌≡◌, ℕ, zero, suc, arith, ◌+◌, ◌<◌, Bool, true, false, List, [], ◌∷◌, length, refl, ap, sym, ◌∙◌, subst}
+use Rattle.std.proofs.Common.{◌≡◌, ℕ, zero, suc, arith, ◌<◌, Bool, true, false, List, [], ◌∷◌, length, refl}
 use Rattle.std.specs.Prelude.{ℤ, Option, Some, None, is_some, unwrap_or, slice_get, Result, Ok, Err, ◌&&◌, not, if◌then◌else◌}
 use Rattle.std.proofs.lemmas.Option.{slice_get_within}
 use Rattle.sql_trees.specs.declared.stmt.Level.{Level}
@@ -28,7 +28,7 @@ use Rattle.session_machine.specs.Views.{rows_shown}
 use Rattle.session_machine.specs.Statements.{Around, Did, DroppedUpTo, fails, answers, turns, columns_at, with_table, with_drop, create, dropped_at, dropped, drop_ended, drop_tables, is_level, level_set, begin_in, run_aborted, is_end}
 use Rattle.session_machine.specs.Walks.{Stop, Walk, Blocked, Fails, walked, walked_from}
 use Rattle.session_machine.specs.Rows.{Work, columns_in, insert_at, update_at, delete_at, lock_at, passing_targets, taken_targets}
-use Rattle.session_machine.specs.Running.{beginning, going_on, pauses, comes_to, ended, done, insert_all, insert_fitting, insert_to, insert, assigned_to, update_from, update_fitting, update_to, update, delete_from, delete_fitting, delete, lock_from, answered, select_rows, unless_wrong, select_in, select_at, select, run_open, run_closed, lock_again, run_on, run_stmt}
+use Rattle.session_machine.specs.Running.{beginning, pauses, comes_to, ended, done, insert_all, insert_fitting, insert_to, insert, assigned_to, update_from, update_fitting, update_to, update, delete_from, delete_fitting, delete, lock_from, answered, select_rows, unless_wrong, select_at, select, run_open, run_closed, lock_again, run_on, run_stmt}
 use Rattle.session_machine.specs.Sound.{RowsFit, RowsStay}
 use Rattle.session_laws.proofs.Fitting.{find_table_within, fit_tables}
 use Rattle.session_laws.proofs.Writing.{Lasts, Works, passing_of, taken_of, works_inserts, works_updates, works_deletes, works_locks}
@@ -38,20 +38,30 @@ pub record IsFirm (db : Database) : Type 0 where
   pub fit : RowsFit db.content db.catalog
   pub stay : RowsStay db.content
 
+-- the statement may change its transaction alone: how it was begun, and its level
+abbrev pub may_turn : StmtTree → Bool
+may_turn (Begin level) = true
+may_turn (SetTransaction level) = true
+may_turn SetDeadlockTimeout = true
+may_turn stmt = false
+
 -- of a statement in this transaction: each way in which it may come out is so, where P is so of the database that it made
-pub record Effects (db : Database) (t : OpenTransaction) (around : Around) (P : Database → Type 0) (M : Did → Type 0) : Type 0 where
+pub record EffectsIf (may : Bool) (db : Database) (t : OpenTransaction) (around : Around) (P : Database → Type 0) (M : Did → Type 0) : Type 0 where
   pub lasts : Lasts t P
   pub firm : IsFirm db
   pub here : P db
   pub answer : (e : Database) (outcome : Outcome) → IsFirm e → P e → M (answers db.content e t outcome)
   pub fail : (e : Database) (fault : StmtFault) → IsFirm e → P e → M (fails e t fault)
-  pub turn : (u : OpenTransaction) → u.tx ≡ t.tx → u.command ≡ t.command → u.snapshot ≡ t.snapshot → M (turns db (Open u))
+  pub turn : may ≡ true → (u : OpenTransaction) → u.tx ≡ t.tx → u.command ≡ t.command → u.snapshot ≡ t.snapshot → M (turns db (Open u))
   pub commit : M (turns (committed db t.tx) Closed)
   pub roll_back : M (turns (rolled_back db t.tx) Closed)
   pub pause : (k : ℕ) (view : View) (walk : Walk) (request : Request) → IsFirm walk.db → P walk.db → k < length walk.db.catalog.tables
       → M (pauses db.content (record { t = t; table = k; view = view; around = around }) walk request)
 
-module _ (db : Database) (t : OpenTransaction) (around : Around) (P : Database → Type 0) (M : Did → Type 0) (eff : Effects db t around P M) where
+abbrev pub Effects : Database → OpenTransaction → Around → (Database → Type 0) → (Did → Type 0) → Type 0
+Effects db t around P M = EffectsIf true db t around P M
+
+module _ (may : Bool) (db : Database) (t : OpenTransaction) (around : Around) (P : Database → Type 0) (M : Did → Type 0) (eff : EffectsIf may db t around P M) where
   either : (b : Bool) (x y : Did) → M x → M y → M (if b then x else y)
   either true x y h k = h
   either false x y h k = k
@@ -91,13 +101,13 @@ module _ (db : Database) (t : OpenTransaction) (around : Around) (P : Database �
   drops_all d = drop_ends (dropped db t d.if_exists d.names).db (drops db d.if_exists d.names (eff.firm, eff.here)) (dropped db t d.if_exists d.names).missing
 
   -- levels
-  sets_level : (explicit : Bool) (level : Level) → M (level_set db t explicit level)
-  sets_level explicit level =
+  sets_level : may ≡ true → (explicit : Bool) (level : Level) → M (level_set db t explicit level)
+  sets_level ok explicit level =
       either (is_some t.snapshot && not (is_level t.level level)) (fails db t LevelTooLate) (turns db (Open (record t { explicit = explicit; level = level })))
-      (failed_here LevelTooLate) (eff.turn (record t { explicit = explicit; level = level }) refl refl refl)
+      (failed_here LevelTooLate) (eff.turn ok (record t { explicit = explicit; level = level }) refl refl refl)
 
-  begins : (level : Option Level) → M (begin_in db t level)
-  begins level = either t.explicit (turns db (Open t)) (level_set db t true (unwrap_or level t.level)) (eff.turn t refl refl refl) (sets_level true (unwrap_or level t.level))
+  begins : may ≡ true → (level : Option Level) → M (begin_in db t level)
+  begins ok level = either t.explicit (turns db (Open t)) (level_set db t true (unwrap_or level t.level)) (eff.turn ok t refl refl refl) (sets_level ok true (unwrap_or level t.level))
 
   -- walks over targets
   abbrev work : ℕ → View → Work
@@ -206,52 +216,52 @@ module _ (db : Database) (t : OpenTransaction) (around : Around) (P : Database �
   selects s (Some name) = selects_at s name (find_table db (Some t.tx) name) refl
 
   -- what is so after each effect is so after each statement that begins
-  pub after_open : (stmt : StmtTree) → M (run_open db t around stmt)
-  after_open (Begin level) = begins level
-  after_open Commit = eff.commit
-  after_open Rollback = eff.roll_back
-  after_open (SetTransaction level) = sets_level t.explicit level
-  after_open SetDeadlockTimeout = eff.turn t refl refl refl
-  after_open (Create c) = created c (find_table db (Some t.tx) c.name)
-  after_open (DropTables d) = drops_all d
-  after_open (Inserts i) = inserts i (find_table db (Some t.tx) i.table) refl
-  after_open (Updates u) = updates u (find_table db (Some t.tx) u.table) refl
-  after_open (Deletes d) = deletes d (find_table db (Some t.tx) d.table) refl
-  after_open (Selects s) = selects s s.table
+  pub after_open : (stmt : StmtTree) → (may_turn stmt ≡ true → may ≡ true) → M (run_open db t around stmt)
+  after_open (Begin level) h = begins (h refl) level
+  after_open Commit h = eff.commit
+  after_open Rollback h = eff.roll_back
+  after_open (SetTransaction level) h = sets_level (h refl) t.explicit level
+  after_open SetDeadlockTimeout h = eff.turn (h refl) t refl refl refl
+  after_open (Create c) h = created c (find_table db (Some t.tx) c.name)
+  after_open (DropTables d) h = drops_all d
+  after_open (Inserts i) h = inserts i (find_table db (Some t.tx) i.table) refl
+  after_open (Updates u) h = updates u (find_table db (Some t.tx) u.table) refl
+  after_open (Deletes d) h = deletes d (find_table db (Some t.tx) d.table) refl
+  after_open (Selects s) h = selects s s.table
 
   -- and after each that goes on
   locks_again : (s : SelectTree) (p : Progress) (table : Table) → At p.table.0 table → (o : Option Lock) → M (lock_again db t around s p o)
   locks_again s p table at None = selects s s.table
   locks_again s p table at (Some l) = locks_from p.table.0 p.view table at s l p.place p.rows
 
-  pub after_on : (p : Progress) (table : Table) → At p.table.0 table → (stmt : StmtTree) → M (run_on db t around p stmt)
-  after_on p table at (Begin level) = begins level
-  after_on p table at Commit = eff.commit
-  after_on p table at Rollback = eff.roll_back
-  after_on p table at (SetTransaction level) = sets_level t.explicit level
-  after_on p table at SetDeadlockTimeout = eff.turn t refl refl refl
-  after_on p table at (Create c) = after_open (Create c)
-  after_on p table at (DropTables d) = after_open (DropTables d)
-  after_on p table at (Inserts i) = after_open (Inserts i)
-  after_on p table at (Updates u) = updates_from p.table.0 p.view table at u p.place p.rows
-  after_on p table at (Deletes d) = deletes_from p.table.0 p.view table at d p.place p.rows
-  after_on p table at (Selects s) = locks_again s p table at s.lock
+  pub after_on : (p : Progress) (table : Table) → At p.table.0 table → (stmt : StmtTree) → (may_turn stmt ≡ true → may ≡ true) → M (run_on db t around p stmt)
+  after_on p table at (Begin level) h = begins (h refl) level
+  after_on p table at Commit h = eff.commit
+  after_on p table at Rollback h = eff.roll_back
+  after_on p table at (SetTransaction level) h = sets_level (h refl) t.explicit level
+  after_on p table at SetDeadlockTimeout h = eff.turn (h refl) t refl refl refl
+  after_on p table at (Create c) h = after_open (Create c) h
+  after_on p table at (DropTables d) h = after_open (DropTables d) h
+  after_on p table at (Inserts i) h = after_open (Inserts i) h
+  after_on p table at (Updates u) h = updates_from p.table.0 p.view table at u p.place p.rows
+  after_on p table at (Deletes d) h = deletes_from p.table.0 p.view table at d p.place p.rows
+  after_on p table at (Selects s) h = locks_again s p table at s.lock
 
 -- a statement where no transaction is open: nothing is done, a transaction begins, or the statement is its first
-pub after_closed : (db : Database) (around : Around) (M : Did → Type 0) → M (turns db Closed)
+pub after_closed : (db : Database) (around : Around) (M : Did → Type 0) (stmt : StmtTree) → M (turns db Closed)
     → ((level : Level) (explicit : Bool) → M (turns (begun db) (Open (fresh db.content level explicit))))
-    → ((stmt : StmtTree) → M (run_open (begun db) (fresh db.content ReadCommitted false) around stmt)) → (stmt : StmtTree) → M (run_closed db around stmt)
-after_closed db around M none begins runs (Begin level) = begins (unwrap_or level ReadCommitted) true
-after_closed db around M none begins runs Commit = none
-after_closed db around M none begins runs Rollback = none
-after_closed db around M none begins runs (SetTransaction level) = begins level false
-after_closed db around M none begins runs SetDeadlockTimeout = none
-after_closed db around M none begins runs (Create c) = runs (Create c)
-after_closed db around M none begins runs (DropTables d) = runs (DropTables d)
-after_closed db around M none begins runs (Inserts i) = runs (Inserts i)
-after_closed db around M none begins runs (Updates u) = runs (Updates u)
-after_closed db around M none begins runs (Deletes d) = runs (Deletes d)
-after_closed db around M none begins runs (Selects s) = runs (Selects s)
+    → (may_turn stmt ≡ false → M (run_open (begun db) (fresh db.content ReadCommitted false) around stmt)) → M (run_closed db around stmt)
+after_closed db around M (Begin level) none starts_one runs = starts_one (unwrap_or level ReadCommitted) true
+after_closed db around M Commit none starts_one runs = none
+after_closed db around M Rollback none starts_one runs = none
+after_closed db around M (SetTransaction level) none starts_one runs = starts_one level false
+after_closed db around M SetDeadlockTimeout none starts_one runs = none
+after_closed db around M (Create c) none starts_one runs = runs refl
+after_closed db around M (DropTables d) none starts_one runs = runs refl
+after_closed db around M (Inserts i) none starts_one runs = runs refl
+after_closed db around M (Updates u) none starts_one runs = runs refl
+after_closed db around M (Deletes d) none starts_one runs = runs refl
+after_closed db around M (Selects s) none starts_one runs = runs refl
 
 -- a statement in an aborted transaction ends it, or fails
 pub after_aborted : (db : Database) (M : Did → Type 0) → M (turns db Closed) → M (record { db = db; transaction = Aborted; statement = None; outcome = Failed AbortedFault })
@@ -261,25 +271,25 @@ after_aborted db M closes refuses stmt = at_end (is_end stmt) where
   at_end true = closes
   at_end false = refuses
 
-found_within : {A : Type 0} (xs : List A) (i : ℕ) → i < length xs → (x : A) × (slice_get xs i ≡ Some x)
+pub found_within : {A : Type 0} (xs : List A) (i : ℕ) → i < length xs → (x : A) × (slice_get xs i ≡ Some x)
 found_within [] i l = absurd (omega arith)
 found_within (x ∷ xs) zero l = (x, refl)
 found_within (x ∷ xs) (suc i) l = found_within xs i (omega arith)
 
 -- what is so after each effect, whatever the session's transaction, is so after each statement
-pub run_effects : (db : Database) (t : Transaction) (statement : Option Progress) (around : Around) (stmt : StmtTree) (P : OpenTransaction → Database → Type 0) (M : Did → Type 0)
-    → ((p : Progress) → statement ≡ Some p → p.table.0 < length db.catalog.tables)
-    → ((u : OpenTransaction) → t ≡ Open u → Effects db u around (P u) M)
+pub run_effects : (may : Bool) (db : Database) (t : Transaction) (statement : Option Progress) (around : Around) (stmt : StmtTree) (P : OpenTransaction → Database → Type 0) (M : Did → Type 0)
+    → (may_turn stmt ≡ true → may ≡ true) → ((p : Progress) → statement ≡ Some p → p.table.0 < length db.catalog.tables)
+    → ((u : OpenTransaction) → t ≡ Open u → EffectsIf may db u around (P u) M)
     → (t ≡ Closed → M (turns db Closed) × ((level : Level) (explicit : Bool) → M (turns (begun db) (Open (fresh db.content level explicit))))
-    × Effects (begun db) (fresh db.content ReadCommitted false) around (P (fresh db.content ReadCommitted false)) M)
+    × EffectsIf may (begun db) (fresh db.content ReadCommitted false) around (P (fresh db.content ReadCommitted false)) M)
     → (t ≡ Aborted → M (turns db Closed) × M (record { db = db; transaction = Aborted; statement = None; outcome = Failed AbortedFault }))
     → M (run_stmt db t statement around stmt)
-run_effects db Closed statement around stmt P M within opens closed aborted =
+run_effects may db Closed statement around stmt P M h within opens closed aborted =
     let u = fresh db.content ReadCommitted false in
     let c = closed refl in
-    after_closed db around M c.0 c.1 (λ x. after_open (begun db) u around (P u) M c.2 x) stmt
-run_effects db (Open u) None around stmt P M within opens closed aborted = after_open db u around (P u) M (opens u refl) stmt
-run_effects db (Open u) (Some p) around stmt P M within opens closed aborted =
+    after_closed db around M stmt c.0 c.1 (λ none. after_open may (begun db) u around (P u) M c.2 stmt (λ e. h e))
+run_effects may db (Open u) None around stmt P M h within opens closed aborted = after_open may db u around (P u) M (opens u refl) stmt h
+run_effects may db (Open u) (Some p) around stmt P M h within opens closed aborted =
     let table = found_within db.catalog.tables p.table.0 (within p refl) in
-    after_on db u around (P u) M (opens u refl) p table.0 table.1 stmt
-run_effects db Aborted statement around stmt P M within opens closed aborted = let a = aborted refl in after_aborted db M a.0 a.1 stmt
+    after_on may db u around (P u) M (opens u refl) p table.0 table.1 stmt h
+run_effects may db Aborted statement around stmt P M h within opens closed aborted = let a = aborted refl in after_aborted db M a.0 a.1 stmt

@@ -1,5 +1,5 @@
 -- A statement leaves the open transactions of other sessions open, rows that fit their tables, and itself where its table is there.
-use Rattle.std.proofs.Common.{◌≡◌, ◌≢◌, ℕ, ◌≤◌, ◌<◌, ◌+◌, zero, suc, Bool, true, false, List, [], ◌∷◌, ◌++◌, length, length-append, refl, ap, sym, le_refl, ◌∙◌, subst, arith, inl, inr, ◌⊎◌}
+use Rattle.std.proofs.Common.{◌≡◌, ◌≢◌, ℕ, ◌≤◌, ◌<◌, ◌+◌, Bool, true, false, List, [], ◌∷◌, ◌++◌, length, length-append, refl, ap, sym, le_refl, ◌∙◌, subst, arith, inl, inr, ◌⊎◌}
 use Rattle.std.specs.Prelude.{Option, Some, None, slice_get, if◌then◌else◌}
 use Rattle.std.proofs.lemmas.Option.{slice_get_within, same_Some}
 use Rattle.sql_trees.specs.declared.stmt.Level.{Level}
@@ -12,14 +12,14 @@ use Rattle.session_machine.specs.declared.session.OpenTransaction.{OpenTransacti
 use Rattle.session_machine.specs.declared.session.Transaction.{Transaction}
 use Rattle.session_machine.specs.declared.session.Transaction.TheVariants.{Closed, Open, Aborted}
 use Rattle.session_machine.specs.declared.session.Progress.{Progress}
-use Rattle.session_machine.specs.Tables.{Database, Table}
+use Rattle.session_machine.specs.Tables.{Database}
 use Rattle.session_machine.specs.Transactions.{fresh, begun, started, after_failure, moved_on}
-use Rattle.session_machine.specs.Statements.{Around, Did, with_table}
-use Rattle.session_machine.specs.Running.{run_closed, run_open, run_stmt}
+use Rattle.session_machine.specs.Statements.{Around, Did}
+use Rattle.session_machine.specs.Running.{run_stmt}
 use Rattle.session_machine.specs.Sound.{tx_in, command_in}
 use Rattle.session_laws.proofs.Lists.{slice_get-set_other, slice_get-append_left, slice_get-append_seam}
 use Rattle.session_laws.proofs.Writing.{Lasts}
-use Rattle.session_laws.proofs.Effects.{IsFirm, Effects, after_open, after_on, after_closed, after_aborted}
+use Rattle.session_laws.proofs.Effects.{IsFirm, Effects, after_open, after_on, after_closed, after_aborted, found_within}
 
 -- the transaction, if there is one, is open
 abbrev pub IsLive : Content → Transaction → Type 0
@@ -159,7 +159,7 @@ effects-kept db t around live firm =
       here = record { same = refl; longer = le_refl _ };
       answer = λ e outcome f h. (keeps-answers db.content e.content t live h.same, left-over db around.number _ (record { fit = f.fit; stay = f.stay }) h.longer refl);
       fail = λ e fault f h. (keeps-fails db.content e.content t h.same, left-over db around.number _ (record { fit = f.fit; stay = f.stay }) h.longer refl);
-      turn = λ u tx command snapshot.
+      turn = λ ok u tx command snapshot.
           let c : u.command ≡ t.command = command in
           (keeps-on db.content db.content t u live refl (ap (λ x. x.0) tx) (omega arith), left-over db around.number _ firm (le_refl _) refl);
       commit = (keeps-ended db.content t (Committed (commit_count db.content)) Closed refl refl, left-over db around.number _ (record { fit = firm.fit; stay = firm.stay }) (le_refl _) refl);
@@ -178,36 +178,27 @@ effects-kept db t around live firm =
 abbrev pub Leaving : Database → Transaction → ℕ → Did → Type 0
 Leaving db t number d = Leaves db.content t d.db.content d.transaction × IsLeft db number d
 
-found_within : {A : Type 0} (xs : List A) (i : ℕ) → i < length xs → (x : A) × (slice_get xs i ≡ Some x)
-found_within [] i l = absurd (omega arith)
-found_within (x ∷ xs) zero l = (x, refl)
-found_within (x ∷ xs) (suc i) l = found_within xs i (omega arith)
-
 begun-firm : (db : Database) → IsFirm db → IsFirm (begun db)
 begun-firm db f = record { fit = f.fit; stay = f.stay }
-
-leaving-closed : (db : Database) (around : Around) → IsFirm db → (stmt : StmtTree) → Leaving db Closed around.number (run_closed db around stmt)
-leaving-closed db around firm stmt =
-    after_closed db around (Leaving db Closed around.number)
-    (leaves _ _ _ _ (kept-none db.content Closed Closed refl refl), left-over db around.number _ firm (le_refl _) refl)
-    (λ level explicit. (leaves-opened db level explicit, left-over db around.number _ (begun-firm db firm) (le_refl _) refl))
-    (λ stmt.
-    let t = fresh db.content ReadCommitted false in
-    let live = fresh-live db.content ReadCommitted false in
-    let k = after_open (begun db) t around (IsGrown (begun db)) (KeptAndLeft (begun db) t around.number) (effects-kept (begun db) t around live (begun-firm db firm)) stmt in
-    (leaves-begun db.content ReadCommitted false _ _ k.0, record { firm = k.1.firm; longer = k.1.longer; within = k.1.within; now = k.1.now }))
-    stmt
 
 -- a statement keeps the open transactions of others open, and its own if it has one
 pub leaving-run : (db : Database) (t : Transaction) (statement : Option Progress) (around : Around) (stmt : StmtTree) → IsLive db.content t → IsFirm db
     → ((p : Progress) → statement ≡ Some p → p.table.0 < length db.catalog.tables) → Leaving db t around.number (run_stmt db t statement around stmt)
-leaving-run db Closed statement around stmt live firm within = leaving-closed db around firm stmt
+leaving-run db Closed statement around stmt live firm within =
+    after_closed db around (Leaving db Closed around.number) stmt
+    (leaves _ _ _ _ (kept-none db.content Closed Closed refl refl), left-over db around.number _ firm (le_refl _) refl)
+    (λ level explicit. (leaves-opened db level explicit, left-over db around.number _ (begun-firm db firm) (le_refl _) refl))
+    (λ none.
+    let t = fresh db.content ReadCommitted false in
+    let live = fresh-live db.content ReadCommitted false in
+    let k = after_open true (begun db) t around (IsGrown (begun db)) (KeptAndLeft (begun db) t around.number) (effects-kept (begun db) t around live (begun-firm db firm)) stmt (λ e. refl) in
+    (leaves-begun db.content ReadCommitted false _ _ k.0, record { firm = k.1.firm; longer = k.1.longer; within = k.1.within; now = k.1.now }))
 leaving-run db (Open t) None around stmt live firm within =
-    let k = after_open db t around (IsGrown db) (KeptAndLeft db t around.number) (effects-kept db t around live firm) stmt in
+    let k = after_open true db t around (IsGrown db) (KeptAndLeft db t around.number) (effects-kept db t around live firm) stmt (λ e. refl) in
     (leaves _ _ _ _ k.0, k.1)
 leaving-run db (Open t) (Some p) around stmt live firm within =
     let table = found_within db.catalog.tables p.table.0 (within p refl) in
-    let k = after_on db t around (IsGrown db) (KeptAndLeft db t around.number) (effects-kept db t around live firm) p table.0 table.1 stmt in
+    let k = after_on true db t around (IsGrown db) (KeptAndLeft db t around.number) (effects-kept db t around live firm) p table.0 table.1 stmt (λ e. refl) in
     (leaves _ _ _ _ k.0, k.1)
 leaving-run db Aborted statement around stmt live firm within =
     after_aborted db (Leaving db Aborted around.number)

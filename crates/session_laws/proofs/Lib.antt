@@ -11,3 +11,8 @@ pub mod Replaying
 pub mod Working
 pub mod Snapshots
 pub mod Unseen
+pub mod Growing
+pub mod Orderly
+pub mod Ordering
+pub mod Positive
+pub mod Selecting

@@ -1,15 +1,13 @@
 -- Runs of the machine: how they go on, and that a history leads to one state.
-use Rattle.std.proofs.Common.{◌≡◌, ◌↔◌, map, ℕ, suc, ◌+◌, ◌<◌, List, [], ◌∷◌, ◌++◌, length, length-append, set, refl, ap, ap₂, sym, ◌∙◌, subst, drop, get_or, add-one, drop-cons, Bool}
-use Rattle.std.specs.Prelude.{Option, None, Result, Ok, Err, is_none}
-use Rattle.session_machine.specs.declared.session.Place.{Place}
-use Rattle.session_machine.specs.declared.session.Transaction.{Transaction}
+use Rattle.std.proofs.Common.{◌≡◌, map, List, [], ◌∷◌, ◌++◌, refl, ap, ap₂, sym, ◌∙◌, subst}
+use Rattle.std.specs.Prelude.{Result, Ok, Err}
 use Rattle.session_machine.specs.declared.event.Event.{Event}
 use Rattle.session_machine.specs.declared.event.Mode.{Mode}
 use Rattle.session_machine.specs.declared.reply.Reply.{Reply}
 use Rattle.session_machine.specs.declared.reply.HistItem.{HistItem}
 use Rattle.session_machine.specs.declared.fault.Refusal.{Refusal}
 use Rattle.session_machine.specs.Machine.{Machine, Blocks, Next, next}
-use Rattle.session_machine.specs.Engine.{Answered, answered, Follows, Run}
+use Rattle.session_machine.specs.Engine.{Follows, Run}
 
 abbrev ok_next : Next → Result Next Refusal
 ok_next n = Ok n

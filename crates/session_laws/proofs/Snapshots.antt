@@ -24,7 +24,6 @@ use Rattle.session_machine.specs.Engine.{Run}
 use Rattle.session_machine.specs.Sound.{IsSoundMachine}
 use Rattle.session_laws.specs.Laws.{session_of}
 use Rattle.session_laws.proofs.Lists.{slice_get-set_same, slice_get-set_other}
-use Rattle.session_laws.proofs.Writing.{Lasts}
 use Rattle.session_laws.proofs.Effects.{IsFirm, Effects, run_effects}
 use Rattle.session_laws.proofs.Events.{event_cases, after_cases}
 use Rattle.session_laws.proofs.Sound.{sound_firm, sound_within, sound_next, sound_opening, ran}
@@ -69,7 +68,7 @@ effects-by db t around firm h =
       here = tt;
       answer = λ e outcome f k. by-moved db.content t h;
       fail = λ e fault f k. by-fails (commit_count db.content) t;
-      turn = λ u tx command snapshot. subst (λ (o : Option ℕ). unwrap_or o 0 ≤ commit_count db.content) (sym snapshot) h;
+      turn = λ ok u tx command snapshot. subst (λ (o : Option ℕ). unwrap_or o 0 ≤ commit_count db.content) (sym snapshot) h;
       commit = omega arith;
       roll_back = omega arith;
       pause = λ k view walk request f l within. by-moved db.content t h;
@@ -82,7 +81,7 @@ first_view = record { tx = None; commits = 0; command = 0 }
 by-run : (db : Database) (t : Transaction) (statement : Option Progress) (around : Around) (stmt : StmtTree) → IsFirm db
     → ((p : Progress) → statement ≡ Some p → p.table.0 < length db.catalog.tables) → snap_in t ≤ commit_count db.content → IsBy (commit_count db.content) (run_stmt db t statement around stmt)
 by-run db t statement around stmt firm within h =
-    run_effects db t statement around stmt Nothing (IsBy (commit_count db.content)) within
+    run_effects true db t statement around stmt Nothing (IsBy (commit_count db.content)) (λ e. refl) within
     (λ u e. effects-by db u around firm (subst (λ x. snap_in x ≤ commit_count db.content) e h))
     (λ e. (
       omega arith,
@@ -125,8 +124,8 @@ all-next blocks mode m event n sound h all =
     let k = commit_count m.db.content in
     let i = session_of event in
     event_cases blocks mode m event n (NextBy k) h
-    (λ s place at. all_set k m.sessions i s (record { place = place; transaction = s.transaction; statement = None }) at all (mine k m i s at all))
-    (λ s place count stmt at.
+    (λ s place at idle. all_set k m.sessions i s (record { place = place; transaction = s.transaction; statement = None }) at all (mine k m i s at all))
+    (λ s place count stmt at due.
     let d = ran m i s stmt in
     let by = by-run m.db s.transaction s.statement (around m i s) stmt (sound_firm m.db m.sessions m.events sound) (sound_within m.db m.sessions m.events i s sound at) (mine k m i s at all) in
     after_cases m i place count d (NextBy k)

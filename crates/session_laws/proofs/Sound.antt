@@ -28,7 +28,7 @@ use Rattle.session_machine.specs.Machine.{Machine, Blocks, Next, next, around, w
 use Rattle.session_machine.specs.Sound.{IsSound, IsSoundMachine, StaysSound, tx_in, tx_of, command_in, command_of, progress_of}
 use Rattle.session_laws.proofs.Lists.{slice_get-set_same, slice_get-set_other}
 use Rattle.session_laws.proofs.Effects.{IsFirm}
-use Rattle.session_laws.proofs.Keeping.{IsLive, Leaves, Leaving, IsLeft, leaves, leaving-run, keeps-ended, kept-none, none_some}
+use Rattle.session_laws.proofs.Keeping.{IsLive, Leaves, Leaving, leaves, leaving-run, keeps-ended, kept-none, none_some}
 
 -- the transaction of a session is open
 pub sound_open : (db : Database) (ss : List Session) (events i : ℕ) (s : Session) (t : OpenTransaction) → IsSound db ss events → slice_get ss i ≡ Some s → s.transaction ≡ Open t

@@ -1,5 +1,5 @@
 -- What a view shows stays as it is while other transactions go on.
-use Rattle.std.proofs.Common.{◌≡◌, ◌≢◌, ℕ, suc, ◌<◌, ◌≤◌, ◌+◌, Bool, true, false, cond, List, [], ◌∷◌, ◌++◌, length, length-append, set, get_or, map, refl, ap, sym, le_refl, ◌∙◌, subst, arith, All}
+use Rattle.std.proofs.Common.{◌≡◌, ◌≢◌, ℕ, suc, ◌<◌, ◌≤◌, ◌+◌, Bool, true, false, cond, List, [], ◌∷◌, ◌++◌, length, length-append, set, get_or, map, refl, ap, le_refl, ◌∙◌, arith, All}
 use Rattle.std.specs.Prelude.{Ok, Option, Some, None, unwrap_or, option_and_then, slice_get, count_by, if◌then◌else◌}
 use Rattle.std.proofs.lemmas.List.Elements.{Contains-get_or}
 use Rattle.std.proofs.lemmas.List.Sums.{sum_by-append, sum_by-set}
@@ -184,7 +184,7 @@ effects-stay view c db t around other earlier firm here =
       here = here;
       answer = λ e outcome f h. h.hides.stays;
       fail = λ e fault f h. stays_on view c e.content _ h.hides.stays (stays-roll_back view e.content t.tx h.is_open);
-      turn = λ u tx command snapshot. here.hides.stays;
+      turn = λ ok u tx command snapshot. here.hides.stays;
       commit = let more = here.hides.stays.counts in stays_on view c db.content _ here.hides.stays (stays-commit view db.content t.tx here.is_open (omega arith));
       roll_back = stays_on view c db.content _ here.hides.stays (stays-roll_back view db.content t.tx here.is_open);
       pause = λ k v walk request f h within. h.hides.stays;
@@ -206,7 +206,7 @@ effects-hide view c db t around other firm here =
       here = here;
       answer = λ e outcome f h failed. h.hides;
       fail = λ e fault f h failed. hides_on view c e.content _ h.hides (hides-roll_back view e.content t.tx h.is_open);
-      turn = λ u tx command snapshot failed. here.hides;
+      turn = λ ok u tx command snapshot failed. here.hides;
       commit = λ failed. no_failure failed;
       roll_back = λ failed. no_failure failed;
       pause = λ k v walk request f h within failed. h.hides;
@@ -231,7 +231,7 @@ pub stays-run : (view : View) (db : Database) (t : Transaction) (statement : Opt
     → ((p : Progress) → statement ≡ Some p → p.table.0 < length db.catalog.tables) → IsApart view db.content t → view.commits ≤ commit_count db.content
     → StaysDid view db.content (run_stmt db t statement around stmt)
 stays-run view db t statement around stmt live firm within apart earlier =
-    run_effects db t statement around stmt (IsHidden view db.content) (StaysDid view db.content) within
+    run_effects true db t statement around stmt (IsHidden view db.content) (StaysDid view db.content) (λ e. refl) within
     (λ u e. effects-stay view db.content db u around (not_own view db.content t u e apart) earlier firm (hidden-open view db t u e live))
     (λ e. (
       stays_here view db.content,
@@ -244,7 +244,7 @@ pub hides-run : (view : View) (db : Database) (t : Transaction) (statement : Opt
     → ((p : Progress) → statement ≡ Some p → p.table.0 < length db.catalog.tables) → IsApart view db.content t
     → HidesFailed view db.content (run_stmt db t statement around stmt)
 hides-run view db t statement around stmt live firm within apart =
-    run_effects db t statement around stmt (IsHidden view db.content) (HidesFailed view db.content) within
+    run_effects true db t statement around stmt (IsHidden view db.content) (HidesFailed view db.content) (λ e. refl) within
     (λ u e. effects-hide view db.content db u around (not_own view db.content t u e apart) firm (hidden-open view db t u e live))
     (λ e. (
       λ failed. hides_here view db.content,
@@ -277,8 +277,8 @@ pub stays-next : (view : View) (blocks : Blocks) (mode : Mode) (m : Machine) (ev
     → Stays view m.db.content n.machine.db.content
 stays-next view blocks mode m event n sound h apart earlier =
     event_cases blocks mode m event n (λ x. Stays view m.db.content x.machine.db.content) h
-    (λ s place at. stays_here view m.db.content)
-    (λ s place count stmt at.
+    (λ s place at idle. stays_here view m.db.content)
+    (λ s place count stmt at due.
     let i = session_of event in
     let left = sound_ran m i s stmt sound at in
     let stays = stays-run view m.db s.transaction s.statement (around m i s) stmt (sound_live m.db m.sessions m.events i s sound at) (sound_firm m.db m.sessions m.events sound)

@@ -1,5 +1,5 @@
 -- The version that a target takes is one of its row, and has values.
-use Rattle.std.proofs.Common.{◌≡◌, ℕ, Bool, true, false, ◌==◌, List, refl, ap, sym, ◌∙◌, subst}
+use Rattle.std.proofs.Common.{◌≡◌, Bool, true, false, ◌==◌, List, refl, sym, ◌∙◌, subst}
 use Rattle.std.specs.Prelude.{Option, Some, None, Result, Ok, Err, slice_get, if◌then◌else◌}
 use Rattle.std.proofs.lemmas.Bool.{eqb-true}
 use Rattle.sql_trees.specs.declared.stmt.Level.{Level}
@@ -17,10 +17,10 @@ use Rattle.row_versions.proofs.Last.{newest_is_the_last}
 use Rattle.row_locks.specs.declared.held.Held.{Held}
 use Rattle.row_locks.specs.Waiting.{Waiting}
 use Rattle.update_recheck.specs.Asked.{Asked}
-use Rattle.update_recheck.specs.Outcome.{Holders, Version, Outcome, rechecked, outcome, holders, version_at, version_of, target_outcome}
+use Rattle.update_recheck.specs.Outcome.{Holders, Version, rechecked, outcome, holders, version_at, version_of, target_outcome}
 use Rattle.update_recheck.specs.Outcome.Holders.{Nobody, Others, OthersInACycle}
 use Rattle.update_recheck.specs.Outcome.Version.{Same, Gone, Newer}
-use Rattle.update_recheck.specs.Outcome.Outcome.{Takes, Skips, Waits, Deadlocks, Serializes, Faults}
+use Rattle.update_recheck.specs.Outcome.Outcome.{Takes}
 use Rattle.session_laws.proofs.Fitting.{its_values}
 
 -- the version is a write of the row that gave it values

@@ -1,9 +1,8 @@
 -- What a session sees while another one goes on.
-use Rattle.std.proofs.Common.{◌≡◌, ℕ, ◌≤◌, ◌+◌, Bool, true, false, length, refl, ap, sym, ◌∙◌, subst}
+use Rattle.std.proofs.Common.{◌≡◌, ℕ, ◌≤◌, ◌+◌, Bool, true, false, refl, ap, sym, ◌∙◌, subst}
 use Rattle.std.specs.Prelude.{Option, Some, None, is_some, option_map, unwrap_or, slice_get, nat_lt, Ok, if◌then◌else◌}
 use Rattle.sql_trees.specs.declared.stmt.Level.{Level}
 use Rattle.sql_trees.specs.declared.stmt.Level.TheVariants.{ReadCommitted, RepeatableRead}
-use Rattle.sql_trees.specs.Statements.{StmtTree}
 use Rattle.row_versions.specs.declared.names.TxId.{TxId}
 use Rattle.row_versions.specs.declared.write.View.{View}
 use Rattle.row_versions.specs.Log.{Content, commit_count}
@@ -13,20 +12,18 @@ use Rattle.session_machine.specs.declared.session.Transaction.{Transaction}
 use Rattle.session_machine.specs.declared.session.Transaction.TheVariants.{Closed, Open, Aborted}
 use Rattle.session_machine.specs.declared.session.Session.{Session}
 use Rattle.session_machine.specs.declared.event.Event.{Event}
-use Rattle.session_machine.specs.declared.event.Event.TheVariants.{Launch, Step, Leave}
 use Rattle.session_machine.specs.declared.event.Mode.{Mode}
 use Rattle.session_machine.specs.declared.fault.StmtFault.{StmtFault}
-use Rattle.session_machine.specs.declared.reply.Outcome.{Outcome}
-use Rattle.session_machine.specs.declared.reply.Outcome.TheVariants.{Launched, Failed, Left}
+use Rattle.session_machine.specs.declared.reply.Outcome.TheVariants.{Failed}
 use Rattle.session_machine.specs.Tables.{Database}
 use Rattle.session_machine.specs.Transactions.{committed, commits_seen, view_of, view_now}
 use Rattle.session_machine.specs.Views.{rows_shown}
 use Rattle.session_machine.specs.declared.session.Progress.{Progress}
 use Rattle.session_machine.specs.Statements.{Did}
-use Rattle.session_machine.specs.Machine.{Machine, Blocks, Next, next, around, opening, is_failed, launched, waits_there, after_end, after_stmt, finished, closed_at_end}
+use Rattle.session_machine.specs.Machine.{Machine, Blocks, Next, next, around, opening, is_failed, waits_there, after_end, after_stmt, finished, closed_at_end}
 use Rattle.session_machine.specs.Sound.{IsSoundMachine, tx_in}
 use Rattle.session_laws.specs.Laws.{SnapshotsStay, FailuresAreUnseen, session_of}
-use Rattle.session_laws.proofs.Sound.{sound_live, sound_firm, sound_within, ran, left_by}
+use Rattle.session_laws.proofs.Sound.{sound_live, sound_firm, sound_within, ran}
 use Rattle.session_laws.proofs.Events.{event_cases, after_cases}
 use Rattle.session_laws.proofs.Staying.{Hides, IsApart, hides-run, stays-next, shown_stays, apart_sessions}
 use Rattle.session_laws.proofs.Snapshots.{snap_of, snap_in, sound_run, sound_first}
@@ -103,8 +100,8 @@ failed-hides : (view : View) (blocks : Blocks) (mode : Mode) (m : Machine) (even
     → ((s : Session) → slice_get m.sessions (session_of event) ≡ Some s → IsApart view m.db.content s.transaction) → Hides view m.db.content n.machine.db.content
 failed-hides view blocks mode m event n fault sound h failed apart =
     event_cases blocks mode m event n (λ x. x.reply.outcome ≡ Failed fault → Hides view m.db.content x.machine.db.content) h
-    (λ s place at e. absurd (let z : ⊥ = cc in z))
-    (λ s place count stmt at e.
+    (λ s place at idle e. absurd (let z : ⊥ = cc in z))
+    (λ s place count stmt at due e.
     let i = session_of event in
     let d = ran m i s stmt in
     let its : is_failed d.outcome ≡ true = ap is_failed (sym (after_outcome m i place count d) ∙ e) in

@@ -1,21 +1,21 @@
 -- What a statement at work keeps, from one of its targets to the next.
-use Rattle.std.proofs.Common.{◌≡◌, ℕ, ◌+◌, ◌<◌, Bool, true, false, List, [], ◌∷◌, ◌++◌, length, drop, zero, suc, Contains, refl, ap, sym, ◌∙◌, subst, arith}
+use Rattle.std.proofs.Common.{◌≡◌, ℕ, ◌+◌, List, [], ◌∷◌, ◌++◌, length, drop, zero, suc, refl, ap, sym, ◌∙◌, subst}
 use Rattle.std.specs.Prelude.{Option, Some, None, unwrap_or, slice_get, filter_map, Result, Ok, Err}
 use Rattle.std.proofs.lemmas.Option.{slice_get_within, same_Some, get_or_from_slice_get}
 use Rattle.std.specs.List.{cons_option}
 use Rattle.sql_trees.specs.declared.stmt.Lock.{Lock}
 use Rattle.sql_trees.specs.Trees.{Tree}
-use Rattle.sql_trees.specs.Statements.{CreateTree, ColumnTree, UpdateTree, DeleteTree, SelectTree}
+use Rattle.sql_trees.specs.Statements.{CreateTree, UpdateTree, DeleteTree, SelectTree}
 use Rattle.sql_values.specs.declared.value.Value.{Value}
 use Rattle.sql_values.specs.declared.fault.ValueFault.{ValueFault}
-use Rattle.session_queries.specs.Queries.{Target, new_values, null_in, row_values, cols_of}
+use Rattle.session_queries.specs.Queries.{Target, new_values, null_in, row_values}
 use Rattle.session_queries.specs.Updates.{updated}
 use Rattle.row_versions.specs.declared.names.RowId.{RowId}
 use Rattle.row_versions.specs.declared.names.TableId.{TableId}
 use Rattle.row_versions.specs.declared.write.Write.{Write}
 use Rattle.row_versions.specs.declared.write.Seen.{Seen}
 use Rattle.row_versions.specs.declared.write.View.{View}
-use Rattle.row_versions.specs.Log.{Content, values_at, new_row, after_write}
+use Rattle.row_versions.specs.Log.{Content, new_row, after_write}
 use Rattle.row_versions.specs.Laws.{IsShown}
 use Rattle.row_versions.specs.Rows.{rows_of}
 use Rattle.row_versions.proofs.Gets.{get-append_last}
@@ -29,9 +29,9 @@ use Rattle.update_recheck.specs.Outcome.Outcome.{Takes, Skips, Waits, Deadlocks,
 use Rattle.session_machine.specs.declared.session.OpenTransaction.{OpenTransaction}
 use Rattle.session_machine.specs.Tables.{Database, Table}
 use Rattle.session_machine.specs.Waits.{waits_in}
-use Rattle.session_machine.specs.Statements.{with_table, with_drop, columns_at}
-use Rattle.session_machine.specs.Walks.{Visit, Walk, Stop, unless_stopped, walked, walked_from}
-use Rattle.session_machine.specs.Rows.{Work, columns_in, cols_in, written, inserted, unless_null, insert_made, insert_at, ask, settled, at_outcome, at_target, values_of, update_made, update_with, update_at, delete_with, delete_at, lock_made, lock_with, strength_of, lock_at, seen_by, shown_to, at_places, passing_targets, taken_targets}
+use Rattle.session_machine.specs.Statements.{with_table, with_drop}
+use Rattle.session_machine.specs.Walks.{Visit, Stop, unless_stopped, walked, walked_from}
+use Rattle.session_machine.specs.Rows.{Work, columns_in, cols_in, written, inserted, unless_null, insert_made, insert_at, ask, settled, at_outcome, at_target, values_of, update_made, update_with, update_at, delete_with, delete_at, lock_made, lock_with, strength_of, lock_at, seen_by, at_places, passing_targets, taken_targets}
 use Rattle.session_machine.specs.Sound.{RowsFit, RowsStay}
 use Rattle.session_laws.proofs.Lists.{slice_get-append_left}
 use Rattle.session_laws.proofs.Fitting.{IsRowOf, fits_at, its_values, fit_written, stay_written, columns_are, length-new_values, length-updated}

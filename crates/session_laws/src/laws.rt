@@ -1,6 +1,6 @@
 //! Laws of histories: each function's contract is one of them, and its body does nothing.
 ghost use Rattle.session_machine.specs.Sound.{StaysSound};
-ghost use Rattle.session_laws.specs.Laws.{OneState, EventsGiveReplies, FirstPartsAreLegal, SnapshotsStay, FailuresAreUnseen};
+ghost use Rattle.session_laws.specs.Laws.{OneState, EventsGiveReplies, FirstPartsAreLegal, SnapshotsStay, FailuresAreUnseen, CommitsCount, CommitsAreSeen, OwnWritesAreSeen, VisibleIsSelected};
 ghost use Rattle.session_laws.specs.Worked.{WorkedHistory, WorkedStates};
 
 /// The first state is sound, and each event leads from a sound state to a sound one.
@@ -31,6 +31,26 @@ pub fn snapshots_stay()
 /// Of a failed statement the other sessions see nothing.
 pub fn failures_are_unseen()
     ensures { FailuresAreUnseen }
+{}
+
+/// A transaction has committed once its COMMIT is done.
+pub fn commits_count()
+    ensures { CommitsCount }
+{}
+
+/// After a commit each query that begins in Read Committed, and each first query in Repeatable Read, sees its rows.
+pub fn commits_are_seen()
+    ensures { CommitsAreSeen }
+{}
+
+/// A query sees what its own transaction wrote before.
+pub fn own_writes_are_seen()
+    ensures { OwnWritesAreSeen }
+{}
+
+/// What `visible` shows is what a SELECT of that moment shows.
+pub fn visible_is_selected()
+    ensures { VisibleIsSelected }
 {}
 
 /// A history of two sessions, one of them in Repeatable Read, is legal.

@@ -1,0 +1,174 @@
+-- What a session would see of a table is what a SELECT of all its rows shows.
+use Rattle.std.proofs.Common.{◌≡◌, ◌≢◌, ℕ, suc, ◌<◌, ◌≤◌, ◌+◌, ◌==◌, Bool, false, cond, not, ◌&&◌, ◌||◌, List, [], ◌∷◌, ◌++◌, length, append-nil, refl, ap, sym, ◌∙◌, subst, arith}
+use Rattle.std.specs.Prelude.{Option, Some, None, option_map, is_some, unwrap_or, slice_get, bytes_eq, nat_lt, map, Result, Ok}
+use Rattle.std.specs.List.{list_any}
+use Rattle.std.proofs.lemmas.Bool.{ne_eqb, le-ltb, and_right}
+use Rattle.sql_trees.specs.declared.stmt.Level.TheVariants.{ReadCommitted}
+use Rattle.sql_trees.specs.Statements.{ColumnTree, SelectTree, All}
+use Rattle.sql_values.specs.declared.value.Value.{Value}
+use Rattle.sql_values.specs.declared.fault.ValueFault.{ValueFault}
+use Rattle.sql_values.specs.Values.{if_ok}
+use Rattle.sql_values.specs.Expressions.{Cols}
+use Rattle.result_tables.specs.Results.{Results}
+use Rattle.row_versions.specs.declared.names.TxId.{TxId}
+use Rattle.row_versions.specs.declared.names.TableId.{TableId}
+use Rattle.row_versions.specs.declared.write.Write.{Write}
+use Rattle.row_versions.specs.declared.write.View.{View}
+use Rattle.row_versions.specs.declared.write.Seen.{Seen}
+use Rattle.row_versions.specs.declared.write.Fate.{Fate}
+use Rattle.row_versions.specs.declared.write.Fate.TheVariants.{Open as OpenFate}
+use Rattle.row_versions.specs.Log.{Content, fate_of, is_committed, has_committed, values_at, next_tx, after_begin}
+use Rattle.row_versions.specs.View.{sees, committed_before}
+use Rattle.row_versions.specs.Rows.{replaces, rows_from}
+use Rattle.row_versions.proofs.Gets.{get-append_left}
+use Rattle.session_machine.specs.declared.session.OpenTransaction.{OpenTransaction}
+use Rattle.session_machine.specs.declared.session.Transaction.{Transaction}
+use Rattle.session_machine.specs.declared.session.Transaction.TheVariants.{Closed, Open, Aborted}
+use Rattle.session_machine.specs.declared.fault.Refusal.{Refusal}
+use Rattle.session_machine.specs.Tables.{Database, Table, Dropped, counts, is_dropped, is_meant, find_from, find_table}
+use Rattle.session_machine.specs.Transactions.{begun, fresh, own_of, view_of, view_now}
+use Rattle.session_queries.specs.Queries.{each, passing, row_values, titles_of, result_of, cols_of}
+use Rattle.session_queries.specs.Ordering.{rows_at}
+use Rattle.sql_values.specs.Sorting.{keys_at}
+use Rattle.session_machine.specs.Views.{rows_shown}
+use Rattle.session_machine.specs.declared.session.Progress.{Progress}
+use Rattle.session_machine.specs.declared.session.Session.{Session}
+use Rattle.session_machine.specs.Statements.{Around, Did, columns_at}
+use Rattle.session_machine.specs.Running.{answered, select_at, run_stmt}
+use Rattle.session_machine.specs.Machine.{Next, next, around, visible_to, visible_for}
+use Rattle.session_laws.specs.Laws.{VisibleIsSelected, select_all, shown_by}
+use Rattle.session_laws.proofs.Staying.{hides-begin, shown_stays}
+use Rattle.session_laws.proofs.Unseen.{after_outcome}
+use Rattle.session_laws.proofs.Orderly.{IsKnown}
+use Rattle.session_laws.proofs.Ordering.{orderly_run}
+use Rattle.session_laws.proofs.Sound.{ran}
+use Rattle.session_laws.proofs.Positive.{begins_due}
+
+abbrev ok_rows : List (List Value) → Result (List (List Value)) ValueFault
+ok_rows rows = Ok rows
+
+-- without WHERE each row is taken, and all of it is shown
+abbrev places_from : ℕ → List (List Value) → List ℕ
+places_from k [] = []
+places_from k (row ∷ rows) = k ∷ places_from (k + 1) rows
+
+abbrev ok_places : List ℕ → Result (List ℕ) ValueFault
+ok_places places = Ok places
+
+passing_all : (cols : Cols) (k : ℕ) (rows : List (List Value)) → passing cols None k rows ≡ Ok (places_from k rows)
+passing_all cols k [] = refl
+passing_all cols k (row ∷ rows) = ap (λ (r : Result (List ℕ) ValueFault). if_ok r (λ rest. ok_places (k ∷ rest))) (passing_all cols (k + 1) rows)
+
+picked_all : (all : List (List Value)) (k : ℕ) (rows : List (List Value)) → ((i : ℕ) → keys_at all (k + i) ≡ keys_at rows i) → rows_at all (places_from k rows) ≡ rows
+picked_all all k [] h = refl
+picked_all all k (row ∷ rows) h =
+    let here : k + 0 ≡ k = omega arith in
+    let first : keys_at all k ≡ row = ap (keys_at all) (sym here) ∙ h 0 in
+    let rest = picked_all all (k + 1) rows (λ i. let e : k + 1 + i ≡ k + suc i = omega arith in ap (keys_at all) e ∙ h (suc i)) in
+    λ i. first i ∷ rest i
+
+each_all : (cols : Cols) (rows : List (List Value)) → each (row_values cols (All ∷ [])) rows ≡ Ok rows
+each_all cols [] = refl
+each_all cols (row ∷ rows) =
+    ap (λ (r : Result (List (List Value)) ValueFault). if_ok r (λ rest. ok_rows ((row ++ []) ∷ rest))) (each_all cols rows)
+    ∙ ap (λ x. ok_rows (x ∷ rows)) (append-nil row)
+
+abbrev all_of : List ℕ → SelectTree
+all_of name = record { items = All ∷ []; table = Some name; filter = None; order = []; lock = None }
+
+all_shown : (name : List ℕ) (columns : List ColumnTree) (rows : List (List Value)) → result_of (all_of name) columns rows ≡ Ok (record { titles = titles_of columns (All ∷ []); rows = rows })
+all_shown name columns rows =
+    let f : List (List Value) → Result Results ValueFault = λ shown. Ok (record { titles = titles_of columns (All ∷ []); rows = shown }) in
+    ap (λ (r : Result (List ℕ) ValueFault). if_ok (if_ok r ok_places) (λ places. if_ok (each (row_values (cols_of columns) (All ∷ [])) (rows_at rows places)) f)) (passing_all (cols_of columns) 0 rows)
+    ∙ (ap (λ (rs : List (List Value)). if_ok (each (row_values (cols_of columns) (All ∷ [])) rs) f) (picked_all rows 0 rows (λ i. let e : 0 + i ≡ i = omega arith in ap (keys_at rows) e))
+    ∙ ap (λ (r : Result (List (List Value)) ValueFault). if_ok r f) (each_all (cols_of columns) rows))
+
+shown_in : (db : Database) (t : OpenTransaction) (a : Around) (name : List ℕ) (o : Option ℕ)
+    → shown_by (select_at db t a (all_of name) name o).outcome ≡ Some (option_map (rows_shown db.content (view_of db.content t)) o)
+shown_in db t a name None = refl
+shown_in db t a name (Some k) =
+    ap (λ (r : Result Results ValueFault). shown_by (answered db t r).outcome) (all_shown name (columns_at db.catalog k) (rows_shown db.content (view_of db.content t) k))
+
+-- a transaction that begins makes no table known, and hides none
+counts_same : (c : Content) (tx : TxId) → tx.0 < length c.fates → counts (after_begin c) (Some (next_tx c)) tx ≡ counts c None tx
+counts_same c tx l =
+    let one : has_committed (after_begin c) tx ≡ has_committed c tx = ap is_committed (get-append_left c.fates (OpenFate ∷ []) tx.0 l) in
+    let other : (length c.fates == tx.0) ≡ false = ne_eqb (length c.fates) tx.0 (λ e. let z : ⊥ = omega arith in z) in
+    λ i. one i || other i
+
+dropped_same : (c : Content) (k : ℕ) (drops : List Dropped) → ((j : ℕ) (d : Dropped) → slice_get drops j ≡ Some d → d.by.0 < length c.fates)
+    → is_dropped (after_begin c) (Some (next_tx c)) drops k ≡ is_dropped c None drops k
+dropped_same c k [] h = refl
+dropped_same c k (d ∷ drops) h =
+    let first = counts_same c d.by (h 0 d refl) in
+    let rest = dropped_same c k drops (λ j x at. h (suc j) x at) in
+    λ i. ((d.table == k) && first i) || rest i
+
+found_same : (c : Content) (drops : List Dropped) (name : List ℕ) (k : ℕ) (tables : List Table) → ((j : ℕ) (d : Dropped) → slice_get drops j ≡ Some d → d.by.0 < length c.fates)
+    → ((j : ℕ) (t : Table) → slice_get tables j ≡ Some t → t.by.0 < length c.fates)
+    → find_from (after_begin c) (Some (next_tx c)) drops name k tables ≡ find_from c None drops name k tables
+found_same c drops name k [] h l = refl
+found_same c drops name k (t ∷ ts) h l =
+    let first : is_meant (after_begin c) (Some (next_tx c)) drops name k t ≡ is_meant c None drops name k t =
+    (let a = counts_same c t.by (l 0 t refl) in let b = dropped_same c k drops h in λ i. bytes_eq t.made.name name && (a i && not (b i))) in
+    let rest = found_same c drops name (k + 1) ts h (λ j x at. l (suc j) x at) in
+    λ i. cond (first i) (Some k) (rest i)
+
+-- two views that see the same writes show the same rows
+any_same : {X : Type 0} (p q : X → Bool) (xs : List X) → ((x : X) → p x ≡ q x) → list_any p xs ≡ list_any q xs
+any_same p q [] h = refl
+any_same p q (x ∷ xs) h = let rest = any_same p q xs h in λ i. h x i || rest i
+
+rows_same : (fates : List Fate) (view other : View) (table : TableId) (place : ℕ) (ws : List Write) → ((w : Write) → sees fates view w ≡ sees fates other w)
+    → rows_from fates view table place ws ≡ rows_from fates other table place ws
+rows_same fates view other table place [] h = refl
+rows_same fates view other table place (v ∷ later) h =
+    let any = any_same (replaces fates view v.row) (replaces fates other v.row) later (λ w. ap (λ b. (w.row.0 == v.row.0) && b) (h w)) in
+    let rest = rows_same fates view other table (place + 1) later h in
+    λ i. cond (((v.table.0 == table.0) && is_some v.values) && (h v i && not (any i))) (record { row = v.row; place = place } ∷ rest i) (rest i)
+
+-- a transaction of which nothing was asked yet sees what is committed
+fresh_sees : (c : Content) (k : ℕ) → rows_shown (after_begin c) (view_of (after_begin c) (fresh c ReadCommitted false)) k ≡ rows_shown c (view_now c Closed None) k
+fresh_sees c k =
+    let view = view_of (after_begin c) (fresh c ReadCommitted false) in
+    let table : TableId = record { 0 = k } in
+    let same = (hides-begin view c).same_count in
+    shown_stays view c (after_begin c) k (hides-begin view c).stays
+    ∙ ap (map (λ (s : Seen). unwrap_or (values_at c s.place) []))
+    (rows_same c.fates view (view_now c Closed None) table 0 c.log
+    (λ w.
+    let none : ((w.tx.0 == length c.fates) && nat_lt w.command 0) ≡ false = (let low : 0 ≤ w.command = omega arith in and_right _ _ (le-ltb w.command 0 low)) in
+    λ i. committed_before (same i) (fate_of c.fates w.tx) || none i))
+
+map_same : {A B : Type 0} (f g : A → B) (o : Option A) → ((x : A) → f x ≡ g x) → option_map f o ≡ option_map g o
+map_same f g None h = refl
+map_same f g (Some x) h = ap Some (h x)
+
+abbrev session_in : Transaction → Session
+session_in t = record { place = None; transaction = t; statement = None }
+
+select_shows : (db : Database) (t : Transaction) (a : Around) (name : List ℕ) → IsKnown db → t ≢ Aborted → shown_by (run_stmt db t None a (select_all name)).outcome ≡ Some (visible_to db (session_in t) name)
+select_shows db Closed a name known other =
+    let c = db.content in
+    shown_in (begun db) (fresh c ReadCommitted false) a name (find_table (begun db) (Some (next_tx c)) name)
+    ∙ ap Some
+    (ap (option_map (rows_shown (after_begin c) (view_of (after_begin c) (fresh c ReadCommitted false)))) (found_same c db.catalog.drops name 0 db.catalog.tables known.drops known.tables)
+    ∙ map_same (rows_shown (after_begin c) (view_of (after_begin c) (fresh c ReadCommitted false))) (rows_shown c (view_now c Closed None)) (find_table db None name) (fresh_sees c))
+select_shows db (Open t) a name known other = shown_in db t a name (find_table db (Some t.tx) name)
+select_shows db Aborted a name known other = absurd (other refl)
+
+ok_same : {A : Type 0} {a b : A} → (let x : Result A Refusal = Ok a in let y : Result A Refusal = Ok b in x ≡ y) → a ≡ b
+ok_same h = cc
+
+pub visible_is_selected : VisibleIsSelected
+visible_is_selected blocks count mode items m item after i s name rows few run at other over due event follows seen =
+    let n : Next = record { machine = after; reply = item.reply } in
+    let orderly = (orderly_run blocks count mode items m few run).1 in
+    let began = begins_due blocks mode m i s (select_all name) n at due (subst (λ e. next blocks mode m e ≡ Ok n) event follows) in
+    let d = ran m i s (select_all name) in
+    let outcome : item.reply.outcome ≡ d.outcome = ap (λ (x : Next). x.reply.outcome) (sym began.leads) ∙ after_outcome m i began.place began.count d in
+    let fresh_one : d ≡ run_stmt m.db s.transaction None (around m i s) (select_all name) = ap (λ (p : Option Progress). run_stmt m.db s.transaction p (around m i s) (select_all name)) over in
+    let same_rows : visible_to m.db (session_in s.transaction) name ≡ visible_to m.db s name =
+    ap (λ (p : Option Progress). option_map (rows_shown m.db.content (view_now m.db.content s.transaction p)) (find_table m.db (own_of s.transaction) name)) (sym over) in
+    let sees_rows : visible_to m.db s name ≡ rows = ok_same (sym (ap (visible_for m name) at) ∙ seen) in
+    ap shown_by outcome ∙ (ap (λ (x : Did). shown_by x.outcome) fresh_one ∙ (select_shows m.db s.transaction (around m i s) name orderly.known other ∙ (ap Some same_rows ∙ ap Some sees_rows)))
