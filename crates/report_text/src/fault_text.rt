@@ -1,6 +1,7 @@
 //! What a statement that fails prints.
 
 ghost use Rattle.std.specs.Prelude.{◌≡◌, ◌++◌, OnOk};
+ghost use Rattle.std.specs.Fmt.{signed_decimal};
 ghost use Rattle.iso_lexer.specs.Names.{name_view, decoded};
 ghost use Rattle.report_text.specs.FaultText.{in_quotes, the_column, the_relation, the_table, column_of, position_fault_text, value_fault_text, fault_text};
 
@@ -65,12 +66,18 @@ fn push_table(page: &mut Page, name: &Ident<'_>) -> Result<(), AllocError>
     push_quoted(page, &name.name())
 }
 
-fn push_position_fault(page: &mut Page, position: i128) -> Result<(), AllocError>
-    ensures { OnOk result (page.new.bytes.items ≡ page.old.bytes.items ++ position_fault_text position) }
+fn push_number(page: &mut Page, number: &i128) -> Result<(), AllocError>
+    ensures { OnOk result (page.new.bytes.items ≡ page.old.bytes.items ++ signed_decimal number.now) }
 {
     let mut buffer = Buffer::new();
+    page.push(buffer.format(*number).as_bytes())
+}
+
+fn push_position_fault(page: &mut Page, position: &i128) -> Result<(), AllocError>
+    ensures { OnOk result (page.new.bytes.items ≡ page.old.bytes.items ++ position_fault_text position.now) }
+{
     page.push(b"ORDER BY position ")?;
-    page.push(buffer.format(position).as_bytes())?;
+    push_number(page, position)?;
     page.push(b" is not in select list")
 }
 
@@ -103,7 +110,7 @@ pub fn push_fault(page: &mut Page, fault: &StmtFault<'_>) -> Result<(), AllocErr
             page.push(b" violates not-null constraint")
         }
         StmtFault::TooManyValues => page.push(b"INSERT has more expressions than target columns"),
-        StmtFault::NoPosition(position) => push_position_fault(page, *position),
+        StmtFault::NoPosition(position) => push_position_fault(page, position),
         StmtFault::NotSerializable => {
             page.push(b"could not serialize access due to concurrent update")
         }

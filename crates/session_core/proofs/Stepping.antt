@@ -17,7 +17,7 @@ use Rattle.session_machine.specs.declared.reply.Reply.{Reply}
 use Rattle.session_machine.specs.declared.fault.Refusal.{Refusal}
 use Rattle.session_machine.specs.declared.fault.Refusal.TheVariants.{StillBlocked}
 use Rattle.session_machine.specs.Tables.{Database}
-use Rattle.session_machine.specs.Statements.{Around, Did}
+use Rattle.session_machine.specs.Statements.{Did}
 use Rattle.session_machine.specs.Running.{run_stmt}
 use Rattle.session_machine.specs.Machine.{Machine, Blocks, Next, after_stmt, around, closed_at_end, finished, is_failed, is_still_blocked, next, step_of, step_at, step_stmt, stmts_at, waits_there, with_session}
 use Rattle.session_machine.specs.Sound.{IsSoundMachine, StaysSound, tx_in, tx_of, command_in, command_of, progress_of}
