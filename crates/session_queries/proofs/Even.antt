@@ -2,13 +2,13 @@
 use Rattle.std.proofs.Common.{◌≡◌, ℕ, ◌+◌, List, [], ◌∷◌, ◌++◌, length, map, Ok, Err, refl, sym, ap, ◌∙◌, subst, arith, length-append}
 use Rattle.std.proofs.lemmas.List.{length-map}
 use Rattle.std.proofs.lemmas.List.Elements.{All-nil, All-tail, All-cons}
-use Rattle.std.specs.Prelude.{Result, All}
+use Rattle.std.specs.Prelude.{Result, All, IfOk}
 use Rattle.sql_trees.specs.declared.stmt.Column.{Column}
 use Rattle.sql_trees.specs.Statements.{ColumnTree, ItemTree, column_of}
 use Rattle.sql_trees.specs.Statements as item
 use Rattle.sql_values.specs.declared.value.Value.{Value}
 use Rattle.sql_values.specs.declared.fault.ValueFault.{ValueFault}
-use Rattle.sql_values.specs.Values.{if_ok}
+use Rattle.sql_values.specs.Values.{Answers, if_ok}
 use Rattle.sql_values.specs.Expressions.{Cols, value}
 use Rattle.result_tables.specs.declared.title.Title.{Title}
 use Rattle.session_queries.specs.Queries.{cols_of, each, item_titles, item_values, row_values, titles_of}
@@ -67,3 +67,11 @@ result_even columns cols is rows shown titles known long h same =
     let seen : each (row_values (cols_of (map column_of columns)) is) rows ≡ Ok shown = sym (ap (λ cs. each (row_values cs is) rows) known) ∙ h in
     let many : All (λ row. length row ≡ length (map column_of columns)) rows = rw (length-map columns column_of) long in
     rw same (rows_even (map column_of columns) is rows shown many seen)
+
+-- what the items answer at a row is as long as their titles
+pub values_long : (columns : List Column) (cols : Cols) (is : List ItemTree) (row : List Value) (result : Result (List Value) ValueFault) → cols ≡ cols_of (map column_of columns) → length row ≡ length columns → Answers result (row_values cols is row) → IfOk result (λ values. length values ≡ length (titles_of (map column_of columns) is))
+values_long columns cols is row (Ok values) known long h =
+    let seen : row_values (cols_of (map column_of columns)) is row ≡ Ok values = sym (ap (λ cs. row_values cs is row) known) ∙ h in
+    let wide : length row ≡ length (map column_of columns) = long ∙ sym (length-map columns column_of) in
+    row_even (map column_of columns) is row values wide seen
+values_long columns cols is row (Err fault) known long h = tt

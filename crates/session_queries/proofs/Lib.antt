@@ -6,3 +6,5 @@ pub mod Filling
 pub mod Fronts
 pub mod Selecting
 pub mod Counting
+pub mod Insertion
+pub mod Picking

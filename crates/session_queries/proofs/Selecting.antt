@@ -1,20 +1,17 @@
 -- The rows are taken first, and then the items are shown at them.
-use Rattle.std.proofs.Common.{◌≡◌, List, map, Ok, sym, ap, ◌∙◌, subst}
+use Rattle.std.proofs.Common.{◌≡◌, ℕ, List, Ok, sym, ap, ◌∙◌, subst}
 use Rattle.std.specs.Prelude.{Result}
-use Rattle.sql_trees.specs.Statements.{ColumnTree, ItemTree, SelectTree}
+use Rattle.sql_trees.specs.Statements.{ColumnTree, SelectTree}
 use Rattle.sql_values.specs.declared.value.Value.{Value}
 use Rattle.sql_values.specs.declared.fault.ValueFault.{ValueFault}
 use Rattle.sql_values.specs.Values.{Answers, if_ok}
-use Rattle.sql_values.specs.Expressions.{Cols}
 use Rattle.result_tables.specs.Results.{Results}
-use Rattle.session_queries.specs.Queries.{chosen, cols_of}
+use Rattle.session_queries.specs.Ordering.{rows_at}
+use Rattle.session_queries.specs.Queries.{taken}
 use Rattle.session_queries.specs.Answers.{answered, selected}
 
-pub selected_from : {R : Type 0} (view : R → List Value) (s : SelectTree) (columns : List ColumnTree) (cols : Cols) (rows : List (List Value)) (taken lent : List R) (items : List ItemTree) (result : Result Results ValueFault) → cols ≡ cols_of columns → chosen cols s.filter rows ≡ Ok (map view taken) → lent ≡ taken → items ≡ s.items → Answers result (answered columns items (map view lent)) → Answers result (selected s columns rows)
-selected_from view s columns cols rows taken lent items result known h same all fact =
-    let by : selected s columns rows ≡ answered columns items (map view lent) =
-    ap (λ cs. if_ok (chosen cs s.filter rows) (answered columns s.items)) (sym known)
-    ∙ ap (λ rs. if_ok rs (answered columns s.items)) h
-    ∙ ap (λ rs. answered columns s.items (map view rs)) (sym same)
-    ∙ ap (λ is. answered columns is (map view lent)) (sym all) in
+pub selected_from : (s : SelectTree) (columns : List ColumnTree) (rows shown : List (List Value)) (places : List ℕ) (result : Result Results ValueFault) → taken s columns rows ≡ Ok places → shown ≡ rows_at rows places → Answers result (answered columns s.items shown) → Answers result (selected s columns rows)
+selected_from s columns rows shown places result h same fact =
+    let by : selected s columns rows ≡ answered columns s.items shown =
+    ap (λ ps. if_ok ps (λ places. answered columns s.items (rows_at rows places))) h ∙ ap (answered columns s.items) (sym same) in
     subst (λ a. Answers result a) (sym by) fact

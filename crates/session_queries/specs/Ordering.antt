@@ -1,5 +1,5 @@
 -- How rows are sorted by their keys, as a function (PostgreSQL manual, 7.5).
-use Rattle.std.specs.Prelude.{ℕ, List, [], ◌∷◌, length, map, slice_index_or, if◌then◌else◌}
+use Rattle.std.specs.Prelude.{ℕ, List, [], ◌∷◌, length, map, if◌then◌else◌}
 use Rattle.std.specs.List.{range_with_len}
 use Rattle.std.specs.Ordering.{is_gt}
 use Rattle.sql_trees.specs.declared.kind.Dir.{Dir}

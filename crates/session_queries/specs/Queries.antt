@@ -1,6 +1,6 @@
 -- What a query answers at the rows of its table, and what an INSERT makes of its values (PostgreSQL manual, SELECT and INSERT).
 use Rattle.std.specs.Prelude.{ℕ, ◌+◌, ◌-◌, ◌==◌, ℤ, pos, Bool, true, false, ◌&&◌, List, [], ◌∷◌, ◌++◌, length, map, replicate, Option, Some, None, is_some, unwrap_or}
-use Rattle.std.specs.Prelude.{position, bytes_eq, slice_set, slice_index_or, nat_lt, Result, Ok, Err, if◌then◌else◌}
+use Rattle.std.specs.Prelude.{position, bytes_eq, slice_set, slice_index_or, nat_le, nat_lt, Result, Ok, Err, if◌then◌else◌}
 use Rattle.std.specs.List.{list_any}
 use Rattle.std.specs.Option.{option_or}
 use Rattle.sql_trees.specs.declared.kind.Kind.{Kind}
@@ -137,7 +137,7 @@ titles_of columns (i ∷ is) = item_titles columns i ++ titles_of columns is
 -- the number is none of the result's columns, which are counted from 1
 abbrev pub unlisted : ℕ → Tree → Option ℤ
 unlisted width (tree.Number true n) = Some (signed true n)
-unlisted width (tree.Number false n) = if nat_lt 0 n && nat_lt n (width + 1) then None else Some (pos n)
+unlisted width (tree.Number false n) = if nat_lt 0 n && nat_le n width then None else Some (pos n)
 unlisted width e = None
 
 -- the first key of ORDER BY that is a number and no position in the select list

@@ -1,69 +1,22 @@
 //! What a query answers.
 
-ghost use Rattle.std.specs.Prelude.{◌≡◌, ◌≢◌, ◌∷◌, ◌++◌, All, IfOk, OnOk, IsErrOf, MatchResult, Ok, Err, None, [], length, map, not, option_map};
-ghost use Rattle.sql_trees.specs.Trees.{tree_of};
+ghost use Rattle.std.specs.Prelude.{◌≡◌, ◌≢◌, ◌∷◌, ◌++◌, All, IfOk, OnOk, IsErrOf, MatchResult, Ok, Err, None, [], length, map, not};
 ghost use Rattle.sql_trees.specs.Statements.{column_of, item_of, select_of};
 ghost use Rattle.sql_values.specs.Values.{Answers};
 ghost use Rattle.sql_values.specs.Aggregates.{aggregate};
-ghost use Rattle.sql_values.specs.Expressions.{passes};
-ghost use Rattle.session_queries.specs.Queries.{Counted, agg_results, cols_of, counted, each, item_values, lacking_select, result_of, row_results, row_values};
+ghost use Rattle.session_queries.specs.Queries.{Counted, agg_results, cols_of, counted, each, item_values, lacking_select, result_of, row_results, row_values, titles_of};
 ghost use Rattle.session_queries.specs.Queries.{has_none};
 ghost use Rattle.session_queries.specs.Answers.{answered, selected};
 ghost use Rattle.session_queries.specs.Fronts.{in_front};
 
+use crate::known::known;
 use crate::lacking::lacking_select;
+use crate::ordering::{rows_at, taken_places};
 use crate::titles::{agg_titles, titles_of};
 use result_tables::ResultSet;
-use sql_trees::{Column, Expr, Item, Select};
-use sql_values::{ColumnName, Columns, Row, Value, ValueFault, aggregate, eval, passes};
+use sql_trees::{Column, Item, Select};
+use sql_values::{ColumnName, Columns, Row, Value, ValueFault, aggregate, eval};
 use std::alloc::{AllocError, Global};
-
-/// The columns as expressions know them.
-#[tactic(auto, using(crate::proofs::ColumnLists::known_columns, crate::proofs::ColumnLists::as_many_columns))]
-fn known<'a>(columns: &'a [Column<'a>]) -> Columns<'a>
-    ensures names { result ≡ cols_of (map column_of columns.now) }
-    ensures long { length result ≡ length columns.now }
-{
-    Columns::of(columns)
-}
-
-/// Whether WHERE passes the row.
-fn is_taken<'a>(
-    alloc: Global,
-    filter: &Option<Expr<'a>>,
-    columns: &Columns<'_>,
-    row: &Row,
-) -> Result<bool, ValueFault<'a>>
-    requires { length row.now ≡ length columns.now }
-    ensures { Answers result (passes (option_map tree_of filter.now) columns.now row.now) }
-{
-    match filter {
-        Some(expr) => passes(alloc, Some(expr), columns, row),
-        None => Ok(true),
-    }
-}
-
-/// The rows that pass WHERE.
-fn chosen<'a, 'r>(
-    alloc: Global,
-    filter: &Option<Expr<'a>>,
-    columns: &Columns<'_>,
-    rows: &[&'r Row],
-) -> Result<Vec<&'r Row>, ValueFault<'a>>
-    requires { All (λ row. length row.now ≡ length columns.now) rows.now }
-    ensures answer { MatchResult result
-        (λ taken. chosen columns.now (option_map tree_of filter.now) (map (λ row. row.now) rows.now) ≡ Ok (map (λ row. row.now) taken.items))
-        (λ fault. fault ≢ ValueFault.Memory → chosen columns.now (option_map tree_of filter.now) (map (λ row. row.now) rows.now) ≡ Err fault) }
-    ensures long { IfOk result (λ taken. All (λ row. length row.now ≡ length columns.now) taken.items) }
-{
-    let mut taken = Vec::new(alloc);
-    for row in rows {
-        if is_taken(alloc, filter, columns, row)? {
-            taken.push(*row)?;
-        }
-    }
-    Ok(taken)
-}
 
 /// Appends the row's values.
 fn append_values(alloc: Global, values: &mut Vec<Value>, row: &Row) -> Result<(), AllocError>
@@ -96,9 +49,9 @@ fn append_item<'a>(
     Ok(())
 }
 
-/// What the items answer at the row.
+/// What the items answer at the row, for columns as expressions know them.
 #[tactic(auto, using(crate::proofs::Fronts::longer))]
-fn row_values<'a>(
+fn values_at<'a>(
     alloc: Global,
     items: &[Item<'a>],
     columns: &Columns<'_>,
@@ -112,6 +65,21 @@ fn row_values<'a>(
         append_item(alloc, &mut values, item, columns, row)?;
     }
     Ok(Row::from_vec(values))
+}
+
+/// What the items answer at the row, which is as long as their titles.
+pub fn row_values<'a>(
+    alloc: Global,
+    items: &[Item<'a>],
+    columns: &[Column<'_>],
+    row: &Row,
+) -> Result<Row, ValueFault<'a>>
+    requires { length row.now ≡ length columns.now }
+    ensures values { Answers result (row_values (cols_of (map column_of columns.now)) (map item_of items.now) row.now) }
+    ensures long { IfOk result (λ values. length values ≡ length (titles_of (map column_of columns.now) (map item_of items.now))) }
+{
+    let columns = known(columns);
+    values_at(alloc, items, &columns, row)
 }
 
 /// What the items answer at each row.
@@ -128,7 +96,7 @@ fn shown<'a>(
 {
     let mut shown = Vec::new(alloc);
     for row in rows {
-        shown.push(row_values(alloc, items, columns, row)?)?;
+        shown.push(values_at(alloc, items, columns, row)?)?;
     }
     Ok(shown)
 }
@@ -236,12 +204,12 @@ fn selected<'a>(
     requires { All (λ row. length row.now ≡ length columns.now) rows.now }
     ensures { Answers result (selected (select_of select.now) (map column_of columns.now) (map (λ row. row.now) rows.now)) }
 {
-    let cols = known(&*columns);
-    let taken = chosen(alloc, &select.filter, &cols, rows)?;
+    let places = taken_places(alloc, select, columns, rows)?;
+    let taken = rows_at(alloc, rows, &places)?;
     answered(alloc, &select.items, columns, &taken)
 }
 
-/// The result of a SELECT whose table has these columns and shows these rows. A column that isn't there is a fault, whatever the rows are; WHERE is tested at all of them before an item is evaluated.
+/// The result of a SELECT whose table has these columns and shows these rows. A column that isn't there is a fault, whatever the rows are; WHERE is tested at all of them, then they are sorted, and then the items are evaluated.
 pub fn result_of<'a>(
     alloc: Global,
     select: &Select<'a>,

@@ -2,11 +2,13 @@
 
 ghost use Rattle.std.specs.Prelude.{◌≡◌, [], map, option_map};
 ghost use Rattle.sql_trees.specs.Trees.{agg_of, tree_of, trees, Column as NamedColumn};
-ghost use Rattle.sql_trees.specs.Statements.{column_of, exprs_of, item_of, name_of, select_of};
-ghost use Rattle.session_queries.specs.Queries.{cols_of, first_of, lacking, lacking_agg, lacking_among, lacking_if, lacking_item, lacking_rows, lacking_select};
+ghost use Rattle.sql_trees.specs.Statements.{OrderTree, SetTree, column_of, exprs_of, item_of, name_of, order_of, select_of, set_of, update_of};
+ghost use Rattle.session_queries.specs.Queries.{cols_of, first_of, lacking, lacking_agg, lacking_among, lacking_if, lacking_item, lacking_key, lacking_rows, lacking_select};
+ghost use Rattle.session_queries.specs.Updates.{lacking_update};
 
+use crate::keys::aliased;
 use iso_lexer::{Ident, Name};
-use sql_trees::{Agg, Column, Expr, Item, Select};
+use sql_trees::{Agg, Column, Expr, Item, OrderKey, Select, Update};
 use sql_values::Columns;
 
 /// The name, if no column has it.
@@ -128,14 +130,74 @@ fn lacking_if<'a>(columns: &Columns<'_>, filter: &Option<Expr<'a>>) -> Option<Id
     }
 }
 
-/// The first column that the SELECT names and that isn't among these, its items before its WHERE.
+/// The column that a key of ORDER BY names and that isn't there: a bare name means the item with that alias, if there is one.
+fn lacking_key<'a>(columns: &Columns<'_>, items: &[Item<'a>], key: &Expr<'a>) -> Option<Ident<'a>>
+    ensures { result ≡ lacking_key columns.now (map item_of items.now) (tree_of key.now) }
+{
+    match key {
+        Expr::Column(name) if aliased(items, name).is_some() => None,
+        _ => lacking(columns, key),
+    }
+}
+
+fn lacking_keys<'a>(
+    columns: &Columns<'_>,
+    items: &[Item<'a>],
+    order: &[OrderKey<'a>],
+) -> Option<Ident<'a>>
+    ensures { result ≡ first_of (λ (k : OrderTree). lacking_key columns.now (map item_of items.now) k.expr) (map order_of order.now) }
+{
+    for key in order {
+        if let Some(name) = lacking_key(columns, items, &key.expr) {
+            return Some(name);
+        }
+    }
+    None
+}
+
+/// The first column that the SELECT names and that isn't among these: of its items, then of its WHERE, then of its ORDER BY.
 #[tactic(auto, using(crate::proofs::ColumnLists::known_columns))]
 pub fn lacking_select<'a>(columns: &[Column<'_>], select: &Select<'a>) -> Option<Ident<'a>>
     ensures { result ≡ lacking_select (cols_of (map column_of columns.now)) (select_of select.now) }
 {
     let columns = Columns::of(columns);
-    match lacking_items(&columns, &select.items) {
+    if let Some(name) = lacking_items(&columns, &select.items) {
+        return Some(name);
+    }
+    match lacking_if(&columns, &select.filter) {
         Some(name) => Some(name),
-        None => lacking_if(&columns, &select.filter),
+        None => lacking_keys(&columns, &select.items, &select.order),
+    }
+}
+
+/// The first column that WHERE names and that isn't among these.
+#[tactic(auto, using(crate::proofs::ColumnLists::known_columns))]
+pub fn lacking_filter<'a>(columns: &[Column<'_>], filter: &Option<Expr<'a>>) -> Option<Ident<'a>>
+    ensures { result ≡ lacking_if (cols_of (map column_of columns.now)) (option_map tree_of filter.now) }
+{
+    let columns = Columns::of(columns);
+    lacking_if(&columns, filter)
+}
+
+fn lacking_sets<'a>(columns: &Columns<'_>, sets: &[(Name<'a>, Expr<'a>)]) -> Option<Ident<'a>>
+    ensures { result ≡ first_of (λ (s : SetTree). lacking columns.now s.value) (map set_of sets.now) }
+{
+    for (_, expr) in sets {
+        if let Some(name) = lacking(columns, expr) {
+            return Some(name);
+        }
+    }
+    None
+}
+
+/// The first column that the UPDATE names and that isn't among these: of its new values, then of its WHERE. It looks at no column that is assigned to.
+#[tactic(auto, using(crate::proofs::ColumnLists::known_columns))]
+pub fn lacking_update<'a>(columns: &[Column<'_>], update: &Update<'a>) -> Option<Ident<'a>>
+    ensures { result ≡ lacking_update (cols_of (map column_of columns.now)) (update_of update.now) }
+{
+    let columns = Columns::of(columns);
+    match lacking_sets(&columns, &update.sets) {
+        Some(name) => Some(name),
+        None => lacking_if(&columns, &update.filter),
     }
 }

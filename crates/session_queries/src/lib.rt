@@ -1,15 +1,28 @@
-//! What a query answers at the rows of its table, and what an INSERT makes of its values.
+//! What a query answers at the rows of its table, and what an INSERT or UPDATE makes of its values.
 #![tactic(auto)]
 
 mod answer;
+mod keys;
+mod known;
 mod lacking;
+mod laws;
 mod new_row;
+mod ordering;
+mod passing;
+mod positions;
 mod target;
 mod titles;
+mod update;
 mod values_check;
 
-pub use answer::result_of;
-pub use lacking::{lacking_rows, lacking_select};
+pub use answer::{result_of, row_values};
+pub use lacking::{lacking_filter, lacking_rows, lacking_select, lacking_update};
+pub use laws::{one_order_by_insertion, sorted_by_insertion};
 pub use new_row::new_values;
-pub use target::{Target, Targets, targets_of};
+pub use ordering::taken_places;
+pub use passing::passing_places;
+pub use positions::wrong_position;
+pub use target::{Target, Targets, set_targets, targets_of};
+pub use titles::titles_of;
+pub use update::updated_values;
 pub use values_check::{null_in, some_too_long};

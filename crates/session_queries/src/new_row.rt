@@ -1,6 +1,6 @@
 //! The row that an INSERT makes of its values.
 
-ghost use Rattle.std.specs.Prelude.{◌≡◌, IfOk, Ok, [], map, replicate, slice_set};
+ghost use Rattle.std.specs.Prelude.{◌≡◌, IfOk, Ok, [], length, map, replicate, slice_set};
 ghost use Rattle.sql_trees.specs.Trees.{tree_of};
 ghost use Rattle.sql_values.specs.declared.value.Value.TheVariants.{Null as SqlNull};
 ghost use Rattle.sql_values.specs.Values.{Answers, if_ok};
@@ -52,13 +52,14 @@ fn put(row: &mut Vec<Value>, place: usize, value: Value)
 
 /// The row with the values at their columns' places, as these take them.
 #[tactic(auto, using(crate::proofs::Filling::filled_step, crate::proofs::Filling::filled_short))]
-fn filled<'a>(
+pub fn filled<'a>(
     alloc: Global,
     targets: &[Target],
     values: &[Value],
     row: Vec<Value>,
 ) -> Result<Row, ValueFault<'a>>
-    ensures { Answers result (if_ok (assigned targets.now values.now) (λ vs. Ok (placed targets.now vs row.items))) }
+    ensures values { Answers result (if_ok (assigned targets.now values.now) (λ vs. Ok (placed targets.now vs row.items))) }
+    ensures long { IfOk result (λ filled. length filled ≡ length row.items) }
 {
     let mut row = row;
     let mut rest = values;

@@ -1,11 +1,12 @@
-//! Where the values of an INSERT go.
+//! Where the values of an INSERT or UPDATE go.
 
 ghost use Rattle.std.specs.Prelude.{◌≡◌, ℕ, List, IfOk, length, map, option_map};
-ghost use Rattle.sql_trees.specs.Statements.{column_of, name_of, names_of};
+ghost use Rattle.sql_trees.specs.Statements.{SetTree, column_of, name_of, names_of, set_of};
 ghost use Rattle.session_queries.specs.Queries.{all_targets, named_targets, target_from, targets_of};
+ghost use Rattle.session_queries.specs.Updates.{set_targets};
 
 use iso_lexer::{Ident, Name, same_name};
-use sql_trees::{Column, Kind};
+use sql_trees::{Column, Expr, Kind};
 use std::alloc::{AllocError, Global};
 use std::marker::Model;
 
@@ -131,4 +132,29 @@ pub fn targets_of<'a>(
         None => Ok(Ok(all_targets(alloc, columns)?)),
         Some(names) => named_targets(alloc, columns, names),
     }
+}
+
+fn assigned_names<'a>(
+    alloc: Global,
+    sets: &[(Name<'a>, Expr<'a>)],
+) -> Result<Vec<Name<'a>>, AllocError>
+    ensures { IfOk result (λ names. map name_of names.items ≡ map (λ (s : SetTree). s.column) (map set_of sets.now)) }
+{
+    let mut names = Vec::new(alloc);
+    for (name, _) in sets {
+        names.push(*name)?;
+    }
+    Ok(names)
+}
+
+/// The columns that an UPDATE assigns to, or the first name that no column has.
+pub fn set_targets<'a>(
+    alloc: Global,
+    columns: &[Column<'_>],
+    sets: &[(Name<'a>, Expr<'a>)],
+) -> Result<Result<Targets, Ident<'a>>, AllocError>
+    ensures { IfOk result (λ found. found ≡ set_targets (map column_of columns.now) (map set_of sets.now)) }
+{
+    let names = assigned_names(alloc, sets)?;
+    named_targets(alloc, columns, &names)
 }

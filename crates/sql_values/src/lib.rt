@@ -23,7 +23,7 @@ pub use columns::Columns;
 pub use comparison::compare;
 pub use evaluation::{eval, passes};
 pub use fault::{ColumnName, ValueFault};
-pub use laws::one_sorted_order;
+pub use laws::{one_sorted_order, rows_turned};
 pub use row::{Row, copy_row};
 pub use sorting::order;
 pub use sql_trees::{Dir, Kind};

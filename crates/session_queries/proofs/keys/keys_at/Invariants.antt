@@ -1,0 +1,17 @@
+use Rattle.std.proofs.Common.{◌≡◌, drop, length, map}
+use Rattle.std.specs.Prelude.{All}
+use Rattle.sql_trees.specs.Statements.{item_of, order_of}
+use Rattle.session_queries.specs.Fronts.{in_front}
+use Rattle.session_queries.specs.Ordering.{rows_at}
+use Rattle.session_queries.specs.Queries.{each, keys_of}
+use Rattle.session_queries.proofs.keys.keys_at.Given as goal
+
+abbrev pub invariant-loop-place : goal.invariant-loop-place
+invariant-loop-place l =
+    let one = keys_of l.columns (map item_of l.items) (map order_of l.order) in
+    let rows = map (λ row. row.now) l.rows in
+    record {
+      so_far : each one (rows_at rows l.places) ≡ in_front l.keys.items (each one (rows_at rows (drop l.place-index l.places)));
+      each_long : All (λ row. length row ≡ length l.order) l.keys.items;
+      long : length l.keys.items ≡ l.place-index;
+    }

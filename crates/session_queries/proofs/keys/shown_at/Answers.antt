@@ -1,0 +1,13 @@
+use Rattle.std.proofs.Common.{◌≡◌, length, arith, ap}
+use Rattle.std.proofs.lemmas.Grind.{common_steps}
+use Rattle.session_queries.proofs.Picking.{key_read}
+use Rattle.session_queries.proofs.keys.shown_at.Goals as goal
+
+pub returns-in-All : goal.returns-in-All
+returns-in-All c =
+    let same : c.values-values.result.now ≡ c.args.row.now = c.values-values.ensures in
+    let long = ap length same in
+    let here = key_read c.loop-item.place c.args.row.now c.index-values-place.result (omega arith) (rw same at c.index-values-place.is) in
+    let given = c.in_ok-copied-in-All.ensures in
+    let more = c.loop-item.invariant.goes_on in
+    grind (arith, common_steps)

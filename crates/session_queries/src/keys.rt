@@ -1,0 +1,120 @@
+//! The values that rows are sorted by.
+
+ghost use Rattle.std.specs.Prelude.{◌≡◌, ◌<◌, All, IfOk, length, map, option_map};
+ghost use Rattle.iso_lexer.specs.Names.{name_view, decoded};
+ghost use Rattle.sql_trees.specs.Statements.{item_of, name_of, order_of};
+ghost use Rattle.sql_trees.specs.Trees.{tree_of};
+ghost use Rattle.sql_values.specs.Values.{Answers};
+ghost use Rattle.session_queries.specs.Fronts.{AnswersList};
+ghost use Rattle.session_queries.specs.Ordering.{rows_at};
+ghost use Rattle.session_queries.specs.Queries.{aliased, each, key_value, keys_of, shown_at};
+
+use iso_lexer::{Name, same_name};
+use sql_trees::{Expr, Item, OrderKey};
+use sql_values::{Columns, Row, Value, ValueFault, eval};
+use std::alloc::Global;
+
+/// The expression of the first item that has this alias.
+pub fn aliased<'e, 'a>(items: &'e [Item<'a>], name: &Name<'_>) -> Option<&'e Expr<'a>>
+    ensures { option_map (λ expr. tree_of expr.now) result ≡ aliased (map item_of items.now) (name_of name.now) }
+{
+    for item in items {
+        if let Item::Expr(expr, Some(alias)) = item {
+            if same_name(name, alias) {
+                return Some(expr);
+            }
+        }
+    }
+    None
+}
+
+/// The value that the result has at the row in that column, counted from 0, or NULL where it has no such column.
+#[tactic(auto, using(crate::proofs::Picking::key_read))]
+fn shown_at<'a>(
+    alloc: Global,
+    place: u64,
+    items: &[Item<'a>],
+    columns: &Columns<'_>,
+    row: &Row,
+) -> Result<Value, ValueFault<'a>>
+    requires { length row.now ≡ length columns.now }
+    ensures { Answers result (shown_at columns.now (map item_of items.now) row.now place) }
+{
+    let mut place = place;
+    let values = row.values();
+    for item in items {
+        match item {
+            Item::All if place < values.len() as u64 => {
+                return Ok(values[place as usize].copied(alloc)?);
+            }
+            Item::All => place -= values.len() as u64,
+            Item::Expr(expr, _) if place == 0 => return eval(alloc, expr, columns, row),
+            Item::Expr(_, _) => place -= 1,
+            Item::Agg(_, _) => {}
+        }
+    }
+    Ok(Value::Null)
+}
+
+/// The value of a key of ORDER BY at the row: a number literal means that column of the result, counted from 1, and a bare name the item with that alias, if there is one.
+fn key_value<'a>(
+    alloc: Global,
+    key: &Expr<'a>,
+    items: &[Item<'a>],
+    columns: &Columns<'_>,
+    row: &Row,
+) -> Result<Value, ValueFault<'a>>
+    requires { length row.now ≡ length columns.now }
+    ensures { Answers result (key_value columns.now (map item_of items.now) row.now (tree_of key.now)) }
+{
+    match key {
+        Expr::Number { negative: true, .. } | Expr::Number { digits: 0, .. } => Ok(Value::Null),
+        Expr::Number { digits, .. } => shown_at(alloc, *digits - 1, items, columns, row),
+        Expr::Column(name) => match aliased(items, name) {
+            Some(expr) => eval(alloc, expr, columns, row),
+            None => eval(alloc, key, columns, row),
+        },
+        _ => eval(alloc, key, columns, row),
+    }
+}
+
+/// The keys of the row, from the left.
+fn keys_of<'a>(
+    alloc: Global,
+    order: &[OrderKey<'a>],
+    items: &[Item<'a>],
+    columns: &Columns<'_>,
+    row: &Row,
+) -> Result<Row, ValueFault<'a>>
+    requires { length row.now ≡ length columns.now }
+    ensures keys { Answers result (keys_of columns.now (map item_of items.now) (map order_of order.now) row.now) }
+    ensures long { IfOk result (λ keys. length keys ≡ length order.now) }
+{
+    let mut keys = Vec::new(alloc);
+    for key in order {
+        keys.push(key_value(alloc, &key.expr, items, columns, row)?)?;
+    }
+    Ok(Row::from_vec(keys))
+}
+
+/// The keys of the rows at these places, row by row.
+pub fn keys_at<'a>(
+    alloc: Global,
+    order: &[OrderKey<'a>],
+    items: &[Item<'a>],
+    columns: &Columns<'_>,
+    rows: &[&Row],
+    places: &[usize],
+) -> Result<Vec<Row>, ValueFault<'a>>
+    requires width { All (λ row. length row.now ≡ length columns.now) rows.now }
+    requires within { All (λ p. p < length rows.now) places.now }
+    ensures keys { AnswersList result (each (keys_of columns.now (map item_of items.now) (map order_of order.now)) (rows_at (map (λ row. row.now) rows.now) places.now)) }
+    ensures each_long { IfOk result (λ keys. All (λ row. length row ≡ length order.now) keys.items) }
+    ensures long { IfOk result (λ keys. length keys.items ≡ length places.now) }
+{
+    let mut keys = Vec::new(alloc);
+    for place in places {
+        keys.push(keys_of(alloc, order, items, columns, rows[*place])?)?;
+    }
+    Ok(keys)
+}

@@ -1,0 +1,65 @@
+//! The rows that pass WHERE.
+
+ghost use Rattle.std.specs.Prelude.{◌≡◌, ◌<◌, All, IfOk, length, map, option_map};
+ghost use Rattle.sql_trees.specs.Statements.{column_of};
+ghost use Rattle.sql_trees.specs.Trees.{tree_of};
+ghost use Rattle.sql_values.specs.Expressions.{passes};
+ghost use Rattle.sql_values.specs.Values.{Answers};
+ghost use Rattle.session_queries.specs.Fronts.{AnswersList};
+ghost use Rattle.session_queries.specs.Queries.{cols_of, passing};
+
+use crate::known::known;
+use sql_trees::{Column, Expr};
+use sql_values::{Columns, Row, ValueFault, passes};
+use std::alloc::Global;
+
+/// Whether WHERE passes the row.
+fn is_taken<'a>(
+    alloc: Global,
+    filter: &Option<Expr<'a>>,
+    columns: &Columns<'_>,
+    row: &Row,
+) -> Result<bool, ValueFault<'a>>
+    requires { length row.now ≡ length columns.now }
+    ensures { Answers result (passes (option_map tree_of filter.now) columns.now row.now) }
+{
+    match filter {
+        Some(expr) => passes(alloc, Some(expr), columns, row),
+        None => Ok(true),
+    }
+}
+
+/// The places of the rows that pass WHERE, for columns as expressions know them.
+pub fn passing<'a>(
+    alloc: Global,
+    filter: &Option<Expr<'a>>,
+    columns: &Columns<'_>,
+    rows: &[&Row],
+) -> Result<Vec<usize>, ValueFault<'a>>
+    requires { All (λ row. length row.now ≡ length columns.now) rows.now }
+    ensures places { AnswersList result (passing columns.now (option_map tree_of filter.now) 0 (map (λ row. row.now) rows.now)) }
+    ensures within { IfOk result (λ places. All (λ p. p < length rows.now) places.items) }
+{
+    let mut places = Vec::new(alloc);
+    for place in 0..rows.len() {
+        if is_taken(alloc, filter, columns, rows[place])? {
+            places.push(place)?;
+        }
+    }
+    Ok(places)
+}
+
+/// The places of the rows that pass WHERE.
+pub fn passing_places<'a>(
+    alloc: Global,
+    filter: &Option<Expr<'a>>,
+    columns: &[Column<'_>],
+    rows: &[&Row],
+) -> Result<Vec<usize>, ValueFault<'a>>
+    requires { All (λ row. length row.now ≡ length columns.now) rows.now }
+    ensures places { AnswersList result (passing (cols_of (map column_of columns.now)) (option_map tree_of filter.now) 0 (map (λ row. row.now) rows.now)) }
+    ensures within { IfOk result (λ places. All (λ p. p < length rows.now) places.items) }
+{
+    let columns = known(columns);
+    passing(alloc, filter, &columns, rows)
+}
