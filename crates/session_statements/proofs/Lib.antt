@@ -1,3 +1,1 @@
-pub mod Lent
-pub mod Inserted
-pub mod Opening
+pub mod Lists
