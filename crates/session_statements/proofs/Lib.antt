@@ -1,1 +1,4 @@
 pub mod Lists
+pub mod Lent
+pub mod Keeping
+pub mod Placing

@@ -11,7 +11,7 @@ ghost use Rattle.sql_trees.specs.Trees.{tree_of};
 ghost use Rattle.session_statements.specs.Acting.{filter_in, strength_in};
 
 /// What is done at each target.
-#[derive(Clone, Copy)]
+#[derive(Drop)]
 pub(crate) enum Act<'s, 'a, 't> {
     /// It is given new values at these places.
     Update(&'a Update<'t>, &'s Targets),

@@ -1,18 +1,19 @@
 //! What all sessions share.
 
-ghost use Rattle.std.specs.Prelude.{◌≡◌, [], ◌+◌, ◌<◌, ◌^◌, length, List, map, option_map, IfOk, IfSome, OnOk};
+ghost use Rattle.std.specs.Prelude.{◌≡◌, [], ◌+◌, ◌<◌, ◌^◌, length, List, map, option_map, unwrap_or, IfOk, IfSome, OnOk};
 ghost use Rattle.std.specs.Global.{Vec};
 ghost use Rattle.sql_trees.specs.Statements.{create_of, column_of, name_of};
 ghost use Rattle.sql_values.specs.declared.value.Value.{Value};
-ghost use Rattle.row_versions.specs.Log.{empty_content, IsOpen};
+ghost use Rattle.row_versions.specs.Log.{empty_content, values_at, IsOpen};
 ghost use Rattle.session_machine.specs.Tables.{find_table};
 ghost use Rattle.session_machine.specs.Waits.{is_blocked};
 ghost use Rattle.session_machine.specs.Transactions.{committed, rolled_back, begun, fresh, first_commits, commits_seen, view_of, moved_on, started, own_of, view_now};
+ghost use Rattle.row_versions.specs.declared.write.Seen.{Seen as SeenFacts};
 ghost use Rattle.row_versions.specs.Rows.{rows_of};
 ghost use Rattle.session_machine.specs.Statements.{columns_at, with_table, with_drop};
 ghost use Rattle.session_machine.specs.declared.session.OpenTransaction.{OpenTransaction as OpenFacts};
 ghost use Rattle.session_machine.specs.Running.{beginning};
-ghost use Rattle.session_machine.specs.Rows.{inserted, written, values_of};
+ghost use Rattle.session_machine.specs.Rows.{columns_in, inserted, seen_by, values_of, written};
 ghost use Rattle.session_machine.specs.Machine.{empty_database, visible_to};
 
 use crate::catalog::Catalog;
@@ -143,7 +144,7 @@ impl<'a, 't, V: Versions> Database<'a, 't, V> {
         row: RowId,
         values: Option<Row>,
     ) -> Result<(), AllocError>
-        ensures { OnOk result (self.new ≡ written self.old work.now row values.entry) }
+        ensures { OnOk result (self.new ≡ written self.old work.now row values) }
     {
         let table = TableId(work.place as u64);
         match self.store.write(work.by.tx, work.by.command, table, Some(row), values) {
@@ -154,7 +155,7 @@ impl<'a, 't, V: Versions> Database<'a, 't, V> {
 
     /// Writes a new row of the statement's table, which its transaction holds alone.
     pub(crate) fn add_row(&mut self, work: &Work<'_>, values: Row) -> Result<(), AllocError>
-        ensures { OnOk result (self.new ≡ inserted self.old work.now values.entry) }
+        ensures { OnOk result (self.new ≡ inserted self.old work.now values) }
     {
         let table = TableId(work.place as u64);
         match self.store.write(work.by.tx, work.by.command, table, None, Some(values)) {
@@ -254,6 +255,21 @@ impl<'a, 't, V: Versions> Database<'a, 't, V> {
         self.store.rows(view, TableId(place as u64))
     }
 
+    /// The columns of the statement's table.
+    pub(crate) fn columns_in(&self, work: &Work<'_>) -> &'a [Column<'t>]
+        requires { work.now.table < length self.now.catalog.tables }
+        ensures { map column_of result.now ≡ columns_in self.now work.now }
+    {
+        self.columns(work.place)
+    }
+
+    /// The versions that the statement's view shows of its table.
+    pub(crate) fn seen_by(&self, work: &Work<'_>) -> Result<Vec<Seen>, AllocError>
+        ensures { IfOk result (λ seen. seen.items ≡ seen_by self.now work.now) }
+    {
+        self.seen(&work.view, work.place)
+    }
+
     /// The values of the version. `empty` is a row without values.
     pub(crate) fn row_of<'s>(&'s self, version: &Seen, empty: &'s Row) -> &'s Row
         requires { empty.now ≡ [] }
@@ -286,7 +302,7 @@ impl<'a, 't, V: Versions> Database<'a, 't, V> {
         empty: &'s Row,
     ) -> Result<Vec<&'s Row>, AllocError>
         requires { empty.now ≡ [] }
-        ensures { IfOk result (λ rows. map (λ row. row.now) rows.items ≡ map (values_of self.now) seen.now) }
+        ensures { IfOk result (λ rows. map (λ row. row.now) rows.items ≡ map (λ (s : SeenFacts). unwrap_or (values_at self.now.content s.place) []) seen.now) }
     {
         let mut rows = Vec::new(self.alloc);
         for one in seen {

@@ -47,7 +47,7 @@ impl<'a, 't, V: Versions> Database<'a, 't, V> {
         requires room { work.now.t.command + 1 < 2 ^ 64 }
         requires within { work.now.table < length self.old.catalog.tables }
         requires orderly { IsOrderly self.old }
-        ensures { IfOk result (λ did. delete_from self.old work.now (delete_of stmt.now) place rows.entry.items ≡ left self.new did) }
+        ensures { IfOk result (λ did. delete_from self.old work.now (delete_of stmt.now) place rows.items ≡ left self.new did) }
     {
         match self.passing_targets(work, &stmt.filter) {
             Ok(targets) => self.go_over(work, &Act::Delete(stmt), &targets, place, rows),

@@ -7,7 +7,7 @@ use session_machine::{OpenTransaction, Outcome, Progress, Session, Transaction};
 use std::marker::Model;
 
 /// What a statement finds around it: the sessions, of which others may wait, and the number of a wait that begins now.
-#[derive(Clone, Copy)]
+#[derive(Drop)]
 pub struct Around<'s> {
     pub sessions: &'s [Session],
     pub number: u64,
@@ -50,7 +50,7 @@ impl<'t> Did<'t> {
 }
 
 /// A statement at work: in this transaction, at the table of this place, with this view, and what it finds around it.
-#[derive(Clone, Copy)]
+#[derive(Drop)]
 pub(crate) struct Work<'w> {
     pub by: OpenTransaction,
     pub place: usize,

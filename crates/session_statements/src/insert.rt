@@ -47,7 +47,7 @@ impl<'a, 't, V: Versions> Database<'a, 't, V> {
         requires { work.now.table < length self.old.catalog.tables }
         ensures { IfOk result (λ fault. insert_at work.now (name_of stmt.now.table) targets.now self.old (map tree_of row.now) ≡ visit_by self.new fault) }
     {
-        let columns = self.columns(work.place);
+        let columns = self.columns_in(work);
         match new_values(self.alloc, columns.len(), targets, row) {
             Ok(values) => {
                 if let Some(column) = null_in(columns, &values) {

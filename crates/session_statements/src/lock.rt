@@ -1,6 +1,7 @@
 //! A locking SELECT (PostgreSQL manual, 13.3.2, and the page of SELECT).
 
-ghost use Rattle.std.specs.Prelude.{◌≡◌, ◌+◌, ◌<◌, ◌^◌, OnTrue, drop, length, map, IfOk};
+ghost use Rattle.std.specs.Prelude.{◌≡◌, ◌+◌, ◌<◌, ◌^◌, drop, length, map, IfOk};
+ghost use Rattle.std.specs.Bool.{OnTrue};
 ghost use Rattle.sql_trees.specs.Statements.{item_of, select_of};
 ghost use Rattle.result_tables.specs.Results.{IsEven};
 ghost use Rattle.session_queries.specs.Queries.{titles_of};
@@ -40,18 +41,14 @@ pub(crate) fn strength_of(lock: Lock) -> Strength
 fn is_even(titles: &[Title<'_>], rows: &[Row]) -> bool
     ensures { OnTrue result (IsEven titles.now rows.now) }
 {
-    for row in rows {
-        if row.values().len() != titles.len() {
-            return false;
-        }
-    }
-    true
+    let width = titles.len();
+    rows.iter().all(|row| row.values().len() == width)
 }
 
 /// The rows under their titles. They are as long as these: those that a statement answered before it waited are
 /// looked at again, since nothing is promised of them.
 fn result_of<'t>(titles: Vec<Title<'t>>, rows: Vec<Row>) -> Result<ResultSet<'t>, AllocError>
-    ensures { IfOk result (λ set. set ≡ record { titles = titles.entry.items; rows = rows.entry.items }) }
+    ensures { IfOk result (λ set. set ≡ record { titles = titles.entry.items; rows = rows.items }) }
 {
     if !is_even(&titles, &rows) {
         return Err(AllocError);
@@ -73,7 +70,7 @@ impl<'a, 't, V: Versions> Database<'a, 't, V> {
     {
         let empty = Row::from_vec(Vec::new(self.alloc));
         let row = self.row_of(version, &empty);
-        match row_values(self.alloc, &stmt.items, self.columns(work.place), row) {
+        match row_values(self.alloc, &stmt.items, self.columns_in(work), row) {
             Ok(shown) => Ok(Visited::Shows(shown)),
             Err(fault) => {
                 let fault = fault_of(fault)?;
@@ -99,18 +96,18 @@ impl<'a, 't, V: Versions> Database<'a, 't, V> {
         requires its { RowsIn self.old.content work.now.table targets.now }
         ensures { IfOk result (λ did.
             ended self.old.content work.now (λ shown. Rows (record { titles = titles_of (columns_in self.old work.now) (map item_of stmt.now.items.items); rows = shown }))
-                (walked (visit_at work.now act.now) self.old place rows.entry.items (drop place targets.now)) ≡ left self.new did) }
+                (walked (visit_at work.now act.now) self.old place rows.items (drop place targets.now)) ≡ left self.new did) }
     {
-        let mut rows = rows;
-        let open = self.started(&work.by);
+        let mut answered = rows;
+        let begun = self.started(&work.by);
         let after = self.after_query(&work.by);
-        let titles = titles_of(self.alloc, self.columns(work.place), &stmt.items)?;
-        match self.walk(work, act, targets, place, &mut rows)? {
+        let titles = titles_of(self.alloc, self.columns_in(work), &stmt.items)?;
+        match self.walk(work, act, targets, place, &mut answered)? {
             None => {
-                let set = result_of(titles, rows)?;
+                let set = result_of(titles, answered)?;
                 Ok(Did::of(Transaction::Open(after), Outcome::Rows(set)))
             }
-            Some(halt) => Ok(self.halt(work, open, halt, rows)),
+            Some(halt) => Ok(self.halt(work, begun, halt, answered)),
         }
     }
 
@@ -127,7 +124,7 @@ impl<'a, 't, V: Versions> Database<'a, 't, V> {
         requires room { work.now.t.command + 1 < 2 ^ 64 }
         requires within { work.now.table < length self.old.catalog.tables }
         requires orderly { IsOrderly self.old }
-        ensures { IfOk result (λ did. lock_from self.old work.now (select_of stmt.now) lock place rows.entry.items ≡ left self.new did) }
+        ensures { IfOk result (λ did. lock_from self.old work.now (select_of stmt.now) lock place rows.items ≡ left self.new did) }
     {
         match self.taken_targets(work, stmt) {
             Ok(targets) => {

@@ -112,8 +112,8 @@ impl<'a, 't, V: Versions> Database<'a, 't, V> {
         requires opened { IsOpen self.old.content by.now.tx }
         requires room { by.now.command + 1 < 2 ^ 64 }
         requires orderly { IsOrderly self.old }
-        requires within { progress.entry.table.0 < length self.old.catalog.tables }
-        ensures did { IfOk result (λ did. run_on self.old by.now around.now progress.entry (stmt_of stmt.now) ≡ left self.new did) }
+        requires within { progress.table.0 < length self.old.catalog.tables }
+        ensures did { IfOk result (λ did. run_on self.old by.now around.now progress (stmt_of stmt.now) ≡ left self.new did) }
         ensures memory { OnErr result (is_query (stmt_of stmt.now) ≡ true) }
     {
         let place = progress.place;
@@ -149,8 +149,8 @@ impl<'a, 't, V: Versions> Database<'a, 't, V> {
         requires room { (t : OpenFacts) → transaction.now ≡ Transaction.Open t → t.command + 1 < 2 ^ 64 }
         requires fit { RowsFit self.old.content self.old.catalog }
         requires stay { RowsStay self.old.content }
-        requires within { (p : ProgressFacts) → statement.entry ≡ Some p → p.table.0 < length self.old.catalog.tables }
-        ensures did { IfOk result (λ did. run_stmt self.old transaction.now statement.entry around.now (stmt_of stmt.now)
+        requires within { (p : ProgressFacts) → statement ≡ Some p → p.table.0 < length self.old.catalog.tables }
+        ensures did { IfOk result (λ did. run_stmt self.old transaction.now statement around.now (stmt_of stmt.now)
             ≡ record { db = self.new; transaction = did.transaction; statement = did.statement; outcome = did.outcome }) }
         ensures memory { OnErr result (may_grow transaction.now (stmt_of stmt.now) ≡ true) }
     {

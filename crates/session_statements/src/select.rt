@@ -47,9 +47,9 @@ impl<'a, 't, V: Versions> Database<'a, 't, V> {
         ensures { Answers result (result_of (select_of stmt.now) (columns_in self.now work.now) (rows_shown self.now.content work.now.view work.now.table)) }
     {
         let empty = Row::from_vec(Vec::new(self.alloc));
-        let seen = self.seen(&work.view, work.place)?;
+        let seen = self.seen_by(work)?;
         let rows = self.values_of(&seen, &empty)?;
-        result_of(self.alloc, stmt, self.columns(work.place), rows.as_slice())
+        result_of(self.alloc, stmt, self.columns_in(work), rows.as_slice())
     }
 
     /// The SELECT has this result, or fails.
@@ -108,7 +108,7 @@ impl<'a, 't, V: Versions> Database<'a, 't, V> {
         requires orderly { IsOrderly self.old }
         ensures { IfOk result (λ did. select_in self.old work.now (select_of stmt.now) ≡ left self.new did) }
     {
-        let columns = self.columns(work.place);
+        let columns = self.columns_in(work);
         if let Some(name) = lacking_select(columns, stmt) {
             return Ok(self.fail_column(&work.by, name));
         }

@@ -45,7 +45,7 @@ impl<'a, 't, V: Versions> Database<'a, 't, V> {
         ensures locks { OnOk result (self.new ≡ settled self.old work.now (asks self.old work.now act.now seen.now)) }
     {
         let waits = self.waits_now(work.around)?;
-        let columns = known(self.columns(work.place));
+        let columns = known(self.columns_in(work));
         let ask = Ask {
             tx: work.by.tx,
             level: work.by.level,
@@ -69,13 +69,13 @@ impl<'a, 't, V: Versions> Database<'a, 't, V> {
         settled: Settled<'t>,
     ) -> Result<Visited<'t>, AllocError>
         requires within { work.now.table < length self.old.catalog.tables }
-        requires takes { CanTake self.old work.now (outcome_of settled.entry) }
+        requires takes { CanTake self.old work.now (outcome_of settled) }
         ensures { IfOk result (λ v. at_outcome (act_with work.now act.now) self.old (asks self.old work.now act.now seen.now) (outcome_of settled.entry) ≡ visit_of self.new v) }
     {
         match settled {
             Settled::Take(version) => self.act_with(work, act, &version),
             Settled::Skip => Ok(Visited::Passes),
-            Settled::Wait(_) => Ok(Visited::Stops(Stop::Blocked(Request::Row {
+            Settled::Wait(_blockers) => Ok(Visited::Stops(Stop::Blocked(Request::Row {
                 row: seen.row,
                 strength: act.strength(),
             }))),

@@ -1,6 +1,6 @@
 //! The targets of a statement: the versions that its view shows and that it is about.
 
-ghost use Rattle.std.specs.Prelude.{◌≡◌, ◌≢◌, ◌<◌, [], All, List, length, map, filter_map, slice_get, option_map, IfOk};
+ghost use Rattle.std.specs.Prelude.{◌≡◌, ◌<◌, [], ◌∷◌, List, length, map, filter_map, slice_get, option_map, IfOk};
 ghost use Rattle.sql_trees.specs.Trees.{tree_of};
 ghost use Rattle.sql_trees.specs.Statements.{select_of};
 ghost use Rattle.row_versions.specs.Log.{IsOpen};
@@ -16,14 +16,23 @@ use sql_trees::{Expr, Select};
 use sql_values::{Row, ValueFault};
 use std::alloc::{AllocError, Global};
 
+/// The version at this place, if there is one, as a slice.
+fn one_at(seen: &[Seen], place: usize) -> &[Seen]
+    ensures { result.now ≡ filter_map (slice_get seen.now) (place ∷ []) }
+{
+    match seen.get(place) {
+        Some(one) => std::slice::from_ref(one),
+        None => &[],
+    }
+}
+
 /// The versions at these places.
 fn at_places(alloc: Global, seen: &[Seen], places: &[usize]) -> Result<Vec<Seen>, AllocError>
-    requires { All (λ p. p < length seen.now) places.now }
     ensures { IfOk result (λ picked. picked.items ≡ filter_map (slice_get seen.now) places.now) }
 {
     let mut picked = Vec::new(alloc);
     for place in places {
-        picked.push(seen[*place])?;
+        picked.extend_from_slice(one_at(seen, *place))?;
     }
     Ok(picked)
 }
@@ -41,9 +50,9 @@ impl<'a, 't, V: Versions> Database<'a, 't, V> {
         ensures its { IfOk result (λ targets. RowsIn self.now.content work.now.table targets.items) }
     {
         let empty = Row::from_vec(Vec::new(self.alloc));
-        let seen = self.seen(&work.view, work.place)?;
+        let seen = self.seen_by(work)?;
         let rows = self.values_of(&seen, &empty)?;
-        let places = passing_places(self.alloc, filter, self.columns(work.place), &rows)?;
+        let places = passing_places(self.alloc, filter, self.columns_in(work), &rows)?;
         Ok(at_places(self.alloc, &seen, &places)?)
     }
 
@@ -59,9 +68,9 @@ impl<'a, 't, V: Versions> Database<'a, 't, V> {
         ensures its { IfOk result (λ targets. RowsIn self.now.content work.now.table targets.items) }
     {
         let empty = Row::from_vec(Vec::new(self.alloc));
-        let seen = self.seen(&work.view, work.place)?;
+        let seen = self.seen_by(work)?;
         let rows = self.values_of(&seen, &empty)?;
-        let places = taken_places(self.alloc, stmt, self.columns(work.place), &rows)?;
+        let places = taken_places(self.alloc, stmt, self.columns_in(work), &rows)?;
         Ok(at_places(self.alloc, &seen, &places)?)
     }
 }

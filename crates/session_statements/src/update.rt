@@ -64,7 +64,7 @@ impl<'a, 't, V: Versions> Database<'a, 't, V> {
     {
         let empty = Row::from_vec(Vec::new(self.alloc));
         let row = self.row_of(version, &empty);
-        updated_values(self.alloc, self.columns(work.place), targets, &stmt.sets, row)
+        updated_values(self.alloc, self.columns_in(work), targets, &stmt.sets, row)
     }
 
     /// The row has the new values from here on.
@@ -76,9 +76,9 @@ impl<'a, 't, V: Versions> Database<'a, 't, V> {
         values: Row,
     ) -> Result<Visited<'t>, AllocError>
         requires within { work.now.table < length self.old.catalog.tables }
-        ensures { IfOk result (λ v. update_made work.now (name_of name.entry) self.old version.now.row (Ok values.entry) ≡ visit_of self.new v) }
+        ensures { IfOk result (λ v. update_made work.now (name_of name.entry) self.old version.now.row (Ok values) ≡ visit_of self.new v) }
     {
-        if let Some(column) = null_in(self.columns(work.place), &values) {
+        if let Some(column) = null_in(self.columns_in(work), &values) {
             let table = Ident::new(name);
             let fault = StmtFault::NullValue { column, table };
             return Ok(Visited::Stops(Stop::Fails(fault)));
@@ -120,9 +120,9 @@ impl<'a, 't, V: Versions> Database<'a, 't, V> {
         requires room { work.now.t.command + 1 < 2 ^ 64 }
         requires within { work.now.table < length self.old.catalog.tables }
         requires orderly { IsOrderly self.old }
-        ensures { IfOk result (λ did. update_from self.old work.now (update_of stmt.now) place rows.entry.items ≡ left self.new did) }
+        ensures { IfOk result (λ did. update_from self.old work.now (update_of stmt.now) place rows.items ≡ left self.new did) }
     {
-        let to = assigned_to(self.alloc, self.columns(work.place), &stmt.sets)?;
+        let to = assigned_to(self.alloc, self.columns_in(work), &stmt.sets)?;
         match self.passing_targets(work, &stmt.filter) {
             Ok(targets) => self.go_over(work, &Act::Update(stmt, &to), &targets, place, rows),
             Err(fault) => {
@@ -145,7 +145,7 @@ impl<'a, 't, V: Versions> Database<'a, 't, V> {
         ensures { IfOk result (λ did.
             update_fitting self.old work.now (update_of stmt.now) (lacking_update (cols_of (columns_in self.old work.now)) (update_of stmt.now)) ≡ left self.new did) }
     {
-        if let Some(name) = lacking_update(self.columns(work.place), stmt) {
+        if let Some(name) = lacking_update(self.columns_in(work), stmt) {
             return Ok(self.fail_column(&work.by, name));
         }
         self.update_from(work, stmt, 0, Vec::new(self.alloc))

@@ -51,23 +51,24 @@ impl<'a, 't, V: Versions> Database<'a, 't, V> {
     /// The statement waits at a target.
     fn pause(
         work: &Work<'_>,
-        open: OpenTransaction,
+        begun: OpenTransaction,
         place: usize,
         request: Request,
         rows: Vec<Row>,
     ) -> Did<'t>
-        ensures { (before : Content) (db : DatabaseFacts) → open ≡ started before work.now.t →
-            pauses before work.now (record { db = db; place = place; rows = rows.entry.items; stop = Some (Blocked request) }) request ≡ left db result }
+        ensures { (before : Content) (db : DatabaseFacts) → begun ≡ started before work.now.t →
+            pauses before work.now (record { db = db; place = place; rows = rows.items; stop = Some (Blocked request) }) request ≡ left db result }
     {
+        let around = work.around;
         Did {
-            transaction: Transaction::Open(open),
+            transaction: Transaction::Open(begun),
             statement: Some(Progress {
                 table: TableId(work.place as u64),
                 view: work.view,
                 place,
                 rows: Gathered::of(rows),
                 wait: Waiting {
-                    number: work.around.number,
+                    number: around.number,
                     request,
                 },
             }),
@@ -79,17 +80,17 @@ impl<'a, 't, V: Versions> Database<'a, 't, V> {
     pub(crate) fn halt(
         &mut self,
         work: &Work<'_>,
-        open: OpenTransaction,
+        begun: OpenTransaction,
         halt: Halt<'t>,
         rows: Vec<Row>,
     ) -> Did<'t>
         requires opened { IsOpen self.old.content work.now.t.tx }
-        ensures { (before : Content) (outcome : List (List SqlValue) → OutcomeFacts) → open ≡ started before work.now.t →
-            halted before work.now outcome self.old rows.entry.items (Some halt.entry) ≡ left self.new result }
+        ensures { (before : Content) (outcome : List (List SqlValue) → OutcomeFacts) → begun ≡ started before work.now.t →
+            halted before work.now outcome self.old rows.items (Some halt.entry) ≡ left self.new result }
     {
         match halt.stop {
             Stop::Blocked(request) => {
-                Database::<'a, 't, V>::pause(work, open, halt.place, request, rows)
+                Database::<'a, 't, V>::pause(work, begun, halt.place, request, rows)
             }
             Stop::Fails(fault) => self.fail(&work.by, fault),
         }
@@ -110,14 +111,14 @@ impl<'a, 't, V: Versions> Database<'a, 't, V> {
         requires orderly { IsOrderly self.old }
         requires its { RowsIn self.old.content work.now.table targets.now }
         ensures { IfOk result (λ did.
-            ended self.old.content work.now done (walked (visit_at work.now act.now) self.old place rows.entry.items (drop place targets.now)) ≡ left self.new did) }
+            ended self.old.content work.now done (walked (visit_at work.now act.now) self.old place rows.items (drop place targets.now)) ≡ left self.new did) }
     {
-        let mut rows = rows;
-        let open = self.started(&work.by);
+        let mut answered = rows;
+        let begun = self.started(&work.by);
         let after = self.after_query(&work.by);
-        match self.walk(work, act, targets, place, &mut rows)? {
+        match self.walk(work, act, targets, place, &mut answered)? {
             None => Ok(Did::turned(Transaction::Open(after))),
-            Some(halt) => Ok(self.halt(work, open, halt, rows)),
+            Some(halt) => Ok(self.halt(work, begun, halt, answered)),
         }
     }
 }
