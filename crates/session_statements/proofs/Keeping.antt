@@ -22,6 +22,8 @@ use Rattle.row_versions.proofs.Gets.{get-append_left, get-append_last}
 use Rattle.session_machine.specs.Tables.{Database, Catalog, Table}
 use Rattle.session_machine.specs.Statements.{columns_at}
 use Rattle.session_machine.specs.Sound.{RowsFit, RowsStay}
+use Rattle.session_queries.specs.Queries.{known}
+use Rattle.session_machine.specs.Rows.{cols_in}
 use Rattle.session_machine.specs.Rows.{Work, columns_in, values_of}
 use Rattle.session_statements.specs.Keeping.{RowIn, RowsIn, IsOrderly, IsKept}
 
@@ -77,3 +79,12 @@ at_found P rest (Some x) h r = first P x rest (h x refl) r
 pub picked_hold : {X : Type 0} (P : X → Type 0) (xs : List X) (places : List ℕ) → All P xs → All P (filter_map (slice_get xs) places)
 picked_hold P xs [] h = λ i d l. absurd (omega (arith, l))
 picked_hold P xs (p ∷ ps) h = at_found P (filter_map (slice_get xs) ps) (slice_get xs p) (λ x e. found P xs p x h e (slice_get_cases xs p).1) (picked_hold P xs ps h)
+
+-- the newest version of a row of the table has a value for each column
+pub newest_fits : (db : Database) (w : Work) (row : RowId) (tx : TxId) → IsOrderly db → RowIn db.content w.table row → (m : Seen) (values : List Value)
+    → newest_of db.content row tx ≡ Some m → values_at db.content m.place ≡ Some values → length values ≡ length (cols_in db w)
+newest_fits db w row tx orderly its m values is has =
+    let h : IsNewest db.content row tx m = ((newest_is_the_last db.content row tx).0 m).0 is in
+    as_many db.content db.catalog w.table m.place h.write values orderly.0 h.there (sym (its_values db.content m.place h.write h.there) ∙ has)
+    (in_table db.content w.table row m.place h.write orderly.1 its h.there h.its_row)
+    ∙ sym (length-map (columns_in db w) known)

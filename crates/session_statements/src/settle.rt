@@ -3,17 +3,19 @@
 ghost use Rattle.std.specs.Prelude.{◌≡◌, ◌<◌, length, map, IfOk, OnOk};
 ghost use Rattle.sql_trees.specs.Statements.{column_of};
 ghost use Rattle.session_queries.specs.Queries.{cols_of};
-ghost use Rattle.update_recheck.specs.Asked.{Fits};
-ghost use Rattle.update_recheck.specs.Outcome.{target_outcome};
-ghost use Rattle.update_recheck.specs.Settling.{outcome_of};
+ghost use Rattle.update_recheck.specs.Asked.{Fits, asked};
+ghost use Rattle.update_recheck.specs.Outcome.{is_target_locked, target_outcome};
+ghost use Rattle.update_recheck.specs.Settling.{lock_of, locks_after, outcome_of};
+ghost use Rattle.session_machine.specs.Tables.{Database as DatabaseFacts};
 ghost use Rattle.session_machine.specs.Waits.{waits_in};
-ghost use Rattle.session_machine.specs.Rows.{at_outcome, columns_in, settled, values_of};
+ghost use Rattle.session_machine.specs.Rows.{at_outcome, cols_in, columns_in, settled, values_of};
 ghost use Rattle.session_statements.specs.Acting.{act_with, asks, visit_at, visit_of};
 ghost use Rattle.session_statements.specs.Keeping.{CanTake, IsOrderly, RowIn};
 
 use crate::act::{Act, Stop, Visited};
 use crate::database::Database;
 use crate::did::Work;
+use row_locks::Waits;
 use row_versions::{Seen, Versions};
 use session_machine::{Request, StmtFault};
 use sql_trees::Column;
@@ -30,7 +32,41 @@ fn known<'a>(columns: &'a [Column<'a>]) -> Columns<'a>
     Columns::of(columns)
 }
 
+/// The target, as the statement asks for it.
+fn ask_of<'s, 't>(
+    work: &Work<'_>,
+    act: &Act<'_, 's, 't>,
+    seen: &Seen,
+    cols: &'s Columns<'s>,
+) -> Ask<'s, 't>
+    ensures { (db : DatabaseFacts) → cols.now ≡ cols_in db work.now → asked result ≡ asks db work.now act.now seen.now }
+{
+    Ask {
+        tx: work.by.tx,
+        level: work.by.level,
+        view: work.view,
+        seen: *seen,
+        strength: act.strength(),
+        filter: act.filter(),
+        cols,
+    }
+}
+
 impl<'a, 't, V: Versions> Database<'a, 't, V> {
+    /// Settles the target that is asked for.
+    fn settle_ask(
+        &mut self,
+        waits: &Waits,
+        ask: &Ask<'_, 't>,
+    ) -> Result<Settled<'t>, AllocError>
+        requires { Fits self.old.content (asked ask.now) }
+        ensures outcome { IfOk result (λ s. outcome_of s ≡ target_outcome self.old.content self.old.held waits.now (asked ask.now)) }
+        ensures locks { OnOk result (self.new ≡ record self.old {
+            held = locks_after (is_target_locked self.old.content self.old.held waits.now (asked ask.now)) self.old.held (lock_of (asked ask.now)) }) }
+    {
+        settle(self.alloc, &self.store, &mut self.locks, waits, ask)
+    }
+
     /// Settles the target, by the locks that are held and the waits of the present state.
     fn settle_target(
         &mut self,
@@ -46,16 +82,8 @@ impl<'a, 't, V: Versions> Database<'a, 't, V> {
     {
         let waits = self.waits_now(work.around)?;
         let columns = known(self.columns_in(work));
-        let ask = Ask {
-            tx: work.by.tx,
-            level: work.by.level,
-            view: work.view,
-            seen: *seen,
-            strength: act.strength(),
-            filter: act.filter(),
-            cols: &columns,
-        };
-        let settled = settle(self.alloc, &self.store, &mut self.locks, &waits, &ask)?;
+        let ask = ask_of(work, act, seen, &columns);
+        let settled = self.settle_ask(&waits, &ask)?;
         outcomes_by_what_is_held();
         Ok(settled)
     }

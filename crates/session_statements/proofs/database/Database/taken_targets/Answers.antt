@@ -49,14 +49,3 @@ returns-clause-targets g c =
     (map column_of c.columns_in.result.now) (columns_in db w) (map now c.deref-2.result.now) (shown_to db w) c.deref-4.result.now
     c.columns_in.ensures same (c.deref-3.ensures.value ∙ c.in_ok-seen.ensures)
     (c.in_ok-places.ensures.places ∙ ap (λ (xs : List ℕ). Ok xs) (sym c.deref-4.ensures.value)) c.in_ok-at_places.ensures
-
-pub returns-in_err-places-clause-targets : goal.returns-in_err-places-clause-targets
-returns-in_err-places-clause-targets g c other =
-    let db = c.args.self.now in
-    let w = c.args.work.now in
-    let now = λ (r : Bor Row). r.now in
-    let same : map now c.deref-2.result.now ≡ rows_shown db.content w.view w.table =
-    ap (map now) c.deref-2.ensures.value ∙ c.in_ok-rows.ensures ∙ ap (map (λ (s : Seen). unwrap_or (values_at db.content s.place) [])) (c.deref.ensures.value ∙ c.in_ok-seen.ensures) in
-    placed_err (taken (select_of c.args.stmt.now)) (seen_by db w)
-    (map column_of c.columns_in.result.now) (columns_in db w) (map now c.deref-2.result.now) (shown_to db w) _
-    c.columns_in.ensures same (c.in_err-places.ensures.places other)
