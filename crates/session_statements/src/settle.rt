@@ -6,9 +6,8 @@ ghost use Rattle.session_queries.specs.Queries.{cols_of};
 ghost use Rattle.update_recheck.specs.Asked.{Fits, asked};
 ghost use Rattle.update_recheck.specs.Outcome.{is_target_locked, target_outcome};
 ghost use Rattle.update_recheck.specs.Settling.{lock_of, locks_after, outcome_of};
-ghost use Rattle.session_machine.specs.Tables.{Database as DatabaseFacts};
 ghost use Rattle.session_machine.specs.Waits.{waits_in};
-ghost use Rattle.session_machine.specs.Rows.{at_outcome, cols_in, columns_in, settled, values_of};
+ghost use Rattle.session_machine.specs.Rows.{at_outcome, columns_in, settled, values_of};
 ghost use Rattle.session_statements.specs.Acting.{act_with, asks, visit_at, visit_of};
 ghost use Rattle.session_statements.specs.Keeping.{CanTake, IsOrderly, RowIn};
 
@@ -30,26 +29,6 @@ fn known<'a>(columns: &'a [Column<'a>]) -> Columns<'a>
     ensures { result ≡ cols_of (map column_of columns.now) }
 {
     Columns::of(columns)
-}
-
-/// The target, as the statement asks for it.
-fn ask_of<'s, 't>(
-    work: &Work<'_>,
-    act: &Act<'_, 's, 't>,
-    seen: &Seen,
-    cols: &'s Columns<'s>,
-) -> Ask<'s, 't>
-    ensures { (db : DatabaseFacts) → cols.now ≡ cols_in db work.now → asked result ≡ asks db work.now act.now seen.now }
-{
-    Ask {
-        tx: work.by.tx,
-        level: work.by.level,
-        view: work.view,
-        seen: *seen,
-        strength: act.strength(),
-        filter: act.filter(),
-        cols,
-    }
 }
 
 impl<'a, 't, V: Versions> Database<'a, 't, V> {
@@ -82,7 +61,15 @@ impl<'a, 't, V: Versions> Database<'a, 't, V> {
     {
         let waits = self.waits_now(work.around)?;
         let columns = known(self.columns_in(work));
-        let ask = ask_of(work, act, seen, &columns);
+        let ask = Ask {
+            tx: work.by.tx,
+            level: work.by.level,
+            view: work.view,
+            seen: *seen,
+            strength: act.strength(),
+            filter: act.filter(),
+            cols: &columns,
+        };
         let settled = self.settle_ask(&waits, &ask)?;
         outcomes_by_what_is_held();
         Ok(settled)

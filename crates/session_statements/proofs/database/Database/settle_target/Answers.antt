@@ -1,4 +1,4 @@
-use Rattle.std.proofs.Common.{◌≡◌, ◌∙◌, refl, sym, ap, subst}
+use Rattle.std.proofs.Common.{rules, ◌≡◌, ◌∙◌, refl, sym, ap, subst}
 use Rattle.row_locks.specs.Laws.{SamePairs}
 use Rattle.update_recheck.specs.Asked.{Asked, Fits, asked}
 use Rattle.update_recheck.specs.Outcome.{target_outcome}
@@ -14,6 +14,5 @@ returns-clause-outcome g c =
     let w = c.args.work.now in
     let waits = c.in_ok-waits.waits in
     let pairs : SamePairs waits (waits_in db w.around.sessions) = subst (λ (x : Work). SamePairs waits (waits_in db x.around.sessions)) c.work.view_is c.in_ok-waits.ensures in
-    let same = c.ask_of-ask.ensures db (c.known-columns.ensures ∙ ap cols_of c.columns_in.ensures) in
     let law = c.outcomes_by_what_is_held.ensures db.content db.held db.held waits (waits_in db w.around.sessions) (asks db w c.args.act.now c.args.seen.now) (λ h. refl) pairs in
-    c.in_ok-settled.ensures.outcome ∙ ap (target_outcome db.content db.held waits) same ∙ law.0
+    c.in_ok-settled.ensures.outcome ∙ ap (target_outcome db.content db.held waits) {y = asks db w c.args.act.now c.args.seen.now} (search rules) ∙ law.0
