@@ -1,4 +1,6 @@
 use Rattle.std.proofs.Common.{rules, ◌≡◌, ◌∙◌, refl, sym, ap, subst}
+use Rattle.std.specs.Prelude.{option_map}
+use Rattle.sql_trees.specs.Trees.{tree_of}
 use Rattle.row_locks.specs.Laws.{SamePairs}
 use Rattle.update_recheck.specs.Asked.{Asked, Fits, asked}
 use Rattle.update_recheck.specs.Outcome.{target_outcome}
@@ -15,4 +17,9 @@ returns-clause-outcome g c =
     let waits = c.in_ok-waits.waits in
     let pairs : SamePairs waits (waits_in db w.around.sessions) = subst (λ (x : Work). SamePairs waits (waits_in db x.around.sessions)) c.work.view_is c.in_ok-waits.ensures in
     let law = c.outcomes_by_what_is_held.ensures db.content db.held db.held waits (waits_in db w.around.sessions) (asks db w c.args.act.now c.args.seen.now) (λ h. refl) pairs in
-    c.in_ok-settled.ensures.outcome ∙ ap (target_outcome db.content db.held waits) {y = asks db w c.args.act.now c.args.seen.now} (search rules) ∙ law.0
+    let had : Asked = record {
+      tx = c.work.inside.by.tx; level = c.work.inside.by.level; view = c.work.inside.view; seen = c.args.seen.now; strength = c.strength.result;
+      condition = option_map (λ e. tree_of e.now) c.filter.result; cols = c.known-columns.result;
+    } in
+    let same : had ≡ asks db w c.args.act.now c.args.seen.now = search rules in
+    c.in_ok-settled.ensures.outcome ∙ ap (target_outcome db.content db.held waits) same ∙ law.0
