@@ -1,6 +1,7 @@
 use Rattle.std.proofs.Common.{◌≡◌, [], ℕ, ◌∙◌, sym, ap, subst, length, map, Bor, List}
 use Rattle.std.specs.Prelude.{unwrap_or, Ok, filter_map, slice_get}
 use Rattle.std.proofs.lemmas.List.{length-map}
+use Rattle.std.proofs.lemmas.Result.{err_from_is_err_and}
 use Rattle.sql_trees.specs.Statements.{column_of}
 use Rattle.sql_values.specs.declared.row.Row.{Row}
 use Rattle.row_versions.specs.declared.write.Seen.{Seen}
@@ -49,3 +50,14 @@ returns-clause-targets g c =
     (map column_of c.columns_in.result.now) (columns_in db w) (map now c.deref-2.result.now) (shown_to db w) c.deref-4.result.now
     c.columns_in.ensures same (c.deref-3.ensures.value ∙ c.in_ok-seen.ensures)
     (c.in_ok-places.ensures.places ∙ ap (λ (xs : List ℕ). Ok xs) (sym c.deref-4.ensures.value)) c.in_ok-at_places.ensures
+
+pub returns-in_err-places-clause-targets : goal.returns-in_err-places-clause-targets
+returns-in_err-places-clause-targets g c =
+    let db = c.args.self.now in
+    let w = c.args.work.now in
+    let now = λ (r : Bor Row). r.now in
+    let same : map now c.deref-2.result.now ≡ rows_shown db.content w.view w.table =
+    ap (map now) c.deref-2.ensures.value ∙ c.in_ok-rows.ensures ∙ ap (map (λ (s : Seen). unwrap_or (values_at db.content s.place) [])) (c.deref.ensures.value ∙ c.in_ok-seen.ensures) in
+    let p = err_from_is_err_and c.from_residual-in_err-places.result c.from_residual-in_err-places.ensures.1 in
+    rw (p.1, p.2) (λ differs. placed_err (taken (select_of c.args.stmt.now)) (seen_by db w) (map column_of c.columns_in.result.now) (columns_in db w)
+    (map now c.deref-2.result.now) (shown_to db w) c.in_err-places.field-0.0 c.columns_in.ensures same (c.in_err-places.ensures.places differs))
