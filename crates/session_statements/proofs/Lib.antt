@@ -1,5 +1,5 @@
+pub mod Going
 pub mod Lists
 pub mod Lent
 pub mod Keeping
 pub mod Placing
-pub mod Going
