@@ -1,3 +1,5 @@
+pub mod Going
+pub mod Lists
 pub mod Lent
-pub mod Inserted
-pub mod Opening
+pub mod Keeping
+pub mod Placing

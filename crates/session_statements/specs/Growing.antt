@@ -4,11 +4,13 @@ use Rattle.sql_trees.specs.Statements.{StmtTree, Begin, SetTransaction, Create, 
 use Rattle.session_machine.specs.declared.session.Transaction.{Transaction}
 use Rattle.session_machine.specs.declared.session.Transaction.TheVariants.{Closed, Open, Aborted}
 
--- a query; UPDATE and DELETE do nothing yet
+-- a query
 abbrev pub is_query : StmtTree → Bool
 is_query (Create c) = true
 is_query (DropTables d) = true
 is_query (Inserts i) = true
+is_query (Updates u) = true
+is_query (Deletes d) = true
 is_query (Selects s) = true
 is_query stmt = false
 
@@ -16,8 +18,6 @@ is_query stmt = false
 abbrev pub begins : StmtTree → Bool
 begins (Begin level) = true
 begins (SetTransaction level) = true
-begins (Updates u) = true
-begins (Deletes d) = true
 begins stmt = is_query stmt
 
 -- the statement may want room in a transaction; one that ends it, or fails in it, never does

@@ -1,2 +1,5 @@
-pub mod Inserting
+pub mod Left
 pub mod Growing
+pub mod Waits
+pub mod Acting
+pub mod Keeping

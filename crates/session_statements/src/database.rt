@@ -1,40 +1,47 @@
 //! What all sessions share.
 
-ghost use Rattle.std.specs.Prelude.{◌≡◌, [], ◌+◌, ◌<◌, ◌^◌, length, List, map, option_map, IfOk, IfSome, OnOk};
+ghost use Rattle.std.specs.Prelude.{◌≡◌, [], ◌+◌, ◌<◌, ◌^◌, length, List, map, option_map, unwrap_or, IfOk, IfSome, OnOk};
 ghost use Rattle.std.specs.Global.{Vec};
 ghost use Rattle.sql_trees.specs.Statements.{create_of, column_of, name_of};
 ghost use Rattle.sql_values.specs.declared.value.Value.{Value};
-ghost use Rattle.row_versions.specs.Log.{empty_content, IsOpen, after_write};
+ghost use Rattle.row_versions.specs.Log.{empty_content, values_at, IsOpen};
 ghost use Rattle.session_machine.specs.Tables.{find_table};
-ghost use Rattle.session_machine.specs.Transactions.{committed, rolled_back, begun, fresh, first_commits, commits_seen, view_of, moved_on, own_of, view_now};
-ghost use Rattle.session_machine.specs.Views.{rows_shown};
-ghost use Rattle.session_machine.specs.Statements.{columns_at, with_table, with_drop, inserted};
+ghost use Rattle.session_machine.specs.Waits.{is_blocked};
+ghost use Rattle.session_machine.specs.Transactions.{committed, rolled_back, begun, fresh, first_commits, commits_seen, view_of, moved_on, started, own_of, view_now};
+ghost use Rattle.row_versions.specs.declared.write.Seen.{Seen as SeenFacts};
+ghost use Rattle.row_versions.specs.Rows.{rows_of};
+ghost use Rattle.session_machine.specs.Statements.{columns_at, with_table, with_drop};
+ghost use Rattle.session_machine.specs.declared.session.OpenTransaction.{OpenTransaction as OpenFacts};
+ghost use Rattle.session_machine.specs.Running.{beginning};
+ghost use Rattle.session_machine.specs.Rows.{columns_in, inserted, seen_by, values_of, written};
 ghost use Rattle.session_machine.specs.Machine.{empty_database, visible_to};
 
 use crate::catalog::Catalog;
 use iso_lexer::Name;
-use row_versions::{TableId, TxId, Versions, View};
-use session_machine::{OpenTransaction, Transaction};
+use crate::did::{Around, Work};
+use row_locks::{LockTable, Strength};
+use row_versions::{RowId, Seen, TableId, TxId, Versions, View};
+use session_machine::{OpenTransaction, Request, Session, Transaction};
 use sql_trees::{Column, CreateTable, Level};
 use sql_values::Row;
 use std::alloc::{AllocError, Global};
 use std::marker::Model;
 
-/// The tables and all versions of their rows. A call that is refused memory leaves it in no state that is promised.
+/// The tables, all versions of their rows, and the locks that are held. A call that is refused memory leaves it in no state that is promised.
 #[derive(Drop)]
 pub struct Database<'a, 't, V: Versions> {
     pub(crate) alloc: Global,
-    store: V,
+    pub(crate) store: V,
     catalog: Catalog<'a, 't>,
+    pub(crate) locks: LockTable,
 }
 
 impl<'a, 't, V: Versions> Model for Database<'a, 't, V> {
-    ghost use Rattle.std.specs.Prelude.{[]};
     ghost use Rattle.session_machine.specs.Tables.{Database as DatabaseFacts};
 
     ghost Value = { DatabaseFacts };
 
-    ghost view = { λ d. record { content = V.content d.store; catalog = d.catalog; held = [] } };
+    ghost view = { λ d. record { content = V.content d.store; catalog = d.catalog; held = d.locks } };
 }
 
 impl<'a, 't, V: Versions> Database<'a, 't, V> {
@@ -47,6 +54,7 @@ impl<'a, 't, V: Versions> Database<'a, 't, V> {
             alloc,
             store,
             catalog: Catalog::new(alloc),
+            locks: LockTable::new(alloc),
         }
     }
 
@@ -82,6 +90,7 @@ impl<'a, 't, V: Versions> Database<'a, 't, V> {
         ensures { self.new ≡ committed self.old tx }
     {
         self.store.commit(tx);
+        self.locks.release(tx);
     }
 
     /// Rolls an open transaction back. It takes no memory.
@@ -90,6 +99,7 @@ impl<'a, 't, V: Versions> Database<'a, 't, V> {
         ensures { self.new ≡ rolled_back self.old tx }
     {
         self.store.roll_back(tx);
+        self.locks.release(tx);
     }
 
     /// The columns of the table at the place.
@@ -118,17 +128,38 @@ impl<'a, 't, V: Versions> Database<'a, 't, V> {
         self.catalog.add_drop(place, by)
     }
 
-    /// Writes a new row of the table at the place.
-    pub(crate) fn add_row(
-        &mut self,
-        by: &OpenTransaction,
-        place: usize,
-        values: Row,
-    ) -> Result<(), AllocError>
-        ensures { OnOk result (self.new ≡ record self.old { content = inserted self.old.content by.now place values }) }
+    /// Whether another transaction stands in the way of what the transaction asks for. It takes no memory.
+    pub fn is_blocked(&self, request: Request, tx: TxId) -> bool
+        ensures { result ≡ is_blocked self.now request tx }
     {
-        match self.store.write(by.tx, by.command, TableId(place as u64), None, Some(values)) {
+        match request {
+            Request::Row { row, strength } => self.locks.is_blocked(row, tx, strength),
+        }
+    }
+
+    /// Writes a row of the statement's table; without values it deletes the row.
+    pub(crate) fn write_row(
+        &mut self,
+        work: &Work<'_>,
+        row: RowId,
+        values: Option<Row>,
+    ) -> Result<(), AllocError>
+        ensures { OnOk result (self.new ≡ written self.old work.now row values) }
+    {
+        let table = TableId(work.place as u64);
+        match self.store.write(work.by.tx, work.by.command, table, Some(row), values) {
             Ok(_) => Ok(()),
+            Err(_) => Err(AllocError),
+        }
+    }
+
+    /// Writes a new row of the statement's table, which its transaction holds alone.
+    pub(crate) fn add_row(&mut self, work: &Work<'_>, values: Row) -> Result<(), AllocError>
+        ensures { OnOk result (self.new ≡ inserted self.old work.now values) }
+    {
+        let table = TableId(work.place as u64);
+        match self.store.write(work.by.tx, work.by.command, table, None, Some(values)) {
+            Ok(row) => self.locks.take(row, work.by.tx, Strength::Exclusive),
             Err(_) => Err(AllocError),
         }
     }
@@ -162,13 +193,27 @@ impl<'a, 't, V: Versions> Database<'a, 't, V> {
         }
     }
 
-    /// What a query sees that begins now.
-    pub(crate) fn view_now(&self, transaction: &Transaction) -> View
-        ensures { result ≡ view_now self.now.content transaction.now }
+    /// What the transaction's query in progress sees, with what that has written so far.
+    fn view_within(&self, by: &OpenTransaction) -> View
+        requires { by.now.command + 1 < 2 ^ 64 }
+        ensures { result ≡ view_of self.now.content (record by.now { command = by.now.command + 1 }) }
     {
-        match transaction {
-            Transaction::Open(by) => self.view_of(by),
-            Transaction::Closed | Transaction::Aborted => View {
+        View {
+            tx: Some(by.tx),
+            commits: self.commits_seen(by),
+            command: by.command + 1,
+        }
+    }
+
+    /// What a query sees that begins now; in the middle of a statement also what that has written so far.
+    fn view_now(&self, session: &Session) -> View
+        requires { (t : OpenFacts) → session.now.transaction ≡ Transaction.Open t → t.command + 1 < 2 ^ 64 }
+        ensures { result ≡ view_now self.now.content session.now.transaction session.now.statement }
+    {
+        match (&session.transaction, &session.statement) {
+            (Transaction::Open(by), None) => self.view_of(by),
+            (Transaction::Open(by), Some(_)) => self.view_within(by),
+            (Transaction::Closed | Transaction::Aborted, _) => View {
                 tx: None,
                 commits: self.store.committed(),
                 command: 0,
@@ -190,38 +235,97 @@ impl<'a, 't, V: Versions> Database<'a, 't, V> {
         }
     }
 
-    /// The rows that the view shows of the table at the place. `empty` is a row without values.
-    pub(crate) fn rows_shown<'s>(
-        &'s self,
-        view: &View,
+    /// The transaction once a query has begun: its snapshot is taken.
+    pub(crate) fn started(&self, by: &OpenTransaction) -> OpenTransaction
+        ensures { result ≡ started self.now.content by.now }
+    {
+        OpenTransaction {
+            tx: by.tx,
+            explicit: by.explicit,
+            level: by.level,
+            snapshot: Some(self.first_commits(by)),
+            command: by.command,
+        }
+    }
+
+    /// The versions that the view shows of the table at the place.
+    pub(crate) fn seen(&self, view: &View, place: usize) -> Result<Vec<Seen>, AllocError>
+        ensures { IfOk result (λ seen. seen.items ≡ rows_of self.now.content view.now (record { 0 = place })) }
+    {
+        self.store.rows(view, TableId(place as u64))
+    }
+
+    /// The columns of the statement's table.
+    pub(crate) fn columns_in(&self, work: &Work<'_>) -> &'a [Column<'t>]
+        requires { work.now.table < length self.now.catalog.tables }
+        ensures { map column_of result.now ≡ columns_in self.now work.now }
+    {
+        self.columns(work.place)
+    }
+
+    /// The versions that the statement's view shows of its table.
+    pub(crate) fn seen_by(&self, work: &Work<'_>) -> Result<Vec<Seen>, AllocError>
+        ensures { IfOk result (λ seen. seen.items ≡ seen_by self.now work.now) }
+    {
+        self.seen(&work.view, work.place)
+    }
+
+    /// The values of the version. `empty` is a row without values.
+    pub(crate) fn row_of<'s>(&'s self, version: &Seen, empty: &'s Row) -> &'s Row
+        requires { empty.now ≡ [] }
+        ensures { result.now ≡ values_of self.now version.now }
+    {
+        self.store.values(version).unwrap_or(empty)
+    }
+
+    /// What a statement finds that begins at the table of this place: its view is taken now.
+    pub(crate) fn work<'w>(
+        &self,
+        by: &OpenTransaction,
         place: usize,
+        around: &'w Around<'w>,
+    ) -> Work<'w>
+        ensures { result ≡ beginning self.now by.now around.now place }
+    {
+        Work {
+            by: *by,
+            place,
+            view: self.view_of(by),
+            around,
+        }
+    }
+
+    /// The values of these versions. `empty` is a row without values.
+    pub(crate) fn values_of<'s>(
+        &'s self,
+        seen: &[Seen],
         empty: &'s Row,
     ) -> Result<Vec<&'s Row>, AllocError>
         requires { empty.now ≡ [] }
-        ensures { IfOk result (λ rows. map (λ row. row.now) rows.items ≡ rows_shown self.now.content view.now place) }
+        ensures { IfOk result (λ rows. map (λ row. row.now) rows.items ≡ map (λ (s : SeenFacts). unwrap_or (values_at self.now.content s.place) []) seen.now) }
     {
-        let seen = self.store.rows(view, TableId(place as u64))?;
         let mut rows = Vec::new(self.alloc);
-        for one in &seen {
-            rows.push(self.store.values(one).unwrap_or(empty))?;
+        for one in seen {
+            rows.push(self.row_of(one, empty))?;
         }
         Ok(rows)
     }
 
-    /// The rows that a SELECT which begins now would show of the table, or `None` where there is no such table.
+    /// The rows that a SELECT of the session which begins now would show of the table, or `None` where there is no such table.
     pub fn visible(
         &self,
-        transaction: &Transaction,
+        session: &Session,
         name: &Name<'_>,
     ) -> Result<Option<Vec<Row>>, AllocError>
-        ensures { IfOk result (λ rows. option_map (λ (v : Vec (List Value)). v.items) rows ≡ visible_to self.now transaction.now (name_of name.now)) }
+        requires room { (t : OpenFacts) → session.now.transaction ≡ Transaction.Open t → t.command + 1 < 2 ^ 64 }
+        ensures { IfOk result (λ rows. option_map (λ (v : Vec (List Value)). v.items) rows ≡ visible_to self.now session.now (name_of name.now)) }
     {
-        let Some(place) = self.find_table(own_of(transaction), name) else {
+        let Some(place) = self.find_table(own_of(&session.transaction), name) else {
             return Ok(None);
         };
         let empty = Row::from_vec(Vec::new(self.alloc));
-        let view = self.view_now(transaction);
-        let rows = self.rows_shown(&view, place, &empty)?;
+        let seen = self.seen(&self.view_now(session), place)?;
+        let rows = self.values_of(&seen, &empty)?;
         Ok(Some(copied_rows(self.alloc, rows.as_slice())?))
     }
 }

@@ -4,12 +4,14 @@ ghost use Rattle.std.specs.Prelude.{◌≡◌, ◌+◌, ◌<◌, ◌^◌, Some, 
 ghost use Rattle.sql_trees.specs.Statements.{create_of, drop_of, name_of};
 ghost use Rattle.row_versions.specs.Log.{IsOpen};
 ghost use Rattle.session_machine.specs.Tables.{find_table};
+ghost use Rattle.session_statements.specs.Left.{left};
 ghost use Rattle.session_machine.specs.Statements.{create, dropped, drop_tables};
 
 use crate::database::Database;
+use crate::did::Did;
 use iso_lexer::{Ident, Name};
 use row_versions::Versions;
-use session_machine::{OpenTransaction, Outcome, StmtFault, Transaction};
+use session_machine::{OpenTransaction, StmtFault, Transaction};
 use sql_trees::{CreateTable, DropTable};
 use std::alloc::AllocError;
 
@@ -19,12 +21,12 @@ impl<'a, 't, V: Versions> Database<'a, 't, V> {
         &mut self,
         by: &OpenTransaction,
         made: &'a CreateTable<'t>,
-    ) -> Result<(Transaction, Outcome<'t>), AllocError>
+    ) -> Result<Did<'t>, AllocError>
         requires opened { IsOpen self.old.content by.now.tx }
         requires room { by.now.command + 1 < 2 ^ 64 }
-        ensures did { IfOk result (λ left.
+        ensures did { IfOk result (λ did.
             create self.old by.now (create_of made.now) (find_table self.old (Some by.now.tx) (name_of made.now.name))
-            ≡ record { db = self.new; transaction = left.0; outcome = left.1 }) }
+            ≡ left self.new did) }
         ensures memory { OnErr result (find_table self.old (Some by.now.tx) (name_of made.now.name) ≡ None) }
     {
         if self.find_table(Some(by.tx), &made.name).is_some() {
@@ -32,7 +34,7 @@ impl<'a, 't, V: Versions> Database<'a, 't, V> {
         }
         let after = self.after_query(by);
         self.add_table(made, by.tx)?;
-        Ok((Transaction::Open(after), Outcome::Done))
+        Ok(Did::turned(Transaction::Open(after)))
     }
 
     /// Drops one table after the other, up to the first that isn't there, which it answers; with IF EXISTS none is missed.
@@ -63,15 +65,15 @@ impl<'a, 't, V: Versions> Database<'a, 't, V> {
         &mut self,
         by: &OpenTransaction,
         stmt: &'a DropTable<'t>,
-    ) -> Result<(Transaction, Outcome<'t>), AllocError>
+    ) -> Result<Did<'t>, AllocError>
         requires opened { IsOpen self.old.content by.now.tx }
         requires room { by.now.command + 1 < 2 ^ 64 }
-        ensures { IfOk result (λ left. drop_tables self.old by.now (drop_of stmt.now) ≡ record { db = self.new; transaction = left.0; outcome = left.1 }) }
+        ensures { IfOk result (λ did. drop_tables self.old by.now (drop_of stmt.now) ≡ left self.new did) }
     {
         let after = self.after_query(by);
         match self.drop_all(by, stmt.if_exists, stmt.names.as_slice())? {
             Some(name) => Ok(self.fail(by, StmtFault::NoTableToDrop(name))),
-            None => Ok((Transaction::Open(after), Outcome::Done)),
+            None => Ok(Did::turned(Transaction::Open(after))),
         }
     }
 }

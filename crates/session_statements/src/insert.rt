@@ -1,22 +1,26 @@
 //! INSERT (PostgreSQL manual, its page).
 
-ghost use Rattle.std.specs.Prelude.{◌≡◌, ◌≢◌, ◌+◌, ◌<◌, ◌^◌, Some, None, length, map, MatchOption, IfOk, OnErr, IsSome};
+ghost use Rattle.std.specs.Prelude.{◌≡◌, ◌≢◌, ◌+◌, ◌<◌, ◌^◌, [], Some, None, length, map, IfOk, OnOk, OnErr, IsSome};
 ghost use Rattle.sql_trees.specs.Trees.{tree_of};
-ghost use Rattle.sql_trees.specs.Statements.{insert_of, exprs_of, name_of, column_of};
+ghost use Rattle.sql_trees.specs.Statements.{insert_of, exprs_of, name_of};
 ghost use Rattle.sql_values.specs.declared.fault.ValueFault.TheVariants.{Memory};
 ghost use Rattle.row_versions.specs.Log.{Content, IsOpen};
+ghost use Rattle.session_queries.specs.Queries.{lacking_rows};
 ghost use Rattle.session_machine.specs.Tables.{find_table};
-ghost use Rattle.session_queries.specs.Queries.{new_values, lacking_rows};
-ghost use Rattle.session_statements.specs.Inserting.{row_ended};
-ghost use Rattle.session_machine.specs.Statements.{InsertedUpTo, columns_at, insert_row, insert_rows, insert_all, insert_fitting, insert};
+ghost use Rattle.session_machine.specs.Walks.{walked};
+ghost use Rattle.session_machine.specs.Rows.{insert_at};
+ghost use Rattle.session_machine.specs.Running.{done, ended, insert, insert_all, insert_fitting};
+ghost use Rattle.session_statements.specs.Acting.{ended_by, visit_by};
+ghost use Rattle.session_statements.specs.Left.{left};
 
 use crate::database::Database;
-use iso_lexer::{Ident, Name};
+use crate::did::{Around, Did, Work};
+use iso_lexer::Ident;
 use row_versions::Versions;
-use session_machine::{OpenTransaction, Outcome, StmtFault, Transaction};
+use session_machine::{OpenTransaction, StmtFault, Transaction};
 use session_queries::{Targets, lacking_rows, new_values, null_in, some_too_long, targets_of};
-use sql_trees::{Column, Expr, Insert};
-use sql_values::{ColumnName, ValueFault};
+use sql_trees::{Expr, Insert};
+use sql_values::ValueFault;
 use std::alloc::AllocError;
 
 /// The statement's fault, where it isn't want of memory.
@@ -35,26 +39,22 @@ impl<'a, 't, V: Versions> Database<'a, 't, V> {
     /// One row is evaluated, assigned, checked and written, or its fault is answered.
     fn insert_row(
         &mut self,
-        by: &OpenTransaction,
-        table: Name<'t>,
-        place: usize,
-        columns: &[Column<'t>],
+        work: &Work<'_>,
+        stmt: &Insert<'t>,
         targets: &Targets,
         row: &[Expr<'t>],
     ) -> Result<Option<StmtFault<'t>>, AllocError>
-        ensures row { (others : Content → InsertedUpTo) → IfOk result (λ fault.
-            insert_row self.old.content by.now (name_of table.entry) place (map column_of columns.now) others (new_values (length (map column_of columns.now)) targets.now (map tree_of row.now))
-            ≡ row_ended others self.new.content fault) }
-        ensures rest { IfOk result (λ fault. self.new ≡ record self.old { content = self.new.content }) }
-        ensures fates { IfOk result (λ fault. self.new.content.fates ≡ self.old.content.fates) }
+        requires { work.now.table < length self.old.catalog.tables }
+        ensures { IfOk result (λ fault. insert_at work.now (name_of stmt.now.table) targets.now self.old (map tree_of row.now) ≡ visit_by self.new fault) }
     {
+        let columns = self.columns_in(work);
         match new_values(self.alloc, columns.len(), targets, row) {
             Ok(values) => {
                 if let Some(column) = null_in(columns, &values) {
-                    let table = Ident::new(table);
+                    let table = Ident::new(stmt.table);
                     return Ok(Some(StmtFault::NullValue { column, table }));
                 }
-                self.add_row(by, place, values)?;
+                self.add_row(work, values)?;
                 Ok(None)
             }
             Err(fault) => Ok(Some(fault_of(fault)?)),
@@ -64,22 +64,18 @@ impl<'a, 't, V: Versions> Database<'a, 't, V> {
     /// Writes one row after the other, up to the first fault, which it answers.
     fn insert_rows(
         &mut self,
-        by: &OpenTransaction,
+        work: &Work<'_>,
         stmt: &'a Insert<'t>,
-        place: usize,
         targets: &Targets,
     ) -> Result<Option<StmtFault<'t>>, AllocError>
-        requires { place < length self.old.catalog.tables }
-        ensures rows { IfOk result (λ fault.
-            insert_rows self.old.content by.now (name_of stmt.now.table) place (columns_at self.old.catalog place) targets.now (map exprs_of stmt.now.rows.items)
-            ≡ record { content = self.new.content; fault = fault }) }
-        ensures rest { IfOk result (λ fault. self.new ≡ record self.old { content = self.new.content }) }
-        ensures fates { IfOk result (λ fault. self.new.content.fates ≡ self.old.content.fates) }
+        requires { work.now.table < length self.old.catalog.tables }
+        ensures rows { (before : Content) → IfOk result (λ fault.
+            ended before work.now done (walked (insert_at work.now (name_of stmt.now.table) targets.now) self.old 0 [] (map exprs_of stmt.now.rows.items))
+            ≡ ended_by before work.now self.new fault) }
+        ensures fates { OnOk result (self.new.content.fates ≡ self.old.content.fates) }
     {
-        let columns = self.columns(place);
         for row in &stmt.rows {
-            let row = row.as_slice();
-            if let Some(fault) = self.insert_row(by, stmt.table, place, columns, targets, row)? {
+            if let Some(fault) = self.insert_row(work, stmt, targets, row)? {
                 return Ok(Some(fault));
             }
         }
@@ -89,68 +85,65 @@ impl<'a, 't, V: Versions> Database<'a, 't, V> {
     /// Writes all rows, or fails at the first that has a fault.
     fn insert_all(
         &mut self,
-        by: &OpenTransaction,
+        work: &Work<'_>,
         stmt: &'a Insert<'t>,
-        place: usize,
         targets: &Targets,
-    ) -> Result<(Transaction, Outcome<'t>), AllocError>
-        requires opened { IsOpen self.old.content by.now.tx }
-        requires room { by.now.command + 1 < 2 ^ 64 }
-        requires within { place < length self.old.catalog.tables }
-        ensures { IfOk result (λ left.
-            insert_all self.old by.now (insert_of stmt.now) place targets.now
-            ≡ record { db = self.new; transaction = left.0; outcome = left.1 }) }
+    ) -> Result<Did<'t>, AllocError>
+        requires opened { IsOpen self.old.content work.now.t.tx }
+        requires room { work.now.t.command + 1 < 2 ^ 64 }
+        requires within { work.now.table < length self.old.catalog.tables }
+        ensures { IfOk result (λ did. insert_all self.old work.now (insert_of stmt.now) targets.now ≡ left self.new did) }
     {
-        let after = self.after_query(by);
-        match self.insert_rows(by, stmt, place, targets)? {
-            Some(fault) => Ok(self.fail(by, fault)),
-            None => Ok((Transaction::Open(after), Outcome::Done)),
+        let after = self.after_query(&work.by);
+        match self.insert_rows(work, stmt, targets)? {
+            Some(fault) => Ok(self.fail(&work.by, fault)),
+            None => Ok(Did::turned(Transaction::Open(after))),
         }
     }
 
     /// The INSERT whose targets are known: its VALUES name no column, and there are not too many of them.
     fn insert_to(
         &mut self,
-        by: &OpenTransaction,
+        work: &Work<'_>,
         stmt: &'a Insert<'t>,
-        place: usize,
         targets: &Targets,
-    ) -> Result<(Transaction, Outcome<'t>), AllocError>
-        requires opened { IsOpen self.old.content by.now.tx }
-        requires room { by.now.command + 1 < 2 ^ 64 }
-        requires within { place < length self.old.catalog.tables }
-        ensures { IfOk result (λ left.
-            insert_fitting self.old by.now (insert_of stmt.now) place targets.now (lacking_rows (map exprs_of stmt.now.rows.items))
-            ≡ record { db = self.new; transaction = left.0; outcome = left.1 }) }
+    ) -> Result<Did<'t>, AllocError>
+        requires opened { IsOpen self.old.content work.now.t.tx }
+        requires room { work.now.t.command + 1 < 2 ^ 64 }
+        requires within { work.now.table < length self.old.catalog.tables }
+        ensures { IfOk result (λ did.
+            insert_fitting self.old work.now (insert_of stmt.now) targets.now (lacking_rows (map exprs_of stmt.now.rows.items)) ≡ left self.new did) }
     {
         if let Some(name) = lacking_rows(stmt.rows.as_slice()) {
-            let fault = ValueFault::NoColumn(ColumnName::of(name.name()));
-            return Ok(self.fail(by, StmtFault::Value(fault)));
+            return Ok(self.fail_column(&work.by, name));
         }
         if some_too_long(targets.len(), stmt.rows.as_slice()) {
-            return Ok(self.fail(by, StmtFault::TooManyValues));
+            return Ok(self.fail(&work.by, StmtFault::TooManyValues));
         }
-        self.insert_all(by, stmt, place, targets)
+        self.insert_all(work, stmt, targets)
     }
 
     /// INSERT: all of its rows are written, or none counts.
     pub(crate) fn insert(
         &mut self,
         by: &OpenTransaction,
+        around: &Around<'_>,
         stmt: &'a Insert<'t>,
-    ) -> Result<(Transaction, Outcome<'t>), AllocError>
+    ) -> Result<Did<'t>, AllocError>
         requires opened { IsOpen self.old.content by.now.tx }
         requires room { by.now.command + 1 < 2 ^ 64 }
-        ensures did { IfOk result (λ left.
-            insert self.old by.now (insert_of stmt.now) (find_table self.old (Some by.now.tx) (name_of stmt.now.table))
-            ≡ record { db = self.new; transaction = left.0; outcome = left.1 }) }
+        ensures did { IfOk result (λ did.
+            insert self.old by.now around.now (insert_of stmt.now) (find_table self.old (Some by.now.tx) (name_of stmt.now.table)) ≡ left self.new did) }
         ensures memory { OnErr result (IsSome (find_table self.old (Some by.now.tx) (name_of stmt.now.table))) }
     {
         let Some(place) = self.find_table(Some(by.tx), &stmt.table) else {
             return Ok(self.fail(by, StmtFault::NoTable(Ident::new(stmt.table))));
         };
         match targets_of(self.alloc, self.columns(place), stmt.columns.as_ref())? {
-            Ok(targets) => self.insert_to(by, stmt, place, &targets),
+            Ok(targets) => {
+                let work = self.work(by, place, around);
+                self.insert_to(&work, stmt, &targets)
+            }
             Err(column) => {
                 let table = Ident::new(stmt.table);
                 Ok(self.fail(by, StmtFault::NoColumnOf { column, table }))

@@ -1,13 +1,23 @@
 //! Statements: the tables and rows that all sessions share, and what a statement of a session makes of them.
 #![tactic(auto)]
 
+mod act;
 mod catalog;
 mod database;
 mod definitions;
+mod did;
 mod insert;
+mod lock;
+mod delete;
 mod run;
 mod select;
+mod settle;
 mod table;
+mod targets;
 mod transactions;
+mod update;
+mod waits;
+mod walk;
 
 pub use database::Database;
+pub use did::{Around, Did};

@@ -7,19 +7,22 @@ ghost use Rattle.sql_values.specs.Values.{Answers};
 ghost use Rattle.result_tables.specs.Results.{Results};
 ghost use Rattle.row_versions.specs.Log.{IsOpen};
 ghost use Rattle.session_machine.specs.Tables.{find_table};
-ghost use Rattle.session_machine.specs.Transactions.{view_of};
-ghost use Rattle.session_queries.specs.Queries.{result_of};
+ghost use Rattle.session_queries.specs.Queries.{lacking_select, result_of, wrong_position};
 ghost use Rattle.session_machine.specs.Views.{rows_shown};
-ghost use Rattle.session_machine.specs.Statements.{columns_at, answered, select_in, select_from};
+ghost use Rattle.session_machine.specs.Rows.{columns_in};
+ghost use Rattle.session_machine.specs.Running.{answered, select, select_at, select_in, select_rows, unless_wrong};
 ghost use Rattle.session_machine.specs.Sound.{RowsFit};
+ghost use Rattle.session_statements.specs.Keeping.{IsOrderly};
+ghost use Rattle.session_statements.specs.Left.{left};
 
 use crate::database::Database;
+use crate::did::{Around, Did, Work};
 use crate::insert::fault_of;
 use iso_lexer::{Ident, Name};
 use result_tables::ResultSet;
 use row_versions::Versions;
 use session_machine::{OpenTransaction, Outcome, StmtFault, Transaction};
-use session_queries::result_of;
+use session_queries::{lacking_select, result_of, wrong_position};
 use sql_trees::Select;
 use sql_values::{Row, ValueFault};
 use std::alloc::{AllocError, Global};
@@ -33,21 +36,20 @@ fn constant_result<'t>(alloc: Global, stmt: &Select<'t>) -> Result<ResultSet<'t>
 }
 
 impl<'a, 't, V: Versions> Database<'a, 't, V> {
-    /// The result of a SELECT from the table at the place.
+    /// The result of a SELECT from its table.
     fn result_at(
         &self,
-        by: &OpenTransaction,
+        work: &Work<'_>,
         stmt: &'a Select<'t>,
-        place: usize,
     ) -> Result<ResultSet<'t>, ValueFault<'t>>
-        requires within { place < length self.now.catalog.tables }
+        requires within { work.now.table < length self.now.catalog.tables }
         requires fit { RowsFit self.now.content self.now.catalog }
-        ensures { Answers result (result_of (select_of stmt.now) (columns_at self.now.catalog place) (rows_shown self.now.content (view_of self.now.content by.now) place)) }
+        ensures { Answers result (result_of (select_of stmt.now) (columns_in self.now work.now) (rows_shown self.now.content work.now.view work.now.table)) }
     {
         let empty = Row::from_vec(Vec::new(self.alloc));
-        let view = self.view_of(by);
-        let rows = self.rows_shown(&view, place, &empty)?;
-        result_of(self.alloc, stmt, self.columns(place), rows.as_slice())
+        let seen = self.seen_by(work)?;
+        let rows = self.values_of(&seen, &empty)?;
+        result_of(self.alloc, stmt, self.columns_in(work), rows.as_slice())
     }
 
     /// The SELECT has this result, or fails.
@@ -55,17 +57,16 @@ impl<'a, 't, V: Versions> Database<'a, 't, V> {
         &mut self,
         by: &OpenTransaction,
         made: Result<ResultSet<'t>, ValueFault<'t>>,
-    ) -> Result<(Transaction, Outcome<'t>), AllocError>
+    ) -> Result<Did<'t>, AllocError>
         requires opened { IsOpen self.old.content by.now.tx }
         requires room { by.now.command + 1 < 2 ^ 64 }
-        ensures did { (due : Result Results ValueFaultFacts) → Answers made.entry due → IfOk result (λ left.
-            answered self.old by.now due ≡ record { db = self.new; transaction = left.0; outcome = left.1 }) }
+        ensures did { (due : Result Results ValueFaultFacts) → Answers made.entry due → IfOk result (λ did. answered self.old by.now due ≡ left self.new did) }
         ensures memory { OnErr result (made.entry ≡ Err ValueFault.Memory) }
     {
         match made {
             Ok(set) => {
                 let after = self.after_query(by);
-                Ok((Transaction::Open(after), Outcome::Rows(set)))
+                Ok(Did::of(Transaction::Open(after), Outcome::Rows(set)))
             }
             Err(fault) => {
                 let fault = fault_of(fault)?;
@@ -74,24 +75,89 @@ impl<'a, 't, V: Versions> Database<'a, 't, V> {
         }
     }
 
+    /// A SELECT goes by whether it locks.
+    fn select_rows(
+        &mut self,
+        work: &Work<'_>,
+        stmt: &'a Select<'t>,
+    ) -> Result<Did<'t>, AllocError>
+        requires opened { IsOpen self.old.content work.now.t.tx }
+        requires room { work.now.t.command + 1 < 2 ^ 64 }
+        requires within { work.now.table < length self.old.catalog.tables }
+        requires orderly { IsOrderly self.old }
+        ensures { IfOk result (λ did. select_rows self.old work.now (select_of stmt.now) stmt.now.lock ≡ left self.new did) }
+    {
+        match stmt.lock {
+            Some(lock) => self.lock_from(work, stmt, lock, 0, Vec::new(self.alloc)),
+            None => {
+                let made = self.result_at(work, stmt);
+                self.answer(&work.by, made)
+            }
+        }
+    }
+
+    /// A SELECT from its table: it names no column that isn't there, and no position.
     fn select_in(
         &mut self,
+        work: &Work<'_>,
+        stmt: &'a Select<'t>,
+    ) -> Result<Did<'t>, AllocError>
+        requires opened { IsOpen self.old.content work.now.t.tx }
+        requires room { work.now.t.command + 1 < 2 ^ 64 }
+        requires within { work.now.table < length self.old.catalog.tables }
+        requires orderly { IsOrderly self.old }
+        ensures { IfOk result (λ did. select_in self.old work.now (select_of stmt.now) ≡ left self.new did) }
+    {
+        let columns = self.columns_in(work);
+        if let Some(name) = lacking_select(columns, stmt) {
+            return Ok(self.fail_column(&work.by, name));
+        }
+        if let Some(position) = wrong_position(columns, stmt) {
+            return Ok(self.fail(&work.by, StmtFault::NoPosition(position)));
+        }
+        self.select_rows(work, stmt)
+    }
+
+    fn select_at(
+        &mut self,
         by: &OpenTransaction,
+        around: &Around<'_>,
         stmt: &'a Select<'t>,
         name: Name<'t>,
-    ) -> Result<(Transaction, Outcome<'t>), AllocError>
+    ) -> Result<Did<'t>, AllocError>
         requires opened { IsOpen self.old.content by.now.tx }
         requires room { by.now.command + 1 < 2 ^ 64 }
-        requires fit { RowsFit self.old.content self.old.catalog }
-        ensures did { IfOk result (λ left.
-            select_in self.old by.now (select_of stmt.now) (name_of name.entry) (find_table self.old (Some by.now.tx) (name_of name.entry))
-            ≡ record { db = self.new; transaction = left.0; outcome = left.1 }) }
+        requires orderly { IsOrderly self.old }
+        ensures did { IfOk result (λ did.
+            select_at self.old by.now around.now (select_of stmt.now) (name_of name.entry) (find_table self.old (Some by.now.tx) (name_of name.entry)) ≡ left self.new did) }
         ensures memory { OnErr result (IsSome (find_table self.old (Some by.now.tx) (name_of name.entry))) }
     {
         let Some(place) = self.find_table(Some(by.tx), &name) else {
             return Ok(self.fail(by, StmtFault::NoTable(Ident::new(name))));
         };
-        let made = self.result_at(by, stmt, place);
+        let work = self.work(by, place, around);
+        self.select_in(&work, stmt)
+    }
+
+    /// A SELECT without FROM.
+    fn select_constant(
+        &mut self,
+        by: &OpenTransaction,
+        stmt: &'a Select<'t>,
+    ) -> Result<Did<'t>, AllocError>
+        requires opened { IsOpen self.old.content by.now.tx }
+        requires room { by.now.command + 1 < 2 ^ 64 }
+        ensures { IfOk result (λ did.
+            unless_wrong self.old by.now (lacking_select [] (select_of stmt.now)) (wrong_position [] (select_of stmt.now))
+                (answered self.old by.now (result_of (select_of stmt.now) [] ([] ∷ []))) ≡ left self.new did) }
+    {
+        if let Some(name) = lacking_select(&[], stmt) {
+            return Ok(self.fail_column(by, name));
+        }
+        if let Some(position) = wrong_position(&[], stmt) {
+            return Ok(self.fail(by, StmtFault::NoPosition(position)));
+        }
+        let made = constant_result(self.alloc, stmt);
         self.answer(by, made)
     }
 
@@ -99,21 +165,17 @@ impl<'a, 't, V: Versions> Database<'a, 't, V> {
     pub(crate) fn select(
         &mut self,
         by: &OpenTransaction,
+        around: &Around<'_>,
         stmt: &'a Select<'t>,
-    ) -> Result<(Transaction, Outcome<'t>), AllocError>
+    ) -> Result<Did<'t>, AllocError>
         requires opened { IsOpen self.old.content by.now.tx }
         requires room { by.now.command + 1 < 2 ^ 64 }
-        requires fit { RowsFit self.old.content self.old.catalog }
-        ensures { IfOk result (λ left.
-            select_from self.old by.now (select_of stmt.now) (option_map name_of stmt.now.table)
-            ≡ record { db = self.new; transaction = left.0; outcome = left.1 }) }
+        requires orderly { IsOrderly self.old }
+        ensures { IfOk result (λ did. select self.old by.now around.now (select_of stmt.now) (option_map name_of stmt.now.table) ≡ left self.new did) }
     {
         match stmt.table {
-            Some(name) => self.select_in(by, stmt, name),
-            None => {
-                let made = constant_result(self.alloc, stmt);
-                self.answer(by, made)
-            }
+            Some(name) => self.select_at(by, around, stmt, name),
+            None => self.select_constant(by, stmt),
         }
     }
 }

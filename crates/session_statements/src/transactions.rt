@@ -5,12 +5,16 @@ ghost use Rattle.sql_trees.specs.Statements.{stmt_of};
 ghost use Rattle.row_versions.specs.Log.{IsOpen};
 ghost use Rattle.session_machine.specs.Tables.{Database as DatabaseFacts};
 ghost use Rattle.session_machine.specs.Transactions.{after_failure};
-ghost use Rattle.session_machine.specs.Statements.{fails, turns, is_level, level_set, begin_in, is_end, run_aborted};
+ghost use Rattle.session_statements.specs.Left.{left};
+ghost use Rattle.session_machine.specs.Statements.{fails, is_level, level_set, begin_in, is_end, run_aborted};
 
 use crate::database::Database;
+use crate::did::Did;
+use iso_lexer::Ident;
 use row_versions::Versions;
 use session_machine::{OpenTransaction, Outcome, StmtFault, Transaction};
 use sql_trees::{Level, Stmt};
+use sql_values::{ColumnName, ValueFault};
 
 fn same_level(a: Level, b: Level) -> bool
     ensures { result ≡ is_level a b }
@@ -46,12 +50,21 @@ impl<'a, 't, V: Versions> Database<'a, 't, V> {
         &mut self,
         by: &OpenTransaction,
         fault: StmtFault<'t>,
-    ) -> (Transaction, Outcome<'t>)
+    ) -> Did<'t>
         requires { IsOpen self.old.content by.now.tx }
-        ensures { fails self.old by.now fault.entry ≡ record { db = self.new; transaction = result.0; outcome = result.1 } }
+        ensures { fails self.old by.now fault.entry ≡ left self.new result }
     {
         self.roll_back(by.tx);
-        (after_failure(by), Outcome::Failed(fault))
+        Did::of(after_failure(by), Outcome::Failed(fault))
+    }
+
+    /// The statement names a column that isn't there.
+    pub(crate) fn fail_column(&mut self, by: &OpenTransaction, name: Ident<'t>) -> Did<'t>
+        requires { IsOpen self.old.content by.now.tx }
+        ensures { fails self.old by.now (StmtFault.Value (ValueFault.NoColumn name.entry)) ≡ left self.new result }
+    {
+        let fault = ValueFault::NoColumn(ColumnName::of(name.name()));
+        self.fail(by, StmtFault::Value(fault))
     }
 
     /// The level is set before the transaction's first query, or stays.
@@ -60,9 +73,9 @@ impl<'a, 't, V: Versions> Database<'a, 't, V> {
         by: &OpenTransaction,
         explicit: bool,
         level: Level,
-    ) -> (Transaction, Outcome<'t>)
+    ) -> Did<'t>
         requires { IsOpen self.old.content by.now.tx }
-        ensures { level_set self.old by.now explicit level ≡ record { db = self.new; transaction = result.0; outcome = result.1 } }
+        ensures { level_set self.old by.now explicit level ≡ left self.new result }
     {
         if has_query(by) && !same_level(by.level, level) {
             return self.fail(by, StmtFault::LevelTooLate);
@@ -74,7 +87,7 @@ impl<'a, 't, V: Versions> Database<'a, 't, V> {
             snapshot: by.snapshot,
             command: by.command,
         };
-        (Transaction::Open(open), Outcome::Done)
+        Did::turned(Transaction::Open(open))
     }
 
     /// BEGIN in an open transaction.
@@ -82,23 +95,23 @@ impl<'a, 't, V: Versions> Database<'a, 't, V> {
         &mut self,
         by: &OpenTransaction,
         level: Option<Level>,
-    ) -> (Transaction, Outcome<'t>)
+    ) -> Did<'t>
         requires { IsOpen self.old.content by.now.tx }
-        ensures { begin_in self.old by.now level ≡ record { db = self.new; transaction = result.0; outcome = result.1 } }
+        ensures { begin_in self.old by.now level ≡ left self.new result }
     {
         if by.explicit {
-            return (Transaction::Open(*by), Outcome::Done);
+            return Did::turned(Transaction::Open(*by));
         }
         self.set_level(by, true, level.unwrap_or(by.level))
     }
 }
 
 /// A statement in an aborted transaction, which changes nothing of the database.
-pub(crate) fn run_aborted<'t>(stmt: &Stmt<'_>) -> (Transaction, Outcome<'t>)
-    ensures { (db : DatabaseFacts) → run_aborted db (stmt_of stmt.now) ≡ record { db = db; transaction = result.0; outcome = result.1 } }
+pub(crate) fn run_aborted<'t>(stmt: &Stmt<'_>) -> Did<'t>
+    ensures { (db : DatabaseFacts) → run_aborted db (stmt_of stmt.now) ≡ left db result }
 {
     match stmt {
-        Stmt::Commit | Stmt::Rollback => (Transaction::Closed, Outcome::Done),
-        _ => (Transaction::Aborted, Outcome::Failed(StmtFault::Aborted)),
+        Stmt::Commit | Stmt::Rollback => Did::turned(Transaction::Closed),
+        _ => Did::of(Transaction::Aborted, Outcome::Failed(StmtFault::Aborted)),
     }
 }

@@ -1,0 +1,20 @@
+-- A statement goes over the targets that were found, or over what it selects.
+use Rattle.std.proofs.Common.{◌≡◌, ◌∙◌, sym, ap, ℕ, ℤ, List, drop}
+use Rattle.std.specs.Prelude.{Option, None, Result, Ok}
+use Rattle.sql_values.specs.declared.value.Value.{Value}
+use Rattle.sql_values.specs.declared.fault.ValueFault.{ValueFault}
+use Rattle.row_versions.specs.declared.write.Seen.{Seen}
+use Rattle.session_machine.specs.declared.session.OpenTransaction.{OpenTransaction}
+use Rattle.session_machine.specs.Tables.{Database}
+use Rattle.session_machine.specs.Statements.{Did}
+use Rattle.session_machine.specs.Walks.{Visit, walked, walked_from}
+use Rattle.session_machine.specs.Running.{unless_wrong}
+
+-- targets that were found are gone over from the place on
+pub found_targets : (at : Database → Seen → Visit) (db : Database) (place : ℕ) (rows : List (List Value)) (r : Result (List Seen) ValueFault) (targets got : List Seen)
+    → r ≡ Ok targets → got ≡ targets → walked_from at db place rows r ≡ walked at db place rows (drop place got)
+found_targets at db place rows r targets got is same = ap (walked_from at db place rows) is ∙ ap (λ (xs : List Seen). walked at db place rows (drop place xs)) (sym same)
+
+-- a SELECT that names nothing wrong comes to what is due
+pub not_wrong : (db : Database) (t : OpenTransaction) (lacking : Option (List ℕ)) (position : Option ℤ) (due : Did) → lacking ≡ None → position ≡ None → unless_wrong db t lacking position due ≡ due
+not_wrong db t lacking position due a b = ap (λ (x : Option (List ℕ)). unless_wrong db t x position due) a ∙ ap (λ (y : Option ℤ). unless_wrong db t None y due) b

@@ -1,0 +1,22 @@
+use Rattle.std.proofs.Common.{◌≡◌, ◌∙◌, sym, ap, subst}
+use Rattle.std.specs.Prelude.{IfOk, None}
+use Rattle.sql_trees.specs.Statements.{select_of}
+use Rattle.session_queries.specs.Queries.{cols_of, lacking_select, wrong_position}
+use Rattle.session_machine.specs.Rows.{columns_in}
+use Rattle.session_machine.specs.Statements.{Did}
+use Rattle.session_machine.specs.Running.{select_rows}
+use Rattle.session_statements.specs.Left.{left}
+use Rattle.session_statements.proofs.Going.{not_wrong}
+use Rattle.session_statements.proofs.database.Database.select_in.Goals as goal
+
+pub returns : goal.returns
+returns g c =
+    let db = c.args.self.now in
+    let w = c.args.work.now in
+    let s = select_of c.args.stmt.now in
+    let lacks : lacking_select (cols_of (columns_in db w)) s ≡ None =
+    sym (ap (λ cs. lacking_select (cols_of cs) s) c.columns_in-columns.ensures) ∙ sym c.lacking_select.ensures ∙ c.in_default.is in
+    let position : wrong_position (columns_in db w) s ≡ None =
+    sym (ap (λ cs. wrong_position cs s) c.columns_in-columns.ensures) ∙ sym c.wrong_position.ensures ∙ c.in_default-wrong_position.is in
+    let e = not_wrong db w.t (lacking_select (cols_of (columns_in db w)) s) (wrong_position (columns_in db w) s) (select_rows db w s s.lock) lacks position in
+    subst (λ (x : Did). IfOk c.select_rows.result (λ did. x ≡ left c.select_rows.new.self did)) (sym e) c.select_rows.ensures

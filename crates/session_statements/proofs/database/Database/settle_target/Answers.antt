@@ -1,0 +1,25 @@
+use Rattle.std.proofs.Common.{rules, ◌≡◌, ◌∙◌, refl, sym, ap, subst}
+use Rattle.std.specs.Prelude.{option_map}
+use Rattle.sql_trees.specs.Trees.{tree_of}
+use Rattle.row_locks.specs.Laws.{SamePairs}
+use Rattle.update_recheck.specs.Asked.{Asked, Fits, asked}
+use Rattle.update_recheck.specs.Outcome.{target_outcome}
+use Rattle.session_machine.specs.Waits.{waits_in}
+use Rattle.session_machine.specs.Rows.{Work}
+use Rattle.session_queries.specs.Queries.{cols_of}
+use Rattle.session_statements.specs.Acting.{asks}
+use Rattle.session_statements.proofs.database.Database.settle_target.Goals as goal
+
+pub returns-clause-outcome : goal.returns-clause-outcome
+returns-clause-outcome g c =
+    let db = c.args.self.now in
+    let w = c.args.work.now in
+    let waits = c.in_ok-waits.waits in
+    let pairs : SamePairs waits (waits_in db w.around.sessions) = subst (λ (x : Work). SamePairs waits (waits_in db x.around.sessions)) c.work.view_is c.in_ok-waits.ensures in
+    let law = c.outcomes_by_what_is_held.ensures db.content db.held db.held waits (waits_in db w.around.sessions) (asks db w c.args.act.now c.args.seen.now) (λ h. refl) pairs in
+    let had : Asked = record {
+      tx = c.work.inside.by.tx; level = c.work.inside.by.level; view = c.work.inside.view; seen = c.args.seen.now; strength = c.strength.result;
+      condition = option_map (λ e. tree_of e.now) c.filter.result; cols = c.known-columns.result;
+    } in
+    let same : had ≡ asks db w c.args.act.now c.args.seen.now = search rules in
+    c.in_ok-settled.ensures.outcome ∙ ap (target_outcome db.content db.held waits) same ∙ law.0

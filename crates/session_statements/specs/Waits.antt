@@ -1,0 +1,10 @@
+-- Whom a session's wait adds.
+use Rattle.std.specs.Prelude.{Bool, false, ◌&&◌, Option, Some, None}
+use Rattle.row_versions.specs.declared.names.TxId.{TxId}
+use Rattle.row_locks.specs.Members.{has, same_tx}
+use Rattle.row_locks.specs.Waiting.{Waiting}
+
+-- this wait is the first's, and the second is one of its blockers
+abbrev pub blocks_in : Option Waiting → TxId → TxId → Bool
+blocks_in None a b = false
+blocks_in (Some w) a b = same_tx w.tx a && has w.blockers b

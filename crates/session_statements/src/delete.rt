@@ -1,0 +1,84 @@
+//! DELETE (PostgreSQL manual, its page).
+
+ghost use Rattle.std.specs.Prelude.{◌≡◌, ◌+◌, ◌<◌, ◌^◌, Some, None, length, IfOk, OnErr, IsSome};
+ghost use Rattle.sql_trees.specs.Statements.{delete_of, name_of};
+ghost use Rattle.row_versions.specs.Log.{IsOpen};
+ghost use Rattle.session_machine.specs.Tables.{find_table};
+ghost use Rattle.session_machine.specs.Rows.{delete_with};
+ghost use Rattle.session_machine.specs.Running.{delete, delete_from};
+ghost use Rattle.session_statements.specs.Acting.{visit_of};
+ghost use Rattle.session_statements.specs.Keeping.{IsOrderly};
+ghost use Rattle.session_statements.specs.Left.{left};
+
+use crate::act::{Act, Visited};
+use crate::database::Database;
+use crate::did::{Around, Did, Work};
+use crate::insert::fault_of;
+use iso_lexer::Ident;
+use row_versions::{Seen, Versions};
+use session_machine::{OpenTransaction, StmtFault};
+use session_queries::lacking_filter;
+use sql_trees::Delete;
+use sql_values::Row;
+use std::alloc::AllocError;
+
+impl<'a, 't, V: Versions> Database<'a, 't, V> {
+    /// The row is gone from here on.
+    pub(crate) fn delete_with(
+        &mut self,
+        work: &Work<'_>,
+        version: &Seen,
+    ) -> Result<Visited<'t>, AllocError>
+        ensures { IfOk result (λ v. delete_with work.now self.old version.now ≡ visit_of self.new v) }
+    {
+        self.write_row(work, version.row, None)?;
+        Ok(Visited::Passes)
+    }
+
+    /// DELETE, from this place among its targets on.
+    pub(crate) fn delete_from(
+        &mut self,
+        work: &Work<'_>,
+        stmt: &'a Delete<'t>,
+        place: usize,
+        rows: Vec<Row>,
+    ) -> Result<Did<'t>, AllocError>
+        requires opened { IsOpen self.old.content work.now.t.tx }
+        requires room { work.now.t.command + 1 < 2 ^ 64 }
+        requires within { work.now.table < length self.old.catalog.tables }
+        requires orderly { IsOrderly self.old }
+        ensures { IfOk result (λ did. delete_from self.old work.now (delete_of stmt.now) place rows.items ≡ left self.new did) }
+    {
+        match self.passing_targets(work, &stmt.filter) {
+            Ok(targets) => self.go_over(work, &Act::Delete(stmt), &targets, place, rows),
+            Err(fault) => {
+                let fault = fault_of(fault)?;
+                Ok(self.fail(&work.by, fault))
+            }
+        }
+    }
+
+    /// DELETE: what its WHERE matches is gone.
+    pub(crate) fn delete(
+        &mut self,
+        by: &OpenTransaction,
+        around: &Around<'_>,
+        stmt: &'a Delete<'t>,
+    ) -> Result<Did<'t>, AllocError>
+        requires opened { IsOpen self.old.content by.now.tx }
+        requires room { by.now.command + 1 < 2 ^ 64 }
+        requires orderly { IsOrderly self.old }
+        ensures did { IfOk result (λ did.
+            delete self.old by.now around.now (delete_of stmt.now) (find_table self.old (Some by.now.tx) (name_of stmt.now.table)) ≡ left self.new did) }
+        ensures memory { OnErr result (IsSome (find_table self.old (Some by.now.tx) (name_of stmt.now.table))) }
+    {
+        let Some(place) = self.find_table(Some(by.tx), &stmt.table) else {
+            return Ok(self.fail(by, StmtFault::NoTable(Ident::new(stmt.table))));
+        };
+        if let Some(name) = lacking_filter(self.columns(place), &stmt.filter) {
+            return Ok(self.fail_column(by, name));
+        }
+        let work = self.work(by, place, around);
+        self.delete_from(&work, stmt, 0, Vec::new(self.alloc))
+    }
+}

@@ -1,0 +1,140 @@
+//! A locking SELECT (PostgreSQL manual, 13.3.2, and the page of SELECT).
+
+ghost use Rattle.std.specs.Prelude.{◌≡◌, ◌+◌, ◌<◌, ◌^◌, drop, length, map, IfOk};
+ghost use Rattle.std.specs.Bool.{OnTrue};
+ghost use Rattle.sql_trees.specs.Statements.{item_of, select_of};
+ghost use Rattle.result_tables.specs.Results.{IsEven};
+ghost use Rattle.session_queries.specs.Queries.{titles_of};
+ghost use Rattle.row_versions.specs.Log.{IsOpen};
+ghost use Rattle.session_machine.specs.Rows.{columns_in, lock_with, strength_of, values_of};
+ghost use Rattle.session_machine.specs.Running.{ended, lock_from};
+ghost use Rattle.session_machine.specs.Walks.{walked};
+ghost use Rattle.session_machine.specs.declared.reply.Outcome.TheVariants.{Rows};
+ghost use Rattle.session_statements.specs.Acting.{visit_at, visit_of};
+ghost use Rattle.session_statements.specs.Keeping.{IsOrderly, RowsIn};
+ghost use Rattle.session_statements.specs.Left.{left};
+
+use crate::act::{Act, Stop, Visited};
+use crate::database::Database;
+use crate::did::{Did, Work};
+use crate::insert::fault_of;
+use result_tables::{ResultSet, Title};
+use row_locks::Strength;
+use row_versions::{Seen, Versions};
+use session_machine::{Outcome, Transaction};
+use session_queries::{row_values, titles_of};
+use sql_trees::{Lock, Select};
+use sql_values::Row;
+use std::alloc::AllocError;
+
+/// FOR SHARE shares the row; FOR UPDATE holds it alone.
+pub(crate) fn strength_of(lock: Lock) -> Strength
+    ensures { result ≡ strength_of lock }
+{
+    match lock {
+        Lock::Share => Strength::Share,
+        Lock::Update => Strength::Exclusive,
+    }
+}
+
+/// Whether each row is as long as the titles.
+fn is_even(titles: &[Title<'_>], rows: &[Row]) -> bool
+    ensures { OnTrue result (IsEven titles.now rows.now) }
+{
+    let width = titles.len();
+    rows.iter().all(|row| row.values().len() == width)
+}
+
+/// The rows under their titles. They are as long as these: those that a statement answered before it waited are
+/// looked at again, since nothing is promised of them.
+fn result_of<'t>(titles: Vec<Title<'t>>, rows: Vec<Row>) -> Result<ResultSet<'t>, AllocError>
+    ensures { IfOk result (λ set. set ≡ record { titles = titles.entry.items; rows = rows.items }) }
+{
+    if !is_even(&titles, &rows) {
+        return Err(AllocError);
+    }
+    Ok(ResultSet::new(titles, rows))
+}
+
+impl<'a, 't, V: Versions> Database<'a, 't, V> {
+    /// The version that a target takes is shown.
+    pub(crate) fn lock_with(
+        &mut self,
+        work: &Work<'_>,
+        stmt: &Select<'t>,
+        version: &Seen,
+    ) -> Result<Visited<'t>, AllocError>
+        requires within { work.now.table < length self.old.catalog.tables }
+        requires even { length (values_of self.old version.now) ≡ length (columns_in self.old work.now) }
+        ensures { IfOk result (λ v. lock_with work.now (select_of stmt.now) self.old version.now ≡ visit_of self.new v) }
+    {
+        let empty = Row::from_vec(Vec::new(self.alloc));
+        let row = self.row_of(version, &empty);
+        match row_values(self.alloc, &stmt.items, self.columns_in(work), row) {
+            Ok(shown) => Ok(Visited::Shows(shown)),
+            Err(fault) => {
+                let fault = fault_of(fault)?;
+                Ok(Visited::Stops(Stop::Fails(fault)))
+            }
+        }
+    }
+
+    /// A locking SELECT goes over these targets, from this place on.
+    fn lock_over(
+        &mut self,
+        work: &Work<'_>,
+        stmt: &'a Select<'t>,
+        act: &Act<'_, 'a, 't>,
+        targets: &[Seen],
+        place: usize,
+        rows: Vec<Row>,
+    ) -> Result<Did<'t>, AllocError>
+        requires opened { IsOpen self.old.content work.now.t.tx }
+        requires room { work.now.t.command + 1 < 2 ^ 64 }
+        requires within { work.now.table < length self.old.catalog.tables }
+        requires orderly { IsOrderly self.old }
+        requires its { RowsIn self.old.content work.now.table targets.now }
+        ensures { IfOk result (λ did.
+            ended self.old.content work.now (λ shown. Rows (record { titles = titles_of (columns_in self.old work.now) (map item_of stmt.now.items.items); rows = shown }))
+                (walked (visit_at work.now act.now) self.old place rows.items (drop place targets.now)) ≡ left self.new did) }
+    {
+        let mut answered = rows;
+        let begun = self.started(&work.by);
+        let after = self.after_query(&work.by);
+        let titles = titles_of(self.alloc, self.columns_in(work), &stmt.items)?;
+        match self.walk(work, act, targets, place, &mut answered)? {
+            None => {
+                let set = result_of(titles, answered)?;
+                Ok(Did::of(Transaction::Open(after), Outcome::Rows(set)))
+            }
+            Some(halt) => Ok(self.halt(work, begun, halt, answered)),
+        }
+    }
+
+    /// A locking SELECT, from this place among its targets on.
+    pub(crate) fn lock_from(
+        &mut self,
+        work: &Work<'_>,
+        stmt: &'a Select<'t>,
+        lock: Lock,
+        place: usize,
+        rows: Vec<Row>,
+    ) -> Result<Did<'t>, AllocError>
+        requires opened { IsOpen self.old.content work.now.t.tx }
+        requires room { work.now.t.command + 1 < 2 ^ 64 }
+        requires within { work.now.table < length self.old.catalog.tables }
+        requires orderly { IsOrderly self.old }
+        ensures { IfOk result (λ did. lock_from self.old work.now (select_of stmt.now) lock place rows.items ≡ left self.new did) }
+    {
+        match self.taken_targets(work, stmt) {
+            Ok(targets) => {
+                let act = Act::Lock(stmt, strength_of(lock));
+                self.lock_over(work, stmt, &act, &targets, place, rows)
+            }
+            Err(fault) => {
+                let fault = fault_of(fault)?;
+                Ok(self.fail(&work.by, fault))
+            }
+        }
+    }
+}

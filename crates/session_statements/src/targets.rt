@@ -1,0 +1,76 @@
+//! The targets of a statement: the versions that its view shows and that it is about.
+
+ghost use Rattle.std.specs.Prelude.{◌≡◌, ◌<◌, [], ◌∷◌, List, length, map, filter_map, slice_get, option_map, IfOk};
+ghost use Rattle.sql_trees.specs.Trees.{tree_of};
+ghost use Rattle.sql_trees.specs.Statements.{select_of};
+ghost use Rattle.row_versions.specs.Log.{IsOpen};
+ghost use Rattle.session_machine.specs.Rows.{at_places, passing_targets, seen_by, shown_to, taken_targets};
+ghost use Rattle.session_queries.specs.Fronts.{AnswersList};
+ghost use Rattle.session_statements.specs.Keeping.{IsOrderly, RowsIn};
+
+use crate::database::Database;
+use crate::did::Work;
+use row_versions::{Seen, Versions};
+use session_queries::{passing_places, taken_places};
+use sql_trees::{Expr, Select};
+use sql_values::{Row, ValueFault};
+use std::alloc::{AllocError, Global};
+
+/// The version at this place, if there is one, as a slice.
+fn one_at(seen: &[Seen], place: usize) -> &[Seen]
+    ensures { result.now ≡ filter_map (slice_get seen.now) (place ∷ []) }
+{
+    match seen.get(place) {
+        Some(one) => std::slice::from_ref(one),
+        None => &[],
+    }
+}
+
+/// The versions at these places.
+fn at_places(alloc: Global, seen: &[Seen], places: &[usize]) -> Result<Vec<Seen>, AllocError>
+    ensures { IfOk result (λ picked. picked.items ≡ filter_map (slice_get seen.now) places.now) }
+{
+    let mut picked = Vec::new(alloc);
+    for place in places {
+        picked.extend_from_slice(one_at(seen, *place))?;
+    }
+    Ok(picked)
+}
+
+impl<'a, 't, V: Versions> Database<'a, 't, V> {
+    /// The targets of an UPDATE or DELETE with this WHERE.
+    pub(crate) fn passing_targets(
+        &self,
+        work: &Work<'_>,
+        filter: &Option<Expr<'t>>,
+    ) -> Result<Vec<Seen>, ValueFault<'t>>
+        requires within { work.now.table < length self.now.catalog.tables }
+        requires orderly { IsOrderly self.now }
+        ensures targets { AnswersList result (passing_targets self.now work.now (option_map tree_of filter.now)) }
+        ensures its { IfOk result (λ targets. RowsIn self.now.content work.now.table targets.items) }
+    {
+        let empty = Row::from_vec(Vec::new(self.alloc));
+        let seen = self.seen_by(work)?;
+        let rows = self.values_of(&seen, &empty)?;
+        let places = passing_places(self.alloc, filter, self.columns_in(work), &rows)?;
+        Ok(at_places(self.alloc, &seen, &places)?)
+    }
+
+    /// The targets of a locking SELECT, as ORDER BY sorts them.
+    pub(crate) fn taken_targets(
+        &self,
+        work: &Work<'_>,
+        stmt: &Select<'t>,
+    ) -> Result<Vec<Seen>, ValueFault<'t>>
+        requires within { work.now.table < length self.now.catalog.tables }
+        requires orderly { IsOrderly self.now }
+        ensures targets { AnswersList result (taken_targets self.now work.now (select_of stmt.now)) }
+        ensures its { IfOk result (λ targets. RowsIn self.now.content work.now.table targets.items) }
+    {
+        let empty = Row::from_vec(Vec::new(self.alloc));
+        let seen = self.seen_by(work)?;
+        let rows = self.values_of(&seen, &empty)?;
+        let places = taken_places(self.alloc, stmt, self.columns_in(work), &rows)?;
+        Ok(at_places(self.alloc, &seen, &places)?)
+    }
+}

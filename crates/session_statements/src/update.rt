@@ -1,0 +1,178 @@
+//! UPDATE (PostgreSQL manual, its page).
+
+ghost use Rattle.std.specs.Prelude.{◌≡◌, ◌+◌, ◌<◌, ◌^◌, [], Some, None, Ok, length, map, IfOk, OnErr, IsSome};
+ghost use Rattle.sql_trees.specs.Statements.{column_of, name_of, set_of, update_of};
+ghost use Rattle.row_versions.specs.Log.{IsOpen};
+ghost use Rattle.session_queries.specs.Updates.{lacking_update, set_targets, updated};
+ghost use Rattle.sql_values.specs.Values.{Answers};
+ghost use Rattle.session_queries.specs.Queries.{cols_of};
+ghost use Rattle.session_machine.specs.Tables.{find_table};
+ghost use Rattle.session_machine.specs.Rows.{cols_in, columns_in, update_made, update_with, values_of};
+ghost use Rattle.session_machine.specs.Running.{assigned_to, update, update_fitting, update_from};
+ghost use Rattle.session_statements.specs.Acting.{visit_of};
+ghost use Rattle.session_statements.specs.Keeping.{IsOrderly};
+ghost use Rattle.session_statements.specs.Left.{left};
+
+use crate::act::{Act, Stop, Visited};
+use crate::database::Database;
+use crate::did::{Around, Did, Work};
+use crate::insert::fault_of;
+use iso_lexer::{Ident, Name};
+use row_versions::{Seen, Versions};
+use session_machine::{OpenTransaction, StmtFault};
+use session_queries::{Targets, lacking_update, null_in, set_targets, updated_values};
+use sql_trees::{Column, Expr, Update};
+use sql_values::{Row, ValueFault};
+use std::alloc::{AllocError, Global};
+
+/// No column is assigned to.
+fn none_assigned(alloc: Global) -> Result<Targets, AllocError>
+    ensures { IfOk result (λ targets. targets ≡ []) }
+{
+    match set_targets(alloc, &[], &[])? {
+        Ok(targets) => Ok(targets),
+        Err(_) => Err(AllocError),
+    }
+}
+
+/// The columns that are assigned to, where all are there.
+fn assigned_to<'t>(
+    alloc: Global,
+    columns: &[Column<'t>],
+    sets: &[(Name<'t>, Expr<'t>)],
+) -> Result<Targets, AllocError>
+    ensures { IfOk result (λ targets. targets ≡ assigned_to (set_targets (map column_of columns.now) (map set_of sets.now))) }
+{
+    match set_targets(alloc, columns, sets)? {
+        Ok(targets) => Ok(targets),
+        Err(_) => none_assigned(alloc),
+    }
+}
+
+impl<'a, 't, V: Versions> Database<'a, 't, V> {
+    /// What the UPDATE makes of the version.
+    fn updated(
+        &self,
+        work: &Work<'_>,
+        stmt: &Update<'t>,
+        targets: &Targets,
+        version: &Seen,
+    ) -> Result<Row, ValueFault<'t>>
+        requires within { work.now.table < length self.now.catalog.tables }
+        requires even { length (values_of self.now version.now) ≡ length (columns_in self.now work.now) }
+        ensures { Answers result (updated (cols_in self.now work.now) targets.now (map set_of stmt.now.sets.items) (values_of self.now version.now)) }
+    {
+        let empty = Row::from_vec(Vec::new(self.alloc));
+        let row = self.row_of(version, &empty);
+        updated_values(self.alloc, self.columns_in(work), targets, &stmt.sets, row)
+    }
+
+    /// The row has the new values from here on.
+    fn update_made(
+        &mut self,
+        work: &Work<'_>,
+        name: Name<'t>,
+        version: &Seen,
+        values: Row,
+    ) -> Result<Visited<'t>, AllocError>
+        requires within { work.now.table < length self.old.catalog.tables }
+        ensures { IfOk result (λ v. update_made work.now (name_of name.entry) self.old version.now.row (Ok values) ≡ visit_of self.new v) }
+    {
+        if let Some(column) = null_in(self.columns_in(work), &values) {
+            let table = Ident::new(name);
+            let fault = StmtFault::NullValue { column, table };
+            return Ok(Visited::Stops(Stop::Fails(fault)));
+        }
+        self.write_row(work, version.row, Some(values))?;
+        Ok(Visited::Passes)
+    }
+
+    /// The version that a target takes is given its new values.
+    pub(crate) fn update_with(
+        &mut self,
+        work: &Work<'_>,
+        stmt: &Update<'t>,
+        targets: &Targets,
+        version: &Seen,
+    ) -> Result<Visited<'t>, AllocError>
+        requires within { work.now.table < length self.old.catalog.tables }
+        requires even { length (values_of self.old version.now) ≡ length (columns_in self.old work.now) }
+        ensures { IfOk result (λ v. update_with work.now (update_of stmt.now) targets.now self.old version.now ≡ visit_of self.new v) }
+    {
+        match self.updated(work, stmt, targets, version) {
+            Ok(values) => self.update_made(work, stmt.table, version, values),
+            Err(fault) => {
+                let fault = fault_of(fault)?;
+                Ok(Visited::Stops(Stop::Fails(fault)))
+            }
+        }
+    }
+
+    /// UPDATE, from this place among its targets on.
+    pub(crate) fn update_from(
+        &mut self,
+        work: &Work<'_>,
+        stmt: &'a Update<'t>,
+        place: usize,
+        rows: Vec<Row>,
+    ) -> Result<Did<'t>, AllocError>
+        requires opened { IsOpen self.old.content work.now.t.tx }
+        requires room { work.now.t.command + 1 < 2 ^ 64 }
+        requires within { work.now.table < length self.old.catalog.tables }
+        requires orderly { IsOrderly self.old }
+        ensures { IfOk result (λ did. update_from self.old work.now (update_of stmt.now) place rows.items ≡ left self.new did) }
+    {
+        let to = assigned_to(self.alloc, self.columns_in(work), &stmt.sets)?;
+        match self.passing_targets(work, &stmt.filter) {
+            Ok(targets) => self.go_over(work, &Act::Update(stmt, &to), &targets, place, rows),
+            Err(fault) => {
+                let fault = fault_of(fault)?;
+                Ok(self.fail(&work.by, fault))
+            }
+        }
+    }
+
+    /// The UPDATE whose assigned columns are there: it names no other that isn't.
+    fn update_fitting(
+        &mut self,
+        work: &Work<'_>,
+        stmt: &'a Update<'t>,
+    ) -> Result<Did<'t>, AllocError>
+        requires opened { IsOpen self.old.content work.now.t.tx }
+        requires room { work.now.t.command + 1 < 2 ^ 64 }
+        requires within { work.now.table < length self.old.catalog.tables }
+        requires orderly { IsOrderly self.old }
+        ensures { IfOk result (λ did.
+            update_fitting self.old work.now (update_of stmt.now) (lacking_update (cols_of (columns_in self.old work.now)) (update_of stmt.now)) ≡ left self.new did) }
+    {
+        if let Some(name) = lacking_update(self.columns_in(work), stmt) {
+            return Ok(self.fail_column(&work.by, name));
+        }
+        self.update_from(work, stmt, 0, Vec::new(self.alloc))
+    }
+
+    /// UPDATE: what its WHERE matches has new values.
+    pub(crate) fn update(
+        &mut self,
+        by: &OpenTransaction,
+        around: &Around<'_>,
+        stmt: &'a Update<'t>,
+    ) -> Result<Did<'t>, AllocError>
+        requires opened { IsOpen self.old.content by.now.tx }
+        requires room { by.now.command + 1 < 2 ^ 64 }
+        requires orderly { IsOrderly self.old }
+        ensures did { IfOk result (λ did.
+            update self.old by.now around.now (update_of stmt.now) (find_table self.old (Some by.now.tx) (name_of stmt.now.table)) ≡ left self.new did) }
+        ensures memory { OnErr result (IsSome (find_table self.old (Some by.now.tx) (name_of stmt.now.table))) }
+    {
+        let Some(place) = self.find_table(Some(by.tx), &stmt.table) else {
+            return Ok(self.fail(by, StmtFault::NoTable(Ident::new(stmt.table))));
+        };
+        if let Err(column) = set_targets(self.alloc, self.columns(place), &stmt.sets)? {
+            let table = Ident::new(stmt.table);
+            return Ok(self.fail(by, StmtFault::NoColumnOf { column, table }));
+        }
+        let work = self.work(by, place, around);
+        self.update_fitting(&work, stmt)
+    }
+}

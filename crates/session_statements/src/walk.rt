@@ -1,0 +1,124 @@
+//! How a statement goes from one of its targets to the next, up to the one at which it stops.
+
+ghost use Rattle.std.specs.Prelude.{◌≡◌, ◌+◌, ◌<◌, ◌^◌, List, Some, length, drop, IfOk, OnOk};
+ghost use Rattle.sql_values.specs.declared.value.Value.{Value as SqlValue};
+ghost use Rattle.row_versions.specs.Log.{Content, IsOpen};
+ghost use Rattle.session_machine.specs.declared.reply.Outcome.{Outcome as OutcomeFacts};
+ghost use Rattle.session_machine.specs.Transactions.{started};
+ghost use Rattle.session_machine.specs.Walks.{Blocked, walked};
+ghost use Rattle.session_machine.specs.Tables.{Database as DatabaseFacts};
+ghost use Rattle.session_machine.specs.Running.{done, ended, pauses};
+ghost use Rattle.session_statements.specs.Acting.{halted, visit_at};
+ghost use Rattle.session_statements.specs.Keeping.{IsKept, IsOrderly, RowsIn};
+ghost use Rattle.session_statements.specs.Left.{left};
+
+use crate::act::{Act, Halt, Stop, Visited};
+use crate::database::Database;
+use crate::did::{Did, Work};
+use row_versions::{Seen, TableId, Versions};
+use session_machine::{Gathered, OpenTransaction, Outcome, Progress, Request, Transaction, Waiting};
+use sql_values::Row;
+use std::alloc::AllocError;
+
+impl<'a, 't, V: Versions> Database<'a, 't, V> {
+    /// Visits one target after the other, from this place on, and appends what is answered for them.
+    pub(crate) fn walk(
+        &mut self,
+        work: &Work<'_>,
+        act: &Act<'_, 'a, 't>,
+        targets: &[Seen],
+        place: usize,
+        rows: &mut Vec<Row>,
+    ) -> Result<Option<Halt<'t>>, AllocError>
+        requires within { work.now.table < length self.old.catalog.tables }
+        requires orderly { IsOrderly self.old }
+        requires its { RowsIn self.old.content work.now.table targets.now }
+        ensures walk { (before : Content) (outcome : List (List SqlValue) → OutcomeFacts) → IfOk result (λ halt.
+            ended before work.now outcome (walked (visit_at work.now act.now) self.old place rows.old.items (drop place targets.now))
+            ≡ halted before work.now outcome self.new rows.new.items halt) }
+        ensures kept { OnOk result (IsKept self.old self.new) }
+    {
+        for at in place..targets.len() {
+            match self.visit(work, act, &targets[at])? {
+                Visited::Passes => {}
+                Visited::Shows(row) => rows.push(row)?,
+                Visited::Stops(stop) => return Ok(Some(Halt { place: at, stop })),
+            }
+        }
+        Ok(None)
+    }
+
+    /// The statement waits at a target.
+    fn pause(
+        work: &Work<'_>,
+        begun: OpenTransaction,
+        place: usize,
+        request: Request,
+        rows: Vec<Row>,
+    ) -> Did<'t>
+        ensures { (before : Content) (db : DatabaseFacts) → begun ≡ started before work.now.t →
+            pauses before work.now (record { db = db; place = place; rows = rows.items; stop = Some (Blocked request) }) request ≡ left db result }
+    {
+        let around = work.around;
+        Did {
+            transaction: Transaction::Open(begun),
+            statement: Some(Progress {
+                table: TableId(work.place as u64),
+                view: work.view,
+                place,
+                rows: Gathered::of(rows),
+                wait: Waiting {
+                    number: around.number,
+                    request,
+                },
+            }),
+            outcome: Outcome::Waits,
+        }
+    }
+
+    /// The statement waits where it halted, or fails.
+    pub(crate) fn halt(
+        &mut self,
+        work: &Work<'_>,
+        begun: OpenTransaction,
+        halt: Halt<'t>,
+        rows: Vec<Row>,
+    ) -> Did<'t>
+        requires opened { IsOpen self.old.content work.now.t.tx }
+        ensures { (before : Content) (outcome : List (List SqlValue) → OutcomeFacts) → begun ≡ started before work.now.t →
+            halted before work.now outcome self.old rows.items (Some halt.entry) ≡ left self.new result }
+    {
+        match halt.stop {
+            Stop::Blocked(request) => {
+                Database::<'a, 't, V>::pause(work, begun, halt.place, request, rows)
+            }
+            Stop::Fails(fault) => self.fail(&work.by, fault),
+        }
+    }
+
+    /// A statement without a result goes over its targets, from this place on.
+    pub(crate) fn go_over(
+        &mut self,
+        work: &Work<'_>,
+        act: &Act<'_, 'a, 't>,
+        targets: &[Seen],
+        place: usize,
+        rows: Vec<Row>,
+    ) -> Result<Did<'t>, AllocError>
+        requires opened { IsOpen self.old.content work.now.t.tx }
+        requires room { work.now.t.command + 1 < 2 ^ 64 }
+        requires within { work.now.table < length self.old.catalog.tables }
+        requires orderly { IsOrderly self.old }
+        requires its { RowsIn self.old.content work.now.table targets.now }
+        ensures { IfOk result (λ did.
+            ended self.old.content work.now done (walked (visit_at work.now act.now) self.old place rows.items (drop place targets.now)) ≡ left self.new did) }
+    {
+        let mut answered = rows;
+        let begun = self.started(&work.by);
+        let after = self.after_query(&work.by);
+        match self.walk(work, act, targets, place, &mut answered)? {
+            None => Ok(Did::turned(Transaction::Open(after))),
+            Some(halt) => Ok(self.halt(work, begun, halt, answered)),
+        }
+    }
+}
