@@ -8,6 +8,7 @@ use Rattle.sql_trees.specs.Statements.{ColumnTree, SetTree, UpdateTree, DeleteTr
 use Rattle.sql_trees.specs.declared.stmt.Level.{Level}
 use Rattle.sql_trees.specs.declared.stmt.Level.TheVariants.{ReadCommitted, RepeatableRead}
 use Rattle.sql_values.specs.declared.value.Value.{Value}
+use Rattle.sql_values.specs.declared.row.Row.{Row}
 use Rattle.sql_values.specs.declared.fault.ValueFault.{ValueFault}
 use Rattle.sql_values.specs.Values.{if_ok}
 use Rattle.sql_values.specs.Expressions.{Cols, value}
@@ -287,13 +288,19 @@ pub kept_by : (db e : Database) (w : Work) (act : Act) (seen : Seen) (v : Visite
 kept_by db e w act seen v within orderly its same =
     subst (IsKept db) (ap (λ (x : Visit). x.db) same ∙ visit_db e v) (visit_keeps db w act seen within orderly its)
 
+get_or_any : {A : Type 0} (xs : List A) (i : ℕ) (a b : A) → i < length xs → get_or xs i a ≡ get_or xs i b
+get_or_any [] i a b l = absurd (omega (arith, l))
+get_or_any (x ∷ xs) zero a b l = refl
+get_or_any (x ∷ xs) (suc i) a b l = get_or_any xs i a b (omega (arith, l))
+
 -- the same from the beginning of a walk on
-pub kept_step : (db d e : Database) (w : Work) (act : Act) (targets : List Seen) (at : ℕ) (seen : Seen) (v : Visited) → w.table < length db.catalog.tables → RowsIn db.content w.table targets
-    → IsKept db d → at < length targets → get_or targets at seen ≡ seen → visit_at w act d seen ≡ visit_of e v → IsKept db e
-kept_step db d e w act targets at seen v within its kept below is same =
+pub kept_step : (db d e : Database) (w : Work) (act : Act) (targets : List Seen) (at : ℕ) (other : Seen) (v : Visited) → w.table < length db.catalog.tables → RowsIn db.content w.table targets
+    → IsKept db d → at < length targets → visit_at w act d (get_or targets at other) ≡ visit_of e v → IsKept db e
+kept_step db d e w act targets at other v within its kept below same =
+    let seen = get_or targets at other in
     kept_on db d e kept
     (kept_by d e w act seen v (subst (λ (x : Catalog). w.table < length x.tables) (sym kept.catalog) within) kept.orderly
-    (kept.rows seen.row w.table (subst (λ (s : Seen). RowIn db.content w.table s.row) is (its at seen below)))
+    (kept.rows seen.row w.table (its at other below))
     same)
 
 append_none : {A : Type 0} (xs : List A) → xs ++ [] ≡ xs
@@ -304,17 +311,22 @@ abbrev stepped : (Database → Seen → Visit) → ℕ → List (List Value) →
 stepped visit at rows rest v = unless_stopped v at rows v.stop (walked visit v.db (at + 1) (rows ++ v.rows) rest)
 
 -- a walk goes on behind a target that doesn't stop it
-walk_step : (visit : Database → Seen → Visit) (db e : Database) (targets : List Seen) (at : ℕ) (seen : Seen) (rows more : List (List Value)) → at < length targets → get_or targets at seen ≡ seen
-    → visit db seen ≡ goes_on e more → walked visit e (at + 1) (rows ++ more) (drop (at + 1) targets) ≡ walked visit db at rows (drop at targets)
-walk_step visit db e targets at seen rows more below is same =
-    sym (ap (walked visit db at rows) (drop_at targets at seen below (sym is)) ∙ ap (stepped visit at rows (drop (at + 1) targets)) same)
+walk_step : (visit : Database → Seen → Visit) (db e : Database) (targets : List Seen) (at : ℕ) (other : Seen) (rows more : List (List Value)) → at < length targets
+    → visit db (get_or targets at other) ≡ goes_on e more → walked visit e (at + 1) (rows ++ more) (drop (at + 1) targets) ≡ walked visit db at rows (drop at targets)
+walk_step visit db e targets at other rows more below same =
+    let seen = get_or targets at other in
+    sym (ap (walked visit db at rows) (drop_at targets at seen below (get_or_any targets at other seen below)) ∙ ap (stepped visit at rows (drop (at + 1) targets)) same)
 
-pub walk_passes : (visit : Database → Seen → Visit) (db e : Database) (targets : List Seen) (at : ℕ) (seen : Seen) (rows after : List (List Value)) → at < length targets → get_or targets at seen ≡ seen
-    → visit db seen ≡ goes_on e [] → after ≡ rows → walked visit e (at + 1) after (drop (at + 1) targets) ≡ walked visit db at rows (drop at targets)
-walk_passes visit db e targets at seen rows after below is same rows_are =
-    ap (λ rs. walked visit e (at + 1) rs (drop (at + 1) targets)) (rows_are ∙ sym (append_none rows)) ∙ walk_step visit db e targets at seen rows [] below is same
+pub walk_passes : (w : Work) (act : Act) (db e : Database) (targets : List Seen) (at : ℕ) (other : Seen) (rows after : List (List Value)) (v : Visited) → at < length targets
+    → visit_at w act db (get_or targets at other) ≡ visit_of e v → v ≡ Passes → rows ≡ after
+    → walked (visit_at w act) e (at + 1) after (drop (at + 1) targets) ≡ walked (visit_at w act) db at rows (drop at targets)
+walk_passes w act db e targets at other rows after v below same is rows_are =
+    ap (λ rs. walked (visit_at w act) e (at + 1) rs (drop (at + 1) targets)) (sym rows_are ∙ sym (append_none rows))
+    ∙ walk_step (visit_at w act) db e targets at other rows [] below (same ∙ ap (visit_of e) is)
 
-pub walk_shows : (visit : Database → Seen → Visit) (db e : Database) (targets : List Seen) (at : ℕ) (seen : Seen) (rows after : List (List Value)) (row : List Value) → at < length targets
-    → get_or targets at seen ≡ seen → visit db seen ≡ goes_on e (row ∷ []) → after ≡ rows ++ row ∷ [] → walked visit e (at + 1) after (drop (at + 1) targets) ≡ walked visit db at rows (drop at targets)
-walk_shows visit db e targets at seen rows after row below is same rows_are =
-    ap (λ rs. walked visit e (at + 1) rs (drop (at + 1) targets)) rows_are ∙ walk_step visit db e targets at seen rows (row ∷ []) below is same
+pub walk_shows : (w : Work) (act : Act) (db e : Database) (targets : List Seen) (at : ℕ) (other : Seen) (rows after : List (List Value)) (v : Visited) (row : Row) → at < length targets
+    → visit_at w act db (get_or targets at other) ≡ visit_of e v → v ≡ Shows row → after ≡ rows ++ row ∷ []
+    → walked (visit_at w act) e (at + 1) after (drop (at + 1) targets) ≡ walked (visit_at w act) db at rows (drop at targets)
+walk_shows w act db e targets at other rows after v row below same is rows_are =
+    ap (λ rs. walked (visit_at w act) e (at + 1) rs (drop (at + 1) targets)) rows_are
+    ∙ walk_step (visit_at w act) db e targets at other rows (row ∷ []) below (same ∙ ap (visit_of e) is)
