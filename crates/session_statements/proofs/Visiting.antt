@@ -1,10 +1,10 @@
 -- What a visit keeps true of the database, and which versions a target can take.
 use Rattle.std.proofs.Common.{◌≡◌, ℕ, suc, ◌<◌, ◌≤◌, ◌+◌, ◌==◌, Bool, true, false, List, [], ◌∷◌, ◌++◌, get_or, zero, length, length-append, length-set, set, drop, refl, ap, sym, ◌∙◌, subst, arith, inl, inr, ◌⊎◌}
-use Rattle.std.specs.Prelude.{Option, Some, None, slice_get, option_map, unwrap_or, Result, Ok, Err, if◌then◌else◌}
+use Rattle.std.specs.Prelude.{Option, Some, None, slice_get, unwrap_or, Result, Ok, Err, if◌then◌else◌}
 use Rattle.std.proofs.lemmas.Bool.{cases_eq, eqb-true}
 use Rattle.std.proofs.lemmas.List.{length-map}
 use Rattle.std.proofs.lemmas.Option.{slice_get_cases, slice_get_within, same_Some}
-use Rattle.sql_trees.specs.Statements.{ColumnTree, SetTree, UpdateTree, DeleteTree, SelectTree, update_of, delete_of, select_of}
+use Rattle.sql_trees.specs.Statements.{SetTree, UpdateTree, update_of}
 use Rattle.sql_trees.specs.declared.stmt.Level.{Level}
 use Rattle.sql_trees.specs.declared.stmt.Level.TheVariants.{ReadCommitted, RepeatableRead}
 use Rattle.sql_values.specs.declared.value.Value.{Value}
@@ -23,7 +23,7 @@ use Rattle.row_versions.proofs.Last.{newest_is_the_last}
 use Rattle.row_versions.proofs.Gets.{get-append_left, get-append_last}
 use Rattle.row_locks.specs.declared.held.Held.{Held}
 use Rattle.row_locks.specs.Waiting.{Waiting}
-use Rattle.session_queries.specs.Queries.{Target, each, assigned, placed, known, null_in, row_values}
+use Rattle.session_queries.specs.Queries.{Target, each, assigned, placed, known, null_in}
 use Rattle.session_queries.specs.Updates.{updated}
 use Rattle.update_recheck.specs.Asked.{Asked}
 use Rattle.update_recheck.specs.Outcome.{Holders, Version, Outcome, rechecked, outcome, holders, version_at, version_of, newest_version, target_outcome}
@@ -33,7 +33,7 @@ use Rattle.update_recheck.specs.Outcome.Outcome.{Takes, Skips, Waits, Deadlocks,
 use Rattle.session_machine.specs.Tables.{Database, Catalog, Table}
 use Rattle.session_machine.specs.Walks.{Visit, Walk, goes_on, unless_stopped, walked}
 use Rattle.session_machine.specs.Waits.{waits_in}
-use Rattle.session_machine.specs.Rows.{Work, columns_in, cols_in, values_of, written, unless_null, update_made, update_with, delete_with, lock_made, lock_with, settled, at_outcome}
+use Rattle.session_machine.specs.Rows.{Work, columns_in, cols_in, values_of, written, unless_null, update_made, lock_made, settled, at_outcome}
 use Rattle.session_machine.specs.Sound.{RowsFit, RowsStay}
 use Rattle.session_statements.specs.declared.act.Act.{Act}
 use Rattle.session_statements.specs.declared.act.Act.TheVariants.{Update, Delete, Lock}
