@@ -1,10 +1,9 @@
 -- What stays true of the database from one target to the next, and which versions can be taken.
-use Rattle.std.proofs.Common.{◌≡◌, ℕ, ◌<◌, ◌≤◌, ◌+◌, ◌==◌, suc, zero, Bool, true, false, List, [], ◌∷◌, ◌++◌, length, length-append, map, get_or, refl, ap, sym, ◌∙◌, subst, arith, inl, inr, ◌⊎◌, All, Contains}
-use Rattle.std.specs.Prelude.{Option, Some, None, slice_get, slice_set, option_map, option_and_then, unwrap_or, filter_map, Result, Ok, Err}
-use Rattle.std.proofs.lemmas.Bool.{cases_eq, eqb-true}
-use Rattle.std.proofs.lemmas.List.{length-map, length-set}
+use Rattle.std.proofs.Common.{◌≡◌, ℕ, ◌<◌, ◌≤◌, suc, zero, List, [], ◌∷◌, length, get_or, refl, ap, sym, ◌∙◌, subst, arith, inl, inr, ◌⊎◌, All}
+use Rattle.std.specs.Prelude.{Option, Some, None, slice_get, option_map, option_and_then, unwrap_or, filter_map}
+use Rattle.std.proofs.lemmas.List.{length-map}
 use Rattle.std.proofs.lemmas.List.Elements.{Contains-get_or}
-use Rattle.std.proofs.lemmas.Option.{slice_get_cases, slice_get_within, same_Some}
+use Rattle.std.proofs.lemmas.Option.{slice_get_cases, same_Some}
 use Rattle.sql_values.specs.declared.value.Value.{Value}
 use Rattle.row_versions.specs.declared.names.TxId.{TxId}
 use Rattle.row_versions.specs.declared.names.RowId.{RowId}
@@ -12,20 +11,19 @@ use Rattle.row_versions.specs.declared.names.TableId.{TableId}
 use Rattle.row_versions.specs.declared.write.Write.{Write}
 use Rattle.row_versions.specs.declared.write.View.{View}
 use Rattle.row_versions.specs.declared.write.Seen.{Seen}
-use Rattle.row_versions.specs.Log.{Content, values_at, after_write}
+use Rattle.row_versions.specs.Log.{Content, values_at}
 use Rattle.row_versions.specs.Rows.{rows_of}
 use Rattle.row_versions.specs.Newest.{newest_of}
 use Rattle.row_versions.specs.Laws.{IsShown, IsNewest}
 use Rattle.row_versions.proofs.Shown.{shown_from_rows}
 use Rattle.row_versions.proofs.Last.{newest_is_the_last}
-use Rattle.row_versions.proofs.Gets.{get-append_left, get-append_last}
 use Rattle.session_machine.specs.Tables.{Database, Catalog, Table}
 use Rattle.session_machine.specs.Statements.{columns_at}
 use Rattle.session_machine.specs.Sound.{RowsFit, RowsStay}
 use Rattle.session_queries.specs.Queries.{known}
 use Rattle.session_machine.specs.Rows.{cols_in}
-use Rattle.session_machine.specs.Rows.{Work, columns_in, values_of}
-use Rattle.session_statements.specs.Keeping.{RowIn, RowsIn, IsOrderly, IsKept}
+use Rattle.session_machine.specs.Rows.{Work, columns_in}
+use Rattle.session_statements.specs.Keeping.{RowIn, RowsIn, IsOrderly}
 
 -- the columns of the table at a place
 pub columns_are : (catalog : Catalog) (k : ℕ) (t : Table) → slice_get catalog.tables k ≡ Some t → length (columns_at catalog k) ≡ length t.made.columns

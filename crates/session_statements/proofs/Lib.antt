@@ -3,3 +3,4 @@ pub mod Lists
 pub mod Lent
 pub mod Keeping
 pub mod Placing
+pub mod Visiting

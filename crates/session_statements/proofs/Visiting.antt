@@ -1,0 +1,332 @@
+-- What a visit keeps true of the database, and which versions a target can take.
+use Rattle.std.proofs.Common.{◌≡◌, ℕ, suc, ◌<◌, ◌≤◌, ◌+◌, ◌==◌, Bool, true, false, List, [], ◌∷◌, ◌++◌, get_or, zero, length, length-append, length-set, set, drop, refl, ap, sym, ◌∙◌, subst, arith, inl, inr, ◌⊎◌}
+use Rattle.std.specs.Prelude.{Option, Some, None, slice_get, unwrap_or, Result, Ok, Err, if◌then◌else◌}
+use Rattle.std.proofs.lemmas.Bool.{cases_eq, eqb-true}
+use Rattle.std.proofs.lemmas.List.{length-map}
+use Rattle.std.proofs.lemmas.Option.{slice_get_cases, slice_get_within, same_Some}
+use Rattle.sql_trees.specs.Statements.{SetTree, UpdateTree, update_of}
+use Rattle.sql_trees.specs.declared.stmt.Level.{Level}
+use Rattle.sql_trees.specs.declared.stmt.Level.TheVariants.{ReadCommitted, RepeatableRead}
+use Rattle.sql_values.specs.declared.value.Value.{Value}
+use Rattle.sql_values.specs.declared.row.Row.{Row}
+use Rattle.sql_values.specs.declared.fault.ValueFault.{ValueFault}
+use Rattle.sql_values.specs.Values.{if_ok}
+use Rattle.sql_values.specs.Expressions.{Cols, value}
+use Rattle.row_versions.specs.declared.names.RowId.{RowId}
+use Rattle.row_versions.specs.declared.names.TableId.{TableId}
+use Rattle.row_versions.specs.declared.write.Write.{Write}
+use Rattle.row_versions.specs.declared.write.Seen.{Seen}
+use Rattle.row_versions.specs.Log.{Content, values_at, after_write}
+use Rattle.row_versions.specs.Newest.{newest_of}
+use Rattle.row_versions.specs.Laws.{IsNewest}
+use Rattle.row_versions.proofs.Last.{newest_is_the_last}
+use Rattle.row_versions.proofs.Gets.{get-append_left, get-append_last}
+use Rattle.row_locks.specs.declared.held.Held.{Held}
+use Rattle.row_locks.specs.Waiting.{Waiting}
+use Rattle.session_queries.specs.Queries.{Target, each, assigned, placed, known, null_in}
+use Rattle.session_queries.specs.Updates.{updated}
+use Rattle.update_recheck.specs.Asked.{Asked}
+use Rattle.update_recheck.specs.Outcome.{Holders, Version, Outcome, rechecked, outcome, holders, version_at, version_of, newest_version, target_outcome}
+use Rattle.update_recheck.specs.Outcome.Holders.{Nobody, Others, OthersInACycle}
+use Rattle.update_recheck.specs.Outcome.Version.{Same, Gone, Newer}
+use Rattle.update_recheck.specs.Outcome.Outcome.{Takes, Skips, Waits, Deadlocks, Serializes, Faults}
+use Rattle.session_machine.specs.Tables.{Database, Catalog, Table}
+use Rattle.session_machine.specs.Walks.{Visit, Walk, goes_on, unless_stopped, walked}
+use Rattle.session_machine.specs.Waits.{waits_in}
+use Rattle.session_machine.specs.Rows.{Work, columns_in, cols_in, values_of, written, unless_null, update_made, lock_made, settled, at_outcome}
+use Rattle.session_machine.specs.Sound.{RowsFit, RowsStay}
+use Rattle.session_statements.specs.declared.act.Act.{Act}
+use Rattle.session_statements.specs.declared.act.Act.TheVariants.{Update, Delete, Lock}
+use Rattle.session_statements.specs.declared.act.Visited.{Visited}
+use Rattle.session_statements.specs.declared.act.Visited.TheVariants.{Passes, Shows, Stops}
+use Rattle.session_statements.specs.Acting.{act_with, asks, visit_at, visit_of}
+use Rattle.session_statements.specs.Keeping.{RowIn, RowsIn, IsOrderly, IsKept, CanTake}
+use Rattle.session_statements.proofs.Keeping.{columns_are, newest_fits}
+use Rattle.session_statements.proofs.Lists.{drop_at}
+
+-- of whatever is taken this holds
+abbrev pub Comes : (Seen → Type 0) → Outcome → Type 0
+Comes P (Takes seen) = P seen
+Comes P o = Unit {0}
+
+-- of the version that the outcome may take this holds
+abbrev pub OfVersion : (Seen → Type 0) → Seen → Version → Type 0
+OfVersion P found Same = P found
+OfVersion P found Gone = Unit {0}
+OfVersion P found (Newer m condition) = P m
+
+rechecked_comes : (P : Seen → Type 0) (m : Seen) (r : Result Bool ValueFault) → P m → Comes P (rechecked m r)
+rechecked_comes P m (Ok true) h = h
+rechecked_comes P m (Ok false) h = tt
+rechecked_comes P m (Err fault) h = tt
+
+outcome_comes : (P : Seen → Type 0) (level : Level) (found : Seen) (h : Holders) (v : Version) → OfVersion P found v → Comes P (outcome level found h v)
+outcome_comes P ReadCommitted found OthersInACycle v p = tt
+outcome_comes P ReadCommitted found Others v p = tt
+outcome_comes P ReadCommitted found Nobody Gone p = tt
+outcome_comes P ReadCommitted found Nobody Same p = p
+outcome_comes P ReadCommitted found Nobody (Newer m r) p = rechecked_comes P m r p
+outcome_comes P RepeatableRead found OthersInACycle Gone p = tt
+outcome_comes P RepeatableRead found Others Gone p = tt
+outcome_comes P RepeatableRead found Nobody Gone p = tt
+outcome_comes P RepeatableRead found OthersInACycle (Newer m r) p = tt
+outcome_comes P RepeatableRead found Others (Newer m r) p = tt
+outcome_comes P RepeatableRead found Nobody (Newer m r) p = tt
+outcome_comes P RepeatableRead found OthersInACycle Same p = tt
+outcome_comes P RepeatableRead found Others Same p = tt
+outcome_comes P RepeatableRead found Nobody Same p = p
+
+at_place : (P : Seen → Type 0) (found m : Seen) (r : Result Bool ValueFault) (b : Bool) → (m.place == found.place) ≡ b → P m → (m.place ≡ found.place → P found)
+    → OfVersion P found (if b then Same else Newer m r)
+at_place P found m r true e p q = q (eqb-true m.place found.place e)
+at_place P found m r false e p q = p
+
+version_comes : (P : Seen → Type 0) (c : Content) (a : Asked) (m : Seen) (o : Option (List Value)) → values_at c m.place ≡ o
+    → ((values : List Value) → values_at c m.place ≡ Some values → P m × (m.place ≡ a.seen.place → P a.seen)) → OfVersion P a.seen (version_at a m o)
+version_comes P c a m None e h = tt
+version_comes P c a m (Some values) e h = at_place P a.seen m _ (m.place == a.seen.place) refl (h values e).0 (h values e).1
+
+newest_comes : (P : Seen → Type 0) (c : Content) (a : Asked) (o : Option Seen)
+    → ((m : Seen) → o ≡ Some m → (values : List Value) → values_at c m.place ≡ Some values → P m × (m.place ≡ a.seen.place → P a.seen)) → OfVersion P a.seen (version_of c a o)
+newest_comes P c a None h = tt
+newest_comes P c a (Some m) h = version_comes P c a m (values_at c m.place) refl (h m refl)
+
+-- the version is one of a row of the table, and has a value for each column
+abbrev pub IsFit : Database → Work → Seen → Type 0
+IsFit db w seen = RowIn db.content w.table seen.row × (length (values_of db seen) ≡ length (columns_in db w))
+
+pub outcome_fits : (db : Database) (w : Work) (act : Act) (seen : Seen) (waits : List Waiting) → IsOrderly db → RowIn db.content w.table seen.row
+    → Comes (IsFit db w) (target_outcome db.content db.held waits (asks db w act seen))
+outcome_fits db w act seen waits orderly its =
+    let a = asks db w act seen in
+    outcome_comes (IsFit db w) w.t.level seen (holders db.held waits a) (newest_version db.content a)
+    (newest_comes (IsFit db w) db.content a (newest_of db.content seen.row w.t.tx) newest) where
+      long : (m : Seen) (values : List Value) → newest_of db.content seen.row w.t.tx ≡ Some m → values_at db.content m.place ≡ Some values → length (values_of db m) ≡ length (columns_in db w)
+      long m values e has =
+          ap (λ (o : Option (List Value)). length (unwrap_or o [])) has
+          ∙ newest_fits db w seen.row w.t.tx orderly its m values e has
+          ∙ length-map (columns_in db w) known
+
+      row_of : (m : Seen) → newest_of db.content seen.row w.t.tx ≡ Some m → m.row ≡ seen.row
+      row_of m e = let h : IsNewest db.content seen.row w.t.tx m = ((newest_is_the_last db.content seen.row w.t.tx).0 m).0 e in h.named
+
+      newest : (m : Seen) → newest_of db.content seen.row w.t.tx ≡ Some m → (values : List Value) → values_at db.content m.place ≡ Some values
+          → IsFit db w m × (m.place ≡ seen.place → IsFit db w seen)
+      newest m e values has =
+          ((subst (λ r. RowIn db.content w.table r) (sym (row_of m e)) its, long m values e has),
+           λ same. (its, ap (λ (p : ℕ). length (unwrap_or (values_at db.content p) [])) (sym same) ∙ long m values e has))
+
+can_take_of : (db : Database) (held : List Held) (w : Work) (o : Outcome) → Comes (IsFit db w) o → CanTake (record db { held = held }) w o
+can_take_of db held w (Takes seen) h = h.1
+can_take_of db held w Skips h = tt
+can_take_of db held w Waits h = tt
+can_take_of db held w Deadlocks h = tt
+can_take_of db held w Serializes h = tt
+can_take_of db held w (Faults fault) h = tt
+
+-- the version that a target takes has a value for each column
+pub can_take : (db e : Database) (w : Work) (act : Act) (seen : Seen) (o : Outcome) → IsOrderly db → RowIn db.content w.table seen.row
+    → e ≡ settled db w (asks db w act seen) → o ≡ target_outcome db.content db.held (waits_in db w.around.sessions) (asks db w act seen) → CanTake e w o
+can_take db e w act seen o orderly its same is =
+    subst (λ d. CanTake d w o) (sym same)
+    (can_take_of db (settled db w (asks db w act seen)).held w o
+    (subst (Comes (IsFit db w)) (sym is) (outcome_fits db w act seen (waits_in db w.around.sessions) orderly its)))
+
+get-append_at : {A : Type 0} (xs ys : List A) (i : ℕ) (x : A) → slice_get xs i ≡ Some x → slice_get (xs ++ ys) i ≡ Some x
+get-append_at [] ys i x h = cc
+get-append_at (y ∷ xs) ys zero x h = h
+get-append_at (y ∷ xs) ys (suc i) x h = get-append_at xs ys i x h
+
+-- a value's place takes nothing from the row
+length-placed : (targets : List Target) (values row : List Value) → length (placed targets values row) ≡ length row
+length-placed [] values row = refl
+length-placed (t ∷ ts) [] row = refl
+length-placed (t ∷ ts) (v ∷ vs) row = length-placed ts vs (set row t.place v) ∙ length-set row t.place v
+
+same_Ok : {A : Type 0} {a b : A} → (let x : Result A ValueFault = Ok a in let y : Result A ValueFault = Ok b in x ≡ y) → a ≡ b
+same_Ok h = cc
+
+-- what is placed in a row has its length
+length-put : (targets : List Target) (row values : List Value) (r : Result (List Value) ValueFault)
+    → if_ok r (λ vs. if_ok (assigned targets vs) (λ vs. Ok (placed targets vs row))) ≡ Ok values → length values ≡ length row
+length-put targets row values (Err f) e = cc
+length-put targets row values (Ok vs) e = at_assigned (assigned targets vs) e where
+  at_assigned : (r : Result (List Value) ValueFault) → if_ok r (λ vs. Ok (placed targets vs row)) ≡ Ok values → length values ≡ length row
+  at_assigned (Err f) e = cc
+  at_assigned (Ok vs) e = ap length (sym (same_Ok e)) ∙ length-placed targets vs row
+
+-- an updated row has as many values as before
+length-updated : (cols : Cols) (targets : List Target) (sets : List SetTree) (row values : List Value) → updated cols targets sets row ≡ Ok values → length values ≡ length row
+length-updated cols targets sets row values h = length-put targets row values (each (λ (s : SetTree). value s.value cols row) sets) h
+
+-- what stands in a log with a last write: a write from before, or that one
+last_or_before : (c : Content) (new : Write) (place : ℕ) (w : Write) → slice_get (after_write c new).log place ≡ Some w → (slice_get c.log place ≡ Some w) ⊎ (new ≡ w)
+last_or_before c new place w there =
+    elim (cases_eq place (length c.log)) [
+      | inl last ↦ inr (same_Some new w (sym (get-append_last c.log new) ∙ (ap (slice_get (c.log ++ new ∷ [])) (sym last) ∙ there)))
+      | inr other ↦
+          let within = slice_get_within (c.log ++ new ∷ []) place w there in
+          let long = length-append c.log (new ∷ []) in
+          inl (sym (get-append_left c.log (new ∷ []) place (omega arith)) ∙ there)
+    ]
+
+-- a row of a table is one of it after another write
+row_in_written : (c : Content) (new : Write) (row : RowId) (k : ℕ) → RowIn c k row → RowIn (after_write c new) k row
+row_in_written c new row k its = (its.0, get-append_at c.log (new ∷ []) row.0 its.0 its.1, its.2)
+
+table_at : (tables : List Table) (k : ℕ) → k < length tables
+    → ((t : Table) × (k < length tables) × (slice_get tables k ≡ Some t) × (get_or tables k t ≡ t)) ⊎ ((length tables ≤ k) × (slice_get tables k ≡ None))
+    → (t : Table) × (slice_get tables k ≡ Some t)
+table_at tables k within (inl w) = (w.0, w.2)
+table_at tables k within (inr w) = let past : length tables ≤ k = w.0 in absurd (omega arith)
+
+-- a write more fits if what it gives does
+fit_written : (c : Content) (catalog : Catalog) (table : Table) (new : Write) → RowsFit c catalog → slice_get catalog.tables new.table.0 ≡ Some table
+    → ((values : List Value) → new.values ≡ Some values → length values ≡ length table.made.columns) → RowsFit (after_write c new) catalog
+fit_written c catalog table new fit at long place w vs there its =
+    elim (last_or_before c new place w there) [
+      | inl before ↦ fit place w vs before its
+      | inr e ↦ (table, ap (λ (v : Write). slice_get catalog.tables v.table.0) (sym e) ∙ at, long vs (ap (λ (v : Write). v.values) e ∙ its))
+    ]
+
+-- and stays if its row is one of its table
+stay_written : (c : Content) (new : Write) → RowsStay c → (let d = after_write c new in (first : Write) × (slice_get d.log new.row.0 ≡ Some first) × (first.table ≡ new.table))
+    → RowsStay (after_write c new)
+stay_written c new stay first place w there =
+    elim (last_or_before c new place w there) [
+      | inl before ↦ let f = stay place w before in (f.0, get-append_at c.log (new ∷ []) w.row.0 f.0 f.1, f.2)
+      | inr e ↦ subst (λ (v : Write). (let d = after_write c new in (f : Write) × (slice_get d.log v.row.0 ≡ Some f) × (f.table ≡ v.table))) e first
+    ]
+
+-- nothing is written
+pub kept_here : (db : Database) → IsOrderly db → IsKept db db
+kept_here db orderly = record { fates = refl; catalog = refl; orderly = orderly; rows = λ row k h. h }
+
+-- one after the other
+pub kept_on : (a b c : Database) → IsKept a b → IsKept b c → IsKept a c
+kept_on a b c h k = record { fates = k.fates ∙ h.fates; catalog = k.catalog ∙ h.catalog; orderly = k.orderly; rows = λ row n i. k.rows row n (h.rows row n i) }
+
+same_table : (a b : TableId) → a.0 ≡ b.0 → a ≡ b
+same_table a b h = let of : ℕ → TableId = λ n. record { 0 = n } in ap of h
+
+-- a row of the table is written
+kept_written : (db : Database) (w : Work) (row : RowId) (values : Option (List Value)) → w.table < length db.catalog.tables → IsOrderly db → RowIn db.content w.table row
+    → ((vs : List Value) → values ≡ Some vs → length vs ≡ length (columns_in db w)) → IsKept db (written db w row values)
+kept_written db w row values within orderly its long =
+    record {
+      fates = refl;
+      catalog = refl;
+      orderly = (fit_written db.content db.catalog t.0 new orderly.0 t.1 (λ vs h. long vs h ∙ columns_are db.catalog w.table t.0 t.1),
+                 stay_written db.content new orderly.1 (its.0, get-append_at db.content.log (new ∷ []) row.0 its.0 its.1, same_table its.0.table new.table its.2));
+      rows = λ r k h. row_in_written db.content new r k h;
+    } where
+      new : Write
+      new = record { tx = w.t.tx; command = w.t.command; table = record { 0 = w.table }; row = row; values = values }
+
+      t : (t : Table) × (slice_get db.catalog.tables w.table ≡ Some t)
+      t = table_at db.catalog.tables w.table within (slice_get_cases db.catalog.tables w.table).1
+
+-- what may come of a version that is taken
+abbrev CanAct : Database → Work → Seen → Type 0
+CanAct db w seen = (w.table < length db.catalog.tables) × (IsOrderly db) × IsFit db w seen
+
+unless_null_keeps : (name : List ℕ) (db after : Database) (o : Option (List ℕ)) → IsOrderly db → IsKept db after → IsKept db (unless_null name db after o).db
+unless_null_keeps name db after (Some column) h k = kept_here db h
+unless_null_keeps name db after None h k = k
+
+update_keeps : (w : Work) (u : UpdateTree) (targets : List Target) (db : Database) (seen : Seen) (r : Result (List Value) ValueFault)
+    → updated (cols_in db w) targets u.sets (values_of db seen) ≡ r → CanAct db w seen → IsKept db (update_made w u.table db seen.row r).db
+update_keeps w u targets db seen (Err fault) e h = kept_here db h.1
+update_keeps w u targets db seen (Ok values) e h =
+    unless_null_keeps u.table db (written db w seen.row (Some values)) (null_in (columns_in db w) values) h.1
+    (kept_written db w seen.row (Some values) h.0 h.1 h.2.0
+    (λ vs is. ap length (sym (same_Some values vs is)) ∙ length-updated (cols_in db w) targets u.sets (values_of db seen) values e ∙ h.2.1))
+
+none_some : {A : Type 0} (x : A) → None ≡ Some x → ⊥
+none_some x h = cc
+
+lock_keeps : (db : Database) (r : Result (List Value) ValueFault) → IsOrderly db → IsKept db (lock_made db r).db
+lock_keeps db (Err fault) h = kept_here db h
+lock_keeps db (Ok row) h = kept_here db h
+
+act_keeps : (w : Work) (act : Act) (db : Database) (seen : Seen) → CanAct db w seen → IsKept db (act_with w act db seen).db
+act_keeps w (Update u targets) db seen h = update_keeps w (update_of u.now) targets.now db seen _ refl h
+act_keeps w (Delete d) db seen h = kept_written db w seen.row None h.0 h.1 h.2.0 (λ vs is. absurd (none_some vs is))
+act_keeps w (Lock s strength) db seen h = lock_keeps db _ h.1
+
+-- more locks
+kept_held : (db : Database) (held : List Held) → IsOrderly db → IsKept db (record db { held = held })
+kept_held db held orderly = record { fates = refl; catalog = refl; orderly = orderly; rows = λ row k h. h }
+
+outcome_keeps : (w : Work) (act : Act) (db : Database) (held : List Held) (a : Asked) (o : Outcome) → w.table < length db.catalog.tables → IsOrderly db → Comes (IsFit db w) o
+    → (let d : Database = record db { held = held } in IsKept d (at_outcome (act_with w act) d a o).db)
+outcome_keeps w act db held a (Takes seen) within orderly h = act_keeps w act (record db { held = held }) seen (within, orderly, h)
+outcome_keeps w act db held a Skips within orderly h = kept_here (record db { held = held }) orderly
+outcome_keeps w act db held a Waits within orderly h = kept_here (record db { held = held }) orderly
+outcome_keeps w act db held a Deadlocks within orderly h = kept_here (record db { held = held }) orderly
+outcome_keeps w act db held a Serializes within orderly h = kept_here (record db { held = held }) orderly
+outcome_keeps w act db held a (Faults fault) within orderly h = kept_here (record db { held = held }) orderly
+
+-- a target is visited
+pub visit_keeps : (db : Database) (w : Work) (act : Act) (seen : Seen) → w.table < length db.catalog.tables → IsOrderly db → RowIn db.content w.table seen.row
+    → IsKept db (visit_at w act db seen).db
+visit_keeps db w act seen within orderly its =
+    let a = asks db w act seen in
+    let held = (settled db w a).held in
+    kept_on db (record db { held = held }) _ (kept_held db held orderly)
+    (outcome_keeps w act db held a (target_outcome db.content db.held (waits_in db w.around.sessions) a) within orderly
+    (outcome_fits db w act seen (waits_in db w.around.sessions) orderly its))
+
+visit_db : (db : Database) (v : Visited) → (visit_of db v).db ≡ db
+visit_db db Passes = refl
+visit_db db (Shows row) = refl
+visit_db db (Stops stop) = refl
+
+-- the same, by what came of it
+pub kept_by : (db e : Database) (w : Work) (act : Act) (seen : Seen) (v : Visited) → w.table < length db.catalog.tables → IsOrderly db → RowIn db.content w.table seen.row
+    → visit_at w act db seen ≡ visit_of e v → IsKept db e
+kept_by db e w act seen v within orderly its same =
+    subst (IsKept db) (ap (λ (x : Visit). x.db) same ∙ visit_db e v) (visit_keeps db w act seen within orderly its)
+
+get_or_any : {A : Type 0} (xs : List A) (i : ℕ) (a b : A) → i < length xs → get_or xs i a ≡ get_or xs i b
+get_or_any [] i a b l = absurd (omega (arith, l))
+get_or_any (x ∷ xs) zero a b l = refl
+get_or_any (x ∷ xs) (suc i) a b l = get_or_any xs i a b (omega (arith, l))
+
+-- the same from the beginning of a walk on
+pub kept_step : (db d e : Database) (w : Work) (act : Act) (targets : List Seen) (at : ℕ) (other : Seen) (v : Visited) → w.table < length db.catalog.tables → RowsIn db.content w.table targets
+    → IsKept db d → at < length targets → visit_at w act d (get_or targets at other) ≡ visit_of e v → IsKept db e
+kept_step db d e w act targets at other v within its kept below same =
+    let seen = get_or targets at other in
+    kept_on db d e kept
+    (kept_by d e w act seen v (subst (λ (x : Catalog). w.table < length x.tables) (sym kept.catalog) within) kept.orderly
+    (kept.rows seen.row w.table (its at other below))
+    same)
+
+append_none : {A : Type 0} (xs : List A) → xs ++ [] ≡ xs
+append_none [] = refl
+append_none (x ∷ xs) = ap (λ ys. x ∷ ys) (append_none xs)
+
+abbrev stepped : (Database → Seen → Visit) → ℕ → List (List Value) → List Seen → Visit → Walk
+stepped visit at rows rest v = unless_stopped v at rows v.stop (walked visit v.db (at + 1) (rows ++ v.rows) rest)
+
+-- a walk goes on behind a target that doesn't stop it
+walk_step : (visit : Database → Seen → Visit) (db e : Database) (targets : List Seen) (at : ℕ) (other : Seen) (rows more : List (List Value)) → at < length targets
+    → visit db (get_or targets at other) ≡ goes_on e more → walked visit e (at + 1) (rows ++ more) (drop (at + 1) targets) ≡ walked visit db at rows (drop at targets)
+walk_step visit db e targets at other rows more below same =
+    let seen = get_or targets at other in
+    sym (ap (walked visit db at rows) (drop_at targets at seen below (get_or_any targets at other seen below)) ∙ ap (stepped visit at rows (drop (at + 1) targets)) same)
+
+pub walk_passes : (w : Work) (act : Act) (db e : Database) (targets : List Seen) (at : ℕ) (other : Seen) (rows after : List (List Value)) (v : Visited) → at < length targets
+    → visit_at w act db (get_or targets at other) ≡ visit_of e v → v ≡ Passes → rows ≡ after
+    → walked (visit_at w act) e (at + 1) after (drop (at + 1) targets) ≡ walked (visit_at w act) db at rows (drop at targets)
+walk_passes w act db e targets at other rows after v below same is rows_are =
+    ap (λ rs. walked (visit_at w act) e (at + 1) rs (drop (at + 1) targets)) (sym rows_are ∙ sym (append_none rows))
+    ∙ walk_step (visit_at w act) db e targets at other rows [] below (same ∙ ap (visit_of e) is)
+
+pub walk_shows : (w : Work) (act : Act) (db e : Database) (targets : List Seen) (at : ℕ) (other : Seen) (rows after : List (List Value)) (v : Visited) (row : Row) → at < length targets
+    → visit_at w act db (get_or targets at other) ≡ visit_of e v → v ≡ Shows row → after ≡ rows ++ row ∷ []
+    → walked (visit_at w act) e (at + 1) after (drop (at + 1) targets) ≡ walked (visit_at w act) db at rows (drop at targets)
+walk_shows w act db e targets at other rows after v row below same is rows_are =
+    ap (λ rs. walked (visit_at w act) e (at + 1) rs (drop (at + 1) targets)) rows_are
+    ∙ walk_step (visit_at w act) db e targets at other rows (row ∷ []) below (same ∙ ap (visit_of e) is)
