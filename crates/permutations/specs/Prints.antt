@@ -3,7 +3,7 @@ use Rattle.std.specs.Prelude.{◌≡◌, ℕ, zero, suc, Bool, true, false, List
 use Rattle.std.specs.List.{list_all}
 use Rattle.session_machine.specs.declared.reply.HistItem.{HistItem}
 use Rattle.session_machine.specs.Machine.{Blocks}
-use Rattle.session_machine.specs.Statements.{runs}
+use Rattle.session_machine.specs.Running.{runs}
 use Rattle.spec_parser.specs.Trees.{EntryTree, SpecTree}
 use Rattle.permutation_lists.specs.Permutations.{permutations_of}
 use Rattle.permutation_plans.specs.Regular.{IsRegular}

@@ -4,7 +4,7 @@ ghost use Rattle.std.specs.Prelude.{◌≡◌, ◌≢◌, ◌↔◌, ◌||◌, L
 ghost use Rattle.std.specs.List.{list_all};
 ghost use Rattle.iso_lexer.specs.Devices.{IsFront};
 ghost use Rattle.sql_trees.specs.Statements.{stmt_of};
-ghost use Rattle.session_machine.specs.Statements.{runs};
+ghost use Rattle.session_machine.specs.Running.{runs};
 ghost use Rattle.session_core.specs.Blocks.{block_of, blocks_of};
 ghost use Rattle.spec_parser.specs.Trees.{entry_view, spec_view};
 ghost use Rattle.spec_parser.specs.Stands.{Stands};

@@ -46,7 +46,10 @@ fn what_does_not_run_yet_is_listed(rt: HostRuntime) -> Result<(), AllocError> {
         ([].as_slice(), "", "isolationtester: R12 NotYet\n", 1),
         (["--list"].as_slice(), "permutation \"a\"\n", "", 0),
     ] {
-        let mut input = Gives::new("session s step a { UPDATE t SET x = 1 }", usize::MAX);
+        let mut input = Gives::new(
+            "setup { CREATE TABLE t (x int PRIMARY KEY) } session s step a { SELECT 1 }",
+            usize::MAX,
+        );
         let mut out = Takes::new(text, usize::MAX);
         let mut err = Takes::new(line, usize::MAX);
         let status = served(rt.alloc(), words, &mut input, &mut out, &mut err)?;

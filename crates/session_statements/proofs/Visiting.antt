@@ -112,9 +112,10 @@ outcome_fits db w act seen waits orderly its =
 
       newest : (m : Seen) → newest_of db.content seen.row w.t.tx ≡ Some m → (values : List Value) → values_at db.content m.place ≡ Some values
           → IsFit db w m × (m.place ≡ seen.place → IsFit db w seen)
-      newest m e values has =
-          ((subst (λ r. RowIn db.content w.table r) (sym (row_of m e)) its, long m values e has),
-           λ same. (its, ap (λ (p : ℕ). length (unwrap_or (values_at db.content p) [])) (sym same) ∙ long m values e has))
+      newest m e values has = (
+        (subst (λ r. RowIn db.content w.table r) (sym (row_of m e)) its, long m values e has),
+        λ same. (its, ap (λ (p : ℕ). length (unwrap_or (values_at db.content p) [])) (sym same) ∙ long m values e has),
+      )
 
 can_take_of : (db : Database) (held : List Held) (w : Work) (o : Outcome) → Comes (IsFit db w) o → CanTake (record db { held = held }) w o
 can_take_of db held w (Takes seen) h = h.1
@@ -216,8 +217,10 @@ kept_written db w row values within orderly its long =
     record {
       fates = refl;
       catalog = refl;
-      orderly = (fit_written db.content db.catalog t.0 new orderly.0 t.1 (λ vs h. long vs h ∙ columns_are db.catalog w.table t.0 t.1),
-                 stay_written db.content new orderly.1 (its.0, get-append_at db.content.log (new ∷ []) row.0 its.0 its.1, same_table its.0.table new.table its.2));
+      orderly = (
+        fit_written db.content db.catalog t.0 new orderly.0 t.1 (λ vs h. long vs h ∙ columns_are db.catalog w.table t.0 t.1),
+        stay_written db.content new orderly.1 (its.0, get-append_at db.content.log (new ∷ []) row.0 its.0 its.1, same_table its.0.table new.table its.2),
+      );
       rows = λ r k h. row_in_written db.content new r k h;
     } where
       new : Write

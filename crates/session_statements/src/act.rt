@@ -1,14 +1,14 @@
 //! What a statement does at its targets.
 
+ghost use Rattle.std.specs.Prelude.{◌≡◌, option_map};
+ghost use Rattle.sql_trees.specs.Trees.{tree_of};
+ghost use Rattle.session_statements.specs.Acting.{filter_in, strength_in};
+
 use row_locks::Strength;
 use session_machine::{Request, StmtFault};
 use session_queries::Targets;
 use sql_trees::{Delete, Expr, Select, Update};
 use sql_values::Row;
-
-ghost use Rattle.std.specs.Prelude.{◌≡◌, option_map};
-ghost use Rattle.sql_trees.specs.Trees.{tree_of};
-ghost use Rattle.session_statements.specs.Acting.{filter_in, strength_in};
 
 /// What is done at each target.
 #[derive(Drop)]

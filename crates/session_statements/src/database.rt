@@ -17,8 +17,8 @@ ghost use Rattle.session_machine.specs.Rows.{columns_in, inserted, seen_by, valu
 ghost use Rattle.session_machine.specs.Machine.{empty_database, visible_to};
 
 use crate::catalog::Catalog;
-use iso_lexer::Name;
 use crate::did::{Around, Work};
+use iso_lexer::Name;
 use row_locks::{LockTable, Strength};
 use row_versions::{RowId, Seen, TableId, TxId, Versions, View};
 use session_machine::{OpenTransaction, Request, Session, Transaction};
@@ -147,7 +147,10 @@ impl<'a, 't, V: Versions> Database<'a, 't, V> {
         ensures { OnOk result (self.new ≡ written self.old work.now row values) }
     {
         let table = TableId(work.place as u64);
-        match self.store.write(work.by.tx, work.by.command, table, Some(row), values) {
+        match self
+            .store
+            .write(work.by.tx, work.by.command, table, Some(row), values)
+        {
             Ok(_) => Ok(()),
             Err(_) => Err(AllocError),
         }
@@ -158,7 +161,10 @@ impl<'a, 't, V: Versions> Database<'a, 't, V> {
         ensures { OnOk result (self.new ≡ inserted self.old work.now values) }
     {
         let table = TableId(work.place as u64);
-        match self.store.write(work.by.tx, work.by.command, table, None, Some(values)) {
+        match self
+            .store
+            .write(work.by.tx, work.by.command, table, None, Some(values))
+        {
             Ok(row) => self.locks.take(row, work.by.tx, Strength::Exclusive),
             Err(_) => Err(AllocError),
         }

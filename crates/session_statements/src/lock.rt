@@ -96,7 +96,7 @@ impl<'a, 't, V: Versions> Database<'a, 't, V> {
         requires its { RowsIn self.old.content work.now.table targets.now }
         ensures { IfOk result (λ did.
             ended self.old.content work.now (λ shown. Rows (record { titles = titles_of (columns_in self.old work.now) (map item_of stmt.now.items.items); rows = shown }))
-                (walked (visit_at work.now act.now) self.old place rows.items (drop place targets.now)) ≡ left self.new did) }
+            (walked (visit_at work.now act.now) self.old place rows.items (drop place targets.now)) ≡ left self.new did) }
     {
         let mut answered = rows;
         let begun = self.started(&work.by);

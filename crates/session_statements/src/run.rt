@@ -70,11 +70,7 @@ impl<'a, 't, V: Versions> Database<'a, 't, V> {
     }
 
     /// A transaction begins, and nothing else is done.
-    fn begin_one(
-        &mut self,
-        level: Level,
-        explicit: bool,
-    ) -> Result<Did<'t>, AllocError>
+    fn begin_one(&mut self, level: Level, explicit: bool) -> Result<Did<'t>, AllocError>
         ensures { IfOk result (λ did.
             turns (begun self.old) (Transaction.Open (fresh self.old.content level explicit))
             ≡ left self.new did) }

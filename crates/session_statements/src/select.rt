@@ -76,11 +76,7 @@ impl<'a, 't, V: Versions> Database<'a, 't, V> {
     }
 
     /// A SELECT goes by whether it locks.
-    fn select_rows(
-        &mut self,
-        work: &Work<'_>,
-        stmt: &'a Select<'t>,
-    ) -> Result<Did<'t>, AllocError>
+    fn select_rows(&mut self, work: &Work<'_>, stmt: &'a Select<'t>) -> Result<Did<'t>, AllocError>
         requires opened { IsOpen self.old.content work.now.t.tx }
         requires room { work.now.t.command + 1 < 2 ^ 64 }
         requires within { work.now.table < length self.old.catalog.tables }
@@ -97,11 +93,7 @@ impl<'a, 't, V: Versions> Database<'a, 't, V> {
     }
 
     /// A SELECT from its table: it names no column that isn't there, and no position.
-    fn select_in(
-        &mut self,
-        work: &Work<'_>,
-        stmt: &'a Select<'t>,
-    ) -> Result<Did<'t>, AllocError>
+    fn select_in(&mut self, work: &Work<'_>, stmt: &'a Select<'t>) -> Result<Did<'t>, AllocError>
         requires opened { IsOpen self.old.content work.now.t.tx }
         requires room { work.now.t.command + 1 < 2 ^ 64 }
         requires within { work.now.table < length self.old.catalog.tables }
@@ -149,7 +141,7 @@ impl<'a, 't, V: Versions> Database<'a, 't, V> {
         requires room { by.now.command + 1 < 2 ^ 64 }
         ensures { IfOk result (λ did.
             unless_wrong self.old by.now (lacking_select [] (select_of stmt.now)) (wrong_position [] (select_of stmt.now))
-                (answered self.old by.now (result_of (select_of stmt.now) [] ([] ∷ []))) ≡ left self.new did) }
+            (answered self.old by.now (result_of (select_of stmt.now) [] ([] ∷ []))) ≡ left self.new did) }
     {
         if let Some(name) = lacking_select(&[], stmt) {
             return Ok(self.fail_column(by, name));

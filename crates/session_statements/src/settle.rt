@@ -33,15 +33,12 @@ fn known<'a>(columns: &'a [Column<'a>]) -> Columns<'a>
 
 impl<'a, 't, V: Versions> Database<'a, 't, V> {
     /// Settles the target that is asked for.
-    fn settle_ask(
-        &mut self,
-        waits: &Waits,
-        ask: &Ask<'_, 't>,
-    ) -> Result<Settled<'t>, AllocError>
+    fn settle_ask(&mut self, waits: &Waits, ask: &Ask<'_, 't>) -> Result<Settled<'t>, AllocError>
         requires { Fits self.old.content (asked ask.now) }
         ensures outcome { IfOk result (λ s. outcome_of s ≡ target_outcome self.old.content self.old.held waits.now (asked ask.now)) }
         ensures locks { OnOk result (self.new ≡ record self.old {
-            held = locks_after (is_target_locked self.old.content self.old.held waits.now (asked ask.now)) self.old.held (lock_of (asked ask.now)) }) }
+          held = locks_after (is_target_locked self.old.content self.old.held waits.now (asked ask.now)) self.old.held (lock_of (asked ask.now));
+        }) }
     {
         settle(self.alloc, &self.store, &mut self.locks, waits, ask)
     }

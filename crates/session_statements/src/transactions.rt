@@ -46,11 +46,7 @@ fn has_query(by: &OpenTransaction) -> bool
 
 impl<'a, 't, V: Versions> Database<'a, 't, V> {
     /// The statement failed: its transaction is undone.
-    pub(crate) fn fail(
-        &mut self,
-        by: &OpenTransaction,
-        fault: StmtFault<'t>,
-    ) -> Did<'t>
+    pub(crate) fn fail(&mut self, by: &OpenTransaction, fault: StmtFault<'t>) -> Did<'t>
         requires { IsOpen self.old.content by.now.tx }
         ensures { fails self.old by.now fault.entry ≡ left self.new result }
     {
@@ -91,11 +87,7 @@ impl<'a, 't, V: Versions> Database<'a, 't, V> {
     }
 
     /// BEGIN in an open transaction.
-    pub(crate) fn begin_again(
-        &mut self,
-        by: &OpenTransaction,
-        level: Option<Level>,
-    ) -> Did<'t>
+    pub(crate) fn begin_again(&mut self, by: &OpenTransaction, level: Option<Level>) -> Did<'t>
         requires { IsOpen self.old.content by.now.tx }
         ensures { begin_in self.old by.now level ≡ left self.new result }
     {

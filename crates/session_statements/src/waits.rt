@@ -17,12 +17,7 @@ use std::alloc::AllocError;
 
 impl<'a, 't, V: Versions> Database<'a, 't, V> {
     /// The transaction waits for who holds what it asks for.
-    fn add_request(
-        &self,
-        waits: &mut Waits,
-        tx: TxId,
-        request: &Request,
-    ) -> Result<(), AllocError>
+    fn add_request(&self, waits: &mut Waits, tx: TxId, request: &Request) -> Result<(), AllocError>
         ensures { (a b : TxFacts) → OnOk result (blocks waits.new a b ≡ (blocks waits.old a b || (same_tx tx a && has (blockers self.now request.now tx) b))) }
     {
         match request {

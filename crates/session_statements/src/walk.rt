@@ -16,7 +16,9 @@ use crate::act::{Act, Halt, Stop, Visited};
 use crate::database::Database;
 use crate::did::{Did, Work};
 use row_versions::{Seen, TableId, Versions};
-use session_machine::{Gathered, OpenTransaction, Outcome, Progress, Request, Transaction, Waiting};
+use session_machine::{
+    Gathered, OpenTransaction, Outcome, Progress, Request, Transaction, Waiting,
+};
 use sql_values::Row;
 use std::alloc::AllocError;
 

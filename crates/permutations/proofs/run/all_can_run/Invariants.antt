@@ -1,7 +1,7 @@
 use Rattle.std.proofs.Common.{◌≡◌, drop, map}
 use Rattle.std.specs.List.{list_all}
 use Rattle.sql_trees.specs.Statements.{stmt_of}
-use Rattle.session_machine.specs.Statements.{runs}
+use Rattle.session_machine.specs.Running.{runs}
 use Rattle.permutations.proofs.run.all_can_run.Given as goal
 
 -- of the statements that are left the answer is that of all

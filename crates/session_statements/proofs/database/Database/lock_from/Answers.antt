@@ -29,4 +29,4 @@ returns-in-Ok g c =
     c.in-Ok.ensures.targets c.deref.ensures.value) in
     subst (λ (x : Did). IfOk c.lock_over.result (λ did. x ≡ left c.lock_over.new.self did)) (sym e)
     (subst (λ (x : Strength). IfOk c.lock_over.result (λ did.
-      ended db.content w outcome (walked (at x) db c.args.place c.args.rows.items (drop c.args.place c.deref.result.now)) ≡ left c.lock_over.new.self did)) c.strength_of.ensures c.lock_over.ensures)
+    ended db.content w outcome (walked (at x) db c.args.place c.args.rows.items (drop c.args.place c.deref.result.now)) ≡ left c.lock_over.new.self did)) c.strength_of.ensures c.lock_over.ensures)

@@ -18,8 +18,13 @@ returns-clause-outcome g c =
     let pairs : SamePairs waits (waits_in db w.around.sessions) = subst (λ (x : Work). SamePairs waits (waits_in db x.around.sessions)) c.work.view_is c.in_ok-waits.ensures in
     let law = c.outcomes_by_what_is_held.ensures db.content db.held db.held waits (waits_in db w.around.sessions) (asks db w c.args.act.now c.args.seen.now) (λ h. refl) pairs in
     let had : Asked = record {
-      tx = c.work.inside.by.tx; level = c.work.inside.by.level; view = c.work.inside.view; seen = c.args.seen.now; strength = c.strength.result;
-      condition = option_map (λ e. tree_of e.now) c.filter.result; cols = c.known-columns.result;
+      tx = c.work.inside.by.tx;
+      level = c.work.inside.by.level;
+      view = c.work.inside.view;
+      seen = c.args.seen.now;
+      strength = c.strength.result;
+      condition = option_map (λ e. tree_of e.now) c.filter.result;
+      cols = c.known-columns.result;
     } in
     let same : had ≡ asks db w c.args.act.now c.args.seen.now = search rules in
     c.in_ok-settled.ensures.outcome ∙ ap (target_outcome db.content db.held waits) same ∙ law.0

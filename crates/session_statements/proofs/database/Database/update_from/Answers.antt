@@ -25,4 +25,4 @@ returns-in-Ok g c =
     c.in-Ok.ensures.targets c.deref-in-Ok.ensures.value) in
     subst (λ (x : Did). IfOk c.go_over.result (λ did. x ≡ left c.go_over.new.self did)) (sym e)
     (subst (λ (x : List Target). IfOk c.go_over.result (λ did.
-      ended db.content w done (walked (update_at w u x) db c.args.place c.args.rows.items (drop c.args.place c.deref-in-Ok.result.now)) ≡ left c.go_over.new.self did)) same c.go_over.ensures)
+    ended db.content w done (walked (update_at w u x) db c.args.place c.args.rows.items (drop c.args.place c.deref-in-Ok.result.now)) ≡ left c.go_over.new.self did)) same c.go_over.ensures)

@@ -13,11 +13,11 @@ returns-in-Stops-clause-kept g c =
 pub loop-at-preserved : goal.loop-at-preserved
 loop-at-preserved g c = record {
   rest = (elim c.match-branch-2.branch [
-      | in-Passes w ↦ walk_passes c.args.work.now c.args.act.now c.loop-at.self c.visit.new.self c.args.targets.now c.loop-at.at _ c.loop-at.rows.items c.match-branch-2.rows.items _
-          (search rules) c.in_ok-visit.ensures w.in-Passes.is (sym (ap (λ (v : Vec Row Global). v.items) w.rows-is))
-      | in-Shows+in_ok-push-in-Shows w ↦ walk_shows c.args.work.now c.args.act.now c.loop-at.self c.visit.new.self c.args.targets.now c.loop-at.at _ c.loop-at.rows.items c.match-branch-2.rows.items _ _
-          (search rules) c.in_ok-visit.ensures w.in-Shows.is (ap (λ (v : Vec Row Global). v.items) w.rows-is ∙ w.in_ok-push-in-Shows.ensures.items)
-    ]) ∙ c.loop-at.invariant.rest;
+    | in-Passes w ↦ walk_passes c.args.work.now c.args.act.now c.loop-at.self c.visit.new.self c.args.targets.now c.loop-at.at _ c.loop-at.rows.items c.match-branch-2.rows.items _
+        (search rules) c.in_ok-visit.ensures w.in-Passes.is (sym (ap (λ (v : Vec Row Global). v.items) w.rows-is))
+    | in-Shows+in_ok-push-in-Shows w ↦ walk_shows c.args.work.now c.args.act.now c.loop-at.self c.visit.new.self c.args.targets.now c.loop-at.at _ c.loop-at.rows.items c.match-branch-2.rows.items _ _
+        (search rules) c.in_ok-visit.ensures w.in-Shows.is (ap (λ (v : Vec Row Global). v.items) w.rows-is ∙ w.in_ok-push-in-Shows.ensures.items)
+  ]) ∙ c.loop-at.invariant.rest;
   kept = kept_step c.args.self.now c.loop-at.self c.visit.new.self c.args.work.now c.args.act.now c.args.targets.now c.loop-at.at _ _ c.requires.within c.requires.its
-    c.loop-at.invariant.kept (search rules) c.in_ok-visit.ensures;
+      c.loop-at.invariant.kept (search rules) c.in_ok-visit.ensures;
 }
