@@ -188,6 +188,13 @@ impl<'a, 't, V: Versions> EngineState<'a, 't, V> {
         self.count == sessions && self.mode == mode && same_blocks(self.blocks, blocks)
     }
 
+    /// How many sessions it has beside the control session. It takes no memory.
+    pub fn sessions(&self) -> u32
+        ensures { result ≡ self.now.count }
+    {
+        self.count
+    }
+
     /// Whose turn it is. It takes no memory.
     pub fn turn(&self) -> Turn
         ensures { result ≡ turn_of self.now.machine }

@@ -7,15 +7,17 @@ use row_versions::Versions;
 use session_core::EngineState;
 use session_machine::Order;
 use std::alloc::{AllocError, Global};
+use std::marker::Brand;
 
 /// Says what is to be done next whenever an engine is quiet, by what the engine has answered so far.
 pub trait Driver<V: Versions> {
     // what it orders after a history
     ghost order_after: { Self → List Item → Given };
 
-    /// The next order. It is asked for where the engine is quiet.
+    /// The next order. It is asked for where the engine is quiet. What it orders after a history stays the same.
     fn next(&mut self, alloc: Global, engine: &EngineState<'_, '_, V>) -> Result<Order, AllocError>
-        ensures { IfOk result (λ order. order ≡ order_after self.old engine.now.history) };
+        ensures order { IfOk result (λ order. order ≡ order_after self.old engine.now.history) }
+        ensures same { order_after self.new ≡ order_after self.old };
 }
 
 /// A driver that is lent.
@@ -29,4 +31,15 @@ impl<V: Versions, D: Driver<V>> Driver<V> for &mut D {
     ) -> Result<Order, AllocError> {
         (**self).next(alloc, engine)
     }
+}
+
+/// The orders that a run is given. Each run picks those of its driver, and its threads hold on to them by the type.
+pub trait Ordering {
+    ghost orders: { List Item → Given };
+}
+
+impl Ordering for Brand {
+    ghost use Rattle.session_machine.specs.declared.event.Order.TheVariants.{Stop};
+
+    ghost orders = { λ items. Stop };
 }

@@ -1,7 +1,17 @@
-//! Sessions that are driven: who says what they are given.
+//! A thread for each session, and one engine behind one lock: who says what the sessions are given, who admits it, and
+//! what each session's thread has done.
 #![tactic(auto)]
 
+mod closing;
+mod directed;
 mod driver;
+mod gate;
+mod seat;
+mod shared;
 
+pub use closing::{Closed, close};
+pub use directed::run_directed;
 pub use driver::Driver;
+pub use gate::{Gate, OpenGate};
+pub use seat::{Seat, ThreadFault, act};
 pub use session_machine::Order;

@@ -1,0 +1,32 @@
+-- What doing one event leaves, of the engine and of the session's seat.
+use Rattle.std.specs.Prelude.{◌≡◌, ◌++◌, ◌∷◌, [], Ok, Err}
+use Rattle.session_machine.specs.declared.event.Event.{Event}
+use Rattle.session_machine.specs.declared.reply.Reply.{Reply}
+use Rattle.session_machine.specs.declared.fault.EngineFault.{EngineFault}
+use Rattle.session_machine.specs.declared.fault.EngineFault.TheVariants as engine_faults
+use Rattle.session_machine.specs.Engine.{Engine, engine_after, spent_engine}
+use Rattle.session_core.specs.Engines.{IsDue}
+use Rattle.session_threads.specs.declared.seat.ThreadFault.{ThreadFault}
+use Rattle.session_threads.specs.declared.seat.ThreadFault.TheVariants.{Engine as EngineRefused, Memory}
+use Rattle.session_threads.specs.Seats.{SeatOf}
+
+-- the item stands last in the seat
+abbrev pub with_item : SeatOf → Event → Reply → SeatOf
+with_item seat event reply = record seat { items = seat.items ++ record { event = event; reply = reply } ∷ [] }
+
+-- the engine answered the event as the machine does, and the seat has it
+pub record Acted (event : Event) (before after : Engine) (held kept : SeatOf) : Type 0 where
+  pub reply : Reply
+  pub engine : engine_after before event ≡ record { engine = after; answer = Ok reply }
+  pub seat : kept ≡ with_item held event reply
+
+-- the engine refused the event: as the machine does, or for want of memory, after which it is spent
+abbrev pub Refuses : Event → Engine → EngineFault → Engine → Type 0
+Refuses event before engine_faults.Memory after = (after ≡ spent_engine before) × IsDue before event
+Refuses event before fault after = engine_after before event ≡ record { engine = after; answer = Err fault }
+
+-- the event was not done: the engine refused it, or memory was refused before the engine was asked
+abbrev pub NotActed : Event → Engine → ThreadFault → Engine → Type 0
+NotActed event before (EngineRefused fault) after = Refuses event before fault after
+NotActed event before Memory after = after ≡ before
+NotActed event before _ after = ⊥

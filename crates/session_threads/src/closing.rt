@@ -1,0 +1,155 @@
+//! The end of a run: the engine's state beside the seats.
+ghost use Rattle.std.specs.Prelude.{◌≡◌, ◌≢◌, ◌<◌, ◌↔◌, ℕ, [], true, IsTrue, IfOk, IfErr, MatchOption};
+ghost use Rattle.session_threads.specs.Seats.{items_of, seats_of, seat_if, session_of, is_less, AllFit, IsMisfit};
+
+use crate::seat::{Seat, ThreadFault};
+use row_versions::Versions;
+use session_core::EngineState;
+use session_machine::{Event, HistItem};
+use std::marker::Model;
+
+/// A run that is over: the engine's state, and a seat for each session, whose items are the history's items of that
+/// session, in order.
+#[derive(Drop)]
+pub struct Closed<'a, 't, V: Versions> {
+    state: EngineState<'a, 't, V>,
+    seats: Vec<Seat<'t>>,
+}
+
+impl<'a, 't, V: Versions> Model for Closed<'a, 't, V> {
+    ghost use Rattle.session_threads.specs.Closing.{ClosedOf};
+    ghost use Rattle.session_threads.specs.Seats.{AllFit};
+    ghost use Rattle.session_core.specs.TreeCodes.{tree_code};
+    ghost use Rattle.std.specs.Coded.{codes};
+
+    ghost Value = { ClosedOf };
+
+    ghost coded = { Prim.hlevel (codes, tree_code) };
+
+    ghost view = { λ c. record { state = c.state; seats = c.seats.items } };
+
+    ghost invariant = { λ c. AllFit c.state c.seats.items };
+}
+
+impl<'a, 't, V: Versions> Closed<'a, 't, V> {
+    /// The engine as it stood at the end.
+    pub fn state(&self) -> &EngineState<'a, 't, V>
+        ensures { result.now ≡ self.now.state }
+    {
+        &self.state
+    }
+
+    /// The seats that were handed in.
+    pub fn seats(&self) -> &[Seat<'t>]
+        ensures lends { result.now ≡ self.now.seats }
+        ensures fit { AllFit self.now.state self.now.seats }
+    {
+        let _ = &self.state;
+        self.seats.as_slice()
+    }
+}
+
+/// Puts the state and the seats together, where there is one seat for each session, and its items are the history's.
+pub fn close<'a, 't, V: Versions>(
+    state: EngineState<'a, 't, V>,
+    seats: Vec<Seat<'t>>,
+) -> Result<Closed<'a, 't, V>, ThreadFault>
+    ensures ok { IfOk result (λ c. (c.state ≡ state.entry) × (c.seats ≡ seats.entry.items) × AllFit state.entry seats.entry.items) }
+    ensures err { IfErr result (λ e. (s : ℕ) × (e ≡ ThreadFault.SeatMismatch s) × IsMisfit state.entry seats.entry.items s) }
+{
+    match first_misfit(&state, &seats) {
+        None => Ok(Closed { state, seats }),
+        Some(session) => Err(ThreadFault::SeatMismatch { session }),
+    }
+}
+
+fn first_misfit<V: Versions>(state: &EngineState<'_, '_, V>, seats: &[Seat<'_>]) -> Option<u32>
+    ensures { MatchOption result (AllFit state.now seats.now) (λ s. IsMisfit state.now seats.now s) }
+{
+    let last = state.sessions();
+    for session in 0..last {
+        if !fits(state.history(), seats, session) {
+            return Some(session);
+        }
+    }
+    if !fits(state.history(), seats, last) {
+        return Some(last);
+    }
+    least_over(seats, last)
+}
+
+/// Whether the session has one seat, which holds its items.
+fn fits(history: &[HistItem<'_>], seats: &[Seat<'_>], session: u32) -> bool
+    ensures { IsTrue result ↔ (seats_of session seats.now ≡ seat_if true session history.now) }
+{
+    let mut wanted = true;
+    for seat in seats {
+        if seat.session() == session {
+            if !wanted || !same_items(history, seat.items(), session) {
+                return false;
+            }
+            wanted = false;
+        }
+    }
+    !wanted
+}
+
+/// Whether the items are the history's items of the session.
+fn same_items(history: &[HistItem<'_>], items: &[HistItem<'_>], session: u32) -> bool
+    ensures { IsTrue result ↔ (items.now ≡ items_of session history.now) }
+{
+    let mut rest = items;
+    for item in history {
+        if number_of(item.event) == session {
+            let [own, others @ ..] = rest else {
+                return false;
+            };
+            if !is_same(own, item) {
+                return false;
+            }
+            rest = others;
+        }
+    }
+    rest.is_empty()
+}
+
+fn is_same(a: &HistItem<'_>, b: &HistItem<'_>) -> bool
+    ensures { IsTrue result ↔ (a.now ≡ b.now) }
+{
+    a.event == b.event && a.reply.same(&b.reply)
+}
+
+/// The session of an event.
+pub fn number_of(event: Event) -> u32
+    ensures { result ≡ session_of event }
+{
+    match event {
+        Event::Launch { session, .. } | Event::Step { session } | Event::Leave { session } => {
+            session
+        }
+    }
+}
+
+/// The least session over `last` that has a seat.
+fn least_over(seats: &[Seat<'_>], last: u32) -> Option<u32>
+    ensures { MatchOption result ((s : ℕ) → last < s → seats_of s seats.now ≡ []) (λ t. (last < t) × (seats_of t seats.now ≢ []) × ((s : ℕ) → last < s → s < t → seats_of s seats.now ≡ [])) }
+{
+    let mut least = None;
+    for seat in seats {
+        let own = seat.session();
+        if own > last && is_less(own, least) {
+            least = Some(own);
+        }
+    }
+    least
+}
+
+/// Whether the number is less than the other, if there is one.
+fn is_less(own: u32, other: Option<u32>) -> bool
+    ensures { result ≡ is_less own other }
+{
+    match other {
+        Some(least) => own < least,
+        None => true,
+    }
+}

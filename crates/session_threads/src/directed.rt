@@ -1,0 +1,237 @@
+//! A run with a thread for each session, in which a driver says what is given to whom.
+ghost use Rattle.std.specs.Prelude.{◌≡◌, ◌≤◌, ℕ, true, false, Err, None, IfOk, IfErr, IfSome, IfNone};
+ghost use Rattle.row_versions.specs.Log.{empty_content};
+ghost use Rattle.session_core.specs.Blocks.{blocks_of};
+ghost use Rattle.session_core.specs.Engines.{IsOf, is_quiet_in};
+ghost use Rattle.session_threads.specs.Seats.{IsMisfit};
+ghost use Rattle.session_threads.specs.Orders.{IsDriven};
+
+use crate::closing::{Closed, close};
+use crate::driver::{Driver, Ordering};
+use crate::gate::Gate;
+use crate::seat::{Seat, ThreadFault};
+use crate::shared::{Shared, give_up, work};
+use row_versions::Versions;
+use session_core::EngineState;
+use session_machine::{EngineFault, Mode};
+use sql_parser::Block;
+use std::alloc::Global;
+use std::marker::Brand;
+use std::sync::{Condvar, Mutex, Wait};
+use std::thread;
+use std::thread::{JoinHandle, Scope, Threads};
+
+/// Asks the driver whenever the engine is quiet, until the run is over.
+fn drive<'a, 't, V: Versions, O: Ordering, D: Driver<V>, R: Wait>(
+    rt: &R,
+    alloc: Global,
+    shared: &Mutex<Shared<'a, 't, V, O>>,
+    bell: &Condvar,
+    driver: &mut D,
+)
+    requires { D.order_after driver.old ≡ O.orders }
+{
+    for _ in rt.forever() {
+        let mut guard = bell.wait_while(rt, shared.lock(rt), |s| !s.over() && !s.resting());
+        if guard.over() {
+            return;
+        }
+        guard.ask(alloc, driver);
+        drop(guard);
+        bell.notify_all();
+    }
+}
+
+/// Starts a thread for each seat.
+fn start<
+    's,
+    'e: 's,
+    'a: 's,
+    't: 's,
+    V: Versions + Send + 's,
+    O: Ordering + Send + 's,
+    G: Gate + 's,
+    R: Wait + Sync + 's,
+>(
+    scope: &'s Scope<'s, &'e ()>,
+    rt: &'s R,
+    shared: &'s Mutex<Shared<'a, 't, V, O>>,
+    bell: &'s Condvar,
+    gate: &'s G,
+    seats: &'s mut [Seat<'t>],
+    crew: &mut Vec<JoinHandle<()>>,
+) -> Result<(), ThreadFault> {
+    let each = seats.iter_mut();
+    for seat in each {
+        let Ok(thread) = scope.spawn(move || work(rt, shared, bell, gate, seat)) else {
+            return Err(ThreadFault::ThreadRefused);
+        };
+        if crew.push(thread).is_err() {
+            return Err(ThreadFault::Memory);
+        }
+    }
+    Ok(())
+}
+
+/// Starts the threads, drives them until the run is over, and joins them.
+fn serve<
+    'a,
+    't,
+    V: Versions + Send,
+    O: Ordering + Send,
+    D: Driver<V> + Drop,
+    G: Gate,
+    R: Threads + Wait + Sync,
+>(
+    rt: &R,
+    alloc: Global,
+    shared: &Mutex<Shared<'a, 't, V, O>>,
+    bell: &Condvar,
+    gate: &G,
+    driver: D,
+    seats: &mut [Seat<'t>],
+)
+    requires { D.order_after driver ≡ O.orders }
+{
+    let lent = &mut *seats;
+    thread::scope(
+        thread::scope_env(),
+        rt,
+        move |scope|
+            requires { D.order_after driver ≡ O.orders }
+        {
+            let mut driver = driver;
+            let mut crew = Vec::new(alloc);
+            match start(scope, rt, shared, bell, gate, lent, &mut crew) {
+                Ok(()) => drive(rt, alloc, shared, bell, &mut driver),
+                Err(fault) => give_up(rt, shared, bell, fault),
+            }
+            for thread in crew {
+                thread.join(rt);
+            }
+        },
+    )
+}
+
+/// A seat for the control session, which is session 0, and for each of so many sessions beside it.
+pub fn empty_seats<'t>(alloc: Global, sessions: u32) -> Result<Vec<Seat<'t>>, ThreadFault>
+    requires { sessions ≤ 64 }
+{
+    let mut seats = Vec::new(alloc);
+    for session in 0..sessions + 1 {
+        if seats.push(Seat::new(alloc, session)).is_err() {
+            return Err(ThreadFault::Memory);
+        }
+    }
+    Ok(seats)
+}
+
+/// The end of a run: the seats beside an engine that is quiet and was opened over these blocks and sessions.
+fn end_of<'a, 't, V: Versions>(
+    engine: EngineState<'a, 't, V>,
+    blocks: &[Block<'_>],
+    sessions: u32,
+    seats: Vec<Seat<'t>>,
+) -> Result<Closed<'a, 't, V>, ThreadFault>
+    ensures other_run { ¬ (IsOf engine.entry (blocks_of blocks.now) sessions Mode.Directed) → result ≡ Err ThreadFault.OtherRun }
+    ensures busy { IsOf engine.entry (blocks_of blocks.now) sessions Mode.Directed → is_quiet_in engine.entry.machine ≡ false
+        → result ≡ Err (ThreadFault.Engine EngineFault.NotYourTurn) }
+    ensures seats { IsOf engine.entry (blocks_of blocks.now) sessions Mode.Directed → is_quiet_in engine.entry.machine ≡ true
+        → IfErr result (λ e. (s : ℕ) × (e ≡ ThreadFault.SeatMismatch s) × IsMisfit engine.entry seats.entry.items s) }
+    ensures ok { IfOk result (λ c. IsOf engine.entry (blocks_of blocks.now) sessions Mode.Directed × (is_quiet_in engine.entry.machine ≡ true)
+        × (c ≡ record { state = engine.entry; seats = seats.entry.items })) }
+{
+    if !engine.is_of(blocks, sessions, Mode::Directed) {
+        return Err(ThreadFault::OtherRun);
+    }
+    if !engine.quiet() {
+        return Err(ThreadFault::Engine(EngineFault::NotYourTurn));
+    }
+    close(engine, seats)
+}
+
+/// The end of a run of what stood behind the lock. A fault that was met comes first.
+fn closed_of<'a, 't, V: Versions, O: Ordering>(
+    shared: Shared<'a, 't, V, O>,
+    blocks: &[Block<'_>],
+    sessions: u32,
+    seats: Vec<Seat<'t>>,
+) -> Result<Closed<'a, 't, V>, ThreadFault>
+    ensures fault { IfSome shared.entry.fault (λ fault. result ≡ Err fault) }
+    ensures driven { IfOk result (λ c. IsDriven O.orders c.state.history) }
+    ensures of { IfOk result (λ c. IsOf c.state (blocks_of blocks.now) sessions Mode.Directed) }
+    ensures quiet { IfOk result (λ c. is_quiet_in c.state.machine ≡ true) }
+{
+    let (engine, stop, fault) = shared.into_parts();
+    if let Some(fault) = fault {
+        return Err(fault);
+    }
+    let closed = end_of(engine, blocks, sessions, seats)?;
+    if stop {
+        Ok(closed)
+    } else {
+        Err(ThreadFault::Engine(EngineFault::NotYourTurn))
+    }
+}
+
+/// Runs what the driver orders, where the type says which orders these are.
+fn run_ordered<
+    'a,
+    't,
+    V: Versions + Send,
+    O: Ordering + Send,
+    D: Driver<V> + Drop,
+    G: Gate,
+    R: Threads + Wait + Sync,
+>(
+    rt: &R,
+    alloc: Global,
+    blocks: &'a [Block<'t>],
+    sessions: u32,
+    store: V,
+    driver: D,
+    gate: &G,
+) -> Result<Closed<'a, 't, V>, ThreadFault>
+    requires few { sessions ≤ 64 }
+    requires empty { V.content store ≡ empty_content }
+    requires orders { D.order_after driver ≡ O.orders }
+    ensures of { IfOk result (λ c. IsOf c.state (blocks_of blocks.now) sessions Mode.Directed) }
+    ensures quiet { IfOk result (λ c. is_quiet_in c.state.machine ≡ true) }
+    ensures driven { IfOk result (λ c. IsDriven O.orders c.state.history) }
+{
+    let mut seats = empty_seats(alloc, sessions)?;
+    let Ok(engine) = EngineState::new(alloc, blocks, sessions, Mode::Directed, store) else {
+        return Err(ThreadFault::Memory);
+    };
+    let lock: Mutex<Shared<'a, 't, V, O>> = Mutex::new(Shared::new(engine));
+    let bell = Condvar::new();
+    serve(rt, alloc, &lock, &bell, gate, driver, &mut seats);
+    closed_of(lock.into_inner(), blocks, sessions, seats)
+}
+
+/// Runs what the driver orders, each event in its session's own thread; the calling thread asks the driver. The seats hold
+/// the events that their threads have done.
+pub fn run_directed<
+    'a,
+    't,
+    V: Versions + Send,
+    D: Driver<V> + Drop,
+    G: Gate,
+    R: Threads + Wait + Sync,
+>(
+    rt: &R,
+    alloc: Global,
+    blocks: &'a [Block<'t>],
+    sessions: u32,
+    store: V,
+    driver: D,
+    gate: &G,
+) -> Result<Closed<'a, 't, V>, ThreadFault>
+    requires few { sessions ≤ 64 }
+    requires empty { V.content store ≡ empty_content }
+    ensures of { IfOk result (λ c. IsOf c.state (blocks_of blocks.now) sessions Mode.Directed) }
+    ensures quiet { IfOk result (λ c. is_quiet_in c.state.machine ≡ true) }
+    ensures driven { IfOk result (λ c. IsDriven (D.order_after driver) c.state.history) }
+{
+    run_ordered::<V, Brand, D, G, R>(rt, alloc, blocks, sessions, store, driver, gate)
+}

@@ -1,0 +1,262 @@
+//! What stands behind the lock of a directed run, and what a session's thread does with it.
+ghost use Rattle.std.specs.Prelude.{◌≡◌, ◌||◌, true, false, [], None, Some, IfSome, is_some};
+ghost use Rattle.session_threads.specs.Seats.{session_of};
+ghost use Rattle.session_threads.specs.Orders.{IsDriven, IsOrder};
+
+use crate::driver::{Driver, Ordering};
+use crate::gate::Gate;
+use crate::seat::{Seat, ThreadFault, act};
+use row_versions::Versions;
+use session_core::EngineState;
+use session_machine::{EngineFault, Event, Order, Turn};
+use std::alloc::Global;
+use std::marker::{Model, PhantomData};
+use std::sync::{Condvar, Mutex, Wait};
+use std::thread::yield_now;
+
+/// The engine, the order that was given and is not yet done, whether the driver said Stop, and a fault that was met. Each
+/// Launch and Leave of the history is what the driver orders after the history before it, and nothing follows a Stop.
+#[derive(Drop)]
+pub struct Shared<'a, 't, V: Versions, O: Ordering> {
+    engine: EngineState<'a, 't, V>,
+    order: Option<Event>,
+    stop: bool,
+    fault: Option<ThreadFault>,
+    orders: PhantomData<O>,
+}
+
+impl<'a, 't, V: Versions, O: Ordering> Model for Shared<'a, 't, V, O> {
+    ghost use Rattle.session_threads.specs.Orders.{SharedOf, IsOrderly};
+    ghost use Rattle.session_core.specs.TreeCodes.{tree_code};
+    ghost use Rattle.std.specs.Coded.{codes};
+
+    ghost Value = { SharedOf };
+
+    ghost coded = { Prim.hlevel (codes, tree_code) };
+
+    ghost view = { λ s. record { engine = s.engine; order = s.order; stop = s.stop; fault = s.fault } };
+
+    ghost invariant = { λ s. IsOrderly O.orders s.engine.history s.order s.stop };
+}
+
+impl<'a, 't, V: Versions, O: Ordering> Shared<'a, 't, V, O> {
+    /// Of an engine in which nothing has happened.
+    pub fn new(engine: EngineState<'a, 't, V>) -> Self
+        requires { engine.history ≡ [] }
+        ensures { result ≡ record { engine = engine.entry; order = None; stop = false; fault = None } }
+    {
+        Shared {
+            engine,
+            order: None,
+            stop: false,
+            fault: None,
+            orders: PhantomData,
+        }
+    }
+
+    /// No event is to begin any more.
+    pub fn over(&self) -> bool
+        ensures { result ≡ (self.now.stop || is_some self.now.fault) }
+    {
+        self.stop || self.fault.is_some()
+    }
+
+    /// The driver is to be asked.
+    pub fn resting(&self) -> bool {
+        self.order.is_none() && self.engine.quiet()
+    }
+
+    /// The event that the session is to do now.
+    fn due(&self, session: u32) -> Option<Event>
+        ensures { IfSome result (λ e. session_of e ≡ session) }
+    {
+        match self.order {
+            Some(Event::Launch { session: s, block }) => {
+                (s == session).then_some(Event::Launch { session: s, block })
+            }
+            Some(Event::Leave { session: s }) => {
+                (s == session).then_some(Event::Leave { session: s })
+            }
+            Some(Event::Step { .. }) => None,
+            None => {
+                (self.engine.turn() == Turn::Session(session)).then_some(Event::Step { session })
+            }
+        }
+    }
+
+    /// Keeps a fault, where none was met before.
+    pub fn note(&mut self, fault: ThreadFault)
+        ensures { (self.new.engine ≡ self.old.engine) × (self.new.stop ≡ self.old.stop) }
+    {
+        if self.fault.is_none() {
+            self.fault = Some(fault);
+        }
+    }
+
+    /// Takes an order. One of a session that isn't there could not be done by anyone.
+    fn give(&mut self, session: u32, event: Event)
+        requires { IsOrder event (O.orders self.old.engine.history) }
+    {
+        if session > self.engine.sessions() {
+            self.note(ThreadFault::Engine(EngineFault::NoSession));
+        } else {
+            self.order = Some(event);
+        }
+    }
+
+    /// Takes the driver's next order.
+    pub fn ask<D: Driver<V>>(&mut self, alloc: Global, driver: &mut D)
+        requires { D.order_after driver.old ≡ O.orders }
+        ensures { D.order_after driver.new ≡ O.orders }
+    {
+        match driver.next(alloc, &self.engine) {
+            Ok(Order::Launch { session, block }) => {
+                self.give(session, Event::Launch { session, block });
+            }
+            Ok(Order::Leave { session }) => self.give(session, Event::Leave { session }),
+            Ok(Order::Stop) => self.stop = true,
+            Err(_) => self.note(ThreadFault::Memory),
+        }
+    }
+
+    /// Whether the event is a Step, or the order that was given.
+    fn is_ordered(&self, event: Event) -> bool
+        ensures { result ≡ true → IsOrder event (O.orders self.now.engine.history) }
+    {
+        match event {
+            Event::Step { .. } => true,
+            _ => self.order == Some(event),
+        }
+    }
+
+    /// Does the event, unless the run is over. Says whether it was done.
+    fn perform(&mut self, seat: &mut Seat<'t>, event: Event) -> bool
+        requires { session_of event ≡ seat.old.session }
+        ensures { seat.new.session ≡ seat.old.session }
+    {
+        if self.over() {
+            return false;
+        }
+        if !self.is_ordered(event) {
+            self.note(ThreadFault::Engine(EngineFault::NotYourTurn));
+            return false;
+        }
+        match act(&mut self.engine, seat, event) {
+            Ok(()) => {
+                self.order = None;
+                true
+            }
+            Err(fault) => {
+                self.note(fault);
+                false
+            }
+        }
+    }
+
+    /// The engine, whether the driver said Stop, and the fault that was met.
+    pub fn into_parts(self) -> (EngineState<'a, 't, V>, bool, Option<ThreadFault>)
+        ensures { (result.0 ≡ self.entry.engine) × (result.1 ≡ self.entry.stop) × (result.2 ≡ self.entry.fault) × (result.1 ≡ true → IsDriven O.orders result.0.history) }
+    {
+        (self.engine, self.stop, self.fault)
+    }
+
+    /// Nobody but this session has anything to do, so that nobody is to be woken.
+    fn goes_on(&self, session: u32) -> bool {
+        !self.over() && self.due(session).is_some()
+    }
+}
+
+/// Whether the gate admits the event, as often as it may be asked.
+pub fn admitted<G: Gate>(gate: &G, event: Event) -> bool {
+    for _ in 0..gate.tries().max(1) {
+        if gate.admits(event) {
+            return true;
+        }
+        yield_now();
+    }
+    false
+}
+
+/// Keeps a fault, and wakes everyone.
+pub fn give_up<'a, 't, V: Versions, O: Ordering, R: Wait>(
+    rt: &R,
+    shared: &Mutex<Shared<'a, 't, V, O>>,
+    bell: &Condvar,
+    fault: ThreadFault,
+) {
+    shared.lock(rt).note(fault);
+    bell.notify_all();
+}
+
+/// Waits for the session's next event; `None` where the run is over.
+fn next_event<'a, 't, V: Versions, O: Ordering, R: Wait>(
+    rt: &R,
+    shared: &Mutex<Shared<'a, 't, V, O>>,
+    bell: &Condvar,
+    session: u32,
+) -> Option<Event>
+    ensures { IfSome result (λ e. session_of e ≡ session) }
+{
+    let guard = bell.wait_while(rt, shared.lock(rt), |s| {
+        !s.over() && s.due(session).is_none()
+    });
+    if guard.over() {
+        None
+    } else {
+        guard.due(session)
+    }
+}
+
+/// Does one event: asks the gate, does the event under the lock, and tells the gate. Says whether it was done.
+fn one_event<'a, 't, V: Versions, O: Ordering, G: Gate, R: Wait>(
+    rt: &R,
+    shared: &Mutex<Shared<'a, 't, V, O>>,
+    bell: &Condvar,
+    gate: &G,
+    seat: &mut Seat<'t>,
+    event: Event,
+) -> bool
+    requires { session_of event ≡ seat.old.session }
+    ensures { seat.new.session ≡ seat.old.session }
+{
+    if !admitted(gate, event) {
+        give_up(rt, shared, bell, ThreadFault::Gate);
+        return false;
+    }
+    let mut guard = shared.lock(rt);
+    let done = guard.perform(seat, event);
+    let goes_on = guard.goes_on(seat.session());
+    drop(guard);
+    if !goes_on {
+        bell.notify_all();
+    }
+    if done {
+        tell(gate, seat);
+    }
+    done
+}
+
+/// Tells the gate the seat's last event and its reply.
+pub fn tell<G: Gate>(gate: &G, seat: &Seat<'_>) {
+    if let Some(item) = seat.items().last() {
+        gate.answered(item.event, &item.reply);
+    }
+}
+
+/// Does the session's events until the run is over.
+pub fn work<'a, 't, V: Versions, O: Ordering, G: Gate, R: Wait>(
+    rt: &R,
+    shared: &Mutex<Shared<'a, 't, V, O>>,
+    bell: &Condvar,
+    gate: &G,
+    seat: &mut Seat<'t>,
+) {
+    for _ in rt.forever() {
+        let Some(event) = next_event(rt, shared, bell, seat.session()) else {
+            return;
+        };
+        if !one_event(rt, shared, bell, gate, seat, event) {
+            return;
+        }
+    }
+}
