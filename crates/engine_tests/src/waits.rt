@@ -141,7 +141,7 @@ fn locks_are_shared_and_let_go(rt: HostRuntime) -> Result<(), Fail> {
             (1, "BEGIN; UPDATE acct SET bal = 300 WHERE id = 1", ""),
             (
                 2,
-                "BEGIN; SELECT * FROM acct ORDER BY bal FOR UPDATE",
+                "BEGIN; SELECT * FROM acct ORDER BY bal, id FOR UPDATE",
                 " waits",
             ),
             (1, "COMMIT", " id bal | 1 300 | 2 200"),
