@@ -14,7 +14,7 @@ use Rattle.unique_keys.specs.Members.{is_none, EachOnce}
 use Rattle.unique_keys.specs.Keys.{Keys, columns_at}
 use Rattle.unique_keys.specs.Writes.{IsUpToDate}
 use Rattle.unique_keys.specs.Finding.{is_in_way, blockers_among, is_taken_among}
-use Rattle.unique_keys.specs.Checks.{KeyFound, KeyIsFree, KeyIsTaken, KeyIsHeld, FindsKey, NamesBlockers, blockers, is_taken, found_by, found_of, key_found}
+use Rattle.unique_keys.specs.Checks.{KeyIsHeld, FindsKey, NamesBlockers, blockers, is_taken, found_by, found_of, key_found}
 use Rattle.unique_keys.proofs.Exact.{blockers_same, taken_same}
 
 -- some write passes the test where some transaction is found by it

@@ -1,8 +1,7 @@
 -- An index that keeps up goes on to do so.
-use Rattle.std.proofs.Common.{◌≡◌, refl, sym, ◌∙◌, ap, subst, Bool, true, false, cond, not, ◌&&◌, ◌==◌, ℕ, zero, suc, List, [], ◌∷◌, ◌++◌, map, filter, set, eq-eqb}
-use Rattle.std.specs.Prelude.{Option, Some, None, is_some, slice_get}
+use Rattle.std.proofs.Common.{◌≡◌, refl, ap, subst, Bool, true, false, cond, not, ◌&&◌, ℕ, zero, suc, List, [], ◌∷◌, ◌++◌, set, eq-eqb}
+use Rattle.std.specs.Prelude.{is_some, slice_get}
 use Rattle.std.specs.List.{list_all}
-use Rattle.std.proofs.lemmas.List.Elements.{filter-append}
 use Rattle.row_versions.specs.declared.names.TxId.{TxId}
 use Rattle.row_versions.specs.declared.write.Write.{Write}
 use Rattle.row_versions.specs.declared.write.Fate.{Fate}
@@ -10,8 +9,8 @@ use Rattle.row_versions.specs.declared.write.Fate.TheVariants.{Open, RolledBack,
 use Rattle.row_versions.specs.Log.{Content, IsOpen, fate_of, commit_count, empty_content, after_begin, after_commit, after_roll_back, after_write}
 use Rattle.unique_keys.specs.declared.noted.Noted.{Noted}
 use Rattle.unique_keys.specs.Members.{same_tx}
-use Rattle.unique_keys.specs.Writes.{noted_of, without, IsUpToDate}
-use Rattle.unique_keys.specs.Laws.{have_begun, KeepsUp, GoesOn}
+use Rattle.unique_keys.specs.Writes.{noted_of, without}
+use Rattle.unique_keys.specs.Laws.{KeepsUp, GoesOn}
 use Rattle.unique_keys.proofs.Keeping.{keeps_up}
 
 and_left : (a b : Bool) → (a && b) ≡ true → a ≡ true

@@ -1,6 +1,6 @@
 -- A search that starts from the writes which have the key finds the same.
-use Rattle.std.proofs.Common.{◌≡◌, refl, sym, ◌∙◌, ap, subst, Bool, true, false, cond, not, ◌||◌, ◌&&◌, ◌==◌, ℕ, List, [], ◌∷◌, reverse, eqb-true, eq-eqb}
-use Rattle.std.specs.Prelude.{Option, Some, None, find}
+use Rattle.std.proofs.Common.{◌≡◌, refl, sym, ap, subst, Bool, true, false, cond, not, ◌||◌, ◌&&◌, ◌==◌, ℕ, List, [], ◌∷◌, reverse, eqb-true, eq-eqb}
+use Rattle.std.specs.Prelude.{Option, Some, find}
 use Rattle.std.specs.List.{list_any}
 use mathlib.Core.List.{reverse_aux}
 use Rattle.sql_values.specs.declared.value.Value.{Value}
