@@ -92,7 +92,7 @@ fn is_new_in_way<V: Versions>(
 ) -> bool
     ensures { result ≡ (is_in_way (has_committed (V.content store.now)) (λ u. not (has_committed (V.content store.now) u)) notes.now table columns.now asked.now tx note.now && not (has found.now note.now.tx)) }
 {
-    is_in_way(store, notes, table, columns, asked, tx, note) && !has(found, note.tx)
+    !has(found, note.tx) && is_in_way(store, notes, table, columns, asked, tx, note)
 }
 
 /// Whether a write of the row stands in the way.
