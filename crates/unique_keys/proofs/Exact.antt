@@ -1,7 +1,6 @@
 -- What an index that is up to date finds is what the log says.
-use Rattle.std.proofs.Common.{◌≡◌, ◌≢◌, refl, sym, ◌∙◌, ap, subst, Bool, true, false, not, ◌||◌, ◌&&◌, ◌==◌, ℕ, ◌<◌, List, [], ◌∷◌, length, map, filter}
+use Rattle.std.proofs.Common.{◌≡◌, refl, sym, ◌∙◌, ap, subst, Bool, true, false, not, ◌||◌, ◌&&◌, ◌==◌, ℕ, List, map, filter}
 use Rattle.std.specs.Prelude.{Option, Some, None}
-use Rattle.std.specs.List.{list_any}
 use Rattle.sql_values.specs.declared.value.Value.{Value}
 use Rattle.row_versions.specs.declared.names.TxId.{TxId}
 use Rattle.row_versions.specs.declared.names.RowId.{RowId}
@@ -10,13 +9,11 @@ use Rattle.row_versions.specs.declared.write.Fate.{Fate}
 use Rattle.row_versions.specs.declared.write.Fate.TheVariants.{Open, RolledBack, Committed}
 use Rattle.row_versions.specs.Log.{Content, IsOpen, fate_of, has_committed, is_committed}
 use Rattle.unique_keys.specs.declared.noted.Noted.{Noted}
-use Rattle.unique_keys.specs.declared.keys.Check.{Check}
-use Rattle.unique_keys.specs.declared.keys.Check.TheVariants.{Free, Taken, Held}
-use Rattle.unique_keys.specs.Members.{same_tx, EachOnce, is_open, is_open_fate}
-use Rattle.unique_keys.specs.Keys.{Keys, has_key}
+use Rattle.unique_keys.specs.Members.{same_tx, is_open, is_open_fate}
+use Rattle.unique_keys.specs.Keys.{has_key}
 use Rattle.unique_keys.specs.Writes.{writes, stands, IsUpToDate}
-use Rattle.unique_keys.specs.Finding.{last_of, version_has, is_committed_version, committed_has, own_has, is_in_way, blockers_among, counts_for, is_version_for, is_another, newest_has, takes, is_taken_among}
-use Rattle.unique_keys.specs.Checks.{blockers, is_taken, IsFree, FreeBefore, FindsKey, Finds, FindsKeys}
+use Rattle.unique_keys.specs.Finding.{version_has, is_committed_version, committed_has, own_has, is_in_way, blockers_among, counts_for, is_version_for, is_another, newest_has, takes, is_taken_among}
+use Rattle.unique_keys.specs.Checks.{blockers, is_taken}
 use Rattle.unique_keys.proofs.Filtered.{list_any-filter, filter-filter, last_of-filter}
 use Rattle.unique_keys.proofs.Listed.{same_is}
 
@@ -109,19 +106,3 @@ blockers_same c index up table tx asked columns =
       active w k =
           and_right (not (same_tx w.tx tx)) (is_open c.fates w.tx) (and_right (w.table.0 == table.0) (not (same_tx w.tx tx) && is_open c.fates w.tx)
           (and_left ((w.table.0 == table.0) && (not (same_tx w.tx tx) && is_open c.fates w.tx)) (committed_has (has_committed c) (writes c) columns asked w.row || own_has (writes c) columns asked w.row w.tx) k))
-
-free_same : (by who : List ℕ → List TxId) (taken has : List ℕ → Bool) → ((k : List ℕ) → by k ≡ who k) → ((k : List ℕ) → taken k ≡ has k) → (columns : List ℕ) → IsFree by taken columns → IsFree who has columns
-free_same by who taken has e1 e2 columns f = (sym (e1 columns) ∙ f.0, sym (e2 columns) ∙ f.1)
-
--- what is found is the same where blockers and takers are
-finds_same : (by who : List ℕ → List TxId) (taken has : List ℕ → Bool) → ((k : List ℕ) → by k ≡ who k) → ((k : List ℕ) → taken k ≡ has k) → (t : Keys) (check : Check) → Finds by taken t check → Finds who has t check
-finds_same by who taken has e1 e2 t Free f = λ key l. free_same by who taken has e1 e2 _ (f key l)
-finds_same by who taken has e1 e2 t (Taken key) f = (f.0, λ k l. free_same by who taken has e1 e2 _ (f.1 k l), (sym (e1 _) ∙ f.2.0, sym (e2 _) ∙ f.2.1))
-finds_same by who taken has e1 e2 t (Held key some) f = (f.0, λ k l. free_same by who taken has e1 e2 _ (f.1 k l), (λ none. f.2.0 (e1 _ ∙ none), subst (λ v. EachOnce v some.items) (e1 _) f.2.1))
-
--- what an index that is up to date finds of the keys is what the log says
-pub finds_exactly : (c : Content) (index : List Noted) (tx : TxId) (except : Option RowId) (asked : List Value) (t : Keys) (check : Check)
-    → Finds (blockers_among (has_committed c) (λ u. not (has_committed c u)) index t.table tx asked) (is_taken_among (has_committed c) index t.table tx except asked) t check
-    → IsUpToDate index c → IsOpen c tx → FindsKeys c t asked tx except check
-finds_exactly c index tx except asked t check f up h =
-    finds_same _ _ _ _ (blockers_same c index up t.table tx asked) (taken_same c index tx up h t.table except asked) t check f

@@ -1,6 +1,6 @@
 -- Tests that pass only what a filter keeps see the same in the filtered list.
 use Rattle.std.proofs.Common.{◌≡◌, refl, sym, ◌∙◌, ap, Bool, true, false, cond, ◌||◌, List, [], ◌∷◌, reverse}
-use Rattle.std.specs.Prelude.{Option, Some, None, filter, find}
+use Rattle.std.specs.Prelude.{Some, filter, find}
 use Rattle.std.specs.List.{list_any}
 use mathlib.Core.List.{reverse_aux}
 use Rattle.unique_keys.specs.declared.noted.Noted.{Noted}

@@ -1,6 +1,6 @@
 -- What stands in the log, before and after.
-use Rattle.std.proofs.Common.{◌≡◌, refl, sym, ◌∙◌, ap, subst, Bool, true, false, cond, not, ◌||◌, ◌&&◌, ◌==◌, ℕ, zero, suc, List, [], ◌∷◌, ◌++◌, map, filter, set, eqb-true, eq-eqb}
-use Rattle.std.specs.Prelude.{Option, Some, None, is_some, slice_get}
+use Rattle.std.proofs.Common.{◌≡◌, refl, sym, ◌∙◌, ap, Bool, true, false, cond, not, ◌||◌, ◌&&◌, ℕ, zero, suc, List, [], ◌∷◌, ◌++◌, map, filter, set, eqb-true, eq-eqb}
+use Rattle.std.specs.Prelude.{Option, Some, is_some, slice_get}
 use Rattle.std.specs.List.{list_all}
 use Rattle.std.proofs.lemmas.Bool.{eqb-false}
 use Rattle.std.proofs.lemmas.List.{map-append}
@@ -9,11 +9,11 @@ use Rattle.row_versions.specs.declared.names.TxId.{TxId}
 use Rattle.row_versions.specs.declared.write.Write.{Write}
 use Rattle.row_versions.specs.declared.write.Fate.{Fate}
 use Rattle.row_versions.specs.declared.write.Fate.TheVariants.{Open, RolledBack, Committed}
-use Rattle.row_versions.specs.Log.{Content, IsOpen, fate_of, is_committed, commit_count, after_begin, after_commit, after_roll_back, after_write}
+use Rattle.row_versions.specs.Log.{Content, IsOpen, fate_of, is_committed, commit_count}
 use Rattle.unique_keys.specs.declared.noted.Noted.{Noted}
 use Rattle.unique_keys.specs.Members.{same_tx, is_open_fate}
 use Rattle.unique_keys.specs.Writes.{noted_of, writes, stands, without, IsUpToDate}
-use Rattle.unique_keys.specs.Laws.{have_begun, StaysUpToDate}
+use Rattle.unique_keys.specs.Laws.{StaysUpToDate}
 use Rattle.unique_keys.proofs.Filtered.{filter-filter}
 
 get-set_same : (fates : List Fate) (k : ℕ) (old new : Fate) → slice_get fates k ≡ Some old → slice_get (set fates k new) k ≡ Some new

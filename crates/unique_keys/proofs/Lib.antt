@@ -1,6 +1,8 @@
 mod Filtered
 mod Listed
 mod Exact
-mod Found
+mod Answered
 mod Nulls
 mod Keeping
+mod Kept
+mod Quick

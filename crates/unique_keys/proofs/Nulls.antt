@@ -1,6 +1,6 @@
 -- A key with a NULL is had by no version.
-use Rattle.std.proofs.Common.{◌≡◌, refl, sym, ◌∙◌, ap, Bool, true, false, cond, not, ◌||◌, ◌&&◌, ◌==◌, ℕ, List, [], ◌∷◌, map, filter, reverse}
-use Rattle.std.specs.Prelude.{Option, Some, None, find, unwrap_or, slice_get}
+use Rattle.std.proofs.Common.{◌≡◌, refl, ◌∙◌, ap, Bool, true, false, cond, not, ◌||◌, ◌&&◌, ◌==◌, ℕ, List, [], ◌∷◌, map, filter}
+use Rattle.std.specs.Prelude.{Option, Some, None, unwrap_or, slice_get}
 use Rattle.std.specs.List.{list_any}
 use Rattle.sql_values.specs.declared.value.Value.{Value}
 use Rattle.sql_values.specs.declared.value.Value.TheVariants.{Null, Int, Big, Text, Bool as Boolean}
@@ -11,7 +11,7 @@ use Rattle.row_versions.specs.declared.names.TableId.{TableId}
 use Rattle.unique_keys.specs.declared.noted.Noted.{Noted}
 use Rattle.unique_keys.specs.Members.{same_tx}
 use Rattle.unique_keys.specs.Keys.{are_equal, agree, has_key}
-use Rattle.unique_keys.specs.Finding.{last_of, version_has, is_committed_version, committed_has, own_has, is_in_way, blockers_among, counts_for, is_version_for, is_another, newest_has, takes, is_taken_among}
+use Rattle.unique_keys.specs.Finding.{last_of, version_has, is_committed_version, own_has, is_in_way, blockers_among, counts_for, is_version_for, is_another, takes, is_taken_among}
 use Rattle.unique_keys.specs.Laws.{has_null}
 
 null_is_unequal : (asked other : Option Value) → is_null (unwrap_or asked Null) ≡ true → are_equal asked other ≡ false

@@ -1,5 +1,5 @@
 -- Held, taken, free: what PostgreSQL does where a row's keys are checked (13.2.1 on what others have not committed, 5.5.3 on unique constraints).
-use Rattle.std.specs.Prelude.{◌≡◌, ◌≢◌, ℕ, ◌<◌, Bool, true, false, List, [], Option, length}
+use Rattle.std.specs.Prelude.{◌≡◌, ◌≢◌, ℕ, ◌<◌, Bool, true, false, List, [], ◌∷◌, Option, length}
 use Rattle.sql_values.specs.declared.value.Value.{Value}
 use Rattle.row_versions.specs.declared.names.TxId.{TxId}
 use Rattle.row_versions.specs.declared.names.RowId.{RowId}
@@ -21,6 +21,34 @@ blockers c table tx asked columns = blockers_among (has_committed c) (is_open c.
 -- the newest version for the transaction of another row of the table has the key
 abbrev pub is_taken : Content → TableId → TxId → Option RowId → List Value → List ℕ → Bool
 is_taken c table tx except asked columns = is_taken_among (has_committed c) (writes c) table tx except asked columns
+
+-- what is found of one key
+pub data KeyFound : Type 0 where
+  KeyIsFree : KeyFound
+  KeyIsTaken : KeyFound
+  KeyIsHeld : KeyFound
+
+-- what is found by who blocks a key, and by whether another row has it
+abbrev pub found_by : List TxId → Bool → KeyFound
+found_by [] false = KeyIsFree
+found_by [] true = KeyIsTaken
+found_by (u ∷ others) taken = KeyIsHeld
+
+-- a key is held where it has blockers; else it is taken where another row has it; else it is free
+abbrev pub key_found : Content → TableId → TxId → Option RowId → List Value → List ℕ → KeyFound
+key_found c table tx except asked columns = found_by (blockers c table tx asked columns) (is_taken c table tx except asked columns)
+
+-- the answer, without who blocks
+abbrev pub found_of : Found → KeyFound
+found_of found.Free = KeyIsFree
+found_of found.Taken = KeyIsTaken
+found_of (found.Held who) = KeyIsHeld
+
+-- where the answer is that the key is held, it names the blockers, each once
+abbrev pub NamesBlockers : List TxId → Found → Type 0
+NamesBlockers by found.Free = Unit {0}
+NamesBlockers by found.Taken = Unit {0}
+NamesBlockers by (found.Held who) = EachOnce by who.items
 
 -- a key is free where nobody blocks it and no other row has it
 abbrev pub IsFree : (List ℕ → List TxId) → (List ℕ → Bool) → List ℕ → Type 0

@@ -35,3 +35,19 @@ pub record StaysUpToDate (index : List Noted) (c : Content) : Type 0 where
 
 abbrev pub IndexKeepsUp : Type 0
 IndexKeepsUp = IsUpToDate [] empty_content × ((index : List Noted) (c : Content) → IsUpToDate index c → StaysUpToDate index c)
+
+-- the index keeps up with the log: it is up to date, and each write's transaction has begun, so that it stays up to date at a begin too
+pub record KeepsUp (index : List Noted) (c : Content) : Type 0 where
+  pub up_to_date : IsUpToDate index c
+  pub begun : have_begun c ≡ true
+
+-- an index that keeps up goes on to do so, also where a write can't be noted and its transaction is rolled back for that
+pub record GoesOn (index : List Noted) (c : Content) : Type 0 where
+  pub begins : KeepsUp index (after_begin c)
+  pub writes : (w : Write) → IsOpen c w.tx → KeepsUp (index ++ noted_of w ∷ []) (after_write c w)
+  pub commits : (tx : TxId) → IsOpen c tx → KeepsUp index (after_commit c tx)
+  pub rolls_back : (tx : TxId) → IsOpen c tx → KeepsUp (without tx index) (after_roll_back c tx)
+  pub takes_back : (w : Write) → IsOpen c w.tx → KeepsUp (without w.tx index) (after_roll_back (after_write c w) w.tx)
+
+abbrev pub IndexGoesOn : Type 0
+IndexGoesOn = KeepsUp [] empty_content × ((index : List Noted) (c : Content) → KeepsUp index c → GoesOn index c)

@@ -1,7 +1,8 @@
 //! Who stands in the way of a key.
-ghost use Rattle.std.specs.Prelude.{◌≡◌, not, ◌&&◌, IfOk, if◌then◌else◌};
+ghost use Rattle.std.specs.Prelude.{◌≡◌, ◌==◌, not, ◌&&◌, IfOk, if◌then◌else◌};
+ghost use Rattle.std.specs.List.{list_any};
 ghost use Rattle.row_versions.specs.Log.{has_committed};
-ghost use Rattle.unique_keys.specs.Members.{EachOnce, has, is_none};
+ghost use Rattle.unique_keys.specs.Members.{EachOnce, has};
 ghost use Rattle.unique_keys.specs.Keys.{has_key};
 ghost use Rattle.unique_keys.specs.Finding.{is_committed_version, committed_has, own_has, is_in_way, blockers_among};
 
@@ -15,16 +16,6 @@ fn has(list: &[TxId], tx: TxId) -> bool
     ensures { result ≡ has list.now tx }
 {
     list.iter().any(|other| other.0 == tx.0)
-}
-
-/// Whether nobody is in the list.
-pub fn is_none(list: &[TxId]) -> bool
-    ensures { result ≡ is_none list.now }
-{
-    match list {
-        [] => true,
-        _ => false,
-    }
 }
 
 /// Whether the row's newest committed version has the key, by what is known without this write.
@@ -101,7 +92,38 @@ fn is_new_in_way<V: Versions>(
 ) -> bool
     ensures { result ≡ (is_in_way (has_committed (V.content store.now)) (λ u. not (has_committed (V.content store.now) u)) notes.now table columns.now asked.now tx note.now && not (has found.now note.now.tx)) }
 {
-    is_in_way(store, notes, table, columns, asked, tx, note) && !has(found, note.tx)
+    !has(found, note.tx) && is_in_way(store, notes, table, columns, asked, tx, note)
+}
+
+/// Whether a write of the row stands in the way.
+fn is_row_in_way<V: Versions>(
+    store: &V,
+    notes: &[Noted],
+    table: TableId,
+    columns: &[u32],
+    asked: &[Value],
+    tx: TxId,
+    row: RowId,
+) -> bool
+    ensures { result ≡ list_any (λ w. (w.row.0 == row.0) && is_in_way (has_committed (V.content store.now)) (λ u. not (has_committed (V.content store.now) u)) notes.now table columns.now asked.now tx w) notes.now }
+{
+    notes.iter().any(|note| note.row.0 == row.0
+        && is_in_way(store, notes, table, columns, asked, tx, note))
+}
+
+/// Whether anybody stands in the way. Only rows are searched of which a write has the key.
+pub fn is_blocked<V: Versions>(
+    store: &V,
+    notes: &[Noted],
+    table: TableId,
+    columns: &[u32],
+    asked: &[Value],
+    tx: TxId,
+) -> bool
+    ensures { result ≡ list_any (is_in_way (has_committed (V.content store.now)) (λ u. not (has_committed (V.content store.now) u)) notes.now table columns.now asked.now tx) notes.now }
+{
+    notes.iter().any(|note| has_key(columns, asked, note)
+        && is_row_in_way(store, notes, table, columns, asked, tx, note.row))
 }
 
 /// The transactions that stand in the way, each once.

@@ -1,15 +1,13 @@
 //! The index of unique keys.
-ghost use Rattle.std.specs.Prelude.{◌≡◌, ◌<◌, ◌^◌, ℕ, List, [], ◌∷◌, ◌++◌, not, length, OnOk, OnErr, IfOk};
+ghost use Rattle.std.specs.Prelude.{◌≡◌, ◌<◌, ◌^◌, List, [], ◌∷◌, ◌++◌, not, length, OnOk, OnErr, IfOk};
 ghost use Rattle.std.specs.Option.{option_copied};
-ghost use Rattle.row_versions.specs.Log.{Content, IsOpen, has_committed};
-ghost use Rattle.unique_keys.specs.declared.noted.Noted.{Noted};
-ghost use Rattle.unique_keys.specs.Members.{EachOnce};
+ghost use Rattle.row_versions.specs.Log.{Content, IsOpen};
+ghost use Rattle.unique_keys.specs.Members.{EachOnce, is_none};
 ghost use Rattle.unique_keys.specs.Keys.{columns_at};
 ghost use Rattle.unique_keys.specs.Writes.{IsUpToDate, without};
-ghost use Rattle.unique_keys.specs.Finding.{blockers_among, is_taken_among};
-ghost use Rattle.unique_keys.specs.Checks.{FindsKey, FindsKeys, blockers};
+ghost use Rattle.unique_keys.specs.Checks.{FindsKeys, NamesBlockers, blockers, found_of, key_found};
 
-use crate::blocking::{blockers, is_none};
+use crate::blocking::{blockers, is_blocked};
 use crate::keys::{Check, TableKeys};
 use crate::noted::Noted;
 use crate::taken::is_taken;
@@ -68,8 +66,22 @@ impl KeyIndex {
             Some(values) => Some(values.copied(*self.noted.allocator())?),
             None => None,
         };
+        self.enter(keys.table, row, tx, values)
+    }
+
+    /// As `note`, with values that the index keeps as they are.
+    pub fn enter(
+        &mut self,
+        table: TableId,
+        row: RowId,
+        tx: TxId,
+        values: Option<Row>,
+    ) -> Result<(), AllocError>
+        ensures ok { OnOk result (self.new ≡ self.old ++ record { table = table; row = row; tx = tx; values = values } ∷ []) }
+        ensures err { OnErr result (self.new ≡ self.old) }
+    {
         self.noted.push(Noted {
-            table: keys.table,
+            table,
             row,
             tx,
             values,
@@ -84,7 +96,46 @@ impl KeyIndex {
         self.noted.retain(|note| note.tx.0 != tx.0);
     }
 
-    fn find<V: Versions>(
+    /// Whether anybody holds a key of these columns: other open transactions, which it names no one of. It takes no memory.
+    pub fn is_held<V: Versions>(
+        &self,
+        store: &V,
+        table: TableId,
+        columns: &[u32],
+        asked: &[Value],
+        tx: TxId,
+    ) -> bool
+        ensures { IsUpToDate self.now (V.content store.now) → result ≡ not (is_none (blockers (V.content store.now) table tx asked.now columns.now)) }
+    {
+        is_blocked(store, self.noted.as_slice(), table, columns, asked, tx)
+    }
+
+    /// The transactions that hold a key of these columns, each once.
+    pub fn blockers<V: Versions>(
+        &self,
+        store: &V,
+        table: TableId,
+        columns: &[u32],
+        asked: &[Value],
+        tx: TxId,
+    ) -> Result<SmallVec<TxId, 4>, AllocError>
+        ensures { IfOk result (λ by. IsUpToDate self.now (V.content store.now) → EachOnce (blockers (V.content store.now) table tx asked.now columns.now) by.items) }
+    {
+        let alloc = *self.noted.allocator();
+        blockers(
+            alloc,
+            store,
+            self.noted.as_slice(),
+            table,
+            columns,
+            asked,
+            tx,
+        )
+    }
+
+    /// What is found of one key, where the transaction is about to write these values in place of that row, or as a new one.
+    /// It takes memory only where the key is held.
+    pub fn find<V: Versions>(
         &self,
         store: &V,
         table: TableId,
@@ -93,19 +144,19 @@ impl KeyIndex {
         tx: TxId,
         except: Option<RowId>,
     ) -> Result<Found, AllocError>
-        ensures { IfOk result (FindsKey (blockers_among (has_committed (V.content store.now)) (λ u. not (has_committed (V.content store.now) u)) self.now table tx asked.now)
-            (is_taken_among (has_committed (V.content store.now)) self.now table tx except asked.now) columns.now) }
+        ensures found { IfOk result (λ f. IsUpToDate self.now (V.content store.now) → IsOpen (V.content store.now) tx
+            → key_found (V.content store.now) table tx except asked.now columns.now ≡ found_of f) }
+        ensures named { IfOk result (λ f. IsUpToDate self.now (V.content store.now) → NamesBlockers (blockers (V.content store.now) table tx asked.now columns.now) f) }
     {
-        let notes = self.noted.as_slice();
-        let alloc = *self.noted.allocator();
-        let by = blockers(alloc, store, notes, table, columns, asked, tx)?;
-        if is_none(&by) {
-            if is_taken(store, notes, table, columns, asked, tx, except) {
-                return Ok(Found::Taken);
-            }
-            return Ok(Found::Free);
+        if self.is_held(store, table, columns, asked, tx) {
+            let by = self.blockers(store, table, columns, asked, tx)?;
+            return Ok(Found::Held(by));
         }
-        Ok(Found::Held(by))
+        let notes = self.noted.as_slice();
+        if is_taken(store, notes, table, columns, asked, tx, except) {
+            return Ok(Found::Taken);
+        }
+        Ok(Found::Free)
     }
 
     /// What is found of a row's keys, where the transaction is about to write these values in place of that row, or as a new one.
@@ -150,18 +201,8 @@ impl KeyIndex {
         ensures { IfOk result (λ by. IsUpToDate self.now (V.content store.now) → IsOpen (V.content store.now) tx
             → EachOnce (blockers (V.content store.now) keys.now.table tx values.now (columns_at keys.now key)) by.items) }
     {
-        let alloc = *self.noted.allocator();
-        let notes = self.noted.as_slice();
         let columns = columns_at(keys, key as usize);
-        blockers(
-            alloc,
-            store,
-            notes,
-            keys.table,
-            columns,
-            values.values(),
-            tx,
-        )
+        self.blockers(store, keys.table, columns, values.values(), tx)
     }
 }
 

@@ -8,6 +8,6 @@ pub mod laws;
 mod noted;
 mod taken;
 
-pub use key_index::KeyIndex;
+pub use key_index::{Found, KeyIndex};
 pub use keys::{Check, TableKeys};
 pub use noted::Noted;

@@ -6,7 +6,7 @@ use crate::told::holds;
 use row_versions::{ListStore, RowId, TableId, TxId, Versions};
 use sql_values::{Row, Value};
 use std::alloc::{AllocError, Global};
-use unique_keys::{Check, KeyIndex, TableKeys};
+use unique_keys::{Check, Found, KeyIndex, TableKeys};
 
 const TABLE: TableId = TableId(7);
 
@@ -259,6 +259,115 @@ fn keys_are_found(alloc: Global) -> Result<bool, AllocError> {
 fn keys_are_held_taken_or_free(rt: HostRuntime) {
     let found = match keys_are_found(rt.alloc()) {
         Err(_) => keys_are_found(rt.alloc()),
+        found => found,
+    };
+    holds(&rt, found == Ok(true));
+}
+
+/// A row with this number in the first column, which alone is asked for.
+fn with_first(alloc: Global, first: i32) -> Result<Row, AllocError> {
+    row_of(alloc, (Some(first), None))
+}
+
+/// Whether that is found of the first column's key. The key's number doesn't count.
+fn one_is(
+    alloc: Global,
+    store: &ListStore,
+    index: &KeyIndex,
+    tx: u64,
+    first: i32,
+    wanted: Wanted,
+) -> Result<bool, AllocError> {
+    let asked = with_first(alloc, first)?;
+    let found = index.find(store, TABLE, &[0], asked.values(), TxId(tx), None)?;
+    Ok(match (&found, wanted) {
+        (Found::Free, Wanted::Free) => true,
+        (Found::Taken, Wanted::Taken(_)) => true,
+        (Found::Held(by), Wanted::Held(_, who)) => are(by, who),
+        _ => false,
+    })
+}
+
+fn first_is_held(
+    alloc: Global,
+    store: &ListStore,
+    index: &KeyIndex,
+    tx: u64,
+    first: i32,
+) -> Result<bool, AllocError> {
+    let asked = with_first(alloc, first)?;
+    Ok(index.is_held(store, TABLE, &[0], asked.values(), TxId(tx)))
+}
+
+fn one_key_is_found(alloc: Global) -> Result<bool, AllocError> {
+    let mut store = ListStore::new(alloc);
+    let mut index = KeyIndex::new(alloc);
+    tell(alloc, &mut store, &mut index)?;
+    Ok(
+        one_is(alloc, &store, &index, 4, 11, Wanted::Free)?
+            && one_is(alloc, &store, &index, 4, 3, Wanted::Taken(0))?
+            && one_is(alloc, &store, &index, 4, 5, Wanted::Held(0, &[2, 3]))?
+            // An own row has it, and another open transaction's too.
+            && one_is(alloc, &store, &index, 2, 5, Wanted::Held(0, &[3]))?,
+    )
+}
+
+#[test]
+fn one_key_is_held_taken_or_free(rt: HostRuntime) {
+    let found = match one_key_is_found(rt.alloc()) {
+        Err(_) => one_key_is_found(rt.alloc()),
+        found => found,
+    };
+    holds(&rt, found == Ok(true));
+}
+
+fn held_keys_are_told(alloc: Global) -> Result<bool, AllocError> {
+    let mut store = ListStore::new(alloc);
+    let mut index = KeyIndex::new(alloc);
+    tell(alloc, &mut store, &mut index)?;
+    // As it was committed and as it is; an own row's; one that another row has for good; one that nobody has.
+    Ok(
+        first_is_held(alloc, &store, &index, 4, 1)?
+            && first_is_held(alloc, &store, &index, 4, 7)?
+            && !first_is_held(alloc, &store, &index, 2, 1)?
+            && !first_is_held(alloc, &store, &index, 4, 3)?
+            && !first_is_held(alloc, &store, &index, 4, 11)?,
+    )
+}
+
+#[test]
+fn keys_are_held_by_other_open_transactions(rt: HostRuntime) {
+    let told = match held_keys_are_told(rt.alloc()) {
+        Err(_) => held_keys_are_told(rt.alloc()),
+        told => told,
+    };
+    holds(&rt, told == Ok(true));
+}
+
+/// One transaction writes a row, whose values enter the index; another asks.
+fn entered_values_are_found(alloc: Global) -> Result<bool, AllocError> {
+    let mut store = ListStore::new(alloc);
+    let mut index = KeyIndex::new(alloc);
+    let writes = store.begin()?;
+    let asks = store.begin()?;
+    let written = with_first(alloc, 1)?;
+    let entered = with_first(alloc, 1)?;
+    let made = match store.write(writes, 0, TABLE, None, Some(written)) {
+        Ok(made) => made,
+        Err(_) => return Err(AllocError),
+    };
+    index.enter(TABLE, made, writes, Some(entered))?;
+    Ok(
+        one_is(alloc, &store, &index, asks.0, 1, Wanted::Held(0, &[0]))?
+            && one_is(alloc, &store, &index, writes.0, 1, Wanted::Taken(0))?
+            && one_is(alloc, &store, &index, asks.0, 2, Wanted::Free)?,
+    )
+}
+
+#[test]
+fn values_that_enter_are_found(rt: HostRuntime) {
+    let found = match entered_values_are_found(rt.alloc()) {
+        Err(_) => entered_values_are_found(rt.alloc()),
         found => found,
     };
     holds(&rt, found == Ok(true));

@@ -1,4 +1,4 @@
-use Rattle.std.proofs.Common.{rules, ap, ◌∙◌, not, refl}
+use Rattle.std.proofs.Common.{ap, ◌∙◌, not, refl}
 use Rattle.row_versions.specs.Log.{has_committed}
 use Rattle.unique_keys.specs.Finding.{is_in_way}
 use Rattle.unique_keys.proofs.Listed.{step_found, step_same, found_all}

@@ -1,27 +1,20 @@
-use Rattle.std.proofs.Common.{◌≡◌, List, ap, sym, ◌∙◌}
-use Rattle.row_versions.specs.Log.{has_committed}
-use Rattle.unique_keys.specs.declared.noted.Noted.{Noted}
-use Rattle.unique_keys.specs.Finding.{is_taken_among}
-use Rattle.unique_keys.proofs.Found.{none_found, some_found}
+use Rattle.std.proofs.Common.{[], ap, ◌∙◌}
+use Rattle.unique_keys.specs.Checks.{found_by}
+use Rattle.unique_keys.proofs.Answered.{finds_held, finds_unheld}
 use Rattle.unique_keys.proofs.key_index.KeyIndex.find.Goals as goal
 
-pub returns-then-is_taken : goal.returns-then-is_taken
-returns-then-is_taken g c =
-    let committed = has_committed (g.V.Versions.content c.args.store.now) in
-    let same : c.as_slice-notes.result.now ≡ c.args.self.now = c.as_slice-notes.ensures.value ∙ c.self.view_is in (
-      none_found committed c.args.self.now c.as_slice-notes.result.now c.args.table c.args.tx c.args.asked.now c.args.columns.now c.in_ok-by.by.items c.deref.result.now c.is_none.result same c.in_ok-by.ensures c.deref.ensures c.is_none.ensures c.if-is_none.true,
-      ap (λ v. is_taken_among committed v c.args.table c.args.tx c.args.except c.args.asked.now c.args.columns.now) (sym same) ∙ sym c.is_taken.ensures ∙ c.if-is_taken.true,
-    )
+pub returns-then-is_held-clause-found : goal.returns-then-is_held-clause-found
+returns-then-is_held-clause-found g c = λ up is_open.
+    finds_held (g.V.Versions.content c.args.store.now) c.args.table c.args.tx c.args.except c.args.asked.now c.args.columns.now c.is_held.result (c.is_held.ensures up) c.if-is_held.true
 
-pub returns-then-is_none : goal.returns-then-is_none
-returns-then-is_none g c =
-    let committed = has_committed (g.V.Versions.content c.args.store.now) in
-    let same : c.as_slice-notes.result.now ≡ c.args.self.now = c.as_slice-notes.ensures.value ∙ c.self.view_is in (
-      none_found committed c.args.self.now c.as_slice-notes.result.now c.args.table c.args.tx c.args.asked.now c.args.columns.now c.in_ok-by.by.items c.deref.result.now c.is_none.result same c.in_ok-by.ensures c.deref.ensures c.is_none.ensures c.if-is_none.true,
-      ap (λ v. is_taken_among committed v c.args.table c.args.tx c.args.except c.args.asked.now c.args.columns.now) (sym same) ∙ sym c.is_taken.ensures ∙ c.if-is_taken.false,
-    )
+pub returns-then-is_taken-clause-found : goal.returns-then-is_taken-clause-found
+returns-then-is_taken-clause-found g c = λ up is_open.
+    finds_unheld (g.V.Versions.content c.args.store.now) c.args.self.now c.as_slice-notes.result.now c.args.table c.args.tx c.args.except c.args.asked.now c.args.columns.now c.is_held.result c.is_taken.result
+    (c.as_slice-notes.ensures.value ∙ c.self.view_is) c.is_held.ensures c.if-is_held.false c.is_taken.ensures up is_open
+    ∙ ap (found_by []) c.if-is_taken.true
 
-pub returns : goal.returns
-returns g c =
-    let committed = has_committed (g.V.Versions.content c.args.store.now) in
-    some_found committed c.args.self.now c.as_slice-notes.result.now c.args.table c.args.tx c.args.asked.now c.args.columns.now c.in_ok-by.by.items c.deref.result.now c.is_none.result (c.as_slice-notes.ensures.value ∙ c.self.view_is) c.in_ok-by.ensures c.deref.ensures c.is_none.ensures c.if-is_none.false
+pub returns-clause-found : goal.returns-clause-found
+returns-clause-found g c = λ up is_open.
+    finds_unheld (g.V.Versions.content c.args.store.now) c.args.self.now c.as_slice-notes.result.now c.args.table c.args.tx c.args.except c.args.asked.now c.args.columns.now c.is_held.result c.is_taken.result
+    (c.as_slice-notes.ensures.value ∙ c.self.view_is) c.is_held.ensures c.if-is_held.false c.is_taken.ensures up is_open
+    ∙ ap (found_by []) c.if-is_taken.false

@@ -1,4 +1,4 @@
-use Rattle.std.proofs.Common.{rules, ◌≡◌, ◌∙◌, ap, not, ◌==◌, filter}
+use Rattle.std.proofs.Common.{rules, ◌∙◌, ap, not, ◌==◌, filter}
 use Rattle.std.proofs.lemmas.Fn.{filter_same}
 use Rattle.unique_keys.proofs.key_index.KeyIndex.forget.Goals as goal
 

@@ -1,0 +1,162 @@
+-- A search that starts from the writes which have the key finds the same.
+use Rattle.std.proofs.Common.{◌≡◌, refl, sym, ap, subst, Bool, true, false, cond, not, ◌||◌, ◌&&◌, ◌==◌, ℕ, List, [], ◌∷◌, reverse, eqb-true, eq-eqb}
+use Rattle.std.specs.Prelude.{Option, Some, find}
+use Rattle.std.specs.List.{list_any}
+use mathlib.Core.List.{reverse_aux}
+use Rattle.sql_values.specs.declared.value.Value.{Value}
+use Rattle.row_versions.specs.declared.names.TxId.{TxId}
+use Rattle.row_versions.specs.declared.names.RowId.{RowId}
+use Rattle.row_versions.specs.declared.names.TableId.{TableId}
+use Rattle.unique_keys.specs.declared.noted.Noted.{Noted}
+use Rattle.unique_keys.specs.Members.{same_tx}
+use Rattle.unique_keys.specs.Keys.{has_key}
+use Rattle.unique_keys.specs.Finding.{last_of, version_has, is_committed_version, committed_has, own_has, is_in_way, counts_for, is_version_for, is_another, newest_has, takes, is_taken_among}
+
+both : (a b : Bool) → (a && b) ≡ true → (a ≡ true) × (b ≡ true)
+both true b h = (refl, h)
+both false b h = cc
+
+and : (a b : Bool) → a ≡ true → b ≡ true → (a && b) ≡ true
+and true b h k = k
+and false b h k = cc
+
+or_left : (a b : Bool) → a ≡ true → (a || b) ≡ true
+or_left true b h = refl
+or_left false b h = cc
+
+or_right : (a b : Bool) → b ≡ true → (a || b) ≡ true
+or_right true b h = refl
+or_right false b h = h
+
+-- two tests that pass alike are the same
+alike : (a b : Bool) → (a ≡ true → b ≡ true) → (b ≡ true → a ≡ true) → a ≡ b
+alike true b there back = sym (there refl)
+alike false true there back = back refl
+alike false false there back = refl
+
+-- what holds by any write that passes the test, and of which one can say that a test which it passes is passed by a write of the list, holds
+by_any : (p : Noted → Bool) (b : Bool) (ws : List Noted) → ((w : Noted) → p w ≡ true → ((r : Noted → Bool) → r w ≡ true → list_any r ws ≡ true) → b ≡ true) → list_any p ws ≡ true → b ≡ true
+by_any p b [] f h = cc
+by_any p b (x ∷ xs) f h = step (p x) refl h (λ k. by_any p b xs (λ w m intro. f w m (λ r n. or_right (r x) (list_any r xs) (intro r n))) k) where
+  step : (a : Bool) → p x ≡ a → (a || list_any p xs) ≡ true → (list_any p xs ≡ true → b ≡ true) → b ≡ true
+  step true e k others = f x e (λ r m. or_left (r x) (list_any r xs) m)
+  step false e k others = others k
+
+any-reverse_aux : (p : Noted → Bool) (ws behind : List Noted) → list_any p (reverse_aux ws behind) ≡ true → (list_any p ws || list_any p behind) ≡ true
+any-reverse_aux p [] behind h = h
+any-reverse_aux p (w ∷ ws) behind h = step (p w) (list_any p ws) (list_any p behind) (any-reverse_aux p ws (w ∷ behind) h) where
+  step : (a b c : Bool) → (b || (a || c)) ≡ true → ((a || b) || c) ≡ true
+  step true b c k = refl
+  step false b c k = k
+
+-- the version that is found has the key, so some write that passes the test has it
+find_has : (p : Noted → Bool) (columns : List ℕ) (asked : List Value) (ws : List Noted) → version_has columns asked (find p ws) ≡ true → list_any (λ v. p v && has_key columns asked v.values) ws ≡ true
+find_has p columns asked [] h = cc
+find_has p columns asked (w ∷ ws) h = step (p w) h (λ k. find_has p columns asked ws k) where
+  step : (b : Bool) → version_has columns asked (cond b (Some w) (find p ws)) ≡ true → (version_has columns asked (find p ws) ≡ true → list_any (λ v. p v && has_key columns asked v.values) ws ≡ true)
+      → ((b && has_key columns asked w.values) || list_any (λ v. p v && has_key columns asked v.values) ws) ≡ true
+  step true k others = or_left (has_key columns asked w.values) (list_any (λ v. p v && has_key columns asked v.values) ws) k
+  step false k others = others k
+
+or_false : (b : Bool) → (b || false) ≡ true → b ≡ true
+or_false true h = refl
+or_false false h = h
+
+last_has : (p : Noted → Bool) (columns : List ℕ) (asked : List Value) (ws : List Noted) → version_has columns asked (last_of p ws) ≡ true → list_any (λ v. p v && has_key columns asked v.values) ws ≡ true
+last_has p columns asked ws h =
+    or_false (list_any (λ v. p v && has_key columns asked v.values) ws) (any-reverse_aux (λ v. p v && has_key columns asked v.values) ws [] (find_has p columns asked (reverse ws) h))
+
+row_is : (a b : RowId) → (a.0 == b.0) ≡ true → a ≡ b
+row_is a b h = let mk : ℕ → RowId = λ n. record { 0 = n } in ap mk (eqb-true a.0 b.0 h)
+
+-- a write has the key, and one of its row stands in the way
+abbrev pub leads_to_way : (TxId → Bool) → (TxId → Bool) → List Noted → TableId → List ℕ → List Value → TxId → Noted → Bool
+leads_to_way committed active ws table columns asked tx v =
+    has_key columns asked v.values && list_any (λ w. (w.row.0 == v.row.0) && is_in_way committed active ws table columns asked tx w) ws
+
+-- where the row's newest committed version, or an own one, has the key, a write of the row has it
+has_of_row : (committed : TxId → Bool) (ws : List Noted) (columns : List ℕ) (asked : List Value) (row : RowId) (u : TxId)
+    → (committed_has committed ws columns asked row || own_has ws columns asked row u) ≡ true → list_any (λ v. has_key columns asked v.values && (row.0 == v.row.0)) ws ≡ true
+has_of_row committed ws columns asked row u h = cases (committed_has committed ws columns asked row) refl h where
+  here : (v : Noted) (k : Bool) → ((v.row.0 == row.0) && k) ≡ true → has_key columns asked v.values ≡ true → (has_key columns asked v.values && (row.0 == v.row.0)) ≡ true
+  here v k e has = and (has_key columns asked v.values) (row.0 == v.row.0) has (eq-eqb row.0 v.row.0 (sym (eqb-true v.row.0 row.0 (both (v.row.0 == row.0) k e).0)))
+
+  cases : (a : Bool) → committed_has committed ws columns asked row ≡ a → (a || own_has ws columns asked row u) ≡ true → list_any (λ v. has_key columns asked v.values && (row.0 == v.row.0)) ws ≡ true
+  cases true e k =
+      by_any (λ v. is_committed_version committed row v && has_key columns asked v.values) (list_any (λ v. has_key columns asked v.values && (row.0 == v.row.0)) ws) ws
+      (λ v m intro. let p = both (is_committed_version committed row v) (has_key columns asked v.values) m in intro (λ x. has_key columns asked x.values && (row.0 == x.row.0)) (here v (committed v.tx) p.0 p.1))
+      (last_has (is_committed_version committed row) columns asked ws e)
+  cases false e k =
+      by_any (λ v. ((v.row.0 == row.0) && same_tx v.tx u) && has_key columns asked v.values) (list_any (λ v. has_key columns asked v.values && (row.0 == v.row.0)) ws) ws
+      (λ v m intro. let p = both ((v.row.0 == row.0) && same_tx v.tx u) (has_key columns asked v.values) m in intro (λ x. has_key columns asked x.values && (row.0 == x.row.0)) (here v (same_tx v.tx u) p.0 p.1))
+      k
+
+-- a write stands in the way where one leads to such
+pub way_from_key : (committed active : TxId → Bool) (ws : List Noted) (table : TableId) (columns : List ℕ) (asked : List Value) (tx : TxId)
+    → list_any (leads_to_way committed active ws table columns asked tx) ws ≡ list_any (is_in_way committed active ws table columns asked tx) ws
+way_from_key committed active ws table columns asked tx = alike _ _ there back where
+  there : list_any (leads_to_way committed active ws table columns asked tx) ws ≡ true → list_any (is_in_way committed active ws table columns asked tx) ws ≡ true
+  there =
+      by_any (leads_to_way committed active ws table columns asked tx) (list_any (is_in_way committed active ws table columns asked tx) ws) ws
+      (λ v h intro. by_any (λ w. (w.row.0 == v.row.0) && is_in_way committed active ws table columns asked tx w) (list_any (is_in_way committed active ws table columns asked tx) ws) ws
+      (λ w k more. more (is_in_way committed active ws table columns asked tx) (both (w.row.0 == v.row.0) (is_in_way committed active ws table columns asked tx w) k).1)
+      (both (has_key columns asked v.values) (list_any (λ w. (w.row.0 == v.row.0) && is_in_way committed active ws table columns asked tx w) ws) h).1)
+
+  back : list_any (is_in_way committed active ws table columns asked tx) ws ≡ true → list_any (leads_to_way committed active ws table columns asked tx) ws ≡ true
+  back =
+      by_any (is_in_way committed active ws table columns asked tx) (list_any (leads_to_way committed active ws table columns asked tx) ws) ws
+      (λ w h intro. by_any (λ v. has_key columns asked v.values && (w.row.0 == v.row.0)) (list_any (leads_to_way committed active ws table columns asked tx) ws) ws
+      (λ v k more. let p = both (has_key columns asked v.values) (w.row.0 == v.row.0) k in
+      more (leads_to_way committed active ws table columns asked tx)
+      (and (has_key columns asked v.values) (list_any (λ x. (x.row.0 == v.row.0) && is_in_way committed active ws table columns asked tx x) ws) p.0
+      (intro (λ x. (x.row.0 == v.row.0) && is_in_way committed active ws table columns asked tx x) (and (w.row.0 == v.row.0) (is_in_way committed active ws table columns asked tx w) p.1 h))))
+      (has_of_row committed ws columns asked w.row w.tx
+      (both ((w.table.0 == table.0) && (not (same_tx w.tx tx) && active w.tx)) (committed_has committed ws columns asked w.row || own_has ws columns asked w.row w.tx) h).1))
+
+-- a write for the transaction is of the row, in the table
+abbrev pub is_of_row : (TxId → Bool) → TableId → TxId → RowId → Noted → Bool
+is_of_row committed table tx row w = (w.row.0 == row.0) && ((w.table.0 == table.0) && counts_for committed tx w)
+
+-- a write for the transaction has the key, of another row, whose newest version has it, and which is in the table
+abbrev pub has_taken : (TxId → Bool) → List Noted → TableId → TxId → Option RowId → List Value → List ℕ → Noted → Bool
+has_taken committed ws table tx except asked columns v =
+    (has_key columns asked v.values && (is_another except v.row && counts_for committed tx v))
+    && (newest_has committed ws columns asked v.row tx && list_any (is_of_row committed table tx v.row) ws)
+
+pub taken_from_key : (committed : TxId → Bool) (ws : List Noted) (table : TableId) (tx : TxId) (except : Option RowId) (asked : List Value) (columns : List ℕ)
+    → list_any (has_taken committed ws table tx except asked columns) ws ≡ is_taken_among committed ws table tx except asked columns
+taken_from_key committed ws table tx except asked columns = alike _ _ there back where
+  there : list_any (has_taken committed ws table tx except asked columns) ws ≡ true → is_taken_among committed ws table tx except asked columns ≡ true
+  there =
+      by_any (has_taken committed ws table tx except asked columns) (is_taken_among committed ws table tx except asked columns) ws
+      (λ v h intro. let p = both (has_key columns asked v.values && (is_another except v.row && counts_for committed tx v)) (newest_has committed ws columns asked v.row tx && list_any (is_of_row committed table tx v.row) ws) h in
+      let q = both (newest_has committed ws columns asked v.row tx) (list_any (is_of_row committed table tx v.row) ws) p.1 in
+      let a : is_another except v.row ≡ true = (both (is_another except v.row) (counts_for committed tx v) (both (has_key columns asked v.values) (is_another except v.row && counts_for committed tx v) p.0).1).0 in
+      by_any (is_of_row committed table tx v.row) (is_taken_among committed ws table tx except asked columns) ws
+      (λ w k more. let r = both (w.row.0 == v.row.0) ((w.table.0 == table.0) && counts_for committed tx w) k in
+      let s = both (w.table.0 == table.0) (counts_for committed tx w) r.1 in
+      let e : v.row ≡ w.row = sym (row_is w.row v.row r.0) in
+      more (takes committed ws table tx except asked columns)
+      (and ((w.table.0 == table.0) && (is_another except w.row && counts_for committed tx w)) (newest_has committed ws columns asked w.row tx)
+      (and (w.table.0 == table.0) (is_another except w.row && counts_for committed tx w) s.0 (and (is_another except w.row) (counts_for committed tx w) (subst (λ row. is_another except row ≡ true) e a) s.1))
+      (subst (λ row. newest_has committed ws columns asked row tx ≡ true) e q.0)))
+      q.1)
+
+  back : is_taken_among committed ws table tx except asked columns ≡ true → list_any (has_taken committed ws table tx except asked columns) ws ≡ true
+  back =
+      by_any (takes committed ws table tx except asked columns) (list_any (has_taken committed ws table tx except asked columns) ws) ws
+      (λ w h intro. let p = both ((w.table.0 == table.0) && (is_another except w.row && counts_for committed tx w)) (newest_has committed ws columns asked w.row tx) h in
+      let q = both (w.table.0 == table.0) (is_another except w.row && counts_for committed tx w) p.0 in
+      let r = both (is_another except w.row) (counts_for committed tx w) q.1 in
+      by_any (λ v. is_version_for committed w.row tx v && has_key columns asked v.values) (list_any (has_taken committed ws table tx except asked columns) ws) ws
+      (λ v k more. let s = both (is_version_for committed w.row tx v) (has_key columns asked v.values) k in
+      let t = both (v.row.0 == w.row.0) (counts_for committed tx v) s.0 in
+      let e : w.row ≡ v.row = sym (row_is v.row w.row t.0) in
+      more (has_taken committed ws table tx except asked columns)
+      (and (has_key columns asked v.values && (is_another except v.row && counts_for committed tx v)) (newest_has committed ws columns asked v.row tx && list_any (is_of_row committed table tx v.row) ws)
+      (and (has_key columns asked v.values) (is_another except v.row && counts_for committed tx v) s.1 (and (is_another except v.row) (counts_for committed tx v) (subst (λ row. is_another except row ≡ true) e r.0) t.1))
+      (and (newest_has committed ws columns asked v.row tx) (list_any (is_of_row committed table tx v.row) ws)
+      (subst (λ row. newest_has committed ws columns asked row tx ≡ true) e p.1)
+      (intro (is_of_row committed table tx v.row) (and (w.row.0 == v.row.0) ((w.table.0 == table.0) && counts_for committed tx w)
+      (eq-eqb w.row.0 v.row.0 (ap (λ (row : RowId). row.0) e)) (and (w.table.0 == table.0) (counts_for committed tx w) q.0 r.1))))))
+      (last_has (is_version_for committed w.row tx) columns asked ws p.1))
