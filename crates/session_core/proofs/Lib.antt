@@ -2,4 +2,5 @@ pub mod BlockLemmas
 pub mod Going
 pub mod Opening
 pub mod Replaying
+pub mod Stated
 pub mod Stepping

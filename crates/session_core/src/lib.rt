@@ -4,6 +4,7 @@
 mod block_stmts;
 mod engine;
 mod launch;
+mod laws;
 mod leave;
 mod live;
 mod replay;
