@@ -10,6 +10,12 @@ mod driven;
 #[cfg(test)]
 mod inserts;
 #[cfg(test)]
+mod keys;
+#[cfg(test)]
+mod random_keys;
+#[cfg(test)]
+mod refusals;
+#[cfg(test)]
 mod selects;
 #[cfg(test)]
 mod sessions;

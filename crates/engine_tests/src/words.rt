@@ -79,6 +79,7 @@ fn fault_text(fault: &StmtFault<'_>) -> &'static str {
         StmtFault::NoTableToDrop(_) => " no table to drop ",
         StmtFault::TableExists(_) => " there is ",
         StmtFault::NullValue { .. } => " null in ",
+        StmtFault::KeyTaken(_) => " taken ",
         StmtFault::TooManyValues => " too many values",
         StmtFault::NoPosition(_) => " no position",
         StmtFault::NotSerializable => " not serializable",
@@ -100,9 +101,19 @@ fn fault_name<'a>(fault: &StmtFault<'a>) -> &'a str {
     }
 }
 
+fn add_bytes(words: &mut String, bytes: &[u8]) -> Result<(), AllocError> {
+    for byte in bytes {
+        words.push(char::from(*byte))?;
+    }
+    Ok(())
+}
+
 fn add_fault(words: &mut String, fault: &StmtFault<'_>) -> Result<(), AllocError> {
     words.push_str(fault_text(fault))?;
-    words.push_str(fault_name(fault))
+    match fault {
+        StmtFault::KeyTaken(name) => add_bytes(words, name.text()),
+        _ => words.push_str(fault_name(fault)),
+    }
 }
 
 /// Each outcome's words begin with a blank; a launch and a statement without a result say nothing.

@@ -7,6 +7,7 @@ mod fault;
 mod front;
 mod ident;
 mod name;
+mod name_bytes;
 mod piece;
 mod quoted;
 mod runs;

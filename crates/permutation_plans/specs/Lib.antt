@@ -2,3 +2,5 @@ pub mod Launches
 pub mod Regular
 pub mod Worked
 pub mod Whole
+pub mod FreeLaunches
+pub mod FreeRegular

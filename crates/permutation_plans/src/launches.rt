@@ -64,7 +64,7 @@ fn push_teardowns(tasks: &mut Vec<Task>, sessions: &[SessionPart<'_>]) -> Result
 }
 
 /// The setups of the file, then those of the sessions.
-fn setups(alloc: Global, spec: &Spec<'_>) -> Result<Vec<Task>, AllocError>
+pub fn setups(alloc: Global, spec: &Spec<'_>) -> Result<Vec<Task>, AllocError>
     requires { length spec.now.sessions.items < 2 ^ 32 }
     ensures { IfOk result (λ tasks. tasks.items ≡ map (task 0) (spec_view spec.now).setups ++ own_tasks (λ s. s.setup) 1 (spec_view spec.now).sessions) }
 {

@@ -2,8 +2,12 @@
 #![tactic(auto)]
 
 mod fit;
+mod free_fit;
+mod free_launches;
 mod launches;
 pub mod laws;
 
 pub use fit::launches_fit;
+pub use free_fit::free_fits;
+pub use free_launches::FreeLaunches;
 pub use launches::Launches;

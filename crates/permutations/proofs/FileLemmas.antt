@@ -57,7 +57,6 @@ block_refused bytes spec parts told.SetupWaits file says differs = absurd says
 block_refused bytes spec parts told.ScheduleBroken file says differs = absurd says
 block_refused bytes spec parts told.TooManyPermutations file says differs = absurd says
 block_refused bytes spec parts (told.NotUtf8 at) file says differs = absurd says
-block_refused bytes spec parts told.NotYet file says differs = absurd says
 
 pub whole_file : (bytes : List ℕ) (spec : SpecTree) (parts : List Placed) (bs : Vec Block) → IsSpecFile bytes spec parts → SayAll parts (Ok bs) → FileIs bytes (Ok (record { spec = spec; blocks = blocks_of bs.items }))
 whole_file bytes spec parts bs file says = is_spec spec (blocks_of bs.items) file.short file.utf8 file.reads (subst (λ ps. BlocksRead ps (Ok (blocks_of bs.items))) file.same says)
@@ -86,7 +85,6 @@ blocks_kind parts told.SetupWaits says = absurd says
 blocks_kind parts told.ScheduleBroken says = absurd says
 blocks_kind parts told.TooManyPermutations says = absurd says
 blocks_kind parts (told.NotUtf8 at) says = absurd says
-blocks_kind parts told.NotYet says = absurd says
 
 -- ---- each block is short
 

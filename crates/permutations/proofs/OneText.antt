@@ -1,5 +1,5 @@
 -- What a file says is one thing.
-use Rattle.std.proofs.Common.{◌≡◌, ℕ, zero, suc, List, [], ◌∷◌, Bool, true, false, Result, Ok, Err, refl, sym, ap, subst, ◌∙◌}
+use Rattle.std.proofs.Common.{◌≡◌, ℕ, zero, suc, List, [], ◌∷◌, Result, Ok, Err, refl, sym, ap, subst, ◌∙◌}
 use Rattle.session_machine.specs.declared.reply.HistItem.{HistItem}
 use Rattle.session_machine.specs.Machine.{Blocks}
 use Rattle.spec_parser.specs.Trees.{EntryTree, SpecTree}
@@ -11,7 +11,7 @@ use Rattle.permutations.specs.declared.fault.RunFault.{RunFault}
 use Rattle.permutations.specs.Said.{Said, behind}
 use Rattle.permutations.specs.FirstLine.{first_line}
 use Rattle.permutations.specs.Files.{File, FileIs}
-use Rattle.permutations.specs.Prints.{GoesOn, Prints, all_run, FileSays, refused, not_yet, says}
+use Rattle.permutations.specs.Prints.{GoesOn, Prints, FileSays, refused, says}
 use Rattle.permutations.specs.Laws.{FilesAreOneThing}
 use Rattle.permutations.proofs.OneFile.{err_ok, err_is, file_is}
 
@@ -34,22 +34,11 @@ one_prints one spec blocks (suc left) (p ∷ ps) x y h k =
     h.4 ∙ ap (behind (permutation_says spec p h.0).text (permutation_says spec p h.0).notes) rests
     ∙ ap (λ (is : List HistItem). behind (permutation_says spec p is).text (permutation_says spec p is).notes k.1) same ∙ sym k.4
 
-true_false : (b : Bool) → b ≡ true → b ≡ false → ⊥
-true_false b e f = cc
-
-runs_or_not : FilesAreOneThing → (bytes : List ℕ) (a b : File) → FileIs bytes (Ok a) → FileIs bytes (Ok b) → all_run a.blocks ≡ true → all_run b.blocks ≡ false → ⊥
-runs_or_not one bytes a b h k runs lacks = true_false (all_run b.blocks) (subst (λ (f : File). all_run f.blocks ≡ true) (file_is a b (one bytes (Ok a) (Ok b) h k)) runs) lacks
-
 pub one_text : EachHasOneHistory → FilesAreOneThing → (bytes : List ℕ) (limit : ℕ) (x y : Result Said RunFault) → FileSays bytes limit x → FileSays bytes limit y → x ≡ y
 one_text each one bytes limit x y (refused e h) (refused f k) = ap Err (err_is e f (one bytes (Err e) (Err f) h k))
-one_text each one bytes limit x y (refused e h) (not_yet b k lacks) = absurd (err_ok e b (one bytes (Err e) (Ok b) h k))
-one_text each one bytes limit x y (refused e h) (says b s k runs p) = absurd (err_ok e b (one bytes (Err e) (Ok b) h k))
-one_text each one bytes limit x y (not_yet a h lacks) (refused f k) = absurd (err_ok f a (one bytes (Err f) (Ok a) k h))
-one_text each one bytes limit x y (not_yet a h lacks) (not_yet b k lacks') = refl
-one_text each one bytes limit x y (not_yet a h lacks) (says b s k runs p) = absurd (runs_or_not one bytes b a k h runs lacks)
-one_text each one bytes limit x y (says a r h runs q) (refused f k) = absurd (err_ok f a (one bytes (Err f) (Ok a) k h))
-one_text each one bytes limit x y (says a r h runs q) (not_yet b k lacks) = absurd (runs_or_not one bytes a b h k runs lacks)
-one_text each one bytes limit x y (says a r h runs q) (says b s k runs' p) =
+one_text each one bytes limit x y (refused e h) (says b s k p) = absurd (err_ok e b (one bytes (Err e) (Ok b) h k))
+one_text each one bytes limit x y (says a r h q) (refused f k) = absurd (err_ok f a (one bytes (Err f) (Ok a) k h))
+one_text each one bytes limit x y (says a r h q) (says b s k p) =
     let same : a ≡ b = file_is a b (one bytes (Ok a) (Ok b) h k) in
     let there : Prints a.spec a.blocks limit (permutations_of a.spec) s = subst (λ (f : File). Prints f.spec f.blocks limit (permutations_of f.spec) s) (sym same) p in
     ap (λ (t : Said). Ok (behind (first_line a.spec) [] t)) (one_prints each a.spec a.blocks limit (permutations_of a.spec) r s q there)

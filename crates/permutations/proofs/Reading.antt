@@ -79,7 +79,6 @@ on_fault ps bs i p q faults.SetupWaits lt is says so = says
 on_fault ps bs i p q faults.ScheduleBroken lt is says so = says
 on_fault ps bs i p q faults.TooManyPermutations lt is says so = says
 on_fault ps bs i p q (faults.NotUtf8 at) lt is says so = says
-on_fault ps bs i p q faults.NotYet lt is says so = says
 
 on_end : (ps : List Placed) (bs : Blocks) (i : ℕ) → length ps ≤ i → SoFar ps bs i → BlocksRead ps (Ok bs)
 unfolding behind_all

@@ -1,5 +1,5 @@
 -- The run of a whole file.
-use Rattle.std.proofs.Common.{◌≡◌, ◌≢◌, ℕ, Bool, true, false, List, [], Option, Result, Ok, Err, sym, subst, ◌∙◌}
+use Rattle.std.proofs.Common.{◌≡◌, ◌≢◌, ℕ, true, List, [], Option, Result, Ok, Err, subst}
 use Rattle.std.specs.Io.KnownBytes.{Appends}
 use Rattle.permutation_lists.specs.Permutations.{permutations_of}
 use Rattle.permutations.specs.declared.fault.RunFault.{RunFault}
@@ -7,7 +7,7 @@ use Rattle.permutations.specs.declared.fault.RunFault.TheVariants as faults
 use Rattle.permutations.specs.Said.{Said, behind}
 use Rattle.permutations.specs.FirstLine.{first_line}
 use Rattle.permutations.specs.Files.{File, FileIs}
-use Rattle.permutations.specs.Prints.{Prints, all_run, FileSays, refused, not_yet, says}
+use Rattle.permutations.specs.Prints.{Prints, FileSays, refused, says}
 use Rattle.permutations.specs.Runs.{is_refusal, IsTold}
 use Rattle.permutations.specs.Broken.{RunBroken, FileBroken}
 use Rattle.permutations.proofs.Listing.{appends_more, differs}
@@ -15,21 +15,18 @@ use Rattle.permutations.proofs.Listing.{appends_more, differs}
 pub refused_file : (bytes : List ℕ) (limit : ℕ) (e : RunFault) → (e ≢ faults.Memory → FileIs bytes (Err e)) → is_refusal e ≡ true → FileSays bytes limit (Err e)
 refused_file bytes limit e is refusal = refused e (is (differs e refusal))
 
-pub runs_not_yet : (bytes : List ℕ) (limit : ℕ) (file : File) (result : Bool) → FileIs bytes (Ok file) → result ≡ all_run file.blocks → result ≡ false → FileSays bytes limit (Err faults.NotYet)
-runs_not_yet bytes limit file result is e lacks = not_yet file is (sym e ∙ lacks)
-
 -- a run whose text stands behind the first line
 pub record Ran (bytes : List ℕ) (limit : ℕ) (out_old out_new notes_old notes_new : Option (List ℕ)) (result : Result (Unit {0}) RunFault) : Type 0 where
   pub said : Said
   pub says_so : FileSays bytes limit (Ok said)
   pub told : IsTold out_old out_new notes_old notes_new result said
 
-pub ran : (bytes : List ℕ) (limit : ℕ) (file : File) (wo wm wn eo en : Option (List ℕ)) (result : Result (Unit {0}) RunFault) (line : List ℕ) (said : Said) (can : Bool)
-    → FileIs bytes (Ok file) → can ≡ all_run file.blocks → can ≡ true → line ≡ first_line file.spec → Appends wo wm line
+pub ran : (bytes : List ℕ) (limit : ℕ) (file : File) (wo wm wn eo en : Option (List ℕ)) (result : Result (Unit {0}) RunFault) (line : List ℕ) (said : Said)
+    → FileIs bytes (Ok file) → line ≡ first_line file.spec → Appends wo wm line
     → Prints file.spec file.blocks limit (permutations_of file.spec) said → IsTold wm wn eo en result said → Ran bytes limit wo wn eo en result
-ran bytes limit file wo wm wn eo en result line said can is e runs same put prints told = record {
+ran bytes limit file wo wm wn eo en result line said is same put prints told = record {
   said = behind (first_line file.spec) [] said;
-  says_so = says file said is (sym e ∙ runs) prints;
+  says_so = says file said is prints;
   told = record {
     answer = told.answer;
     text = appends_more wo wm wn (first_line file.spec) said.text (subst (Appends wo wm) same put) told.text;
@@ -37,14 +34,14 @@ ran bytes limit file wo wm wn eo en result line said can is e runs same put prin
   };
 }
 
-pub broke : (bytes : List ℕ) (limit : ℕ) (file : File) (wo wm wn eo en : Option (List ℕ)) (line : List ℕ) (can : Bool)
-    → FileIs bytes (Ok file) → can ≡ all_run file.blocks → can ≡ true → line ≡ first_line file.spec → Appends wo wm line
+pub broke : (bytes : List ℕ) (limit : ℕ) (file : File) (wo wm wn eo en : Option (List ℕ)) (line : List ℕ)
+    → FileIs bytes (Ok file) → line ≡ first_line file.spec → Appends wo wm line
     → RunBroken file.spec file.blocks limit (permutations_of file.spec) wm wn eo en → FileBroken bytes limit wo wn eo en
-broke bytes limit file wo wm wn eo en line can is e runs same put b = record {
+broke bytes limit file wo wm wn eo en line is same put b = record {
   done = b.done;
   said = behind (first_line file.spec) [] b.said;
   fewer = b.fewer;
-  says_so = says file b.said is (sym e ∙ runs) b.prints;
+  says_so = says file b.said is b.prints;
   one_more = b.one_more;
   text = appends_more wo wm wn (first_line file.spec) b.said.text (subst (Appends wo wm) same put) b.text;
   notes = b.notes;

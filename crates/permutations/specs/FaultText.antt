@@ -27,7 +27,6 @@ fault_text faults.SetupWaits = codes "R7 SetupWaits"
 fault_text faults.ScheduleBroken = codes "R8 ScheduleBroken"
 fault_text faults.TooManyPermutations = codes "R9 TooManyPermutations"
 fault_text (faults.NotUtf8 at) = placed (codes "R11 NotUtf8") at
-fault_text faults.NotYet = codes "R12 NotYet"
 fault_text faults.Memory = codes "Memory"
 
 -- the line that the program prints of it

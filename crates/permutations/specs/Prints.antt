@@ -1,16 +1,13 @@
 -- What running a file's permutations says.
-use Rattle.std.specs.Prelude.{◌≡◌, ℕ, zero, suc, Bool, true, false, List, [], ◌∷◌, Result, Ok, Err}
-use Rattle.std.specs.List.{list_all}
+use Rattle.std.specs.Prelude.{◌≡◌, ℕ, zero, suc, List, [], ◌∷◌, Result, Ok, Err}
 use Rattle.session_machine.specs.declared.reply.HistItem.{HistItem}
 use Rattle.session_machine.specs.Machine.{Blocks}
-use Rattle.session_machine.specs.Running.{runs}
 use Rattle.spec_parser.specs.Trees.{EntryTree, SpecTree}
 use Rattle.permutation_lists.specs.Permutations.{permutations_of}
 use Rattle.permutation_plans.specs.Regular.{IsRegular}
 use Rattle.report_text.specs.Said as report
 use Rattle.report_text.specs.Permutation.{permutation_says}
 use Rattle.permutations.specs.declared.fault.RunFault.{RunFault}
-use Rattle.permutations.specs.declared.fault.RunFault.TheVariants as faults
 use Rattle.permutations.specs.Said.{Said, ended, behind, whole, setup_failed, setup_waits, too_many}
 use Rattle.permutations.specs.FirstLine.{first_line}
 use Rattle.permutations.specs.Files.{File, FileIs}
@@ -32,12 +29,7 @@ Prints spec blocks (suc left) (p ∷ ps) said =
     × GoesOn (permutation_says spec p items).ending (Prints spec blocks left ps) rest
     × (said ≡ behind (permutation_says spec p items).text (permutation_says spec p items).notes rest)
 
--- every statement of a file's blocks runs by now
-abbrev pub all_run : Blocks → Bool
-all_run blocks = list_all (list_all runs) blocks
-
--- A file is refused, or needs what doesn't run yet, or prints this, where so many of its permutations run at most.
+-- A file is refused, or prints this, where so many of its permutations run at most.
 pub data FileSays (bytes : List ℕ) (limit : ℕ) : Result Said RunFault → Type 0 where
   refused : (e : RunFault) → FileIs bytes (Err e) → FileSays bytes limit (Err e)
-  not_yet : (file : File) → FileIs bytes (Ok file) → all_run file.blocks ≡ false → FileSays bytes limit (Err faults.NotYet)
-  says : (file : File) (said : Said) → FileIs bytes (Ok file) → all_run file.blocks ≡ true → Prints file.spec file.blocks limit (permutations_of file.spec) said → FileSays bytes limit (Ok (behind (first_line file.spec) [] said))
+  says : (file : File) (said : Said) → FileIs bytes (Ok file) → Prints file.spec file.blocks limit (permutations_of file.spec) said → FileSays bytes limit (Ok (behind (first_line file.spec) [] said))

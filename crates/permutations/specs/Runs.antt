@@ -18,7 +18,6 @@ is_refusal (faults.Lex f) = true
 is_refusal (faults.Spec f) = true
 is_refusal (faults.Sql f) = true
 is_refusal (faults.NotUtf8 at) = true
-is_refusal faults.NotYet = true
 is_refusal _ = false
 
 -- the run came to an end, though not to the end of the file
@@ -51,7 +50,6 @@ abbrev pub is_of_listing : RunFault → Bool
 is_of_listing (faults.SetupFailed text) = false
 is_of_listing faults.SetupWaits = false
 is_of_listing faults.ScheduleBroken = false
-is_of_listing faults.NotYet = false
 is_of_listing _ = true
 
 abbrev pub has_ended : Result (Unit {0}) RunFault → Bool

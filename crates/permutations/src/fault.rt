@@ -83,8 +83,6 @@ pub enum RunFault {
     TooManyPermutations,
     /// The file is no UTF-8 from this byte on.
     NotUtf8(usize),
-    /// The file needs what doesn't run yet.
-    NotYet,
     /// Memory was refused.
     Memory,
 }
@@ -105,7 +103,6 @@ impl fmt::Display for RunFault {
             RunFault::ScheduleBroken => write!(f, "R8 ScheduleBroken"),
             RunFault::TooManyPermutations => write!(f, "R9 TooManyPermutations"),
             RunFault::NotUtf8(at) => write!(f, "R11 NotUtf8 at byte {at}"),
-            RunFault::NotYet => write!(f, "R12 NotYet"),
             RunFault::Memory => write!(f, "Memory"),
         }
     }
@@ -185,8 +182,7 @@ impl RunFault {
             | RunFault::SetupFailed { .. }
             | RunFault::SetupWaits
             | RunFault::TooManyPermutations
-            | RunFault::NotUtf8(_)
-            | RunFault::NotYet => 1,
+            | RunFault::NotUtf8(_) => 1,
         }
     }
 }

@@ -1,16 +1,13 @@
 //! Runs a spec file.
 
 ghost use Rattle.std.specs.Prelude.{◌≡◌, ◌≢◌, ◌↔◌, ◌||◌, List, ℕ, Ok, Err, map, take, true, false, IsTrue, IfErr, IfSome, IsErrOf};
-ghost use Rattle.std.specs.List.{list_all};
 ghost use Rattle.iso_lexer.specs.Devices.{IsFront};
-ghost use Rattle.sql_trees.specs.Statements.{stmt_of};
-ghost use Rattle.session_machine.specs.Running.{runs};
-ghost use Rattle.session_core.specs.Blocks.{block_of, blocks_of};
+ghost use Rattle.session_core.specs.Blocks.{blocks_of};
 ghost use Rattle.spec_parser.specs.Trees.{entry_view, spec_view};
 ghost use Rattle.spec_parser.specs.Stands.{Stands};
 ghost use Rattle.permutation_lists.specs.Permutations.{permutations_of};
 ghost use Rattle.permutations.specs.Broken.{RunBroken, FileBroken};
-ghost use Rattle.permutations.specs.Prints.{Prints, FileSays, all_run};
+ghost use Rattle.permutations.specs.Prints.{Prints, FileSays};
 ghost use Rattle.permutations.specs.Runs.{is_refusal, is_of_one, has_ended, has_read, IsTold, IsOneTold};
 ghost use Rattle.permutations.specs.Said.{Said};
 
@@ -21,34 +18,9 @@ use crate::one_run::run_of;
 use crate::report::write_permutation;
 use iso_lexer::{LONGEST_FILE, Sink, Source, read_all};
 use permutation_lists::Permutations;
-use session_machine::can_run;
 use spec_parser::{Entry, Spec};
 use sql_parser::Block;
-use sql_trees::Stmt;
 use std::alloc::Global;
-
-fn all_can_run(stmts: &[Stmt<'_>]) -> bool
-    ensures { result ≡ list_all runs (map stmt_of stmts.now) }
-{
-    for stmt in stmts {
-        if !can_run(stmt) {
-            return false;
-        }
-    }
-    true
-}
-
-/// Whether every statement of the blocks runs by now.
-fn all_run(blocks: &[Block<'_>]) -> bool
-    ensures { result ≡ all_run (blocks_of blocks.now) }
-{
-    for block in blocks {
-        if !all_can_run(block.stmts()) {
-            return false;
-        }
-    }
-    true
-}
 
 /// Runs a permutation on a new engine, and writes its report.
 fn run_permutation<W: Sink, N: Sink>(
@@ -122,9 +94,6 @@ fn run_file<W: Sink, N: Sink>(
     ensures read { result ≢ Err RunFault.Read }
 {
     let file = read_file(alloc, bytes)?;
-    if !all_run(&file.blocks) {
-        return Err(RunFault::NotYet);
-    }
     let line = first_line(alloc, &file.spec)?;
     out.put(line.as_slice())?;
     run_permutations(alloc, &file.spec, &file.blocks, out, notes, limit)
@@ -132,9 +101,9 @@ fn run_file<W: Sink, N: Sink>(
 
 /// Reads a spec file, runs its permutations one after the other, each on a new engine, and writes their reports; what a
 /// teardown fails with goes to the notes. Nothing that is written depends on anything but the bytes read and the limit.
-/// The file is refused before anything is written: for its length, as no UTF-8, for its tokens, as no spec, for its
-/// blocks in the order of the file, and for what doesn't run yet, in this order. After `limit` permutations, with one
-/// more there, the run ends; so it does after a setup that fails or waits.
+/// The file is refused before anything is written: for its length, as no UTF-8, for its tokens, as no spec, and for its
+/// blocks in the order of the file, in this order. After `limit` permutations, with one more there, the run ends; so it
+/// does after a setup that fails or waits.
 pub fn run_spec<S: Source, W: Sink, N: Sink>(
     alloc: Global,
     input: &mut S,

@@ -28,7 +28,6 @@ fn faults_of_a_run(rt: HostRuntime) -> Result<(), AllocError> {
         (RunFault::ScheduleBroken, "R8 ScheduleBroken"),
         (RunFault::TooManyPermutations, "R9 TooManyPermutations"),
         (RunFault::NotUtf8(17), "R11 NotUtf8 at byte 17"),
-        (RunFault::NotYet, "R12 NotYet"),
         (RunFault::Memory, "Memory"),
     ] {
         is_told(&rt, rt.alloc(), &fault, line)?;

@@ -39,22 +39,3 @@ fn the_longest_file_runs_and_one_byte_more_is_too_long(rt: HostRuntime) -> Resul
     }
     Ok(())
 }
-
-#[test]
-fn what_does_not_run_yet_is_listed(rt: HostRuntime) -> Result<(), AllocError> {
-    for (words, text, line, ends) in [
-        ([].as_slice(), "", "isolationtester: R12 NotYet\n", 1),
-        (["--list"].as_slice(), "permutation \"a\"\n", "", 0),
-    ] {
-        let mut input = Gives::new(
-            "setup { CREATE TABLE t (x int PRIMARY KEY) } session s step a { SELECT 1 }",
-            usize::MAX,
-        );
-        let mut out = Takes::new(text, usize::MAX);
-        let mut err = Takes::new(line, usize::MAX);
-        let status = served(rt.alloc(), words, &mut input, &mut out, &mut err)?;
-        holds(&rt, status == ends, "the status");
-        holds(&rt, out.lacks(0) && err.lacks(0), "the text");
-    }
-    Ok(())
-}

@@ -12,7 +12,7 @@ mod sight;
 mod telling;
 
 pub use course::Course;
-pub use entries::{ends_in, session_of};
+pub use entries::{ends_in, is_order, session_of};
 pub use history::{Line, Moment, Stand, Task};
 pub use plan::{Plan, Schedule};
 pub use progress::{Progress, told_lines};

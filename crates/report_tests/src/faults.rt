@@ -3,8 +3,8 @@
 use crate::histories::{holds, last, launch, leave};
 use crate::texts::{Case, ENDLESS, report};
 use iso_lexer::{Ident, Name};
-use session_machine::{Outcome, StmtFault};
-use std::alloc::Global;
+use session_machine::{KeyName, Outcome, StmtFault};
+use std::alloc::{AllocError, Global};
 use std::test::Fail;
 
 /// Whether a report of one step ends with this error and a newline.
@@ -38,12 +38,13 @@ fn prints(alloc: Global, fault: StmtFault<'_>, wanted: &str) -> Result<bool, &'s
     Ok(is_error(run.out.text(), wanted))
 }
 
-const TEXTS: [&str; 11] = [
+const TEXTS: [&str; 12] = [
     "column \"c\" of relation \"t\" does not exist",
     "relation \"t\" does not exist",
     "table \"t\" does not exist",
     "relation \"t\" already exists",
     "null value in column \"c\" of relation \"t\" violates not-null constraint",
+    "duplicate key value violates unique constraint \"t_c_key\"",
     "INSERT has more expressions than target columns",
     "current transaction is aborted, commands ignored until end of transaction block",
     "SET TRANSACTION ISOLATION LEVEL must be called before any query",
@@ -52,9 +53,16 @@ const TEXTS: [&str; 11] = [
     "deadlock detected",
 ];
 
+/// The name of a key, copied once.
+fn key_name(alloc: Global) -> Result<KeyName, AllocError> {
+    let mut text = Vec::new(alloc);
+    text.extend_from_slice(b"t_c_key")?;
+    KeyName::of(text).copied(alloc)
+}
+
 /// The fault that has the text at this place.
-fn fault(place: usize) -> StmtFault<'static> {
-    match place {
+fn fault(alloc: Global, place: usize) -> Result<StmtFault<'static>, AllocError> {
+    Ok(match place {
         0 => StmtFault::NoColumnOf {
             column: c(),
             table: t(),
@@ -66,19 +74,20 @@ fn fault(place: usize) -> StmtFault<'static> {
             column: c(),
             table: t(),
         },
-        5 => StmtFault::TooManyValues,
-        6 => StmtFault::Aborted,
-        7 => StmtFault::LevelTooLate,
-        8 => StmtFault::NoPosition(-3),
-        9 => StmtFault::NotSerializable,
+        5 => StmtFault::KeyTaken(key_name(alloc)?),
+        6 => StmtFault::TooManyValues,
+        7 => StmtFault::Aborted,
+        8 => StmtFault::LevelTooLate,
+        9 => StmtFault::NoPosition(-3),
+        10 => StmtFault::NotSerializable,
         _ => StmtFault::Deadlock,
-    }
+    })
 }
 
 #[test]
 fn faults_print_their_texts(rt: HostRuntime) -> Result<(), Fail> {
     for (place, text) in TEXTS.iter().enumerate() {
-        holds(&rt, prints(rt.alloc(), fault(place), text)?);
+        holds(&rt, prints(rt.alloc(), fault(rt.alloc(), place)?, text)?);
     }
     Ok(())
 }

@@ -2,3 +2,4 @@ pub mod Pushing
 pub mod Saying
 pub mod Tearing
 pub mod Counting
+pub mod FreeSaying

@@ -30,6 +30,9 @@ value_fault_text values.TypeMismatch = codes "type mismatch"
 value_fault_text (values.NoColumn name) = the_column name ++ codes " does not exist"
 value_fault_text values.Memory = codes "out of memory"
 
+abbrev pub key_fault_text : List ℕ → List ℕ
+key_fault_text name = codes "duplicate key value violates unique constraint " ++ in_quotes name
+
 abbrev pub position_fault_text : ℤ → List ℕ
 position_fault_text n = codes "ORDER BY position " ++ signed_decimal n ++ codes " is not in select list"
 
@@ -40,6 +43,7 @@ fault_text (faults.NoTable name) = the_relation name ++ codes " does not exist"
 fault_text (faults.NoTableToDrop name) = the_table name ++ codes " does not exist"
 fault_text (faults.TableExists name) = the_relation name ++ codes " already exists"
 fault_text (faults.NullValue column table) = codes "null value in " ++ column_of column table ++ codes " violates not-null constraint"
+fault_text (faults.KeyTaken name) = key_fault_text name
 fault_text faults.TooManyValues = codes "INSERT has more expressions than target columns"
 fault_text (faults.NoPosition n) = position_fault_text n
 fault_text faults.NotSerializable = codes "could not serialize access due to concurrent update"

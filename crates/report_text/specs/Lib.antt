@@ -8,3 +8,5 @@ pub mod Teardowns
 pub mod Permutation
 pub mod Fronts
 pub mod Answers
+pub mod FreeText
+pub mod Table

@@ -3,12 +3,12 @@
 ghost use Rattle.std.specs.Prelude.{◌≡◌, ◌++◌, OnOk};
 ghost use Rattle.std.specs.Fmt.{signed_decimal};
 ghost use Rattle.iso_lexer.specs.Names.{name_view, decoded};
-ghost use Rattle.report_text.specs.FaultText.{in_quotes, the_column, the_relation, the_table, column_of, position_fault_text, value_fault_text, fault_text};
+ghost use Rattle.report_text.specs.FaultText.{in_quotes, the_column, the_relation, the_table, column_of, key_fault_text, position_fault_text, value_fault_text, fault_text};
 
 use crate::page::{Page, push_name};
 use iso_lexer::{Ident, Name};
 use itoa::Buffer;
-use session_machine::StmtFault;
+use session_machine::{KeyName, StmtFault};
 use sql_values::ValueFault;
 use std::alloc::AllocError;
 
@@ -66,6 +66,14 @@ fn push_table(page: &mut Page, name: &Ident<'_>) -> Result<(), AllocError>
     push_quoted(page, &name.name())
 }
 
+fn push_key_fault(page: &mut Page, name: &KeyName) -> Result<(), AllocError>
+    ensures { OnOk result (page.new.bytes.items ≡ page.old.bytes.items ++ key_fault_text name.now) }
+{
+    page.push(b"duplicate key value violates unique constraint \"")?;
+    page.push(name.text())?;
+    page.push(b"\"")
+}
+
 fn push_number(page: &mut Page, number: &i128) -> Result<(), AllocError>
     ensures { OnOk result (page.new.bytes.items ≡ page.old.bytes.items ++ signed_decimal number.now) }
 {
@@ -109,6 +117,7 @@ pub fn push_fault(page: &mut Page, fault: &StmtFault<'_>) -> Result<(), AllocErr
             push_column_of(page, column, table)?;
             page.push(b" violates not-null constraint")
         }
+        StmtFault::KeyTaken(name) => push_key_fault(page, name),
         StmtFault::TooManyValues => page.push(b"INSERT has more expressions than target columns"),
         StmtFault::NoPosition(position) => push_position_fault(page, position),
         StmtFault::NotSerializable => {

@@ -3,6 +3,8 @@
 
 mod fault;
 mod fault_text;
+mod free;
+mod free_lines;
 mod line_text;
 mod notes;
 mod numbers;
@@ -11,8 +13,10 @@ mod permutation;
 mod replies;
 mod segments;
 mod setups;
+mod standing;
 mod steps;
 mod teardowns;
 
 pub use fault::{Ended, ReportFault};
+pub use free::write_free;
 pub use permutation::write_permutation;

@@ -37,7 +37,7 @@ fn push_entry_replies(
     push_replies(page, course.session_at(entry), replies)
 }
 
-fn push_step_name(page: &mut Page, step: &StepPart<'_>) -> Result<(), AllocError>
+pub fn push_step_name(page: &mut Page, step: &StepPart<'_>) -> Result<(), AllocError>
     ensures { OnOk result (page.new.bytes.items ≡ page.old.bytes.items ++ step_name (step_view step.now)) }
 {
     page.push(b"step ")?;
@@ -45,7 +45,7 @@ fn push_step_name(page: &mut Page, step: &StepPart<'_>) -> Result<(), AllocError
     page.push(b": ")
 }
 
-fn push_step_sql(page: &mut Page, step: &StepPart<'_>) -> Result<(), AllocError>
+pub fn push_step_sql(page: &mut Page, step: &StepPart<'_>) -> Result<(), AllocError>
     ensures { OnOk result (page.new.bytes.items ≡ page.old.bytes.items ++ step_sql (step_view step.now)) }
 {
     push_step_name(page, step)?;

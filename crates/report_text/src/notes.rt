@@ -69,7 +69,7 @@ fn push_failure(
     page.push(b"\n")
 }
 
-fn push_outcome_note(
+pub fn push_outcome_note(
     page: &mut Page,
     sessions: &[SessionPart<'_>],
     session: usize,

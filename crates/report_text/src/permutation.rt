@@ -145,7 +145,7 @@ fn said_of(
 }
 
 /// Puts the pages out, and answers the ending.
-fn put_said<W: Sink, N: Sink>(
+pub fn put_said<W: Sink, N: Sink>(
     pages: &Pages,
     ending: Ending,
     out: &mut W,

@@ -37,7 +37,7 @@ fn push_rows(page: &mut Page, outcome: &Outcome<'_>) -> Result<(), AllocError>
 }
 
 /// Pushes the table of a result set, or the line of a failure.
-fn push_outcome(page: &mut Page, outcome: &Outcome<'_>) -> Result<(), AllocError>
+pub fn push_outcome(page: &mut Page, outcome: &Outcome<'_>) -> Result<(), AllocError>
     ensures { OnOk result (page.new.bytes.items ≡ page.old.bytes.items ++ outcome_text outcome.now) }
 {
     match outcome {

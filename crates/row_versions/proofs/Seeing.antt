@@ -69,14 +69,21 @@ sees-after_commit c view tx is_open earlier w =
     ap (λ b. b || own_before view.tx view.command w) (before-set view.commits c.fates tx.0 w.tx.0 (Committed (commit_count c)) is_open (le-ltb _ _ earlier))
 
 -- an open transaction's commit counts as one more
-count-set : (fates : List Fate) (t k : ℕ) → slice_get fates t ≡ Some Open → count_by is_commit (set fates t (Committed k)) ≡ count_by is_commit fates + 1
-count-set fates t k is_open =
+pub count_committed : (fates : List Fate) (t k : ℕ) → slice_get fates t ≡ Some Open → count_by is_commit (set fates t (Committed k)) ≡ count_by is_commit fates + 1
+count_committed fates t k is_open =
     let moved = sum_by-set (λ f. cond (is_commit f) 1 0) fates t (Committed k) Open (slice_get_within fates t Open is_open) in
     let none : cond (is_commit (get_or fates t Open)) 1 0 ≡ 0 = ap (λ (f : Fate). let n : ℕ = cond (is_commit f) 1 0 in n) (get_or_from_slice_get fates t Open Open is_open) in
     omega (arith, moved, none)
 
+-- and a roll-back as none
+pub count_rolled_back : (fates : List Fate) (t : ℕ) → slice_get fates t ≡ Some Open → count_by is_commit (set fates t RolledBack) ≡ count_by is_commit fates
+count_rolled_back fates t is_open =
+    let moved = sum_by-set (λ f. cond (is_commit f) 1 0) fates t RolledBack Open (slice_get_within fates t Open is_open) in
+    let none : cond (is_commit (get_or fates t Open)) 1 0 ≡ 0 = ap (λ (f : Fate). let n : ℕ = cond (is_commit f) 1 0 in n) (get_or_from_slice_get fates t Open Open is_open) in
+    omega (arith, moved, none)
+
 pub count-after_commit : (c : Content) (tx : TxId) → IsOpen c tx → commit_count (after_commit c tx) ≡ commit_count c + 1
-count-after_commit c tx is_open = count-set c.fates tx.0 (commit_count c) is_open
+count-after_commit c tx is_open = count_committed c.fates tx.0 (commit_count c) is_open
 
 -- and a later view sees the transaction's writes
 pub commit_seen : (c : Content) (tx : TxId) → IsOpen c tx → (view : View) (w : Write) → w.tx ≡ tx → commit_count c < view.commits → sees (after_commit c tx).fates view w ≡ true

@@ -13,17 +13,23 @@ use sql_values::Row;
 use std::alloc::{AllocError, Global};
 use std::marker::Model;
 
-/// The plain store: a list of all writes, searched anew at each question.
+/// The plain store: a list of all writes, searched anew at each question, and how many transactions have committed.
 #[derive(Debug, Drop)]
 pub struct ListStore {
     log: Vec<Write>,
     fates: Vec<Fate>,
+    commits: u64,
 }
 
 impl Model for ListStore {
+    ghost use Rattle.std.specs.Prelude.{◌≡◌, count_by};
+    ghost use Rattle.row_versions.specs.Log.{Content, is_commit};
+
     ghost Value = { Content };
 
     ghost view = { λ s. record { log = s.log.items; fates = s.fates.items } };
+
+    ghost invariant = { λ s. s.commits ≡ count_by is_commit s.fates.items };
 }
 
 impl ListStore {
@@ -34,6 +40,7 @@ impl ListStore {
         ListStore {
             log: Vec::new(alloc),
             fates: Vec::new(alloc),
+            commits: 0,
         }
     }
 }
@@ -120,11 +127,13 @@ impl Versions for ListStore {
         Ok(tx)
     }
 
+    #[tactic(auto, using(crate::proofs::Seeing::count_committed))]
     fn commit(&mut self, tx: TxId) {
-        let number = self.committed();
-        self.fates[tx.0 as usize] = Fate::Committed(number);
+        self.fates[tx.0 as usize] = Fate::Committed(self.commits);
+        self.commits += 1;
     }
 
+    #[tactic(auto, using(crate::proofs::Seeing::count_rolled_back))]
     fn roll_back(&mut self, tx: TxId) {
         self.fates[tx.0 as usize] = Fate::RolledBack;
     }
@@ -168,9 +177,6 @@ impl Versions for ListStore {
     }
 
     fn committed(&self) -> u64 {
-        self.fates
-            .iter()
-            .filter(|fate| matches!(fate, Fate::Committed(_)))
-            .count() as u64
+        self.commits
     }
 }

@@ -1,8 +1,8 @@
 //! A session is given a block.
-ghost use Rattle.std.specs.Prelude.{◌≡◌, ◌≤◌, ◌<◌, ◌+◌, ◌^◌, ◌==◌, true, false, not, ◌&&◌, ◌||◌, IfOk, IfErr, MatchOption, Option, Some, None, Ok, Err, is_none, length, map, slice_get};
-ghost use Rattle.std.specs.List.{list_all, list_any};
+ghost use Rattle.std.specs.Prelude.{◌≡◌, ◌≤◌, ◌<◌, ◌+◌, ◌^◌, ◌==◌, true, false, not, ◌||◌, IfOk, IfErr, MatchOption, Option, Some, None, Ok, Err, is_none, length, map, slice_get};
+ghost use Rattle.std.specs.List.{list_any};
 ghost use Rattle.sql_trees.specs.Statements.{stmt_of};
-ghost use Rattle.session_machine.specs.Running.{is_definition, runs};
+ghost use Rattle.session_machine.specs.Running.{is_definition};
 ghost use Rattle.session_machine.specs.Machine.{first_place, is_allowed, next, stmts_at, with_session};
 ghost use Rattle.session_machine.specs.Engine.{answered};
 ghost use Rattle.session_core.specs.Blocks.{blocks_of};
@@ -11,21 +11,10 @@ use crate::block_stmts::block_stmts;
 use crate::live::Live;
 use row_versions::Versions;
 use session_machine::{
-    Event, Mode, Outcome, Place, Refusal, Reply, Session, Transaction, can_run, is_definition,
+    Event, Mode, Outcome, Place, Refusal, Reply, Session, Transaction, is_definition,
 };
 use sql_parser::Block;
 use sql_trees::Stmt;
-
-fn all_run(stmts: &[Stmt<'_>]) -> bool
-    ensures { result ≡ list_all runs (map stmt_of stmts.now) }
-{
-    for stmt in stmts {
-        if !can_run(stmt) {
-            return false;
-        }
-    }
-    true
-}
 
 fn has_definition(stmts: &[Stmt<'_>]) -> bool
     ensures { result ≡ list_any is_definition (map stmt_of stmts.now) }
@@ -54,7 +43,7 @@ fn allowed_stmts<'a, 't>(
         (λ stmts. (is_allowed (blocks_of blocks.now) session block ≡ true) × (map stmt_of stmts.now ≡ stmts_at (blocks_of blocks.now) block)) }
 {
     let stmts = block_stmts(blocks, block)?;
-    if all_run(stmts) && may_define(session, stmts) {
+    if may_define(session, stmts) {
         Some(stmts)
     } else {
         None

@@ -27,7 +27,7 @@ pub fn is_still_blocked<'a, 't, V: Versions>(db: &Database<'a, 't, V>, session: 
     ensures { result ≡ is_still_blocked db.now session.now }
 {
     match (&session.transaction, &session.statement) {
-        (Transaction::Open(by), Some(progress)) => db.is_blocked(progress.wait.request, by.tx),
+        (Transaction::Open(by), Some(progress)) => db.is_blocked(&progress.wait.request, by.tx),
         _ => false,
     }
 }

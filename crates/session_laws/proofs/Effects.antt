@@ -1,5 +1,5 @@
 -- What statements do to the state, and that what is so after each effect is so after each statement.
-use Rattle.std.proofs.Common.{◌≡◌, ℕ, zero, suc, arith, ◌<◌, Bool, true, false, List, [], ◌∷◌, length, refl}
+use Rattle.std.proofs.Common.{◌≡◌, ℕ, zero, suc, arith, ◌<◌, Bool, true, false, List, [], ◌∷◌, length, drop, refl}
 use Rattle.std.specs.Prelude.{ℤ, Option, Some, None, is_some, unwrap_or, slice_get, Result, Ok, Err, ◌&&◌, not, if◌then◌else◌}
 use Rattle.std.proofs.lemmas.Option.{slice_get_within}
 use Rattle.sql_trees.specs.declared.stmt.Level.{Level}
@@ -28,7 +28,7 @@ use Rattle.session_machine.specs.Views.{rows_shown}
 use Rattle.session_machine.specs.Statements.{Around, Did, DroppedUpTo, fails, answers, turns, columns_at, with_table, with_drop, create, dropped_at, dropped, drop_ended, drop_tables, is_level, level_set, begin_in, run_aborted, is_end}
 use Rattle.session_machine.specs.Walks.{Stop, Walk, Blocked, Fails, walked, walked_from}
 use Rattle.session_machine.specs.Rows.{Work, columns_in, insert_at, update_at, delete_at, lock_at, passing_targets, taken_targets}
-use Rattle.session_machine.specs.Running.{beginning, pauses, comes_to, ended, done, insert_all, insert_fitting, insert_to, insert, assigned_to, update_from, update_fitting, update_to, update, delete_from, delete_fitting, delete, lock_from, answered, select_rows, unless_wrong, select_at, select, run_open, run_closed, lock_again, run_on, run_stmt}
+use Rattle.session_machine.specs.Running.{beginning, pauses, comes_to, ended, done, assigned_to, insert_from, insert_fitting, insert_to, insert, update_from, update_fitting, update_to, update, delete_from, delete_fitting, delete, lock_from, answered, select_rows, unless_wrong, select_at, select, run_open, run_closed, lock_again, run_on, run_stmt}
 use Rattle.session_machine.specs.Sound.{RowsFit, RowsStay}
 use Rattle.session_laws.proofs.Fitting.{find_table_within, fit_tables}
 use Rattle.session_laws.proofs.Writing.{Lasts, Works, passing_of, taken_of, works_inserts, works_updates, works_deletes, works_locks}
@@ -129,6 +129,13 @@ module _ (may : Bool) (db : Database) (t : OpenTransaction) (around : Around) (P
     at_stop (Some (Blocked request)) = eff.pause k view walk request firm h.holds (slice_get_within walk.db.catalog.tables k table h.there)
     at_stop (Some (Fails fault)) = eff.fail walk.db fault firm h.holds
 
+  inserts_from : (k : ℕ) (view : View) (table : Table) → At k table → (i : InsertTree) (place : ℕ) (rows : List (List Value)) → M (insert_from db (work k view) i place rows)
+  inserts_from k view table at i place rows =
+      let w = work k view in
+      let targets = assigned_to (targets_of (columns_in db w) i.columns) in
+      ends k view table done (walked (insert_at w i.table targets) db place rows (drop place i.rows))
+      (works_inserts db.content w table P eff.lasts i.table targets (drop place i.rows) db place rows (starts k table at))
+
   updates_from : (k : ℕ) (view : View) (table : Table) → At k table → (u : UpdateTree) (place : ℕ) (rows : List (List Value)) → M (update_from db (work k view) u place rows)
   updates_from k view table at u place rows =
       let w = work k view in
@@ -149,15 +156,11 @@ module _ (may : Bool) (db : Database) (t : OpenTransaction) (around : Around) (P
       (works_locks db.content w table P eff.lasts s l (taken_targets db w s) (taken_of db w s eff.firm.stay) db place rows (starts k table at))
 
   -- INSERT
-  inserts_all : (k : ℕ) (table : Table) → At k table → (i : InsertTree) (targets : List Target) → M (insert_all db (beginning db t around k) i targets)
-  inserts_all k table at i targets =
-      let w = beginning db t around k in
-      ends k w.view table done (walked (insert_at w i.table targets) db 0 [] i.rows) (works_inserts db.content w table P eff.lasts i.table targets i.rows db (starts k table at))
-
   inserts_fitting : (k : ℕ) (table : Table) → At k table → (i : InsertTree) (targets : List Target) (o : Option (List ℕ)) → M (insert_fitting db (beginning db t around k) i targets o)
   inserts_fitting k table at i targets (Some name) = failed_here (OfValue (NoColumn name))
   inserts_fitting k table at i targets None =
-      either (some_too_long (length targets) i.rows) (fails db t TooManyValues) (insert_all db (beginning db t around k) i targets) (failed_here TooManyValues) (inserts_all k table at i targets)
+      either (some_too_long (length targets) i.rows) (fails db t TooManyValues) (insert_from db (beginning db t around k) i 0 []) (failed_here TooManyValues)
+      (inserts_from k (view_of db.content t) table at i 0 [])
 
   inserts_to : (k : ℕ) (table : Table) → At k table → (i : InsertTree) (r : Result (List Target) (List ℕ)) → M (insert_to db (beginning db t around k) i r)
   inserts_to k table at i (Err column) = failed_here (NoColumnOf column i.table)
@@ -242,7 +245,7 @@ module _ (may : Bool) (db : Database) (t : OpenTransaction) (around : Around) (P
   after_on p table at SetDeadlockTimeout h = eff.turn (h refl) t refl refl refl
   after_on p table at (Create c) h = after_open (Create c) h
   after_on p table at (DropTables d) h = after_open (DropTables d) h
-  after_on p table at (Inserts i) h = after_open (Inserts i) h
+  after_on p table at (Inserts i) h = inserts_from p.table.0 p.view table at i p.place p.rows
   after_on p table at (Updates u) h = updates_from p.table.0 p.view table at u p.place p.rows
   after_on p table at (Deletes d) h = deletes_from p.table.0 p.view table at d p.place p.rows
   after_on p table at (Selects s) h = locks_again s p table at s.lock

@@ -31,7 +31,7 @@ use Rattle.session_machine.specs.Tables.{Database, Table}
 use Rattle.session_machine.specs.Waits.{waits_in}
 use Rattle.session_machine.specs.Statements.{with_table, with_drop}
 use Rattle.session_machine.specs.Walks.{Visit, Stop, unless_stopped, walked, walked_from}
-use Rattle.session_machine.specs.Rows.{Work, columns_in, cols_in, written, inserted, unless_null, insert_made, insert_at, ask, settled, at_outcome, at_target, values_of, update_made, update_with, update_at, delete_with, delete_at, lock_made, lock_with, strength_of, lock_at, seen_by, at_places, passing_targets, taken_targets}
+use Rattle.session_machine.specs.Rows.{Work, columns_in, cols_in, keys_in, written, inserted, stop_at_keys, unless_stopped_by, unless_null, insert_made, insert_at, ask, settled, at_outcome, at_target, values_of, update_made, update_with, update_at, delete_with, delete_at, lock_made, lock_with, strength_of, lock_at, seen_by, at_places, passing_targets, taken_targets}
 use Rattle.session_machine.specs.Sound.{RowsFit, RowsStay}
 use Rattle.session_laws.proofs.Lists.{slice_get-append_left}
 use Rattle.session_laws.proofs.Fitting.{IsRowOf, fits_at, its_values, fit_written, stay_written, columns_are, length-new_values, length-updated}
@@ -134,21 +134,27 @@ module _ (start : Content) (w : Work) (table : Table) (P : Database → Type 0) 
         holds = lasts.write db w.table row values h.holds;
       }
 
+  -- a row that is about to be written: its NULLs and its keys are checked
+  works_checked : (name : List ℕ) (db after : Database) (stop : Option Stop) (null : Option (List ℕ)) → W db → W after → W (unless_null name db (unless_stopped_by db after stop) null).db
+  works_checked name db after stop (Some column) h k = h
+  works_checked name db after (Some stop) None h k = h
+  works_checked name db after None None h k = k
+
   works_insert : (name : List ℕ) (targets : List Target) (db : Database) (row : List Tree) → W db → W (insert_at w name targets db row).db
   works_insert name targets db row h = at_values (new_values (length (columns_in db w)) targets row) refl where
     long : (values : List Value) → new_values (length (columns_in db w)) targets row ≡ Ok values → length values ≡ length table.made.columns
     long values e = length-new_values (length (columns_in db w)) targets row values e ∙ ap length (columns_are db.catalog w.table table h.there)
 
-    at_null : (values : List Value) → length values ≡ length table.made.columns → (o : Option (List ℕ)) → W (unless_null name db (inserted db w values) o).db
-    at_null values l (Some column) = h
-    at_null values l None =
+    writes : (values : List Value) → length values ≡ length table.made.columns → W (inserted db w values)
+    writes values l =
         let new = write_by w.t w.table (new_row db.content) (Some values) in
         works_lock (written db w (new_row db.content) (Some values)) _
         (works_write db (new_row db.content) (Some values) h (new, get-append_last db.content.log new, refl) (λ vs e. ap length (sym (same_Some values vs e)) ∙ l))
 
     at_values : (r : Result (List Value) ValueFault) → new_values (length (columns_in db w)) targets row ≡ r → W (insert_made w name db r).db
     at_values (Err fault) e = h
-    at_values (Ok values) e = at_null values (long values e) (null_in (columns_in db w) values)
+    at_values (Ok values) e =
+        works_checked name db (inserted db w values) (stop_at_keys db w name values None (keys_in db w)) (null_in (columns_in db w) values) h (writes values (long values e))
 
   -- a row that is of the table, with a version that has a value for each column
   abbrev Acts : (Database → Seen → Visit) → Type 0
@@ -186,13 +192,14 @@ module _ (start : Content) (w : Work) (table : Table) (P : Database → Type 0) 
 
   acts_update : (u : UpdateTree) (targets : List Target) → Acts (update_with w u targets)
   acts_update u targets db s h of long = at_values (updated (cols_in db w) targets u.sets (values_of db s)) refl where
-    at_null : (values : List Value) → length values ≡ length table.made.columns → (o : Option (List ℕ)) → W (unless_null u.table db (written db w s.row (Some values)) o).db
-    at_null values l (Some column) = h
-    at_null values l None = works_write db s.row (Some values) h (still_of db _ s.row.0 of) (λ vs e. ap length (sym (same_Some values vs e)) ∙ l)
+    writes : (values : List Value) → length values ≡ length table.made.columns → W (written db w s.row (Some values))
+    writes values l = works_write db s.row (Some values) h (still_of db _ s.row.0 of) (λ vs e. ap length (sym (same_Some values vs e)) ∙ l)
 
     at_values : (r : Result (List Value) ValueFault) → updated (cols_in db w) targets u.sets (values_of db s) ≡ r → W (update_made w u.table db s.row r).db
     at_values (Err fault) e = h
-    at_values (Ok values) e = at_null values (length-updated (cols_in db w) targets u.sets (values_of db s) values e ∙ long) (null_in (columns_in db w) values)
+    at_values (Ok values) e =
+        works_checked u.table db (written db w s.row (Some values)) (stop_at_keys db w u.table values (Some s.row) (keys_in db w)) (null_in (columns_in db w) values) h
+        (writes values (length-updated (cols_in db w) targets u.sets (values_of db s) values e ∙ long))
 
   none_given : (vs : List Value) → (let o : Option (List Value) = None in o ≡ Some vs) → length vs ≡ length table.made.columns
   none_given vs e = cc
@@ -206,11 +213,13 @@ module _ (start : Content) (w : Work) (table : Table) (P : Database → Type 0) 
     at_row (Err fault) = h
     at_row (Ok row) = h
 
-  pub works_inserts : (name : List ℕ) (targets : List Target) (rows : List (List Tree)) (db : Database) → W db → W (walked (insert_at w name targets) db 0 [] rows).db
-  works_inserts name targets rows db h = walked_keeps W (λ row. Unit {0}) (insert_at w name targets) (λ d row of k. works_insert name targets d row k) rows (any rows) db 0 [] h where
-    any : (xs : List (List Tree)) → Each (λ row. Unit {0}) xs
-    any [] = tt
-    any (x ∷ xs) = (tt, any xs)
+  pub works_inserts : (name : List ℕ) (targets : List Target) (given : List (List Tree)) (db : Database) (place : ℕ) (rows : List (List Value)) → W db
+      → W (walked (insert_at w name targets) db place rows given).db
+  works_inserts name targets given db place rows h =
+      walked_keeps W (λ row. Unit {0}) (insert_at w name targets) (λ d row of k. works_insert name targets d row k) given (any given) db place rows h where
+        any : (xs : List (List Tree)) → Each (λ row. Unit {0}) xs
+        any [] = tt
+        any (x ∷ xs) = (tt, any xs)
 
   pub works_updates : (u : UpdateTree) (targets : List Target) (r : Result (List Seen) ValueFault) → EachOk (SeenOf start w.table) r → (db : Database) (place : ℕ) (rows : List (List Value)) → W db
       → W (walked_from (update_at w u targets) db place rows r).db

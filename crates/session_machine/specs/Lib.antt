@@ -1,6 +1,7 @@
 pub mod Tables
 pub mod Transactions
 pub mod Views
+pub mod AskedKeys
 pub mod Waits
 pub mod Statements
 pub mod Walks

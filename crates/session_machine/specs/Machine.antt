@@ -1,6 +1,6 @@
 -- The machine of all sessions: what an event makes of it and answers, or why it is refused.
 use Rattle.std.specs.Prelude.{ℕ, ◌+◌, ◌==◌, nat_lt, Bool, true, false, not, ◌&&◌, ◌||◌, List, [], ◌∷◌, length, replicate, Option, Some, None, option_map, is_some, is_none, slice_get, slice_set, if◌then◌else◌, Result, Ok, Err}
-use Rattle.std.specs.List.{list_any, list_all}
+use Rattle.std.specs.List.{list_any}
 use Rattle.std.specs.Option.{option_or}
 use Rattle.sql_trees.specs.Statements.{StmtTree}
 use Rattle.sql_values.specs.declared.value.Value.{Value}
@@ -24,7 +24,7 @@ use Rattle.session_machine.specs.Transactions.{committed, rolled_back, own_of, v
 use Rattle.session_machine.specs.Views.{rows_shown}
 use Rattle.session_machine.specs.Waits.{is_blocked, wait_of}
 use Rattle.session_machine.specs.Statements.{Did, Around}
-use Rattle.session_machine.specs.Running.{run_stmt, is_definition, runs}
+use Rattle.session_machine.specs.Running.{run_stmt, is_definition}
 
 -- what all sessions share, what each does, and how many events there were
 pub record Machine : Type 0 where
@@ -51,10 +51,10 @@ stmts_at blocks k = stmts_of (slice_get blocks k) where
   stmts_of None = []
   stmts_of (Some stmts) = stmts
 
--- the session may be given the block: it is there, all of it runs, and tables are made and dropped by the control session alone
+-- the session may be given the block: it is there, and tables are made and dropped by the control session alone
 abbrev pub is_allowed : Blocks → ℕ → ℕ → Bool
 is_allowed blocks session k =
-    nat_lt k (length blocks) && (list_all runs (stmts_at blocks k) && ((session == 0) || not (list_any is_definition (stmts_at blocks k))))
+    nat_lt k (length blocks) && ((session == 0) || not (list_any is_definition (stmts_at blocks k)))
 
 -- the session is in its block
 abbrev pub is_busy : Session → Bool

@@ -1,9 +1,10 @@
 -- What a statement does with rows: SELECT, INSERT, and UPDATE, DELETE and a locking SELECT at each of their targets (PostgreSQL manual, 13.2.1 and 13.3.2, and the pages of the statements).
-use Rattle.std.specs.Prelude.{ℕ, Bool, true, false, List, [], ◌∷◌, length, Option, Some, None, unwrap_or, slice_get, filter_map, Result, Ok, Err, if◌then◌else◌}
+use Rattle.std.specs.Prelude.{ℕ, Bool, true, false, List, [], ◌∷◌, length, map, Option, Some, None, option_map, unwrap_or, slice_get, filter_map, Result, Ok, Err, if◌then◌else◌}
+use Rattle.std.specs.Option.{option_or}
 use Rattle.sql_trees.specs.declared.stmt.Lock.{Lock}
 use Rattle.sql_trees.specs.declared.stmt.Lock.TheVariants as lock
 use Rattle.sql_trees.specs.Trees.{Tree}
-use Rattle.sql_trees.specs.Statements.{ColumnTree, InsertTree, UpdateTree, DeleteTree, SelectTree}
+use Rattle.sql_trees.specs.Statements.{ColumnTree, KeyTree, InsertTree, UpdateTree, DeleteTree, SelectTree, key_name}
 use Rattle.sql_values.specs.declared.value.Value.{Value}
 use Rattle.sql_values.specs.declared.fault.ValueFault.{ValueFault}
 use Rattle.sql_values.specs.Expressions.{Cols}
@@ -18,18 +19,21 @@ use Rattle.row_locks.specs.declared.held.Strength.{Strength}
 use Rattle.row_locks.specs.declared.held.Strength.TheVariants.{Share, Exclusive}
 use Rattle.row_locks.specs.declared.held.Held.{Held}
 use Rattle.row_locks.specs.Held.{with_lock}
+use Rattle.row_locks.specs.Cycles.{closes}
+use Rattle.unique_keys.specs.Checks.{KeyFound, KeyIsFree, KeyIsTaken, KeyIsHeld, key_found}
 use Rattle.update_recheck.specs.Asked.{Asked}
 use Rattle.update_recheck.specs.Outcome.{Outcome, target_outcome, is_target_locked}
 use Rattle.update_recheck.specs.Outcome.Outcome.{Takes, Skips, Waits, Deadlocks, Serializes, Faults}
 use Rattle.update_recheck.specs.Settling.{lock_of, locks_after}
 use Rattle.session_machine.specs.declared.session.OpenTransaction.{OpenTransaction}
-use Rattle.session_machine.specs.declared.session.Request.TheVariants.{Row}
-use Rattle.session_machine.specs.declared.fault.StmtFault.TheVariants.{Value as OfValue, NullValue, NotSerializable, Deadlock}
+use Rattle.session_machine.specs.declared.session.Request.TheVariants.{Row, Key}
+use Rattle.session_machine.specs.declared.fault.StmtFault.TheVariants.{Value as OfValue, NullValue, KeyTaken, NotSerializable, Deadlock}
 use Rattle.session_machine.specs.Tables.{Database}
 use Rattle.session_machine.specs.Views.{rows_shown}
-use Rattle.session_machine.specs.Waits.{waits_in}
-use Rattle.session_machine.specs.Statements.{Around, columns_at}
-use Rattle.session_machine.specs.Walks.{Visit, Walk, Blocked, Fails, stops, goes_on}
+use Rattle.session_machine.specs.AskedKeys.{AskedKey}
+use Rattle.session_machine.specs.Waits.{blockers, waits_in}
+use Rattle.session_machine.specs.Statements.{Around, columns_at, keys_at}
+use Rattle.session_machine.specs.Walks.{Stop, Visit, Walk, Blocked, Fails, stops, goes_on}
 
 -- a statement at work: in this transaction, at the table of this place, with this view, and what it finds around it
 pub record Work : Type 0 where
@@ -40,6 +44,10 @@ pub record Work : Type 0 where
 
 abbrev pub columns_in : Database → Work → List ColumnTree
 columns_in db w = columns_at db.catalog w.table
+
+-- its keys in declared order: the primary key first
+abbrev pub keys_in : Database → Work → List KeyTree
+keys_in db w = keys_at db.catalog w.table
 
 abbrev pub cols_in : Database → Work → Cols
 cols_in db w = cols_of (columns_in db w)
@@ -56,17 +64,51 @@ inserted db w values = record (written db w (new_row db.content) (Some values)) 
   held = with_lock db.held (record { row = new_row db.content; tx = w.t.tx; strength = Exclusive });
 }
 
+-- the names of the columns at these places
+abbrev pub names_at : List ColumnTree → List ℕ → List (List ℕ)
+names_at columns places = map (λ place. unwrap_or (option_map (λ (c : ColumnTree). c.name) (slice_get columns place)) []) places
+
+-- the key, asked for with a row of these values
+abbrev pub asked_key : Work → List Value → KeyTree → AskedKey
+asked_key w values key = record { table = record { 0 = w.table }; columns = key.columns; values = values }
+
+-- others hold the key: the statement waits for them, or fails where that wait would close a cycle
+abbrev pub held_by_others : Database → Work → AskedKey → Stop
+held_by_others db w asked =
+    if closes (waits_in db w.around.sessions) w.t.tx (blockers db (Key asked) w.t.tx) then Fails Deadlock else Blocked (Key asked)
+
+-- what stops a statement at a key of which this is found: another row of the table has it, or others hold it
+abbrev pub stop_by : Database → Work → List ℕ → List Value → KeyTree → KeyFound → Option Stop
+stop_by db w name values key KeyIsFree = None
+stop_by db w name values key KeyIsTaken = Some (Fails (KeyTaken (key_name name key.primary (names_at (columns_in db w) key.columns))))
+stop_by db w name values key KeyIsHeld = Some (held_by_others db w (asked_key w values key))
+
+-- a row with these values is about to be written, in place of a row or as a new one
+abbrev pub stop_at_key : Database → Work → List ℕ → List Value → Option RowId → KeyTree → Option Stop
+stop_at_key db w name values except key = stop_by db w name values key (key_found db.content (record { 0 = w.table }) w.t.tx except values key.columns)
+
+-- the first of its keys that isn't free stops the statement (5.5.3)
+abbrev pub stop_at_keys : Database → Work → List ℕ → List Value → Option RowId → List KeyTree → Option Stop
+stop_at_keys db w name values except [] = None
+stop_at_keys db w name values except (key ∷ keys) = option_or (stop_at_key db w name values except key) (stop_at_keys db w name values except keys)
+
+-- the row is written where nothing stops the statement
+abbrev pub unless_stopped_by : Database → Database → Option Stop → Visit
+unless_stopped_by db after (Some stop) = stops db stop
+unless_stopped_by db after None = goes_on after []
+
 -- the row isn't written where it has NULL in a column that may not be
-abbrev pub unless_null : List ℕ → Database → Database → Option (List ℕ) → Visit
-unless_null name db after (Some column) = stops db (Fails (NullValue column name))
-unless_null name db after None = goes_on after []
+abbrev pub unless_null : List ℕ → Database → Visit → Option (List ℕ) → Visit
+unless_null name db due (Some column) = stops db (Fails (NullValue column name))
+unless_null name db due None = due
 
 -- INSERT at a row of its VALUES, with these values
 abbrev pub insert_made : Work → List ℕ → Database → Result (List Value) ValueFault → Visit
 insert_made w name db (Err fault) = stops db (Fails (OfValue fault))
-insert_made w name db (Ok values) = unless_null name db (inserted db w values) (null_in (columns_in db w) values)
+insert_made w name db (Ok values) =
+    unless_null name db (unless_stopped_by db (inserted db w values) (stop_at_keys db w name values None (keys_in db w))) (null_in (columns_in db w) values)
 
--- INSERT at a row of its VALUES: it is evaluated, assigned, checked and written
+-- INSERT at a row of its VALUES: it is evaluated and assigned, its NULLs and then its keys are checked, and it is written
 abbrev pub insert_at : Work → List ℕ → List Target → Database → List Tree → Visit
 insert_at w name targets db row = insert_made w name db (new_values (length (columns_in db w)) targets row)
 
@@ -106,7 +148,8 @@ values_of db seen = unwrap_or (values_at db.content seen.place) []
 -- UPDATE with the version that it takes
 abbrev pub update_made : Work → List ℕ → Database → RowId → Result (List Value) ValueFault → Visit
 update_made w name db row (Err fault) = stops db (Fails (OfValue fault))
-update_made w name db row (Ok values) = unless_null name db (written db w row (Some values)) (null_in (columns_in db w) values)
+update_made w name db row (Ok values) =
+    unless_null name db (unless_stopped_by db (written db w row (Some values)) (stop_at_keys db w name values (Some row) (keys_in db w))) (null_in (columns_in db w) values)
 
 abbrev pub update_with : Work → UpdateTree → List Target → Database → Seen → Visit
 update_with w u targets db seen = update_made w u.table db seen.row (updated (cols_in db w) targets u.sets (values_of db seen))

@@ -1,5 +1,5 @@
 -- A statement is run: it begins, or goes on where it waits, by what its session's transaction is (PostgreSQL manual, the pages of the statements, and 13.2).
-use Rattle.std.specs.Prelude.{ℕ, ℤ, Bool, true, false, not, ◌&&◌, List, [], ◌∷◌, length, Option, Some, None, is_none, unwrap_or, Result, Ok, Err, if◌then◌else◌}
+use Rattle.std.specs.Prelude.{ℕ, ℤ, Bool, true, false, not, ◌&&◌, List, [], ◌∷◌, length, drop, Option, Some, None, is_none, unwrap_or, Result, Ok, Err, if◌then◌else◌}
 use Rattle.sql_trees.specs.declared.stmt.Level.TheVariants.{ReadCommitted}
 use Rattle.sql_trees.specs.declared.stmt.Lock.{Lock}
 use Rattle.sql_trees.specs.Statements.{StmtTree, InsertTree, UpdateTree, DeleteTree, SelectTree, Begin, Commit, Rollback, SetTransaction, SetDeadlockTimeout, Create, DropTables, Inserts, Updates, Deletes, Selects}
@@ -62,15 +62,21 @@ ended before w outcome walk = comes_to before w outcome walk walk.stop
 abbrev pub done : List (List Value) → Outcome
 done rows = Done
 
--- INSERT: one row of its VALUES after the other
-abbrev pub insert_all : Database → Work → InsertTree → List Target → Did
-insert_all db w i targets = ended db.content w done (walked (insert_at w i.table targets) db 0 [] i.rows)
+-- no column is assigned where one isn't there
+abbrev pub assigned_to : Result (List Target) (List ℕ) → List Target
+assigned_to (Ok targets) = targets
+assigned_to (Err column) = []
+
+-- INSERT, from this place among the rows of its VALUES on
+abbrev pub insert_from : Database → Work → InsertTree → ℕ → List (List Value) → Did
+insert_from db w i place rows =
+    ended db.content w done (walked (insert_at w i.table (assigned_to (targets_of (columns_in db w) i.columns))) db place rows (drop place i.rows))
 
 -- the VALUES name no column, and no row has more of them than there are columns
 abbrev pub insert_fitting : Database → Work → InsertTree → List Target → Option (List ℕ) → Did
 insert_fitting db w i targets (Some name) = fails db w.t (OfValue (NoColumn name))
 insert_fitting db w i targets None =
-    if some_too_long (length targets) i.rows then fails db w.t TooManyValues else insert_all db w i targets
+    if some_too_long (length targets) i.rows then fails db w.t TooManyValues else insert_from db w i 0 []
 
 abbrev pub insert_to : Database → Work → InsertTree → Result (List Target) (List ℕ) → Did
 insert_to db w i (Err column) = fails db w.t (NoColumnOf column i.table)
@@ -79,11 +85,6 @@ insert_to db w i (Ok targets) = insert_fitting db w i targets (lacking_rows i.ro
 abbrev pub insert : Database → OpenTransaction → Around → InsertTree → Option ℕ → Did
 insert db t around i None = fails db t (NoTable i.table)
 insert db t around i (Some k) = insert_to db (beginning db t around k) i (targets_of (columns_at db.catalog k) i.columns)
-
--- no column is assigned where one isn't there
-abbrev pub assigned_to : Result (List Target) (List ℕ) → List Target
-assigned_to (Ok targets) = targets
-assigned_to (Err column) = []
 
 -- UPDATE, from this place among its targets on
 abbrev pub update_from : Database → Work → UpdateTree → ℕ → List (List Value) → Did
@@ -186,6 +187,7 @@ lock_again db t around s p None = run_open db t around (Selects s)
 lock_again db t around s p (Some l) = lock_from db (going_on t around p) s l p.place p.rows
 
 abbrev pub run_on : Database → OpenTransaction → Around → Progress → StmtTree → Did
+run_on db t around p (Inserts i) = insert_from db (going_on t around p) i p.place p.rows
 run_on db t around p (Updates u) = update_from db (going_on t around p) u p.place p.rows
 run_on db t around p (Deletes d) = delete_from db (going_on t around p) d p.place p.rows
 run_on db t around p (Selects s) = lock_again db t around s p s.lock
@@ -197,11 +199,6 @@ run_stmt db Closed statement around stmt = run_closed db around stmt
 run_stmt db (Open t) None around stmt = run_open db t around stmt
 run_stmt db (Open t) (Some p) around stmt = run_on db t around p stmt
 run_stmt db AbortedOne statement around stmt = run_aborted db stmt
-
--- keys can't be checked yet
-abbrev pub runs : StmtTree → Bool
-runs (Create c) = has_none c.keys
-runs stmt = true
 
 abbrev pub is_definition : StmtTree → Bool
 is_definition (Create c) = true

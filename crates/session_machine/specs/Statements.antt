@@ -2,7 +2,7 @@
 use Rattle.std.specs.Prelude.{ℕ, Bool, true, false, not, ◌&&◌, List, [], ◌∷◌, ◌++◌, Option, Some, None, option_map, is_some, unwrap_or, slice_get, if◌then◌else◌}
 use Rattle.sql_trees.specs.declared.stmt.Level.{Level}
 use Rattle.sql_trees.specs.declared.stmt.Level.TheVariants.{ReadCommitted, RepeatableRead}
-use Rattle.sql_trees.specs.Statements.{StmtTree, ColumnTree, CreateTree, DropTree, Commit, Rollback}
+use Rattle.sql_trees.specs.Statements.{StmtTree, ColumnTree, KeyTree, CreateTree, DropTree, Commit, Rollback}
 use Rattle.row_versions.specs.declared.names.TxId.{TxId}
 use Rattle.row_versions.specs.Log.{Content}
 use Rattle.session_machine.specs.declared.session.OpenTransaction.{OpenTransaction}
@@ -43,6 +43,9 @@ turns db t = record { db = db; transaction = t; statement = None; outcome = Done
 
 abbrev pub columns_at : Catalog → ℕ → List ColumnTree
 columns_at catalog k = unwrap_or (option_map (λ (t : Table). t.made.columns) (slice_get catalog.tables k)) []
+
+abbrev pub keys_at : Catalog → ℕ → List KeyTree
+keys_at catalog k = unwrap_or (option_map (λ (t : Table). t.made.keys) (slice_get catalog.tables k)) []
 
 -- what a CREATE and a DROP make of the catalog
 abbrev pub with_table : Catalog → CreateTree → TxId → Catalog

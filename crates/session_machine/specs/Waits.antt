@@ -1,10 +1,11 @@
--- Who waits for whom, in the present state (PostgreSQL manual, 13.3.2).
+-- Who waits for whom, in the present state (PostgreSQL manual, 13.3.2, and 5.5.3 of keys).
 use Rattle.std.specs.Prelude.{Bool, true, false, not, List, Option, Some, None, option_map, filter_map}
 use Rattle.row_versions.specs.declared.names.TxId.{TxId}
 use Rattle.row_locks.specs.Held.{holders_against}
 use Rattle.row_locks.specs.Waiting.{Waiting, is_none_of}
+use Rattle.unique_keys.specs.Checks.{blockers as key_blockers}
 use Rattle.session_machine.specs.declared.session.Request.{Request}
-use Rattle.session_machine.specs.declared.session.Request.TheVariants.{Row}
+use Rattle.session_machine.specs.declared.session.Request.TheVariants.{Row, Key}
 use Rattle.session_machine.specs.declared.session.Waiting.{Waiting as Wait}
 use Rattle.session_machine.specs.declared.session.Transaction.{Transaction}
 use Rattle.session_machine.specs.declared.session.Transaction.TheVariants.{Open}
@@ -12,9 +13,10 @@ use Rattle.session_machine.specs.declared.session.Progress.{Progress}
 use Rattle.session_machine.specs.declared.session.Session.{Session}
 use Rattle.session_machine.specs.Tables.{Database}
 
--- the transactions that stand in the way of a request: the others that hold the row in conflict
+-- the transactions that stand in the way of a request: the others that hold the row in conflict, or those that may yet come to have the key, or cease to
 abbrev pub blockers : Database → Request → TxId → List TxId
 blockers db (Row row strength) tx = holders_against db.held row tx strength
+blockers db (Key asked) tx = key_blockers db.content asked.table tx asked.values asked.columns
 
 abbrev pub is_blocked : Database → Request → TxId → Bool
 is_blocked db request tx = not (is_none_of (blockers db request tx))

@@ -23,10 +23,10 @@ fn value_fault_again<'a>(fault: &ValueFault<'a>) -> ValueFault<'a>
 
 impl<'a> StmtFault<'a> {
     /// The same fault again.
-    pub fn again(&self) -> StmtFault<'a>
-        ensures { result ≡ self.now }
+    pub fn copied(&self, alloc: Global) -> Result<StmtFault<'a>, AllocError>
+        ensures { IfOk result (λ copy. copy ≡ self.now) }
     {
-        match self {
+        Ok(match self {
             StmtFault::Value(fault) => StmtFault::Value(value_fault_again(fault)),
             StmtFault::NoColumnOf { column, table } => StmtFault::NoColumnOf {
                 column: column.again(),
@@ -39,13 +39,14 @@ impl<'a> StmtFault<'a> {
                 column: column.again(),
                 table: table.again(),
             },
+            StmtFault::KeyTaken(name) => StmtFault::KeyTaken(name.copied(alloc)?),
             StmtFault::TooManyValues => StmtFault::TooManyValues,
             StmtFault::NoPosition(position) => StmtFault::NoPosition(*position),
             StmtFault::NotSerializable => StmtFault::NotSerializable,
             StmtFault::Deadlock => StmtFault::Deadlock,
             StmtFault::Aborted => StmtFault::Aborted,
             StmtFault::LevelTooLate => StmtFault::LevelTooLate,
-        }
+        })
     }
 }
 
@@ -59,7 +60,7 @@ impl<'a> Outcome<'a> {
             Outcome::Done => Outcome::Done,
             Outcome::Rows(set) => Outcome::Rows(set.copied(alloc)?),
             Outcome::Waits => Outcome::Waits,
-            Outcome::Failed(fault) => Outcome::Failed(fault.again()),
+            Outcome::Failed(fault) => Outcome::Failed(fault.copied(alloc)?),
             Outcome::Left => Outcome::Left,
         })
     }

@@ -1,7 +1,11 @@
 //! Why an event is refused, and why a statement fails.
 
+ghost use Rattle.std.specs.Prelude.{◌≡◌, ◌↔◌, IfOk, IsTrue};
+
 use iso_lexer::Ident;
 use sql_values::ValueFault;
+use std::alloc::{AllocError, Global};
+use std::marker::Model;
 
 /// Why the machine refuses an event.
 #[derive(Clone, Copy, Debug, PartialEq, Eq)]
@@ -33,6 +37,49 @@ pub enum EngineFault {
     BlockNotAllowed,
 }
 
+/// The name that a key is given: `t_pkey`, or `t_a_b_key` of the columns `a` and `b` of `t`. Contracts see its bytes.
+#[derive(Debug, Drop)]
+pub struct KeyName {
+    text: Vec<u8>,
+}
+
+impl Model for KeyName {
+    ghost use Rattle.std.specs.Prelude.{ℕ, List};
+
+    ghost Value = { List ℕ };
+
+    ghost view = { λ n. n.text.items };
+}
+
+impl KeyName {
+    pub fn of(text: Vec<u8>) -> KeyName
+        ensures { result ≡ text.items }
+    {
+        KeyName { text }
+    }
+
+    pub fn text(&self) -> &[u8]
+        ensures { result.now ≡ self.now }
+    {
+        &self.text
+    }
+
+    /// The same name again.
+    pub fn copied(&self, alloc: Global) -> Result<KeyName, AllocError>
+        ensures { IfOk result (λ copy. copy ≡ self.now) }
+    {
+        let mut text = Vec::new(alloc);
+        text.extend_from_slice(&self.text)?;
+        Ok(KeyName { text })
+    }
+
+    pub fn same(&self, other: &KeyName) -> bool
+        ensures { IsTrue result ↔ (self.now ≡ other.now) }
+    {
+        self.text() == other.text()
+    }
+}
+
 /// Why a statement fails: one variant for each text that it fails with.
 #[derive(Debug, Drop)]
 pub enum StmtFault<'a> {
@@ -45,6 +92,8 @@ pub enum StmtFault<'a> {
     NoTableToDrop(Ident<'a>),
     TableExists(Ident<'a>),
     NullValue { column: Ident<'a>, table: Ident<'a> },
+    /// Another row of the table has the values of the key with this name.
+    KeyTaken(KeyName),
     TooManyValues,
     /// ORDER BY names a position that isn't in the select list.
     NoPosition(i128),

@@ -10,9 +10,9 @@ mod same;
 mod session;
 
 pub use event::{Event, Mode, Order, Turn};
-pub use fault::{EngineFault, Refusal, StmtFault};
+pub use fault::{EngineFault, KeyName, Refusal, StmtFault};
 pub use reply::{HistItem, Outcome, Reply};
-pub use running::{can_run, is_definition};
+pub use running::is_definition;
 pub use session::{
-    Gathered, OpenTransaction, Place, Progress, Request, Session, Transaction, Waiting,
+    Gathered, KeyAsked, OpenTransaction, Place, Progress, Request, Session, Transaction, Waiting,
 };

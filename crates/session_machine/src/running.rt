@@ -1,20 +1,10 @@
-//! Which statements run, and which define tables.
+//! Which statements define tables.
 
 ghost use Rattle.std.specs.Prelude.{◌≡◌};
 ghost use Rattle.sql_trees.specs.Statements.{stmt_of};
-ghost use Rattle.session_machine.specs.Running.{is_definition, runs};
+ghost use Rattle.session_machine.specs.Running.{is_definition};
 
 use sql_trees::Stmt;
-
-/// Whether the statement runs by now: a CREATE TABLE with keys doesn't.
-pub fn can_run(stmt: &Stmt<'_>) -> bool
-    ensures { result ≡ runs (stmt_of stmt.now) }
-{
-    match stmt {
-        Stmt::CreateTable(table) => table.keys.is_empty(),
-        _ => true,
-    }
-}
 
 /// Whether the statement makes or drops tables.
 pub fn is_definition(stmt: &Stmt<'_>) -> bool

@@ -56,6 +56,7 @@ impl<'a> StmtFault<'a> {
                     table: t,
                 },
             ) => x.same(y) && s.same(t),
+            (StmtFault::KeyTaken(x), StmtFault::KeyTaken(y)) => x.same(y),
             (StmtFault::TooManyValues, StmtFault::TooManyValues) => true,
             (StmtFault::NoPosition(x), StmtFault::NoPosition(y)) => x == y,
             (StmtFault::NotSerializable, StmtFault::NotSerializable) => true,

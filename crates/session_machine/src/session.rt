@@ -38,15 +38,33 @@ pub enum Transaction {
     Aborted,
 }
 
+/// A key of a table, by the places of its columns, and the row that is to have it.
+#[derive(Debug, Drop)]
+pub struct KeyAsked {
+    pub table: TableId,
+    pub columns: Vec<u32>,
+    pub values: Row,
+}
+
+impl Model for KeyAsked {
+    ghost use Rattle.session_machine.specs.AskedKeys.{AskedKey};
+
+    ghost Value = { AskedKey };
+
+    ghost view = { λ k. record { table = k.table; columns = k.columns.items; values = k.values } };
+}
+
 /// What a statement waits for.
-#[derive(Clone, Copy, Debug, PartialEq, Eq)]
+#[derive(Debug, Drop)]
 pub enum Request {
     /// A row, to be held this strongly.
     Row { row: RowId, strength: Strength },
+    /// That nobody may yet come to have a key, or cease to.
+    Key(KeyAsked),
 }
 
 /// A wait, with the number of the event in which it began and the request that it began with.
-#[derive(Clone, Copy, Debug, PartialEq, Eq)]
+#[derive(Debug, Drop)]
 pub struct Waiting {
     pub number: u64,
     pub request: Request,

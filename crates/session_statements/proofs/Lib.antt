@@ -4,3 +4,4 @@ pub mod Lent
 pub mod Keeping
 pub mod Placing
 pub mod Visiting
+pub mod Inserting

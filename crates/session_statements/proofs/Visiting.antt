@@ -31,9 +31,10 @@ use Rattle.update_recheck.specs.Outcome.Holders.{Nobody, Others, OthersInACycle}
 use Rattle.update_recheck.specs.Outcome.Version.{Same, Gone, Newer}
 use Rattle.update_recheck.specs.Outcome.Outcome.{Takes, Skips, Waits, Deadlocks, Serializes, Faults}
 use Rattle.session_machine.specs.Tables.{Database, Catalog, Table}
+use Rattle.session_machine.specs.Walks as walk
 use Rattle.session_machine.specs.Walks.{Visit, Walk, goes_on, unless_stopped, walked}
 use Rattle.session_machine.specs.Waits.{waits_in}
-use Rattle.session_machine.specs.Rows.{Work, columns_in, cols_in, values_of, written, unless_null, update_made, lock_made, settled, at_outcome}
+use Rattle.session_machine.specs.Rows.{Work, columns_in, cols_in, keys_in, values_of, written, stop_at_keys, unless_null, unless_stopped_by, update_made, lock_made, settled, at_outcome}
 use Rattle.session_machine.specs.Sound.{RowsFit, RowsStay}
 use Rattle.session_statements.specs.declared.act.Act.{Act}
 use Rattle.session_statements.specs.declared.act.Act.TheVariants.{Update, Delete, Lock}
@@ -233,17 +234,22 @@ kept_written db w row values within orderly its long =
 abbrev CanAct : Database → Work → Seen → Type 0
 CanAct db w seen = (w.table < length db.catalog.tables) × (IsOrderly db) × IsFit db w seen
 
-unless_null_keeps : (name : List ℕ) (db after : Database) (o : Option (List ℕ)) → IsOrderly db → IsKept db after → IsKept db (unless_null name db after o).db
-unless_null_keeps name db after (Some column) h k = kept_here db h
-unless_null_keeps name db after None h k = k
+unless_null_keeps : (name : List ℕ) (db : Database) (due : Visit) (o : Option (List ℕ)) → IsOrderly db → IsKept db due.db → IsKept db (unless_null name db due o).db
+unless_null_keeps name db due (Some column) h k = kept_here db h
+unless_null_keeps name db due None h k = k
+
+unless_stopped_keeps : (db after : Database) (o : Option walk.Stop) → IsOrderly db → IsKept db after → IsKept db (unless_stopped_by db after o).db
+unless_stopped_keeps db after (Some stop) h k = kept_here db h
+unless_stopped_keeps db after None h k = k
 
 update_keeps : (w : Work) (u : UpdateTree) (targets : List Target) (db : Database) (seen : Seen) (r : Result (List Value) ValueFault)
     → updated (cols_in db w) targets u.sets (values_of db seen) ≡ r → CanAct db w seen → IsKept db (update_made w u.table db seen.row r).db
 update_keeps w u targets db seen (Err fault) e h = kept_here db h.1
 update_keeps w u targets db seen (Ok values) e h =
-    unless_null_keeps u.table db (written db w seen.row (Some values)) (null_in (columns_in db w) values) h.1
+    unless_null_keeps u.table db _ (null_in (columns_in db w) values) h.1
+    (unless_stopped_keeps db (written db w seen.row (Some values)) (stop_at_keys db w u.table values (Some seen.row) (keys_in db w)) h.1
     (kept_written db w seen.row (Some values) h.0 h.1 h.2.0
-    (λ vs is. ap length (sym (same_Some values vs is)) ∙ length-updated (cols_in db w) targets u.sets (values_of db seen) values e ∙ h.2.1))
+    (λ vs is. ap length (sym (same_Some values vs is)) ∙ length-updated (cols_in db w) targets u.sets (values_of db seen) values e ∙ h.2.1)))
 
 none_some : {A : Type 0} (x : A) → None ≡ Some x → ⊥
 none_some x h = cc
@@ -291,7 +297,7 @@ pub kept_by : (db e : Database) (w : Work) (act : Act) (seen : Seen) (v : Visite
 kept_by db e w act seen v within orderly its same =
     subst (IsKept db) (ap (λ (x : Visit). x.db) same ∙ visit_db e v) (visit_keeps db w act seen within orderly its)
 
-get_or_any : {A : Type 0} (xs : List A) (i : ℕ) (a b : A) → i < length xs → get_or xs i a ≡ get_or xs i b
+pub get_or_any : {A : Type 0} (xs : List A) (i : ℕ) (a b : A) → i < length xs → get_or xs i a ≡ get_or xs i b
 get_or_any [] i a b l = absurd (omega (arith, l))
 get_or_any (x ∷ xs) zero a b l = refl
 get_or_any (x ∷ xs) (suc i) a b l = get_or_any xs i a b (omega (arith, l))
@@ -306,15 +312,15 @@ kept_step db d e w act targets at other v within its kept below same =
     (kept.rows seen.row w.table (its at other below))
     same)
 
-append_none : {A : Type 0} (xs : List A) → xs ++ [] ≡ xs
+pub append_none : {A : Type 0} (xs : List A) → xs ++ [] ≡ xs
 append_none [] = refl
 append_none (x ∷ xs) = ap (λ ys. x ∷ ys) (append_none xs)
 
-abbrev stepped : (Database → Seen → Visit) → ℕ → List (List Value) → List Seen → Visit → Walk
+abbrev pub stepped : {A : Type 0} → (Database → A → Visit) → ℕ → List (List Value) → List A → Visit → Walk
 stepped visit at rows rest v = unless_stopped v at rows v.stop (walked visit v.db (at + 1) (rows ++ v.rows) rest)
 
 -- a walk goes on behind a target that doesn't stop it
-walk_step : (visit : Database → Seen → Visit) (db e : Database) (targets : List Seen) (at : ℕ) (other : Seen) (rows more : List (List Value)) → at < length targets
+pub walk_step : {A : Type 0} (visit : Database → A → Visit) (db e : Database) (targets : List A) (at : ℕ) (other : A) (rows more : List (List Value)) → at < length targets
     → visit db (get_or targets at other) ≡ goes_on e more → walked visit e (at + 1) (rows ++ more) (drop (at + 1) targets) ≡ walked visit db at rows (drop at targets)
 walk_step visit db e targets at other rows more below same =
     let seen = get_or targets at other in

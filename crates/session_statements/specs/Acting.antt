@@ -10,9 +10,7 @@ use Rattle.row_locks.specs.declared.held.Strength.TheVariants.{Exclusive}
 use Rattle.update_recheck.specs.Asked.{Asked}
 use Rattle.session_machine.specs.declared.reply.Outcome.{Outcome}
 use Rattle.session_machine.specs.Tables.{Database}
-use Rattle.session_machine.specs.declared.fault.StmtFault.{StmtFault}
-use Rattle.session_machine.specs.declared.reply.Outcome.TheVariants.{Done}
-use Rattle.session_machine.specs.Statements.{Did, answers, fails}
+use Rattle.session_machine.specs.Statements.{Did, answers}
 use Rattle.session_machine.specs.Walks as walk
 use Rattle.session_machine.specs.Walks.{Visit, stops, goes_on}
 use Rattle.session_machine.specs.Rows.{Work, ask, at_target, update_with, delete_with, lock_with}
@@ -62,13 +60,3 @@ abbrev pub halted : Content → Work → (List (List Value) → Outcome) → Dat
 halted before w outcome db rows None = answers before db w.t (outcome rows)
 halted before w outcome db rows (Some h) =
     comes_to before w outcome (record { db = db; place = h.place; rows = rows; stop = Some (stop_of h.stop) }) (Some (stop_of h.stop))
-
--- what came of a row of an INSERT: nothing, or a fault
-abbrev pub visit_by : Database → Option StmtFault → Visit
-visit_by db None = goes_on db []
-visit_by db (Some fault) = stops db (walk.Fails fault)
-
--- an INSERT is done, or fails
-abbrev pub ended_by : Content → Work → Database → Option StmtFault → Did
-ended_by before w db None = answers before db w.t Done
-ended_by before w db (Some fault) = fails db w.t fault

@@ -3,3 +3,4 @@ pub mod Growing
 pub mod Waits
 pub mod Acting
 pub mod Keeping
+pub mod Keys

@@ -1,15 +1,15 @@
 //! Every CREATE and DROP so far, and which table a name means.
 
 ghost use Rattle.std.specs.Prelude.{◌≡◌, ◌<◌, [], length, map, IfSome, OnOk};
-ghost use Rattle.sql_trees.specs.Statements.{create_of, column_of, name_of};
+ghost use Rattle.sql_trees.specs.Statements.{create_of, column_of, key_of, name_of};
 ghost use Rattle.row_versions.specs.Log.{Content};
 ghost use Rattle.session_machine.specs.Tables.{is_own, counts, is_dropped, is_meant, find_from};
-ghost use Rattle.session_machine.specs.Statements.{columns_at, with_table, with_drop};
+ghost use Rattle.session_machine.specs.Statements.{columns_at, keys_at, with_table, with_drop};
 
 use crate::table::{Dropped, Table};
 use iso_lexer::{Name, same_name};
 use row_versions::{TxId, Versions};
-use sql_trees::{Column, CreateTable};
+use sql_trees::{Column, CreateTable, Key};
 use std::alloc::{AllocError, Global};
 use std::marker::Model;
 
@@ -114,6 +114,14 @@ impl<'a, 't> Catalog<'a, 't> {
         ensures { map column_of result.now ≡ columns_at self.now place }
     {
         self.tables[place].columns()
+    }
+
+    /// The keys of the table at the place in declared order: the primary key first.
+    pub fn keys(&self, place: usize) -> &'a [Key]
+        requires { place < length self.now.tables }
+        ensures { map key_of result.now ≡ keys_at self.now place }
+    {
+        self.tables[place].keys()
     }
 
     /// Adds a table.

@@ -2,9 +2,10 @@
 
 ghost use Rattle.std.specs.Prelude.{◌≡◌, [], ◌+◌, ◌<◌, ◌^◌, length, List, map, option_map, unwrap_or, IfOk, IfSome, OnOk};
 ghost use Rattle.std.specs.Global.{Vec};
-ghost use Rattle.sql_trees.specs.Statements.{create_of, column_of, name_of};
+ghost use Rattle.std.specs.Option.{option_copied};
+ghost use Rattle.sql_trees.specs.Statements.{create_of, column_of, key_of, name_of};
 ghost use Rattle.sql_values.specs.declared.value.Value.{Value};
-ghost use Rattle.row_versions.specs.Log.{empty_content, values_at, IsOpen};
+ghost use Rattle.row_versions.specs.Log.{empty_content, new_row, values_at, IsOpen};
 ghost use Rattle.session_machine.specs.Tables.{find_table};
 ghost use Rattle.session_machine.specs.Waits.{is_blocked};
 ghost use Rattle.session_machine.specs.Transactions.{committed, rolled_back, begun, fresh, first_commits, commits_seen, view_of, moved_on, started, own_of, view_now};
@@ -13,7 +14,7 @@ ghost use Rattle.row_versions.specs.Rows.{rows_of};
 ghost use Rattle.session_machine.specs.Statements.{columns_at, with_table, with_drop};
 ghost use Rattle.session_machine.specs.declared.session.OpenTransaction.{OpenTransaction as OpenFacts};
 ghost use Rattle.session_machine.specs.Running.{beginning};
-ghost use Rattle.session_machine.specs.Rows.{columns_in, inserted, seen_by, values_of, written};
+ghost use Rattle.session_machine.specs.Rows.{columns_in, inserted, keys_in, seen_by, values_of, written};
 ghost use Rattle.session_machine.specs.Machine.{empty_database, visible_to};
 
 use crate::catalog::Catalog;
@@ -22,26 +23,32 @@ use iso_lexer::Name;
 use row_locks::{LockTable, Strength};
 use row_versions::{RowId, Seen, TableId, TxId, Versions, View};
 use session_machine::{OpenTransaction, Request, Session, Transaction};
-use sql_trees::{Column, CreateTable, Level};
+use sql_trees::{Column, CreateTable, Key, Level};
 use sql_values::Row;
 use std::alloc::{AllocError, Global};
 use std::marker::Model;
+use unique_keys::KeyIndex;
+use unique_keys::laws::index_keeps_up;
 
-/// The tables, all versions of their rows, and the locks that are held. A call that is refused memory leaves it in no state that is promised.
+/// The tables, all versions of their rows, the index of their keys, and the locks that are held. A call that is refused memory leaves it in no state that is promised.
 #[derive(Drop)]
 pub struct Database<'a, 't, V: Versions> {
     pub(crate) alloc: Global,
     pub(crate) store: V,
+    pub(crate) keys: KeyIndex,
     catalog: Catalog<'a, 't>,
     pub(crate) locks: LockTable,
 }
 
 impl<'a, 't, V: Versions> Model for Database<'a, 't, V> {
     ghost use Rattle.session_machine.specs.Tables.{Database as DatabaseFacts};
+    ghost use Rattle.unique_keys.specs.Laws.{KeepsUp};
 
     ghost Value = { DatabaseFacts };
 
     ghost view = { λ d. record { content = V.content d.store; catalog = d.catalog; held = d.locks } };
+
+    ghost invariant = { λ d. KeepsUp d.keys (V.content d.store) };
 }
 
 impl<'a, 't, V: Versions> Database<'a, 't, V> {
@@ -50,9 +57,11 @@ impl<'a, 't, V: Versions> Database<'a, 't, V> {
         requires { V.content store ≡ empty_content }
         ensures { result ≡ empty_database }
     {
+        index_keeps_up();
         Database {
             alloc,
             store,
+            keys: KeyIndex::new(alloc),
             catalog: Catalog::new(alloc),
             locks: LockTable::new(alloc),
         }
@@ -75,6 +84,7 @@ impl<'a, 't, V: Versions> Database<'a, 't, V> {
         ensures fresh { IfOk result (λ made. made ≡ fresh self.old.content level explicit) }
         ensures begun { OnOk result (self.new ≡ begun self.old) }
     {
+        index_keeps_up();
         Ok(OpenTransaction {
             tx: self.store.begin()?,
             explicit,
@@ -89,6 +99,7 @@ impl<'a, 't, V: Versions> Database<'a, 't, V> {
         requires { IsOpen self.old.content tx }
         ensures { self.new ≡ committed self.old tx }
     {
+        index_keeps_up();
         self.store.commit(tx);
         self.locks.release(tx);
     }
@@ -98,7 +109,9 @@ impl<'a, 't, V: Versions> Database<'a, 't, V> {
         requires { IsOpen self.old.content tx }
         ensures { self.new ≡ rolled_back self.old tx }
     {
+        index_keeps_up();
         self.store.roll_back(tx);
+        self.keys.forget(tx);
         self.locks.release(tx);
     }
 
@@ -108,6 +121,14 @@ impl<'a, 't, V: Versions> Database<'a, 't, V> {
         ensures { map column_of result.now ≡ columns_at self.now.catalog place }
     {
         self.catalog.columns(place)
+    }
+
+    /// The keys of the statement's table in declared order: the primary key first.
+    pub(crate) fn keys_in(&self, work: &Work<'_>) -> &'a [Key]
+        requires { work.now.table < length self.now.catalog.tables }
+        ensures { map key_of result.now ≡ keys_in self.now work.now }
+    {
+        self.catalog.keys(work.place)
     }
 
     /// Adds a table.
@@ -129,11 +150,41 @@ impl<'a, 't, V: Versions> Database<'a, 't, V> {
     }
 
     /// Whether another transaction stands in the way of what the transaction asks for. It takes no memory.
-    pub fn is_blocked(&self, request: Request, tx: TxId) -> bool
-        ensures { result ≡ is_blocked self.now request tx }
+    pub fn is_blocked(&self, request: &Request, tx: TxId) -> bool
+        ensures { result ≡ is_blocked self.now request.now tx }
     {
         match request {
-            Request::Row { row, strength } => self.locks.is_blocked(row, tx, strength),
+            Request::Row { row, strength } => self.locks.is_blocked(*row, tx, *strength),
+            Request::Key(asked) => self.is_held(asked, tx),
+        }
+    }
+
+    /// Writes a row of the statement's table, or without one a new row, which it answers; without values it deletes the row.
+    /// Where the index of keys is refused memory, the transaction is rolled back.
+    fn write(
+        &mut self,
+        work: &Work<'_>,
+        row: Option<RowId>,
+        values: Option<Row>,
+    ) -> Result<RowId, AllocError>
+        requires opened { IsOpen self.old.content work.now.t.tx }
+        ensures row { IfOk result (λ made. made ≡ unwrap_or row (new_row self.old.content)) }
+        ensures written { IfOk result (λ made. self.new ≡ written self.old work.now made values) }
+    {
+        index_keeps_up();
+        let noted = copied(self.alloc, values.as_ref())?;
+        let by = work.by;
+        let table = TableId(work.place as u64);
+        let Ok(made) = self.store.write(by.tx, by.command, table, row, values) else {
+            return Err(AllocError);
+        };
+        match self.keys.enter(table, made, by.tx, noted) {
+            Ok(()) => Ok(made),
+            Err(_) => {
+                self.store.roll_back(by.tx);
+                self.keys.forget(by.tx);
+                Err(AllocError)
+            }
         }
     }
 
@@ -144,30 +195,20 @@ impl<'a, 't, V: Versions> Database<'a, 't, V> {
         row: RowId,
         values: Option<Row>,
     ) -> Result<(), AllocError>
+        requires opened { IsOpen self.old.content work.now.t.tx }
         ensures { OnOk result (self.new ≡ written self.old work.now row values) }
     {
-        let table = TableId(work.place as u64);
-        match self
-            .store
-            .write(work.by.tx, work.by.command, table, Some(row), values)
-        {
-            Ok(_) => Ok(()),
-            Err(_) => Err(AllocError),
-        }
+        self.write(work, Some(row), values)?;
+        Ok(())
     }
 
     /// Writes a new row of the statement's table, which its transaction holds alone.
     pub(crate) fn add_row(&mut self, work: &Work<'_>, values: Row) -> Result<(), AllocError>
+        requires opened { IsOpen self.old.content work.now.t.tx }
         ensures { OnOk result (self.new ≡ inserted self.old work.now values) }
     {
-        let table = TableId(work.place as u64);
-        match self
-            .store
-            .write(work.by.tx, work.by.command, table, None, Some(values))
-        {
-            Ok(row) => self.locks.take(row, work.by.tx, Strength::Exclusive),
-            Err(_) => Err(AllocError),
-        }
+        let row = self.write(work, None, Some(values))?;
+        self.locks.take(row, work.by.tx, Strength::Exclusive)
     }
 
     fn first_commits(&self, by: &OpenTransaction) -> u64
@@ -343,6 +384,16 @@ fn own_of(transaction: &Transaction) -> Option<TxId>
     match transaction {
         Transaction::Open(by) => Some(by.tx),
         Transaction::Closed | Transaction::Aborted => None,
+    }
+}
+
+/// The values of a write again.
+fn copied(alloc: Global, values: Option<&Row>) -> Result<Option<Row>, AllocError>
+    ensures { IfOk result (λ copy. copy ≡ option_copied values.entry) }
+{
+    match values {
+        Some(values) => Ok(Some(values.copied(alloc)?)),
+        None => Ok(None),
     }
 }
 

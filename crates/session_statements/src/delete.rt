@@ -29,6 +29,7 @@ impl<'a, 't, V: Versions> Database<'a, 't, V> {
         work: &Work<'_>,
         version: &Seen,
     ) -> Result<Visited<'t>, AllocError>
+        requires opened { IsOpen self.old.content work.now.t.tx }
         ensures { IfOk result (λ v. delete_with work.now self.old version.now ≡ visit_of self.new v) }
     {
         self.write_row(work, version.row, None)?;

@@ -1,27 +1,30 @@
 //! INSERT (PostgreSQL manual, its page).
 
-ghost use Rattle.std.specs.Prelude.{◌≡◌, ◌≢◌, ◌+◌, ◌<◌, ◌^◌, [], Some, None, length, map, IfOk, OnOk, OnErr, IsSome};
+ghost use Rattle.std.specs.Prelude.{◌≡◌, ◌≢◌, ◌+◌, ◌<◌, ◌^◌, [], List, Some, None, Ok, drop, length, map, option_map, IfOk, OnOk, OnErr, IsSome};
 ghost use Rattle.sql_trees.specs.Trees.{tree_of};
-ghost use Rattle.sql_trees.specs.Statements.{insert_of, exprs_of, name_of};
+ghost use Rattle.sql_trees.specs.Statements.{column_of, exprs_of, insert_of, name_of, names_of};
 ghost use Rattle.sql_values.specs.declared.fault.ValueFault.TheVariants.{Memory};
+ghost use Rattle.sql_values.specs.declared.value.Value.{Value as SqlValue};
 ghost use Rattle.row_versions.specs.Log.{Content, IsOpen};
-ghost use Rattle.session_queries.specs.Queries.{lacking_rows};
+ghost use Rattle.session_queries.specs.Queries.{lacking_rows, targets_of};
 ghost use Rattle.session_machine.specs.Tables.{find_table};
 ghost use Rattle.session_machine.specs.Walks.{walked};
-ghost use Rattle.session_machine.specs.Rows.{insert_at};
-ghost use Rattle.session_machine.specs.Running.{done, ended, insert, insert_all, insert_fitting};
-ghost use Rattle.session_statements.specs.Acting.{ended_by, visit_by};
+ghost use Rattle.session_machine.specs.Rows.{insert_at, insert_made};
+ghost use Rattle.session_machine.specs.Running.{assigned_to, done, ended, insert, insert_fitting, insert_from};
+ghost use Rattle.session_statements.specs.Acting.{halted, stop_of};
 ghost use Rattle.session_statements.specs.Left.{left};
 
+use crate::act::{Halt, Stop};
 use crate::database::Database;
 use crate::did::{Around, Did, Work};
-use iso_lexer::Ident;
+use crate::targets::all_or_none;
+use iso_lexer::{Ident, Name};
 use row_versions::Versions;
 use session_machine::{OpenTransaction, StmtFault, Transaction};
-use session_queries::{Targets, lacking_rows, new_values, null_in, some_too_long, targets_of};
-use sql_trees::{Expr, Insert};
-use sql_values::ValueFault;
-use std::alloc::AllocError;
+use session_queries::{Targets, lacking_rows, new_values, some_too_long, targets_of};
+use sql_trees::{Column, Expr, Insert};
+use sql_values::{Row, ValueFault};
+use std::alloc::{AllocError, Global};
 
 /// The statement's fault, where it isn't want of memory.
 pub(crate) fn fault_of<'t>(fault: ValueFault<'t>) -> Result<StmtFault<'t>, AllocError>
@@ -35,69 +38,104 @@ pub(crate) fn fault_of<'t>(fault: ValueFault<'t>) -> Result<StmtFault<'t>, Alloc
     }
 }
 
+/// The columns that values go to, where all are there.
+fn inserted_to<'t>(
+    alloc: Global,
+    columns: &[Column<'_>],
+    names: Option<&Vec<Name<'t>>>,
+) -> Result<Targets, AllocError>
+    ensures { IfOk result (λ targets. targets ≡ assigned_to (targets_of (map column_of columns.now) (option_map (λ ns. names_of ns.now) names.entry))) }
+{
+    all_or_none(alloc, targets_of(alloc, columns, names)?)
+}
+
 impl<'a, 't, V: Versions> Database<'a, 't, V> {
-    /// One row is evaluated, assigned, checked and written, or its fault is answered.
+    /// A row with these values is written, or what stops the statement is answered.
+    fn insert_made(
+        &mut self,
+        work: &Work<'_>,
+        name: Name<'t>,
+        values: Row,
+    ) -> Result<Option<Stop<'t>>, AllocError>
+        requires opened { IsOpen self.old.content work.now.t.tx }
+        requires within { work.now.table < length self.old.catalog.tables }
+        ensures made { IfOk result (λ stop. insert_made work.now (name_of name.entry) self.old (Ok values) ≡ record { db = self.new; rows = []; stop = option_map stop_of stop }) }
+        ensures fates { OnOk result (self.new.content.fates ≡ self.old.content.fates) }
+        ensures catalog { OnOk result (self.new.catalog ≡ self.old.catalog) }
+    {
+        if let Some(stop) = self.stop_before_write(work, name, &values, None)? {
+            return Ok(Some(stop));
+        }
+        self.add_row(work, values)?;
+        Ok(None)
+    }
+
+    /// One row is evaluated, assigned, checked and written, or what stops the statement is answered.
     fn insert_row(
         &mut self,
         work: &Work<'_>,
         stmt: &Insert<'t>,
         targets: &Targets,
         row: &[Expr<'t>],
-    ) -> Result<Option<StmtFault<'t>>, AllocError>
-        requires { work.now.table < length self.old.catalog.tables }
-        ensures { IfOk result (λ fault. insert_at work.now (name_of stmt.now.table) targets.now self.old (map tree_of row.now) ≡ visit_by self.new fault) }
+    ) -> Result<Option<Stop<'t>>, AllocError>
+        requires opened { IsOpen self.old.content work.now.t.tx }
+        requires within { work.now.table < length self.old.catalog.tables }
+        ensures visit { IfOk result (λ stop.
+            insert_at work.now (name_of stmt.now.table) targets.now self.old (map tree_of row.now) ≡ record { db = self.new; rows = []; stop = option_map stop_of stop }) }
+        ensures fates { OnOk result (self.new.content.fates ≡ self.old.content.fates) }
+        ensures catalog { OnOk result (self.new.catalog ≡ self.old.catalog) }
     {
-        let columns = self.columns_in(work);
-        match new_values(self.alloc, columns.len(), targets, row) {
-            Ok(values) => {
-                if let Some(column) = null_in(columns, &values) {
-                    let table = Ident::new(stmt.table);
-                    return Ok(Some(StmtFault::NullValue { column, table }));
-                }
-                self.add_row(work, values)?;
-                Ok(None)
+        match new_values(self.alloc, self.columns_in(work).len(), targets, row) {
+            Ok(values) => self.insert_made(work, stmt.table, values),
+            Err(fault) => {
+                let fault = fault_of(fault)?;
+                Ok(Some(Stop::Fails(fault)))
             }
-            Err(fault) => Ok(Some(fault_of(fault)?)),
         }
     }
 
-    /// Writes one row after the other, up to the first fault, which it answers.
+    /// Writes one row of the VALUES after the other, from this place on, up to the one at which the statement stops.
     fn insert_rows(
         &mut self,
         work: &Work<'_>,
         stmt: &'a Insert<'t>,
         targets: &Targets,
-    ) -> Result<Option<StmtFault<'t>>, AllocError>
-        requires { work.now.table < length self.old.catalog.tables }
-        ensures rows { (before : Content) → IfOk result (λ fault.
-            ended before work.now done (walked (insert_at work.now (name_of stmt.now.table) targets.now) self.old 0 [] (map exprs_of stmt.now.rows.items))
-            ≡ ended_by before work.now self.new fault) }
+        place: usize,
+    ) -> Result<Option<Halt<'t>>, AllocError>
+        requires opened { IsOpen self.old.content work.now.t.tx }
+        requires within { work.now.table < length self.old.catalog.tables }
+        ensures walk { (before : Content) (rows : List (List SqlValue)) → IfOk result (λ halt.
+            ended before work.now done (walked (insert_at work.now (name_of stmt.now.table) targets.now) self.old place rows (drop place (map exprs_of stmt.now.rows.items)))
+            ≡ halted before work.now done self.new rows halt) }
         ensures fates { OnOk result (self.new.content.fates ≡ self.old.content.fates) }
     {
-        for row in &stmt.rows {
-            if let Some(fault) = self.insert_row(work, stmt, targets, row)? {
-                return Ok(Some(fault));
+        for at in place..stmt.rows.len() {
+            if let Some(stop) = self.insert_row(work, stmt, targets, &stmt.rows[at])? {
+                return Ok(Some(Halt { place: at, stop }));
             }
         }
         Ok(None)
     }
 
-    /// Writes all rows, or fails at the first that has a fault.
-    fn insert_all(
+    /// INSERT, from this place among the rows of its VALUES on.
+    pub(crate) fn insert_from(
         &mut self,
         work: &Work<'_>,
         stmt: &'a Insert<'t>,
-        targets: &Targets,
+        place: usize,
+        rows: Vec<Row>,
     ) -> Result<Did<'t>, AllocError>
         requires opened { IsOpen self.old.content work.now.t.tx }
         requires room { work.now.t.command + 1 < 2 ^ 64 }
         requires within { work.now.table < length self.old.catalog.tables }
-        ensures { IfOk result (λ did. insert_all self.old work.now (insert_of stmt.now) targets.now ≡ left self.new did) }
+        ensures { IfOk result (λ did. insert_from self.old work.now (insert_of stmt.now) place rows.items ≡ left self.new did) }
     {
+        let begun = self.started(&work.by);
         let after = self.after_query(&work.by);
-        match self.insert_rows(work, stmt, targets)? {
-            Some(fault) => Ok(self.fail(&work.by, fault)),
+        let to = inserted_to(self.alloc, self.columns_in(work), stmt.columns.as_ref())?;
+        match self.insert_rows(work, stmt, &to, place)? {
             None => Ok(Did::turned(Transaction::Open(after))),
+            Some(halt) => Ok(self.halt(work, begun, halt, rows)),
         }
     }
 
@@ -120,7 +158,7 @@ impl<'a, 't, V: Versions> Database<'a, 't, V> {
         if some_too_long(targets.len(), stmt.rows.as_slice()) {
             return Ok(self.fail(&work.by, StmtFault::TooManyValues));
         }
-        self.insert_all(work, stmt, targets)
+        self.insert_from(work, stmt, 0, Vec::new(self.alloc))
     }
 
     /// INSERT: all of its rows are written, or none counts.

@@ -3,11 +3,13 @@
 
 mod act;
 mod catalog;
+mod checks;
 mod database;
 mod definitions;
 mod delete;
 mod did;
 mod insert;
+mod keys;
 mod lock;
 mod run;
 mod select;

@@ -121,6 +121,7 @@ impl<'a, 't, V: Versions> Database<'a, 't, V> {
         };
         let rows = progress.rows.into_rows();
         match stmt {
+            Stmt::Insert(insert) => self.insert_from(&work, insert, place, rows),
             Stmt::Update(update) => self.update_from(&work, update, place, rows),
             Stmt::Delete(delete) => self.delete_from(&work, delete, place, rows),
             Stmt::Select(select) => match select.lock {

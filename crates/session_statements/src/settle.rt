@@ -3,6 +3,7 @@
 ghost use Rattle.std.specs.Prelude.{◌≡◌, ◌<◌, length, map, IfOk, OnOk};
 ghost use Rattle.sql_trees.specs.Statements.{column_of};
 ghost use Rattle.session_queries.specs.Queries.{cols_of};
+ghost use Rattle.row_versions.specs.Log.{IsOpen};
 ghost use Rattle.update_recheck.specs.Asked.{Fits, asked};
 ghost use Rattle.update_recheck.specs.Outcome.{is_target_locked, target_outcome};
 ghost use Rattle.update_recheck.specs.Settling.{lock_of, locks_after, outcome_of};
@@ -80,6 +81,7 @@ impl<'a, 't, V: Versions> Database<'a, 't, V> {
         seen: &Seen,
         settled: Settled<'t>,
     ) -> Result<Visited<'t>, AllocError>
+        requires opened { IsOpen self.old.content work.now.t.tx }
         requires within { work.now.table < length self.old.catalog.tables }
         requires takes { CanTake self.old work.now (outcome_of settled) }
         ensures { IfOk result (λ v. at_outcome (act_with work.now act.now) self.old (asks self.old work.now act.now seen.now) (outcome_of settled.entry) ≡ visit_of self.new v) }
@@ -104,6 +106,7 @@ impl<'a, 't, V: Versions> Database<'a, 't, V> {
         act: &Act<'_, 'a, 't>,
         seen: &Seen,
     ) -> Result<Visited<'t>, AllocError>
+        requires opened { IsOpen self.old.content work.now.t.tx }
         requires within { work.now.table < length self.old.catalog.tables }
         requires orderly { IsOrderly self.old }
         requires its { RowIn self.old.content work.now.table seen.now.row }
@@ -120,6 +123,7 @@ impl<'a, 't, V: Versions> Database<'a, 't, V> {
         act: &Act<'_, 'a, 't>,
         version: &Seen,
     ) -> Result<Visited<'t>, AllocError>
+        requires opened { IsOpen self.old.content work.now.t.tx }
         requires within { work.now.table < length self.old.catalog.tables }
         requires even { length (values_of self.old version.now) ≡ length (columns_in self.old work.now) }
         ensures { IfOk result (λ v. act_with work.now act.now self.old version.now ≡ visit_of self.new v) }

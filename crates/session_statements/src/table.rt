@@ -1,10 +1,10 @@
 //! A table, and what has become of it.
 
 ghost use Rattle.std.specs.Prelude.{◌≡◌, length, ◌<◌, map};
-ghost use Rattle.sql_trees.specs.Statements.{create_of, column_of};
+ghost use Rattle.sql_trees.specs.Statements.{create_of, column_of, key_of};
 
 use row_versions::TxId;
-use sql_trees::{Column, CreateTable};
+use sql_trees::{Column, CreateTable, Key};
 use std::marker::Model;
 
 /// A table: its CREATE, and the transaction that made it.
@@ -48,6 +48,12 @@ impl<'a, 't> Table<'a, 't> {
         ensures { map column_of result.now ≡ self.now.made.columns }
     {
         self.made.columns.as_slice()
+    }
+
+    pub fn keys(&self) -> &'a [Key]
+        ensures { map key_of result.now ≡ self.now.made.keys }
+    {
+        self.made.keys.as_slice()
     }
 }
 

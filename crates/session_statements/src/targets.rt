@@ -5,16 +5,41 @@ ghost use Rattle.sql_trees.specs.Trees.{tree_of};
 ghost use Rattle.sql_trees.specs.Statements.{select_of};
 ghost use Rattle.row_versions.specs.Log.{IsOpen};
 ghost use Rattle.session_machine.specs.Rows.{at_places, passing_targets, seen_by, shown_to, taken_targets};
+ghost use Rattle.session_machine.specs.Running.{assigned_to};
 ghost use Rattle.session_queries.specs.Fronts.{AnswersList};
 ghost use Rattle.session_statements.specs.Keeping.{IsOrderly, RowsIn};
 
 use crate::database::Database;
 use crate::did::Work;
+use iso_lexer::Ident;
 use row_versions::{Seen, Versions};
-use session_queries::{passing_places, taken_places};
+use session_queries::{Targets, passing_places, set_targets, taken_places};
 use sql_trees::{Expr, Select};
 use sql_values::{Row, ValueFault};
 use std::alloc::{AllocError, Global};
+
+/// No column is assigned to.
+fn none_assigned(alloc: Global) -> Result<Targets, AllocError>
+    ensures { IfOk result (λ targets. targets ≡ []) }
+{
+    match set_targets(alloc, &[], &[])? {
+        Ok(targets) => Ok(targets),
+        Err(_) => Err(AllocError),
+    }
+}
+
+/// The columns that values go to; none where one isn't there.
+pub(crate) fn all_or_none(
+    alloc: Global,
+    found: Result<Targets, Ident<'_>>,
+) -> Result<Targets, AllocError>
+    ensures { IfOk result (λ targets. targets ≡ assigned_to found.entry) }
+{
+    match found {
+        Ok(targets) => Ok(targets),
+        Err(_) => none_assigned(alloc),
+    }
+}
 
 /// The version at this place, if there is one, as a slice.
 fn one_at(seen: &[Seen], place: usize) -> &[Seen]

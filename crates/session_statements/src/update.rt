@@ -1,6 +1,6 @@
 //! UPDATE (PostgreSQL manual, its page).
 
-ghost use Rattle.std.specs.Prelude.{◌≡◌, ◌+◌, ◌<◌, ◌^◌, [], Some, None, Ok, length, map, IfOk, OnErr, IsSome};
+ghost use Rattle.std.specs.Prelude.{◌≡◌, ◌+◌, ◌<◌, ◌^◌, Some, None, Ok, length, map, IfOk, OnErr, IsSome};
 ghost use Rattle.sql_trees.specs.Statements.{column_of, name_of, set_of, update_of};
 ghost use Rattle.row_versions.specs.Log.{IsOpen};
 ghost use Rattle.session_queries.specs.Updates.{lacking_update, set_targets, updated};
@@ -17,23 +17,14 @@ use crate::act::{Act, Stop, Visited};
 use crate::database::Database;
 use crate::did::{Around, Did, Work};
 use crate::insert::fault_of;
+use crate::targets::all_or_none;
 use iso_lexer::{Ident, Name};
 use row_versions::{Seen, Versions};
 use session_machine::{OpenTransaction, StmtFault};
-use session_queries::{Targets, lacking_update, null_in, set_targets, updated_values};
+use session_queries::{Targets, lacking_update, set_targets, updated_values};
 use sql_trees::{Column, Expr, Update};
 use sql_values::{Row, ValueFault};
 use std::alloc::{AllocError, Global};
-
-/// No column is assigned to.
-fn none_assigned(alloc: Global) -> Result<Targets, AllocError>
-    ensures { IfOk result (λ targets. targets ≡ []) }
-{
-    match set_targets(alloc, &[], &[])? {
-        Ok(targets) => Ok(targets),
-        Err(_) => Err(AllocError),
-    }
-}
 
 /// The columns that are assigned to, where all are there.
 fn assigned_to<'t>(
@@ -43,10 +34,7 @@ fn assigned_to<'t>(
 ) -> Result<Targets, AllocError>
     ensures { IfOk result (λ targets. targets ≡ assigned_to (set_targets (map column_of columns.now) (map set_of sets.now))) }
 {
-    match set_targets(alloc, columns, sets)? {
-        Ok(targets) => Ok(targets),
-        Err(_) => none_assigned(alloc),
-    }
+    all_or_none(alloc, set_targets(alloc, columns, sets)?)
 }
 
 impl<'a, 't, V: Versions> Database<'a, 't, V> {
@@ -75,13 +63,12 @@ impl<'a, 't, V: Versions> Database<'a, 't, V> {
         version: &Seen,
         values: Row,
     ) -> Result<Visited<'t>, AllocError>
+        requires opened { IsOpen self.old.content work.now.t.tx }
         requires within { work.now.table < length self.old.catalog.tables }
         ensures { IfOk result (λ v. update_made work.now (name_of name.entry) self.old version.now.row (Ok values) ≡ visit_of self.new v) }
     {
-        if let Some(column) = null_in(self.columns_in(work), &values) {
-            let table = Ident::new(name);
-            let fault = StmtFault::NullValue { column, table };
-            return Ok(Visited::Stops(Stop::Fails(fault)));
+        if let Some(stop) = self.stop_before_write(work, name, &values, Some(version.row))? {
+            return Ok(Visited::Stops(stop));
         }
         self.write_row(work, version.row, Some(values))?;
         Ok(Visited::Passes)
@@ -95,6 +82,7 @@ impl<'a, 't, V: Versions> Database<'a, 't, V> {
         targets: &Targets,
         version: &Seen,
     ) -> Result<Visited<'t>, AllocError>
+        requires opened { IsOpen self.old.content work.now.t.tx }
         requires within { work.now.table < length self.old.catalog.tables }
         requires even { length (values_of self.old version.now) ≡ length (columns_in self.old work.now) }
         ensures { IfOk result (λ v. update_with work.now (update_of stmt.now) targets.now self.old version.now ≡ visit_of self.new v) }

@@ -25,6 +25,10 @@ impl<'a, 't, V: Versions> Database<'a, 't, V> {
                 let found = self.locks.against(*row, tx, *strength)?;
                 waits.add(tx, found)
             }
+            Request::Key(asked) => {
+                let found = self.holders(asked, tx)?;
+                waits.add(tx, found)
+            }
         }
     }
 

@@ -32,6 +32,7 @@ impl<'a, 't, V: Versions> Database<'a, 't, V> {
         place: usize,
         rows: &mut Vec<Row>,
     ) -> Result<Option<Halt<'t>>, AllocError>
+        requires opened { IsOpen self.old.content work.now.t.tx }
         requires within { work.now.table < length self.old.catalog.tables }
         requires orderly { IsOrderly self.old }
         requires its { RowsIn self.old.content work.now.table targets.now }
@@ -90,9 +91,10 @@ impl<'a, 't, V: Versions> Database<'a, 't, V> {
         ensures { (before : Content) (outcome : List (List SqlValue) → OutcomeFacts) → begun ≡ started before work.now.t →
             halted before work.now outcome self.old rows.items (Some halt.entry) ≡ left self.new result }
     {
-        match halt.stop {
+        let Halt { place, stop } = halt;
+        match stop {
             Stop::Blocked(request) => {
-                Database::<'a, 't, V>::pause(work, begun, halt.place, request, rows)
+                Database::<'a, 't, V>::pause(work, begun, place, request, rows)
             }
             Stop::Fails(fault) => self.fail(&work.by, fault),
         }

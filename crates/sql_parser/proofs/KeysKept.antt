@@ -9,11 +9,11 @@ use Rattle.std.specs.List.{list_any, list_all, filter}
 use Rattle.std.specs.Prelude.{Result, Ok, Bool, true, false, not, ◌&&◌, ◌||◌, ◌==◌, nat_lt, bytes_eq, if◌then◌else◌}
 use Rattle.sql_trees.specs.declared.fault.SqlFault.{SqlFault}
 use Rattle.sql_trees.specs.declared.word.Word.TheVariants as words
-use Rattle.sql_trees.specs.Statements.{StmtTree, ColumnTree, KeyTree}
+use Rattle.sql_trees.specs.Statements.{StmtTree, ColumnTree, KeyTree, key_name}
 use Rattle.sql_trees.specs.Tokens.{Tokens}
 use Rattle.sql_expressions.specs.Reading.{expect, is_close, is_open, is_word, ◌>>=◌}
 use Rattle.sql_parser.specs.Readers.{items_at, keyword, name_at}
-use Rattle.sql_parser.specs.Tables.{Placed, KeyRead, TableRead, is_among, placed_names, column_names, empty_table, key_name, made_name, first_place, first_lacking, text_fault, or_else, keys_fault, completed, place_among, places_in, resolved, is_kept, resolved_keys, declared, table_of, finished, table_add, create_at}
+use Rattle.sql_parser.specs.Tables.{Placed, KeyRead, TableRead, is_among, placed_names, column_names, empty_table, made_name, first_place, first_lacking, text_fault, or_else, keys_fault, completed, place_among, places_in, resolved, is_kept, resolved_keys, declared, table_of, finished, table_add, create_at}
 use Rattle.sql_parser.specs.Kept.{all_differ, places_differ, names_at, key_fits, tree_name, table_kept}
 use Rattle.sql_parser.proofs.Keeping.{FineOrNot, differ_push, or_none}
 use Rattle.sql_parser.proofs.Steps.{bind_ok, ok_same}

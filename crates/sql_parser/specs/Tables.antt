@@ -1,12 +1,12 @@
 -- CREATE TABLE and DROP TABLE (PostgreSQL manual: CREATE TABLE, DROP TABLE).
-use Rattle.std.specs.Prelude.{ℕ, zero, suc, Bool, true, false, not, ◌||◌, ◌&&◌, List, [], ◌∷◌, ◌++◌, length, map, filter, codes, bytes_eq, Option, Some, None, Result, Ok, Err, if◌then◌else◌}
+use Rattle.std.specs.Prelude.{ℕ, zero, suc, Bool, true, false, not, ◌||◌, ◌&&◌, List, [], ◌∷◌, ◌++◌, length, map, filter, bytes_eq, Option, Some, None, Result, Ok, Err, if◌then◌else◌}
 use Rattle.std.specs.List.{list_any}
 use Rattle.sql_trees.specs.declared.fault.SqlFault.{SqlFault}
 use Rattle.sql_trees.specs.declared.fault.SqlFault.TheVariants.{BadColumns}
 use Rattle.sql_trees.specs.declared.word.Word.TheVariants as words
 use Rattle.sql_trees.specs.declared.kind.Kind.{Kind}
 use Rattle.sql_trees.specs.declared.kind.Kind.TheVariants as kinds
-use Rattle.sql_trees.specs.Statements.{StmtTree, ColumnTree, KeyTree, Create, DropTables}
+use Rattle.sql_trees.specs.Statements.{StmtTree, ColumnTree, KeyTree, Create, DropTables, key_name}
 use Rattle.sql_trees.specs.Tokens.{Token, Tokens}
 use Rattle.sql_trees.specs.Tokens as tok
 use Rattle.sql_expressions.specs.Reading.{misplaced, place_of, expect, is_open, is_close, ◌>>=◌}
@@ -162,15 +162,6 @@ module _ (last : ℕ) where
   table_add t ts = table_item (after (is_word words.Primary) ts) (after (is_word words.Unique) ts) t ts
 
 -- ---- what has to hold of the whole
-
--- the names, each behind an underscore
-abbrev pub underscored : List (List ℕ) → List ℕ
-underscored [] = []
-underscored (n ∷ ns) = 95 ∷ (n ++ underscored ns)
-
--- the name that a key over these columns is given
-abbrev pub key_name : List ℕ → Bool → List (List ℕ) → List ℕ
-key_name table primary columns = table ++ (if primary then codes "_pkey" else underscored columns ++ codes "_key")
 
 abbrev pub made_name : List ℕ → KeyRead → List ℕ
 made_name table k = key_name table k.primary (placed_names k.columns)

@@ -1,13 +1,11 @@
 //! The keys of a CREATE TABLE, once the whole has been read.
 
-ghost use Rattle.std.specs.Prelude.{bytes_eq, ◌≡◌, ◌<◌, ◌≤◌, ◌^◌, ◌++◌, ◌∷◌, [], ℕ, List, Bool, IfOk, length, map, filter, not, MatchOption};
-ghost use Rattle.std.specs.Char.{to_ascii_lowercase};
-ghost use Rattle.iso_lexer.specs.Names.{name_view, decoded, unquoted};
-ghost use Rattle.sql_trees.specs.Statements.{name_of, stmt_of, column_of, key_of};
+ghost use Rattle.std.specs.Prelude.{bytes_eq, ◌≡◌, ◌<◌, ◌≤◌, ◌^◌, ◌++◌, ◌∷◌, [], ℕ, List, Bool, IfOk, length, map, filter, not};
+ghost use Rattle.sql_trees.specs.Statements.{underscored, name_of, stmt_of, column_of, key_of};
 ghost use Rattle.sql_trees.specs.Tokens.{tok_views};
 ghost use Rattle.sql_expressions.specs.Reading.{Gives};
 ghost use Rattle.sql_parser.specs.Readers.{seen};
-ghost use Rattle.sql_parser.specs.Tables.{is_among, made_name, underscored, first_place, first_lacking, text_fault, keys_fault, place_among, places_in, in_primary, is_kept, completed, resolved, resolved_keys, column_names, placed_names, finished, create_at};
+ghost use Rattle.sql_parser.specs.Tables.{is_among, made_name, first_place, first_lacking, text_fault, keys_fault, place_among, places_in, in_primary, is_kept, completed, resolved, resolved_keys, column_names, placed_names, finished, create_at};
 ghost use Rattle.sql_parser.specs.Views.{placed_of, key_text_of, table_text_of};
 
 use crate::part::{close, keyword, name, open};
@@ -17,59 +15,6 @@ use iso_lexer::{Name, same_name};
 use sql_expressions::{Parser, Tokens};
 use sql_trees::{Column, CreateTable, Key, SqlFault, Stmt, Word};
 use std::alloc::{AllocError, Global};
-
-// The first byte that stands for one of a quoted name, and the part behind it.
-#[tactic(auto, unfolding(iso_lexer::specs::Names::unquoted))]
-fn first_unquoted(part: &[u8]) -> Option<(u8, &[u8])>
-    ensures { MatchOption result (part.now ≡ []) (λ x. (unquoted part.now ≡ x.0 ∷ unquoted x.1.now) × (length x.1.now < length part.now)) }
-{
-    let (first, rest) = part.split_first()?;
-    match rest {
-        [_, behind @ ..] if *first == b'"' => Some((*first, behind)),
-        _ => Some((*first, rest)),
-    }
-}
-
-// What stands between quotes, each doubled quote as one, behind these bytes.
-#[tactic(auto, unfolding(iso_lexer::specs::Names::unquoted))]
-fn push_unquoted(mut text: Vec<u8>, quoted: &[u8]) -> Result<Vec<u8>, AllocError>
-    ensures { IfOk result (λ v. v.items ≡ text.items ++ unquoted quoted.now) }
-{
-    let mut rest = quoted;
-    while let Some((first, behind)) = first_unquoted(rest) {
-        text.push(first)?;
-        rest = behind;
-    }
-    Ok(text)
-}
-
-// A word in lower case.
-fn lowered(alloc: Global, word: &str) -> Result<Vec<u8>, AllocError>
-    ensures { IfOk result (λ v. v.items ≡ map to_ascii_lowercase word.now) }
-{
-    word.as_bytes()
-        .iter()
-        .map(|b| b.to_ascii_lowercase())
-        .collect(alloc)
-}
-
-// The bytes that a name stands for, behind these.
-fn push_decoded(alloc: Global, mut text: Vec<u8>, name: &Name) -> Result<Vec<u8>, AllocError>
-    ensures { IfOk result (λ v. v.items ≡ text.items ++ name_of name.now) }
-{
-    match name {
-        Name::Plain(plain) => {
-            text.extend_from_slice(plain.as_bytes())?;
-            Ok(text)
-        }
-        Name::Quoted(quoted) => push_unquoted(text, quoted.as_bytes()),
-        Name::Folded(folded) => {
-            let lower = lowered(alloc, folded)?;
-            text.extend_from_slice(&lower)?;
-            Ok(text)
-        }
-    }
-}
 
 // The columns of a key, each behind an underscore, behind these bytes.
 fn push_columns(
@@ -81,7 +26,7 @@ fn push_columns(
 {
     while let [column, rest @ ..] = columns {
         text.push(b'_')?;
-        text = push_decoded(alloc, text, &column.name)?;
+        text = column.name.push_to(alloc, text)?;
         columns = rest;
     }
     Ok(text)
@@ -91,7 +36,7 @@ fn push_columns(
 fn made_name(alloc: Global, table: &Name, key: &KeyText) -> Result<Vec<u8>, AllocError>
     ensures { IfOk result (λ v. v.items ≡ made_name (name_of table.now) (key_text_of key.now)) }
 {
-    let mut text = push_decoded(alloc, Vec::new(alloc), table)?;
+    let mut text = table.push_to(alloc, Vec::new(alloc))?;
     if key.primary {
         text.extend_from_slice(b"_pkey")?;
         return Ok(text);

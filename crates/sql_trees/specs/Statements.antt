@@ -1,5 +1,5 @@
 -- Trees of statements, without where they lie in memory: names stand decoded.
-use Rattle.std.specs.Prelude.{ℕ, Bool, List, map, Option, option_map}
+use Rattle.std.specs.Prelude.{ℕ, Bool, List, [], ◌∷◌, ◌++◌, codes, map, Option, option_map, if◌then◌else◌}
 use Rattle.std.specs.Global.{Vec}
 use Rattle.iso_lexer.specs.declared.name.Name.{Name}
 use Rattle.iso_lexer.specs.Names.{name_view, decoded}
@@ -26,6 +26,15 @@ use Rattle.sql_trees.specs.Trees.{Tree, AggTree, tree_of, agg_of}
 -- the bytes that a name stands for
 abbrev pub name_of : Name → List ℕ
 name_of n = decoded (name_view n)
+
+-- the names, each behind an underscore
+abbrev pub underscored : List (List ℕ) → List ℕ
+underscored [] = []
+underscored (n ∷ ns) = 95 ∷ (n ++ underscored ns)
+
+-- the name that a key over these columns is given
+abbrev pub key_name : List ℕ → Bool → List (List ℕ) → List ℕ
+key_name table primary columns = table ++ (if primary then codes "_pkey" else underscored columns ++ codes "_key")
 
 pub record ColumnTree : Type 0 where
   pub name : List ℕ

@@ -96,7 +96,7 @@ impl KeyIndex {
         self.noted.retain(|note| note.tx.0 != tx.0);
     }
 
-    /// Whether anybody holds a key of these columns: other open transactions, which it names no one of. It takes no memory.
+    /// Whether other open transactions hold a key of these columns. It doesn't say which, and takes no memory.
     pub fn is_held<V: Versions>(
         &self,
         store: &V,

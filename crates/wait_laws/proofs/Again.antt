@@ -1,8 +1,8 @@
 -- A statement that goes on does so in its view.
 use Rattle.std.proofs.Common.{◌≡◌, refl, subst, List}
-use Rattle.std.specs.Prelude.{Option, Some, None}
+use Rattle.std.specs.Prelude.{Option, Some, None, drop}
 use Rattle.sql_values.specs.declared.value.Value.{Value}
-use Rattle.session_queries.specs.Queries.{titles_of}
+use Rattle.session_queries.specs.Queries.{targets_of, titles_of}
 use Rattle.session_queries.specs.Updates.{set_targets}
 use Rattle.row_versions.specs.Log.{Content}
 use Rattle.session_machine.specs.declared.session.OpenTransaction.{OpenTransaction}
@@ -10,8 +10,8 @@ use Rattle.session_machine.specs.declared.session.Progress.{Progress}
 use Rattle.session_machine.specs.declared.reply.Outcome.{Outcome}
 use Rattle.session_machine.specs.declared.reply.Outcome.TheVariants.{Rows}
 use Rattle.session_machine.specs.Statements.{Around}
-use Rattle.session_machine.specs.Walks.{Stop, Walk, Blocked, Fails, walked_from}
-use Rattle.session_machine.specs.Rows.{columns_in, update_at, delete_at, lock_at, passing_targets, taken_targets}
+use Rattle.session_machine.specs.Walks.{Stop, Walk, Blocked, Fails, walked, walked_from}
+use Rattle.session_machine.specs.Rows.{columns_in, insert_at, update_at, delete_at, lock_at, passing_targets, taken_targets}
 use Rattle.session_machine.specs.Running.{going_on, comes_to, ended, done, assigned_to, lock_again}
 use Rattle.wait_laws.specs.Laws.{IsInViewOf, StatementsGoOnInTheirView}
 
@@ -34,6 +34,7 @@ pub statements_go_on_in_their_view : StatementsGoOnInTheirView
 statements_go_on_in_their_view db t around p q =
     let w = going_on t around p in
     record {
+      inserts = λ i h. stands db.content t around p q done (walked (insert_at w i.table (assigned_to (targets_of (columns_in db w) i.columns))) db p.place p.rows (drop p.place i.rows)) h;
       updates = λ u h. stands db.content t around p q done (walked_from (update_at w u (assigned_to (set_targets (columns_in db w) u.sets))) db p.place p.rows (passing_targets db w u.filter)) h;
       deletes = λ d h. stands db.content t around p q done (walked_from (delete_at w d) db p.place p.rows (passing_targets db w d.filter)) h;
       locks = λ s l is h.

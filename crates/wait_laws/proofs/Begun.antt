@@ -8,7 +8,10 @@ use Rattle.sql_trees.specs.declared.stmt.Level.TheVariants.{ReadCommitted, Repea
 use Rattle.session_queries.specs.Queries.{cols_of, passing, taken}
 use Rattle.row_versions.specs.declared.names.TxId.{TxId}
 use Rattle.row_versions.specs.declared.write.View.{View}
+use Rattle.row_versions.specs.declared.write.Write.{Write}
 use Rattle.row_versions.specs.declared.write.Fate.{Fate}
+use Rattle.row_locks.specs.declared.held.Held.{Held}
+use Rattle.row_locks.specs.Held.{lock_of_write, with_lock}
 use Rattle.row_versions.specs.declared.write.Fate.TheVariants.{RolledBack, Committed, Open as OpenFate}
 use Rattle.row_versions.specs.Log.{IsOpen, commit_count, after_write, after_commit, after_roll_back}
 use Rattle.row_versions.proofs.Gets.{get-append_left, get-append_last}
@@ -34,7 +37,7 @@ use Rattle.wait_laws.proofs.Doing.{Keeps, Ran, doer, start, Allows}
 use Rattle.wait_laws.proofs.Events.{session_there, ok_is, ok_else, stepped, after, left_as, Rests, Moved, moved, always}
 use Rattle.wait_laws.proofs.Staying.{Stays, stays_here, stays_on, stays-write, stays-begin, stays-roll_back, stays-commit, shown_stays, count-begin}
 use Rattle.wait_laws.proofs.Snapshots.{Has, shot_stmt}
-use Rattle.wait_laws.proofs.Cycles.{IsOrderly, orderly_next, orderly_opening, open_tx, no_other}
+use Rattle.wait_laws.proofs.Cycles.{IsOrderly, orderly_next, orderly_opening, no_other}
 
 -- what a transaction does leaves of others: what a view shows, their fates, and the tables that are there
 pub record Stands (x : TxId) (view : View) (db e : Database) : Type 0 where
@@ -57,18 +60,23 @@ set_fate fates x f n ne h = slice_get-set_other fates x.0 n f ne ∙ h
 left_some : {A : Type 0} (xs : List A) (y : A) (k : ℕ) (z : A) → slice_get xs k ≡ Some z → slice_get (xs ++ y ∷ []) k ≡ Some z
 left_some xs y k z h = get-append_left xs (y ∷ []) k (slice_get_within xs k z h) ∙ h
 
+stands_write : (x : TxId) (view : View) (db : Database) → IsForeign x view db → (d : Database) (w : Write) → w.tx ≡ x → Works x view db d → (held : List Held)
+    → Works x view db (record d { content = after_write d.content w; held = held })
+stands_write x view db foreign d w own p held = record {
+  all = record {
+    stays = stays_on view db.content d.content (after_write d.content w) p.all.stays
+        (stays-write view d.content w (subst (IsOpen d.content) (sym own) p.mine) (λ e. foreign.other (e ∙ ap Some own)));
+    others = p.all.others;
+    tables = p.all.tables;
+  };
+  mine = p.mine;
+}
+
 stands_keeps : (x : TxId) (view : View) (db : Database) → IsForeign x view db → Keeps x (Works x view db) (Stands x view db)
 stands_keeps x view db foreign = record {
-  lock = λ d h own p. record { all = record { stays = p.all.stays; others = p.all.others; tables = p.all.tables }; mine = p.mine };
-  write = λ d w own held p. record {
-    all = record {
-      stays = stays_on view db.content d.content (after_write d.content w) p.all.stays
-          (stays-write view d.content w (subst (IsOpen d.content) (sym own) p.mine) (λ e. foreign.other (e ∙ ap Some own)));
-      others = p.all.others;
-      tables = p.all.tables;
-    };
-    mine = p.mine;
-  };
+  lock = λ d h own may p. record { all = record { stays = p.all.stays; others = p.all.others; tables = p.all.tables }; mine = p.mine };
+  insert = λ d w own made p. stands_write x view db foreign d w own p (with_lock d.held (lock_of_write w));
+  write = λ d w own held p. stands_write x view db foreign d w own p d.held;
   create = λ d made p. record {
     all = record { stays = p.all.stays; others = p.all.others; tables = λ k t h. left_some d.catalog.tables (record { made = made; by = x }) k t (p.all.tables k t h) };
     mine = p.mine;
@@ -110,7 +118,6 @@ IsOwn x db view = (view.tx ≡ Some x) × (view.commits ≤ commit_count db.cont
 -- what holds of the transactions and the waits of every state
 pub record IsBegun (m : Machine) : Type 0 where
   pub orderly : IsOrderly m
-  pub opened : (i n : ℕ) → tx_of (slice_get m.sessions i) ≡ Some n → slice_get m.db.content.fates n ≡ Some OpenFate
   pub shots : (i : ℕ) (s : Session) → slice_get m.sessions i ≡ Some s → (t : OpenTransaction) → s.transaction ≡ Open t → Has (commit_count m.db.content) t
   pub views : (i : ℕ) (s : Session) (p : Progress) → slice_get m.sessions i ≡ Some s → s.statement ≡ Some p
       → (t : OpenTransaction) × (s.transaction ≡ Open t) × IsOwn t.tx m.db p.view
@@ -148,7 +155,7 @@ moved_with : (view : View) (blocks : Blocks) (mode : Mode) (m : Machine) (event 
 moved_with view blocks mode m event s n old at foreign h =
     let x = doer m.db s.transaction in
     moved (Works x view m.db) (Stands x view m.db) (IsOwn x m.db) blocks mode m event s n at (stands_keeps x view m.db foreign) (allows_own m (session_of event) s old at)
-    (works_start view m.db s.transaction (λ q f. old.opened (session_of event) q (ap tx_of at ∙ f))) h
+    (works_start view m.db s.transaction (λ q f. old.orderly.opened (session_of event) q (ap tx_of at ∙ f))) h
 
 stands_same : (x : TxId) (view : View) (db e : Database) → e ≡ db → Stands x view db e
 stands_same x view db e same = subst (Stands x view db) (sym same) (record { stays = stays_here view db.content; others = λ n ne k. k; tables = λ k made f. f })
@@ -202,16 +209,11 @@ shot_next blocks mode m (Step i) s n at has h v there t is =
       | inr w ↦ absurd (closed_not t (sym w.3 ∙ open_now))
     ]
 
-doer_number : (db : Database) (tr : Transaction) → (tx_in tr ≡ Some (doer db tr).0) ⊎ ((doer db tr).0 ≡ length db.content.fates)
-doer_number db Closed = inr refl
-doer_number db Aborted = inr refl
-doer_number db (Open t) = inl refl
-
 begun_with : (m : Machine) (i : ℕ) (s : Session) (view : View) (e : Database) (u : Session) → IsBegun m → slice_get m.sessions i ≡ Some s
     → Rests m s e u ⊎ Ran (doer m.db s.transaction) (Works (doer m.db s.transaction) view m.db) (Stands (doer m.db s.transaction) view m.db) (IsOwn (doer m.db s.transaction) m.db)
     (around m i s).sessions (left_as e u)
     → IsOrderly (with_session m e i u) → ((t : OpenTransaction) → u.transaction ≡ Open t → Has (commit_count m.db.content) t) → IsBegun (with_session m e i u)
-begun_with m i s view e u old at did orderly shot = record { orderly = orderly; opened = opened; shots = shots; views = views } where
+begun_with m i s view e u old at did orderly shot = record { orderly = orderly; shots = shots; views = views } where
   x : TxId
   x = doer m.db s.transaction
 
@@ -226,29 +228,6 @@ begun_with m i s view e u old at did orderly shot = record { orderly = orderly; 
 
   there : (j : ℕ) → (j ≡ i → ⊥) → slice_get (set m.sessions i u) j ≡ slice_get m.sessions j
   there j ne = slice_get-set_other m.sessions i j u ne
-
-  u_open : (n : ℕ) → tx_in u.transaction ≡ Some n → slice_get e.content.fates n ≡ Some OpenFate
-  u_open n h =
-      let o = open_tx u.transaction n h in
-      elim did [
-        | inl r ↦ subst (λ (d : Database). slice_get d.content.fates n ≡ Some OpenFate) (sym r.same)
-            (old.opened i n (ap tx_of at ∙ (ap tx_in (r.its o.0 o.1) ∙ ap Some o.2)))
-        | inr r ↦ let own = r.own o.0 o.1 in subst (λ k. slice_get e.content.fates k ≡ Some OpenFate) (ap (λ (y : TxId). y.0) (sym own.0) ∙ o.2) own.1.mine
-      ]
-
-  other : (j n : ℕ) → (j ≡ i → ⊥) → tx_of (slice_get m.sessions j) ≡ Some n → n ≡ x.0 → ⊥
-  other j n ne h is =
-      ⊎_elim
-      (λ f. ne (old.orderly.sessions.apart j i n h (ap tx_of at ∙ (f ∙ ap Some (sym is)))))
-      (λ (f : x.0 ≡ length m.db.content.fates). let l = old.orderly.sessions.known j n h in let z : ⊥ = omega arith in z)
-      (doer_number m.db s.transaction)
-
-  opened : (j n : ℕ) → tx_of (slice_get (set m.sessions i u) j) ≡ Some n → slice_get e.content.fates n ≡ Some OpenFate
-  opened j n h =
-      ⊎_elim
-      (λ is. u_open n (ap tx_of (sym (ap (slice_get (set m.sessions i u)) is ∙ slice_get-set_same m.sessions i u (slice_get_within m.sessions i s at))) ∙ h))
-      (λ ne. let o : tx_of (slice_get m.sessions j) ≡ Some n = ap tx_of (sym (there j ne)) ∙ h in stands.others n (other j n ne o) (old.opened j n o))
-      (cases_eq j i)
 
   shots : (j : ℕ) (v : Session) → slice_get (set m.sessions i u) j ≡ Some v → (t : OpenTransaction) → v.transaction ≡ Open t → Has (commit_count e.content) t
   shots j v h t is k f =
@@ -295,11 +274,6 @@ begun_next blocks mode m event n old h =
     (begun_with m i s nobody k.e k.u old there.1 k.did (subst IsOrderly k.is (orderly_next blocks mode m event n old.orderly h))
     (shot_next blocks mode m event s n there.1 (old.shots i s there.1) h k.u at))
 
-rest_tx : (count i n : ℕ) → tx_of (slice_get (replicate count at_rest) i) ≡ Some n → ⊥
-rest_tx zero i n h = cc
-rest_tx (suc count) zero n h = cc
-rest_tx (suc count) (suc i) n h = rest_tx count i n h
-
 no_session : (s : Session) → None ≡ Some s → ⊥
 no_session s h = cc
 
@@ -311,7 +285,6 @@ rest_is (suc count) (suc i) s h = rest_is count i s h
 begun_opening : (count : ℕ) → IsBegun (opening count)
 begun_opening count = record {
   orderly = orderly_opening count;
-  opened = λ i n h. absurd (rest_tx (count + 1) i n h);
   shots = λ i s h t f. absurd (closed_not t (ap (λ (y : Session). y.transaction) (sym (rest_is (count + 1) i s h)) ∙ f));
   views = λ i s p h f. absurd (none_not p (ap (λ (y : Session). y.statement) (sym (rest_is (count + 1) i s h)) ∙ f));
 }

@@ -5,32 +5,39 @@ use Rattle.std.proofs.lemmas.Bool.{cases_eq}
 use Rattle.std.proofs.lemmas.Option.{slice_get_within}
 use Rattle.row_versions.specs.declared.names.TxId.{TxId}
 use Rattle.row_versions.specs.declared.names.RowId.{RowId}
-use Rattle.row_versions.specs.declared.write.Fate.TheVariants.{Open as OpenFate}
+use Rattle.row_versions.specs.declared.write.Write.{Write}
+use Rattle.row_versions.specs.declared.write.Fate.{Fate}
+use Rattle.row_versions.specs.declared.write.Fate.TheVariants.{RolledBack, Committed, Open as OpenFate}
+use Rattle.row_versions.specs.Log.{IsOpen, commit_count, after_write}
+use Rattle.row_versions.proofs.Gets.{get-append_left}
 use Rattle.row_locks.specs.declared.held.Strength.{Strength}
 use Rattle.row_locks.specs.declared.held.Held.{Held}
 use Rattle.row_locks.specs.Members.{has, same_tx}
-use Rattle.row_locks.specs.Held.{is_against, holders_against, released, with_lock}
+use Rattle.row_locks.specs.Held.{is_against, holders_against, lock_of_write, released, with_lock}
 use Rattle.row_locks.specs.Cycles.{blocks, NoCycle, closes}
 use Rattle.row_locks.proofs.Paths.{run_kept, wait_kept, no_cycle_less}
 use Rattle.row_locks.proofs.Reaching.{or_cases, or_left, or_right, is_same, same_is}
 use Rattle.row_locks.proofs.Waiting.{bool_is, closes_says, walk_ends}
 use Rattle.session_machine.specs.declared.session.OpenTransaction.{OpenTransaction}
 use Rattle.session_machine.specs.declared.session.Request.{Request}
-use Rattle.session_machine.specs.declared.session.Request.TheVariants.{Row}
+use Rattle.session_machine.specs.declared.session.Request.TheVariants.{Row, Key}
 use Rattle.session_machine.specs.declared.session.Transaction.{Transaction}
 use Rattle.session_machine.specs.declared.session.Transaction.TheVariants.{Closed, Open, Aborted}
 use Rattle.session_machine.specs.declared.session.Progress.{Progress}
 use Rattle.session_machine.specs.declared.session.Session.{Session}
 use Rattle.session_machine.specs.declared.event.Event.{Event}
 use Rattle.session_machine.specs.declared.event.Mode.{Mode}
-use Rattle.session_machine.specs.Tables.{Database}
-use Rattle.session_machine.specs.Transactions.{begun}
+use Rattle.session_machine.specs.Tables.{Catalog, Database}
+use Rattle.session_machine.specs.Transactions.{begun, committed, rolled_back}
+use Rattle.session_machine.specs.Statements.{with_table, with_drop}
 use Rattle.session_machine.specs.Waits.{blockers, waits_in}
 use Rattle.session_machine.specs.Machine.{Machine, Blocks, Next, next, opening, around, at_rest, empty_database}
 use Rattle.session_machine.specs.Sound.{tx_in, tx_of}
-use Rattle.wait_laws.specs.Laws.{session_of, NoCycleOfWaits}
+use Rattle.wait_laws.specs.Laws.{session_of, Reaches, NoCycleOfWaits}
 use Rattle.wait_laws.proofs.Lists.{slice_get-set_same, slice_get-set_other}
 use Rattle.wait_laws.proofs.Doing.{Keeps, Ran, doer, start, Allows}
+use Rattle.wait_laws.proofs.KeyBlockers.{less_written, less_begun, less_rolled_back, less_committed}
+use Rattle.wait_laws.proofs.Exclusion.{AreHeld, AreHeldBy, held_keeps, held_start, writes_apart}
 use Rattle.wait_laws.proofs.Events.{session_there, left_as, Rests, Moved, moved, always}
 use Rattle.wait_laws.proofs.Edges.{Edge, edge_from, edge_to}
 
@@ -39,11 +46,21 @@ pub record IsApart (db : Database) (ss : List Session) : Type 0 where
   pub known : (i n : ℕ) → tx_of (slice_get ss i) ≡ Some n → n < length db.content.fates
   pub apart : (i j n : ℕ) → tx_of (slice_get ss i) ≡ Some n → tx_of (slice_get ss j) ≡ Some n → i ≡ j
 
--- the transaction alone may stand against more requests
+-- the transaction alone may end, and may stand against more requests
 pub record Adds (x : TxId) (db e : Database) : Type 0 where
   pub long : length db.content.fates ≤ length e.content.fates
   pub begun : x.0 < length e.content.fates
+  pub others : (n : ℕ) → (n ≡ x.0 → ⊥) → slice_get db.content.fates n ≡ Some OpenFate → slice_get e.content.fates n ≡ Some OpenFate
+  pub rows : AreHeld e
   pub against : (r : Request) (tx u : TxId) → (u ≡ x → ⊥) → has (blockers e r tx) u ≡ true → has (blockers db r tx) u ≡ true
+
+-- while it is at work it is open
+pub record AddsBy (x : TxId) (db e : Database) : Type 0 where
+  pub mine : IsOpen e.content x
+  pub all : Adds x db e
+
+abbrev by_rows : {x : TxId} {db e : Database} → AddsBy x db e → AreHeldBy x e
+by_rows p = record { mine = p.mine; all = p.all.rows }
 
 -- a lock more
 against_more : (held : List Held) (h : Held) (row : RowId) (tx : TxId) (strength : Strength) (u : TxId) → (u ≡ h.tx → ⊥)
@@ -85,38 +102,80 @@ against_fewer (g ∷ held) x row tx strength u e = keep (against_fewer held x ro
   keep on true k = at on (is_against row tx strength g) k
   keep on false k = later (is_against row tx strength g) (on k)
 
-adds_keeps : (x : TxId) (db : Database) → Keeps x (Adds x db) (Adds x db)
+locked : (x : TxId) (d : Database) (h : Held) → h.tx ≡ x → (r : Request) (tx u : TxId) → (u ≡ x → ⊥) → has (blockers (record d { held = with_lock d.held h }) r tx) u ≡ true
+    → has (blockers d r tx) u ≡ true
+locked x d h own (Row row strength) tx u ne e = against_more d.held h row tx strength u (λ k. ne (k ∙ own)) e
+locked x d h own (Key k) tx u ne e = e
+
+wrote : (x : TxId) (d : Database) (w : Write) → w.tx ≡ x → IsOpen d.content x → (r : Request) (tx u : TxId) → (u ≡ x → ⊥) → has (blockers (record d { content = after_write d.content w }) r tx) u ≡ true
+    → has (blockers d r tx) u ≡ true
+wrote x d w own mine (Row row strength) tx u ne e = e
+wrote x d w own mine (Key k) tx u ne e = less_written d.content w k tx u (subst (IsOpen d.content) (sym own) mine) (λ f. ne (f ∙ own)) e
+
+made : (x : TxId) (d : Database) (w : Write) → w.tx ≡ x → IsOpen d.content x → (r : Request) (tx u : TxId) → (u ≡ x → ⊥)
+    → has (blockers (record d { content = after_write d.content w; held = with_lock d.held (lock_of_write w) }) r tx) u ≡ true → has (blockers d r tx) u ≡ true
+made x d w own mine (Row row strength) tx u ne e = against_more d.held (lock_of_write w) row tx strength u (λ k. ne (k ∙ own)) e
+made x d w own mine (Key k) tx u ne e = less_written d.content w k tx u (subst (IsOpen d.content) (sym own) mine) (λ f. ne (f ∙ own)) e
+
+same_rows : (d : Database) (catalog : Catalog) (r : Request) (tx u : TxId) → has (blockers (record d { catalog = catalog }) r tx) u ≡ true → has (blockers d r tx) u ≡ true
+same_rows d catalog (Row row strength) tx u e = e
+same_rows d catalog (Key k) tx u e = e
+
+committed_less : (x : TxId) (d : Database) → AreHeldBy x d → (r : Request) (tx u : TxId) → (u ≡ x → ⊥) → has (blockers (committed d x) r tx) u ≡ true → has (blockers d r tx) u ≡ true
+committed_less x d p (Row row strength) tx u ne e = against_fewer d.held x row tx strength u e
+committed_less x d p (Key k) tx u ne e = less_committed d.content x k tx u p.mine (writes_apart d p.all) ne e
+
+rolled_back_less : (x : TxId) (d : Database) → IsOpen d.content x → (r : Request) (tx u : TxId) → (u ≡ x → ⊥) → has (blockers (rolled_back d x) r tx) u ≡ true → has (blockers d r tx) u ≡ true
+rolled_back_less x d mine (Row row strength) tx u ne e = against_fewer d.held x row tx strength u e
+rolled_back_less x d mine (Key k) tx u ne e = less_rolled_back d.content x k tx u mine ne e
+
+set_fate : (fates : List Fate) (x : TxId) (f : Fate) (n : ℕ) → (n ≡ x.0 → ⊥) → slice_get fates n ≡ Some OpenFate → slice_get (set fates x.0 f) n ≡ Some OpenFate
+set_fate fates x f n ne h = slice_get-set_other fates x.0 n f ne ∙ h
+
+adds_keeps : (x : TxId) (db : Database) → Keeps x (AddsBy x db) (Adds x db)
 adds_keeps x db = record {
-  lock = λ d h own p. record {
-    long = p.long;
-    begun = p.begun;
-    against = λ r tx u ne e. p.against r tx u ne (locked d h own r tx u ne e);
+  lock = λ d h own may p. let k = (held_keeps x).lock d h own may (by_rows p) in record {
+    mine = p.mine;
+    all = record { long = p.all.long; begun = p.all.begun; others = p.all.others; rows = k.all; against = λ r tx u ne e. p.all.against r tx u ne (locked x d h own r tx u ne e) };
   };
-  write = λ d w own held p. record { long = p.long; begun = p.begun; against = p.against };
-  create = λ d made p. record { long = p.long; begun = p.begun; against = p.against };
-  drop = λ d k p. record { long = p.long; begun = p.begun; against = p.against };
+  insert = λ d w own new p. let k = (held_keeps x).insert d w own new (by_rows p) in record {
+    mine = p.mine;
+    all = record { long = p.all.long; begun = p.all.begun; others = p.all.others; rows = k.all; against = λ r tx u ne e. p.all.against r tx u ne (made x d w own p.mine r tx u ne e) };
+  };
+  write = λ d w own held p. let k = (held_keeps x).write d w own held (by_rows p) in record {
+    mine = p.mine;
+    all = record { long = p.all.long; begun = p.all.begun; others = p.all.others; rows = k.all; against = λ r tx u ne e. p.all.against r tx u ne (wrote x d w own p.mine r tx u ne e) };
+  };
+  create = λ d table p. let k = (held_keeps x).create d table (by_rows p) in record {
+    mine = p.mine;
+    all = record { long = p.all.long; begun = p.all.begun; others = p.all.others; rows = k.all; against = λ r tx u ne e. p.all.against r tx u ne (same_rows d (with_table d.catalog table x) r tx u e) };
+  };
+  drop = λ d table p. let k = (held_keeps x).drop d table (by_rows p) in record {
+    mine = p.mine;
+    all = record { long = p.all.long; begun = p.all.begun; others = p.all.others; rows = k.all; against = λ r tx u ne e. p.all.against r tx u ne (same_rows d (with_drop d.catalog table x) r tx u e) };
+  };
   commit = λ d p. record {
-    long = rw length-set (p.long);
-    begun = rw length-set (p.begun);
-    against = λ r tx u ne e. p.against r tx u ne (freed d r tx u e);
+    long = rw length-set (p.all.long);
+    begun = rw length-set (p.all.begun);
+    others = λ n ne h. set_fate d.content.fates x (Committed (commit_count d.content)) n ne (p.all.others n ne h);
+    rows = (held_keeps x).commit d (by_rows p);
+    against = λ r tx u ne e. p.all.against r tx u ne (committed_less x d (by_rows p) r tx u ne e);
   };
   roll_back = λ d p. record {
-    long = rw length-set (p.long);
-    begun = rw length-set (p.begun);
-    against = λ r tx u ne e. p.against r tx u ne (freed d r tx u e);
+    long = rw length-set (p.all.long);
+    begun = rw length-set (p.all.begun);
+    others = λ n ne h. set_fate d.content.fates x RolledBack n ne (p.all.others n ne h);
+    rows = (held_keeps x).roll_back d (by_rows p);
+    against = λ r tx u ne e. p.all.against r tx u ne (rolled_back_less x d p.mine r tx u ne e);
   };
-  rest = λ d p. p;
-} where
-  locked : (d : Database) (h : Held) → h.tx ≡ x → (r : Request) (tx u : TxId) → (u ≡ x → ⊥) → has (blockers (record d { held = with_lock d.held h }) r tx) u ≡ true
-      → has (blockers d r tx) u ≡ true
-  locked d h own (Row row strength) tx u ne e = against_more d.held h row tx strength u (λ k. ne (k ∙ own)) e
-
-  freed : (d : Database) (r : Request) (tx u : TxId) → has (blockers (record d { held = released x d.held }) r tx) u ≡ true → has (blockers d r tx) u ≡ true
-  freed d (Row row strength) tx u e = against_fewer d.held x row tx strength u e
+  rest = λ d p. p.all;
+}
 
 -- what holds of the waits of every state
 pub record IsOrderly (m : Machine) : Type 0 where
   pub sessions : IsApart m.db m.sessions
+  pub opened : (i n : ℕ) → tx_of (slice_get m.sessions i) ≡ Some n → slice_get m.db.content.fates n ≡ Some OpenFate
+  pub rows : AreHeld m.db
   pub free : NoCycle (blocks (waits_in m.db m.sessions))
 
 no_session : (s : Session) → None ≡ Some s → ⊥
@@ -212,27 +271,40 @@ allows_all db (Open t) None = tt
 allows_all db (Open t) (Some p) = (tt, tt)
 
 -- at its start nothing was added
-adds_start : (db : Database) (tr : Transaction) → ((n : ℕ) → tx_in tr ≡ Some n → n < length db.content.fates) → Adds (doer db tr) db (start db tr)
-adds_start db Closed known = record {
-  long = rw (length-append db.content.fates (OpenFate ∷ [])) (omega arith);
-  begun = rw (length-append db.content.fates (OpenFate ∷ [])) (omega arith);
-  against = λ r tx u ne e. same r tx u e;
-} where
-  same : (r : Request) (tx u : TxId) → has (blockers (begun db) r tx) u ≡ true → has (blockers db r tx) u ≡ true
-  same (Row row strength) tx u e = e
-adds_start db Aborted known = record {
-  long = rw (length-append db.content.fates (OpenFate ∷ [])) (omega arith);
-  begun = rw (length-append db.content.fates (OpenFate ∷ [])) (omega arith);
-  against = λ r tx u ne e. same r tx u e;
-} where
-  same : (r : Request) (tx u : TxId) → has (blockers (begun db) r tx) u ≡ true → has (blockers db r tx) u ≡ true
-  same (Row row strength) tx u e = e
-adds_start db (Open t) known = record { long = omega arith; begun = known t.tx.0 refl; against = λ r tx u ne e. e }
+same_begun : (db : Database) → AreHeld db → (r : Request) (tx u : TxId) → has (blockers (begun db) r tx) u ≡ true → has (blockers db r tx) u ≡ true
+same_begun db rows (Row row strength) tx u e = e
+same_begun db rows (Key k) tx u e = less_begun db.content k tx u rows.known e
+
+adds_begun : (db : Database) → AreHeld db → AreHeldBy (record { 0 = length db.content.fates }) (begun db) → AddsBy (record { 0 = length db.content.fates }) db (begun db)
+adds_begun db rows there = record {
+  mine = there.mine;
+  all = record {
+    long = rw (length-append db.content.fates (OpenFate ∷ [])) (omega arith);
+    begun = rw (length-append db.content.fates (OpenFate ∷ [])) (omega arith);
+    others = λ n ne h. get-append_left db.content.fates (OpenFate ∷ []) n (slice_get_within db.content.fates n OpenFate h) ∙ h;
+    rows = there.all;
+    against = λ r tx u ne e. same_begun db rows r tx u e;
+  };
+}
+
+adds_start : (db : Database) (tr : Transaction) → ((n : ℕ) → tx_in tr ≡ Some n → slice_get db.content.fates n ≡ Some OpenFate) → AreHeld db → AddsBy (doer db tr) db (start db tr)
+adds_start db Closed opened rows = adds_begun db rows (held_start db Closed opened rows)
+adds_start db Aborted opened rows = adds_begun db rows (held_start db Aborted opened rows)
+adds_start db (Open t) opened rows = record {
+  mine = opened t.tx.0 refl;
+  all = record {
+    long = omega arith;
+    begun = slice_get_within db.content.fates t.tx.0 OpenFate (opened t.tx.0 refl);
+    others = λ n ne h. h;
+    rows = rows;
+    against = λ r tx u ne e. e;
+  };
+}
 
 pub apart_moved : (m : Machine) (i : ℕ) (s : Session) (after : Machine) → IsApart m.db m.sessions → slice_get m.sessions i ≡ Some s
-    → Moved (Adds (doer m.db s.transaction) m.db) (Adds (doer m.db s.transaction) m.db) (λ v. Unit {0}) m i s after → IsApart after.db after.sessions
+    → Moved (AddsBy (doer m.db s.transaction) m.db) (Adds (doer m.db s.transaction) m.db) (λ v. Unit {0}) m i s after → IsApart after.db after.sessions
 apart_moved m i s after old at k = subst (λ (y : Machine). IsApart y.db y.sessions) (sym k.is) (by k.did) where
-  by : Rests m s k.e k.u ⊎ Ran (doer m.db s.transaction) (Adds (doer m.db s.transaction) m.db) (Adds (doer m.db s.transaction) m.db) (λ v. Unit {0}) (around m i s).sessions (left_as k.e k.u)
+  by : Rests m s k.e k.u ⊎ Ran (doer m.db s.transaction) (AddsBy (doer m.db s.transaction) m.db) (Adds (doer m.db s.transaction) m.db) (λ v. Unit {0}) (around m i s).sessions (left_as k.e k.u)
       → IsApart k.e (set m.sessions i k.u)
   by (inl r) =
       let same : length m.db.content.fates ≡ length k.e.content.fates = ap (λ (d : Database). length d.content.fates) (sym r.same) in
@@ -267,7 +339,7 @@ no_other m i j s v t old at ne there is own =
     (doer_is m.db s.transaction t own)
 
 free_moved : (m : Machine) (i : ℕ) (s : Session) (after : Machine) → IsOrderly m → slice_get m.sessions i ≡ Some s
-    → Moved (Adds (doer m.db s.transaction) m.db) (Adds (doer m.db s.transaction) m.db) (λ v. Unit {0}) m i s after → NoCycle (blocks (waits_in after.db after.sessions))
+    → Moved (AddsBy (doer m.db s.transaction) m.db) (Adds (doer m.db s.transaction) m.db) (λ v. Unit {0}) m i s after → NoCycle (blocks (waits_in after.db after.sessions))
 free_moved m i s after old at k = subst (λ (y : Machine). NoCycle (blocks (waits_in y.db y.sessions))) (sym k.is) (by k.did) where
   x : TxId
   x = doer m.db s.transaction
@@ -278,7 +350,7 @@ free_moved m i s after old at k = subst (λ (y : Machine). NoCycle (blocks (wait
   before : List Session
   before = set m.sessions i idle
 
-  by : Rests m s k.e k.u ⊎ Ran x (Adds x m.db) (Adds x m.db) (λ v. Unit {0}) before (left_as k.e k.u) → NoCycle (blocks (waits_in k.e (set m.sessions i k.u)))
+  by : Rests m s k.e k.u ⊎ Ran x (AddsBy x m.db) (Adds x m.db) (λ v. Unit {0}) before (left_as k.e k.u) → NoCycle (blocks (waits_in k.e (set m.sessions i k.u)))
   by (inl r) =
       subst (λ (d : Database). NoCycle (blocks (waits_in d (set m.sessions i k.u)))) (sym r.same)
       (free_without m.db m.sessions i s k.u at r.over old.free)
@@ -335,16 +407,68 @@ free_moved m i s after old at k = subst (λ (y : Machine). NoCycle (blocks (wait
         (λ c. false_true (closes (waits_in k.e before) x bs) refused.free ((closes_says (waits_in k.e before) x bs).1 c))
         nobody
 
+doer_number : (db : Database) (tr : Transaction) → (tx_in tr ≡ Some (doer db tr).0) ⊎ ((doer db tr).0 ≡ length db.content.fates)
+doer_number db Closed = inr refl
+doer_number db Aborted = inr refl
+doer_number db (Open t) = inl refl
+
+-- the transactions of sessions stay open
+opened_moved : (m : Machine) (i : ℕ) (s : Session) (after : Machine) → IsOrderly m → slice_get m.sessions i ≡ Some s
+    → Moved (AddsBy (doer m.db s.transaction) m.db) (Adds (doer m.db s.transaction) m.db) (λ v. Unit {0}) m i s after
+    → (j n : ℕ) → tx_of (slice_get after.sessions j) ≡ Some n → slice_get after.db.content.fates n ≡ Some OpenFate
+opened_moved m i s after old at k = subst (λ (y : Machine). (j n : ℕ) → tx_of (slice_get y.sessions j) ≡ Some n → slice_get y.db.content.fates n ≡ Some OpenFate) (sym k.is) opened where
+  x : TxId
+  x = doer m.db s.transaction
+
+  others : (n : ℕ) → (n ≡ x.0 → ⊥) → slice_get m.db.content.fates n ≡ Some OpenFate → slice_get k.e.content.fates n ≡ Some OpenFate
+  others n ne h = elim k.did [
+    | inl r ↦ subst (λ (d : Database). slice_get d.content.fates n ≡ Some OpenFate) (sym r.same) h
+    | inr r ↦ r.db.others n ne h
+  ]
+
+  u_open : (n : ℕ) → tx_in k.u.transaction ≡ Some n → slice_get k.e.content.fates n ≡ Some OpenFate
+  u_open n h =
+      let o = open_tx k.u.transaction n h in
+      elim k.did [
+        | inl r ↦ subst (λ (d : Database). slice_get d.content.fates n ≡ Some OpenFate) (sym r.same)
+            (old.opened i n (ap tx_of at ∙ (ap tx_in (r.its o.0 o.1) ∙ ap Some o.2)))
+        | inr r ↦ let own = r.own o.0 o.1 in subst (λ q. slice_get k.e.content.fates q ≡ Some OpenFate) (ap (λ (y : TxId). y.0) (sym own.0) ∙ o.2) own.1.mine
+      ]
+
+  other : (j n : ℕ) → (j ≡ i → ⊥) → tx_of (slice_get m.sessions j) ≡ Some n → n ≡ x.0 → ⊥
+  other j n ne h is =
+      ⊎_elim
+      (λ f. ne (old.sessions.apart j i n h (ap tx_of at ∙ (f ∙ ap Some (sym is)))))
+      (λ (f : x.0 ≡ length m.db.content.fates). let l = old.sessions.known j n h in let z : ⊥ = omega arith in z)
+      (doer_number m.db s.transaction)
+
+  opened : (j n : ℕ) → tx_of (slice_get (set m.sessions i k.u) j) ≡ Some n → slice_get k.e.content.fates n ≡ Some OpenFate
+  opened j n h =
+      ⊎_elim
+      (λ is. u_open n (ap tx_of (sym (ap (slice_get (set m.sessions i k.u)) is ∙ slice_get-set_same m.sessions i k.u (slice_get_within m.sessions i s at))) ∙ h))
+      (λ ne. let o : tx_of (slice_get m.sessions j) ≡ Some n = ap tx_of (sym (slice_get-set_other m.sessions i j k.u ne)) ∙ h in others n (other j n ne o) (old.opened j n o))
+      (cases_eq j i)
+
+rows_moved : (m : Machine) (i : ℕ) (s : Session) (after : Machine) → AreHeld m.db
+    → Moved (AddsBy (doer m.db s.transaction) m.db) (Adds (doer m.db s.transaction) m.db) (λ v. Unit {0}) m i s after → AreHeld after.db
+rows_moved m i s after old k = subst (λ (y : Machine). AreHeld y.db) (sym k.is) (by k.did) where
+  by : Rests m s k.e k.u ⊎ Ran (doer m.db s.transaction) (AddsBy (doer m.db s.transaction) m.db) (Adds (doer m.db s.transaction) m.db) (λ v. Unit {0}) (around m i s).sessions (left_as k.e k.u)
+      → AreHeld k.e
+  by (inl r) = subst AreHeld (sym r.same) old
+  by (inr r) = r.db.rows
+
 pub orderly_next : (blocks : Blocks) (mode : Mode) (m : Machine) (event : Event) (n : Next) → IsOrderly m → next blocks mode m event ≡ Ok n → IsOrderly n.machine
 orderly_next blocks mode m event n old h =
     let there = session_there blocks mode m event n h in
     let s = there.0 in
     let x = doer m.db s.transaction in
     let i = session_of event in
-    let k = moved (Adds x m.db) (Adds x m.db) (λ v. Unit {0}) blocks mode m event s n there.1 (adds_keeps x m.db) (allows_all m.db s.transaction s.statement)
-    (adds_start m.db s.transaction (λ q f. old.sessions.known i q (ap tx_of there.1 ∙ f))) h in
+    let k = moved (AddsBy x m.db) (Adds x m.db) (λ v. Unit {0}) blocks mode m event s n there.1 (adds_keeps x m.db) (allows_all m.db s.transaction s.statement)
+    (adds_start m.db s.transaction (λ q f. old.opened i q (ap tx_of there.1 ∙ f)) old.rows) h in
     record {
       sessions = apart_moved m i s n.machine old.sessions there.1 k;
+      opened = opened_moved m i s n.machine old there.1 k;
+      rows = rows_moved m i s n.machine old.rows k;
       free = free_moved m i s n.machine old there.1 k;
     }
 
@@ -361,10 +485,16 @@ rest_edge (suc count) (suc j) s a b h e = rest_edge count j s a b h e
 pub orderly_opening : (count : ℕ) → IsOrderly (opening count)
 orderly_opening count = record {
   sessions = record { known = λ i n h. absurd (rest_tx (count + 1) i n h); apart = λ i j n h k. absurd (rest_tx (count + 1) i n h) };
+  opened = λ i n h. absurd (rest_tx (count + 1) i n h);
+  rows = record { known = λ k v e. cc; held = λ k v e o. cc; rows = λ k v e. cc; locks = λ h e. cc; apart = λ row a b s t ne e k. cc };
   free = λ a b e l. let w = edge_from empty_database (replicate (count + 1) at_rest) a b e in rest_edge (count + 1) w.0 w.1 a b w.2 w.3;
 }
 
+-- every state is orderly
+pub orderly_there : (given : Blocks) (mode : Mode) (count : ℕ) (m : Machine) → Reaches given mode count m → IsOrderly m
+orderly_there given mode count m reached = always IsOrderly given mode (orderly_next given mode) reached.0 (opening count) m (orderly_opening count) reached.1
+
 pub no_cycle_of_waits : NoCycleOfWaits
 no_cycle_of_waits given mode count m reached =
-    let o = always IsOrderly given mode (orderly_next given mode) reached.0 (opening count) m (orderly_opening count) reached.1 in
+    let o = orderly_there given mode count m reached in
     (o.free, walk_ends (waits_in m.db m.sessions) o.free)

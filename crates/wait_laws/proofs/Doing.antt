@@ -1,30 +1,33 @@
 -- What a statement does, step by step: it takes locks, writes rows that it holds, makes and drops tables, and ends; and where it waits, its wait closes no cycle.
-use Rattle.std.proofs.Common.{◌≡◌, refl, sym, ◌∙◌, ap, subst, ◌⊎◌, inl, inr, Bool, true, false, not, ℕ, ◌+◌, List, [], ◌∷◌, ◌++◌}
-use Rattle.std.specs.Prelude.{ℤ, Option, Some, None, drop, unwrap_or, Result, Ok, Err, if◌then◌else◌}
+use Rattle.std.proofs.Common.{◌≡◌, refl, sym, ◌∙◌, ap, subst, ◌⊎◌, inl, inr, Bool, true, false, not, ◌||◌, ◌==◌, ℕ, zero, suc, ◌+◌, List, [], ◌∷◌, ◌++◌}
+use Rattle.std.specs.Prelude.{ℤ, Option, Some, None, drop, slice_get, unwrap_or, Result, Ok, Err, if◌then◌else◌}
 use Rattle.std.specs.Option.{option_or}
+use Rattle.std.proofs.lemmas.Bool.{eqb-true}
 use Rattle.sql_trees.specs.declared.stmt.Level.{Level}
 use Rattle.sql_trees.specs.declared.stmt.Level.TheVariants.{ReadCommitted, RepeatableRead}
 use Rattle.sql_trees.specs.declared.stmt.Lock.{Lock}
 use Rattle.sql_trees.specs.Trees.{Tree}
-use Rattle.sql_trees.specs.Statements.{StmtTree, CreateTree, InsertTree, UpdateTree, DeleteTree, SelectTree, Begin, Commit, Rollback, SetTransaction, SetDeadlockTimeout, Create, DropTables, Inserts, Updates, Deletes, Selects}
+use Rattle.sql_trees.specs.Statements.{StmtTree, KeyTree, CreateTree, InsertTree, UpdateTree, DeleteTree, SelectTree, Begin, Commit, Rollback, SetTransaction, SetDeadlockTimeout, Create, DropTables, Inserts, Updates, Deletes, Selects}
 use Rattle.sql_values.specs.declared.value.Value.{Value}
 use Rattle.sql_values.specs.declared.fault.ValueFault.{ValueFault}
 use Rattle.result_tables.specs.Results.{Results}
-use Rattle.session_queries.specs.Queries.{Target, cols_of, lacking_rows, new_values, row_values, titles_of}
+use Rattle.session_queries.specs.Queries.{Target, cols_of, lacking_rows, new_values, row_values, targets_of, titles_of}
 use Rattle.session_queries.specs.Updates.{lacking_update, set_targets, updated}
 use Rattle.row_versions.specs.declared.names.TxId.{TxId}
 use Rattle.row_versions.specs.declared.names.RowId.{RowId}
 use Rattle.row_versions.specs.declared.write.Write.{Write}
 use Rattle.row_versions.specs.declared.write.View.{View}
 use Rattle.row_versions.specs.declared.write.Seen.{Seen}
-use Rattle.row_versions.specs.Log.{Content, next_tx, new_row, values_at, after_write}
+use Rattle.row_versions.specs.Log.{Content, next_tx, new_row, values_at, after_write, fate_of, is_committed}
 use Rattle.row_versions.specs.Newest.{is_version, newest_from, newest_of}
 use Rattle.row_locks.specs.declared.held.Strength.{Strength}
 use Rattle.row_locks.specs.declared.held.Strength.TheVariants.{Exclusive}
 use Rattle.row_locks.specs.declared.held.Held.{Held}
-use Rattle.row_locks.specs.Held.{holds, lock_of_write, with_lock}
+use Rattle.row_locks.specs.Held.{holders_against, holds, lock_of_write, with_lock}
 use Rattle.row_locks.specs.Waiting.{is_none_of}
 use Rattle.row_locks.specs.Cycles.{closes}
+use Rattle.row_locks.proofs.Reaching.{and_both}
+use Rattle.unique_keys.specs.Checks.{KeyFound, KeyIsFree, KeyIsTaken, KeyIsHeld, found_by, key_found}
 use Rattle.update_recheck.specs.Asked.{Asked}
 use Rattle.update_recheck.specs.Outcome.{Holders, Nobody, Others, OthersInACycle, Version, Same, Gone, Newer, holders, holders_of, is_locked, newest_version, outcome, version_at, version_of}
 use Rattle.update_recheck.specs.Settling.{lock_of, locks_after}
@@ -34,23 +37,33 @@ use Rattle.session_machine.specs.declared.session.Transaction.TheVariants.{Close
 use Rattle.session_machine.specs.declared.session.Progress.{Progress}
 use Rattle.session_machine.specs.declared.session.Session.{Session}
 use Rattle.session_machine.specs.declared.session.Request.{Request}
-use Rattle.session_machine.specs.declared.session.Request.TheVariants.{Row}
+use Rattle.session_machine.specs.declared.session.Request.TheVariants.{Row, Key}
 use Rattle.session_machine.specs.declared.fault.StmtFault.{StmtFault}
 use Rattle.session_machine.specs.declared.reply.Outcome.{Outcome as Reply}
 use Rattle.session_machine.specs.declared.reply.Outcome.TheVariants.{Rows, Failed}
-use Rattle.session_machine.specs.declared.fault.StmtFault.TheVariants.{Aborted as AbortedFault}
+use Rattle.session_machine.specs.declared.fault.StmtFault.TheVariants.{Aborted as AbortedFault, Deadlock}
 use Rattle.session_machine.specs.Tables.{Database, find_table}
 use Rattle.session_machine.specs.Transactions.{begun, committed, fresh, rolled_back, view_of}
 use Rattle.session_machine.specs.Waits.{blockers, is_blocked, waits_in}
 use Rattle.session_machine.specs.Statements.{Around, Did, DroppedUpTo, fails, turns, create, dropped, dropped_at, drop_ended, level_set, with_table, with_drop, is_end}
 use Rattle.session_machine.specs.Walks.{Stop, Visit, Walk, Blocked, Fails, goes_on, unless_stopped, walked, walked_from}
-use Rattle.session_machine.specs.Rows.{Work, columns_in, cols_in, written, unless_null, insert_made, insert_at, ask, at_outcome, at_target, values_of, update_made, update_with, update_at, delete_with, delete_at, lock_made, lock_with, lock_at, strength_of, passing_targets, taken_targets}
-use Rattle.session_machine.specs.Running.{beginning, going_on, comes_to, ended, done, insert_fitting, insert_to, insert, assigned_to, update_from, update_fitting, update_to, update, delete_from, delete_fitting, delete, lock_from, answered, select_rows, unless_wrong, select_in, select_at, select, run_open, run_first, run_closed, lock_again, run_on, run_stmt}
+use Rattle.session_machine.specs.AskedKeys.{AskedKey}
+use Rattle.session_machine.specs.Rows.{Work, columns_in, keys_in, cols_in, asked_key, stop_by, stop_at_key, stop_at_keys, unless_stopped_by, inserted, written, unless_null, insert_made, insert_at, ask, at_outcome, at_target, values_of, update_made, update_with, update_at, delete_with, delete_at, lock_made, lock_with, lock_at, strength_of, passing_targets, taken_targets}
+use Rattle.session_machine.specs.Running.{beginning, going_on, comes_to, ended, done, insert_from, insert_fitting, insert_to, insert, assigned_to, update_from, update_fitting, update_to, update, delete_from, delete_fitting, delete, lock_from, answered, select_rows, unless_wrong, select_in, select_at, select, run_open, run_first, run_closed, lock_again, run_on, run_stmt}
 use Rattle.wait_laws.proofs.Lists.{holds_last}
+
+-- a lock may be taken: nobody stands against it, and its row was written
+pub record MayTake (d : Database) (h : Held) : Type 0 where
+  pub free : is_none_of (holders_against d.held h.row h.tx h.strength) ≡ true
+  pub place : ℕ
+  pub write : Write
+  pub there : slice_get d.content.log place ≡ Some write
+  pub its : write.row.0 ≡ h.row.0
 
 -- what a transaction may do keeps the one while it runs, and leads to the other where it ends
 pub record Keeps (x : TxId) (P Q : Database → Type 0) : Type 0 where
-  pub lock : (d : Database) (h : Held) → h.tx ≡ x → P d → P (record d { held = with_lock d.held h })
+  pub lock : (d : Database) (h : Held) → h.tx ≡ x → MayTake d h → P d → P (record d { held = with_lock d.held h })
+  pub insert : (d : Database) (w : Write) → w.tx ≡ x → w.row ≡ new_row d.content → P d → P (record d { content = after_write d.content w; held = with_lock d.held (lock_of_write w) })
   pub write : (d : Database) (w : Write) → w.tx ≡ x → holds d.held (lock_of_write w) ≡ true → P d → P (record d { content = after_write d.content w })
   pub create : (d : Database) (made : CreateTree) → P d → P (record d { catalog = with_table d.catalog made x })
   pub drop : (d : Database) (k : ℕ) → P d → P (record d { catalog = with_drop d.catalog k x })
@@ -121,6 +134,38 @@ others_say [] closing h = cc
 others_say (b ∷ bs) true h = cc
 others_say (b ∷ bs) false h = (refl, refl)
 
+-- where nobody holds a target none stands against it
+nobody_says : (bs : List TxId) (closing : Bool) → holders_of bs closing ≡ Nobody → is_none_of bs ≡ true
+nobody_says [] closing h = refl
+nobody_says (b ∷ bs) true h = cc
+nobody_says (b ∷ bs) false h = cc
+
+-- where a row has a version it was written
+record IsWritten (log : List Write) (row : RowId) : Type 0 where
+  pub place : ℕ
+  pub write : Write
+  pub there : slice_get log place ≡ Some write
+  pub its : write.row.0 ≡ row.0
+
+newest_there : (c : Content) (row : RowId) (tx : TxId) (m : Seen) (place : ℕ) (log : List Write) → newest_from c.fates row tx place log ≡ Some m → IsWritten log row
+newest_there c row tx m place [] h = absurd (none_not m h)
+newest_there c row tx m place (w ∷ later) h = at (λ n. newest_there c row tx n (place + 1) later) (newest_from c.fates row tx (place + 1) later) refl (is_version c.fates row tx w) refl h where
+  at : ((n : Seen) → newest_from c.fates row tx (place + 1) later ≡ Some n → IsWritten later row) → (o : Option Seen) → newest_from c.fates row tx (place + 1) later ≡ o
+      → (b : Bool) → is_version c.fates row tx w ≡ b
+      → (let last : Option Seen = if b then Some (record { row = row; place = place }) else None in option_or o last ≡ Some m) → IsWritten (w ∷ later) row
+  at on (Some n) e b f k =
+      let r = on n e in
+      record { place = suc r.place; write = r.write; there = r.there; its = r.its }
+  at on None e true f k =
+      record { place = zero; write = w; there = refl; its = eqb-true w.row.0 row.0 (and_both (w.row.0 == row.0) (is_committed (fate_of c.fates w.tx) || (w.tx.0 == tx.0)) f).0 }
+  at on None e false f k = absurd (none_not m k)
+
+version_there : (c : Content) (a : Asked) → (newest_version c a ≡ Gone → ⊥) → IsWritten c.log a.seen.row
+version_there c a is = by (newest_of c a.seen.row a.tx) refl is where
+  by : (o : Option Seen) → newest_of c a.seen.row a.tx ≡ o → (version_of c a o ≡ Gone → ⊥) → IsWritten c.log a.seen.row
+  by None e k = absurd (k refl)
+  by (Some m) e k = newest_there c a.seen.row a.tx m 0 c.log e
+
 -- the newest version of a row is of the row
 newest_row : (c : Content) (row : RowId) (tx : TxId) (m : Seen) → newest_of c row tx ≡ Some m → m.row ≡ row
 newest_row c row tx m h = from 0 c.log h where
@@ -159,7 +204,7 @@ newer_row c a m r h = by (newest_of c a.seen.row a.tx) refl h where
 
 -- a target: what is done with a version of the row once its lock is held
 at_case : (x : TxId) (P : Database → Type 0) (ss : List Session) (act : Database → Seen → Visit) (db : Database) (a : Asked) (l : Level) (hs : Holders) (v : Version)
-    → P db → P (record db { held = with_lock db.held (lock_of a) })
+    → P db → (hs ≡ Nobody → (v ≡ Gone → ⊥) → P (record db { held = with_lock db.held (lock_of a) }))
     → ((d : Database) (seen : Seen) → P d → holds d.held (lock_of a) ≡ true → seen.row ≡ a.seen.row → Comes x P ss (act d seen).db (act d seen).stop)
     → (hs ≡ Others → Refused x ss db (Row a.seen.row a.strength))
     → ((m : Seen) (r : Result Bool ValueFault) → v ≡ Newer m r → m.row ≡ a.seen.row)
@@ -168,11 +213,11 @@ at_case x P ss act db a ReadCommitted OthersInACycle v p q does refused named = 
 at_case x P ss act db a ReadCommitted Others v p q does refused named = comes_blocked x P ss db _ p (refused refl)
 at_case x P ss act db a ReadCommitted Nobody Gone p q does refused named = comes_on x P ss db [] p
 at_case x P ss act db a ReadCommitted Nobody Same p q does refused named =
-    does (record db { held = with_lock db.held (lock_of a) }) a.seen q (holds_last db.held (lock_of a)) refl
+    does (record db { held = with_lock db.held (lock_of a) }) a.seen (q refl (λ e. cc)) (holds_last db.held (lock_of a)) refl
 at_case x P ss act db a ReadCommitted Nobody (Newer m (Ok true)) p q does refused named =
-    does (record db { held = with_lock db.held (lock_of a) }) m q (holds_last db.held (lock_of a)) (named m (Ok true) refl)
-at_case x P ss act db a ReadCommitted Nobody (Newer m (Ok false)) p q does refused named = comes_on x P ss _ [] q
-at_case x P ss act db a ReadCommitted Nobody (Newer m (Err fault)) p q does refused named = comes_fails x P ss _ _ q
+    does (record db { held = with_lock db.held (lock_of a) }) m (q refl (λ e. cc)) (holds_last db.held (lock_of a)) (named m (Ok true) refl)
+at_case x P ss act db a ReadCommitted Nobody (Newer m (Ok false)) p q does refused named = comes_on x P ss _ [] (q refl (λ e. cc))
+at_case x P ss act db a ReadCommitted Nobody (Newer m (Err fault)) p q does refused named = comes_fails x P ss _ _ (q refl (λ e. cc))
 at_case x P ss act db a RepeatableRead hs Gone p q does refused named = at_gone hs where
   at_gone : (h : Holders) → (let y = at_outcome act (record db { held = locks_after (is_locked RepeatableRead h Gone) db.held (lock_of a) }) a (outcome RepeatableRead a.seen h Gone) in Comes x P ss y.db y.stop)
   at_gone Nobody = comes_fails x P ss db _ p
@@ -186,13 +231,15 @@ at_case x P ss act db a RepeatableRead hs (Newer m r) p q does refused named = a
 at_case x P ss act db a RepeatableRead OthersInACycle Same p q does refused named = comes_fails x P ss db _ p
 at_case x P ss act db a RepeatableRead Others Same p q does refused named = comes_blocked x P ss db _ p (refused refl)
 at_case x P ss act db a RepeatableRead Nobody Same p q does refused named =
-    does (record db { held = with_lock db.held (lock_of a) }) a.seen q (holds_last db.held (lock_of a)) refl
+    does (record db { held = with_lock db.held (lock_of a) }) a.seen (q refl (λ e. cc)) (holds_last db.held (lock_of a)) refl
 
 comes_target : (P Q : Database → Type 0) (act : Database → Seen → Visit) (db : Database) (w : Work) (a : Asked) → a.tx ≡ w.t.tx → Keeps w.t.tx P Q → P db
     → ((d : Database) (seen : Seen) → P d → holds d.held (lock_of a) ≡ true → seen.row ≡ a.seen.row → Comes w.t.tx P w.around.sessions (act d seen).db (act d seen).stop)
     → Comes w.t.tx P w.around.sessions (at_target act db w a).db (at_target act db w a).stop
 comes_target P Q act db w a own keeps p does =
-    at_case w.t.tx P w.around.sessions act db a a.level (holders db.held (waits_in db w.around.sessions) a) (newest_version db.content a) p (keeps.lock db (lock_of a) own p) does
+    at_case w.t.tx P w.around.sessions act db a a.level (holders db.held (waits_in db w.around.sessions) a) (newest_version db.content a) p
+    (λ none is. let t = version_there db.content a is in
+    keeps.lock db (lock_of a) own (record { free = nobody_says _ _ none; place = t.place; write = t.write; there = t.there; its = t.its }) p) does
     (λ e. let o = others_say _ _ e in subst (λ t. Refused t w.around.sessions db (Row a.seen.row a.strength)) own (record { free = o.0; stopped = o.1 }))
     (newer_row db.content a)
 
@@ -208,10 +255,48 @@ writes P Q d w a row values own strong keeps p held named =
           let mk : RowId → TxId → Strength → Held = λ r t s. record { row = r; tx = t; strength = s } in
           ap (λ y. mk y b.tx b.strength) (sym g) ∙ (ap (λ y. mk r y b.strength) e ∙ ap (λ y. mk r tx y) f)
 
-comes_unless_null : (x : TxId) (P : Database → Type 0) (ss : List Session) (name : List ℕ) (db after : Database) (o : Option (List ℕ)) → P db → P after
-    → Comes x P ss (unless_null name db after o).db (unless_null name db after o).stop
-comes_unless_null x P ss name db after (Some column) p q = comes_fails x P ss db _ p
-comes_unless_null x P ss name db after None p q = comes_on x P ss after [] q
+comes_unless_null : (x : TxId) (P : Database → Type 0) (ss : List Session) (name : List ℕ) (db : Database) (due : Visit) (o : Option (List ℕ)) → P db → Comes x P ss due.db due.stop
+    → Comes x P ss (unless_null name db due o).db (unless_null name db due o).stop
+comes_unless_null x P ss name db due (Some column) p k = comes_fails x P ss db _ p
+comes_unless_null x P ss name db due None p k = k
+
+comes_unless_stopped : (x : TxId) (P : Database → Type 0) (ss : List Session) (db after : Database) (o : Option Stop) → P db → P after
+    → ((r : Request) → o ≡ Some (Blocked r) → Refused x ss db r) → Comes x P ss (unless_stopped_by db after o).db (unless_stopped_by db after o).stop
+comes_unless_stopped x P ss db after (Some (Fails fault)) p q refused = comes_fails x P ss db fault p
+comes_unless_stopped x P ss db after (Some (Blocked r)) p q refused = comes_blocked x P ss db r p (refused r refl)
+comes_unless_stopped x P ss db after None p q refused = comes_on x P ss after [] q
+
+-- who waits for a key has blockers, and closes no cycle
+held_some : (bs : List TxId) (taken : Bool) → found_by bs taken ≡ KeyIsHeld → not (is_none_of bs) ≡ true
+held_some [] true h = cc
+held_some [] false h = cc
+held_some (b ∷ bs) taken h = refl
+
+key_refuses : (db : Database) (w : Work) (name : List ℕ) (values : List Value) (except : Option RowId) (key : KeyTree) (r : Request)
+    → stop_at_key db w name values except key ≡ Some (Blocked r) → Refused w.t.tx w.around.sessions db r
+key_refuses db w name values except key r h = by (key_found db.content (record { 0 = w.table }) w.t.tx except values key.columns) refl h where
+  asked : AskedKey
+  asked = asked_key w values key
+
+  held : (b : Bool) → closes (waits_in db w.around.sessions) w.t.tx (blockers db (Key asked) w.t.tx) ≡ b → not (is_none_of (blockers db (Key asked) w.t.tx)) ≡ true
+      → (let y : Stop = if b then Fails Deadlock else Blocked (Key asked) in Some y ≡ Some (Blocked r)) → Refused w.t.tx w.around.sessions db r
+  held true e some k = absurd (goes_not Deadlock r k)
+  held false e some k = subst (λ (q : Request). Refused w.t.tx w.around.sessions db q) (same_request (Key asked) r k) (record { free = e; stopped = some })
+
+  by : (f : KeyFound) → key_found db.content (record { 0 = w.table }) w.t.tx except values key.columns ≡ f → stop_by db w name values key f ≡ Some (Blocked r)
+      → Refused w.t.tx w.around.sessions db r
+  by KeyIsFree e k = absurd (none_not (Blocked r) k)
+  by KeyIsTaken e k = absurd (goes_not _ r k)
+  by KeyIsHeld e k = held (closes (waits_in db w.around.sessions) w.t.tx (blockers db (Key asked) w.t.tx)) refl (held_some _ _ e) k
+
+keys_refuse : (db : Database) (w : Work) (name : List ℕ) (values : List Value) (except : Option RowId) (keys : List KeyTree) (r : Request)
+    → stop_at_keys db w name values except keys ≡ Some (Blocked r) → Refused w.t.tx w.around.sessions db r
+keys_refuse db w name values except [] r h = absurd (none_not (Blocked r) h)
+keys_refuse db w name values except (key ∷ keys) r h = by (stop_at_key db w name values except key) refl (keys_refuse db w name values except keys r) h where
+  by : (o : Option Stop) → stop_at_key db w name values except key ≡ o → (stop_at_keys db w name values except keys ≡ Some (Blocked r) → Refused w.t.tx w.around.sessions db r)
+      → option_or o (stop_at_keys db w name values except keys) ≡ Some (Blocked r) → Refused w.t.tx w.around.sessions db r
+  by (Some stop) e later k = key_refuses db w name values except key r (e ∙ k)
+  by None e later k = later k
 
 comes_update_at : (P Q : Database → Type 0) (w : Work) (u : UpdateTree) (targets : List Target) → Keeps w.t.tx P Q → (db : Database) (seen : Seen) → P db
     → Comes w.t.tx P w.around.sessions (update_at w u targets db seen).db (update_at w u targets db seen).stop
@@ -222,7 +307,10 @@ comes_update_at P Q w u targets keeps db seen p = comes_target P Q (update_with 
   made : (d : Database) (s : Seen) → P d → holds d.held (lock_of a) ≡ true → s.row ≡ a.seen.row → (r : Result (List Value) ValueFault)
       → Comes w.t.tx P w.around.sessions (update_made w u.table d s.row r).db (update_made w u.table d s.row r).stop
   made d s q held named (Err fault) = comes_fails w.t.tx P w.around.sessions d _ q
-  made d s q held named (Ok values) = comes_unless_null w.t.tx P w.around.sessions u.table d _ _ q (writes P Q d w a s.row (Some values) refl refl keeps q held named)
+  made d s q held named (Ok values) =
+      comes_unless_null w.t.tx P w.around.sessions u.table d _ _ q
+      (comes_unless_stopped w.t.tx P w.around.sessions d _ _ q (writes P Q d w a s.row (Some values) refl refl keeps q held named)
+      (keys_refuse d w u.table values (Some s.row) (keys_in d w)))
 
 comes_delete_at : (P Q : Database → Type 0) (w : Work) (e : DeleteTree) → Keeps w.t.tx P Q → (db : Database) (seen : Seen) → P db
     → Comes w.t.tx P w.around.sessions (delete_at w e db seen).db (delete_at w e db seen).stop
@@ -244,11 +332,10 @@ comes_insert_at P Q w name targets keeps db row p = made (new_values _ targets r
   made : (r : Result (List Value) ValueFault) → Comes w.t.tx P w.around.sessions (insert_made w name db r).db (insert_made w name db r).stop
   made (Err fault) = comes_fails w.t.tx P w.around.sessions db _ p
   made (Ok values) =
-      let h : Held = record { row = new_row db.content; tx = w.t.tx; strength = Exclusive } in
-      let locked : Database = record db { held = with_lock db.held h } in
       comes_unless_null w.t.tx P w.around.sessions name db _ _ p
-      (keeps.write locked (record { tx = w.t.tx; command = w.t.command; table = record { 0 = w.table }; row = new_row db.content; values = Some values }) refl
-      (holds_last db.held h) (keeps.lock db h refl p))
+      (comes_unless_stopped w.t.tx P w.around.sessions db (inserted db w values) _ p
+      (keeps.insert db (record { tx = w.t.tx; command = w.t.command; table = record { 0 = w.table }; row = new_row db.content; values = Some values }) refl refl p)
+      (keys_refuse db w name values None (keys_in db w)))
 
 same_open : (t u : OpenTransaction) → Open t ≡ Open u → t ≡ u
 same_open t u h = cc
@@ -292,6 +379,12 @@ ran_ended P Q V before w f k keeps view c = by k.stop c.blocked where
         (subst (λ (y : Progress). Refused w.t.tx w.around.sessions k.db y.wait.request) same (blocked r refl), subst (λ (y : Progress). V y.view) same view, (_, refl));
   }
 
+ran_insert_from : (P Q : Database → Type 0) (V : View → Type 0) (db : Database) (w : Work) (i : InsertTree) (place : ℕ) (rows : List (List Value)) → Keeps w.t.tx P Q → V w.view → P db
+    → Ran w.t.tx P Q V w.around.sessions (insert_from db w i place rows)
+ran_insert_from P Q V db w i place rows keeps view p =
+    ran_ended P Q V db.content w done _ keeps view
+    (comes_walked w.t.tx P w.around.sessions _ (comes_insert_at P Q w i.table (assigned_to (targets_of (columns_in db w) i.columns)) keeps) db place rows (drop place i.rows) p)
+
 ran_insert_to : (P Q : Database → Type 0) (V : View → Type 0) (db : Database) (w : Work) (i : InsertTree) (r : Result (List Target) (List ℕ)) → Keeps w.t.tx P Q → V w.view → P db
     → Ran w.t.tx P Q V w.around.sessions (insert_to db w i r)
 ran_insert_to P Q V db w i (Err column) keeps view p = ran_fails P Q V w.around.sessions db w.t _ keeps p
@@ -299,8 +392,7 @@ ran_insert_to P Q V db w i (Ok targets) keeps view p = fitting (lacking_rows i.r
   fitting : (o : Option (List ℕ)) → Ran w.t.tx P Q V w.around.sessions (insert_fitting db w i targets o)
   fitting (Some name) = ran_fails P Q V w.around.sessions db w.t _ keeps p
   fitting None =
-      ran_if P Q V w.around.sessions w.t.tx _ _ _ (ran_fails P Q V w.around.sessions db w.t _ keeps p)
-      (ran_ended P Q V db.content w done _ keeps view (comes_walked w.t.tx P w.around.sessions _ (comes_insert_at P Q w i.table targets keeps) db 0 [] i.rows p))
+      ran_if P Q V w.around.sessions w.t.tx _ _ _ (ran_fails P Q V w.around.sessions db w.t _ keeps p) (ran_insert_from P Q V db w i 0 [] keeps view p)
 
 ran_update_from : (P Q : Database → Type 0) (V : View → Type 0) (db : Database) (w : Work) (u : UpdateTree) (place : ℕ) (rows : List (List Value)) → Keeps w.t.tx P Q → V w.view → P db
     → Ran w.t.tx P Q V w.around.sessions (update_from db w u place rows)
@@ -427,7 +519,7 @@ ran_on P Q V db t around g (SetTransaction level) keeps view own p = ran_begins 
 ran_on P Q V db t around g SetDeadlockTimeout keeps view own p = ran_begins P Q V db t around SetDeadlockTimeout keeps view p
 ran_on P Q V db t around g (Create c) keeps view own p = ran_begins P Q V db t around (Create c) keeps view p
 ran_on P Q V db t around g (DropTables d) keeps view own p = ran_begins P Q V db t around (DropTables d) keeps view p
-ran_on P Q V db t around g (Inserts i) keeps view own p = ran_begins P Q V db t around (Inserts i) keeps view p
+ran_on P Q V db t around g (Inserts i) keeps view own p = ran_insert_from P Q V db (going_on t around g) i g.place g.rows keeps own p
 
 -- who does what a statement of the session does: its transaction, or the one that begins
 abbrev pub doer : Database → Transaction → TxId

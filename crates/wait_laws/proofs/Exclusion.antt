@@ -1,55 +1,65 @@
--- What an open transaction wrote is held by it alone.
-use Rattle.std.proofs.Common.{◌≡◌, refl, sym, ◌∙◌, ap, subst, ◌⊎◌, inl, inr, ⊎_elim, Bool, true, false, ◌||◌, ◌&&◌, ◌==◌, not, cond, ℕ, zero, suc, ◌<◌, List, [], ◌∷◌, ◌++◌, length, length-append, length-set, set, arith}
-use Rattle.std.specs.Prelude.{Some, slice_get, Ok}
+-- What an open transaction wrote is held by it alone: what holds of the locks and writes while a transaction is at work.
+use Rattle.std.proofs.Common.{◌≡◌, refl, sym, ◌∙◌, ap, subst, ◌⊎◌, inl, inr, ⊎_elim, Bool, true, false, ◌||◌, ◌&&◌, ◌==◌, not, cond, ℕ, zero, suc, ◌<◌, List, [], ◌∷◌, length, length-append, length-set, set, arith}
+use Rattle.std.specs.Prelude.{Some, slice_get}
 use Rattle.std.proofs.lemmas.Bool.{cases_eq}
+use Rattle.std.proofs.lemmas.Option.{slice_get_within}
 use Rattle.row_versions.specs.declared.names.TxId.{TxId}
+use Rattle.row_versions.specs.declared.names.RowId.{RowId}
 use Rattle.row_versions.specs.declared.write.Write.{Write}
 use Rattle.row_versions.specs.declared.write.Fate.{Fate}
 use Rattle.row_versions.specs.declared.write.Fate.TheVariants.{RolledBack, Committed, Open as OpenFate}
-use Rattle.row_versions.specs.Log.{IsOpen, commit_count}
-use Rattle.row_versions.proofs.Gets.{get-append_left}
+use Rattle.row_versions.specs.Log.{IsOpen, commit_count, new_row, after_write}
+use Rattle.row_versions.proofs.Gets.{get-append_left, get-append_last}
 use Rattle.row_locks.specs.declared.held.Strength.{Strength}
 use Rattle.row_locks.specs.declared.held.Strength.TheVariants.{Share, Exclusive}
 use Rattle.row_locks.specs.declared.held.Held.{Held}
 use Rattle.row_locks.specs.Members.{has, same_tx}
-use Rattle.row_locks.specs.Held.{conflicts, holders_against, holds, lock_of_write, released, same_lock, same_strength}
+use Rattle.row_locks.specs.Held.{conflicts, holders_against, holds, lock_of_write, released, same_lock, same_strength, with_lock}
 use Rattle.row_locks.specs.Waiting.{is_none_of}
 use Rattle.row_locks.proofs.Holding.{blockers_hold}
 use Rattle.row_locks.proofs.Reaching.{or_cases, or_left, or_right, and_both, same_is}
 use Rattle.row_locks.proofs.Waiting.{bool_is}
 use Rattle.session_machine.specs.declared.session.Transaction.{Transaction}
 use Rattle.session_machine.specs.declared.session.Transaction.TheVariants.{Closed, Open, Aborted}
-use Rattle.session_machine.specs.declared.session.Session.{Session}
-use Rattle.session_machine.specs.declared.event.Event.{Event}
-use Rattle.session_machine.specs.declared.event.Mode.{Mode}
 use Rattle.session_machine.specs.Tables.{Database}
 use Rattle.session_machine.specs.Transactions.{begun}
-use Rattle.session_machine.specs.Machine.{Machine, Blocks, Next, next, opening, around}
-use Rattle.session_machine.specs.Sound.{tx_in, tx_of}
-use Rattle.wait_laws.specs.Laws.{session_of, IsHeldAlone, WritesAreHeld}
-use Rattle.wait_laws.proofs.Lists.{slice_get-set_other, holds_before}
-use Rattle.wait_laws.proofs.Doing.{Keeps, Ran, doer, start}
-use Rattle.wait_laws.proofs.Events.{session_there, left_as, Rests, moved, always}
-use Rattle.wait_laws.proofs.Cycles.{IsOrderly, orderly_next, orderly_opening, allows_all}
+use Rattle.session_machine.specs.Sound.{tx_in}
+use Rattle.wait_laws.proofs.Lists.{get_more, slice_get-set_other, holds_before, holds_last, holds_more, holds_released}
+use Rattle.wait_laws.proofs.Doing.{Keeps, MayTake, doer, start}
+use Rattle.wait_laws.proofs.KeyBlockers.{AreApart}
 
--- each write is of a transaction that has begun, and that holds its row while it is open
+abbrev lock : RowId → TxId → Strength → Held
+lock row tx strength = record { row = row; tx = tx; strength = strength }
+
+-- each write is of a transaction that has begun, and that holds its row while it is open; what is written and locked is in the log; and no two hold a row in conflict
 pub record AreHeld (db : Database) : Type 0 where
   pub known : (place : ℕ) (w : Write) → slice_get db.content.log place ≡ Some w → w.tx.0 < length db.content.fates
   pub held : (place : ℕ) (w : Write) → slice_get db.content.log place ≡ Some w → IsOpen db.content w.tx → holds db.held (lock_of_write w) ≡ true
+  pub rows : (place : ℕ) (w : Write) → slice_get db.content.log place ≡ Some w → w.row.0 < length db.content.log
+  pub locks : (h : Held) → holds db.held h ≡ true → h.row.0 < length db.content.log
+  pub apart : (row : RowId) (a b : TxId) (s t : Strength) → (a ≡ b → ⊥) → holds db.held (lock row a s) ≡ true → holds db.held (lock row b t) ≡ true → conflicts s t ≡ false
 
--- while a transaction is at work it has begun
+-- while a transaction is at work it is open
 pub record AreHeldBy (x : TxId) (db : Database) : Type 0 where
-  pub begun : x.0 < length db.content.fates
+  pub mine : IsOpen db.content x
   pub all : AreHeld db
 
-same_write : (w v : Write) → Some w ≡ Some v → w ≡ v
-same_write w v h = cc
+pub begun_by : (x : TxId) (db : Database) → AreHeldBy x db → x.0 < length db.content.fates
+begun_by x db p = slice_get_within db.content.fates x.0 OpenFate p.mine
 
-get_more : (xs : List Write) (y : Write) (k : ℕ) (x : Write) → slice_get (xs ++ y ∷ []) k ≡ Some x → (slice_get xs k ≡ Some x) ⊎ (y ≡ x)
-get_more [] y zero x h = inr (same_write y x h)
-get_more [] y (suc k) x h = cc
-get_more (z ∷ zs) y zero x h = inl h
-get_more (z ∷ zs) y (suc k) x h = get_more zs y k x h
+-- no two open transactions wrote one row
+pub writes_apart : (db : Database) → AreHeld db → AreApart db.content
+writes_apart db p i j v w at there v_open w_open row = ⊎_elim (λ e. let mk : ℕ → TxId = λ n. record { 0 = n } in ap mk e) (λ ne. absurd (never (apart ne))) (cases_eq v.tx.0 w.tx.0) where
+  mk : ℕ → RowId
+  mk n = record { 0 = n }
+
+  never : true ≡ false → ⊥
+  never h = cc
+
+  apart : (v.tx.0 ≡ w.tx.0 → ⊥) → conflicts Exclusive Exclusive ≡ false
+  apart ne =
+      p.apart v.row v.tx w.tx Exclusive Exclusive (λ e. ne (ap (λ (t : TxId). t.0) e)) (p.held i v at v_open)
+      (subst (λ (r : RowId). holds db.held (lock r w.tx Exclusive) ≡ true) (sym (ap mk row)) (p.held j w there w_open))
 
 -- a transaction that ends isn't open
 not_open : (fs : List Fate) (i : ℕ) (f : Fate) → (f ≡ OpenFate → ⊥) → slice_get (set fs i f) i ≡ Some OpenFate → ⊥
@@ -87,35 +97,126 @@ held_ends : (x : TxId) (d : Database) (f : Fate) → (f ≡ OpenFate → ⊥) �
 held_ends x d f ne h = record {
   known = λ place w at. rw length-set (h.known place w at);
   held = λ place w at is.
-      let mk : ℕ → TxId = λ n. record { 0 = n } in
       ⊎_elim
       (λ e. absurd (not_open d.content.fates x.0 f ne (subst (λ n. slice_get (set d.content.fates x.0 f) n ≡ Some OpenFate) e is)))
       (λ other. holds_left d.held x (lock_of_write w) (λ e. other (ap (λ (t : TxId). t.0) e))
       (h.held place w at (sym (slice_get-set_other d.content.fates x.0 w.tx.0 f other) ∙ is)))
       (cases_eq w.tx.0 x.0);
+  rows = h.rows;
+  locks = λ l e. h.locks l (holds_released d.held x l e);
+  apart = λ row a b s t ne e k. h.apart row a b s t ne (holds_released d.held x (lock row a s) e) (holds_released d.held x (lock row b t) k);
 }
 
-held_keeps : (x : TxId) → Keeps x (AreHeldBy x) AreHeld
+conflict_both : (s t : Strength) → conflicts s t ≡ conflicts t s
+conflict_both Share Share = refl
+conflict_both Share Exclusive = refl
+conflict_both Exclusive Share = refl
+conflict_both Exclusive Exclusive = refl
+
+none_has : (bs : List TxId) (u : TxId) → is_none_of bs ≡ true → has bs u ≡ true → ⊥
+none_has [] u h k = cc
+none_has (b ∷ bs) u h k = cc
+
+-- who takes a lock that nobody stands against is in conflict with nobody
+free_apart : (held : List Held) (row : RowId) (a b : TxId) (s t : Strength) → (a ≡ b → ⊥) → is_none_of (holders_against held row a s) ≡ true → holds held (lock row b t) ≡ true → conflicts t s ≡ false
+free_apart held row a b s t ne free e = elim (bool_is (conflicts t s)) [
+  | inl k ↦ absurd (none_has (holders_against held row a s) b free ((blockers_hold held row a s b).1 ((λ f. ne (sym f)), (t, e, k))))
+  | inr k ↦ k
+]
+
+-- the locks are apart with one more that nobody of the others conflicts with
+apart_more : (held : List Held) (l : Held) → ((b : TxId) (t : Strength) → (l.tx ≡ b → ⊥) → holds held (lock l.row b t) ≡ true → conflicts t l.strength ≡ false)
+    → ((row : RowId) (a b : TxId) (s t : Strength) → (a ≡ b → ⊥) → holds held (lock row a s) ≡ true → holds held (lock row b t) ≡ true → conflicts s t ≡ false)
+    → (row : RowId) (a b : TxId) (s t : Strength) → (a ≡ b → ⊥) → holds (with_lock held l) (lock row a s) ≡ true → holds (with_lock held l) (lock row b t) ≡ true → conflicts s t ≡ false
+apart_more held l free old row a b s t ne e k = by (holds_more held l (lock row a s) e) (holds_more held l (lock row b t) k) where
+  first : (c : TxId) (r : Strength) → (a ≡ c → ⊥) → l ≡ lock row a s → holds held (lock row c r) ≡ true → conflicts r s ≡ false
+  first c r nc is f =
+      subst (λ (g : Held). conflicts r g.strength ≡ false) is
+      (free c r (λ m. nc (sym (ap (λ (g : Held). g.tx) is) ∙ m)) (subst (λ (y : RowId). holds held (lock y c r) ≡ true) (sym (ap (λ (g : Held). g.row) is)) f))
+
+  second : l ≡ lock row b t → holds held (lock row a s) ≡ true → conflicts s t ≡ false
+  second is f =
+      subst (λ (g : Held). conflicts s g.strength ≡ false) is
+      (free a s (λ m. ne (sym m ∙ ap (λ (g : Held). g.tx) is)) (subst (λ (y : RowId). holds held (lock y a s) ≡ true) (sym (ap (λ (g : Held). g.row) is)) f))
+
+  by : (holds held (lock row a s) ≡ true) ⊎ (l ≡ lock row a s) → (holds held (lock row b t) ≡ true) ⊎ (l ≡ lock row b t) → conflicts s t ≡ false
+  by (inl f) (inl g) = old row a b s t ne f g
+  by (inr f) (inl g) = conflict_both s t ∙ first b t ne f g
+  by (inl f) (inr g) = second g f
+  by (inr f) (inr g) = absurd (ne (sym (ap (λ (h : Held). h.tx) f) ∙ ap (λ (h : Held). h.tx) g))
+
+held_lock : (x : TxId) (d : Database) (h : Held) → MayTake d h → AreHeldBy x d → AreHeldBy x (record d { held = with_lock d.held h })
+held_lock x d h may p = record {
+  mine = p.mine;
+  all = record {
+    known = p.all.known;
+    held = λ place w at is. holds_before d.held h (lock_of_write w) (p.all.held place w at is);
+    rows = p.all.rows;
+    locks = λ l e. ⊎_elim (p.all.locks l) (λ is. let a = p.all.rows may.place may.write may.there in let b = may.its in
+        let c : h.row.0 ≡ l.row.0 = ap (λ (g : Held). g.row.0) is in omega arith) (holds_more d.held h l e);
+    apart = apart_more d.held h (λ b t ne e. free_apart d.held h.row h.tx b h.strength t ne may.free e) p.all.apart;
+  };
+}
+
+held_write : (x : TxId) (d : Database) (w : Write) → w.tx ≡ x → holds d.held (lock_of_write w) ≡ true → AreHeldBy x d → AreHeldBy x (record d { content = after_write d.content w })
+held_write x d w own locked p =
+    let long = length-append d.content.log (w ∷ []) in
+    record {
+      mine = p.mine;
+      all = record {
+        known = λ place v at. elim (get_more d.content.log w place v at) [
+          | inl k ↦ p.all.known place v k
+          | inr k ↦ subst (λ (t : TxId). t.0 < length d.content.fates) (sym own ∙ ap (λ (y : Write). y.tx) k) (begun_by x d p)
+        ];
+        held = λ place v at is. elim (get_more d.content.log w place v at) [
+          | inl k ↦ p.all.held place v k is
+          | inr k ↦ subst (λ (y : Write). holds d.held (lock_of_write y) ≡ true) k locked
+        ];
+        rows = λ place v at. elim (get_more d.content.log w place v at) [
+          | inl k ↦ let l = p.all.rows place v k in omega arith
+          | inr k ↦ let l = p.all.locks (lock_of_write w) locked in let e : w.row.0 ≡ v.row.0 = ap (λ (y : Write). y.row.0) k in omega arith
+        ];
+        locks = λ l e. let m = p.all.locks l e in omega arith;
+        apart = p.all.apart;
+      };
+    }
+
+held_insert : (x : TxId) (d : Database) (w : Write) → w.tx ≡ x → w.row ≡ new_row d.content → AreHeldBy x d
+    → AreHeldBy x (record d { content = after_write d.content w; held = with_lock d.held (lock_of_write w) })
+held_insert x d w own made p =
+    let long = length-append d.content.log (w ∷ []) in
+    let last : w.row.0 ≡ length d.content.log = ap (λ (r : RowId). r.0) made in
+    record {
+      mine = p.mine;
+      all = record {
+        known = λ place v at. elim (get_more d.content.log w place v at) [
+          | inl k ↦ p.all.known place v k
+          | inr k ↦ subst (λ (t : TxId). t.0 < length d.content.fates) (sym own ∙ ap (λ (y : Write). y.tx) k) (begun_by x d p)
+        ];
+        held = λ place v at is. elim (get_more d.content.log w place v at) [
+          | inl k ↦ holds_before d.held (lock_of_write w) (lock_of_write v) (p.all.held place v k is)
+          | inr k ↦ subst (λ (y : Write). holds (with_lock d.held (lock_of_write w)) (lock_of_write y) ≡ true) k (holds_last d.held (lock_of_write w))
+        ];
+        rows = λ place v at. elim (get_more d.content.log w place v at) [
+          | inl k ↦ let l = p.all.rows place v k in omega arith
+          | inr k ↦ let e : w.row.0 ≡ v.row.0 = ap (λ (y : Write). y.row.0) k in omega arith
+        ];
+        locks = λ l e. elim (holds_more d.held (lock_of_write w) l e) [
+          | inl k ↦ let m = p.all.locks l k in omega arith
+          | inr k ↦ let e : w.row.0 ≡ l.row.0 = ap (λ (g : Held). g.row.0) k in omega arith
+        ];
+        apart = apart_more d.held (lock_of_write w)
+            (λ b t ne e. let m = p.all.locks (lock w.row b t) e in let z : ⊥ = omega arith in absurd z) p.all.apart;
+      };
+    }
+
+pub held_keeps : (x : TxId) → Keeps x (AreHeldBy x) AreHeld
 held_keeps x = record {
-  lock = λ d h own p. record {
-    begun = p.begun;
-    all = record { known = p.all.known; held = λ place w at is. holds_before d.held h (lock_of_write w) (p.all.held place w at is) };
-  };
-  write = λ d w own locked p. record {
-    begun = p.begun;
-    all = record {
-      known = λ place v at. elim (get_more d.content.log w place v at) [
-        | inl k ↦ p.all.known place v k
-        | inr k ↦ subst (λ (t : TxId). t.0 < length d.content.fates) (sym own ∙ ap (λ (y : Write). y.tx) k) p.begun
-      ];
-      held = λ place v at is. elim (get_more d.content.log w place v at) [
-        | inl k ↦ p.all.held place v k is
-        | inr k ↦ subst (λ (y : Write). holds d.held (lock_of_write y) ≡ true) k locked
-      ];
-    };
-  };
-  create = λ d made p. record { begun = p.begun; all = record { known = p.all.known; held = p.all.held } };
-  drop = λ d k p. record { begun = p.begun; all = record { known = p.all.known; held = p.all.held } };
+  lock = λ d h own may p. held_lock x d h may p;
+  insert = λ d w own made p. held_insert x d w own made p;
+  write = λ d w own locked p. held_write x d w own locked p;
+  create = λ d made p. record { mine = p.mine; all = record { known = p.all.known; held = p.all.held; rows = p.all.rows; locks = p.all.locks; apart = p.all.apart } };
+  drop = λ d k p. record { mine = p.mine; all = record { known = p.all.known; held = p.all.held; rows = p.all.rows; locks = p.all.locks; apart = p.all.apart } };
   commit = λ d p. held_ends x d (Committed (commit_count d.content)) (λ e. cc) p.all;
   roll_back = λ d p. held_ends x d RolledBack (λ e. cc) p.all;
   rest = λ d p. p.all;
@@ -123,57 +224,17 @@ held_keeps x = record {
 
 held_begun : (db : Database) → AreHeld db → AreHeldBy (record { 0 = length db.content.fates }) (begun db)
 held_begun db h = record {
-  begun = rw (length-append db.content.fates (OpenFate ∷ [])) (omega arith);
+  mine = get-append_last db.content.fates OpenFate;
   all = record {
     known = λ place w at. let l = h.known place w at in rw (length-append db.content.fates (OpenFate ∷ [])) (omega arith);
     held = λ place w at is. h.held place w at (sym (get-append_left db.content.fates (OpenFate ∷ []) w.tx.0 (h.known place w at)) ∙ is);
+    rows = h.rows;
+    locks = h.locks;
+    apart = h.apart;
   };
 }
 
-held_start : (db : Database) (tr : Transaction) → ((n : ℕ) → tx_in tr ≡ Some n → n < length db.content.fates) → AreHeld db → AreHeldBy (doer db tr) (start db tr)
-held_start db Closed known h = held_begun db h
-held_start db Aborted known h = held_begun db h
-held_start db (Open t) known h = record { begun = known t.tx.0 refl; all = h }
-
--- what holds of the locks of every state
-pub record IsGuarded (m : Machine) : Type 0 where
-  pub orderly : IsOrderly m
-  pub rows : AreHeld m.db
-
-guarded_next : (blocks : Blocks) (mode : Mode) (m : Machine) (event : Event) (n : Next) → IsGuarded m → next blocks mode m event ≡ Ok n → IsGuarded n.machine
-guarded_next blocks mode m event n old h =
-    let there = session_there blocks mode m event n h in
-    let s = there.0 in
-    let x = doer m.db s.transaction in
-    let i = session_of event in
-    let k = moved (AreHeldBy x) AreHeld (λ v. Unit {0}) blocks mode m event s n there.1 (held_keeps x) (allows_all m.db s.transaction s.statement)
-    (held_start m.db s.transaction (λ q f. old.orderly.sessions.known i q (ap tx_of there.1 ∙ f)) old.rows) h in
-    record {
-      orderly = orderly_next blocks mode m event n old.orderly h;
-      rows = subst (λ (y : Machine). AreHeld y.db) (sym k.is) (by x s i k.e k.u k.did);
-    } where
-      by : (x : TxId) (s : Session) (i : ℕ) (e : Database) (u : Session) → Rests m s e u ⊎ Ran x (AreHeldBy x) AreHeld (λ v. Unit {0}) (around m i s).sessions (left_as e u) → AreHeld e
-      by x s i e u (inl r) = subst AreHeld (sym r.same) old.rows
-      by x s i e u (inr r) = r.db
-
-some_of : (bs : List TxId) (u : TxId) → has bs u ≡ true → not (is_none_of bs) ≡ true
-some_of [] u h = cc
-some_of (t ∷ bs) u h = refl
-
-against_all : (strength : Strength) → conflicts Exclusive strength ≡ true
-against_all Share = refl
-against_all Exclusive = refl
-
--- who writes a row stands against every other request for it
-alone : (db : Database) (w : Write) → holds db.held (lock_of_write w) ≡ true → IsHeldAlone db w
-alone db w h = record {
-  held = h;
-  alone = λ other strength ne. some_of (holders_against db.held w.row other strength) w.tx
-      ((blockers_hold db.held w.row other strength w.tx).1 ((λ e. ne (sym e)), (Exclusive, h, against_all strength)));
-}
-
-pub writes_are_held : WritesAreHeld
-writes_are_held given mode count m reached place w at is =
-    let g = always IsGuarded given mode (guarded_next given mode) reached.0 (opening count) m
-    (record { orderly = orderly_opening count; rows = record { known = λ k v e. cc; held = λ k v e o. cc } }) reached.1 in
-    alone m.db w (g.rows.held place w at is)
+pub held_start : (db : Database) (tr : Transaction) → ((n : ℕ) → tx_in tr ≡ Some n → slice_get db.content.fates n ≡ Some OpenFate) → AreHeld db → AreHeldBy (doer db tr) (start db tr)
+held_start db Closed opened h = held_begun db h
+held_start db Aborted opened h = held_begun db h
+held_start db (Open t) opened h = record { mine = opened t.tx.0 refl; all = h }

@@ -1,10 +1,12 @@
 pub mod Lists
+pub mod KeyBlockers
 pub mod Doing
 pub mod Deadlocks
 pub mod Events
 pub mod Edges
-pub mod Cycles
 pub mod Exclusion
+pub mod Cycles
+pub mod Alone
 pub mod Counting
 pub mod Rest
 pub mod Staying

@@ -1,14 +1,16 @@
 -- What a list has at a place after a change, and which locks are held after one more.
-use Rattle.std.proofs.Common.{◌≡◌, ◌≢◌, ℕ, zero, suc, ◌<◌, true, false, ◌||◌, List, [], ◌∷◌, length, set, refl, ap, ◌∙◌, arith}
+use Rattle.std.proofs.Common.{◌≡◌, ◌≢◌, ◌⊎◌, inl, inr, ⊎_elim, ℕ, zero, suc, ◌<◌, Bool, true, false, not, cond, ◌||◌, ◌&&◌, ◌==◌, List, [], ◌∷◌, ◌++◌, length, set, refl, sym, ap, ◌∙◌, arith}
 use Rattle.std.specs.Prelude.{Some, slice_get}
-use Rattle.std.proofs.lemmas.Bool.{eq-eqb}
+use Rattle.std.proofs.lemmas.Bool.{eq-eqb, eqb-true}
 use Rattle.std.proofs.lemmas.List.Folds.{list_any-append}
 use Rattle.row_locks.specs.declared.held.Strength.{Strength}
 use Rattle.row_locks.specs.declared.held.Strength.TheVariants.{Share, Exclusive}
 use Rattle.row_locks.specs.declared.held.Held.{Held}
 use Rattle.row_locks.specs.Members.{same_tx}
-use Rattle.row_locks.specs.Held.{same_strength, same_lock, holds, with_lock}
-use Rattle.row_locks.proofs.Reaching.{or_left, or_right, both_and, is_same}
+use Rattle.row_versions.specs.declared.names.TxId.{TxId}
+use Rattle.row_versions.specs.declared.write.Write.{Write}
+use Rattle.row_locks.specs.Held.{same_strength, same_lock, holds, released, with_lock}
+use Rattle.row_locks.proofs.Reaching.{or_cases, or_left, or_right, and_both, both_and, is_same, same_is}
 
 pub slice_get-set_same : {A : Type 0} (xs : List A) (i : ℕ) (x : A) → i < length xs → slice_get (set xs i x) i ≡ Some x
 slice_get-set_same [] i x h = absurd (omega arith)
@@ -39,3 +41,43 @@ holds_last held h =
 -- and those before are
 pub holds_before : (held : List Held) (l h : Held) → holds held h ≡ true → holds (with_lock held l) h ≡ true
 holds_before held l h e = list_any-append (λ (g : Held). same_lock g h) held (l ∷ []) ∙ or_left (holds held h) (same_lock l h || false) e
+
+same_write : (w v : Write) → Some w ≡ Some v → w ≡ v
+same_write w v h = cc
+
+-- what a longer log has at a place stood there, or is the last
+pub get_more : (xs : List Write) (y : Write) (k : ℕ) (x : Write) → slice_get (xs ++ y ∷ []) k ≡ Some x → (slice_get xs k ≡ Some x) ⊎ (y ≡ x)
+get_more [] y zero x h = inr (same_write y x h)
+get_more [] y (suc k) x h = cc
+get_more (z ∷ zs) y zero x h = inl h
+get_more (z ∷ zs) y (suc k) x h = get_more zs y k x h
+
+false_not : false ≡ true → ⊥
+false_not h = cc
+
+strength_is : (s t : Strength) → same_strength s t ≡ true → s ≡ t
+strength_is Share Share h = refl
+strength_is Share Exclusive h = cc
+strength_is Exclusive Share h = cc
+strength_is Exclusive Exclusive h = refl
+
+lock_is : (a b : Held) → same_lock a b ≡ true → a ≡ b
+lock_is a b h =
+    let p = and_both ((a.row.0 == b.row.0) && same_tx a.tx b.tx) (same_strength a.strength b.strength) h in
+    let q = and_both (a.row.0 == b.row.0) (same_tx a.tx b.tx) p.0 in
+    let mk : ℕ → TxId → Strength → Held = λ r t s. record { row = record { 0 = r }; tx = t; strength = s } in
+    ap (λ r. mk r a.tx a.strength) (eqb-true a.row.0 b.row.0 q.0) ∙ (ap (λ t. mk b.row.0 t a.strength) (same_is a.tx b.tx q.1) ∙ ap (λ s. mk b.row.0 b.tx s) (strength_is a.strength b.strength p.1))
+
+-- a longer list of locks holds what it held, and the last
+pub holds_more : (held : List Held) (l h : Held) → holds (with_lock held l) h ≡ true → (holds held h ≡ true) ⊎ (l ≡ h)
+holds_more held l h e =
+    ⊎_elim inl (λ k. ⊎_elim (λ m. inr (lock_is l h m)) (λ m. absurd (false_not m)) (or_cases (same_lock l h) false k))
+    (or_cases (holds held h) (same_lock l h || false) (sym (list_any-append (λ (g : Held). same_lock g h) held (l ∷ [])) ∙ e))
+
+-- and a shorter one nothing more
+pub holds_released : (held : List Held) (x : TxId) (h : Held) → holds (released x held) h ≡ true → holds held h ≡ true
+holds_released [] x h e = e
+holds_released (g ∷ held) x h e = at (not (same_tx g.tx x)) (holds_released held x h) e where
+  at : (b : Bool) → (holds (released x held) h ≡ true → holds held h ≡ true) → holds (cond b (g ∷ released x held) (released x held)) h ≡ true → (same_lock g h || holds held h) ≡ true
+  at true on k = ⊎_elim (λ m. or_left (same_lock g h) (holds held h) m) (λ m. or_right (same_lock g h) (holds held h) (on m)) (or_cases (same_lock g h) (holds (released x held) h) k)
+  at false on k = or_right (same_lock g h) (holds held h) (on k)

@@ -6,9 +6,13 @@ use Rattle.std.proofs.lemmas.Option.{slice_get_within}
 use Rattle.std.proofs.lemmas.Nat.{mul-add-lt}
 use Rattle.std.proofs.Math.Nat.{mul_comm}
 use Rattle.row_versions.specs.declared.names.TxId.{TxId}
-use Rattle.row_versions.specs.Log.{after_write}
+use Rattle.row_versions.specs.declared.write.Write.{Write}
+use Rattle.row_versions.specs.declared.write.Fate.TheVariants.{Open as OpenFate}
+use Rattle.row_versions.specs.Log.{IsOpen, after_begin, after_write}
+use Rattle.row_versions.proofs.Gets.{get-append_last}
 use Rattle.row_locks.specs.declared.held.Held.{Held}
-use Rattle.row_locks.specs.Held.{is_against, holders_against, with_lock}
+use Rattle.row_locks.specs.Members.{has}
+use Rattle.row_locks.specs.Held.{is_against, lock_of_write, with_lock}
 use Rattle.row_locks.specs.Waiting.{is_none_of}
 use Rattle.row_locks.proofs.Against.{some_are_against}
 use Rattle.row_locks.proofs.Reaching.{or_left, and_both, both_and}
@@ -17,7 +21,7 @@ use Rattle.std.proofs.lemmas.List.Folds.{list_any-append}
 use Rattle.session_machine.specs.declared.session.OpenTransaction.{OpenTransaction}
 use Rattle.session_machine.specs.declared.session.Place.{Place}
 use Rattle.session_machine.specs.declared.session.Request.{Request}
-use Rattle.session_machine.specs.declared.session.Request.TheVariants.{Row}
+use Rattle.session_machine.specs.declared.session.Request.TheVariants.{Row, Key}
 use Rattle.session_machine.specs.declared.session.Transaction.{Transaction}
 use Rattle.session_machine.specs.declared.session.Transaction.TheVariants.{Closed, Open, Aborted}
 use Rattle.session_machine.specs.declared.session.Progress.{Progress}
@@ -27,48 +31,73 @@ use Rattle.session_machine.specs.declared.event.Event.{Event}
 use Rattle.session_machine.specs.declared.event.Event.TheVariants.{Step}
 use Rattle.session_machine.specs.declared.event.Mode.{Mode}
 use Rattle.session_machine.specs.declared.reply.HistItem.{HistItem}
-use Rattle.session_machine.specs.Tables.{Database}
+use Rattle.session_machine.specs.Tables.{Catalog, Database}
 use Rattle.session_machine.specs.Transactions.{begun}
 use Rattle.session_machine.specs.Waits.{is_blocked, wait_of}
 use Rattle.session_machine.specs.Statements.{Did, with_table, with_drop}
 use Rattle.session_machine.specs.Running.{run_stmt}
 use Rattle.session_machine.specs.Machine.{Machine, Blocks, Next, next, stmts_at, is_busy, is_failed, is_stopped, is_still_blocked, finished, closed_at_end, waits_there, after_end, after_stmt, around, step_of}
 use Rattle.session_machine.specs.Engine.{Run}
+use Rattle.session_machine.specs.Sound.{tx_in, tx_of}
 use Rattle.wait_laws.specs.Laws.{session_of, left_from, left_of, statements_left, can_step, able, IsNearerRest, AreSteps, RestIsReached}
 use Rattle.wait_laws.proofs.Counting.{sum_set, count_set, count_most}
 use Rattle.wait_laws.proofs.Doing.{Keeps, Ran, Idles, doer, start, does_stmt}
 use Rattle.wait_laws.proofs.Events.{session_there, Stepped, stepped, moved}
-use Rattle.wait_laws.proofs.Cycles.{allows_all}
+use Rattle.wait_laws.proofs.KeyBlockers.{AllBegun, blocking, more_begun, more_written, some_has, some_of}
+use Rattle.wait_laws.proofs.Cycles.{IsOrderly, allows_all, orderly_next, orderly_there}
 use Rattle.wait_laws.proofs.Turns.{in_turn}
 
 -- what was blocked is blocked
 abbrev Blocked_still : Database → Database → Type 0
 Blocked_still db e = (r : Request) (tx : TxId) → is_blocked db r tx ≡ true → is_blocked e r tx ≡ true
 
+-- while the transaction is at work it is open
+record BlockedBy (x : TxId) (db e : Database) : Type 0 where
+  pub mine : IsOpen e.content x
+  pub still : Blocked_still db e
+
 blocked_more : (d : Database) (h : Held) (r : Request) (tx : TxId) → is_blocked d r tx ≡ true → is_blocked (record d { held = with_lock d.held h }) r tx ≡ true
 blocked_more d h (Row row strength) tx e =
     sym (some_are_against (with_lock d.held h) row tx strength)
     ∙ (list_any-append (is_against row tx strength) d.held (h ∷ [])
     ∙ or_left (list_any (is_against row tx strength) d.held) (list_any (is_against row tx strength) (h ∷ [])) (some_are_against d.held row tx strength ∙ e))
+blocked_more d h (Key k) tx e = e
 
-blocked_same : (d e : Database) → d.held ≡ e.held → Blocked_still d e
-blocked_same d e same (Row row strength) tx h = subst (λ (held : List Held). not (is_none_of (holders_against held row tx strength)) ≡ true) same h
+-- a list of blockers that has all of another's has some where that has
+blocked_has : (bs cs : List TxId) → ((u : TxId) → has bs u ≡ true → has cs u ≡ true) → not (is_none_of bs) ≡ true → not (is_none_of cs) ≡ true
+blocked_has bs cs more h = let u = some_has bs h in some_of cs u.0 (more u.0 u.1)
 
-still_keeps : (x : TxId) (db : Database) → Keeps x (Blocked_still db) (λ d. Unit {0})
+blocked_written : (d : Database) (w : Write) → IsOpen d.content w.tx → (r : Request) (tx : TxId) → is_blocked d r tx ≡ true → is_blocked (record d { content = after_write d.content w }) r tx ≡ true
+blocked_written d w is_open (Row row strength) tx e = e
+blocked_written d w is_open (Key k) tx e = blocked_has (blocking d.content k tx) (blocking (after_write d.content w) k tx) (λ u h. more_written d.content w k tx u is_open h) e
+
+blocked_begun : (d : Database) → AllBegun d.content → (r : Request) (tx : TxId) → is_blocked d r tx ≡ true → is_blocked (begun d) r tx ≡ true
+blocked_begun d known (Row row strength) tx e = e
+blocked_begun d known (Key k) tx e = blocked_has (blocking d.content k tx) (blocking (after_begin d.content) k tx) (λ u h. more_begun d.content k tx u known h) e
+
+blocked_same : (d : Database) (catalog : Catalog) → Blocked_still d (record d { catalog = catalog })
+blocked_same d catalog (Row row strength) tx h = h
+blocked_same d catalog (Key k) tx h = h
+
+still_keeps : (x : TxId) (db : Database) → Keeps x (BlockedBy x db) (λ d. Unit {0})
 still_keeps x db = record {
-  lock = λ d h own p r tx e. blocked_more d h r tx (p r tx e);
-  write = λ d w own held p r tx e. blocked_same d (record d { content = after_write d.content w }) refl r tx (p r tx e);
-  create = λ d made p r tx e. blocked_same d (record d { catalog = with_table d.catalog made x }) refl r tx (p r tx e);
-  drop = λ d k p r tx e. blocked_same d (record d { catalog = with_drop d.catalog k x }) refl r tx (p r tx e);
+  lock = λ d h own may p. record { mine = p.mine; still = λ r tx e. blocked_more d h r tx (p.still r tx e) };
+  insert = λ d w own made p. record {
+    mine = p.mine;
+    still = λ r tx e. blocked_more (record d { content = after_write d.content w }) (lock_of_write w) r tx (blocked_written d w (subst (IsOpen d.content) (sym own) p.mine) r tx (p.still r tx e));
+  };
+  write = λ d w own held p. record { mine = p.mine; still = λ r tx e. blocked_written d w (subst (IsOpen d.content) (sym own) p.mine) r tx (p.still r tx e) };
+  create = λ d made p. record { mine = p.mine; still = λ r tx e. blocked_same d (with_table d.catalog made x) r tx (p.still r tx e) };
+  drop = λ d k p. record { mine = p.mine; still = λ r tx e. blocked_same d (with_drop d.catalog k x) r tx (p.still r tx e) };
   commit = λ d p. tt;
   roll_back = λ d p. tt;
   rest = λ d p. tt;
 }
 
-still_start : (db : Database) (tr : Transaction) → Blocked_still db (start db tr)
-still_start db Closed r tx e = blocked_same db (begun db) refl r tx e
-still_start db Aborted r tx e = blocked_same db (begun db) refl r tx e
-still_start db (Open t) r tx e = e
+still_start : (db : Database) (tr : Transaction) → AllBegun db.content → ((n : ℕ) → tx_in tr ≡ Some n → slice_get db.content.fates n ≡ Some OpenFate) → BlockedBy (doer db tr) db (start db tr)
+still_start db Closed known opened = record { mine = get-append_last db.content.fates OpenFate; still = blocked_begun db known }
+still_start db Aborted known opened = record { mine = get-append_last db.content.fates OpenFate; still = blocked_begun db known }
+still_start db (Open t) known opened = record { mine = opened t.tx.0 refl; still = λ r tx e. e }
 
 -- a session that can step could before
 could : (db e : Database) → Blocked_still db e → (v : Session) → can_step e v ≡ true → can_step db v ≡ true
@@ -131,16 +160,16 @@ stuck e u t p is at h =
       never true c f = f
       never false c f = refl
 
-nearer : (given : Blocks) (mode : Mode) (m : Machine) (i : ℕ) (n : Next) → next given mode m (Step i) ≡ Ok n → IsNearerRest given m n.machine
-nearer given mode m i n h =
+nearer : (given : Blocks) (mode : Mode) (m : Machine) (i : ℕ) (n : Next) → IsOrderly m → next given mode m (Step i) ≡ Ok n → IsNearerRest given m n.machine
+nearer given mode m i n old h =
     let there = session_there given mode m (Step i) n h in
     let s = there.0 in
     let k = stepped given mode m i s n (subst (λ o. step_of given mode m i o ≡ Ok n) there.1 h) in
     subst (λ (y : Next). IsNearerRest given m y.machine) (sym k.is) (by s there.1 k (run_stmt m.db s.transaction s.statement (around m i s) k.stmt)
-    (does_stmt (Blocked_still m.db) (λ d. Unit {0}) (λ v. Unit {0}) m.db s.transaction s.statement (around m i s) k.stmt
-    (still_keeps (doer m.db s.transaction) m.db) (allows_all m.db s.transaction s.statement) (still_start m.db s.transaction))) where
+    (does_stmt (BlockedBy (doer m.db s.transaction) m.db) (λ d. Unit {0}) (λ v. Unit {0}) m.db s.transaction s.statement (around m i s) k.stmt
+    (still_keeps (doer m.db s.transaction) m.db) (allows_all m.db s.transaction s.statement) (still_start m.db s.transaction old.rows.known (λ q f. old.opened i q (ap tx_of there.1 ∙ f))))) where
       by : (s : Session) → slice_get m.sessions i ≡ Some s → (k : Stepped given m i s n) → (d : Did)
-          → Idles m.db d ⊎ Ran (doer m.db s.transaction) (Blocked_still m.db) (λ d. Unit {0}) (λ v. Unit {0}) (around m i s).sessions d
+          → Idles m.db d ⊎ Ran (doer m.db s.transaction) (BlockedBy (doer m.db s.transaction) m.db) (λ d. Unit {0}) (λ v. Unit {0}) (around m i s).sessions d
           → IsNearerRest given m (after_stmt m i k.place (length (stmts_at given k.place.block)) d).machine
       by s at k d did = on d.statement refl where
         count : ℕ
@@ -166,7 +195,7 @@ nearer given mode m i n h =
               let same : left_of given u ≡ left_of given s = sym left in
               inr (
                 omega arith,
-                count_set (can_step d.db) (can_step m.db) m.sessions i s u at (could m.db d.db own.1) could_before
+                count_set (can_step d.db) (can_step m.db) m.sessions i s u at (could m.db d.db own.1.still) could_before
                     (stuck d.db u w.2.0 p w.2.1 is (subst (λ (x : TxId). is_blocked d.db p.wait.request x ≡ true) (sym own.0) w.0.stopped)),
               )
         ]
@@ -191,22 +220,22 @@ same_sessions given mode m event n h =
     let s = there.0 in
     let x = doer m.db s.transaction in
     let k = moved (λ d. Unit {0}) (λ d. Unit {0}) (λ v. Unit {0}) given mode m event s n there.1
-    (record { lock = λ d h own p. tt; write = λ d w own held p. tt; create = λ d made p. tt; drop = λ d k p. tt; commit = λ d p. tt; roll_back = λ d p. tt; rest = λ d p. tt })
+    (record { lock = λ d h own may p. tt; insert = λ d w own made p. tt; write = λ d w own held p. tt; create = λ d made p. tt; drop = λ d k p. tt; commit = λ d p. tt; roll_back = λ d p. tt; rest = λ d p. tt })
     (allows_all m.db s.transaction s.statement) tt h in
     ap (λ (y : Machine). length y.sessions) k.is ∙ length-set m.sessions (session_of event) k.u
 
-bounded : (given : Blocks) (mode : Mode) (m after : Machine) (items : List HistItem) → Run given mode m items after → AreSteps items
+bounded : (given : Blocks) (mode : Mode) (m after : Machine) (items : List HistItem) → IsOrderly m → Run given mode m items after → AreSteps items
     → length items ≤ statements_left given m * (length m.sessions + 1) + able m
-bounded given mode m after [] run steps = omega arith
-bounded given mode m after (item ∷ items) run steps =
+bounded given mode m after [] old run steps = omega arith
+bounded given mode m after (item ∷ items) old run steps =
     let mid = run.0 in
     let n : Next = record { machine = mid; reply = item.reply } in
     let step : next given mode m (Step steps.0.0) ≡ Ok n = subst (λ (e : Event). next given mode m e ≡ Ok n) steps.0.1 run.1 in
     let long = same_sessions given mode m (Step steps.0.0) n step in
-    let more = bounded given mode mid after items run.2 steps.1 in
+    let more = bounded given mode mid after items (orderly_next given mode m (Step steps.0.0) n old step) run.2 steps.1 in
     let rest : length items ≤ statements_left given mid * (length m.sessions + 1) + able mid = subst (λ k. length items ≤ statements_left given mid * (k + 1) + able mid) long more in
     let few : able mid ≤ length mid.sessions = count_most (can_step mid.db) mid.sessions in
-    elim (nearer given mode m steps.0.0 n step) [
+    elim (nearer given mode m steps.0.0 n old step) [
       | inl less ↦
           let a = mul-add-lt (statements_left given mid) (length m.sessions + 1) (able mid) (statements_left given m) less (omega arith) in
           let b = mul_comm (length m.sessions + 1) (statements_left given m) in
@@ -218,4 +247,8 @@ bounded given mode m after (item ∷ items) run steps =
     ]
 
 pub rest_is_reached : RestIsReached
-rest_is_reached = record { nearer = nearer; bounded = bounded; in_turn = in_turn }
+rest_is_reached = record {
+  nearer = λ given mode count m reached i n h. nearer given mode m i n (orderly_there given mode count m reached) h;
+  bounded = λ given mode count m after items reached run steps. bounded given mode m after items (orderly_there given mode count m reached) run steps;
+  in_turn = in_turn;
+}

@@ -1,6 +1,6 @@
 -- A transaction's snapshot is of commits that have been.
 use Rattle.std.proofs.Common.{◌≡◌, refl, subst, Bool, true, false, ℕ, ◌≤◌, List, [], arith}
-use Rattle.std.specs.Prelude.{ℤ, Option, Some, None, unwrap_or, Result, Ok, Err, if◌then◌else◌}
+use Rattle.std.specs.Prelude.{ℤ, Option, Some, None, drop, unwrap_or, Result, Ok, Err, if◌then◌else◌}
 use Rattle.sql_trees.specs.declared.stmt.Level.{Level}
 use Rattle.sql_trees.specs.declared.stmt.Level.TheVariants.{ReadCommitted}
 use Rattle.sql_trees.specs.declared.stmt.Lock.{Lock}
@@ -8,7 +8,7 @@ use Rattle.sql_trees.specs.Statements.{StmtTree, InsertTree, UpdateTree, DeleteT
 use Rattle.sql_values.specs.declared.value.Value.{Value}
 use Rattle.sql_values.specs.declared.fault.ValueFault.{ValueFault}
 use Rattle.result_tables.specs.Results.{Results}
-use Rattle.session_queries.specs.Queries.{Target, cols_of, lacking_rows, titles_of}
+use Rattle.session_queries.specs.Queries.{Target, cols_of, lacking_rows, targets_of, titles_of}
 use Rattle.session_queries.specs.Updates.{lacking_update, set_targets}
 use Rattle.row_versions.specs.Log.{Content, commit_count}
 use Rattle.session_machine.specs.declared.session.OpenTransaction.{OpenTransaction}
@@ -24,7 +24,7 @@ use Rattle.session_machine.specs.Transactions.{begun, fresh, moved_on, started}
 use Rattle.session_machine.specs.Statements.{Around, Did, fails, turns, create, drop_ended, dropped, level_set, is_end}
 use Rattle.session_machine.specs.Walks.{Stop, Walk, Blocked, Fails, walked, walked_from}
 use Rattle.session_machine.specs.Rows.{Work, columns_in, insert_at, update_at, delete_at, lock_at, passing_targets, taken_targets}
-use Rattle.session_machine.specs.Running.{beginning, going_on, comes_to, ended, done, insert_all, update_from, delete_from, lock_from, assigned_to, insert_fitting, insert_to, insert, update_fitting, update_to, update, delete_fitting, delete, answered, select_rows, unless_wrong, select_at, select, run_open, run_first, run_closed, lock_again, run_on, run_stmt}
+use Rattle.session_machine.specs.Running.{beginning, going_on, comes_to, ended, done, insert_from, update_from, delete_from, lock_from, assigned_to, insert_fitting, insert_to, insert, update_fitting, update_to, update, delete_fitting, delete, answered, select_rows, unless_wrong, select_at, select, run_open, run_first, run_closed, lock_again, run_on, run_stmt}
 use Rattle.wait_laws.proofs.Staying.{count-begin}
 
 -- the snapshot, if there is one, is of at most so many commits
@@ -75,8 +75,10 @@ shot_ended count before w f k has same = by k.stop where
   by (Some (Fails fault)) = shot_fails count k.db w.t fault
   by (Some (Blocked r)) = shot_open count k.db (started before w.t) _ _ (first_has count w.t.snapshot (commit_count before) has same)
 
-shot_insert_all : (count : ℕ) (db : Database) (w : Work) (i : InsertTree) (targets : List Target) → Has count w.t → commit_count db.content ≡ count → Shot count (insert_all db w i targets)
-shot_insert_all count db w i targets has same = shot_ended count db.content w done (walked (insert_at w i.table targets) db 0 [] i.rows) has same
+shot_insert_from : (count : ℕ) (db : Database) (w : Work) (i : InsertTree) (place : ℕ) (rows : List (List Value)) → Has count w.t → commit_count db.content ≡ count
+    → Shot count (insert_from db w i place rows)
+shot_insert_from count db w i place rows has same =
+    shot_ended count db.content w done (walked (insert_at w i.table (assigned_to (targets_of (columns_in db w) i.columns))) db place rows (drop place i.rows)) has same
 
 shot_update_from : (count : ℕ) (db : Database) (w : Work) (u : UpdateTree) (place : ℕ) (rows : List (List Value)) → Has count w.t → commit_count db.content ≡ count
     → Shot count (update_from db w u place rows)
@@ -98,7 +100,7 @@ shot_insert_to count db w i (Err column) has same = shot_fails count db w.t _
 shot_insert_to count db w i (Ok targets) has same = by (lacking_rows i.rows) where
   by : (o : Option (List ℕ)) → Shot count (insert_fitting db w i targets o)
   by (Some name) = shot_fails count db w.t _
-  by None = shot_if count _ _ _ (shot_fails count db w.t _) (shot_insert_all count db w i targets has same)
+  by None = shot_if count _ _ _ (shot_fails count db w.t _) (shot_insert_from count db w i 0 [] has same)
 
 shot_update_to : (count : ℕ) (db : Database) (w : Work) (u : UpdateTree) (r : Result (List Target) (List ℕ)) → Has count w.t → commit_count db.content ≡ count → Shot count (update_to db w u r)
 shot_update_to count db w u (Err column) has same = shot_fails count db w.t _
@@ -179,7 +181,7 @@ shot_on count db t around g (SetTransaction level) has same = shot_begins count 
 shot_on count db t around g SetDeadlockTimeout has same = shot_begins count db t around SetDeadlockTimeout has same
 shot_on count db t around g (Create c) has same = shot_begins count db t around (Create c) has same
 shot_on count db t around g (DropTables d) has same = shot_begins count db t around (DropTables d) has same
-shot_on count db t around g (Inserts i) has same = shot_begins count db t around (Inserts i) has same
+shot_on count db t around g (Inserts i) has same = shot_insert_from count db (going_on t around g) i g.place g.rows has same
 
 none_not : (k : ℕ) → None ≡ Some k → ⊥
 none_not k h = cc

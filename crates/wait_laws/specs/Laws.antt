@@ -4,7 +4,7 @@ use Rattle.sql_trees.specs.declared.stmt.Level.{Level}
 use Rattle.sql_trees.specs.declared.stmt.Level.TheVariants.{ReadCommitted, RepeatableRead}
 use Rattle.sql_trees.specs.declared.stmt.Lock.{Lock}
 use Rattle.sql_trees.specs.Trees.{Tree}
-use Rattle.sql_trees.specs.Statements.{DeleteTree, SelectTree, UpdateTree, Deletes, Selects, Updates}
+use Rattle.sql_trees.specs.Statements.{DeleteTree, InsertTree, SelectTree, UpdateTree, Deletes, Inserts, Selects, Updates}
 use Rattle.row_versions.specs.declared.names.TxId.{TxId}
 use Rattle.row_versions.specs.declared.write.Write.{Write}
 use Rattle.row_versions.specs.Log.{Content, IsOpen}
@@ -107,6 +107,7 @@ pub record IsInViewOf (p : Progress) (around : Around) (q : Progress) : Type 0 w
 
 -- a statement that goes on, and stops at a later target, is in its view and at its table still, and waits anew: its view is taken once, when it begins (13.2.1)
 pub record GoesOnInItsView (db : Database) (t : OpenTransaction) (around : Around) (p q : Progress) : Type 0 where
+  pub inserts : (i : InsertTree) → (run_stmt db (Open t) (Some p) around (Inserts i)).statement ≡ Some q → IsInViewOf p around q
   pub updates : (u : UpdateTree) → (run_stmt db (Open t) (Some p) around (Updates u)).statement ≡ Some q → IsInViewOf p around q
   pub deletes : (d : DeleteTree) → (run_stmt db (Open t) (Some p) around (Deletes d)).statement ≡ Some q → IsInViewOf p around q
   pub locks : (s : SelectTree) (l : Lock) → s.lock ≡ Some l → (run_stmt db (Open t) (Some p) around (Selects s)).statement ≡ Some q → IsInViewOf p around q
@@ -145,11 +146,12 @@ abbrev pub AreSteps : List HistItem → Type 0
 AreSteps [] = Unit {0}
 AreSteps (item ∷ items) = ((session : ℕ) × (item.event ≡ Step session)) × AreSteps items
 
--- each step that is taken, in turn or not, comes nearer to rest; so where sessions are given no more blocks, only so many steps follow one another:
+-- in every state each step that is taken, in turn or not, comes nearer to rest; so where sessions are given no more blocks, only so many steps follow one another:
 -- for each statement that is left one of each session and one more, and one of each session that can step now.
--- In every state the step of the session whose turn it is is taken; so steps in turn come to a state in which it is nobody's turn
+-- And the step of the session whose turn it is is taken; so steps in turn come to a state in which it is nobody's turn
 pub record RestIsReached : Type 0 where
-  pub nearer : (given : Blocks) (mode : Mode) (m : Machine) (session : ℕ) (n : Next) → next given mode m (Step session) ≡ Ok n → IsNearerRest given m n.machine
-  pub bounded : (given : Blocks) (mode : Mode) (m after : Machine) (items : List HistItem) → Run given mode m items after → AreSteps items
+  pub nearer : (given : Blocks) (mode : Mode) (count : ℕ) (m : Machine) → Reaches given mode count m → (session : ℕ) (n : Next) → next given mode m (Step session) ≡ Ok n
+      → IsNearerRest given m n.machine
+  pub bounded : (given : Blocks) (mode : Mode) (count : ℕ) (m after : Machine) (items : List HistItem) → Reaches given mode count m → Run given mode m items after → AreSteps items
       → length items ≤ statements_left given m * (length m.sessions + 1) + able m
   pub in_turn : (given : Blocks) (mode : Mode) (count : ℕ) (m : Machine) → Reaches given mode count m → (k : ℕ) → turn_in m ≡ Some k → (n : Next) × (next given mode m (Step k) ≡ Ok n)

@@ -1,5 +1,5 @@
 use Rattle.std.proofs.lemmas.Result.{err_from_is_err_and}
-use Rattle.std.proofs.Common.{ap, subst, ◌∙◌, rules}
+use Rattle.std.proofs.Common.{ap, subst, ◌∙◌}
 use Rattle.session_machine.specs.Machine.{Blocks}
 use Rattle.session_core.specs.Blocks.{blocks_of}
 use Rattle.spec_parser.specs.Trees.{spec_view}
@@ -7,7 +7,7 @@ use Rattle.permutation_lists.specs.Permutations.{permutations_of}
 use Rattle.permutations.specs.BlockAnswers.{file_view}
 use Rattle.permutations.specs.Prints.{Prints}
 use Rattle.permutations.specs.Broken.{RunBroken}
-use Rattle.permutations.proofs.Whole.{refused_file, runs_not_yet, ran, broke}
+use Rattle.permutations.proofs.Whole.{refused_file, ran, broke}
 use Rattle.permutations.proofs.run.run_file.Goals as goal
 
 pub returns-in_err-file-clause-refused : goal.returns-in_err-file-clause-refused
@@ -15,27 +15,23 @@ returns-in_err-file-clause-refused g c =
     let p = err_from_is_err_and c.from_residual.result c.from_residual.ensures.1 in
     rw (p.1, p.2) (λ refusal. refused_file c.args.bytes.now c.args.limit c.in_err-file.field-0.0 c.in_err-file.ensures.err refusal)
 
-pub returns-then-not-all_run-clause-refused : goal.returns-then-not-all_run-clause-refused
-returns-then-not-all_run-clause-refused g c =
-    λ _. runs_not_yet c.args.bytes.now c.args.limit (file_view c.in_ok-file.file) c.all_run.result c.in_ok-file.ensures.ok (search rules) c.if-not-all_run.true
-
 pub returns-clause-told : goal.returns-clause-told
 returns-clause-told g c =
     let line = c.as_slice.ensures.value ∙ c.in_ok-line.ensures in
-    let blocks = ap blocks_of c.deref-2.ensures.value in
+    let blocks = ap blocks_of c.deref.ensures.value in
     λ ended.
     let one = c.run_permutations.ensures.told ended in
     let prints = subst (λ (bs : Blocks). Prints (spec_view c.in_ok-file.file.spec) bs c.args.limit (permutations_of (spec_view c.in_ok-file.file.spec)) one.0) blocks one.1 in
     let all = ran c.args.bytes.now c.args.limit (file_view c.in_ok-file.file)
     (g.W.Sink.put_so_far c.args.out.now) (g.W.Sink.put_so_far c.put.new.self) (g.W.Sink.put_so_far c.run_permutations.new.out)
     (g.N.Sink.put_so_far c.args.notes.now) (g.N.Sink.put_so_far c.run_permutations.new.notes)
-    c.run_permutations.result c.as_slice.result.now one.0 c.all_run.result c.in_ok-file.ensures.ok (search rules) c.if-not-all_run.false line c.in_ok-put.ensures.bytes prints one.2 in
+    c.run_permutations.result c.as_slice.result.now one.0 c.in_ok-file.ensures.ok line c.in_ok-put.ensures.bytes prints one.2 in
     (all.said, all.says_so, all.told)
 
 pub returns-clause-broken : goal.returns-clause-broken
 returns-clause-broken g c =
     let line = c.as_slice.ensures.value ∙ c.in_ok-line.ensures in
-    let blocks = ap blocks_of c.deref-2.ensures.value in
+    let blocks = ap blocks_of c.deref.ensures.value in
     let wm = g.W.Sink.put_so_far c.put.new.self in
     let wn = g.W.Sink.put_so_far c.run_permutations.new.out in
     let eo = g.N.Sink.put_so_far c.args.notes.now in
@@ -43,4 +39,4 @@ returns-clause-broken g c =
     λ broken.
     let off = subst (λ (bs : Blocks). RunBroken (spec_view c.in_ok-file.file.spec) bs c.args.limit (permutations_of (spec_view c.in_ok-file.file.spec)) wm wn eo en) blocks (c.run_permutations.ensures.broken broken) in
     broke c.args.bytes.now c.args.limit (file_view c.in_ok-file.file) (g.W.Sink.put_so_far c.args.out.now) wm wn eo en
-    c.as_slice.result.now c.all_run.result c.in_ok-file.ensures.ok (search rules) c.if-not-all_run.false line c.in_ok-put.ensures.bytes off
+    c.as_slice.result.now c.in_ok-file.ensures.ok line c.in_ok-put.ensures.bytes off

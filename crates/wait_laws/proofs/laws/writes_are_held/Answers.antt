@@ -1,4 +1,4 @@
-use Rattle.wait_laws.proofs.Exclusion.{writes_are_held}
+use Rattle.wait_laws.proofs.Alone.{writes_are_held}
 use Rattle.wait_laws.proofs.laws.writes_are_held.Goals as goal
 
 pub returns : goal.returns

@@ -1,4 +1,4 @@
-use Rattle.std.proofs.Common.{◌≡◌, ◌∙◌, sym, ap, subst, drop}
+use Rattle.std.proofs.Common.{◌≡◌, sym, ap, subst, drop}
 use Rattle.std.specs.Prelude.{IfOk}
 use Rattle.sql_trees.specs.Statements.{delete_of}
 use Rattle.session_machine.specs.Rows.{delete_at, passing_targets}

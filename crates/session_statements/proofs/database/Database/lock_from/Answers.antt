@@ -1,4 +1,4 @@
-use Rattle.std.proofs.Common.{◌≡◌, ◌∙◌, sym, ap, subst, drop, List}
+use Rattle.std.proofs.Common.{◌≡◌, sym, ap, subst, drop, List}
 use Rattle.std.specs.Prelude.{IfOk}
 use Rattle.sql_trees.specs.Statements.{select_of}
 use Rattle.sql_values.specs.declared.value.Value.{Value}

@@ -1,12 +1,11 @@
-use Rattle.std.proofs.Common.{rules, ◌≡◌, ◌∙◌, refl, sym, ap, subst}
+use Rattle.std.proofs.Common.{rules, ◌≡◌, ◌∙◌, refl, ap, subst}
 use Rattle.std.specs.Prelude.{option_map}
 use Rattle.sql_trees.specs.Trees.{tree_of}
 use Rattle.row_locks.specs.Laws.{SamePairs}
-use Rattle.update_recheck.specs.Asked.{Asked, Fits, asked}
+use Rattle.update_recheck.specs.Asked.{Asked}
 use Rattle.update_recheck.specs.Outcome.{target_outcome}
 use Rattle.session_machine.specs.Waits.{waits_in}
 use Rattle.session_machine.specs.Rows.{Work}
-use Rattle.session_queries.specs.Queries.{cols_of}
 use Rattle.session_statements.specs.Acting.{asks}
 use Rattle.session_statements.proofs.database.Database.settle_target.Goals as goal
 

@@ -1,6 +1,6 @@
 use Rattle.std.proofs.Common.{◌≡◌, ◌∙◌, sym, ap, subst, drop, map, List}
 use Rattle.std.specs.Prelude.{IfOk}
-use Rattle.sql_trees.specs.Statements.{column_of, set_of, update_of}
+use Rattle.sql_trees.specs.Statements.{set_of, update_of}
 use Rattle.session_queries.specs.Queries.{Target}
 use Rattle.session_queries.specs.Updates.{set_targets}
 use Rattle.session_machine.specs.Rows.{columns_in, passing_targets, update_at}

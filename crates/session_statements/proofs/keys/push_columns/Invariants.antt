@@ -1,0 +1,9 @@
+use Rattle.std.proofs.Common.{◌≡◌, ◌++◌, drop, map}
+use Rattle.sql_trees.specs.Statements.{column_of, underscored}
+use Rattle.session_machine.specs.Rows.{names_at}
+use Rattle.session_statements.proofs.keys.push_columns.Given as goal
+
+abbrev pub invariant-loop-place : goal.invariant-loop-place
+invariant-loop-place l =
+    l.text.items ++ underscored (names_at (map column_of l.columns) (drop l.place-index l.places))
+    ≡ l.fn.text.items ++ underscored (names_at (map column_of l.columns) l.fn.places)

@@ -1,0 +1,44 @@
+//! What stops a statement at a row that it is about to write: NULL in a column that may not be, and then a key.
+
+ghost use Rattle.std.specs.Prelude.{◌≡◌, ◌<◌, length, option_map, IfOk};
+ghost use Rattle.sql_trees.specs.Statements.{name_of};
+ghost use Rattle.row_versions.specs.Log.{IsOpen};
+ghost use Rattle.session_queries.specs.Queries.{null_in};
+ghost use Rattle.session_machine.specs.Tables.{Database as DatabaseFacts};
+ghost use Rattle.session_machine.specs.Rows.{columns_in, keys_in, stop_at_keys, unless_null, unless_stopped_by};
+ghost use Rattle.session_statements.specs.Acting.{stop_of};
+
+use crate::act::Stop;
+use crate::database::Database;
+use crate::did::Work;
+use iso_lexer::{Ident, Name};
+use row_versions::{RowId, Versions};
+use session_machine::StmtFault;
+use session_queries::null_in;
+use sql_values::Row;
+use std::alloc::AllocError;
+
+impl<'a, 't, V: Versions> Database<'a, 't, V> {
+    /// What stops the statement, which is about to write a row with these values in place of that one, or as a new one.
+    pub(crate) fn stop_before_write(
+        &self,
+        work: &Work<'_>,
+        name: Name<'t>,
+        values: &Row,
+        except: Option<RowId>,
+    ) -> Result<Option<Stop<'t>>, AllocError>
+        requires opened { IsOpen self.now.content work.now.t.tx }
+        requires within { work.now.table < length self.now.catalog.tables }
+        ensures { (after : DatabaseFacts) → IfOk result (λ stop.
+            unless_null (name_of name.entry) self.now
+            (unless_stopped_by self.now after (stop_at_keys self.now work.now (name_of name.entry) values.now except (keys_in self.now work.now)))
+            (null_in (columns_in self.now work.now) values.now)
+            ≡ unless_stopped_by self.now after (option_map stop_of stop)) }
+    {
+        if let Some(column) = null_in(self.columns_in(work), values) {
+            let table = Ident::new(name);
+            return Ok(Some(Stop::Fails(StmtFault::NullValue { column, table })));
+        }
+        self.stop_at_keys(work, name, values, except)
+    }
+}
