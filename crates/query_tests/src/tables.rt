@@ -6,8 +6,8 @@ ghost use Rattle.std.specs.Prelude.{◌≡◌, All, length};
 use crate::trial::{Wrong, block};
 use crate::words::{add_fault, add_named, add_places, add_row};
 use session_queries::{
-    lacking_filter, lacking_select, lacking_update, new_values, passing_places, result_of,
-    row_values, set_targets, taken_places, targets_of, updated_values, wrong_position,
+    columns_assigned, columns_set, lacking_filter, lacking_select, lacking_update, new_values,
+    passing_places, result_of, row_values, taken_places, updated_values, wrong_position,
 };
 use sql_parser::Block;
 use sql_trees::{Column, Delete, Insert, Select, Stmt, Update};
@@ -28,7 +28,7 @@ fn are_as_long(rows: &[&Row], long: usize) -> bool
 }
 
 fn rows_of(alloc: Global, columns: &[Column<'_>], insert: &Insert<'_>) -> Result<Vec<Row>, Wrong> {
-    let Ok(targets) = targets_of(alloc, columns, insert.columns.as_ref())? else {
+    let Ok(targets) = columns_assigned(alloc, columns, insert.columns.as_ref())? else {
         return Err(Wrong::Written("a column that isn't there"));
     };
     let mut rows = Vec::new(alloc);
@@ -119,7 +119,7 @@ fn say_updated(
     columns: &[Column<'_>],
     rows: &[&Row],
 ) -> Result<(), Wrong> {
-    let Ok(targets) = set_targets(alloc, columns, &update.sets)? else {
+    let Ok(targets) = columns_set(alloc, columns, &update.sets)? else {
         return Err(Wrong::Written("a column that isn't there"));
     };
     if !are_as_long(rows, columns.len()) {
@@ -146,7 +146,7 @@ fn say_update(
     columns: &[Column<'_>],
     rows: &[&Row],
 ) -> Result<(), Wrong> {
-    if let Err(name) = set_targets(alloc, columns, &update.sets)? {
+    if let Err(name) = columns_set(alloc, columns, &update.sets)? {
         return Ok(add_named(words, " no column to assign ", name.name())?);
     }
     if let Some(name) = lacking_update(columns, update) {

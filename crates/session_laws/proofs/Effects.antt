@@ -11,8 +11,8 @@ use Rattle.sql_values.specs.declared.fault.ValueFault.{ValueFault}
 use Rattle.sql_values.specs.declared.fault.ValueFault.TheVariants.{NoColumn}
 use Rattle.result_tables.specs.Results.{Results}
 use Rattle.row_versions.specs.declared.write.View.{View}
-use Rattle.session_queries.specs.Queries.{Target, cols_of, lacking_if, lacking_rows, lacking_select, result_of, some_too_long, targets_of, titles_of, wrong_position}
-use Rattle.session_queries.specs.Updates.{lacking_update, set_targets}
+use Rattle.session_queries.specs.Queries.{AssignedColumn, cols_of, lacking_if, lacking_rows, lacking_select, result_of, some_too_long, columns_assigned, titles_of, wrong_position}
+use Rattle.session_queries.specs.Updates.{lacking_update, columns_set}
 use Rattle.session_machine.specs.declared.session.OpenTransaction.{OpenTransaction}
 use Rattle.session_machine.specs.declared.session.Transaction.{Transaction}
 use Rattle.session_machine.specs.declared.session.Transaction.TheVariants.{Closed, Open, Aborted}
@@ -132,14 +132,14 @@ module _ (may : Bool) (db : Database) (t : OpenTransaction) (around : Around) (P
   inserts_from : (k : ℕ) (view : View) (table : Table) → At k table → (i : InsertTree) (place : ℕ) (rows : List (List Value)) → M (insert_from db (work k view) i place rows)
   inserts_from k view table at i place rows =
       let w = work k view in
-      let targets = assigned_to (targets_of (columns_in db w) i.columns) in
+      let targets = assigned_to (columns_assigned (columns_in db w) i.columns) in
       ends k view table done (walked (insert_at w i.table targets) db place rows (drop place i.rows))
       (works_inserts db.content w table P eff.lasts i.table targets (drop place i.rows) db place rows (starts k table at))
 
   updates_from : (k : ℕ) (view : View) (table : Table) → At k table → (u : UpdateTree) (place : ℕ) (rows : List (List Value)) → M (update_from db (work k view) u place rows)
   updates_from k view table at u place rows =
       let w = work k view in
-      let targets = assigned_to (set_targets (columns_in db w) u.sets) in
+      let targets = assigned_to (columns_set (columns_in db w) u.sets) in
       ends k view table done (walked_from (update_at w u targets) db place rows (passing_targets db w u.filter))
       (works_updates db.content w table P eff.lasts u targets (passing_targets db w u.filter) (passing_of db w u.filter eff.firm.stay) db place rows (starts k table at))
 
@@ -156,32 +156,32 @@ module _ (may : Bool) (db : Database) (t : OpenTransaction) (around : Around) (P
       (works_locks db.content w table P eff.lasts s l (taken_targets db w s) (taken_of db w s eff.firm.stay) db place rows (starts k table at))
 
   -- INSERT
-  inserts_fitting : (k : ℕ) (table : Table) → At k table → (i : InsertTree) (targets : List Target) (o : Option (List ℕ)) → M (insert_fitting db (beginning db t around k) i targets o)
+  inserts_fitting : (k : ℕ) (table : Table) → At k table → (i : InsertTree) (targets : List AssignedColumn) (o : Option (List ℕ)) → M (insert_fitting db (beginning db t around k) i targets o)
   inserts_fitting k table at i targets (Some name) = failed_here (OfValue (NoColumn name))
   inserts_fitting k table at i targets None =
       either (some_too_long (length targets) i.rows) (fails db t TooManyValues) (insert_from db (beginning db t around k) i 0 []) (failed_here TooManyValues)
       (inserts_from k (view_of db.content t) table at i 0 [])
 
-  inserts_to : (k : ℕ) (table : Table) → At k table → (i : InsertTree) (r : Result (List Target) (List ℕ)) → M (insert_to db (beginning db t around k) i r)
+  inserts_to : (k : ℕ) (table : Table) → At k table → (i : InsertTree) (r : Result (List AssignedColumn) (List ℕ)) → M (insert_to db (beginning db t around k) i r)
   inserts_to k table at i (Err column) = failed_here (NoColumnOf column i.table)
   inserts_to k table at i (Ok targets) = inserts_fitting k table at i targets (lacking_rows i.rows)
 
   inserts : (i : InsertTree) (o : Option ℕ) → find_table db (Some t.tx) i.table ≡ o → M (insert db t around i o)
   inserts i None e = failed_here (NoTable i.table)
-  inserts i (Some k) e = let at = find_table_within db (Some t.tx) i.table k e in inserts_to k at.0 at.1 i (targets_of (columns_at db.catalog k) i.columns)
+  inserts i (Some k) e = let at = find_table_within db (Some t.tx) i.table k e in inserts_to k at.0 at.1 i (columns_assigned (columns_at db.catalog k) i.columns)
 
   -- UPDATE
   updates_fitting : (k : ℕ) (table : Table) → At k table → (u : UpdateTree) (o : Option (List ℕ)) → M (update_fitting db (beginning db t around k) u o)
   updates_fitting k table at u (Some name) = failed_here (OfValue (NoColumn name))
   updates_fitting k table at u None = updates_from k (view_of db.content t) table at u 0 []
 
-  updates_to : (k : ℕ) (table : Table) → At k table → (u : UpdateTree) (r : Result (List Target) (List ℕ)) → M (update_to db (beginning db t around k) u r)
+  updates_to : (k : ℕ) (table : Table) → At k table → (u : UpdateTree) (r : Result (List AssignedColumn) (List ℕ)) → M (update_to db (beginning db t around k) u r)
   updates_to k table at u (Err column) = failed_here (NoColumnOf column u.table)
   updates_to k table at u (Ok targets) = updates_fitting k table at u (lacking_update (cols_of (columns_in db (beginning db t around k))) u)
 
   updates : (u : UpdateTree) (o : Option ℕ) → find_table db (Some t.tx) u.table ≡ o → M (update db t around u o)
   updates u None e = failed_here (NoTable u.table)
-  updates u (Some k) e = let at = find_table_within db (Some t.tx) u.table k e in updates_to k at.0 at.1 u (set_targets (columns_at db.catalog k) u.sets)
+  updates u (Some k) e = let at = find_table_within db (Some t.tx) u.table k e in updates_to k at.0 at.1 u (columns_set (columns_at db.catalog k) u.sets)
 
   -- DELETE
   deletes_fitting : (k : ℕ) (table : Table) → At k table → (d : DeleteTree) (o : Option (List ℕ)) → M (delete_fitting db (beginning db t around k) d o)

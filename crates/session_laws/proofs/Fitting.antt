@@ -15,7 +15,7 @@ use Rattle.row_versions.specs.declared.names.TxId.{TxId}
 use Rattle.row_versions.specs.declared.write.Write.{Write}
 use Rattle.row_versions.specs.Log.{Content, values_at, after_write}
 use Rattle.row_versions.proofs.Gets.{get-append_left, get-append_last}
-use Rattle.session_queries.specs.Queries.{Target, each, assigned, placed, new_values}
+use Rattle.session_queries.specs.Queries.{AssignedColumn, each, assigned, placed, new_values}
 use Rattle.session_queries.specs.Updates.{updated}
 use Rattle.session_machine.specs.Tables.{Database, Catalog, Table, Dropped, is_meant, find_from, find_table}
 use Rattle.session_machine.specs.Statements.{columns_at, with_table}
@@ -34,7 +34,7 @@ pub its_values : (c : Content) (place : ℕ) (w : Write) → slice_get c.log pla
 its_values c place w there = ap (option_and_then (λ (v : Write). v.values)) there
 
 -- a value's place takes nothing from the row
-pub length-placed : (targets : List Target) (values row : List Value) → length (placed targets values row) ≡ length row
+pub length-placed : (targets : List AssignedColumn) (values row : List Value) → length (placed targets values row) ≡ length row
 length-placed [] values row = refl
 length-placed (t ∷ ts) [] row = refl
 length-placed (t ∷ ts) (v ∷ vs) row = length-placed ts vs (set row t.place v) ∙ length-set row t.place v
@@ -43,7 +43,7 @@ same_Ok : {A : Type 0} {a b : A} → (let x : Result A ValueFault = Ok a in let 
 same_Ok h = cc
 
 -- what is placed in a row has its length
-length-put : (targets : List Target) (row values : List Value) (r : Result (List Value) ValueFault)
+length-put : (targets : List AssignedColumn) (row values : List Value) (r : Result (List Value) ValueFault)
     → if_ok r (λ vs. if_ok (assigned targets vs) (λ vs. Ok (placed targets vs row))) ≡ Ok values → length values ≡ length row
 length-put targets row values (Err f) e = cc
 length-put targets row values (Ok vs) e = at_assigned (assigned targets vs) e where
@@ -52,12 +52,12 @@ length-put targets row values (Ok vs) e = at_assigned (assigned targets vs) e wh
   at_assigned (Ok vs) e = ap length (sym (same_Ok e)) ∙ length-placed targets vs row
 
 -- a new row has a value for each column
-pub length-new_values : (width : ℕ) (targets : List Target) (row : List Tree) (values : List Value) → new_values width targets row ≡ Ok values → length values ≡ width
+pub length-new_values : (width : ℕ) (targets : List AssignedColumn) (row : List Tree) (values : List Value) → new_values width targets row ≡ Ok values → length values ≡ width
 length-new_values width targets row values h =
     length-put targets (replicate width Null) values (each (λ e. value e [] []) row) h ∙ length-replicate width Null
 
 -- and an updated one as many as before
-pub length-updated : (cols : Cols) (targets : List Target) (sets : List SetTree) (row values : List Value) → updated cols targets sets row ≡ Ok values → length values ≡ length row
+pub length-updated : (cols : Cols) (targets : List AssignedColumn) (sets : List SetTree) (row values : List Value) → updated cols targets sets row ≡ Ok values → length values ≡ length row
 length-updated cols targets sets row values h = length-put targets row values (each (λ (s : SetTree). value s.value cols row) sets) h
 
 -- the first write of the row stands in the log, and is of that table

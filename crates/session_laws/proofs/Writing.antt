@@ -8,7 +8,7 @@ use Rattle.sql_trees.specs.Trees.{Tree}
 use Rattle.sql_trees.specs.Statements.{CreateTree, UpdateTree, DeleteTree, SelectTree}
 use Rattle.sql_values.specs.declared.value.Value.{Value}
 use Rattle.sql_values.specs.declared.fault.ValueFault.{ValueFault}
-use Rattle.session_queries.specs.Queries.{Target, new_values, null_in, row_values}
+use Rattle.session_queries.specs.Queries.{AssignedColumn, new_values, null_in, row_values}
 use Rattle.session_queries.specs.Updates.{updated}
 use Rattle.row_versions.specs.declared.names.RowId.{RowId}
 use Rattle.row_versions.specs.declared.names.TableId.{TableId}
@@ -140,7 +140,7 @@ module _ (start : Content) (w : Work) (table : Table) (P : Database → Type 0) 
   works_checked name db after (Some stop) None h k = h
   works_checked name db after None None h k = k
 
-  works_insert : (name : List ℕ) (targets : List Target) (db : Database) (row : List Tree) → W db → W (insert_at w name targets db row).db
+  works_insert : (name : List ℕ) (targets : List AssignedColumn) (db : Database) (row : List Tree) → W db → W (insert_at w name targets db row).db
   works_insert name targets db row h = at_values (new_values (length (columns_in db w)) targets row) refl where
     long : (values : List Value) → new_values (length (columns_in db w)) targets row ≡ Ok values → length values ≡ length table.made.columns
     long values e = length-new_values (length (columns_in db w)) targets row values e ∙ ap length (columns_are db.catalog w.table table h.there)
@@ -190,7 +190,7 @@ module _ (start : Content) (w : Work) (table : Table) (P : Database → Type 0) 
   still_of : (db : Database) (new : Write) (row : ℕ) → IsRowOf db.content w.table row → IsRowOf (after_write db.content new) w.table row
   still_of db new row of = (of.0, slice_get-append_left db.content.log (new ∷ []) row of.0 of.1, of.2)
 
-  acts_update : (u : UpdateTree) (targets : List Target) → Acts (update_with w u targets)
+  acts_update : (u : UpdateTree) (targets : List AssignedColumn) → Acts (update_with w u targets)
   acts_update u targets db s h of long = at_values (updated (cols_in db w) targets u.sets (values_of db s)) refl where
     writes : (values : List Value) → length values ≡ length table.made.columns → W (written db w s.row (Some values))
     writes values l = works_write db s.row (Some values) h (still_of db _ s.row.0 of) (λ vs e. ap length (sym (same_Some values vs e)) ∙ l)
@@ -213,7 +213,7 @@ module _ (start : Content) (w : Work) (table : Table) (P : Database → Type 0) 
     at_row (Err fault) = h
     at_row (Ok row) = h
 
-  pub works_inserts : (name : List ℕ) (targets : List Target) (given : List (List Tree)) (db : Database) (place : ℕ) (rows : List (List Value)) → W db
+  pub works_inserts : (name : List ℕ) (targets : List AssignedColumn) (given : List (List Tree)) (db : Database) (place : ℕ) (rows : List (List Value)) → W db
       → W (walked (insert_at w name targets) db place rows given).db
   works_inserts name targets given db place rows h =
       walked_keeps W (λ row. Unit {0}) (insert_at w name targets) (λ d row of k. works_insert name targets d row k) given (any given) db place rows h where
@@ -221,7 +221,7 @@ module _ (start : Content) (w : Work) (table : Table) (P : Database → Type 0) 
         any [] = tt
         any (x ∷ xs) = (tt, any xs)
 
-  pub works_updates : (u : UpdateTree) (targets : List Target) (r : Result (List Seen) ValueFault) → EachOk (SeenOf start w.table) r → (db : Database) (place : ℕ) (rows : List (List Value)) → W db
+  pub works_updates : (u : UpdateTree) (targets : List AssignedColumn) (r : Result (List Seen) ValueFault) → EachOk (SeenOf start w.table) r → (db : Database) (place : ℕ) (rows : List (List Value)) → W db
       → W (walked_from (update_at w u targets) db place rows r).db
   works_updates u targets r of db place rows h =
       walked_from_keeps W (SeenOf start w.table) (update_at w u targets) (λ d s its k. works_target (update_with w u targets) (acts_update u targets) d (ask d w Exclusive u.filter s) its k) r of db place rows h

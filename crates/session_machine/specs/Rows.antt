@@ -8,7 +8,7 @@ use Rattle.sql_trees.specs.Statements.{ColumnTree, KeyTree, InsertTree, UpdateTr
 use Rattle.sql_values.specs.declared.value.Value.{Value}
 use Rattle.sql_values.specs.declared.fault.ValueFault.{ValueFault}
 use Rattle.sql_values.specs.Expressions.{Cols}
-use Rattle.session_queries.specs.Queries.{Target, cols_of, new_values, null_in, row_values, passing, taken}
+use Rattle.session_queries.specs.Queries.{AssignedColumn, cols_of, new_values, null_in, row_values, passing, taken}
 use Rattle.session_queries.specs.Updates.{updated}
 use Rattle.row_versions.specs.declared.names.RowId.{RowId}
 use Rattle.row_versions.specs.declared.write.View.{View}
@@ -109,8 +109,8 @@ insert_made w name db (Ok values) =
     unless_null name db (unless_stopped_by db (inserted db w values) (stop_at_keys db w name values None (keys_in db w))) (null_in (columns_in db w) values)
 
 -- INSERT at a row of its VALUES: it is evaluated and assigned, its NULLs and then its keys are checked, and it is written
-abbrev pub insert_at : Work → List ℕ → List Target → Database → List Tree → Visit
-insert_at w name targets db row = insert_made w name db (new_values (length (columns_in db w)) targets row)
+abbrev pub insert_at : Work → List ℕ → List AssignedColumn → Database → List Tree → Visit
+insert_at w name to db row = insert_made w name db (new_values (length (columns_in db w)) to row)
 
 -- one target, as it is asked for
 abbrev pub ask : Database → Work → Strength → Option Tree → Seen → Asked
@@ -151,11 +151,11 @@ update_made w name db row (Err fault) = stops db (Fails (OfValue fault))
 update_made w name db row (Ok values) =
     unless_null name db (unless_stopped_by db (written db w row (Some values)) (stop_at_keys db w name values (Some row) (keys_in db w))) (null_in (columns_in db w) values)
 
-abbrev pub update_with : Work → UpdateTree → List Target → Database → Seen → Visit
-update_with w u targets db seen = update_made w u.table db seen.row (updated (cols_in db w) targets u.sets (values_of db seen))
+abbrev pub update_with : Work → UpdateTree → List AssignedColumn → Database → Seen → Visit
+update_with w u to db seen = update_made w u.table db seen.row (updated (cols_in db w) to u.sets (values_of db seen))
 
-abbrev pub update_at : Work → UpdateTree → List Target → Database → Seen → Visit
-update_at w u targets db seen = at_target (update_with w u targets) db w (ask db w Exclusive u.filter seen)
+abbrev pub update_at : Work → UpdateTree → List AssignedColumn → Database → Seen → Visit
+update_at w u to db seen = at_target (update_with w u to) db w (ask db w Exclusive u.filter seen)
 
 -- DELETE with the version that it takes
 abbrev pub delete_with : Work → Database → Seen → Visit

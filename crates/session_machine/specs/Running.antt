@@ -7,8 +7,8 @@ use Rattle.sql_values.specs.declared.value.Value.{Value}
 use Rattle.sql_values.specs.declared.fault.ValueFault.{ValueFault}
 use Rattle.sql_values.specs.declared.fault.ValueFault.TheVariants.{NoColumn}
 use Rattle.result_tables.specs.Results.{Results}
-use Rattle.session_queries.specs.Queries.{Target, cols_of, has_none, lacking_if, lacking_rows, lacking_select, result_of, some_too_long, targets_of, titles_of, wrong_position}
-use Rattle.session_queries.specs.Updates.{lacking_update, set_targets}
+use Rattle.session_queries.specs.Queries.{AssignedColumn, cols_of, has_none, lacking_if, lacking_rows, lacking_select, result_of, some_too_long, columns_assigned, titles_of, wrong_position}
+use Rattle.session_queries.specs.Updates.{lacking_update, columns_set}
 use Rattle.row_versions.specs.declared.write.Seen.{Seen}
 use Rattle.row_versions.specs.Log.{Content}
 use Rattle.session_machine.specs.declared.session.OpenTransaction.{OpenTransaction}
@@ -63,45 +63,45 @@ abbrev pub done : List (List Value) → Outcome
 done rows = Done
 
 -- no column is assigned where one isn't there
-abbrev pub assigned_to : Result (List Target) (List ℕ) → List Target
-assigned_to (Ok targets) = targets
+abbrev pub assigned_to : Result (List AssignedColumn) (List ℕ) → List AssignedColumn
+assigned_to (Ok to) = to
 assigned_to (Err column) = []
 
 -- INSERT, from this place among the rows of its VALUES on
 abbrev pub insert_from : Database → Work → InsertTree → ℕ → List (List Value) → Did
 insert_from db w i place rows =
-    ended db.content w done (walked (insert_at w i.table (assigned_to (targets_of (columns_in db w) i.columns))) db place rows (drop place i.rows))
+    ended db.content w done (walked (insert_at w i.table (assigned_to (columns_assigned (columns_in db w) i.columns))) db place rows (drop place i.rows))
 
 -- the VALUES name no column, and no row has more of them than there are columns
-abbrev pub insert_fitting : Database → Work → InsertTree → List Target → Option (List ℕ) → Did
-insert_fitting db w i targets (Some name) = fails db w.t (OfValue (NoColumn name))
-insert_fitting db w i targets None =
-    if some_too_long (length targets) i.rows then fails db w.t TooManyValues else insert_from db w i 0 []
+abbrev pub insert_fitting : Database → Work → InsertTree → List AssignedColumn → Option (List ℕ) → Did
+insert_fitting db w i to (Some name) = fails db w.t (OfValue (NoColumn name))
+insert_fitting db w i to None =
+    if some_too_long (length to) i.rows then fails db w.t TooManyValues else insert_from db w i 0 []
 
-abbrev pub insert_to : Database → Work → InsertTree → Result (List Target) (List ℕ) → Did
+abbrev pub insert_to : Database → Work → InsertTree → Result (List AssignedColumn) (List ℕ) → Did
 insert_to db w i (Err column) = fails db w.t (NoColumnOf column i.table)
-insert_to db w i (Ok targets) = insert_fitting db w i targets (lacking_rows i.rows)
+insert_to db w i (Ok to) = insert_fitting db w i to (lacking_rows i.rows)
 
 abbrev pub insert : Database → OpenTransaction → Around → InsertTree → Option ℕ → Did
 insert db t around i None = fails db t (NoTable i.table)
-insert db t around i (Some k) = insert_to db (beginning db t around k) i (targets_of (columns_at db.catalog k) i.columns)
+insert db t around i (Some k) = insert_to db (beginning db t around k) i (columns_assigned (columns_at db.catalog k) i.columns)
 
 -- UPDATE, from this place among its targets on
 abbrev pub update_from : Database → Work → UpdateTree → ℕ → List (List Value) → Did
 update_from db w u place rows =
-    ended db.content w done (walked_from (update_at w u (assigned_to (set_targets (columns_in db w) u.sets))) db place rows (passing_targets db w u.filter))
+    ended db.content w done (walked_from (update_at w u (assigned_to (columns_set (columns_in db w) u.sets))) db place rows (passing_targets db w u.filter))
 
 abbrev pub update_fitting : Database → Work → UpdateTree → Option (List ℕ) → Did
 update_fitting db w u (Some name) = fails db w.t (OfValue (NoColumn name))
 update_fitting db w u None = update_from db w u 0 []
 
-abbrev pub update_to : Database → Work → UpdateTree → Result (List Target) (List ℕ) → Did
+abbrev pub update_to : Database → Work → UpdateTree → Result (List AssignedColumn) (List ℕ) → Did
 update_to db w u (Err column) = fails db w.t (NoColumnOf column u.table)
-update_to db w u (Ok targets) = update_fitting db w u (lacking_update (cols_of (columns_in db w)) u)
+update_to db w u (Ok to) = update_fitting db w u (lacking_update (cols_of (columns_in db w)) u)
 
 abbrev pub update : Database → OpenTransaction → Around → UpdateTree → Option ℕ → Did
 update db t around u None = fails db t (NoTable u.table)
-update db t around u (Some k) = update_to db (beginning db t around k) u (set_targets (columns_at db.catalog k) u.sets)
+update db t around u (Some k) = update_to db (beginning db t around k) u (columns_set (columns_at db.catalog k) u.sets)
 
 -- DELETE, from this place among its targets on
 abbrev pub delete_from : Database → Work → DeleteTree → ℕ → List (List Value) → Did

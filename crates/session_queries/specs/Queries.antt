@@ -230,52 +230,52 @@ result_of s columns rows = unless_lacking (lacking_select (cols_of columns) s)
     (if_ok (taken s columns rows) (λ places. results_by columns s.items (counted s.items) (rows_at rows places)))
 
 -- where a value of an INSERT or UPDATE goes: a column's place, and its kind
-pub record Target : Type 0 where
+pub record AssignedColumn : Type 0 where
   pub place : ℕ
   pub kind : Kind
 
 -- all columns, from the place on
-abbrev pub all_targets : ℕ → List ColumnTree → List Target
-all_targets k [] = []
-all_targets k (c ∷ cs) = record { place = k; kind = c.kind } ∷ all_targets (k + 1) cs
+abbrev pub assigned_in_order : ℕ → List ColumnTree → List AssignedColumn
+assigned_in_order k [] = []
+assigned_in_order k (c ∷ cs) = record { place = k; kind = c.kind } ∷ assigned_in_order (k + 1) cs
 
 -- the column of that name, from the place on
-abbrev pub target_from : ℕ → List ColumnTree → List ℕ → Option Target
-target_from k [] name = None
-target_from k (c ∷ cs) name = if bytes_eq c.name name then Some (record { place = k; kind = c.kind }) else target_from (k + 1) cs name
+abbrev pub assigned_from : ℕ → List ColumnTree → List ℕ → Option AssignedColumn
+assigned_from k [] name = None
+assigned_from k (c ∷ cs) name = if bytes_eq c.name name then Some (record { place = k; kind = c.kind }) else assigned_from (k + 1) cs name
 
-abbrev pub target_or : List ℕ → Option Target → Result (List Target) (List ℕ) → Result (List Target) (List ℕ)
-target_or name None rest = Err name
-target_or name (Some t) (Err lacks) = Err lacks
-target_or name (Some t) (Ok ts) = Ok (t ∷ ts)
+abbrev pub assigned_or : List ℕ → Option AssignedColumn → Result (List AssignedColumn) (List ℕ) → Result (List AssignedColumn) (List ℕ)
+assigned_or name None rest = Err name
+assigned_or name (Some t) (Err lacks) = Err lacks
+assigned_or name (Some t) (Ok ts) = Ok (t ∷ ts)
 
 -- the columns of these names, or the first name that is none
-abbrev pub named_targets : List ColumnTree → List (List ℕ) → Result (List Target) (List ℕ)
-named_targets columns [] = Ok []
-named_targets columns (name ∷ names) = target_or name (target_from 0 columns name) (named_targets columns names)
+abbrev pub assigned_by_name : List ColumnTree → List (List ℕ) → Result (List AssignedColumn) (List ℕ)
+assigned_by_name columns [] = Ok []
+assigned_by_name columns (name ∷ names) = assigned_or name (assigned_from 0 columns name) (assigned_by_name columns names)
 
 -- without a list of columns the values go to the first ones
-abbrev pub targets_of : List ColumnTree → Option (List (List ℕ)) → Result (List Target) (List ℕ)
-targets_of columns None = Ok (all_targets 0 columns)
-targets_of columns (Some names) = named_targets columns names
+abbrev pub columns_assigned : List ColumnTree → Option (List (List ℕ)) → Result (List AssignedColumn) (List ℕ)
+columns_assigned columns None = Ok (assigned_in_order 0 columns)
+columns_assigned columns (Some names) = assigned_by_name columns names
 
 -- the values as their columns take them
-abbrev pub assigned : List Target → List Value → Result (List Value) ValueFault
+abbrev pub assigned : List AssignedColumn → List Value → Result (List Value) ValueFault
 assigned (t ∷ ts) (v ∷ vs) = if_ok (assign v t.kind) (λ a. if_ok (assigned ts vs) (λ rest. Ok (a ∷ rest)))
 assigned [] vs = Ok []
 assigned (t ∷ ts) [] = Ok []
 
 -- each value at its column's place
-abbrev pub placed : List Target → List Value → List Value → List Value
+abbrev pub placed : List AssignedColumn → List Value → List Value → List Value
 placed (t ∷ ts) (v ∷ vs) row = placed ts vs (slice_set row t.place v)
 placed [] vs row = row
 placed (t ∷ ts) [] row = row
 
 -- a new row: NULL where it has no value
-abbrev pub new_values : ℕ → List Target → List Tree → Result (List Value) ValueFault
-new_values width targets row =
+abbrev pub new_values : ℕ → List AssignedColumn → List Tree → Result (List Value) ValueFault
+new_values width to row =
     if_ok (each (λ e. value e [] []) row) (λ values.
-    if_ok (assigned targets values) (λ vs. Ok (placed targets vs (replicate width Null))))
+    if_ok (assigned to values) (λ vs. Ok (placed to vs (replicate width Null))))
 
 -- the first column that is NULL and must not be
 abbrev pub null_in : List ColumnTree → List Value → Option (List ℕ)

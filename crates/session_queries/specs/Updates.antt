@@ -6,18 +6,18 @@ use Rattle.sql_values.specs.declared.value.Value.{Value}
 use Rattle.sql_values.specs.declared.fault.ValueFault.{ValueFault}
 use Rattle.sql_values.specs.Values.{if_ok}
 use Rattle.sql_values.specs.Expressions.{Cols, value}
-use Rattle.session_queries.specs.Queries.{Target, assigned, each, first_of, lacking, lacking_if, named_targets, placed}
+use Rattle.session_queries.specs.Queries.{AssignedColumn, assigned, each, first_of, lacking, lacking_if, assigned_by_name, placed}
 
 -- the first column that an UPDATE names and its table lacks: of the new values, then of WHERE; what it assigns to is looked at before
 abbrev pub lacking_update : Cols → UpdateTree → Option (List ℕ)
 lacking_update cols u = option_or (first_of (λ (s : SetTree). lacking cols s.value) u.sets) (lacking_if cols u.filter)
 
 -- the columns that are assigned to, or the first name that is none
-abbrev pub set_targets : List ColumnTree → List SetTree → Result (List Target) (List ℕ)
-set_targets columns sets = named_targets columns (map (λ (s : SetTree). s.column) sets)
+abbrev pub columns_set : List ColumnTree → List SetTree → Result (List AssignedColumn) (List ℕ)
+columns_set columns sets = assigned_by_name columns (map (λ (s : SetTree). s.column) sets)
 
 -- the row as an UPDATE leaves it: all new values are evaluated on the old row, from the left, then all are taken as their columns do
-abbrev pub updated : Cols → List Target → List SetTree → List Value → Result (List Value) ValueFault
-updated cols targets sets row =
+abbrev pub updated : Cols → List AssignedColumn → List SetTree → List Value → Result (List Value) ValueFault
+updated cols to sets row =
     if_ok (each (λ (s : SetTree). value s.value cols row) sets) (λ values.
-    if_ok (assigned targets values) (λ vs. Ok (placed targets vs row)))
+    if_ok (assigned to values) (λ vs. Ok (placed to vs row)))

@@ -2,6 +2,7 @@
 #![tactic(auto)]
 
 mod answer;
+mod assigned;
 mod keys;
 mod known;
 mod lacking;
@@ -10,19 +11,18 @@ mod new_row;
 mod ordering;
 mod passing;
 mod positions;
-mod target;
 mod titles;
 mod update;
 mod values_check;
 
 pub use answer::{result_of, row_values};
+pub use assigned::{AssignedColumn, AssignedColumns, columns_assigned, columns_set};
 pub use lacking::{lacking_filter, lacking_rows, lacking_select, lacking_update};
 pub use laws::{one_order_by_insertion, sorted_by_insertion};
 pub use new_row::new_values;
 pub use ordering::taken_places;
 pub use passing::passing_places;
 pub use positions::wrong_position;
-pub use target::{Target, Targets, set_targets, targets_of};
 pub use titles::titles_of;
 pub use update::updated_values;
 pub use values_check::{null_in, some_too_long};

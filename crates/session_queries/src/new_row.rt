@@ -7,7 +7,7 @@ ghost use Rattle.sql_values.specs.Values.{Answers, if_ok};
 ghost use Rattle.sql_values.specs.Expressions.{value};
 ghost use Rattle.session_queries.specs.Queries.{each, assigned, placed, new_values};
 
-use crate::target::{Target, Targets};
+use crate::assigned::{AssignedColumn, AssignedColumns};
 use sql_trees::Expr;
 use sql_values::{Columns, Row, Value, ValueFault, assign, eval};
 use std::alloc::{AllocError, Global};
@@ -54,21 +54,21 @@ fn put(row: &mut Vec<Value>, place: usize, value: Value)
 #[tactic(auto, using(crate::proofs::Filling::filled_step, crate::proofs::Filling::filled_short))]
 pub fn filled<'a>(
     alloc: Global,
-    targets: &[Target],
+    to: &[AssignedColumn],
     values: &[Value],
     row: Vec<Value>,
 ) -> Result<Row, ValueFault<'a>>
-    ensures values { Answers result (if_ok (assigned targets.now values.now) (λ vs. Ok (placed targets.now vs row.items))) }
+    ensures values { Answers result (if_ok (assigned to.now values.now) (λ vs. Ok (placed to.now vs row.items))) }
     ensures long { IfOk result (λ filled. length filled ≡ length row.items) }
 {
     let mut row = row;
     let mut rest = values;
-    for target in targets {
+    for column in to {
         let [value, behind @ ..] = rest else {
             return Ok(Row::from_vec(row));
         };
-        let value = assign(value.copied(alloc)?, target.kind())?;
-        put(&mut row, target.place(), value);
+        let value = assign(value.copied(alloc)?, column.kind())?;
+        put(&mut row, column.place(), value);
         rest = behind;
     }
     Ok(Row::from_vec(row))
@@ -78,12 +78,12 @@ pub fn filled<'a>(
 pub fn new_values<'a>(
     alloc: Global,
     width: usize,
-    targets: &Targets,
+    to: &AssignedColumns,
     row: &[Expr<'a>],
 ) -> Result<Row, ValueFault<'a>>
-    ensures { Answers result (new_values width targets.now (map tree_of row.now)) }
+    ensures { Answers result (new_values width to.now (map tree_of row.now)) }
 {
     let values = constants(alloc, row)?;
     let empty = nulls(alloc, width)?;
-    filled(alloc, targets.as_slice(), values.values(), empty)
+    filled(alloc, to.as_slice(), values.values(), empty)
 }

@@ -7,9 +7,9 @@ ghost use Rattle.sql_values.specs.Values.{Answers};
 ghost use Rattle.session_queries.specs.Queries.{cols_of, each};
 ghost use Rattle.session_queries.specs.Updates.{updated};
 
+use crate::assigned::AssignedColumns;
 use crate::known::known;
 use crate::new_row::filled;
-use crate::target::Targets;
 use iso_lexer::Name;
 use sql_trees::{Column, Expr};
 use sql_values::{Columns, Row, Value, ValueFault, eval};
@@ -46,16 +46,16 @@ fn values_of(alloc: Global, row: &Row) -> Result<Vec<Value>, AllocError>
 pub fn updated_values<'a>(
     alloc: Global,
     columns: &[Column<'_>],
-    targets: &Targets,
+    to: &AssignedColumns,
     sets: &[(Name<'a>, Expr<'a>)],
     row: &Row,
 ) -> Result<Row, ValueFault<'a>>
     requires { length row.now ≡ length columns.now }
-    ensures values { Answers result (updated (cols_of (map column_of columns.now)) targets.now (map set_of sets.now) row.now) }
+    ensures values { Answers result (updated (cols_of (map column_of columns.now)) to.now (map set_of sets.now) row.now) }
     ensures long { IfOk result (λ updated. length updated ≡ length row.now) }
 {
     let columns = known(columns);
     let values = set_values(alloc, sets, &columns, row)?;
     let old = values_of(alloc, row)?;
-    filled(alloc, targets.as_slice(), values.values(), old)
+    filled(alloc, to.as_slice(), values.values(), old)
 }

@@ -23,7 +23,7 @@ use Rattle.row_versions.proofs.Last.{newest_is_the_last}
 use Rattle.row_versions.proofs.Gets.{get-append_left, get-append_last}
 use Rattle.row_locks.specs.declared.held.Held.{Held}
 use Rattle.row_locks.specs.Waiting.{Waiting}
-use Rattle.session_queries.specs.Queries.{Target, each, assigned, placed, known, null_in}
+use Rattle.session_queries.specs.Queries.{AssignedColumn, each, assigned, placed, known, null_in}
 use Rattle.session_queries.specs.Updates.{updated}
 use Rattle.update_recheck.specs.Asked.{Asked}
 use Rattle.update_recheck.specs.Outcome.{Holders, Version, Outcome, rechecked, outcome, holders, version_at, version_of, newest_version, target_outcome}
@@ -140,7 +140,7 @@ get-append_at (y ∷ xs) ys zero x h = h
 get-append_at (y ∷ xs) ys (suc i) x h = get-append_at xs ys i x h
 
 -- a value's place takes nothing from the row
-length-placed : (targets : List Target) (values row : List Value) → length (placed targets values row) ≡ length row
+length-placed : (targets : List AssignedColumn) (values row : List Value) → length (placed targets values row) ≡ length row
 length-placed [] values row = refl
 length-placed (t ∷ ts) [] row = refl
 length-placed (t ∷ ts) (v ∷ vs) row = length-placed ts vs (set row t.place v) ∙ length-set row t.place v
@@ -149,7 +149,7 @@ same_Ok : {A : Type 0} {a b : A} → (let x : Result A ValueFault = Ok a in let 
 same_Ok h = cc
 
 -- what is placed in a row has its length
-length-put : (targets : List Target) (row values : List Value) (r : Result (List Value) ValueFault)
+length-put : (targets : List AssignedColumn) (row values : List Value) (r : Result (List Value) ValueFault)
     → if_ok r (λ vs. if_ok (assigned targets vs) (λ vs. Ok (placed targets vs row))) ≡ Ok values → length values ≡ length row
 length-put targets row values (Err f) e = cc
 length-put targets row values (Ok vs) e = at_assigned (assigned targets vs) e where
@@ -158,7 +158,7 @@ length-put targets row values (Ok vs) e = at_assigned (assigned targets vs) e wh
   at_assigned (Ok vs) e = ap length (sym (same_Ok e)) ∙ length-placed targets vs row
 
 -- an updated row has as many values as before
-length-updated : (cols : Cols) (targets : List Target) (sets : List SetTree) (row values : List Value) → updated cols targets sets row ≡ Ok values → length values ≡ length row
+length-updated : (cols : Cols) (targets : List AssignedColumn) (sets : List SetTree) (row values : List Value) → updated cols targets sets row ≡ Ok values → length values ≡ length row
 length-updated cols targets sets row values h = length-put targets row values (each (λ (s : SetTree). value s.value cols row) sets) h
 
 -- what stands in a log with a last write: a write from before, or that one
@@ -242,7 +242,7 @@ unless_stopped_keeps : (db after : Database) (o : Option walk.Stop) → IsOrderl
 unless_stopped_keeps db after (Some stop) h k = kept_here db h
 unless_stopped_keeps db after None h k = k
 
-update_keeps : (w : Work) (u : UpdateTree) (targets : List Target) (db : Database) (seen : Seen) (r : Result (List Value) ValueFault)
+update_keeps : (w : Work) (u : UpdateTree) (targets : List AssignedColumn) (db : Database) (seen : Seen) (r : Result (List Value) ValueFault)
     → updated (cols_in db w) targets u.sets (values_of db seen) ≡ r → CanAct db w seen → IsKept db (update_made w u.table db seen.row r).db
 update_keeps w u targets db seen (Err fault) e h = kept_here db h.1
 update_keeps w u targets db seen (Ok values) e h =

@@ -24,18 +24,18 @@ use Rattle.session_statements.specs.declared.act.Visited.TheVariants.{Passes, Sh
 use Rattle.session_statements.specs.declared.act.Halt.{Halt}
 
 abbrev pub strength_in : Act → Strength
-strength_in (Update u targets) = Exclusive
+strength_in (Update u to) = Exclusive
 strength_in (Delete d) = Exclusive
 strength_in (Lock s strength) = strength
 
 abbrev pub filter_in : Act → Option Tree
-filter_in (Update u targets) = (update_of u.now).filter
+filter_in (Update u to) = (update_of u.now).filter
 filter_in (Delete d) = (delete_of d.now).filter
 filter_in (Lock s strength) = (select_of s.now).filter
 
 -- with the version that a target takes
 abbrev pub act_with : Work → Act → Database → Seen → Visit
-act_with w (Update u targets) = update_with w (update_of u.now) targets.now
+act_with w (Update u to) = update_with w (update_of u.now) to.now
 act_with w (Delete d) = delete_with w
 act_with w (Lock s strength) = lock_with w (select_of s.now)
 

@@ -6,7 +6,7 @@ ghost use Rattle.session_statements.specs.Acting.{filter_in, strength_in};
 
 use row_locks::Strength;
 use session_machine::{Request, StmtFault};
-use session_queries::Targets;
+use session_queries::AssignedColumns;
 use sql_trees::{Delete, Expr, Select, Update};
 use sql_values::Row;
 
@@ -14,7 +14,7 @@ use sql_values::Row;
 #[derive(Drop)]
 pub(crate) enum Act<'s, 'a, 't> {
     /// It is given new values at these places.
-    Update(&'a Update<'t>, &'s Targets),
+    Update(&'a Update<'t>, &'s AssignedColumns),
     Delete(&'a Delete<'t>),
     /// It is locked this strongly and shown.
     Lock(&'a Select<'t>, Strength),

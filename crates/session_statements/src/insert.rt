@@ -6,7 +6,7 @@ ghost use Rattle.sql_trees.specs.Statements.{column_of, exprs_of, insert_of, nam
 ghost use Rattle.sql_values.specs.declared.fault.ValueFault.TheVariants.{Memory};
 ghost use Rattle.sql_values.specs.declared.value.Value.{Value as SqlValue};
 ghost use Rattle.row_versions.specs.Log.{Content, IsOpen};
-ghost use Rattle.session_queries.specs.Queries.{lacking_rows, targets_of};
+ghost use Rattle.session_queries.specs.Queries.{lacking_rows, columns_assigned};
 ghost use Rattle.session_machine.specs.Tables.{find_table};
 ghost use Rattle.session_machine.specs.Walks.{walked};
 ghost use Rattle.session_machine.specs.Rows.{insert_at, insert_made};
@@ -21,7 +21,7 @@ use crate::targets::all_or_none;
 use iso_lexer::{Ident, Name};
 use row_versions::Versions;
 use session_machine::{OpenTransaction, StmtFault, Transaction};
-use session_queries::{Targets, lacking_rows, new_values, some_too_long, targets_of};
+use session_queries::{AssignedColumns, columns_assigned, lacking_rows, new_values, some_too_long};
 use sql_trees::{Column, Expr, Insert};
 use sql_values::{Row, ValueFault};
 use std::alloc::{AllocError, Global};
@@ -43,10 +43,10 @@ fn inserted_to<'t>(
     alloc: Global,
     columns: &[Column<'_>],
     names: Option<&Vec<Name<'t>>>,
-) -> Result<Targets, AllocError>
-    ensures { IfOk result (λ targets. targets ≡ assigned_to (targets_of (map column_of columns.now) (option_map (λ ns. names_of ns.now) names.entry))) }
+) -> Result<AssignedColumns, AllocError>
+    ensures { IfOk result (λ to. to ≡ assigned_to (columns_assigned (map column_of columns.now) (option_map (λ ns. names_of ns.now) names.entry))) }
 {
-    all_or_none(alloc, targets_of(alloc, columns, names)?)
+    all_or_none(alloc, columns_assigned(alloc, columns, names)?)
 }
 
 impl<'a, 't, V: Versions> Database<'a, 't, V> {
@@ -75,17 +75,17 @@ impl<'a, 't, V: Versions> Database<'a, 't, V> {
         &mut self,
         work: &Work<'_>,
         stmt: &Insert<'t>,
-        targets: &Targets,
+        to: &AssignedColumns,
         row: &[Expr<'t>],
     ) -> Result<Option<Stop<'t>>, AllocError>
         requires opened { IsOpen self.old.content work.now.t.tx }
         requires within { work.now.table < length self.old.catalog.tables }
         ensures visit { IfOk result (λ stop.
-            insert_at work.now (name_of stmt.now.table) targets.now self.old (map tree_of row.now) ≡ record { db = self.new; rows = []; stop = option_map stop_of stop }) }
+            insert_at work.now (name_of stmt.now.table) to.now self.old (map tree_of row.now) ≡ record { db = self.new; rows = []; stop = option_map stop_of stop }) }
         ensures fates { OnOk result (self.new.content.fates ≡ self.old.content.fates) }
         ensures catalog { OnOk result (self.new.catalog ≡ self.old.catalog) }
     {
-        match new_values(self.alloc, self.columns_in(work).len(), targets, row) {
+        match new_values(self.alloc, self.columns_in(work).len(), to, row) {
             Ok(values) => self.insert_made(work, stmt.table, values),
             Err(fault) => {
                 let fault = fault_of(fault)?;
@@ -99,18 +99,18 @@ impl<'a, 't, V: Versions> Database<'a, 't, V> {
         &mut self,
         work: &Work<'_>,
         stmt: &'a Insert<'t>,
-        targets: &Targets,
+        to: &AssignedColumns,
         place: usize,
     ) -> Result<Option<Halt<'t>>, AllocError>
         requires opened { IsOpen self.old.content work.now.t.tx }
         requires within { work.now.table < length self.old.catalog.tables }
         ensures walk { (before : Content) (rows : List (List SqlValue)) → IfOk result (λ halt.
-            ended before work.now done (walked (insert_at work.now (name_of stmt.now.table) targets.now) self.old place rows (drop place (map exprs_of stmt.now.rows.items)))
+            ended before work.now done (walked (insert_at work.now (name_of stmt.now.table) to.now) self.old place rows (drop place (map exprs_of stmt.now.rows.items)))
             ≡ halted before work.now done self.new rows halt) }
         ensures fates { OnOk result (self.new.content.fates ≡ self.old.content.fates) }
     {
         for at in place..stmt.rows.len() {
-            if let Some(stop) = self.insert_row(work, stmt, targets, &stmt.rows[at])? {
+            if let Some(stop) = self.insert_row(work, stmt, to, &stmt.rows[at])? {
                 return Ok(Some(Halt { place: at, stop }));
             }
         }
@@ -139,23 +139,23 @@ impl<'a, 't, V: Versions> Database<'a, 't, V> {
         }
     }
 
-    /// The INSERT whose targets are known: its VALUES name no column, and there are not too many of them.
+    /// The INSERT whose columns are known: its VALUES name no column, and there are not too many of them.
     fn insert_to(
         &mut self,
         work: &Work<'_>,
         stmt: &'a Insert<'t>,
-        targets: &Targets,
+        to: &AssignedColumns,
     ) -> Result<Did<'t>, AllocError>
         requires opened { IsOpen self.old.content work.now.t.tx }
         requires room { work.now.t.command + 1 < 2 ^ 64 }
         requires within { work.now.table < length self.old.catalog.tables }
         ensures { IfOk result (λ did.
-            insert_fitting self.old work.now (insert_of stmt.now) targets.now (lacking_rows (map exprs_of stmt.now.rows.items)) ≡ left self.new did) }
+            insert_fitting self.old work.now (insert_of stmt.now) to.now (lacking_rows (map exprs_of stmt.now.rows.items)) ≡ left self.new did) }
     {
         if let Some(name) = lacking_rows(stmt.rows.as_slice()) {
             return Ok(self.fail_column(&work.by, name));
         }
-        if some_too_long(targets.len(), stmt.rows.as_slice()) {
+        if some_too_long(to.len(), stmt.rows.as_slice()) {
             return Ok(self.fail(&work.by, StmtFault::TooManyValues));
         }
         self.insert_from(work, stmt, 0, Vec::new(self.alloc))
@@ -177,10 +177,10 @@ impl<'a, 't, V: Versions> Database<'a, 't, V> {
         let Some(place) = self.find_table(Some(by.tx), &stmt.table) else {
             return Ok(self.fail(by, StmtFault::NoTable(Ident::new(stmt.table))));
         };
-        match targets_of(self.alloc, self.columns(place), stmt.columns.as_ref())? {
-            Ok(targets) => {
+        match columns_assigned(self.alloc, self.columns(place), stmt.columns.as_ref())? {
+            Ok(to) => {
                 let work = self.work(by, place, around);
-                self.insert_to(&work, stmt, &targets)
+                self.insert_to(&work, stmt, &to)
             }
             Err(column) => {
                 let table = Ident::new(stmt.table);

@@ -129,7 +129,7 @@ impl<'a, 't, V: Versions> Database<'a, 't, V> {
         ensures { IfOk result (λ v. act_with work.now act.now self.old version.now ≡ visit_of self.new v) }
     {
         match act {
-            Act::Update(stmt, targets) => self.update_with(work, stmt, targets, version),
+            Act::Update(stmt, to) => self.update_with(work, stmt, to, version),
             Act::Delete(_) => self.delete_with(work, version),
             Act::Lock(stmt, _) => self.lock_with(work, stmt, version),
         }

@@ -13,16 +13,16 @@ use crate::database::Database;
 use crate::did::Work;
 use iso_lexer::Ident;
 use row_versions::{Seen, Versions};
-use session_queries::{Targets, passing_places, set_targets, taken_places};
+use session_queries::{AssignedColumns, columns_set, passing_places, taken_places};
 use sql_trees::{Expr, Select};
 use sql_values::{Row, ValueFault};
 use std::alloc::{AllocError, Global};
 
 /// No column is assigned to.
-fn none_assigned(alloc: Global) -> Result<Targets, AllocError>
+fn none_assigned(alloc: Global) -> Result<AssignedColumns, AllocError>
     ensures { IfOk result (λ targets. targets ≡ []) }
 {
-    match set_targets(alloc, &[], &[])? {
+    match columns_set(alloc, &[], &[])? {
         Ok(targets) => Ok(targets),
         Err(_) => Err(AllocError),
     }
@@ -31,8 +31,8 @@ fn none_assigned(alloc: Global) -> Result<Targets, AllocError>
 /// The columns that values go to; none where one isn't there.
 pub(crate) fn all_or_none(
     alloc: Global,
-    found: Result<Targets, Ident<'_>>,
-) -> Result<Targets, AllocError>
+    found: Result<AssignedColumns, Ident<'_>>,
+) -> Result<AssignedColumns, AllocError>
     ensures { IfOk result (λ targets. targets ≡ assigned_to found.entry) }
 {
     match found {

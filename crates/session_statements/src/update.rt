@@ -3,7 +3,7 @@
 ghost use Rattle.std.specs.Prelude.{◌≡◌, ◌+◌, ◌<◌, ◌^◌, Some, None, Ok, length, map, IfOk, OnErr, IsSome};
 ghost use Rattle.sql_trees.specs.Statements.{column_of, name_of, set_of, update_of};
 ghost use Rattle.row_versions.specs.Log.{IsOpen};
-ghost use Rattle.session_queries.specs.Updates.{lacking_update, set_targets, updated};
+ghost use Rattle.session_queries.specs.Updates.{lacking_update, columns_set, updated};
 ghost use Rattle.sql_values.specs.Values.{Answers};
 ghost use Rattle.session_queries.specs.Queries.{cols_of};
 ghost use Rattle.session_machine.specs.Tables.{find_table};
@@ -21,7 +21,7 @@ use crate::targets::all_or_none;
 use iso_lexer::{Ident, Name};
 use row_versions::{Seen, Versions};
 use session_machine::{OpenTransaction, StmtFault};
-use session_queries::{Targets, lacking_update, set_targets, updated_values};
+use session_queries::{AssignedColumns, columns_set, lacking_update, updated_values};
 use sql_trees::{Column, Expr, Update};
 use sql_values::{Row, ValueFault};
 use std::alloc::{AllocError, Global};
@@ -31,10 +31,10 @@ fn assigned_to<'t>(
     alloc: Global,
     columns: &[Column<'t>],
     sets: &[(Name<'t>, Expr<'t>)],
-) -> Result<Targets, AllocError>
-    ensures { IfOk result (λ targets. targets ≡ assigned_to (set_targets (map column_of columns.now) (map set_of sets.now))) }
+) -> Result<AssignedColumns, AllocError>
+    ensures { IfOk result (λ to. to ≡ assigned_to (columns_set (map column_of columns.now) (map set_of sets.now))) }
 {
-    all_or_none(alloc, set_targets(alloc, columns, sets)?)
+    all_or_none(alloc, columns_set(alloc, columns, sets)?)
 }
 
 impl<'a, 't, V: Versions> Database<'a, 't, V> {
@@ -43,16 +43,16 @@ impl<'a, 't, V: Versions> Database<'a, 't, V> {
         &self,
         work: &Work<'_>,
         stmt: &Update<'t>,
-        targets: &Targets,
+        to: &AssignedColumns,
         version: &Seen,
     ) -> Result<Row, ValueFault<'t>>
         requires within { work.now.table < length self.now.catalog.tables }
         requires even { length (values_of self.now version.now) ≡ length (columns_in self.now work.now) }
-        ensures { Answers result (updated (cols_in self.now work.now) targets.now (map set_of stmt.now.sets.items) (values_of self.now version.now)) }
+        ensures { Answers result (updated (cols_in self.now work.now) to.now (map set_of stmt.now.sets.items) (values_of self.now version.now)) }
     {
         let empty = Row::from_vec(Vec::new(self.alloc));
         let row = self.row_of(version, &empty);
-        updated_values(self.alloc, self.columns_in(work), targets, &stmt.sets, row)
+        updated_values(self.alloc, self.columns_in(work), to, &stmt.sets, row)
     }
 
     /// The row has the new values from here on.
@@ -79,15 +79,15 @@ impl<'a, 't, V: Versions> Database<'a, 't, V> {
         &mut self,
         work: &Work<'_>,
         stmt: &Update<'t>,
-        targets: &Targets,
+        to: &AssignedColumns,
         version: &Seen,
     ) -> Result<Visited<'t>, AllocError>
         requires opened { IsOpen self.old.content work.now.t.tx }
         requires within { work.now.table < length self.old.catalog.tables }
         requires even { length (values_of self.old version.now) ≡ length (columns_in self.old work.now) }
-        ensures { IfOk result (λ v. update_with work.now (update_of stmt.now) targets.now self.old version.now ≡ visit_of self.new v) }
+        ensures { IfOk result (λ v. update_with work.now (update_of stmt.now) to.now self.old version.now ≡ visit_of self.new v) }
     {
-        match self.updated(work, stmt, targets, version) {
+        match self.updated(work, stmt, to, version) {
             Ok(values) => self.update_made(work, stmt.table, version, values),
             Err(fault) => {
                 let fault = fault_of(fault)?;
@@ -156,7 +156,7 @@ impl<'a, 't, V: Versions> Database<'a, 't, V> {
         let Some(place) = self.find_table(Some(by.tx), &stmt.table) else {
             return Ok(self.fail(by, StmtFault::NoTable(Ident::new(stmt.table))));
         };
-        if let Err(column) = set_targets(self.alloc, self.columns(place), &stmt.sets)? {
+        if let Err(column) = columns_set(self.alloc, self.columns(place), &stmt.sets)? {
             let table = Ident::new(stmt.table);
             return Ok(self.fail(by, StmtFault::NoColumnOf { column, table }));
         }

@@ -2,8 +2,8 @@
 use Rattle.std.proofs.Common.{◌≡◌, refl, subst, List}
 use Rattle.std.specs.Prelude.{Option, Some, None, drop}
 use Rattle.sql_values.specs.declared.value.Value.{Value}
-use Rattle.session_queries.specs.Queries.{targets_of, titles_of}
-use Rattle.session_queries.specs.Updates.{set_targets}
+use Rattle.session_queries.specs.Queries.{columns_assigned, titles_of}
+use Rattle.session_queries.specs.Updates.{columns_set}
 use Rattle.row_versions.specs.Log.{Content}
 use Rattle.session_machine.specs.declared.session.OpenTransaction.{OpenTransaction}
 use Rattle.session_machine.specs.declared.session.Progress.{Progress}
@@ -34,8 +34,8 @@ pub statements_go_on_in_their_view : StatementsGoOnInTheirView
 statements_go_on_in_their_view db t around p q =
     let w = going_on t around p in
     record {
-      inserts = λ i h. stands db.content t around p q done (walked (insert_at w i.table (assigned_to (targets_of (columns_in db w) i.columns))) db p.place p.rows (drop p.place i.rows)) h;
-      updates = λ u h. stands db.content t around p q done (walked_from (update_at w u (assigned_to (set_targets (columns_in db w) u.sets))) db p.place p.rows (passing_targets db w u.filter)) h;
+      inserts = λ i h. stands db.content t around p q done (walked (insert_at w i.table (assigned_to (columns_assigned (columns_in db w) i.columns))) db p.place p.rows (drop p.place i.rows)) h;
+      updates = λ u h. stands db.content t around p q done (walked_from (update_at w u (assigned_to (columns_set (columns_in db w) u.sets))) db p.place p.rows (passing_targets db w u.filter)) h;
       deletes = λ d h. stands db.content t around p q done (walked_from (delete_at w d) db p.place p.rows (passing_targets db w d.filter)) h;
       locks = λ s l is h.
           let shown : List (List Value) → Outcome = λ y. Rows (record { titles = titles_of (columns_in db w) s.items; rows = y }) in

@@ -11,8 +11,8 @@ use Rattle.sql_trees.specs.Statements.{StmtTree, KeyTree, CreateTree, InsertTree
 use Rattle.sql_values.specs.declared.value.Value.{Value}
 use Rattle.sql_values.specs.declared.fault.ValueFault.{ValueFault}
 use Rattle.result_tables.specs.Results.{Results}
-use Rattle.session_queries.specs.Queries.{Target, cols_of, lacking_rows, new_values, row_values, targets_of, titles_of}
-use Rattle.session_queries.specs.Updates.{lacking_update, set_targets, updated}
+use Rattle.session_queries.specs.Queries.{AssignedColumn, cols_of, lacking_rows, new_values, row_values, columns_assigned, titles_of}
+use Rattle.session_queries.specs.Updates.{lacking_update, columns_set, updated}
 use Rattle.row_versions.specs.declared.names.TxId.{TxId}
 use Rattle.row_versions.specs.declared.names.RowId.{RowId}
 use Rattle.row_versions.specs.declared.write.Write.{Write}
@@ -298,7 +298,7 @@ keys_refuse db w name values except (key ∷ keys) r h = by (stop_at_key db w na
   by (Some stop) e later k = key_refuses db w name values except key r (e ∙ k)
   by None e later k = later k
 
-comes_update_at : (P Q : Database → Type 0) (w : Work) (u : UpdateTree) (targets : List Target) → Keeps w.t.tx P Q → (db : Database) (seen : Seen) → P db
+comes_update_at : (P Q : Database → Type 0) (w : Work) (u : UpdateTree) (targets : List AssignedColumn) → Keeps w.t.tx P Q → (db : Database) (seen : Seen) → P db
     → Comes w.t.tx P w.around.sessions (update_at w u targets db seen).db (update_at w u targets db seen).stop
 comes_update_at P Q w u targets keeps db seen p = comes_target P Q (update_with w u targets) db w a refl keeps p (λ d s q held named. made d s q held named (updated (cols_in d w) targets u.sets (values_of d s))) where
   a : Asked
@@ -326,7 +326,7 @@ comes_lock_at P Q w s l keeps db seen p =
       made d q (Err fault) = comes_fails w.t.tx P w.around.sessions d _ q
       made d q (Ok row) = comes_on w.t.tx P w.around.sessions d (row ∷ []) q
 
-comes_insert_at : (P Q : Database → Type 0) (w : Work) (name : List ℕ) (targets : List Target) → Keeps w.t.tx P Q → (db : Database) (row : List Tree) → P db
+comes_insert_at : (P Q : Database → Type 0) (w : Work) (name : List ℕ) (targets : List AssignedColumn) → Keeps w.t.tx P Q → (db : Database) (row : List Tree) → P db
     → Comes w.t.tx P w.around.sessions (insert_at w name targets db row).db (insert_at w name targets db row).stop
 comes_insert_at P Q w name targets keeps db row p = made (new_values _ targets row) where
   made : (r : Result (List Value) ValueFault) → Comes w.t.tx P w.around.sessions (insert_made w name db r).db (insert_made w name db r).stop
@@ -383,9 +383,9 @@ ran_insert_from : (P Q : Database → Type 0) (V : View → Type 0) (db : Databa
     → Ran w.t.tx P Q V w.around.sessions (insert_from db w i place rows)
 ran_insert_from P Q V db w i place rows keeps view p =
     ran_ended P Q V db.content w done _ keeps view
-    (comes_walked w.t.tx P w.around.sessions _ (comes_insert_at P Q w i.table (assigned_to (targets_of (columns_in db w) i.columns)) keeps) db place rows (drop place i.rows) p)
+    (comes_walked w.t.tx P w.around.sessions _ (comes_insert_at P Q w i.table (assigned_to (columns_assigned (columns_in db w) i.columns)) keeps) db place rows (drop place i.rows) p)
 
-ran_insert_to : (P Q : Database → Type 0) (V : View → Type 0) (db : Database) (w : Work) (i : InsertTree) (r : Result (List Target) (List ℕ)) → Keeps w.t.tx P Q → V w.view → P db
+ran_insert_to : (P Q : Database → Type 0) (V : View → Type 0) (db : Database) (w : Work) (i : InsertTree) (r : Result (List AssignedColumn) (List ℕ)) → Keeps w.t.tx P Q → V w.view → P db
     → Ran w.t.tx P Q V w.around.sessions (insert_to db w i r)
 ran_insert_to P Q V db w i (Err column) keeps view p = ran_fails P Q V w.around.sessions db w.t _ keeps p
 ran_insert_to P Q V db w i (Ok targets) keeps view p = fitting (lacking_rows i.rows) where
@@ -398,9 +398,9 @@ ran_update_from : (P Q : Database → Type 0) (V : View → Type 0) (db : Databa
     → Ran w.t.tx P Q V w.around.sessions (update_from db w u place rows)
 ran_update_from P Q V db w u place rows keeps view p =
     ran_ended P Q V db.content w done _ keeps view
-    (comes_from w.t.tx P w.around.sessions _ (comes_update_at P Q w u (assigned_to (set_targets (columns_in db w) u.sets)) keeps) db place rows (passing_targets db w u.filter) p)
+    (comes_from w.t.tx P w.around.sessions _ (comes_update_at P Q w u (assigned_to (columns_set (columns_in db w) u.sets)) keeps) db place rows (passing_targets db w u.filter) p)
 
-ran_update_to : (P Q : Database → Type 0) (V : View → Type 0) (db : Database) (w : Work) (u : UpdateTree) (r : Result (List Target) (List ℕ)) → Keeps w.t.tx P Q → V w.view → P db
+ran_update_to : (P Q : Database → Type 0) (V : View → Type 0) (db : Database) (w : Work) (u : UpdateTree) (r : Result (List AssignedColumn) (List ℕ)) → Keeps w.t.tx P Q → V w.view → P db
     → Ran w.t.tx P Q V w.around.sessions (update_to db w u r)
 ran_update_to P Q V db w u (Err column) keeps view p = ran_fails P Q V w.around.sessions db w.t _ keeps p
 ran_update_to P Q V db w u (Ok targets) keeps view p = fitting (lacking_update (cols_of (columns_in db w)) u) where

@@ -8,8 +8,8 @@ use Rattle.sql_trees.specs.Statements.{StmtTree, InsertTree, UpdateTree, DeleteT
 use Rattle.sql_values.specs.declared.value.Value.{Value}
 use Rattle.sql_values.specs.declared.fault.ValueFault.{ValueFault}
 use Rattle.result_tables.specs.Results.{Results}
-use Rattle.session_queries.specs.Queries.{Target, cols_of, lacking_rows, targets_of, titles_of}
-use Rattle.session_queries.specs.Updates.{lacking_update, set_targets}
+use Rattle.session_queries.specs.Queries.{AssignedColumn, cols_of, lacking_rows, columns_assigned, titles_of}
+use Rattle.session_queries.specs.Updates.{lacking_update, columns_set}
 use Rattle.row_versions.specs.Log.{Content, commit_count}
 use Rattle.session_machine.specs.declared.session.OpenTransaction.{OpenTransaction}
 use Rattle.session_machine.specs.declared.session.Transaction.{Transaction}
@@ -78,12 +78,12 @@ shot_ended count before w f k has same = by k.stop where
 shot_insert_from : (count : ℕ) (db : Database) (w : Work) (i : InsertTree) (place : ℕ) (rows : List (List Value)) → Has count w.t → commit_count db.content ≡ count
     → Shot count (insert_from db w i place rows)
 shot_insert_from count db w i place rows has same =
-    shot_ended count db.content w done (walked (insert_at w i.table (assigned_to (targets_of (columns_in db w) i.columns))) db place rows (drop place i.rows)) has same
+    shot_ended count db.content w done (walked (insert_at w i.table (assigned_to (columns_assigned (columns_in db w) i.columns))) db place rows (drop place i.rows)) has same
 
 shot_update_from : (count : ℕ) (db : Database) (w : Work) (u : UpdateTree) (place : ℕ) (rows : List (List Value)) → Has count w.t → commit_count db.content ≡ count
     → Shot count (update_from db w u place rows)
 shot_update_from count db w u place rows has same =
-    shot_ended count db.content w done (walked_from (update_at w u (assigned_to (set_targets (columns_in db w) u.sets))) db place rows (passing_targets db w u.filter)) has same
+    shot_ended count db.content w done (walked_from (update_at w u (assigned_to (columns_set (columns_in db w) u.sets))) db place rows (passing_targets db w u.filter)) has same
 
 shot_delete_from : (count : ℕ) (db : Database) (w : Work) (e : DeleteTree) (place : ℕ) (rows : List (List Value)) → Has count w.t → commit_count db.content ≡ count
     → Shot count (delete_from db w e place rows)
@@ -95,14 +95,14 @@ shot_lock_from count db w s l place rows has same =
     let shown : List (List Value) → Outcome = λ y. Rows (record { titles = titles_of (columns_in db w) s.items; rows = y }) in
     shot_ended count db.content w shown (walked_from (lock_at w s l) db place rows (taken_targets db w s)) has same
 
-shot_insert_to : (count : ℕ) (db : Database) (w : Work) (i : InsertTree) (r : Result (List Target) (List ℕ)) → Has count w.t → commit_count db.content ≡ count → Shot count (insert_to db w i r)
+shot_insert_to : (count : ℕ) (db : Database) (w : Work) (i : InsertTree) (r : Result (List AssignedColumn) (List ℕ)) → Has count w.t → commit_count db.content ≡ count → Shot count (insert_to db w i r)
 shot_insert_to count db w i (Err column) has same = shot_fails count db w.t _
 shot_insert_to count db w i (Ok targets) has same = by (lacking_rows i.rows) where
   by : (o : Option (List ℕ)) → Shot count (insert_fitting db w i targets o)
   by (Some name) = shot_fails count db w.t _
   by None = shot_if count _ _ _ (shot_fails count db w.t _) (shot_insert_from count db w i 0 [] has same)
 
-shot_update_to : (count : ℕ) (db : Database) (w : Work) (u : UpdateTree) (r : Result (List Target) (List ℕ)) → Has count w.t → commit_count db.content ≡ count → Shot count (update_to db w u r)
+shot_update_to : (count : ℕ) (db : Database) (w : Work) (u : UpdateTree) (r : Result (List AssignedColumn) (List ℕ)) → Has count w.t → commit_count db.content ≡ count → Shot count (update_to db w u r)
 shot_update_to count db w u (Err column) has same = shot_fails count db w.t _
 shot_update_to count db w u (Ok targets) has same = by (lacking_update (cols_of (columns_in db w)) u) where
   by : (o : Option (List ℕ)) → Shot count (update_fitting db w u o)

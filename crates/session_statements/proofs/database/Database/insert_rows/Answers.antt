@@ -13,7 +13,7 @@ use Rattle.session_statements.proofs.database.Database.insert_rows.Goals as goal
 
 pub returns-in-Some-clause-walk : goal.returns-in-Some-clause-walk
 returns-in-Some-clause-walk g c before rows =
-    let visit = insert_at c.args.work.now (name_of c.args.stmt.now.table) c.args.targets.now in
+    let visit = insert_at c.args.work.now (name_of c.args.stmt.now.table) c.args.to.now in
     let after : Option Stop → Visit = λ stop. record { db = c.insert_row.new.self; rows = []; stop = option_map stop_of stop } in
     ap (ended before c.args.work.now done) (sym (c.loop-at.invariant.rest rows)
     ∙ row_stops exprs_of visit c.loop-at.self c.insert_row.new.self c.args.stmt.now.rows.items c.loop-at.at c.index.result.now (stop_of c.in-Some.stop) rows
@@ -22,7 +22,7 @@ returns-in-Some-clause-walk g c before rows =
 
 pub loop-at-preserved : goal.loop-at-preserved
 loop-at-preserved g c =
-    let visit = insert_at c.args.work.now (name_of c.args.stmt.now.table) c.args.targets.now in
+    let visit = insert_at c.args.work.now (name_of c.args.stmt.now.table) c.args.to.now in
     let after : Option Stop → Visit = λ stop. record { db = c.insert_row.new.self; rows = []; stop = option_map stop_of stop } in
     record {
       rest = λ rows. row_passes exprs_of visit c.loop-at.self c.insert_row.new.self c.args.stmt.now.rows.items c.loop-at.at c.index.result.now rows

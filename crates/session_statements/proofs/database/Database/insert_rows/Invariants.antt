@@ -7,8 +7,8 @@ use Rattle.session_statements.proofs.database.Database.insert_rows.Given as goal
 
 abbrev pub invariant-loop-at : goal.invariant-loop-at
 invariant-loop-at g l = record {
-  rest : (rows : List (List Value)) → walked (insert_at l.work (name_of l.stmt.table) l.targets) l.self l.at rows (drop l.at (map exprs_of l.stmt.rows.items))
-      ≡ walked (insert_at l.work (name_of l.stmt.table) l.targets) l.fn.self l.place rows (drop l.place (map exprs_of l.stmt.rows.items));
+  rest : (rows : List (List Value)) → walked (insert_at l.work (name_of l.stmt.table) l.to) l.self l.at rows (drop l.at (map exprs_of l.stmt.rows.items))
+      ≡ walked (insert_at l.work (name_of l.stmt.table) l.to) l.fn.self l.place rows (drop l.place (map exprs_of l.stmt.rows.items));
   fates : l.self.content.fates ≡ l.fn.self.content.fates;
   catalog : l.self.catalog ≡ l.fn.self.catalog;
 }

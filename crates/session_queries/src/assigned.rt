@@ -2,8 +2,8 @@
 
 ghost use Rattle.std.specs.Prelude.{◌≡◌, ℕ, List, IfOk, length, map, option_map};
 ghost use Rattle.sql_trees.specs.Statements.{SetTree, column_of, name_of, names_of, set_of};
-ghost use Rattle.session_queries.specs.Queries.{all_targets, named_targets, target_from, targets_of};
-ghost use Rattle.session_queries.specs.Updates.{set_targets};
+ghost use Rattle.session_queries.specs.Queries.{assigned_in_order, assigned_by_name, assigned_from, columns_assigned};
+ghost use Rattle.session_queries.specs.Updates.{columns_set};
 
 use iso_lexer::{Ident, Name, same_name};
 use sql_trees::{Column, Expr, Kind};
@@ -12,25 +12,25 @@ use std::marker::Model;
 
 /// Where a value goes: a column's place in its table, from 0, and the column's kind.
 #[derive(Debug, Drop)]
-pub struct Target {
+pub struct AssignedColumn {
     place: usize,
     kind: Kind,
 }
 
-impl Model for Target {
+impl Model for AssignedColumn {
     ghost use Rattle.session_queries.specs.Queries as query;
 
-    ghost Value = { query.Target };
+    ghost Value = { query.AssignedColumn };
 
     ghost view = { λ t. record { place = t.place; kind = t.kind } };
 }
 
-impl Target {
-    pub(crate) fn new(place: usize, kind: Kind) -> Target
+impl AssignedColumn {
+    pub(crate) fn new(place: usize, kind: Kind) -> AssignedColumn
         ensures place { result.place ≡ place }
         ensures kind { result.kind ≡ kind }
     {
-        Target { place, kind }
+        AssignedColumn { place, kind }
     }
 
     pub fn place(&self) -> usize
@@ -46,91 +46,91 @@ impl Target {
     }
 }
 
-/// Where the values go, one after the other. Contracts see the list of the targets.
+/// Where the values go, one after the other. Contracts see the list of the columns.
 #[derive(Debug, Drop)]
-pub struct Targets {
-    targets: Vec<Target>,
+pub struct AssignedColumns {
+    to: Vec<AssignedColumn>,
 }
 
-impl Model for Targets {
+impl Model for AssignedColumns {
     ghost use Rattle.std.specs.Prelude.{List};
     ghost use Rattle.session_queries.specs.Queries as query;
 
-    ghost Value = { List query.Target };
+    ghost Value = { List query.AssignedColumn };
 
-    ghost view = { λ t. t.targets.items };
+    ghost view = { λ t. t.to.items };
 }
 
-impl Targets {
-    pub(crate) fn from_vec(targets: Vec<Target>) -> Targets
-        ensures { result ≡ targets.items }
+impl AssignedColumns {
+    pub(crate) fn from_vec(to: Vec<AssignedColumn>) -> AssignedColumns
+        ensures { result ≡ to.items }
     {
-        Targets { targets }
+        AssignedColumns { to }
     }
 
-    pub fn as_slice(&self) -> &[Target]
+    pub fn as_slice(&self) -> &[AssignedColumn]
         ensures { result.now ≡ self.now }
     {
-        self.targets.as_slice()
+        self.to.as_slice()
     }
 
     pub fn len(&self) -> usize
         ensures { result ≡ length self.now }
     {
-        self.targets.len()
+        self.to.len()
     }
 }
 
-fn all_targets(alloc: Global, columns: &[Column<'_>]) -> Result<Targets, AllocError>
-    ensures { IfOk result (λ targets. targets ≡ all_targets 0 (map column_of columns.now)) }
+fn assigned_in_order(alloc: Global, columns: &[Column<'_>]) -> Result<AssignedColumns, AllocError>
+    ensures { IfOk result (λ to. to ≡ assigned_in_order 0 (map column_of columns.now)) }
 {
-    let mut targets = Vec::new(alloc);
+    let mut to = Vec::new(alloc);
     for (place, column) in columns.iter().enumerate() {
-        targets.push(Target::new(place, column.kind))?;
+        to.push(AssignedColumn::new(place, column.kind))?;
     }
-    Ok(Targets::from_vec(targets))
+    Ok(AssignedColumns::from_vec(to))
 }
 
 /// The first column of that name.
-fn target_of(columns: &[Column<'_>], name: &Name<'_>) -> Option<Target>
-    ensures { result ≡ target_from 0 (map column_of columns.now) (name_of name.now) }
+fn assigned_named(columns: &[Column<'_>], name: &Name<'_>) -> Option<AssignedColumn>
+    ensures { result ≡ assigned_from 0 (map column_of columns.now) (name_of name.now) }
 {
     for (place, column) in columns.iter().enumerate() {
         if same_name(&column.name, name) {
-            return Some(Target::new(place, column.kind));
+            return Some(AssignedColumn::new(place, column.kind));
         }
     }
     None
 }
 
-fn named_targets<'a>(
+fn assigned_by_name<'a>(
     alloc: Global,
     columns: &[Column<'_>],
     names: &[Name<'a>],
-) -> Result<Result<Targets, Ident<'a>>, AllocError>
-    ensures { IfOk result (λ found. found ≡ named_targets (map column_of columns.now) (map name_of names.now)) }
+) -> Result<Result<AssignedColumns, Ident<'a>>, AllocError>
+    ensures { IfOk result (λ found. found ≡ assigned_by_name (map column_of columns.now) (map name_of names.now)) }
 {
-    let mut targets = Vec::new(alloc);
+    let mut to = Vec::new(alloc);
     for name in names {
-        match target_of(columns, name) {
-            Some(target) => targets.push(target)?,
+        match assigned_named(columns, name) {
+            Some(column) => to.push(column)?,
             None => return Ok(Err(Ident::new(*name))),
         }
     }
-    Ok(Ok(Targets::from_vec(targets)))
+    Ok(Ok(AssignedColumns::from_vec(to)))
 }
 
 /// The columns that an INSERT with this list of names gives values to, or the first name that no column has. Without a list the values go to the first columns.
-pub fn targets_of<'a>(
+pub fn columns_assigned<'a>(
     alloc: Global,
     columns: &[Column<'_>],
     names: Option<&Vec<Name<'a>>>,
-) -> Result<Result<Targets, Ident<'a>>, AllocError>
-    ensures { IfOk result (λ found. found ≡ targets_of (map column_of columns.now) (option_map (λ ns. names_of ns.now) names.entry)) }
+) -> Result<Result<AssignedColumns, Ident<'a>>, AllocError>
+    ensures { IfOk result (λ found. found ≡ columns_assigned (map column_of columns.now) (option_map (λ ns. names_of ns.now) names.entry)) }
 {
     match names {
-        None => Ok(Ok(all_targets(alloc, columns)?)),
-        Some(names) => named_targets(alloc, columns, names),
+        None => Ok(Ok(assigned_in_order(alloc, columns)?)),
+        Some(names) => assigned_by_name(alloc, columns, names),
     }
 }
 
@@ -148,13 +148,13 @@ fn assigned_names<'a>(
 }
 
 /// The columns that an UPDATE assigns to, or the first name that no column has.
-pub fn set_targets<'a>(
+pub fn columns_set<'a>(
     alloc: Global,
     columns: &[Column<'_>],
     sets: &[(Name<'a>, Expr<'a>)],
-) -> Result<Result<Targets, Ident<'a>>, AllocError>
-    ensures { IfOk result (λ found. found ≡ set_targets (map column_of columns.now) (map set_of sets.now)) }
+) -> Result<Result<AssignedColumns, Ident<'a>>, AllocError>
+    ensures { IfOk result (λ found. found ≡ columns_set (map column_of columns.now) (map set_of sets.now)) }
 {
     let names = assigned_names(alloc, sets)?;
-    named_targets(alloc, columns, &names)
+    assigned_by_name(alloc, columns, &names)
 }
