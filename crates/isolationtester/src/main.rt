@@ -1,10 +1,10 @@
 //! Runs the spec file that comes on standard input, and prints the report of each of its permutations.
 #![tactic(auto)]
 
-use command_line::serve;
+use command_line::{serve, serve_at_terminal};
 use iso_lexer::FromStd;
 use std::env;
-use std::io::{self, BufWriter, Write};
+use std::io::{self, BufWriter, IsTerminal, Write};
 use std::process::ExitCode;
 
 /// The exit status where a device or memory fails before the program runs, or after.
@@ -16,7 +16,19 @@ fn run(rt: &HostRuntime) -> io::Result<u8> {
     let mut input = FromStd::new(rt.reader());
     let mut out = FromStd::new(&mut text);
     let mut err = FromStd::new(rt.stderr());
-    let status = serve(rt.alloc(), words.as_slice(), &mut input, &mut out, &mut err);
+    let status = if rt.stderr().is_terminal() {
+        let typed = rt.reader().is_terminal();
+        serve_at_terminal(
+            rt.alloc(),
+            words.as_slice(),
+            &mut input,
+            typed,
+            &mut out,
+            &mut err,
+        )
+    } else {
+        serve(rt.alloc(), words.as_slice(), &mut input, &mut out, &mut err)
+    };
     text.flush()?;
     Ok(status)
 }
