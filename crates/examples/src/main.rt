@@ -1,7 +1,7 @@
 //! Runs each example of the repository, and compares what it prints with what is expected. A plain example lies in
-//! `specs` and its text in `expected`. One that has options, is refused, ends early, or has notes lies in `faults`, beside
-//! its words, its text, its lines on standard error and its status. Where the words are refused, the lines on standard
-//! error are clap's own, and not compared.
+//! `specs` and its text in `expected`. One that has options, is refused, ends early, or has notes lies in `faults`, and one
+//! of which PostgreSQL prints another text in `differences`, beside its words, its text, its lines on standard error and its
+//! status. Where the words are refused, the lines on standard error are clap's own, and not compared.
 #![tactic(auto)]
 
 use anyhow::Result;
@@ -96,14 +96,14 @@ fn prints_its_text<R: Runtime + AllocGlobal + Threads + Wait + Sync>(
     Ok(outcome.out == expected && outcome.err.is_empty() && outcome.status == 0)
 }
 
-/// Whether an example prints its text and its lines on standard error, and ends with its status.
-fn ends_so<R: Runtime + AllocGlobal + Threads + Wait + Sync>(rt: &R, name: &str) -> Result<bool> {
+/// Whether an example of a folder prints its text and its lines on standard error, and ends with its status.
+fn ends_so<R: Runtime + AllocGlobal + Threads + Wait + Sync>(rt: &R, folder: &str, name: &str) -> Result<bool> {
     let alloc = rt.alloc();
-    let spec = fs::read(rt, format!(in alloc; "faults/{name}.spec")?.as_str())?;
-    let words = words_in(rt, format!(in alloc; "faults/{name}.args")?.as_str())?;
-    let out = bytes_or_none(rt, format!(in alloc; "faults/{name}.out")?.as_str())?;
-    let err = bytes_or_none(rt, format!(in alloc; "faults/{name}.err")?.as_str())?;
-    let status = status_or_zero(rt, format!(in alloc; "faults/{name}.status")?.as_str())?;
+    let spec = fs::read(rt, format!(in alloc; "{folder}/{name}.spec")?.as_str())?;
+    let words = words_in(rt, format!(in alloc; "{folder}/{name}.args")?.as_str())?;
+    let out = bytes_or_none(rt, format!(in alloc; "{folder}/{name}.out")?.as_str())?;
+    let err = bytes_or_none(rt, format!(in alloc; "{folder}/{name}.err")?.as_str())?;
+    let status = status_or_zero(rt, format!(in alloc; "{folder}/{name}.status")?.as_str())?;
     let outcome = outcome_of(rt, alloc, &words, &spec);
     let is_told_so = status == WORDS_REFUSED || outcome.err == err;
     Ok(outcome.out == out && is_told_so && outcome.status == status)
@@ -117,10 +117,12 @@ fn run<R: Runtime + AllocGlobal + Threads + Wait + Sync>(rt: &R) -> Result<bool>
             println!(rt; "differs: specs/{name}")?;
         }
     }
-    for name in &names_in(rt, "faults")? {
-        if !ends_so(rt, name.as_str())? {
-            all = false;
-            println!(rt; "differs: faults/{name}")?;
+    for folder in ["faults", "differences"] {
+        for name in &names_in(rt, folder)? {
+            if !ends_so(rt, folder, name.as_str())? {
+                all = false;
+                println!(rt; "differs: {folder}/{name}")?;
+            }
         }
     }
     Ok(all)

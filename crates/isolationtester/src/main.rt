@@ -1,10 +1,10 @@
 //! Runs the spec file that comes on standard input, and prints the report of each of its permutations.
 #![tactic(auto)]
 
-use command_line::serve;
+use command_line::{serve, serve_at_terminal};
 use iso_lexer::FromStd;
 use std::env;
-use std::io::{self, BufWriter, Stderr, Write};
+use std::io::{self, BufWriter, IsTerminal, Stderr, Write};
 use std::process::ExitCode;
 use std::rt::Runtime;
 use std::sync::Wait;
@@ -18,15 +18,29 @@ fn run<R: Runtime + AllocGlobal + Threads + Wait + Sync>(rt: &R, errors: Stderr)
     let mut text = BufWriter::new(rt.alloc(), io::writer(rt))?;
     let mut input = FromStd::new(rt.reader());
     let mut out = FromStd::new(&mut text);
+    let is_read = errors.is_terminal();
     let mut err = FromStd::new(errors);
-    let status = serve(
-        rt,
-        rt.alloc(),
-        words.as_slice(),
-        &mut input,
-        &mut out,
-        &mut err,
-    );
+    let status = if is_read {
+        let typed = rt.reader().is_terminal();
+        serve_at_terminal(
+            rt,
+            rt.alloc(),
+            words.as_slice(),
+            &mut input,
+            typed,
+            &mut out,
+            &mut err,
+        )
+    } else {
+        serve(
+            rt,
+            rt.alloc(),
+            words.as_slice(),
+            &mut input,
+            &mut out,
+            &mut err,
+        )
+    };
     text.flush()?;
     Ok(status)
 }
