@@ -97,7 +97,11 @@ fn prints_its_text<R: Runtime + AllocGlobal + Threads + Wait + Sync>(
 }
 
 /// Whether an example of a folder prints its text and its lines on standard error, and ends with its status.
-fn ends_so<R: Runtime + AllocGlobal + Threads + Wait + Sync>(rt: &R, folder: &str, name: &str) -> Result<bool> {
+fn ends_so<R: Runtime + AllocGlobal + Threads + Wait + Sync>(
+    rt: &R,
+    folder: &str,
+    name: &str,
+) -> Result<bool> {
     let alloc = rt.alloc();
     let spec = fs::read(rt, format!(in alloc; "{folder}/{name}.spec")?.as_str())?;
     let words = words_in(rt, format!(in alloc; "{folder}/{name}.args")?.as_str())?;
