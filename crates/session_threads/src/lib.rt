@@ -2,6 +2,7 @@
 //! what each session's thread has done.
 #![tactic(auto)]
 
+mod bells;
 mod closing;
 mod directed;
 mod driver;
