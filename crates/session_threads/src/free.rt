@@ -6,7 +6,6 @@ ghost use Rattle.session_core.specs.Engines.{IsOf};
 ghost use Rattle.session_threads.specs.Seats.{IsMisfit};
 
 use crate::closing::{Closed, close};
-use crate::directed::empty_seats;
 use crate::free_shared::{FreeShared, free_event, stop};
 use crate::gate::{Gate, OpenGate};
 use crate::seat::{Seat, ThreadFault};
@@ -293,6 +292,20 @@ fn run_plan<'a, 't, V: Versions + Send, G: Gate, R: Threads + Wait + Sync>(
     }
 }
 
+/// A seat for the control session, which is session 0, and for each of so many sessions beside it, in the order of their
+/// numbers.
+fn all_seats<'t>(alloc: Global, sessions: u32) -> Result<Vec<Seat<'t>>, ThreadFault>
+    requires { sessions ≤ 64 }
+{
+    let mut seats = Vec::new(alloc);
+    for session in 0..sessions + 1 {
+        if seats.push(Seat::new(alloc, session)).is_err() {
+            return Err(ThreadFault::Memory);
+        }
+    }
+    Ok(seats)
+}
+
 /// The end of a run: the seats beside an engine that was opened over these blocks and sessions. A fault that was met in
 /// the control session's last blocks comes after that.
 fn end_of<'a, 't, V: Versions>(
@@ -335,7 +348,7 @@ pub fn run_free<'a, 't, V: Versions + Send, G: Gate, R: Threads + Wait + Sync>(
     ensures { IfOk result (λ c. IsOf c.state (blocks_of blocks.now) (vec_len plan.now.scripts) Mode.Free) }
 {
     let sessions = plan.scripts.len() as u32;
-    let mut seats = empty_seats(alloc, sessions)?;
+    let mut seats = all_seats(alloc, sessions)?;
     let Ok(engine) = EngineState::new(alloc, blocks, sessions, Mode::Free, store) else {
         return Err(ThreadFault::Memory);
     };
