@@ -3,6 +3,7 @@ pub mod FileLemmas
 pub mod Listing
 pub mod OneFile
 pub mod Running
+pub mod Driven
 pub mod Going
 pub mod Telling
 pub mod Printing

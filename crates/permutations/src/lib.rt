@@ -11,10 +11,12 @@ mod one_run;
 mod plan;
 mod report;
 mod run;
+mod thread_run;
 
 pub use fault::{BlockFault, RunFault};
 pub use interleavings::Interleavings;
 pub use list::list_spec;
+pub use one_run::run_alone;
 pub use permutation_plans::launches_fit;
 pub use plan::Plan;
 pub use report::write_permutation;
