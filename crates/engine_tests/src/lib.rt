@@ -8,10 +8,6 @@ mod counts;
 #[cfg(test)]
 mod driven;
 #[cfg(test)]
-mod free;
-#[cfg(test)]
-mod free_gates;
-#[cfg(test)]
 mod inserts;
 #[cfg(test)]
 mod keys;

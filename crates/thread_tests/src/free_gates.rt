@@ -1,14 +1,12 @@
 //! Gates that look at what the threads of other sessions do, and one that writes down what it is told.
 
+use crate::gates::LOOKS;
 use session_machine::{Event, Reply};
 use session_threads::Gate;
 use std::alloc::Global;
 use std::sync::atomic::{AtomicU64, Ordering};
 use std::sync::{Mutex, Wait};
 use std::thread::yield_now;
-
-/// How often a thread looks for the others.
-const LOOKS: u64 = 100_000_000;
 
 /// Lets session 2 launch behind session 1, and session 1 step behind session 2.
 #[derive(Drop)]
@@ -129,51 +127,6 @@ impl Gate for Reversed {
     }
 }
 
-/// Counts the steps that were answered, and those whose thread saw all the others answered while it was told.
-#[derive(Drop)]
-pub struct Meeting {
-    all: u64,
-    came: AtomicU64,
-    met: AtomicU64,
-}
-
-impl Meeting {
-    pub fn of(all: u64) -> Meeting {
-        Meeting {
-            all,
-            came: AtomicU64::new(0),
-            met: AtomicU64::new(0),
-        }
-    }
-
-    pub fn met(&self) -> u64 {
-        self.met.load(Ordering::SeqCst)
-    }
-}
-
-impl Gate for Meeting {
-    fn tries(&self) -> u64 {
-        1
-    }
-
-    fn admits(&self, _event: Event) -> bool {
-        true
-    }
-
-    fn answered(&self, event: Event, _reply: &Reply<'_>) {
-        if let Event::Step { .. } = event {
-            self.came.fetch_add(1, Ordering::SeqCst);
-            for _ in 0..LOOKS {
-                if self.came.load(Ordering::SeqCst) == self.all {
-                    self.met.fetch_add(1, Ordering::SeqCst);
-                    return;
-                }
-                yield_now();
-            }
-        }
-    }
-}
-
 /// Writes down what it is told, line by line.
 #[derive(Drop)]
 pub struct Recorder<R: Wait> {
@@ -196,20 +149,4 @@ impl<R: Wait + Sync> Gate for Recorder<R> {
             let _ = self.told.lock(&self.rt).push(line);
         }
     }
-}
-
-/// Admits nothing.
-pub struct Shut;
-
-impl Gate for Shut {
-    fn tries(&self) -> u64 {
-        3
-    }
-
-    fn admits(&self, _event: Event) -> bool {
-        yield_now();
-        false
-    }
-
-    fn answered(&self, _event: Event, _reply: &Reply<'_>) {}
 }

@@ -1,15 +1,17 @@
 //! Runs in which each session's thread runs its script, with no order between sessions. What is asked is the same whatever the schedule was.
 
-use crate::calls::all_see;
-use crate::free_gates::{Crossed, Handshake, Meeting, Recorder, Reversed, Shut};
-use crate::trial::{Line, Wrong, blocks, holds};
+use crate::asking::holds;
+use crate::free_gates::{Crossed, Handshake, Recorder, Reversed};
+use crate::gates::{Meeting, Shut};
 use row_versions::ListStore;
-use session_core::replays;
-use session_machine::{HistItem, Mode};
+use session_core::{EngineState, replays};
+use session_machine::{EngineFault, HistItem, Mode};
 use session_threads::{Closed, FreePlan, Gate, OpenGate, Seat, ThreadFault, run_free};
-use sql_parser::Block;
+use sql_parser::{Block, Role, parse_block};
+use sql_values::Value;
 use std::alloc::{AllocError, Global};
 use std::process::Abort;
+use std::sync::atomic::{AtomicU64, Ordering};
 use std::sync::{Mutex, Wait};
 use std::test::Fail;
 use std::thread::Threads;
@@ -32,13 +34,25 @@ fn plan_of(alloc: Global, sessions: u32, script: &[u32]) -> Result<FreePlan, All
     })
 }
 
-impl From<ThreadFault> for Wrong {
-    fn from(fault: ThreadFault) -> Self {
-        match fault {
-            ThreadFault::Memory => Wrong::Memory,
-            _ => Wrong::Written("a run that ends in a fault"),
-        }
+fn block<'t>(alloc: Global, text: &'t str, role: Role) -> Result<Block<'t>, Fail> {
+    if text.len() > 1_000 {
+        return Err("a long text".into());
     }
+    Ok(parse_block(alloc, text, role).map_err(|_| "a block with a fault")?)
+}
+
+/// The blocks with these texts; the first so many are the control session's.
+fn blocks<'t>(alloc: Global, mains: usize, texts: &[&'t str]) -> Result<Vec<Block<'t>>, Fail> {
+    let mut blocks = Vec::new(alloc);
+    for (place, text) in texts.iter().enumerate() {
+        let role = if place < mains {
+            Role::Main
+        } else {
+            Role::Session
+        };
+        blocks.push(block(alloc, *text, role)?)?;
+    }
+    Ok(blocks)
 }
 
 fn run<'a, 't, G: Gate, R: Threads + Wait + Sync>(
@@ -47,11 +61,12 @@ fn run<'a, 't, G: Gate, R: Threads + Wait + Sync>(
     blocks: &'a [Block<'t>],
     plan: &FreePlan,
     gate: &G,
-) -> Result<Closed<'a, 't, ListStore>, Wrong> {
+) -> Result<Closed<'a, 't, ListStore>, Fail> {
     if plan.scripts.len() > 64 {
-        return Err(Wrong::Written("too many sessions"));
+        return Err("too many sessions".into());
     }
-    Ok(run_free(rt, alloc, blocks, plan, ListStore::new(alloc), gate)?)
+    let store = ListStore::new(alloc);
+    Ok(run_free(rt, alloc, blocks, plan, store, gate).map_err(|_| "a run that ends in a fault")?)
 }
 
 fn is_legal(
@@ -59,19 +74,15 @@ fn is_legal(
     blocks: &[Block<'_>],
     plan: &FreePlan,
     items: &[HistItem<'_>],
-) -> Result<bool, Wrong> {
+) -> Result<bool, Fail> {
     if plan.scripts.len() > 64 {
-        return Err(Wrong::Written("too many sessions"));
+        return Err("too many sessions".into());
     }
     let sessions = plan.scripts.len() as u32;
     Ok(replays(alloc, blocks, sessions, Mode::Free, items)?)
 }
 
-const ONE: [Line<'static>; 3] = [
-    (0, "SELECT 0", ""),
-    (0, "SELECT 0", ""),
-    (1, "SELECT 1;", ""),
-];
+const ONE: [&str; 3] = ["SELECT 0", "SELECT 0", "SELECT 1;"];
 
 /// Each of so many sessions runs one SELECT; how many events there were.
 fn run_ones<G: Gate, R: Threads + Wait + Sync>(
@@ -79,8 +90,8 @@ fn run_ones<G: Gate, R: Threads + Wait + Sync>(
     alloc: Global,
     sessions: u32,
     gate: &G,
-) -> Result<usize, Wrong> {
-    let blocks = blocks(alloc, &ONE)?;
+) -> Result<usize, Fail> {
+    let blocks = blocks(alloc, 2, &ONE)?;
     let plan = plan_of(alloc, sessions, &[FIRST_SCRIPT])?;
     let closed = run(rt, alloc, &blocks, &plan, gate)?;
     Ok(closed.state().history().len())
@@ -94,21 +105,21 @@ fn events_of(sessions: usize) -> usize {
 #[test]
 fn events_of_two_sessions_interleave(rt: HostRuntime) -> Result<(), Fail> {
     let events = run_ones(&rt, rt.alloc(), 2, &Crossed::new())?;
-    holds(&rt, "events", events == events_of(2));
+    holds(&rt, events == events_of(2), "events");
     Ok(())
 }
 
 #[test]
 fn two_workers_are_at_the_gate_at_once(rt: HostRuntime) -> Result<(), Fail> {
     let events = run_ones(&rt, rt.alloc(), 2, &Handshake::new())?;
-    holds(&rt, "events", events == events_of(2));
+    holds(&rt, events == events_of(2), "events");
     Ok(())
 }
 
 #[test]
 fn sessions_step_in_reverse_order(rt: HostRuntime) -> Result<(), Fail> {
     let events = run_ones(&rt, rt.alloc(), 8, &Reversed::from_last(8))?;
-    holds(&rt, "events", events == events_of(8));
+    holds(&rt, events == events_of(8), "events");
     Ok(())
 }
 
@@ -116,19 +127,37 @@ fn sessions_step_in_reverse_order(rt: HostRuntime) -> Result<(), Fail> {
 fn sixty_four_workers_answer_at_once(rt: HostRuntime) -> Result<(), Fail> {
     let gate = Meeting::of(64);
     let events = run_ones(&rt, rt.alloc(), 64, &gate)?;
-    holds(&rt, "events", events == events_of(64));
-    holds(&rt, "met", gate.met() == 64);
+    holds(&rt, events == events_of(64), "events");
+    holds(&rt, gate.met.load(Ordering::SeqCst) == 64, "met");
     Ok(())
 }
 
 #[test]
 fn a_gate_that_admits_nothing_ends_in_gate(rt: HostRuntime) -> Result<(), Fail> {
     let alloc = rt.alloc();
-    let blocks = blocks(alloc, &ONE)?;
+    let blocks = blocks(alloc, 2, &ONE)?;
     let plan = plan_of(alloc, 2, &[FIRST_SCRIPT])?;
-    holds(&rt, "two", plan.scripts.len() == 2);
-    let fault = run_free(&rt, alloc, &blocks, &plan, ListStore::new(alloc), &Shut).err();
-    holds(&rt, "gate", fault == Some(ThreadFault::Gate));
+    holds(&rt, plan.scripts.len() == 2, "two");
+    let gate = Shut {
+        asked: AtomicU64::new(0),
+    };
+    let store = ListStore::new(alloc);
+    let fault = run_free(&rt, alloc, &blocks, &plan, store, &gate).err();
+    holds(&rt, fault == Some(ThreadFault::Gate), "gate");
+    Ok(())
+}
+
+#[test]
+fn a_block_of_no_session_is_refused(rt: HostRuntime) -> Result<(), Fail> {
+    let alloc = rt.alloc();
+    let blocks = blocks(alloc, 2, &ONE)?;
+    let mut plan = plan_of(alloc, 2, &[FIRST_SCRIPT])?;
+    plan.before.push((3, FIRST_SCRIPT))?;
+    holds(&rt, plan.scripts.len() == 2, "two");
+    let store = ListStore::new(alloc);
+    let fault = run_free(&rt, alloc, &blocks, &plan, store, &OpenGate).err();
+    let expected = ThreadFault::Engine(EngineFault::NoSession);
+    holds(&rt, fault == Some(expected), "no session");
     Ok(())
 }
 
@@ -152,39 +181,50 @@ fn workers_tell_what_their_seats_hold(rt: HostRuntime) -> Result<(), Fail> {
         alloc,
         told: Mutex::new(Vec::new(alloc)),
     };
-    let blocks = blocks(alloc, &ONE)?;
+    let blocks = blocks(alloc, 2, &ONE)?;
     let plan = plan_of(alloc, 2, &[FIRST_SCRIPT])?;
     let closed = run(&rt, alloc, &blocks, &plan, &gate)?;
     let told = gate.told.lock(&rt);
-    holds(&rt, "six", told.len() == 6);
+    holds(&rt, told.len() == 6, "six");
     for seat in closed.seats() {
         holds(
             &rt,
-            "told",
             seat.session() == 0 || tells(alloc, seat, &told)?,
+            "told",
         );
-        holds(&rt, "items", seat.session() == 0 || seat.items().len() == 3);
+        holds(&rt, seat.session() == 0 || seat.items().len() == 3, "items");
     }
     Ok(())
 }
 
-const ADD: [Line<'static>; 3] = [
-    (
-        0,
-        "CREATE TABLE t (k int PRIMARY KEY, v int); INSERT INTO t VALUES (1, 0)",
-        "",
-    ),
-    (0, "SELECT * FROM t", ""),
-    (1, "UPDATE t SET v = v + 1 WHERE k = 1;", ""),
+const ADD: [&str; 3] = [
+    "CREATE TABLE t (k int PRIMARY KEY, v int); INSERT INTO t VALUES (1, 0)",
+    "SELECT * FROM t",
+    "UPDATE t SET v = v + 1 WHERE k = 1;",
 ];
 
-fn add_by_all<R: Threads + Wait + Sync + Abort>(rt: &R, alloc: Global) -> Result<(), Wrong> {
-    let blocks = blocks(alloc, &ADD)?;
+/// Whether the table has one row alone, whose key and number these are.
+fn has_row(engine: &EngineState<'_, '_, ListStore>, key: i32, number: i32) -> Result<bool, Fail> {
+    let rows = engine.visible(0, "t").map_err(|_| "a refusal")?;
+    let Some(rows) = rows else {
+        return Ok(false);
+    };
+    let [row] = rows.as_slice() else {
+        return Ok(false);
+    };
+    Ok(match row.values() {
+        [Value::Int(k), Value::Int(v)] => *k == key && *v == number,
+        _ => false,
+    })
+}
+
+fn add_by_all<R: Threads + Wait + Sync + Abort>(rt: &R, alloc: Global) -> Result<(), Fail> {
+    let blocks = blocks(alloc, 2, &ADD)?;
     let plan = plan_of(alloc, 64, &[FIRST_SCRIPT])?;
     let closed = run(rt, alloc, &blocks, &plan, &OpenGate)?;
-    all_see(rt, alloc, closed.state(), &[(0, "t", " | 1 64")])?;
+    holds(rt, has_row(closed.state(), 1, 64)?, "64");
     let items = closed.state().history();
-    holds(rt, "replays", is_legal(alloc, &blocks, &plan, items)?);
+    holds(rt, is_legal(alloc, &blocks, &plan, items)?, "replays");
     Ok(())
 }
 
@@ -194,12 +234,12 @@ fn sixty_four_sessions(rt: HostRuntime) -> Result<(), Fail> {
 }
 
 /// A setup that fails, one that waits for a row of another setup, and one that goes well.
-const SETUPS: [Line<'static>; 5] = [
-    (0, "CREATE TABLE t (x int); INSERT INTO t VALUES (1)", ""),
-    (1, "BEGIN; UPDATE t SET x = 2", ""),
-    (2, "UPDATE t SET x = 3; SELECT 1", ""),
-    (2, "SELECT 1/0; SELECT 2", ""),
-    (1, "COMMIT", ""),
+const SETUPS: [&str; 5] = [
+    "CREATE TABLE t (x int); INSERT INTO t VALUES (1)",
+    "BEGIN; UPDATE t SET x = 2",
+    "UPDATE t SET x = 3; SELECT 1",
+    "SELECT 1/0; SELECT 2",
+    "COMMIT",
 ];
 
 /// How many events there are where these setups come first, then a script of one block for each of two sessions.
@@ -207,8 +247,8 @@ fn events_behind<R: Threads + Wait + Sync>(
     rt: &R,
     alloc: Global,
     setups: &[(u32, u32)],
-) -> Result<usize, Wrong> {
-    let blocks = blocks(alloc, &SETUPS)?;
+) -> Result<usize, Fail> {
+    let blocks = blocks(alloc, 1, &SETUPS)?;
     let mut plan = plan_of(alloc, 2, &[4])?;
     plan.after = Vec::new(alloc);
     plan.before = Vec::new(alloc);
@@ -216,7 +256,7 @@ fn events_behind<R: Threads + Wait + Sync>(
     let closed = run(rt, alloc, &blocks, &plan, &OpenGate)?;
     let items = closed.state().history();
     if !is_legal(alloc, &blocks, &plan, items)? {
-        return Err(Wrong::Written("a history that doesn't replay"));
+        return Err("a history that doesn't replay".into());
     }
     Ok(items.len())
 }
@@ -225,50 +265,36 @@ fn events_behind<R: Threads + Wait + Sync>(
 fn setups_that_fail_or_wait_end_the_run(rt: HostRuntime) -> Result<(), Fail> {
     let alloc = rt.alloc();
     let well = events_behind(&rt, alloc, &[(0, 0), (1, 1)])?;
-    holds(&rt, "well", well == 3 + 3 + 1 + 6);
+    holds(&rt, well == 3 + 3 + 1 + 6, "well");
     let waits = events_behind(&rt, alloc, &[(0, 0), (1, 1), (2, 2), (1, 4)])?;
-    holds(&rt, "waits", waits == 3 + 3 + 2);
+    holds(&rt, waits == 3 + 3 + 2, "waits");
     let fails = events_behind(&rt, alloc, &[(0, 0), (2, 3), (1, 1)])?;
-    holds(&rt, "fails", fails == 3 + 2);
+    holds(&rt, fails == 3 + 2, "fails");
     let none = events_behind(&rt, alloc, &[])?;
-    holds(&rt, "none", none == 1 + 6);
-    let nobody = events_behind(&rt, alloc, &[(3, 0)]).is_err();
-    holds(&rt, "nobody", nobody);
+    holds(&rt, none == 1 + 6, "none");
     Ok(())
 }
 
 /// Sessions that update two rows in either order, wait, meet deadlocks and roll back.
-const QUARREL: [Line<'static>; 6] = [
-    (
-        0,
-        "CREATE TABLE t (k int PRIMARY KEY, v int); INSERT INTO t VALUES (1, 0), (2, 0)",
-        "",
-    ),
-    (0, "SELECT * FROM t", ""),
-    (
-        1,
-        "BEGIN; UPDATE t SET v = v + 1 WHERE k = 1; UPDATE t SET v = v + 1 WHERE k = 2; COMMIT",
-        "",
-    ),
-    (1, "BEGIN; UPDATE t SET v = v + 1 WHERE k = 2", ""),
-    (
-        1,
-        "SELECT * FROM t WHERE k = 1 FOR UPDATE; INSERT INTO t VALUES (3, 0)",
-        "",
-    ),
-    (1, "ROLLBACK", ""),
+const QUARREL: [&str; 6] = [
+    "CREATE TABLE t (k int PRIMARY KEY, v int); INSERT INTO t VALUES (1, 0), (2, 0)",
+    "SELECT * FROM t",
+    "BEGIN; UPDATE t SET v = v + 1 WHERE k = 1; UPDATE t SET v = v + 1 WHERE k = 2; COMMIT",
+    "BEGIN; UPDATE t SET v = v + 1 WHERE k = 2",
+    "SELECT * FROM t WHERE k = 1 FOR UPDATE; INSERT INTO t VALUES (3, 0)",
+    "ROLLBACK",
 ];
 
 /// How often eight sessions quarrel.
 const RUNS: usize = 200;
 
-fn quarrel<R: Threads + Wait + Sync + Abort>(rt: &R, alloc: Global) -> Result<(), Wrong> {
-    let blocks = blocks(alloc, &QUARREL)?;
+fn quarrel<R: Threads + Wait + Sync + Abort>(rt: &R, alloc: Global) -> Result<(), Fail> {
+    let blocks = blocks(alloc, 2, &QUARREL)?;
     let plan = plan_of(alloc, 8, &[2, 3, 4, 5])?;
     for _ in 0..RUNS {
         let closed = run(rt, alloc, &blocks, &plan, &OpenGate)?;
         let items = closed.state().history();
-        holds(rt, "replays", is_legal(alloc, &blocks, &plan, items)?);
+        holds(rt, is_legal(alloc, &blocks, &plan, items)?, "replays");
     }
     Ok(())
 }
