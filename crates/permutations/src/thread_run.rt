@@ -1,7 +1,8 @@
 //! The run of one permutation, with a thread for each session.
 
-ghost use Rattle.std.specs.Prelude.{◌≡◌, ◌≢◌, ◌<◌, ◌^◌, length, true, Err, map, IfOk, IfErr, IsErrOf};
+ghost use Rattle.std.specs.Prelude.{◌≡◌, ◌≢◌, length, true, Err, map, IfOk, IfErr, IsErrOf};
 ghost use Rattle.session_core.specs.Blocks.{blocks_of};
+ghost use Rattle.session_core.specs.Engines.{is_quiet_in};
 ghost use Rattle.spec_parser.specs.Trees.{entry_view, spec_view};
 ghost use Rattle.spec_parser.specs.Stands.{Stands};
 ghost use Rattle.permutation_plans.specs.Regular.{Fits, IsRegular};
@@ -11,6 +12,7 @@ use crate::fault::RunFault;
 use crate::plan::Plan;
 use permutation_plans::launches_fit;
 use row_versions::ListStore;
+use session_machine::Mode;
 use session_threads::{Closed, Gate, run_directed};
 use spec_parser::{Entry, Spec};
 use sql_parser::Block;
@@ -25,8 +27,12 @@ fn fitting_run<'a, 't>(
     entries: &[Entry],
     closed: Closed<'a, 't, ListStore>,
 ) -> Result<Closed<'a, 't, ListStore>, RunFault>
-    requires { length spec.now.sessions.items < 2 ^ 32 }
-    ensures ok { IfOk result (λ c. (c ≡ closed.entry) × Fits (spec_view spec.now) (map entry_view entries.now) c.state.history) }
+    requires stands { Stands (spec_view spec.now) }
+    requires sessions { closed.state.count ≡ length (spec_view spec.now).sessions }
+    requires directed { closed.state.mode ≡ Mode.Directed }
+    requires quiet { is_quiet_in closed.state.machine ≡ true }
+    ensures regular { IfOk result (λ c. IsRegular (spec_view spec.now) closed.entry.state.blocks (map entry_view entries.now) c.state.history) }
+    ensures same { IfOk result (λ c. c ≡ closed.entry) }
     ensures broken { IsErrOf result RunFault.ScheduleBroken → ¬ (Fits (spec_view spec.now) (map entry_view entries.now) closed.entry.state.history) }
     ensures faults { IfErr result (λ e. is_of_run e ≡ true) }
 {

@@ -1,5 +1,6 @@
 //! Gates that look at what other threads do, and one that is shut.
 
+use crate::signs::{session_of, sign_of};
 use session_machine::{Event, Reply};
 use session_threads::Gate;
 use std::sync::atomic::{AtomicU64, Ordering};
@@ -7,6 +8,17 @@ use std::thread::yield_now;
 
 /// How often a thread looks for the others.
 pub const LOOKS: u64 = 100_000_000;
+
+/// Looks until the number is there. Says whether it came.
+fn comes(number: &AtomicU64, wanted: u64) -> bool {
+    for _ in 0..LOOKS {
+        if number.load(Ordering::SeqCst) == wanted {
+            return true;
+        }
+        yield_now();
+    }
+    false
+}
 
 /// Counts the steps that were answered, and those whose thread saw all the others answered while it was told.
 #[derive(Drop)]
@@ -24,17 +36,6 @@ impl Meeting {
             met: AtomicU64::new(0),
         }
     }
-
-    /// Looks until all have come.
-    fn look(&self) {
-        for _ in 0..LOOKS {
-            if self.came.load(Ordering::SeqCst) == self.all {
-                self.met.fetch_add(1, Ordering::SeqCst);
-                return;
-            }
-            yield_now();
-        }
-    }
 }
 
 impl Gate for Meeting {
@@ -49,8 +50,47 @@ impl Gate for Meeting {
     fn answered(&self, event: Event, _reply: &Reply<'_>) {
         if let Event::Step { .. } = event {
             self.came.fetch_add(1, Ordering::SeqCst);
-            self.look();
+            if comes(&self.came, self.all) {
+                self.met.fetch_add(1, Ordering::SeqCst);
+            }
         }
+    }
+}
+
+/// Admits everything, and puts what sessions 1 and 2 are told into a number for each.
+#[derive(Drop)]
+pub struct Telling {
+    pub first: AtomicU64,
+    pub second: AtomicU64,
+}
+
+impl Telling {
+    pub fn new() -> Telling {
+        Telling {
+            first: AtomicU64::new(0),
+            second: AtomicU64::new(0),
+        }
+    }
+}
+
+impl Gate for Telling {
+    fn tries(&self) -> u64 {
+        1
+    }
+
+    fn admits(&self, _event: Event) -> bool {
+        true
+    }
+
+    fn answered(&self, event: Event, reply: &Reply<'_>) {
+        let told = match session_of(event) {
+            1 => &self.first,
+            2 => &self.second,
+            _ => return,
+        };
+        let before = told.load(Ordering::SeqCst);
+        yield_now();
+        told.store(sign_of(before, event, reply), Ordering::SeqCst);
     }
 }
 

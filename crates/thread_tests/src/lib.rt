@@ -16,3 +16,7 @@ mod gates;
 mod meeting;
 #[cfg(test)]
 mod seats;
+#[cfg(test)]
+mod signs;
+#[cfg(test)]
+mod telling;
