@@ -5,6 +5,12 @@
 #[cfg(test)]
 mod asking;
 #[cfg(test)]
+mod free_gates;
+#[cfg(test)]
+mod free_runs;
+#[cfg(test)]
+mod free_texts;
+#[cfg(test)]
 mod gates;
 #[cfg(test)]
 mod meeting;
