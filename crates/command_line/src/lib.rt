@@ -4,6 +4,9 @@
 pub mod laws;
 mod options;
 mod program;
+mod quote;
+mod terminal;
 
 pub use options::{DEFAULT_LIMIT, Options, options_of, status_of};
 pub use program::serve;
+pub use terminal::serve_at_terminal;

@@ -11,6 +11,29 @@ use std::alloc::Global;
 /// So many permutations run at most, unless the command line says otherwise.
 pub const DEFAULT_LIMIT: u64 = 1_000_000;
 
+/// How the program is called, as help and mistakes say it.
+const USAGE: &str = "isolationtester [OPTIONS] < FILE";
+
+/// What stands at the end of the help.
+const EXAMPLE: &str =
+    "A spec file has setups, sessions with steps of SQL, and the orders in which the steps are started:
+
+    setup { CREATE TABLE t (x int); INSERT INTO t VALUES (1); }
+    session a
+    step begin { BEGIN; UPDATE t SET x = x + 1; }
+    step commit { COMMIT; }
+    session b
+    step add { UPDATE t SET x = x + 1; }
+    permutation begin add commit
+
+Without a permutation line all orders are tried. The text goes to standard output, faults go to standard error.
+
+Exit status:
+  0  all ran
+  1  the file is refused, or its run ends early
+  2  the command line is refused
+  3  memory, a read or a write failed";
+
 /// What the command line asks for.
 #[derive(Clone, Copy, Debug, PartialEq, Eq)]
 pub struct Options {
@@ -46,6 +69,8 @@ pub fn options_of(alloc: Global, words: &[String]) -> Result<Options, Error>
         .help("Stop after N permutations, 1000000 if N is not given");
     let command = Command::new(alloc, "isolationtester")
         .about("Runs the permutations of the spec file that comes on standard input")
+        .override_usage(USAGE)
+        .after_help(EXAMPLE)
         .arg(list)?
         .arg(limit)?;
     let matches = command.try_get_matches_from(words)?;

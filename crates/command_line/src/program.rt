@@ -1,6 +1,6 @@
 //! Runs the program over its devices.
 
-ghost use Rattle.std.specs.Prelude.{◌≡◌, ◌≢◌, [], map, string_bytes};
+ghost use Rattle.std.specs.Prelude.{◌≡◌, ◌≢◌, [], map, string_bytes, true};
 ghost use Rattle.std.specs.Bool.{OnFalse};
 ghost use Rattle.std.specs.Io.KnownBytes.{Appends};
 ghost use Rattle.clap.specs.Words.{fault_of, kind_of};
@@ -10,17 +10,21 @@ ghost use Rattle.command_line.specs.Shell.{IsServed, IsShown, Runs, TookLine, Te
 use crate::options::{Options, options_of, status_of};
 use iso_lexer::{Sink, Source};
 use permutations::{RunFault, list_spec, run_spec};
+use session_threads::OpenGate;
 use std::alloc::Global;
+use std::sync::Wait;
+use std::thread::Threads;
 
 /// Puts a text; of a sink that fails there is no one to tell.
-fn put_text<N: Sink>(sink: &mut N, text: &[u8])
-    ensures { OnFalse (N.failed sink.new) (Appends (N.put_so_far sink.old) (N.put_so_far sink.new) text.now) }
+pub(crate) fn put_text<N: Sink>(sink: &mut N, text: &[u8])
+    ensures puts { OnFalse (N.failed sink.new) (Appends (N.put_so_far sink.old) (N.put_so_far sink.new) text.now) }
+    ensures stays { N.failed sink.old ≡ true → N.failed sink.new ≡ true }
 {
     let _ = sink.put(text);
 }
 
 /// Puts a fault's line. Where memory for it is refused the line says so.
-fn put_fault<N: Sink>(alloc: Global, err: &mut N, fault: &RunFault)
+pub(crate) fn put_fault<N: Sink>(alloc: Global, err: &mut N, fault: &RunFault)
     ensures { TookLine fault.now (N.failed err.new) (N.put_so_far err.old) (N.put_so_far err.new) }
 {
     match format!(in alloc; "isolationtester: {fault}\n") {
@@ -30,7 +34,12 @@ fn put_fault<N: Sink>(alloc: Global, err: &mut N, fault: &RunFault)
 }
 
 /// Puts what clap says of words that give no options: help goes to the output, a mistake to the errors.
-fn put_error<W: Sink, N: Sink>(alloc: Global, out: &mut W, err: &mut N, error: &clap::Error)
+pub(crate) fn put_error<W: Sink, N: Sink>(
+    alloc: Global,
+    out: &mut W,
+    err: &mut N,
+    error: &clap::Error,
+)
     ensures { IsShown (is_request (kind_of error.now)) (W.failed out.new) (W.put_so_far out.old) (W.put_so_far out.new)
         (N.failed err.new) (N.put_so_far err.old) (N.put_so_far err.new) }
 {
@@ -41,7 +50,8 @@ fn put_error<W: Sink, N: Sink>(alloc: Global, out: &mut W, err: &mut N, error: &
     }
 }
 
-fn run<S: Source, W: Sink, N: Sink>(
+pub(crate) fn run<S: Source, W: Sink, N: Sink, R: Threads + Wait + Sync>(
+    rt: &R,
     alloc: Global,
     options: Options,
     input: &mut S,
@@ -53,12 +63,12 @@ fn run<S: Source, W: Sink, N: Sink>(
     if options.list {
         list_spec(alloc, input, out, options.limit)
     } else {
-        run_spec(alloc, input, out, err, options.limit)
+        run_spec(rt, alloc, input, out, err, options.limit, &OpenGate)
     }
 }
 
 /// The exit status of a run, whose fault is told.
-fn end<N: Sink>(alloc: Global, answer: Result<(), RunFault>, err: &mut N) -> u8
+pub(crate) fn end<N: Sink>(alloc: Global, answer: Result<(), RunFault>, err: &mut N) -> u8
     ensures status { result ≡ exit_status answer }
     ensures told { TellsFault answer (N.failed err.new) (N.put_so_far err.old) (N.put_so_far err.new) }
 {
@@ -73,8 +83,9 @@ fn end<N: Sink>(alloc: Global, answer: Result<(), RunFault>, err: &mut N) -> u8
 
 /// Runs the program on the words of its command line, of which the first is its own name: the spec file is read from
 /// `input`, its text goes to `out`, notes and faults to `err`. Gives the exit status: 0 where all ran, 1 where the file
-/// was refused or its run ended early, 2 where the words were refused, 3 where a device, memory or a schedule failed.
-pub fn serve<S: Source, W: Sink, N: Sink>(
+/// was refused or its run ended early, 2 where the words were refused, 3 where a device, memory, a thread or a schedule failed.
+pub fn serve<S: Source, W: Sink, N: Sink, R: Threads + Wait + Sync>(
+    rt: &R,
     alloc: Global,
     words: &[String],
     input: &mut S,
@@ -87,7 +98,7 @@ pub fn serve<S: Source, W: Sink, N: Sink>(
 {
     match options_of(alloc, words) {
         Ok(options) => {
-            let answer = run(alloc, options, input, out, err);
+            let answer = run(rt, alloc, options, input, out, err);
             end(alloc, answer, err)
         }
         Err(error) => {

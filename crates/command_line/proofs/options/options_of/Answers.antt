@@ -1,8 +1,8 @@
-use Rattle.std.proofs.Common.{rules, ap, ap₂, refl, sym, [], codes, true, map, string_bytes, ◌≡◌, ◌∙◌, Option, Some, None, List, ℕ, subst}
+use Rattle.std.proofs.Common.{rules, ap, ap₂, refl, [], codes, true, map, string_bytes, ◌≡◌, ◌∙◌, Option, Some, ℕ, subst}
 use Rattle.std.specs.Prelude.{pos, unwrap_or}
 use Rattle.std.specs.Str.Parse.{ParsesUnsigned, ExplainsUnsignedError, HasUnsignedDigitsIfOk}
 use Rattle.std.proofs.lemmas.Result.{err_from_is_err_and}
-use Rattle.clap.specs.Words.{App, FailsBy, HasKind, Rule, Text, app_of, fault_of, found_of, is_simple, is_simple_and_free, matches_of, one_text, rows_of, rule_of, with_rule, kind_of}
+use Rattle.clap.specs.Words.{App, HasKind, app_of, fault_of, found_of, is_simple, is_simple_and_free, matches_of, rows_of, rule_of, with_rule}
 use Rattle.clap.specs.Simple.{app_of_fields}
 use Rattle.clap.specs.declared.builder.value_parser.ValueParser.{ValueParser}
 use Rattle.clap.specs.declared.builder.value_parser.ValueParser.TheVariants.{Signed}
@@ -25,7 +25,7 @@ returns-in_err-matches-clause-refused c =
     let parser : c.value_parser-2.result.value_parser ≡ Some (Signed (pos 0) (pos 4294967295)) = given.1 ∙ ap (λ (q : ValueParser). Some q) (given.2 ∙ c.value_parser.ensures) in
     let list_is : rule_of c.help-list.result ≡ list_rule = search rules in
     let limit_is : rule_of c.help-limit.result ≡ limit_rule = search (rules, parser) in
-    let about_is : app_of c.about.result ≡ app_of c.new-3.result = ap app_of_fields c.about.ensures in
+    let about_is : app_of c.after_help.result ≡ app_of c.new-3.result = ap app_of_fields c.after_help.ensures ∙ ap app_of_fields c.override_usage.ensures ∙ ap app_of_fields c.about.ensures in
     let app_is : app_of c.in_ok-command.command ≡ program = c.in_ok-command.ensures.shape (search rules)
     ∙ ap₂ with_rule (c.in_ok-arg.ensures.shape (search rules) ∙ ap₂ with_rule (about_is ∙ c.new-3.ensures.app) list_is) limit_is in
     let words = map string_bytes c.args.words.now in
@@ -40,7 +40,7 @@ returns-clause-refused c =
     let parser : c.value_parser-2.result.value_parser ≡ Some (Signed (pos 0) (pos 4294967295)) = given.1 ∙ ap (λ (q : ValueParser). Some q) (given.2 ∙ c.value_parser.ensures) in
     let list_is : rule_of c.help-list.result ≡ list_rule = search rules in
     let limit_is : rule_of c.help-limit.result ≡ limit_rule = search (rules, parser) in
-    let about_is : app_of c.about.result ≡ app_of c.new-3.result = ap app_of_fields c.about.ensures in
+    let about_is : app_of c.after_help.result ≡ app_of c.new-3.result = ap app_of_fields c.after_help.ensures ∙ ap app_of_fields c.override_usage.ensures ∙ ap app_of_fields c.about.ensures in
     let app_is : app_of c.in_ok-command.command ≡ program = c.in_ok-command.ensures.shape (search rules)
     ∙ ap₂ with_rule (c.in_ok-arg.ensures.shape (search rules) ∙ ap₂ with_rule (about_is ∙ c.new-3.ensures.app) list_is) limit_is in
     let words = map string_bytes c.args.words.now in
@@ -52,7 +52,7 @@ returns-clause-gives c =
     let parser : c.value_parser-2.result.value_parser ≡ Some (Signed (pos 0) (pos 4294967295)) = given.1 ∙ ap (λ (q : ValueParser). Some q) (given.2 ∙ c.value_parser.ensures) in
     let list_is : rule_of c.help-list.result ≡ list_rule = search rules in
     let limit_is : rule_of c.help-limit.result ≡ limit_rule = search (rules, parser) in
-    let about_is : app_of c.about.result ≡ app_of c.new-3.result = ap app_of_fields c.about.ensures in
+    let about_is : app_of c.after_help.result ≡ app_of c.new-3.result = ap app_of_fields c.after_help.ensures ∙ ap app_of_fields c.override_usage.ensures ∙ ap app_of_fields c.about.ensures in
     let app_is : app_of c.in_ok-command.command ≡ program = c.in_ok-command.ensures.shape (search rules)
     ∙ ap₂ with_rule (c.in_ok-arg.ensures.shape (search rules) ∙ ap₂ with_rule (about_is ∙ c.new-3.ensures.app) list_is) limit_is in
     let words = map string_bytes c.args.words.now in
