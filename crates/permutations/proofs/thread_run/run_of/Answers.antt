@@ -9,8 +9,8 @@ use Rattle.permutation_plans.specs.Regular.{IsRegular}
 use Rattle.permutations.proofs.Driven.{plan_fits}
 use Rattle.permutations.proofs.thread_run.run_of.Goals as goal
 
-pub fitting_run-requires-sessions : goal.fitting_run-requires-sessions
-fitting_run-requires-sessions g c =
+pub fitting_run-requires-clause-sessions : goal.fitting_run-requires-clause-sessions
+fitting_run-requires-clause-sessions g c =
     omega (arith, c.in_ok-closed.ensures.of.1, c.len-sessions.ensures, c.args.spec.now.sessions.ok.0, length-map c.args.spec.now.sessions.items session_view)
 
 pub returns-clause-regular : goal.returns-clause-regular
