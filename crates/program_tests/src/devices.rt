@@ -45,6 +45,12 @@ impl<'t> Source for Gives<'t> {
     }
 }
 
+/// A thread's start takes memory too, and one that is refused is told as such.
+fn tells_of_memory(line: &[u8]) -> bool {
+    line == b"isolationtester: Memory\n".as_slice()
+        || line == b"isolationtester: R10 Threads\n".as_slice()
+}
+
 /// Takes a text that is to come in so many puts, and then fails.
 #[derive(Drop)]
 pub struct Takes<'t> {
@@ -94,9 +100,7 @@ impl<'t> Sink for Takes<'t> {
         }
         self.puts -= 1;
         self.taken = true;
-        if bytes == b"isolationtester: Memory\n".as_slice() {
-            self.told_of_memory = true;
-        }
+        self.told_of_memory |= tells_of_memory(bytes);
         match self.to_come.strip_prefix(bytes) {
             Some(rest) => self.to_come = rest,
             None => self.is_the_text = false,

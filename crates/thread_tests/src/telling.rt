@@ -14,7 +14,7 @@ use std::sync::atomic::Ordering;
 use std::test::Fail;
 use std::thread::Threads;
 
-/// Two sessions of steps that answer different values, one of which waits for the other.
+/// Two sessions whose statements answer different values.
 const TWO: &str = "session s1 step a { SELECT 11; SELECT 12; } step b { SELECT 13; }
 session s2 step c { SELECT 21; } step d { SELECT 22; SELECT 23; }
 permutation c a d b";

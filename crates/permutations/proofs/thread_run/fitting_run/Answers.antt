@@ -2,7 +2,7 @@ use Rattle.std.proofs.Common.{◌≡◌, List, length, map, sym, subst, refl, tr
 use Rattle.session_machine.specs.declared.event.Mode.TheVariants.{Directed}
 use Rattle.session_machine.specs.declared.reply.HistItem.{HistItem}
 use Rattle.session_machine.specs.Engine.{Engine, opened}
-use Rattle.session_core.specs.Engines.{is_quiet_in}
+use Rattle.session_core.specs.Engines.{IsOf, is_quiet_in}
 use Rattle.spec_parser.specs.Trees.{entry_view, spec_view}
 use Rattle.permutation_plans.specs.Regular.{Fits, IsRegular}
 use Rattle.permutations.proofs.Running.{regular}
