@@ -1,5 +1,5 @@
 -- What the program does with the words of its command line: its exit status, what goes to its output, and what to its errors.
-use Rattle.std.specs.Prelude.{◌≡◌, ◌⊎◌, ◌↔◌, ℕ, Bool, true, false, IsTrue, List, [], ◌++◌, take, Option, Result, Ok, Err, IfSome, IfErr, IsErrOf}
+use Rattle.std.specs.Prelude.{◌≡◌, ◌⊎◌, ◌↔◌, ℕ, Bool, true, false, IsTrue, List, [], ◌++◌, take, Option, Result, Ok, Err, IfSome, IfErr}
 use Rattle.std.specs.Bool.{OnFalse}
 use Rattle.std.specs.Io.KnownBytes.{Appends}
 use Rattle.clap.specs.Words.{IsAmong, Text, fault_of}
@@ -9,7 +9,7 @@ use Rattle.permutations.specs.Broken.{FileBroken}
 use Rattle.permutations.specs.FaultText.{fault_line}
 use Rattle.permutations.specs.Lists.{FileLists}
 use Rattle.permutations.specs.Prints.{FileSays}
-use Rattle.permutations.specs.Runs.{is_refusal, is_of_listing, has_ended, status_of as fault_status, IsListed, IsTold}
+use Rattle.permutations.specs.Runs.{is_refusal, is_of_listing, has_broken, has_ended, status_of as fault_status, IsListed, IsTold}
 use Rattle.permutations.specs.Said.{Said}
 use Rattle.permutations.specs.declared.fault.RunFault.{RunFault}
 use Rattle.permutations.specs.declared.fault.RunFault.TheVariants as faults
@@ -56,7 +56,7 @@ pub record Ran (left : Option (List ℕ)) (limit : ℕ) (out_old out_new notes_o
   pub told : IfSome left (λ bytes. IsTrue (has_ended answer) → (said : Said) × FileSays (take 1048577 bytes) limit (Ok said) × IsTold out_old out_new notes_old notes_new answer said)
   pub refused : IfSome left (λ bytes. IfErr answer (λ e. is_refusal e ≡ true → FileSays (take 1048577 bytes) limit (Err e)))
   pub untouched : IfErr answer (λ e. is_refusal e ≡ true → (out_new ≡ out_old) × (notes_new ≡ notes_old))
-  pub broken : IfSome left (λ bytes. IsErrOf answer faults.ScheduleBroken → FileBroken (take 1048577 bytes) limit out_old out_new notes_old notes_new)
+  pub broken : IfSome left (λ bytes. IsTrue (has_broken answer) → FileBroken (take 1048577 bytes) limit out_old out_new notes_old notes_new)
 
 -- `--list` is looked at before all else
 abbrev pub Runs : Options → Option (List ℕ) → Option (List ℕ) → Option (List ℕ) → Option (List ℕ) → Option (List ℕ) → Result (Unit {0}) RunFault → Type 0

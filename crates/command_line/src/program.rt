@@ -10,7 +10,10 @@ ghost use Rattle.command_line.specs.Shell.{IsServed, IsShown, Runs, TookLine, Te
 use crate::options::{Options, options_of, status_of};
 use iso_lexer::{Sink, Source};
 use permutations::{RunFault, list_spec, run_spec};
+use session_threads::OpenGate;
 use std::alloc::Global;
+use std::sync::Wait;
+use std::thread::Threads;
 
 /// Puts a text; of a sink that fails there is no one to tell.
 pub(crate) fn put_text<N: Sink>(sink: &mut N, text: &[u8])
@@ -47,7 +50,8 @@ pub(crate) fn put_error<W: Sink, N: Sink>(
     }
 }
 
-pub(crate) fn run<S: Source, W: Sink, N: Sink>(
+pub(crate) fn run<S: Source, W: Sink, N: Sink, R: Threads + Wait + Sync>(
+    rt: &R,
     alloc: Global,
     options: Options,
     input: &mut S,
@@ -59,7 +63,7 @@ pub(crate) fn run<S: Source, W: Sink, N: Sink>(
     if options.list {
         list_spec(alloc, input, out, options.limit)
     } else {
-        run_spec(alloc, input, out, err, options.limit)
+        run_spec(rt, alloc, input, out, err, options.limit, &OpenGate)
     }
 }
 
@@ -79,8 +83,9 @@ pub(crate) fn end<N: Sink>(alloc: Global, answer: Result<(), RunFault>, err: &mu
 
 /// Runs the program on the words of its command line, of which the first is its own name: the spec file is read from
 /// `input`, its text goes to `out`, notes and faults to `err`. Gives the exit status: 0 where all ran, 1 where the file
-/// was refused or its run ended early, 2 where the words were refused, 3 where a device, memory or a schedule failed.
-pub fn serve<S: Source, W: Sink, N: Sink>(
+/// was refused or its run ended early, 2 where the words were refused, 3 where a device, memory, a thread or a schedule failed.
+pub fn serve<S: Source, W: Sink, N: Sink, R: Threads + Wait + Sync>(
+    rt: &R,
     alloc: Global,
     words: &[String],
     input: &mut S,
@@ -93,7 +98,7 @@ pub fn serve<S: Source, W: Sink, N: Sink>(
 {
     match options_of(alloc, words) {
         Ok(options) => {
-            let answer = run(alloc, options, input, out, err);
+            let answer = run(rt, alloc, options, input, out, err);
             end(alloc, answer, err)
         }
         Err(error) => {

@@ -18,6 +18,8 @@ use permutations::{BlockFault, RunFault};
 use spec_parser::SpecFault;
 use sql_trees::SqlFault;
 use std::alloc::Global;
+use std::sync::Wait;
+use std::thread::Threads;
 
 /// How to give a file.
 const HINT: &[u8] =
@@ -89,6 +91,7 @@ fn place_of(fault: &RunFault) -> Option<usize>
         | RunFault::SetupFailed { .. }
         | RunFault::SetupWaits
         | RunFault::ScheduleBroken
+        | RunFault::Threads(_)
         | RunFault::TooManyPermutations
         | RunFault::Memory => None,
     }
@@ -122,7 +125,8 @@ fn end_there<N: Sink>(alloc: Global, answer: Result<(), RunFault>, file: &[u8], 
     }
 }
 
-fn run_file<W: Sink, N: Sink>(
+fn run_file<W: Sink, N: Sink, R: Threads + Wait + Sync>(
+    rt: &R,
     alloc: Global,
     options: Options,
     file: &[u8],
@@ -133,11 +137,12 @@ fn run_file<W: Sink, N: Sink>(
         (N.failed err.new) (N.put_so_far err.old) (N.put_so_far err.new) result }
 {
     let mut source = FromStd::new(file);
-    let answer = run(alloc, options, &mut source, out, err);
+    let answer = run(rt, alloc, options, &mut source, out, err);
     end_there(alloc, answer, file, err)
 }
 
-fn read_and_run<S: Source, W: Sink, N: Sink>(
+fn read_and_run<S: Source, W: Sink, N: Sink, R: Threads + Wait + Sync>(
+    rt: &R,
     alloc: Global,
     options: Options,
     input: &mut S,
@@ -152,7 +157,7 @@ fn read_and_run<S: Source, W: Sink, N: Sink>(
         return RunFault::Write.status();
     }
     match read_all(alloc, input, LONGEST_FILE + 1) {
-        Ok(file) => run_file(alloc, options, file.as_slice(), out, err),
+        Ok(file) => run_file(rt, alloc, options, file.as_slice(), out, err),
         Err(fault) => end(alloc, Err(RunFault::from(fault)), err),
     }
 }
@@ -160,7 +165,8 @@ fn read_and_run<S: Source, W: Sink, N: Sink>(
 /// Runs the program as `serve` does, where the errors go to a terminal: where the input is one too (`typed`) it is said
 /// first how to give a file, and behind the line of a fault that names a byte the line of the file is quoted, with a mark
 /// under that byte. The file is read whole before it runs.
-pub fn serve_at_terminal<S: Source, W: Sink, N: Sink>(
+pub fn serve_at_terminal<S: Source, W: Sink, N: Sink, R: Threads + Wait + Sync>(
+    rt: &R,
     alloc: Global,
     words: &[String],
     input: &mut S,
@@ -173,7 +179,7 @@ pub fn serve_at_terminal<S: Source, W: Sink, N: Sink>(
     ensures unread { fault_of program (map string_bytes words.now) ≢ [] → input.new ≡ input.old }
 {
     match options_of(alloc, words) {
-        Ok(options) => read_and_run(alloc, options, input, typed, out, err),
+        Ok(options) => read_and_run(rt, alloc, options, input, typed, out, err),
         Err(error) => {
             put_error(alloc, out, err, &error);
             status_of(&error)

@@ -105,15 +105,12 @@ fn are_equal(one: &Row, other: &Row, column: usize) -> bool {
     }
 }
 
+/// A row that isn't NULL there is equal to itself, and to no other.
 fn is_unique(rows: &[Row], column: usize) -> bool {
-    let mut left = rows;
-    while let [row, rest @ ..] = left {
-        if rest.iter().any(|other| are_equal(row, other, column)) {
-            return false;
-        }
-        left = rest;
-    }
-    true
+    rows.iter().all(|row| {
+        let same = rows.iter().filter(|other| are_equal(row, other, column));
+        same.count() < 2
+    })
 }
 
 /// What is committed has each key once, and the history is legal.

@@ -11,6 +11,8 @@ use std::alloc::Global;
 use std::fs;
 use std::process::ExitCode;
 use std::rt::Runtime;
+use std::sync::Wait;
+use std::thread::Threads;
 
 /// The status where the words of the command line are refused.
 const WORDS_REFUSED: u8 = 2;
@@ -23,13 +25,18 @@ struct Outcome {
     status: u8,
 }
 
-fn outcome_of(alloc: Global, words: &[String], input: &[u8]) -> Outcome {
+fn outcome_of<R: Threads + Wait + Sync>(
+    rt: &R,
+    alloc: Global,
+    words: &[String],
+    input: &[u8],
+) -> Outcome {
     let mut source = FromStd::new(input);
     let mut out = Vec::new(alloc);
     let mut err = Vec::new(alloc);
     let mut sink = FromStd::new(&mut out);
     let mut notes = FromStd::new(&mut err);
-    let status = serve(alloc, words, &mut source, &mut sink, &mut notes);
+    let status = serve(rt, alloc, words, &mut source, &mut sink, &mut notes);
     Outcome { out, err, status }
 }
 
@@ -77,29 +84,36 @@ fn names_in<R: Runtime + AllocGlobal>(rt: &R, folder: &str) -> Result<Vec<String
 }
 
 /// Whether a plain example prints its text, and nothing on standard error.
-fn prints_its_text<R: Runtime + AllocGlobal>(rt: &R, name: &str) -> Result<bool> {
+fn prints_its_text<R: Runtime + AllocGlobal + Threads + Wait + Sync>(
+    rt: &R,
+    name: &str,
+) -> Result<bool> {
     let alloc = rt.alloc();
     let spec = fs::read(rt, format!(in alloc; "specs/{name}.spec")?.as_str())?;
     let expected = fs::read(rt, format!(in alloc; "expected/{name}.out")?.as_str())?;
     let words = words_in(rt, "specs/none.args")?;
-    let outcome = outcome_of(alloc, &words, &spec);
+    let outcome = outcome_of(rt, alloc, &words, &spec);
     Ok(outcome.out == expected && outcome.err.is_empty() && outcome.status == 0)
 }
 
 /// Whether an example of a folder prints its text and its lines on standard error, and ends with its status.
-fn ends_so<R: Runtime + AllocGlobal>(rt: &R, folder: &str, name: &str) -> Result<bool> {
+fn ends_so<R: Runtime + AllocGlobal + Threads + Wait + Sync>(
+    rt: &R,
+    folder: &str,
+    name: &str,
+) -> Result<bool> {
     let alloc = rt.alloc();
     let spec = fs::read(rt, format!(in alloc; "{folder}/{name}.spec")?.as_str())?;
     let words = words_in(rt, format!(in alloc; "{folder}/{name}.args")?.as_str())?;
     let out = bytes_or_none(rt, format!(in alloc; "{folder}/{name}.out")?.as_str())?;
     let err = bytes_or_none(rt, format!(in alloc; "{folder}/{name}.err")?.as_str())?;
     let status = status_or_zero(rt, format!(in alloc; "{folder}/{name}.status")?.as_str())?;
-    let outcome = outcome_of(alloc, &words, &spec);
+    let outcome = outcome_of(rt, alloc, &words, &spec);
     let is_told_so = status == WORDS_REFUSED || outcome.err == err;
     Ok(outcome.out == out && is_told_so && outcome.status == status)
 }
 
-fn run<R: Runtime + AllocGlobal>(rt: &R) -> Result<bool> {
+fn run<R: Runtime + AllocGlobal + Threads + Wait + Sync>(rt: &R) -> Result<bool> {
     let mut all = true;
     for name in &names_in(rt, "specs")? {
         if !prints_its_text(rt, name.as_str())? {

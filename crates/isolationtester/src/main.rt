@@ -4,21 +4,26 @@
 use command_line::{serve, serve_at_terminal};
 use iso_lexer::FromStd;
 use std::env;
-use std::io::{self, BufWriter, IsTerminal, Write};
+use std::io::{self, BufWriter, IsTerminal, Stderr, Write};
 use std::process::ExitCode;
+use std::rt::Runtime;
+use std::sync::Wait;
+use std::thread::Threads;
 
 /// The exit status where a device or memory fails before the program runs, or after.
 const FAILED: u8 = 3;
 
-fn run(rt: &HostRuntime) -> io::Result<u8> {
+fn run<R: Runtime + AllocGlobal + Threads + Wait + Sync>(rt: &R, errors: Stderr) -> io::Result<u8> {
     let words: Vec<String> = env::args(rt)?.collect(rt.alloc())?;
     let mut text = BufWriter::new(rt.alloc(), io::writer(rt))?;
     let mut input = FromStd::new(rt.reader());
     let mut out = FromStd::new(&mut text);
-    let mut err = FromStd::new(rt.stderr());
-    let status = if rt.stderr().is_terminal() {
+    let is_read = errors.is_terminal();
+    let mut err = FromStd::new(errors);
+    let status = if is_read {
         let typed = rt.reader().is_terminal();
         serve_at_terminal(
+            rt,
             rt.alloc(),
             words.as_slice(),
             &mut input,
@@ -27,14 +32,21 @@ fn run(rt: &HostRuntime) -> io::Result<u8> {
             &mut err,
         )
     } else {
-        serve(rt.alloc(), words.as_slice(), &mut input, &mut out, &mut err)
+        serve(
+            rt,
+            rt.alloc(),
+            words.as_slice(),
+            &mut input,
+            &mut out,
+            &mut err,
+        )
     };
     text.flush()?;
     Ok(status)
 }
 
 fn main(rt: HostRuntime) -> ExitCode {
-    match run(&rt) {
+    match run(&rt, rt.stderr()) {
         Ok(status) => ExitCode::from(status),
         Err(_) => {
             let _ = eprintln!(rt; "isolationtester: R2 Write");

@@ -55,6 +55,7 @@ block_refused bytes spec parts (told.Spec f) file says differs = absurd says
 block_refused bytes spec parts (told.SetupFailed t) file says differs = absurd says
 block_refused bytes spec parts told.SetupWaits file says differs = absurd says
 block_refused bytes spec parts told.ScheduleBroken file says differs = absurd says
+block_refused bytes spec parts (told.Threads f) file says differs = absurd says
 block_refused bytes spec parts told.TooManyPermutations file says differs = absurd says
 block_refused bytes spec parts (told.NotUtf8 at) file says differs = absurd says
 
@@ -83,6 +84,7 @@ blocks_kind parts (told.Spec f) says = absurd says
 blocks_kind parts (told.SetupFailed t) says = absurd says
 blocks_kind parts told.SetupWaits says = absurd says
 blocks_kind parts told.ScheduleBroken says = absurd says
+blocks_kind parts (told.Threads f) says = absurd says
 blocks_kind parts told.TooManyPermutations says = absurd says
 blocks_kind parts (told.NotUtf8 at) says = absurd says
 

@@ -3,8 +3,10 @@ pub mod FileLemmas
 pub mod Listing
 pub mod OneFile
 pub mod Running
+pub mod Driven
 pub mod Going
 pub mod Telling
+pub mod FreeTelling
 pub mod Printing
 pub mod OneText
 pub mod Whole

@@ -119,6 +119,7 @@ reading_lists faults.TooManyPermutations is = refl
 reading_lists (faults.SetupFailed text) is = absurd cc
 reading_lists faults.SetupWaits is = absurd cc
 reading_lists faults.ScheduleBroken is = absurd cc
+reading_lists (faults.Threads f) is = absurd cc
 
 pub read_lists : (f : ReadFault) → is_of_listing (read_fault f) ≡ true
 read_lists read_faults.Memory = refl

@@ -77,6 +77,7 @@ on_fault ps bs i p q (faults.Spec f) lt is says so = says
 on_fault ps bs i p q (faults.SetupFailed t) lt is says so = says
 on_fault ps bs i p q faults.SetupWaits lt is says so = says
 on_fault ps bs i p q faults.ScheduleBroken lt is says so = says
+on_fault ps bs i p q (faults.Threads f) lt is says so = says
 on_fault ps bs i p q faults.TooManyPermutations lt is says so = says
 on_fault ps bs i p q (faults.NotUtf8 at) lt is says so = says
 

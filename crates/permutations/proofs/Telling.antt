@@ -1,5 +1,5 @@
 -- The answer to writing a permutation, as the answer to its run.
-use Rattle.std.proofs.Common.{◌≡◌, ℕ, List, Bool, true, ◌||◌, Option, Result, Ok, Err, refl, sym, subst, ◌∙◌}
+use Rattle.std.proofs.Common.{◌≡◌, ap, ℕ, List, Bool, true, ◌||◌, Option, Result, Ok, Err, refl, sym, subst, ◌∙◌}
 use Rattle.std.specs.Prelude.{string_bytes, IsTrue}
 use Rattle.session_machine.specs.declared.reply.HistItem.{HistItem}
 use Rattle.session_machine.specs.Machine.{Blocks}
@@ -15,7 +15,7 @@ use Rattle.report_text.specs.Permutation.{permutation_says}
 use Rattle.permutations.specs.declared.fault.RunFault.{RunFault}
 use Rattle.permutations.specs.declared.fault.RunFault.TheVariants as faults
 use Rattle.permutations.specs.Faults.{report_fault}
-use Rattle.permutations.specs.Runs.{AnswersOne, IsOneTold, is_early_end, is_of_one}
+use Rattle.permutations.specs.Runs.{AnswersOne, IsOneTold, is_early_end, is_of_one, is_broken}
 use Rattle.permutations.specs.Written.{told_as, IsWritten}
 
 answers_ok : (ending : report.Ending) (e : Ended) → EndsAs ending (Ok e) → AnswersOne ending (Ok tt)
@@ -66,15 +66,15 @@ err_kind : (e : RunFault) (told : Result Ended ReportFault) → ◌≡◌ {A = R
 err_kind e (Ok x) is = absurd cc
 err_kind e (Err f) is = subst (λ (d : RunFault). is_of_one d ≡ true) (sym (fault_is e (report_fault f) is)) (one_kind f)
 
-not_broken : (f : ReportFault) → report_fault f ≡ faults.ScheduleBroken → ⊥
+not_broken : (f : ReportFault) → is_broken (report_fault f) ≡ true → ⊥
 not_broken writes.Write e = cc
 not_broken writes.Memory e = cc
 not_broken (writes.SetupFailed why) e = cc
 not_broken writes.SetupWaits e = cc
 
-err_broken : (e : RunFault) (told : Result Ended ReportFault) → ◌≡◌ {A = Result Ended RunFault} (Err e) (told_as told) → e ≡ faults.ScheduleBroken → ⊥
+err_broken : (e : RunFault) (told : Result Ended ReportFault) → ◌≡◌ {A = Result Ended RunFault} (Err e) (told_as told) → is_broken e ≡ true → ⊥
 err_broken e (Ok x) is broken = cc
-err_broken e (Err f) is broken = not_broken f (sym (fault_is e (report_fault f) is) ∙ broken)
+err_broken e (Err f) is broken = not_broken f (ap is_broken (sym (fault_is e (report_fault f) is)) ∙ broken)
 
 write_fails : (fo fn go gn : Bool) (f : ReportFault) → report_fault f ≡ faults.Write → TellsFailure {A = Ended} fo fn go gn (Err f) → (fn || gn) ≡ true
 write_fails fo fn go gn writes.Write e fails = fails
@@ -98,7 +98,7 @@ module _ (spec : SpecTree) (blocks : Blocks) (entries : List EntryTree) (items :
   pub told_kind : (e : RunFault) → IsWritten spec entries items wo wn eo en fo fn go gn (Err e) → is_of_one e ≡ true
   told_kind e w = err_kind e w.told w.is
 
-  pub told_broken : (e : RunFault) → IsWritten spec entries items wo wn eo en fo fn go gn (Err e) → e ≡ faults.ScheduleBroken → ⊥
+  pub told_broken : (e : RunFault) → IsWritten spec entries items wo wn eo en fo fn go gn (Err e) → is_broken e ≡ true → ⊥
   told_broken e w broken = err_broken e w.told w.is broken
 
   pub told_write : (e : RunFault) → IsWritten spec entries items wo wn eo en fo fn go gn (Err e) → e ≡ faults.Write → (fn || gn) ≡ true

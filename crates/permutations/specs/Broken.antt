@@ -1,4 +1,4 @@
--- What has gone out where a schedule breaks: what is said where fewer permutations may run, and one more is there.
+-- What has gone out where the run of a permutation comes to no end, or launches something else: what is said where fewer permutations may run, and one more is there.
 use Rattle.std.specs.Prelude.{◌≡◌, ℕ, ◌<◌, List, Option, Ok}
 use Rattle.std.specs.Io.KnownBytes.{Appends}
 use Rattle.session_machine.specs.Machine.{Blocks}

@@ -26,6 +26,7 @@ fault_text (faults.SetupFailed text) = codes "R6 SetupFailed: " ++ string_bytes 
 fault_text faults.SetupWaits = codes "R7 SetupWaits"
 fault_text faults.ScheduleBroken = codes "R8 ScheduleBroken"
 fault_text faults.TooManyPermutations = codes "R9 TooManyPermutations"
+fault_text (faults.Threads f) = codes "R10 Threads"
 fault_text (faults.NotUtf8 at) = placed (codes "R11 NotUtf8") at
 fault_text faults.Memory = codes "Memory"
 

@@ -5,6 +5,9 @@ use Rattle.spec_parser.specs.declared.fault.SpecFault.{SpecFault}
 use Rattle.spec_parser.specs.declared.fault.SpecFault.TheVariants as spec_faults
 use Rattle.report_text.specs.declared.fault.ReportFault.{ReportFault}
 use Rattle.report_text.specs.declared.fault.ReportFault.TheVariants as report_faults
+use Rattle.session_machine.specs.declared.fault.EngineFault.TheVariants as engine_faults
+use Rattle.session_threads.specs.declared.seat.ThreadFault.{ThreadFault}
+use Rattle.session_threads.specs.declared.seat.ThreadFault.TheVariants as thread_faults
 use Rattle.permutations.specs.declared.fault.RunFault.{RunFault}
 use Rattle.permutations.specs.declared.fault.RunFault.TheVariants as faults
 
@@ -28,3 +31,9 @@ report_fault report_faults.Write = faults.Write
 report_fault report_faults.Memory = faults.Memory
 report_fault (report_faults.SetupFailed text) = faults.SetupFailed text
 report_fault report_faults.SetupWaits = faults.SetupWaits
+
+-- want of memory is told as such, wherever a run met it
+abbrev pub thread_fault : ThreadFault → RunFault
+thread_fault thread_faults.Memory = faults.Memory
+thread_fault (thread_faults.Engine engine_faults.Memory) = faults.Memory
+thread_fault f = faults.Threads f

@@ -13,4 +13,5 @@ pub mod Plans
 pub mod Written
 pub mod Broken
 pub mod Runs
+pub mod FreeRuns
 pub mod Laws

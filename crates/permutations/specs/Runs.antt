@@ -27,12 +27,20 @@ is_early_end faults.SetupWaits = true
 is_early_end faults.TooManyPermutations = true
 is_early_end _ = false
 
--- a fault that the run of one permutation may answer
+-- a fault that the run of one permutation may answer before anything of it is written
+abbrev pub is_of_run : RunFault → Bool
+is_of_run faults.ScheduleBroken = true
+is_of_run (faults.Threads f) = true
+is_of_run faults.Memory = true
+is_of_run _ = false
+
+-- a fault that the run of one permutation, and writing its report, may answer
 abbrev pub is_of_one : RunFault → Bool
 is_of_one faults.Write = true
 is_of_one (faults.SetupFailed text) = true
 is_of_one faults.SetupWaits = true
 is_of_one faults.ScheduleBroken = true
+is_of_one (faults.Threads f) = true
 is_of_one faults.Memory = true
 is_of_one _ = false
 
@@ -50,7 +58,18 @@ abbrev pub is_of_listing : RunFault → Bool
 is_of_listing (faults.SetupFailed text) = false
 is_of_listing faults.SetupWaits = false
 is_of_listing faults.ScheduleBroken = false
+is_of_listing (faults.Threads f) = false
 is_of_listing _ = true
+
+-- the run of a permutation came to no end, or launched something else, so that nothing of it is written
+abbrev pub is_broken : RunFault → Bool
+is_broken faults.ScheduleBroken = true
+is_broken (faults.Threads f) = true
+is_broken _ = false
+
+abbrev pub has_broken : Result (Unit {0}) RunFault → Bool
+has_broken (Ok x) = false
+has_broken (Err e) = is_broken e
 
 abbrev pub has_ended : Result (Unit {0}) RunFault → Bool
 has_ended (Ok x) = true
@@ -75,7 +94,7 @@ Answers (setup_failed text) (Err _) = ⊥
 Answers setup_waits result = result ≡ Err faults.SetupWaits
 Answers too_many result = result ≡ Err faults.TooManyPermutations
 
--- a file that is refused, or of which a run ends early, ends the program with 1; a device, memory or a schedule that fails with 3
+-- a file that is refused, or of which a run ends early, ends the program with 1; a device, memory, a thread or a schedule that fails with 3
 abbrev pub status_of : RunFault → ℕ
 status_of e = if is_refusal e then 1 else (if is_early_end e then 1 else 3)
 

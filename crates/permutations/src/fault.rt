@@ -3,12 +3,14 @@
 ghost use Rattle.std.specs.Prelude.{◌≡◌, ◌+◌, ◌<◌, ◌^◌, Some};
 ghost use Rattle.sql_trees.specs.Faults.{place};
 ghost use Rattle.permutations.specs.declared.fault.RunFault.TheVariants.{Write, Memory};
-ghost use Rattle.permutations.specs.Faults.{read_fault, spec_fault, report_fault};
+ghost use Rattle.permutations.specs.Faults.{read_fault, spec_fault, report_fault, thread_fault};
 ghost use Rattle.permutations.specs.FaultText.{shift_of, block_fault_text, fault_text};
 ghost use Rattle.permutations.specs.Runs.{status_of};
 
 use iso_lexer::{DeviceFault, Fault, ReadFault};
 use report_text::ReportFault;
+use session_machine::EngineFault;
+use session_threads::ThreadFault;
 use spec_parser::SpecFault;
 use sql_trees::SqlFault;
 use std::alloc::{AllocError, AllocFailed};
@@ -81,6 +83,8 @@ pub enum RunFault {
     ScheduleBroken,
     /// As many permutations as may run have run, and there is one more.
     TooManyPermutations,
+    /// The threads of a run came to no end.
+    Threads(ThreadFault),
     /// The file is no UTF-8 from this byte on.
     NotUtf8(usize),
     /// Memory was refused.
@@ -102,6 +106,7 @@ impl fmt::Display for RunFault {
             RunFault::SetupWaits => write!(f, "R7 SetupWaits"),
             RunFault::ScheduleBroken => write!(f, "R8 ScheduleBroken"),
             RunFault::TooManyPermutations => write!(f, "R9 TooManyPermutations"),
+            RunFault::Threads(_) => write!(f, "R10 Threads"),
             RunFault::NotUtf8(at) => write!(f, "R11 NotUtf8 at byte {at}"),
             RunFault::Memory => write!(f, "Memory"),
         }
@@ -121,6 +126,17 @@ impl<T: Drop> From<AllocFailed<T>> for RunFault {
 
     fn from(_e: AllocFailed<T>) -> RunFault {
         RunFault::Memory
+    }
+}
+
+impl From<ThreadFault> for RunFault {
+    ghost from_gives = { λ f e. e ≡ thread_fault f };
+
+    fn from(e: ThreadFault) -> RunFault {
+        match e {
+            ThreadFault::Memory | ThreadFault::Engine(EngineFault::Memory) => RunFault::Memory,
+            other => RunFault::Threads(other),
+        }
     }
 }
 
@@ -170,12 +186,16 @@ impl From<ReportFault> for RunFault {
 
 impl RunFault {
     /// The exit status of a program that meets the fault: 1 where the file is refused or its run ends early, 3 where a
-    /// device, memory or a schedule fails.
+    /// device, memory, a thread or a schedule fails.
     pub fn status(&self) -> u8
         ensures { result ≡ status_of self.now }
     {
         match self {
-            RunFault::Read | RunFault::Write | RunFault::ScheduleBroken | RunFault::Memory => 3,
+            RunFault::Read
+            | RunFault::Write
+            | RunFault::ScheduleBroken
+            | RunFault::Threads(_)
+            | RunFault::Memory => 3,
             RunFault::Lex(_)
             | RunFault::Spec(_)
             | RunFault::Sql(_)

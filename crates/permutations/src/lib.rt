@@ -1,20 +1,25 @@
-//! Runs the permutations of a spec file, and prints their text; or lists them.
+//! Runs the permutations of a spec file, or its sessions freely, and prints the text; or lists the permutations.
 #![tactic(auto)]
 
 mod blocks;
 mod fault;
 mod file;
 mod first_line;
+mod free_run;
+mod free_spec;
 pub mod laws;
 mod list;
 mod one_run;
 mod plan;
 mod report;
 mod run;
+mod thread_run;
 
 pub use fault::{BlockFault, RunFault};
+pub use free_spec::{free_spec, write_free};
 pub use interleavings::Interleavings;
 pub use list::list_spec;
+pub use one_run::run_alone;
 pub use permutation_plans::launches_fit;
 pub use plan::Plan;
 pub use report::write_permutation;

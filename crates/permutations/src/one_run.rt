@@ -82,8 +82,8 @@ fn run_to_end<'a, 't>(
     Ok(())
 }
 
-/// A new engine after the run of a permutation, or `ScheduleBroken` where its launches are not the permutation's.
-pub fn run_of<'a, 't>(
+/// A new engine after the run of a permutation on the calling thread alone, or `ScheduleBroken` where its launches are not the permutation's.
+pub fn run_alone<'a, 't>(
     alloc: Global,
     spec: &Spec<'_>,
     blocks: &'a [Block<'t>],

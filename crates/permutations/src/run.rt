@@ -8,57 +8,67 @@ ghost use Rattle.spec_parser.specs.Stands.{Stands};
 ghost use Rattle.permutation_lists.specs.Permutations.{permutations_of};
 ghost use Rattle.permutations.specs.Broken.{RunBroken, FileBroken};
 ghost use Rattle.permutations.specs.Prints.{Prints, FileSays};
-ghost use Rattle.permutations.specs.Runs.{is_refusal, is_of_one, has_ended, has_read, IsTold, IsOneTold};
+ghost use Rattle.permutations.specs.Runs.{is_refusal, is_of_one, has_broken, has_ended, has_read, IsTold, IsOneTold};
 ghost use Rattle.permutations.specs.Said.{Said};
 
 use crate::fault::RunFault;
 use crate::file::read_file;
 use crate::first_line::first_line;
-use crate::one_run::run_of;
 use crate::report::write_permutation;
+use crate::thread_run::run_of;
 use iso_lexer::{LONGEST_FILE, Sink, Source, read_all};
 use permutation_lists::Permutations;
+use session_threads::Gate;
 use spec_parser::{Entry, Spec};
 use sql_parser::Block;
 use std::alloc::Global;
+use std::sync::Wait;
+use std::thread::Threads;
 
-/// Runs a permutation on a new engine, and writes its report.
-fn run_permutation<W: Sink, N: Sink>(
+/// Runs a permutation on a new engine, with a thread for each session, and writes its report once the run is closed.
+fn run_permutation<W: Sink, N: Sink, G: Gate, R: Threads + Wait + Sync>(
+    rt: &R,
     alloc: Global,
     spec: &Spec<'_>,
     blocks: &[Block<'_>],
     entries: &[Entry],
     out: &mut W,
     notes: &mut N,
+    gate: &G,
 ) -> Result<(), RunFault>
     requires { Stands (spec_view spec.now) }
     ensures told { IsTrue (has_ended result) → IsOneTold (spec_view spec.now) (blocks_of blocks.now) (map entry_view entries.now)
         (W.put_so_far out.old) (W.put_so_far out.new) (N.put_so_far notes.old) (N.put_so_far notes.new) result }
-    ensures broken { IsErrOf result RunFault.ScheduleBroken → (out.new ≡ out.old) × (notes.new ≡ notes.old) }
+    ensures broken { IsTrue (has_broken result) → (out.new ≡ out.old) × (notes.new ≡ notes.old) }
+    ensures unbroken { result ≢ Err RunFault.ScheduleBroken }
     ensures write { IsErrOf result RunFault.Write → (W.failed out.new || N.failed notes.new) ≡ true }
     ensures kinds { IfErr result (λ e. is_of_one e ≡ true) }
 {
-    let engine = run_of(alloc, spec, blocks, entries)?;
+    let closed = run_of(rt, alloc, spec, blocks, entries, gate)?;
+    let engine = closed.state();
     write_permutation(alloc, spec, entries, engine.history(), out, notes)?;
     Ok(())
 }
 
 /// Runs the permutations of a spec, up to so many.
-fn run_permutations<W: Sink, N: Sink>(
+fn run_permutations<W: Sink, N: Sink, G: Gate, R: Threads + Wait + Sync>(
+    rt: &R,
     alloc: Global,
     spec: &Spec<'_>,
     blocks: &[Block<'_>],
     out: &mut W,
     notes: &mut N,
     limit: u64,
+    gate: &G,
 ) -> Result<(), RunFault>
     requires { Stands (spec_view spec.now) }
     ensures told { IsTrue (has_ended result) →
         ((said : Said) × Prints (spec_view spec.now) (blocks_of blocks.now) limit (permutations_of (spec_view spec.now)) said
         × IsTold (W.put_so_far out.old) (W.put_so_far out.new) (N.put_so_far notes.old) (N.put_so_far notes.new) result said) }
-    ensures broken { IsErrOf result RunFault.ScheduleBroken →
+    ensures broken { IsTrue (has_broken result) →
         RunBroken (spec_view spec.now) (blocks_of blocks.now) limit (permutations_of (spec_view spec.now))
         (W.put_so_far out.old) (W.put_so_far out.new) (N.put_so_far notes.old) (N.put_so_far notes.new) }
+    ensures unbroken { result ≢ Err RunFault.ScheduleBroken }
     ensures write { IsErrOf result RunFault.Write → (W.failed out.new || N.failed notes.new) ≡ true }
     ensures kinds { IfErr result (λ e. is_refusal e ≡ false) }
     ensures read { result ≢ Err RunFault.Read }
@@ -70,59 +80,75 @@ fn run_permutations<W: Sink, N: Sink>(
             return Err(RunFault::TooManyPermutations);
         }
         left -= 1;
-        run_permutation(alloc, spec, blocks, permutations.entries(), out, notes)?;
+        run_permutation(
+            rt,
+            alloc,
+            spec,
+            blocks,
+            permutations.entries(),
+            out,
+            notes,
+            gate,
+        )?;
     }
     Ok(())
 }
 
 /// Runs the permutations of the spec file that these bytes are, up to so many.
-fn run_file<W: Sink, N: Sink>(
+fn run_file<W: Sink, N: Sink, G: Gate, R: Threads + Wait + Sync>(
+    rt: &R,
     alloc: Global,
     bytes: &[u8],
     out: &mut W,
     notes: &mut N,
     limit: u64,
+    gate: &G,
 ) -> Result<(), RunFault>
     ensures told { IsTrue (has_ended result) →
         ((said : Said) × FileSays bytes.now limit (Ok said)
         × IsTold (W.put_so_far out.old) (W.put_so_far out.new) (N.put_so_far notes.old) (N.put_so_far notes.new) result said) }
-    ensures broken { IsErrOf result RunFault.ScheduleBroken → FileBroken bytes.now limit
+    ensures broken { IsTrue (has_broken result) → FileBroken bytes.now limit
         (W.put_so_far out.old) (W.put_so_far out.new) (N.put_so_far notes.old) (N.put_so_far notes.new) }
     ensures refused { IfErr result (λ e. is_refusal e ≡ true → FileSays bytes.now limit (Err e)) }
     ensures untouched { IfErr result (λ e. is_refusal e ≡ true → (out.new ≡ out.old) × (notes.new ≡ notes.old)) }
+    ensures unbroken { result ≢ Err RunFault.ScheduleBroken }
     ensures write { IsErrOf result RunFault.Write → (W.failed out.new || N.failed notes.new) ≡ true }
     ensures read { result ≢ Err RunFault.Read }
 {
     let file = read_file(alloc, bytes)?;
     let line = first_line(alloc, &file.spec)?;
     out.put(line.as_slice())?;
-    run_permutations(alloc, &file.spec, &file.blocks, out, notes, limit)
+    run_permutations(rt, alloc, &file.spec, &file.blocks, out, notes, limit, gate)
 }
 
-/// Reads a spec file, runs its permutations one after the other, each on a new engine, and writes their reports; what a
-/// teardown fails with goes to the notes. Nothing that is written depends on anything but the bytes read and the limit.
-/// The file is refused before anything is written: for its length, as no UTF-8, for its tokens, as no spec, and for its
-/// blocks in the order of the file, in this order. After `limit` permutations, with one more there, the run ends; so it
-/// does after a setup that fails or waits.
-pub fn run_spec<S: Source, W: Sink, N: Sink>(
+/// Reads a spec file, runs its permutations one after the other, each on a new engine and with a thread for each session,
+/// and writes their reports; what a teardown fails with goes to the notes. The gate is asked before each event and told each
+/// reply. Nothing that is written depends on anything but the bytes read and the limit. The file is refused before anything
+/// is written: for its length, as no UTF-8, for its tokens, as no spec, and for its blocks in the order of the file, in this
+/// order. After `limit` permutations, with one more there, the run ends; so it does after a setup that fails or waits. A
+/// permutation whose threads come to no end writes nothing, and the run ends in `Threads`; none ends in `ScheduleBroken`.
+pub fn run_spec<S: Source, W: Sink, N: Sink, G: Gate, R: Threads + Wait + Sync>(
+    rt: &R,
     alloc: Global,
     input: &mut S,
     out: &mut W,
     notes: &mut N,
     limit: u64,
+    gate: &G,
 ) -> Result<(), RunFault>
     ensures told { IfSome (S.left input.old) (λ bytes. IsTrue (has_ended result) →
         ((said : Said) × FileSays (take 1048577 bytes) limit (Ok said)
         × IsTold (W.put_so_far out.old) (W.put_so_far out.new) (N.put_so_far notes.old) (N.put_so_far notes.new) result said)) }
-    ensures broken { IfSome (S.left input.old) (λ bytes. IsErrOf result RunFault.ScheduleBroken → FileBroken (take 1048577 bytes) limit
+    ensures broken { IfSome (S.left input.old) (λ bytes. IsTrue (has_broken result) → FileBroken (take 1048577 bytes) limit
         (W.put_so_far out.old) (W.put_so_far out.new) (N.put_so_far notes.old) (N.put_so_far notes.new)) }
     ensures refused { IfSome (S.left input.old) (λ bytes. IfErr result (λ e. is_refusal e ≡ true → FileSays (take 1048577 bytes) limit (Err e))) }
     ensures untouched { IfErr result (λ e. is_refusal e ≡ true → (out.new ≡ out.old) × (notes.new ≡ notes.old)) }
     ensures read { IsErrOf result RunFault.Read ↔ (S.failed input.new ≡ true) }
     ensures unread { IsErrOf result RunFault.Read → (out.new ≡ out.old) × (notes.new ≡ notes.old) }
+    ensures unbroken { result ≢ Err RunFault.ScheduleBroken }
     ensures write { IsErrOf result RunFault.Write → (W.failed out.new || N.failed notes.new) ≡ true }
     ensures taken { IsTrue (has_read result) → ((bytes : List ℕ) × IsFront 1048577 (S.left input.old) (S.left input.new) bytes) }
 {
     let bytes = read_all(alloc, input, LONGEST_FILE + 1)?;
-    run_file(alloc, &bytes, out, notes, limit)
+    run_file(rt, alloc, &bytes, out, notes, limit, gate)
 }

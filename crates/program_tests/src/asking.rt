@@ -5,6 +5,8 @@ use command_line::serve;
 use iso_lexer::Source;
 use std::alloc::{AllocError, Global};
 use std::process::Abort;
+use std::sync::Wait;
+use std::thread::Threads;
 
 /// Fails the test where the claim is false; `of` says which case it is.
 pub fn holds(rt: &impl Abort, claim: bool, of: &str) {
@@ -22,7 +24,8 @@ pub fn words_of(alloc: Global, words: &[&str]) -> Result<Vec<String>, AllocError
 }
 
 /// The status of the program. Where it tells that memory was refused, that is the answer.
-pub fn served<S: Source>(
+pub fn served<S: Source, R: Threads + Wait + Sync>(
+    rt: &R,
     alloc: Global,
     words: &[&str],
     input: &mut S,
@@ -30,7 +33,7 @@ pub fn served<S: Source>(
     err: &mut Takes<'_>,
 ) -> Result<u8, AllocError> {
     let words = words_of(alloc, words)?;
-    let status = serve(alloc, words.as_slice(), input, out, err);
+    let status = serve(rt, alloc, words.as_slice(), input, out, err);
     if err.was_told_of_memory() {
         return Err(AllocError);
     }

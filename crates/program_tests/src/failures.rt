@@ -4,6 +4,8 @@ use crate::asking::{holds, served};
 use crate::devices::{Gives, Takes};
 use std::alloc::{AllocError, Global};
 use std::process::Abort;
+use std::sync::Wait;
+use std::thread::Threads;
 
 /// A spec whose teardown fails, what it prints, and its note.
 const TORN: &str = "session s step a { } teardown { SELECT 1/0 }";
@@ -22,12 +24,16 @@ const READ_LINE: &str = "isolationtester: R1 Read\n";
 const WRITE_LINE: &str = "isolationtester: R2 Write\n";
 
 /// Each read fails in turn.
-fn reads_fail(rt: &impl Abort, alloc: Global, words: &[&str]) -> Result<(), AllocError> {
+fn reads_fail<R: Abort + Threads + Wait + Sync>(
+    rt: &R,
+    alloc: Global,
+    words: &[&str],
+) -> Result<(), AllocError> {
     for reads in 0..=TWO.len() {
         let mut input = Gives::new(TWO, reads);
         let mut out = Takes::new("", usize::MAX);
         let mut err = Takes::new(READ_LINE, usize::MAX);
-        let status = served(alloc, words, &mut input, &mut out, &mut err)?;
+        let status = served(rt, alloc, words, &mut input, &mut out, &mut err)?;
         holds(rt, status == 3 && err.lacks(0), "R1");
         holds(rt, !out.has_taken(), "no text");
     }
@@ -50,7 +56,7 @@ fn a_failing_put_is_told_behind_the_text_so_far(rt: HostRuntime) -> Result<(), A
         let mut input = Gives::new(TORN, usize::MAX);
         let mut out = Takes::new(TORN_TEXT, puts);
         let mut err = Takes::new(line, usize::MAX);
-        let status = served(rt.alloc(), &[], &mut input, &mut out, &mut err)?;
+        let status = served(&rt, rt.alloc(), &[], &mut input, &mut out, &mut err)?;
         holds(&rt, status == ends && err.lacks(0), "R2");
         holds(&rt, out.lacks(lacking), "the text so far");
     }
@@ -63,7 +69,7 @@ fn a_failing_put_is_told_behind_the_lines_so_far(rt: HostRuntime) -> Result<(), 
         let mut input = Gives::new(TWO, usize::MAX);
         let mut out = Takes::new(LIST, puts);
         let mut err = Takes::new(WRITE_LINE, usize::MAX);
-        let status = served(rt.alloc(), &["--list"], &mut input, &mut out, &mut err)?;
+        let status = served(&rt, rt.alloc(), &["--list"], &mut input, &mut out, &mut err)?;
         holds(&rt, status == 3 && err.lacks(0), "R2");
         holds(&rt, out.lacks(lacking), "the lines so far");
     }
@@ -75,7 +81,7 @@ fn a_note_that_fails_is_told_by_the_status(rt: HostRuntime) -> Result<(), AllocE
     let mut input = Gives::new(TORN, usize::MAX);
     let mut out = Takes::new(TORN_TEXT, usize::MAX);
     let mut err = Takes::new(TORN_NOTE, 0);
-    let status = served(rt.alloc(), &[], &mut input, &mut out, &mut err)?;
+    let status = served(&rt, rt.alloc(), &[], &mut input, &mut out, &mut err)?;
     holds(&rt, status == 3 && out.lacks(0), "R2");
     holds(&rt, !err.has_taken(), "no note");
     Ok(())

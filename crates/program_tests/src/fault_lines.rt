@@ -3,6 +3,7 @@
 use crate::asking::holds;
 use iso_lexer::{Fault, FaultKind};
 use permutations::{BlockFault, RunFault};
+use session_threads::ThreadFault;
 use spec_parser::{SpecFault, What};
 use sql_trees::SqlFault;
 use std::alloc::{AllocError, Global};
@@ -27,6 +28,7 @@ fn faults_of_a_run(rt: HostRuntime) -> Result<(), AllocError> {
         (RunFault::SetupWaits, "R7 SetupWaits"),
         (RunFault::ScheduleBroken, "R8 ScheduleBroken"),
         (RunFault::TooManyPermutations, "R9 TooManyPermutations"),
+        (RunFault::Threads(ThreadFault::Gate), "R10 Threads"),
         (RunFault::NotUtf8(17), "R11 NotUtf8 at byte 17"),
         (RunFault::Memory, "Memory"),
     ] {

@@ -33,7 +33,7 @@ fn the_longest_file_runs_and_one_byte_more_is_too_long(rt: HostRuntime) -> Resul
         let mut input = FromStd::new(file.as_slice());
         let mut out = Takes::new(text, usize::MAX);
         let mut err = Takes::new(line, usize::MAX);
-        let status = served(rt.alloc(), &[], &mut input, &mut out, &mut err)?;
+        let status = served(&rt, rt.alloc(), &[], &mut input, &mut out, &mut err)?;
         holds(&rt, status == ends, "the status");
         holds(&rt, out.lacks(0) && err.lacks(0), "the text");
     }

@@ -4,6 +4,8 @@ use crate::asking::{holds, words_of};
 use crate::devices::{Gives, Takes};
 use command_line::serve_at_terminal;
 use std::alloc::{AllocError, Global};
+use std::sync::Wait;
+use std::thread::Threads;
 
 /// A spec that is refused in its second line.
 const REFUSED: &str = "session s\nstep a { SELCT 1; }\n";
@@ -24,7 +26,8 @@ const READ_LINE: &str = "isolationtester: R1 Read\n";
 
 /// The status of the program at a terminal, and whether the errors took what was to come and the output nothing. Where it
 /// tells that memory was refused, that is the answer.
-fn served(
+fn served<R: Threads + Wait + Sync>(
+    rt: &R,
     alloc: Global,
     words: &[&str],
     typed: bool,
@@ -33,7 +36,7 @@ fn served(
 ) -> Result<(u8, bool), AllocError> {
     let words = words_of(alloc, words)?;
     let mut out = Takes::new("", usize::MAX);
-    let status = serve_at_terminal(alloc, words.as_slice(), input, typed, &mut out, err);
+    let status = serve_at_terminal(rt, alloc, words.as_slice(), input, typed, &mut out, err);
     if err.was_told_of_memory() {
         return Err(AllocError);
     }
@@ -49,7 +52,7 @@ fn a_terminal_shows_the_line_that_is_refused(rt: HostRuntime) -> Result<(), Allo
     ] {
         let mut input = Gives::new(REFUSED, usize::MAX);
         let mut err = Takes::new(text, usize::MAX);
-        let (status, shown) = served(rt.alloc(), words, typed, &mut input, &mut err)?;
+        let (status, shown) = served(&rt, rt.alloc(), words, typed, &mut input, &mut err)?;
         holds(&rt, status == 1 && shown, text);
     }
     Ok(())
@@ -59,7 +62,7 @@ fn a_terminal_shows_the_line_that_is_refused(rt: HostRuntime) -> Result<(), Allo
 fn a_hint_that_fails_ends_the_program(rt: HostRuntime) -> Result<(), AllocError> {
     let mut input = Gives::new(REFUSED, usize::MAX);
     let mut err = Takes::new("", 0);
-    let (status, shown) = served(rt.alloc(), &[], true, &mut input, &mut err)?;
+    let (status, shown) = served(&rt, rt.alloc(), &[], true, &mut input, &mut err)?;
     holds(&rt, status == 3 && shown, "nothing but the status");
     Ok(())
 }
@@ -68,7 +71,7 @@ fn a_hint_that_fails_ends_the_program(rt: HostRuntime) -> Result<(), AllocError>
 fn a_failing_read_is_told_at_a_terminal(rt: HostRuntime) -> Result<(), AllocError> {
     let mut input = Gives::new(REFUSED, 5);
     let mut err = Takes::new(READ_LINE, usize::MAX);
-    let (status, shown) = served(rt.alloc(), &[], false, &mut input, &mut err)?;
+    let (status, shown) = served(&rt, rt.alloc(), &[], false, &mut input, &mut err)?;
     holds(&rt, status == 3 && shown, "R1");
     Ok(())
 }

@@ -40,7 +40,7 @@ fn other_words_are_refused_and_help_is_given(rt: HostRuntime) -> Result<(), Allo
         let mut input = Gives::new("", 0);
         let mut out = Takes::new("", usize::MAX);
         let mut err = Takes::new("", usize::MAX);
-        let status = served(rt.alloc(), words, &mut input, &mut out, &mut err)?;
+        let status = served(&rt, rt.alloc(), words, &mut input, &mut out, &mut err)?;
         holds(&rt, status == ends, "the status");
         holds(&rt, out.has_taken() == (ends == 0), "help");
         holds(&rt, err.has_taken() == (ends == 2), "the refusal");

@@ -1,6 +1,6 @@
 //! Where the values of an INSERT or UPDATE go.
 
-ghost use Rattle.std.specs.Prelude.{◌≡◌, ℕ, List, IfOk, length, map, option_map};
+ghost use Rattle.std.specs.Prelude.{◌≡◌, ℕ, List, [], IfOk, length, map, option_map};
 ghost use Rattle.sql_trees.specs.Statements.{SetTree, column_of, name_of, names_of, set_of};
 ghost use Rattle.session_queries.specs.Queries.{assigned_in_order, assigned_by_name, assigned_from, columns_assigned};
 ghost use Rattle.session_queries.specs.Updates.{columns_set};
@@ -66,6 +66,13 @@ impl AssignedColumns {
         ensures { result ≡ to.items }
     {
         AssignedColumns { to }
+    }
+
+    /// No columns. It takes no memory.
+    pub fn none(alloc: Global) -> AssignedColumns
+        ensures { result ≡ [] }
+    {
+        AssignedColumns::from_vec(Vec::new(alloc))
     }
 
     pub fn as_slice(&self) -> &[AssignedColumn]

@@ -1,12 +1,12 @@
 -- An INSERT goes from one row of its VALUES to the next.
 use Rattle.std.proofs.Common.{◌≡◌, ◌∙◌, ap, sym, ℕ, ◌<◌, ◌+◌, List, [], drop, get_or, length, map, arith}
 use Rattle.std.proofs.lemmas.List.{get_or-map, length-map}
-use Rattle.std.specs.Prelude.{Option, Some}
+use Rattle.std.specs.Prelude.{Some}
 use Rattle.sql_values.specs.declared.value.Value.{Value}
 use Rattle.session_machine.specs.Tables.{Database}
-use Rattle.session_machine.specs.Walks.{Visit, Walk, Stop, goes_on, stops, walked}
+use Rattle.session_machine.specs.Walks.{Visit, Stop, goes_on, stops, walked}
 use Rattle.session_statements.proofs.Lists.{drop_at}
-use Rattle.session_statements.proofs.Visiting.{append_none, get_or_any, stepped, walk_step}
+use Rattle.session_statements.proofs.Visiting.{append_none, stepped, walk_step}
 
 -- the row at a place, as it is read
 at_place : {X Y : Type 0} (f : X → Y) (xs : List X) (at : ℕ) (x : X) → at < length xs → x ≡ get_or xs at x → get_or (map f xs) at (f x) ≡ f x

@@ -17,7 +17,7 @@ use Rattle.row_versions.specs.Log.{values_at}
 use Rattle.row_versions.specs.Rows.{rows_of}
 use Rattle.row_versions.specs.Laws.{IsShown}
 use Rattle.row_versions.proofs.Shown.{shown_from_rows}
-use Rattle.std.proofs.Common.{Contains, refl, Bool, true}
+use Rattle.std.proofs.Common.{refl, true}
 use Rattle.std.specs.Prelude.{is_some, option_and_then}
 use Rattle.std.proofs.lemmas.List.Elements.{All-map, Contains-get_or}
 use Rattle.std.proofs.lemmas.Option.{same_Some}

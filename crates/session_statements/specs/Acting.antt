@@ -1,5 +1,5 @@
 -- What a statement does at its targets, whichever it is.
-use Rattle.std.specs.Prelude.{ℕ, List, [], ◌∷◌, Option, Some, None}
+use Rattle.std.specs.Prelude.{List, [], ◌∷◌, Option, Some, None}
 use Rattle.sql_trees.specs.Trees.{Tree}
 use Rattle.sql_trees.specs.Statements.{update_of, delete_of, select_of}
 use Rattle.sql_values.specs.declared.value.Value.{Value}

@@ -19,7 +19,8 @@ use sql_values::Row;
 use std::alloc::AllocError;
 
 impl<'a, 't, V: Versions> Database<'a, 't, V> {
-    /// What stops the statement, which is about to write a row with these values in place of that one, or as a new one.
+    /// What stops the statement, which is about to write a row with these values in place of that one, or as a new one:
+    /// NULL in a column that may not be, and then the first of the table's keys that isn't free.
     pub(crate) fn stop_before_write(
         &self,
         work: &Work<'_>,
@@ -39,6 +40,13 @@ impl<'a, 't, V: Versions> Database<'a, 't, V> {
             let table = Ident::new(name);
             return Ok(Some(Stop::Fails(StmtFault::NullValue { column, table })));
         }
-        self.stop_at_keys(work, name, values, except)
+        let keys = self.keys_in(work);
+        for key in keys {
+            let stop = self.stop_at_key(work, &name, key, values, except)?;
+            if stop.is_some() {
+                return Ok(stop);
+            }
+        }
+        Ok(None)
     }
 }

@@ -46,7 +46,8 @@ fn inserted_to<'t>(
 ) -> Result<AssignedColumns, AllocError>
     ensures { IfOk result (λ to. to ≡ assigned_to (columns_assigned (map column_of columns.now) (option_map (λ ns. names_of ns.now) names.entry))) }
 {
-    all_or_none(alloc, columns_assigned(alloc, columns, names)?)
+    let found = columns_assigned(alloc, columns, names)?;
+    Ok(all_or_none(alloc, found))
 }
 
 impl<'a, 't, V: Versions> Database<'a, 't, V> {

@@ -7,7 +7,7 @@ ghost use Rattle.row_versions.specs.Log.{IsOpen};
 ghost use Rattle.row_locks.specs.Cycles.{closes};
 ghost use Rattle.update_recheck.specs.Settling.{SameMembers};
 ghost use Rattle.unique_keys.specs.Checks.{NamesBlockers, found_of, key_found};
-ghost use Rattle.session_machine.specs.Rows.{asked_key, columns_in, held_by_others, keys_in, names_at, stop_at_key, stop_at_keys};
+ghost use Rattle.session_machine.specs.Rows.{asked_key, columns_in, held_by_others, names_at, stop_at_key};
 ghost use Rattle.session_machine.specs.Waits.{blockers, is_blocked, waits_in};
 ghost use Rattle.session_statements.specs.Acting.{stop_of};
 ghost use Rattle.session_statements.specs.Keys.{name_at};
@@ -182,7 +182,7 @@ impl<'a, 't, V: Versions> Database<'a, 't, V> {
     }
 
     /// What stops the statement at one key.
-    fn stop_at_key(
+    pub(crate) fn stop_at_key(
         &self,
         work: &Work<'_>,
         name: &Name<'t>,
@@ -199,28 +199,5 @@ impl<'a, 't, V: Versions> Database<'a, 't, V> {
             Found::Taken => Ok(Some(Stop::Fails(self.taken(work, name, key)?))),
             Found::Held(by) => Ok(Some(self.held_by_others(work, key, values, &by)?)),
         }
-    }
-
-    /// What stops the statement, which is about to write a row with these values in place of that row, or as a new one:
-    /// the first of the table's keys that isn't free.
-    pub(crate) fn stop_at_keys(
-        &self,
-        work: &Work<'_>,
-        name: Name<'t>,
-        values: &Row,
-        except: Option<RowId>,
-    ) -> Result<Option<Stop<'t>>, AllocError>
-        requires opened { IsOpen self.now.content work.now.t.tx }
-        requires within { work.now.table < length self.now.catalog.tables }
-        ensures { IfOk result (λ stop. option_map stop_of stop ≡ stop_at_keys self.now work.now (name_of name.entry) values.now except (keys_in self.now work.now)) }
-    {
-        let keys = self.keys_in(work);
-        for key in keys {
-            let stop = self.stop_at_key(work, &name, key, values, except)?;
-            if stop.is_some() {
-                return Ok(stop);
-            }
-        }
-        Ok(None)
     }
 }

@@ -13,31 +13,21 @@ use crate::database::Database;
 use crate::did::Work;
 use iso_lexer::Ident;
 use row_versions::{Seen, Versions};
-use session_queries::{AssignedColumns, columns_set, passing_places, taken_places};
+use session_queries::{AssignedColumns, passing_places, taken_places};
 use sql_trees::{Expr, Select};
 use sql_values::{Row, ValueFault};
 use std::alloc::{AllocError, Global};
-
-/// No column is assigned to.
-fn none_assigned(alloc: Global) -> Result<AssignedColumns, AllocError>
-    ensures { IfOk result (λ targets. targets ≡ []) }
-{
-    match columns_set(alloc, &[], &[])? {
-        Ok(targets) => Ok(targets),
-        Err(_) => Err(AllocError),
-    }
-}
 
 /// The columns that values go to; none where one isn't there.
 pub(crate) fn all_or_none(
     alloc: Global,
     found: Result<AssignedColumns, Ident<'_>>,
-) -> Result<AssignedColumns, AllocError>
-    ensures { IfOk result (λ targets. targets ≡ assigned_to found.entry) }
+) -> AssignedColumns
+    ensures { result ≡ assigned_to found.entry }
 {
     match found {
-        Ok(targets) => Ok(targets),
-        Err(_) => none_assigned(alloc),
+        Ok(to) => to,
+        Err(_) => AssignedColumns::none(alloc),
     }
 }
 

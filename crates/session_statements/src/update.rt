@@ -34,7 +34,8 @@ fn assigned_to<'t>(
 ) -> Result<AssignedColumns, AllocError>
     ensures { IfOk result (λ to. to ≡ assigned_to (columns_set (map column_of columns.now) (map set_of sets.now))) }
 {
-    all_or_none(alloc, columns_set(alloc, columns, sets)?)
+    let found = columns_set(alloc, columns, sets)?;
+    Ok(all_or_none(alloc, found))
 }
 
 impl<'a, 't, V: Versions> Database<'a, 't, V> {

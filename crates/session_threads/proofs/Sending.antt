@@ -104,7 +104,7 @@ inside_send κ λ' V v s =
     ) in
     recorded_send _ _ _ T.to_one (struct_send (struct_shape T) all)
 
-engine_send : (κ λ' : NamedLft) (V : RattleType) (v : Versions.Ghosts V.Denot) → IsSend V → IsSend (EngineState.the_row κ λ' V v)
+pub engine_send : (κ λ' : NamedLft) (V : RattleType) (v : Versions.Ghosts V.Denot) → IsSend V → IsSend (EngineState.the_row κ λ' V v)
 engine_send κ λ' V v s = view_send _ _ _ _ _ (inside_send κ λ' V v s)
 
 -- what stands behind the lock

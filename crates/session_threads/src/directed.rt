@@ -6,43 +6,46 @@ ghost use Rattle.session_core.specs.Engines.{IsOf, is_quiet_in};
 ghost use Rattle.session_threads.specs.Seats.{IsMisfit};
 ghost use Rattle.session_threads.specs.Orders.{IsDriven};
 
+use crate::bells::Bells;
 use crate::closing::{Closed, close};
 use crate::driver::{Driver, Ordering};
 use crate::gate::Gate;
 use crate::seat::{Seat, ThreadFault};
-use crate::shared::{Shared, give_up, work};
+use crate::shared::{Shared, Task, ask, give_up, next_task, one_event, work};
 use row_versions::Versions;
 use session_core::EngineState;
 use session_machine::{EngineFault, Mode};
 use sql_parser::Block;
 use std::alloc::Global;
 use std::marker::Brand;
-use std::sync::{Condvar, Mutex, Wait};
+use std::sync::{Mutex, Wait};
 use std::thread;
 use std::thread::{JoinHandle, Scope, Threads};
 
-/// Asks the driver whenever the engine is quiet, until the run is over.
-fn drive<'a, 't, V: Versions, O: Ordering, D: Driver<V>, R: Wait>(
+/// Does the control session's events, and asks the driver whenever the engine is quiet, until the run is over.
+fn drive<'a, 't, V: Versions, O: Ordering, D: Driver<V>, G: Gate, R: Wait>(
     rt: &R,
     alloc: Global,
     shared: &Mutex<Shared<'a, 't, V, O>>,
-    bell: &Condvar,
+    bells: &Bells,
+    gate: &G,
+    seat: &mut Seat<'t>,
     driver: &mut D,
 )
     requires { D.order_after driver.old ≡ O.orders }
 {
     for _ in rt.forever() {
-        let mut guard = bell.wait_while(rt, shared.lock(rt), |s| !s.over() && !s.resting());
-        if guard.over() {
-            return;
+        match next_task(rt, shared, bells, seat.session()) {
+            Task::Do(event) => {
+                one_event(rt, shared, bells, gate, seat, event);
+            }
+            Task::Ask => ask(rt, alloc, shared, bells, driver),
+            Task::End => return,
         }
-        guard.ask(alloc, driver);
-        drop(guard);
-        bell.notify_all();
     }
 }
 
-/// Starts a thread for each seat.
+/// Starts a thread for each seat. A thread's place in the crew is made first, so that each that was started is joined.
 fn start<
     's,
     'e: 's,
@@ -56,24 +59,26 @@ fn start<
     scope: &'s Scope<'s, &'e ()>,
     rt: &'s R,
     shared: &'s Mutex<Shared<'a, 't, V, O>>,
-    bell: &'s Condvar,
+    bells: &'s Bells,
     gate: &'s G,
     seats: &'s mut [Seat<'t>],
     crew: &mut Vec<JoinHandle<()>>,
 ) -> Result<(), ThreadFault> {
     let each = seats.iter_mut();
     for seat in each {
-        let Ok(thread) = scope.spawn(move || work(rt, shared, bell, gate, seat)) else {
-            return Err(ThreadFault::ThreadRefused);
-        };
-        if crew.push(thread).is_err() {
+        if crew.try_reserve(1).is_err() {
             return Err(ThreadFault::Memory);
         }
+        let Ok(thread) = scope.spawn(move || work(rt, shared, bells, gate, seat)) else {
+            return Err(ThreadFault::ThreadRefused);
+        };
+        crew.push(thread).unwrap();
     }
     Ok(())
 }
 
-/// Starts the threads, drives them until the run is over, and joins them.
+/// Starts a thread for each session beside the control session, which is the first seat's, does what is the control
+/// session's in the calling thread until the run is over, and joins the others.
 fn serve<
     'a,
     't,
@@ -86,7 +91,7 @@ fn serve<
     rt: &R,
     alloc: Global,
     shared: &Mutex<Shared<'a, 't, V, O>>,
-    bell: &Condvar,
+    bells: &Bells,
     gate: &G,
     driver: D,
     seats: &mut [Seat<'t>],
@@ -102,9 +107,11 @@ fn serve<
         {
             let mut driver = driver;
             let mut crew = Vec::new(alloc);
-            match start(scope, rt, shared, bell, gate, lent, &mut crew) {
-                Ok(()) => drive(rt, alloc, shared, bell, &mut driver),
-                Err(fault) => give_up(rt, shared, bell, fault),
+            if let Some((control, others)) = lent.split_first_mut() {
+                if let Err(fault) = start(scope, rt, shared, bells, gate, others, &mut crew) {
+                    give_up(rt, shared, bells, fault);
+                }
+                drive(rt, alloc, shared, bells, gate, control, &mut driver);
             }
             for thread in crew {
                 thread.join(rt);
@@ -200,17 +207,17 @@ fn run_ordered<
     ensures driven { IfOk result (λ c. IsDriven O.orders c.state.history) }
 {
     let mut seats = empty_seats(alloc, sessions)?;
+    let bells = Bells::new(alloc, sessions)?;
     let Ok(engine) = EngineState::new(alloc, blocks, sessions, Mode::Directed, store) else {
         return Err(ThreadFault::Memory);
     };
     let lock: Mutex<Shared<'a, 't, V, O>> = Mutex::new(Shared::new(engine));
-    let bell = Condvar::new();
-    serve(rt, alloc, &lock, &bell, gate, driver, &mut seats);
+    serve(rt, alloc, &lock, &bells, gate, driver, &mut seats);
     closed_of(lock.into_inner(), blocks, sessions, seats)
 }
 
-/// Runs what the driver orders, each event in its session's own thread; the calling thread asks the driver. The seats hold
-/// the events that their threads have done.
+/// Runs what the driver orders, each event in its session's own thread; the calling thread is the control session's, and
+/// asks the driver. The seats hold the events that their threads have done.
 pub fn run_directed<
     'a,
     't,

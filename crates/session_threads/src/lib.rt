@@ -2,9 +2,12 @@
 //! what each session's thread has done.
 #![tactic(auto)]
 
+mod bells;
 mod closing;
 mod directed;
 mod driver;
+mod free;
+mod free_shared;
 mod gate;
 mod seat;
 mod shared;
@@ -12,6 +15,7 @@ mod shared;
 pub use closing::{Closed, close};
 pub use directed::run_directed;
 pub use driver::Driver;
+pub use free::{FreePlan, run_free};
 pub use gate::{Gate, OpenGate};
 pub use seat::{Seat, ThreadFault, act};
 pub use session_machine::Order;

@@ -1,8 +1,9 @@
 //! What stands behind the lock of a directed run, and what a session's thread does with it.
 ghost use Rattle.std.specs.Prelude.{◌≡◌, ◌||◌, true, false, [], None, Some, IfSome, is_some};
-ghost use Rattle.session_threads.specs.Seats.{session_of};
+ghost use Rattle.session_threads.specs.Seats.{session_of, IsFor};
 ghost use Rattle.session_threads.specs.Orders.{IsDriven, IsOrder};
 
+use crate::bells::Bells;
 use crate::driver::{Driver, Ordering};
 use crate::gate::Gate;
 use crate::seat::{Seat, ThreadFault, act};
@@ -11,7 +12,7 @@ use session_core::EngineState;
 use session_machine::{EngineFault, Event, Order, Turn};
 use std::alloc::Global;
 use std::marker::{Model, PhantomData};
-use std::sync::{Condvar, Mutex, Wait};
+use std::sync::{Mutex, MutexGuard, Wait};
 use std::thread::yield_now;
 
 /// The engine, the order that was given and is not yet done, whether the driver said Stop, and a fault that was met. Each
@@ -160,10 +161,39 @@ impl<'a, 't, V: Versions, O: Ordering> Shared<'a, 't, V, O> {
         (self.engine, self.stop, self.fault)
     }
 
-    /// Nobody but this session has anything to do, so that nobody is to be woken.
-    fn goes_on(&self, session: u32) -> bool {
-        !self.over() && self.due(session).is_some()
+    /// The session whose thread has something to do, while the run isn't over. The calling thread is the control session's,
+    /// and asks the driver too.
+    fn hand(&self) -> u32 {
+        match self.order {
+            Some(Event::Launch { session, .. }) | Some(Event::Leave { session }) => session,
+            _ => match self.engine.turn() {
+                Turn::Session(session) => session,
+                _ => 0,
+            },
+        }
     }
+
+    /// What the session's thread is to do; nothing yet where that is `None`.
+    fn task(&self, session: u32) -> Option<Task>
+        ensures { IfSome result (λ task. IsFor session task) }
+    {
+        match self.due(session) {
+            _ if self.over() => Some(Task::End),
+            Some(event) => Some(Task::Do(event)),
+            None => (session == 0 && self.resting()).then_some(Task::Ask),
+        }
+    }
+}
+
+/// What a thread is to do.
+#[derive(Clone, Copy)]
+pub enum Task {
+    /// This event.
+    Do(Event),
+    /// To ask the driver.
+    Ask,
+    /// Nothing any more.
+    End,
 }
 
 /// Whether the gate admits the event, as often as it may be asked.
@@ -181,37 +211,51 @@ pub fn admitted<G: Gate>(gate: &G, event: Event) -> bool {
 pub fn give_up<'a, 't, V: Versions, O: Ordering, R: Wait>(
     rt: &R,
     shared: &Mutex<Shared<'a, 't, V, O>>,
-    bell: &Condvar,
+    bells: &Bells,
     fault: ThreadFault,
 ) {
     shared.lock(rt).note(fault);
-    bell.notify_all();
+    bells.ring_all();
 }
 
-/// Waits for the session's next event; `None` where the run is over.
-fn next_event<'a, 't, V: Versions, O: Ordering, R: Wait>(
+/// Lets the lock go, and wakes the thread that has something to do, unless it is this session's.
+fn pass_on<'a, 't, V: Versions, O: Ordering>(
+    guard: MutexGuard<'_, Shared<'a, 't, V, O>>,
+    bells: &Bells,
+    session: u32,
+) {
+    let over = guard.over();
+    let hand = guard.hand();
+    drop(guard);
+    if over {
+        bells.ring_all();
+    } else if hand != session {
+        bells.of(hand).notify_one();
+    }
+}
+
+/// What the session's thread is to do next. Sleeps until there is something.
+pub fn next_task<'a, 't, V: Versions, O: Ordering, R: Wait>(
     rt: &R,
     shared: &Mutex<Shared<'a, 't, V, O>>,
-    bell: &Condvar,
+    bells: &Bells,
     session: u32,
-) -> Option<Event>
-    ensures { IfSome result (λ e. session_of e ≡ session) }
+) -> Task
+    ensures { IsFor session result }
 {
-    let guard = bell.wait_while(rt, shared.lock(rt), |s| {
-        !s.over() && s.due(session).is_none()
-    });
-    if guard.over() {
-        None
-    } else {
-        guard.due(session)
+    let bell = bells.of(session);
+    let guard = bell.wait_while(rt, shared.lock(rt), |s| s.task(session).is_none());
+    match guard.task(session) {
+        Some(task) => task,
+        None => Task::End,
     }
 }
 
 /// Does one event: asks the gate, does the event under the lock, and tells the gate. Says whether it was done.
-fn one_event<'a, 't, V: Versions, O: Ordering, G: Gate, R: Wait>(
+pub fn one_event<'a, 't, V: Versions, O: Ordering, G: Gate, R: Wait>(
     rt: &R,
     shared: &Mutex<Shared<'a, 't, V, O>>,
-    bell: &Condvar,
+    bells: &Bells,
     gate: &G,
     seat: &mut Seat<'t>,
     event: Event,
@@ -220,16 +264,12 @@ fn one_event<'a, 't, V: Versions, O: Ordering, G: Gate, R: Wait>(
     ensures { seat.new.session ≡ seat.old.session }
 {
     if !admitted(gate, event) {
-        give_up(rt, shared, bell, ThreadFault::Gate);
+        give_up(rt, shared, bells, ThreadFault::Gate);
         return false;
     }
     let mut guard = shared.lock(rt);
     let done = guard.perform(seat, event);
-    let goes_on = guard.goes_on(seat.session());
-    drop(guard);
-    if !goes_on {
-        bell.notify_all();
-    }
+    pass_on(guard, bells, seat.session());
     if done {
         tell(gate, seat);
     }
@@ -243,19 +283,37 @@ pub fn tell<G: Gate>(gate: &G, seat: &Seat<'_>) {
     }
 }
 
+/// Asks the driver, and wakes the thread that its order is for.
+pub fn ask<'a, 't, V: Versions, O: Ordering, D: Driver<V>, R: Wait>(
+    rt: &R,
+    alloc: Global,
+    shared: &Mutex<Shared<'a, 't, V, O>>,
+    bells: &Bells,
+    driver: &mut D,
+)
+    requires { D.order_after driver.old ≡ O.orders }
+    ensures { D.order_after driver.new ≡ O.orders }
+{
+    let mut guard = shared.lock(rt);
+    if guard.resting() {
+        guard.ask(alloc, driver);
+    }
+    pass_on(guard, bells, 0);
+}
+
 /// Does the session's events until the run is over.
 pub fn work<'a, 't, V: Versions, O: Ordering, G: Gate, R: Wait>(
     rt: &R,
     shared: &Mutex<Shared<'a, 't, V, O>>,
-    bell: &Condvar,
+    bells: &Bells,
     gate: &G,
     seat: &mut Seat<'t>,
 ) {
     for _ in rt.forever() {
-        let Some(event) = next_event(rt, shared, bell, seat.session()) else {
+        let Task::Do(event) = next_task(rt, shared, bells, seat.session()) else {
             return;
         };
-        if !one_event(rt, shared, bell, gate, seat, event) {
+        if !one_event(rt, shared, bells, gate, seat, event) {
             return;
         }
     }

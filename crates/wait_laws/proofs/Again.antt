@@ -1,7 +1,8 @@
--- A statement that goes on does so in its view.
-use Rattle.std.proofs.Common.{◌≡◌, refl, subst, List}
-use Rattle.std.specs.Prelude.{Option, Some, None, drop}
+-- A statement that goes on does so in its view, and at no earlier target.
+use Rattle.std.proofs.Common.{◌≡◌, refl, subst, ℕ, ◌+◌, ◌≤◌, List, [], ◌∷◌, ◌++◌, arith}
+use Rattle.std.specs.Prelude.{Option, Some, None, drop, Result, Ok, Err}
 use Rattle.sql_values.specs.declared.value.Value.{Value}
+use Rattle.sql_values.specs.declared.fault.ValueFault.{ValueFault}
 use Rattle.session_queries.specs.Queries.{columns_assigned, titles_of}
 use Rattle.session_queries.specs.Updates.{columns_set}
 use Rattle.row_versions.specs.Log.{Content}
@@ -9,8 +10,9 @@ use Rattle.session_machine.specs.declared.session.OpenTransaction.{OpenTransacti
 use Rattle.session_machine.specs.declared.session.Progress.{Progress}
 use Rattle.session_machine.specs.declared.reply.Outcome.{Outcome}
 use Rattle.session_machine.specs.declared.reply.Outcome.TheVariants.{Rows}
+use Rattle.session_machine.specs.Tables.{Database}
 use Rattle.session_machine.specs.Statements.{Around}
-use Rattle.session_machine.specs.Walks.{Stop, Walk, Blocked, Fails, walked, walked_from}
+use Rattle.session_machine.specs.Walks.{Stop, Visit, Walk, Blocked, Fails, unless_stopped, walked, walked_from}
 use Rattle.session_machine.specs.Rows.{columns_in, insert_at, update_at, delete_at, lock_at, passing_targets, taken_targets}
 use Rattle.session_machine.specs.Running.{going_on, comes_to, ended, done, assigned_to, lock_again}
 use Rattle.wait_laws.specs.Laws.{IsInViewOf, StatementsGoOnInTheirView}
@@ -21,24 +23,46 @@ no_progress p h = cc
 same_progress : (p q : Progress) → Some p ≡ Some q → p ≡ q
 same_progress p q h = cc
 
+-- a walk doesn't come back behind its first place
+walked_on : {A : Type 0} (visit : Database → A → Visit) (db : Database) (place : ℕ) (rows : List (List Value)) (xs : List A) → place ≤ (walked visit db place rows xs).place
+walked_on visit db place rows [] = omega arith
+walked_on visit db place rows (a ∷ more) = by (visit db a).stop (walked_on visit (visit db a).db (place + 1) (rows ++ (visit db a).rows) more) where
+  by : (o : Option Stop) → place + 1 ≤ (walked visit (visit db a).db (place + 1) (rows ++ (visit db a).rows) more).place
+      → place ≤ (unless_stopped (visit db a) place rows o (walked visit (visit db a).db (place + 1) (rows ++ (visit db a).rows) more)).place
+  by None h = omega (arith, h)
+  by (Some stop) h = omega arith
+
+walked_from_on : {A : Type 0} (visit : Database → A → Visit) (db : Database) (place : ℕ) (rows : List (List Value)) (targets : Result (List A) ValueFault)
+    → place ≤ (walked_from visit db place rows targets).place
+walked_from_on visit db place rows (Err fault) = omega arith
+walked_from_on visit db place rows (Ok targets) = walked_on visit db place rows (drop place targets)
+
 -- a statement that stops stands in its view
-pub stands : (before : Content) (t : OpenTransaction) (around : Around) (p q : Progress) (f : List (List Value) → Outcome) (k : Walk)
+pub stands : (before : Content) (t : OpenTransaction) (around : Around) (p q : Progress) (f : List (List Value) → Outcome) (k : Walk) → p.place ≤ k.place
     → (ended before (going_on t around p) f k).statement ≡ Some q → IsInViewOf p around q
-stands before t around p q f k h = by k.stop h where
+stands before t around p q f k on h = by k.stop h where
   by : (o : Option Stop) → (comes_to before (going_on t around p) f k o).statement ≡ Some q → IsInViewOf p around q
   by None e = absurd (no_progress q e)
   by (Some (Fails fault)) e = absurd (no_progress q e)
-  by (Some (Blocked r)) e = subst (IsInViewOf p around) (same_progress _ q e) (record { table = refl; view = refl; number = refl })
+  by (Some (Blocked r)) e = subst (IsInViewOf p around) (same_progress _ q e) (record { table = refl; view = refl; onward = on; number = refl })
 
 pub statements_go_on_in_their_view : StatementsGoOnInTheirView
 statements_go_on_in_their_view db t around p q =
     let w = going_on t around p in
     record {
-      inserts = λ i h. stands db.content t around p q done (walked (insert_at w i.table (assigned_to (columns_assigned (columns_in db w) i.columns))) db p.place p.rows (drop p.place i.rows)) h;
-      updates = λ u h. stands db.content t around p q done (walked_from (update_at w u (assigned_to (columns_set (columns_in db w) u.sets))) db p.place p.rows (passing_targets db w u.filter)) h;
-      deletes = λ d h. stands db.content t around p q done (walked_from (delete_at w d) db p.place p.rows (passing_targets db w d.filter)) h;
+      inserts = λ i h.
+          let at = insert_at w i.table (assigned_to (columns_assigned (columns_in db w) i.columns)) in
+          stands db.content t around p q done (walked at db p.place p.rows (drop p.place i.rows)) (walked_on at db p.place p.rows (drop p.place i.rows)) h;
+      updates = λ u h.
+          let at = update_at w u (assigned_to (columns_set (columns_in db w) u.sets)) in
+          let targets = passing_targets db w u.filter in
+          stands db.content t around p q done (walked_from at db p.place p.rows targets) (walked_from_on at db p.place p.rows targets) h;
+      deletes = λ d h.
+          let targets = passing_targets db w d.filter in
+          stands db.content t around p q done (walked_from (delete_at w d) db p.place p.rows targets) (walked_from_on (delete_at w d) db p.place p.rows targets) h;
       locks = λ s l is h.
           let shown : List (List Value) → Outcome = λ y. Rows (record { titles = titles_of (columns_in db w) s.items; rows = y }) in
-          stands db.content t around p q shown (walked_from (lock_at w s l) db p.place p.rows (taken_targets db w s))
+          let targets = taken_targets db w s in
+          stands db.content t around p q shown (walked_from (lock_at w s l) db p.place p.rows targets) (walked_from_on (lock_at w s l) db p.place p.rows targets)
           (subst (λ o. (lock_again db t around s p o).statement ≡ Some q) is h);
     }

@@ -30,8 +30,8 @@ use Rattle.session_machine.specs.Statements.{columns_at}
 use Rattle.session_machine.specs.Rows.{at_places}
 use Rattle.session_machine.specs.Running.{run_stmt}
 use Rattle.session_machine.specs.Machine.{Machine, Blocks, Next, next, opening, stmts_at, around, at_rest, first_place, launch_of, step_of, leave_of, with_session}
-use Rattle.session_machine.specs.Sound.{tx_in, tx_of}
-use Rattle.wait_laws.specs.Laws.{session_of, FindsTheSame, WaitsGoOnAsBegun}
+use Rattle.session_machine.specs.Sound.{command_in, tx_in, tx_of}
+use Rattle.wait_laws.specs.Laws.{session_of, Reaches, FindsTheSame, WaitsGoOnAsBegun}
 use Rattle.wait_laws.proofs.Lists.{slice_get-set_same, slice_get-set_other}
 use Rattle.wait_laws.proofs.Doing.{Keeps, Ran, doer, start, Allows}
 use Rattle.wait_laws.proofs.Events.{session_there, ok_is, ok_else, stepped, after, left_as, Rests, Moved, moved, always}
@@ -49,9 +49,9 @@ pub record Works (x : TxId) (view : View) (db e : Database) : Type 0 where
   pub all : Stands x view db e
   pub mine : IsOpen e.content x
 
--- the view is none of the transaction's, and of commits before
-pub record IsForeign (x : TxId) (view : View) (db : Database) : Type 0 where
-  pub other : view.tx ≢ Some x
+-- what the transaction writes at this command is unseen in the view: the view is another's, or of no later command; and it is of commits before
+pub record IsBlind (x : TxId) (n : ℕ) (view : View) (db : Database) : Type 0 where
+  pub unseen : (view.tx ≢ Some x) ⊎ (view.command ≤ n)
   pub before : view.commits ≤ commit_count db.content
 
 set_fate : (fates : List Fate) (x : TxId) (f : Fate) (n : ℕ) → (n ≡ x.0 → ⊥) → slice_get fates n ≡ Some OpenFate → slice_get (set fates x.0 f) n ≡ Some OpenFate
@@ -60,23 +60,25 @@ set_fate fates x f n ne h = slice_get-set_other fates x.0 n f ne ∙ h
 left_some : {A : Type 0} (xs : List A) (y : A) (k : ℕ) (z : A) → slice_get xs k ≡ Some z → slice_get (xs ++ y ∷ []) k ≡ Some z
 left_some xs y k z h = get-append_left xs (y ∷ []) k (slice_get_within xs k z h) ∙ h
 
-stands_write : (x : TxId) (view : View) (db : Database) → IsForeign x view db → (d : Database) (w : Write) → w.tx ≡ x → Works x view db d → (held : List Held)
+stands_write : (x : TxId) (n : ℕ) (view : View) (db : Database) → IsBlind x n view db → (d : Database) (w : Write) → w.tx ≡ x → w.command ≡ n → Works x view db d → (held : List Held)
     → Works x view db (record d { content = after_write d.content w; held = held })
-stands_write x view db foreign d w own p held = record {
+stands_write x n view db blind d w own now p held = record {
   all = record {
-    stays = stays_on view db.content d.content (after_write d.content w) p.all.stays
-        (stays-write view d.content w (subst (IsOpen d.content) (sym own) p.mine) (λ e. foreign.other (e ∙ ap Some own)));
+    stays = stays_on view db.content d.content (after_write d.content w) p.all.stays (stays-write view d.content w (subst (IsOpen d.content) (sym own) p.mine) (elim blind.unseen [
+      | inl other ↦ inl (λ e. other (e ∙ ap Some own))
+      | inr late ↦ inr (omega (arith, late, now))
+    ]));
     others = p.all.others;
     tables = p.all.tables;
   };
   mine = p.mine;
 }
 
-stands_keeps : (x : TxId) (view : View) (db : Database) → IsForeign x view db → Keeps x (Works x view db) (Stands x view db)
-stands_keeps x view db foreign = record {
+stands_keeps : (x : TxId) (n : ℕ) (view : View) (db : Database) → IsBlind x n view db → Keeps x n (Works x view db) (Stands x view db)
+stands_keeps x n view db blind = record {
   lock = λ d h own may p. record { all = record { stays = p.all.stays; others = p.all.others; tables = p.all.tables }; mine = p.mine };
-  insert = λ d w own made p. stands_write x view db foreign d w own p (with_lock d.held (lock_of_write w));
-  write = λ d w own held p. stands_write x view db foreign d w own p d.held;
+  insert = λ d w own now made p. stands_write x n view db blind d w own now p (with_lock d.held (lock_of_write w));
+  write = λ d w own now held p. stands_write x n view db blind d w own now p d.held;
   create = λ d made p. record {
     all = record { stays = p.all.stays; others = p.all.others; tables = λ k t h. left_some d.catalog.tables (record { made = made; by = x }) k t (p.all.tables k t h) };
     mine = p.mine;
@@ -84,7 +86,7 @@ stands_keeps x view db foreign = record {
   drop = λ d k p. record { all = record { stays = p.all.stays; others = p.all.others; tables = p.all.tables }; mine = p.mine };
   commit = λ d p. record {
     stays = stays_on view db.content d.content (after_commit d.content x) p.all.stays
-        (stays-commit view d.content x p.mine (let a = foreign.before in let b = p.all.stays.counts in omega arith));
+        (stays-commit view d.content x p.mine (let a = blind.before in let b = p.all.stays.counts in omega arith));
     others = λ n ne h. set_fate d.content.fates x (Committed (commit_count d.content)) n ne (p.all.others n ne h);
     tables = p.all.tables;
   };
@@ -111,23 +113,23 @@ works_start view db Closed h = works_begun view db
 works_start view db Aborted h = works_begun view db
 works_start view db (Open t) h = record { all = record { stays = stays_here view db.content; others = λ n ne k. k; tables = λ k made f. f }; mine = h t.tx.0 refl }
 
--- a view of the transaction's, of commits before
-abbrev IsOwn : TxId → Database → View → Type 0
-IsOwn x db view = (view.tx ≡ Some x) × (view.commits ≤ commit_count db.content)
+-- a view of the transaction's, of commits before and of commands up to this one
+abbrev pub IsOwn : TxId → ℕ → Database → View → Type 0
+IsOwn x n db view = (view.tx ≡ Some x) × (view.commits ≤ commit_count db.content) × (view.command ≤ n)
 
 -- what holds of the transactions and the waits of every state
 pub record IsBegun (m : Machine) : Type 0 where
   pub orderly : IsOrderly m
   pub shots : (i : ℕ) (s : Session) → slice_get m.sessions i ≡ Some s → (t : OpenTransaction) → s.transaction ≡ Open t → Has (commit_count m.db.content) t
   pub views : (i : ℕ) (s : Session) (p : Progress) → slice_get m.sessions i ≡ Some s → s.statement ≡ Some p
-      → (t : OpenTransaction) × (s.transaction ≡ Open t) × IsOwn t.tx m.db p.view
+      → (t : OpenTransaction) × (s.transaction ≡ Open t) × IsOwn t.tx t.command m.db p.view
 
 bounded : (count : ℕ) (o : Option ℕ) → ((k : ℕ) → o ≡ Some k → k ≤ count) → unwrap_or o count ≤ count
 bounded count None h = omega arith
 bounded count (Some k) h = h k refl
 
-own_view : (db : Database) (t : OpenTransaction) → Has (commit_count db.content) t → IsOwn t.tx db (view_of db.content t)
-own_view db t has = (refl, at t.level) where
+own_view : (db : Database) (t : OpenTransaction) → Has (commit_count db.content) t → IsOwn t.tx t.command db (view_of db.content t)
+own_view db t has = (refl, at t.level, omega arith) where
   at : (level : Level) → commits_seen level db.content t ≤ commit_count db.content
   at ReadCommitted = omega arith
   at RepeatableRead = bounded (commit_count db.content) t.snapshot has
@@ -138,30 +140,30 @@ same_progress p q h = cc
 same_open : (t u : OpenTransaction) → Open t ≡ Open u → t ≡ u
 same_open t u h = cc
 
-allows_own : (m : Machine) (i : ℕ) (s : Session) → IsBegun m → slice_get m.sessions i ≡ Some s → Allows (IsOwn (doer m.db s.transaction) m.db) m.db s.transaction s.statement
+allows_own : (m : Machine) (i : ℕ) (s : Session) → IsBegun m → slice_get m.sessions i ≡ Some s → Allows (IsOwn (doer m.db s.transaction) (command_in s.transaction) m.db) m.db s.transaction s.statement
 allows_own m i s old at = by s.transaction s.statement refl refl where
-  by : (tr : Transaction) (o : Option Progress) → s.transaction ≡ tr → s.statement ≡ o → Allows (IsOwn (doer m.db tr) m.db) m.db tr o
-  by Closed o e f = let same = count-begin m.db.content.fates in (refl, omega arith)
+  by : (tr : Transaction) (o : Option Progress) → s.transaction ≡ tr → s.statement ≡ o → Allows (IsOwn (doer m.db tr) (command_in tr) m.db) m.db tr o
+  by Closed o e f = let same = count-begin m.db.content.fates in (refl, omega arith, omega arith)
   by Aborted o e f = tt
   by (Open t) None e f = own_view m.db t (old.shots i s at t e)
   by (Open t) (Some p) e f =
       let v = old.views i s p at f in
-      let same : v.0.tx ≡ t.tx = ap (λ (y : OpenTransaction). y.tx) (same_open v.0 t (sym v.1 ∙ e)) in
-      (own_view m.db t (old.shots i s at t e), subst (λ (y : TxId). IsOwn y m.db p.view) same v.2)
+      (own_view m.db t (old.shots i s at t e), subst (λ (y : OpenTransaction). IsOwn y.tx y.command m.db p.view) (same_open v.0 t (sym v.1 ∙ e)) v.2)
 
 moved_with : (view : View) (blocks : Blocks) (mode : Mode) (m : Machine) (event : Event) (s : Session) (n : Next) → IsBegun m → slice_get m.sessions (session_of event) ≡ Some s
-    → IsForeign (doer m.db s.transaction) view m.db → next blocks mode m event ≡ Ok n
-    → Moved (Works (doer m.db s.transaction) view m.db) (Stands (doer m.db s.transaction) view m.db) (IsOwn (doer m.db s.transaction) m.db) m (session_of event) s n.machine
-moved_with view blocks mode m event s n old at foreign h =
+    → IsBlind (doer m.db s.transaction) (command_in s.transaction) view m.db → next blocks mode m event ≡ Ok n
+    → Moved (Works (doer m.db s.transaction) view m.db) (Stands (doer m.db s.transaction) view m.db) (IsOwn (doer m.db s.transaction) (command_in s.transaction) m.db) m (session_of event) s n.machine
+moved_with view blocks mode m event s n old at blind h =
     let x = doer m.db s.transaction in
-    moved (Works x view m.db) (Stands x view m.db) (IsOwn x m.db) blocks mode m event s n at (stands_keeps x view m.db foreign) (allows_own m (session_of event) s old at)
+    let c = command_in s.transaction in
+    moved (Works x view m.db) (Stands x view m.db) (IsOwn x c m.db) blocks mode m event s n at (stands_keeps x c view m.db blind) (allows_own m (session_of event) s old at)
     (works_start view m.db s.transaction (λ q f. old.orderly.opened (session_of event) q (ap tx_of at ∙ f))) h
 
 stands_same : (x : TxId) (view : View) (db e : Database) → e ≡ db → Stands x view db e
 stands_same x view db e same = subst (Stands x view db) (sym same) (record { stays = stays_here view db.content; others = λ n ne k. k; tables = λ k made f. f })
 
 stands_after : (P : Database → Type 0) (V : View → Type 0) (m : Machine) (i : ℕ) (s : Session) (view : View) (e : Database) (u : Session)
-    → Rests m s e u ⊎ Ran (doer m.db s.transaction) P (Stands (doer m.db s.transaction) view m.db) V (around m i s).sessions (left_as e u) → Stands (doer m.db s.transaction) view m.db e
+    → Rests m s e u ⊎ Ran (doer m.db s.transaction) (command_in s.transaction) P (Stands (doer m.db s.transaction) view m.db) V (around m i s).sessions (left_as e u) → Stands (doer m.db s.transaction) view m.db e
 stands_after P V m i s view e u (inl r) = stands_same (doer m.db s.transaction) view m.db e r.same
 stands_after P V m i s view e u (inr r) = r.db
 
@@ -210,7 +212,7 @@ shot_next blocks mode m (Step i) s n at has h v there t is =
     ]
 
 begun_with : (m : Machine) (i : ℕ) (s : Session) (view : View) (e : Database) (u : Session) → IsBegun m → slice_get m.sessions i ≡ Some s
-    → Rests m s e u ⊎ Ran (doer m.db s.transaction) (Works (doer m.db s.transaction) view m.db) (Stands (doer m.db s.transaction) view m.db) (IsOwn (doer m.db s.transaction) m.db)
+    → Rests m s e u ⊎ Ran (doer m.db s.transaction) (command_in s.transaction) (Works (doer m.db s.transaction) view m.db) (Stands (doer m.db s.transaction) view m.db) (IsOwn (doer m.db s.transaction) (command_in s.transaction) m.db)
     (around m i s).sessions (left_as e u)
     → IsOrderly (with_session m e i u) → ((t : OpenTransaction) → u.transaction ≡ Open t → Has (commit_count m.db.content) t) → IsBegun (with_session m e i u)
 begun_with m i s view e u old at did orderly shot = record { orderly = orderly; shots = shots; views = views } where
@@ -218,7 +220,7 @@ begun_with m i s view e u old at did orderly shot = record { orderly = orderly; 
   x = doer m.db s.transaction
 
   stands : Stands x view m.db e
-  stands = stands_after (Works x view m.db) (IsOwn x m.db) m i s view e u did
+  stands = stands_after (Works x view m.db) (IsOwn x (command_in s.transaction) m.db) m i s view e u did
 
   counts : commit_count m.db.content ≤ commit_count e.content
   counts = stands.stays.counts
@@ -237,41 +239,54 @@ begun_with m i s view e u old at did orderly shot = record { orderly = orderly; 
       (λ ne. let l = old.shots j v (sym (there j ne) ∙ h) t is k f in omega arith)
       (cases_eq j i)
 
-  u_view : (p : Progress) → u.statement ≡ Some p → (t : OpenTransaction) × (u.transaction ≡ Open t) × IsOwn t.tx e p.view
+  u_view : (p : Progress) → u.statement ≡ Some p → (t : OpenTransaction) × (u.transaction ≡ Open t) × IsOwn t.tx t.command e p.view
   u_view p f = elim did [
     | inl r ↦ absurd (none_not p (sym r.over ∙ f))
     | inr r ↦
         let w = r.waits p f in
         let own = r.own w.2.0 w.2.1 in
         let l = w.1.1 in
+        let late = w.1.2 in
+        let now = w.2.2 in
         let more = counts in
-        (w.2.0, w.2.1, (w.1.0 ∙ ap Some (sym own.0), omega arith))
+        (w.2.0, w.2.1, (w.1.0 ∙ ap Some (sym own.0), omega arith, omega arith))
   ]
 
   views : (j : ℕ) (v : Session) (p : Progress) → slice_get (set m.sessions i u) j ≡ Some v → v.statement ≡ Some p
-      → (t : OpenTransaction) × (v.transaction ≡ Open t) × IsOwn t.tx e p.view
+      → (t : OpenTransaction) × (v.transaction ≡ Open t) × IsOwn t.tx t.command e p.view
   views j v p h f =
       let more = counts in
       ⊎_elim
-      (λ y. subst (λ (w : Session). (t : OpenTransaction) × (w.transaction ≡ Open t) × IsOwn t.tx e p.view) (sym (here j v y h))
+      (λ y. subst (λ (w : Session). (t : OpenTransaction) × (w.transaction ≡ Open t) × IsOwn t.tx t.command e p.view) (sym (here j v y h))
       (u_view p (ap (λ (w : Session). w.statement) (sym (here j v y h)) ∙ f)))
-      (λ ne. let w = old.views j v p (sym (there j ne) ∙ h) f in let l = w.2.1 in (w.0, w.1, (w.2.0, omega arith)))
+      (λ ne. let w = old.views j v p (sym (there j ne) ∙ h) f in let l = w.2.1 in (w.0, w.1, (w.2.0, omega arith, w.2.2)))
       (cases_eq j i)
 
 none_tx : (x : TxId) → None ≡ Some x → ⊥
 none_tx x h = cc
 
-begun_next : (blocks : Blocks) (mode : Mode) (m : Machine) (event : Event) (n : Next) → IsBegun m → next blocks mode m event ≡ Ok n → IsBegun n.machine
+-- the view is nobody's, and of no commits
+abbrev no_view : View
+no_view = record { tx = None; commits = 0; command = 0 }
+
+no_view_blind : (x : TxId) (n : ℕ) (db : Database) → IsBlind x n no_view db
+no_view_blind x n db = record { unseen = inl (λ e. none_tx x e); before = omega arith }
+
+-- what an event did, whatever is seen
+pub did_next : (blocks : Blocks) (mode : Mode) (m : Machine) (event : Event) (s : Session) (n : Next) → IsBegun m → slice_get m.sessions (session_of event) ≡ Some s → next blocks mode m event ≡ Ok n
+    → Moved (Works (doer m.db s.transaction) no_view m.db) (Stands (doer m.db s.transaction) no_view m.db) (IsOwn (doer m.db s.transaction) (command_in s.transaction) m.db) m (session_of event) s n.machine
+did_next blocks mode m event s n old at h = moved_with no_view blocks mode m event s n old at (no_view_blind (doer m.db s.transaction) (command_in s.transaction) m.db) h
+
+pub begun_next : (blocks : Blocks) (mode : Mode) (m : Machine) (event : Event) (n : Next) → IsBegun m → next blocks mode m event ≡ Ok n → IsBegun n.machine
 begun_next blocks mode m event n old h =
     let there = session_there blocks mode m event n h in
     let s = there.0 in
     let i = session_of event in
-    let nobody : View = record { tx = None; commits = 0; command = 0 } in
-    let k = moved_with nobody blocks mode m event s n old there.1 (record { other = λ e. none_tx (doer m.db s.transaction) e; before = omega arith }) h in
+    let k = did_next blocks mode m event s n old there.1 h in
     let at : slice_get n.machine.sessions i ≡ Some k.u =
     subst (λ (y : Machine). slice_get y.sessions i ≡ Some k.u) (sym k.is) (slice_get-set_same m.sessions i k.u (slice_get_within m.sessions i s there.1)) in
     subst IsBegun (sym k.is)
-    (begun_with m i s nobody k.e k.u old there.1 k.did (subst IsOrderly k.is (orderly_next blocks mode m event n old.orderly h))
+    (begun_with m i s no_view k.e k.u old there.1 k.did (subst IsOrderly k.is (orderly_next blocks mode m event n old.orderly h))
     (shot_next blocks mode m event s n there.1 (old.shots i s there.1) h k.u at))
 
 no_session : (s : Session) → None ≡ Some s → ⊥
@@ -289,15 +304,20 @@ begun_opening count = record {
   views = λ i s p h f. absurd (none_not p (ap (λ (y : Session). y.statement) (sym (rest_is (count + 1) i s h)) ∙ f));
 }
 
-finds : (x : TxId) (db e : Database) (p : Progress) → Stands x p.view db e → FindsTheSame db e p
-finds x db e p stands = record {
-  seen = stands.stays.rows p.table;
-  rows = shown_stays p.view db.content e.content p.table.0 stands.stays;
-  table = λ made there. stands.tables p.table.0 made there;
+-- what the view shows stays, and the tables that are there
+pub record IsSame (view : View) (db e : Database) : Type 0 where
+  pub stays : Stays view db.content e.content
+  pub tables : (k : ℕ) (made : Table) → slice_get db.catalog.tables k ≡ Some made → slice_get e.catalog.tables k ≡ Some made
+
+pub finds : (db e : Database) (p : Progress) → IsSame p.view db e → FindsTheSame db e p
+finds db e p same = record {
+  seen = same.stays.rows p.table;
+  rows = shown_stays p.view db.content e.content p.table.0 same.stays;
+  table = λ made there. same.tables p.table.0 made there;
   targets = λ made there t around.
-      let seen = stands.stays.rows p.table in
-      let rows = shown_stays p.view db.content e.content p.table.0 stands.stays in
-      let found : slice_get e.catalog.tables p.table.0 ≡ slice_get db.catalog.tables p.table.0 = stands.tables p.table.0 made there ∙ sym there in
+      let seen = same.stays.rows p.table in
+      let rows = shown_stays p.view db.content e.content p.table.0 same.stays in
+      let found : slice_get e.catalog.tables p.table.0 ≡ slice_get db.catalog.tables p.table.0 = same.tables p.table.0 made there ∙ sym there in
       let columns : columns_at e.catalog p.table.0 ≡ columns_at db.catalog p.table.0 =
       ap (λ (o : Option Table). unwrap_or (option_map (λ (y : Table). y.made.columns) o) []) found in
       record {
@@ -306,19 +326,42 @@ finds x db e p stands = record {
       };
 }
 
+-- an event leaves of a view what it shows, where what is written at it is unseen in the view
+pub same_next : (view : View) (blocks : Blocks) (mode : Mode) (m : Machine) (event : Event) (s : Session) (n : Next) → IsBegun m → slice_get m.sessions (session_of event) ≡ Some s
+    → IsBlind (doer m.db s.transaction) (command_in s.transaction) view m.db → next blocks mode m event ≡ Ok n → IsSame view m.db n.machine.db
+same_next view blocks mode m event s n old at blind h =
+    let x = doer m.db s.transaction in
+    let w = moved_with view blocks mode m event s n old at blind h in
+    let stands = stands_after (Works x view m.db) (IsOwn x (command_in s.transaction) m.db) m (session_of event) s view w.e w.u w.did in
+    subst (λ (y : Machine). IsSame view m.db y.db) (sym w.is) (record { stays = stands.stays; tables = stands.tables })
+
 same_tx : (a b : TxId) → Some a ≡ Some b → a ≡ b
 same_tx a b h = cc
 
-pub waits_go_on_as_begun : WaitsGoOnAsBegun
-waits_go_on_as_begun given mode count m reached k s p at is event n h ne =
-    let old = always IsBegun given mode (begun_next given mode) reached.0 (opening count) m (begun_opening count) reached.1 in
-    let there = session_there given mode m event n h in
+-- what is done to a session leaves the others as they are
+pub others_stay : (blocks : Blocks) (mode : Mode) (m : Machine) (k : ℕ) (event : Event) (n : Next) → IsBegun m → next blocks mode m event ≡ Ok n → session_of event ≢ k
+    → slice_get n.machine.sessions k ≡ slice_get m.sessions k
+others_stay blocks mode m k event n old h ne =
+    let there = session_there blocks mode m event n h in
+    let w = did_next blocks mode m event there.0 n old there.1 h in
+    ap (λ (y : Machine). slice_get y.sessions k) w.is ∙ slice_get-set_other m.sessions (session_of event) k w.u (λ f. ne (sym f))
+
+-- and leaves what the statement of one that waits sees
+pub same_to_others : (blocks : Blocks) (mode : Mode) (m : Machine) (k : ℕ) (s : Session) (p : Progress) (event : Event) (n : Next) → IsBegun m → slice_get m.sessions k ≡ Some s
+    → s.statement ≡ Some p → next blocks mode m event ≡ Ok n → session_of event ≢ k → IsSame p.view m.db n.machine.db
+same_to_others blocks mode m k s p event n old at is h ne =
+    let there = session_there blocks mode m event n h in
     let i = session_of event in
     let x = doer m.db there.0.transaction in
     let v = old.views k s p at is in
-    let other : p.view.tx ≢ Some x = λ e. no_other m i k there.0 s v.0 old.orderly.sessions there.1 (λ f. ne (sym f)) at v.1 (same_tx v.0.tx x (sym v.2.0 ∙ e)) in
-    let w = moved_with p.view given mode m event there.0 n old there.1 (record { other = other; before = v.2.1 }) h in
-    subst (λ (y : Machine). (slice_get y.sessions k ≡ Some s) × FindsTheSame m.db y.db p) (sym w.is) (
-      slice_get-set_other m.sessions i k w.u (λ f. ne (sym f)) ∙ at,
-      finds x m.db w.e p (stands_after (Works x p.view m.db) (IsOwn x m.db) m i there.0 p.view w.e w.u w.did),
-    )
+    let other : p.view.tx ≢ Some x = λ e. no_other m i k there.0 s v.0 old.orderly there.1 (λ f. ne (sym f)) at v.1 (same_tx v.0.tx x (sym v.2.0 ∙ e)) in
+    same_next p.view blocks mode m event there.0 n old there.1 (record { unseen = inl other; before = v.2.1 }) h
+
+-- every state is such
+pub begun_there : (given : Blocks) (mode : Mode) (count : ℕ) (m : Machine) → Reaches given mode count m → IsBegun m
+begun_there given mode count m reached = always IsBegun given mode (begun_next given mode) reached.0 (opening count) m (begun_opening count) reached.1
+
+pub waits_go_on_as_begun : WaitsGoOnAsBegun
+waits_go_on_as_begun given mode count m reached k s p at is event n h ne =
+    let old = begun_there given mode count m reached in
+    (others_stay given mode m k event n old h ne ∙ at, finds m.db n.machine.db p (same_to_others given mode m k s p event n old at is h ne))

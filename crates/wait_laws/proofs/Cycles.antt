@@ -1,5 +1,5 @@
 -- No cycle of waits appears.
-use Rattle.std.proofs.Common.{◌≡◌, refl, sym, ◌∙◌, ap, subst, ◌⊎◌, inl, inr, ⊎_elim, Bool, true, false, not, cond, ℕ, zero, suc, ◌<◌, ◌≤◌, ◌+◌, List, [], ◌∷◌, ◌++◌, length, length-append, length-set, set, map, filter, replicate, arith}
+use Rattle.std.proofs.Common.{◌≡◌, refl, sym, ◌∙◌, ap, subst, ◌⊎◌, inl, inr, ⊎_elim, Bool, true, false, not, cond, ℕ, zero, suc, ◌<◌, ◌+◌, List, [], ◌∷◌, ◌++◌, length, set, map, filter, replicate, arith}
 use Rattle.std.specs.Prelude.{Option, Some, None, slice_get, Ok}
 use Rattle.std.proofs.lemmas.Bool.{cases_eq}
 use Rattle.std.proofs.lemmas.Option.{slice_get_within}
@@ -32,7 +32,7 @@ use Rattle.session_machine.specs.Transactions.{begun, committed, rolled_back}
 use Rattle.session_machine.specs.Statements.{with_table, with_drop}
 use Rattle.session_machine.specs.Waits.{blockers, waits_in}
 use Rattle.session_machine.specs.Machine.{Machine, Blocks, Next, next, opening, around, at_rest, empty_database}
-use Rattle.session_machine.specs.Sound.{tx_in, tx_of}
+use Rattle.session_machine.specs.Sound.{command_in, tx_in, tx_of}
 use Rattle.wait_laws.specs.Laws.{session_of, Reaches, NoCycleOfWaits}
 use Rattle.wait_laws.proofs.Lists.{slice_get-set_same, slice_get-set_other}
 use Rattle.wait_laws.proofs.Doing.{Keeps, Ran, doer, start, Allows}
@@ -41,15 +41,20 @@ use Rattle.wait_laws.proofs.Exclusion.{AreHeld, AreHeldBy, held_keeps, held_star
 use Rattle.wait_laws.proofs.Events.{session_there, left_as, Rests, Moved, moved, always}
 use Rattle.wait_laws.proofs.Edges.{Edge, edge_from, edge_to}
 
--- the transactions of sessions have begun, and no two sessions have one
-pub record IsApart (db : Database) (ss : List Session) : Type 0 where
-  pub known : (i n : ℕ) → tx_of (slice_get ss i) ≡ Some n → n < length db.content.fates
-  pub apart : (i j n : ℕ) → tx_of (slice_get ss i) ≡ Some n → tx_of (slice_get ss j) ≡ Some n → i ≡ j
+-- the transactions of sessions are open
+abbrev pub AreOpen : Database → List Session → Type 0
+AreOpen db ss = (i n : ℕ) → tx_of (slice_get ss i) ≡ Some n → slice_get db.content.fates n ≡ Some OpenFate
+
+-- no two sessions have one transaction
+abbrev pub AreDistinct : List Session → Type 0
+AreDistinct ss = (i j n : ℕ) → tx_of (slice_get ss i) ≡ Some n → tx_of (slice_get ss j) ≡ Some n → i ≡ j
+
+-- so they have begun
+known_in : (db : Database) (ss : List Session) → AreOpen db ss → (i n : ℕ) → tx_of (slice_get ss i) ≡ Some n → n < length db.content.fates
+known_in db ss opened i n h = slice_get_within db.content.fates n OpenFate (opened i n h)
 
 -- the transaction alone may end, and may stand against more requests
 pub record Adds (x : TxId) (db e : Database) : Type 0 where
-  pub long : length db.content.fates ≤ length e.content.fates
-  pub begun : x.0 < length e.content.fates
   pub others : (n : ℕ) → (n ≡ x.0 → ⊥) → slice_get db.content.fates n ≡ Some OpenFate → slice_get e.content.fates n ≡ Some OpenFate
   pub rows : AreHeld e
   pub against : (r : Request) (tx u : TxId) → (u ≡ x → ⊥) → has (blockers e r tx) u ≡ true → has (blockers db r tx) u ≡ true
@@ -132,40 +137,36 @@ rolled_back_less x d mine (Key k) tx u ne e = less_rolled_back d.content x k tx 
 set_fate : (fates : List Fate) (x : TxId) (f : Fate) (n : ℕ) → (n ≡ x.0 → ⊥) → slice_get fates n ≡ Some OpenFate → slice_get (set fates x.0 f) n ≡ Some OpenFate
 set_fate fates x f n ne h = slice_get-set_other fates x.0 n f ne ∙ h
 
-adds_keeps : (x : TxId) (db : Database) → Keeps x (AddsBy x db) (Adds x db)
-adds_keeps x db = record {
-  lock = λ d h own may p. let k = (held_keeps x).lock d h own may (by_rows p) in record {
+adds_keeps : (x : TxId) (n : ℕ) (db : Database) → Keeps x n (AddsBy x db) (Adds x db)
+adds_keeps x n db = record {
+  lock = λ d h own may p. let k = (held_keeps x n).lock d h own may (by_rows p) in record {
     mine = p.mine;
-    all = record { long = p.all.long; begun = p.all.begun; others = p.all.others; rows = k.all; against = λ r tx u ne e. p.all.against r tx u ne (locked x d h own r tx u ne e) };
+    all = record { others = p.all.others; rows = k.all; against = λ r tx u ne e. p.all.against r tx u ne (locked x d h own r tx u ne e) };
   };
-  insert = λ d w own new p. let k = (held_keeps x).insert d w own new (by_rows p) in record {
+  insert = λ d w own now new p. let k = (held_keeps x n).insert d w own now new (by_rows p) in record {
     mine = p.mine;
-    all = record { long = p.all.long; begun = p.all.begun; others = p.all.others; rows = k.all; against = λ r tx u ne e. p.all.against r tx u ne (made x d w own p.mine r tx u ne e) };
+    all = record { others = p.all.others; rows = k.all; against = λ r tx u ne e. p.all.against r tx u ne (made x d w own p.mine r tx u ne e) };
   };
-  write = λ d w own held p. let k = (held_keeps x).write d w own held (by_rows p) in record {
+  write = λ d w own now held p. let k = (held_keeps x n).write d w own now held (by_rows p) in record {
     mine = p.mine;
-    all = record { long = p.all.long; begun = p.all.begun; others = p.all.others; rows = k.all; against = λ r tx u ne e. p.all.against r tx u ne (wrote x d w own p.mine r tx u ne e) };
+    all = record { others = p.all.others; rows = k.all; against = λ r tx u ne e. p.all.against r tx u ne (wrote x d w own p.mine r tx u ne e) };
   };
-  create = λ d table p. let k = (held_keeps x).create d table (by_rows p) in record {
+  create = λ d table p. let k = (held_keeps x n).create d table (by_rows p) in record {
     mine = p.mine;
-    all = record { long = p.all.long; begun = p.all.begun; others = p.all.others; rows = k.all; against = λ r tx u ne e. p.all.against r tx u ne (same_rows d (with_table d.catalog table x) r tx u e) };
+    all = record { others = p.all.others; rows = k.all; against = λ r tx u ne e. p.all.against r tx u ne (same_rows d (with_table d.catalog table x) r tx u e) };
   };
-  drop = λ d table p. let k = (held_keeps x).drop d table (by_rows p) in record {
+  drop = λ d table p. let k = (held_keeps x n).drop d table (by_rows p) in record {
     mine = p.mine;
-    all = record { long = p.all.long; begun = p.all.begun; others = p.all.others; rows = k.all; against = λ r tx u ne e. p.all.against r tx u ne (same_rows d (with_drop d.catalog table x) r tx u e) };
+    all = record { others = p.all.others; rows = k.all; against = λ r tx u ne e. p.all.against r tx u ne (same_rows d (with_drop d.catalog table x) r tx u e) };
   };
   commit = λ d p. record {
-    long = rw length-set (p.all.long);
-    begun = rw length-set (p.all.begun);
     others = λ n ne h. set_fate d.content.fates x (Committed (commit_count d.content)) n ne (p.all.others n ne h);
-    rows = (held_keeps x).commit d (by_rows p);
+    rows = (held_keeps x n).commit d (by_rows p);
     against = λ r tx u ne e. p.all.against r tx u ne (committed_less x d (by_rows p) r tx u ne e);
   };
   roll_back = λ d p. record {
-    long = rw length-set (p.all.long);
-    begun = rw length-set (p.all.begun);
     others = λ n ne h. set_fate d.content.fates x RolledBack n ne (p.all.others n ne h);
-    rows = (held_keeps x).roll_back d (by_rows p);
+    rows = (held_keeps x n).roll_back d (by_rows p);
     against = λ r tx u ne e. p.all.against r tx u ne (rolled_back_less x d p.mine r tx u ne e);
   };
   rest = λ d p. p.all;
@@ -173,8 +174,8 @@ adds_keeps x db = record {
 
 -- what holds of the waits of every state
 pub record IsOrderly (m : Machine) : Type 0 where
-  pub sessions : IsApart m.db m.sessions
-  pub opened : (i n : ℕ) → tx_of (slice_get m.sessions i) ≡ Some n → slice_get m.db.content.fates n ≡ Some OpenFate
+  pub opened : AreOpen m.db m.sessions
+  pub apart : AreDistinct m.sessions
   pub rows : AreHeld m.db
   pub free : NoCycle (blocks (waits_in m.db m.sessions))
 
@@ -216,9 +217,9 @@ free_without db ss i s u at over free =
     ])
 
 -- a session's transaction after an event is the one before, or a new one
-pub apart_set : (db e : Database) (ss : List Session) (i : ℕ) (s u : Session) → IsApart db ss → slice_get ss i ≡ Some s → length db.content.fates ≤ length e.content.fates
-    → ((n : ℕ) → tx_in u.transaction ≡ Some n → ((tx_in s.transaction ≡ Some n) ⊎ (n ≡ length db.content.fates)) × (n < length e.content.fates)) → IsApart e (set ss i u)
-apart_set db e ss i s u old at long own = record { known = known; apart = apart } where
+apart_set : (db : Database) (ss : List Session) (i : ℕ) (s u : Session) → AreOpen db ss → AreDistinct ss → slice_get ss i ≡ Some s
+    → ((n : ℕ) → tx_in u.transaction ≡ Some n → (tx_in s.transaction ≡ Some n) ⊎ (n ≡ length db.content.fates)) → AreDistinct (set ss i u)
+apart_set db ss i s u opened old at own = apart where
   here : slice_get (set ss i u) i ≡ Some u
   here = slice_get-set_same ss i u (slice_get_within ss i s at)
 
@@ -228,20 +229,13 @@ apart_set db e ss i s u old at long own = record { known = known; apart = apart 
   at_i : (j n : ℕ) → j ≡ i → tx_of (slice_get (set ss i u) j) ≡ Some n → tx_in u.transaction ≡ Some n
   at_i j n is h = ap tx_of (sym (ap (slice_get (set ss i u)) is ∙ here)) ∙ h
 
-  known : (j n : ℕ) → tx_of (slice_get (set ss i u) j) ≡ Some n → n < length e.content.fates
-  known j n h =
-      ⊎_elim
-      (λ is. (own n (at_i j n is h)).1)
-      (λ ne. let l = old.known j n (ap tx_of (sym (there j ne)) ∙ h) in omega arith)
-      (cases_eq j i)
-
   mixed : (j n : ℕ) → (j ≡ i → ⊥) → tx_in u.transaction ≡ Some n → tx_of (slice_get (set ss i u) j) ≡ Some n → ⊥
   mixed j n ne h k =
       let o : tx_of (slice_get ss j) ≡ Some n = ap tx_of (sym (there j ne)) ∙ k in
       ⊎_elim
-      (λ f. ne (old.apart j i n o (ap tx_of at ∙ f)))
-      (λ (f : n ≡ length db.content.fates). let l = old.known j n o in let z : ⊥ = omega arith in z)
-      (own n h).0
+      (λ f. ne (old j i n o (ap tx_of at ∙ f)))
+      (λ (f : n ≡ length db.content.fates). let l = known_in db ss opened j n o in let z : ⊥ = omega arith in z)
+      (own n h)
 
   apart : (j k n : ℕ) → tx_of (slice_get (set ss i u) j) ≡ Some n → tx_of (slice_get (set ss i u) k) ≡ Some n → j ≡ k
   apart j k n h l =
@@ -249,7 +243,7 @@ apart_set db e ss i s u old at long own = record { known = known; apart = apart 
       (λ x. ⊎_elim (λ f. x ∙ sym f) (λ nf. absurd (mixed k n nf (at_i j n x h) l)) (cases_eq k i))
       (λ ne. ⊎_elim
       (λ f. absurd (mixed j n ne (at_i k n f l) h))
-      (λ nf. old.apart j k n (ap tx_of (sym (there j ne)) ∙ h) (ap tx_of (sym (there k nf)) ∙ l))
+      (λ nf. old j k n (ap tx_of (sym (there j ne)) ∙ h) (ap tx_of (sym (there k nf)) ∙ l))
       (cases_eq k i))
       (cases_eq j i)
 
@@ -279,8 +273,6 @@ adds_begun : (db : Database) → AreHeld db → AreHeldBy (record { 0 = length d
 adds_begun db rows there = record {
   mine = there.mine;
   all = record {
-    long = rw (length-append db.content.fates (OpenFate ∷ [])) (omega arith);
-    begun = rw (length-append db.content.fates (OpenFate ∷ [])) (omega arith);
     others = λ n ne h. get-append_left db.content.fates (OpenFate ∷ []) n (slice_get_within db.content.fates n OpenFate h) ∙ h;
     rows = there.all;
     against = λ r tx u ne e. same_begun db rows r tx u e;
@@ -293,49 +285,39 @@ adds_start db Aborted opened rows = adds_begun db rows (held_start db Aborted op
 adds_start db (Open t) opened rows = record {
   mine = opened t.tx.0 refl;
   all = record {
-    long = omega arith;
-    begun = slice_get_within db.content.fates t.tx.0 OpenFate (opened t.tx.0 refl);
     others = λ n ne h. h;
     rows = rows;
     against = λ r tx u ne e. e;
   };
 }
 
-pub apart_moved : (m : Machine) (i : ℕ) (s : Session) (after : Machine) → IsApart m.db m.sessions → slice_get m.sessions i ≡ Some s
-    → Moved (AddsBy (doer m.db s.transaction) m.db) (Adds (doer m.db s.transaction) m.db) (λ v. Unit {0}) m i s after → IsApart after.db after.sessions
-apart_moved m i s after old at k = subst (λ (y : Machine). IsApart y.db y.sessions) (sym k.is) (by k.did) where
-  by : Rests m s k.e k.u ⊎ Ran (doer m.db s.transaction) (AddsBy (doer m.db s.transaction) m.db) (Adds (doer m.db s.transaction) m.db) (λ v. Unit {0}) (around m i s).sessions (left_as k.e k.u)
-      → IsApart k.e (set m.sessions i k.u)
+apart_moved : (m : Machine) (i : ℕ) (s : Session) (after : Machine) → IsOrderly m → slice_get m.sessions i ≡ Some s
+    → Moved (AddsBy (doer m.db s.transaction) m.db) (Adds (doer m.db s.transaction) m.db) (λ v. Unit {0}) m i s after → AreDistinct after.sessions
+apart_moved m i s after old at k = subst (λ (y : Machine). AreDistinct y.sessions) (sym k.is) (by k.did) where
+  by : Rests m s k.e k.u ⊎ Ran (doer m.db s.transaction) (command_in s.transaction) (AddsBy (doer m.db s.transaction) m.db) (Adds (doer m.db s.transaction) m.db) (λ v. Unit {0}) (around m i s).sessions
+      (left_as k.e k.u) → AreDistinct (set m.sessions i k.u)
   by (inl r) =
-      let same : length m.db.content.fates ≡ length k.e.content.fates = ap (λ (d : Database). length d.content.fates) (sym r.same) in
-      apart_set m.db k.e m.sessions i s k.u old at (omega arith)
-      (λ n h.
-      let o = open_tx k.u.transaction n h in
-      let f : tx_in s.transaction ≡ Some n = ap tx_in (r.its o.0 o.1) ∙ ap Some o.2 in
-      let l = old.known i n (ap tx_of at ∙ f) in
-      (inl f, omega arith))
+      apart_set m.db m.sessions i s k.u old.opened old.apart at
+      (λ n h. let o = open_tx k.u.transaction n h in inl (ap tx_in (r.its o.0 o.1) ∙ ap Some o.2))
   by (inr r) =
-      let long = r.db.long in
-      let begun = r.db.begun in
-      apart_set m.db k.e m.sessions i s k.u old at long
+      apart_set m.db m.sessions i s k.u old.opened old.apart at
       (λ n h.
       let o = open_tx k.u.transaction n h in
       let own = r.own o.0 o.1 in
-      let z : (doer m.db s.transaction).0 ≡ n = ap (λ (x : TxId). x.0) (sym own.0) ∙ o.2 in
-      (subst (λ y. (tx_in s.transaction ≡ Some y) ⊎ (y ≡ length m.db.content.fates)) o.2 (doer_is m.db s.transaction o.0 own.0), omega arith))
+      subst (λ y. (tx_in s.transaction ≡ Some y) ⊎ (y ≡ length m.db.content.fates)) o.2 (doer_is m.db s.transaction o.0 own.0))
 
 false_true : (b : Bool) → b ≡ false → b ≡ true → ⊥
 false_true true h k = cc
 false_true false h k = cc
 
 -- no other session has the doer's transaction
-pub no_other : (m : Machine) (i j : ℕ) (s v : Session) (t : OpenTransaction) → IsApart m.db m.sessions → slice_get m.sessions i ≡ Some s → (j ≡ i → ⊥) → slice_get m.sessions j ≡ Some v
+pub no_other : (m : Machine) (i j : ℕ) (s v : Session) (t : OpenTransaction) → IsOrderly m → slice_get m.sessions i ≡ Some s → (j ≡ i → ⊥) → slice_get m.sessions j ≡ Some v
     → v.transaction ≡ Open t → t.tx ≡ doer m.db s.transaction → ⊥
 no_other m i j s v t old at ne there is own =
     let f : tx_of (slice_get m.sessions j) ≡ Some t.tx.0 = ap tx_of there ∙ ap tx_in is in
     ⊎_elim
     (λ k. ne (old.apart j i t.tx.0 f (ap tx_of at ∙ k)))
-    (λ (k : t.tx.0 ≡ length m.db.content.fates). let l = old.known j t.tx.0 f in let z : ⊥ = omega arith in z)
+    (λ (k : t.tx.0 ≡ length m.db.content.fates). let l = known_in m.db m.sessions old.opened j t.tx.0 f in let z : ⊥ = omega arith in z)
     (doer_is m.db s.transaction t own)
 
 free_moved : (m : Machine) (i : ℕ) (s : Session) (after : Machine) → IsOrderly m → slice_get m.sessions i ≡ Some s
@@ -350,7 +332,7 @@ free_moved m i s after old at k = subst (λ (y : Machine). NoCycle (blocks (wait
   before : List Session
   before = set m.sessions i idle
 
-  by : Rests m s k.e k.u ⊎ Ran x (AddsBy x m.db) (Adds x m.db) (λ v. Unit {0}) before (left_as k.e k.u) → NoCycle (blocks (waits_in k.e (set m.sessions i k.u)))
+  by : Rests m s k.e k.u ⊎ Ran x (command_in s.transaction) (AddsBy x m.db) (Adds x m.db) (λ v. Unit {0}) before (left_as k.e k.u) → NoCycle (blocks (waits_in k.e (set m.sessions i k.u)))
   by (inl r) =
       subst (λ (d : Database). NoCycle (blocks (waits_in d (set m.sessions i k.u)))) (sym r.same)
       (free_without m.db m.sessions i s k.u at r.over old.free)
@@ -378,7 +360,7 @@ free_moved m i s after old at k = subst (λ (y : Machine). NoCycle (blocks (wait
     nobody : (b : TxId) → blocks (waits_in k.e before) x b ≡ true → ⊥
     nobody b e = elim (edge_set k.e m.sessions i s idle x b at e) [
       | inl w ↦ no_progress w.p w.at
-      | inr w ↦ no_other m i w.0 s w.1 w.4.t old.sessions at w.2 w.3 w.4.open_now w.4.its
+      | inr w ↦ no_other m i w.0 s w.1 w.4.t old at w.2 w.3 w.4.open_now w.4.its
     ]
 
     ends : (o : Option Progress) → k.u.statement ≡ o → NoCycle (blocks (waits_in k.e (set m.sessions i k.u)))
@@ -415,8 +397,8 @@ doer_number db (Open t) = inl refl
 -- the transactions of sessions stay open
 opened_moved : (m : Machine) (i : ℕ) (s : Session) (after : Machine) → IsOrderly m → slice_get m.sessions i ≡ Some s
     → Moved (AddsBy (doer m.db s.transaction) m.db) (Adds (doer m.db s.transaction) m.db) (λ v. Unit {0}) m i s after
-    → (j n : ℕ) → tx_of (slice_get after.sessions j) ≡ Some n → slice_get after.db.content.fates n ≡ Some OpenFate
-opened_moved m i s after old at k = subst (λ (y : Machine). (j n : ℕ) → tx_of (slice_get y.sessions j) ≡ Some n → slice_get y.db.content.fates n ≡ Some OpenFate) (sym k.is) opened where
+    → AreOpen after.db after.sessions
+opened_moved m i s after old at k = subst (λ (y : Machine). AreOpen y.db y.sessions) (sym k.is) opened where
   x : TxId
   x = doer m.db s.transaction
 
@@ -438,8 +420,8 @@ opened_moved m i s after old at k = subst (λ (y : Machine). (j n : ℕ) → tx_
   other : (j n : ℕ) → (j ≡ i → ⊥) → tx_of (slice_get m.sessions j) ≡ Some n → n ≡ x.0 → ⊥
   other j n ne h is =
       ⊎_elim
-      (λ f. ne (old.sessions.apart j i n h (ap tx_of at ∙ (f ∙ ap Some (sym is)))))
-      (λ (f : x.0 ≡ length m.db.content.fates). let l = old.sessions.known j n h in let z : ⊥ = omega arith in z)
+      (λ f. ne (old.apart j i n h (ap tx_of at ∙ (f ∙ ap Some (sym is)))))
+      (λ (f : x.0 ≡ length m.db.content.fates). let l = known_in m.db m.sessions old.opened j n h in let z : ⊥ = omega arith in z)
       (doer_number m.db s.transaction)
 
   opened : (j n : ℕ) → tx_of (slice_get (set m.sessions i k.u) j) ≡ Some n → slice_get k.e.content.fates n ≡ Some OpenFate
@@ -452,7 +434,7 @@ opened_moved m i s after old at k = subst (λ (y : Machine). (j n : ℕ) → tx_
 rows_moved : (m : Machine) (i : ℕ) (s : Session) (after : Machine) → AreHeld m.db
     → Moved (AddsBy (doer m.db s.transaction) m.db) (Adds (doer m.db s.transaction) m.db) (λ v. Unit {0}) m i s after → AreHeld after.db
 rows_moved m i s after old k = subst (λ (y : Machine). AreHeld y.db) (sym k.is) (by k.did) where
-  by : Rests m s k.e k.u ⊎ Ran (doer m.db s.transaction) (AddsBy (doer m.db s.transaction) m.db) (Adds (doer m.db s.transaction) m.db) (λ v. Unit {0}) (around m i s).sessions (left_as k.e k.u)
+  by : Rests m s k.e k.u ⊎ Ran (doer m.db s.transaction) (command_in s.transaction) (AddsBy (doer m.db s.transaction) m.db) (Adds (doer m.db s.transaction) m.db) (λ v. Unit {0}) (around m i s).sessions (left_as k.e k.u)
       → AreHeld k.e
   by (inl r) = subst AreHeld (sym r.same) old
   by (inr r) = r.db.rows
@@ -463,11 +445,11 @@ orderly_next blocks mode m event n old h =
     let s = there.0 in
     let x = doer m.db s.transaction in
     let i = session_of event in
-    let k = moved (AddsBy x m.db) (Adds x m.db) (λ v. Unit {0}) blocks mode m event s n there.1 (adds_keeps x m.db) (allows_all m.db s.transaction s.statement)
+    let k = moved (AddsBy x m.db) (Adds x m.db) (λ v. Unit {0}) blocks mode m event s n there.1 (adds_keeps x (command_in s.transaction) m.db) (allows_all m.db s.transaction s.statement)
     (adds_start m.db s.transaction (λ q f. old.opened i q (ap tx_of there.1 ∙ f)) old.rows) h in
     record {
-      sessions = apart_moved m i s n.machine old.sessions there.1 k;
       opened = opened_moved m i s n.machine old there.1 k;
+      apart = apart_moved m i s n.machine old there.1 k;
       rows = rows_moved m i s n.machine old.rows k;
       free = free_moved m i s n.machine old there.1 k;
     }
@@ -484,8 +466,8 @@ rest_edge (suc count) (suc j) s a b h e = rest_edge count j s a b h e
 
 pub orderly_opening : (count : ℕ) → IsOrderly (opening count)
 orderly_opening count = record {
-  sessions = record { known = λ i n h. absurd (rest_tx (count + 1) i n h); apart = λ i j n h k. absurd (rest_tx (count + 1) i n h) };
   opened = λ i n h. absurd (rest_tx (count + 1) i n h);
+  apart = λ i j n h k. absurd (rest_tx (count + 1) i n h);
   rows = record { known = λ k v e. cc; held = λ k v e o. cc; rows = λ k v e. cc; locks = λ h e. cc; apart = λ row a b s t ne e k. cc };
   free = λ a b e l. let w = edge_from empty_database (replicate (count + 1) at_rest) a b e in rest_edge (count + 1) w.0 w.1 a b w.2 w.3;
 }

@@ -64,11 +64,11 @@ some_of : (test : TxId → Bool) (bs : List TxId) → list_any test bs ≡ true 
 some_of test [] h = cc
 some_of test (t ∷ bs) h = refl
 
-false_is : (b : Bool) → (b ≡ true → ⊥) → b ≡ false
+pub false_is : (b : Bool) → (b ≡ true → ⊥) → b ≡ false
 false_is true h = absurd (h refl)
 false_is false h = refl
 
-false_not : (b : Bool) → b ≡ false → b ≡ true → ⊥
+pub false_not : (b : Bool) → b ≡ false → b ≡ true → ⊥
 false_not true h k = cc
 false_not false h k = cc
 

@@ -45,6 +45,7 @@ use Rattle.session_machine.specs.declared.fault.StmtFault.TheVariants.{Aborted a
 use Rattle.session_machine.specs.Tables.{Database, find_table}
 use Rattle.session_machine.specs.Transactions.{begun, committed, fresh, rolled_back, view_of}
 use Rattle.session_machine.specs.Waits.{blockers, is_blocked, waits_in}
+use Rattle.session_machine.specs.Sound.{command_in}
 use Rattle.session_machine.specs.Statements.{Around, Did, DroppedUpTo, fails, turns, create, dropped, dropped_at, drop_ended, level_set, with_table, with_drop, is_end}
 use Rattle.session_machine.specs.Walks.{Stop, Visit, Walk, Blocked, Fails, goes_on, unless_stopped, walked, walked_from}
 use Rattle.session_machine.specs.AskedKeys.{AskedKey}
@@ -60,11 +61,11 @@ pub record MayTake (d : Database) (h : Held) : Type 0 where
   pub there : slice_get d.content.log place ≡ Some write
   pub its : write.row.0 ≡ h.row.0
 
--- what a transaction may do keeps the one while it runs, and leads to the other where it ends
-pub record Keeps (x : TxId) (P Q : Database → Type 0) : Type 0 where
+-- what a transaction may do, at this command of its, keeps the one while it runs, and leads to the other where it ends
+pub record Keeps (x : TxId) (n : ℕ) (P Q : Database → Type 0) : Type 0 where
   pub lock : (d : Database) (h : Held) → h.tx ≡ x → MayTake d h → P d → P (record d { held = with_lock d.held h })
-  pub insert : (d : Database) (w : Write) → w.tx ≡ x → w.row ≡ new_row d.content → P d → P (record d { content = after_write d.content w; held = with_lock d.held (lock_of_write w) })
-  pub write : (d : Database) (w : Write) → w.tx ≡ x → holds d.held (lock_of_write w) ≡ true → P d → P (record d { content = after_write d.content w })
+  pub insert : (d : Database) (w : Write) → w.tx ≡ x → w.command ≡ n → w.row ≡ new_row d.content → P d → P (record d { content = after_write d.content w; held = with_lock d.held (lock_of_write w) })
+  pub write : (d : Database) (w : Write) → w.tx ≡ x → w.command ≡ n → holds d.held (lock_of_write w) ≡ true → P d → P (record d { content = after_write d.content w })
   pub create : (d : Database) (made : CreateTree) → P d → P (record d { catalog = with_table d.catalog made x })
   pub drop : (d : Database) (k : ℕ) → P d → P (record d { catalog = with_drop d.catalog k x })
   pub commit : (d : Database) → P d → Q (committed d x)
@@ -82,10 +83,10 @@ pub record Comes (x : TxId) (P : Database → Type 0) (ss : List Session) (db : 
   pub blocked : (r : Request) → stop ≡ Some (Blocked r) → Refused x ss db r
 
 -- what a statement left
-pub record Ran (x : TxId) (P Q : Database → Type 0) (V : View → Type 0) (ss : List Session) (d : Did) : Type 0 where
+pub record Ran (x : TxId) (n : ℕ) (P Q : Database → Type 0) (V : View → Type 0) (ss : List Session) (d : Did) : Type 0 where
   pub db : Q d.db
   pub own : (u : OpenTransaction) → d.transaction ≡ Open u → (u.tx ≡ x) × P d.db
-  pub waits : (p : Progress) → d.statement ≡ Some p → Refused x ss d.db p.wait.request × V p.view × ((u : OpenTransaction) × (d.transaction ≡ Open u))
+  pub waits : (p : Progress) → d.statement ≡ Some p → Refused x ss d.db p.wait.request × V p.view × ((u : OpenTransaction) × (d.transaction ≡ Open u) × (u.command ≡ n))
 
 goes_not : (s : StmtFault) (r : Request) → Some (Fails s) ≡ Some (Blocked r) → ⊥
 goes_not s r h = cc
@@ -233,7 +234,7 @@ at_case x P ss act db a RepeatableRead Others Same p q does refused named = come
 at_case x P ss act db a RepeatableRead Nobody Same p q does refused named =
     does (record db { held = with_lock db.held (lock_of a) }) a.seen (q refl (λ e. cc)) (holds_last db.held (lock_of a)) refl
 
-comes_target : (P Q : Database → Type 0) (act : Database → Seen → Visit) (db : Database) (w : Work) (a : Asked) → a.tx ≡ w.t.tx → Keeps w.t.tx P Q → P db
+comes_target : (P Q : Database → Type 0) (act : Database → Seen → Visit) (db : Database) (w : Work) (a : Asked) → a.tx ≡ w.t.tx → Keeps w.t.tx w.t.command P Q → P db
     → ((d : Database) (seen : Seen) → P d → holds d.held (lock_of a) ≡ true → seen.row ≡ a.seen.row → Comes w.t.tx P w.around.sessions (act d seen).db (act d seen).stop)
     → Comes w.t.tx P w.around.sessions (at_target act db w a).db (at_target act db w a).stop
 comes_target P Q act db w a own keeps p does =
@@ -244,10 +245,10 @@ comes_target P Q act db w a own keeps p does =
     (newer_row db.content a)
 
 -- a write of a held row
-writes : (P Q : Database → Type 0) (d : Database) (w : Work) (a : Asked) (row : RowId) (values : Option (List Value)) → a.tx ≡ w.t.tx → a.strength ≡ Exclusive → Keeps w.t.tx P Q → P d
+writes : (P Q : Database → Type 0) (d : Database) (w : Work) (a : Asked) (row : RowId) (values : Option (List Value)) → a.tx ≡ w.t.tx → a.strength ≡ Exclusive → Keeps w.t.tx w.t.command P Q → P d
     → holds d.held (lock_of a) ≡ true → row ≡ a.seen.row → P (written d w row values)
 writes P Q d w a row values own strong keeps p held named =
-    keeps.write d (record { tx = w.t.tx; command = w.t.command; table = record { 0 = w.table }; row = row; values = values }) refl
+    keeps.write d (record { tx = w.t.tx; command = w.t.command; table = record { 0 = w.table }; row = row; values = values }) refl refl
     (subst (λ h. holds d.held h ≡ true) (same_lock_of a w.t.tx row own strong named) held) p where
       same_lock_of : (b : Asked) (tx : TxId) (r : RowId) → b.tx ≡ tx → b.strength ≡ Exclusive → r ≡ b.seen.row
           → lock_of b ≡ record { row = r; tx = tx; strength = Exclusive }
@@ -298,7 +299,7 @@ keys_refuse db w name values except (key ∷ keys) r h = by (stop_at_key db w na
   by (Some stop) e later k = key_refuses db w name values except key r (e ∙ k)
   by None e later k = later k
 
-comes_update_at : (P Q : Database → Type 0) (w : Work) (u : UpdateTree) (targets : List AssignedColumn) → Keeps w.t.tx P Q → (db : Database) (seen : Seen) → P db
+comes_update_at : (P Q : Database → Type 0) (w : Work) (u : UpdateTree) (targets : List AssignedColumn) → Keeps w.t.tx w.t.command P Q → (db : Database) (seen : Seen) → P db
     → Comes w.t.tx P w.around.sessions (update_at w u targets db seen).db (update_at w u targets db seen).stop
 comes_update_at P Q w u targets keeps db seen p = comes_target P Q (update_with w u targets) db w a refl keeps p (λ d s q held named. made d s q held named (updated (cols_in d w) targets u.sets (values_of d s))) where
   a : Asked
@@ -312,13 +313,13 @@ comes_update_at P Q w u targets keeps db seen p = comes_target P Q (update_with 
       (comes_unless_stopped w.t.tx P w.around.sessions d _ _ q (writes P Q d w a s.row (Some values) refl refl keeps q held named)
       (keys_refuse d w u.table values (Some s.row) (keys_in d w)))
 
-comes_delete_at : (P Q : Database → Type 0) (w : Work) (e : DeleteTree) → Keeps w.t.tx P Q → (db : Database) (seen : Seen) → P db
+comes_delete_at : (P Q : Database → Type 0) (w : Work) (e : DeleteTree) → Keeps w.t.tx w.t.command P Q → (db : Database) (seen : Seen) → P db
     → Comes w.t.tx P w.around.sessions (delete_at w e db seen).db (delete_at w e db seen).stop
 comes_delete_at P Q w e keeps db seen p =
     comes_target P Q (delete_with w) db w (ask db w Exclusive e.filter seen) refl keeps p
     (λ d s q held named. comes_on w.t.tx P w.around.sessions _ [] (writes P Q d w (ask db w Exclusive e.filter seen) s.row None refl refl keeps q held named))
 
-comes_lock_at : (P Q : Database → Type 0) (w : Work) (s : SelectTree) (l : Lock) → Keeps w.t.tx P Q → (db : Database) (seen : Seen) → P db
+comes_lock_at : (P Q : Database → Type 0) (w : Work) (s : SelectTree) (l : Lock) → Keeps w.t.tx w.t.command P Q → (db : Database) (seen : Seen) → P db
     → Comes w.t.tx P w.around.sessions (lock_at w s l db seen).db (lock_at w s l db seen).stop
 comes_lock_at P Q w s l keeps db seen p =
     comes_target P Q (lock_with w s) db w (ask db w (strength_of l) s.filter seen) refl keeps p (λ d v q held named. made d q (row_values (cols_in d w) s.items (values_of d v))) where
@@ -326,7 +327,7 @@ comes_lock_at P Q w s l keeps db seen p =
       made d q (Err fault) = comes_fails w.t.tx P w.around.sessions d _ q
       made d q (Ok row) = comes_on w.t.tx P w.around.sessions d (row ∷ []) q
 
-comes_insert_at : (P Q : Database → Type 0) (w : Work) (name : List ℕ) (targets : List AssignedColumn) → Keeps w.t.tx P Q → (db : Database) (row : List Tree) → P db
+comes_insert_at : (P Q : Database → Type 0) (w : Work) (name : List ℕ) (targets : List AssignedColumn) → Keeps w.t.tx w.t.command P Q → (db : Database) (row : List Tree) → P db
     → Comes w.t.tx P w.around.sessions (insert_at w name targets db row).db (insert_at w name targets db row).stop
 comes_insert_at P Q w name targets keeps db row p = made (new_values _ targets row) where
   made : (r : Result (List Value) ValueFault) → Comes w.t.tx P w.around.sessions (insert_made w name db r).db (insert_made w name db r).stop
@@ -334,41 +335,41 @@ comes_insert_at P Q w name targets keeps db row p = made (new_values _ targets r
   made (Ok values) =
       comes_unless_null w.t.tx P w.around.sessions name db _ _ p
       (comes_unless_stopped w.t.tx P w.around.sessions db (inserted db w values) _ p
-      (keeps.insert db (record { tx = w.t.tx; command = w.t.command; table = record { 0 = w.table }; row = new_row db.content; values = Some values }) refl refl p)
+      (keeps.insert db (record { tx = w.t.tx; command = w.t.command; table = record { 0 = w.table }; row = new_row db.content; values = Some values }) refl refl refl p)
       (keys_refuse db w name values None (keys_in db w)))
 
 same_open : (t u : OpenTransaction) → Open t ≡ Open u → t ≡ u
 same_open t u h = cc
 
-ran_fails : (P Q : Database → Type 0) (V : View → Type 0) (ss : List Session) (e : Database) (t : OpenTransaction) (fault : StmtFault) → Keeps t.tx P Q → P e
-    → Ran t.tx P Q V ss (fails e t fault)
+ran_fails : (P Q : Database → Type 0) (V : View → Type 0) (ss : List Session) (e : Database) (t : OpenTransaction) (fault : StmtFault) → Keeps t.tx t.command P Q → P e
+    → Ran t.tx t.command P Q V ss (fails e t fault)
 ran_fails P Q V ss e t fault keeps p = record { db = keeps.roll_back e p; own = λ u h. absurd (never t.explicit u h); waits = λ q h. absurd (none_not q h) } where
   never : (b : Bool) (u : OpenTransaction) → (if b then Aborted else Closed) ≡ Open u → ⊥
   never true u h = cc
   never false u h = cc
 
-ran_open : (P Q : Database → Type 0) (V : View → Type 0) (ss : List Session) (e : Database) (t v : OpenTransaction) (outcome : Reply) → v.tx ≡ t.tx → Keeps t.tx P Q → P e
-    → Ran t.tx P Q V ss (record { db = e; transaction = Open v; statement = None; outcome = outcome })
+ran_open : (P Q : Database → Type 0) (V : View → Type 0) (ss : List Session) (e : Database) (t v : OpenTransaction) (outcome : Reply) → v.tx ≡ t.tx → Keeps t.tx t.command P Q → P e
+    → Ran t.tx t.command P Q V ss (record { db = e; transaction = Open v; statement = None; outcome = outcome })
 ran_open P Q V ss e t v outcome same keeps p =
     record { db = keeps.rest e p; own = λ u h. (ap (λ (y : OpenTransaction). y.tx) (sym (same_open v u h)) ∙ same, p); waits = λ q h. absurd (none_not q h) }
 
-ran_closed : (P Q : Database → Type 0) (V : View → Type 0) (ss : List Session) (x : TxId) (e : Database) → Q e → Ran x P Q V ss (turns e Closed)
-ran_closed P Q V ss x e q = record { db = q; own = λ u h. absurd (never u h); waits = λ q h. absurd (none_not q h) } where
+ran_closed : (P Q : Database → Type 0) (V : View → Type 0) (ss : List Session) (x : TxId) (n : ℕ) (e : Database) → Q e → Ran x n P Q V ss (turns e Closed)
+ran_closed P Q V ss x n e q = record { db = q; own = λ u h. absurd (never u h); waits = λ q h. absurd (none_not q h) } where
   never : (u : OpenTransaction) → Closed ≡ Open u → ⊥
   never u h = cc
 
-ran_if : (P Q : Database → Type 0) (V : View → Type 0) (ss : List Session) (x : TxId) (b : Bool) (d e : Did) → Ran x P Q V ss d → Ran x P Q V ss e → Ran x P Q V ss (if b then d else e)
-ran_if P Q V ss x true d e h k = h
-ran_if P Q V ss x false d e h k = k
+ran_if : (P Q : Database → Type 0) (V : View → Type 0) (ss : List Session) (x : TxId) (n : ℕ) (b : Bool) (d e : Did) → Ran x n P Q V ss d → Ran x n P Q V ss e → Ran x n P Q V ss (if b then d else e)
+ran_if P Q V ss x n true d e h k = h
+ran_if P Q V ss x n false d e h k = k
 
 -- a statement at work comes to its end, waits, or fails
-ran_ended : (P Q : Database → Type 0) (V : View → Type 0) (before : Content) (w : Work) (f : List (List Value) → Reply) (k : Walk) → Keeps w.t.tx P Q → V w.view
-    → Comes w.t.tx P w.around.sessions k.db k.stop → Ran w.t.tx P Q V w.around.sessions (ended before w f k)
+ran_ended : (P Q : Database → Type 0) (V : View → Type 0) (before : Content) (w : Work) (f : List (List Value) → Reply) (k : Walk) → Keeps w.t.tx w.t.command P Q → V w.view
+    → Comes w.t.tx P w.around.sessions k.db k.stop → Ran w.t.tx w.t.command P Q V w.around.sessions (ended before w f k)
 ran_ended P Q V before w f k keeps view c = by k.stop c.blocked where
   same_progress : (p q : Progress) → Some p ≡ Some q → p ≡ q
   same_progress p q h = cc
 
-  by : (o : Option Stop) → ((r : Request) → o ≡ Some (Blocked r) → Refused w.t.tx w.around.sessions k.db r) → Ran w.t.tx P Q V w.around.sessions (comes_to before w f k o)
+  by : (o : Option Stop) → ((r : Request) → o ≡ Some (Blocked r) → Refused w.t.tx w.around.sessions k.db r) → Ran w.t.tx w.t.command P Q V w.around.sessions (comes_to before w f k o)
   by None blocked = ran_open P Q V w.around.sessions k.db w.t _ (f k.rows) refl keeps c.kept
   by (Some (Fails fault)) blocked = ran_fails P Q V w.around.sessions k.db w.t fault keeps c.kept
   by (Some (Blocked r)) blocked = record {
@@ -376,85 +377,85 @@ ran_ended P Q V before w f k keeps view c = by k.stop c.blocked where
     own = λ u h. (ap (λ (y : OpenTransaction). y.tx) (sym (same_open _ u h)), c.kept);
     waits = λ q h.
         let same = same_progress _ q h in
-        (subst (λ (y : Progress). Refused w.t.tx w.around.sessions k.db y.wait.request) same (blocked r refl), subst (λ (y : Progress). V y.view) same view, (_, refl));
+        (subst (λ (y : Progress). Refused w.t.tx w.around.sessions k.db y.wait.request) same (blocked r refl), subst (λ (y : Progress). V y.view) same view, (_, refl, refl));
   }
 
-ran_insert_from : (P Q : Database → Type 0) (V : View → Type 0) (db : Database) (w : Work) (i : InsertTree) (place : ℕ) (rows : List (List Value)) → Keeps w.t.tx P Q → V w.view → P db
-    → Ran w.t.tx P Q V w.around.sessions (insert_from db w i place rows)
+ran_insert_from : (P Q : Database → Type 0) (V : View → Type 0) (db : Database) (w : Work) (i : InsertTree) (place : ℕ) (rows : List (List Value)) → Keeps w.t.tx w.t.command P Q → V w.view → P db
+    → Ran w.t.tx w.t.command P Q V w.around.sessions (insert_from db w i place rows)
 ran_insert_from P Q V db w i place rows keeps view p =
     ran_ended P Q V db.content w done _ keeps view
     (comes_walked w.t.tx P w.around.sessions _ (comes_insert_at P Q w i.table (assigned_to (columns_assigned (columns_in db w) i.columns)) keeps) db place rows (drop place i.rows) p)
 
-ran_insert_to : (P Q : Database → Type 0) (V : View → Type 0) (db : Database) (w : Work) (i : InsertTree) (r : Result (List AssignedColumn) (List ℕ)) → Keeps w.t.tx P Q → V w.view → P db
-    → Ran w.t.tx P Q V w.around.sessions (insert_to db w i r)
+ran_insert_to : (P Q : Database → Type 0) (V : View → Type 0) (db : Database) (w : Work) (i : InsertTree) (r : Result (List AssignedColumn) (List ℕ)) → Keeps w.t.tx w.t.command P Q → V w.view → P db
+    → Ran w.t.tx w.t.command P Q V w.around.sessions (insert_to db w i r)
 ran_insert_to P Q V db w i (Err column) keeps view p = ran_fails P Q V w.around.sessions db w.t _ keeps p
 ran_insert_to P Q V db w i (Ok targets) keeps view p = fitting (lacking_rows i.rows) where
-  fitting : (o : Option (List ℕ)) → Ran w.t.tx P Q V w.around.sessions (insert_fitting db w i targets o)
+  fitting : (o : Option (List ℕ)) → Ran w.t.tx w.t.command P Q V w.around.sessions (insert_fitting db w i targets o)
   fitting (Some name) = ran_fails P Q V w.around.sessions db w.t _ keeps p
   fitting None =
-      ran_if P Q V w.around.sessions w.t.tx _ _ _ (ran_fails P Q V w.around.sessions db w.t _ keeps p) (ran_insert_from P Q V db w i 0 [] keeps view p)
+      ran_if P Q V w.around.sessions w.t.tx w.t.command _ _ _ (ran_fails P Q V w.around.sessions db w.t _ keeps p) (ran_insert_from P Q V db w i 0 [] keeps view p)
 
-ran_update_from : (P Q : Database → Type 0) (V : View → Type 0) (db : Database) (w : Work) (u : UpdateTree) (place : ℕ) (rows : List (List Value)) → Keeps w.t.tx P Q → V w.view → P db
-    → Ran w.t.tx P Q V w.around.sessions (update_from db w u place rows)
+ran_update_from : (P Q : Database → Type 0) (V : View → Type 0) (db : Database) (w : Work) (u : UpdateTree) (place : ℕ) (rows : List (List Value)) → Keeps w.t.tx w.t.command P Q → V w.view → P db
+    → Ran w.t.tx w.t.command P Q V w.around.sessions (update_from db w u place rows)
 ran_update_from P Q V db w u place rows keeps view p =
     ran_ended P Q V db.content w done _ keeps view
     (comes_from w.t.tx P w.around.sessions _ (comes_update_at P Q w u (assigned_to (columns_set (columns_in db w) u.sets)) keeps) db place rows (passing_targets db w u.filter) p)
 
-ran_update_to : (P Q : Database → Type 0) (V : View → Type 0) (db : Database) (w : Work) (u : UpdateTree) (r : Result (List AssignedColumn) (List ℕ)) → Keeps w.t.tx P Q → V w.view → P db
-    → Ran w.t.tx P Q V w.around.sessions (update_to db w u r)
+ran_update_to : (P Q : Database → Type 0) (V : View → Type 0) (db : Database) (w : Work) (u : UpdateTree) (r : Result (List AssignedColumn) (List ℕ)) → Keeps w.t.tx w.t.command P Q → V w.view → P db
+    → Ran w.t.tx w.t.command P Q V w.around.sessions (update_to db w u r)
 ran_update_to P Q V db w u (Err column) keeps view p = ran_fails P Q V w.around.sessions db w.t _ keeps p
 ran_update_to P Q V db w u (Ok targets) keeps view p = fitting (lacking_update (cols_of (columns_in db w)) u) where
-  fitting : (o : Option (List ℕ)) → Ran w.t.tx P Q V w.around.sessions (update_fitting db w u o)
+  fitting : (o : Option (List ℕ)) → Ran w.t.tx w.t.command P Q V w.around.sessions (update_fitting db w u o)
   fitting (Some name) = ran_fails P Q V w.around.sessions db w.t _ keeps p
   fitting None = ran_update_from P Q V db w u 0 [] keeps view p
 
-ran_delete_from : (P Q : Database → Type 0) (V : View → Type 0) (db : Database) (w : Work) (e : DeleteTree) (place : ℕ) (rows : List (List Value)) → Keeps w.t.tx P Q → V w.view → P db
-    → Ran w.t.tx P Q V w.around.sessions (delete_from db w e place rows)
+ran_delete_from : (P Q : Database → Type 0) (V : View → Type 0) (db : Database) (w : Work) (e : DeleteTree) (place : ℕ) (rows : List (List Value)) → Keeps w.t.tx w.t.command P Q → V w.view → P db
+    → Ran w.t.tx w.t.command P Q V w.around.sessions (delete_from db w e place rows)
 ran_delete_from P Q V db w e place rows keeps view p =
     ran_ended P Q V db.content w done _ keeps view
     (comes_from w.t.tx P w.around.sessions _ (comes_delete_at P Q w e keeps) db place rows (passing_targets db w e.filter) p)
 
-ran_delete_fitting : (P Q : Database → Type 0) (V : View → Type 0) (db : Database) (w : Work) (e : DeleteTree) (o : Option (List ℕ)) → Keeps w.t.tx P Q → V w.view → P db
-    → Ran w.t.tx P Q V w.around.sessions (delete_fitting db w e o)
+ran_delete_fitting : (P Q : Database → Type 0) (V : View → Type 0) (db : Database) (w : Work) (e : DeleteTree) (o : Option (List ℕ)) → Keeps w.t.tx w.t.command P Q → V w.view → P db
+    → Ran w.t.tx w.t.command P Q V w.around.sessions (delete_fitting db w e o)
 ran_delete_fitting P Q V db w e (Some name) keeps view p = ran_fails P Q V w.around.sessions db w.t _ keeps p
 ran_delete_fitting P Q V db w e None keeps view p = ran_delete_from P Q V db w e 0 [] keeps view p
 
-ran_lock_from : (P Q : Database → Type 0) (V : View → Type 0) (db : Database) (w : Work) (s : SelectTree) (l : Lock) (place : ℕ) (rows : List (List Value)) → Keeps w.t.tx P Q → V w.view → P db
-    → Ran w.t.tx P Q V w.around.sessions (lock_from db w s l place rows)
+ran_lock_from : (P Q : Database → Type 0) (V : View → Type 0) (db : Database) (w : Work) (s : SelectTree) (l : Lock) (place : ℕ) (rows : List (List Value)) → Keeps w.t.tx w.t.command P Q → V w.view → P db
+    → Ran w.t.tx w.t.command P Q V w.around.sessions (lock_from db w s l place rows)
 ran_lock_from P Q V db w s l place rows keeps view p =
     let shown : List (List Value) → Reply = λ y. Rows (record { titles = titles_of (columns_in db w) s.items; rows = y }) in
     ran_ended P Q V db.content w shown (walked_from (lock_at w s l) db place rows (taken_targets db w s)) keeps view
     (comes_from w.t.tx P w.around.sessions _ (comes_lock_at P Q w s l keeps) db place rows (taken_targets db w s) p)
 
-ran_answered : (P Q : Database → Type 0) (V : View → Type 0) (ss : List Session) (db : Database) (t : OpenTransaction) (r : Result Results ValueFault) → Keeps t.tx P Q → P db
-    → Ran t.tx P Q V ss (answered db t r)
+ran_answered : (P Q : Database → Type 0) (V : View → Type 0) (ss : List Session) (db : Database) (t : OpenTransaction) (r : Result Results ValueFault) → Keeps t.tx t.command P Q → P db
+    → Ran t.tx t.command P Q V ss (answered db t r)
 ran_answered P Q V ss db t (Ok set) keeps p = ran_open P Q V ss db t _ _ refl keeps p
 ran_answered P Q V ss db t (Err fault) keeps p = ran_fails P Q V ss db t _ keeps p
 
-ran_unless_wrong : (P Q : Database → Type 0) (V : View → Type 0) (ss : List Session) (db : Database) (t : OpenTransaction) (o : Option (List ℕ)) (n : Option ℤ) (due : Did) → Keeps t.tx P Q → P db
-    → Ran t.tx P Q V ss due → Ran t.tx P Q V ss (unless_wrong db t o n due)
+ran_unless_wrong : (P Q : Database → Type 0) (V : View → Type 0) (ss : List Session) (db : Database) (t : OpenTransaction) (o : Option (List ℕ)) (n : Option ℤ) (due : Did) → Keeps t.tx t.command P Q → P db
+    → Ran t.tx t.command P Q V ss due → Ran t.tx t.command P Q V ss (unless_wrong db t o n due)
 ran_unless_wrong P Q V ss db t (Some name) n due keeps p k = ran_fails P Q V ss db t _ keeps p
 ran_unless_wrong P Q V ss db t None (Some n) due keeps p k = ran_fails P Q V ss db t _ keeps p
 ran_unless_wrong P Q V ss db t None None due keeps p k = k
 
-ran_select_rows : (P Q : Database → Type 0) (V : View → Type 0) (db : Database) (w : Work) (s : SelectTree) (o : Option Lock) → Keeps w.t.tx P Q → V w.view → P db
-    → Ran w.t.tx P Q V w.around.sessions (select_rows db w s o)
+ran_select_rows : (P Q : Database → Type 0) (V : View → Type 0) (db : Database) (w : Work) (s : SelectTree) (o : Option Lock) → Keeps w.t.tx w.t.command P Q → V w.view → P db
+    → Ran w.t.tx w.t.command P Q V w.around.sessions (select_rows db w s o)
 ran_select_rows P Q V db w s None keeps view p = ran_answered P Q V w.around.sessions db w.t _ keeps p
 ran_select_rows P Q V db w s (Some l) keeps view p = ran_lock_from P Q V db w s l 0 [] keeps view p
 
-ran_select_in : (P Q : Database → Type 0) (V : View → Type 0) (db : Database) (w : Work) (s : SelectTree) → Keeps w.t.tx P Q → V w.view → P db
-    → Ran w.t.tx P Q V w.around.sessions (select_in db w s)
+ran_select_in : (P Q : Database → Type 0) (V : View → Type 0) (db : Database) (w : Work) (s : SelectTree) → Keeps w.t.tx w.t.command P Q → V w.view → P db
+    → Ran w.t.tx w.t.command P Q V w.around.sessions (select_in db w s)
 ran_select_in P Q V db w s keeps view p = ran_unless_wrong P Q V w.around.sessions db w.t _ _ _ keeps p (ran_select_rows P Q V db w s s.lock keeps view p)
 
 ran_select : (P Q : Database → Type 0) (V : View → Type 0) (db : Database) (t : OpenTransaction) (around : Around) (s : SelectTree) (o : Option (List ℕ))
-    → Keeps t.tx P Q → V (view_of db.content t) → P db → Ran t.tx P Q V around.sessions (select db t around s o)
+    → Keeps t.tx t.command P Q → V (view_of db.content t) → P db → Ran t.tx t.command P Q V around.sessions (select db t around s o)
 ran_select P Q V db t around s None keeps view p = ran_unless_wrong P Q V around.sessions db t _ _ _ keeps p (ran_answered P Q V around.sessions db t _ keeps p)
 ran_select P Q V db t around s (Some name) keeps view p = at (find_table db (Some t.tx) name) where
-  at : (k : Option ℕ) → Ran t.tx P Q V around.sessions (select_at db t around s name k)
+  at : (k : Option ℕ) → Ran t.tx t.command P Q V around.sessions (select_at db t around s name k)
   at None = ran_fails P Q V around.sessions db t _ keeps p
   at (Some k) = ran_select_in P Q V db (beginning db t around k) s keeps view p
 
-kept_dropped : (P Q : Database → Type 0) (t : OpenTransaction) (if_exists : Bool) (names : List (List ℕ)) → Keeps t.tx P Q → (db : Database) → P db → P (dropped db t if_exists names).db
+kept_dropped : (P Q : Database → Type 0) (t : OpenTransaction) (if_exists : Bool) (names : List (List ℕ)) → Keeps t.tx t.command P Q → (db : Database) → P db → P (dropped db t if_exists names).db
 kept_dropped P Q t if_exists [] keeps db p = p
 kept_dropped P Q t if_exists (name ∷ names) keeps db p = at (λ d. kept_dropped P Q t if_exists names keeps d) (find_table db (Some t.tx) name) where
   missing : (b : Bool) → P (dropped db t if_exists names).db → (let e : DroppedUpTo = if b then dropped db t if_exists names else record { db = db; missing = Some name } in P e.db)
@@ -465,51 +466,51 @@ kept_dropped P Q t if_exists (name ∷ names) keeps db p = at (λ d. kept_droppe
   at on (Some k) = on _ (keeps.drop db k p)
   at on None = missing if_exists (on db p)
 
-ran_drop : (P Q : Database → Type 0) (V : View → Type 0) (ss : List Session) (before : Content) (t : OpenTransaction) (e : Database) (o : Option (List ℕ)) → Keeps t.tx P Q → P e
-    → Ran t.tx P Q V ss (drop_ended before t e o)
+ran_drop : (P Q : Database → Type 0) (V : View → Type 0) (ss : List Session) (before : Content) (t : OpenTransaction) (e : Database) (o : Option (List ℕ)) → Keeps t.tx t.command P Q → P e
+    → Ran t.tx t.command P Q V ss (drop_ended before t e o)
 ran_drop P Q V ss before t e None keeps p = ran_open P Q V ss e t _ _ refl keeps p
 ran_drop P Q V ss before t e (Some name) keeps p = ran_fails P Q V ss e t _ keeps p
 
-ran_level : (P Q : Database → Type 0) (V : View → Type 0) (ss : List Session) (db : Database) (t : OpenTransaction) (explicit : Bool) (level : Level) → Keeps t.tx P Q → P db
-    → Ran t.tx P Q V ss (level_set db t explicit level)
+ran_level : (P Q : Database → Type 0) (V : View → Type 0) (ss : List Session) (db : Database) (t : OpenTransaction) (explicit : Bool) (level : Level) → Keeps t.tx t.command P Q → P db
+    → Ran t.tx t.command P Q V ss (level_set db t explicit level)
 ran_level P Q V ss db t explicit level keeps p =
-    ran_if P Q V ss t.tx _ _ _ (ran_fails P Q V ss db t _ keeps p) (ran_open P Q V ss db t (record t { explicit = explicit; level = level }) _ refl keeps p)
+    ran_if P Q V ss t.tx t.command _ _ _ (ran_fails P Q V ss db t _ keeps p) (ran_open P Q V ss db t (record t { explicit = explicit; level = level }) _ refl keeps p)
 
 -- a statement that begins in an open transaction
 pub ran_begins : (P Q : Database → Type 0) (V : View → Type 0) (db : Database) (t : OpenTransaction) (around : Around) (stmt : StmtTree)
-    → Keeps t.tx P Q → V (view_of db.content t) → P db → Ran t.tx P Q V around.sessions (run_open db t around stmt)
+    → Keeps t.tx t.command P Q → V (view_of db.content t) → P db → Ran t.tx t.command P Q V around.sessions (run_open db t around stmt)
 ran_begins P Q V db t around (Begin level) keeps view p =
-    ran_if P Q V around.sessions t.tx t.explicit _ _ (ran_open P Q V around.sessions db t t _ refl keeps p) (ran_level P Q V around.sessions db t true (unwrap_or level t.level) keeps p)
-ran_begins P Q V db t around Commit keeps view p = ran_closed P Q V around.sessions t.tx _ (keeps.commit db p)
-ran_begins P Q V db t around Rollback keeps view p = ran_closed P Q V around.sessions t.tx _ (keeps.roll_back db p)
+    ran_if P Q V around.sessions t.tx t.command t.explicit _ _ (ran_open P Q V around.sessions db t t _ refl keeps p) (ran_level P Q V around.sessions db t true (unwrap_or level t.level) keeps p)
+ran_begins P Q V db t around Commit keeps view p = ran_closed P Q V around.sessions t.tx t.command _ (keeps.commit db p)
+ran_begins P Q V db t around Rollback keeps view p = ran_closed P Q V around.sessions t.tx t.command _ (keeps.roll_back db p)
 ran_begins P Q V db t around (SetTransaction level) keeps view p = ran_level P Q V around.sessions db t t.explicit level keeps p
 ran_begins P Q V db t around SetDeadlockTimeout keeps view p = ran_open P Q V around.sessions db t t _ refl keeps p
 ran_begins P Q V db t around (Create c) keeps view p = at (find_table db (Some t.tx) c.name) where
-  at : (o : Option ℕ) → Ran t.tx P Q V around.sessions (create db t c o)
+  at : (o : Option ℕ) → Ran t.tx t.command P Q V around.sessions (create db t c o)
   at (Some k) = ran_fails P Q V around.sessions db t _ keeps p
   at None = ran_open P Q V around.sessions _ t _ _ refl keeps (keeps.create db c p)
 ran_begins P Q V db t around (DropTables d) keeps view p = ran_drop P Q V around.sessions db.content t _ _ keeps (kept_dropped P Q t d.if_exists d.names keeps db p)
 ran_begins P Q V db t around (Inserts i) keeps view p = at (find_table db (Some t.tx) i.table) where
-  at : (o : Option ℕ) → Ran t.tx P Q V around.sessions (insert db t around i o)
+  at : (o : Option ℕ) → Ran t.tx t.command P Q V around.sessions (insert db t around i o)
   at None = ran_fails P Q V around.sessions db t _ keeps p
   at (Some k) = ran_insert_to P Q V db (beginning db t around k) i _ keeps view p
 ran_begins P Q V db t around (Updates u) keeps view p = at (find_table db (Some t.tx) u.table) where
-  at : (o : Option ℕ) → Ran t.tx P Q V around.sessions (update db t around u o)
+  at : (o : Option ℕ) → Ran t.tx t.command P Q V around.sessions (update db t around u o)
   at None = ran_fails P Q V around.sessions db t _ keeps p
   at (Some k) = ran_update_to P Q V db (beginning db t around k) u _ keeps view p
 ran_begins P Q V db t around (Deletes d) keeps view p = at (find_table db (Some t.tx) d.table) where
-  at : (o : Option ℕ) → Ran t.tx P Q V around.sessions (delete db t around d o)
+  at : (o : Option ℕ) → Ran t.tx t.command P Q V around.sessions (delete db t around d o)
   at None = ran_fails P Q V around.sessions db t _ keeps p
   at (Some k) = ran_delete_fitting P Q V db (beginning db t around k) d _ keeps view p
 ran_begins P Q V db t around (Selects s) keeps view p = ran_select P Q V db t around s s.table keeps view p
 
 -- one that goes on
 pub ran_on : (P Q : Database → Type 0) (V : View → Type 0) (db : Database) (t : OpenTransaction) (around : Around) (g : Progress) (stmt : StmtTree)
-    → Keeps t.tx P Q → V (view_of db.content t) → V g.view → P db → Ran t.tx P Q V around.sessions (run_on db t around g stmt)
+    → Keeps t.tx t.command P Q → V (view_of db.content t) → V g.view → P db → Ran t.tx t.command P Q V around.sessions (run_on db t around g stmt)
 ran_on P Q V db t around g (Updates u) keeps view own p = ran_update_from P Q V db (going_on t around g) u g.place g.rows keeps own p
 ran_on P Q V db t around g (Deletes d) keeps view own p = ran_delete_from P Q V db (going_on t around g) d g.place g.rows keeps own p
 ran_on P Q V db t around g (Selects s) keeps view own p = again s.lock where
-  again : (o : Option Lock) → Ran t.tx P Q V around.sessions (lock_again db t around s g o)
+  again : (o : Option Lock) → Ran t.tx t.command P Q V around.sessions (lock_again db t around s g o)
   again None = ran_begins P Q V db t around (Selects s) keeps view p
   again (Some l) = ran_lock_from P Q V db (going_on t around g) s l g.place g.rows keeps own p
 ran_on P Q V db t around g (Begin level) keeps view own p = ran_begins P Q V db t around (Begin level) keeps view p
@@ -548,8 +549,8 @@ pub record Idles (db : Database) (d : Did) : Type 0 where
 
 -- a statement did nothing, or what its transaction may do
 pub does_stmt : (P Q : Database → Type 0) (V : View → Type 0) (db : Database) (tr : Transaction) (statement : Option Progress) (around : Around) (stmt : StmtTree)
-    → Keeps (doer db tr) P Q → Allows V db tr statement → P (start db tr)
-    → Idles db (run_stmt db tr statement around stmt) ⊎ Ran (doer db tr) P Q V around.sessions (run_stmt db tr statement around stmt)
+    → Keeps (doer db tr) (command_in tr) P Q → Allows V db tr statement → P (start db tr)
+    → Idles db (run_stmt db tr statement around stmt) ⊎ Ran (doer db tr) (command_in tr) P Q V around.sessions (run_stmt db tr statement around stmt)
 does_stmt P Q V db Aborted statement around stmt keeps view p = inl (by (is_end stmt)) where
   by : (b : Bool) → (let d : Did = if b then turns db Closed else record { db = db; transaction = Aborted; statement = None; outcome = Failed AbortedFault } in Idles db d)
   by true = record { same = refl; over = refl; shut = λ u h. cc }
@@ -563,10 +564,10 @@ does_stmt P Q V db Closed statement around stmt keeps view p = by stmt where
   idles : Idles db (turns db Closed)
   idles = record { same = refl; over = refl; shut = λ u h. cc }
 
-  run : (s : StmtTree) → Idles db (run_first db around s) ⊎ Ran first.tx P Q V around.sessions (run_first db around s)
+  run : (s : StmtTree) → Idles db (run_first db around s) ⊎ Ran first.tx first.command P Q V around.sessions (run_first db around s)
   run s = inr (ran_begins P Q V (begun db) first around s keeps view p)
 
-  by : (s : StmtTree) → Idles db (run_closed db around s) ⊎ Ran first.tx P Q V around.sessions (run_closed db around s)
+  by : (s : StmtTree) → Idles db (run_closed db around s) ⊎ Ran first.tx first.command P Q V around.sessions (run_closed db around s)
   by (Begin level) = inr (ran_open P Q V around.sessions (begun db) first (fresh db.content (unwrap_or level ReadCommitted) true) _ refl keeps p)
   by Commit = inl idles
   by Rollback = inl idles

@@ -22,6 +22,7 @@ use Rattle.session_machine.specs.Statements.{Did}
 use Rattle.session_machine.specs.Running.{run_stmt}
 use Rattle.session_machine.specs.Machine.{Machine, Blocks, Next, next, stmts_at, is_still_blocked, is_failed, with_session, first_place, launch_of, closed_at_end, finished, waits_there, after_end, after_stmt, around, step_stmt, step_at, step_of, left_behind, leave_of, at_rest}
 use Rattle.session_machine.specs.Engine.{Run}
+use Rattle.session_machine.specs.Sound.{command_in}
 use Rattle.wait_laws.specs.Laws.{session_of}
 use Rattle.wait_laws.proofs.Doing.{Keeps, Refused, Ran, Idles, doer, start, Allows, does_stmt}
 
@@ -88,7 +89,7 @@ pub record Moved (P Q : Database → Type 0) (V : View → Type 0) (m : Machine)
   pub e : Database
   pub u : Session
   pub is : after ≡ with_session m e i u
-  pub did : Rests m s e u ⊎ Ran (doer m.db s.transaction) P Q V (around m i s).sessions (left_as e u)
+  pub did : Rests m s e u ⊎ Ran (doer m.db s.transaction) (command_in s.transaction) P Q V (around m i s).sessions (left_as e u)
 
 moved_launch : (P Q : Database → Type 0) (V : View → Type 0) (blocks : Blocks) (mode : Mode) (m : Machine) (i block : ℕ) (s : Session) (n : Next)
     → launch_of blocks mode m i block (Some s) ≡ Ok n → Moved P Q V m i s n.machine
@@ -107,7 +108,7 @@ open_is : (t u : OpenTransaction) → Open t ≡ Open u → t ≡ u
 open_is t u h = cc
 
 moved_leave : (P Q : Database → Type 0) (V : View → Type 0) (mode : Mode) (m : Machine) (i : ℕ) (s : Session) (n : Next)
-    → Keeps (doer m.db s.transaction) P Q → P (start m.db s.transaction) → leave_of mode m i (Some s) ≡ Ok n → Moved P Q V m i s n.machine
+    → Keeps (doer m.db s.transaction) (command_in s.transaction) P Q → P (start m.db s.transaction) → leave_of mode m i (Some s) ≡ Ok n → Moved P Q V m i s n.machine
 moved_leave P Q V mode m i s n keeps p h =
     let c = ok_else NotYourTurn _ _ n h in
     record {
@@ -122,57 +123,59 @@ moved_leave P Q V mode m i s n keeps p h =
       no_wait : (q : Progress) → None ≡ Some q → ⊥
       no_wait q k = cc
 
-      by : (tr : Transaction) → Keeps (doer m.db tr) P Q → P (start m.db tr)
-          → Rests m s (left_behind m.db tr) at_rest ⊎ Ran (doer m.db tr) P Q V (around m i s).sessions (left_as (left_behind m.db tr) at_rest)
+      by : (tr : Transaction) → Keeps (doer m.db tr) (command_in tr) P Q → P (start m.db tr)
+          → Rests m s (left_behind m.db tr) at_rest ⊎ Ran (doer m.db tr) (command_in tr) P Q V (around m i s).sessions (left_as (left_behind m.db tr) at_rest)
       by Closed k q = inl (record { same = refl; over = refl; its = λ t f. absurd (no_tx t f) })
       by Aborted k q = inl (record { same = refl; over = refl; its = λ t f. absurd (no_tx t f) })
       by (Open t) k q = inr (record { db = k.roll_back m.db q; own = λ u f. absurd (no_tx u f); waits = λ g f. absurd (no_wait g f) })
 
--- how the session goes on after its statement
-pub record After (m : Machine) (i : ℕ) (d : Did) (n : Next) : Type 0 where
+no_statement : (p : Progress) → None ≡ Some p → ⊥
+no_statement p h = cc
+
+-- how the session goes on after its statement: where it waits, at the same place
+pub record After (m : Machine) (i : ℕ) (place : Place) (d : Did) (n : Next) : Type 0 where
   pub e : Database
   pub u : Session
   pub is : n.machine ≡ with_session m e i u
   pub how : ((e ≡ d.db) × (u.transaction ≡ d.transaction) × ((u.statement ≡ d.statement) ⊎ (u.statement ≡ None)))
       ⊎ ((t : OpenTransaction) × (d.transaction ≡ Open t) × (e ≡ committed d.db t.tx) × (u.transaction ≡ Closed) × (u.statement ≡ None))
+  pub stays : (q : Progress) → u.statement ≡ Some q → u.place ≡ Some place
 
-pub after : (m : Machine) (i : ℕ) (place : Place) (count : ℕ) (d : Did) → After m i d (after_stmt m i place count d)
+pub after : (m : Machine) (i : ℕ) (place : Place) (count : ℕ) (d : Did) → After m i place d (after_stmt m i place count d)
 after m i place count d = at (is_some d.statement) where
-  ends : (tr : Transaction) → d.transaction ≡ tr → After m i d (finished m i (closed_at_end d tr) None)
-  ends Closed f = record { e = d.db; u = record { place = None; transaction = d.transaction; statement = None }; is = refl; how = inl (refl, refl, inr refl) }
-  ends Aborted f = record { e = d.db; u = record { place = None; transaction = d.transaction; statement = None }; is = refl; how = inl (refl, refl, inr refl) }
+  ends : (tr : Transaction) → d.transaction ≡ tr → After m i place d (finished m i (closed_at_end d tr) None)
+  ends Closed f = record { e = d.db; u = record { place = None; transaction = d.transaction; statement = None }; is = refl; how = inl (refl, refl, inr refl); stays = λ q h. absurd (no_statement q h) }
+  ends Aborted f = record { e = d.db; u = record { place = None; transaction = d.transaction; statement = None }; is = refl; how = inl (refl, refl, inr refl); stays = λ q h. absurd (no_statement q h) }
   ends (Open t) f = explicit t.explicit where
-    explicit : (b : Bool) → (let c : Did = if b then d else record { db = committed d.db t.tx; transaction = Closed; statement = None; outcome = d.outcome } in After m i d (finished m i c None))
-    explicit true = record { e = d.db; u = record { place = None; transaction = d.transaction; statement = None }; is = refl; how = inl (refl, refl, inr refl) }
-    explicit false = record { e = committed d.db t.tx; u = record { place = None; transaction = Closed; statement = None }; is = refl; how = inr (t, f, refl, refl, refl) }
+    explicit : (b : Bool) → (let c : Did = if b then d else record { db = committed d.db t.tx; transaction = Closed; statement = None; outcome = d.outcome } in After m i place d (finished m i c None))
+    explicit true = record { e = d.db; u = record { place = None; transaction = d.transaction; statement = None }; is = refl; how = inl (refl, refl, inr refl); stays = λ q h. absurd (no_statement q h) }
+    explicit false = record { e = committed d.db t.tx; u = record { place = None; transaction = Closed; statement = None }; is = refl; how = inr (t, f, refl, refl, refl); stays = λ q h. absurd (no_statement q h) }
 
-  goes : (b : Bool) → (let y : Next = if b then finished m i d (Some (record { block = place.block; next = place.next + 1 })) else finished m i (closed_at_end d d.transaction) None in After m i d y)
+  goes : (b : Bool) → (let y : Next = if b then finished m i d (Some (record { block = place.block; next = place.next + 1 })) else finished m i (closed_at_end d d.transaction) None in After m i place d y)
   goes true = record {
     e = d.db;
     u = record { place = Some (record { block = place.block; next = place.next + 1 }); transaction = d.transaction; statement = None };
     is = refl;
     how = inl (refl, refl, inr refl);
+    stays = λ q h. absurd (no_statement q h);
   }
   goes false = ends d.transaction refl
 
   fails : (b : Bool) → (let y : Next = if b then finished m i d None else if nat_lt (place.next + 1) count then finished m i d (Some (record { block = place.block; next = place.next + 1 }))
-      else finished m i (closed_at_end d d.transaction) None in After m i d y)
-  fails true = record { e = d.db; u = record { place = None; transaction = d.transaction; statement = None }; is = refl; how = inl (refl, refl, inr refl) }
+      else finished m i (closed_at_end d d.transaction) None in After m i place d y)
+  fails true = record { e = d.db; u = record { place = None; transaction = d.transaction; statement = None }; is = refl; how = inl (refl, refl, inr refl); stays = λ q h. absurd (no_statement q h) }
   fails false = goes (nat_lt (place.next + 1) count)
 
-  at : (b : Bool) → (let y : Next = if b then waits_there m i place d else after_end m i place count d in After m i d y)
-  at true = record { e = d.db; u = record { place = Some place; transaction = d.transaction; statement = d.statement }; is = refl; how = inl (refl, refl, inl refl) }
+  at : (b : Bool) → (let y : Next = if b then waits_there m i place d else after_end m i place count d in After m i place d y)
+  at true = record { e = d.db; u = record { place = Some place; transaction = d.transaction; statement = d.statement }; is = refl; how = inl (refl, refl, inl refl); stays = λ q h. refl }
   at false = fails (is_failed d.outcome)
-
-no_statement : (p : Progress) → None ≡ Some p → ⊥
-no_statement p h = cc
 
 not_closed : (t : OpenTransaction) → Closed ≡ Open t → ⊥
 not_closed t h = cc
 
-moved_after : (P Q : Database → Type 0) (V : View → Type 0) (m : Machine) (i : ℕ) (s : Session) (d : Did) (n : Next)
-    → Keeps (doer m.db s.transaction) P Q → Idles m.db d ⊎ Ran (doer m.db s.transaction) P Q V (around m i s).sessions d → After m i d n → Moved P Q V m i s n.machine
-moved_after P Q V m i s d n keeps did a = record { e = a.e; u = a.u; is = a.is; did = by did a.how } where
+moved_after : (P Q : Database → Type 0) (V : View → Type 0) (m : Machine) (i : ℕ) (s : Session) (place : Place) (d : Did) (n : Next)
+    → Keeps (doer m.db s.transaction) (command_in s.transaction) P Q → Idles m.db d ⊎ Ran (doer m.db s.transaction) (command_in s.transaction) P Q V (around m i s).sessions d → After m i place d n → Moved P Q V m i s n.machine
+moved_after P Q V m i s place d n keeps did a = record { e = a.e; u = a.u; is = a.is; did = by did a.how } where
   idle : Idles m.db d
       → ((a.e ≡ d.db) × (a.u.transaction ≡ d.transaction) × ((a.u.statement ≡ d.statement) ⊎ (a.u.statement ≡ None)))
       ⊎ ((t : OpenTransaction) × (d.transaction ≡ Open t) × (a.e ≡ committed d.db t.tx) × (a.u.transaction ≡ Closed) × (a.u.statement ≡ None)) → Rests m s a.e a.u
@@ -183,17 +186,17 @@ moved_after P Q V m i s d n keeps did a = record { e = a.e; u = a.u; is = a.is; 
   }
   idle h (inr k) = absurd (h.shut k.0 k.1)
 
-  ran : Ran (doer m.db s.transaction) P Q V (around m i s).sessions d
+  ran : Ran (doer m.db s.transaction) (command_in s.transaction) P Q V (around m i s).sessions d
       → ((a.e ≡ d.db) × (a.u.transaction ≡ d.transaction) × ((a.u.statement ≡ d.statement) ⊎ (a.u.statement ≡ None)))
       ⊎ ((t : OpenTransaction) × (d.transaction ≡ Open t) × (a.e ≡ committed d.db t.tx) × (a.u.transaction ≡ Closed) × (a.u.statement ≡ None))
-      → Ran (doer m.db s.transaction) P Q V (around m i s).sessions (left_as a.e a.u)
+      → Ran (doer m.db s.transaction) (command_in s.transaction) P Q V (around m i s).sessions (left_as a.e a.u)
   ran r (inl k) = record {
     db = subst Q (sym k.0) r.db;
     own = λ t f. let o = r.own t (sym k.1 ∙ f) in (o.0, subst P (sym k.0) o.1);
     waits = λ p f. elim k.2 [
       | inl g ↦
           let w = r.waits p (sym g ∙ f) in
-          (subst (λ (x : Database). Refused (doer m.db s.transaction) (around m i s).sessions x p.wait.request) (sym k.0) w.0, w.1, (w.2.0, k.1 ∙ w.2.1))
+          (subst (λ (x : Database). Refused (doer m.db s.transaction) (around m i s).sessions x p.wait.request) (sym k.0) w.0, w.1, (w.2.0, k.1 ∙ w.2.1, w.2.2))
       | inr g ↦ absurd (no_statement p (sym g ∙ f))
     ];
   }
@@ -205,24 +208,24 @@ moved_after P Q V m i s d n keeps did a = record { e = a.e; u = a.u; is = a.is; 
         waits = λ p f. absurd (no_statement p (sym k.4 ∙ f));
       }
 
-  by : Idles m.db d ⊎ Ran (doer m.db s.transaction) P Q V (around m i s).sessions d
+  by : Idles m.db d ⊎ Ran (doer m.db s.transaction) (command_in s.transaction) P Q V (around m i s).sessions d
       → ((a.e ≡ d.db) × (a.u.transaction ≡ d.transaction) × ((a.u.statement ≡ d.statement) ⊎ (a.u.statement ≡ None)))
       ⊎ ((t : OpenTransaction) × (d.transaction ≡ Open t) × (a.e ≡ committed d.db t.tx) × (a.u.transaction ≡ Closed) × (a.u.statement ≡ None))
-      → Rests m s a.e a.u ⊎ Ran (doer m.db s.transaction) P Q V (around m i s).sessions (left_as a.e a.u)
+      → Rests m s a.e a.u ⊎ Ran (doer m.db s.transaction) (command_in s.transaction) P Q V (around m i s).sessions (left_as a.e a.u)
   by (inl h) how = inl (idle h how)
   by (inr r) how = inr (ran r how)
 
 pub moved_step : (P Q : Database → Type 0) (V : View → Type 0) (blocks : Blocks) (m : Machine) (i : ℕ) (s : Session) (n : Next)
-    → Keeps (doer m.db s.transaction) P Q → Allows V m.db s.transaction s.statement → P (start m.db s.transaction) → Stepped blocks m i s n → Moved P Q V m i s n.machine
+    → Keeps (doer m.db s.transaction) (command_in s.transaction) P Q → Allows V m.db s.transaction s.statement → P (start m.db s.transaction) → Stepped blocks m i s n → Moved P Q V m i s n.machine
 moved_step P Q V blocks m i s n keeps view p k =
     let d = run_stmt m.db s.transaction s.statement (around m i s) k.stmt in
     subst (λ (x : Next). Moved P Q V m i s x.machine) (sym k.is)
-    (moved_after P Q V m i s d _ keeps (does_stmt P Q V m.db s.transaction s.statement (around m i s) k.stmt keeps view p) (after m i k.place (length (stmts_at blocks k.place.block)) d))
+    (moved_after P Q V m i s k.place d _ keeps (does_stmt P Q V m.db s.transaction s.statement (around m i s) k.stmt keeps view p) (after m i k.place (length (stmts_at blocks k.place.block)) d))
 
 -- what an event does: all of the session's own doing
 pub moved : (P Q : Database → Type 0) (V : View → Type 0) (blocks : Blocks) (mode : Mode) (m : Machine) (event : Event) (s : Session) (n : Next)
     → slice_get m.sessions (session_of event) ≡ Some s
-    → Keeps (doer m.db s.transaction) P Q → Allows V m.db s.transaction s.statement → P (start m.db s.transaction)
+    → Keeps (doer m.db s.transaction) (command_in s.transaction) P Q → Allows V m.db s.transaction s.statement → P (start m.db s.transaction)
     → next blocks mode m event ≡ Ok n → Moved P Q V m (session_of event) s n.machine
 moved P Q V blocks mode m (Launch session block) s n at keeps view p h =
     moved_launch P Q V blocks mode m session block s n (subst (λ o. launch_of blocks mode m session block o ≡ Ok n) at h)

@@ -1,5 +1,5 @@
 -- What an open transaction wrote is held by it alone: what holds of the locks and writes while a transaction is at work.
-use Rattle.std.proofs.Common.{◌≡◌, refl, sym, ◌∙◌, ap, subst, ◌⊎◌, inl, inr, ⊎_elim, Bool, true, false, ◌||◌, ◌&&◌, ◌==◌, not, cond, ℕ, zero, suc, ◌<◌, List, [], ◌∷◌, length, length-append, length-set, set, arith}
+use Rattle.std.proofs.Common.{◌≡◌, refl, sym, ◌∙◌, ap, subst, ◌⊎◌, inl, inr, ⊎_elim, Bool, true, false, ◌||◌, ◌&&◌, ◌==◌, not, cond, ℕ, zero, suc, ◌<◌, ◌≤◌, List, [], ◌∷◌, length, length-append, length-set, set, arith}
 use Rattle.std.specs.Prelude.{Some, slice_get}
 use Rattle.std.proofs.lemmas.Bool.{cases_eq}
 use Rattle.std.proofs.lemmas.Option.{slice_get_within}
@@ -158,8 +158,12 @@ held_lock x d h may p = record {
   };
 }
 
-held_write : (x : TxId) (d : Database) (w : Write) → w.tx ≡ x → holds d.held (lock_of_write w) ≡ true → AreHeldBy x d → AreHeldBy x (record d { content = after_write d.content w })
-held_write x d w own locked p =
+-- the transaction writes a row that it holds, among locks of which those that were held before are some
+held_wrote : (x : TxId) (d : Database) (w : Write) (locks : List Held) → w.tx ≡ x → holds locks (lock_of_write w) ≡ true
+    → ((h : Held) → holds d.held h ≡ true → holds locks h ≡ true) → ((h : Held) → holds locks h ≡ true → h.row.0 ≤ length d.content.log)
+    → ((row : RowId) (a b : TxId) (s t : Strength) → (a ≡ b → ⊥) → holds locks (lock row a s) ≡ true → holds locks (lock row b t) ≡ true → conflicts s t ≡ false)
+    → AreHeldBy x d → AreHeldBy x (record d { content = after_write d.content w; held = locks })
+held_wrote x d w locks own locked before within apart p =
     let long = length-append d.content.log (w ∷ []) in
     record {
       mine = p.mine;
@@ -169,52 +173,37 @@ held_write x d w own locked p =
           | inr k ↦ subst (λ (t : TxId). t.0 < length d.content.fates) (sym own ∙ ap (λ (y : Write). y.tx) k) (begun_by x d p)
         ];
         held = λ place v at is. elim (get_more d.content.log w place v at) [
-          | inl k ↦ p.all.held place v k is
-          | inr k ↦ subst (λ (y : Write). holds d.held (lock_of_write y) ≡ true) k locked
+          | inl k ↦ before (lock_of_write v) (p.all.held place v k is)
+          | inr k ↦ subst (λ (y : Write). holds locks (lock_of_write y) ≡ true) k locked
         ];
         rows = λ place v at. elim (get_more d.content.log w place v at) [
           | inl k ↦ let l = p.all.rows place v k in omega arith
-          | inr k ↦ let l = p.all.locks (lock_of_write w) locked in let e : w.row.0 ≡ v.row.0 = ap (λ (y : Write). y.row.0) k in omega arith
+          | inr k ↦ let l = within (lock_of_write w) locked in let e : w.row.0 ≡ v.row.0 = ap (λ (y : Write). y.row.0) k in omega arith
         ];
-        locks = λ l e. let m = p.all.locks l e in omega arith;
-        apart = p.all.apart;
+        locks = λ h e. let l = within h e in omega arith;
+        apart = apart;
       };
     }
+
+held_write : (x : TxId) (d : Database) (w : Write) → w.tx ≡ x → holds d.held (lock_of_write w) ≡ true → AreHeldBy x d → AreHeldBy x (record d { content = after_write d.content w })
+held_write x d w own locked p = held_wrote x d w d.held own locked (λ h e. e) (λ h e. let l = p.all.locks h e in omega arith) p.all.apart p
 
 held_insert : (x : TxId) (d : Database) (w : Write) → w.tx ≡ x → w.row ≡ new_row d.content → AreHeldBy x d
     → AreHeldBy x (record d { content = after_write d.content w; held = with_lock d.held (lock_of_write w) })
 held_insert x d w own made p =
-    let long = length-append d.content.log (w ∷ []) in
     let last : w.row.0 ≡ length d.content.log = ap (λ (r : RowId). r.0) made in
-    record {
-      mine = p.mine;
-      all = record {
-        known = λ place v at. elim (get_more d.content.log w place v at) [
-          | inl k ↦ p.all.known place v k
-          | inr k ↦ subst (λ (t : TxId). t.0 < length d.content.fates) (sym own ∙ ap (λ (y : Write). y.tx) k) (begun_by x d p)
-        ];
-        held = λ place v at is. elim (get_more d.content.log w place v at) [
-          | inl k ↦ holds_before d.held (lock_of_write w) (lock_of_write v) (p.all.held place v k is)
-          | inr k ↦ subst (λ (y : Write). holds (with_lock d.held (lock_of_write w)) (lock_of_write y) ≡ true) k (holds_last d.held (lock_of_write w))
-        ];
-        rows = λ place v at. elim (get_more d.content.log w place v at) [
-          | inl k ↦ let l = p.all.rows place v k in omega arith
-          | inr k ↦ let e : w.row.0 ≡ v.row.0 = ap (λ (y : Write). y.row.0) k in omega arith
-        ];
-        locks = λ l e. elim (holds_more d.held (lock_of_write w) l e) [
-          | inl k ↦ let m = p.all.locks l k in omega arith
-          | inr k ↦ let e : w.row.0 ≡ l.row.0 = ap (λ (g : Held). g.row.0) k in omega arith
-        ];
-        apart = apart_more d.held (lock_of_write w)
-            (λ b t ne e. let m = p.all.locks (lock w.row b t) e in let z : ⊥ = omega arith in absurd z) p.all.apart;
-      };
-    }
+    held_wrote x d w (with_lock d.held (lock_of_write w)) own (holds_last d.held (lock_of_write w)) (λ h e. holds_before d.held (lock_of_write w) h e)
+    (λ h e. elim (holds_more d.held (lock_of_write w) h e) [
+      | inl k ↦ let l = p.all.locks h k in omega arith
+      | inr k ↦ let f : w.row.0 ≡ h.row.0 = ap (λ (g : Held). g.row.0) k in omega arith
+    ])
+    (apart_more d.held (lock_of_write w) (λ b t ne e. let l = p.all.locks (lock w.row b t) e in let z : ⊥ = omega arith in absurd z) p.all.apart) p
 
-pub held_keeps : (x : TxId) → Keeps x (AreHeldBy x) AreHeld
-held_keeps x = record {
+pub held_keeps : (x : TxId) (n : ℕ) → Keeps x n (AreHeldBy x) AreHeld
+held_keeps x n = record {
   lock = λ d h own may p. held_lock x d h may p;
-  insert = λ d w own made p. held_insert x d w own made p;
-  write = λ d w own locked p. held_write x d w own locked p;
+  insert = λ d w own now made p. held_insert x d w own made p;
+  write = λ d w own now locked p. held_write x d w own locked p;
   create = λ d made p. record { mine = p.mine; all = record { known = p.all.known; held = p.all.held; rows = p.all.rows; locks = p.all.locks; apart = p.all.apart } };
   drop = λ d k p. record { mine = p.mine; all = record { known = p.all.known; held = p.all.held; rows = p.all.rows; locks = p.all.locks; apart = p.all.apart } };
   commit = λ d p. held_ends x d (Committed (commit_count d.content)) (λ e. cc) p.all;

@@ -14,3 +14,5 @@ pub mod Snapshots
 pub mod Begun
 pub mod Turns
 pub mod Again
+pub mod KeyStops
+pub mod Resumed

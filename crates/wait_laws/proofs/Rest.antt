@@ -38,7 +38,7 @@ use Rattle.session_machine.specs.Statements.{Did, with_table, with_drop}
 use Rattle.session_machine.specs.Running.{run_stmt}
 use Rattle.session_machine.specs.Machine.{Machine, Blocks, Next, next, stmts_at, is_busy, is_failed, is_stopped, is_still_blocked, finished, closed_at_end, waits_there, after_end, after_stmt, around, step_of}
 use Rattle.session_machine.specs.Engine.{Run}
-use Rattle.session_machine.specs.Sound.{tx_in, tx_of}
+use Rattle.session_machine.specs.Sound.{command_in, tx_in, tx_of}
 use Rattle.wait_laws.specs.Laws.{session_of, left_from, left_of, statements_left, can_step, able, IsNearerRest, AreSteps, RestIsReached}
 use Rattle.wait_laws.proofs.Counting.{sum_set, count_set, count_most}
 use Rattle.wait_laws.proofs.Doing.{Keeps, Ran, Idles, doer, start, does_stmt}
@@ -79,14 +79,14 @@ blocked_same : (d : Database) (catalog : Catalog) → Blocked_still d (record d 
 blocked_same d catalog (Row row strength) tx h = h
 blocked_same d catalog (Key k) tx h = h
 
-still_keeps : (x : TxId) (db : Database) → Keeps x (BlockedBy x db) (λ d. Unit {0})
-still_keeps x db = record {
+still_keeps : (x : TxId) (n : ℕ) (db : Database) → Keeps x n (BlockedBy x db) (λ d. Unit {0})
+still_keeps x n db = record {
   lock = λ d h own may p. record { mine = p.mine; still = λ r tx e. blocked_more d h r tx (p.still r tx e) };
-  insert = λ d w own made p. record {
+  insert = λ d w own now made p. record {
     mine = p.mine;
     still = λ r tx e. blocked_more (record d { content = after_write d.content w }) (lock_of_write w) r tx (blocked_written d w (subst (IsOpen d.content) (sym own) p.mine) r tx (p.still r tx e));
   };
-  write = λ d w own held p. record { mine = p.mine; still = λ r tx e. blocked_written d w (subst (IsOpen d.content) (sym own) p.mine) r tx (p.still r tx e) };
+  write = λ d w own now held p. record { mine = p.mine; still = λ r tx e. blocked_written d w (subst (IsOpen d.content) (sym own) p.mine) r tx (p.still r tx e) };
   create = λ d made p. record { mine = p.mine; still = λ r tx e. blocked_same d (with_table d.catalog made x) r tx (p.still r tx e) };
   drop = λ d k p. record { mine = p.mine; still = λ r tx e. blocked_same d (with_drop d.catalog k x) r tx (p.still r tx e) };
   commit = λ d p. tt;
@@ -167,9 +167,9 @@ nearer given mode m i n old h =
     let k = stepped given mode m i s n (subst (λ o. step_of given mode m i o ≡ Ok n) there.1 h) in
     subst (λ (y : Next). IsNearerRest given m y.machine) (sym k.is) (by s there.1 k (run_stmt m.db s.transaction s.statement (around m i s) k.stmt)
     (does_stmt (BlockedBy (doer m.db s.transaction) m.db) (λ d. Unit {0}) (λ v. Unit {0}) m.db s.transaction s.statement (around m i s) k.stmt
-    (still_keeps (doer m.db s.transaction) m.db) (allows_all m.db s.transaction s.statement) (still_start m.db s.transaction old.rows.known (λ q f. old.opened i q (ap tx_of there.1 ∙ f))))) where
+    (still_keeps (doer m.db s.transaction) (command_in s.transaction) m.db) (allows_all m.db s.transaction s.statement) (still_start m.db s.transaction old.rows.known (λ q f. old.opened i q (ap tx_of there.1 ∙ f))))) where
       by : (s : Session) → slice_get m.sessions i ≡ Some s → (k : Stepped given m i s n) → (d : Did)
-          → Idles m.db d ⊎ Ran (doer m.db s.transaction) (BlockedBy (doer m.db s.transaction) m.db) (λ d. Unit {0}) (λ v. Unit {0}) (around m i s).sessions d
+          → Idles m.db d ⊎ Ran (doer m.db s.transaction) (command_in s.transaction) (BlockedBy (doer m.db s.transaction) m.db) (λ d. Unit {0}) (λ v. Unit {0}) (around m i s).sessions d
           → IsNearerRest given m (after_stmt m i k.place (length (stmts_at given k.place.block)) d).machine
       by s at k d did = on d.statement refl where
         count : ℕ
@@ -220,7 +220,7 @@ same_sessions given mode m event n h =
     let s = there.0 in
     let x = doer m.db s.transaction in
     let k = moved (λ d. Unit {0}) (λ d. Unit {0}) (λ v. Unit {0}) given mode m event s n there.1
-    (record { lock = λ d h own may p. tt; insert = λ d w own made p. tt; write = λ d w own held p. tt; create = λ d made p. tt; drop = λ d k p. tt; commit = λ d p. tt; roll_back = λ d p. tt; rest = λ d p. tt })
+    (record { lock = λ d h own may p. tt; insert = λ d w own now made p. tt; write = λ d w own now held p. tt; create = λ d made p. tt; drop = λ d k p. tt; commit = λ d p. tt; roll_back = λ d p. tt; rest = λ d p. tt })
     (allows_all m.db s.transaction s.statement) tt h in
     ap (λ (y : Machine). length y.sessions) k.is ∙ length-set m.sessions (session_of event) k.u
 

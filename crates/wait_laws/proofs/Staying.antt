@@ -1,6 +1,7 @@
--- What a view shows stays as it is while other transactions go on.
-use Rattle.std.proofs.Common.{◌≡◌, ◌≢◌, ℕ, suc, ◌<◌, ◌≤◌, ◌+◌, cond, List, [], ◌∷◌, ◌++◌, length, length-append, set, get_or, map, refl, ap, le_refl, ◌∙◌, arith, All}
-use Rattle.std.specs.Prelude.{Option, Some, unwrap_or, option_and_then, slice_get, count_by}
+-- What a view shows stays as it is while transactions go on whose writes it doesn't see.
+use Rattle.std.proofs.Common.{◌≡◌, ◌≢◌, ℕ, suc, ◌<◌, ◌≤◌, ◌+◌, cond, ◌⊎◌, inl, inr, false, List, [], ◌∷◌, ◌++◌, length, length-append, set, get_or, map, refl, ap, le_refl, ◌∙◌, arith, All}
+use Rattle.std.specs.Prelude.{Option, Some, None, unwrap_or, option_and_then, slice_get, count_by}
+use Rattle.std.proofs.lemmas.Bool.{or_from, and_right, le-ltb}
 use Rattle.std.proofs.lemmas.List.Elements.{Contains-get_or}
 use Rattle.std.proofs.lemmas.List.Sums.{sum_by-append, sum_by-set}
 use Rattle.std.proofs.lemmas.Option.{slice_get_within, get_or_from_slice_get}
@@ -14,6 +15,7 @@ use Rattle.row_versions.specs.declared.write.Fate.{Fate}
 use Rattle.row_versions.specs.declared.write.Fate.TheVariants.{RolledBack, Open as OpenFate}
 use Rattle.row_versions.specs.Log.{Content, IsOpen, is_commit, commit_count, values_at, after_begin, after_write, after_commit, after_roll_back}
 use Rattle.row_versions.specs.Rows.{rows_of}
+use Rattle.row_versions.specs.View.{sees, own_before, committed_before}
 use Rattle.row_versions.proofs.Gets.{get-append_left}
 use Rattle.row_versions.proofs.Seeing.{other_unseen, sees-after_begin, sees-after_roll_back, sees-after_commit, count-after_commit}
 use Rattle.row_versions.proofs.Shown.{rows-after_write, rows-same, shown_from_rows}
@@ -38,11 +40,20 @@ stays_on view c d e h k =
       counts = let a = h.counts in let b = k.counts in omega arith;
     }
 
--- another transaction writes
-pub stays-write : (view : View) (c : Content) (w : Write) → IsOpen c w.tx → view.tx ≢ Some w.tx → Stays view c (after_write c w)
-stays-write view c w is_open other =
+-- a write of an open transaction is unseen in a view that is another's, or of no later command
+late_unseen : (tx : Option TxId) (command : ℕ) (w : Write) → command ≤ w.command → own_before tx command w ≡ false
+late_unseen None command w late = refl
+late_unseen (Some t) command w late = and_right _ _ (le-ltb _ _ late)
+
+unseen : (view : View) (c : Content) (w : Write) → IsOpen c w.tx → (view.tx ≢ Some w.tx) ⊎ (view.command ≤ w.command) → sees c.fates view w ≡ false
+unseen view c w is_open (inl other) = other_unseen c.fates view w OpenFate is_open refl other
+unseen view c w is_open (inr late) = or_from _ _ (ap (committed_before view.commits) is_open) (late_unseen view.tx view.command w late)
+
+-- such a write is made
+pub stays-write : (view : View) (c : Content) (w : Write) → IsOpen c w.tx → (view.tx ≢ Some w.tx) ⊎ (view.command ≤ w.command) → Stays view c (after_write c w)
+stays-write view c w is_open blind =
     record {
-      rows = λ table. rows-after_write c view table w (other_unseen c.fates view w OpenFate is_open refl other);
+      rows = λ table. rows-after_write c view table w (unseen view c w is_open blind);
       values = λ place l. ap (option_and_then (λ (v : Write). v.values)) (get-append_left c.log (w ∷ []) place l);
       longer = let long = length-append c.log (w ∷ []) in omega arith;
       counts = le_refl _;

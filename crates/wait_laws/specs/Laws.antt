@@ -4,9 +4,12 @@ use Rattle.sql_trees.specs.declared.stmt.Level.{Level}
 use Rattle.sql_trees.specs.declared.stmt.Level.TheVariants.{ReadCommitted, RepeatableRead}
 use Rattle.sql_trees.specs.declared.stmt.Lock.{Lock}
 use Rattle.sql_trees.specs.Trees.{Tree}
-use Rattle.sql_trees.specs.Statements.{DeleteTree, InsertTree, SelectTree, UpdateTree, Deletes, Inserts, Selects, Updates}
+use Rattle.sql_trees.specs.Statements.{DeleteTree, InsertTree, KeyTree, SelectTree, UpdateTree, Deletes, Inserts, Selects, Updates, key_name}
+use Rattle.sql_values.specs.declared.value.Value.{Value}
 use Rattle.row_versions.specs.declared.names.TxId.{TxId}
+use Rattle.row_versions.specs.declared.names.RowId.{RowId}
 use Rattle.row_versions.specs.declared.write.Write.{Write}
+use Rattle.row_versions.specs.declared.write.View.{View}
 use Rattle.row_versions.specs.Log.{Content, IsOpen}
 use Rattle.row_versions.specs.Rows.{rows_of}
 use Rattle.row_locks.specs.declared.held.Strength.{Strength}
@@ -15,26 +18,32 @@ use Rattle.row_locks.specs.Held.{holds, lock_of_write}
 use Rattle.row_locks.specs.Waiting.{Waiting, is_none_of}
 use Rattle.row_locks.specs.Cycles.{blocks, Closes, NoCycle, AllEnd}
 use Rattle.update_recheck.specs.Asked.{Asked}
-use Rattle.update_recheck.specs.Outcome.{Version, Same, Gone, Newer, blockers, newest_version, target_outcome}
+use Rattle.update_recheck.specs.Outcome.{Version, Same, Gone, Newer, blockers as target_blockers, newest_version, target_outcome}
 use Rattle.update_recheck.specs.Outcome.Outcome.{Waits, Deadlocks}
+use Rattle.unique_keys.specs.Checks.{is_taken}
 use Rattle.session_machine.specs.declared.session.OpenTransaction.{OpenTransaction}
 use Rattle.session_machine.specs.declared.session.Place.{Place}
 use Rattle.session_machine.specs.declared.session.Progress.{Progress}
-use Rattle.session_machine.specs.declared.session.Request.TheVariants.{Row}
+use Rattle.session_machine.specs.declared.session.Request.TheVariants.{Row, Key}
 use Rattle.session_machine.specs.declared.session.Session.{Session}
+use Rattle.session_machine.specs.declared.session.Transaction.{Transaction}
 use Rattle.session_machine.specs.declared.session.Transaction.TheVariants.{Open}
+use Rattle.session_machine.specs.declared.fault.StmtFault.{StmtFault}
+use Rattle.session_machine.specs.declared.fault.StmtFault.TheVariants.{Deadlock, KeyTaken}
 use Rattle.session_machine.specs.declared.event.Event.{Event}
 use Rattle.session_machine.specs.declared.event.Event.TheVariants.{Launch, Step, Leave}
 use Rattle.session_machine.specs.declared.event.Mode.{Mode}
 use Rattle.session_machine.specs.declared.reply.HistItem.{HistItem}
 use Rattle.session_machine.specs.Tables.{Database, Table}
 use Rattle.session_machine.specs.Views.{rows_shown}
-use Rattle.session_machine.specs.Waits.{is_blocked, waits_in}
+use Rattle.session_machine.specs.Transactions.{fresh, view_of}
+use Rattle.session_machine.specs.Waits.{blockers, is_blocked, waits_in}
 use Rattle.session_machine.specs.Statements.{Around}
-use Rattle.session_machine.specs.Rows.{passing_targets, taken_targets}
+use Rattle.session_machine.specs.Rows.{Work, asked_key, columns_in, names_at, passing_targets, stop_at_key, taken_targets}
+use Rattle.session_machine.specs.Walks.{Blocked, Fails}
 use Rattle.session_machine.specs.Running.{going_on, run_stmt}
 use Rattle.session_machine.specs.Machine.{Machine, Blocks, Next, next, opening, stmts_at, is_busy, is_still_blocked, turn_in}
-use Rattle.session_machine.specs.Engine.{Run}
+use Rattle.session_machine.specs.Engine.{Follows, Run}
 
 -- the machine comes to the state, from its opening with so many sessions
 abbrev pub Reaches : Blocks → Mode → ℕ → Machine → Type 0
@@ -56,12 +65,40 @@ is_worth_a_wait RepeatableRead (Newer newer condition) = false
 -- it waits exactly where it is worth a wait, has blockers, and closes none (13.3.4)
 pub record DeadlockIsExactAt (c : Content) (held : List Held) (waits : List Waiting) (ask : Asked) : Type 0 where
   pub deadlocks : (target_outcome c held waits ask ≡ Deadlocks)
-      ↔ (IsTrue (is_worth_a_wait ask.level (newest_version c ask)) × Closes (blocks waits) ask.tx (blockers held ask))
+      ↔ (IsTrue (is_worth_a_wait ask.level (newest_version c ask)) × Closes (blocks waits) ask.tx (target_blockers held ask))
   pub waits_else : (target_outcome c held waits ask ≡ Waits)
-      ↔ (IsTrue (is_worth_a_wait ask.level (newest_version c ask)) × (is_none_of (blockers held ask) ≡ false) × ¬ Closes (blocks waits) ask.tx (blockers held ask))
+      ↔ (IsTrue (is_worth_a_wait ask.level (newest_version c ask)) × (is_none_of (target_blockers held ask) ≡ false) × ¬ Closes (blocks waits) ask.tx (target_blockers held ask))
 
 abbrev pub DeadlockIsExact : Type 0
 DeadlockIsExact = (c : Content) (held : List Held) (waits : List Waiting) (ask : Asked) → DeadlockIsExactAt c held waits ask
+
+-- the other transactions that may yet come to have the key with these values, or cease to (5.5.3)
+abbrev pub key_holders : Database → Work → List Value → KeyTree → List TxId
+key_holders db w values key = blockers db (Key (asked_key w values key)) w.t.tx
+
+-- another row of the table has the key, one that is committed or the transaction's own; a row that is replaced is left aside
+abbrev pub has_another : Database → Work → List Value → Option RowId → KeyTree → Bool
+has_another db w values except key = is_taken db.content (record { 0 = w.table }) w.t.tx except values key.columns
+
+-- the fault of a key that another row has, which names the key
+abbrev pub key_taken : Database → Work → List ℕ → KeyTree → StmtFault
+key_taken db w name key = KeyTaken (key_name name key.primary (names_at (columns_in db w) key.columns))
+
+-- a statement is about to write a row with these values, and asks for one of its table's keys. It fails by a deadlock exactly where a wait for those that hold the key
+-- would close a cycle; it waits exactly where others hold it, and a wait for them closes none; the key is taken exactly where nobody holds it and another row has it;
+-- and the key stops nothing exactly where nobody holds it and no other row has it (5.5.3, 13.3.4)
+pub record KeyIsExactAt (db : Database) (w : Work) (name : List ℕ) (values : List Value) (except : Option RowId) (key : KeyTree) : Type 0 where
+  pub deadlocks : (stop_at_key db w name values except key ≡ Some (Fails Deadlock))
+      ↔ Closes (blocks (waits_in db w.around.sessions)) w.t.tx (key_holders db w values key)
+  pub waits_else : (stop_at_key db w name values except key ≡ Some (Blocked (Key (asked_key w values key))))
+      ↔ ((key_holders db w values key ≢ []) × ¬ Closes (blocks (waits_in db w.around.sessions)) w.t.tx (key_holders db w values key))
+  pub taken : (stop_at_key db w name values except key ≡ Some (Fails (key_taken db w name key)))
+      ↔ ((key_holders db w values key ≡ []) × IsTrue (has_another db w values except key))
+  pub free : (stop_at_key db w name values except key ≡ None)
+      ↔ ((key_holders db w values key ≡ []) × (has_another db w values except key ≡ false))
+
+abbrev pub KeyIsExact : Type 0
+KeyIsExact = (db : Database) (w : Work) (name : List ℕ) (values : List Value) (except : Option RowId) (key : KeyTree) → KeyIsExactAt db w name values except key
 
 -- a row that an open transaction wrote is held by it alone: the lock is held, and each request of another for the row is blocked (13.3.2)
 pub record IsHeldAlone (db : Database) (w : Write) : Type 0 where
@@ -99,10 +136,11 @@ WaitsGoOnAsBegun = (given : Blocks) (mode : Mode) (count : ℕ) (m : Machine) �
     → (event : Event) (n : Next) → next given mode m event ≡ Ok n → session_of event ≢ k
     → (slice_get n.machine.sessions k ≡ Some s) × FindsTheSame m.db n.machine.db p
 
--- the one is in the table and the view of the other, and its wait began now
+-- the one is in the table and the view of the other, at no earlier target, and its wait began now
 pub record IsInViewOf (p : Progress) (around : Around) (q : Progress) : Type 0 where
   pub table : q.table ≡ p.table
   pub view : q.view ≡ p.view
+  pub onward : p.place ≤ q.place
   pub number : q.wait.number ≡ around.number
 
 -- a statement that goes on, and stops at a later target, is in its view and at its table still, and waits anew: its view is taken once, when it begins (13.2.1)
@@ -114,6 +152,42 @@ pub record GoesOnInItsView (db : Database) (t : OpenTransaction) (around : Aroun
 
 abbrev pub StatementsGoOnInTheirView : Type 0
 StatementsGoOnInTheirView = (db : Database) (t : OpenTransaction) (around : Around) (p q : Progress) → GoesOnInItsView db t around p q
+
+-- the session is in the middle of a statement, and has come so far with it
+abbrev pub IsAtWork : Machine → ℕ → Session → Progress → Type 0
+IsAtWork m k s p = (slice_get m.sessions k ≡ Some s) × (s.statement ≡ Some p)
+
+-- a run in which the session is in the middle of a statement after each event, and so of one statement all along
+abbrev pub RunAtWork : Blocks → Mode → ℕ → Machine → List HistItem → Machine → Type 0
+RunAtWork given mode k m [] after = after ≡ m
+RunAtWork given mode k m (item ∷ items) after =
+    (mid : Machine) × (s : Session) × (p : Progress) × Follows given mode m item mid × IsAtWork mid k s p × RunAtWork given mode k mid items after
+
+-- the transaction in which a statement begins: the session's own, or one that begins with it, at Read Committed
+abbrev pub transaction_at : Content → Transaction → OpenTransaction
+transaction_at c (Open t) = t
+transaction_at c transaction = fresh c ReadCommitted false
+
+-- the view of a statement that begins here, or is in the middle of its targets
+abbrev pub view_at : Content → Transaction → Option Progress → View
+view_at c transaction None = view_of c (transaction_at c transaction)
+view_at c transaction (Some p) = p.view
+
+-- the session is at the same statement of its block, in the view that was taken when that began, at the same table and at no earlier target;
+-- and what it finds is what it found there
+pub record IsAsBegun (m after : Machine) (s u : Session) (q : Progress) : Type 0 where
+  pub place : u.place ≡ s.place
+  pub view : q.view ≡ view_at m.db.content s.transaction s.statement
+  pub goes_on : (p : Progress) → s.statement ≡ Some p → (q.table ≡ p.table) × (p.place ≤ q.place)
+  pub finds : FindsTheSame m.db after.db q
+
+-- from the state in which a statement begins, and from each in which it waits, a run leads to the same statement, as long as that isn't over: its targets are those
+-- at its beginning, whatever others commit meanwhile, and whatever the statement itself has written at its targets before (13.2.1, 13.2.2)
+abbrev pub StatementsStayAsBegun : Type 0
+StatementsStayAsBegun = (given : Blocks) (mode : Mode) (count : ℕ) (m : Machine) → Reaches given mode count m
+    → (k : ℕ) (s : Session) → slice_get m.sessions k ≡ Some s
+    → (items : List HistItem) (after : Machine) → RunAtWork given mode k m items after
+    → (u : Session) (q : Progress) → IsAtWork after k u q → IsAsBegun m after s u q
 
 -- how many statements of its block are before a session, the one that it is at among them
 abbrev pub left_from : Blocks → Option Place → ℕ

@@ -1,5 +1,5 @@
 //! Laws of waits: each function's contract is one of them, and its body does nothing.
-ghost use Rattle.wait_laws.specs.Laws.{NoCycleOfWaits, DeadlockIsExact, WritesAreHeld, WaitsGoOnAsBegun, StatementsGoOnInTheirView, RestIsReached};
+ghost use Rattle.wait_laws.specs.Laws.{NoCycleOfWaits, DeadlockIsExact, KeyIsExact, WritesAreHeld, WaitsGoOnAsBegun, StatementsGoOnInTheirView, StatementsStayAsBegun, RestIsReached};
 
 /// In no state do transactions wait in a cycle, and from each its blockers lead to one that waits for nobody.
 pub fn no_cycle_of_waits()
@@ -9,6 +9,12 @@ pub fn no_cycle_of_waits()
 /// A target is answered as a deadlock exactly where a wait for its blockers would close a cycle, and as a wait exactly where it has blockers and closes none.
 pub fn deadlock_is_exact()
     ensures { DeadlockIsExact }
+{}
+
+/// A key is answered as a deadlock exactly where a wait for its holders would close a cycle, and as a wait exactly where it is held and closes none; as taken and as free exactly
+/// where it is not held and another row has it or none.
+pub fn key_is_exact()
+    ensures { KeyIsExact }
 {}
 
 /// A row that an open transaction wrote is held by it alone.
@@ -24,6 +30,11 @@ pub fn waits_go_on_as_begun()
 /// A statement that goes on, and stops at a later target, is in its view and at its table still.
 pub fn statements_go_on_in_their_view()
     ensures { StatementsGoOnInTheirView }
+{}
+
+/// A statement that waits is the one that was begun, and its targets are those at its beginning, whatever others do and whatever it wrote itself.
+pub fn statements_stay_as_begun()
+    ensures { StatementsStayAsBegun }
 {}
 
 /// Each step comes nearer to rest, and only so many follow one another.

@@ -5,7 +5,7 @@ use Rattle.session_core.specs.Blocks.{blocks_of}
 use Rattle.spec_parser.specs.Trees.{entry_view, session_view, spec_view}
 use Rattle.permutation_plans.specs.Regular.{Fits}
 use Rattle.permutations.proofs.Running.{regular}
-use Rattle.permutations.proofs.one_run.run_of.Goals as goal
+use Rattle.permutations.proofs.one_run.run_alone.Goals as goal
 
 pub returns-then-branch-clause-regular : goal.returns-then-branch-clause-regular
 returns-then-branch-clause-regular c =

@@ -1,7 +1,7 @@
 use Rattle.std.proofs.Common.{◌≡◌, drop, map}
 use Rattle.sql_trees.specs.Statements.{key_of, name_of}
 use Rattle.session_machine.specs.Rows.{keys_in, stop_at_keys}
-use Rattle.session_statements.proofs.database.Database.stop_at_keys.Given as goal
+use Rattle.session_statements.proofs.database.Database.stop_before_write.Given as goal
 
 abbrev pub invariant-loop-key : goal.invariant-loop-key
 invariant-loop-key g l =

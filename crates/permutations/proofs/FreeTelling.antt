@@ -1,0 +1,156 @@
+-- A free run's text behind its first line, and the answer to writing it as the answer to its run.
+use Rattle.std.proofs.Common.{◌≡◌, ℕ, List, [], ◌++◌, Bool, true, false, ◌||◌, Option, Result, Ok, Err, IfErr, refl, sym, ap, subst, ◌∙◌, append_assoc}
+use Rattle.std.specs.Prelude.{string_bytes, IsTrue, IsErrOf}
+use Rattle.std.specs.Bool.{OnFalse}
+use Rattle.std.specs.Io.KnownBytes.{Appends}
+use Rattle.iso_lexer.specs.Devices.{FailsWith}
+use Rattle.iso_lexer.specs.declared.device.DeviceFault.{DeviceFault}
+use Rattle.session_machine.specs.declared.reply.HistItem.{HistItem}
+use Rattle.session_machine.specs.Machine.{Blocks}
+use Rattle.spec_parser.specs.Trees.{SpecTree}
+use Rattle.permutation_plans.specs.FreeRegular.{IsFreeRegular}
+use Rattle.report_text.specs.declared.fault.ReportFault.{ReportFault}
+use Rattle.report_text.specs.declared.fault.ReportFault.TheVariants as writes
+use Rattle.report_text.specs.declared.fault.Ended.{Ended}
+use Rattle.report_text.specs.declared.fault.Ended.TheVariants as ends
+use Rattle.report_text.specs.Said as report
+use Rattle.report_text.specs.Fronts.{PutsFront}
+use Rattle.report_text.specs.Answers.{EndsAs, Puts, TellsFailure}
+use Rattle.report_text.specs.FreeText.{free_says}
+use Rattle.permutations.specs.declared.fault.RunFault.{RunFault}
+use Rattle.permutations.specs.declared.fault.RunFault.TheVariants as faults
+use Rattle.permutations.specs.Faults.{report_fault}
+use Rattle.permutations.specs.FirstLine.{first_line}
+use Rattle.permutations.specs.FreeRuns.{free_text, free_told, IsFreeWritten, IsFreeTold}
+use Rattle.permutations.specs.Runs.{AnswersOne, has_ended, has_broken, is_of_one}
+use Rattle.permutations.proofs.Listing.{appends_nothing, appends_more}
+
+-- ---- a text behind a line
+
+front_behind : (a b c : Option (List ℕ)) (line text : List ℕ) → Appends a b line → PutsFront b c text → PutsFront a c (line ++ text)
+front_behind a b c line text put p = record {
+  front = line ++ p.front;
+  begins = record { rest = p.begins.rest; is = ap (λ (l : List ℕ). line ++ l) p.begins.is ∙ sym (append_assoc line p.front p.begins.rest) };
+  went_out = appends_more a b c line p.front put p.went_out;
+}
+
+off_behind : (failed : Bool) (a b c : Option (List ℕ)) (line text : List ℕ) → Appends a b line → OnFalse failed (PutsFront b c text) → OnFalse failed (PutsFront a c (line ++ text))
+off_behind true a b c line text put p = tt
+off_behind false a b c line text put p = front_behind a b c line text put p
+
+puts_behind : (told : Result Ended ReportFault) (failed : Bool) (a b c : Option (List ℕ)) (line text : List ℕ) → Appends a b line → Puts failed b c text told → Puts failed a c (line ++ text) told
+puts_behind (Ok e) failed a b c line text put p = appends_more a b c line text put p
+puts_behind (Err (writes.SetupFailed why)) failed a b c line text put p = appends_more a b c line text put p
+puts_behind (Err writes.SetupWaits) failed a b c line text put p = appends_more a b c line text put p
+puts_behind (Err writes.Write) failed a b c line text put p = off_behind failed a b c line text put p
+puts_behind (Err writes.Memory) failed a b c line text put p = front_behind a b c line text put p
+
+nothing_yet : (a : Option (List ℕ)) (text : List ℕ) → PutsFront a a text
+nothing_yet a text = record { front = []; begins = record { rest = text; is = refl }; went_out = appends_nothing a }
+
+nothing_off : (failed : Bool) (a : Option (List ℕ)) (text : List ℕ) → OnFalse failed (PutsFront a a text)
+nothing_off true a text = tt
+nothing_off false a text = nothing_yet a text
+
+-- a sink that takes bytes had not failed
+still : (old new : Bool) (r : Result (Unit {0}) DeviceFault) → r ≡ Ok tt → FailsWith old new r → new ≡ old
+still true new r is f = f.stays refl
+still false new (Ok x) is f = f.tells
+still false new (Err e) is f = absurd cc
+
+tells_behind : (told : Result Ended ReportFault) (fo fm fn go gn : Bool) → fm ≡ fo → TellsFailure fm fn go gn told → TellsFailure fo fn go gn told
+tells_behind told fo fm fn go gn same t = subst (λ (f : Bool). TellsFailure f fn go gn told) same t
+
+-- ---- what was written
+
+pub no_memory : (spec : SpecTree) (items : List HistItem) (wo eo : Option (List ℕ)) (fo go : Bool) → IsFreeWritten spec items wo wo eo eo fo fo go go (Err faults.Memory)
+no_memory spec items wo eo fo go = record {
+  told = Err writes.Memory;
+  is = refl;
+  ending = tt;
+  text = nothing_yet wo (free_text spec items);
+  notes = nothing_yet eo (free_says spec items).notes;
+  fails = (refl, refl);
+}
+
+pub no_line : (spec : SpecTree) (items : List HistItem) (wo wn eo : Option (List ℕ)) (fo fn go : Bool) (e : DeviceFault) → FailsWith {A = Unit {0}} fo fn (Err e) → IsFreeWritten spec items wo wn eo eo fo fn go go (Err faults.Write)
+no_line spec items wo wn eo fo fn go e f = record {
+  told = Err writes.Write;
+  is = refl;
+  ending = tt;
+  text = subst (λ (b : Bool). OnFalse b (PutsFront wo wn (free_text spec items))) (sym f.tells) tt;
+  notes = nothing_off go eo (free_says spec items).notes;
+  fails = subst (λ (b : Bool). (b || go) ≡ true) (sym f.tells) refl;
+}
+
+pub behind_line : (spec : SpecTree) (items : List HistItem) (wo wm wn eo en : Option (List ℕ)) (fo fm fn go gn : Bool) (line : List ℕ) (x : Unit {0}) (told : Result Ended ReportFault) (result : Result (Unit {0}) RunFault)
+    → line ≡ first_line spec → Appends wo wm line → FailsWith {E = DeviceFault} fo fm (Ok x)
+    → result ≡ free_told told → EndsAs (free_says spec items).ending told → Puts fn wm wn (free_says spec items).text told → Puts gn eo en (free_says spec items).notes told → TellsFailure fm fn go gn told
+    → IsFreeWritten spec items wo wn eo en fo fn go gn result
+behind_line spec items wo wm wn eo en fo fm fn go gn line x told result same put f is ending text notes fails = record {
+  told = told;
+  is = is;
+  ending = ending;
+  text = puts_behind told fn wo wm wn (first_line spec) (free_says spec items).text (subst (Appends wo wm) same put) text;
+  notes = notes;
+  fails = tells_behind told fo fm fn go gn (still fo fm (Ok x) refl f) fails;
+}
+
+-- ---- what was told
+
+answers_ok : (ending : report.Ending) (e : Ended) → EndsAs ending (Ok e) → AnswersOne ending (Ok tt)
+answers_ok ending ends.Whole is = let here : AnswersOne report.whole (Ok tt) = refl in subst (λ (x : report.Ending). AnswersOne x (Ok tt)) is here
+answers_ok ending ends.Invalid is = let here : AnswersOne report.invalid (Ok tt) = refl in subst (λ (x : report.Ending). AnswersOne x (Ok tt)) is here
+
+answers_failed : (ending : report.Ending) (why : _) → report.setup_failed (string_bytes why) ≡ ending → AnswersOne ending (Err (faults.SetupFailed why))
+answers_failed ending why is =
+    let here : AnswersOne (report.setup_failed (string_bytes why)) (Err (faults.SetupFailed why)) = refl in
+    subst (λ (x : report.Ending). AnswersOne x (Err (faults.SetupFailed why))) is here
+
+answers_waits : (ending : report.Ending) → report.setup_waits ≡ ending → AnswersOne ending (Err faults.SetupWaits)
+answers_waits ending is = let here : AnswersOne report.setup_waits (Err faults.SetupWaits) = refl in subst (λ (x : report.Ending). AnswersOne x (Err faults.SetupWaits)) is here
+
+told_so : (spec : SpecTree) (blocks : Blocks) (items : List HistItem) (wo wn eo en : Option (List ℕ)) (fn gn : Bool) (told : Result Ended ReportFault) → IsFreeRegular spec blocks items
+    → EndsAs (free_says spec items).ending told → Puts fn wo wn (free_text spec items) told → Puts gn eo en (free_says spec items).notes told
+    → IsTrue (has_ended (free_told told)) → IsFreeTold spec blocks wo wn eo en (free_told told)
+told_so spec blocks items wo wn eo en fn gn (Ok e) regular ending text notes early = record { items = items; regular = regular; answer = answers_ok (free_says spec items).ending e ending; text = text; notes = notes }
+told_so spec blocks items wo wn eo en fn gn (Err (writes.SetupFailed why)) regular ending text notes early = record { items = items; regular = regular; answer = answers_failed (free_says spec items).ending why ending; text = text; notes = notes }
+told_so spec blocks items wo wn eo en fn gn (Err writes.SetupWaits) regular ending text notes early = record { items = items; regular = regular; answer = answers_waits (free_says spec items).ending ending; text = text; notes = notes }
+told_so spec blocks items wo wn eo en fn gn (Err writes.Write) regular ending text notes early = absurd cc
+told_so spec blocks items wo wn eo en fn gn (Err writes.Memory) regular ending text notes early = absurd cc
+
+kind_so : (told : Result Ended ReportFault) → IfErr (free_told told) (λ e. is_of_one e ≡ true)
+kind_so (Ok e) = tt
+kind_so (Err (writes.SetupFailed why)) = refl
+kind_so (Err writes.SetupWaits) = refl
+kind_so (Err writes.Write) = refl
+kind_so (Err writes.Memory) = refl
+
+unbroken_so : (told : Result Ended ReportFault) → has_broken (free_told told) ≡ false
+unbroken_so (Ok e) = refl
+unbroken_so (Err (writes.SetupFailed why)) = refl
+unbroken_so (Err writes.SetupWaits) = refl
+unbroken_so (Err writes.Write) = refl
+unbroken_so (Err writes.Memory) = refl
+
+fails_so : (told : Result Ended ReportFault) (fo fn go gn : Bool) → TellsFailure fo fn go gn told → IsErrOf (free_told told) faults.Write → (fn || gn) ≡ true
+fails_so (Ok e) fo fn go gn fails is = absurd cc
+fails_so (Err (writes.SetupFailed why)) fo fn go gn fails is = absurd cc
+fails_so (Err writes.SetupWaits) fo fn go gn fails is = absurd cc
+fails_so (Err writes.Write) fo fn go gn fails is = fails
+fails_so (Err writes.Memory) fo fn go gn fails is = absurd cc
+
+module _ (spec : SpecTree) (items : List HistItem) (wo wn eo en : Option (List ℕ)) (fo fn go gn : Bool) (result : Result (Unit {0}) RunFault) where
+  pub free_is_told : (blocks : Blocks) → IsFreeRegular spec blocks items → IsFreeWritten spec items wo wn eo en fo fn go gn result → IsTrue (has_ended result) → IsFreeTold spec blocks wo wn eo en result
+  free_is_told blocks regular w ended =
+      let so = told_so spec blocks items wo wn eo en fn gn w.told regular w.ending w.text w.notes (subst (λ (r : Result (Unit {0}) RunFault). IsTrue (has_ended r)) w.is ended) in
+      subst (λ (r : Result (Unit {0}) RunFault). IsFreeTold spec blocks wo wn eo en r) (sym w.is) so
+
+  pub free_kind : IsFreeWritten spec items wo wn eo en fo fn go gn result → IfErr result (λ e. is_of_one e ≡ true)
+  free_kind w = subst (λ (r : Result (Unit {0}) RunFault). IfErr r (λ e. is_of_one e ≡ true)) (sym w.is) (kind_so w.told)
+
+  pub free_unbroken : IsFreeWritten spec items wo wn eo en fo fn go gn result → has_broken result ≡ false
+  free_unbroken w = ap has_broken w.is ∙ unbroken_so w.told
+
+  pub free_fails : IsFreeWritten spec items wo wn eo en fo fn go gn result → IsErrOf result faults.Write → (fn || gn) ≡ true
+  free_fails w is = fails_so w.told fo fn go gn w.fails (sym w.is ∙ is)

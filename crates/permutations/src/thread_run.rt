@@ -1,0 +1,66 @@
+//! The run of one permutation, with a thread for each session.
+
+ghost use Rattle.std.specs.Prelude.{◌≡◌, ◌≢◌, length, true, Err, map, IfOk, IfErr, IsErrOf};
+ghost use Rattle.session_core.specs.Blocks.{blocks_of};
+ghost use Rattle.session_core.specs.Engines.{is_quiet_in};
+ghost use Rattle.spec_parser.specs.Trees.{entry_view, spec_view};
+ghost use Rattle.spec_parser.specs.Stands.{Stands};
+ghost use Rattle.permutation_plans.specs.Regular.{Fits, IsRegular};
+ghost use Rattle.permutations.specs.Runs.{is_of_run};
+
+use crate::fault::RunFault;
+use crate::plan::Plan;
+use permutation_plans::launches_fit;
+use row_versions::ListStore;
+use session_machine::Mode;
+use session_threads::{Closed, Gate, run_directed};
+use spec_parser::{Entry, Spec};
+use sql_parser::Block;
+use std::alloc::Global;
+use std::sync::Wait;
+use std::thread::Threads;
+
+/// The same closed run, or `ScheduleBroken` exactly where its launches are not the permutation's.
+fn fitting_run<'a, 't>(
+    alloc: Global,
+    spec: &Spec<'_>,
+    entries: &[Entry],
+    closed: Closed<'a, 't, ListStore>,
+) -> Result<Closed<'a, 't, ListStore>, RunFault>
+    requires stands { Stands (spec_view spec.now) }
+    requires sessions { closed.state.count ≡ length (spec_view spec.now).sessions }
+    requires directed { closed.state.mode ≡ Mode.Directed }
+    requires quiet { is_quiet_in closed.state.machine ≡ true }
+    ensures regular { IfOk result (λ c. IsRegular (spec_view spec.now) closed.entry.state.blocks (map entry_view entries.now) c.state.history) }
+    ensures same { IfOk result (λ c. c ≡ closed.entry) }
+    ensures broken { IsErrOf result RunFault.ScheduleBroken → ¬ (Fits (spec_view spec.now) (map entry_view entries.now) closed.entry.state.history) }
+    ensures faults { IfErr result (λ e. is_of_run e ≡ true) }
+{
+    let engine = closed.state();
+    if launches_fit(alloc, spec, entries, engine.history())? {
+        Ok(closed)
+    } else {
+        Err(RunFault::ScheduleBroken)
+    }
+}
+
+/// The closed run of a permutation. Its launches are the permutation's: what the plan doesn't give is never launched.
+pub fn run_of<'a, 't, G: Gate, R: Threads + Wait + Sync>(
+    rt: &R,
+    alloc: Global,
+    spec: &Spec<'_>,
+    blocks: &'a [Block<'t>],
+    entries: &[Entry],
+    gate: &G,
+) -> Result<Closed<'a, 't, ListStore>, RunFault>
+    requires { Stands (spec_view spec.now) }
+    ensures regular { IfOk result (λ c. IsRegular (spec_view spec.now) (blocks_of blocks.now) (map entry_view entries.now) c.state.history) }
+    ensures unbroken { result ≢ Err RunFault.ScheduleBroken }
+    ensures faults { IfErr result (λ e. is_of_run e ≡ true) }
+{
+    let sessions = spec.sessions.len() as u32;
+    let plan = Plan::new(alloc, spec, entries)?;
+    let store = ListStore::new(alloc);
+    let closed = run_directed(rt, alloc, blocks, sessions, store, plan, gate)?;
+    fitting_run(alloc, spec, entries, closed)
+}

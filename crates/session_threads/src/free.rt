@@ -1,0 +1,363 @@
+//! A run in which each session's thread runs the session's script, with no order between sessions.
+ghost use Rattle.std.specs.Prelude.{◌≡◌, ◌≤◌, Err, IfOk, IfErr, IfSome, ℕ, None, vec_len};
+ghost use Rattle.row_versions.specs.Log.{empty_content};
+ghost use Rattle.session_core.specs.Blocks.{blocks_of};
+ghost use Rattle.session_core.specs.Engines.{IsOf};
+ghost use Rattle.session_threads.specs.Seats.{IsMisfit};
+
+use crate::closing::{Closed, close};
+use crate::free_shared::{FreeShared, free_event, stop};
+use crate::gate::{Gate, OpenGate};
+use crate::seat::{Seat, ThreadFault};
+use row_versions::Versions;
+use session_core::EngineState;
+use session_machine::{EngineFault, Event, Mode, Outcome};
+use sql_parser::Block;
+use std::alloc::Global;
+use std::sync::{Condvar, Mutex, Wait};
+use std::thread;
+use std::thread::{JoinHandle, Scope, Threads};
+
+/// The blocks of a free run, by their numbers.
+#[derive(Drop)]
+pub struct FreePlan {
+    /// A session and a block for it, one after the other, before the threads start.
+    pub before: Vec<(u32, u32)>,
+    /// The blocks of each session, which its thread runs; the first is session 1.
+    pub scripts: Vec<Vec<u32>>,
+    /// The control session's blocks after the threads.
+    pub after: Vec<u32>,
+}
+
+/// How far the block has come that a session was given last.
+#[derive(Clone, Copy)]
+enum Course {
+    /// It has statements left, or waits.
+    GoesOn { waits: bool },
+    Ended { failed: bool },
+}
+
+fn course_of(seat: &Seat<'_>) -> Course {
+    let Some(item) = seat.items().last() else {
+        return Course::Ended { failed: false };
+    };
+    if item.reply.ended {
+        Course::Ended {
+            failed: matches!(item.reply.outcome, Outcome::Failed(_)),
+        }
+    } else {
+        Course::GoesOn {
+            waits: matches!(item.reply.outcome, Outcome::Waits),
+        }
+    }
+}
+
+/// Launches a block in a session, and steps until it has ended. Says whether it has; it hasn't where the run is over.
+fn run_block<'a, 't, V: Versions, G: Gate, R: Wait>(
+    rt: &R,
+    shared: &Mutex<FreeShared<'a, 't, V>>,
+    bell: &Condvar,
+    gate: &G,
+    seat: &mut Seat<'t>,
+    block: u32,
+) -> bool {
+    let session = seat.session();
+    let launch = Event::Launch { session, block };
+    if !free_event(rt, shared, bell, gate, seat, launch) {
+        return false;
+    }
+    for _ in rt.forever() {
+        if let Course::Ended { .. } = course_of(seat) {
+            return true;
+        }
+        let step = Event::Step {
+            session: seat.session(),
+        };
+        if !free_event(rt, shared, bell, gate, seat, step) {
+            return false;
+        }
+    }
+    false
+}
+
+/// Runs the session's blocks, and leaves.
+fn run_script<'a, 't, V: Versions, G: Gate, R: Wait>(
+    rt: &R,
+    shared: &Mutex<FreeShared<'a, 't, V>>,
+    bell: &Condvar,
+    gate: &G,
+    seat: &mut Seat<'t>,
+    script: &[u32],
+) {
+    for block in script {
+        if !run_block(rt, shared, bell, gate, seat, *block) {
+            return;
+        }
+    }
+    let leave = Event::Leave {
+        session: seat.session(),
+    };
+    free_event(rt, shared, bell, gate, seat, leave);
+}
+
+/// Launches a block in a session, and steps until it has ended or waits. Says whether it went well.
+fn run_setup<'a, 't, V: Versions, R: Wait>(
+    rt: &R,
+    shared: &Mutex<FreeShared<'a, 't, V>>,
+    bell: &Condvar,
+    seat: &mut Seat<'t>,
+    block: u32,
+) -> bool {
+    let session = seat.session();
+    let launch = Event::Launch { session, block };
+    if !free_event(rt, shared, bell, &OpenGate, seat, launch) {
+        return false;
+    }
+    for _ in rt.forever() {
+        match course_of(seat) {
+            Course::Ended { failed } => return !failed,
+            Course::GoesOn { waits: true } => return false,
+            Course::GoesOn { waits: false } => {}
+        }
+        let step = Event::Step {
+            session: seat.session(),
+        };
+        if !free_event(rt, shared, bell, &OpenGate, seat, step) {
+            return false;
+        }
+    }
+    false
+}
+
+/// Runs the blocks that come before the threads, up to one that fails or waits. Says whether all went well.
+fn run_before<'a, 't, V: Versions, R: Wait>(
+    rt: &R,
+    shared: &Mutex<FreeShared<'a, 't, V>>,
+    bell: &Condvar,
+    seats: &mut [Seat<'t>],
+    before: &[(u32, u32)],
+) -> bool {
+    for (session, block) in before {
+        let Some(seat) = seats.get_mut(*session as usize) else {
+            stop(
+                rt,
+                shared,
+                bell,
+                ThreadFault::Engine(EngineFault::NoSession),
+            );
+            return false;
+        };
+        if !run_setup(rt, shared, bell, seat, *block) {
+            return false;
+        }
+    }
+    true
+}
+
+/// The control session leaves, so that nobody waits for it. Says whether it did.
+fn leave_control<'a, 't, V: Versions, R: Wait>(
+    rt: &R,
+    shared: &Mutex<FreeShared<'a, 't, V>>,
+    bell: &Condvar,
+    seats: &mut [Seat<'t>],
+) -> bool {
+    let Some(seat) = seats.first_mut() else {
+        return false;
+    };
+    let leave = Event::Leave {
+        session: seat.session(),
+    };
+    free_event(rt, shared, bell, &OpenGate, seat, leave)
+}
+
+/// Runs the control session's blocks behind the threads.
+fn run_after<'a, 't, V: Versions, R: Wait>(
+    rt: &R,
+    shared: &Mutex<FreeShared<'a, 't, V>>,
+    bell: &Condvar,
+    seats: &mut [Seat<'t>],
+    after: &[u32],
+) {
+    let Some(seat) = seats.first_mut() else {
+        return;
+    };
+    for block in after {
+        run_setup(rt, shared, bell, seat, *block);
+    }
+}
+
+/// The script of a session; the control session has none.
+fn script_of(scripts: &[Vec<u32>], session: u32) -> Option<&[u32]> {
+    match session {
+        0 => None,
+        number => match scripts.get(number as usize - 1) {
+            Some(script) => Some(script.as_slice()),
+            None => None,
+        },
+    }
+}
+
+/// Starts a thread for each script.
+fn start_scripts<
+    's,
+    'e: 's,
+    'a: 's,
+    't: 's,
+    V: Versions + Send + 's,
+    G: Gate + 's,
+    R: Wait + Sync + 's,
+>(
+    scope: &'s Scope<'s, &'e ()>,
+    rt: &'s R,
+    shared: &'s Mutex<FreeShared<'a, 't, V>>,
+    bell: &'s Condvar,
+    gate: &'s G,
+    seats: &'s mut [Seat<'t>],
+    scripts: &'s [Vec<u32>],
+    crew: &mut Vec<JoinHandle<()>>,
+) -> Result<(), ThreadFault> {
+    let each = seats.iter_mut();
+    for seat in each {
+        let Some(script) = script_of(scripts, seat.session()) else {
+            continue;
+        };
+        let Ok(thread) = scope.spawn(move || run_script(rt, shared, bell, gate, seat, script))
+        else {
+            return Err(ThreadFault::ThreadRefused);
+        };
+        if crew.push(thread).is_err() {
+            return Err(ThreadFault::Memory);
+        }
+    }
+    Ok(())
+}
+
+/// Starts the sessions' threads, and joins them.
+fn serve_scripts<'a, 't, V: Versions + Send, G: Gate, R: Threads + Wait + Sync>(
+    rt: &R,
+    alloc: Global,
+    shared: &Mutex<FreeShared<'a, 't, V>>,
+    bell: &Condvar,
+    gate: &G,
+    seats: &mut [Seat<'t>],
+    scripts: &[Vec<u32>],
+) {
+    let lent = &mut *seats;
+    thread::scope(thread::scope_env(), rt, move |scope| {
+        let mut crew = Vec::new(alloc);
+        if let Err(fault) = start_scripts(scope, rt, shared, bell, gate, lent, scripts, &mut crew) {
+            stop(rt, shared, bell, fault);
+        }
+        for thread in crew {
+            thread.join(rt);
+        }
+    })
+}
+
+/// The sessions' part: the control session leaves, each session's thread runs its script, and the control session's last
+/// blocks run. Answers a fault that was met before these.
+fn run_sessions<'a, 't, V: Versions + Send, G: Gate, R: Threads + Wait + Sync>(
+    rt: &R,
+    alloc: Global,
+    shared: &Mutex<FreeShared<'a, 't, V>>,
+    bell: &Condvar,
+    gate: &G,
+    seats: &mut [Seat<'t>],
+    plan: &FreePlan,
+) -> Option<ThreadFault> {
+    if leave_control(rt, shared, bell, seats) {
+        serve_scripts(rt, alloc, shared, bell, gate, seats, &plan.scripts);
+    }
+    let early = shared.lock(rt).fault();
+    if early.is_none() {
+        run_after(rt, shared, bell, seats, &plan.after);
+    }
+    early
+}
+
+/// The whole run. Answers a fault that was met before the control session's last blocks.
+fn run_plan<'a, 't, V: Versions + Send, G: Gate, R: Threads + Wait + Sync>(
+    rt: &R,
+    alloc: Global,
+    shared: &Mutex<FreeShared<'a, 't, V>>,
+    bell: &Condvar,
+    gate: &G,
+    seats: &mut [Seat<'t>],
+    plan: &FreePlan,
+) -> Option<ThreadFault> {
+    if run_before(rt, shared, bell, seats, &plan.before) {
+        run_sessions(rt, alloc, shared, bell, gate, seats, plan)
+    } else {
+        shared.lock(rt).fault()
+    }
+}
+
+/// A seat for the control session, which is session 0, and for each of so many sessions beside it, in the order of their
+/// numbers.
+fn all_seats<'t>(alloc: Global, sessions: u32) -> Result<Vec<Seat<'t>>, ThreadFault>
+    requires { sessions ≤ 64 }
+{
+    let mut seats = Vec::new(alloc);
+    for session in 0..sessions + 1 {
+        if seats.push(Seat::new(alloc, session)).is_err() {
+            return Err(ThreadFault::Memory);
+        }
+    }
+    Ok(seats)
+}
+
+/// The end of a run: the seats beside an engine that was opened over these blocks and sessions. A fault that was met in
+/// the control session's last blocks comes after that.
+fn end_of<'a, 't, V: Versions>(
+    engine: EngineState<'a, 't, V>,
+    blocks: &[Block<'_>],
+    sessions: u32,
+    late: Option<ThreadFault>,
+    seats: Vec<Seat<'t>>,
+) -> Result<Closed<'a, 't, V>, ThreadFault>
+    ensures other_run { ¬ (IsOf engine.entry (blocks_of blocks.now) sessions Mode.Free) → result ≡ Err ThreadFault.OtherRun }
+    ensures late { IsOf engine.entry (blocks_of blocks.now) sessions Mode.Free → IfSome late (λ fault. result ≡ Err fault) }
+    ensures seats { IsOf engine.entry (blocks_of blocks.now) sessions Mode.Free → late ≡ None
+        → IfErr result (λ e. (s : ℕ) × (e ≡ ThreadFault.SeatMismatch s) × IsMisfit engine.entry seats.entry.items s) }
+    ensures ok { IfOk result (λ c. IsOf engine.entry (blocks_of blocks.now) sessions Mode.Free
+        × (c ≡ record { state = engine.entry; seats = seats.entry.items })) }
+{
+    if !engine.is_of(blocks, sessions, Mode::Free) {
+        return Err(ThreadFault::OtherRun);
+    }
+    if let Some(fault) = late {
+        return Err(fault);
+    }
+    close(engine, seats)
+}
+
+/// Runs the blocks that come before, one after the other in the calling thread; after one that fails or waits the run is
+/// over. Else the control session leaves, and the thread of each session runs its script and leaves, with no order between
+/// sessions. After the joins the calling thread runs the control session's last blocks. The sessions' threads ask the gate;
+/// one whose event waits for others sleeps until something was released.
+pub fn run_free<'a, 't, V: Versions + Send, G: Gate, R: Threads + Wait + Sync>(
+    rt: &R,
+    alloc: Global,
+    blocks: &'a [Block<'t>],
+    plan: &FreePlan,
+    store: V,
+    gate: &G,
+) -> Result<Closed<'a, 't, V>, ThreadFault>
+    requires few { vec_len plan.now.scripts ≤ 64 }
+    requires empty { V.content store ≡ empty_content }
+    ensures { IfOk result (λ c. IsOf c.state (blocks_of blocks.now) (vec_len plan.now.scripts) Mode.Free) }
+{
+    let sessions = plan.scripts.len() as u32;
+    let mut seats = all_seats(alloc, sessions)?;
+    let Ok(engine) = EngineState::new(alloc, blocks, sessions, Mode::Free, store) else {
+        return Err(ThreadFault::Memory);
+    };
+    let lock = Mutex::new(FreeShared::new(engine));
+    let bell = Condvar::new();
+    let early = run_plan(rt, alloc, &lock, &bell, gate, &mut seats, plan);
+    let (engine, late) = lock.into_inner().into_parts();
+    if let Some(fault) = early {
+        return Err(fault);
+    }
+    end_of(engine, blocks, sessions, late, seats)
+}

@@ -1,0 +1,169 @@
+//! What stands behind the lock of a free run, and how an event is done there.
+ghost use Rattle.std.specs.Prelude.{◌≡◌};
+ghost use Rattle.session_threads.specs.Seats.{session_of};
+
+use crate::gate::Gate;
+use crate::seat::{Seat, ThreadFault, act};
+use crate::shared::{admitted, tell};
+use row_versions::Versions;
+use session_core::EngineState;
+use session_machine::{EngineFault, Event, Outcome};
+use std::sync::{Condvar, Mutex, Wait};
+
+/// The engine, and a fault that was met.
+#[derive(Drop)]
+pub struct FreeShared<'a, 't, V: Versions> {
+    engine: EngineState<'a, 't, V>,
+    fault: Option<ThreadFault>,
+}
+
+/// What came of trying an event.
+#[derive(Clone, Copy)]
+pub enum Tried {
+    Done,
+    /// What the session waits for still stood in its way when there were so many events.
+    Blocked { events: usize },
+    /// The run is over: a fault was met.
+    Over,
+}
+
+impl<'a, 't, V: Versions> FreeShared<'a, 't, V> {
+    pub fn new(engine: EngineState<'a, 't, V>) -> Self {
+        FreeShared {
+            engine,
+            fault: None,
+        }
+    }
+
+    /// No event is to begin any more.
+    pub fn over(&self) -> bool {
+        self.fault.is_some()
+    }
+
+    /// The fault that was met first.
+    pub fn fault(&self) -> Option<ThreadFault> {
+        self.fault
+    }
+
+    /// How many events there were.
+    fn events(&self) -> usize {
+        self.engine.history().len()
+    }
+
+    /// Keeps a fault, where none was met before.
+    pub fn note(&mut self, fault: ThreadFault) {
+        if self.fault.is_none() {
+            self.fault = Some(fault);
+        }
+    }
+
+    /// Does the event, unless the run is over or something stands in its way.
+    fn perform(&mut self, seat: &mut Seat<'t>, event: Event) -> Tried
+        requires { session_of event ≡ seat.old.session }
+        ensures { seat.new.session ≡ seat.old.session }
+    {
+        if self.over() {
+            return Tried::Over;
+        }
+        match act(&mut self.engine, seat, event) {
+            Ok(()) => Tried::Done,
+            Err(ThreadFault::Engine(EngineFault::StillBlocked)) => Tried::Blocked {
+                events: self.events(),
+            },
+            Err(fault) => {
+                self.note(fault);
+                Tried::Over
+            }
+        }
+    }
+
+    /// The engine, and the fault that was met.
+    pub fn into_parts(self) -> (EngineState<'a, 't, V>, Option<ThreadFault>) {
+        (self.engine, self.fault)
+    }
+}
+
+/// Keeps a fault, and wakes everyone.
+pub fn stop<'a, 't, V: Versions, R: Wait>(
+    rt: &R,
+    shared: &Mutex<FreeShared<'a, 't, V>>,
+    bell: &Condvar,
+    fault: ThreadFault,
+) {
+    shared.lock(rt).note(fault);
+    bell.notify_all();
+}
+
+/// Whether the seat's last event may have released something: all but a Launch and a wait may.
+fn may_release(seat: &Seat<'_>) -> bool {
+    match seat.items().last() {
+        Some(item) => !matches!(item.reply.outcome, Outcome::Launched | Outcome::Waits),
+        None => false,
+    }
+}
+
+/// Tries an event under the lock. Wakes those who sleep where something may have been released, or the run is over.
+fn try_event<'a, 't, V: Versions, R: Wait>(
+    rt: &R,
+    shared: &Mutex<FreeShared<'a, 't, V>>,
+    bell: &Condvar,
+    seat: &mut Seat<'t>,
+    event: Event,
+) -> Tried
+    requires { session_of event ≡ seat.old.session }
+    ensures { seat.new.session ≡ seat.old.session }
+{
+    let mut guard = shared.lock(rt);
+    let tried = guard.perform(seat, event);
+    drop(guard);
+    let wakes = match tried {
+        Tried::Done => may_release(seat),
+        Tried::Blocked { .. } => false,
+        Tried::Over => true,
+    };
+    if wakes {
+        bell.notify_all();
+    }
+    tried
+}
+
+/// Sleeps until there were more events than so many, or the run is over.
+fn sleep<'a, 't, V: Versions, R: Wait>(
+    rt: &R,
+    shared: &Mutex<FreeShared<'a, 't, V>>,
+    bell: &Condvar,
+    events: usize,
+) {
+    let guard = bell.wait_while(rt, shared.lock(rt), |s| !s.over() && s.events() == events);
+    drop(guard);
+}
+
+/// Does one event as soon as nothing stands in its way: asks the gate, does the event under the lock, and tells the gate.
+/// Says whether it was done; it wasn't where the run is over.
+pub fn free_event<'a, 't, V: Versions, G: Gate, R: Wait>(
+    rt: &R,
+    shared: &Mutex<FreeShared<'a, 't, V>>,
+    bell: &Condvar,
+    gate: &G,
+    seat: &mut Seat<'t>,
+    event: Event,
+) -> bool
+    requires { session_of event ≡ seat.old.session }
+    ensures { seat.new.session ≡ seat.old.session }
+{
+    if !admitted(gate, event) {
+        stop(rt, shared, bell, ThreadFault::Gate);
+        return false;
+    }
+    for _ in rt.forever() {
+        match try_event(rt, shared, bell, seat, event) {
+            Tried::Done => {
+                tell(gate, seat);
+                return true;
+            }
+            Tried::Blocked { events } => sleep(rt, shared, bell, events),
+            Tried::Over => return false,
+        }
+    }
+    false
+}

@@ -1,0 +1,268 @@
+-- A statement that waits is the one that was begun, and what it finds stays, whatever it wrote itself.
+use Rattle.std.proofs.Common.{◌≡◌, refl, sym, ◌∙◌, ap, subst, inl, inr, ⊎_elim, Bool, true, false, ℕ, ◌≤◌, List, [], ◌∷◌, length, set, arith}
+use Rattle.std.specs.Prelude.{ℤ, Option, Some, None, slice_get, unwrap_or, Result, Ok, Err, if◌then◌else◌}
+use Rattle.std.proofs.lemmas.Bool.{cases_eq}
+use Rattle.std.proofs.lemmas.Option.{slice_get_within}
+use Rattle.sql_trees.specs.declared.stmt.Level.{Level}
+use Rattle.sql_trees.specs.declared.stmt.Lock.{Lock}
+use Rattle.sql_trees.specs.Statements.{StmtTree, CreateTree, SelectTree, Begin, Commit, Rollback, SetTransaction, SetDeadlockTimeout, Create, DropTables, Inserts, Updates, Deletes, Selects}
+use Rattle.sql_values.specs.declared.fault.ValueFault.{ValueFault}
+use Rattle.result_tables.specs.Results.{Results}
+use Rattle.row_versions.specs.declared.names.TxId.{TxId}
+use Rattle.row_versions.specs.declared.write.View.{View}
+use Rattle.row_versions.specs.Log.{Content}
+use Rattle.session_machine.specs.declared.session.OpenTransaction.{OpenTransaction}
+use Rattle.session_machine.specs.declared.session.Transaction.{Transaction}
+use Rattle.session_machine.specs.declared.session.Transaction.TheVariants.{Closed, Open, Aborted}
+use Rattle.session_machine.specs.declared.session.Progress.{Progress}
+use Rattle.session_machine.specs.declared.session.Session.{Session}
+use Rattle.session_machine.specs.declared.event.Event.{Event}
+use Rattle.session_machine.specs.declared.event.Event.TheVariants.{Launch, Step, Leave}
+use Rattle.session_machine.specs.declared.event.Mode.{Mode}
+use Rattle.session_machine.specs.declared.reply.HistItem.{HistItem}
+use Rattle.session_machine.specs.declared.fault.Refusal.TheVariants.{Busy, NotYourTurn, BlockNotAllowed}
+use Rattle.session_machine.specs.Tables.{Database, find_table}
+use Rattle.session_machine.specs.Transactions.{view_of}
+use Rattle.session_machine.specs.Statements.{Around, Did, create, drop_ended, dropped, level_set}
+use Rattle.session_machine.specs.Rows.{Work}
+use Rattle.session_machine.specs.Running.{answered, beginning, lock_again, run_on, run_stmt, select, select_at, select_rows, unless_wrong}
+use Rattle.session_machine.specs.Machine.{Machine, Blocks, Next, next, stmts_at, around, at_rest, first_place, launch_of, step_of, leave_of}
+use Rattle.session_machine.specs.Sound.{command_in}
+use Rattle.wait_laws.specs.Laws.{session_of, IsAtWork, IsInViewOf, RunAtWork, StatementsStayAsBegun, transaction_at, view_at}
+use Rattle.wait_laws.proofs.Doing.{Keeps, doer, Allows, does_stmt}
+use Rattle.wait_laws.proofs.Events.{ok_is, ok_else, stepped, after}
+use Rattle.wait_laws.proofs.Staying.{stays_here, stays_on, count-begin}
+use Rattle.wait_laws.proofs.Again.{statements_go_on_in_their_view}
+use Rattle.wait_laws.proofs.Begun.{IsBegun, IsOwn, IsSame, begun_next, begun_there, did_next, finds, others_stay, same_next, same_to_others}
+use Rattle.wait_laws.proofs.Lists.{slice_get-set_same}
+
+none_not : (p : Progress) → None ≡ Some p → ⊥
+none_not p h = cc
+
+same_progress : (p q : Progress) → Some p ≡ Some q → p ≡ q
+same_progress p q h = cc
+
+same_session : (s u : Session) → Some s ≡ Some u → s ≡ u
+same_session s u h = cc
+
+closed_not : (t : OpenTransaction) → Closed ≡ Open t → ⊥
+closed_not t h = cc
+
+-- a statement without targets is over at once
+over_if : (b : Bool) (d e : Did) → d.statement ≡ None → e.statement ≡ None → (if b then d else e).statement ≡ None
+over_if true d e h k = h
+over_if false d e h k = k
+
+over_level : (db : Database) (t : OpenTransaction) (explicit : Bool) (level : Level) → (level_set db t explicit level).statement ≡ None
+over_level db t explicit level = over_if _ _ _ refl refl
+
+over_answered : (db : Database) (t : OpenTransaction) (r : Result Results ValueFault) → (answered db t r).statement ≡ None
+over_answered db t (Ok set) = refl
+over_answered db t (Err fault) = refl
+
+over_unless_wrong : (db : Database) (t : OpenTransaction) (o : Option (List ℕ)) (n : Option ℤ) (due : Did) → due.statement ≡ None → (unless_wrong db t o n due).statement ≡ None
+over_unless_wrong db t (Some name) n due h = refl
+over_unless_wrong db t None (Some n) due h = refl
+over_unless_wrong db t None None due h = h
+
+over_rows : (db : Database) (w : Work) (s : SelectTree) (o : Option Lock) → o ≡ None → (select_rows db w s o).statement ≡ None
+over_rows db w s None h = over_answered db w.t _
+over_rows db w s (Some l) h = cc
+
+over_select : (db : Database) (t : OpenTransaction) (around : Around) (s : SelectTree) → s.lock ≡ None → (select db t around s s.table).statement ≡ None
+over_select db t around s h = from s.table where
+  at : (name : List ℕ) (o : Option ℕ) → (select_at db t around s name o).statement ≡ None
+  at name None = refl
+  at name (Some k) = over_unless_wrong db t _ _ _ (over_rows db (beginning db t around k) s s.lock h)
+
+  from : (o : Option (List ℕ)) → (select db t around s o).statement ≡ None
+  from None = over_unless_wrong db t _ _ _ (over_answered db t _)
+  from (Some name) = at name (find_table db (Some t.tx) name)
+
+over_create : (db : Database) (t : OpenTransaction) (c : CreateTree) (o : Option ℕ) → (create db t c o).statement ≡ None
+over_create db t c (Some k) = refl
+over_create db t c None = refl
+
+over_drop : (before : Content) (t : OpenTransaction) (db : Database) (o : Option (List ℕ)) → (drop_ended before t db o).statement ≡ None
+over_drop before t db None = refl
+over_drop before t db (Some name) = refl
+
+-- a statement that goes on and waits again is in its view
+in_its_view : (db : Database) (t : OpenTransaction) (around : Around) (p q : Progress) (stmt : StmtTree) → (run_on db t around p stmt).statement ≡ Some q → IsInViewOf p around q
+in_its_view db t around p q (Begin level) h = absurd (none_not q (sym (over_if t.explicit _ _ refl (over_level db t true (unwrap_or level t.level))) ∙ h))
+in_its_view db t around p q Commit h = absurd (none_not q h)
+in_its_view db t around p q Rollback h = absurd (none_not q h)
+in_its_view db t around p q (SetTransaction level) h = absurd (none_not q (sym (over_level db t t.explicit level) ∙ h))
+in_its_view db t around p q SetDeadlockTimeout h = absurd (none_not q h)
+in_its_view db t around p q (Create c) h = absurd (none_not q (sym (over_create db t c (find_table db (Some t.tx) c.name)) ∙ h))
+in_its_view db t around p q (DropTables d) h = absurd (none_not q (sym (over_drop db.content t (dropped db t d.if_exists d.names).db (dropped db t d.if_exists d.names).missing) ∙ h))
+in_its_view db t around p q (Inserts i) h = (statements_go_on_in_their_view db t around p q).inserts i h
+in_its_view db t around p q (Updates u) h = (statements_go_on_in_their_view db t around p q).updates u h
+in_its_view db t around p q (Deletes d) h = (statements_go_on_in_their_view db t around p q).deletes d h
+in_its_view db t around p q (Selects s) h = again s.lock refl h where
+  again : (o : Option Lock) → s.lock ≡ o → (lock_again db t around s p o).statement ≡ Some q → IsInViewOf p around q
+  again None e k = absurd (none_not q (sym (over_select db t around s e) ∙ k))
+  again (Some l) e k = (statements_go_on_in_their_view db t around p q).locks s l e (subst (λ o. (lock_again db t around s p o).statement ≡ Some q) (sym e) k)
+
+free_keeps : (x : TxId) (n : ℕ) → Keeps x n (λ d. Unit {0}) (λ d. Unit {0})
+free_keeps x n = record {
+  lock = λ d h own may p. tt;
+  insert = λ d w own now made p. tt;
+  write = λ d w own now held p. tt;
+  create = λ d made p. tt;
+  drop = λ d k p. tt;
+  commit = λ d p. tt;
+  roll_back = λ d p. tt;
+  rest = λ d p. tt;
+}
+
+-- one that begins and waits is in the view that is taken now
+in_first_view : (db : Database) (tr : Transaction) (around : Around) (q : Progress) (stmt : StmtTree) → (run_stmt db tr None around stmt).statement ≡ Some q
+    → q.view ≡ view_of db.content (transaction_at db.content tr)
+in_first_view db tr around q stmt h =
+    elim (does_stmt (λ d. Unit {0}) (λ d. Unit {0}) (λ v. v ≡ view_of db.content (transaction_at db.content tr)) db tr None around stmt (free_keeps (doer db tr) (command_in tr)) (allows tr) tt) [
+      | inl idle ↦ absurd (none_not q (sym idle.over ∙ h))
+      | inr ran ↦ (ran.waits q h).1
+    ] where
+      allows : (r : Transaction) → Allows (λ v. v ≡ view_of db.content (transaction_at db.content r)) db r None
+      allows Closed = let mk : ℕ → View = λ n. record { tx = Some (doer db Closed); commits = n; command = 0 } in ap mk (count-begin db.content.fates)
+      allows Aborted = tt
+      allows (Open t) = refl
+
+-- where a statement waits that began now or goes on
+record Waits (c : Content) (tr : Transaction) (st : Option Progress) (q : Progress) : Type 0 where
+  view : q.view ≡ view_at c tr st
+  goes_on : (p : Progress) → st ≡ Some p → (q.table ≡ p.table) × (p.place ≤ q.place)
+
+waits_at : (db : Database) (tr : Transaction) (st : Option Progress) (around : Around) (q : Progress) (stmt : StmtTree)
+    → ((p : Progress) → st ≡ Some p → (t : OpenTransaction) × (tr ≡ Open t)) → (run_stmt db tr st around stmt).statement ≡ Some q → Waits db.content tr st q
+waits_at db tr None around q stmt is_open h = record { view = in_first_view db tr around q stmt h; goes_on = λ p e. absurd (none_not p e) }
+waits_at db tr (Some g) around q stmt is_open h =
+    let t = (is_open g refl).0 in
+    let in_view = in_its_view db t around g q stmt (subst (λ (y : Transaction). (run_stmt db y (Some g) around stmt).statement ≡ Some q) (is_open g refl).1 h) in
+    record {
+      view = in_view.view;
+      goes_on = λ p e. subst (λ (y : Progress). (q.table ≡ y.table) × (y.place ≤ q.place)) (same_progress g p e) (in_view.table, in_view.onward);
+    }
+
+-- a session that is in the middle of a statement after an event of its own has made a step of it
+record StepsOn (m : Machine) (s u : Session) (q : Progress) : Type 0 where
+  place : u.place ≡ s.place
+  around : Around
+  stmt : StmtTree
+  is : (run_stmt m.db s.transaction s.statement around stmt).statement ≡ Some q
+
+-- the one session that changed
+changed : (ss : List Session) (i : ℕ) (s u v : Session) → slice_get ss i ≡ Some s → slice_get (set ss i u) i ≡ Some v → v ≡ u
+changed ss i s u v at h = same_session v u (sym h ∙ slice_get-set_same ss i u (slice_get_within ss i s at))
+
+steps_on : (blocks : Blocks) (mode : Mode) (m : Machine) (event : Event) (s : Session) (n : Next) → slice_get m.sessions (session_of event) ≡ Some s → next blocks mode m event ≡ Ok n
+    → (u : Session) (q : Progress) → slice_get n.machine.sessions (session_of event) ≡ Some u → u.statement ≡ Some q → StepsOn m s u q
+steps_on blocks mode m (Launch i block) s n at h u q there is =
+    let a = ok_else BlockNotAllowed _ _ n (subst (λ o. launch_of blocks mode m i block o ≡ Ok n) at h) in
+    let b = ok_else Busy _ _ n a.1 in
+    let c = ok_else NotYourTurn _ _ n b.1 in
+    let same : u ≡ record { place = first_place block (stmts_at blocks block); transaction = s.transaction; statement = None } =
+    changed m.sessions i s _ u at (subst (λ (y : Next). slice_get y.machine.sessions i ≡ Some u) (ok_is _ n c.1) there) in
+    absurd (none_not q (ap (λ (y : Session). y.statement) (sym same) ∙ is))
+steps_on blocks mode m (Leave i) s n at h u q there is =
+    let c = ok_else NotYourTurn _ _ n (subst (λ o. leave_of mode m i o ≡ Ok n) at h) in
+    let same : u ≡ at_rest = changed m.sessions i s at_rest u at (subst (λ (y : Next). slice_get y.machine.sessions i ≡ Some u) (ok_is _ n c.1) there) in
+    absurd (none_not q (ap (λ (y : Session). y.statement) (sym same) ∙ is))
+steps_on blocks mode m (Step i) s n at h u q there is =
+    let k = stepped blocks mode m i s n (subst (λ o. step_of blocks mode m i o ≡ Ok n) at h) in
+    let d = run_stmt m.db s.transaction s.statement (around m i s) k.stmt in
+    let a = after m i k.place (length (stmts_at blocks k.place.block)) d in
+    let there' : slice_get (set m.sessions i a.u) i ≡ Some u =
+    subst (λ (y : Machine). slice_get y.sessions i ≡ Some u) a.is (subst (λ (y : Next). slice_get y.machine.sessions i ≡ Some u) k.is there) in
+    let same = changed m.sessions i s a.u u at there' in
+    let waits : a.u.statement ≡ Some q = ap (λ (y : Session). y.statement) (sym same) ∙ is in
+    record {
+      place = ap (λ (y : Session). y.place) same ∙ (a.stays q waits ∙ sym k.there);
+      around = around m i s;
+      stmt = k.stmt;
+      is = elim a.how [
+        | inl w ↦ elim w.2 [ inl g ↦ sym g ∙ waits | inr g ↦ absurd (none_not q (sym g ∙ waits)) ]
+        | inr w ↦ absurd (none_not q (sym w.4 ∙ waits))
+      ];
+    }
+
+-- what became of a session's statement since a state
+record Goes (m e : Machine) (s u : Session) (q : Progress) : Type 0 where
+  place : u.place ≡ s.place
+  waits : Waits m.db.content s.transaction s.statement q
+  same : IsSame q.view m.db e.db
+
+-- where nothing was done
+stays_there : (m e : Machine) (s u : Session) (q : Progress) → u ≡ s → u.statement ≡ Some q → IsSame q.view m.db e.db → Goes m e s u q
+stays_there m e s u q is at same =
+    let here : s.statement ≡ Some q = ap (λ (y : Session). y.statement) (sym is) ∙ at in
+    record {
+      place = ap (λ (y : Session). y.place) is;
+      waits = record {
+        view = ap (view_at m.db.content s.transaction) (sym here);
+        goes_on = λ p f. let one : q ≡ p = same_progress q p (sym here ∙ f) in subst (λ (y : Progress). (q.table ≡ y.table) × (y.place ≤ q.place)) one (refl, omega arith);
+      };
+      same = same;
+    }
+
+goes_next : (blocks : Blocks) (mode : Mode) (m : Machine) (k : ℕ) (s : Session) (event : Event) (n : Next) (u : Session) (q : Progress) → IsBegun m → slice_get m.sessions k ≡ Some s
+    → next blocks mode m event ≡ Ok n → IsAtWork n.machine k u q → Goes m n.machine s u q
+goes_next blocks mode m k s event n u q old at h work = ⊎_elim its others (cases_eq (session_of event) k) where
+  others : (session_of event ≡ k → ⊥) → Goes m n.machine s u q
+  others ne =
+      let is : u ≡ s = same_session u s (sym work.0 ∙ (others_stay blocks mode m k event n old h ne ∙ at)) in
+      stays_there m n.machine s u q is work.1
+      (same_to_others blocks mode m k s q event n old at (ap (λ (y : Session). y.statement) (sym is) ∙ work.1) h ne)
+
+  its : session_of event ≡ k → Goes m n.machine s u q
+  its e =
+      let there : slice_get m.sessions (session_of event) ≡ Some s = ap (slice_get m.sessions) e ∙ at in
+      let now : slice_get n.machine.sessions (session_of event) ≡ Some u = ap (slice_get n.machine.sessions) e ∙ work.0 in
+      let step = steps_on blocks mode m event s n there h u q now work.1 in
+      let w = did_next blocks mode m event s n old there h in
+      let is : u ≡ w.u = changed m.sessions (session_of event) s w.u u there (subst (λ (y : Machine). slice_get y.sessions (session_of event) ≡ Some u) w.is now) in
+      let waits : w.u.statement ≡ Some q = ap (λ (y : Session). y.statement) (sym is) ∙ work.1 in
+      let own : IsOwn (doer m.db s.transaction) (command_in s.transaction) m.db q.view = elim w.did [
+        | inl r ↦ absurd (none_not q (sym r.over ∙ waits))
+        | inr r ↦ (r.waits q waits).1
+      ] in
+      record {
+        place = step.place;
+        waits = waits_at m.db s.transaction s.statement step.around q step.stmt (λ p f. let v = old.views k s p at f in (v.0, v.1)) step.is;
+        same = same_next q.view blocks mode m event s n old there (record { unseen = inr own.2; before = own.1 }) h;
+      }
+
+-- from one state to the next, and on
+goes_on : (m mid e : Machine) (s v u : Session) (p q : Progress) → v.statement ≡ Some p → Goes m mid s v p → Goes mid e v u q → Goes m e s u q
+goes_on m mid e s v u p q at first rest =
+    let view : q.view ≡ p.view = rest.waits.view ∙ ap (view_at mid.db.content v.transaction) at in
+    let on = rest.waits.goes_on p at in
+    let before = subst (λ (y : View). IsSame y m.db mid.db) (sym view) first.same in
+    record {
+      place = rest.place ∙ first.place;
+      waits = record {
+        view = view ∙ first.waits.view;
+        goes_on = λ g f. let was = first.waits.goes_on g f in (on.0 ∙ was.0, let a = on.1 in let b = was.1 in omega arith);
+      };
+      same = record {
+        stays = stays_on q.view m.db.content mid.db.content e.db.content before.stays rest.same.stays;
+        tables = λ k made there. rest.same.tables k made (before.tables k made there);
+      };
+    }
+
+goes_all : (blocks : Blocks) (mode : Mode) (k : ℕ) (items : List HistItem) (m e : Machine) (s u : Session) (q : Progress) → IsBegun m → slice_get m.sessions k ≡ Some s
+    → RunAtWork blocks mode k m items e → IsAtWork e k u q → Goes m e s u q
+goes_all blocks mode k [] m e s u q old at run work =
+    let is : u ≡ s = same_session u s (sym work.0 ∙ (ap (λ (y : Machine). slice_get y.sessions k) run ∙ at)) in
+    subst (λ (y : Machine). Goes m y s u q) (sym run) (stays_there m m s u q is work.1 (record { stays = stays_here q.view m.db.content; tables = λ j made there. there }))
+goes_all blocks mode k (item ∷ items) m e s u q old at run work =
+    let mid = run.0 in
+    let first = goes_next blocks mode m k s item.event _ run.1 run.2 old at run.3 run.4 in
+    goes_on m mid e s run.1 u run.2 q run.4.1 first
+    (goes_all blocks mode k items mid e run.1 u q (begun_next blocks mode m item.event _ old run.3) run.4.0 run.5 work)
+
+pub statements_stay_as_begun : StatementsStayAsBegun
+statements_stay_as_begun given mode count m reached k s at items after run u q work =
+    let g = goes_all given mode k items m after s u q (begun_there given mode count m reached) at run work in
+    record { place = g.place; view = g.waits.view; goes_on = g.waits.goes_on; finds = finds m.db after.db q g.same }

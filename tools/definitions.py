@@ -1,0 +1,98 @@
+#!/usr/bin/env python3
+"""Counts the lines of the definitions that a reader has to believe: those that the statement about the program names, and what they name in turn.
+
+    tools/definitions.py [NAME..]     from FileSays, or from these definitions; prints each file's lines, and their sum
+
+Imports, comments and blank lines aren't counted, nor are the types that the code declares.
+"""
+import os
+import re
+import sys
+
+TOP = os.path.dirname(os.path.dirname(os.path.realpath(__file__)))
+ROOT = "Rattle."
+STARTS = re.compile(r"^(?:(?:pub|abbrev|unfoldable|opaque|data|record)\s+)*([^\s:(){},]+)")
+
+
+def modules():
+    """Yields each file of specs/ as (module, lines)."""
+    for crate in sorted(os.listdir(f"{TOP}/crates")):
+        folder = f"{TOP}/crates/{crate}/specs"
+        for at, _, names in os.walk(folder):
+            for name in sorted(it for it in names if it.endswith(".antt") and it != "Lib.antt"):
+                path = os.path.join(at, name)
+                inner = os.path.relpath(path, folder)[:-5].replace("/", ".")
+                with open(path, encoding="utf-8") as it:
+                    yield f"{crate}.specs.{inner}", it.read().split("\n")
+
+
+def read(lines):
+    """Returns the names that a file imports, each with where it stands, and its definitions, each with its lines."""
+    imported, whole, found, name, inside = {}, {}, {}, None, False
+    for line in lines:
+        if re.match(r"module _ .* where$", line):
+            inside, name = True, None
+            continue
+        if re.match(r"\S", line):
+            inside = False
+        line = line[2:] if inside else line
+        given = re.match(r"use Rattle\.([\w.]+?)(?:\.\{(.*)\})?(?: as (\S+))?$", line)
+        if given:
+            module, names, alias = given.groups()
+            for it in (names or "").split(", "):
+                old, _, new = it.partition(" as ")
+                if old:
+                    imported[new or old] = module, old
+            if not names:
+                whole[alias or module.rpartition(".")[2]] = module
+        elif line.strip() and not line.strip().startswith("--"):
+            start = STARTS.match(line)
+            name = start[1] if start else name
+            if name:
+                found.setdefault(name, []).append(line)
+    return imported, whole, found
+
+
+def words(text):
+    return set(re.findall(r"[^\s(){}\[\],;]+", text)) | set(re.findall(r"[^\s(){}\[\],;.]+", text))
+
+
+def main(wanted):
+    files = {module: read(lines) for module, lines in modules()}
+    # what a record or a relation names within it stands with it
+    holders = {}
+    for module, (_, _, found) in files.items():
+        for name, lines in found.items():
+            for line in lines[1:]:
+                inner = re.match(r"\s+(?:pub )?([^\s:(){},]+) :", line)
+                if inner:
+                    holders.setdefault((module, inner[1]), (module, name))
+    left = [(module, name) for module, (_, _, found) in files.items() for name in found if name in (wanted or ["FileSays"])]
+    believed = set()
+    while left:
+        at = left.pop()
+        at = at if at[1] in files.get(at[0], ({}, {}, {}))[2] else holders.get(at)
+        if not at or at in believed:
+            continue
+        believed.add(at)
+        imported, whole, found = files[at[0]]
+        for word in words("\n".join(found[at[1]])):
+            front, _, back = word.rpartition(".")
+            if word in found:
+                left.append((at[0], word))
+            elif word in imported:
+                left.append(imported[word])
+            elif front in whole:
+                left.append((whole[front], back))
+            elif (at[0], word) in holders:
+                left.append((at[0], word))
+    by_file = {}
+    for module, name in believed:
+        by_file[module] = by_file.get(module, 0) + len(files[module][2][name])
+    for module in sorted(by_file):
+        print(f"{by_file[module]:5} {module.replace('.specs.', '/')}")
+    print(f"{sum(by_file.values())} lines of {len(believed)} definitions in {len(by_file)} files; {sum(len(x) for f in files.values() for x in f[2].values())} stand in specs/")
+
+
+if __name__ == "__main__":
+    main(sys.argv[1:])
