@@ -8,6 +8,7 @@ set -eu
 here=$(cd "$(dirname "$0")/.." && pwd)
 program="$here/crates/isolationtester/out/isolationtester"
 . "$here/bench/cluster.sh"
+. "$here/bench/beside.sh"
 room=$(mktemp -d)
 finish() {
   stop_cluster
@@ -60,45 +61,7 @@ SPEC
   echo
 } > "$room/long"
 
-# microseconds of a command, its output in $room/out; the shell's own clock needs no process that would be timed too
-micros() {
-  local from to
-  from=${EPOCHREALTIME/[.,]/}
-  "$@" > "$room/out" || true
-  to=${EPOCHREALTIME/[.,]/}
-  echo $((to - from))
-}
-
-# best SPEC COMMAND..: the least of five runs
-best() {
-  local least= us spec=$1
-  shift
-  for _ in 1 2 3 4 5; do
-    us=$(micros "$@" < "$room/$spec")
-    if [ -z "$least" ] || [ "$us" -lt "$least" ]; then least=$us; fi
-  done
-  echo "$least"
-}
-
-if has_real; then
-  start_cluster "$room"
-else
-  echo "No isolationtester of PostgreSQL 15 here: ours alone."
-fi
-
-# name, permutations, what it is
-compare() {
-  local mine theirs said
-  mine=$(best "$1" "$program")
-  cp "$room/out" "$room/$1.ours"
-  printf '%-46s %4d.%d ms, %8d permutations a second' "$3" $((mine / 1000)) $((mine % 1000 / 100)) $(($2 * 1000000 / mine))
-  if [ -n "$cluster" ]; then
-    theirs=$(best "$1" "$real" "host=$room/socket user=tester dbname=postgres")
-    if cmp -s "$room/out" "$room/$1.ours"; then said="the same text"; else said="ANOTHER TEXT"; fi
-    printf '; the real tool %6d ms: %d times as long, %s' $((theirs / 1000)) $((theirs / mine)) "$said"
-  fi
-  echo
-}
+start_beside
 compare three 1680 "three sessions of three steps, 1,680 in all"
 compare two 924 "two sessions of six steps, 924 in all"
 compare long 1 "one permutation of 1,000 entries"

@@ -2,7 +2,7 @@
 # Gives every spec file of a folder to PostgreSQL 15's own isolationtester and server, and compares byte for byte what they print.
 #
 #     bench/real.sh                     examples/specs, compared with examples/expected
-#     bench/real.sh FOLDER              another folder: NAME.spec is compared with FOLDER/../expected/NAME.out, or else with FOLDER/NAME.out
+#     bench/real.sh FOLDER              another folder: NAME.spec is compared with FOLDER/NAME.out, or else with FOLDER/../expected/NAME.out
 #     bench/real.sh --into DIR FOLDER   also puts what the real tool prints into DIR/NAME.out
 #
 # Files that differ are printed with their differing lines: `<` is the expected text, `>` the real one. The last line is 'N equal, M differ'; the
@@ -63,8 +63,8 @@ for spec in "$folder"/*.spec; do
   [ -e "$spec" ] || break
   name=$(basename "$spec" .spec)
   run "$spec"
-  expected=$folder/../expected/$name.out
-  [ -e "$expected" ] || expected=$folder/$name.out
+  expected=$folder/$name.out
+  [ -e "$expected" ] || expected=$folder/../expected/$name.out
   [ -e "$expected" ] || expected=/dev/null
   if cmp -s "$expected" "$room/out"; then
     equal=$((equal + 1))

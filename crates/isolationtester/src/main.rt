@@ -13,7 +13,11 @@ use std::thread::Threads;
 /// The exit status where a device or memory fails before the program runs, or after.
 const FAILED: u8 = 3;
 
-fn run<R: Runtime + AllocGlobal + Threads + Wait + Sync>(rt: &R, errors: Stderr) -> io::Result<u8> {
+fn run<R: Runtime + AllocGlobal + Threads + Wait + Sync>(
+    rt: &R,
+    errors: Stderr,
+    typed: bool,
+) -> io::Result<u8> {
     let words: Vec<String> = env::args(rt)?.collect(rt.alloc())?;
     let mut text = BufWriter::new(rt.alloc(), io::writer(rt))?;
     let mut input = FromStd::new(rt.reader());
@@ -21,7 +25,6 @@ fn run<R: Runtime + AllocGlobal + Threads + Wait + Sync>(rt: &R, errors: Stderr)
     let is_read = errors.is_terminal();
     let mut err = FromStd::new(errors);
     let status = if is_read {
-        let typed = rt.reader().is_terminal();
         serve_at_terminal(
             rt,
             rt.alloc(),
@@ -46,7 +49,8 @@ fn run<R: Runtime + AllocGlobal + Threads + Wait + Sync>(rt: &R, errors: Stderr)
 }
 
 fn main(rt: HostRuntime) -> ExitCode {
-    match run(&rt, rt.stderr()) {
+    let typed = rt.reader().is_terminal();
+    match run(&rt, rt.stderr(), typed) {
         Ok(status) => ExitCode::from(status),
         Err(_) => {
             let _ = eprintln!(rt; "isolationtester: R2 Write");

@@ -1,5 +1,5 @@
 //! The tests of `permutations` and `command_line`, over their public calls alone: the words of a command line, devices that fail,
-//! the longest file, and the printed line of each fault. What an example file shows has no test.
+//! the longest file, what a terminal shows besides, and the printed line of each fault. What an example file shows has no test.
 #![tactic(auto)]
 
 #[cfg(test)]
@@ -14,5 +14,7 @@ mod fault_lines;
 mod files;
 #[cfg(test)]
 mod plans;
+#[cfg(test)]
+mod terminal;
 #[cfg(test)]
 mod words;
