@@ -1,5 +1,5 @@
 -- What a file says is one thing.
-use Rattle.std.proofs.Common.{◌≡◌, ℕ, zero, suc, List, [], ◌∷◌, Result, Ok, Err, refl, sym, ap, subst, ◌∙◌}
+use Rattle.std.proofs.Common.{◌≡◌, ℕ, zero, suc, List, [], ◌∷◌, Result, Ok, Err, sym, ap, subst, ◌∙◌}
 use Rattle.session_machine.specs.declared.reply.HistItem.{HistItem}
 use Rattle.session_machine.specs.Machine.{Blocks}
 use Rattle.spec_parser.specs.Trees.{EntryTree, SpecTree}
@@ -10,7 +10,7 @@ use Rattle.report_text.specs.Permutation.{permutation_says}
 use Rattle.permutations.specs.declared.fault.RunFault.{RunFault}
 use Rattle.permutations.specs.Said.{Said, behind}
 use Rattle.permutations.specs.FirstLine.{first_line}
-use Rattle.permutations.specs.Files.{File, FileIs}
+use Rattle.permutations.specs.Files.{File}
 use Rattle.permutations.specs.Prints.{GoesOn, Prints, FileSays, refused, says}
 use Rattle.permutations.specs.Laws.{FilesAreOneThing}
 use Rattle.permutations.proofs.OneFile.{err_ok, err_is, file_is}

@@ -1,9 +1,7 @@
-use Rattle.std.proofs.Common.{◌≡◌, List, Result, Err, length, map, refl, sym, subst, arith}
+use Rattle.std.proofs.Common.{map, subst, arith}
 use Rattle.std.proofs.lemmas.List.{length-map}
 use Rattle.std.proofs.lemmas.Result.{IfOk-weaker}
 use Rattle.session_machine.specs.Machine.{Blocks}
-use Rattle.session_core.specs.Blocks.{blocks_of}
-use Rattle.session_threads.specs.Closing.{ClosedOf}
 use Rattle.spec_parser.specs.Trees.{entry_view, session_view, spec_view}
 use Rattle.permutation_plans.specs.Regular.{IsRegular}
 use Rattle.permutations.proofs.Driven.{plan_fits}
