@@ -80,15 +80,22 @@ fn run_block<'a, 't, V: Versions, G: Gate, R: Wait>(
     false
 }
 
+/// A session's seat, and the blocks that its thread runs.
+#[derive(Drop)]
+struct Runner<'s, 't> {
+    seat: &'s mut Seat<'t>,
+    script: &'s [u32],
+}
+
 /// Runs the session's blocks, and leaves.
 fn run_script<'a, 't, V: Versions, G: Gate, R: Wait>(
     rt: &R,
     shared: &Mutex<FreeShared<'a, 't, V>>,
     bell: &Condvar,
     gate: &G,
-    seat: &mut Seat<'t>,
-    script: &[u32],
+    runner: Runner<'_, 't>,
 ) {
+    let Runner { seat, script } = runner;
     for block in script {
         if !run_block(rt, shared, bell, gate, seat, *block) {
             return;
@@ -197,7 +204,7 @@ fn script_of(scripts: &[Vec<u32>], session: u32) -> Option<&[u32]> {
     }
 }
 
-/// Starts a thread for each script.
+/// Starts a thread for each script. A thread's place in the crew is made first, so that each that was started is joined.
 fn start_scripts<
     's,
     'e: 's,
@@ -221,13 +228,14 @@ fn start_scripts<
         let Some(script) = script_of(scripts, seat.session()) else {
             continue;
         };
-        let Ok(thread) = scope.spawn(move || run_script(rt, shared, bell, gate, seat, script))
-        else {
-            return Err(ThreadFault::ThreadRefused);
-        };
-        if crew.push(thread).is_err() {
+        if crew.try_reserve(1).is_err() {
             return Err(ThreadFault::Memory);
         }
+        let runner = Runner { seat, script };
+        let Ok(thread) = scope.spawn(move || run_script(rt, shared, bell, gate, runner)) else {
+            return Err(ThreadFault::ThreadRefused);
+        };
+        crew.push(thread).unwrap();
     }
     Ok(())
 }

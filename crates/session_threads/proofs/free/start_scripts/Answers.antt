@@ -1,11 +1,10 @@
 use denote.Param.Send.{sendable}
-use Rattle.std.proofs.Crossing.{crosses}
 use Rattle.std.proofs.sync.Mutex.TheSendSync.{the_sync as mutex_sync}
 use Rattle.std.proofs.sync.Condvar.TheSendSync.{the_sync as condvar_sync}
 use Rattle.session_threads.proofs.FreeSending.{free_shared_send}
-use Rattle.session_threads.proofs.seat.Seat.TheSendSync.{the_send as seat_send}
+use Rattle.session_threads.proofs.free.Runner.TheSendSync.{the_send as runner_send}
 use Rattle.session_threads.proofs.free.start_scripts.Goals as goal
 
 -- what a thread is lent may cross to it
 pub spawn-requires-send-F : goal.spawn-requires-send-F
-spawn-requires-send-F g c κs within = search (sendable, crosses, mutex_sync, condvar_sync, seat_send, free_shared_send) depth 60 fits 10000
+spawn-requires-send-F g c κs within = search (sendable, mutex_sync, condvar_sync, runner_send, free_shared_send) depth 60 fits 10000
