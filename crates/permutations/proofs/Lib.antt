@@ -6,6 +6,7 @@ pub mod Running
 pub mod Driven
 pub mod Going
 pub mod Telling
+pub mod FreeRunning
 pub mod FreeTelling
 pub mod Printing
 pub mod OneText

@@ -1,0 +1,25 @@
+use Rattle.std.proofs.lemmas.Result.{err_from_is_err_and}
+use Rattle.std.proofs.Common.{ap, subst}
+use Rattle.session_machine.specs.Machine.{Blocks}
+use Rattle.session_core.specs.Blocks.{blocks_of}
+use Rattle.spec_parser.specs.Trees.{spec_view}
+use Rattle.permutations.specs.BlockAnswers.{file_view}
+use Rattle.permutations.specs.FreeRuns.{IsFreeTold}
+use Rattle.permutations.proofs.Listing.{differs}
+use Rattle.permutations.proofs.free_spec.run_file_freely.Goals as goal
+
+pub returns-in_err-file-clause-refused : goal.returns-in_err-file-clause-refused
+returns-in_err-file-clause-refused g c =
+    let p = err_from_is_err_and c.from_residual.result c.from_residual.ensures.1 in
+    rw (p.1, p.2) (λ refusal. c.in_err-file.ensures.err (differs c.in_err-file.field-0.0 refusal))
+
+pub returns-clause-told : goal.returns-clause-told
+returns-clause-told g c =
+    let blocks = ap blocks_of c.deref.ensures.value in
+    λ ended. record {
+      file = file_view c.in_ok-file.file;
+      is = c.in_ok-file.ensures.ok;
+      told = subst (λ (bs : Blocks). IsFreeTold (spec_view c.in_ok-file.file.spec) bs
+          (g.W.Sink.put_so_far c.args.out.now) (g.W.Sink.put_so_far c.run_freely.new.out) (g.N.Sink.put_so_far c.args.notes.now) (g.N.Sink.put_so_far c.run_freely.new.notes) c.run_freely.result)
+          blocks (c.run_freely.ensures.told ended);
+    }
