@@ -57,7 +57,7 @@ fn regular_run<'a, 't>(
     closed: Closed<'a, 't, ListStore>,
 ) -> Result<Closed<'a, 't, ListStore>, RunFault>
     requires stands { Stands (spec_view spec.now) }
-    requires of { IsOf closed.entry.state (blocks_of blocks.now) (length (spec_view spec.now).sessions) Free }
+    requires of { IsOf closed.state (blocks_of blocks.now) (length (spec_view spec.now).sessions) Free }
     ensures ok { IfOk result (λ c. (c ≡ closed.entry) × IsFreeRegular (spec_view spec.now) (blocks_of blocks.now) c.state.history) }
     ensures broken { IsErrOf result RunFault.ScheduleBroken → ¬ (IsFreeRegular (spec_view spec.now) (blocks_of blocks.now) closed.entry.state.history) }
     ensures faults { IfErr result (λ e. is_of_run e ≡ true) }

@@ -6,7 +6,7 @@ mod fault;
 mod file;
 mod first_line;
 mod free_run;
-mod free_spec;
+mod freely;
 pub mod laws;
 mod list;
 mod one_run;
@@ -16,7 +16,7 @@ mod run;
 mod thread_run;
 
 pub use fault::{BlockFault, RunFault};
-pub use free_spec::{free_spec, write_free};
+pub use freely::{free_spec, write_free};
 pub use interleavings::Interleavings;
 pub use list::list_spec;
 pub use one_run::run_alone;

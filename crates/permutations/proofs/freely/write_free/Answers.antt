@@ -3,7 +3,7 @@ use Rattle.std.proofs.Common.{Ok, Err, refl, ◌∙◌}
 use Rattle.spec_parser.specs.Trees.{spec_view}
 use Rattle.permutations.specs.Faults.{report_fault}
 use Rattle.permutations.proofs.FreeTelling.{no_memory, no_line, behind_line}
-use Rattle.permutations.proofs.free_spec.write_free.Goals as goal
+use Rattle.permutations.proofs.freely.write_free.Goals as goal
 
 pub returns-in_err-line : goal.returns-in_err-line
 returns-in_err-line g c =

@@ -6,7 +6,7 @@ use Rattle.spec_parser.specs.Trees.{spec_view}
 use Rattle.permutations.specs.BlockAnswers.{file_view}
 use Rattle.permutations.specs.FreeRuns.{IsFreeTold}
 use Rattle.permutations.proofs.Listing.{differs}
-use Rattle.permutations.proofs.free_spec.run_file_freely.Goals as goal
+use Rattle.permutations.proofs.freely.run_file_freely.Goals as goal
 
 pub returns-in_err-file-clause-refused : goal.returns-in_err-file-clause-refused
 returns-in_err-file-clause-refused g c =

@@ -5,7 +5,7 @@ use Rattle.session_core.specs.Blocks.{blocks_of}
 use Rattle.spec_parser.specs.Trees.{spec_view}
 use Rattle.permutation_plans.specs.FreeRegular.{IsFreeRegular}
 use Rattle.permutations.proofs.FreeTelling.{free_is_told, free_kind, free_unbroken, free_fails}
-use Rattle.permutations.proofs.free_spec.run_freely.Goals as goal
+use Rattle.permutations.proofs.freely.run_freely.Goals as goal
 
 pub returns-clause-told : goal.returns-clause-told
 returns-clause-told g c =
