@@ -259,12 +259,7 @@ after_closed db around M Commit none starts_one runs = none
 after_closed db around M Rollback none starts_one runs = none
 after_closed db around M (SetTransaction level) none starts_one runs = starts_one level false
 after_closed db around M SetDeadlockTimeout none starts_one runs = none
-after_closed db around M (Create c) none starts_one runs = runs refl
-after_closed db around M (DropTables d) none starts_one runs = runs refl
-after_closed db around M (Inserts i) none starts_one runs = runs refl
-after_closed db around M (Updates u) none starts_one runs = runs refl
-after_closed db around M (Deletes d) none starts_one runs = runs refl
-after_closed db around M (Selects s) none starts_one runs = runs refl
+after_closed db around M _ none starts_one runs = runs refl
 
 -- a statement in an aborted transaction ends it, or fails
 pub after_aborted : (db : Database) (M : Did → Type 0) → M (turns db Closed) → M (record { db = db; transaction = Aborted; statement = None; outcome = Failed AbortedFault })

@@ -4,7 +4,7 @@ use Rattle.std.specs.Prelude.{Option, Some, None, is_some, unwrap_or, slice_get,
 use Rattle.std.proofs.lemmas.Bool.{cases_eq}
 use Rattle.std.proofs.lemmas.Option.{slice_get_within, same_Some}
 use Rattle.sql_trees.specs.declared.stmt.Level.{Level}
-use Rattle.sql_trees.specs.Statements.{StmtTree, Begin, Commit, Rollback, SetTransaction, SetDeadlockTimeout, Create, DropTables, Inserts, Updates, Deletes, Selects}
+use Rattle.sql_trees.specs.Statements.{StmtTree, Begin, Commit, Rollback, SetTransaction, SetDeadlockTimeout}
 use Rattle.row_versions.specs.declared.write.Write.{Write}
 use Rattle.row_versions.specs.declared.write.Fate.TheVariants.{Committed, Open as OpenFate}
 use Rattle.row_versions.specs.Log.{Content}
@@ -52,12 +52,7 @@ open_over db t around Commit h = refl
 open_over db t around Rollback h = refl
 open_over db t around (SetTransaction level) h = level_over db t t.explicit level
 open_over db t around SetDeadlockTimeout h = refl
-open_over db t around (Create c) h = cc
-open_over db t around (DropTables d) h = cc
-open_over db t around (Inserts i) h = cc
-open_over db t around (Updates u) h = cc
-open_over db t around (Deletes d) h = cc
-open_over db t around (Selects s) h = cc
+open_over db t around _ h = cc
 
 on_over : (db : Database) (t : OpenTransaction) (around : Around) (p : Progress) (stmt : StmtTree) → may_turn stmt ≡ true → (run_on db t around p stmt).statement ≡ None
 on_over db t around p (Begin level) h = begin_over db t level
@@ -65,12 +60,7 @@ on_over db t around p Commit h = refl
 on_over db t around p Rollback h = refl
 on_over db t around p (SetTransaction level) h = level_over db t t.explicit level
 on_over db t around p SetDeadlockTimeout h = refl
-on_over db t around p (Create c) h = cc
-on_over db t around p (DropTables d) h = cc
-on_over db t around p (Inserts i) h = cc
-on_over db t around p (Updates u) h = cc
-on_over db t around p (Deletes d) h = cc
-on_over db t around p (Selects s) h = cc
+on_over db t around p _ h = cc
 
 closed_over : (db : Database) (around : Around) (stmt : StmtTree) → may_turn stmt ≡ true → (run_closed db around stmt).statement ≡ None
 closed_over db around (Begin level) h = refl
@@ -78,12 +68,7 @@ closed_over db around Commit h = refl
 closed_over db around Rollback h = refl
 closed_over db around (SetTransaction level) h = refl
 closed_over db around SetDeadlockTimeout h = refl
-closed_over db around (Create c) h = cc
-closed_over db around (DropTables d) h = cc
-closed_over db around (Inserts i) h = cc
-closed_over db around (Updates u) h = cc
-closed_over db around (Deletes d) h = cc
-closed_over db around (Selects s) h = cc
+closed_over db around _ h = cc
 
 turning_over : (db : Database) (t : Transaction) (statement : Option Progress) (around : Around) (stmt : StmtTree) → may_turn stmt ≡ true → (run_stmt db t statement around stmt).statement ≡ None
 turning_over db Closed statement around stmt h = closed_over db around stmt h

@@ -1,18 +1,17 @@
 -- Which statements may want room.
 use Rattle.std.specs.Prelude.{Bool, true, false}
-use Rattle.sql_trees.specs.Statements.{StmtTree, Begin, SetTransaction, Create, DropTables, Inserts, Updates, Deletes, Selects}
+use Rattle.sql_trees.specs.Statements.{StmtTree, Begin, Commit, Rollback, SetTransaction, SetDeadlockTimeout}
 use Rattle.session_machine.specs.declared.session.Transaction.{Transaction}
 use Rattle.session_machine.specs.declared.session.Transaction.TheVariants.{Closed, Open, Aborted}
 
--- a query
+-- a query: all but what begins, ends or sets something alone
 abbrev pub is_query : StmtTree → Bool
-is_query (Create c) = true
-is_query (DropTables d) = true
-is_query (Inserts i) = true
-is_query (Updates u) = true
-is_query (Deletes d) = true
-is_query (Selects s) = true
-is_query stmt = false
+is_query (Begin level) = false
+is_query Commit = false
+is_query Rollback = false
+is_query (SetTransaction level) = false
+is_query SetDeadlockTimeout = false
+is_query stmt = true
 
 -- where no transaction is open, a statement that begins one
 abbrev pub begins : StmtTree → Bool

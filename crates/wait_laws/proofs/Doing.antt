@@ -7,7 +7,7 @@ use Rattle.sql_trees.specs.declared.stmt.Level.{Level}
 use Rattle.sql_trees.specs.declared.stmt.Level.TheVariants.{ReadCommitted, RepeatableRead}
 use Rattle.sql_trees.specs.declared.stmt.Lock.{Lock}
 use Rattle.sql_trees.specs.Trees.{Tree}
-use Rattle.sql_trees.specs.Statements.{StmtTree, KeyTree, CreateTree, InsertTree, UpdateTree, DeleteTree, SelectTree, Begin, Commit, Rollback, SetTransaction, SetDeadlockTimeout, Create, DropTables, Inserts, Updates, Deletes, Selects}
+use Rattle.sql_trees.specs.Statements.{StmtTree, KeyTree, CreateTree, InsertTree, UpdateTree, DeleteTree, SelectTree, Begin, Commit, Rollback, SetTransaction, SetDeadlockTimeout}
 use Rattle.sql_values.specs.declared.value.Value.{Value}
 use Rattle.sql_values.specs.declared.fault.ValueFault.{ValueFault}
 use Rattle.result_tables.specs.Results.{Results}
@@ -50,7 +50,8 @@ use Rattle.session_machine.specs.Statements.{Around, Did, DroppedUpTo, fails, tu
 use Rattle.session_machine.specs.Walks.{Stop, Visit, Walk, Blocked, Fails, goes_on, unless_stopped, walked, walked_from}
 use Rattle.session_machine.specs.AskedKeys.{AskedKey}
 use Rattle.session_machine.specs.Rows.{Work, columns_in, keys_in, cols_in, asked_key, stop_by, stop_at_key, stop_at_keys, unless_stopped_by, inserted, written, unless_null, insert_made, insert_at, ask, at_outcome, at_target, values_of, update_made, update_with, update_at, delete_with, delete_at, lock_made, lock_with, lock_at, strength_of, passing_targets, taken_targets}
-use Rattle.session_machine.specs.Running.{beginning, going_on, comes_to, ended, done, insert_from, insert_fitting, insert_to, insert, assigned_to, update_from, update_fitting, update_to, update, delete_from, delete_fitting, delete, lock_from, answered, select_rows, unless_wrong, select_in, select_at, select, run_open, run_first, run_closed, lock_again, run_on, run_stmt}
+use Rattle.session_machine.specs.Running.{beginning, going_on, comes_to, ended, done, insert_from, insert_fitting, insert_to, insert, assigned_to, update_from, update_fitting, update_to, update, delete_from, delete_fitting, delete, lock_from, answered, select_rows, unless_wrong, select_in, select_at, select, run_open, run_first, run_closed, run_on, run_stmt}
+use Rattle.wait_laws.proofs.ByKind.{AtOnce, FromStart, FromPlace, by_kind, on_kind}
 use Rattle.wait_laws.proofs.Lists.{holds_last}
 
 -- a lock may be taken: nobody stands against it, and its row was written
@@ -476,51 +477,62 @@ ran_level : (P Q : Database → Type 0) (V : View → Type 0) (ss : List Session
 ran_level P Q V ss db t explicit level keeps p =
     ran_if P Q V ss t.tx t.command _ _ _ (ran_fails P Q V ss db t _ keeps p) (ran_open P Q V ss db t (record t { explicit = explicit; level = level }) _ refl keeps p)
 
+ran_create : (P Q : Database → Type 0) (V : View → Type 0) (ss : List Session) (db : Database) (t : OpenTransaction) (c : CreateTree) (o : Option ℕ)
+    → Keeps t.tx t.command P Q → P db → Ran t.tx t.command P Q V ss (create db t c o)
+ran_create P Q V ss db t c (Some k) keeps p = ran_fails P Q V ss db t _ keeps p
+ran_create P Q V ss db t c None keeps p = ran_open P Q V ss _ t _ _ refl keeps (keeps.create db c p)
+
+ran_insert : (P Q : Database → Type 0) (V : View → Type 0) (db : Database) (t : OpenTransaction) (around : Around) (i : InsertTree) (o : Option ℕ)
+    → Keeps t.tx t.command P Q → V (view_of db.content t) → P db → Ran t.tx t.command P Q V around.sessions (insert db t around i o)
+ran_insert P Q V db t around i None keeps view p = ran_fails P Q V around.sessions db t _ keeps p
+ran_insert P Q V db t around i (Some k) keeps view p = ran_insert_to P Q V db (beginning db t around k) i _ keeps view p
+
+ran_update : (P Q : Database → Type 0) (V : View → Type 0) (db : Database) (t : OpenTransaction) (around : Around) (u : UpdateTree) (o : Option ℕ)
+    → Keeps t.tx t.command P Q → V (view_of db.content t) → P db → Ran t.tx t.command P Q V around.sessions (update db t around u o)
+ran_update P Q V db t around u None keeps view p = ran_fails P Q V around.sessions db t _ keeps p
+ran_update P Q V db t around u (Some k) keeps view p = ran_update_to P Q V db (beginning db t around k) u _ keeps view p
+
+ran_delete : (P Q : Database → Type 0) (V : View → Type 0) (db : Database) (t : OpenTransaction) (around : Around) (d : DeleteTree) (o : Option ℕ)
+    → Keeps t.tx t.command P Q → V (view_of db.content t) → P db → Ran t.tx t.command P Q V around.sessions (delete db t around d o)
+ran_delete P Q V db t around d None keeps view p = ran_fails P Q V around.sessions db t _ keeps p
+ran_delete P Q V db t around d (Some k) keeps view p = ran_delete_fitting P Q V db (beginning db t around k) d _ keeps view p
+
+ran_once : (P Q : Database → Type 0) (V : View → Type 0) (db : Database) (t : OpenTransaction) (around : Around)
+    → Keeps t.tx t.command P Q → V (view_of db.content t) → P db → AtOnce db t around (Ran t.tx t.command P Q V around.sessions)
+ran_once P Q V db t around keeps view p = record {
+  begins = λ level. ran_if P Q V around.sessions t.tx t.command t.explicit _ _ (ran_open P Q V around.sessions db t t _ refl keeps p) (ran_level P Q V around.sessions db t true (unwrap_or level t.level) keeps p);
+  sets = λ level. ran_level P Q V around.sessions db t t.explicit level keeps p;
+  stays = ran_open P Q V around.sessions db t t _ refl keeps p;
+  commits = ran_closed P Q V around.sessions t.tx t.command _ (keeps.commit db p);
+  rolls_back = ran_closed P Q V around.sessions t.tx t.command _ (keeps.roll_back db p);
+  creates = λ c. ran_create P Q V around.sessions db t c _ keeps p;
+  drops = λ d. let e = dropped db t d.if_exists d.names in ran_drop P Q V around.sessions db.content t e.db e.missing keeps (kept_dropped P Q t d.if_exists d.names keeps db p);
+  shows = λ s e. ran_select P Q V db t around s s.table keeps view p;
+}
+
 -- a statement that begins in an open transaction
 pub ran_begins : (P Q : Database → Type 0) (V : View → Type 0) (db : Database) (t : OpenTransaction) (around : Around) (stmt : StmtTree)
     → Keeps t.tx t.command P Q → V (view_of db.content t) → P db → Ran t.tx t.command P Q V around.sessions (run_open db t around stmt)
-ran_begins P Q V db t around (Begin level) keeps view p =
-    ran_if P Q V around.sessions t.tx t.command t.explicit _ _ (ran_open P Q V around.sessions db t t _ refl keeps p) (ran_level P Q V around.sessions db t true (unwrap_or level t.level) keeps p)
-ran_begins P Q V db t around Commit keeps view p = ran_closed P Q V around.sessions t.tx t.command _ (keeps.commit db p)
-ran_begins P Q V db t around Rollback keeps view p = ran_closed P Q V around.sessions t.tx t.command _ (keeps.roll_back db p)
-ran_begins P Q V db t around (SetTransaction level) keeps view p = ran_level P Q V around.sessions db t t.explicit level keeps p
-ran_begins P Q V db t around SetDeadlockTimeout keeps view p = ran_open P Q V around.sessions db t t _ refl keeps p
-ran_begins P Q V db t around (Create c) keeps view p = at (find_table db (Some t.tx) c.name) where
-  at : (o : Option ℕ) → Ran t.tx t.command P Q V around.sessions (create db t c o)
-  at (Some k) = ran_fails P Q V around.sessions db t _ keeps p
-  at None = ran_open P Q V around.sessions _ t _ _ refl keeps (keeps.create db c p)
-ran_begins P Q V db t around (DropTables d) keeps view p = ran_drop P Q V around.sessions db.content t _ _ keeps (kept_dropped P Q t d.if_exists d.names keeps db p)
-ran_begins P Q V db t around (Inserts i) keeps view p = at (find_table db (Some t.tx) i.table) where
-  at : (o : Option ℕ) → Ran t.tx t.command P Q V around.sessions (insert db t around i o)
-  at None = ran_fails P Q V around.sessions db t _ keeps p
-  at (Some k) = ran_insert_to P Q V db (beginning db t around k) i _ keeps view p
-ran_begins P Q V db t around (Updates u) keeps view p = at (find_table db (Some t.tx) u.table) where
-  at : (o : Option ℕ) → Ran t.tx t.command P Q V around.sessions (update db t around u o)
-  at None = ran_fails P Q V around.sessions db t _ keeps p
-  at (Some k) = ran_update_to P Q V db (beginning db t around k) u _ keeps view p
-ran_begins P Q V db t around (Deletes d) keeps view p = at (find_table db (Some t.tx) d.table) where
-  at : (o : Option ℕ) → Ran t.tx t.command P Q V around.sessions (delete db t around d o)
-  at None = ran_fails P Q V around.sessions db t _ keeps p
-  at (Some k) = ran_delete_fitting P Q V db (beginning db t around k) d _ keeps view p
-ran_begins P Q V db t around (Selects s) keeps view p = ran_select P Q V db t around s s.table keeps view p
+ran_begins P Q V db t around stmt keeps view p = by_kind db t around (Ran t.tx t.command P Q V around.sessions) (ran_once P Q V db t around keeps view p) start stmt where
+  start : FromStart db t around (Ran t.tx t.command P Q V around.sessions)
+  start = record {
+    inserts = λ i. ran_insert P Q V db t around i _ keeps view p;
+    updates = λ u. ran_update P Q V db t around u _ keeps view p;
+    deletes = λ d. ran_delete P Q V db t around d _ keeps view p;
+    locks = λ s l e. ran_select P Q V db t around s s.table keeps view p;
+  }
 
 -- one that goes on
 pub ran_on : (P Q : Database → Type 0) (V : View → Type 0) (db : Database) (t : OpenTransaction) (around : Around) (g : Progress) (stmt : StmtTree)
     → Keeps t.tx t.command P Q → V (view_of db.content t) → V g.view → P db → Ran t.tx t.command P Q V around.sessions (run_on db t around g stmt)
-ran_on P Q V db t around g (Updates u) keeps view own p = ran_update_from P Q V db (going_on t around g) u g.place g.rows keeps own p
-ran_on P Q V db t around g (Deletes d) keeps view own p = ran_delete_from P Q V db (going_on t around g) d g.place g.rows keeps own p
-ran_on P Q V db t around g (Selects s) keeps view own p = again s.lock where
-  again : (o : Option Lock) → Ran t.tx t.command P Q V around.sessions (lock_again db t around s g o)
-  again None = ran_begins P Q V db t around (Selects s) keeps view p
-  again (Some l) = ran_lock_from P Q V db (going_on t around g) s l g.place g.rows keeps own p
-ran_on P Q V db t around g (Begin level) keeps view own p = ran_begins P Q V db t around (Begin level) keeps view p
-ran_on P Q V db t around g Commit keeps view own p = ran_begins P Q V db t around Commit keeps view p
-ran_on P Q V db t around g Rollback keeps view own p = ran_begins P Q V db t around Rollback keeps view p
-ran_on P Q V db t around g (SetTransaction level) keeps view own p = ran_begins P Q V db t around (SetTransaction level) keeps view p
-ran_on P Q V db t around g SetDeadlockTimeout keeps view own p = ran_begins P Q V db t around SetDeadlockTimeout keeps view p
-ran_on P Q V db t around g (Create c) keeps view own p = ran_begins P Q V db t around (Create c) keeps view p
-ran_on P Q V db t around g (DropTables d) keeps view own p = ran_begins P Q V db t around (DropTables d) keeps view p
-ran_on P Q V db t around g (Inserts i) keeps view own p = ran_insert_from P Q V db (going_on t around g) i g.place g.rows keeps own p
+ran_on P Q V db t around g stmt keeps view own p = on_kind db t around (Ran t.tx t.command P Q V around.sessions) (ran_once P Q V db t around keeps view p) g place stmt where
+  place : FromPlace db t around g (Ran t.tx t.command P Q V around.sessions)
+  place = record {
+    inserts = λ i. ran_insert_from P Q V db (going_on t around g) i g.place g.rows keeps own p;
+    updates = λ u. ran_update_from P Q V db (going_on t around g) u g.place g.rows keeps own p;
+    deletes = λ d. ran_delete_from P Q V db (going_on t around g) d g.place g.rows keeps own p;
+    locks = λ s l e. ran_lock_from P Q V db (going_on t around g) s l g.place g.rows keeps own p;
+  }
 
 -- who does what a statement of the session does: its transaction, or the one that begins
 abbrev pub doer : Database → Transaction → TxId
@@ -573,9 +585,4 @@ does_stmt P Q V db Closed statement around stmt keeps view p = by stmt where
   by Rollback = inl idles
   by (SetTransaction level) = inr (ran_open P Q V around.sessions (begun db) first (fresh db.content level false) _ refl keeps p)
   by SetDeadlockTimeout = inl idles
-  by (Create c) = run (Create c)
-  by (DropTables d) = run (DropTables d)
-  by (Inserts i) = run (Inserts i)
-  by (Updates u) = run (Updates u)
-  by (Deletes d) = run (Deletes d)
-  by (Selects s) = run (Selects s)
+  by s = run s

@@ -1,4 +1,5 @@
 pub mod Lists
+pub mod ByKind
 pub mod KeyBlockers
 pub mod Doing
 pub mod Deadlocks

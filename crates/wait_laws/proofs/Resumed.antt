@@ -5,7 +5,7 @@ use Rattle.std.proofs.lemmas.Bool.{cases_eq}
 use Rattle.std.proofs.lemmas.Option.{slice_get_within}
 use Rattle.sql_trees.specs.declared.stmt.Level.{Level}
 use Rattle.sql_trees.specs.declared.stmt.Lock.{Lock}
-use Rattle.sql_trees.specs.Statements.{StmtTree, CreateTree, SelectTree, Begin, Commit, Rollback, SetTransaction, SetDeadlockTimeout, Create, DropTables, Inserts, Updates, Deletes, Selects}
+use Rattle.sql_trees.specs.Statements.{StmtTree, CreateTree, SelectTree}
 use Rattle.sql_values.specs.declared.fault.ValueFault.{ValueFault}
 use Rattle.result_tables.specs.Results.{Results}
 use Rattle.row_versions.specs.declared.names.TxId.{TxId}
@@ -28,7 +28,8 @@ use Rattle.session_machine.specs.Rows.{Work}
 use Rattle.session_machine.specs.Running.{answered, beginning, lock_again, run_on, run_stmt, select, select_at, select_rows, unless_wrong}
 use Rattle.session_machine.specs.Machine.{Machine, Blocks, Next, next, stmts_at, around, at_rest, first_place, launch_of, step_of, leave_of}
 use Rattle.session_machine.specs.Sound.{command_in}
-use Rattle.wait_laws.specs.Laws.{session_of, IsAtWork, IsInViewOf, RunAtWork, StatementsStayAsBegun, transaction_at, view_at}
+use Rattle.wait_laws.specs.Laws.{session_of, GoesOnInItsView, IsAtWork, IsInViewOf, RunAtWork, StatementsStayAsBegun, transaction_at, view_at}
+use Rattle.wait_laws.proofs.ByKind.{on_kind}
 use Rattle.wait_laws.proofs.Doing.{Keeps, doer, Allows, does_stmt}
 use Rattle.wait_laws.proofs.Events.{ok_is, ok_else, stepped, after}
 use Rattle.wait_laws.proofs.Staying.{stays_here, stays_on, count-begin}
@@ -89,20 +90,29 @@ over_drop before t db (Some name) = refl
 
 -- a statement that goes on and waits again is in its view
 in_its_view : (db : Database) (t : OpenTransaction) (around : Around) (p q : Progress) (stmt : StmtTree) → (run_on db t around p stmt).statement ≡ Some q → IsInViewOf p around q
-in_its_view db t around p q (Begin level) h = absurd (none_not q (sym (over_if t.explicit _ _ refl (over_level db t true (unwrap_or level t.level))) ∙ h))
-in_its_view db t around p q Commit h = absurd (none_not q h)
-in_its_view db t around p q Rollback h = absurd (none_not q h)
-in_its_view db t around p q (SetTransaction level) h = absurd (none_not q (sym (over_level db t t.explicit level) ∙ h))
-in_its_view db t around p q SetDeadlockTimeout h = absurd (none_not q h)
-in_its_view db t around p q (Create c) h = absurd (none_not q (sym (over_create db t c (find_table db (Some t.tx) c.name)) ∙ h))
-in_its_view db t around p q (DropTables d) h = absurd (none_not q (sym (over_drop db.content t (dropped db t d.if_exists d.names).db (dropped db t d.if_exists d.names).missing) ∙ h))
-in_its_view db t around p q (Inserts i) h = (statements_go_on_in_their_view db t around p q).inserts i h
-in_its_view db t around p q (Updates u) h = (statements_go_on_in_their_view db t around p q).updates u h
-in_its_view db t around p q (Deletes d) h = (statements_go_on_in_their_view db t around p q).deletes d h
-in_its_view db t around p q (Selects s) h = again s.lock refl h where
-  again : (o : Option Lock) → s.lock ≡ o → (lock_again db t around s p o).statement ≡ Some q → IsInViewOf p around q
-  again None e k = absurd (none_not q (sym (over_select db t around s e) ∙ k))
-  again (Some l) e k = (statements_go_on_in_their_view db t around p q).locks s l e (subst (λ o. (lock_again db t around s p o).statement ≡ Some q) (sym e) k)
+in_its_view db t around p q stmt = on_kind db t around In (record {
+  begins = λ level. over _ (over_if t.explicit _ _ refl (over_level db t true (unwrap_or level t.level)));
+  sets = λ level. over _ (over_level db t t.explicit level);
+  stays = over _ refl;
+  commits = over _ refl;
+  rolls_back = over _ refl;
+  creates = λ c. over _ (over_create db t c (find_table db (Some t.tx) c.name));
+  drops = λ d. let e = dropped db t d.if_exists d.names in over _ (over_drop db.content t e.db e.missing);
+  shows = λ s e. over _ (over_select db t around s e);
+}) p (record {
+  inserts = again.inserts;
+  updates = again.updates;
+  deletes = again.deletes;
+  locks = λ s l e h. again.locks s l e (subst (λ o. (lock_again db t around s p o).statement ≡ Some q) (sym e) h);
+}) stmt where
+  In : Did → Type 0
+  In d = d.statement ≡ Some q → IsInViewOf p around q
+
+  over : (o : Option Progress) → o ≡ None → o ≡ Some q → IsInViewOf p around q
+  over o h k = absurd (none_not q (sym h ∙ k))
+
+  again : GoesOnInItsView db t around p q
+  again = statements_go_on_in_their_view db t around p q
 
 free_keeps : (x : TxId) (n : ℕ) → Keeps x n (λ d. Unit {0}) (λ d. Unit {0})
 free_keeps x n = record {

@@ -4,7 +4,7 @@ use Rattle.std.specs.Prelude.{ℤ, Option, Some, None, drop, unwrap_or, Result, 
 use Rattle.sql_trees.specs.declared.stmt.Level.{Level}
 use Rattle.sql_trees.specs.declared.stmt.Level.TheVariants.{ReadCommitted}
 use Rattle.sql_trees.specs.declared.stmt.Lock.{Lock}
-use Rattle.sql_trees.specs.Statements.{StmtTree, InsertTree, UpdateTree, DeleteTree, SelectTree, Begin, Commit, Rollback, SetTransaction, SetDeadlockTimeout, Create, DropTables, Inserts, Updates, Deletes, Selects}
+use Rattle.sql_trees.specs.Statements.{StmtTree, CreateTree, InsertTree, UpdateTree, DeleteTree, SelectTree, Begin, Commit, Rollback, SetTransaction, SetDeadlockTimeout}
 use Rattle.sql_values.specs.declared.value.Value.{Value}
 use Rattle.sql_values.specs.declared.fault.ValueFault.{ValueFault}
 use Rattle.result_tables.specs.Results.{Results}
@@ -24,7 +24,8 @@ use Rattle.session_machine.specs.Transactions.{begun, fresh, moved_on, started}
 use Rattle.session_machine.specs.Statements.{Around, Did, fails, turns, create, drop_ended, dropped, level_set, is_end}
 use Rattle.session_machine.specs.Walks.{Stop, Walk, Blocked, Fails, walked, walked_from}
 use Rattle.session_machine.specs.Rows.{Work, columns_in, insert_at, update_at, delete_at, lock_at, passing_targets, taken_targets}
-use Rattle.session_machine.specs.Running.{beginning, going_on, comes_to, ended, done, insert_from, update_from, delete_from, lock_from, assigned_to, insert_fitting, insert_to, insert, update_fitting, update_to, update, delete_fitting, delete, answered, select_rows, unless_wrong, select_at, select, run_open, run_first, run_closed, lock_again, run_on, run_stmt}
+use Rattle.session_machine.specs.Running.{beginning, going_on, comes_to, ended, done, insert_from, update_from, delete_from, lock_from, assigned_to, insert_fitting, insert_to, insert, update_fitting, update_to, update, delete_fitting, delete, answered, select_rows, unless_wrong, select_at, select, run_open, run_first, run_closed, run_on, run_stmt}
+use Rattle.wait_laws.proofs.ByKind.{AtOnce, FromStart, FromPlace, by_kind, on_kind}
 use Rattle.wait_laws.proofs.Staying.{count-begin}
 
 -- the snapshot, if there is one, is of at most so many commits
@@ -109,9 +110,9 @@ shot_update_to count db w u (Ok targets) has same = by (lacking_update (cols_of 
   by (Some name) = shot_fails count db w.t _
   by None = shot_update_from count db w u 0 [] has same
 
-shot_delete : (count : ℕ) (db : Database) (w : Work) (e : DeleteTree) (o : Option (List ℕ)) → Has count w.t → commit_count db.content ≡ count → Shot count (delete_fitting db w e o)
-shot_delete count db w e (Some name) has same = shot_fails count db w.t _
-shot_delete count db w e None has same = shot_delete_from count db w e 0 [] has same
+shot_delete_to : (count : ℕ) (db : Database) (w : Work) (e : DeleteTree) (o : Option (List ℕ)) → Has count w.t → commit_count db.content ≡ count → Shot count (delete_fitting db w e o)
+shot_delete_to count db w e (Some name) has same = shot_fails count db w.t _
+shot_delete_to count db w e None has same = shot_delete_from count db w e 0 [] has same
 
 shot_answered : (count : ℕ) (db : Database) (t : OpenTransaction) (r : Result Results ValueFault) → Has count t → commit_count db.content ≡ count → Shot count (answered db t r)
 shot_answered count db t (Ok results) has same = shot_query count db.content db t None _ has same
@@ -137,51 +138,58 @@ shot_select count db t around s (Some name) has same = by (find_table db (Some t
 shot_level : (count : ℕ) (db : Database) (t : OpenTransaction) (explicit : Bool) (level : Level) → Has count t → Shot count (level_set db t explicit level)
 shot_level count db t explicit level has = shot_if count _ _ _ (shot_fails count db t _) (shot_open count db (record t { explicit = explicit; level = level }) None _ has)
 
+shot_create : (count : ℕ) (db : Database) (t : OpenTransaction) (c : CreateTree) (o : Option ℕ) → Has count t → commit_count db.content ≡ count → Shot count (create db t c o)
+shot_create count db t c (Some k) has same = shot_fails count db t _
+shot_create count db t c None has same = shot_query count db.content _ t None _ has same
+
+shot_drop : (count : ℕ) (before : Content) (t : OpenTransaction) (e : Database) (o : Option (List ℕ)) → Has count t → commit_count before ≡ count → Shot count (drop_ended before t e o)
+shot_drop count before t e None has same = shot_query count before e t None _ has same
+shot_drop count before t e (Some name) has same = shot_fails count e t _
+
+shot_insert : (count : ℕ) (db : Database) (t : OpenTransaction) (around : Around) (i : InsertTree) (o : Option ℕ) → Has count t → commit_count db.content ≡ count → Shot count (insert db t around i o)
+shot_insert count db t around i None has same = shot_fails count db t _
+shot_insert count db t around i (Some k) has same = shot_insert_to count db (beginning db t around k) i _ has same
+
+shot_update : (count : ℕ) (db : Database) (t : OpenTransaction) (around : Around) (u : UpdateTree) (o : Option ℕ) → Has count t → commit_count db.content ≡ count → Shot count (update db t around u o)
+shot_update count db t around u None has same = shot_fails count db t _
+shot_update count db t around u (Some k) has same = shot_update_to count db (beginning db t around k) u _ has same
+
+shot_delete : (count : ℕ) (db : Database) (t : OpenTransaction) (around : Around) (d : DeleteTree) (o : Option ℕ) → Has count t → commit_count db.content ≡ count → Shot count (delete db t around d o)
+shot_delete count db t around d None has same = shot_fails count db t _
+shot_delete count db t around d (Some k) has same = shot_delete_to count db (beginning db t around k) d _ has same
+
+shot_once : (count : ℕ) (db : Database) (t : OpenTransaction) (around : Around) → Has count t → commit_count db.content ≡ count → AtOnce db t around (Shot count)
+shot_once count db t around has same = record {
+  begins = λ level. shot_if count t.explicit _ _ (shot_open count db t None _ has) (shot_level count db t true (unwrap_or level t.level) has);
+  sets = λ level. shot_level count db t t.explicit level has;
+  stays = shot_open count db t None _ has;
+  commits = shot_closed count _;
+  rolls_back = shot_closed count _;
+  creates = λ c. shot_create count db t c _ has same;
+  drops = λ d. let e = dropped db t d.if_exists d.names in shot_drop count db.content t e.db e.missing has same;
+  shows = λ s e. shot_select count db t around s s.table has same;
+}
+
 shot_begins : (count : ℕ) (db : Database) (t : OpenTransaction) (around : Around) (stmt : StmtTree) → Has count t → commit_count db.content ≡ count → Shot count (run_open db t around stmt)
-shot_begins count db t around (Begin level) has same =
-    shot_if count t.explicit _ _ (shot_open count db t None _ has) (shot_level count db t true (unwrap_or level t.level) has)
-shot_begins count db t around Commit has same = shot_closed count _
-shot_begins count db t around Rollback has same = shot_closed count _
-shot_begins count db t around (SetTransaction level) has same = shot_level count db t t.explicit level has
-shot_begins count db t around SetDeadlockTimeout has same = shot_open count db t None _ has
-shot_begins count db t around (Create c) has same = by (find_table db (Some t.tx) c.name) where
-  by : (o : Option ℕ) → Shot count (create db t c o)
-  by (Some k) = shot_fails count db t _
-  by None = shot_query count db.content _ t None _ has same
-shot_begins count db t around (DropTables d) has same = by (dropped db t d.if_exists d.names).missing where
-  by : (o : Option (List ℕ)) → Shot count (drop_ended db.content t (dropped db t d.if_exists d.names).db o)
-  by None = shot_query count db.content _ t None _ has same
-  by (Some name) = shot_fails count _ t _
-shot_begins count db t around (Inserts i) has same = by (find_table db (Some t.tx) i.table) where
-  by : (o : Option ℕ) → Shot count (insert db t around i o)
-  by None = shot_fails count db t _
-  by (Some k) = shot_insert_to count db (beginning db t around k) i _ has same
-shot_begins count db t around (Updates u) has same = by (find_table db (Some t.tx) u.table) where
-  by : (o : Option ℕ) → Shot count (update db t around u o)
-  by None = shot_fails count db t _
-  by (Some k) = shot_update_to count db (beginning db t around k) u _ has same
-shot_begins count db t around (Deletes d) has same = by (find_table db (Some t.tx) d.table) where
-  by : (o : Option ℕ) → Shot count (delete db t around d o)
-  by None = shot_fails count db t _
-  by (Some k) = shot_delete count db (beginning db t around k) d _ has same
-shot_begins count db t around (Selects s) has same = shot_select count db t around s s.table has same
+shot_begins count db t around stmt has same = by_kind db t around (Shot count) (shot_once count db t around has same) start stmt where
+  start : FromStart db t around (Shot count)
+  start = record {
+    inserts = λ i. shot_insert count db t around i _ has same;
+    updates = λ u. shot_update count db t around u _ has same;
+    deletes = λ d. shot_delete count db t around d _ has same;
+    locks = λ s l e. shot_select count db t around s s.table has same;
+  }
 
 shot_on : (count : ℕ) (db : Database) (t : OpenTransaction) (around : Around) (g : Progress) (stmt : StmtTree) → Has count t → commit_count db.content ≡ count
     → Shot count (run_on db t around g stmt)
-shot_on count db t around g (Updates u) has same = shot_update_from count db (going_on t around g) u g.place g.rows has same
-shot_on count db t around g (Deletes d) has same = shot_delete_from count db (going_on t around g) d g.place g.rows has same
-shot_on count db t around g (Selects s) has same = again s.lock where
-  again : (o : Option Lock) → Shot count (lock_again db t around s g o)
-  again None = shot_begins count db t around (Selects s) has same
-  again (Some l) = shot_lock_from count db (going_on t around g) s l g.place g.rows has same
-shot_on count db t around g (Begin level) has same = shot_begins count db t around (Begin level) has same
-shot_on count db t around g Commit has same = shot_begins count db t around Commit has same
-shot_on count db t around g Rollback has same = shot_begins count db t around Rollback has same
-shot_on count db t around g (SetTransaction level) has same = shot_begins count db t around (SetTransaction level) has same
-shot_on count db t around g SetDeadlockTimeout has same = shot_begins count db t around SetDeadlockTimeout has same
-shot_on count db t around g (Create c) has same = shot_begins count db t around (Create c) has same
-shot_on count db t around g (DropTables d) has same = shot_begins count db t around (DropTables d) has same
-shot_on count db t around g (Inserts i) has same = shot_insert_from count db (going_on t around g) i g.place g.rows has same
+shot_on count db t around g stmt has same = on_kind db t around (Shot count) (shot_once count db t around has same) g place stmt where
+  place : FromPlace db t around g (Shot count)
+  place = record {
+    inserts = λ i. shot_insert_from count db (going_on t around g) i g.place g.rows has same;
+    updates = λ u. shot_update_from count db (going_on t around g) u g.place g.rows has same;
+    deletes = λ d. shot_delete_from count db (going_on t around g) d g.place g.rows has same;
+    locks = λ s l e. shot_lock_from count db (going_on t around g) s l g.place g.rows has same;
+  }
 
 none_not : (k : ℕ) → None ≡ Some k → ⊥
 none_not k h = cc
@@ -211,9 +219,4 @@ shot_stmt db Closed statement around stmt has = by stmt where
   by Rollback = shot_closed (commit_count db.content) db
   by (SetTransaction level) = shot_open (commit_count db.content) (begun db) (fresh db.content level false) None _ (none level false)
   by SetDeadlockTimeout = shot_closed (commit_count db.content) db
-  by (Create c) = run (Create c)
-  by (DropTables d) = run (DropTables d)
-  by (Inserts i) = run (Inserts i)
-  by (Updates u) = run (Updates u)
-  by (Deletes d) = run (Deletes d)
-  by (Selects s) = run (Selects s)
+  by s = run s
