@@ -1,21 +1,52 @@
--- Events that the machine doesn't refuse, and tables that it shows.
-use Rattle.std.proofs.Common.{◌≡◌, ℕ, Bool, true, false, List, refl, ap, subst}
-use Rattle.std.specs.Prelude.{Option, Some, None, IfSome, Ok, slice_get, if◌then◌else◌}
+-- What an event leaves of a machine and its history, events that it doesn't refuse, and tables that it shows.
+use Rattle.std.proofs.Common.{◌≡◌, ℕ, Bool, true, false, List, [], ◌∷◌, ◌++◌, length, refl, ap, sym, subst}
+use Rattle.std.specs.Prelude.{Option, Some, None, IfSome, Result, Ok, Err, slice_get, if◌then◌else◌}
 use Rattle.sql_values.specs.declared.value.Value.{Value}
 use Rattle.session_machine.specs.declared.session.Session.{Session}
 use Rattle.session_machine.specs.declared.event.Event.{Event}
 use Rattle.session_machine.specs.declared.event.Mode.{Mode}
 use Rattle.session_machine.specs.declared.reply.Reply.{Reply}
 use Rattle.session_machine.specs.declared.reply.HistItem.{HistItem}
-use Rattle.session_machine.specs.Machine.{Machine, Blocks, Next, next, visible, visible_for, visible_to}
-use Rattle.session_machine.specs.Engine.{Engine, answered}
-use Rattle.session_core.proofs.Replaying.{answered_ok}
+use Rattle.session_machine.specs.declared.fault.Refusal.{Refusal}
+use Rattle.session_machine.specs.Machine.{Machine, Blocks, Next, next, opening, visible, visible_for, visible_to}
+use Rattle.session_machine.specs.Engine.{Engine, IsLegal, Run, answered}
+use Rattle.session_machine.specs.Sound.{IsSoundMachine, StaysSound}
+use Rattle.session_core.proofs.Replaying.{answered_ok, answered_err, goes_on}
 use Rattle.session_core.specs.Engines.{Goes, IsDue}
 
+-- what is known of a machine and a history that leads to it
+abbrev pub Keeps : Blocks → ℕ → Mode → List HistItem → Machine → Type 0
+Keeps blocks count mode items m = IsSoundMachine m × (m.events ≡ length items) × Run blocks mode (opening count) items m
+
+-- what the machine answers, where that is known
+as_known : (m after : Machine) (r : Result Next Refusal) (answer known : Result Reply Refusal) → answered m r ≡ record { machine = after; answer = answer } → answer ≡ known
+    → answered m r ≡ record { machine = after; answer = known }
+as_known m after r answer known h is = subst (λ (a : Result Reply Refusal). answered m r ≡ record { machine = after; answer = a }) is h
+
 -- an event with a reply goes
-pub goes : (blocks : Blocks) (mode : Mode) (m after : Machine) (event : Event) (reply : Reply)
-    → answered m (next blocks mode m event) ≡ record { machine = after; answer = Ok reply } → Goes blocks mode m event
-goes blocks mode m after event reply h = (record { machine = after; reply = reply }, answered_ok m after (next blocks mode m event) reply h)
+pub goes : (blocks : Blocks) (mode : Mode) (m after : Machine) (event : Event) (answer : Result Reply Refusal) (reply : Reply)
+    → answered m (next blocks mode m event) ≡ record { machine = after; answer = answer } → answer ≡ Ok reply → Goes blocks mode m event
+goes blocks mode m after event answer reply h is =
+    let r = next blocks mode m event in
+    (record { machine = after; reply = reply }, answered_ok m after r reply (as_known m after r answer (Ok reply) h is))
+
+-- with the reply in the history the history and the state go on by one event
+pub noted : StaysSound → (blocks : Blocks) (count : ℕ) (mode : Mode) (m new : Machine) (items after : List HistItem) (event : Event) (answer : Result Reply Refusal) (reply : Reply) (spent : Bool)
+    → Keeps blocks count mode items m → answered m (next blocks mode m event) ≡ record { machine = new; answer = answer } → answer ≡ Ok reply
+    → after ≡ items ++ record { event = event; reply = reply } ∷ [] → IsLegal blocks count mode after × (spent ≡ false → Keeps blocks count mode after new)
+noted law blocks count mode m new items after event answer reply spent keeps h is e =
+    let known = as_known m new (next blocks mode m event) answer (Ok reply) h is in
+    let k = goes_on law blocks mode (opening count) m new items after event reply keeps.0 keeps.1 keeps.2 known e in
+    ((new, k.2), λ _. k)
+
+-- a refusal leaves the state
+pub left : (blocks : Blocks) (count : ℕ) (mode : Mode) (m new : Machine) (items : List HistItem) (event : Event) (answer : Result Reply Refusal) (refusal : Refusal) (spent : Bool)
+    → IsLegal blocks count mode items × (spent ≡ false → Keeps blocks count mode items m) → answered m (next blocks mode m event) ≡ record { machine = new; answer = answer }
+    → answer ≡ Err refusal → IsLegal blocks count mode items × (spent ≡ false → Keeps blocks count mode items new)
+left blocks count mode m new items event answer refusal spent keeps h is =
+    let r = next blocks mode m event in
+    let same = answered_err m new r refusal (as_known m new r answer (Err refusal) h is) in
+    (keeps.0, λ fresh. subst (Keeps blocks count mode items) (sym same.1) (keeps.1 fresh))
 
 -- to a session that is there each table is shown, or that there is none
 pub shows : (m : Machine) (session : ℕ) (name : List ℕ) (s : Session) → slice_get m.sessions session ≡ Some s

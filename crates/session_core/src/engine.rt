@@ -3,6 +3,7 @@ ghost use Rattle.std.specs.Prelude.{◌≡◌, ◌≢◌, ◌↔◌, IsTrue, ◌
 ghost use Rattle.std.specs.Global.{Vec as VecFacts};
 ghost use Rattle.sql_values.specs.declared.value.Value.{Value as SqlValue};
 ghost use Rattle.row_versions.specs.Log.{empty_content};
+ghost use Rattle.session_machine.specs.declared.reply.Reply.{Reply as ReplyFacts};
 ghost use Rattle.session_machine.specs.Machine.{opening};
 ghost use Rattle.session_machine.specs.Engine.{EngineAnswered, IsLegal, Run, engine_after, fault_of, opened, spent_engine, turn_of, visible_in};
 ghost use Rattle.session_core.specs.Blocks.{blocks_of};
@@ -109,6 +110,34 @@ impl<'a, 't, V: Versions> EngineState<'a, 't, V> {
             history: Vec::new(alloc),
             spent: false,
         })
+    }
+
+    /// Does an event and answers nothing: the reply stands last in the history. After a want of memory the engine is spent.
+    pub fn perform(&mut self, event: Event) -> Result<(), EngineFault>
+        ensures memory { IsErrOf result EngineFault.Memory → self.new ≡ spent_engine self.old }
+        ensures done { OnOk result ((reply : ReplyFacts) × (engine_after self.old event ≡ record { engine = self.new; answer = Ok reply })) }
+        ensures refused { IfErr result (λ fault. fault ≢ EngineFault.Memory → engine_after self.old event ≡ record { engine = self.new; answer = Err fault }) }
+        ensures due { IsErrOf result EngineFault.Memory → IsDue self.old event }
+        ensures same { IsOf self.new self.old.blocks self.old.count self.old.mode }
+    {
+        stays_sound();
+        if self.spent {
+            return Err(EngineFault::Spent);
+        }
+        match self.live.act(self.blocks, self.mode, event) {
+            Ok(Ok(reply)) => match self.history.push(HistItem { event, reply }) {
+                Ok(()) => Ok(()),
+                Err(_) => {
+                    self.spent = true;
+                    Err(EngineFault::Memory)
+                }
+            },
+            Ok(Err(refused)) => Err(as_fault(refused)),
+            Err(_) => {
+                self.spent = true;
+                Err(EngineFault::Memory)
+            }
+        }
     }
 
     fn act(&mut self, event: Event) -> Result<Reply<'t>, EngineFault>

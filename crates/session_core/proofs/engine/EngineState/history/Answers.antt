@@ -1,5 +1,5 @@
 use Rattle.std.specs.Prelude.{IfSome}
-use Rattle.session_machine.specs.Machine.{Machine, opening}
+use Rattle.session_machine.specs.Machine.{opening}
 use Rattle.session_machine.specs.Engine.{Engine, Run}
 use Rattle.session_core.specs.Blocks.{blocks_of}
 use Rattle.session_core.proofs.Going.{of_machine}

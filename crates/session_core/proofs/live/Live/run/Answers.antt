@@ -2,8 +2,6 @@ use Rattle.std.proofs.Common.{◌≡◌, ap, sym, ◌∙◌, ◌<◌, length, su
 use Rattle.std.specs.Prelude.{None}
 use Rattle.sql_trees.specs.Statements.{stmt_of}
 use Rattle.row_versions.specs.Log.{IsOpen}
-use Rattle.session_machine.specs.declared.session.Session.{Session}
-use Rattle.session_machine.specs.Tables.{Database}
 use Rattle.session_machine.specs.Statements.{Did}
 use Rattle.session_machine.specs.Machine.{Machine}
 use Rattle.session_machine.specs.Sound.{RowsFit, RowsStay}
