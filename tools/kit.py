@@ -245,11 +245,11 @@ def files_below(folder):
 
 
 def state_of(crate):
-    """Returns a sum of all that a wrong body's refusal rests on: the crate's text, its wrong bodies, and the definitions of the crates below it."""
+    """Returns a sum of all that a wrong body's refusal rests on: the crate's text, its wrong bodies but for those that only tests tell, and the definitions of the crates below it."""
     rooms = [f"{crate.folder}/{it}" for it in ("src", "specs", "proofs", "wrong_bodies")]
     rooms += [f"{it.folder}/specs" for it in sorted(crate.below(), key=lambda it: it.name)]
     state = hashlib.sha256()
-    for file in (it for room in rooms for it in files_below(room)):
+    for file in (it for room in rooms for it in files_below(room) if "/by_tests/" not in it):
         with open(file, "rb") as it:
             state.update(repr((os.path.relpath(file, TOP), it.read())).encode())
     return state.hexdigest()[:16]

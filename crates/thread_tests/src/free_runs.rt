@@ -84,6 +84,21 @@ fn is_legal(
 
 const ONE: [&str; 3] = ["SELECT 0", "SELECT 0", "SELECT 1;"];
 
+/// The fault in which a run of these blocks ends.
+fn fault_of<G: Gate, R: Threads + Wait + Sync>(
+    rt: &R,
+    alloc: Global,
+    plan: &FreePlan,
+    gate: &G,
+) -> Result<Option<ThreadFault>, Fail> {
+    let blocks = blocks(alloc, 2, &ONE)?;
+    if plan.scripts.len() > 64 {
+        return Err("too many sessions".into());
+    }
+    let store = ListStore::new(alloc);
+    Ok(run_free(rt, alloc, &blocks, plan, store, gate).err())
+}
+
 /// Each of so many sessions runs one SELECT; how many events there were.
 fn run_ones<G: Gate, R: Threads + Wait + Sync>(
     rt: &R,
@@ -134,28 +149,20 @@ fn sixty_four_workers_answer_at_once(rt: HostRuntime) -> Result<(), Fail> {
 
 #[test]
 fn a_gate_that_admits_nothing_ends_in_gate(rt: HostRuntime) -> Result<(), Fail> {
-    let alloc = rt.alloc();
-    let blocks = blocks(alloc, 2, &ONE)?;
-    let plan = plan_of(alloc, 2, &[FIRST_SCRIPT])?;
-    holds(&rt, plan.scripts.len() == 2, "two");
+    let plan = plan_of(rt.alloc(), 2, &[FIRST_SCRIPT])?;
     let gate = Shut {
         asked: AtomicU64::new(0),
     };
-    let store = ListStore::new(alloc);
-    let fault = run_free(&rt, alloc, &blocks, &plan, store, &gate).err();
+    let fault = fault_of(&rt, rt.alloc(), &plan, &gate)?;
     holds(&rt, fault == Some(ThreadFault::Gate), "gate");
     Ok(())
 }
 
 #[test]
 fn a_block_of_no_session_is_refused(rt: HostRuntime) -> Result<(), Fail> {
-    let alloc = rt.alloc();
-    let blocks = blocks(alloc, 2, &ONE)?;
-    let mut plan = plan_of(alloc, 2, &[FIRST_SCRIPT])?;
+    let mut plan = plan_of(rt.alloc(), 2, &[FIRST_SCRIPT])?;
     plan.before.push((3, FIRST_SCRIPT))?;
-    holds(&rt, plan.scripts.len() == 2, "two");
-    let store = ListStore::new(alloc);
-    let fault = run_free(&rt, alloc, &blocks, &plan, store, &OpenGate).err();
+    let fault = fault_of(&rt, rt.alloc(), &plan, &OpenGate)?;
     let expected = ThreadFault::Engine(EngineFault::NoSession);
     holds(&rt, fault == Some(expected), "no session");
     Ok(())

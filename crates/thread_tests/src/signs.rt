@@ -37,9 +37,9 @@ fn reply_sign(reply: &Reply<'_>) -> u64 {
         Outcome::Waits => 3,
         Outcome::Failed(_) => 4,
         Outcome::Left => 5,
-        Outcome::Rows(set) => first_value(set.rows()) + 6,
+        Outcome::Rows(set) => first_value(set.rows()).wrapping_add(6),
     };
-    outcome * 2 + u64::from(reply.ended)
+    outcome.wrapping_mul(2).wrapping_add(u64::from(reply.ended))
 }
 
 /// The number of what happened before and of this event with its reply.
