@@ -6,13 +6,17 @@ import importlib.util
 import os
 import re
 import shutil
+import subprocess
 import sys
 import tempfile
 
 TOP = os.path.dirname(os.path.dirname(os.path.realpath(__file__)))
 TRIED = f"{TOP}/wrong_bodies.txt"
-# Wrong bodies that the gate tries each time, those that ./wrong-bodies tries, and those that are due to be tried on the text as it stands.
-ROOMS = ("must-fail", "wrong_bodies", "wrong_bodies/due")
+# Wrong bodies that the gate tries each time, those that ./wrong-bodies tries, those that are due to be tried on the text as it stands, and those that are
+# proved as well as the right one, so that only tests tell them.
+ROOMS = ("must-fail", "wrong_bodies", "wrong_bodies/due", "wrong_bodies/by_tests")
+# The crate whose tests tell them, and how many seconds its tests may take on a wrong body.
+TELLS, PATIENCE = "thread_tests", 600
 
 
 def load():
@@ -185,6 +189,25 @@ def tried(crate, edits):
         return [(True, "refused") if it in refused else rt.must_fail(crate, it, ["--jobs", "1"], kept) for it in edits]
 
 
+def told_by_tests(crate, edit):
+    """Tries an edit of a crate by the unproved tests that tell such ones. Returns whether a test fails or comes to no end, and what they printed."""
+    with tempfile.TemporaryDirectory(prefix="rt-edits-") as room:
+        shutil.copytree(f"{TOP}/crates", f"{room}/crates", ignore=shutil.ignore_patterns("out", "data", "wrong_bodies", "must-fail"))
+        shutil.copy(f"{TOP}/crates.txt", room)
+        shutil.copy(f"{TOP}/HANDLES", room)
+        for path, old, new in pairs_of(edit):
+            at = f"{room}/crates/{crate.name}/{path}"
+            text = rtlib.text_of(at) or ""
+            with open(at, "w", encoding="utf-8") as it:
+                it.write(text.replace(old, new))
+        try:
+            ran = subprocess.run(["rt", "try", "--test"], cwd=f"{room}/crates/{TELLS}", capture_output=True, text=True, timeout=PATIENCE)
+        except subprocess.TimeoutExpired:
+            return True, "no end"
+        failed = re.findall(r"^test (\S+) \.\.\. (?!ok)", ran.stdout, re.M)
+        return ran.returncode != 0 and bool(failed), ", ".join(failed) or ran.stdout + ran.stderr
+
+
 def is_sound(crate):
     """Returns whether the crate without any edit is proved over a copy of what its check kept, as edits were tried: else their refusals say nothing."""
     with tempfile.TemporaryDirectory(prefix="rt-edits-") as room:
@@ -222,11 +245,11 @@ def files_below(folder):
 
 
 def state_of(crate):
-    """Returns a sum of all that a wrong body's refusal rests on: the crate's text, its wrong bodies, and the definitions of the crates below it."""
+    """Returns a sum of all that a wrong body's refusal rests on: the crate's text, its wrong bodies but for those that only tests tell, and the definitions of the crates below it."""
     rooms = [f"{crate.folder}/{it}" for it in ("src", "specs", "proofs", "wrong_bodies")]
     rooms += [f"{it.folder}/specs" for it in sorted(crate.below(), key=lambda it: it.name)]
     state = hashlib.sha256()
-    for file in (it for room in rooms for it in files_below(room)):
+    for file in (it for room in rooms for it in files_below(room) if "/by_tests/" not in it):
         with open(file, "rb") as it:
             state.update(repr((os.path.relpath(file, TOP), it.read())).encode())
     return state.hexdigest()[:16]

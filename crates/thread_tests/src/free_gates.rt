@@ -1,0 +1,152 @@
+//! Gates that look at what the threads of other sessions do, and one that writes down what it is told.
+
+use crate::gates::LOOKS;
+use session_machine::{Event, Reply};
+use session_threads::Gate;
+use std::alloc::Global;
+use std::sync::atomic::{AtomicU64, Ordering};
+use std::sync::{Mutex, Wait};
+use std::thread::yield_now;
+
+/// Lets session 2 launch behind session 1, and session 1 step behind session 2.
+#[derive(Drop)]
+pub struct Crossed {
+    launched: AtomicU64,
+    stepped: AtomicU64,
+}
+
+impl Crossed {
+    pub fn new() -> Crossed {
+        Crossed {
+            launched: AtomicU64::new(0),
+            stepped: AtomicU64::new(0),
+        }
+    }
+}
+
+impl Gate for Crossed {
+    fn tries(&self) -> u64 {
+        LOOKS
+    }
+
+    fn admits(&self, event: Event) -> bool {
+        yield_now();
+        match event {
+            Event::Launch { session: 2, .. } => self.launched.load(Ordering::SeqCst) == 1,
+            Event::Step { session: 1 } => self.stepped.load(Ordering::SeqCst) == 1,
+            _ => true,
+        }
+    }
+
+    fn answered(&self, event: Event, _reply: &Reply<'_>) {
+        match event {
+            Event::Launch { session: 1, .. } => self.launched.store(1, Ordering::SeqCst),
+            Event::Step { session: 2 } => self.stepped.store(1, Ordering::SeqCst),
+            _ => {}
+        }
+    }
+}
+
+/// Admits a step of session 1 or 2 once the other one asks for a step too.
+#[derive(Drop)]
+pub struct Handshake {
+    first: AtomicU64,
+    second: AtomicU64,
+}
+
+impl Handshake {
+    pub fn new() -> Handshake {
+        Handshake {
+            first: AtomicU64::new(0),
+            second: AtomicU64::new(0),
+        }
+    }
+}
+
+/// Says that one has come, and looks for the other.
+fn meets(own: &AtomicU64, other: &AtomicU64) -> bool {
+    own.store(1, Ordering::SeqCst);
+    for _ in 0..LOOKS {
+        if other.load(Ordering::SeqCst) == 1 {
+            return true;
+        }
+        yield_now();
+    }
+    false
+}
+
+impl Gate for Handshake {
+    fn tries(&self) -> u64 {
+        1
+    }
+
+    fn admits(&self, event: Event) -> bool {
+        match event {
+            Event::Step { session: 1 } => meets(&self.first, &self.second),
+            Event::Step { session: 2 } => meets(&self.second, &self.first),
+            _ => true,
+        }
+    }
+
+    fn answered(&self, _event: Event, _reply: &Reply<'_>) {}
+}
+
+/// Admits a session's step once that of the next session was answered, up to the last session.
+#[derive(Drop)]
+pub struct Reversed {
+    /// The session whose step is admitted.
+    turn: AtomicU64,
+}
+
+impl Reversed {
+    pub fn from_last(session: u32) -> Reversed {
+        Reversed {
+            turn: AtomicU64::new(session as u64),
+        }
+    }
+}
+
+impl Gate for Reversed {
+    fn tries(&self) -> u64 {
+        LOOKS
+    }
+
+    fn admits(&self, event: Event) -> bool {
+        yield_now();
+        match event {
+            Event::Step { session } => self.turn.load(Ordering::SeqCst) == session as u64,
+            _ => true,
+        }
+    }
+
+    fn answered(&self, event: Event, _reply: &Reply<'_>) {
+        if let Event::Step { session } = event {
+            self.turn
+                .store((session as u64).saturating_sub(1), Ordering::SeqCst);
+        }
+    }
+}
+
+/// Writes down what it is told, line by line.
+#[derive(Drop)]
+pub struct Recorder<R: Wait> {
+    pub rt: R,
+    pub alloc: Global,
+    pub told: Mutex<Vec<String>>,
+}
+
+impl<R: Wait + Sync> Gate for Recorder<R> {
+    fn tries(&self) -> u64 {
+        1
+    }
+
+    fn admits(&self, _event: Event) -> bool {
+        true
+    }
+
+    fn answered(&self, event: Event, reply: &Reply<'_>) {
+        if let Ok(line) = format!(in self.alloc; "{event:?} {reply:?}") {
+            let _ = self.told.lock(&self.rt).push(line);
+        }
+    }
+}

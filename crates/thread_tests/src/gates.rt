@@ -1,0 +1,115 @@
+//! Gates that look at what other threads do, and one that is shut.
+
+use crate::signs::{session_of, sign_of};
+use session_machine::{Event, Reply};
+use session_threads::Gate;
+use std::sync::atomic::{AtomicU64, Ordering};
+use std::thread::yield_now;
+
+/// How often a thread looks for the others.
+pub const LOOKS: u64 = 100_000_000;
+
+/// Looks until the number is there. Says whether it came.
+fn comes(number: &AtomicU64, wanted: u64) -> bool {
+    for _ in 0..LOOKS {
+        if number.load(Ordering::SeqCst) == wanted {
+            return true;
+        }
+        yield_now();
+    }
+    false
+}
+
+/// Counts the steps that were answered, and those whose thread saw all the others answered while it was told.
+#[derive(Drop)]
+pub struct Meeting {
+    pub all: u64,
+    pub came: AtomicU64,
+    pub met: AtomicU64,
+}
+
+impl Meeting {
+    pub fn of(all: u64) -> Meeting {
+        Meeting {
+            all,
+            came: AtomicU64::new(0),
+            met: AtomicU64::new(0),
+        }
+    }
+}
+
+impl Gate for Meeting {
+    fn tries(&self) -> u64 {
+        1
+    }
+
+    fn admits(&self, _event: Event) -> bool {
+        true
+    }
+
+    fn answered(&self, event: Event, _reply: &Reply<'_>) {
+        if let Event::Step { .. } = event {
+            self.came.fetch_add(1, Ordering::SeqCst);
+            if comes(&self.came, self.all) {
+                self.met.fetch_add(1, Ordering::SeqCst);
+            }
+        }
+    }
+}
+
+/// Admits everything, and puts what sessions 1 and 2 are told into a number for each.
+#[derive(Drop)]
+pub struct Telling {
+    pub first: AtomicU64,
+    pub second: AtomicU64,
+}
+
+impl Telling {
+    pub fn new() -> Telling {
+        Telling {
+            first: AtomicU64::new(0),
+            second: AtomicU64::new(0),
+        }
+    }
+}
+
+impl Gate for Telling {
+    fn tries(&self) -> u64 {
+        1
+    }
+
+    fn admits(&self, _event: Event) -> bool {
+        true
+    }
+
+    fn answered(&self, event: Event, reply: &Reply<'_>) {
+        let told = match session_of(event) {
+            1 => &self.first,
+            2 => &self.second,
+            _ => return,
+        };
+        let before = told.load(Ordering::SeqCst);
+        yield_now();
+        told.store(sign_of(before, event, reply), Ordering::SeqCst);
+    }
+}
+
+/// Admits nothing, and counts how often it was asked.
+#[derive(Drop)]
+pub struct Shut {
+    pub asked: AtomicU64,
+}
+
+impl Gate for Shut {
+    fn tries(&self) -> u64 {
+        3
+    }
+
+    fn admits(&self, _event: Event) -> bool {
+        self.asked.fetch_add(1, Ordering::SeqCst);
+        yield_now();
+        false
+    }
+
+    fn answered(&self, _event: Event, _reply: &Reply<'_>) {}
+}

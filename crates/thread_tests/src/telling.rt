@@ -1,0 +1,65 @@
+//! What the gate of a directed run is told, beside the seats.
+
+use crate::asking::holds;
+use crate::gates::Telling;
+use crate::signs::sign_of_all;
+use permutations::Plan;
+use row_versions::ListStore;
+use session_threads::run_directed;
+use spec_parser::{Spec, parse_spec};
+use sql_parser::{Block, Role, parse_block};
+use std::alloc::Global;
+use std::sync::Wait;
+use std::sync::atomic::Ordering;
+use std::test::Fail;
+use std::thread::Threads;
+
+/// Two sessions whose statements answer different values.
+const TWO: &str = "session s1 step a { SELECT 11; SELECT 12; } step b { SELECT 13; }
+session s2 step c { SELECT 21; } step d { SELECT 22; SELECT 23; }
+permutation c a d b";
+
+/// The blocks of a spec of sessions that have steps alone.
+fn step_blocks<'t>(alloc: Global, spec: &Spec<'t>) -> Result<Vec<Block<'t>>, Fail> {
+    let mut blocks = Vec::new(alloc);
+    for session in &spec.sessions {
+        for step in &session.steps {
+            if step.part.sql.len() > 1_000 {
+                return Err(Fail::new("a long block"));
+            }
+            let block = parse_block(alloc, step.part.sql, Role::Session);
+            blocks.push(block.map_err(|_| "a block")?)?;
+        }
+    }
+    Ok(blocks)
+}
+
+/// Whether the gate was told what the seats of sessions 1 and 2 hold, in a run of the first permutation line.
+fn tells_the_seats<R: Threads + Wait + Sync>(rt: &R, alloc: Global) -> Result<bool, Fail> {
+    let spec = parse_spec(alloc, TWO).map_err(|_| "a spec")?;
+    let blocks = step_blocks(alloc, &spec)?;
+    let Some(entries) = spec.perms.first() else {
+        return Ok(false);
+    };
+    if spec.sessions.len() > 64 {
+        return Ok(false);
+    }
+    let plan = Plan::new(alloc, &spec, entries)?;
+    let gate = Telling::new();
+    let store = ListStore::new(alloc);
+    let closed = run_directed(rt, alloc, &blocks, 2, store, plan, &gate).map_err(
+        |_| "a closed run",
+    )?;
+    let [_, first, second] = closed.seats() else {
+        return Ok(false);
+    };
+    let told = [&gate.first, &gate.second].map(|sign| sign.load(Ordering::SeqCst));
+    Ok(told == [sign_of_all(first.items()), sign_of_all(second.items())] && told[0] != told[1])
+}
+
+#[test]
+fn workers_tell_what_their_seats_hold(rt: HostRuntime) -> Result<(), Fail> {
+    let tells = tells_the_seats(&rt, rt.alloc())?;
+    holds(&rt, tells, "what was told is what the seats hold");
+    Ok(())
+}
