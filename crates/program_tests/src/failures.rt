@@ -43,7 +43,8 @@ fn reads_fail<R: Abort + Threads + Wait + Sync>(
 #[test]
 fn a_failing_read_is_told_and_nothing_is_put(rt: HostRuntime) -> Result<(), AllocError> {
     reads_fail(&rt, rt.alloc(), &[])?;
-    reads_fail(&rt, rt.alloc(), &["--list"])
+    reads_fail(&rt, rt.alloc(), &["--list"])?;
+    reads_fail(&rt, rt.alloc(), &["--free"])
 }
 
 #[test]
