@@ -7,6 +7,8 @@ use Rattle.clap.specs.declared.error.kind.ErrorKind.{ErrorKind}
 use Rattle.clap.specs.declared.error.kind.ErrorKind.TheVariants.{DisplayHelp, DisplayVersion, OutOfMemory}
 use Rattle.permutations.specs.Broken.{FileBroken}
 use Rattle.permutations.specs.FaultText.{fault_line}
+use Rattle.permutations.specs.Files.{FileIs}
+use Rattle.permutations.specs.FreeRuns.{FileFreeTold}
 use Rattle.permutations.specs.Lists.{FileLists}
 use Rattle.permutations.specs.Prints.{FileSays}
 use Rattle.permutations.specs.Runs.{is_refusal, is_of_listing, has_broken, has_ended, status_of as fault_status, IsListed, IsTold}
@@ -58,11 +60,19 @@ pub record Ran (left : Option (List ℕ)) (limit : ℕ) (out_old out_new notes_o
   pub untouched : IfErr answer (λ e. is_refusal e ≡ true → (out_new ≡ out_old) × (notes_new ≡ notes_old))
   pub broken : IfSome left (λ bytes. IsTrue (has_broken answer) → FileBroken (take 1048577 bytes) limit out_old out_new notes_old notes_new)
 
--- `--list` is looked at before all else
+-- the file ran freely: the text of a free run that it may have goes to the output, and its notes to the errors; where it is refused, or its threads come to no end, nothing is written
+pub record RanFreely (left : Option (List ℕ)) (out_old out_new notes_old notes_new : Option (List ℕ)) (answer : Result (Unit {0}) RunFault) : Type 0 where
+  pub told : IfSome left (λ bytes. IsTrue (has_ended answer) → FileFreeTold (take 1048577 bytes) out_old out_new notes_old notes_new answer)
+  pub refused : IfSome left (λ bytes. IfErr answer (λ e. is_refusal e ≡ true → FileIs (take 1048577 bytes) (Err e)))
+  pub untouched : IfErr answer (λ e. is_refusal e ≡ true → (out_new ≡ out_old) × (notes_new ≡ notes_old))
+  pub broken : IsTrue (has_broken answer) → (out_new ≡ out_old) × (notes_new ≡ notes_old)
+
+-- `--list` is looked at before all else, then `--free`, with which the limit counts for nothing
 abbrev pub Runs : Options → Option (List ℕ) → Option (List ℕ) → Option (List ℕ) → Option (List ℕ) → Option (List ℕ) → Result (Unit {0}) RunFault → Type 0
 Runs o left out_old out_new notes_old notes_new answer =
     (o.list ≡ true → Listed left o.limit out_old out_new notes_old notes_new answer)
-    × (o.list ≡ false → Ran left o.limit out_old out_new notes_old notes_new answer)
+    × (o.list ≡ false → o.free ≡ true → RanFreely left out_old out_new notes_old notes_new answer)
+    × (o.list ≡ false → o.free ≡ false → Ran left o.limit out_old out_new notes_old notes_new answer)
 
 -- the fault's line goes to the errors, unless they have failed; where memory for it is refused the line says so
 abbrev pub TookLine : RunFault → Bool → Option (List ℕ) → Option (List ℕ) → Type 0

@@ -39,6 +39,8 @@ Exit status:
 pub struct Options {
     /// The permutations are listed, and none runs.
     pub list: bool,
+    /// Each session runs in a thread of its own, with no order between them, and the limit counts for nothing.
+    pub free: bool,
     /// So many permutations run, or are listed, at most.
     pub limit: u64,
 }
@@ -62,6 +64,10 @@ pub fn options_of(alloc: Global, words: &[String]) -> Result<Options, Error>
         .long("list")
         .action(ArgAction::SetTrue)
         .help("List the permutations, and run none");
+    let free = Arg::new(alloc, "free")
+        .long("free")
+        .action(ArgAction::SetTrue)
+        .help("Run each session in a thread of its own, with no order between them");
     let limit = Arg::new(alloc, "limit")
         .long("limit")
         .value_name("N")
@@ -72,10 +78,12 @@ pub fn options_of(alloc: Global, words: &[String]) -> Result<Options, Error>
         .override_usage(USAGE)
         .after_help(EXAMPLE)
         .arg(list)?
+        .arg(free)?
         .arg(limit)?;
     let matches = command.try_get_matches_from(words)?;
     Ok(Options {
         list: matches.get_flag("list"),
+        free: matches.get_flag("free"),
         limit: limit_of(matches.get_one::<u32>("limit")),
     })
 }

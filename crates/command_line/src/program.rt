@@ -9,7 +9,7 @@ ghost use Rattle.command_line.specs.Shell.{IsServed, IsShown, Runs, TookLine, Te
 
 use crate::options::{Options, options_of, status_of};
 use iso_lexer::{Sink, Source};
-use permutations::{RunFault, list_spec, run_spec};
+use permutations::{RunFault, free_spec, list_spec, run_spec};
 use session_threads::OpenGate;
 use std::alloc::Global;
 use std::sync::Wait;
@@ -62,6 +62,8 @@ pub(crate) fn run<S: Source, W: Sink, N: Sink, R: Threads + Wait + Sync>(
 {
     if options.list {
         list_spec(alloc, input, out, options.limit)
+    } else if options.free {
+        free_spec(rt, alloc, input, out, err, &OpenGate)
     } else {
         run_spec(rt, alloc, input, out, err, options.limit, &OpenGate)
     }

@@ -8,19 +8,23 @@ use std::test::Fail;
 
 #[test]
 fn words_give_options(rt: HostRuntime) -> Result<(), Fail> {
-    for (words, list, limit) in [
-        ([].as_slice(), false, 1_000_000),
-        (["--list"].as_slice(), true, 1_000_000),
-        (["--limit", "0"].as_slice(), false, 0),
+    for (words, list, free, limit) in [
+        ([].as_slice(), false, false, 1_000_000),
+        (["--list"].as_slice(), true, false, 1_000_000),
+        (["--free"].as_slice(), false, true, 1_000_000),
+        (["--free", "--list"].as_slice(), true, true, 1_000_000),
+        (["--limit", "0"].as_slice(), false, false, 0),
         (
             ["--limit=4294967295", "--list"].as_slice(),
             true,
+            false,
             4_294_967_295,
         ),
     ] {
         let all = words_of(rt.alloc(), words)?;
         let options = options_of(rt.alloc(), all.as_slice())?;
         holds(&rt, options.list == list, "the list");
+        holds(&rt, options.free == free, "the free run");
         holds(&rt, options.limit == limit, "the limit");
     }
     Ok(())
@@ -33,7 +37,7 @@ fn other_words_are_refused_and_help_is_given(rt: HostRuntime) -> Result<(), Allo
         (["--limit", "4294967296"].as_slice(), 2),
         (["--limit", "-1"].as_slice(), 2),
         (["--limit"].as_slice(), 2),
-        (["--free"].as_slice(), 2),
+        (["--threads"].as_slice(), 2),
         (["file.spec"].as_slice(), 2),
         (["--help"].as_slice(), 0),
     ] {

@@ -4,4 +4,4 @@ use Rattle.command_line.proofs.laws.words_are_read.Goals as goal
 
 pub returns : goal.returns
 unfolding clap_on_literals
-returns c = λ name. (refl, refl, refl, refl, refl, refl, refl, refl, refl, refl, refl, refl)
+returns c = λ name. (refl, refl, refl, refl, refl, refl, refl, refl, refl, refl, refl, refl, refl, refl, refl, refl, refl)
