@@ -23,34 +23,20 @@ use Rattle.permutations.specs.Faults.{report_fault}
 use Rattle.permutations.specs.FirstLine.{first_line}
 use Rattle.permutations.specs.FreeRuns.{free_text, free_told, IsFreeWritten, IsFreeTold}
 use Rattle.permutations.specs.Runs.{AnswersOne, has_ended, has_broken, is_of_one}
-use Rattle.permutations.proofs.Listing.{appends_nothing, appends_more}
+use Rattle.permutations.proofs.Listing.{appends_nothing, appends_more, took_nothing}
+use Rattle.permutations.proofs.Beginning.{front_behind, took_behind}
 
 -- ---- a text behind a line
-
-front_behind : (a b c : Option (List ℕ)) (line text : List ℕ) → Appends a b line → PutsFront b c text → PutsFront a c (line ++ text)
-front_behind a b c line text put p = record {
-  front = line ++ p.front;
-  begins = record { rest = p.begins.rest; is = ap (λ (l : List ℕ). line ++ l) p.begins.is ∙ sym (append_assoc line p.front p.begins.rest) };
-  went_out = appends_more a b c line p.front put p.went_out;
-}
-
-off_behind : (failed : Bool) (a b c : Option (List ℕ)) (line text : List ℕ) → Appends a b line → OnFalse failed (PutsFront b c text) → OnFalse failed (PutsFront a c (line ++ text))
-off_behind true a b c line text put p = tt
-off_behind false a b c line text put p = front_behind a b c line text put p
 
 puts_behind : (told : Result Ended ReportFault) (failed : Bool) (a b c : Option (List ℕ)) (line text : List ℕ) → Appends a b line → Puts failed b c text told → Puts failed a c (line ++ text) told
 puts_behind (Ok e) failed a b c line text put p = appends_more a b c line text put p
 puts_behind (Err (writes.SetupFailed why)) failed a b c line text put p = appends_more a b c line text put p
 puts_behind (Err writes.SetupWaits) failed a b c line text put p = appends_more a b c line text put p
-puts_behind (Err writes.Write) failed a b c line text put p = off_behind failed a b c line text put p
+puts_behind (Err writes.Write) failed a b c line text put p = took_behind failed a b c line text put p
 puts_behind (Err writes.Memory) failed a b c line text put p = front_behind a b c line text put p
 
 nothing_yet : (a : Option (List ℕ)) (text : List ℕ) → PutsFront a a text
 nothing_yet a text = record { front = []; begins = record { rest = text; is = refl }; went_out = appends_nothing a }
-
-nothing_off : (failed : Bool) (a : Option (List ℕ)) (text : List ℕ) → OnFalse failed (PutsFront a a text)
-nothing_off true a text = tt
-nothing_off false a text = nothing_yet a text
 
 -- a sink that takes bytes had not failed
 still : (old new : Bool) (r : Result (Unit {0}) DeviceFault) → r ≡ Ok tt → FailsWith old new r → new ≡ old
@@ -79,7 +65,7 @@ no_line spec items wo wn eo fo fn go e f = record {
   is = refl;
   ending = tt;
   text = subst (λ (b : Bool). OnFalse b (PutsFront wo wn (free_text spec items))) (sym f.tells) tt;
-  notes = nothing_off go eo (free_says spec items).notes;
+  notes = took_nothing go eo (free_says spec items).notes;
   fails = subst (λ (b : Bool). (b || go) ≡ true) (sym f.tells) refl;
 }
 

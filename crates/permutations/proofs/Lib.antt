@@ -6,8 +6,9 @@ pub mod Running
 pub mod Driven
 pub mod Going
 pub mod Telling
+pub mod Printing
+pub mod Beginning
 pub mod FreeRunning
 pub mod FreeTelling
-pub mod Printing
 pub mod OneText
 pub mod Whole

@@ -1,6 +1,6 @@
 -- The loop over the permutations that are listed.
 use Rattle.std.proofs.Common.{◌≡◌, ◌≢◌, Bool, true, false, ℕ, zero, suc, ◌-◌, ◌<◌, List, [], ◌∷◌, ◌++◌, Option, Some, None, Result, Ok, Err, refl, sym, ap, subst, ◌∙◌, arith, append_assoc}
-use Rattle.std.specs.Prelude.{IfSome}
+use Rattle.std.specs.Prelude.{IfSome, take}
 use Rattle.std.proofs.lemmas.List.{append-nil}
 use Rattle.std.specs.Io.KnownBytes.{Appends}
 use Rattle.spec_parser.specs.Trees.{EntryTree, SpecTree}
@@ -128,3 +128,8 @@ read_lists read_faults.Device = refl
 pub each_some : {A : Type 0} (P : A → Type 0) (o : Option A) → ((x : A) → P x) → IfSome o P
 each_some P None all = tt
 each_some P (Some x) all = all x
+
+-- what is so of the bytes that were read is so of those that the source had
+pub of_bytes : (P : List ℕ → Type 0) (limit : ℕ) (o : Option (List ℕ)) (bytes read : List ℕ) → bytes ≡ read → IfSome o (λ xs. read ≡ take limit xs) → P bytes → IfSome o (λ xs. P (take limit xs))
+of_bytes P limit None bytes read same is so = tt
+of_bytes P limit (Some xs) bytes read same is so = subst P (same ∙ is) so

@@ -55,7 +55,7 @@ others_follow report.setup_waits Others rest a h = absurd (ok_err a)
     ok_err : ◌≡◌ {A = Result (Unit {0}) RunFault} (Ok tt) (Err faults.SetupWaits) → ⊥
     ok_err e = cc
 
-one_more : (spec : SpecTree) (blocks : Blocks) (extra : ℕ) (p : List EntryTree) (ps : List (List EntryTree)) (items : List HistItem) (rest : Said)
+pub one_more : (spec : SpecTree) (blocks : Blocks) (extra : ℕ) (p : List EntryTree) (ps : List (List EntryTree)) (items : List HistItem) (rest : Said)
     → IsRegular spec blocks p items → GoesOn (permutation_says spec p items).ending (Prints spec blocks extra ps) rest
     → Prints spec blocks (suc extra) (p ∷ ps) (behind (permutation_says spec p items).text (permutation_says spec p items).notes rest)
 unfolding Prints

@@ -5,7 +5,6 @@ pub mod BlockAnswers
 pub mod Files
 pub mod Said
 pub mod Lists
-pub mod Begun
 pub mod Events
 pub mod FirstLine
 pub mod Prints
@@ -14,4 +13,5 @@ pub mod Written
 pub mod Broken
 pub mod Runs
 pub mod FreeRuns
+pub mod Begun
 pub mod Laws

@@ -73,6 +73,7 @@ pub fn list_spec<S: Source, W: Sink>(
         ((said : Said) × FileLists (take 1048577 bytes) limit (Ok said) × IsListed (W.put_so_far out.old) (W.put_so_far out.new) result said)) }
     ensures refused { IfSome (S.left input.old) (λ bytes. IfErr result (λ e. is_refusal e ≡ true → FileLists (take 1048577 bytes) limit (Err e))) }
     ensures untouched { IfErr result (λ e. is_refusal e ≡ true → out.new ≡ out.old) }
+    ensures begun { IfSome (S.left input.old) (λ bytes. ListBegun (take 1048577 bytes) limit (W.failed out.new) (W.put_so_far out.old) (W.put_so_far out.new)) }
     ensures read { IsErrOf result RunFault.Read ↔ (S.failed input.new ≡ true) }
     ensures unread { IsErrOf result RunFault.Read → out.new ≡ out.old }
     ensures kinds { IfErr result (λ e. is_of_listing e ≡ true) }

@@ -6,6 +6,7 @@ ghost use Rattle.session_core.specs.Blocks.{blocks_of};
 ghost use Rattle.spec_parser.specs.Trees.{entry_view, spec_view};
 ghost use Rattle.spec_parser.specs.Stands.{Stands};
 ghost use Rattle.permutation_lists.specs.Permutations.{permutations_of};
+ghost use Rattle.permutations.specs.Begun.{Begun, OneSays, RunSays, FileMaySay};
 ghost use Rattle.permutations.specs.Broken.{RunBroken, FileBroken};
 ghost use Rattle.permutations.specs.Prints.{Prints, FileSays};
 ghost use Rattle.permutations.specs.Runs.{is_refusal, is_of_one, has_broken, has_ended, has_read, IsTold, IsOneTold};
@@ -39,6 +40,8 @@ fn run_permutation<W: Sink, N: Sink, G: Gate, R: Threads + Wait + Sync>(
     requires { Stands (spec_view spec.now) }
     ensures told { IsTrue (has_ended result) → IsOneTold (spec_view spec.now) (blocks_of blocks.now) (map entry_view entries.now)
         (W.put_so_far out.old) (W.put_so_far out.new) (N.put_so_far notes.old) (N.put_so_far notes.new) result }
+    ensures begun { Begun (OneSays (spec_view spec.now) (blocks_of blocks.now) (map entry_view entries.now)) (W.failed out.new) (N.failed notes.new)
+        (W.put_so_far out.old) (W.put_so_far out.new) (N.put_so_far notes.old) (N.put_so_far notes.new) }
     ensures broken { IsTrue (has_broken result) → (out.new ≡ out.old) × (notes.new ≡ notes.old) }
     ensures unbroken { result ≢ Err RunFault.ScheduleBroken }
     ensures write { IsErrOf result RunFault.Write → (W.failed out.new || N.failed notes.new) ≡ true }
@@ -65,6 +68,8 @@ fn run_permutations<W: Sink, N: Sink, G: Gate, R: Threads + Wait + Sync>(
     ensures told { IsTrue (has_ended result) →
         ((said : Said) × Prints (spec_view spec.now) (blocks_of blocks.now) limit (permutations_of (spec_view spec.now)) said
         × IsTold (W.put_so_far out.old) (W.put_so_far out.new) (N.put_so_far notes.old) (N.put_so_far notes.new) result said) }
+    ensures begun { Begun (RunSays (spec_view spec.now) (blocks_of blocks.now) limit (permutations_of (spec_view spec.now))) (W.failed out.new) (N.failed notes.new)
+        (W.put_so_far out.old) (W.put_so_far out.new) (N.put_so_far notes.old) (N.put_so_far notes.new) }
     ensures broken { IsTrue (has_broken result) →
         RunBroken (spec_view spec.now) (blocks_of blocks.now) limit (permutations_of (spec_view spec.now))
         (W.put_so_far out.old) (W.put_so_far out.new) (N.put_so_far notes.old) (N.put_so_far notes.new) }
@@ -107,6 +112,8 @@ fn run_file<W: Sink, N: Sink, G: Gate, R: Threads + Wait + Sync>(
     ensures told { IsTrue (has_ended result) →
         ((said : Said) × FileSays bytes.now limit (Ok said)
         × IsTold (W.put_so_far out.old) (W.put_so_far out.new) (N.put_so_far notes.old) (N.put_so_far notes.new) result said) }
+    ensures begun { Begun (FileMaySay bytes.now limit) (W.failed out.new) (N.failed notes.new)
+        (W.put_so_far out.old) (W.put_so_far out.new) (N.put_so_far notes.old) (N.put_so_far notes.new) }
     ensures broken { IsTrue (has_broken result) → FileBroken bytes.now limit
         (W.put_so_far out.old) (W.put_so_far out.new) (N.put_so_far notes.old) (N.put_so_far notes.new) }
     ensures refused { IfErr result (λ e. is_refusal e ≡ true → FileSays bytes.now limit (Err e)) }
@@ -139,6 +146,8 @@ pub fn run_spec<S: Source, W: Sink, N: Sink, G: Gate, R: Threads + Wait + Sync>(
     ensures told { IfSome (S.left input.old) (λ bytes. IsTrue (has_ended result) →
         ((said : Said) × FileSays (take 1048577 bytes) limit (Ok said)
         × IsTold (W.put_so_far out.old) (W.put_so_far out.new) (N.put_so_far notes.old) (N.put_so_far notes.new) result said)) }
+    ensures begun { IfSome (S.left input.old) (λ bytes. Begun (FileMaySay (take 1048577 bytes) limit) (W.failed out.new) (N.failed notes.new)
+        (W.put_so_far out.old) (W.put_so_far out.new) (N.put_so_far notes.old) (N.put_so_far notes.new)) }
     ensures broken { IfSome (S.left input.old) (λ bytes. IsTrue (has_broken result) → FileBroken (take 1048577 bytes) limit
         (W.put_so_far out.old) (W.put_so_far out.new) (N.put_so_far notes.old) (N.put_so_far notes.new)) }
     ensures refused { IfSome (S.left input.old) (λ bytes. IfErr result (λ e. is_refusal e ≡ true → FileSays (take 1048577 bytes) limit (Err e))) }

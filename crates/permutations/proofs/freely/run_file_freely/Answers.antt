@@ -4,8 +4,10 @@ use Rattle.session_machine.specs.Machine.{Blocks}
 use Rattle.session_core.specs.Blocks.{blocks_of}
 use Rattle.spec_parser.specs.Trees.{spec_view}
 use Rattle.permutations.specs.BlockAnswers.{file_view}
+use Rattle.permutations.specs.Begun.{Begun, FreeSays}
 use Rattle.permutations.specs.FreeRuns.{IsFreeTold}
 use Rattle.permutations.proofs.Listing.{differs}
+use Rattle.permutations.proofs.Beginning.{freely_begun}
 use Rattle.permutations.proofs.freely.run_file_freely.Goals as goal
 
 pub returns-in_err-file-clause-refused : goal.returns-in_err-file-clause-refused
@@ -23,3 +25,15 @@ returns-clause-told g c =
           (g.W.Sink.put_so_far c.args.out.now) (g.W.Sink.put_so_far c.run_freely.new.out) (g.N.Sink.put_so_far c.args.notes.now) (g.N.Sink.put_so_far c.run_freely.new.notes) c.run_freely.result)
           blocks (c.run_freely.ensures.told ended);
     }
+
+pub returns-clause-begun : goal.returns-clause-begun
+returns-clause-begun g c =
+    let spec = spec_view c.in_ok-file.file.spec in
+    let failed = g.W.Sink.failed c.run_freely.new.out in
+    let noted = g.N.Sink.failed c.run_freely.new.notes in
+    let wo = g.W.Sink.put_so_far c.args.out.now in
+    let wn = g.W.Sink.put_so_far c.run_freely.new.out in
+    let eo = g.N.Sink.put_so_far c.args.notes.now in
+    let en = g.N.Sink.put_so_far c.run_freely.new.notes in
+    let begun = subst (λ (bs : Blocks). Begun (FreeSays spec bs) failed noted wo wn eo en) (ap blocks_of c.deref.ensures.value) c.run_freely.ensures.begun in
+    freely_begun c.args.bytes.now (file_view c.in_ok-file.file) failed noted wo wn eo en c.in_ok-file.ensures.ok begun
