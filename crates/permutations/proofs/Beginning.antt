@@ -1,5 +1,5 @@
 -- What went out of a run that ended early.
-use Rattle.std.proofs.Common.{◌≡◌, ℕ, zero, suc, ◌+◌, ◌-◌, ◌<◌, ◌≤◌, List, [], ◌∷◌, ◌++◌, Bool, true, false, Option, Some, None, Result, Ok, Err, refl, sym, ap, subst, ◌∙◌, arith, append_assoc}
+use Rattle.std.proofs.Common.{◌≡◌, ℕ, ◌+◌, ◌-◌, ◌<◌, List, [], ◌∷◌, ◌++◌, Bool, true, false, Option, Result, Ok, Err, refl, sym, ap, subst, ◌∙◌, arith, append_assoc}
 use Rattle.std.proofs.lemmas.List.{append-nil}
 use Rattle.std.specs.Io.KnownBytes.{Appends}
 use Rattle.session_machine.specs.declared.reply.HistItem.{HistItem}
@@ -19,12 +19,12 @@ use Rattle.permutations.specs.declared.fault.RunFault.{RunFault}
 use Rattle.permutations.specs.Said.{Said, Ending, ended, behind, whole, setup_failed, setup_waits, too_many}
 use Rattle.permutations.specs.FirstLine.{first_line}
 use Rattle.permutations.specs.Files.{File, FileIs}
-use Rattle.permutations.specs.Prints.{GoesOn, Prints, FileSays, says}
+use Rattle.permutations.specs.Prints.{GoesOn, Prints, says}
 use Rattle.permutations.specs.FreeRuns.{free_text, IsFreeWritten}
 use Rattle.permutations.specs.Written.{IsWritten}
 use Rattle.report_text.specs.declared.fault.Ended.{Ended}
 use Rattle.permutations.specs.Begun.{TookFront, Begun, none, fronts, OneSays, report as of_one, RunSays, run, FileMaySay, file as of_file, FreeSays, free, FileSaysFreely, freely}
-use Rattle.permutations.proofs.Listing.{appends_nothing, appends_more, took_nothing}
+use Rattle.permutations.proofs.Listing.{appends_more, took_nothing}
 use Rattle.permutations.proofs.Printing.{SoFar, one_more}
 
 -- ---- fronts

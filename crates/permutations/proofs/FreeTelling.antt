@@ -1,6 +1,6 @@
 -- A free run's text behind its first line, and the answer to writing it as the answer to its run.
-use Rattle.std.proofs.Common.{◌≡◌, ℕ, List, [], ◌++◌, Bool, true, false, ◌||◌, Option, Result, Ok, Err, IfErr, refl, sym, ap, subst, ◌∙◌, append_assoc}
-use Rattle.std.specs.Prelude.{string_bytes, IsTrue, IsErrOf}
+use Rattle.std.proofs.Common.{◌≡◌, ℕ, List, [], ◌++◌, Bool, true, false, ◌||◌, Option, Result, Ok, Err, IfErr, refl, sym, ap, subst, ◌∙◌}
+use Rattle.std.specs.Prelude.{IsTrue, IsErrOf}
 use Rattle.std.specs.Bool.{OnFalse}
 use Rattle.std.specs.Io.KnownBytes.{Appends}
 use Rattle.iso_lexer.specs.Devices.{FailsWith}
@@ -12,19 +12,17 @@ use Rattle.permutation_plans.specs.FreeRegular.{IsFreeRegular}
 use Rattle.report_text.specs.declared.fault.ReportFault.{ReportFault}
 use Rattle.report_text.specs.declared.fault.ReportFault.TheVariants as writes
 use Rattle.report_text.specs.declared.fault.Ended.{Ended}
-use Rattle.report_text.specs.declared.fault.Ended.TheVariants as ends
-use Rattle.report_text.specs.Said as report
 use Rattle.report_text.specs.Fronts.{PutsFront}
 use Rattle.report_text.specs.Answers.{EndsAs, Puts, TellsFailure}
 use Rattle.report_text.specs.FreeText.{free_says}
 use Rattle.permutations.specs.declared.fault.RunFault.{RunFault}
 use Rattle.permutations.specs.declared.fault.RunFault.TheVariants as faults
-use Rattle.permutations.specs.Faults.{report_fault}
 use Rattle.permutations.specs.FirstLine.{first_line}
 use Rattle.permutations.specs.FreeRuns.{free_text, free_told, IsFreeWritten, IsFreeTold}
-use Rattle.permutations.specs.Runs.{AnswersOne, has_ended, has_broken, is_of_one}
+use Rattle.permutations.specs.Runs.{has_ended, has_broken, is_of_one}
 use Rattle.permutations.proofs.Listing.{appends_nothing, appends_more, took_nothing}
 use Rattle.permutations.proofs.Beginning.{front_behind, took_behind}
+use Rattle.permutations.proofs.Telling.{answers_ok, answers_err}
 
 -- ---- a text behind a line
 
@@ -84,24 +82,12 @@ behind_line spec items wo wm wn eo en fo fm fn go gn line x told result same put
 
 -- ---- what was told
 
-answers_ok : (ending : report.Ending) (e : Ended) → EndsAs ending (Ok e) → AnswersOne ending (Ok tt)
-answers_ok ending ends.Whole is = let here : AnswersOne report.whole (Ok tt) = refl in subst (λ (x : report.Ending). AnswersOne x (Ok tt)) is here
-answers_ok ending ends.Invalid is = let here : AnswersOne report.invalid (Ok tt) = refl in subst (λ (x : report.Ending). AnswersOne x (Ok tt)) is here
-
-answers_failed : (ending : report.Ending) (why : _) → report.setup_failed (string_bytes why) ≡ ending → AnswersOne ending (Err (faults.SetupFailed why))
-answers_failed ending why is =
-    let here : AnswersOne (report.setup_failed (string_bytes why)) (Err (faults.SetupFailed why)) = refl in
-    subst (λ (x : report.Ending). AnswersOne x (Err (faults.SetupFailed why))) is here
-
-answers_waits : (ending : report.Ending) → report.setup_waits ≡ ending → AnswersOne ending (Err faults.SetupWaits)
-answers_waits ending is = let here : AnswersOne report.setup_waits (Err faults.SetupWaits) = refl in subst (λ (x : report.Ending). AnswersOne x (Err faults.SetupWaits)) is here
-
 told_so : (spec : SpecTree) (blocks : Blocks) (items : List HistItem) (wo wn eo en : Option (List ℕ)) (fn gn : Bool) (told : Result Ended ReportFault) → IsFreeRegular spec blocks items
     → EndsAs (free_says spec items).ending told → Puts fn wo wn (free_text spec items) told → Puts gn eo en (free_says spec items).notes told
     → IsTrue (has_ended (free_told told)) → IsFreeTold spec blocks wo wn eo en (free_told told)
 told_so spec blocks items wo wn eo en fn gn (Ok e) regular ending text notes early = record { items = items; regular = regular; answer = answers_ok (free_says spec items).ending e ending; text = text; notes = notes }
-told_so spec blocks items wo wn eo en fn gn (Err (writes.SetupFailed why)) regular ending text notes early = record { items = items; regular = regular; answer = answers_failed (free_says spec items).ending why ending; text = text; notes = notes }
-told_so spec blocks items wo wn eo en fn gn (Err writes.SetupWaits) regular ending text notes early = record { items = items; regular = regular; answer = answers_waits (free_says spec items).ending ending; text = text; notes = notes }
+told_so spec blocks items wo wn eo en fn gn (Err (writes.SetupFailed why)) regular ending text notes early = record { items = items; regular = regular; answer = answers_err (free_says spec items).ending (writes.SetupFailed why) ending early; text = text; notes = notes }
+told_so spec blocks items wo wn eo en fn gn (Err writes.SetupWaits) regular ending text notes early = record { items = items; regular = regular; answer = answers_err (free_says spec items).ending writes.SetupWaits ending early; text = text; notes = notes }
 told_so spec blocks items wo wn eo en fn gn (Err writes.Write) regular ending text notes early = absurd cc
 told_so spec blocks items wo wn eo en fn gn (Err writes.Memory) regular ending text notes early = absurd cc
 

@@ -18,11 +18,11 @@ use Rattle.permutations.specs.Faults.{report_fault}
 use Rattle.permutations.specs.Runs.{AnswersOne, IsOneTold, is_early_end, is_of_one, is_broken}
 use Rattle.permutations.specs.Written.{told_as, IsWritten}
 
-answers_ok : (ending : report.Ending) (e : Ended) → EndsAs ending (Ok e) → AnswersOne ending (Ok tt)
+pub answers_ok : (ending : report.Ending) (e : Ended) → EndsAs ending (Ok e) → AnswersOne ending (Ok tt)
 answers_ok ending ends.Whole is = let here : AnswersOne report.whole (Ok tt) = refl in subst (λ (x : report.Ending). AnswersOne x (Ok tt)) is here
 answers_ok ending ends.Invalid is = let here : AnswersOne report.invalid (Ok tt) = refl in subst (λ (x : report.Ending). AnswersOne x (Ok tt)) is here
 
-answers_err : (ending : report.Ending) (f : ReportFault) → EndsAs ending (Err f) → IsTrue (is_early_end (report_fault f)) → AnswersOne ending (Err (report_fault f))
+pub answers_err : (ending : report.Ending) (f : ReportFault) → EndsAs ending (Err f) → IsTrue (is_early_end (report_fault f)) → AnswersOne ending (Err (report_fault f))
 answers_err ending writes.Write is early = absurd cc
 answers_err ending writes.Memory is early = absurd cc
 answers_err ending (writes.SetupFailed why) is early =

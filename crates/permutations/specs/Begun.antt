@@ -1,5 +1,5 @@
 -- What has gone out wherever a call ends, also where memory is refused or a device fails.
-use Rattle.std.specs.Prelude.{◌≡◌, ℕ, ◌≤◌, Bool, List, [], Option, Ok}
+use Rattle.std.specs.Prelude.{ℕ, ◌≤◌, Bool, List, [], Option, Ok}
 use Rattle.std.specs.Bool.{OnFalse}
 use Rattle.session_machine.specs.declared.reply.HistItem.{HistItem}
 use Rattle.session_machine.specs.Machine.{Blocks}
