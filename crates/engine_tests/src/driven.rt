@@ -18,6 +18,8 @@ struct Once;
 impl<V: Versions> Driver<V> for Once {
     ghost order_after = { λ _ items. if length items == 0 then Launch 1 0 else Stop };
 
+    ghost follows = { λ _ items. Unit {0} };
+
     fn next(
         &mut self,
         _alloc: Global,
@@ -32,13 +34,17 @@ impl<V: Versions> Driver<V> for Once {
             Ok(Order::Stop)
         }
     }
+
+    ghost goes_on = { λ once items more is. is };
 }
 
 fn is_asked<V: Versions, D: Driver<V>>(
     alloc: Global,
     driver: &mut D,
     engine: &EngineState<'_, '_, V>,
-) -> Result<bool, AllocError> {
+) -> Result<bool, AllocError>
+    requires { D.follows driver.old engine.now.history }
+{
     let order = driver.next(alloc, engine)?;
     Ok(matches!(
         order,

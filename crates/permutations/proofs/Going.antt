@@ -21,7 +21,7 @@ record IsLonger (items others : List HistItem) : Type 0 where
   more : List HistItem
   is : others ≡ items ++ more
 
-follows_longer : (c : Setting) (more : List HistItem) (p : Progress) → Follows c p → Follows (longer c more) p
+pub follows_longer : (c : Setting) (more : List HistItem) (p : Progress) → Follows c p → Follows (longer c more) p
 follows_longer c more p follows =
     let few = follows.few in
     let long = length-append c.items more in

@@ -65,15 +65,20 @@ impl<'s> Plan<'s> {
     }
 }
 
-/// It can be asked after any history, and goes through the whole of it.
 impl<'s, V: Versions> Driver<V> for Plan<'s> {
     ghost order_after = { order_after };
+
+    ghost follows = { IsFollowing };
 
     fn next(
         &mut self,
         alloc: Global,
         engine: &EngineState<'_, '_, V>,
     ) -> Result<Order, AllocError> {
-        self.launches.due(alloc, self.entries, engine.history())
+        self.go_on(alloc, engine.history())
     }
+
+    ghost use Rattle.permutations.proofs.Going.{follows_longer};
+
+    ghost goes_on = { λ plan items more follows. follows_longer _ more plan.progress follows };
 }

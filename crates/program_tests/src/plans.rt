@@ -14,7 +14,9 @@ fn asked<V: Versions, D: Driver<V>>(
     alloc: Global,
     driver: &mut D,
     engine: &EngineState<'_, '_, V>,
-) -> Result<Order, AllocError> {
+) -> Result<Order, AllocError>
+    requires { D.follows driver.old engine.now.history }
+{
     driver.next(alloc, engine)
 }
 

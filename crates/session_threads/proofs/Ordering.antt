@@ -13,7 +13,7 @@ use Rattle.session_threads.specs.declared.seat.ThreadFault.{ThreadFault}
 use Rattle.session_threads.specs.declared.seat.ThreadFault.TheVariants as thread_faults
 use Rattle.session_threads.specs.Acts.{Acted, NotActed, Refuses}
 use Rattle.session_threads.specs.Seats.{SeatOf}
-use Rattle.session_threads.specs.Orders.{Orders, IsOrder, OrderedAfter, IsOrderly}
+use Rattle.session_threads.specs.Orders.{Orders, IsOrder, OrderedAfter, IsOrderly, IsLed}
 
 -- the items go on by one that is ordered
 ordered_on : (orders : Orders) (before items : List HistItem) (item : HistItem) → OrderedAfter orders before items → IsOrder item.event (orders (before ++ items)) → OrderedAfter orders before (items ++ item ∷ [])
@@ -83,3 +83,17 @@ goes_on orders event before after seat kept order stop orderly ordered a running
 pub stays : (orders : Orders) (event : Event) (before after : Engine) (f : ThreadFault) (order : Option Event) (stop : Bool)
     → IsOrderly orders before.history order stop → NotActed event before f after → IsOrderly orders after.history order stop
 stays orders event before after f order stop orderly not_done = subst (λ (w : List HistItem). IsOrderly orders w order stop) (sym (not_acted_history event before after f not_done)) orderly
+
+-- what a driver keeps fits a history that goes on, and one that stays
+pub led_on : (orders driven : Orders) (follows : List HistItem → Type 0) (event : Event) (before after : Engine) (seat kept : SeatOf) (fault : Option ThreadFault)
+    → ((items more : List HistItem) → follows items → follows (items ++ more))
+    → IsLed orders driven follows before.history fault → Acted event before after seat kept → IsLed orders driven follows after.history fault
+led_on orders driven follows event before after seat kept fault longer led a = record {
+  own = led.own;
+  keeps = λ none. subst follows (sym (acted_history event before after seat kept a)) (longer before.history (record { event = event; reply = a.reply } ∷ []) (led.keeps none));
+}
+
+pub led_stays : (orders driven : Orders) (follows : List HistItem → Type 0) (event : Event) (before after : Engine) (f : ThreadFault) (fault : Option ThreadFault)
+    → IsLed orders driven follows before.history fault → NotActed event before f after → IsLed orders driven follows after.history fault
+led_stays orders driven follows event before after f fault led not_done =
+    subst (λ (w : List HistItem). IsLed orders driven follows w fault) (sym (not_acted_history event before after f not_done)) led

@@ -25,6 +25,7 @@ use Rattle.session_core.proofs.live.Live.TheSendSync.{the_send as live_send}
 use Rattle.session_core.specs.contracts.engine.EngineState as EngineState
 use Rattle.session_core.specs.contracts.engine.EngineState.TheInside as EngineInside
 use Rattle.session_threads.specs.declared.driver.Ordering as Ordering
+use Rattle.session_threads.specs.declared.driver.Driver as Driver
 use Rattle.session_threads.specs.contracts.shared.Shared as Shared
 use Rattle.session_threads.specs.contracts.shared.Shared.TheInside as SharedInside
 use Rattle.session_threads.proofs.seat.ThreadFault.TheSendSync.{the_send as fault_send}
@@ -108,14 +109,22 @@ pub engine_send : (κ λ' : NamedLft) (V : RattleType) (v : Versions.Ghosts V.De
 engine_send κ λ' V v s = view_send _ _ _ _ _ (inside_send κ λ' V v s)
 
 -- what stands behind the lock
-shared_inside_send : (κ λ' : NamedLft) (V O : RattleType) (v : Versions.Ghosts V.Denot) (o : Ordering.Ghosts O.Denot) → IsSend V → IsSend O → IsSend (SharedInside.the_row κ λ' V O v o)
-shared_inside_send κ λ' V O v o s t =
-    let T = SharedInside.the_type κ λ' V O v o in
+shared_inside_send : (κ λ' : NamedLft) (V O D : RattleType) (v : Versions.Ghosts V.Denot) (o : Ordering.Ghosts O.Denot) (d : Driver.Ghosts D.Denot V.Denot)
+    → IsSend V → IsSend O → IsSend D → IsSend (SharedInside.the_row κ λ' V O D v o d)
+shared_inside_send κ λ' V O D v o d s t u =
+    let T = SharedInside.the_type κ λ' V O D v o d in
     let all : AllSend (struct_shape T).fields = (
       search (sendable, crosses, engine_send) depth 60,
-      (search (sendable, crosses, event_send) depth 60, (search sendable depth 60, (search (sendable, crosses, fault_send) depth 60, (search (sendable, crosses) depth 60, tt)))),
+      (
+        u,
+        (
+          search (sendable, crosses) depth 60,
+          (search (sendable, crosses, event_send) depth 60, (search sendable depth 60, (search (sendable, crosses, fault_send) depth 60, (search (sendable, crosses) depth 60, tt)))),
+        ),
+      ),
     ) in
     recorded_send _ _ _ T.to_one (struct_send (struct_shape T) all)
 
-pub shared_send : (κ λ' : NamedLft) (V O : RattleType) (v : Versions.Ghosts V.Denot) (o : Ordering.Ghosts O.Denot) → IsSend V → IsSend O → IsSend (Shared.the_row κ λ' V O v o)
-shared_send κ λ' V O v o s t = view_send _ _ _ _ _ (shared_inside_send κ λ' V O v o s t)
+pub shared_send : (κ λ' : NamedLft) (V O D : RattleType) (v : Versions.Ghosts V.Denot) (o : Ordering.Ghosts O.Denot) (d : Driver.Ghosts D.Denot V.Denot)
+    → IsSend V → IsSend O → IsSend D → IsSend (Shared.the_row κ λ' V O D v o d)
+shared_send κ λ' V O D v o d s t u = view_send _ _ _ _ _ (shared_inside_send κ λ' V O D v o d s t u)

@@ -45,3 +45,8 @@ pub record IsOrderly (orders : Orders) (items : List HistItem) (order : Option E
   pub ordered : OrderedAfter orders [] items
   pub given : IsGiven order (orders items)
   pub stopped : stop ≡ true → orders items ≡ Stop
+
+-- the driver's own orders are these, and unless a fault was met what it keeps fits the history
+pub record IsLed (orders driven : Orders) (follows : List HistItem → Type 0) (items : List HistItem) (fault : Option ThreadFault) : Type 0 where
+  pub own : driven ≡ orders
+  pub keeps : fault ≡ None → follows items

@@ -6,7 +6,7 @@ use Rattle.session_machine.specs.declared.event.Event.TheVariants.{Launch, Step,
 use Rattle.session_machine.specs.declared.reply.HistItem.{HistItem}
 use Rattle.session_machine.specs.Engine.{Engine}
 use Rattle.session_threads.specs.declared.shared.Task.{Task}
-use Rattle.session_threads.specs.declared.shared.Task.TheVariants.{Do, Ask, End}
+use Rattle.session_threads.specs.declared.shared.Task.TheVariants.{Do, End}
 
 -- a session's number, and its events with their replies
 pub record SeatOf : Type 0 where
@@ -21,7 +21,6 @@ session_of (Leave session) = session
 -- an event that a session's thread is to do is the session's
 abbrev pub IsFor : ℕ → Task → Type 0
 IsFor session (Do event) = session_of event ≡ session
-IsFor session Ask = Unit {0}
 IsFor session End = Unit {0}
 
 -- the items of one session, in order

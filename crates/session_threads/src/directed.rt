@@ -1,5 +1,5 @@
 //! A run with a thread for each session, in which a driver says what is given to whom.
-ghost use Rattle.std.specs.Prelude.{◌≡◌, ◌≤◌, ℕ, true, false, Err, None, IfOk, IfErr, IfSome, IfNone};
+ghost use Rattle.std.specs.Prelude.{◌≡◌, ◌≤◌, ℕ, [], true, false, Err, None, IfOk, IfErr, IfSome, IfNone};
 ghost use Rattle.row_versions.specs.Log.{empty_content};
 ghost use Rattle.session_core.specs.Blocks.{blocks_of};
 ghost use Rattle.session_core.specs.Engines.{IsOf, is_quiet_in};
@@ -10,8 +10,8 @@ use crate::bells::Bells;
 use crate::closing::{Closed, close};
 use crate::driver::{Driver, Ordering};
 use crate::gate::Gate;
-use crate::seat::{Seat, ThreadFault};
-use crate::shared::{Shared, Task, ask, give_up, next_task, one_event, work};
+use crate::seat::{Seat, ThreadFault, empty_seats};
+use crate::shared::{Post, Shared, give_up, work};
 use row_versions::Versions;
 use session_core::EngineState;
 use session_machine::{EngineFault, Mode};
@@ -22,29 +22,6 @@ use std::sync::{Mutex, Wait};
 use std::thread;
 use std::thread::{JoinHandle, Scope, Threads};
 
-/// Does the control session's events, and asks the driver whenever the engine is quiet, until the run is over.
-fn drive<'a, 't, V: Versions, O: Ordering, D: Driver<V>, G: Gate, R: Wait>(
-    rt: &R,
-    alloc: Global,
-    shared: &Mutex<Shared<'a, 't, V, O>>,
-    bells: &Bells,
-    gate: &G,
-    seat: &mut Seat<'t>,
-    driver: &mut D,
-)
-    requires { D.order_after driver.old ≡ O.orders }
-{
-    for _ in rt.forever() {
-        match next_task(rt, shared, bells, seat.session()) {
-            Task::Do(event) => {
-                one_event(rt, shared, bells, gate, seat, event);
-            }
-            Task::Ask => ask(rt, alloc, shared, bells, driver),
-            Task::End => return,
-        }
-    }
-}
-
 /// Starts a thread for each seat. A thread's place in the crew is made first, so that each that was started is joined.
 fn start<
     's,
@@ -53,12 +30,13 @@ fn start<
     't: 's,
     V: Versions + Send + 's,
     O: Ordering + Send + 's,
+    D: Driver<V> + Send + 's,
     G: Gate + 's,
     R: Wait + Sync + 's,
 >(
     scope: &'s Scope<'s, &'e ()>,
     rt: &'s R,
-    shared: &'s Mutex<Shared<'a, 't, V, O>>,
+    shared: &'s Mutex<Shared<'a, 't, V, O, D>>,
     bells: &'s Bells,
     gate: &'s G,
     seats: &'s mut [Seat<'t>],
@@ -69,7 +47,8 @@ fn start<
         if crew.try_reserve(1).is_err() {
             return Err(ThreadFault::Memory);
         }
-        let Ok(thread) = scope.spawn(move || work(rt, shared, bells, gate, seat)) else {
+        let post = Post { bells, seat };
+        let Ok(thread) = scope.spawn(move || work(rt, shared, gate, post)) else {
             return Err(ThreadFault::ThreadRefused);
         };
         crew.push(thread).unwrap();
@@ -77,60 +56,64 @@ fn start<
     Ok(())
 }
 
-/// Starts a thread for each session beside the control session, which is the first seat's, does what is the control
-/// session's in the calling thread until the run is over, and joins the others.
+/// Starts a thread for each seat but the first, does what is the first session's in the calling thread until the run is
+/// over, and joins the others.
+fn serve_in<
+    's,
+    'e: 's,
+    'a: 's,
+    't: 's,
+    V: Versions + Send + 's,
+    O: Ordering + Send + 's,
+    D: Driver<V> + Send + 's,
+    G: Gate + 's,
+    R: Threads + Wait + Sync + 's,
+>(
+    scope: &'s Scope<'s, &'e ()>,
+    rt: &'s R,
+    alloc: Global,
+    shared: &'s Mutex<Shared<'a, 't, V, O, D>>,
+    bells: &'s Bells,
+    gate: &'s G,
+    seats: &'s mut [Seat<'t>],
+) {
+    let mut crew = Vec::new(alloc);
+    if let Some((control, others)) = seats.split_first_mut() {
+        if let Err(fault) = start(scope, rt, shared, bells, gate, others, &mut crew) {
+            give_up(rt, shared, bells, fault);
+        }
+        let post = Post {
+            bells,
+            seat: control,
+        };
+        work(rt, shared, gate, post);
+    }
+    for thread in crew {
+        thread.join(rt);
+    }
+}
+
+/// Serves the seats in a scope; the first is the control session's.
 fn serve<
     'a,
     't,
     V: Versions + Send,
     O: Ordering + Send,
-    D: Driver<V> + Drop,
+    D: Driver<V> + Send,
     G: Gate,
     R: Threads + Wait + Sync,
 >(
     rt: &R,
     alloc: Global,
-    shared: &Mutex<Shared<'a, 't, V, O>>,
+    shared: &Mutex<Shared<'a, 't, V, O, D>>,
     bells: &Bells,
     gate: &G,
-    driver: D,
     seats: &mut [Seat<'t>],
-)
-    requires { D.order_after driver ≡ O.orders }
-{
+) {
     let lent = &mut *seats;
-    thread::scope(
-        thread::scope_env(),
-        rt,
-        move |scope|
-            requires { D.order_after driver ≡ O.orders }
-        {
-            let mut driver = driver;
-            let mut crew = Vec::new(alloc);
-            if let Some((control, others)) = lent.split_first_mut() {
-                if let Err(fault) = start(scope, rt, shared, bells, gate, others, &mut crew) {
-                    give_up(rt, shared, bells, fault);
-                }
-                drive(rt, alloc, shared, bells, gate, control, &mut driver);
-            }
-            for thread in crew {
-                thread.join(rt);
-            }
-        },
-    )
-}
-
-/// A seat for the control session, which is session 0, and for each of so many sessions beside it.
-pub fn empty_seats<'t>(alloc: Global, sessions: u32) -> Result<Vec<Seat<'t>>, ThreadFault>
-    requires { sessions ≤ 64 }
-{
-    let mut seats = Vec::new(alloc);
-    for session in 0..sessions + 1 {
-        if seats.push(Seat::new(alloc, session)).is_err() {
-            return Err(ThreadFault::Memory);
-        }
-    }
-    Ok(seats)
+    thread::scope(thread::scope_env(), rt, move |scope| {
+        serve_in(scope, rt, alloc, shared, bells, gate, lent)
+    })
 }
 
 /// The end of a run: the seats beside an engine that is quiet and was opened over these blocks and sessions.
@@ -158,8 +141,8 @@ fn end_of<'a, 't, V: Versions>(
 }
 
 /// The end of a run of what stood behind the lock. A fault that was met comes first.
-fn closed_of<'a, 't, V: Versions, O: Ordering>(
-    shared: Shared<'a, 't, V, O>,
+fn closed_of<'a, 't, V: Versions, O: Ordering, D: Driver<V> + Drop>(
+    shared: Shared<'a, 't, V, O, D>,
     blocks: &[Block<'_>],
     sessions: u32,
     seats: Vec<Seat<'t>>,
@@ -187,7 +170,7 @@ fn run_ordered<
     't,
     V: Versions + Send,
     O: Ordering + Send,
-    D: Driver<V> + Drop,
+    D: Driver<V> + Send + Drop,
     G: Gate,
     R: Threads + Wait + Sync,
 >(
@@ -202,6 +185,7 @@ fn run_ordered<
     requires few { sessions ≤ 64 }
     requires empty { V.content store ≡ empty_content }
     requires orders { D.order_after driver ≡ O.orders }
+    requires follows { D.follows driver [] }
     ensures of { IfOk result (λ c. IsOf c.state (blocks_of blocks.now) sessions Mode.Directed) }
     ensures quiet { IfOk result (λ c. is_quiet_in c.state.machine ≡ true) }
     ensures driven { IfOk result (λ c. IsDriven O.orders c.state.history) }
@@ -211,18 +195,20 @@ fn run_ordered<
     let Ok(engine) = EngineState::new(alloc, blocks, sessions, Mode::Directed, store) else {
         return Err(ThreadFault::Memory);
     };
-    let lock: Mutex<Shared<'a, 't, V, O>> = Mutex::new(Shared::new(engine));
-    serve(rt, alloc, &lock, &bells, gate, driver, &mut seats);
+    let mut shared: Shared<'a, 't, V, O, D> = Shared::new(alloc, engine, driver);
+    shared.ask();
+    let lock = Mutex::new(shared);
+    serve(rt, alloc, &lock, &bells, gate, &mut seats);
     closed_of(lock.into_inner(), blocks, sessions, seats)
 }
 
-/// Runs what the driver orders, each event in its session's own thread; the calling thread is the control session's, and
-/// asks the driver. The seats hold the events that their threads have done.
+/// Runs what the driver orders, each event in its session's own thread; the calling thread is the control session's. The
+/// thread whose event left the engine quiet asks the driver. The seats hold the events that their threads have done.
 pub fn run_directed<
     'a,
     't,
     V: Versions + Send,
-    D: Driver<V> + Drop,
+    D: Driver<V> + Send + Drop,
     G: Gate,
     R: Threads + Wait + Sync,
 >(
@@ -236,6 +222,7 @@ pub fn run_directed<
 ) -> Result<Closed<'a, 't, V>, ThreadFault>
     requires few { sessions ≤ 64 }
     requires empty { V.content store ≡ empty_content }
+    requires follows { D.follows driver [] }
     ensures of { IfOk result (λ c. IsOf c.state (blocks_of blocks.now) sessions Mode.Directed) }
     ensures quiet { IfOk result (λ c. is_quiet_in c.state.machine ≡ true) }
     ensures driven { IfOk result (λ c. IsDriven (D.order_after driver) c.state.history) }

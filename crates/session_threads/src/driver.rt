@@ -1,5 +1,5 @@
 //! Who says what the sessions are given.
-ghost use Rattle.std.specs.Prelude.{◌≡◌, IfOk, List};
+ghost use Rattle.std.specs.Prelude.{◌≡◌, ◌++◌, IfOk, OnOk, List};
 ghost use Rattle.session_machine.specs.declared.reply.HistItem.{HistItem as Item};
 ghost use Rattle.session_machine.specs.declared.event.Order.{Order as Given};
 
@@ -14,15 +14,26 @@ pub trait Driver<V: Versions> {
     // what it orders after a history
     ghost order_after: { Self → List Item → Given };
 
-    /// The next order. It is asked for where the engine is quiet. What it orders after a history stays the same.
+    // what it keeps fits a history: it is of a front of it
+    ghost follows: { Self → List Item → Type 0 };
+
+    /// The next order. It is asked for where the engine is quiet, of a history that goes on from the one before. What it
+    /// orders after a history stays the same.
     fn next(&mut self, alloc: Global, engine: &EngineState<'_, '_, V>) -> Result<Order, AllocError>
+        requires follows { follows self.old engine.now.history }
         ensures order { IfOk result (λ order. order ≡ order_after self.old engine.now.history) }
+        ensures follows { OnOk result (follows self.new engine.now.history) }
         ensures same { order_after self.new ≡ order_after self.old };
+
+    // and it fits each history that goes on from that one
+    ghost goes_on: { (driver : Self) (items more : List Item) → follows driver items → follows driver (items ++ more) };
 }
 
 /// A driver that is lent.
 impl<V: Versions, D: Driver<V>> Driver<V> for &mut D {
     ghost order_after = { λ d items. D.order_after d.now items };
+
+    ghost follows = { λ d items. D.follows d.now items };
 
     fn next(
         &mut self,
@@ -31,6 +42,8 @@ impl<V: Versions, D: Driver<V>> Driver<V> for &mut D {
     ) -> Result<Order, AllocError> {
         (**self).next(alloc, engine)
     }
+
+    ghost goes_on = { λ d items more. D.goes_on d.now items more };
 }
 
 /// The orders that a run is given. Each run picks those of its driver, and its threads hold on to them by the type.

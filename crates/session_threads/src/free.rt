@@ -8,7 +8,7 @@ ghost use Rattle.session_threads.specs.Seats.{IsMisfit};
 use crate::closing::{Closed, close};
 use crate::free_shared::{FreeShared, free_event, stop};
 use crate::gate::{Gate, OpenGate};
-use crate::seat::{Seat, ThreadFault};
+use crate::seat::{Seat, ThreadFault, empty_seats};
 use row_versions::Versions;
 use session_core::EngineState;
 use session_machine::{EngineFault, Event, Mode, Outcome};
@@ -52,7 +52,8 @@ fn course_of(seat: &Seat<'_>) -> Course {
     }
 }
 
-/// Launches a block in a session, and steps until it has ended. Says whether it has; it hasn't where the run is over.
+/// Launches a block in a session, and steps until it has ended, or waits where it may not. Says how far it has come; `None`
+/// where the run is over.
 fn run_block<'a, 't, V: Versions, G: Gate, R: Wait>(
     rt: &R,
     shared: &Mutex<FreeShared<'a, 't, V>>,
@@ -60,24 +61,26 @@ fn run_block<'a, 't, V: Versions, G: Gate, R: Wait>(
     gate: &G,
     seat: &mut Seat<'t>,
     block: u32,
-) -> bool {
+    may_wait: bool,
+) -> Option<Course> {
     let session = seat.session();
     let launch = Event::Launch { session, block };
     if !free_event(rt, shared, bell, gate, seat, launch) {
-        return false;
+        return None;
     }
     for _ in rt.forever() {
-        if let Course::Ended { .. } = course_of(seat) {
-            return true;
+        match course_of(seat) {
+            Course::GoesOn { waits } if may_wait || !waits => {}
+            course => return Some(course),
         }
         let step = Event::Step {
             session: seat.session(),
         };
         if !free_event(rt, shared, bell, gate, seat, step) {
-            return false;
+            return None;
         }
     }
-    false
+    None
 }
 
 /// A session's seat, and the blocks that its thread runs.
@@ -97,7 +100,7 @@ fn run_script<'a, 't, V: Versions, G: Gate, R: Wait>(
 ) {
     let Runner { seat, script } = runner;
     for block in script {
-        if !run_block(rt, shared, bell, gate, seat, *block) {
+        if run_block(rt, shared, bell, gate, seat, *block, true).is_none() {
             return;
         }
     }
@@ -107,7 +110,7 @@ fn run_script<'a, 't, V: Versions, G: Gate, R: Wait>(
     free_event(rt, shared, bell, gate, seat, leave);
 }
 
-/// Launches a block in a session, and steps until it has ended or waits. Says whether it went well.
+/// Runs a block while there are no threads, until it has ended or waits. Says whether it went well.
 fn run_setup<'a, 't, V: Versions, R: Wait>(
     rt: &R,
     shared: &Mutex<FreeShared<'a, 't, V>>,
@@ -115,25 +118,8 @@ fn run_setup<'a, 't, V: Versions, R: Wait>(
     seat: &mut Seat<'t>,
     block: u32,
 ) -> bool {
-    let session = seat.session();
-    let launch = Event::Launch { session, block };
-    if !free_event(rt, shared, bell, &OpenGate, seat, launch) {
-        return false;
-    }
-    for _ in rt.forever() {
-        match course_of(seat) {
-            Course::Ended { failed } => return !failed,
-            Course::GoesOn { waits: true } => return false,
-            Course::GoesOn { waits: false } => {}
-        }
-        let step = Event::Step {
-            session: seat.session(),
-        };
-        if !free_event(rt, shared, bell, &OpenGate, seat, step) {
-            return false;
-        }
-    }
-    false
+    let course = run_block(rt, shared, bell, &OpenGate, seat, block, false);
+    matches!(course, Some(Course::Ended { failed: false }))
 }
 
 /// Runs the blocks that come before the threads, up to one that fails or waits. Says whether all went well.
@@ -300,20 +286,6 @@ fn run_plan<'a, 't, V: Versions + Send, G: Gate, R: Threads + Wait + Sync>(
     }
 }
 
-/// A seat for the control session, which is session 0, and for each of so many sessions beside it, in the order of their
-/// numbers.
-fn all_seats<'t>(alloc: Global, sessions: u32) -> Result<Vec<Seat<'t>>, ThreadFault>
-    requires { sessions ≤ 64 }
-{
-    let mut seats = Vec::new(alloc);
-    for session in 0..sessions + 1 {
-        if seats.push(Seat::new(alloc, session)).is_err() {
-            return Err(ThreadFault::Memory);
-        }
-    }
-    Ok(seats)
-}
-
 /// The end of a run: the seats beside an engine that was opened over these blocks and sessions. A fault that was met in
 /// the control session's last blocks comes after that.
 fn end_of<'a, 't, V: Versions>(
@@ -356,7 +328,7 @@ pub fn run_free<'a, 't, V: Versions + Send, G: Gate, R: Threads + Wait + Sync>(
     ensures { IfOk result (λ c. IsOf c.state (blocks_of blocks.now) (vec_len plan.now.scripts) Mode.Free) }
 {
     let sessions = plan.scripts.len() as u32;
-    let mut seats = all_seats(alloc, sessions)?;
+    let mut seats = empty_seats(alloc, sessions)?;
     let Ok(engine) = EngineState::new(alloc, blocks, sessions, Mode::Free, store) else {
         return Err(ThreadFault::Memory);
     };

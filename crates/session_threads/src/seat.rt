@@ -1,5 +1,5 @@
 //! A session's seat: its own events and their replies.
-ghost use Rattle.std.specs.Prelude.{◌≡◌, ◌≢◌, [], Err, OnOk, OnErr, IfErr, IsErrOf};
+ghost use Rattle.std.specs.Prelude.{◌≡◌, ◌≢◌, ◌≤◌, [], Err, OnOk, OnErr, IfErr, IsErrOf};
 ghost use Rattle.session_machine.specs.Engine.{engine_after, spent_engine};
 ghost use Rattle.session_core.specs.Engines.{IsDue};
 ghost use Rattle.session_threads.specs.Seats.{session_of};
@@ -65,6 +65,19 @@ impl<'t> Seat<'t> {
     {
         self.items.as_slice()
     }
+}
+
+/// A seat for the control session, which is session 0, and for each of so many sessions beside it.
+pub fn empty_seats<'t>(alloc: Global, sessions: u32) -> Result<Vec<Seat<'t>>, ThreadFault>
+    requires { sessions ≤ 64 }
+{
+    let mut seats = Vec::new(alloc);
+    for session in 0..sessions + 1 {
+        if seats.push(Seat::new(alloc, session)).is_err() {
+            return Err(ThreadFault::Memory);
+        }
+    }
+    Ok(seats)
 }
 
 fn asked<'t, V: Versions>(

@@ -15,19 +15,22 @@ use std::marker::{Model, PhantomData};
 use std::sync::{Mutex, MutexGuard, Wait};
 use std::thread::yield_now;
 
-/// The engine, the order that was given and is not yet done, whether the driver said Stop, and a fault that was met. Each
-/// Launch and Leave of the history is what the driver orders after the history before it, and nothing follows a Stop.
+/// The engine, the driver, the order that was given and is not yet done, whether the driver said Stop, and a fault that was
+/// met. Each Launch and Leave of the history is what the driver orders after the history before it, nothing follows a Stop,
+/// and what the driver keeps fits the history.
 #[derive(Drop)]
-pub struct Shared<'a, 't, V: Versions, O: Ordering> {
+pub struct Shared<'a, 't, V: Versions, O: Ordering, D: Driver<V>> {
     engine: EngineState<'a, 't, V>,
+    driver: D,
+    alloc: Global,
     order: Option<Event>,
     stop: bool,
     fault: Option<ThreadFault>,
     orders: PhantomData<O>,
 }
 
-impl<'a, 't, V: Versions, O: Ordering> Model for Shared<'a, 't, V, O> {
-    ghost use Rattle.session_threads.specs.Orders.{SharedOf, IsOrderly};
+impl<'a, 't, V: Versions, O: Ordering, D: Driver<V>> Model for Shared<'a, 't, V, O, D> {
+    ghost use Rattle.session_threads.specs.Orders.{SharedOf, IsOrderly, IsLed};
     ghost use Rattle.session_core.specs.TreeCodes.{tree_code};
     ghost use Rattle.std.specs.Coded.{codes};
 
@@ -37,17 +40,22 @@ impl<'a, 't, V: Versions, O: Ordering> Model for Shared<'a, 't, V, O> {
 
     ghost view = { λ s. record { engine = s.engine; order = s.order; stop = s.stop; fault = s.fault } };
 
-    ghost invariant = { λ s. IsOrderly O.orders s.engine.history s.order s.stop };
+    ghost invariant = { λ s. IsOrderly O.orders s.engine.history s.order s.stop
+        × IsLed O.orders (D.order_after s.driver) (D.follows s.driver) s.engine.history s.fault };
 }
 
-impl<'a, 't, V: Versions, O: Ordering> Shared<'a, 't, V, O> {
+impl<'a, 't, V: Versions, O: Ordering, D: Driver<V>> Shared<'a, 't, V, O, D> {
     /// Of an engine in which nothing has happened.
-    pub fn new(engine: EngineState<'a, 't, V>) -> Self
-        requires { engine.history ≡ [] }
+    pub fn new(alloc: Global, engine: EngineState<'a, 't, V>, driver: D) -> Self
+        requires empty { engine.history ≡ [] }
+        requires orders { D.order_after driver ≡ O.orders }
+        requires follows { D.follows driver [] }
         ensures { result ≡ record { engine = engine.entry; order = None; stop = false; fault = None } }
     {
         Shared {
             engine,
+            driver,
+            alloc,
             order: None,
             stop: false,
             fault: None,
@@ -60,11 +68,6 @@ impl<'a, 't, V: Versions, O: Ordering> Shared<'a, 't, V, O> {
         ensures { result ≡ (self.now.stop || is_some self.now.fault) }
     {
         self.stop || self.fault.is_some()
-    }
-
-    /// The driver is to be asked.
-    pub fn resting(&self) -> bool {
-        self.order.is_none() && self.engine.quiet()
     }
 
     /// The event that the session is to do now.
@@ -105,18 +108,18 @@ impl<'a, 't, V: Versions, O: Ordering> Shared<'a, 't, V, O> {
         }
     }
 
-    /// Takes the driver's next order.
-    pub fn ask<D: Driver<V>>(&mut self, alloc: Global, driver: &mut D)
-        requires { D.order_after driver.old ≡ O.orders }
-        ensures { D.order_after driver.new ≡ O.orders }
-    {
-        match driver.next(alloc, &self.engine) {
+    /// Takes the driver's next order, where the run goes on and there is nothing else to do.
+    pub fn ask(&mut self) {
+        if self.over() || self.order.is_some() || !self.engine.quiet() {
+            return;
+        }
+        match self.driver.next(self.alloc, &self.engine) {
             Ok(Order::Launch { session, block }) => {
                 self.give(session, Event::Launch { session, block });
             }
             Ok(Order::Leave { session }) => self.give(session, Event::Leave { session }),
             Ok(Order::Stop) => self.stop = true,
-            Err(_) => self.note(ThreadFault::Memory),
+            Err(_) => self.fault = Some(ThreadFault::Memory),
         }
     }
 
@@ -154,15 +157,7 @@ impl<'a, 't, V: Versions, O: Ordering> Shared<'a, 't, V, O> {
         }
     }
 
-    /// The engine, whether the driver said Stop, and the fault that was met.
-    pub fn into_parts(self) -> (EngineState<'a, 't, V>, bool, Option<ThreadFault>)
-        ensures { (result.0 ≡ self.entry.engine) × (result.1 ≡ self.entry.stop) × (result.2 ≡ self.entry.fault) × (result.1 ≡ true → IsDriven O.orders result.0.history) }
-    {
-        (self.engine, self.stop, self.fault)
-    }
-
-    /// The session whose thread has something to do, while the run isn't over. The calling thread is the control session's,
-    /// and asks the driver too.
+    /// The session whose thread has something to do, while the run isn't over.
     fn hand(&self) -> u32 {
         match self.order {
             Some(Event::Launch { session, .. }) | Some(Event::Leave { session }) => session,
@@ -180,8 +175,17 @@ impl<'a, 't, V: Versions, O: Ordering> Shared<'a, 't, V, O> {
         match self.due(session) {
             _ if self.over() => Some(Task::End),
             Some(event) => Some(Task::Do(event)),
-            None => (session == 0 && self.resting()).then_some(Task::Ask),
+            None => None,
         }
+    }
+}
+
+impl<'a, 't, V: Versions, O: Ordering, D: Driver<V> + Drop> Shared<'a, 't, V, O, D> {
+    /// The engine, whether the driver said Stop, and the fault that was met.
+    pub fn into_parts(self) -> (EngineState<'a, 't, V>, bool, Option<ThreadFault>)
+        ensures { (result.0 ≡ self.entry.engine) × (result.1 ≡ self.entry.stop) × (result.2 ≡ self.entry.fault) × (result.1 ≡ true → IsDriven O.orders result.0.history) }
+    {
+        (self.engine, self.stop, self.fault)
     }
 }
 
@@ -190,8 +194,6 @@ impl<'a, 't, V: Versions, O: Ordering> Shared<'a, 't, V, O> {
 pub enum Task {
     /// This event.
     Do(Event),
-    /// To ask the driver.
-    Ask,
     /// Nothing any more.
     End,
 }
@@ -208,9 +210,9 @@ pub fn admitted<G: Gate>(gate: &G, event: Event) -> bool {
 }
 
 /// Keeps a fault, and wakes everyone.
-pub fn give_up<'a, 't, V: Versions, O: Ordering, R: Wait>(
+pub fn give_up<'a, 't, V: Versions, O: Ordering, D: Driver<V>, R: Wait>(
     rt: &R,
-    shared: &Mutex<Shared<'a, 't, V, O>>,
+    shared: &Mutex<Shared<'a, 't, V, O, D>>,
     bells: &Bells,
     fault: ThreadFault,
 ) {
@@ -219,8 +221,8 @@ pub fn give_up<'a, 't, V: Versions, O: Ordering, R: Wait>(
 }
 
 /// Lets the lock go, and wakes the thread that has something to do, unless it is this session's.
-fn pass_on<'a, 't, V: Versions, O: Ordering>(
-    guard: MutexGuard<'_, Shared<'a, 't, V, O>>,
+fn pass_on<'a, 't, V: Versions, O: Ordering, D: Driver<V>>(
+    guard: MutexGuard<'_, Shared<'a, 't, V, O, D>>,
     bells: &Bells,
     session: u32,
 ) {
@@ -235,9 +237,9 @@ fn pass_on<'a, 't, V: Versions, O: Ordering>(
 }
 
 /// What the session's thread is to do next. Sleeps until there is something.
-pub fn next_task<'a, 't, V: Versions, O: Ordering, R: Wait>(
+pub fn next_task<'a, 't, V: Versions, O: Ordering, D: Driver<V>, R: Wait>(
     rt: &R,
-    shared: &Mutex<Shared<'a, 't, V, O>>,
+    shared: &Mutex<Shared<'a, 't, V, O, D>>,
     bells: &Bells,
     session: u32,
 ) -> Task
@@ -252,9 +254,9 @@ pub fn next_task<'a, 't, V: Versions, O: Ordering, R: Wait>(
 }
 
 /// Does one event: asks the gate, does the event under the lock, and tells the gate. Says whether it was done.
-pub fn one_event<'a, 't, V: Versions, O: Ordering, G: Gate, R: Wait>(
+pub fn one_event<'a, 't, V: Versions, O: Ordering, D: Driver<V>, G: Gate, R: Wait>(
     rt: &R,
-    shared: &Mutex<Shared<'a, 't, V, O>>,
+    shared: &Mutex<Shared<'a, 't, V, O, D>>,
     bells: &Bells,
     gate: &G,
     seat: &mut Seat<'t>,
@@ -269,6 +271,7 @@ pub fn one_event<'a, 't, V: Versions, O: Ordering, G: Gate, R: Wait>(
     }
     let mut guard = shared.lock(rt);
     let done = guard.perform(seat, event);
+    guard.ask();
     pass_on(guard, bells, seat.session());
     if done {
         tell(gate, seat);
@@ -283,32 +286,21 @@ pub fn tell<G: Gate>(gate: &G, seat: &Seat<'_>) {
     }
 }
 
-/// Asks the driver, and wakes the thread that its order is for.
-pub fn ask<'a, 't, V: Versions, O: Ordering, D: Driver<V>, R: Wait>(
-    rt: &R,
-    alloc: Global,
-    shared: &Mutex<Shared<'a, 't, V, O>>,
-    bells: &Bells,
-    driver: &mut D,
-)
-    requires { D.order_after driver.old ≡ O.orders }
-    ensures { D.order_after driver.new ≡ O.orders }
-{
-    let mut guard = shared.lock(rt);
-    if guard.resting() {
-        guard.ask(alloc, driver);
-    }
-    pass_on(guard, bells, 0);
+/// A session's seat, and the bells that its thread sleeps at and rings.
+#[derive(Drop)]
+pub struct Post<'s, 't> {
+    pub bells: &'s Bells,
+    pub seat: &'s mut Seat<'t>,
 }
 
 /// Does the session's events until the run is over.
-pub fn work<'a, 't, V: Versions, O: Ordering, G: Gate, R: Wait>(
+pub fn work<'a, 't, V: Versions, O: Ordering, D: Driver<V>, G: Gate, R: Wait>(
     rt: &R,
-    shared: &Mutex<Shared<'a, 't, V, O>>,
-    bells: &Bells,
+    shared: &Mutex<Shared<'a, 't, V, O, D>>,
     gate: &G,
-    seat: &mut Seat<'t>,
+    post: Post<'_, 't>,
 ) {
+    let Post { bells, seat } = post;
     for _ in rt.forever() {
         let Task::Do(event) = next_task(rt, shared, bells, seat.session()) else {
             return;

@@ -1,10 +1,9 @@
 use denote.Param.Send.{sendable}
 use Rattle.std.proofs.sync.Mutex.TheSendSync.{the_sync as mutex_sync}
-use Rattle.session_threads.proofs.bells.Bells.TheSendSync.{the_sync as bells_sync}
 use Rattle.session_threads.proofs.Sending.{shared_send}
-use Rattle.session_threads.proofs.seat.Seat.TheSendSync.{the_send as seat_send}
+use Rattle.session_threads.proofs.shared.Post.TheSendSync.{the_send as post_send}
 use Rattle.session_threads.proofs.directed.start.Goals as goal
 
 -- what a thread is lent may cross to it
 pub spawn-requires-send-F : goal.spawn-requires-send-F
-spawn-requires-send-F g c κs within = search (sendable, mutex_sync, bells_sync, seat_send, shared_send) depth 60 fits 10000
+spawn-requires-send-F g c κs within = search (sendable, mutex_sync, post_send, shared_send) depth 60 fits 10000

@@ -1,7 +1,17 @@
 use Rattle.std.proofs.Common.{rules}
-use Rattle.session_threads.proofs.Ordering.{goes_on}
+use Rattle.session_threads.proofs.Ordering.{goes_on, stays, led_on, led_stays}
 use Rattle.session_threads.proofs.shared.Shared.perform.Goals as goal
 
 pub invariant_of-self : goal.invariant_of-self
-invariant_of-self g c =
-    goes_on g.O.Ordering.orders c.args.event c.self.inside.engine c.act.new.engine c.args.seat.now c.act.new.seat c.self.inside.order c.self.inside.stop c.self.invariant (search rules) (search rules) (search rules)
+invariant_of-self g c = (
+  goes_on g.O.Ordering.orders c.args.event c.self.inside.engine c.act.new.engine c.args.seat.now c.act.new.seat c.self.inside.order c.self.inside.stop c.self.invariant.0 (search rules) (search rules) (search rules),
+  led_on g.O.Ordering.orders (g.D.Driver.order_after c.self.inside.driver) (g.D.Driver.follows c.self.inside.driver) c.args.event c.self.inside.engine c.act.new.engine c.args.seat.now c.act.new.seat c.self.inside.fault
+      (g.met.D.Driver.goes_on c.self.inside.driver) c.self.invariant.1 (search rules),
+)
+
+pub invariant_of-self-in-Err : goal.invariant_of-self-in-Err
+invariant_of-self-in-Err g c = (
+  stays g.O.Ordering.orders c.args.event c.self.inside.engine c.act.new.engine c.in-Err.fault c.self.inside.order c.self.inside.stop c.self.invariant.0 c.in-Err.ensures.err,
+  led_stays g.O.Ordering.orders (g.D.Driver.order_after c.self.inside.driver) (g.D.Driver.follows c.self.inside.driver) c.args.event c.self.inside.engine c.act.new.engine c.in-Err.fault c.self.inside.fault
+      c.self.invariant.1 c.in-Err.ensures.err,
+)
