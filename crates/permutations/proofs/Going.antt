@@ -1,6 +1,6 @@
 -- What is kept of an engine's history is kept of what the history goes on with.
 use Rattle.std.proofs.Common.{◌≡◌, ◌≢◌, Bool, true, false, true≢false, List, [], ◌∷◌, ◌++◌, length-append, append-nil, refl, ap, sym, ◌∙◌, subst, arith, Option, Some, None}
-use Rattle.std.specs.Prelude.{Result, Ok, Err, IsErrOf}
+use Rattle.std.specs.Prelude.{Result, Ok, Err, IsErrOf, IfErr, OnOk}
 use Rattle.std.proofs.lemmas.List.{take-append-le}
 use Rattle.session_machine.specs.declared.event.Event.{Event}
 use Rattle.session_machine.specs.declared.reply.Reply.{Reply}
@@ -52,37 +52,39 @@ is_memory Spent = false
 is_memory NoSession = false
 is_memory BlockNotAllowed = false
 
-abbrev is_memory_err : Result Reply EngineFault → Bool
-is_memory_err (Ok r) = false
-is_memory_err (Err f) = is_memory f
+-- the engine did the event, whatever the reply, or refused it
+abbrev Answered : Engine → Event → Engine → Result (Unit {0}) EngineFault → Type 0
+Answered old event new result = OnOk result ((reply : Reply) × (engine_after old event ≡ record { engine = new; answer = Ok reply }))
 
-memory_is : (f : EngineFault) → is_memory f ≡ true → f ≡ Memory
-memory_is Memory h = refl
-memory_is Busy h = cc
-memory_is NotYourTurn h = cc
-memory_is StillBlocked h = cc
-memory_is Idle h = cc
-memory_is Spent h = cc
-memory_is NoSession h = cc
-memory_is BlockNotAllowed h = cc
+abbrev Refused : Engine → Event → Engine → Result (Unit {0}) EngineFault → Type 0
+Refused old event new result = IfErr result (λ fault. fault ≢ Memory → engine_after old event ≡ record { engine = new; answer = Err fault })
 
-memory_err : (r : Result Reply EngineFault) → is_memory_err r ≡ true → r ≡ Err Memory
-memory_err (Ok r) h = cc
-memory_err (Err f) h = ap (λ (x : EngineFault). let r : Result Reply EngineFault = Err x in r) (memory_is f h)
+stays_so : (old new : Engine) → new ≡ spent_engine old → IsLonger old.history new.history
+stays_so old new is = subst (λ (e : Engine). IsLonger old.history e.history) (sym is) (record { more = []; is = sym (append-nil old.history) })
 
-no_memory : (r : Result Reply EngineFault) → is_memory_err r ≡ false → r ≢ Err Memory
-no_memory r h same = true≢false (sym (ap is_memory_err same) ∙ h)
+goes_so : (old new : Engine) (event : Event) (answer : Result Reply EngineFault) → engine_after old event ≡ record { engine = new; answer = answer } → IsLonger old.history new.history
+goes_so old new event answer is = subst (λ (e : Engine). IsLonger old.history e.history) (ap (λ (a : EngineAnswered). a.engine) is) (step_longer old event old.machine)
 
-after_case : (old new : Engine) (event : Event) (result : Result Reply EngineFault) (b : Bool) → is_memory_err result ≡ b
-    → (IsErrOf result Memory → new ≡ spent_engine old) → (result ≢ Err Memory → engine_after old event ≡ record { engine = new; answer = result })
-    → IsLonger old.history new.history
-after_case old new event result true is memory answer =
-    subst (λ (e : Engine). IsLonger old.history e.history) (sym (memory (memory_err result is))) (record { more = []; is = sym (append-nil old.history) })
-after_case old new event result false is memory answer =
-    subst (λ (e : Engine). IsLonger old.history e.history) (ap (λ (a : EngineAnswered). a.engine) (answer (no_memory result is))) (step_longer old event old.machine)
+after_fault : (old new : Engine) (event : Event) (fault : EngineFault) → (fault ≡ Memory → new ≡ spent_engine old)
+    → (fault ≢ Memory → engine_after old event ≡ record { engine = new; answer = Err fault }) → IsLonger old.history new.history
+after_fault old new event Memory memory refused = stays_so old new (memory refl)
+after_fault old new event Busy memory refused = goes_so old new event (Err Busy) (refused (λ same. true≢false (sym (ap is_memory same))))
+after_fault old new event NotYourTurn memory refused = goes_so old new event (Err NotYourTurn) (refused (λ same. true≢false (sym (ap is_memory same))))
+after_fault old new event StillBlocked memory refused = goes_so old new event (Err StillBlocked) (refused (λ same. true≢false (sym (ap is_memory same))))
+after_fault old new event Idle memory refused = goes_so old new event (Err Idle) (refused (λ same. true≢false (sym (ap is_memory same))))
+after_fault old new event Spent memory refused = goes_so old new event (Err Spent) (refused (λ same. true≢false (sym (ap is_memory same))))
+after_fault old new event NoSession memory refused = goes_so old new event (Err NoSession) (refused (λ same. true≢false (sym (ap is_memory same))))
+after_fault old new event BlockNotAllowed memory refused = goes_so old new event (Err BlockNotAllowed) (refused (λ same. true≢false (sym (ap is_memory same))))
+
+after : (old new : Engine) (event : Event) (result : Result (Unit {0}) EngineFault) → (IsErrOf result Memory → new ≡ spent_engine old)
+    → Answered old event new result → Refused old event new result → IsLonger old.history new.history
+after old new event (Ok x) memory done refused = goes_so old new event (Ok done.0) done.1
+after old new event (Err fault) memory done refused =
+    after_fault old new event fault (λ same. memory (ap (λ (f : EngineFault). let r : Result (Unit {0}) EngineFault = Err f in r) same)) refused
 
 -- an event was done, or refused, or memory was
-pub goes_on : (plan : Planning) (old new : Engine) (event : Event) (result : Result Reply EngineFault)
-    → (IsErrOf result Memory → new ≡ spent_engine old) → (result ≢ Err Memory → engine_after old event ≡ record { engine = new; answer = result })
+pub goes_on : (plan : Planning) (old new : Engine) (event : Event) (result : Result (Unit {0}) EngineFault) → (IsErrOf result Memory → new ≡ spent_engine old)
+    → OnOk result ((reply : Reply) × (engine_after old event ≡ record { engine = new; answer = Ok reply }))
+    → IfErr result (λ fault. fault ≢ Memory → engine_after old event ≡ record { engine = new; answer = Err fault })
     → IsFollowing plan old.history → IsFollowing plan new.history
-goes_on plan old new event result memory answer follows = following plan old.history new.history (after_case old new event result (is_memory_err result) refl memory answer) follows
+goes_on plan old new event result memory done refused follows = following plan old.history new.history (after old new event result memory done refused) follows

@@ -16,6 +16,7 @@ mod run;
 mod thread_run;
 
 pub use fault::{BlockFault, RunFault};
+pub use file::{SpecFile, read_file};
 pub use freely::{free_spec, write_free};
 pub use interleavings::Interleavings;
 pub use list::list_spec;

@@ -14,18 +14,18 @@ use crate::plan::Plan;
 use permutation_plans::launches_fit;
 use row_versions::ListStore;
 use session_core::EngineState;
-use session_machine::{EngineFault, Mode, Reply, Turn};
+use session_machine::{EngineFault, Event, Mode, Turn};
 use session_threads::Order;
 use spec_parser::{Entry, Spec};
 use sql_parser::Block;
 use std::alloc::{AllocError, Global};
 
 /// Whether an event was done. None is due that the engine refuses, and after one the run would be over.
-fn is_done(answer: Result<Reply<'_>, EngineFault>) -> Result<bool, AllocError>
-    ensures { result ≡ done_of answer.entry }
+fn is_done(answer: Result<(), EngineFault>) -> Result<bool, AllocError>
+    ensures { result ≡ done_of answer }
 {
     match answer {
-        Ok(_) => Ok(true),
+        Ok(()) => Ok(true),
         Err(EngineFault::Memory) => Err(AllocError),
         Err(_) => Ok(false),
     }
@@ -42,8 +42,11 @@ fn do_order<'a, 't>(
     ensures same { IsOf engine.new engine.old.blocks engine.old.count engine.old.mode }
 {
     match plan.go_on(alloc, engine.history())? {
-        Order::Launch { session, block } => is_done(engine.launch(session, block)),
-        Order::Leave { session } => is_done(engine.leave(session)),
+        Order::Launch { session, block } => is_done(engine.perform(Event::Launch {
+            session,
+            block,
+        })),
+        Order::Leave { session } => is_done(engine.perform(Event::Leave { session })),
         Order::Stop => Ok(false),
     }
 }
@@ -59,7 +62,7 @@ fn advance<'a, 't>(
     ensures same { IsOf engine.new engine.old.blocks engine.old.count engine.old.mode }
 {
     match engine.turn() {
-        Turn::Session(session) => is_done(engine.step(session)),
+        Turn::Session(session) => is_done(engine.perform(Event::Step { session })),
         Turn::Driver => do_order(alloc, plan, engine),
         Turn::Spent => Ok(false),
     }

@@ -1,0 +1,121 @@
+//! What threads print, beside what the loop on one thread prints.
+
+use crate::asking::holds;
+use iso_lexer::FromStd;
+use permutation_lists::Permutations;
+use permutations::{RunFault, read_file, run_alone, run_spec, write_permutation};
+use session_threads::OpenGate;
+use std::alloc::Global;
+use std::process::Abort;
+use std::sync::Wait;
+use std::test::Fail;
+use std::thread::Threads;
+
+/// Two sessions that wait for each other's rows in some of their interleavings, and close a cycle in others.
+const DEADLOCKS: &str =
+    "setup { CREATE TABLE t (k int PRIMARY KEY, v int); INSERT INTO t VALUES (1, 0), (2, 0); }
+teardown { DROP TABLE t; }
+session s1 setup { BEGIN; }
+step a1 { UPDATE t SET v = 1 WHERE k = 1; } step a2 { UPDATE t SET v = 1 WHERE k = 2; } step a3 { COMMIT; }
+session s2 setup { BEGIN; }
+step b1 { UPDATE t SET v = 2 WHERE k = 2; } step b2 { UPDATE t SET v = 2 WHERE k = 1; } step b3 { COMMIT; }
+session s3 step c { SELECT k, v FROM t ORDER BY k; }";
+
+/// A key that one session waits for, a marker, a session that leaves its writes behind, and a teardown that fails.
+const KEYS: &str = "setup { CREATE TABLE t (k int PRIMARY KEY); }
+teardown { DROP TABLE t; SELECT 1 / 0; }
+session s1 step a1 { BEGIN; INSERT INTO t VALUES (1); } step a2 { ROLLBACK; }
+session s2 step b { INSERT INTO t VALUES (1), (2); } teardown { DELETE FROM t; }
+permutation a1 b a2
+permutation a1 b (a2) a2
+permutation b a1 a2";
+
+/// More permutations than either file has.
+const MOST: u64 = 200;
+
+/// What a run prints and notes.
+#[derive(Drop)]
+struct Printed {
+    text: Vec<u8>,
+    notes: Vec<u8>,
+}
+
+fn by_threads<R: Threads + Wait + Sync>(
+    rt: &R,
+    alloc: Global,
+    spec: &str,
+) -> Result<Printed, RunFault> {
+    let mut text = Vec::new(alloc);
+    let mut notes = Vec::new(alloc);
+    let mut input = FromStd::new(spec.as_bytes());
+    let mut out = FromStd::new(&mut text);
+    let mut told = FromStd::new(&mut notes);
+    run_spec(rt, alloc, &mut input, &mut out, &mut told, MOST, &OpenGate)?;
+    Ok(Printed { text, notes })
+}
+
+/// The reports of all permutations, without the line that comes before them.
+fn by_one_thread(alloc: Global, spec: &str) -> Result<Printed, RunFault> {
+    let mut text = Vec::new(alloc);
+    let mut notes = Vec::new(alloc);
+    let mut out = FromStd::new(&mut text);
+    let mut told = FromStd::new(&mut notes);
+    let file = read_file(alloc, spec.as_bytes())?;
+    let mut permutations = Permutations::of(alloc, &file.spec)?;
+    for _ in 0..MOST {
+        if !permutations.advance(alloc)? {
+            break;
+        }
+        let entries = permutations.entries();
+        let engine = run_alone(alloc, &file.spec, &file.blocks, entries)?;
+        write_permutation(
+            alloc,
+            &file.spec,
+            entries,
+            engine.history(),
+            &mut out,
+            &mut told,
+        )?;
+    }
+    Ok(Printed { text, notes })
+}
+
+/// The line that a run prints before its reports.
+const FIRST_LINE: &[u8] = b"Parsed test spec with ";
+
+fn prints_the_same<R: Threads + Wait + Sync + Abort>(
+    rt: &R,
+    alloc: Global,
+    spec: &str,
+) -> Result<(), RunFault> {
+    let threads = by_threads(rt, alloc, spec)?;
+    let alone = by_one_thread(alloc, spec)?;
+    let text = threads.text.as_slice();
+    holds(rt, text.starts_with(FIRST_LINE), "the first line");
+    holds(
+        rt,
+        !alone.text.is_empty() && text.ends_with(alone.text.as_slice()),
+        "the reports",
+    );
+    holds(
+        rt,
+        threads.text.len() < alone.text.len() + 40,
+        "nothing else",
+    );
+    holds(
+        rt,
+        threads.notes.as_slice() == alone.notes.as_slice(),
+        "the notes",
+    );
+    Ok(())
+}
+
+#[test]
+fn threads_print_what_one_thread_prints(rt: HostRuntime) -> Result<(), Fail> {
+    for spec in [DEADLOCKS, KEYS] {
+        if prints_the_same(&rt, rt.alloc(), spec).is_err() {
+            return Err(Fail::new("a run ended early"));
+        }
+    }
+    Ok(())
+}
