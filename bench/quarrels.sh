@@ -75,7 +75,7 @@ told=0
 passed=0
 for ((run = 1; run <= refused; run++)); do
   says env "MARK=$room/mark" REFUSED=$((1 + run * made / 2 / refused)) "LD_PRELOAD=$room/refuse.so"
-  comes_of 'memory was refused|AllocError|AllocFailed|a block with a fault|a refusal' "allocation $((1 + run * made / 2 / refused))"
+  comes_of 'memory was refused|no thread could be started|AllocError|AllocFailed|a block with a fault|a refusal' "allocation $((1 + run * made / 2 / refused))"
 done
 echo "$refused of at least $((made / 2)) allocations refused in $((SECONDS - began)) s: $told ended with that fault, $passed passed"
 echo "$wrong went wrong"
