@@ -7,28 +7,11 @@ here=$(cd "$(dirname "$0")/.." && pwd)
 crate=$1
 shift
 program=$here/crates/$crate/out/${crate}_tests
-kit=$(dirname "$(rt doc)")
 room=$(mktemp -d)
 trap 'rm -rf "$room"' EXIT
+. "$here/bench/refuse.sh"
 
-# Stands in front of the C library: it counts the allocations, refuses the one of that number, and leaves a mark.
-cat > "$room/refuse.c" <<'END'
-void *__libc_malloc(unsigned long);
-void *__libc_realloc(void *, unsigned long);
-char *getenv(const char *);
-long atol(const char *);
-int creat(const char *, unsigned);
-static long asked, number;
-static int is_refused(void) {
-  if (!number) number = atol(getenv("REFUSED"));
-  if (++asked != number) return 0;
-  creat(getenv("MARK"), 0600);
-  return 1;
-}
-void *malloc(unsigned long size) { return is_refused() ? 0 : __libc_malloc(size); }
-void *realloc(void *place, unsigned long size) { return is_refused() ? 0 : __libc_realloc(place, size); }
-END
-"$kit/toolchain/bin/clang" --target=x86_64-unknown-linux-gnu -fuse-ld=lld -shared -fPIC -nostdlib -fno-builtin -o "$room/refuse.so" "$room/refuse.c"
+make_refuser "$room"
 
 # The test ended with want of memory, or shows it as what came of a text, and nothing else
 is_told() {

@@ -55,6 +55,15 @@ fn blocks<'t>(alloc: Global, mains: usize, texts: &[&'t str]) -> Result<Vec<Bloc
     Ok(blocks)
 }
 
+/// What a run says that ends in this fault.
+fn fault_text(fault: ThreadFault) -> &'static str {
+    match fault {
+        ThreadFault::ThreadRefused => "no thread could be started",
+        ThreadFault::Memory | ThreadFault::Engine(EngineFault::Memory) => "memory was refused",
+        _ => "a run that ends in a fault",
+    }
+}
+
 fn run<'a, 't, G: Gate, R: Threads + Wait + Sync>(
     rt: &R,
     alloc: Global,
@@ -66,7 +75,7 @@ fn run<'a, 't, G: Gate, R: Threads + Wait + Sync>(
         return Err("too many sessions".into());
     }
     let store = ListStore::new(alloc);
-    Ok(run_free(rt, alloc, blocks, plan, store, gate).map_err(|_| "a run that ends in a fault")?)
+    Ok(run_free(rt, alloc, blocks, plan, store, gate).map_err(fault_text)?)
 }
 
 fn is_legal(
@@ -292,8 +301,8 @@ const QUARREL: [&str; 6] = [
     "ROLLBACK",
 ];
 
-/// How often eight sessions quarrel.
-const RUNS: usize = 200;
+/// How often eight sessions quarrel; bench/quarrels.sh runs the test many times.
+const RUNS: usize = 20;
 
 fn quarrel<R: Threads + Wait + Sync + Abort>(rt: &R, alloc: Global) -> Result<(), Fail> {
     let blocks = blocks(alloc, 2, &QUARREL)?;
