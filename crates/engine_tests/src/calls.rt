@@ -1,6 +1,7 @@
 //! The events of a run of two sessions, their answers, and what is told of the engine between them.
 //! Each test also passes where any one allocation fails: the engine is then spent as it says, and the test is run again.
 
+use self::Given::{Launch, Leave, Step};
 use crate::trial::{Engine, Line, Wrong, act, blocks, engine_of, holds};
 use crate::words::{add_outcome, add_rows, refusal_text};
 use session_core::replays;
@@ -38,40 +39,46 @@ const RESPELT: [Line<'static>; 4] = [
     (1, "SELECT * FROM T", ""),
 ];
 
-pub fn launch(session: u32, block: u32) -> Event {
-    Event::Launch { session, block }
+/// What a session is given: a block, its next step, or its leave.
+#[derive(Clone, Copy)]
+pub enum Given {
+    Launch(u32, u32),
+    Step(u32),
+    Leave(u32),
 }
 
-pub fn step(session: u32) -> Event {
-    Event::Step { session }
+fn event_of(given: Given) -> Event {
+    match given {
+        Launch(session, block) => Event::Launch { session, block },
+        Step(session) => Event::Step { session },
+        Leave(session) => Event::Leave { session },
+    }
 }
 
-/// An event, and its answer.
-pub type Call = (Event, &'static str);
+/// What a session is given, and the answer.
+pub type Call = (Given, &'static str);
 
-fn calls() -> [Call; 19] {
-    [
-        (launch(0, 0), "answered"),
-        (step(0), "answered"),
-        (step(0), "answered, ended"),
-        (launch(1, 1), "answered"),
-        (step(1), "answered"),
-        (step(1), "answered x | 1, ended"),
-        (launch(2, 2), "answered"),
-        (step(2), "answered, ended"),
-        (launch(1, 3), "answered"),
-        (launch(1, 3), "Busy"),
-        (launch(2, 3), "NotYourTurn"),
-        (step(2), "Idle"),
-        (Event::Leave { session: 1 }, "NotYourTurn"),
-        (step(1), "answered x | 1, ended"),
-        (launch(2, 3), "answered"),
-        (step(2), "answered x | 1 | 2, ended"),
-        (launch(3, 3), "NoSession"),
-        (launch(1, 0), "BlockNotAllowed"),
-        (launch(1, 9), "BlockNotAllowed"),
-    ]
-}
+const CALLS: [Call; 19] = [
+    (Launch(0, 0), "answered"),
+    (Step(0), "answered"),
+    (Step(0), "answered, ended"),
+    (Launch(1, 1), "answered"),
+    (Step(1), "answered"),
+    (Step(1), "answered x | 1, ended"),
+    (Launch(2, 2), "answered"),
+    (Step(2), "answered, ended"),
+    (Launch(1, 3), "answered"),
+    (Launch(1, 3), "Busy"),
+    (Launch(2, 3), "NotYourTurn"),
+    (Step(2), "Idle"),
+    (Leave(1), "NotYourTurn"),
+    (Step(1), "answered x | 1, ended"),
+    (Launch(2, 3), "answered"),
+    (Step(2), "answered x | 1 | 2, ended"),
+    (Launch(3, 3), "NoSession"),
+    (Launch(1, 0), "BlockNotAllowed"),
+    (Launch(1, 9), "BlockNotAllowed"),
+];
 
 fn add_reply(words: &mut String, reply: &Reply<'_>) -> Result<(), AllocError> {
     words.push_str("answered")?;
@@ -121,15 +128,14 @@ pub fn has_answer(
     engine: &mut Engine<'_, '_>,
     call: &Call,
 ) -> Result<(), Wrong> {
-    let words = told(alloc, engine, call.0)?;
+    let words = told(alloc, engine, event_of(call.0))?;
     holds(rt, call.1, words.as_str() == call.1);
     Ok(())
 }
 
 /// The calls have their answers, up to one that is refused memory.
 fn answers(rt: &impl Abort, alloc: Global, engine: &mut Engine<'_, '_>) -> Result<(), Wrong> {
-    let calls = calls();
-    for call in &calls {
+    for call in &CALLS {
         if let Err(wrong) = has_answer(rt, alloc, engine, call) {
             if matches!(engine.turn(), Turn::Spent) {
                 is_spent(rt, alloc, engine)?;
@@ -183,6 +189,8 @@ const BEFORE: [Sight; 4] = [
     (3, "t", "NoSession"),
 ];
 
+const LEAVE: Call = (Leave(1), "answered, ended");
+
 const AFTER: [Sight; 1] = [(1, "t", " | 1 | 2")];
 
 pub fn all_see(
@@ -201,8 +209,7 @@ pub fn all_see(
 fn run_calls(rt: &impl Abort, alloc: Global, engine: &mut Engine<'_, '_>) -> Result<(), Wrong> {
     answers(rt, alloc, engine)?;
     all_see(rt, alloc, engine, &BEFORE)?;
-    let leave = (Event::Leave { session: 1 }, "answered, ended");
-    has_answer(rt, alloc, engine, &leave)?;
+    has_answer(rt, alloc, engine, &LEAVE)?;
     all_see(rt, alloc, engine, &AFTER)
 }
 

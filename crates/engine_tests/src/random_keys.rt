@@ -1,8 +1,7 @@
 //! Interleavings at random of statements that write keys. After each no two rows of the table have one key,
 //! and its history replays. The generator is fixed, so they are the same ones in each run.
 
-use crate::calls::launch;
-use crate::trial::{Engine, Line, Wrong, act, blocks, engine_of, holds};
+use crate::trial::{Engine, Line, Wrong, blocks, engine_of, holds};
 use session_core::replays;
 use session_machine::{EngineFault, Mode, Outcome, StmtFault, Turn};
 use sql_parser::Block;
@@ -91,7 +90,7 @@ fn rest(engine: &mut Engine<'_, '_>, met: &mut Met) -> Result<(), Wrong> {
 fn turn(engine: &mut Engine<'_, '_>, dice: &mut Dice, met: &mut Met) -> Result<(), Wrong> {
     let session = dice.roll(1, 3);
     let block = dice.roll(1, 13);
-    match act(engine, launch(session, block)) {
+    match engine.launch(session, block) {
         Err(EngineFault::Busy) => Ok(()),
         Err(fault) => Err(Wrong::from(fault)),
         Ok(_) => rest(engine, met),
@@ -137,7 +136,7 @@ fn interleaving(
     met: &mut Met,
 ) -> Result<(), Wrong> {
     let mut engine = engine_of(alloc, blocks, 3, Mode::Directed)?;
-    act(&mut engine, launch(0, 0))?;
+    engine.launch(0, 0)?;
     rest(&mut engine, met)?;
     for _ in 0..24 {
         turn(&mut engine, dice, met)?;

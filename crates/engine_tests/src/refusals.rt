@@ -1,8 +1,9 @@
 //! Three runs in which statements wait. Each test also passes where any one allocation fails:
 //! the engine that was refused is then spent, its history is the one before that event, and the run is made again.
 
-use crate::calls::{Call, has_answer, launch, step};
-use crate::trial::{Engine, Line, Wrong, act, blocks, engine_of, holds};
+use crate::calls::Given::{Launch, Step};
+use crate::calls::{Call, has_answer};
+use crate::trial::{Engine, Line, Wrong, blocks, engine_of, holds};
 use session_core::replays;
 use session_machine::{EngineFault, Mode, Turn};
 use sql_parser::Block;
@@ -23,23 +24,21 @@ const DELETE: [Line<'static>; 5] = [
     (2, "SELECT hits FROM website ORDER BY hits", ""),
 ];
 
-fn delete_calls() -> [Call; 13] {
-    [
-        (launch(0, 0), "answered"),
-        (step(0), "answered"),
-        (step(0), "answered, ended"),
-        (launch(1, 1), "answered"),
-        (step(1), "answered"),
-        (step(1), "answered, ended"),
-        (launch(2, 2), "answered"),
-        (step(2), "answered waits"),
-        (launch(1, 3), "answered"),
-        (step(1), "answered, ended"),
-        (step(2), "answered, ended"),
-        (launch(2, 4), "answered"),
-        (step(2), "answered hits | 10 | 11, ended"),
-    ]
-}
+const DELETE_CALLS: [Call; 13] = [
+    (Launch(0, 0), "answered"),
+    (Step(0), "answered"),
+    (Step(0), "answered, ended"),
+    (Launch(1, 1), "answered"),
+    (Step(1), "answered"),
+    (Step(1), "answered, ended"),
+    (Launch(2, 2), "answered"),
+    (Step(2), "answered waits"),
+    (Launch(1, 3), "answered"),
+    (Step(1), "answered, ended"),
+    (Step(2), "answered, ended"),
+    (Launch(2, 4), "answered"),
+    (Step(2), "answered hits | 10 | 11, ended"),
+];
 
 /// Sessions 1, 2 and 4 share the row for which session 3 waits, and session 4 asks for the row that session 3 holds.
 const LATER: [Line<'static>; 6] = [
@@ -55,38 +54,36 @@ const LATER: [Line<'static>; 6] = [
     (1, "COMMIT", ""),
 ];
 
-fn later_calls() -> [Call; 28] {
-    [
-        (launch(0, 0), "answered"),
-        (step(0), "answered"),
-        (step(0), "answered, ended"),
-        (launch(1, 1), "answered"),
-        (step(1), "answered"),
-        (step(1), "answered id | 1, ended"),
-        (launch(2, 1), "answered"),
-        (step(2), "answered"),
-        (step(2), "answered id | 1, ended"),
-        (launch(3, 2), "answered"),
-        (step(3), "answered"),
-        (step(3), "answered, ended"),
-        (launch(3, 3), "answered"),
-        (step(3), "answered waits"),
-        (launch(4, 1), "answered"),
-        (step(4), "answered"),
-        (step(4), "answered id | 1, ended"),
-        (launch(4, 4), "answered"),
-        (step(4), "answered deadlock, ended"),
-        (launch(1, 5), "answered"),
-        (step(1), "answered, ended"),
-        (launch(2, 5), "answered"),
-        (step(2), "answered, ended"),
-        (step(3), "answered, ended"),
-        (launch(3, 5), "answered"),
-        (step(3), "answered, ended"),
-        (launch(4, 5), "answered"),
-        (step(4), "answered, ended"),
-    ]
-}
+const LATER_CALLS: [Call; 28] = [
+    (Launch(0, 0), "answered"),
+    (Step(0), "answered"),
+    (Step(0), "answered, ended"),
+    (Launch(1, 1), "answered"),
+    (Step(1), "answered"),
+    (Step(1), "answered id | 1, ended"),
+    (Launch(2, 1), "answered"),
+    (Step(2), "answered"),
+    (Step(2), "answered id | 1, ended"),
+    (Launch(3, 2), "answered"),
+    (Step(3), "answered"),
+    (Step(3), "answered, ended"),
+    (Launch(3, 3), "answered"),
+    (Step(3), "answered waits"),
+    (Launch(4, 1), "answered"),
+    (Step(4), "answered"),
+    (Step(4), "answered id | 1, ended"),
+    (Launch(4, 4), "answered"),
+    (Step(4), "answered deadlock, ended"),
+    (Launch(1, 5), "answered"),
+    (Step(1), "answered, ended"),
+    (Launch(2, 5), "answered"),
+    (Step(2), "answered, ended"),
+    (Step(3), "answered, ended"),
+    (Launch(3, 5), "answered"),
+    (Step(3), "answered, ended"),
+    (Launch(4, 5), "answered"),
+    (Step(4), "answered, ended"),
+];
 
 /// Session 2 waits for a key that session 1 has written, which then asks for one that session 2 has written.
 const KEYS: [Line<'static>; 6] = [
@@ -98,24 +95,22 @@ const KEYS: [Line<'static>; 6] = [
     (1, "INSERT INTO t VALUES (3, 3)", ""),
 ];
 
-fn key_calls() -> [Call; 14] {
-    [
-        (launch(0, 0), "answered"),
-        (step(0), "answered, ended"),
-        (launch(1, 1), "answered"),
-        (step(1), "answered"),
-        (step(1), "answered, ended"),
-        (launch(2, 2), "answered"),
-        (step(2), "answered waits"),
-        (launch(1, 3), "answered"),
-        (step(1), "answered deadlock, ended"),
-        (step(2), "answered, ended"),
-        (launch(1, 4), "answered"),
-        (step(1), "answered, ended"),
-        (launch(1, 5), "answered"),
-        (step(1), "answered taken t_v_key, ended"),
-    ]
-}
+const KEY_CALLS: [Call; 14] = [
+    (Launch(0, 0), "answered"),
+    (Step(0), "answered, ended"),
+    (Launch(1, 1), "answered"),
+    (Step(1), "answered"),
+    (Step(1), "answered, ended"),
+    (Launch(2, 2), "answered"),
+    (Step(2), "answered waits"),
+    (Launch(1, 3), "answered"),
+    (Step(1), "answered deadlock, ended"),
+    (Step(2), "answered, ended"),
+    (Launch(1, 4), "answered"),
+    (Step(1), "answered, ended"),
+    (Launch(1, 5), "answered"),
+    (Step(1), "answered taken t_v_key, ended"),
+];
 
 /// An event without an answer leaves the history as it was where the engine is spent, and only there;
 /// what the engine then tells still replays.
@@ -129,7 +124,7 @@ fn stands(
     let spent = matches!(engine.turn(), Turn::Spent);
     holds(rt, "history", spent == (engine.history().len() == before));
     if spent {
-        let again = matches!(act(engine, step(1)), Err(EngineFault::Spent));
+        let again = matches!(engine.step(1), Err(EngineFault::Spent));
         holds(rt, "spent", again);
     }
     let legal = replays(alloc, blocks, 4, Mode::Directed, engine.history())?;
@@ -171,15 +166,15 @@ fn again(rt: &impl Abort, alloc: Global, lines: &[Line<'_>], calls: &[Call]) -> 
 
 #[test]
 fn a_delete_that_waits_is_refused_memory(rt: HostRuntime) -> Result<(), Fail> {
-    again(&rt, rt.alloc(), &DELETE, &delete_calls())
+    again(&rt, rt.alloc(), &DELETE, &DELETE_CALLS)
 }
 
 #[test]
 fn a_deadlock_of_sharers_is_refused_memory(rt: HostRuntime) -> Result<(), Fail> {
-    again(&rt, rt.alloc(), &LATER, &later_calls())
+    again(&rt, rt.alloc(), &LATER, &LATER_CALLS)
 }
 
 #[test]
 fn a_cycle_of_keys_is_refused_memory(rt: HostRuntime) -> Result<(), Fail> {
-    again(&rt, rt.alloc(), &KEYS, &key_calls())
+    again(&rt, rt.alloc(), &KEYS, &KEY_CALLS)
 }

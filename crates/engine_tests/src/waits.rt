@@ -1,6 +1,7 @@
 //! Statements that wait for rows that others hold, and what becomes of them (PostgreSQL manual, 13.2 and 13.3).
 
-use crate::calls::{Call, all_see, has_answer, launch, step};
+use crate::calls::Given::{Launch, Step};
+use crate::calls::{Call, all_see, has_answer};
 use crate::tables::check;
 use crate::trial::{Line, Wrong, blocks, engine_of};
 use session_machine::Mode;
@@ -169,20 +170,17 @@ const HELD: [Line<'static>; 3] = [
     (2, "UPDATE acct SET bal = bal + 1", ""),
 ];
 
-/// The events until session 2 waits, and its next step too soon.
-fn too_soon(refusal: &'static str) -> [Call; 9] {
-    [
-        (launch(0, 0), "answered"),
-        (step(0), "answered"),
-        (step(0), "answered, ended"),
-        (launch(1, 1), "answered"),
-        (step(1), "answered"),
-        (step(1), "answered, ended"),
-        (launch(2, 2), "answered"),
-        (step(2), "answered waits"),
-        (step(2), refusal),
-    ]
-}
+/// The events until session 2 waits.
+const UNTIL_IT_WAITS: [Call; 8] = [
+    (Launch(0, 0), "answered"),
+    (Step(0), "answered"),
+    (Step(0), "answered, ended"),
+    (Launch(1, 1), "answered"),
+    (Step(1), "answered"),
+    (Step(1), "answered, ended"),
+    (Launch(2, 2), "answered"),
+    (Step(2), "answered waits"),
+];
 
 fn is_refused(
     rt: &impl Abort,
@@ -192,10 +190,10 @@ fn is_refused(
     refusal: &'static str,
 ) -> Result<(), Wrong> {
     let mut engine = engine_of(alloc, blocks, 2, mode)?;
-    let calls = too_soon(refusal);
-    for call in &calls {
+    for call in &UNTIL_IT_WAITS {
         has_answer(rt, alloc, &mut engine, call)?;
     }
+    has_answer(rt, alloc, &mut engine, &(Step(2), refusal))?;
     all_see(
         rt,
         alloc,

@@ -1,7 +1,6 @@
 -- What is kept of an engine's history is kept of what the history goes on with.
-use Rattle.std.proofs.Common.{◌≡◌, ◌≢◌, Bool, true, false, true≢false, List, [], ◌∷◌, ◌++◌, length-append, append-nil, refl, ap, sym, ◌∙◌, subst, arith, Option, Some, None}
+use Rattle.std.proofs.Common.{◌≡◌, ◌≢◌, Bool, true, false, true≢false, List, [], ◌∷◌, ◌++◌, append-nil, refl, ap, sym, subst, Option, Some, None}
 use Rattle.std.specs.Prelude.{Result, Ok, Err, IsErrOf, IfErr, OnOk}
-use Rattle.std.proofs.lemmas.List.{take-append-le}
 use Rattle.session_machine.specs.declared.event.Event.{Event}
 use Rattle.session_machine.specs.declared.reply.Reply.{Reply}
 use Rattle.session_machine.specs.declared.reply.HistItem.{HistItem}
@@ -10,25 +9,13 @@ use Rattle.session_machine.specs.declared.fault.EngineFault.{EngineFault}
 use Rattle.session_machine.specs.declared.fault.EngineFault.TheVariants.{Busy, NotYourTurn, StillBlocked, Idle, Spent, Memory, NoSession, BlockNotAllowed}
 use Rattle.session_machine.specs.Machine.{Machine, Next, next}
 use Rattle.session_machine.specs.Engine.{Engine, EngineAnswered, engine_after, engine_step, engine_answered, spent_engine}
-use Rattle.report_lines.specs.declared.progress.Progress.{Progress}
-use Rattle.report_lines.specs.History.{Setting}
-use Rattle.report_lines.specs.Progress.{Keeps, Follows}
-use Rattle.report_lines.specs.Fronts.{longer}
 use Rattle.permutations.specs.Plans.{Planning, IsFollowing}
+use Rattle.permutations.specs.Following.{follows_longer}
 
 -- the history goes on, or stays as it is
 record IsLonger (items others : List HistItem) : Type 0 where
   more : List HistItem
   is : others ≡ items ++ more
-
-pub follows_longer : (c : Setting) (more : List HistItem) (p : Progress) → Follows c p → Follows (longer c more) p
-follows_longer c more p follows =
-    let few = follows.few in
-    let long = length-append c.items more in
-    record {
-      few = omega arith;
-      kept = subst (λ (w : List HistItem). Keeps (record { entries = c.entries; items = w; setups = c.setups }) p) (sym (take-append-le p.seen c.items more few)) follows.kept;
-    }
 
 following : (plan : Planning) (items others : List HistItem) → IsLonger items others → IsFollowing plan items → IsFollowing plan others
 following plan items others long follows =

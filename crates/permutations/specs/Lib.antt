@@ -9,6 +9,7 @@ pub mod Events
 pub mod FirstLine
 pub mod Prints
 pub mod Plans
+pub mod Following
 pub mod Written
 pub mod Broken
 pub mod Runs

@@ -1,0 +1,17 @@
+-- That what a plan keeps of a front of a history it keeps of each history that goes on from it: what a `Driver` has to say of itself.
+use Rattle.std.proofs.Common.{◌≡◌, List, ◌++◌, length-append, sym, subst, arith}
+use Rattle.std.proofs.lemmas.List.{take-append-le}
+use Rattle.session_machine.specs.declared.reply.HistItem.{HistItem}
+use Rattle.report_lines.specs.declared.progress.Progress.{Progress}
+use Rattle.report_lines.specs.History.{Setting}
+use Rattle.report_lines.specs.Progress.{Keeps, Follows}
+use Rattle.report_lines.specs.Fronts.{longer}
+
+pub follows_longer : (c : Setting) (more : List HistItem) (p : Progress) → Follows c p → Follows (longer c more) p
+follows_longer c more p follows =
+    let few = follows.few in
+    let long = length-append c.items more in
+    record {
+      few = omega arith;
+      kept = subst (λ (w : List HistItem). Keeps (record { entries = c.entries; items = w; setups = c.setups }) p) (sym (take-append-le p.seen c.items more few)) follows.kept;
+    }
