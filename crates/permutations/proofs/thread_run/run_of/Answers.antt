@@ -1,4 +1,4 @@
-use Rattle.std.proofs.Common.{map, subst, arith}
+use Rattle.std.proofs.Common.{[], map, subst, arith}
 use Rattle.std.proofs.lemmas.List.{length-map}
 use Rattle.std.proofs.lemmas.Result.{IfOk-weaker}
 use Rattle.session_machine.specs.Machine.{Blocks}
@@ -22,3 +22,6 @@ returns-clause-unbroken g c is =
     c.fitting_run.ensures.broken is
     (plan_fits (spec_view c.args.spec.now) (map entry_view c.args.entries.now) c.in_ok-plan.plan c.in_ok-closed.closed.state.history
     c.in_ok-plan.ensures.plan.0 c.in_ok-plan.ensures.plan.1 c.in_ok-closed.ensures.driven)
+
+pub run_directed-requires-clause-follows : goal.run_directed-requires-clause-follows
+run_directed-requires-clause-follows g c κs within = c.in_ok-plan.ensures.follows []
