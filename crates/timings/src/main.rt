@@ -1,7 +1,8 @@
 //! Times reading, sorting or steps, as the word says, and says on standard error how long each took. Without a word all of them
-//! run, and no time is told.
+//! run, and no time is told. With the word `alone` a spec file runs without threads, for whoever times that.
 #![tactic(auto)]
 
+mod alone;
 mod reading;
 mod sorting;
 mod steps;
@@ -11,10 +12,11 @@ use std::env;
 
 fn timed(rt: &HostRuntime, word: &str) -> Result<()> {
     match word {
+        "alone" => alone::run(rt),
         "reading" => reading::run(rt, true),
         "sorting" => sorting::run(rt, true),
         "steps" => steps::run(rt, true),
-        _ => bail!("the word is reading, sorting or steps"),
+        _ => bail!("the word is alone, reading, sorting or steps"),
     }
 }
 
