@@ -186,7 +186,13 @@ def tried(crate, edits):
     with tempfile.TemporaryDirectory(prefix="rt-edits-") as room:
         kept = shutil.copytree(f"{crate.folder}/{rtlib.KEPT[1]}", f"{room}/kept")
         refused = {edit for it in batches if len(it.edits) > 1 for edit in it.refused(crate, kept)}
-        return [(True, "refused") if it in refused else rt.must_fail(crate, it, ["--jobs", "1"], kept) for it in edits]
+        return [(True, "refused") if it in refused else judged(rt.must_fail(crate, it, ["--jobs", "1"], kept)) for it in edits]
+
+
+def judged(came_to):
+    """Returns whether what a try came to is a refusal, and what the gate says of it."""
+    kind, text = came_to
+    return kind in (rt.REFUSED, rt.AT_LIMIT), text
 
 
 def told_by_tests(crate, edit):

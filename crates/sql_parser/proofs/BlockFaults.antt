@@ -18,9 +18,9 @@ use Rattle.sql_expressions.specs.Laws as expr
 use Rattle.sql_parser.specs.declared.block.Role.{Role}
 use Rattle.sql_parser.specs.Blocks.{is_semicolon, whole_at, piece_at, stmts_at}
 use Rattle.sql_parser.specs.Kept.{is_kept_in}
-use Rattle.sql_parser.specs.Grammar.{Is, RowIs, is_row, Spells, PieceIs, no_stmt, a_stmt, BlockIs, last_piece, next_piece, Shallow, OfAnyDepth}
+use Rattle.sql_parser.specs.Grammar.{Is, RowIs, is_row, Spells, PieceIs, no_stmt, a_stmt, BlockIs, last_piece, next_piece, EndedAre, no_pieces, ended_piece, Shallow, OfAnyDepth}
 use Rattle.sql_parser.specs.Stops.{Refuses, at_next, at_word, at_name, at_row, in_expression, too_deep, WantsWords, IsStop}
-use Rattle.sql_parser.specs.Laws.{Excepted, Stops, BlockStops, at_block_token, in_a_statement, BlockFaultsAreFirst, at_token, elsewhere}
+use Rattle.sql_parser.specs.Laws.{BeginsStatement, Excepted, Stops, BlockStops, at_block_token, in_a_statement, BlockFaultsAreFirst, at_token, elsewhere}
 use Rattle.sql_parser.proofs.Steps.{bind_ok, when_ok}
 use Rattle.sql_parser.proofs.ExprLocals.{some_of_any_depth, of_any_depth_starts, any_depth_local, one_name}
 use Rattle.sql_parser.proofs.BlockLocals.{stmt_local}
@@ -83,8 +83,8 @@ module _ (last : ℕ) (behind : Tokens) (first_behind : (c : At Token) (us : Tok
   of_next [] (c ∷ bs) e = semicolon_next last c bs (first_behind c bs e)
   of_next (u ∷ us) bs e = refl
 
-  of_refuses : (before here rest : Tokens) (f : SqlFault) → expr.Refuses (place_of last behind) here rest f → Refuses last OfAnyDepth V (before ++ here) (rest ++ behind) f
-  of_refuses before _ _ _ (expr.ended here) = subst (Refuses last OfAnyDepth V (before ++ here) behind) (of_next [] behind refl) (at_next (before ++ here) behind)
+  of_refuses : (before here rest : Tokens) (f : SqlFault) → expr.Refuses (place_of last behind) here rest f → Refuses last OfAnyDepth V BeginsStatement (before ++ here) (rest ++ behind) f
+  of_refuses before _ _ _ (expr.ended here) = subst (Refuses last OfAnyDepth V BeginsStatement (before ++ here) behind) (of_next [] behind refl) (at_next (before ++ here) behind)
   of_refuses before _ _ _ (expr.misplaced here rest t h) = in_expression before here (t ∷ (rest ++ behind)) (Syntax t.span.start) (expr.misplaced here (rest ++ behind) t h)
   of_refuses before _ _ _ (expr.excluded here rest t h) = in_expression before here (t ∷ (rest ++ behind)) (LeftOut t.span.start) (expr.excluded here (rest ++ behind) t h)
   of_refuses before _ _ _ (expr.called first' rest name open' n h g) = in_expression before (first' ++ name ∷ []) (open' ∷ (rest ++ behind)) (LeftOut (if is_call name.tok then name.span.start else open'.span.start)) (expr.called first' (rest ++ behind) name open' n h g)
@@ -96,11 +96,11 @@ module _ (last : ℕ) (behind : Tokens) (first_behind : (c : At Token) (us : Tok
   makes_on place here [] m = makes_more place here (first behind) (subst (Makes place) (append-nil here) m)
   makes_on place here (t ∷ us) m = m
 
-  stands_on : (front rest : Tokens) (f : SqlFault) → Refuses (place_of last behind) OfAnyDepth W front rest f → Refuses last OfAnyDepth V front (rest ++ behind) f
-  stands_on _ _ _ (at_next front rest) = subst (Refuses last OfAnyDepth V front (rest ++ behind)) (of_next rest behind refl) (at_next front (rest ++ behind))
+  stands_on : (front rest : Tokens) (f : SqlFault) → Refuses (place_of last behind) OfAnyDepth W BeginsStatement front rest f → Refuses last OfAnyDepth V BeginsStatement front (rest ++ behind) f
+  stands_on _ _ _ (at_next front rest) = subst (Refuses last OfAnyDepth V BeginsStatement front (rest ++ behind)) (of_next rest behind refl) (at_next front (rest ++ behind))
   stands_on _ _ _ (at_word front rest t w h) = at_word front (rest ++ behind) t (up w) h
-  stands_on _ _ _ (at_name front rest t n h) = at_name front (rest ++ behind) t n h
-  stands_on _ _ _ (at_row before row rest es r) = subst (λ q. Refuses last OfAnyDepth V (before ++ row) (rest ++ behind) (Syntax q)) (of_row row es r) (at_row before row (rest ++ behind) es r)
+  stands_on _ _ _ (at_name front rest t n h g) = at_name front (rest ++ behind) t n h g
+  stands_on _ _ _ (at_row before row rest es r) = subst (λ q. Refuses last OfAnyDepth V BeginsStatement (before ++ row) (rest ++ behind) (Syntax q)) (of_row row es r) (at_row before row (rest ++ behind) es r)
   stands_on _ _ _ (in_expression before here rest f r) = of_refuses before here rest f r
   stands_on _ _ _ (too_deep before here rest place m) = too_deep before here (rest ++ behind) place (makes_on place here rest m)
 
@@ -131,7 +131,7 @@ module _ (role : Role) (f : SqlFault) (stops : IsStop f) where
     pub front : Tokens
     pub rest : Tokens
     pub parts : ts ≡ front ++ rest
-    pub refuses : (before here : Tokens) × (front ≡ before ++ here) × Refuses last OfAnyDepth (WantsWords (here ++ rest)) here rest f
+    pub refuses : (before here : Tokens) × (ended : List StmtTree) × (front ≡ before ++ here) × EndedAre OfAnyDepth before ended × Refuses last OfAnyDepth (WantsWords (here ++ rest)) BeginsStatement here rest f
     pub begins : (more : Tokens) × (ss : List StmtTree) × BlockIs OfAnyDepth (front ++ more) ss
     pub none : (n : ℕ) (ss more : List StmtTree) (others : Tokens) → head others ≡ head rest → length (front ++ others) < 2 ^ 32 → stmts_at n role ss [] (front ++ others) ≡ Ok more → ⊥
 
@@ -200,7 +200,7 @@ module _ (role : Role) (f : SqlFault) (stops : IsStop f) where
       front = s.front;
       rest = s.rest ++ behind;
       parts = ap (λ xs. xs ++ behind) s.split ∙ append_assoc s.front s.rest behind;
-      refuses = ([], s.front, refl, stands_on last behind first_behind (WantsWords piece) (WantsWords (s.front ++ (s.rest ++ behind))) (λ w. subst WantsWords (ap (λ xs. xs ++ behind) s.split ∙ append_assoc s.front s.rest behind) (wants_on piece behind w)) s.front s.rest f s.refuses);
+      refuses = ([], s.front, [], refl, no_pieces, stands_on last behind first_behind (WantsWords piece) (WantsWords (s.front ++ (s.rest ++ behind))) (λ w. subst WantsWords (ap (λ xs. xs ++ behind) s.split ∙ append_assoc s.front s.rest behind) (wants_on piece behind w)) s.front s.rest f s.refuses);
       begins = (s.begins.0, s.begins.1 ∷ [], last_piece (s.front ++ s.begins.0) (s.begins.1 ∷ []) (a_stmt (s.front ++ s.begins.0) s.begins.1 s.begins.2));
       none = λ n ss more others h less e. not_read piece s.front s.rest free s.split some s.none n ss more others (split others) h less e;
     })
@@ -213,7 +213,7 @@ module _ (role : Role) (f : SqlFault) (stops : IsStop f) where
     front = piece ++ c ∷ s.front;
     rest = s.rest;
     parts = ap (λ xs. piece ++ c ∷ xs) s.parts ∙ sym (append_assoc piece (c ∷ s.front) s.rest);
-    refuses = (piece ++ c ∷ s.refuses.0, s.refuses.1, ap (λ xs. piece ++ c ∷ xs) s.refuses.2 ∙ sym (append_assoc piece (c ∷ s.refuses.0) s.refuses.1), s.refuses.3);
+    refuses = (piece ++ c ∷ s.refuses.0, s.refuses.1, ps ++ s.refuses.2, ap (λ xs. piece ++ c ∷ xs) s.refuses.3 ∙ sym (append_assoc piece (c ∷ s.refuses.0) s.refuses.1), ended_piece piece s.refuses.0 ps s.refuses.2 c p hc s.refuses.4, s.refuses.5);
     begins = (s.begins.0, ps ++ s.begins.1, subst (λ xs. BlockIs OfAnyDepth xs (ps ++ s.begins.1)) (sym (append_assoc piece (c ∷ s.front) s.begins.0)) (next_piece piece (s.front ++ s.begins.0) ps s.begins.1 c p hc s.begins.2));
     none = λ n ss more others h less e.
         let split' : (piece ++ c ∷ s.front) ++ others ≡ piece ++ c ∷ (s.front ++ others) = append_assoc piece (c ∷ s.front) others in

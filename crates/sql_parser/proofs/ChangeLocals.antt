@@ -16,7 +16,7 @@ use Rattle.sql_parser.specs.Tables.{is_among}
 use Rattle.sql_parser.specs.Changes.{Rows, fits, is_equal, set_columns, distinct_add, value_add, row_add, columns_of, columns_at, insert_at, filter_of, filter_at, set_value, set_add, update_at, delete_at}
 use Rattle.sql_parser.specs.Grammar.{Key, Names, Commas, AddsName, adds_name, AddsValue, adds_value, RowIs, is_row, with_row, no_rows, AddsRow, adds_row, ColumnsAre, unlisted, listed_columns, AddsSet, adds_set, WhereIs, unfiltered, filtered, Spells, insert, update, delete}
 use Rattle.sql_parser.specs.Stops.{at_row}
-use Rattle.sql_parser.proofs.Locals.{Reader, Inhabited, Local, took, stopped, gives, in_turn, mapped, token_then, token_last, name_then, either, list_local, some_list}
+use Rattle.sql_parser.proofs.Locals.{Reader, Inhabited, Local, took, stopped, gives, begun_as, in_turn, mapped, token_then, token_last, name_then, either, list_local, some_list}
 use Rattle.sql_parser.proofs.StmtLocals.{a_word, a_sign, a_name, the_name, key_is, adds_some_name}
 use Rattle.sql_parser.proofs.TableLocals.{distinct_local}
 
@@ -79,10 +79,7 @@ module _ (last : ℕ) (E : Tokens → Tree → Type 0) (W Any : Type 0) (an_expr
 
       of_row : Local last E W Any (RowIs E) row_at ts → Local last E W Any (AddsRow E s) (row_add last s) ts
       of_row (took es front rest split local q) = of_test es front rest (fits s.width (length es)) refl split local q
-      of_row (stopped e front rest split local b) = stopped e front rest split (λ others g. add_is s (front ++ others) ∙ rw (local others g) refl) (λ any. let c = b any in record {
-        begins = (c.begins.0, with_row s c.begins.1, adds_row s (front ++ c.begins.0) c.begins.1 c.begins.2);
-        stands = c.stands;
-      })
+      of_row (stopped e front rest split local b) = stopped e front rest split (λ others g. add_is s (front ++ others) ∙ rw (local others g) refl) (λ any. begun_as last E W Any (RowIs E) (AddsRow E s) e [] front rest (λ xs g. (g.0, with_row s g.1, adds_row s (xs ++ g.0) g.1 g.2)) (b any))
 
   adds_some_row : (s : Rows) → Inhabited (AddsRow E s)
   adds_some_row s = (some_row.0, with_row s some_row.1, adds_row s some_row.0 some_row.1 some_row.2)

@@ -13,8 +13,8 @@ use Rattle.sql_parser.specs.declared.block.Role.{Role}
 use Rattle.sql_parser.specs.Blocks.{stmt_at, at_end, whole_at}
 use Rattle.sql_parser.specs.Grammar.{Spells, OfAnyDepth}
 use Rattle.sql_parser.specs.Stops.{Refuses, at_next, WantsWords, IsStop}
-use Rattle.sql_parser.specs.Laws.{StopsFirst, Stops, at_token, elsewhere, whole_query, whole_table, FaultsAreFirst}
-use Rattle.sql_parser.proofs.Locals.{Local, took, stopped}
+use Rattle.sql_parser.specs.Laws.{BeginsStatement, StopsFirst, Stops, at_token, elsewhere, whole_query, whole_table, FaultsAreFirst}
+use Rattle.sql_parser.proofs.Locals.{Begins, stands_behind, Local, took, stopped}
 use Rattle.sql_parser.proofs.ExprLocals.{some_of_any_depth, of_any_depth_starts, any_depth_local, one_name}
 use Rattle.sql_parser.proofs.QueryLocals.{Shown, shown, no_columns, no_query, Whole}
 use Rattle.sql_parser.proofs.BlockLocals.{barred, barred_is, stmt_local}
@@ -28,7 +28,7 @@ no_both x e h = cc
 
 module _ (last : ℕ) (role : Role) (ts : Tokens) (f : SqlFault) (stops : IsStop f) where
   -- a fault that other lists meet too is none of a statement
-  first : (front rest : Tokens) → ts ≡ front ++ rest → Refuses last OfAnyDepth (WantsWords ts) front rest f → ((more : Tokens) × (s : StmtTree) × Spells OfAnyDepth (front ++ more) s) → ((others : Tokens) → head others ≡ head rest → whole_at last role (front ++ others) ≡ Err f) → StopsFirst last role ts f
+  first : (front rest : Tokens) → ts ≡ front ++ rest → Refuses last OfAnyDepth (WantsWords ts) BeginsStatement front rest f → BeginsStatement front → ((others : Tokens) → head others ≡ head rest → whole_at last role (front ++ others) ≡ Err f) → StopsFirst last role ts f
   first front rest split refuses begins stays = record {
     front = front;
     rest = rest;
@@ -51,7 +51,7 @@ module _ (last : ℕ) (role : Role) (ts : Tokens) (f : SqlFault) (stops : IsStop
   -- a token behind the statement
   behind : (v : Result StmtTree SqlFault) (front us : Tokens) (t : At Token) → ts ≡ front ++ t ∷ us → ((others : Tokens) → head others ≡ Some t → stmt_at last role (front ++ others) ≡ Ok (v, others)) → Whole OfAnyDepth front v → f ≡ misplaced last (t ∷ us) → Stops last role ts f
   behind v front us t split local q is = at_token (first front (t ∷ us) split
-      (subst (Refuses last OfAnyDepth (WantsWords ts) front (t ∷ us)) (sym is) (at_next front (t ∷ us)))
+      (subst (Refuses last OfAnyDepth (WantsWords ts) BeginsStatement front (t ∷ us)) (sym is) (at_next front (t ∷ us)))
       ([], q.stmt, subst (λ xs. Spells OfAnyDepth xs q.stmt) (sym (append-nil front)) q.spells)
       (λ others h. let w = first_is t others h in whole_is (front ++ others) [] (Ok (v, others)) (local others h) ∙ (ap (at_end last v) w.1 ∙ ap Err (sym is))))
 
@@ -59,12 +59,15 @@ module _ (last : ℕ) (role : Role) (ts : Tokens) (f : SqlFault) (stops : IsStop
   of_end v front [] split local q h = of_shown front (split ∙ append-nil front) v q.stmt q.shows h (subst (λ xs. Spells OfAnyDepth xs q.stmt) (sym (split ∙ append-nil front)) q.spells)
   of_end v front (t ∷ us) split local q h = behind v front us t split local q (sym (err_same (misplaced last (t ∷ us)) f h))
 
+  of_whole : (xs : Tokens) → Begins (Whole OfAnyDepth) xs → BeginsStatement xs
+  of_whole xs g = (g.0, g.2.stmt, g.2.spells)
+
   of_local : whole_at last role ts ≡ Err f → Local last OfAnyDepth (WantsWords ts) (Unit {0}) (Whole OfAnyDepth) (stmt_at last role) ts → Stops last role ts f
   of_local e (took v front rest split local q) = of_end v front rest split local q (sym (whole_is ts [] (Ok (v, rest)) (ap (stmt_at last role) split ∙ local rest refl)) ∙ e)
   of_local e (stopped g front rest split local b) =
       let same : g ≡ f = err_same g f (sym (whole_is ts [] (Err g) (ap (stmt_at last role) split ∙ local rest refl)) ∙ e) in
       let c = b tt in
-      at_token (first front rest split (subst (Refuses last OfAnyDepth (WantsWords ts) front rest) same c.stands) (c.begins.0, c.begins.2.stmt, c.begins.2.spells)
+      at_token (first front rest split (subst (Refuses last OfAnyDepth (WantsWords ts) BeginsStatement front rest) same (stands_behind last OfAnyDepth (WantsWords ts) (Begins (Whole OfAnyDepth)) BeginsStatement [] of_whole front rest g c.stands)) (of_whole front c.begins)
       (λ others h. whole_is (front ++ others) [] (Err g) (local others h) ∙ ap Err same))
 
 pub faults_are_first : FaultsAreFirst

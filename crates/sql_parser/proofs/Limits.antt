@@ -56,10 +56,10 @@ module _ (last : ℕ) (role : Role) (ts : Tokens) (f : SqlFault) where
   of_expression _ _ _ (expr.excluded front rest t h) = tt
   of_expression _ _ _ (expr.called before rest name open' n h g) = tt
 
-  of_refuses : {W : Type 0} (front rest : Tokens) (e : SqlFault) → Refuses last OfAnyDepth W front rest e → IsStmtFault e
+  of_refuses : {W : Type 0} {G : Tokens → Type 0} (front rest : Tokens) (e : SqlFault) → Refuses last OfAnyDepth W G front rest e → IsStmtFault e
   of_refuses _ _ _ (at_next front rest) = of_expr (misplaced last rest) (misplaced_told last rest)
   of_refuses _ _ _ (at_word front rest t w h) = tt
-  of_refuses _ _ _ (at_name front rest t n h) = tt
+  of_refuses _ _ _ (at_name front rest t n h g) = tt
   of_refuses _ _ _ (at_row before row rest es r) = tt
   of_refuses _ _ _ (in_expression before here rest e r) = of_expression here rest e r
   of_refuses _ _ _ (too_deep before here rest place m) = tt

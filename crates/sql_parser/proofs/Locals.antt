@@ -20,14 +20,18 @@ Reader A = Tokens → Result (A × Tokens) SqlFault
 abbrev pub Inhabited : {A : Type 0} → (Tokens → A → Type 0) → Type 0
 Inhabited Q = (ys : Tokens) × (w : _) × Q ys w
 
-module _ (last : ℕ) (E : Tokens → Tree → Type 0) (W : Type 0) where
-  pub stands_behind : (fs front rest : Tokens) (f : SqlFault) → Refuses last E W front rest f → Refuses last E W (fs ++ front) rest f
-  stands_behind fs _ _ _ (at_next front rest) = at_next (fs ++ front) rest
-  stands_behind fs _ _ _ (at_word front rest t w h) = at_word (fs ++ front) rest t w h
-  stands_behind fs _ _ _ (at_name front rest t n h) = at_name (fs ++ front) rest t n h
-  stands_behind fs _ _ _ (at_row before row rest es r) = subst (λ x. Refuses last E W x rest (Syntax (place_of last row))) (append_assoc fs before row) (at_row (fs ++ before) row rest es r)
-  stands_behind fs _ _ _ (in_expression before here rest f r) = subst (λ x. Refuses last E W x rest f) (append_assoc fs before here) (in_expression (fs ++ before) here rest f r)
-  stands_behind fs _ _ _ (too_deep before here rest place m) = subst (λ x. Refuses last E W x rest (TooDeep place)) (append_assoc fs before here) (too_deep (fs ++ before) here rest place m)
+-- something that is in the grammar begins with these tokens
+abbrev pub Begins : {A : Type 0} → (Tokens → A → Type 0) → Tokens → Type 0
+Begins Q front = Inhabited (λ ys w. Q (front ++ ys) w)
+
+module _ (last : ℕ) (E : Tokens → Tree → Type 0) (W : Type 0) (G H : Tokens → Type 0) (fs : Tokens) (go : (xs : Tokens) → G xs → H (fs ++ xs)) where
+  pub stands_behind : (front rest : Tokens) (f : SqlFault) → Refuses last E W G front rest f → Refuses last E W H (fs ++ front) rest f
+  stands_behind _ _ _ (at_next front rest) = at_next (fs ++ front) rest
+  stands_behind _ _ _ (at_word front rest t w h) = at_word (fs ++ front) rest t w h
+  stands_behind _ _ _ (at_name front rest t n h g) = at_name (fs ++ front) rest t n h (subst H (sym (append_assoc fs front (t ∷ []))) (go (front ++ t ∷ []) g))
+  stands_behind _ _ _ (at_row before row rest es r) = subst (λ x. Refuses last E W H x rest (Syntax (place_of last row))) (append_assoc fs before row) (at_row (fs ++ before) row rest es r)
+  stands_behind _ _ _ (in_expression before here rest f r) = subst (λ x. Refuses last E W H x rest f) (append_assoc fs before here) (in_expression (fs ++ before) here rest f r)
+  stands_behind _ _ _ (too_deep before here rest place m) = subst (λ x. Refuses last E W H x rest (TooDeep place)) (append_assoc fs before here) (too_deep (fs ++ before) here rest place m)
 
 -- a reading that answers, and what follows it
 answers_on : {A B : Type 0} (p : Reader A) (k : A → Reader B) (ts us : Tokens) (v : A) (r : Result (B × Tokens) SqlFault) → p ts ≡ Ok (v, us) → k v us ≡ r → (p ts >>= λ x. k x.0 x.1) ≡ r
@@ -36,8 +40,8 @@ answers_on p k ts us v r h e = ap (λ (x : Result _ SqlFault). x >>= λ y. k y.0
 module _ (last : ℕ) (E : Tokens → Tree → Type 0) (W Any : Type 0) where
   -- the tokens before the fault begin something that is in the grammar, and the fault stands where they end
   pub record Begun {A : Type 0} (Q : Tokens → A → Type 0) (e : SqlFault) (front rest : Tokens) : Type 0 where
-    pub begins : (more : Tokens) × (v : A) × Q (front ++ more) v
-    pub stands : Refuses last E W front rest e
+    pub begins : Begins Q front
+    pub stands : Refuses last E W (Begins Q) front rest e
 
   -- a reading takes the front of the tokens, and answers the same for each list that has this front and the same token behind it
   pub data Local {A : Type 0} (Q : Tokens → A → Type 0) (p : Reader A) (ts : Tokens) : Type 0 where
@@ -56,26 +60,34 @@ module _ (last : ℕ) (E : Tokens → Tree → Type 0) (W Any : Type 0) where
   gives_end Q p v f q = took v [] [] refl (λ others h. subst (λ vs. p vs ≡ Ok (v, vs)) (sym (nothing_is others h)) f) q
 
   -- a fault at the next token
-  pub stuck_at : {A : Type 0} (Q : Tokens → A → Type 0) (p : Reader A) (e : SqlFault) (t : At Token) (us : Tokens) → Inhabited Q → Refuses last E W [] (t ∷ us) e → ((vs : Tokens) → p (t ∷ vs) ≡ Err e) → Local Q p (t ∷ us)
-  stuck_at Q p e t us some h f = stopped e [] (t ∷ us) refl (λ others g. let w = first_is t others g in subst (λ vs. p vs ≡ Err e) (sym w.1) (f w.0)) (λ any. record { begins = some; stands = h })
+  pub stuck_at : {A : Type 0} (Q : Tokens → A → Type 0) (p : Reader A) (e : SqlFault) (t : At Token) (us : Tokens) → Inhabited Q → (Any → Refuses last E W (Begins Q) [] (t ∷ us) e) → ((vs : Tokens) → p (t ∷ vs) ≡ Err e) → Local Q p (t ∷ us)
+  stuck_at Q p e t us some h f = stopped e [] (t ∷ us) refl (λ others g. let w = first_is t others g in subst (λ vs. p vs ≡ Err e) (sym w.1) (f w.0)) (λ any. record { begins = some; stands = h any })
 
-  pub stuck_end : {A : Type 0} (Q : Tokens → A → Type 0) (p : Reader A) (e : SqlFault) → Inhabited Q → Refuses last E W [] [] e → p [] ≡ Err e → Local Q p []
+  pub stuck_end : {A : Type 0} (Q : Tokens → A → Type 0) (p : Reader A) (e : SqlFault) → Inhabited Q → Refuses last E W (Begins Q) [] [] e → p [] ≡ Err e → Local Q p []
   stuck_end Q p e some h f = stopped e [] [] refl (λ others g. subst (λ vs. p vs ≡ Err e) (sym (nothing_is others g)) f) (λ any. record { begins = some; stands = h })
 
   -- the same where the fault is the one of a token that no rule allows
   pub no_rule_at : {A : Type 0} (Q : Tokens → A → Type 0) (p : Reader A) (t : At Token) (us : Tokens) → Inhabited Q → ((vs : Tokens) → p (t ∷ vs) ≡ Err (misplaced last (t ∷ vs))) → Local Q p (t ∷ us)
-  no_rule_at Q p t us some f = stuck_at Q p (misplaced last (t ∷ us)) t us some (at_next [] (t ∷ us)) f
+  no_rule_at Q p t us some f = stuck_at Q p (misplaced last (t ∷ us)) t us some (λ any. at_next [] (t ∷ us)) f
 
   pub no_rule_end : {A : Type 0} (Q : Tokens → A → Type 0) (p : Reader A) → Inhabited Q → p [] ≡ Err (misplaced last []) → Local Q p []
   no_rule_end Q p some f = stuck_end Q p (misplaced last []) some (at_next [] []) f
 
   -- ---- a reading as another one
 
-  begun_behind : {A : Type 0} (Q : Tokens → A → Type 0) (e : SqlFault) (fs front rest : Tokens) → Begun (λ xs v. Q (fs ++ xs) v) e front rest → Begun Q e (fs ++ front) rest
-  begun_behind Q e fs front rest b = record {
-    begins = (b.begins.0, b.begins.1, subst (λ xs. Q xs b.begins.1) (sym (append_assoc fs front b.begins.0)) b.begins.2);
-    stands = stands_behind last E W fs front rest e b.stands;
+  pub begun_as : {A B : Type 0} (Q : Tokens → A → Type 0) (K : Tokens → B → Type 0) (e : SqlFault) (fs front rest : Tokens) → ((xs : Tokens) → Begins Q xs → Begins K (fs ++ xs)) → Begun Q e front rest → Begun K e (fs ++ front) rest
+  begun_as Q K e fs front rest go b = record {
+    begins = go front b.begins;
+    stands = stands_behind last E W (Begins Q) (Begins K) fs go front rest e b.stands;
   }
+
+  begun_behind : {A : Type 0} (Q : Tokens → A → Type 0) (e : SqlFault) (fs front rest : Tokens) → Begun (λ xs v. Q (fs ++ xs) v) e front rest → Begun Q e (fs ++ front) rest
+  begun_behind Q e fs front rest b = begun_as (λ xs v. Q (fs ++ xs) v) Q e fs front rest (λ xs g. (g.0, g.1, subst (λ ys. Q ys g.1) (sym (append_assoc fs xs g.0)) g.2)) b
+
+  -- the grammar has something, whatever is read
+  pub goes_on : {A : Type 0} (Q : Tokens → A → Type 0) (p : Reader A) (ts : Tokens) → Any → Local Q p ts → Inhabited Q
+  goes_on Q p ts any (took v front rest split local q) = (front, v, q)
+  goes_on Q p ts any (stopped e front rest split local b) = let g = (b any).begins in (front ++ g.0, g.1, g.2)
 
   -- behind a first token
   pub behind : {A : Type 0} (Q : Tokens → A → Type 0) (p q : Reader A) (t : At Token) (us : Tokens) → ((vs : Tokens) → q (t ∷ vs) ≡ p vs) → Local (λ xs v. Q (t ∷ xs) v) p us → Local Q q (t ∷ us)
@@ -85,10 +97,7 @@ module _ (last : ℕ) (E : Tokens → Tree → Type 0) (W Any : Type 0) where
   -- with another grammar, where the first token decides
   pub same_at : {A : Type 0} (Q K : Tokens → A → Type 0) (p q : Reader A) (ts : Tokens) → ((xs : Tokens) (v : A) → Q xs v → K xs v) → ((us : Tokens) → head us ≡ head ts → q us ≡ p us) → Local Q p ts → Local K q ts
   same_at Q K p q ts up same (took v front rest split local k) = took v front rest split (λ others h. same (front ++ others) (head_after front others rest h ∙ ap head (sym split)) ∙ local others h) (up front v k)
-  same_at Q K p q ts up same (stopped e front rest split local k) = stopped e front rest split (λ others h. same (front ++ others) (head_after front others rest h ∙ ap head (sym split)) ∙ local others h) (λ any. let b = k any in record {
-    begins = (b.begins.0, b.begins.1, up (front ++ b.begins.0) b.begins.1 b.begins.2);
-    stands = b.stands;
-  })
+  same_at Q K p q ts up same (stopped e front rest split local k) = stopped e front rest split (λ others h. same (front ++ others) (head_after front others rest h ∙ ap head (sym split)) ∙ local others h) (λ any. begun_as Q K e [] front rest (λ xs g. (g.0, g.1, up (xs ++ g.0) g.1 g.2)) (k any))
 
   pub switch_at : {A : Type 0} (Q : Tokens → A → Type 0) (p q : Reader A) (t : At Token) (us : Tokens) → ((vs : Tokens) → q (t ∷ vs) ≡ p (t ∷ vs)) → Local Q p (t ∷ us) → Local Q q (t ∷ us)
   switch_at Q p q t us same l = same_at Q Q p q (t ∷ us) (λ xs v k. k) (λ ws h. let w = first_is t ws h in subst (λ xs. q xs ≡ p xs) (sym w.1) (same w.0)) l
@@ -109,13 +118,7 @@ module _ (last : ℕ) (E : Tokens → Tree → Type 0) (W Any : Type 0) where
 
   pub in_turn : {A B : Type 0} (Q : Tokens → A → Type 0) (K : Tokens → B → Type 0) (p : Reader A) (k : A → Reader B) (ts : Tokens) → ((xs : Tokens) (v : A) → Q xs v → Inhabited (λ ys w. K (xs ++ ys) w)) → Local Q p ts → ((v : A) (xs rest : Tokens) → ts ≡ xs ++ rest → Q xs v → Local (λ ys w. K (xs ++ ys) w) (k v) rest) → Local K (λ r. p r >>= λ x. k x.0 x.1) ts
   in_turn Q K p k ts some (took v front rest split local q) next = turn_next K p k ts front rest v split local (next v front rest split q)
-  in_turn Q K p k ts some (stopped e front rest split local b) next = stopped e front rest split (λ others h. ap (λ (x : Result _ SqlFault). x >>= λ y. k y.0 y.1) (local others h)) (λ any.
-      let c = b any in
-      let s = some (front ++ c.begins.0) c.begins.1 c.begins.2 in
-      record {
-        begins = (c.begins.0 ++ s.0, s.1, subst (λ xs. K xs s.1) (append_assoc front c.begins.0 s.0) s.2);
-        stands = c.stands;
-      })
+  in_turn Q K p k ts some (stopped e front rest split local b) next = stopped e front rest split (λ others h. ap (λ (x : Result _ SqlFault). x >>= λ y. k y.0 y.1) (local others h)) (λ any. begun_as Q K e [] front rest (λ xs g. let s = some (xs ++ g.0) g.1 g.2 in (g.0 ++ s.0, s.1, subst (λ ys. K ys s.1) (append_assoc xs g.0 s.0) s.2)) (b any))
 
   -- what was read becomes something else
   pub mapped : {A B : Type 0} (Q : Tokens → A → Type 0) (K : Tokens → B → Type 0) (p : Reader A) (g : A → B) (ts : Tokens) → ((xs : Tokens) (v : A) → Q xs v → K xs (g v)) → Local Q p ts → Local K (λ r. p r >>= λ x. Ok (g x.0, x.1)) ts

@@ -23,7 +23,7 @@ use Rattle.sql_parser.specs.Transactions.{is_work, is_scope, is_to, is_setting, 
 use Rattle.sql_parser.specs.Tables.{drop_add, drop_of, drop_names, drop_at, after_if}
 use Rattle.sql_parser.specs.Grammar.{Key, Names, Perhaps, nothing, one_is, Commas, NameIs, is_name, AddsName, adds_name, IsolationIs, uncommitted, committed, repeatable, MaybeLevel, no_level, a_level, Spells, begin, start, set_transaction, set_timeout, drop, drop_if}
 use Rattle.sql_parser.specs.Stops.{Refuses, at_next, at_word, is_unquoted}
-use Rattle.sql_parser.proofs.Locals.{Reader, Inhabited, Local, gives, gives_at, gives_end, stuck_at, stuck_end, behind, same_at, switch_at, switch_end, mapped, token_then, token_last, name_then, either, list_local, some_list, Tail, left_of, tail_local, joined, items_is}
+use Rattle.sql_parser.proofs.Locals.{Reader, Inhabited, Begins, Local, gives, gives_at, gives_end, stuck_at, stuck_end, behind, same_at, switch_at, switch_end, mapped, token_then, token_last, name_then, either, list_local, some_list, Tail, left_of, tail_local, joined, items_is}
 
 -- ---- tokens that can stand there
 
@@ -104,12 +104,12 @@ module _ (last : ℕ) (E : Tokens → Tree → Type 0) (W Any : Type 0) where
   pub word_local : (K : Tokens → StmtTree → Type 0) (s : StmtTree) → ((ws : Tokens) → Perhaps is_work ws → K ws s) → (ts : Tokens) → Local last E W Any K (λ r. Ok (s, past is_work r)) ts
   word_local K s up ts = perhaps_then K is_work (λ r. Ok (s, r)) ts (λ ws us p. gives last E W Any (λ xs w. K (ws ++ xs) w) s us (subst (λ xs. K xs s) (sym (append-nil ws)) (up ws p)))
 
-  word_refuses : W → (t : At Token) (us : Tokens) (x : Token) → t.tok ≡ x → Refuses last E W [] (t ∷ us) (misplaced_word last (t ∷ us))
-  word_refuses w t us (tok.word v s) h = subst (Refuses last E W [] (t ∷ us)) (rw h refl) (at_word [] us t w (ap is_unquoted h))
-  word_refuses w t us (tok.quoted s) h = subst (Refuses last E W [] (t ∷ us)) (rw h refl) (at_next [] (t ∷ us))
-  word_refuses w t us (tok.string s) h = subst (Refuses last E W [] (t ∷ us)) (rw h refl) (at_next [] (t ∷ us))
-  word_refuses w t us (tok.number n) h = subst (Refuses last E W [] (t ∷ us)) (rw h refl) (at_next [] (t ∷ us))
-  word_refuses w t us (tok.sign s) h = subst (Refuses last E W [] (t ∷ us)) (rw h refl) (at_next [] (t ∷ us))
+  word_refuses : (G : Tokens → Type 0) → W → (t : At Token) (us : Tokens) (x : Token) → t.tok ≡ x → Refuses last E W G [] (t ∷ us) (misplaced_word last (t ∷ us))
+  word_refuses G w t us (tok.word v s) h = subst (Refuses last E W G [] (t ∷ us)) (rw h refl) (at_word [] us t w (ap is_unquoted h))
+  word_refuses G w t us (tok.quoted s) h = subst (Refuses last E W G [] (t ∷ us)) (rw h refl) (at_next [] (t ∷ us))
+  word_refuses G w t us (tok.string s) h = subst (Refuses last E W G [] (t ∷ us)) (rw h refl) (at_next [] (t ∷ us))
+  word_refuses G w t us (tok.number n) h = subst (Refuses last E W G [] (t ∷ us)) (rw h refl) (at_next [] (t ∷ us))
+  word_refuses G w t us (tok.sign s) h = subst (Refuses last E W G [] (t ∷ us)) (rw h refl) (at_next [] (t ∷ us))
 
   word_same : (t : At Token) (us vs : Tokens) (x : Token) → t.tok ≡ x → misplaced_word last (t ∷ us) ≡ misplaced_word last (t ∷ vs)
   word_same t us vs (tok.word w s) h = rw h refl
@@ -120,7 +120,7 @@ module _ (last : ℕ) (E : Tokens → Tree → Type 0) (W Any : Type 0) where
 
   pub no_word : {A : Type 0} (Q : Tokens → A → Type 0) → W → (ts : Tokens) → Inhabited Q → Local last E W Any Q (λ r. Err (misplaced_word last r)) ts
   no_word Q w [] some = stuck_end last E W Any Q (λ r. Err (misplaced_word last r)) (misplaced_word last []) some (at_next [] []) refl
-  no_word Q w (t ∷ us) some = stuck_at last E W Any Q (λ r. Err (misplaced_word last r)) (misplaced_word last (t ∷ us)) t us some (word_refuses w t us t.tok refl) (λ vs. ap Err (word_same t vs us t.tok refl))
+  no_word Q w (t ∷ us) some = stuck_at last E W Any Q (λ r. Err (misplaced_word last r)) (misplaced_word last (t ∷ us)) t us some (λ any. word_refuses (Begins Q) w t us t.tok refl) (λ vs. ap Err (word_same t vs us t.tok refl))
 
   parameter_local : W → (s : At Token) (ws : Tokens) → Key words.Set s → Perhaps is_scope ws → (ts : Tokens) → Local last E W Any (λ xs w. Spells E (s ∷ (ws ++ xs)) w) (parameter_at last) ts
   unfolding parameter_at

@@ -17,7 +17,7 @@ use Rattle.sql_parser.specs.Readers.{keyword, misplaced_word, name_at, items_at}
 use Rattle.sql_parser.specs.Tables.{Placed, KeyRead, TableRead, Constraints, is_among, placed_names, column_names, empty_table, with_key, with_column, key_limit, kind_of, kind_at, is_constraint, key_add, key_at, constraint_of, constraint_at, constraints_at, limits_at, column_behind, column_at, table_item, table_add}
 use Rattle.sql_parser.specs.Grammar.{Is, Key, Names, Commas, placed, AddsColumn, adds_column, Says, no_more, not_null, primary_key, unique_key, AddsPart, a_column, a_primary, a_unique}
 use Rattle.sql_parser.specs.Stops.{at_name}
-use Rattle.sql_parser.proofs.Locals.{Reader, Inhabited, Local, gives, gives_at, gives_end, stuck_at, no_rule_at, no_rule_end, behind, same_at, switch_at, switch_end, in_turn, mapped, token_in, token_then, token_last, either, list_local, some_list}
+use Rattle.sql_parser.proofs.Locals.{Reader, Inhabited, Local, gives, gives_at, gives_end, stuck_at, goes_on, no_rule_at, no_rule_end, behind, same_at, switch_at, switch_end, in_turn, mapped, token_in, token_then, token_last, either, list_local, some_list}
 use Rattle.sql_parser.proofs.Steps.{bind_ok, ok_same}
 use Rattle.sql_parser.proofs.TablesKept.{expect_shorter}
 use Rattle.sql_parser.proofs.StmtLocals.{a_word, a_sign, a_name, the_name, key_is, no_word}
@@ -34,7 +34,7 @@ module _ (last : ℕ) (E : Tokens → Tree → Type 0) (W Any : Type 0) where
   distinct_local K test k (t ∷ us) some next = of_name (named t.tok) refl
     where
       of_test : (n : List ℕ) → named t.tok ≡ Some n → (b : Bool) → test n ≡ b → Local last E W Any K (λ r. name_at last r >>= λ x. if test x.0 then Err (BadColumns (place_of last r)) else k x.0 (place_of last r) x.1) (t ∷ us)
-      of_test n h true g = stuck_at last E W Any K (λ r. name_at last r >>= λ x. if test x.0 then Err (BadColumns (place_of last r)) else k x.0 (place_of last r) x.1) (BadColumns t.span.start) t us some (at_name [] us t n h) (λ vs. rw (h, g) refl)
+      of_test n h true g = stuck_at last E W Any K (λ r. name_at last r >>= λ x. if test x.0 then Err (BadColumns (place_of last r)) else k x.0 (place_of last r) x.1) (BadColumns t.span.start) t us some (λ any. at_name [] us t n h (goes_on last E W Any (λ xs w. K (t ∷ xs) w) (k n t.span.start) us any (next t n us h))) (λ vs. rw (h, g) refl)
       of_test n h false g = behind last E W Any K (k n t.span.start) (λ r. name_at last r >>= λ x. if test x.0 then Err (BadColumns (place_of last r)) else k x.0 (place_of last r) x.1) t us (λ vs. rw (h, g) refl) (next t n us h)
 
       of_name : (o : Option (List ℕ)) → named t.tok ≡ o → Local last E W Any K (λ r. name_at last r >>= λ x. if test x.0 then Err (BadColumns (place_of last r)) else k x.0 (place_of last r) x.1) (t ∷ us)

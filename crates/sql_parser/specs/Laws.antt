@@ -20,14 +20,18 @@ use Rattle.sql_parser.specs.Stops.{Refuses, WantsWords, IsStop}
 abbrev pub BlocksAreRead : Type 0
 BlocksAreRead = (last : ℕ) (role : Role) (ts : Tokens) (ss : List StmtTree) → length ts < 2 ^ 32 → (block_at last role ts ≡ Ok ss) ↔ (BlockIs Shallow ts ss × (length ss ≤ 256) × (list_all (is_kept_in role) ss ≡ true))
 
+-- some statement begins with these tokens, whatever its depth and its names
+abbrev pub BeginsStatement : Tokens → Type 0
+BeginsStatement front = (more : Tokens) × (s : StmtTree) × Spells OfAnyDepth (front ++ more) s
+
 -- The tokens that were read begin a statement, whatever its depth and its names, and the next one is refused. Reading stops there too in each list that
 -- has the same tokens up to there and the same next token; so no such list spells a statement that a block keeps.
 pub record StopsFirst (last : ℕ) (role : Role) (ts : Tokens) (f : SqlFault) : Type 0 where
   pub front : Tokens
   pub rest : Tokens
   pub split : ts ≡ front ++ rest
-  pub refuses : Refuses last OfAnyDepth (WantsWords ts) front rest f
-  pub begins : (more : Tokens) × (s : StmtTree) × Spells OfAnyDepth (front ++ more) s
+  pub refuses : Refuses last OfAnyDepth (WantsWords ts) BeginsStatement front rest f
+  pub begins : BeginsStatement front
   pub stays : (others : Tokens) → head others ≡ head rest → whole_at last role (front ++ others) ≡ Err f
   pub none : (others : Tokens) (s : StmtTree) → head others ≡ head rest → Spells Shallow (front ++ others) s → is_kept_in role s ≡ true → ⊥
 
@@ -46,12 +50,13 @@ pub data Stops (last : ℕ) (role : Role) (ts : Tokens) (f : SqlFault) : Type 0 
 abbrev pub FaultsAreFirst : Type 0
 FaultsAreFirst = (last : ℕ) (role : Role) (ts : Tokens) (f : SqlFault) → IsStop f → whole_at last role ts ≡ Err f → Stops last role ts f
 
--- The same of a block: the tokens that were read begin one, and no list that has them and the same next token is read as one.
+-- The same of a block: the tokens that were read begin one, and no list that has them and the same next token is read as one. The next token is refused in the
+-- statement that stands behind whole ones.
 pub record BlockStopsFirst (last : ℕ) (role : Role) (ts : Tokens) (f : SqlFault) : Type 0 where
   pub front : Tokens
   pub rest : Tokens
   pub split : ts ≡ front ++ rest
-  pub refuses : (before here : Tokens) × (front ≡ before ++ here) × Refuses last OfAnyDepth (WantsWords (here ++ rest)) here rest f
+  pub refuses : (before here : Tokens) × (ended : List StmtTree) × (front ≡ before ++ here) × EndedAre OfAnyDepth before ended × Refuses last OfAnyDepth (WantsWords (here ++ rest)) BeginsStatement here rest f
   pub begins : (more : Tokens) × (ss : List StmtTree) × BlockIs OfAnyDepth (front ++ more) ss
   pub none : (n : ℕ) (others : Tokens) (ss : List StmtTree) → head others ≡ head rest → length (front ++ others) < 2 ^ 32 → block_at n role (front ++ others) ≡ Ok ss → ⊥
 

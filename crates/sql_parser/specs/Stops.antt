@@ -30,17 +30,17 @@ WantsWords [] = ⊥
 WantsWords (t ∷ ts) = (is_word words.Create t.tok || is_word words.Set t.tok) ≡ true
 
 -- How a statement of which this much has been read is refused at the next token, or at the text's end. last is the text's length, or where the next
--- semicolon stands; W says that the statement has kinds or a parameter.
-pub data Refuses (last : ℕ) (E : Tokens → Tree → Type 0) (W : Type 0) : Tokens → Tokens → SqlFault → Type 0 where
+-- semicolon stands; W says that the statement has kinds or a parameter, and Begins of tokens that some statement begins with them.
+pub data Refuses (last : ℕ) (E : Tokens → Tree → Type 0) (W : Type 0) (Begins : Tokens → Type 0) : Tokens → Tokens → SqlFault → Type 0 where
   -- as LeftOut, if the token stands for a part of SQL that is left out, else as Syntax
-  at_next : (front rest : Tokens) → Refuses last E W front rest (misplaced last rest)
+  at_next : (front rest : Tokens) → Refuses last E W Begins front rest (misplaced last rest)
   -- as LeftOut at any unquoted word, where a kind or a parameter has to stand
-  at_word : (front rest : Tokens) (t : At Token) → W → is_unquoted t.tok ≡ true → Refuses last E W front (t ∷ rest) (LeftOut t.span.start)
-  -- as BadColumns at a name, where it may not stand again
-  at_name : (front rest : Tokens) (t : At Token) (n : List ℕ) → Names n t → Refuses last E W front (t ∷ rest) (BadColumns t.span.start)
+  at_word : (front rest : Tokens) (t : At Token) → W → is_unquoted t.tok ≡ true → Refuses last E W Begins front (t ∷ rest) (LeftOut t.span.start)
+  -- as BadColumns at a name with which a statement could go on, were it not for the names before it
+  at_name : (front rest : Tokens) (t : At Token) (n : List ℕ) → Names n t → Begins (front ++ t ∷ []) → Refuses last E W Begins front (t ∷ rest) (BadColumns t.span.start)
   -- as Syntax at the first token of a whole row of VALUES that ends there
-  at_row : (before row rest : Tokens) (es : List Tree) → RowIs E row es → Refuses last E W (before ++ row) rest (Syntax (place_of last row))
+  at_row : (before row rest : Tokens) (es : List Tree) → RowIs E row es → Refuses last E W Begins (before ++ row) rest (Syntax (place_of last row))
   -- as an expression is refused, of which this much has been read
-  in_expression : (before here rest : Tokens) (f : SqlFault) → expr.Refuses last here rest f → Refuses last E W (before ++ here) rest f
+  in_expression : (before here rest : Tokens) (f : SqlFault) → expr.Refuses last here rest f → Refuses last E W Begins (before ++ here) rest f
   -- as TooDeep at a token of an expression that makes a node
-  too_deep : (before here rest : Tokens) (place : ℕ) → Makes place (here ++ first rest) → Refuses last E W (before ++ here) rest (TooDeep place)
+  too_deep : (before here rest : Tokens) (place : ℕ) → Makes place (here ++ first rest) → Refuses last E W Begins (before ++ here) rest (TooDeep place)
