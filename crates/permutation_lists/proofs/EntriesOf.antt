@@ -8,14 +8,14 @@ use Rattle.std.proofs.lemmas.List.Sums.{sum-map}
 use Rattle.std.specs.List.{AllByRecursion}
 use Rattle.std.proofs.lemmas.List.{append-nil}
 use Rattle.std.proofs.lemmas.List.Concat.{length-flat_map}
-use Rattle.interleavings.specs.Interleavings.{each_first, of_length, without, interleavings}
+use Rattle.permutation_lists.specs.Interleavings.{each_first, of_length, without, interleavings}
 use Rattle.std.specs.Global.{Vec}
 use Rattle.spec_parser.specs.declared.tree.Entry.{Entry}
 use Rattle.spec_parser.specs.declared.tree.Spec.{Spec}
 use Rattle.spec_parser.specs.declared.tree.SessionPart.{SessionPart}
 use Rattle.spec_parser.specs.Trees.{EntryTree, SessionTree, entry_view, perm_view, step_view, session_view, spec_view}
 use Rattle.permutation_lists.specs.Permutations.{entry_after, entries_after, entries_of, step_count, lines_or_all, permutations_of}
-use Rattle.permutation_lists.specs.Coming.{AreShort}
+use Rattle.permutation_lists.specs.Inner.Ways.{AreShort}
 
 -- one more turn is one more entry
 entries_push : (before turns : List ℕ) (session : ℕ) → entries_after before (turns ++ session ∷ []) ≡ entries_after before turns ++ entry_after (before ++ turns) session ∷ []

@@ -1,1 +1,6 @@
+pub mod Behind
+pub mod Places
+pub mod Rising
+pub mod Members
+pub mod Only
 pub mod EntriesOf

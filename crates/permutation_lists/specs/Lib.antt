@@ -1,3 +1,6 @@
+pub mod Interleavings
+pub mod Order
 pub mod Permutations
-pub mod Coming
 pub mod Lines
+pub mod Inner
+pub mod Examples

@@ -1,7 +1,7 @@
 -- The permutations of a spec: its permutation lines, or all interleavings of its sessions' steps.
 -- The isolation README: a permutation line "specifies a list of steps that are run in that order"; with no permutation lines "all possible interleavings" run.
 use Rattle.std.specs.Prelude.{ℕ, ◌==◌, List, [], ◌∷◌, ◌++◌, length, map, count_by}
-use Rattle.interleavings.specs.Interleavings.{interleavings}
+use Rattle.permutation_lists.specs.Interleavings.{interleavings}
 use Rattle.spec_parser.specs.Trees.{SessionTree, EntryTree, SpecTree}
 
 -- the entry of a session's turn, after the turns before it: a session's turns are its steps, in their order
@@ -28,3 +28,8 @@ lines_or_all (line ∷ lines) counts = line ∷ lines
 
 unfoldable pub permutations_of : SpecTree → List (List EntryTree)
 permutations_of spec = lines_or_all spec.perms (map step_count spec.sessions)
+
+-- the permutation that comes now, which is none at first, and those behind it
+pub record Coming : Type 0 where
+  pub here : List EntryTree
+  pub more : List (List EntryTree)

@@ -2,13 +2,13 @@
 
 ghost use Rattle.std.specs.Prelude.{◌≡◌, ◌≢◌, ◌<◌, ◌^◌, [], ◌∷◌, length, map, IfOk, OnErr};
 ghost use Rattle.std.specs.Bool.{OnTrue, OnFalse};
-ghost use Rattle.interleavings.specs.Interleavings.{interleavings};
+ghost use Rattle.permutation_lists.specs.Interleavings.{interleavings};
 ghost use Rattle.spec_parser.specs.Trees.{entry_view, spec_view};
 ghost use Rattle.spec_parser.specs.Stands.{Stands};
 ghost use Rattle.permutation_lists.specs.Permutations.{entries_of, step_count, permutations_of};
 
+use crate::interleavings::Interleavings;
 use crate::turns::{entries_of, step_counts};
-use interleavings::Interleavings;
 use spec_parser::{Entry, Spec};
 use std::alloc::{AllocError, Global};
 use std::marker::Model;
@@ -29,13 +29,14 @@ pub struct Permutations<'s> {
 }
 
 impl<'s> Model for Permutations<'s> {
-    ghost use Rattle.permutation_lists.specs.Coming.{Coming, coming, WayStands};
+    ghost use Rattle.permutation_lists.specs.Permutations.{Coming};
+    ghost use Rattle.permutation_lists.specs.Inner.Ways.{coming, AreShortLists};
 
     ghost Value = { Coming };
 
     ghost view = { λ p. coming p.way };
 
-    ghost invariant = { λ p. WayStands p.way };
+    ghost invariant = { λ p. AreShortLists p.way };
 }
 
 impl<'s> Permutations<'s> {

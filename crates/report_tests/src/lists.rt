@@ -5,8 +5,7 @@ ghost use Rattle.spec_parser.specs.Trees.{spec_view};
 ghost use Rattle.spec_parser.specs.Stands.{Stands};
 
 use crate::histories::holds;
-use interleavings::Interleavings;
-use permutation_lists::{Permutations, line_of};
+use permutation_lists::{Interleavings, Permutations, line_of};
 use spec_parser::{Spec, SpecFault, parse_spec, specs_stand};
 use std::alloc::{AllocError, Global};
 use std::test::Fail;

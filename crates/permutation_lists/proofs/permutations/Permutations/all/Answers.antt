@@ -1,9 +1,9 @@
 use Rattle.std.proofs.Common.{◌∙◌, List, sym, ap, subst, map}
-use Rattle.interleavings.specs.Interleavings.{interleavings}
+use Rattle.permutation_lists.specs.Interleavings.{interleavings}
 use Rattle.spec_parser.specs.declared.tree.SessionPart.{SessionPart}
 use Rattle.spec_parser.specs.Trees.{session_view}
 use Rattle.permutation_lists.specs.Permutations.{step_count}
-use Rattle.permutation_lists.specs.Coming.{AreShort}
+use Rattle.permutation_lists.specs.Inner.Ways.{AreShort}
 use Rattle.permutation_lists.proofs.EntriesOf.{few_turns}
 use Rattle.permutation_lists.proofs.permutations.Permutations.all.Goals as goal
 

@@ -1,5 +1,0 @@
-pub mod Behind
-pub mod Places
-pub mod Rising
-pub mod Members
-pub mod Only

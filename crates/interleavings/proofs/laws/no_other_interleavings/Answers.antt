@@ -1,5 +1,0 @@
-use Rattle.interleavings.proofs.Only.{no_other_interleavings as law}
-use Rattle.interleavings.proofs.laws.no_other_interleavings.Goals as goal
-
-pub returns : goal.returns
-returns c = law
