@@ -19,7 +19,7 @@ def modules():
     for crate in sorted(os.listdir(f"{TOP}/crates")):
         folder = f"{TOP}/crates/{crate}/specs"
         for at, _, names in os.walk(folder):
-            for name in sorted(it for it in names if it.endswith(".antt") and it != "Lib.antt"):
+            for name in sorted(it for it in names if it.endswith(".antt") and it not in ("Lib.antt", "Inner.antt")):
                 path = os.path.join(at, name)
                 inner = os.path.relpath(path, folder)[:-5].replace("/", ".")
                 with open(path, encoding="utf-8") as it:
@@ -91,7 +91,9 @@ def main(wanted):
         by_file[module] = by_file.get(module, 0) + len(files[module][2][name])
     for module in sorted(by_file):
         print(f"{by_file[module]:5} {module.replace('.specs.', '/')}")
-    print(f"{sum(by_file.values())} lines of {len(believed)} definitions in {len(by_file)} files; {sum(len(x) for f in files.values() for x in f[2].values())} stand in specs/")
+    sizes = {module: sum(len(x) for x in found.values()) for module, (_, _, found) in files.items()}
+    inner = sum(size for module, size in sizes.items() if ".specs.Inner." in module)
+    print(f"{sum(by_file.values())} lines of {len(believed)} definitions in {len(by_file)} files; {sum(sizes.values())} stand in specs/, {inner} of them in Inner")
 
 
 if __name__ == "__main__":

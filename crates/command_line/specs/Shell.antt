@@ -5,6 +5,7 @@ use Rattle.std.specs.Io.KnownBytes.{Appends}
 use Rattle.clap.specs.Words.{IsAmong, Text, fault_of}
 use Rattle.clap.specs.declared.error.kind.ErrorKind.{ErrorKind}
 use Rattle.clap.specs.declared.error.kind.ErrorKind.TheVariants.{DisplayHelp, DisplayVersion, OutOfMemory}
+use Rattle.permutations.specs.Begun.{Begun, FileMaySay, FileSaysFreely, ListBegun}
 use Rattle.permutations.specs.Broken.{FileBroken}
 use Rattle.permutations.specs.FaultText.{fault_line}
 use Rattle.permutations.specs.Files.{FileIs}
@@ -46,18 +47,20 @@ is_request _ = false
 
 -- ---- words that give options
 
--- the permutations were listed: their lines go to the output, and nothing to the errors
+-- the permutations were listed: their lines go to the output, wherever that ends a front of them, and nothing to the errors
 pub record Listed (left : Option (List ℕ)) (limit : ℕ) (old new notes_old notes_new : Option (List ℕ)) (answer : Result (Unit {0}) RunFault) : Type 0 where
   pub lists : IfSome left (λ bytes. IsTrue (has_ended answer) → (said : Said) × FileLists (take 1048577 bytes) limit (Ok said) × IsListed old new answer said)
   pub refused : IfSome left (λ bytes. IfErr answer (λ e. is_refusal e ≡ true → FileLists (take 1048577 bytes) limit (Err e)))
   pub kinds : IfErr answer (λ e. is_of_listing e ≡ true)
+  pub begun : IfSome left (λ bytes. ListBegun (take 1048577 bytes) limit old new)
   pub noted : notes_new ≡ notes_old
 
--- the permutations ran: their text goes to the output, and their notes to the errors
+-- the permutations ran: their text goes to the output, and their notes to the errors, wherever that ends fronts of them
 pub record Ran (left : Option (List ℕ)) (limit : ℕ) (out_old out_new notes_old notes_new : Option (List ℕ)) (answer : Result (Unit {0}) RunFault) : Type 0 where
   pub told : IfSome left (λ bytes. IsTrue (has_ended answer) → (said : Said) × FileSays (take 1048577 bytes) limit (Ok said) × IsTold out_old out_new notes_old notes_new answer said)
   pub refused : IfSome left (λ bytes. IfErr answer (λ e. is_refusal e ≡ true → FileSays (take 1048577 bytes) limit (Err e)))
   pub untouched : IfErr answer (λ e. is_refusal e ≡ true → (out_new ≡ out_old) × (notes_new ≡ notes_old))
+  pub begun : IfSome left (λ bytes. Begun (FileMaySay (take 1048577 bytes) limit) out_old out_new notes_old notes_new)
   pub broken : IfSome left (λ bytes. IsTrue (has_broken answer) → FileBroken (take 1048577 bytes) limit out_old out_new notes_old notes_new)
 
 -- the file ran freely: the text of a free run that it may have goes to the output, and its notes to the errors; where it is refused, or its threads come to no end, nothing is written
@@ -65,6 +68,7 @@ pub record RanFreely (left : Option (List ℕ)) (out_old out_new notes_old notes
   pub told : IfSome left (λ bytes. IsTrue (has_ended answer) → FileFreeTold (take 1048577 bytes) out_old out_new notes_old notes_new answer)
   pub refused : IfSome left (λ bytes. IfErr answer (λ e. is_refusal e ≡ true → FileIs (take 1048577 bytes) (Err e)))
   pub untouched : IfErr answer (λ e. is_refusal e ≡ true → (out_new ≡ out_old) × (notes_new ≡ notes_old))
+  pub begun : IfSome left (λ bytes. Begun (FileSaysFreely (take 1048577 bytes)) out_old out_new notes_old notes_new)
   pub broken : IsTrue (has_broken answer) → (out_new ≡ out_old) × (notes_new ≡ notes_old)
 
 -- `--list` is looked at before all else, then `--free`, with which the limit counts for nothing

@@ -2,7 +2,7 @@
 
 ghost use Rattle.std.specs.Prelude.{◌≡◌, ◌≤◌, List, ℕ, Option, Bool, length, IfOk, OnOk};
 ghost use Rattle.std.specs.Io.KnownBytes.{ReadConsumes, Appends};
-ghost use Rattle.iso_lexer.specs.Devices.{FailsWith};
+ghost use Rattle.iso_lexer.specs.Devices.{FailsWith, PutsFront};
 
 /// The device failed, and each later call of it fails.
 #[derive(Clone, Copy, Debug, PartialEq, Eq)]
@@ -31,5 +31,6 @@ pub trait Sink {
 
     fn put(&mut self, bytes: &[u8]) -> Result<(), DeviceFault>
         ensures bytes { OnOk result (Appends (put_so_far self.old) (put_so_far self.new) bytes.now) }
+        ensures front { PutsFront (put_so_far self.old) (put_so_far self.new) bytes.now }
         ensures fails { FailsWith (failed self.old) (failed self.new) result };
 }

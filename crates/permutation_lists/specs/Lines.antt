@@ -1,16 +1,10 @@
 -- The line that lists a permutation: its steps' names in quotes, each with its markers.
-use Rattle.std.specs.Prelude.{ℕ, ◌-◌, ◌==◌, List, [], ◌∷◌, ◌++◌, codes, flat_map, Option, Some, None, option_and_then, slice_get, if◌then◌else◌}
+use Rattle.std.specs.Prelude.{ℕ, ◌==◌, List, [], ◌∷◌, ◌++◌, codes, flat_map, Option, Some, None, if◌then◌else◌}
 use Rattle.iso_lexer.specs.Names.{Written, decoded}
 use Rattle.spec_parser.specs.declared.tree.Marker.{Marker}
 use Rattle.spec_parser.specs.declared.tree.Marker.TheVariants.{Star, Step as Named}
-use Rattle.spec_parser.specs.Trees.{StepTree, SessionTree, EntryTree, SpecTree}
-
--- the step of a session, from 1, with this number, from 0
-abbrev pub step_at : ℕ → SessionTree → Option StepTree
-step_at step s = slice_get s.steps step
-
-abbrev pub step_named : SpecTree → ℕ → ℕ → Option StepTree
-step_named spec session step = option_and_then (step_at step) (slice_get spec.sessions (session - 1))
+use Rattle.spec_parser.specs.Trees.{StepTree, EntryTree, SpecTree}
+use Rattle.spec_parser.specs.Numbered.{step_numbered, step_of_entry}
 
 abbrev pub doubled : ℕ → List ℕ
 doubled b = if b == 34 then 34 ∷ 34 ∷ [] else b ∷ []
@@ -25,7 +19,7 @@ quoted_step (Some s) = quoted s.name
 
 abbrev pub marker_text : SpecTree → Marker → List ℕ
 marker_text spec Star = codes "*"
-marker_text spec (Named session step) = quoted_step (step_named spec session step)
+marker_text spec (Named session step) = quoted_step (step_numbered spec session step)
 
 -- more markers, each behind a comma
 abbrev pub more_marker : SpecTree → Marker → List ℕ
@@ -37,7 +31,7 @@ markers_text spec [] = []
 markers_text spec (m ∷ ms) = codes "(" ++ marker_text spec m ++ flat_map (more_marker spec) ms ++ codes ")"
 
 abbrev pub entry_text : SpecTree → EntryTree → List ℕ
-entry_text spec e = codes " " ++ quoted_step (step_named spec e.session e.step) ++ markers_text spec e.markers
+entry_text spec e = codes " " ++ quoted_step (step_of_entry spec e) ++ markers_text spec e.markers
 
 unfoldable pub line_text : SpecTree → List EntryTree → List ℕ
 line_text spec entries = codes "permutation" ++ flat_map (entry_text spec) entries ++ 10 ∷ []

@@ -4,7 +4,6 @@
 mod interleavings;
 mod laws;
 mod line;
-mod page;
 mod permutations;
 mod steps;
 mod turns;

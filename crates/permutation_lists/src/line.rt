@@ -1,24 +1,17 @@
 //! The line that lists a permutation.
 
 ghost use Rattle.std.specs.Prelude.{◌≡◌, ◌++◌, ◌∷◌, [], OnOk, IfOk, map, flat_map, option_map};
+ghost use Rattle.iso_lexer.specs.Devices.{page_text};
 ghost use Rattle.iso_lexer.specs.Names.{name_view};
 ghost use Rattle.spec_parser.specs.Trees.{entry_view, step_view, spec_view};
-ghost use Rattle.permutation_lists.specs.Lines.{doubled, quoted, quoted_step, step_named, marker_text, more_marker, markers_text, entry_text, line_text};
+ghost use Rattle.permutation_lists.specs.Lines.{doubled, quoted, quoted_step, marker_text, more_marker, markers_text, entry_text, line_text};
 
-use crate::page::Page;
-use iso_lexer::{Name, write_name};
+use iso_lexer::{Name, Page, write_name};
 use spec_parser::{Entry, Marker, Spec, StepPart};
 use std::alloc::{AllocError, Global};
 
-fn step_named<'s, 'a>(spec: &'s Spec<'a>, session: u32, step: u32) -> Option<&'s StepPart<'a>>
-    ensures { option_map (λ x. step_view x.now) result ≡ step_named (spec_view spec.now) session step }
-{
-    let session = spec.sessions.get(session.saturating_sub(1) as usize)?;
-    session.steps.get(step as usize)
-}
-
 fn push_doubled(page: &mut Page, bytes: &[u8]) -> Result<(), AllocError>
-    ensures { OnOk result (page.new.bytes.items ≡ page.old.bytes.items ++ flat_map doubled bytes.now) }
+    ensures { OnOk result (page_text page.new ≡ page_text page.old ++ flat_map doubled bytes.now) }
 {
     for byte in bytes {
         if *byte == b'"' {
@@ -32,7 +25,7 @@ fn push_doubled(page: &mut Page, bytes: &[u8]) -> Result<(), AllocError>
 
 /// A name in quotes, of which each quote in it is doubled.
 fn push_quoted(page: &mut Page, name: &Name<'_>) -> Result<(), AllocError>
-    ensures { OnOk result (page.new.bytes.items ≡ page.old.bytes.items ++ quoted (name_view name.now)) }
+    ensures { OnOk result (page_text page.new ≡ page_text page.old ++ quoted (name_view name.now)) }
 {
     let mut decoded = Page::new(page.alloc());
     write_name(&mut decoded, name).map_err(|_| AllocError)?;
@@ -42,7 +35,7 @@ fn push_quoted(page: &mut Page, name: &Name<'_>) -> Result<(), AllocError>
 }
 
 fn push_step(page: &mut Page, step: Option<&StepPart<'_>>) -> Result<(), AllocError>
-    ensures { OnOk result (page.new.bytes.items ≡ page.old.bytes.items ++ quoted_step (option_map (λ x. step_view x.now) step.entry)) }
+    ensures { OnOk result (page_text page.new ≡ page_text page.old ++ quoted_step (option_map (λ x. step_view x.now) step.entry)) }
 {
     match step {
         Some(step) => push_quoted(page, &step.name),
@@ -51,16 +44,16 @@ fn push_step(page: &mut Page, step: Option<&StepPart<'_>>) -> Result<(), AllocEr
 }
 
 fn push_marker(page: &mut Page, spec: &Spec<'_>, marker: Marker) -> Result<(), AllocError>
-    ensures { OnOk result (page.new.bytes.items ≡ page.old.bytes.items ++ marker_text (spec_view spec.now) marker) }
+    ensures { OnOk result (page_text page.new ≡ page_text page.old ++ marker_text (spec_view spec.now) marker) }
 {
     match marker {
         Marker::Star => page.push(b"*"),
-        Marker::Step { session, step } => push_step(page, step_named(spec, session, step)),
+        Marker::Step { session, step } => push_step(page, spec.step_numbered(session, step)),
     }
 }
 
 fn push_more(page: &mut Page, spec: &Spec<'_>, markers: &[Marker]) -> Result<(), AllocError>
-    ensures { OnOk result (page.new.bytes.items ≡ page.old.bytes.items ++ flat_map (more_marker (spec_view spec.now)) markers.now) }
+    ensures { OnOk result (page_text page.new ≡ page_text page.old ++ flat_map (more_marker (spec_view spec.now)) markers.now) }
 {
     for marker in markers {
         page.push(b", ")?;
@@ -70,7 +63,7 @@ fn push_more(page: &mut Page, spec: &Spec<'_>, markers: &[Marker]) -> Result<(),
 }
 
 fn push_markers(page: &mut Page, spec: &Spec<'_>, markers: &[Marker]) -> Result<(), AllocError>
-    ensures { OnOk result (page.new.bytes.items ≡ page.old.bytes.items ++ markers_text (spec_view spec.now) markers.now) }
+    ensures { OnOk result (page_text page.new ≡ page_text page.old ++ markers_text (spec_view spec.now) markers.now) }
 {
     let Some((first, rest)) = markers.split_first() else {
         return Ok(());
@@ -82,15 +75,15 @@ fn push_markers(page: &mut Page, spec: &Spec<'_>, markers: &[Marker]) -> Result<
 }
 
 fn push_entry(page: &mut Page, spec: &Spec<'_>, entry: &Entry) -> Result<(), AllocError>
-    ensures { OnOk result (page.new.bytes.items ≡ page.old.bytes.items ++ entry_text (spec_view spec.now) (entry_view entry.now)) }
+    ensures { OnOk result (page_text page.new ≡ page_text page.old ++ entry_text (spec_view spec.now) (entry_view entry.now)) }
 {
     page.push(b" ")?;
-    push_step(page, step_named(spec, entry.session, entry.step))?;
+    push_step(page, spec.step_of(entry))?;
     push_markers(page, spec, &entry.markers)
 }
 
 fn push_entries(page: &mut Page, spec: &Spec<'_>, entries: &[Entry]) -> Result<(), AllocError>
-    ensures { OnOk result (page.new.bytes.items ≡ page.old.bytes.items ++ flat_map (entry_text (spec_view spec.now)) (map entry_view entries.now)) }
+    ensures { OnOk result (page_text page.new ≡ page_text page.old ++ flat_map (entry_text (spec_view spec.now)) (map entry_view entries.now)) }
 {
     for entry in entries {
         push_entry(page, spec, entry)?;

@@ -76,10 +76,11 @@ impl<'s> Permutations<'s> {
         }
     }
 
-    /// Goes on to the next permutation, or answers false where there is none. Where memory was refused, that one may be lost.
+    /// Goes on to the next permutation, or answers false where there is none, and nothing has changed then. Where memory was
+    /// refused, that one may be lost.
     pub fn advance(&mut self, alloc: Global) -> Result<bool, AllocError>
         ensures more { IfOk result (λ more. OnTrue more (self.old.more ≡ self.new.here ∷ self.new.more)) }
-        ensures over { IfOk result (λ more. OnFalse more (self.old.more ≡ [])) }
+        ensures over { IfOk result (λ more. OnFalse more ((self.old.more ≡ []) × (self.new ≡ self.old))) }
         ensures memory { OnErr result (self.old.more ≢ []) }
     {
         match &mut self.way {

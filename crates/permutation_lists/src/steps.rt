@@ -84,7 +84,8 @@ fn replace(
     requires at { IsAt counts.now (take place last.old) left.old }
     requires least { IsLeast left.old from other }
     requires sum { sum left.old + place ≡ length last.old }
-    ensures lists { behind counts.now (take place last.old ++ other ∷ []) (length last.old - (place + 1)) (of_length (length last.old - (place + 1)) (without left.old other)) ≡ last.new ∷ later counts.now last.new }
+    ensures lists { behind counts.now (take place last.old ++ other ∷ []) (length last.old - (place + 1)) (of_length (length last.old - (place + 1)) (without left.old other))
+        ≡ last.new ∷ later counts.now last.new }
     ensures at { IsAt counts.now last.new left.new }
     ensures sum { sum left.new ≡ 0 }
 {

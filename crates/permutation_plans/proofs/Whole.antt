@@ -11,7 +11,7 @@ use Rattle.report_lines.specs.declared.history.Task.{Task}
 use Rattle.report_lines.specs.declared.history.TornDown.{TornDown}
 use Rattle.report_lines.specs.declared.history.Stand.{Stand}
 use Rattle.report_lines.specs.declared.history.Stand.TheVariants.{Due, Whole, Invalid}
-use Rattle.report_lines.specs.History.{Setting}
+use Rattle.report_lines.specs.History.{PermutationRun}
 use Rattle.report_lines.specs.Report.{Report, before, active, poll, is_busy, is_empty, made_way, launched, report_from, report}
 use Rattle.report_lines.specs.Due.{Planned, or_else, orders, went_well, is_over, due_setup, torn_down, task_of, due_last, due_entry, due}
 use Rattle.permutation_plans.specs.Launches.{planned, task_of_entry}
@@ -185,7 +185,7 @@ entry_stands e there n false false way next le lt before_it behind_it rest h =
     let less : there < n = omega arith in
     inl (less, ap Due same)
 
-stands_from : (c : Setting) (there n rest e : ℕ) (lines : List Line) → e ≤ there → e + rest ≡ n → (report_from c e rest there lines).stand ≢ Invalid → StandsAt (report_from c e rest there lines).stand there n
+stands_from : (c : PermutationRun) (there n rest e : ℕ) (lines : List Line) → e ≤ there → e + rest ≡ n → (report_from c e rest there lines).stand ≢ Invalid → StandsAt (report_from c e rest there lines).stand there n
 stands_from c there n zero e lines le all h =
     let many : n ≤ there = omega arith in
     inr (many, end_stands (is_empty (active (poll c (before c e) lines) e)) h)
@@ -195,7 +195,7 @@ stands_from c there n (suc rest) e lines le all h =
     entry_stands e there n (is_busy c way e) (nat_lt e there) way (report_from c (e + 1) rest there (launched c way e)) le less (ltb-true e there) (ltb-false e there)
     (λ lt valid. stands_from c there n rest (e + 1) (launched c way e) (omega arith) (omega arith) valid) h
 
-stands : (c : Setting) (there : ℕ) → (report c there).stand ≢ Invalid → StandsAt (report c there).stand there (length c.entries)
+stands : (c : PermutationRun) (there : ℕ) → (report c there).stand ≢ Invalid → StandsAt (report c there).stand there (length c.entries)
 stands c there h = stands_from c there (length c.entries) (length c.entries) 0 [] (omega arith) (omega arith) h
 
 -- ---- the entries, and what comes behind them
@@ -219,12 +219,12 @@ entry_due p items there k stand count le (inr at) over last =
     ∙ ap (λ o. or_else o (order_at rest (there - k - length (map launch p.tasks)))) (sym (past p.tasks (there - k) many))
     ∙ sym (at_append (map launch p.tasks) rest (there - k))
 
-whole_due : (p : Planned) → length p.tasks ≡ length p.setting.entries → GoesWell p
-    → due p ≡ order_at (map launch p.setups ++ (map launch p.tasks ++ (map launch p.teardowns ++ (leaves 1 p.sessions ++ map launch p.last)))) (orders p.setting.items)
+whole_due : (p : Planned) → length p.tasks ≡ length p.run.entries → GoesWell p
+    → due p ≡ order_at (map launch p.setups ++ (map launch p.tasks ++ (map launch p.teardowns ++ (leaves 1 p.sessions ++ map launch p.last)))) (orders p.run.items)
 whole_due p same well =
-    let items = p.setting.items in
+    let items = p.run.items in
     let there = orders items in
-    let stand = (report p.setting (there - length p.setups)).stand in
+    let stand = (report p.run (there - length p.setups)).stand in
     let rest = map launch p.tasks ++ (map launch p.teardowns ++ (leaves 1 p.sessions ++ map launch p.last)) in
     let zero_place : there - 0 ≡ there = omega arith in
     let place : there - length p.setups ≡ there - length (map launch p.setups) = omega (arith, length_launches p.setups) in
@@ -232,7 +232,7 @@ whole_due p same well =
     ∙ else_same (slice_get (map launch p.setups) there) (due_entry p items there stand) (order_at rest (there - length (map launch p.setups)))
     (λ none.
     let many = beyond p.setups there none in
-    entry_due p items there (length p.setups) stand refl many (subst (StandsAt stand (there - length p.setups)) (sym same) (stands p.setting (there - length p.setups) well.entries)) well.teardowns well.last
+    entry_due p items there (length p.setups) stand refl many (subst (StandsAt stand (there - length p.setups)) (sym same) (stands p.run (there - length p.setups) well.entries)) well.teardowns well.last
     ∙ ap (order_at rest) place)
     ∙ sym (at_append (map launch p.setups) rest there)
 

@@ -1,8 +1,9 @@
 -- What a permutation of a spec launches, and in which order.
-use Rattle.std.specs.Prelude.{ℕ, ◌+◌, ◌-◌, List, [], ◌∷◌, ◌++◌, length, map, Option, Some, None, option_and_then, slice_get}
+use Rattle.std.specs.Prelude.{ℕ, ◌+◌, List, [], ◌∷◌, ◌++◌, length, map, Option, Some, None}
 use Rattle.session_machine.specs.declared.event.Order.{Order}
 use Rattle.session_machine.specs.declared.reply.HistItem.{HistItem}
 use Rattle.spec_parser.specs.Trees.{PartTree, StepTree, SessionTree, EntryTree, SpecTree}
+use Rattle.spec_parser.specs.Numbered.{step_of_entry}
 use Rattle.report_lines.specs.declared.history.Task.{Task}
 use Rattle.report_lines.specs.Due.{Planned, due}
 
@@ -27,20 +28,13 @@ abbrev pub own_tasks : (SessionTree → Option PartTree) → ℕ → List Sessio
 own_tasks part k [] = []
 own_tasks part k (s ∷ ss) = task_if k (part s) ++ own_tasks part (k + 1) ss
 
-abbrev pub step_of_session : ℕ → SessionTree → Option StepTree
-step_of_session k s = slice_get s.steps k
-
--- the step of an entry: sessions are numbered from 1, steps from 0
-abbrev pub step_of : SpecTree → EntryTree → Option StepTree
-step_of spec e = option_and_then (step_of_session e.step) (slice_get spec.sessions (e.session - 1))
-
 abbrev pub block_of_step : Option StepTree → ℕ
 block_of_step None = 0
 block_of_step (Some s) = s.part.block
 
 -- the block of an entry's step, in its session; a spec that was read has a step for each entry
 abbrev pub task_of_entry : SpecTree → EntryTree → Task
-task_of_entry spec e = record { session = e.session; block = block_of_step (step_of spec e) }
+task_of_entry spec e = record { session = e.session; block = block_of_step (step_of_entry spec e) }
 
 -- the main setups in the control session, each session's setup, the steps, each session's teardown, the main teardown in the control session
 abbrev pub launches : SpecTree → List EntryTree → Launches
@@ -56,7 +50,7 @@ launches spec entries = record {
 abbrev pub plan_of : Launches → List EntryTree → List HistItem → Planned
 plan_of l entries items = record {
   setups = l.setups;
-  setting = record { entries = entries; items = items; setups = length l.setups };
+  run = record { entries = entries; items = items; setups = length l.setups };
   tasks = l.tasks;
   teardowns = l.teardowns;
   sessions = l.sessions;

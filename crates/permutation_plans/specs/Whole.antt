@@ -39,10 +39,10 @@ AreOver items there k (t ∷ ts) = (k < there → is_over items k t.session ≡ 
 
 -- so far no setup failed or waits, no teardown waits, and the permutation is not invalid
 pub record GoesWell (p : Planned) : Type 0 where
-  pub setups : AreWell p.setting.items (orders p.setting.items) 0 p.setups
-  pub entries : (report p.setting (orders p.setting.items - length p.setups)).stand ≢ Invalid
-  pub teardowns : AreOver p.setting.items (orders p.setting.items) (length p.setups + length p.tasks) p.teardowns
-  pub last : AreOver p.setting.items (orders p.setting.items) (length p.setups + length p.tasks + length p.teardowns + p.sessions) p.last
+  pub setups : AreWell p.run.items (orders p.run.items) 0 p.setups
+  pub entries : (report p.run (orders p.run.items - length p.setups)).stand ≢ Invalid
+  pub teardowns : AreOver p.run.items (orders p.run.items) (length p.setups + length p.tasks) p.teardowns
+  pub last : AreOver p.run.items (orders p.run.items) (length p.setups + length p.tasks + length p.teardowns + p.sessions) p.last
 
 -- as long as all goes well, what is due after a history is the next of those orders
 abbrev pub NextIsDue : Type 0

@@ -21,9 +21,9 @@ fn is_ordered(
     event: Event,
     progress: &mut Progress,
 ) -> Result<bool, AllocError>
-    requires follows { Follows (plan_of launches.now (map entry_view entries.now) before.now).setting progress.old }
+    requires follows { Follows (plan_of launches.now (map entry_view entries.now) before.now).run progress.old }
     ensures ordered { IfOk result (λ ordered. IsTrue ordered ↔ IsOrdered event (due_after launches.now (map entry_view entries.now) before.now)) }
-    ensures follows { OnOk result (Follows (plan_of launches.now (map entry_view entries.now) before.now).setting progress.new) }
+    ensures follows { OnOk result (Follows (plan_of launches.now (map entry_view entries.now) before.now).run progress.new) }
     ensures memory { OnErr result (is_order event ≡ true) }
 {
     match event {
@@ -47,7 +47,7 @@ fn is_over(
     items: &[HistItem<'_>],
     progress: &mut Progress,
 ) -> Result<bool, AllocError>
-    requires { Follows (plan_of launches.now (map entry_view entries.now) items.now).setting progress.old }
+    requires { Follows (plan_of launches.now (map entry_view entries.now) items.now).run progress.old }
     ensures { IfOk result (λ over. IsTrue over ↔ (due_after launches.now (map entry_view entries.now) items.now ≡ Order.Stop)) }
 {
     let order = launches.go_on(alloc, entries, items, progress)?;

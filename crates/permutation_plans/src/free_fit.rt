@@ -3,7 +3,8 @@ ghost use Rattle.std.specs.Prelude.{◌≡◌, ◌↔◌, ◌+◌, ◌-◌, ◌<
 ghost use Rattle.std.specs.Option.{option_map_or};
 ghost use Rattle.spec_parser.specs.Trees.{spec_view};
 ghost use Rattle.permutation_plans.specs.FreeLaunches.{FreeLaunches as Listed, blocks_in, free_launches};
-ghost use Rattle.permutation_plans.specs.FreeRegular.{given, events_of, launches_in, script_events, AreGiven, AreScriptsGiven, between, items_of, ends_each, EachEnds, IsWhole, stops, item_stops, IsStopped, FitsFrom, FreeFits};
+ghost use Rattle.permutation_plans.specs.FreeRegular.{given, events_of, launches_in, script_events, AreGiven, AreScriptsGiven, between};
+ghost use Rattle.permutation_plans.specs.FreeRegular.{items_of, ends_each, EachEnds, IsWhole, stops, item_stops, IsStopped, FitsFrom, FreeFits};
 
 use crate::free_launches::FreeLaunches;
 use report_lines::{Course, Segments, Task, is_order, session_of};

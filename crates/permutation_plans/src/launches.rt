@@ -1,7 +1,8 @@
 //! What a permutation launches, in its order.
 ghost use Rattle.std.specs.Prelude.{◌≡◌, ◌+◌, ◌<◌, ◌^◌, ◌++◌, length, map, option_map, IfOk, OnOk};
 ghost use Rattle.spec_parser.specs.Trees.{part_view, session_view, spec_view, entry_view};
-ghost use Rattle.permutation_plans.specs.Launches.{task, task_if, own_tasks, step_of, block_of_step, task_of_entry, launches, plan_of, due_after};
+ghost use Rattle.spec_parser.specs.Numbered.{step_of_entry};
+ghost use Rattle.permutation_plans.specs.Launches.{task, task_if, own_tasks, block_of_step, task_of_entry, launches, plan_of, due_after};
 ghost use Rattle.report_lines.specs.Progress.{Follows};
 
 use report_lines::{Plan, Progress, Schedule, Task};
@@ -78,15 +79,11 @@ pub fn setups(alloc: Global, spec: &Spec<'_>) -> Result<Vec<Task>, AllocError>
 
 /// The number of the block of an entry's step.
 fn block_of(spec: &Spec<'_>, entry: &Entry) -> u32
-    ensures { result ≡ block_of_step (step_of (spec_view spec.now) (entry_view entry.now)) }
+    ensures { result ≡ block_of_step (step_of_entry (spec_view spec.now) (entry_view entry.now)) }
 {
-    let session = (entry.session as usize).saturating_sub(1);
-    match spec.sessions.get(session) {
+    match spec.step_of(entry) {
         None => 0,
-        Some(session) => match session.steps.get(entry.step as usize) {
-            None => 0,
-            Some(step) => step.part.block,
-        },
+        Some(step) => step.part.block,
     }
 }
 
@@ -128,22 +125,9 @@ impl Launches {
         })
     }
 
-    /// The next order after a history of the permutation that has these entries.
-    pub fn due(
-        &self,
-        alloc: Global,
-        entries: &[Entry],
-        items: &[HistItem<'_>],
-    ) -> Result<Order, AllocError>
-        ensures { IfOk result (λ order. order ≡ due_after self.now (map entry_view entries.now) items.now) }
-    {
-        let mut progress = self.begin(alloc, entries)?;
-        self.go_on(alloc, entries, items, &mut progress)
-    }
-
     /// What is kept before anything has come.
     pub fn begin(&self, alloc: Global, entries: &[Entry]) -> Result<Progress, AllocError>
-        ensures { IfOk result (λ p. (items : List HistItem) → Follows (plan_of self.now (map entry_view entries.now) items).setting p) }
+        ensures { IfOk result (λ p. (items : List HistItem) → Follows (plan_of self.now (map entry_view entries.now) items).run p) }
     {
         Progress::new(alloc, entries, self.setups.len())
     }
@@ -156,9 +140,9 @@ impl Launches {
         items: &[HistItem<'_>],
         progress: &mut Progress,
     ) -> Result<Order, AllocError>
-        requires follows { Follows (plan_of self.now (map entry_view entries.now) items.now).setting progress.old }
+        requires follows { Follows (plan_of self.now (map entry_view entries.now) items.now).run progress.old }
         ensures order { IfOk result (λ order. order ≡ due_after self.now (map entry_view entries.now) items.now) }
-        ensures follows { OnOk result (Follows (plan_of self.now (map entry_view entries.now) items.now).setting progress.new) }
+        ensures follows { OnOk result (Follows (plan_of self.now (map entry_view entries.now) items.now).run progress.new) }
     {
         order_on(self, alloc, entries, items, progress)
     }
@@ -172,9 +156,9 @@ fn order_on<'a>(
     items: &'a [HistItem<'a>],
     progress: &mut Progress,
 ) -> Result<Order, AllocError>
-    requires follows { Follows (plan_of launches.now (map entry_view entries.now) items.now).setting progress.old }
+    requires follows { Follows (plan_of launches.now (map entry_view entries.now) items.now).run progress.old }
     ensures order { IfOk result (λ order. order ≡ due_after launches.now (map entry_view entries.now) items.now) }
-    ensures follows { OnOk result (Follows (plan_of launches.now (map entry_view entries.now) items.now).setting progress.new) }
+    ensures follows { OnOk result (Follows (plan_of launches.now (map entry_view entries.now) items.now).run progress.new) }
 {
     let schedule = Schedule {
         setups: &launches.setups,

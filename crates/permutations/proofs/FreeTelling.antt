@@ -1,9 +1,8 @@
 -- A free run's text behind its first line, and the answer to writing it as the answer to its run.
 use Rattle.std.proofs.Common.{◌≡◌, ℕ, List, [], ◌++◌, Bool, true, false, ◌||◌, Option, Result, Ok, Err, IfErr, refl, sym, ap, subst, ◌∙◌}
 use Rattle.std.specs.Prelude.{IsTrue, IsErrOf}
-use Rattle.std.specs.Bool.{OnFalse}
 use Rattle.std.specs.Io.KnownBytes.{Appends}
-use Rattle.iso_lexer.specs.Devices.{FailsWith}
+use Rattle.iso_lexer.specs.Devices.{FailsWith, PutsFront}
 use Rattle.iso_lexer.specs.declared.device.DeviceFault.{DeviceFault}
 use Rattle.session_machine.specs.declared.reply.HistItem.{HistItem}
 use Rattle.session_machine.specs.Machine.{Blocks}
@@ -12,7 +11,6 @@ use Rattle.permutation_plans.specs.FreeRegular.{IsFreeRegular}
 use Rattle.report_text.specs.declared.fault.ReportFault.{ReportFault}
 use Rattle.report_text.specs.declared.fault.ReportFault.TheVariants as writes
 use Rattle.report_text.specs.declared.fault.Ended.{Ended}
-use Rattle.report_text.specs.Fronts.{PutsFront}
 use Rattle.report_text.specs.Answers.{EndsAs, Puts, TellsFailure}
 use Rattle.report_text.specs.FreeText.{free_says}
 use Rattle.permutations.specs.declared.fault.RunFault.{RunFault}
@@ -20,21 +18,17 @@ use Rattle.permutations.specs.declared.fault.RunFault.TheVariants as faults
 use Rattle.permutations.specs.FirstLine.{first_line}
 use Rattle.permutations.specs.FreeRuns.{free_text, free_told, IsFreeWritten, IsFreeTold}
 use Rattle.permutations.specs.Runs.{has_ended, has_broken, is_of_one}
-use Rattle.permutations.proofs.Listing.{appends_nothing, appends_more, took_nothing}
-use Rattle.permutations.proofs.Beginning.{front_behind, took_behind}
+use Rattle.permutations.proofs.Listing.{appends_more, front_behind, front_of_piece, nothing_put}
 use Rattle.permutations.proofs.Telling.{answers_ok, answers_err}
 
 -- ---- a text behind a line
 
-puts_behind : (told : Result Ended ReportFault) (failed : Bool) (a b c : Option (List ℕ)) (line text : List ℕ) → Appends a b line → Puts failed b c text told → Puts failed a c (line ++ text) told
-puts_behind (Ok e) failed a b c line text put p = appends_more a b c line text put p
-puts_behind (Err (writes.SetupFailed why)) failed a b c line text put p = appends_more a b c line text put p
-puts_behind (Err writes.SetupWaits) failed a b c line text put p = appends_more a b c line text put p
-puts_behind (Err writes.Write) failed a b c line text put p = took_behind failed a b c line text put p
-puts_behind (Err writes.Memory) failed a b c line text put p = front_behind a b c line text put p
-
-nothing_yet : (a : Option (List ℕ)) (text : List ℕ) → PutsFront a a text
-nothing_yet a text = record { front = []; begins = record { rest = text; is = refl }; went_out = appends_nothing a }
+puts_behind : (told : Result Ended ReportFault) (a b c : Option (List ℕ)) (line text : List ℕ) → Appends a b line → Puts b c text told → Puts a c (line ++ text) told
+puts_behind (Ok e) a b c line text put p = appends_more a b c line text put p
+puts_behind (Err (writes.SetupFailed why)) a b c line text put p = appends_more a b c line text put p
+puts_behind (Err writes.SetupWaits) a b c line text put p = appends_more a b c line text put p
+puts_behind (Err writes.Write) a b c line text put p = front_behind a b c line text put p
+puts_behind (Err writes.Memory) a b c line text put p = front_behind a b c line text put p
 
 -- a sink that takes bytes had not failed
 still : (old new : Bool) (r : Result (Unit {0}) DeviceFault) → r ≡ Ok tt → FailsWith old new r → new ≡ old
@@ -52,44 +46,44 @@ no_memory spec items wo eo fo go = record {
   told = Err writes.Memory;
   is = refl;
   ending = tt;
-  text = nothing_yet wo (free_text spec items);
-  notes = nothing_yet eo (free_says spec items).notes;
+  text = nothing_put wo (free_text spec items);
+  notes = nothing_put eo (free_says spec items).notes;
   fails = (refl, refl);
 }
 
-pub no_line : (spec : SpecTree) (items : List HistItem) (wo wn eo : Option (List ℕ)) (fo fn go : Bool) (e : DeviceFault) → FailsWith {A = Unit {0}} fo fn (Err e) → IsFreeWritten spec items wo wn eo eo fo fn go go (Err faults.Write)
-no_line spec items wo wn eo fo fn go e f = record {
+pub no_line : (spec : SpecTree) (items : List HistItem) (wo wn eo : Option (List ℕ)) (fo fn go : Bool) (e : DeviceFault) (line : List ℕ) → line ≡ first_line spec → PutsFront wo wn line → FailsWith {A = Unit {0}} fo fn (Err e) → IsFreeWritten spec items wo wn eo eo fo fn go go (Err faults.Write)
+no_line spec items wo wn eo fo fn go e line same put f = record {
   told = Err writes.Write;
   is = refl;
   ending = tt;
-  text = subst (λ (b : Bool). OnFalse b (PutsFront wo wn (free_text spec items))) (sym f.tells) tt;
-  notes = took_nothing go eo (free_says spec items).notes;
+  text = front_of_piece wo wn (first_line spec) (free_says spec items).text (subst (PutsFront wo wn) same put);
+  notes = nothing_put eo (free_says spec items).notes;
   fails = subst (λ (b : Bool). (b || go) ≡ true) (sym f.tells) refl;
 }
 
 pub behind_line : (spec : SpecTree) (items : List HistItem) (wo wm wn eo en : Option (List ℕ)) (fo fm fn go gn : Bool) (line : List ℕ) (x : Unit {0}) (told : Result Ended ReportFault) (result : Result (Unit {0}) RunFault)
     → line ≡ first_line spec → Appends wo wm line → FailsWith {E = DeviceFault} fo fm (Ok x)
-    → result ≡ free_told told → EndsAs (free_says spec items).ending told → Puts fn wm wn (free_says spec items).text told → Puts gn eo en (free_says spec items).notes told → TellsFailure fm fn go gn told
+    → result ≡ free_told told → EndsAs (free_says spec items).ending told → Puts wm wn (free_says spec items).text told → Puts eo en (free_says spec items).notes told → TellsFailure fm fn go gn told
     → IsFreeWritten spec items wo wn eo en fo fn go gn result
 behind_line spec items wo wm wn eo en fo fm fn go gn line x told result same put f is ending text notes fails = record {
   told = told;
   is = is;
   ending = ending;
-  text = puts_behind told fn wo wm wn (first_line spec) (free_says spec items).text (subst (Appends wo wm) same put) text;
+  text = puts_behind told wo wm wn (first_line spec) (free_says spec items).text (subst (Appends wo wm) same put) text;
   notes = notes;
   fails = tells_behind told fo fm fn go gn (still fo fm (Ok x) refl f) fails;
 }
 
 -- ---- what was told
 
-told_so : (spec : SpecTree) (blocks : Blocks) (items : List HistItem) (wo wn eo en : Option (List ℕ)) (fn gn : Bool) (told : Result Ended ReportFault) → IsFreeRegular spec blocks items
-    → EndsAs (free_says spec items).ending told → Puts fn wo wn (free_text spec items) told → Puts gn eo en (free_says spec items).notes told
+told_so : (spec : SpecTree) (blocks : Blocks) (items : List HistItem) (wo wn eo en : Option (List ℕ)) (told : Result Ended ReportFault) → IsFreeRegular spec blocks items
+    → EndsAs (free_says spec items).ending told → Puts wo wn (free_text spec items) told → Puts eo en (free_says spec items).notes told
     → IsTrue (has_ended (free_told told)) → IsFreeTold spec blocks wo wn eo en (free_told told)
-told_so spec blocks items wo wn eo en fn gn (Ok e) regular ending text notes early = record { items = items; regular = regular; answer = answers_ok (free_says spec items).ending e ending; text = text; notes = notes }
-told_so spec blocks items wo wn eo en fn gn (Err (writes.SetupFailed why)) regular ending text notes early = record { items = items; regular = regular; answer = answers_err (free_says spec items).ending (writes.SetupFailed why) ending early; text = text; notes = notes }
-told_so spec blocks items wo wn eo en fn gn (Err writes.SetupWaits) regular ending text notes early = record { items = items; regular = regular; answer = answers_err (free_says spec items).ending writes.SetupWaits ending early; text = text; notes = notes }
-told_so spec blocks items wo wn eo en fn gn (Err writes.Write) regular ending text notes early = absurd cc
-told_so spec blocks items wo wn eo en fn gn (Err writes.Memory) regular ending text notes early = absurd cc
+told_so spec blocks items wo wn eo en (Ok e) regular ending text notes early = record { items = items; regular = regular; answer = answers_ok (free_says spec items).ending e ending; text = text; notes = notes }
+told_so spec blocks items wo wn eo en (Err (writes.SetupFailed why)) regular ending text notes early = record { items = items; regular = regular; answer = answers_err (free_says spec items).ending (writes.SetupFailed why) ending early; text = text; notes = notes }
+told_so spec blocks items wo wn eo en (Err writes.SetupWaits) regular ending text notes early = record { items = items; regular = regular; answer = answers_err (free_says spec items).ending writes.SetupWaits ending early; text = text; notes = notes }
+told_so spec blocks items wo wn eo en (Err writes.Write) regular ending text notes early = absurd cc
+told_so spec blocks items wo wn eo en (Err writes.Memory) regular ending text notes early = absurd cc
 
 kind_so : (told : Result Ended ReportFault) → IfErr (free_told told) (λ e. is_of_one e ≡ true)
 kind_so (Ok e) = tt
@@ -115,7 +109,7 @@ fails_so (Err writes.Memory) fo fn go gn fails is = absurd cc
 module _ (spec : SpecTree) (items : List HistItem) (wo wn eo en : Option (List ℕ)) (fo fn go gn : Bool) (result : Result (Unit {0}) RunFault) where
   pub free_is_told : (blocks : Blocks) → IsFreeRegular spec blocks items → IsFreeWritten spec items wo wn eo en fo fn go gn result → IsTrue (has_ended result) → IsFreeTold spec blocks wo wn eo en result
   free_is_told blocks regular w ended =
-      let so = told_so spec blocks items wo wn eo en fn gn w.told regular w.ending w.text w.notes (subst (λ (r : Result (Unit {0}) RunFault). IsTrue (has_ended r)) w.is ended) in
+      let so = told_so spec blocks items wo wn eo en w.told regular w.ending w.text w.notes (subst (λ (r : Result (Unit {0}) RunFault). IsTrue (has_ended r)) w.is ended) in
       subst (λ (r : Result (Unit {0}) RunFault). IsFreeTold spec blocks wo wn eo en r) (sym w.is) so
 
   pub free_kind : IsFreeWritten spec items wo wn eo en fo fn go gn result → IfErr result (λ e. is_of_one e ≡ true)

@@ -3,11 +3,12 @@ use Rattle.std.proofs.Common.{◌≡◌, ◌≢◌, Bool, true, false, ℕ, zero
 use Rattle.std.specs.Prelude.{IfSome, take}
 use Rattle.std.proofs.lemmas.List.{append-nil}
 use Rattle.std.specs.Io.KnownBytes.{Appends}
+use Rattle.iso_lexer.specs.Devices.{PutsFront}
 use Rattle.spec_parser.specs.Trees.{EntryTree, SpecTree}
 use Rattle.permutation_lists.specs.Lines.{line_text}
 use Rattle.permutations.specs.Said.{Said, Ending, ended, behind, whole, too_many}
 use Rattle.permutations.specs.Runs.{is_refusal, is_of_reading, is_of_listing, Answers, IsListed}
-use Rattle.permutations.specs.Begun.{TookFront, ListBegun, nothing, begun}
+use Rattle.permutations.specs.Begun.{ListBegun, begun}
 use Rattle.permutations.specs.declared.fault.RunFault.{RunFault}
 use Rattle.permutations.specs.declared.fault.RunFault.TheVariants.{TooManyPermutations, Memory}
 use Rattle.permutations.specs.declared.fault.RunFault.TheVariants as faults
@@ -87,25 +88,45 @@ file_listed bytes limit file is = lists file is
 
 -- ---- what went out
 
+pub nothing_put : (a : Option (List ℕ)) (text : List ℕ) → PutsFront a a text
+nothing_put a text = record { front = []; rest = text; begins = refl; went_out = appends_nothing a }
+
+-- a front of a text's first piece
+pub front_of_piece : (a b : Option (List ℕ)) (piece more : List ℕ) → PutsFront a b piece → PutsFront a b (piece ++ more)
+front_of_piece a b piece more p = record {
+  front = p.front;
+  rest = p.rest ++ more;
+  begins = ap (λ (l : List ℕ). l ++ more) p.begins ∙ append_assoc p.front p.rest more;
+  went_out = p.went_out;
+}
+
+-- a text, and a front of what comes behind it
+pub front_behind : (a b c : Option (List ℕ)) (line text : List ℕ) → Appends a b line → PutsFront b c text → PutsFront a c (line ++ text)
+front_behind a b c line text put p = record {
+  front = line ++ p.front;
+  rest = p.rest;
+  begins = ap (λ (l : List ℕ). line ++ l) p.begins ∙ sym (append_assoc line p.front p.rest);
+  went_out = appends_more a b c line p.front put p.went_out;
+}
+
 -- what went out so far is a front of the whole
-pub front_out : (failed : Bool) (old new : Option (List ℕ)) (all rest : Said) → SoFar old new all rest → TookFront failed old new all.text
-front_out true old new all rest so = tt
-front_out false old new all rest so = record { front = so.text; begins = record { rest = rest.text; is = ap (λ (s : Said). s.text) so.is }; went_out = so.out }
+pub front_out : (old new : Option (List ℕ)) (all rest : Said) → SoFar old new all rest → PutsFront old new all.text
+front_out old new all rest so = record { front = so.text; rest = rest.text; begins = ap (λ (s : Said). s.text) so.is; went_out = so.out }
 
--- a sink that has failed says nothing
-pub failed_out : (failed : Bool) (old new : Option (List ℕ)) (text : List ℕ) → failed ≡ true → TookFront failed old new text
-failed_out true old new text is = tt
-failed_out false old new text is = absurd cc
+-- and so it is with a front of one line more
+pub front_more : (spec : SpecTree) (left : ℕ) (old mid new : Option (List ℕ)) (all : Said) (more : List (List EntryTree)) (p : List EntryTree) (ps : List (List EntryTree)) (line : List ℕ)
+    → SoFar old mid all (listed spec left more) → more ≡ p ∷ ps → 0 < left → line ≡ line_text spec p → PutsFront mid new line → PutsFront old new all.text
+front_more spec left old mid new all more p ps line so is lt same put =
+    let rest = (listed spec (left - 1) ps).text in
+    let text : all.text ≡ so.text ++ (line ++ rest) =
+    ap (λ (s : Said). s.text) so.is
+    ∙ ap (λ (ms : List (List EntryTree)). so.text ++ (listed spec left ms).text) is
+    ∙ ap (λ (s : Said). so.text ++ s.text) (listed_one spec left p ps lt)
+    ∙ ap (λ (t : List ℕ). so.text ++ (t ++ rest)) (sym same) in
+    subst (PutsFront old new) (sym text) (front_behind old mid new so.text (line ++ rest) so.out (front_of_piece mid new line rest put))
 
-pub took_nothing : (failed : Bool) (old : Option (List ℕ)) (text : List ℕ) → TookFront failed old old text
-took_nothing true old text = tt
-took_nothing false old text = record { front = []; begins = record { rest = text; is = refl }; went_out = appends_nothing old }
-
-pub nothing_out : (bytes : List ℕ) (limit : ℕ) (failed : Bool) (old : Option (List ℕ)) → ListBegun bytes limit failed old old
-nothing_out bytes limit failed old = nothing (took_nothing failed old [])
-
-pub list_begun : (bytes : List ℕ) (limit : ℕ) (file : File) (failed : Bool) (old new : Option (List ℕ)) → FileIs bytes (Ok file) → TookFront failed old new (listed file.spec limit (permutations_of file.spec)).text → ListBegun bytes limit failed old new
-list_begun bytes limit file failed old new is took = begun (listed file.spec limit (permutations_of file.spec)) (lists file is) took
+pub list_begun : (bytes : List ℕ) (limit : ℕ) (file : File) (old new : Option (List ℕ)) → FileIs bytes (Ok file) → PutsFront old new (listed file.spec limit (permutations_of file.spec)).text → ListBegun bytes limit old new
+list_begun bytes limit file old new is put = begun (listed file.spec limit (permutations_of file.spec)) (lists file is) put
 
 pub reading_lists : (e : RunFault) → is_of_reading e ≡ true → is_of_listing e ≡ true
 reading_lists (faults.Lex f) is = refl

@@ -30,30 +30,30 @@ answers_err ending (writes.SetupFailed why) is early =
     subst (λ (x : report.Ending). AnswersOne x (Err (faults.SetupFailed why))) is here
 answers_err ending writes.SetupWaits is early = let here : AnswersOne report.setup_waits (Err faults.SetupWaits) = refl in subst (λ (x : report.Ending). AnswersOne x (Err faults.SetupWaits)) is here
 
-of_ok : (spec : SpecTree) (blocks : Blocks) (entries : List EntryTree) (items : List HistItem) (wo wn eo en : Option (List ℕ)) (fn gn : Bool) (e : Ended) (told : Result Ended ReportFault) → IsRegular spec blocks entries items
-    → ◌≡◌ {A = Result Ended RunFault} (Ok e) (told_as told) → EndsAs (permutation_says spec entries items).ending told → Puts fn wo wn (permutation_says spec entries items).text told → Puts gn eo en (permutation_says spec entries items).notes told
+of_ok : (spec : SpecTree) (blocks : Blocks) (entries : List EntryTree) (items : List HistItem) (wo wn eo en : Option (List ℕ)) (e : Ended) (told : Result Ended ReportFault) → IsRegular spec blocks entries items
+    → ◌≡◌ {A = Result Ended RunFault} (Ok e) (told_as told) → EndsAs (permutation_says spec entries items).ending told → Puts wo wn (permutation_says spec entries items).text told → Puts eo en (permutation_says spec entries items).notes told
     → IsOneTold spec blocks entries wo wn eo en (Ok tt)
-of_ok spec blocks entries items wo wn eo en fn gn e (Ok x) regular is ending text notes = record { items = items; regular = regular; answer = answers_ok (permutation_says spec entries items).ending x ending; text = text; notes = notes }
-of_ok spec blocks entries items wo wn eo en fn gn e (Err f) regular is ending text notes = absurd cc
+of_ok spec blocks entries items wo wn eo en e (Ok x) regular is ending text notes = record { items = items; regular = regular; answer = answers_ok (permutation_says spec entries items).ending x ending; text = text; notes = notes }
+of_ok spec blocks entries items wo wn eo en e (Err f) regular is ending text notes = absurd cc
 
 fault_is : (a b : RunFault) → ◌≡◌ {A = Result Ended RunFault} (Err a) (Err b) → a ≡ b
 fault_is a b e = cc
 
-of_fault : (spec : SpecTree) (blocks : Blocks) (entries : List EntryTree) (items : List HistItem) (wo wn eo en : Option (List ℕ)) (fn gn : Bool) (f : ReportFault) → IsRegular spec blocks entries items
-    → EndsAs (permutation_says spec entries items).ending (Err f) → Puts {A = Ended} fn wo wn (permutation_says spec entries items).text (Err f) → Puts {A = Ended} gn eo en (permutation_says spec entries items).notes (Err f)
+of_fault : (spec : SpecTree) (blocks : Blocks) (entries : List EntryTree) (items : List HistItem) (wo wn eo en : Option (List ℕ)) (f : ReportFault) → IsRegular spec blocks entries items
+    → EndsAs (permutation_says spec entries items).ending (Err f) → Puts {A = Ended} wo wn (permutation_says spec entries items).text (Err f) → Puts {A = Ended} eo en (permutation_says spec entries items).notes (Err f)
     → IsTrue (is_early_end (report_fault f)) → IsOneTold spec blocks entries wo wn eo en (Err (report_fault f))
-of_fault spec blocks entries items wo wn eo en fn gn writes.Write regular ending text notes early = absurd cc
-of_fault spec blocks entries items wo wn eo en fn gn writes.Memory regular ending text notes early = absurd cc
-of_fault spec blocks entries items wo wn eo en fn gn (writes.SetupFailed why) regular ending text notes early = record { items = items; regular = regular; answer = answers_err (permutation_says spec entries items).ending (writes.SetupFailed why) ending early; text = text; notes = notes }
-of_fault spec blocks entries items wo wn eo en fn gn writes.SetupWaits regular ending text notes early = record { items = items; regular = regular; answer = answers_err (permutation_says spec entries items).ending writes.SetupWaits ending early; text = text; notes = notes }
+of_fault spec blocks entries items wo wn eo en writes.Write regular ending text notes early = absurd cc
+of_fault spec blocks entries items wo wn eo en writes.Memory regular ending text notes early = absurd cc
+of_fault spec blocks entries items wo wn eo en (writes.SetupFailed why) regular ending text notes early = record { items = items; regular = regular; answer = answers_err (permutation_says spec entries items).ending (writes.SetupFailed why) ending early; text = text; notes = notes }
+of_fault spec blocks entries items wo wn eo en writes.SetupWaits regular ending text notes early = record { items = items; regular = regular; answer = answers_err (permutation_says spec entries items).ending writes.SetupWaits ending early; text = text; notes = notes }
 
-of_err : (spec : SpecTree) (blocks : Blocks) (entries : List EntryTree) (items : List HistItem) (wo wn eo en : Option (List ℕ)) (fn gn : Bool) (e : RunFault) (told : Result Ended ReportFault) → IsRegular spec blocks entries items
-    → ◌≡◌ {A = Result Ended RunFault} (Err e) (told_as told) → EndsAs (permutation_says spec entries items).ending told → Puts fn wo wn (permutation_says spec entries items).text told → Puts gn eo en (permutation_says spec entries items).notes told
+of_err : (spec : SpecTree) (blocks : Blocks) (entries : List EntryTree) (items : List HistItem) (wo wn eo en : Option (List ℕ)) (e : RunFault) (told : Result Ended ReportFault) → IsRegular spec blocks entries items
+    → ◌≡◌ {A = Result Ended RunFault} (Err e) (told_as told) → EndsAs (permutation_says spec entries items).ending told → Puts wo wn (permutation_says spec entries items).text told → Puts eo en (permutation_says spec entries items).notes told
     → IsTrue (is_early_end e) → IsOneTold spec blocks entries wo wn eo en (Err e)
-of_err spec blocks entries items wo wn eo en fn gn e (Ok x) regular is ending text notes early = absurd cc
-of_err spec blocks entries items wo wn eo en fn gn e (Err f) regular is ending text notes early =
+of_err spec blocks entries items wo wn eo en e (Ok x) regular is ending text notes early = absurd cc
+of_err spec blocks entries items wo wn eo en e (Err f) regular is ending text notes early =
     let same = fault_is e (report_fault f) is in
-    subst (λ (d : RunFault). IsOneTold spec blocks entries wo wn eo en (Err d)) (sym same) (of_fault spec blocks entries items wo wn eo en fn gn f regular ending text notes (subst (λ (d : RunFault). IsTrue (is_early_end d)) same early))
+    subst (λ (d : RunFault). IsOneTold spec blocks entries wo wn eo en (Err d)) (sym same) (of_fault spec blocks entries items wo wn eo en f regular ending text notes (subst (λ (d : RunFault). IsTrue (is_early_end d)) same early))
 
 -- which faults there are
 one_kind : (f : ReportFault) → is_of_one (report_fault f) ≡ true
@@ -90,10 +90,10 @@ err_write fo fn go gn e (Err f) is fails write = write_fails fo fn go gn f (sym 
 
 module _ (spec : SpecTree) (blocks : Blocks) (entries : List EntryTree) (items : List HistItem) (wo wn eo en : Option (List ℕ)) (fo fn go gn : Bool) where
   pub told_ok : (e : Ended) → IsRegular spec blocks entries items → IsWritten spec entries items wo wn eo en fo fn go gn (Ok e) → IsOneTold spec blocks entries wo wn eo en (Ok tt)
-  told_ok e regular w = of_ok spec blocks entries items wo wn eo en fn gn e w.told regular w.is w.ending w.text w.notes
+  told_ok e regular w = of_ok spec blocks entries items wo wn eo en e w.told regular w.is w.ending w.text w.notes
 
   pub told_err : (e : RunFault) → IsRegular spec blocks entries items → IsWritten spec entries items wo wn eo en fo fn go gn (Err e) → IsTrue (is_early_end e) → IsOneTold spec blocks entries wo wn eo en (Err e)
-  told_err e regular w early = of_err spec blocks entries items wo wn eo en fn gn e w.told regular w.is w.ending w.text w.notes early
+  told_err e regular w early = of_err spec blocks entries items wo wn eo en e w.told regular w.is w.ending w.text w.notes early
 
   pub told_kind : (e : RunFault) → IsWritten spec entries items wo wn eo en fo fn go gn (Err e) → is_of_one e ≡ true
   told_kind e w = err_kind e w.told w.is

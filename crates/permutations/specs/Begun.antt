@@ -1,12 +1,11 @@
 -- What has gone out wherever a call ends, also where memory is refused or a device fails.
-use Rattle.std.specs.Prelude.{ℕ, ◌≤◌, Bool, List, [], Option, Ok}
-use Rattle.std.specs.Bool.{OnFalse}
+use Rattle.std.specs.Prelude.{◌≡◌, ℕ, ◌≤◌, List, Option, Ok}
+use Rattle.iso_lexer.specs.Devices.{PutsFront}
 use Rattle.session_machine.specs.declared.reply.HistItem.{HistItem}
 use Rattle.session_machine.specs.Machine.{Blocks}
 use Rattle.spec_parser.specs.Trees.{EntryTree, SpecTree}
 use Rattle.permutation_plans.specs.Regular.{IsRegular}
 use Rattle.permutation_plans.specs.FreeRegular.{IsFreeRegular}
-use Rattle.report_text.specs.Fronts.{PutsFront}
 use Rattle.report_text.specs.Permutation.{permutation_says}
 use Rattle.report_text.specs.FreeText.{free_says}
 use Rattle.permutations.specs.Said.{Said}
@@ -15,19 +14,15 @@ use Rattle.permutations.specs.Lists.{FileLists}
 use Rattle.permutations.specs.Prints.{Prints, FileSays}
 use Rattle.permutations.specs.FreeRuns.{free_text}
 
--- unless the sink has failed it took a front of the text
-abbrev pub TookFront : Bool → Option (List ℕ) → Option (List ℕ) → List ℕ → Type 0
-TookFront failed old new text = OnFalse failed (PutsFront old new text)
+-- nothing went out, or a front of what the file lists
+pub data ListBegun (bytes : List ℕ) (limit : ℕ) (old new : Option (List ℕ)) : Type 0 where
+  nothing : new ≡ old → ListBegun bytes limit old new
+  begun : (said : Said) → FileLists bytes limit (Ok said) → PutsFront old new said.text → ListBegun bytes limit old new
 
--- unless the sink has failed it took nothing, or a front of what the file lists
-pub data ListBegun (bytes : List ℕ) (limit : ℕ) (failed : Bool) (old new : Option (List ℕ)) : Type 0 where
-  nothing : TookFront failed old new [] → ListBegun bytes limit failed old new
-  begun : (said : Said) → FileLists bytes limit (Ok said) → TookFront failed old new said.text → ListBegun bytes limit failed old new
-
--- of a text and its notes, that may be said, a front of each went out, or nothing; of a sink that has failed nothing is known
-pub data Begun (MaySay : List ℕ → List ℕ → Type 0) (failed noted : Bool) (out_old out_new notes_old notes_new : Option (List ℕ)) : Type 0 where
-  none : TookFront failed out_old out_new [] → TookFront noted notes_old notes_new [] → Begun MaySay failed noted out_old out_new notes_old notes_new
-  fronts : (text notes : List ℕ) → MaySay text notes → TookFront failed out_old out_new text → TookFront noted notes_old notes_new notes → Begun MaySay failed noted out_old out_new notes_old notes_new
+-- nothing went out, or a front of a text that may be said, and of its notes
+pub data Begun (MaySay : List ℕ → List ℕ → Type 0) (out_old out_new notes_old notes_new : Option (List ℕ)) : Type 0 where
+  none : out_new ≡ out_old → notes_new ≡ notes_old → Begun MaySay out_old out_new notes_old notes_new
+  fronts : (text notes : List ℕ) → MaySay text notes → PutsFront out_old out_new text → PutsFront notes_old notes_new notes → Begun MaySay out_old out_new notes_old notes_new
 
 -- ---- what may be said
 

@@ -19,4 +19,4 @@ order_after plan items = due_after plan.launches plan.entries items
 
 -- what is kept is of a front of these items
 abbrev pub IsFollowing : Planning → List HistItem → Type 0
-IsFollowing plan items = Follows (plan_of plan.launches plan.entries items).setting plan.progress
+IsFollowing plan items = Follows (plan_of plan.launches plan.entries items).run plan.progress

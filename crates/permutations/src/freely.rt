@@ -56,7 +56,7 @@ fn run_freely<W: Sink, N: Sink, G: Gate, R: Threads + Wait + Sync>(
     requires { Stands (spec_view spec.now) }
     ensures told { IsTrue (has_ended result) → IsFreeTold (spec_view spec.now) (blocks_of blocks.now)
         (W.put_so_far out.old) (W.put_so_far out.new) (N.put_so_far notes.old) (N.put_so_far notes.new) result }
-    ensures begun { Begun (FreeSays (spec_view spec.now) (blocks_of blocks.now)) (W.failed out.new) (N.failed notes.new)
+    ensures begun { Begun (FreeSays (spec_view spec.now) (blocks_of blocks.now))
         (W.put_so_far out.old) (W.put_so_far out.new) (N.put_so_far notes.old) (N.put_so_far notes.new) }
     ensures broken { IsTrue (has_broken result) → (out.new ≡ out.old) × (notes.new ≡ notes.old) }
     ensures write { IsErrOf result RunFault.Write → (W.failed out.new || N.failed notes.new) ≡ true }
@@ -80,7 +80,7 @@ fn run_file_freely<W: Sink, N: Sink, G: Gate, R: Threads + Wait + Sync>(
         (W.put_so_far out.old) (W.put_so_far out.new) (N.put_so_far notes.old) (N.put_so_far notes.new) result }
     ensures refused { IfErr result (λ e. is_refusal e ≡ true → FileIs bytes.now (Err e)) }
     ensures untouched { IfErr result (λ e. is_refusal e ≡ true → (out.new ≡ out.old) × (notes.new ≡ notes.old)) }
-    ensures begun { Begun (FileSaysFreely bytes.now) (W.failed out.new) (N.failed notes.new)
+    ensures begun { Begun (FileSaysFreely bytes.now)
         (W.put_so_far out.old) (W.put_so_far out.new) (N.put_so_far notes.old) (N.put_so_far notes.new) }
     ensures broken { IsTrue (has_broken result) → (out.new ≡ out.old) × (notes.new ≡ notes.old) }
     ensures write { IsErrOf result RunFault.Write → (W.failed out.new || N.failed notes.new) ≡ true }
@@ -106,7 +106,7 @@ pub fn free_spec<S: Source, W: Sink, N: Sink, G: Gate, R: Threads + Wait + Sync>
         (W.put_so_far out.old) (W.put_so_far out.new) (N.put_so_far notes.old) (N.put_so_far notes.new) result) }
     ensures refused { IfSome (S.left input.old) (λ bytes. IfErr result (λ e. is_refusal e ≡ true → FileIs (take 1048577 bytes) (Err e))) }
     ensures untouched { IfErr result (λ e. is_refusal e ≡ true → (out.new ≡ out.old) × (notes.new ≡ notes.old)) }
-    ensures begun { IfSome (S.left input.old) (λ bytes. Begun (FileSaysFreely (take 1048577 bytes)) (W.failed out.new) (N.failed notes.new)
+    ensures begun { IfSome (S.left input.old) (λ bytes. Begun (FileSaysFreely (take 1048577 bytes))
         (W.put_so_far out.old) (W.put_so_far out.new) (N.put_so_far notes.old) (N.put_so_far notes.new)) }
     ensures broken { IsTrue (has_broken result) → (out.new ≡ out.old) × (notes.new ≡ notes.old) }
     ensures read { IsErrOf result RunFault.Read ↔ (S.failed input.new ≡ true) }

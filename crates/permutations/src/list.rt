@@ -2,13 +2,13 @@
 
 ghost use Rattle.std.specs.Prelude.{◌≡◌, ◌≢◌, ◌↔◌, List, ℕ, Ok, Err, take, true, false, IsTrue, IfErr, IfSome, IsErrOf};
 ghost use Rattle.std.specs.Io.KnownBytes.{Appends};
-ghost use Rattle.iso_lexer.specs.Devices.{IsFront};
+ghost use Rattle.iso_lexer.specs.Devices.{IsFront, PutsFront};
 ghost use Rattle.spec_parser.specs.Trees.{spec_view};
 ghost use Rattle.spec_parser.specs.Stands.{Stands};
 ghost use Rattle.permutation_lists.specs.Permutations.{permutations_of};
 ghost use Rattle.permutations.specs.Lists.{listed, FileLists};
 ghost use Rattle.permutations.specs.Runs.{is_refusal, is_of_listing, has_ended, has_read, IsListed};
-ghost use Rattle.permutations.specs.Begun.{TookFront, ListBegun};
+ghost use Rattle.permutations.specs.Begun.{ListBegun};
 ghost use Rattle.permutations.specs.Said.{Said};
 
 use crate::fault::RunFault;
@@ -27,7 +27,7 @@ fn list_permutations<W: Sink>(
 ) -> Result<(), RunFault>
     requires { Stands (spec_view spec.now) }
     ensures lists { IsTrue (has_ended result) → IsListed (W.put_so_far out.old) (W.put_so_far out.new) result (listed (spec_view spec.now) limit (permutations_of (spec_view spec.now))) }
-    ensures begun { TookFront (W.failed out.new) (W.put_so_far out.old) (W.put_so_far out.new) (listed (spec_view spec.now) limit (permutations_of (spec_view spec.now))).text }
+    ensures begun { PutsFront (W.put_so_far out.old) (W.put_so_far out.new) (listed (spec_view spec.now) limit (permutations_of (spec_view spec.now))).text }
     ensures write { IsErrOf result RunFault.Write → W.failed out.new ≡ true }
     ensures kinds { IfErr result (λ e. is_of_listing e ≡ true) }
     ensures no_refusal { IfErr result (λ e. is_refusal e ≡ false) }
@@ -52,7 +52,7 @@ fn list_file<W: Sink>(alloc: Global, bytes: &[u8], out: &mut W, limit: u64) -> R
         ((said : Said) × FileLists bytes.now limit (Ok said) × IsListed (W.put_so_far out.old) (W.put_so_far out.new) result said) }
     ensures refused { IfErr result (λ e. is_refusal e ≡ true → FileLists bytes.now limit (Err e)) }
     ensures untouched { IfErr result (λ e. is_refusal e ≡ true → out.new ≡ out.old) }
-    ensures begun { ListBegun bytes.now limit (W.failed out.new) (W.put_so_far out.old) (W.put_so_far out.new) }
+    ensures begun { ListBegun bytes.now limit (W.put_so_far out.old) (W.put_so_far out.new) }
     ensures write { IsErrOf result RunFault.Write → W.failed out.new ≡ true }
     ensures kinds { IfErr result (λ e. is_of_listing e ≡ true) }
     ensures read { result ≢ Err RunFault.Read }
@@ -73,7 +73,7 @@ pub fn list_spec<S: Source, W: Sink>(
         ((said : Said) × FileLists (take 1048577 bytes) limit (Ok said) × IsListed (W.put_so_far out.old) (W.put_so_far out.new) result said)) }
     ensures refused { IfSome (S.left input.old) (λ bytes. IfErr result (λ e. is_refusal e ≡ true → FileLists (take 1048577 bytes) limit (Err e))) }
     ensures untouched { IfErr result (λ e. is_refusal e ≡ true → out.new ≡ out.old) }
-    ensures begun { IfSome (S.left input.old) (λ bytes. ListBegun (take 1048577 bytes) limit (W.failed out.new) (W.put_so_far out.old) (W.put_so_far out.new)) }
+    ensures begun { IfSome (S.left input.old) (λ bytes. ListBegun (take 1048577 bytes) limit (W.put_so_far out.old) (W.put_so_far out.new)) }
     ensures read { IsErrOf result RunFault.Read ↔ (S.failed input.new ≡ true) }
     ensures unread { IsErrOf result RunFault.Read → out.new ≡ out.old }
     ensures kinds { IfErr result (λ e. is_of_listing e ≡ true) }

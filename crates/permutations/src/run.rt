@@ -40,7 +40,7 @@ fn run_permutation<W: Sink, N: Sink, G: Gate, R: Threads + Wait + Sync>(
     requires { Stands (spec_view spec.now) }
     ensures told { IsTrue (has_ended result) → IsOneTold (spec_view spec.now) (blocks_of blocks.now) (map entry_view entries.now)
         (W.put_so_far out.old) (W.put_so_far out.new) (N.put_so_far notes.old) (N.put_so_far notes.new) result }
-    ensures begun { Begun (OneSays (spec_view spec.now) (blocks_of blocks.now) (map entry_view entries.now)) (W.failed out.new) (N.failed notes.new)
+    ensures begun { Begun (OneSays (spec_view spec.now) (blocks_of blocks.now) (map entry_view entries.now))
         (W.put_so_far out.old) (W.put_so_far out.new) (N.put_so_far notes.old) (N.put_so_far notes.new) }
     ensures broken { IsTrue (has_broken result) → (out.new ≡ out.old) × (notes.new ≡ notes.old) }
     ensures unbroken { result ≢ Err RunFault.ScheduleBroken }
@@ -68,7 +68,7 @@ fn run_permutations<W: Sink, N: Sink, G: Gate, R: Threads + Wait + Sync>(
     ensures told { IsTrue (has_ended result) →
         ((said : Said) × Prints (spec_view spec.now) (blocks_of blocks.now) limit (permutations_of (spec_view spec.now)) said
         × IsTold (W.put_so_far out.old) (W.put_so_far out.new) (N.put_so_far notes.old) (N.put_so_far notes.new) result said) }
-    ensures begun { Begun (RunSays (spec_view spec.now) (blocks_of blocks.now) limit (permutations_of (spec_view spec.now))) (W.failed out.new) (N.failed notes.new)
+    ensures begun { Begun (RunSays (spec_view spec.now) (blocks_of blocks.now) limit (permutations_of (spec_view spec.now)))
         (W.put_so_far out.old) (W.put_so_far out.new) (N.put_so_far notes.old) (N.put_so_far notes.new) }
     ensures broken { IsTrue (has_broken result) →
         RunBroken (spec_view spec.now) (blocks_of blocks.now) limit (permutations_of (spec_view spec.now))
@@ -112,7 +112,7 @@ fn run_file<W: Sink, N: Sink, G: Gate, R: Threads + Wait + Sync>(
     ensures told { IsTrue (has_ended result) →
         ((said : Said) × FileSays bytes.now limit (Ok said)
         × IsTold (W.put_so_far out.old) (W.put_so_far out.new) (N.put_so_far notes.old) (N.put_so_far notes.new) result said) }
-    ensures begun { Begun (FileMaySay bytes.now limit) (W.failed out.new) (N.failed notes.new)
+    ensures begun { Begun (FileMaySay bytes.now limit)
         (W.put_so_far out.old) (W.put_so_far out.new) (N.put_so_far notes.old) (N.put_so_far notes.new) }
     ensures broken { IsTrue (has_broken result) → FileBroken bytes.now limit
         (W.put_so_far out.old) (W.put_so_far out.new) (N.put_so_far notes.old) (N.put_so_far notes.new) }
@@ -146,7 +146,7 @@ pub fn run_spec<S: Source, W: Sink, N: Sink, G: Gate, R: Threads + Wait + Sync>(
     ensures told { IfSome (S.left input.old) (λ bytes. IsTrue (has_ended result) →
         ((said : Said) × FileSays (take 1048577 bytes) limit (Ok said)
         × IsTold (W.put_so_far out.old) (W.put_so_far out.new) (N.put_so_far notes.old) (N.put_so_far notes.new) result said)) }
-    ensures begun { IfSome (S.left input.old) (λ bytes. Begun (FileMaySay (take 1048577 bytes) limit) (W.failed out.new) (N.failed notes.new)
+    ensures begun { IfSome (S.left input.old) (λ bytes. Begun (FileMaySay (take 1048577 bytes) limit)
         (W.put_so_far out.old) (W.put_so_far out.new) (N.put_so_far notes.old) (N.put_so_far notes.new)) }
     ensures broken { IfSome (S.left input.old) (λ bytes. IsTrue (has_broken result) → FileBroken (take 1048577 bytes) limit
         (W.put_so_far out.old) (W.put_so_far out.new) (N.put_so_far notes.old) (N.put_so_far notes.new)) }

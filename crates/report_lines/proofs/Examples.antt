@@ -14,7 +14,7 @@ use Rattle.report_lines.specs.Due.{due, Planned, orders, segment, is_over, went_
 use Rattle.report_lines.specs.declared.history.Task.{Task}
 use Rattle.spec_parser.specs.Trees.{EntryTree}
 use Rattle.session_machine.specs.declared.fault.StmtFault.TheVariants.{TooManyValues}
-use Rattle.report_lines.specs.History.{Setting}
+use Rattle.report_lines.specs.History.{PermutationRun}
 use Rattle.report_lines.specs.Report.{report}
 
 abbrev begins : ℕ → HistItem
@@ -27,7 +27,7 @@ abbrev entry : ℕ → ℕ → List Marker → EntryTree
 entry session step markers = record { session = session; step = step; markers = markers }
 
 -- permutation a(*) b
-abbrev ten : Setting
+abbrev ten : PermutationRun
 ten = record {
   entries = entry 1 0 (Star ∷ []) ∷ entry 2 0 [] ∷ [];
   items = begins 1 ∷ does 1 Done true ∷ begins 2 ∷ does 2 Done true ∷ [];
@@ -44,7 +44,7 @@ ten_due : (report ten 1).stand ≡ Due 1
 ten_due = refl
 
 -- permutation a y x(y) ac, after a setup
-abbrev eleven : Setting
+abbrev eleven : PermutationRun
 eleven = record {
   entries = entry 1 0 [] ∷ entry 2 0 [] ∷ entry 3 0 (Named 2 0 ∷ []) ∷ entry 1 1 [] ∷ [];
   items = begins 0 ∷ does 0 Done true
@@ -62,7 +62,7 @@ eleven_ends : (report eleven 4).stand ≡ Whole
 eleven_ends = refl
 
 -- permutation a b bc ac
-abbrev twelve : Setting
+abbrev twelve : PermutationRun
 twelve = record {
   entries = entry 1 0 [] ∷ entry 2 0 [] ∷ entry 2 1 [] ∷ entry 1 1 [] ∷ [];
   items = begins 1 ∷ does 1 Done true ∷ begins 2 ∷ does 2 Waits false ∷ [];
@@ -76,7 +76,7 @@ twelve_ends : (report twelve 2).stand ≡ Invalid
 twelve_ends = refl
 
 -- permutation a x(*, y) y ac: x is passed over, y reported, and a second pass reports x
-abbrev polls : Setting
+abbrev polls : PermutationRun
 polls = record {
   entries = entry 1 0 [] ∷ entry 3 0 (Star ∷ Named 2 0 ∷ []) ∷ entry 2 0 [] ∷ entry 1 1 [] ∷ [];
   items = begins 1 ∷ does 1 Done true
@@ -96,7 +96,7 @@ task session block = record { session = session; block = block }
 abbrev plan : List HistItem → Planned
 plan items = record {
   setups = task 0 0 ∷ [];
-  setting = record { entries = entry 1 0 [] ∷ entry 2 0 [] ∷ []; items = items; setups = 1 };
+  run = record { entries = entry 1 0 [] ∷ entry 2 0 [] ∷ []; items = items; setups = 1 };
   tasks = task 1 3 ∷ task 2 4 ∷ [];
   teardowns = task 2 9 ∷ [];
   sessions = 2;
@@ -164,7 +164,7 @@ late_failure_due = refl
 abbrev two_setups : List HistItem → Planned
 two_setups items = record {
   setups = task 0 0 ∷ task 1 1 ∷ [];
-  setting = record { entries = entry 1 0 [] ∷ []; items = items; setups = 2 };
+  run = record { entries = entry 1 0 [] ∷ []; items = items; setups = 2 };
   tasks = task 1 3 ∷ [];
   teardowns = [];
   sessions = 1;
@@ -181,7 +181,7 @@ second_fails_due : due (two_setups (begins 0 ∷ does 0 Done true ∷ begins 1 �
 second_fails_due = refl
 
 -- a step that still waits at the end
-abbrev waits_on : Setting
+abbrev waits_on : PermutationRun
 waits_on = record { entries = entry 1 0 [] ∷ []; items = begins 1 ∷ does 1 Waits false ∷ []; setups = 0 }
 
 waits_on_lines : (report waits_on 1).lines ≡ Waiting 0 ∷ []

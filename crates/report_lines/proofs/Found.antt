@@ -6,8 +6,9 @@ use Rattle.std.proofs.lemmas.List.{get_or_default}
 use Rattle.session_machine.specs.declared.reply.HistItem.{HistItem}
 use Rattle.report_lines.specs.Starts.{start, is_order, ends_in}
 use Rattle.report_lines.specs.Due.{orders}
-use Rattle.report_lines.specs.History.{Setting, session_at, seen_before, has_ended}
-use Rattle.report_lines.specs.Places.{starts_from, last_end, IsFound, IsTimed}
+use Rattle.report_lines.specs.History.{PermutationRun, session_at, seen_before, has_ended}
+use Rattle.report_lines.specs.Places.{starts_from, last_end, IsTimed}
+use Rattle.report_lines.specs.Inner.Places.{IsFound}
 
 start_case : (b : Bool) (s t n : ℕ) → s ≤ n → t ≤ n → cond b s (t + 1) ≤ suc n
 start_case true s t n h k = omega arith
@@ -123,7 +124,7 @@ all_behind : (test : HistItem → Bool) (items : List HistItem) (from : ℕ) →
 all_behind test items from = let long = length-drop from items in ap (list_any test) (take_all (length items - from) (drop from items) (omega arith))
 
 -- the kept place tells whether the block has ended
-pub end_found : (c : Setting) (last : List ℕ) (i end : ℕ) → IsTimed c last → true ≡ nat_lt (session_at c i) (length last) → end ≡ get_or last (session_at c i) end → nat_lt (seen_before c i) end ≡ has_ended c (length c.items) i
+pub end_found : (c : PermutationRun) (last : List ℕ) (i end : ℕ) → IsTimed c last → true ≡ nat_lt (session_at c i) (length last) → end ≡ get_or last (session_at c i) end → nat_lt (seen_before c i) end ≡ has_ended c (length c.items) i
 end_found c last i end timed within at =
     let less : session_at c i < length last = grind arith in
     let is : end ≡ last_end (session_at c i) 0 0 c.items = at ∙ get_or_default last (session_at c i) end 0 less ∙ timed.ends_at (session_at c i) less in
@@ -131,5 +132,5 @@ end_found c last i end timed within at =
     ap (nat_lt (seen_before c i)) is ∙ ap (λ k. nat_lt k (last_end (session_at c i) 0 0 c.items)) (sym from) ∙ sym (last_any (session_at c i) 0 0 (seen_before c i) c.items (omega arith)) ∙ sym (all_behind (ends_in (session_at c i)) c.items (seen_before c i))
 
 -- so do the items from the entry's Launch on
-pub end_looked_up : (c : Setting) (i : ℕ) → list_any (ends_in (session_at c i)) (slice_range c.items (seen_before c i) (length c.items)) ≡ has_ended c (length c.items) i
+pub end_looked_up : (c : PermutationRun) (i : ℕ) → list_any (ends_in (session_at c i)) (slice_range c.items (seen_before c i) (length c.items)) ≡ has_ended c (length c.items) i
 end_looked_up c i = refl

@@ -11,7 +11,7 @@ use Rattle.report_lines.specs.declared.history.Moment.{Moment}
 use Rattle.report_lines.specs.declared.history.Stand.TheVariants.{Whole, Invalid, Due}
 use Rattle.report_lines.specs.Starts.{start, is_order, ends_in}
 use Rattle.report_lines.specs.Due.{Planned, orders, segment, fails, is_over, went_well, due_setup, torn_down, or_else, due_last, due_entry, due_at, due}
-use Rattle.report_lines.specs.History.{Setting, session_at, seen_before, has_ended, is_named, is_starred}
+use Rattle.report_lines.specs.History.{PermutationRun, session_at, seen_before, has_ended, is_named, is_starred}
 use Rattle.report_lines.specs.Report.{Report, is_reported, active, instances, before, after, may_report, first_try, retry, pass, goes_on, polled, poll, is_of, is_busy, own_retry, made_way, launched, is_empty, report_from, report}
 use Rattle.report_lines.specs.Fronts.{longer, longer_plan}
 use Rattle.report_lines.specs.declared.history.Task.{Task}
@@ -72,23 +72,23 @@ range_stays front rest from to low high =
     ap (take (to - from)) (drop-append-le from front rest low) ∙ take-append-le (to - from) (drop from front) rest (omega arith)
 
 -- the moments of these entries, and what has ended at them, are the same in the longer history
-record Stays (c : Setting) (more : List HistItem) (there : ℕ) : Type 0 where
+record Stays (c : PermutationRun) (more : List HistItem) (there : ℕ) : Type 0 where
   seen : (e : ℕ) → e ≤ there → seen_before (longer c more) e ≡ seen_before c e
   ended : (e i : ℕ) → e ≤ there → i ≤ there → has_ended (longer c more) (seen_before c e) i ≡ has_ended c (seen_before c e) i
 
 -- at this moment the blocks of these entries have ended in both histories or in neither
-abbrev EndAlike : Setting → List HistItem → ℕ → Moment → Type 0
+abbrev EndAlike : PermutationRun → List HistItem → ℕ → Moment → Type 0
 EndAlike c more there m = (i : ℕ) → i ≤ there → has_ended (longer c more) m.seen i ≡ has_ended c m.seen i
 
 -- ---- the tries
 
-may_same : (c : Setting) (more : List HistItem) (there : ℕ) (m : Moment) (lines : List Line) (i : ℕ) → EndAlike c more there m → i ≤ there → may_report (longer c more) m lines i ≡ may_report c m lines i
+may_same : (c : PermutationRun) (more : List HistItem) (there : ℕ) (m : Moment) (lines : List Line) (i : ℕ) → EndAlike c more there m → i ≤ there → may_report (longer c more) m lines i ≡ may_report c m lines i
 may_same c more there m lines i same le = ap (λ b. b && not (list_any (is_named c i) (active lines m.launched))) (same i le)
 
-retry_same : (c : Setting) (more : List HistItem) (there : ℕ) (m : Moment) (lines : List Line) (i : ℕ) → EndAlike c more there m → i ≤ there → retry (longer c more) m lines i ≡ retry c m lines i
+retry_same : (c : PermutationRun) (more : List HistItem) (there : ℕ) (m : Moment) (lines : List Line) (i : ℕ) → EndAlike c more there m → i ≤ there → retry (longer c more) m lines i ≡ retry c m lines i
 retry_same c more there m lines i same le = ap (λ b. if not (is_reported lines i) && b then lines ++ Completed i m.seen ∷ [] else lines) (may_same c more there m lines i same le)
 
-own_same : (c : Setting) (more : List HistItem) (there : ℕ) (m : Moment) (session : ℕ) (lines : List Line) (i : ℕ) → EndAlike c more there m → i ≤ there → own_retry (longer c more) m session lines i ≡ own_retry c m session lines i
+own_same : (c : PermutationRun) (more : List HistItem) (there : ℕ) (m : Moment) (session : ℕ) (lines : List Line) (i : ℕ) → EndAlike c more there m → i ≤ there → own_retry (longer c more) m session lines i ≡ own_retry c m session lines i
 own_same c more there m session lines i same le = ap (λ w. if is_of c session i then w else lines) (retry_same c more there m lines i same le)
 
 fold_same : (f g : List Line → ℕ → List Line) (n : ℕ) (lines : List Line) → ((w : List Line) (i : ℕ) → i < n → f w i ≡ g w i) → fold f lines (instances n) ≡ fold g lines (instances n)
@@ -99,35 +99,35 @@ fold_same f g (suc n) lines same =
     ∙ ap (λ w. g w n) (fold_same f g n lines (λ w i less. same w i (omega (arith, less))))
     ∙ sym (fold-append g lines (instances n) (n ∷ []))
 
-pass_same : (c : Setting) (more : List HistItem) (there : ℕ) (m : Moment) (lines : List Line) → EndAlike c more there m → m.joined ≤ there → pass (longer c more) m lines ≡ pass c m lines
+pass_same : (c : PermutationRun) (more : List HistItem) (there : ℕ) (m : Moment) (lines : List Line) → EndAlike c more there m → m.joined ≤ there → pass (longer c more) m lines ≡ pass c m lines
 pass_same c more there m lines same le = fold_same (retry (longer c more) m) (retry c m) m.joined lines (λ w i less. retry_same c more there m w i same (omega (arith, less)))
 
-polled_same : (c : Setting) (more : List HistItem) (there : ℕ) (m : Moment) (count : ℕ) (lines : List Line) → EndAlike c more there m → m.joined ≤ there → polled (longer c more) m count lines ≡ polled c m count lines
+polled_same : (c : PermutationRun) (more : List HistItem) (there : ℕ) (m : Moment) (count : ℕ) (lines : List Line) → EndAlike c more there m → m.joined ≤ there → polled (longer c more) m count lines ≡ polled c m count lines
 polled_same c more there m zero lines same le = refl
 polled_same c more there m (suc count) lines same le =
     ap (λ (new : List Line). if goes_on c m lines new then polled (longer c more) m count new else new) (pass_same c more there m lines same le)
     ∙ ap (λ (w : List Line). if goes_on c m lines (pass c m lines) then w else pass c m lines) (polled_same c more there m count (pass c m lines) same le)
 
-poll_same : (c : Setting) (more : List HistItem) (there : ℕ) (m : Moment) (lines : List Line) → EndAlike c more there m → m.joined ≤ there → poll (longer c more) m lines ≡ poll c m lines
+poll_same : (c : PermutationRun) (more : List HistItem) (there : ℕ) (m : Moment) (lines : List Line) → EndAlike c more there m → m.joined ≤ there → poll (longer c more) m lines ≡ poll c m lines
 poll_same c more there m lines same le = polled_same c more there m (m.joined + 1) lines same le
 
-first_same : (c : Setting) (more : List HistItem) (there : ℕ) (m : Moment) (lines : List Line) (i : ℕ) → EndAlike c more there m → i ≤ there → first_try (longer c more) m lines i ≡ first_try c m lines i
+first_same : (c : PermutationRun) (more : List HistItem) (there : ℕ) (m : Moment) (lines : List Line) (i : ℕ) → EndAlike c more there m → i ≤ there → first_try (longer c more) m lines i ≡ first_try c m lines i
 first_same c more there m lines i same le = ap (λ b. lines ++ (if b && not (is_starred c i) then AtOnce i m.seen else Waiting i) ∷ []) (may_same c more there m lines i same le)
 
 -- ---- the entries
 
-before_same : (c : Setting) (more : List HistItem) (there e : ℕ) → Stays c more there → e ≤ there → before (longer c more) e ≡ before c e
+before_same : (c : PermutationRun) (more : List HistItem) (there e : ℕ) → Stays c more there → e ≤ there → before (longer c more) e ≡ before c e
 before_same c more there e stays le = ap (λ (s : ℕ). record { seen = s; launched = e; joined = e }) (stays.seen e le)
 
-after_same : (c : Setting) (more : List HistItem) (there e : ℕ) → Stays c more there → e + 1 ≤ there → after (longer c more) e ≡ after c e
+after_same : (c : PermutationRun) (more : List HistItem) (there e : ℕ) → Stays c more there → e + 1 ≤ there → after (longer c more) e ≡ after c e
 after_same c more there e stays le = ap (λ (s : ℕ). record { seen = s; launched = e + 1; joined = e }) (stays.seen (e + 1) le)
 
-before_poll : (c : Setting) (more : List HistItem) (there e : ℕ) (lines : List Line) → Stays c more there → e ≤ there → poll (longer c more) (before (longer c more) e) lines ≡ poll c (before c e) lines
+before_poll : (c : PermutationRun) (more : List HistItem) (there e : ℕ) (lines : List Line) → Stays c more there → e ≤ there → poll (longer c more) (before (longer c more) e) lines ≡ poll c (before c e) lines
 before_poll c more there e lines stays le =
     ap (λ (m : Moment). poll (longer c more) m lines) (before_same c more there e stays le)
     ∙ poll_same c more there (before c e) lines (λ i low. stays.ended e i le low) le
 
-way_same : (c : Setting) (more : List HistItem) (there e : ℕ) (lines : List Line) → Stays c more there → e ≤ there → made_way (longer c more) lines e ≡ made_way c lines e
+way_same : (c : PermutationRun) (more : List HistItem) (there e : ℕ) (lines : List Line) → Stays c more there → e ≤ there → made_way (longer c more) lines e ≡ made_way c lines e
 way_same c more there e lines stays le =
     let same : EndAlike c more there (before c e) = λ i low. stays.ended e i le low in
     ap (λ (m : Moment). if is_busy c lines e then poll (longer c more) m (fold (own_retry (longer c more) m (session_at c e)) lines (instances e)) else lines) (before_same c more there e stays le)
@@ -135,7 +135,7 @@ way_same c more there e lines stays le =
     (poll_same c more there (before c e) (fold (own_retry (longer c more) (before c e) (session_at c e)) lines (instances e)) same le
     ∙ ap (poll c (before c e)) (fold_same (own_retry (longer c more) (before c e) (session_at c e)) (own_retry c (before c e) (session_at c e)) e lines (λ w i less. own_same c more there (before c e) (session_at c e) w i same (omega (arith, less, le)))))
 
-launched_same : (c : Setting) (more : List HistItem) (there e : ℕ) (lines : List Line) → Stays c more there → e + 1 ≤ there → launched (longer c more) lines e ≡ launched c lines e
+launched_same : (c : PermutationRun) (more : List HistItem) (there e : ℕ) (lines : List Line) → Stays c more there → e + 1 ≤ there → launched (longer c more) lines e ≡ launched c lines e
 launched_same c more there e lines stays le =
     let same : EndAlike c more there (after c e) = λ i low. stays.ended (e + 1) i le low in
     ap (λ (m : Moment). poll (longer c more) m (first_try (longer c more) m lines e)) (after_same c more there e stays le)
@@ -146,7 +146,7 @@ if_same : {A : Type 0} (b : Bool) (x y z : A) → (true ≡ b → x ≡ y) → (
 if_same true x y z same = same refl
 if_same false x y z same = refl
 
-from_same : (c : Setting) (more : List HistItem) (there e rest : ℕ) (lines : List Line) → Stays c more there → e ≤ there → report_from (longer c more) e rest there lines ≡ report_from c e rest there lines
+from_same : (c : PermutationRun) (more : List HistItem) (there e rest : ℕ) (lines : List Line) → Stays c more there → e ≤ there → report_from (longer c more) e rest there lines ≡ report_from c e rest there lines
 from_same c more there e zero lines stays le =
     ap (λ (all : List Line). record { lines = all; stand = if is_empty (active all e) then Whole else Invalid }) (before_poll c more there e lines stays le)
 from_same c more there e (suc rest) lines stays le =
@@ -156,7 +156,7 @@ from_same c more there e (suc rest) lines stays le =
     (if_same (nat_lt e there) (report_from (longer c more) (e + 1) rest there (launched (longer c more) way e)) (report_from c (e + 1) rest there (launched c way e)) (record { lines = way; stand = Due e })
     (λ less. let next : e + 1 ≤ there = grind arith in ap (report_from (longer c more) (e + 1) rest there) (launched_same c more there e way stays next) ∙ from_same c more there (e + 1) rest (launched c way e) stays next))
 
-stays_so : (c : Setting) (item : HistItem) (more : List HistItem) (there : ℕ) → is_order item.event ≡ true → orders c.items ≡ c.setups + there → Stays c (item ∷ more) there
+stays_so : (c : PermutationRun) (item : HistItem) (more : List HistItem) (there : ℕ) → is_order item.event ≡ true → orders c.items ≡ c.setups + there → Stays c (item ∷ more) there
 stays_so c item more there ordered all =
     let seen : (e : ℕ) → e ≤ there → seen_before (longer c (item ∷ more)) e ≡ seen_before c e = λ e le. start_stays c.items item more (c.setups + e) ordered (omega (arith, le, all)) in
     record {
@@ -166,10 +166,10 @@ stays_so c item more there ordered all =
           ∙ ap (list_any (ends_in (session_at c i))) (range_stays c.items (item ∷ more) (seen_before c i) (seen_before c e) (start_within c.items (c.setups + i)) (start_within c.items (c.setups + e)));
     }
 
-pub front_stays : (c : Setting) (item : HistItem) (more : List HistItem) (there : ℕ) → is_order item.event ≡ true → orders c.items ≡ c.setups + there → report (longer c (item ∷ more)) there ≡ report c there
+pub front_stays : (c : PermutationRun) (item : HistItem) (more : List HistItem) (there : ℕ) → is_order item.event ≡ true → orders c.items ≡ c.setups + there → report (longer c (item ∷ more)) there ≡ report c there
 front_stays c item more there ordered all = from_same c (item ∷ more) there 0 (length c.entries) [] (stays_so c item more there ordered all) (omega arith)
 
-stays_kept : (c : Setting) (more : List HistItem) (there : ℕ) → c.setups + there < orders c.items → Stays c more there
+stays_kept : (c : PermutationRun) (more : List HistItem) (there : ℕ) → c.setups + there < orders c.items → Stays c more there
 stays_kept c more there past =
     let seen : (e : ℕ) → e ≤ there → seen_before (longer c more) e ≡ seen_before c e = λ e le. start_kept c.items more (c.setups + e) (omega (arith, le, past)) in
     record {
@@ -180,7 +180,7 @@ stays_kept c more there past =
     }
 
 -- what was told before an order that is there stays so, whatever follows
-pub past_stays : (c : Setting) (more : List HistItem) (there : ℕ) → c.setups + there < orders c.items → report (longer c more) there ≡ report c there
+pub past_stays : (c : PermutationRun) (more : List HistItem) (there : ℕ) → c.setups + there < orders c.items → report (longer c more) there ≡ report c there
 past_stays c more there past = from_same c more there 0 (length c.entries) [] (stays_kept c more there past) (omega arith)
 
 -- ---- the next order
@@ -220,18 +220,18 @@ torn_stays front item more k (t ∷ ts) ordered =
     ∙ ap (λ (x : TornDown). if is_over front k t.session then x else (if nat_le there (k + 1) then record { orders = k; due = Some (Leave t.session) } else torn_down d there (k + 2) ts)) (torn_stays front item more (k + 1) ts ordered)
     ∙ ap (λ (x : TornDown). if is_over front k t.session then torn_down front there (k + 1) ts else (if nat_le there (k + 1) then record { orders = k; due = Some (Leave t.session) } else x)) (torn_stays front item more (k + 2) ts ordered))
 
-last_stays : (p : Planned) (item : HistItem) (more : List HistItem) (w : TornDown) → is_order item.event ≡ true → due_last (longer_plan p (item ∷ more)) (p.setting.items ++ item ∷ more) (orders p.setting.items) w ≡ due_last p p.setting.items (orders p.setting.items) w
+last_stays : (p : Planned) (item : HistItem) (more : List HistItem) (w : TornDown) → is_order item.event ≡ true → due_last (longer_plan p (item ∷ more)) (p.run.items ++ item ∷ more) (orders p.run.items) w ≡ due_last p p.run.items (orders p.run.items) w
 last_stays p item more w ordered =
-    let there = orders p.setting.items in
+    let there = orders p.run.items in
     ap (λ (x : TornDown). or_else w.due (if nat_lt there (w.orders + p.sessions) then Leave (there - w.orders + 1) else or_else x.due Stop))
-    (torn_stays p.setting.items item more (w.orders + p.sessions) p.last ordered)
+    (torn_stays p.run.items item more (w.orders + p.sessions) p.last ordered)
 
-entry_stays : (p : Planned) (item : HistItem) (more : List HistItem) (stand : Stand) → is_order item.event ≡ true → due_entry (longer_plan p (item ∷ more)) (p.setting.items ++ item ∷ more) (orders p.setting.items) stand ≡ due_entry p p.setting.items (orders p.setting.items) stand
+entry_stays : (p : Planned) (item : HistItem) (more : List HistItem) (stand : Stand) → is_order item.event ≡ true → due_entry (longer_plan p (item ∷ more)) (p.run.items ++ item ∷ more) (orders p.run.items) stand ≡ due_entry p p.run.items (orders p.run.items) stand
 entry_stays p item more (Due e) ordered = refl
 entry_stays p item more Invalid ordered = refl
 entry_stays p item more Whole ordered =
-    ap (due_last (longer_plan p (item ∷ more)) (p.setting.items ++ item ∷ more) (orders p.setting.items)) (torn_stays p.setting.items item more (length p.setups + length p.tasks) p.teardowns ordered)
-    ∙ last_stays p item more (torn_down p.setting.items (orders p.setting.items) (length p.setups + length p.tasks) p.teardowns) ordered
+    ap (due_last (longer_plan p (item ∷ more)) (p.run.items ++ item ∷ more) (orders p.run.items)) (torn_stays p.run.items item more (length p.setups + length p.tasks) p.teardowns ordered)
+    ∙ last_stays p item more (torn_down p.run.items (orders p.run.items) (length p.setups + length p.tasks) p.teardowns) ordered
 
 -- where setups are still due, nothing else is
 case_first : (b g : Bool) (x y : Order) (some stop : Order) (rest : Option Order) → (false ≡ b → or_else rest x ≡ or_else rest y) → or_else (if b then Some some else (if g then rest else Some stop)) x ≡ or_else (if b then Some some else (if g then rest else Some stop)) y
@@ -245,18 +245,18 @@ setups_first items there k (t ∷ ts) x y less le =
     case_first (nat_le there k) (went_well items k t.session) x y (Launch t.session t.block) Stop (due_setup items there (k + 1) ts)
     (λ past. let next : k + 1 ≤ there = grind arith in setups_first items there (k + 1) ts x y (omega (arith, less)) next)
 
-due_case : (p : Planned) (item : HistItem) (more : List HistItem) → is_order item.event ≡ true → p.setting.setups ≡ length p.setups → (orders p.setting.items < length p.setups) ⊎ (length p.setups ≤ orders p.setting.items) → due_at (longer_plan p (item ∷ more)) (orders p.setting.items) ≡ due p
+due_case : (p : Planned) (item : HistItem) (more : List HistItem) → is_order item.event ≡ true → p.run.setups ≡ length p.setups → (orders p.run.items < length p.setups) ⊎ (length p.setups ≤ orders p.run.items) → due_at (longer_plan p (item ∷ more)) (orders p.run.items) ≡ due p
 due_case p item more ordered setups (inr le) =
-    let there = orders p.setting.items in
-    let split : there ≡ p.setting.setups + (there - length p.setups) = omega (arith, le, setups) in
-    ap (λ (o : Option Order). or_else o (due_entry (longer_plan p (item ∷ more)) (p.setting.items ++ item ∷ more) there (report (longer p.setting (item ∷ more)) (there - length p.setups)).stand)) (setup_stays p.setting.items item more 0 p.setups ordered)
-    ∙ ap (λ (r : Report). or_else (due_setup p.setting.items there 0 p.setups) (due_entry (longer_plan p (item ∷ more)) (p.setting.items ++ item ∷ more) there r.stand)) (front_stays p.setting item more (there - length p.setups) ordered split)
-    ∙ ap (or_else (due_setup p.setting.items there 0 p.setups)) (entry_stays p item more (report p.setting (there - length p.setups)).stand ordered)
+    let there = orders p.run.items in
+    let split : there ≡ p.run.setups + (there - length p.setups) = omega (arith, le, setups) in
+    ap (λ (o : Option Order). or_else o (due_entry (longer_plan p (item ∷ more)) (p.run.items ++ item ∷ more) there (report (longer p.run (item ∷ more)) (there - length p.setups)).stand)) (setup_stays p.run.items item more 0 p.setups ordered)
+    ∙ ap (λ (r : Report). or_else (due_setup p.run.items there 0 p.setups) (due_entry (longer_plan p (item ∷ more)) (p.run.items ++ item ∷ more) there r.stand)) (front_stays p.run item more (there - length p.setups) ordered split)
+    ∙ ap (or_else (due_setup p.run.items there 0 p.setups)) (entry_stays p item more (report p.run (there - length p.setups)).stand ordered)
 due_case p item more ordered setups (inl less) =
-    let there = orders p.setting.items in
-    let other = due_entry (longer_plan p (item ∷ more)) (p.setting.items ++ item ∷ more) there (report (longer p.setting (item ∷ more)) (there - length p.setups)).stand in
-    ap (λ (o : Option Order). or_else o other) (setup_stays p.setting.items item more 0 p.setups ordered)
-    ∙ setups_first p.setting.items there 0 p.setups other (due_entry p p.setting.items there (report p.setting (there - length p.setups)).stand) (omega (arith, less)) (omega arith)
+    let there = orders p.run.items in
+    let other = due_entry (longer_plan p (item ∷ more)) (p.run.items ++ item ∷ more) there (report (longer p.run (item ∷ more)) (there - length p.setups)).stand in
+    ap (λ (o : Option Order). or_else o other) (setup_stays p.run.items item more 0 p.setups ordered)
+    ∙ setups_first p.run.items there 0 p.setups other (due_entry p p.run.items there (report p.run (there - length p.setups)).stand) (omega (arith, less)) (omega arith)
 
-pub due_stays : (p : Planned) (item : HistItem) (more : List HistItem) → is_order item.event ≡ true → p.setting.setups ≡ length p.setups → due_at (longer_plan p (item ∷ more)) (orders p.setting.items) ≡ due p
-due_stays p item more ordered setups = due_case p item more ordered setups (cases_lt (orders p.setting.items) (length p.setups))
+pub due_stays : (p : Planned) (item : HistItem) (more : List HistItem) → is_order item.event ≡ true → p.run.setups ≡ length p.setups → due_at (longer_plan p (item ∷ more)) (orders p.run.items) ≡ due p
+due_stays p item more ordered setups = due_case p item more ordered setups (cases_lt (orders p.run.items) (length p.setups))

@@ -1,17 +1,16 @@
 -- A permutation is invalid exactly where the tries leave a step active that should have been reported.
-use Rattle.std.proofs.Common.{◌≡◌, ℕ, zero, suc, ◌+◌, ◌<◌, ◌≤◌, ◌⊎◌, ◌↔◌, List, [], ◌∷◌, length, refl, ap, sym, ◌∙◌, subst, arith, true, false, Bool, not, nat_lt, if◌then◌else◌, inl, inr}
-use Rattle.std.proofs.lemmas.Bool.{cases_lt, cases_eq, le-ltb, ltb-true, ltb-false}
+use Rattle.std.proofs.Common.{◌≡◌, ℕ, zero, suc, ◌+◌, ◌<◌, ◌≤◌, ◌⊎◌, ◌↔◌, List, [], length, refl, ap, sym, ◌∙◌, subst, arith, true, false, Bool, not, nat_lt, if◌then◌else◌, inl, inr}
+use Rattle.std.proofs.lemmas.Bool.{cases_lt, le-ltb, ltb-true, ltb-false}
 use Rattle.report_lines.specs.declared.history.Line.{Line}
-use Rattle.report_lines.specs.declared.history.Stand.{Stand}
 use Rattle.report_lines.specs.declared.history.Stand.TheVariants.{Due, Whole, Invalid}
-use Rattle.report_lines.specs.History.{Setting}
-use Rattle.report_lines.specs.Report.{Report, before, active, poll, is_busy, is_empty, made_way, launched, report_from, report}
+use Rattle.report_lines.specs.History.{PermutationRun}
+use Rattle.report_lines.specs.Report.{before, active, poll, is_busy, is_empty, made_way, launched, report_from, report}
 use Rattle.report_lines.specs.Tries.{Try, still_active, all_passes, has_active, tries_before, tries_after}
-use Rattle.report_lines.specs.Invalid.{launched_tries, tries_up_to, tries_to_the_end, IsStuck, StaysActive, IsInvalid}
+use Rattle.report_lines.specs.Invalid.{launched_tries, tries_up_to, tries_to_the_end, IsStuck, IsInvalid}
 use Rattle.report_lines.proofs.Tried.{Follows, follows_polled, follows_busy, follows_way, follows_launch, follows_active}
 
 -- so many entries are launched after these tries, and none before was stuck
-record IsLaunched (c : Setting) (there e : ℕ) (ts : List Try) : Type 0 where
+record IsLaunched (c : PermutationRun) (there e : ℕ) (ts : List Try) : Type 0 where
   tries_are : ts ≡ launched_tries c e
   reached : e ≤ there
   free : (d : ℕ) → d < e → has_active c (tries_up_to c d) d ≡ false
@@ -19,14 +18,14 @@ record IsLaunched (c : Setting) (there e : ℕ) (ts : List Try) : Type 0 where
 not_both : {A : Type 0} (b : Bool) → b ≡ true → b ≡ false → A
 not_both b holds fails = cc
 
-no_stuck_below : (c : Setting) (there e : ℕ) (ts : List Try) → IsLaunched c there e ts → length c.entries ≤ e → IsStuck c there → ⊥
+no_stuck_below : (c : PermutationRun) (there e : ℕ) (ts : List Try) → IsLaunched c there e ts → length c.entries ≤ e → IsStuck c there → ⊥
 no_stuck_below c there e ts l few s =
     let one = s.one in
     not_both (has_active c (tries_up_to c s.entry) s.entry) s.active (l.free s.entry (omega arith))
 
 -- ---- at the end
 
-end_case : (c : Setting) (there e : ℕ) (ts : List Try) (b : Bool) → IsLaunched c there e ts → e ≡ length c.entries → b ≡ is_empty (still_active c (tries_to_the_end c) (length c.entries))
+end_case : (c : PermutationRun) (there e : ℕ) (ts : List Try) (b : Bool) → IsLaunched c there e ts → e ≡ length c.entries → b ≡ is_empty (still_active c (tries_to_the_end c) (length c.entries))
     → (if b then Whole else Invalid) ≡ Invalid ↔ IsInvalid c there
 end_case c there e ts true l all is = (λ (h : Whole ≡ Invalid). cc, λ h. elim h [ inl s ↦ absurd (no_stuck_below c there e ts l (omega arith) s) | inr a ↦ not_both (is_empty (still_active c (tries_to_the_end c) (length c.entries))) (sym is) a.active ])
 end_case c there e ts false l all is =
@@ -35,31 +34,31 @@ end_case c there e ts false l all is =
 
 -- ---- before an entry's Launch
 
-later_free : (c : Setting) (e : ℕ) → ((d : ℕ) → d < e → has_active c (tries_up_to c d) d ≡ false) → has_active c (tries_up_to c e) e ≡ false
+later_free : (c : PermutationRun) (e : ℕ) → ((d : ℕ) → d < e → has_active c (tries_up_to c d) d ≡ false) → has_active c (tries_up_to c e) e ≡ false
     → (d : ℕ) → d < e + 1 → (d < e) ⊎ (e ≤ d) → has_active c (tries_up_to c d) d ≡ false
 later_free c e below here d less (inl lt) = below d lt
 later_free c e below here d less (inr le) = let same : e ≡ d = omega arith in subst (λ (n : ℕ). has_active c (tries_up_to c n) n ≡ false) same here
 
-next_tries : (c : Setting) (e : ℕ) (ts : List Try) → ts ≡ launched_tries c e → tries_after c (tries_before c ts e) e ≡ launched_tries c (e + 1)
+next_tries : (c : PermutationRun) (e : ℕ) (ts : List Try) → ts ≡ launched_tries c e → tries_after c (tries_before c ts e) e ≡ launched_tries c (e + 1)
 next_tries c e ts h =
     let next : suc e ≡ e + 1 = omega arith in
     ap (λ (w : List Try). tries_after c (tries_before c w e) e) h ∙ ap (launched_tries c) next
 
-next_launched : (c : Setting) (there e : ℕ) (ts : List Try) → IsLaunched c there e ts → e < there → has_active c (tries_before c ts e) e ≡ false → IsLaunched c there (e + 1) (tries_after c (tries_before c ts e) e)
+next_launched : (c : PermutationRun) (there e : ℕ) (ts : List Try) → IsLaunched c there e ts → e < there → has_active c (tries_before c ts e) e ≡ false → IsLaunched c there (e + 1) (tries_after c (tries_before c ts e) e)
 next_launched c there e ts l lt free = record {
   tries_are = next_tries c e ts l.tries_are;
   reached = omega arith;
   free = λ d less. later_free c e l.free (subst (λ (w : List Try). has_active c (tries_before c w e) e ≡ false) l.tries_are free) d less (cases_lt d e);
 }
 
-not_there : (c : Setting) (there e : ℕ) (ts : List Try) → IsLaunched c there e ts → there ≤ e → e < length c.entries → has_active c (tries_before c ts e) e ≡ false → IsInvalid c there → ⊥
+not_there : (c : PermutationRun) (there e : ℕ) (ts : List Try) → IsLaunched c there e ts → there ≤ e → e < length c.entries → has_active c (tries_before c ts e) e ≡ false → IsInvalid c there → ⊥
 not_there c there e ts l few less free (inl s) =
     let reached = s.reached in
     not_both (has_active c (tries_up_to c s.entry) s.entry) s.active
     (later_free c e l.free (subst (λ (w : List Try). has_active c (tries_before c w e) e ≡ false) l.tries_are free) s.entry (omega arith) (cases_lt s.entry e))
 not_there c there e ts l few less free (inr a) = let reached = a.reached in absurd (omega arith)
 
-entry_case : (c : Setting) (there e rest : ℕ) (ts : List Try) (way more : List Line) (busy present : Bool) → IsLaunched c there e ts → e < length c.entries
+entry_case : (c : PermutationRun) (there e rest : ℕ) (ts : List Try) (way more : List Line) (busy present : Bool) → IsLaunched c there e ts → e < length c.entries
     → busy ≡ has_active c (tries_before c ts e) e → (present ≡ true → e < there) → (present ≡ false → there ≤ e)
     → (e < there → busy ≡ false → (report_from c (e + 1) rest there more).stand ≡ Invalid ↔ IsInvalid c there)
     → (if busy then record { lines = way; stand = Invalid } else (if present then report_from c (e + 1) rest there more else record { lines = way; stand = Due e })).stand ≡ Invalid ↔ IsInvalid c there
@@ -69,7 +68,7 @@ entry_case c there e rest ts way more false true l less is before_it behind_it n
 entry_case c there e rest ts way more false false l less is before_it behind_it next =
     (λ (h : Due e ≡ Invalid). cc, λ h. absurd (not_there c there e ts l (behind_it refl) less (sym is) h))
 
-invalid_from : (c : Setting) (there rest e : ℕ) (lines : List Line) (ts : List Try) → Follows c e lines ts → IsLaunched c there e ts → e + rest ≡ length c.entries
+invalid_from : (c : PermutationRun) (there rest e : ℕ) (lines : List Line) (ts : List Try) → Follows c e lines ts → IsLaunched c there e ts → e + rest ≡ length c.entries
     → (report_from c e rest there lines).stand ≡ Invalid ↔ IsInvalid c there
 invalid_from c there zero e lines ts f l all =
     let m = before c e in
@@ -86,7 +85,7 @@ invalid_from c there (suc rest) e lines ts f l all =
     (λ lt free. invalid_from c there rest (e + 1) (launched c (made_way c lines e) e) (tries_after c (tries_before c ts e) e)
     (follows_launch c e (made_way c lines e) (tries_before c ts e) way) (next_launched c there e ts l lt (sym busy ∙ free)) (omega arith))
 
-pub invalid_is : (c : Setting) (there : ℕ) → (report c there).stand ≡ Invalid ↔ IsInvalid c there
+pub invalid_is : (c : PermutationRun) (there : ℕ) → (report c there).stand ≡ Invalid ↔ IsInvalid c there
 invalid_is c there =
     invalid_from c there (length c.entries) 0 [] [] (record { told = refl; tried = λ i. ap not (sym (le-ltb i 0 (omega arith))) })
     (record { tries_are = refl; reached = omega arith; free = λ d h. absurd (omega arith) }) (omega arith)

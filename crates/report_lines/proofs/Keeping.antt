@@ -12,11 +12,13 @@ use Rattle.report_lines.specs.declared.history.Stand.TheVariants.{Due, Whole, In
 use Rattle.report_lines.specs.declared.progress.Progress.{Progress}
 use Rattle.report_lines.specs.Starts.{is_order, session_of, ends_in}
 use Rattle.report_lines.specs.Due.{orders}
-use Rattle.report_lines.specs.History.{Setting}
+use Rattle.report_lines.specs.History.{PermutationRun}
 use Rattle.report_lines.specs.Report.{report, report_from, launched}
-use Rattle.report_lines.specs.Telling.{Telling, IsAt, Tells}
-use Rattle.report_lines.specs.Places.{starts_from, last_end, IsTimed, IsSeen, IsZeros, ended_behind, ends_after, starts_after}
-use Rattle.report_lines.specs.Progress.{Keeps, Lags, IsSettled, IsNoted, Follows, front}
+use Rattle.report_lines.specs.SoFar.{LinesSoFar, IsAt, IsReportSoFar}
+use Rattle.report_lines.specs.Places.{starts_from, last_end, IsTimed, IsSeen}
+use Rattle.report_lines.specs.Inner.Places.{IsZeros, ended_behind, ends_after, starts_after}
+use Rattle.report_lines.specs.Progress.{Keeps, Follows, front}
+use Rattle.report_lines.specs.Inner.Progress.{Lags, IsSettled, IsNoted}
 use Rattle.report_lines.specs.Fronts.{longer}
 use Rattle.report_lines.proofs.Reports.{first_same, report_next, report_over, whole_due, invalid_due}
 use Rattle.report_lines.proofs.Fronts.{front_stays, past_stays}
@@ -65,16 +67,16 @@ orders_snoc items item =
 
 -- ---- what was told stays
 
-is_at_longer : (c : Setting) (more : List HistItem) (there launched : ℕ) (s : Stand) → IsAt c there launched s → IsAt (longer c more) there launched s
+is_at_longer : (c : PermutationRun) (more : List HistItem) (there launched : ℕ) (s : Stand) → IsAt c there launched s → IsAt (longer c more) there launched s
 is_at_longer c more there launched (Due e) h = h
 is_at_longer c more there launched Whole h = h
 is_at_longer c more there launched Invalid h = h
 
-tells_longer : (c : Setting) (more : List HistItem) (there : ℕ) (t : Telling) (s : Stand) → report (longer c more) there ≡ report c there → Tells c there t s → Tells (longer c more) there t s
+tells_longer : (c : PermutationRun) (more : List HistItem) (there : ℕ) (t : LinesSoFar) (s : Stand) → report (longer c more) there ≡ report c there → IsReportSoFar c there t s → IsReportSoFar (longer c more) there t s
 tells_longer c more there t s same h = record { report_is = same ∙ h.report_is; at = is_at_longer c more there t.launched s h.at }
 
 -- before an order
-before_order : (c : Setting) (item : HistItem) (there : ℕ) → is_order item.event ≡ true → there ≡ orders c.items - c.setups → (orders c.items < c.setups) ⊎ (c.setups ≤ orders c.items) → report (longer c (item ∷ [])) there ≡ report c there
+before_order : (c : PermutationRun) (item : HistItem) (there : ℕ) → is_order item.event ≡ true → there ≡ orders c.items - c.setups → (orders c.items < c.setups) ⊎ (c.setups ≤ orders c.items) → report (longer c (item ∷ [])) there ≡ report c there
 before_order c item there ordered is (inl few) =
     let none : there ≡ 0 = omega (arith, is, few) in
     rw none (first_same (longer c (item ∷ [])) c refl)
@@ -83,7 +85,7 @@ before_order c item there ordered is (inr enough) =
     front_stays c item [] there ordered all
 
 -- within a segment that is not told
-within_segment : (c : Setting) (item : HistItem) (there : ℕ) → there ≡ orders c.items - (c.setups + 1) → there ≤ orders c.items - c.setups → (c.setups < orders c.items) ⊎ (orders c.items ≤ c.setups) → report (longer c (item ∷ [])) there ≡ report c there
+within_segment : (c : PermutationRun) (item : HistItem) (there : ℕ) → there ≡ orders c.items - (c.setups + 1) → there ≤ orders c.items - c.setups → (c.setups < orders c.items) ⊎ (orders c.items ≤ c.setups) → report (longer c (item ∷ [])) there ≡ report c there
 within_segment c item there lags low (inl past) = past_stays c (item ∷ []) there (omega (arith, lags, past))
 within_segment c item there lags low (inr few) =
     let none : there ≡ 0 = omega (arith, low, few) in
@@ -135,7 +137,7 @@ after_case true false session place k old last within is so_far = ended_at last 
 after_case false true session place k old last within is so_far = so_far
 after_case false false session place k old last within is so_far = so_far
 
-timed_more : (c : Setting) (item : HistItem) (last : List ℕ) → IsTimed c last → IsTimed (longer c (item ∷ [])) (ends_after item (length c.items + 1) last)
+timed_more : (c : PermutationRun) (item : HistItem) (last : List ℕ) → IsTimed c last → IsTimed (longer c (item ∷ [])) (ends_after item (length c.items + 1) last)
 timed_more c item last timed = record {
   room = timed.room;
   ends_at = λ k within.
@@ -150,7 +152,7 @@ starts_case : (b : Bool) (starts : List ℕ) (p q : ℕ) → p ≡ q → (if b t
 starts_case true starts p q same = ap (λ k. starts ++ k ∷ []) same
 starts_case false starts p q same = sym (append-nil starts)
 
-seen_more : (c : Setting) (item : HistItem) (starts last : List ℕ) (place : ℕ) → place ≡ length c.items → IsSeen c starts last → IsSeen (longer c (item ∷ [])) (starts_after item place starts) (ends_after item (place + 1) last)
+seen_more : (c : PermutationRun) (item : HistItem) (starts last : List ℕ) (place : ℕ) → place ≡ length c.items → IsSeen c starts last → IsSeen (longer c (item ∷ [])) (starts_after item place starts) (ends_after item (place + 1) last)
 seen_more c item starts last place is seen = record {
   starts_are =
       let at : place ≡ 0 + length c.items = omega (arith, is) in
@@ -160,7 +162,7 @@ seen_more c item starts last place is seen = record {
   timed = subst (λ k. IsTimed (longer c (item ∷ [])) (ends_after item (k + 1) last)) (sym is) (timed_more c item last seen.timed);
 }
 
-keeps_next : (c : Setting) (item : HistItem) (p q : Progress) → Keeps c p → report (longer c (item ∷ [])) p.there ≡ report c p.there → p.there ≡ orders (c.items ++ item ∷ []) - (c.setups + 1) → IsNoted item p q → Keeps (longer c (item ∷ [])) q
+keeps_next : (c : PermutationRun) (item : HistItem) (p q : Progress) → Keeps c p → report (longer c (item ∷ [])) p.there ≡ report c p.there → p.there ≡ orders (c.items ++ item ∷ []) - (c.setups + 1) → IsNoted item p q → Keeps (longer c (item ∷ [])) q
 keeps_next c item p q kept same lags n =
     let long = length-append c.items (item ∷ []) in
     let at = kept.seen_are in
@@ -170,10 +172,10 @@ keeps_next c item p q kept same lags n =
     subst (λ (w : List ℕ). IsSeen (longer c (item ∷ [])) q.starts.items w) (sym n.last_is)
     (subst (λ (w : List ℕ). IsSeen (longer c (item ∷ [])) w (ends_after item (p.seen + 1) p.last.items)) (sym n.starts_are)
     (seen_more c item p.starts.items p.last.items p.seen at kept.found)) in
-    let tells : Tells (longer c (item ∷ [])) q.there q.told q.stand =
-    subst (λ k. Tells (longer c (item ∷ [])) k q.told q.stand) (sym there)
-    (subst (λ (t : Telling). Tells (longer c (item ∷ [])) p.there t q.stand) (sym n.told_is)
-    (subst (λ (s : Stand). Tells (longer c (item ∷ [])) p.there p.told s) (sym n.stand_is)
+    let tells : IsReportSoFar (longer c (item ∷ [])) q.there q.told q.stand =
+    subst (λ k. IsReportSoFar (longer c (item ∷ [])) k q.told q.stand) (sym there)
+    (subst (λ (t : LinesSoFar). IsReportSoFar (longer c (item ∷ [])) p.there t q.stand) (sym n.told_is)
+    (subst (λ (s : Stand). IsReportSoFar (longer c (item ∷ [])) p.there p.told s) (sym n.stand_is)
     (tells_longer c (item ∷ []) p.there p.told p.stand same kept.told))) in
     record {
       seen_are = omega (arith, seen, at, long);
@@ -184,43 +186,43 @@ keeps_next c item p q kept same lags n =
     }
 
 -- an order follows what is told
-order_lags : (c : Setting) (item : HistItem) (there : ℕ) → is_order item.event ≡ true → there ≡ orders c.items - c.setups → there ≡ orders (c.items ++ item ∷ []) - (c.setups + 1)
+order_lags : (c : PermutationRun) (item : HistItem) (there : ℕ) → is_order item.event ≡ true → there ≡ orders c.items - c.setups → there ≡ orders (c.items ++ item ∷ []) - (c.setups + 1)
 order_lags c item there ordered is =
     let more = orders_snoc c.items item in
     let one = one_order (is_order item.event) item ordered in
     omega (arith, is, more, one)
 
-order_stays : (c : Setting) (item : HistItem) (there : ℕ) → is_order item.event ≡ true → there ≡ orders c.items - c.setups → report (longer c (item ∷ [])) there ≡ report c there
+order_stays : (c : PermutationRun) (item : HistItem) (there : ℕ) → is_order item.event ≡ true → there ≡ orders c.items - c.setups → report (longer c (item ∷ [])) there ≡ report c there
 order_stays c item there ordered is = before_order c item there ordered is (cases_lt (orders c.items) c.setups)
 
 -- a Step follows within the last segment
-step_lags : (c : Setting) (item : HistItem) (there : ℕ) → is_order item.event ≡ false → there ≡ orders c.items - (c.setups + 1) → there ≡ orders (c.items ++ item ∷ []) - (c.setups + 1)
+step_lags : (c : PermutationRun) (item : HistItem) (there : ℕ) → is_order item.event ≡ false → there ≡ orders c.items - (c.setups + 1) → there ≡ orders (c.items ++ item ∷ []) - (c.setups + 1)
 step_lags c item there step is =
     let more = orders_snoc c.items item in
     let none = no_order (is_order item.event) item step in
     omega (arith, is, more, none)
 
-step_stays : (c : Setting) (item : HistItem) (there : ℕ) → there ≡ orders c.items - (c.setups + 1) → there ≤ orders c.items - c.setups → report (longer c (item ∷ [])) there ≡ report c there
+step_stays : (c : PermutationRun) (item : HistItem) (there : ℕ) → there ≡ orders c.items - (c.setups + 1) → there ≤ orders c.items - c.setups → report (longer c (item ∷ [])) there ≡ report c there
 step_stays c item there is low = within_segment c item there is low (cases_lt c.setups (orders c.items))
 
 -- what is kept once an order has come, and that its segment isn't told
-pub seen_order : (c : Setting) (item : HistItem) (p q : Progress) → IsSettled c p → is_order item.event ≡ true → IsNoted item p q → Keeps (longer c (item ∷ [])) q
+pub seen_order : (c : PermutationRun) (item : HistItem) (p q : Progress) → IsSettled c p → is_order item.event ≡ true → IsNoted item p q → Keeps (longer c (item ∷ [])) q
 seen_order c item p q settled ordered n = keeps_next c item p q settled.kept (order_stays c item p.there ordered settled.all) (order_lags c item p.there ordered settled.all) n
 
-pub order_waits : (c : Setting) (item : HistItem) (p q : Progress) → IsSettled c p → is_order item.event ≡ true → IsNoted item p q → Lags (longer c (item ∷ [])) q
+pub order_waits : (c : PermutationRun) (item : HistItem) (p q : Progress) → IsSettled c p → is_order item.event ≡ true → IsNoted item p q → Lags (longer c (item ∷ [])) q
 order_waits c item p q settled ordered n = n.there_is ∙ order_lags c item p.there ordered settled.all
 
-in_segment : (c : Setting) (item : HistItem) (p : Progress) → is_order item.event ≡ false → (is_order item.event ≡ true) ⊎ Lags c p → Lags c p
+in_segment : (c : PermutationRun) (item : HistItem) (p : Progress) → is_order item.event ≡ false → (is_order item.event ≡ true) ⊎ Lags c p → Lags c p
 in_segment c item p step (inl ordered) = cc
 in_segment c item p step (inr lags) = lags
 
 -- the same for a Step
-pub seen_step : (c : Setting) (item : HistItem) (p q : Progress) → Keeps c p → (is_order item.event ≡ true) ⊎ Lags c p → is_order item.event ≡ false → IsNoted item p q → Keeps (longer c (item ∷ [])) q
+pub seen_step : (c : PermutationRun) (item : HistItem) (p q : Progress) → Keeps c p → (is_order item.event ≡ true) ⊎ Lags c p → is_order item.event ≡ false → IsNoted item p q → Keeps (longer c (item ∷ [])) q
 seen_step c item p q kept next step n =
     let lags = in_segment c item p step next in
     keeps_next c item p q kept (step_stays c item p.there lags kept.low) (step_lags c item p.there step lags) n
 
-pub step_waits : (c : Setting) (item : HistItem) (p q : Progress) → (is_order item.event ≡ true) ⊎ Lags c p → is_order item.event ≡ false → IsNoted item p q → Lags (longer c (item ∷ [])) q
+pub step_waits : (c : PermutationRun) (item : HistItem) (p q : Progress) → (is_order item.event ≡ true) ⊎ Lags c p → is_order item.event ≡ false → IsNoted item p q → Lags (longer c (item ∷ [])) q
 step_waits c item p q next step n = n.there_is ∙ step_lags c item p.there step (in_segment c item p step next)
 
 zeros_case : (xs : List ℕ) (k : ℕ) → get_or xs k 0 ≡ 0 → get_or (xs ++ 0 ∷ []) k 0 ≡ 0
@@ -238,33 +240,33 @@ pub both : {X E : Type 0} (r : Result X E) (P Q R : X → Type 0) → ((x : X) �
 both (Ok x) P Q R f p q = f x p q
 both (Err e) P Q R f p q = tt
 
-pub tells_over : (c : Setting) (there : ℕ) (t : Telling) (s : Stand) → Tells c there t s → (s ≡ Whole) ⊎ (s ≡ Invalid) → Tells c (there + 1) t s
+pub tells_over : (c : PermutationRun) (there : ℕ) (t : LinesSoFar) (s : Stand) → IsReportSoFar c there t s → (s ≡ Whole) ⊎ (s ≡ Invalid) → IsReportSoFar c (there + 1) t s
 tells_over c there t (Due e) told (inl h) = absurd (whole_due e (sym h))
 tells_over c there t (Due e) told (inr h) = absurd (invalid_due e (sym h))
 tells_over c there t Whole told h = record { report_is = report_over c there t.lines Whole refl told.report_is; at = told.at }
 tells_over c there t Invalid told h = record { report_is = report_over c there t.lines Invalid refl told.report_is; at = told.at }
 
-tells_due : (c : Setting) (there e : ℕ) (t new : Telling) (next : Stand) → Tells c there t (Due e)
-    → report_from c (there + 1) (length c.entries - (there + 1)) (there + 1) (launched c t.lines there) ≡ record { lines = new.lines; stand = next } → IsAt c (there + 1) new.launched next → Tells c (there + 1) new next
+tells_due : (c : PermutationRun) (there e : ℕ) (t new : LinesSoFar) (next : Stand) → IsReportSoFar c there t (Due e)
+    → report_from c (there + 1) (length c.entries - (there + 1)) (there + 1) (launched c t.lines there) ≡ record { lines = new.lines; stand = next } → IsAt c (there + 1) new.launched next → IsReportSoFar c (there + 1) new next
 tells_due c there e t new next told h at = record { report_is = report_next c there t.lines e told.report_is ∙ h; at = at }
 
-pub tells_next : (c : Setting) (there e l : ℕ) (t mid new : Telling) (s next : Stand) → Tells c there t s → s ≡ Due e → mid ≡ record { lines = launched c t.lines t.launched; launched = t.launched + 1 } → l ≡ mid.launched
-    → report_from c l (length c.entries - l) l mid.lines ≡ record { lines = new.lines; stand = next } → IsAt c l new.launched next → Tells c (there + 1) new next
+pub tells_next : (c : PermutationRun) (there e l : ℕ) (t mid new : LinesSoFar) (s next : Stand) → IsReportSoFar c there t s → s ≡ Due e → mid ≡ record { lines = launched c t.lines t.launched; launched = t.launched + 1 } → l ≡ mid.launched
+    → report_from c l (length c.entries - l) l mid.lines ≡ record { lines = new.lines; stand = next } → IsAt c l new.launched next → IsReportSoFar c (there + 1) new next
 tells_next c there e l t mid new s next told due is at_l h at =
-    let so : Tells c there t (Due e) = subst (λ (x : Stand). Tells c there t x) due told in
+    let so : IsReportSoFar c there t (Due e) = subst (λ (x : Stand). IsReportSoFar c there t x) due told in
     let first : there ≡ t.launched = so.at.1.0 in
-    let count : mid.launched ≡ t.launched + 1 = ap (λ (x : Telling). x.launched) is in
+    let count : mid.launched ≡ t.launched + 1 = ap (λ (x : LinesSoFar). x.launched) is in
     let there_is : l ≡ there + 1 = omega (arith, first, count, at_l) in
-    let lines : mid.lines ≡ launched c t.lines there = ap (λ (x : Telling). x.lines) is ∙ ap (launched c t.lines) (sym first) in
+    let lines : mid.lines ≡ launched c t.lines there = ap (λ (x : LinesSoFar). x.lines) is ∙ ap (launched c t.lines) (sym first) in
     tells_due c there e t new next so
     (subst (λ k. report_from c k (length c.entries - k) k (launched c t.lines there) ≡ record { lines = new.lines; stand = next }) there_is
     (ap (report_from c l (length c.entries - l) l) (sym lines) ∙ h))
     (subst (λ k. IsAt c k new.launched next) there_is at)
 
-starts_count : (c : Setting) (p : Progress) → Keeps c p → length p.starts.items ≡ orders c.items
+starts_count : (c : PermutationRun) (p : Progress) → Keeps c p → length p.starts.items ≡ orders c.items
 starts_count c p kept = ap length kept.found.starts_are ∙ count_found c.items 0
 
-pub settled_already : (c : Setting) (p : Progress) → Keeps c p → length p.starts.items - c.setups ≡ p.there → IsSettled c p
+pub settled_already : (c : PermutationRun) (p : Progress) → Keeps c p → length p.starts.items - c.setups ≡ p.there → IsSettled c p
 settled_already c p kept all = let count = starts_count c p kept in record { kept = kept; all = omega (arith, all, count) }
 
 not_there_case : (n s there : ℕ) → there ≤ n - s → n - s ≤ there + 1 → (n - s ≡ there → ⊥) → (n - s < there + 1) ⊎ (there + 1 ≤ n - s) → n ≡ s + there + 1
@@ -274,28 +276,28 @@ not_there_case n s there low high differs (inr more) = omega (arith, more, high)
 not_there : (n s there : ℕ) → there ≤ n - s → n - s ≤ there + 1 → (n - s ≡ there → ⊥) → n ≡ s + there + 1
 not_there n s there low high differs = not_there_case n s there low high differs (cases_lt (n - s) (there + 1))
 
-pub one_behind : (c : Setting) (p : Progress) → Keeps c p → (length p.starts.items - c.setups ≡ p.there → ⊥) → orders c.items ≡ c.setups + p.there + 1
+pub one_behind : (c : PermutationRun) (p : Progress) → Keeps c p → (length p.starts.items - c.setups ≡ p.there → ⊥) → orders c.items ≡ c.setups + p.there + 1
 one_behind c p kept differs =
     let count = starts_count c p kept in
     let low = kept.low in
     let high = kept.high in
     not_there (orders c.items) c.setups p.there low high (λ same. differs (omega (arith, count, same)))
 
-pub settled_next : (c : Setting) (p q : Progress) → Keeps c p → orders c.items ≡ c.setups + p.there + 1 → q.starts ≡ p.starts → q.last ≡ p.last → q.seen ≡ p.seen → q.there ≡ p.there + 1 → Tells c (p.there + 1) q.told q.stand → IsSettled c q
+pub settled_next : (c : PermutationRun) (p q : Progress) → Keeps c p → orders c.items ≡ c.setups + p.there + 1 → q.starts ≡ p.starts → q.last ≡ p.last → q.seen ≡ p.seen → q.there ≡ p.there + 1 → IsReportSoFar c (p.there + 1) q.told q.stand → IsSettled c q
 settled_next c p q kept behind starts last seen there told =
     let seen_are = kept.seen_are in
     record {
       kept = record {
         seen_are = seen ∙ seen_are;
         found = subst (λ (w : List ℕ). IsSeen c q.starts.items w) (sym (ap (λ v. v.items) last)) (subst (λ (w : List ℕ). IsSeen c w p.last.items) (sym (ap (λ v. v.items) starts)) kept.found);
-        told = subst (λ k. Tells c k q.told q.stand) (sym there) told;
+        told = subst (λ k. IsReportSoFar c k q.told q.stand) (sym there) told;
         low = omega (arith, behind, there);
         high = omega (arith, behind, there);
       };
       all = omega (arith, behind, there);
     }
 
-pub room_to_tell : (c : Setting) (p : Progress) → Keeps c p → orders c.items ≡ c.setups + p.there + 1 → p.there + 1 ≤ length p.starts.items
+pub room_to_tell : (c : PermutationRun) (p : Progress) → Keeps c p → orders c.items ≡ c.setups + p.there + 1 → p.there + 1 ≤ length p.starts.items
 room_to_tell c p kept behind = let count = starts_count c p kept in omega (arith, behind, count)
 
 -- ---- which item comes next
@@ -305,10 +307,10 @@ past_end [] k item over h = cc
 past_end (x ∷ xs) zero item over h = absurd (omega (arith, over))
 past_end (x ∷ xs) (suc k) item over h = past_end xs k item (omega (arith, over)) h
 
-pub lags_so : (c : Setting) (p : Progress) → Follows c p → length p.starts.items - (c.setups + 1) ≡ p.there → Lags (front c p.seen) p
+pub lags_so : (c : PermutationRun) (p : Progress) → Follows c p → length p.starts.items - (c.setups + 1) ≡ p.there → Lags (front c p.seen) p
 lags_so c p follows is = let count = starts_count (front c p.seen) p follows.kept in omega (arith, count, is)
 
-pub none_next : (c : Setting) (p : Progress) (item : HistItem) → length c.items ≤ p.seen → slice_get c.items p.seen ≡ Some item → ⊥
+pub none_next : (c : PermutationRun) (p : Progress) (item : HistItem) → length c.items ≤ p.seen → slice_get c.items p.seen ≡ Some item → ⊥
 none_next c p item over h = past_end c.items p.seen item over h
 
 pub order_next : (items : List HistItem) (k : ℕ) (item other : HistItem) → true ≡ nat_lt k (length items) → item ≡ get_or items k item → slice_get items k ≡ Some other → item ≡ other
@@ -320,11 +322,11 @@ order_next items k item other within at h =
 pub one_further : (items : List HistItem) (k : ℕ) (item : HistItem) → k < length items → item ≡ get_or items k item → take (k + 1) items ≡ take k items ++ item ∷ []
 one_further items k item less at = take_more items k item less ∙ ap (λ (x : HistItem). take k items ++ x ∷ []) (sym at)
 
-pub settled_tells : (c : Setting) (p : Progress) → IsSettled c p → report c (orders c.items - c.setups) ≡ record { lines = p.told.lines; stand = p.stand }
+pub settled_tells : (c : PermutationRun) (p : Progress) → IsSettled c p → report c (orders c.items - c.setups) ≡ record { lines = p.told.lines; stand = p.stand }
 settled_tells c p settled = ap (report c) (sym settled.all) ∙ settled.kept.told.report_is
 
 -- what is kept of a front is kept of the whole
-pub follows_whole : (c : Setting) (k : ℕ) (p : Progress) → Follows (front c k) p → Follows c p
+pub follows_whole : (c : PermutationRun) (k : ℕ) (p : Progress) → Follows (front c k) p → Follows c p
 follows_whole c k p follows =
     let few = follows.few in
     let short = length-take k c.items in

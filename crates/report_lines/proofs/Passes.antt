@@ -8,9 +8,9 @@ use Rattle.report_lines.specs.declared.history.Line.TheVariants.{Completed}
 use Rattle.report_lines.specs.declared.history.Moment.{Moment}
 use Rattle.report_lines.specs.declared.telling.Chosen.{Chosen}
 use Rattle.report_lines.specs.declared.telling.Chosen.TheVariants.{Joined}
-use Rattle.report_lines.specs.History.{Setting}
+use Rattle.report_lines.specs.History.{PermutationRun}
 use Rattle.report_lines.specs.Report.{is_reported, active, instances, may_report, retry, pass}
-use Rattle.report_lines.specs.Trying.{is_chosen, chosen_retry, still_told}
+use Rattle.report_lines.specs.Inner.Trying.{is_chosen, chosen_retry, still_told}
 use Rattle.report_lines.proofs.Waits.{active_leave, reported_push}
 use Rattle.report_lines.proofs.Rising.{Between, between_instances, between_filter, between_at, between_leave, filter_at, fold_at}
 
@@ -37,13 +37,13 @@ when_not true false x y h = refl
 when_not false b x y h = refl
 
 -- a step that can be reported is, at its try
-tried : (c : Setting) (m : Moment) (chosen : Chosen) (lines : List Line) (e : ℕ) → is_reported lines e ≡ false → (is_chosen c m chosen e && may_report c m lines e) ≡ true → chosen_retry c m chosen lines e ≡ lines ++ Completed e m.seen ∷ []
+tried : (c : PermutationRun) (m : Moment) (chosen : Chosen) (lines : List Line) (e : ℕ) → is_reported lines e ≡ false → (is_chosen c m chosen e && may_report c m lines e) ≡ true → chosen_retry c m chosen lines e ≡ lines ++ Completed e m.seen ∷ []
 tried c m chosen lines e waits can = rw waits (when_chosen (is_chosen c m chosen e) (may_report c m lines e) (lines ++ Completed e m.seen ∷ []) lines can)
 
-passed_over : (c : Setting) (m : Moment) (chosen : Chosen) (lines : List Line) (e : ℕ) → is_reported lines e ≡ false → (is_chosen c m chosen e && may_report c m lines e) ≡ false → chosen_retry c m chosen lines e ≡ lines
+passed_over : (c : PermutationRun) (m : Moment) (chosen : Chosen) (lines : List Line) (e : ℕ) → is_reported lines e ≡ false → (is_chosen c m chosen e && may_report c m lines e) ≡ false → chosen_retry c m chosen lines e ≡ lines
 passed_over c m chosen lines e waits cannot = rw waits (when_not (is_chosen c m chosen e) (may_report c m lines e) (lines ++ Completed e m.seen ∷ []) lines cannot)
 
-pub try_reports : (c : Setting) (m : Moment) (chosen : Chosen) (lines : List Line) (n place e : ℕ) → slice_get (active lines n) place ≡ Some e → (is_chosen c m chosen e && may_report c m lines e) ≡ true → still_told c m chosen (lines ++ Completed e m.seen ∷ []) n place ≡ still_told c m chosen lines n place
+pub try_reports : (c : PermutationRun) (m : Moment) (chosen : Chosen) (lines : List Line) (n place e : ℕ) → slice_get (active lines n) place ≡ Some e → (is_chosen c m chosen e && may_report c m lines e) ≡ true → still_told c m chosen (lines ++ Completed e m.seen ∷ []) n place ≡ still_told c m chosen lines n place
 try_reports c m chosen lines n place e h can =
     let g = chosen_retry c m chosen in
     let now : g lines e ≡ lines ++ Completed e m.seen ∷ [] = tried c m chosen lines e (waits_unreported lines n place e h) can in
@@ -58,14 +58,14 @@ try_fewer lines n place e s h =
     let old = length-drop (place + 1) (active lines n) in
     omega arith
 
-pub try_passes : (c : Setting) (m : Moment) (chosen : Chosen) (lines : List Line) (n place e : ℕ) → slice_get (active lines n) place ≡ Some e → (is_chosen c m chosen e && may_report c m lines e) ≡ false → still_told c m chosen lines n (place + 1) ≡ still_told c m chosen lines n place
+pub try_passes : (c : PermutationRun) (m : Moment) (chosen : Chosen) (lines : List Line) (n place e : ℕ) → slice_get (active lines n) place ≡ Some e → (is_chosen c m chosen e && may_report c m lines e) ≡ false → still_told c m chosen lines n (place + 1) ≡ still_told c m chosen lines n place
 try_passes c m chosen lines n place e h cannot =
     let g = chosen_retry c m chosen in
     ap (λ (w : List Line). fold g w (drop (place + 1) (active lines n))) (sym (passed_over c m chosen lines e (waits_unreported lines n place e h) cannot))
     ∙ sym (fold_at g lines (active lines n) place e h)
 
 -- a reported instance is passed over unchanged
-pub retry_reported : (c : Setting) (m : Moment) (chosen : Chosen) (lines : List Line) (i : ℕ) → is_reported lines i ≡ true → chosen_retry c m chosen lines i ≡ lines
+pub retry_reported : (c : PermutationRun) (m : Moment) (chosen : Chosen) (lines : List Line) (i : ℕ) → is_reported lines i ≡ true → chosen_retry c m chosen lines i ≡ lines
 retry_reported c m chosen lines i h = rw h (elim (is_chosen c m chosen i) as (λ b. (if b then lines else lines) ≡ lines) [ true ↦ refl | false ↦ refl ])
 
 reported_case : (a b : Bool) (lines : List Line) (l : Line) (i : ℕ) → is_reported lines i ≡ true → is_reported (if a then (if b then lines ++ l ∷ [] else lines) else lines) i ≡ true
@@ -74,7 +74,7 @@ reported_case true false lines l i h = h
 reported_case false b lines l i h = h
 
 -- what was reported stays so
-pub retry_keeps : (c : Setting) (m : Moment) (chosen : Chosen) (lines : List Line) (j i : ℕ) → is_reported lines i ≡ true → is_reported (chosen_retry c m chosen lines j) i ≡ true
+pub retry_keeps : (c : PermutationRun) (m : Moment) (chosen : Chosen) (lines : List Line) (j i : ℕ) → is_reported lines i ≡ true → is_reported (chosen_retry c m chosen lines j) i ≡ true
 retry_keeps c m chosen lines j i h = reported_case (is_chosen c m chosen j) (not (is_reported lines j) && may_report c m lines j) lines (Completed j m.seen) i h
 
 skip_case : (g : List Line → ℕ → List Line) (q : ℕ → Bool) (lines : List Line) (x : ℕ) (xs : List ℕ) (b : Bool) → (b ≡ false → g lines x ≡ lines) → fold g (g lines x) xs ≡ fold g (g lines x) (filter q xs) → fold g (g lines x) xs ≡ fold g lines (cond b (x ∷ filter q xs) (filter q xs))
@@ -91,7 +91,7 @@ pub skip_reported : (g : List Line → ℕ → List Line) → ((lines : List Lin
 skip_reported g over keeps lines n = skip g over keeps (λ j. not (is_reported lines j)) (instances n) lines (λ i no. not-false (is_reported lines i) no)
 
 -- to try the waiting list is to try all instances
-pub through_waiting : (c : Setting) (m : Moment) (chosen : Chosen) (lines : List Line) (n : ℕ) → fold (chosen_retry c m chosen) lines (instances n) ≡ still_told c m chosen lines n 0
+pub through_waiting : (c : PermutationRun) (m : Moment) (chosen : Chosen) (lines : List Line) (n : ℕ) → fold (chosen_retry c m chosen) lines (instances n) ≡ still_told c m chosen lines n 0
 through_waiting c m chosen lines n = skip_reported (chosen_retry c m chosen) (retry_reported c m chosen) (retry_keeps c m chosen) lines n
 
 nothing_left : (xs : List ℕ) (k : ℕ) → length xs ≤ k → drop k xs ≡ []
@@ -100,13 +100,13 @@ nothing_left [] (suc k) h = refl
 nothing_left (x ∷ xs) zero h = absurd (omega arith)
 nothing_left (x ∷ xs) (suc k) h = nothing_left xs k (omega arith)
 
-pub through_end : (c : Setting) (m : Moment) (chosen : Chosen) (lines : List Line) (n place : ℕ) → length (active lines n) ≤ place → still_told c m chosen lines n place ≡ lines
+pub through_end : (c : PermutationRun) (m : Moment) (chosen : Chosen) (lines : List Line) (n place : ℕ) → length (active lines n) ≤ place → still_told c m chosen lines n place ≡ lines
 through_end c m chosen lines n place h = ap (fold (chosen_retry c m chosen) lines) (nothing_left (active lines n) place h)
 
 fold_more : (g : List Line → ℕ → List Line) (lines : List Line) (n : ℕ) → fold g lines (instances (suc n)) ≡ g (fold g lines (instances n)) n
 fold_more g lines n = fold-append g lines (instances n) (n ∷ [])
 
-joined_all : (c : Setting) (m : Moment) (lines : List Line) (n : ℕ) → n ≤ m.joined → fold (chosen_retry c m Joined) lines (instances n) ≡ fold (retry c m) lines (instances n)
+joined_all : (c : PermutationRun) (m : Moment) (lines : List Line) (n : ℕ) → n ≤ m.joined → fold (chosen_retry c m Joined) lines (instances n) ≡ fold (retry c m) lines (instances n)
 joined_all c m lines zero h = refl
 joined_all c m lines (suc n) h =
     let less : nat_lt n m.joined ≡ true = grind arith in
@@ -115,7 +115,7 @@ joined_all c m lines (suc n) h =
     ∙ rw less (ap (λ (w : List Line). retry c m w n) before)
     ∙ sym (fold_more (retry c m) lines n)
 
-joined_case : (c : Setting) (m : Moment) (lines : List Line) (n : ℕ) → (m.joined ≤ n → fold (chosen_retry c m Joined) lines (instances n) ≡ pass c m lines) → m.joined ≤ suc n → (n < m.joined) ⊎ (m.joined ≤ n) → fold (chosen_retry c m Joined) lines (instances (suc n)) ≡ pass c m lines
+joined_case : (c : PermutationRun) (m : Moment) (lines : List Line) (n : ℕ) → (m.joined ≤ n → fold (chosen_retry c m Joined) lines (instances n) ≡ pass c m lines) → m.joined ≤ suc n → (n < m.joined) ⊎ (m.joined ≤ n) → fold (chosen_retry c m Joined) lines (instances (suc n)) ≡ pass c m lines
 joined_case c m lines n before h (inl lt) =
     let all : suc n ≡ m.joined = omega arith in
     joined_all c m lines (suc n) (omega arith) ∙ ap (λ k. fold (retry c m) lines (instances k)) all
@@ -124,6 +124,6 @@ joined_case c m lines n before h (inr le) =
     fold_more (chosen_retry c m Joined) lines n ∙ rw past (before le)
 
 -- to try those that have joined the list is a pass
-pub joined_pass : (c : Setting) (m : Moment) (lines : List Line) (n : ℕ) → m.joined ≤ n → fold (chosen_retry c m Joined) lines (instances n) ≡ pass c m lines
+pub joined_pass : (c : PermutationRun) (m : Moment) (lines : List Line) (n : ℕ) → m.joined ≤ n → fold (chosen_retry c m Joined) lines (instances n) ≡ pass c m lines
 joined_pass c m lines zero h = let none : m.joined ≡ 0 = omega arith in rw none refl
 joined_pass c m lines (suc n) h = joined_case c m lines n (joined_pass c m lines n) h (cases_lt n m.joined)

@@ -5,7 +5,7 @@ use Rattle.std.proofs.lemmas.Bool.{cases_lt, ltb-true, lt-ltb, le-ltb, eq-eqb, a
 use Rattle.report_lines.specs.declared.history.Line.{Line}
 use Rattle.report_lines.specs.declared.history.Line.TheVariants.{Completed}
 use Rattle.report_lines.specs.declared.history.Moment.{Moment}
-use Rattle.report_lines.specs.History.{Setting}
+use Rattle.report_lines.specs.History.{PermutationRun}
 use Rattle.report_lines.specs.Report.{is_reported, active, instances, may_report, retry, own_retry, pass, goes_on, polled, poll, is_of}
 use Rattle.report_lines.proofs.Waits.{active_leave, reported_push, any_is}
 use Rattle.report_lines.proofs.Rising.{Between, between_instances, between_filter, between_length}
@@ -17,10 +17,10 @@ retry_case false true lines l = inr (refl, refl)
 retry_case false false lines l = inl refl
 
 -- a later try says nothing, or reports an instance that wasn't reported
-retry_cases : (c : Setting) (m : Moment) (lines : List Line) (i : ℕ) → (retry c m lines i ≡ lines) ⊎ ((is_reported lines i ≡ false) × (retry c m lines i ≡ lines ++ Completed i m.seen ∷ []))
+retry_cases : (c : PermutationRun) (m : Moment) (lines : List Line) (i : ℕ) → (retry c m lines i ≡ lines) ⊎ ((is_reported lines i ≡ false) × (retry c m lines i ≡ lines ++ Completed i m.seen ∷ []))
 retry_cases c m lines i = retry_case (is_reported lines i) (may_report c m lines i) lines (Completed i m.seen)
 
-pub over_reported : (c : Setting) (m : Moment) (lines : List Line) (i : ℕ) → is_reported lines i ≡ true → retry c m lines i ≡ lines
+pub over_reported : (c : PermutationRun) (m : Moment) (lines : List Line) (i : ℕ) → is_reported lines i ≡ true → retry c m lines i ≡ lines
 over_reported c m lines i h = rw h refl
 
 keeps_case : (lines new : List Line) (l : Line) (i : ℕ) → is_reported lines i ≡ true → (new ≡ lines) ⊎ (new ≡ lines ++ l ∷ []) → is_reported new i ≡ true
@@ -31,10 +31,10 @@ no_reason : (A B C : Type 0) → A ⊎ (B × C) → A ⊎ C
 no_reason A B C (inl a) = inl a
 no_reason A B C (inr p) = inr p.1
 
-pub keeps_reported : (c : Setting) (m : Moment) (lines : List Line) (j i : ℕ) → is_reported lines i ≡ true → is_reported (retry c m lines j) i ≡ true
+pub keeps_reported : (c : PermutationRun) (m : Moment) (lines : List Line) (j i : ℕ) → is_reported lines i ≡ true → is_reported (retry c m lines j) i ≡ true
 keeps_reported c m lines j i h = keeps_case lines (retry c m lines j) (Completed j m.seen) i h (no_reason _ _ _ (retry_cases c m lines j))
 
-fold_keeps : (c : Setting) (m : Moment) (xs : List ℕ) (lines : List Line) (i : ℕ) → is_reported lines i ≡ true → is_reported (fold (retry c m) lines xs) i ≡ true
+fold_keeps : (c : PermutationRun) (m : Moment) (xs : List ℕ) (lines : List Line) (i : ℕ) → is_reported lines i ≡ true → is_reported (fold (retry c m) lines xs) i ≡ true
 fold_keeps c m [] lines i h = h
 fold_keeps c m (x ∷ xs) lines i h = fold_keeps c m xs (retry c m lines x) i (keeps_reported c m lines x i h)
 
@@ -42,17 +42,17 @@ longer_case : (lines new : List Line) (l : Line) → (new ≡ lines) ⊎ (new �
 longer_case lines new l (inl e) = let same = ap length e in omega arith
 longer_case lines new l (inr e) = let more = ap length e ∙ length-append lines (l ∷ []) in omega arith
 
-retry_longer : (c : Setting) (m : Moment) (lines : List Line) (i : ℕ) → length lines ≤ length (retry c m lines i)
+retry_longer : (c : PermutationRun) (m : Moment) (lines : List Line) (i : ℕ) → length lines ≤ length (retry c m lines i)
 retry_longer c m lines i = longer_case lines (retry c m lines i) (Completed i m.seen) (no_reason _ _ _ (retry_cases c m lines i))
 
-fold_longer : (c : Setting) (m : Moment) (xs : List ℕ) (lines : List Line) → length lines ≤ length (fold (retry c m) lines xs)
+fold_longer : (c : PermutationRun) (m : Moment) (xs : List ℕ) (lines : List Line) → length lines ≤ length (fold (retry c m) lines xs)
 fold_longer c m [] lines = omega arith
 fold_longer c m (x ∷ xs) lines =
     let now = retry_longer c m lines x in
     let rest = fold_longer c m xs (retry c m lines x) in
     omega arith
 
-stuck_case : (c : Setting) (m : Moment) (xs : List ℕ) (lines new : List Line) (l : Line) → (length (fold (retry c m) new xs) ≤ length new → fold (retry c m) new xs ≡ new) → length (fold (retry c m) new xs) ≤ length lines → (new ≡ lines) ⊎ (new ≡ lines ++ l ∷ []) → fold (retry c m) new xs ≡ lines
+stuck_case : (c : PermutationRun) (m : Moment) (xs : List ℕ) (lines new : List Line) (l : Line) → (length (fold (retry c m) new xs) ≤ length new → fold (retry c m) new xs ≡ new) → length (fold (retry c m) new xs) ≤ length lines → (new ≡ lines) ⊎ (new ≡ lines ++ l ∷ []) → fold (retry c m) new xs ≡ lines
 stuck_case c m xs lines new l rest h (inl e) = let same = ap length e in rest (omega arith) ∙ e
 stuck_case c m xs lines new l rest h (inr e) =
     let more = ap length e ∙ length-append lines (l ∷ []) in
@@ -60,7 +60,7 @@ stuck_case c m xs lines new l rest h (inr e) =
     absurd (omega arith)
 
 -- where the lines didn't grow they are the same
-stuck : (c : Setting) (m : Moment) (xs : List ℕ) (lines : List Line) → length (fold (retry c m) lines xs) ≤ length lines → fold (retry c m) lines xs ≡ lines
+stuck : (c : PermutationRun) (m : Moment) (xs : List ℕ) (lines : List Line) → length (fold (retry c m) lines xs) ≤ length lines → fold (retry c m) lines xs ≡ lines
 stuck c m [] lines h = refl
 stuck c m (x ∷ xs) lines h = stuck_case c m xs lines (retry c m lines x) (Completed x m.seen) (stuck c m xs (retry c m lines x)) h (no_reason _ _ _ (retry_cases c m lines x))
 
@@ -71,7 +71,7 @@ or_right : (a b : Bool) → b ≡ true → (a || b) ≡ true
 or_right true b h = refl
 or_right false b h = h
 
-grew_case : (c : Setting) (m : Moment) (x : ℕ) (xs : List ℕ) (lines new : List Line) → (length new < length (fold (retry c m) new xs) → list_any (is_reported (fold (retry c m) new xs)) xs ≡ true) → length lines < length (fold (retry c m) new xs) → (new ≡ lines) ⊎ (new ≡ lines ++ Completed x m.seen ∷ []) → list_any (is_reported (fold (retry c m) new xs)) (x ∷ xs) ≡ true
+grew_case : (c : PermutationRun) (m : Moment) (x : ℕ) (xs : List ℕ) (lines new : List Line) → (length new < length (fold (retry c m) new xs) → list_any (is_reported (fold (retry c m) new xs)) xs ≡ true) → length lines < length (fold (retry c m) new xs) → (new ≡ lines) ⊎ (new ≡ lines ++ Completed x m.seen ∷ []) → list_any (is_reported (fold (retry c m) new xs)) (x ∷ xs) ≡ true
 grew_case c m x xs lines new rest h (inl e) =
     let same = ap length e in
     or_right (is_reported (fold (retry c m) new xs) x) (list_any (is_reported (fold (retry c m) new xs)) xs) (rest (omega arith))
@@ -81,7 +81,7 @@ grew_case c m x xs lines new rest h (inr e) =
     or_left (is_reported (fold (retry c m) new xs) x) (list_any (is_reported (fold (retry c m) new xs)) xs) (fold_keeps c m xs new x now)
 
 -- where they grew one of the instances is reported
-grew : (c : Setting) (m : Moment) (xs : List ℕ) (lines : List Line) → length lines < length (fold (retry c m) lines xs) → list_any (is_reported (fold (retry c m) lines xs)) xs ≡ true
+grew : (c : PermutationRun) (m : Moment) (xs : List ℕ) (lines : List Line) → length lines < length (fold (retry c m) lines xs) → list_any (is_reported (fold (retry c m) lines xs)) xs ≡ true
 grew c m [] lines h = absurd (omega arith)
 grew c m (x ∷ xs) lines h = grew_case c m x xs lines (retry c m lines x) (grew c m xs (retry c m lines x)) h (no_reason _ _ _ (retry_cases c m lines x))
 
@@ -93,39 +93,39 @@ none_of_others : (p : ℕ → Bool) (xs : List ℕ) → list_any p (filter (λ j
 none_of_others p [] = refl
 none_of_others p (x ∷ xs) = none_case p x (filter (λ j. not (p j)) xs) (p x) refl (none_of_others p xs)
 
-grows_case : (c : Setting) (m : Moment) (xs : List ℕ) (lines : List Line) → list_any (is_reported lines) xs ≡ false → (length lines < length (fold (retry c m) lines xs)) ⊎ (length (fold (retry c m) lines xs) ≤ length lines) → nat_lt (length lines) (length (fold (retry c m) lines xs)) ≡ list_any (is_reported (fold (retry c m) lines xs)) xs
+grows_case : (c : PermutationRun) (m : Moment) (xs : List ℕ) (lines : List Line) → list_any (is_reported lines) xs ≡ false → (length lines < length (fold (retry c m) lines xs)) ⊎ (length (fold (retry c m) lines xs) ≤ length lines) → nat_lt (length lines) (length (fold (retry c m) lines xs)) ≡ list_any (is_reported (fold (retry c m) lines xs)) xs
 grows_case c m xs lines none (inl lt) = lt-ltb (length lines) (length (fold (retry c m) lines xs)) lt ∙ sym (grew c m xs lines lt)
 grows_case c m xs lines none (inr le) =
     le-ltb (length lines) (length (fold (retry c m) lines xs)) le
     ∙ sym (ap (λ (w : List Line). list_any (is_reported w) xs) (stuck c m xs lines le) ∙ none)
 
 -- a pass is one over the waiting list
-pub pass_waiting : (c : Setting) (m : Moment) (lines : List Line) → pass c m lines ≡ fold (retry c m) lines (active lines m.joined)
+pub pass_waiting : (c : PermutationRun) (m : Moment) (lines : List Line) → pass c m lines ≡ fold (retry c m) lines (active lines m.joined)
 pass_waiting c m lines = skip_reported (retry c m) (over_reported c m) (keeps_reported c m) lines m.joined
 
 -- the lines grow in a pass exactly where it reports a step of the waiting list
-pub grows : (c : Setting) (m : Moment) (lines : List Line) → nat_lt (length lines) (length (pass c m lines)) ≡ list_any (is_reported (pass c m lines)) (active lines m.joined)
+pub grows : (c : PermutationRun) (m : Moment) (lines : List Line) → nat_lt (length lines) (length (pass c m lines)) ≡ list_any (is_reported (pass c m lines)) (active lines m.joined)
 grows c m lines =
     rw (pass_waiting c m lines) (grows_case c m (active lines m.joined) lines (none_of_others (is_reported lines) (instances m.joined)) (cases_lt (length lines) (length (fold (retry c m) lines (active lines m.joined)))))
 
-own_case : (c : Setting) (m : Moment) (s : ℕ) (lines : List Line) (x : ℕ) (xs : List ℕ) (b : Bool) → ((l : List Line) → fold (own_retry c m s) l xs ≡ fold (retry c m) l (filter (is_of c s) xs)) → fold (own_retry c m s) (if b then retry c m lines x else lines) xs ≡ fold (retry c m) lines (cond b (x ∷ filter (is_of c s) xs) (filter (is_of c s) xs))
+own_case : (c : PermutationRun) (m : Moment) (s : ℕ) (lines : List Line) (x : ℕ) (xs : List ℕ) (b : Bool) → ((l : List Line) → fold (own_retry c m s) l xs ≡ fold (retry c m) l (filter (is_of c s) xs)) → fold (own_retry c m s) (if b then retry c m lines x else lines) xs ≡ fold (retry c m) lines (cond b (x ∷ filter (is_of c s) xs) (filter (is_of c s) xs))
 own_case c m s lines x xs true rest = rest (retry c m lines x)
 own_case c m s lines x xs false rest = rest lines
 
-own_filter : (c : Setting) (m : Moment) (s : ℕ) (xs : List ℕ) (lines : List Line) → fold (own_retry c m s) lines xs ≡ fold (retry c m) lines (filter (is_of c s) xs)
+own_filter : (c : PermutationRun) (m : Moment) (s : ℕ) (xs : List ℕ) (lines : List Line) → fold (own_retry c m s) lines xs ≡ fold (retry c m) lines (filter (is_of c s) xs)
 own_filter c m s [] lines = refl
 own_filter c m s (x ∷ xs) lines = own_case c m s lines x xs (is_of c s x) (own_filter c m s xs)
 
-own_over : (c : Setting) (m : Moment) (s : ℕ) (lines : List Line) (i : ℕ) → is_reported lines i ≡ true → own_retry c m s lines i ≡ lines
+own_over : (c : PermutationRun) (m : Moment) (s : ℕ) (lines : List Line) (i : ℕ) → is_reported lines i ≡ true → own_retry c m s lines i ≡ lines
 own_over c m s lines i h = rw (over_reported c m lines i h) (elim (is_of c s i) as (λ b. (if b then lines else lines) ≡ lines) [ true ↦ refl | false ↦ refl ])
 
-own_keeps : (c : Setting) (m : Moment) (s : ℕ) (lines : List Line) (j i : ℕ) → is_reported lines i ≡ true → is_reported (own_retry c m s lines j) i ≡ true
+own_keeps : (c : PermutationRun) (m : Moment) (s : ℕ) (lines : List Line) (j i : ℕ) → is_reported lines i ≡ true → is_reported (own_retry c m s lines j) i ≡ true
 own_keeps c m s lines j i h =
     let kept = keeps_reported c m lines j i h in
     elim (is_of c s j) as (λ b. is_reported (if b then retry c m lines j else lines) i ≡ true) [ true ↦ kept | false ↦ h ]
 
 -- the session's own tries are those of its active instances
-pub own_waiting : (c : Setting) (m : Moment) (s n : ℕ) (lines : List Line) → fold (own_retry c m s) lines (instances n) ≡ fold (retry c m) lines (filter (is_of c s) (active lines n))
+pub own_waiting : (c : PermutationRun) (m : Moment) (s n : ℕ) (lines : List Line) → fold (own_retry c m s) lines (instances n) ≡ fold (retry c m) lines (filter (is_of c s) (active lines n))
 own_waiting c m s n lines = skip_reported (own_retry c m s) (own_over c m s) (own_keeps c m s) lines n ∙ own_filter c m s (active lines n) lines
 
 shorter_case : (e x : ℕ) (ys : List ℕ) (b : Bool) → length (filter (λ j. not (j == e)) ys) ≤ length ys → (list_any (λ j. j == e) ys ≡ true → length (filter (λ j. not (j == e)) ys) + 1 ≤ length ys) → (b || list_any (λ j. j == e) ys) ≡ true → length (cond (not b) (x ∷ filter (λ j. not (j == e)) ys) (filter (λ j. not (j == e)) ys)) + 1 ≤ suc (length ys)
@@ -140,7 +140,7 @@ shorter : (e : ℕ) (xs : List ℕ) → list_any (λ j. j == e) xs ≡ true → 
 shorter e [] h = cc
 shorter e (x ∷ xs) h = shorter_case e x xs (x == e) (few_left (λ j. not (j == e)) xs) (shorter e xs) h
 
-count_case : (c : Setting) (m : Moment) (lines new : List Line) (i n : ℕ) → i < n → (new ≡ lines) ⊎ ((is_reported lines i ≡ false) × (new ≡ lines ++ Completed i m.seen ∷ [])) → length new + length (active new n) ≤ length lines + length (active lines n)
+count_case : (c : PermutationRun) (m : Moment) (lines new : List Line) (i n : ℕ) → i < n → (new ≡ lines) ⊎ ((is_reported lines i ≡ false) × (new ≡ lines ++ Completed i m.seen ∷ [])) → length new + length (active new n) ≤ length lines + length (active lines n)
 count_case c m lines new i n h (inl e) = let same = ap (λ (w : List Line). length w + length (active w n)) e in omega arith
 count_case c m lines new i n h (inr p) =
     let there : list_any (λ j. j == i) (active lines n) ≡ true = any_is (λ j. not (is_reported lines j)) i n h ∙ rw p.0 refl in
@@ -149,7 +149,7 @@ count_case c m lines new i n h (inr p) =
     let left = ap (λ (w : List Line). length (active w n)) p.1 ∙ ap length (active_leave lines i m.seen n) in
     omega arith
 
-fold_count : (c : Setting) (m : Moment) (n low high : ℕ) (xs : List ℕ) (lines : List Line) → Between low high xs → high ≤ n → length (fold (retry c m) lines xs) + length (active (fold (retry c m) lines xs) n) ≤ length lines + length (active lines n)
+fold_count : (c : PermutationRun) (m : Moment) (n low high : ℕ) (xs : List ℕ) (lines : List Line) → Between low high xs → high ≤ n → length (fold (retry c m) lines xs) + length (active (fold (retry c m) lines xs) n) ≤ length lines + length (active lines n)
 fold_count c m n low high [] lines h le = omega arith
 fold_count c m n low high (x ∷ xs) lines h le =
     let room = between_length (x + 1) high xs h.1 in
@@ -158,14 +158,14 @@ fold_count c m n low high (x ∷ xs) lines h le =
     omega arith
 
 -- each reported step leaves the waiting list
-pass_count : (c : Setting) (m : Moment) (lines : List Line) → length (pass c m lines) + length (active (pass c m lines) m.joined) ≤ length lines + length (active lines m.joined)
+pass_count : (c : PermutationRun) (m : Moment) (lines : List Line) → length (pass c m lines) + length (active (pass c m lines) m.joined) ≤ length lines + length (active lines m.joined)
 pass_count c m lines = fold_count c m m.joined 0 m.joined (instances m.joined) lines (between_instances m.joined) (omega arith)
 
-enough_case : (c : Setting) (m : Moment) (k more : ℕ) (lines new : List Line) (b : Bool) → goes_on c m lines new ≡ b → (length lines < length new → polled c m (k + more) new ≡ polled c m k new) → (if b then polled c m (k + more) new else new) ≡ (if b then polled c m k new else new)
+enough_case : (c : PermutationRun) (m : Moment) (k more : ℕ) (lines new : List Line) (b : Bool) → goes_on c m lines new ≡ b → (length lines < length new → polled c m (k + more) new ≡ polled c m k new) → (if b then polled c m (k + more) new else new) ≡ (if b then polled c m k new else new)
 enough_case c m k more lines new true is rest = rest (ltb-true (length lines) (length new) (and_parts _ _ is).0)
 enough_case c m k more lines new false is rest = refl
 
-enough : (c : Setting) (m : Moment) (more k : ℕ) (lines : List Line) → length (active lines m.joined) < k → polled c m (k + more) lines ≡ polled c m k lines
+enough : (c : PermutationRun) (m : Moment) (more k : ℕ) (lines : List Line) → length (active lines m.joined) < k → polled c m (k + more) lines ≡ polled c m k lines
 enough c m more zero lines h = absurd (omega arith)
 enough c m more (suc k) lines h =
     let next : suc k + more ≡ suc (k + more) = omega arith in
@@ -173,7 +173,7 @@ enough c m more (suc k) lines h =
     rw next (enough_case c m k more lines (pass c m lines) (goes_on c m lines (pass c m lines)) refl (λ grew. enough c m more k (pass c m lines) (omega arith)))
 
 -- any larger number of passes gives the same lines
-pub more_passes : (c : Setting) (m : Moment) (lines : List Line) (more : ℕ) → polled c m (m.joined + 1 + more) lines ≡ poll c m lines
+pub more_passes : (c : PermutationRun) (m : Moment) (lines : List Line) (more : ℕ) → polled c m (m.joined + 1 + more) lines ≡ poll c m lines
 more_passes c m lines more =
     let few = between_length 0 m.joined (active lines m.joined) (between_filter (λ j. not (is_reported lines j)) 0 m.joined (instances m.joined) (between_instances m.joined)) in
     enough c m more (m.joined + 1) lines (omega arith)

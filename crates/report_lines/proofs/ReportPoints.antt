@@ -6,7 +6,7 @@ use Rattle.std.proofs.lemmas.List.Sums.{length-filter}
 use Rattle.std.proofs.lemmas.Bool.{eqb-true, eq-eqb}
 use Rattle.report_lines.specs.declared.history.Line.{Line}
 use Rattle.report_lines.specs.declared.history.Line.TheVariants.{AtOnce, Waiting, Completed}
-use Rattle.report_lines.specs.History.{Setting}
+use Rattle.report_lines.specs.History.{PermutationRun}
 use Rattle.report_lines.specs.Report.{reports, report}
 use Rattle.report_lines.specs.Tries.{Try, is_untried, was_reported, is_met, says, said, tries, IsReportPoint}
 use Rattle.report_lines.proofs.Tried.{lines_are_said}
@@ -42,7 +42,7 @@ once_case i e s false was_i false false same = once_never (i == e) was_i
 abbrev times : ℕ → List Line → ℕ
 times i lines = length (filter (reports i) lines)
 
-said_once : (c : Setting) (i : ℕ) (ts : List Try) → times i (said c ts) ≡ cond (was_reported c ts i) 1 0
+said_once : (c : PermutationRun) (i : ℕ) (ts : List Try) → times i (said c ts) ≡ cond (was_reported c ts i) 1 0
 said_once c i [] = refl
 said_once c i (t ∷ earlier) =
     let rest = said_once c i earlier in
@@ -57,7 +57,7 @@ at_most_one true = omega arith
 at_most_one false = omega arith
 
 -- no instance is reported twice
-pub reported_once : (c : Setting) (there i : ℕ) → count_by (reports i) (report c there).lines ≤ 1
+pub reported_once : (c : PermutationRun) (there i : ℕ) → count_by (reports i) (report c there).lines ≤ 1
 reported_once c there i =
     let count = sym (length-filter (reports i) (report c there).lines) ∙ ap (times i) (lines_are_said c there) ∙ said_once c i (tries c there) in
     let most = at_most_one (was_reported c (tries c there) i) in
@@ -71,7 +71,7 @@ and_none : (a b : Bool) → a ≡ true → (a && b) ≡ false → b ≡ false
 and_none true b is h = h
 and_none false b is h = cc
 
-unmet : (c : Setting) (i : ℕ) (behind : List Try) (u : Try) (ahead : List Try) → was_reported c (behind ++ u ∷ ahead) i ≡ false → i ≡ u.entry → is_met c ahead u ≡ false
+unmet : (c : PermutationRun) (i : ℕ) (behind : List Try) (u : Try) (ahead : List Try) → was_reported c (behind ++ u ∷ ahead) i ≡ false → i ≡ u.entry → is_met c ahead u ≡ false
 unmet c i [] u ahead h of = and_none (i == u.entry) (is_met c ahead u) (eq-eqb i u.entry of) (or_none _ _ h).1
 unmet c i (b ∷ behind) u ahead h of = unmet c i behind u ahead (or_none _ _ h).0 of
 
@@ -79,7 +79,7 @@ none_case : (was b met : Bool) → was ≡ false → (b ≡ true → met ≡ fal
 none_case was true met h never = rw (h, never refl) refl
 none_case was false met h never = rw h refl
 
-never_met : (c : Setting) (i : ℕ) (ts : List Try) → ((behind : List Try) (u : Try) (ahead : List Try) → ts ≡ behind ++ u ∷ ahead → i ≡ u.entry → is_met c ahead u ≡ false) → was_reported c ts i ≡ false
+never_met : (c : PermutationRun) (i : ℕ) (ts : List Try) → ((behind : List Try) (u : Try) (ahead : List Try) → ts ≡ behind ++ u ∷ ahead → i ≡ u.entry → is_met c ahead u ≡ false) → was_reported c ts i ≡ false
 never_met c i [] h = refl
 never_met c i (t ∷ earlier) h =
     none_case (was_reported c earlier i) (i == t.entry) (is_met c earlier t)
@@ -109,7 +109,7 @@ spoken i e s line false false true has is =
     cc
 spoken i e s line false false false has is = absurd (contains_none line has)
 
-found_case : (c : Setting) (i : ℕ) (line : Line) (t : Try) (earlier : List Try) → reports i line ≡ true → (Contains (said c earlier) line → IsReportPoint c earlier i line) → Contains (said c earlier) line ⊎ Contains (says c earlier t) line → IsReportPoint c (t ∷ earlier) i line
+found_case : (c : PermutationRun) (i : ℕ) (line : Line) (t : Try) (earlier : List Try) → reports i line ≡ true → (Contains (said c earlier) line → IsReportPoint c earlier i line) → Contains (said c earlier) line ⊎ Contains (says c earlier t) line → IsReportPoint c (t ∷ earlier) i line
 found_case c i line t earlier is rest (inl has) =
     let p = rest has in
     record { later = t ∷ p.later; t = p.t; earlier = p.earlier; stands = ap (λ (w : List Try). t ∷ w) p.stands; of = p.of; met = p.met; first = p.first; is = p.is }
@@ -128,16 +128,16 @@ found_case c i line t earlier is rest (inr has) =
       is = p.3 ∙ ap (λ k. if is_untried earlier k then AtOnce i t.moment.seen else Completed i t.moment.seen) (sym at);
     }
 
-found : (c : Setting) (i : ℕ) (line : Line) (ts : List Try) → reports i line ≡ true → Contains (said c ts) line → IsReportPoint c ts i line
+found : (c : PermutationRun) (i : ℕ) (line : Line) (ts : List Try) → reports i line ≡ true → Contains (said c ts) line → IsReportPoint c ts i line
 found c i line [] is has = absurd (contains_none line has)
 found c i line (t ∷ earlier) is has =
     found_case c i line t earlier is (found c i line earlier is) (Contains-append_cases (said c earlier) (says c earlier t) line has)
 
-kept : (c : Setting) (line : Line) (later ts : List Try) → Contains (said c ts) line → Contains (said c (later ++ ts)) line
+kept : (c : PermutationRun) (line : Line) (later ts : List Try) → Contains (said c ts) line → Contains (said c (later ++ ts)) line
 kept c line [] ts has = has
 kept c line (t ∷ later) ts has = Contains-append_left (said c (later ++ ts)) (says c (later ++ ts) t) line (kept c line later ts has)
 
-told : (c : Setting) (i : ℕ) (line : Line) (ts : List Try) → IsReportPoint c ts i line → Contains (said c ts) line × (reports i line ≡ true)
+told : (c : PermutationRun) (i : ℕ) (line : Line) (ts : List Try) → IsReportPoint c ts i line → Contains (said c ts) line × (reports i line ≡ true)
 told c i line ts p =
     let seen = p.t.moment.seen in
     let was : was_reported c p.earlier p.t.entry ≡ false = ap (was_reported c p.earlier) (sym p.of) ∙ never_met c i p.earlier p.first in
@@ -152,7 +152,7 @@ told c i line ts p =
     (subst (λ (w : List Try). Contains (said c w) line) (sym p.stands) there, ap (reports i) p.is ∙ reporting)
 
 -- a line of the report reports an instance exactly where it is that of the instance's report point
-pub points_are_least : (c : Setting) (there i : ℕ) (line : Line) → (Contains (report c there).lines line × (reports i line ≡ true)) ↔ IsReportPoint c (tries c there) i line
+pub points_are_least : (c : PermutationRun) (there i : ℕ) (line : Line) → (Contains (report c there).lines line × (reports i line ≡ true)) ↔ IsReportPoint c (tries c there) i line
 points_are_least c there i line = (
   λ h. found c i line (tries c there) h.1 (subst (λ (w : List Line). Contains w line) (lines_are_said c there) h.0),
   λ p. let h = told c i line (tries c there) p in (subst (λ (w : List Line). Contains w line) (sym (lines_are_said c there)) h.0, h.1),

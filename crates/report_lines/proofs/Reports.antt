@@ -3,21 +3,21 @@ use Rattle.std.proofs.Common.{◌≡◌, ℕ, zero, suc, ◌+◌, ◌-◌, ◌<�
 use Rattle.report_lines.specs.declared.history.Line.{Line}
 use Rattle.report_lines.specs.declared.history.Stand.{Stand}
 use Rattle.report_lines.specs.declared.history.Stand.TheVariants.{Due, Whole, Invalid}
-use Rattle.report_lines.specs.History.{Setting}
+use Rattle.report_lines.specs.History.{PermutationRun}
 use Rattle.report_lines.specs.Report.{Report, report, report_from, made_way, launched, poll, before, is_busy, is_empty, active}
 
 -- where the entries come to an end
-pub report_end : (c : Setting) (n e there : ℕ) (lines : List Line) → n ≤ e → report_from c e (n - e) there lines ≡ (let all = poll c (before c e) lines in record { lines = all; stand = if is_empty (active all e) then Whole else Invalid })
+pub report_end : (c : PermutationRun) (n e there : ℕ) (lines : List Line) → n ≤ e → report_from c e (n - e) there lines ≡ (let all = poll c (before c e) lines in record { lines = all; stand = if is_empty (active all e) then Whole else Invalid })
 report_end c n e there lines h = let over : n - e ≡ 0 = omega arith in rw over refl
 
 -- at an entry of which no segment is there
-pub report_stuck : (c : Setting) (n e : ℕ) (lines way : List Line) → e < n → way ≡ made_way c lines e → is_busy c way e ≡ true → report_from c e (n - e) e lines ≡ record { lines = way; stand = Invalid }
+pub report_stuck : (c : PermutationRun) (n e : ℕ) (lines way : List Line) → e < n → way ≡ made_way c lines e → is_busy c way e ≡ true → report_from c e (n - e) e lines ≡ record { lines = way; stand = Invalid }
 report_stuck c n e lines way h is busy =
     let more : n - e ≡ suc (n - (e + 1)) = omega arith in
     let busy_way : is_busy c (made_way c lines e) e ≡ true = ap (λ (w : List Line). is_busy c w e) (sym is) ∙ busy in
     rw (more, busy_way, is) refl
 
-pub report_due : (c : Setting) (n e : ℕ) (lines way : List Line) → e < n → way ≡ made_way c lines e → is_busy c way e ≡ false → report_from c e (n - e) e lines ≡ record { lines = way; stand = Due e }
+pub report_due : (c : PermutationRun) (n e : ℕ) (lines way : List Line) → e < n → way ≡ made_way c lines e → is_busy c way e ≡ false → report_from c e (n - e) e lines ≡ record { lines = way; stand = Due e }
 report_due c n e lines way h is free =
     let more : n - e ≡ suc (n - (e + 1)) = omega arith in
     let absent : nat_lt e e ≡ false = grind arith in
@@ -26,18 +26,18 @@ report_due c n e lines way h is free =
 
 -- ---- with no segment
 
-pub report_none : (c : Setting) → length c.entries ≡ 0 → report c 0 ≡ record { lines = []; stand = Whole }
+pub report_none : (c : PermutationRun) → length c.entries ≡ 0 → report c 0 ≡ record { lines = []; stand = Whole }
 report_none c none = rw none refl
 
-pub report_some : (c : Setting) (more : ℕ) → length c.entries ≡ suc more → report c 0 ≡ record { lines = []; stand = Due 0 }
+pub report_some : (c : PermutationRun) (more : ℕ) → length c.entries ≡ suc more → report c 0 ≡ record { lines = []; stand = Due 0 }
 report_some c more some = rw some refl
 
-same_first : (c d : Setting) (n : ℕ) → length c.entries ≡ n → length d.entries ≡ n → report c 0 ≡ report d 0
+same_first : (c d : PermutationRun) (n : ℕ) → length c.entries ≡ n → length d.entries ≡ n → report c 0 ≡ report d 0
 same_first c d zero one other = report_none c one ∙ sym (report_none d other)
 same_first c d (suc n) one other = report_some c n one ∙ sym (report_some d n other)
 
 -- it is the same whatever the history is
-pub first_same : (c d : Setting) → length c.entries ≡ length d.entries → report c 0 ≡ report d 0
+pub first_same : (c d : PermutationRun) → length c.entries ≡ length d.entries → report c 0 ≡ report d 0
 first_same c d same = same_first c d (length d.entries) same refl
 
 -- ---- with a segment more
@@ -56,12 +56,12 @@ ends_so true d h = whole_due d h
 ends_so false d h = invalid_due d h
 
 -- an entry is due, as the first without a segment
-record Next (c : Setting) (e rest there : ℕ) (lines way : List Line) (d : ℕ) : Type 0 where
+record Next (c : PermutationRun) (e rest there : ℕ) (lines way : List Line) (d : ℕ) : Type 0 where
   first : d ≡ there
   within : there < e + rest
   goes_on : report_from c e rest (there + 1) lines ≡ report_from c (there + 1) (e + rest - (there + 1)) (there + 1) (launched c way there)
 
-next_case : (c : Setting) (e rest there : ℕ) (lines way : List Line) (d : ℕ) (busy past : Bool) → busy ≡ is_busy c (made_way c lines e) e → past ≡ nat_lt e there → e ≤ there
+next_case : (c : PermutationRun) (e rest there : ℕ) (lines way : List Line) (d : ℕ) (busy past : Bool) → busy ≡ is_busy c (made_way c lines e) e → past ≡ nat_lt e there → e ≤ there
     → (e + 1 ≤ there → report_from c (e + 1) rest there (launched c (made_way c lines e) e) ≡ record { lines = way; stand = Due d } → Next c (e + 1) rest there (launched c (made_way c lines e) e) way d)
     → (if busy then record { lines = made_way c lines e; stand = Invalid } else (if past then report_from c (e + 1) rest there (launched c (made_way c lines e) e) else record { lines = made_way c lines e; stand = Due e })) ≡ record { lines = way; stand = Due d }
     → Next c e (suc rest) there lines way d
@@ -90,13 +90,13 @@ next_case c e rest there lines way d false false is_b is_p le later h =
           ∙ ap (λ k. report_from c (there + 1) k (there + 1) (launched c way there)) left);
     }
 
-from_next : (c : Setting) (e rest there : ℕ) (lines way : List Line) (d : ℕ) → e ≤ there → report_from c e rest there lines ≡ record { lines = way; stand = Due d } → Next c e rest there lines way d
+from_next : (c : PermutationRun) (e rest there : ℕ) (lines way : List Line) (d : ℕ) → e ≤ there → report_from c e rest there lines ≡ record { lines = way; stand = Due d } → Next c e rest there lines way d
 from_next c e zero there lines way d le h = absurd (ends_so (is_empty (active (poll c (before c e) lines) e)) d (ap (λ (r : Report). r.stand) h))
 from_next c e (suc rest) there lines way d le h =
     next_case c e rest there lines way d (is_busy c (made_way c lines e) e) (nat_lt e there) refl refl le
     (λ more h'. from_next c (e + 1) rest there (launched c (made_way c lines e) e) way d more h') h
 
-pub report_next : (c : Setting) (there : ℕ) (way : List Line) (d : ℕ) → report c there ≡ record { lines = way; stand = Due d } → report c (there + 1) ≡ report_from c (there + 1) (length c.entries - (there + 1)) (there + 1) (launched c way there)
+pub report_next : (c : PermutationRun) (there : ℕ) (way : List Line) (d : ℕ) → report c there ≡ record { lines = way; stand = Due d } → report c (there + 1) ≡ report_from c (there + 1) (length c.entries - (there + 1)) (there + 1) (launched c way there)
 report_next c there way d h =
     let n = from_next c 0 (length c.entries) there [] way d (omega arith) h in
     let all : 0 + length c.entries ≡ length c.entries = omega arith in
@@ -112,7 +112,7 @@ not_due (Due d) e over h = cc
 not_due Whole e over h = whole_due e (sym h)
 not_due Invalid e over h = invalid_due e (sym h)
 
-over_case : (c : Setting) (e rest there : ℕ) (lines way : List Line) (s : Stand) (busy past : Bool) → busy ≡ is_busy c (made_way c lines e) e → past ≡ nat_lt e there → is_due s ≡ false
+over_case : (c : PermutationRun) (e rest there : ℕ) (lines way : List Line) (s : Stand) (busy past : Bool) → busy ≡ is_busy c (made_way c lines e) e → past ≡ nat_lt e there → is_due s ≡ false
     → (report_from c (e + 1) rest there (launched c (made_way c lines e) e) ≡ record { lines = way; stand = s } → report_from c (e + 1) rest (there + 1) (launched c (made_way c lines e) e) ≡ record { lines = way; stand = s })
     → (if busy then record { lines = made_way c lines e; stand = Invalid } else (if past then report_from c (e + 1) rest there (launched c (made_way c lines e) e) else record { lines = made_way c lines e; stand = Due e })) ≡ record { lines = way; stand = s }
     → report_from c e (suc rest) (there + 1) lines ≡ record { lines = way; stand = s }
@@ -120,12 +120,12 @@ over_case c e rest there lines way s true past is_b is_p over later h = rw (sym 
 over_case c e rest there lines way s false true is_b is_p over later h = let on : nat_lt e (there + 1) ≡ true = grind arith in rw (sym is_b, on) (later h)
 over_case c e rest there lines way s false false is_b is_p over later h = absurd (not_due s e over (ap (λ (r : Report). r.stand) h))
 
-from_over : (c : Setting) (e rest there : ℕ) (lines way : List Line) (s : Stand) → is_due s ≡ false → report_from c e rest there lines ≡ record { lines = way; stand = s } → report_from c e rest (there + 1) lines ≡ record { lines = way; stand = s }
+from_over : (c : PermutationRun) (e rest there : ℕ) (lines way : List Line) (s : Stand) → is_due s ≡ false → report_from c e rest there lines ≡ record { lines = way; stand = s } → report_from c e rest (there + 1) lines ≡ record { lines = way; stand = s }
 from_over c e zero there lines way s over h = h
 from_over c e (suc rest) there lines way s over h =
     over_case c e rest there lines way s (is_busy c (made_way c lines e) e) (nat_lt e there) refl refl over
     (from_over c (e + 1) rest there (launched c (made_way c lines e) e) way s over) h
 
 -- what is whole or invalid stays so
-pub report_over : (c : Setting) (there : ℕ) (way : List Line) (s : Stand) → is_due s ≡ false → report c there ≡ record { lines = way; stand = s } → report c (there + 1) ≡ record { lines = way; stand = s }
+pub report_over : (c : PermutationRun) (there : ℕ) (way : List Line) (s : Stand) → is_due s ≡ false → report c there ≡ record { lines = way; stand = s } → report c (there + 1) ≡ record { lines = way; stand = s }
 report_over c there way s over h = from_over c 0 (length c.entries) there [] way s over h

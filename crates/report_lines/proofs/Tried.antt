@@ -10,7 +10,7 @@ use Rattle.report_lines.specs.declared.history.Line.{Line}
 use Rattle.report_lines.specs.declared.history.Line.TheVariants.{AtOnce, Waiting, Completed}
 use Rattle.report_lines.specs.declared.history.Moment.{Moment}
 use Rattle.report_lines.specs.declared.history.Stand.TheVariants.{Due, Invalid}
-use Rattle.report_lines.specs.History.{Setting, session_at, has_ended, is_named, is_starred, is_marked}
+use Rattle.report_lines.specs.History.{PermutationRun, session_at, has_ended, is_named, is_starred, is_marked}
 use Rattle.report_lines.specs.Report.{reports, is_reported, instances, active, before, after, first_try, retry, own_retry, pass, goes_on, polled, poll, is_of, is_busy, made_way, launched, report_from, report}
 use Rattle.report_lines.specs.Tries.{Try, is_try_of, is_untried, was_reported, still_active, is_met, says, said, try_each, gone_through, wants_another, passes, all_passes, has_active, tries_before, tries_after, tries_from, tries}
 use Rattle.report_lines.proofs.Waits.{same_filter}
@@ -30,7 +30,7 @@ says_case i e s false h_i false true same = elim (i == e) as (λ b. (h_i || (fal
 says_case i e s false h_i false false same = elim (i == e) as (λ b. (h_i || false) ≡ (h_i || (b && false))) [ true ↦ refl | false ↦ refl ]
 
 -- the lines of the tries report what the tries report
-said_reports : (c : Setting) (ts : List Try) (i : ℕ) → is_reported (said c ts) i ≡ was_reported c ts i
+said_reports : (c : PermutationRun) (ts : List Try) (i : ℕ) → is_reported (said c ts) i ≡ was_reported c ts i
 said_reports c [] i = refl
 said_reports c (t ∷ earlier) i =
     list_any-append (reports i) (said c earlier) (says c earlier t)
@@ -38,7 +38,7 @@ said_reports c (t ∷ earlier) i =
     ∙ says_case i t.entry t.moment.seen (was_reported c earlier t.entry) (was_reported c earlier i) (is_met c earlier t) (is_untried earlier t.entry)
     (λ is. ap (was_reported c earlier) (sym (eqb-true i t.entry is)))
 
-said_active : (c : Setting) (ts : List Try) (n : ℕ) → active (said c ts) n ≡ still_active c ts n
+said_active : (c : PermutationRun) (ts : List Try) (n : ℕ) → active (said c ts) n ≡ still_active c ts n
 said_active c ts n =
     same_filter (λ j. not (is_reported (said c ts) j)) (λ j. not (was_reported c ts j)) (λ j. ap not (said_reports c ts j)) (instances n)
 
@@ -48,7 +48,7 @@ retry_case false true true starred lines l = sym (append-nil lines)
 retry_case false true false starred lines l = refl
 retry_case false false held starred lines l = sym (append-nil lines)
 
-says_retry : (c : Setting) (m : Moment) (ts : List Try) (i : ℕ) → is_untried ts i ≡ false → retry c m (said c ts) i ≡ said c (record { entry = i; moment = m } ∷ ts)
+says_retry : (c : PermutationRun) (m : Moment) (ts : List Try) (i : ℕ) → is_untried ts i ≡ false → retry c m (said c ts) i ≡ said c (record { entry = i; moment = m } ∷ ts)
 says_retry c m ts i again =
     rw (again, said_reports c ts i, said_active c ts m.launched)
     (retry_case (was_reported c ts i) (has_ended c m.seen i) (list_any (is_named c i) (still_active c ts m.launched)) (is_starred c i) (said c ts) (Completed i m.seen))
@@ -59,7 +59,7 @@ first_case true false true lines l k = refl
 first_case true false false lines l k = refl
 first_case false held starred lines l k = refl
 
-says_first : (c : Setting) (m : Moment) (ts : List Try) (i : ℕ) → is_untried ts i ≡ true → was_reported c ts i ≡ false → first_try c m (said c ts) i ≡ said c (record { entry = i; moment = m } ∷ ts)
+says_first : (c : PermutationRun) (m : Moment) (ts : List Try) (i : ℕ) → is_untried ts i ≡ true → was_reported c ts i ≡ false → first_try c m (said c ts) i ≡ said c (record { entry = i; moment = m } ∷ ts)
 says_first c m ts i new fresh =
     rw (new, fresh, said_active c ts m.launched)
     (first_case (has_ended c m.seen i) (list_any (is_named c i) (still_active c ts m.launched)) (is_starred c i) (said c ts) (AtOnce i m.seen) (Waiting i))
@@ -68,12 +68,12 @@ untried_case : (b tried w r : Bool) → not (b || tried) ≡ true → (not tried
 untried_case true tried w r h rest = cc
 untried_case false tried w r h rest = rw (rest h) refl
 
-untried_waits : (c : Setting) (ts : List Try) (i : ℕ) → is_untried ts i ≡ true → was_reported c ts i ≡ false
+untried_waits : (c : PermutationRun) (ts : List Try) (i : ℕ) → is_untried ts i ≡ true → was_reported c ts i ≡ false
 untried_waits c [] i h = refl
 untried_waits c (t ∷ earlier) i h = untried_case (i == t.entry) (list_any (is_try_of i) earlier) (was_reported c earlier i) (is_met c earlier t) h (untried_waits c earlier i)
 
 -- the lines are those of the tries, and just the instances of so many entries have been tried
-pub record Follows (c : Setting) (n : ℕ) (lines : List Line) (ts : List Try) : Type 0 where
+pub record Follows (c : PermutationRun) (n : ℕ) (lines : List Line) (ts : List Try) : Type 0 where
   pub told : lines ≡ said c ts
   pub tried : (i : ℕ) → is_untried ts i ≡ not (nat_lt i n)
 
@@ -84,25 +84,25 @@ tried_case i j n false tried less h = h
 tried_again : (ts : List Try) (m : Moment) (i n : ℕ) → i < n → ((j : ℕ) → is_untried ts j ≡ not (nat_lt j n)) → (j : ℕ) → is_untried (record { entry = i; moment = m } ∷ ts) j ≡ not (nat_lt j n)
 tried_again ts m i n less h j = tried_case i j n (j == i) (list_any (is_try_of j) ts) (λ is. let same = eqb-true j i is in omega arith) (h j)
 
-follows_retry : (c : Setting) (m : Moment) (n : ℕ) (lines : List Line) (ts : List Try) (i : ℕ) → i < n → Follows c n lines ts → Follows c n (retry c m lines i) (record { entry = i; moment = m } ∷ ts)
+follows_retry : (c : PermutationRun) (m : Moment) (n : ℕ) (lines : List Line) (ts : List Try) (i : ℕ) → i < n → Follows c n lines ts → Follows c n (retry c m lines i) (record { entry = i; moment = m } ∷ ts)
 follows_retry c m n lines ts i less f = record {
   told = ap (λ (w : List Line). retry c m w i) f.told ∙ says_retry c m ts i (f.tried i ∙ ap not (lt-ltb i n less));
   tried = tried_again ts m i n less f.tried;
 }
 
-follows_each : (c : Setting) (m : Moment) (n low high : ℕ) (xs : List ℕ) (lines : List Line) (ts : List Try) → Between low high xs → high ≤ n → Follows c n lines ts → Follows c n (fold (retry c m) lines xs) (try_each m ts xs)
+follows_each : (c : PermutationRun) (m : Moment) (n low high : ℕ) (xs : List ℕ) (lines : List Line) (ts : List Try) → Between low high xs → high ≤ n → Follows c n lines ts → Follows c n (fold (retry c m) lines xs) (try_each m ts xs)
 follows_each c m n low high [] lines ts h le f = f
 follows_each c m n low high (x ∷ xs) lines ts h le f =
     let room = between_length (x + 1) high xs h.1 in
     follows_each c m n (x + 1) high xs (retry c m lines x) (record { entry = x; moment = m } ∷ ts) h.1 le (follows_retry c m n lines ts x (omega arith) f)
 
-pub follows_active : (c : Setting) (n : ℕ) (lines : List Line) (ts : List Try) (k : ℕ) → Follows c n lines ts → active lines k ≡ still_active c ts k
+pub follows_active : (c : PermutationRun) (n : ℕ) (lines : List Line) (ts : List Try) (k : ℕ) → Follows c n lines ts → active lines k ≡ still_active c ts k
 follows_active c n lines ts k f = ap (λ (w : List Line). active w k) f.told ∙ said_active c ts k
 
-rises : (c : Setting) (ts : List Try) (k : ℕ) → Between 0 k (still_active c ts k)
+rises : (c : PermutationRun) (ts : List Try) (k : ℕ) → Between 0 k (still_active c ts k)
 rises c ts k = between_filter (λ j. not (was_reported c ts j)) 0 k (instances k) (between_instances k)
 
-follows_pass : (c : Setting) (m : Moment) (n : ℕ) (lines : List Line) (ts : List Try) → m.joined ≤ n → Follows c n lines ts → Follows c n (pass c m lines) (gone_through c m ts)
+follows_pass : (c : PermutationRun) (m : Moment) (n : ℕ) (lines : List Line) (ts : List Try) → m.joined ≤ n → Follows c n lines ts → Follows c n (pass c m lines) (gone_through c m ts)
 follows_pass c m n lines ts le f =
     rw (pass_waiting c m lines, follows_active c n lines ts m.joined f)
     (follows_each c m n 0 m.joined (still_active c ts m.joined) lines ts (rises c ts m.joined) le f)
@@ -136,10 +136,10 @@ same_any : (p q : ℕ → Bool) → ((i : ℕ) → p i ≡ q i) → (xs : List �
 same_any p q h [] = refl
 same_any p q h (x ∷ xs) = rw (h x, same_any p q h xs) refl
 
-follows_reports : (c : Setting) (n : ℕ) (lines : List Line) (ts : List Try) (i : ℕ) → Follows c n lines ts → is_reported lines i ≡ was_reported c ts i
+follows_reports : (c : PermutationRun) (n : ℕ) (lines : List Line) (ts : List Try) (i : ℕ) → Follows c n lines ts → is_reported lines i ≡ was_reported c ts i
 follows_reports c n lines ts i f = ap (λ (w : List Line). is_reported w i) f.told ∙ said_reports c ts i
 
-follows_on : (c : Setting) (m : Moment) (n : ℕ) (lines : List Line) (ts : List Try) → m.joined ≤ n → m.joined ≤ m.launched → Follows c n lines ts → goes_on c m lines (pass c m lines) ≡ wants_another c m ts (gone_through c m ts)
+follows_on : (c : PermutationRun) (m : Moment) (n : ℕ) (lines : List Line) (ts : List Try) → m.joined ≤ n → m.joined ≤ m.launched → Follows c n lines ts → goes_on c m lines (pass c m lines) ≡ wants_another c m ts (gone_through c m ts)
 follows_on c m n lines ts le few f =
     let new = follows_pass c m n lines ts le f in
     let reported : nat_lt (length lines) (length (pass c m lines)) ≡ list_any (was_reported c (gone_through c m ts)) (still_active c ts m.joined) =
@@ -151,30 +151,30 @@ follows_on c m n lines ts le few f =
     ∙ ap (list_any (is_marked c)) (follows_active c n (pass c m lines) (gone_through c m ts) m.joined new) in
     rw (reported, marked) refl
 
-polled_case : (c : Setting) (m : Moment) (n k : ℕ) (new : List Line) (ts : List Try) (a b : Bool) → a ≡ b → Follows c n new ts → Follows c n (polled c m k new) (passes c m k ts) → Follows c n (if a then polled c m k new else new) (if b then passes c m k ts else ts)
+polled_case : (c : PermutationRun) (m : Moment) (n k : ℕ) (new : List Line) (ts : List Try) (a b : Bool) → a ≡ b → Follows c n new ts → Follows c n (polled c m k new) (passes c m k ts) → Follows c n (if a then polled c m k new else new) (if b then passes c m k ts else ts)
 polled_case c m n k new ts a true is now rest = rw is rest
 polled_case c m n k new ts a false is now rest = rw is now
 
-pub follows_polled : (c : Setting) (m : Moment) (n k : ℕ) (lines : List Line) (ts : List Try) → m.joined ≤ n → m.joined ≤ m.launched → Follows c n lines ts → Follows c n (polled c m k lines) (passes c m k ts)
+pub follows_polled : (c : PermutationRun) (m : Moment) (n k : ℕ) (lines : List Line) (ts : List Try) → m.joined ≤ n → m.joined ≤ m.launched → Follows c n lines ts → Follows c n (polled c m k lines) (passes c m k ts)
 follows_polled c m n zero lines ts le few f = f
 follows_polled c m n (suc k) lines ts le few f =
     let new = follows_pass c m n lines ts le f in
     polled_case c m n k (pass c m lines) (gone_through c m ts) (goes_on c m lines (pass c m lines)) (wants_another c m ts (gone_through c m ts)) (follows_on c m n lines ts le few f) new
     (follows_polled c m n k (pass c m lines) (gone_through c m ts) le few new)
 
-pub follows_busy : (c : Setting) (e : ℕ) (lines : List Line) (ts : List Try) → Follows c e lines ts → is_busy c lines e ≡ has_active c ts e
+pub follows_busy : (c : PermutationRun) (e : ℕ) (lines : List Line) (ts : List Try) → Follows c e lines ts → is_busy c lines e ≡ has_active c ts e
 follows_busy c e lines ts f = ap (list_any (is_of c (session_at c e))) (follows_active c e lines ts e f)
 
-follows_own : (c : Setting) (m : Moment) (s e : ℕ) (lines : List Line) (ts : List Try) → Follows c e lines ts → Follows c e (fold (own_retry c m s) lines (instances e)) (try_each m ts (filter (is_of c s) (still_active c ts e)))
+follows_own : (c : PermutationRun) (m : Moment) (s e : ℕ) (lines : List Line) (ts : List Try) → Follows c e lines ts → Follows c e (fold (own_retry c m s) lines (instances e)) (try_each m ts (filter (is_of c s) (still_active c ts e)))
 follows_own c m s e lines ts f =
     rw (own_waiting c m s e lines, follows_active c e lines ts e f)
     (follows_each c m e 0 e (filter (is_of c s) (still_active c ts e)) lines ts (between_filter (is_of c s) 0 e (still_active c ts e) (rises c ts e)) (omega arith) f)
 
-way_case : (c : Setting) (e : ℕ) (lines tried : List Line) (ts tried_ts : List Try) (a b : Bool) → a ≡ b → Follows c e tried tried_ts → Follows c e lines ts → Follows c e (if a then tried else lines) (if b then tried_ts else ts)
+way_case : (c : PermutationRun) (e : ℕ) (lines tried : List Line) (ts tried_ts : List Try) (a b : Bool) → a ≡ b → Follows c e tried tried_ts → Follows c e lines ts → Follows c e (if a then tried else lines) (if b then tried_ts else ts)
 way_case c e lines tried ts tried_ts a true is busy free = rw is busy
 way_case c e lines tried ts tried_ts a false is busy free = rw is free
 
-pub follows_way : (c : Setting) (e : ℕ) (lines : List Line) (ts : List Try) → Follows c e lines ts → Follows c e (made_way c lines e) (tries_before c ts e)
+pub follows_way : (c : PermutationRun) (e : ℕ) (lines : List Line) (ts : List Try) → Follows c e lines ts → Follows c e (made_way c lines e) (tries_before c ts e)
 follows_way c e lines ts f =
     let m = before c e in
     let s = session_at c e in
@@ -194,7 +194,7 @@ next_case : (j e : ℕ) (b tried : Bool) → (b ≡ true → j ≡ e) → (b ≡
 next_case j e true tried same other h = let at = same refl in ap not (sym (lt-ltb j (e + 1) (omega arith)))
 next_case j e false tried same other h = h ∙ ap not (next_lt j e (other refl) (cases_lt j e))
 
-follows_first : (c : Setting) (m : Moment) (e : ℕ) (lines : List Line) (ts : List Try) → Follows c e lines ts → Follows c (e + 1) (first_try c m lines e) (record { entry = e; moment = m } ∷ ts)
+follows_first : (c : PermutationRun) (m : Moment) (e : ℕ) (lines : List Line) (ts : List Try) → Follows c e lines ts → Follows c (e + 1) (first_try c m lines e) (record { entry = e; moment = m } ∷ ts)
 follows_first c m e lines ts f =
     let new : is_untried ts e ≡ true = f.tried e ∙ ap not (le-ltb e e (omega arith)) in
     record {
@@ -202,18 +202,18 @@ follows_first c m e lines ts f =
       tried = λ j. next_case j e (j == e) (list_any (is_try_of j) ts) (eqb-true j e) (eqb-false j e) (f.tried j);
     }
 
-pub follows_launch : (c : Setting) (e : ℕ) (lines : List Line) (ts : List Try) → Follows c e lines ts → Follows c (e + 1) (launched c lines e) (tries_after c ts e)
+pub follows_launch : (c : PermutationRun) (e : ℕ) (lines : List Line) (ts : List Try) → Follows c e lines ts → Follows c (e + 1) (launched c lines e) (tries_after c ts e)
 follows_launch c e lines ts f =
     let m = after c e in
     follows_polled c m (e + 1) (m.joined + 1) (first_try c m lines e) (record { entry = e; moment = m } ∷ ts) (omega arith) (omega arith) (follows_first c m e lines ts f)
 
-report_case : (c : Setting) (e rest there : ℕ) (way : List Line) (ts : List Try) (busy active present : Bool) → busy ≡ active → way ≡ said c ts → (report_from c (e + 1) rest there (launched c way e)).lines ≡ said c (tries_from c (e + 1) rest there (tries_after c ts e))
+report_case : (c : PermutationRun) (e rest there : ℕ) (way : List Line) (ts : List Try) (busy active present : Bool) → busy ≡ active → way ≡ said c ts → (report_from c (e + 1) rest there (launched c way e)).lines ≡ said c (tries_from c (e + 1) rest there (tries_after c ts e))
     → (if busy then record { lines = way; stand = Invalid } else (if present then report_from c (e + 1) rest there (launched c way e) else record { lines = way; stand = Due e })).lines ≡ said c (if active then ts else (if present then tries_from c (e + 1) rest there (tries_after c ts e) else ts))
 report_case c e rest there way ts busy true present is told more = rw is told
 report_case c e rest there way ts busy false true is told more = rw is more
 report_case c e rest there way ts busy false false is told more = rw is told
 
-follows_report : (c : Setting) (there rest e : ℕ) (lines : List Line) (ts : List Try) → Follows c e lines ts → (report_from c e rest there lines).lines ≡ said c (tries_from c e rest there ts)
+follows_report : (c : PermutationRun) (there rest e : ℕ) (lines : List Line) (ts : List Try) → Follows c e lines ts → (report_from c e rest there lines).lines ≡ said c (tries_from c e rest there ts)
 follows_report c there zero e lines ts f =
     let m = before c e in (follows_polled c m e (m.joined + 1) lines ts (omega arith) (omega arith) f).told
 follows_report c there (suc rest) e lines ts f =
@@ -222,5 +222,5 @@ follows_report c there (suc rest) e lines ts f =
     (follows_report c there rest (e + 1) (launched c (made_way c lines e) e) (tries_after c (tries_before c ts e) e) (follows_launch c e (made_way c lines e) (tries_before c ts e) way))
 
 -- the lines of the report are what its tries say
-pub lines_are_said : (c : Setting) (there : ℕ) → (report c there).lines ≡ said c (tries c there)
+pub lines_are_said : (c : PermutationRun) (there : ℕ) → (report c there).lines ≡ said c (tries c there)
 lines_are_said c there = follows_report c there (length c.entries) 0 [] [] (record { told = refl; tried = λ i. ap not (sym (le-ltb i 0 (omega arith))) })

@@ -11,13 +11,13 @@ use Rattle.report_lines.specs.declared.history.TornDown.{TornDown}
 use Rattle.report_lines.specs.declared.history.Stand.{Stand}
 use Rattle.report_lines.specs.declared.history.Stand.TheVariants.{Due, Whole, Invalid}
 use Rattle.report_lines.specs.Starts.{start, ends_in, is_order}
-use Rattle.report_lines.specs.History.{Setting}
+use Rattle.report_lines.specs.History.{PermutationRun}
 use Rattle.report_lines.specs.Report.{report}
 
 -- a permutation: its setups, its entries with the blocks of their steps, the teardowns of sessions, the sessions, the main teardown
 pub record Planned : Type 0 where
   pub setups : List Task
-  pub setting : Setting
+  pub run : PermutationRun
   pub tasks : List Task
   pub teardowns : List Task
   pub sessions : ℕ
@@ -93,9 +93,9 @@ due_entry plan items there Whole =
 -- the next order where so many orders of a history are there
 abbrev pub due_at : Planned → ℕ → Order
 due_at plan there =
-    let items = plan.setting.items in
-    or_else (due_setup items there 0 plan.setups) (due_entry plan items there (report plan.setting (there - length plan.setups)).stand)
+    let items = plan.run.items in
+    or_else (due_setup items there 0 plan.setups) (due_entry plan items there (report plan.run (there - length plan.setups)).stand)
 
 -- the next order after a history
 abbrev pub due : Planned → Order
-due plan = due_at plan (orders plan.setting.items)
+due plan = due_at plan (orders plan.run.items)

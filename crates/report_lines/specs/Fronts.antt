@@ -1,13 +1,13 @@
 -- A history that goes on.
 use Rattle.std.specs.Prelude.{List, ◌++◌}
 use Rattle.session_machine.specs.declared.reply.HistItem.{HistItem}
-use Rattle.report_lines.specs.History.{Setting}
+use Rattle.report_lines.specs.History.{PermutationRun}
 use Rattle.report_lines.specs.Due.{Planned}
 
 -- the same with more items behind its own
-abbrev pub longer : Setting → List HistItem → Setting
+abbrev pub longer : PermutationRun → List HistItem → PermutationRun
 longer c more = record { entries = c.entries; items = c.items ++ more; setups = c.setups }
 
 -- the same plan with more items behind those of its history
 abbrev pub longer_plan : Planned → List HistItem → Planned
-longer_plan p more = record { setups = p.setups; setting = longer p.setting more; tasks = p.tasks; teardowns = p.teardowns; sessions = p.sessions; last = p.last }
+longer_plan p more = record { setups = p.setups; run = longer p.run more; tasks = p.tasks; teardowns = p.teardowns; sessions = p.sessions; last = p.last }

@@ -2,10 +2,10 @@ pub mod Starts
 pub mod History
 pub mod Report
 pub mod Places
-pub mod Telling
-pub mod Trying
+pub mod SoFar
 pub mod Due
 pub mod Tries
 pub mod Fronts
 pub mod Progress
 pub mod Invalid
+pub mod Inner

@@ -6,7 +6,7 @@ use Rattle.report_lines.specs.declared.history.Line.TheVariants.{AtOnce, Waiting
 use Rattle.report_lines.specs.declared.history.Moment.{Moment}
 use Rattle.report_lines.specs.declared.history.Stand.{Stand}
 use Rattle.report_lines.specs.declared.history.Stand.TheVariants.{Due, Whole, Invalid}
-use Rattle.report_lines.specs.History.{Setting, session_at, seen_before, has_ended, is_named, is_starred, is_marked}
+use Rattle.report_lines.specs.History.{PermutationRun, session_at, seen_before, has_ended, is_named, is_starred, is_marked}
 
 -- the line reports the instance
 abbrev pub reports : ℕ → Line → Bool
@@ -26,62 +26,62 @@ instances (suc n) = instances n ++ n ∷ []
 abbrev pub active : List Line → ℕ → List ℕ
 active lines launched = filter (λ j. not (is_reported lines j)) (instances launched)
 
-abbrev pub before : Setting → ℕ → Moment
+abbrev pub before : PermutationRun → ℕ → Moment
 before c e = record { seen = seen_before c e; launched = e; joined = e }
 
-abbrev pub after : Setting → ℕ → Moment
+abbrev pub after : PermutationRun → ℕ → Moment
 after c e = record { seen = seen_before c (e + 1); launched = e + 1; joined = e }
 
-abbrev pub may_report : Setting → Moment → List Line → ℕ → Bool
+abbrev pub may_report : PermutationRun → Moment → List Line → ℕ → Bool
 may_report c m lines i = has_ended c m.seen i && not (list_any (is_named c i) (active lines m.launched))
 
 -- the first try of an instance
-abbrev pub first_try : Setting → Moment → List Line → ℕ → List Line
+abbrev pub first_try : PermutationRun → Moment → List Line → ℕ → List Line
 first_try c m lines i =
     lines ++ (if may_report c m lines i && not (is_starred c i) then AtOnce i m.seen else Waiting i) ∷ []
 
 -- a later one
-abbrev pub retry : Setting → Moment → List Line → ℕ → List Line
+abbrev pub retry : PermutationRun → Moment → List Line → ℕ → List Line
 retry c m lines i =
     if not (is_reported lines i) && may_report c m lines i then lines ++ Completed i m.seen ∷ [] else lines
 
 -- the waiting list is gone through once
-abbrev pub pass : Setting → Moment → List Line → List Line
+abbrev pub pass : PermutationRun → Moment → List Line → List Line
 pass c m lines = fold (retry c m) lines (instances m.joined)
 
 -- the last pass reported a step, and a step that remains has a marker
-abbrev pub goes_on : Setting → Moment → List Line → List Line → Bool
+abbrev pub goes_on : PermutationRun → Moment → List Line → List Line → Bool
 goes_on c m old new = nat_lt (length old) (length new) && list_any (λ j. nat_lt j m.joined && is_marked c j) (active new m.launched)
 
 -- so many passes at most
-abbrev pub polled : Setting → Moment → ℕ → List Line → List Line
+abbrev pub polled : PermutationRun → Moment → ℕ → List Line → List Line
 polled c m zero lines = lines
 polled c m (suc more) lines =
     let new = pass c m lines in if goes_on c m lines new then polled c m more new else new
 
-abbrev pub poll : Setting → Moment → List Line → List Line
+abbrev pub poll : PermutationRun → Moment → List Line → List Line
 poll c m lines = polled c m (m.joined + 1) lines
 
-abbrev pub is_of : Setting → ℕ → ℕ → Bool
+abbrev pub is_of : PermutationRun → ℕ → ℕ → Bool
 is_of c session i = session_at c i == session
 
 -- the session of an entry that is to be launched has an active step
-abbrev pub is_busy : Setting → List Line → ℕ → Bool
+abbrev pub is_busy : PermutationRun → List Line → ℕ → Bool
 is_busy c lines e = list_any (is_of c (session_at c e)) (active lines e)
 
 -- a later try of a step of this session
-abbrev pub own_retry : Setting → Moment → ℕ → List Line → ℕ → List Line
+abbrev pub own_retry : PermutationRun → Moment → ℕ → List Line → ℕ → List Line
 own_retry c m session lines i = if is_of c session i then retry c m lines i else lines
 
 -- the tries before an entry's Launch
-abbrev pub made_way : Setting → List Line → ℕ → List Line
+abbrev pub made_way : PermutationRun → List Line → ℕ → List Line
 made_way c lines e =
     if is_busy c lines e
     then poll c (before c e) (fold (own_retry c (before c e) (session_at c e)) lines (instances e))
     else lines
 
 -- the tries after it
-abbrev pub launched : Setting → List Line → ℕ → List Line
+abbrev pub launched : PermutationRun → List Line → ℕ → List Line
 launched c lines e = poll c (after c e) (first_try c (after c e) lines e)
 
 pub record Report : Type 0 where
@@ -93,7 +93,7 @@ is_empty [] = true
 is_empty (x ∷ xs) = false
 
 -- the report of the entries from one on, of whose segments so many are there
-abbrev pub report_from : Setting → ℕ → ℕ → ℕ → List Line → Report
+abbrev pub report_from : PermutationRun → ℕ → ℕ → ℕ → List Line → Report
 report_from c e zero there lines =
     let all = poll c (before c e) lines in
     record { lines = all; stand = if is_empty (active all e) then Whole else Invalid }
@@ -102,5 +102,5 @@ report_from c e (suc rest) there lines =
     if is_busy c way e then record { lines = way; stand = Invalid }
     else (if nat_lt e there then report_from c (e + 1) rest there (launched c way e) else record { lines = way; stand = Due e })
 
-abbrev pub report : Setting → ℕ → Report
+abbrev pub report : PermutationRun → ℕ → Report
 report c there = report_from c 0 (length c.entries) there []

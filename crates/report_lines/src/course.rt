@@ -21,11 +21,11 @@ pub struct Course<'a> {
 impl<'a> Model for Course<'a> {
     ghost use Rattle.std.specs.Prelude.{map};
     ghost use Rattle.spec_parser.specs.Trees.{entry_view};
-    ghost use Rattle.report_lines.specs.History.{Setting};
+    ghost use Rattle.report_lines.specs.History.{PermutationRun};
 
-    ghost Value = { Setting };
+    ghost Value = { PermutationRun };
 
-    ghost use Rattle.report_lines.specs.Places.{IsCut};
+    ghost use Rattle.report_lines.specs.Inner.Places.{IsCut};
 
     ghost view = { λ c. record { entries = map entry_view c.steps.now; items = c.history.now; setups = c.setups } };
 
@@ -33,7 +33,7 @@ impl<'a> Model for Course<'a> {
 }
 
 impl<'a> Course<'a> {
-    ghost use Rattle.report_lines.specs.History.{Setting, seen_before, session_at};
+    ghost use Rattle.report_lines.specs.History.{PermutationRun, seen_before, session_at};
 
     /// These entries with a history, in which so many segments come before the first entry's. Fails only where memory is refused.
     pub fn new(

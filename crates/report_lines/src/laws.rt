@@ -3,7 +3,7 @@
 ghost use Rattle.std.specs.Prelude.{◌≡◌, ◌+◌, ◌≤◌, ◌↔◌, ◌∷◌, ℕ, List, Contains, count_by, length, true};
 ghost use Rattle.report_lines.specs.declared.history.Line.{Line};
 ghost use Rattle.report_lines.specs.declared.history.Moment.{Moment};
-ghost use Rattle.report_lines.specs.History.{Setting};
+ghost use Rattle.report_lines.specs.History.{PermutationRun};
 ghost use Rattle.report_lines.specs.Report.{report, reports, polled, poll};
 ghost use Rattle.report_lines.specs.Tries.{tries, said, IsReportPoint};
 ghost use Rattle.session_machine.specs.declared.reply.HistItem.{HistItem};
@@ -15,38 +15,38 @@ ghost use Rattle.report_lines.specs.declared.history.Stand.TheVariants.{Invalid}
 
 /// However many passes were made at a moment, no more would report anything.
 pub fn no_further_pass()
-    ensures { (c : Setting) (m : Moment) (lines : List Line) (more : ℕ) → polled c m (m.joined + 1 + more) lines ≡ poll c m lines }
+    ensures { (c : PermutationRun) (m : Moment) (lines : List Line) (more : ℕ) → polled c m (m.joined + 1 + more) lines ≡ poll c m lines }
 {}
 
 /// The lines of the report are what its tries say, in their order.
 pub fn lines_are_what_the_tries_say()
-    ensures { (c : Setting) (there : ℕ) → (report c there).lines ≡ said c (tries c there) }
+    ensures { (c : PermutationRun) (there : ℕ) → (report c there).lines ≡ said c (tries c there) }
 {}
 
 /// A line reports an instance exactly where it stands for the first of the instance's tries that meets the condition;
 /// an instance without such a try has none.
 pub fn each_is_reported_at_its_first_chance()
-    ensures { (c : Setting) (there i : ℕ) (line : Line) → (Contains (report c there).lines line × (reports i line ≡ true)) ↔ IsReportPoint c (tries c there) i line }
+    ensures { (c : PermutationRun) (there i : ℕ) (line : Line) → (Contains (report c there).lines line × (reports i line ≡ true)) ↔ IsReportPoint c (tries c there) i line }
 {}
 
 /// No instance is reported twice.
 pub fn no_step_is_reported_twice()
-    ensures { (c : Setting) (there i : ℕ) → count_by (reports i) (report c there).lines ≤ 1 }
+    ensures { (c : PermutationRun) (there i : ℕ) → count_by (reports i) (report c there).lines ≤ 1 }
 {}
 
 /// A permutation is invalid exactly where a session's step is still active when its next one's turn comes, or some step at the end.
 pub fn invalid_where_a_step_is_still_active()
-    ensures { (c : Setting) (there : ℕ) → (report c there).stand ≡ Invalid ↔ IsInvalid c there }
+    ensures { (c : PermutationRun) (there : ℕ) → (report c there).stand ≡ Invalid ↔ IsInvalid c there }
 {}
 
 /// What was told before an order stays so, whatever the history goes on with.
 pub fn what_was_told_stays()
-    ensures { (c : Setting) (item : HistItem) (more : List HistItem) (there : ℕ) → is_order item.event ≡ true → orders c.items ≡ c.setups + there →
+    ensures { (c : PermutationRun) (item : HistItem) (more : List HistItem) (there : ℕ) → is_order item.event ≡ true → orders c.items ≡ c.setups + there →
         report (longer c (item ∷ more)) there ≡ report c there }
 {}
 
 /// What was due before an order can be told from the whole history.
 pub fn what_was_due_stays()
-    ensures { (p : Planned) (item : HistItem) (more : List HistItem) → is_order item.event ≡ true → p.setting.setups ≡ length p.setups →
-        due_at (longer_plan p (item ∷ more)) (orders p.setting.items) ≡ due p }
+    ensures { (p : Planned) (item : HistItem) (more : List HistItem) → is_order item.event ≡ true → p.run.setups ≡ length p.setups →
+        due_at (longer_plan p (item ∷ more)) (orders p.run.items) ≡ due p }
 {}

@@ -2,7 +2,8 @@
 ghost use Rattle.std.specs.Prelude.{◌≡◌, ◌+◌, ◌-◌, ◌<◌, ◌≤◌, ◌^◌, ℕ, not, ◌&&◌, length, map, IfOk, OnOk, drop, Option, Some, None};
 ghost use Rattle.spec_parser.specs.Trees.{entry_view};
 ghost use Rattle.report_lines.specs.Due.{is_over, went_well, orders, due_setup, torn_down, task_of, due_last, due_entry, due, or_else};
-ghost use Rattle.report_lines.specs.Progress.{Follows, IsSettled};
+ghost use Rattle.report_lines.specs.Progress.{Follows};
+ghost use Rattle.report_lines.specs.Inner.Progress.{IsSettled};
 
 use crate::history::{Stand, Task, TornDown};
 use crate::progress::Progress;
@@ -96,7 +97,7 @@ impl<'a> Model for Plan<'a> {
 
     ghost view = { λ p. record {
       setups = p.setups.now;
-      setting = record { entries = map entry_view p.entries.now; items = p.items.now; setups = length p.setups.now };
+      run = record { entries = map entry_view p.entries.now; items = p.items.now; setups = length p.setups.now };
       tasks = p.tasks.now;
       teardowns = p.teardowns.now;
       sessions = p.sessions;
@@ -114,7 +115,7 @@ impl<'a> Plan<'a> {
         requires { length schedule.now.setups.now + length entries.now + 1 < 2 ^ 64 }
         ensures { result ≡ record {
           setups = schedule.now.setups.now;
-          setting = record { entries = map entry_view entries.now; items = items.now; setups = length schedule.now.setups.now };
+          run = record { entries = map entry_view entries.now; items = items.now; setups = length schedule.now.setups.now };
           tasks = schedule.now.tasks.now;
           teardowns = schedule.now.teardowns.now;
           sessions = schedule.now.sessions;
@@ -185,9 +186,9 @@ impl<'a> Plan<'a> {
     /// The next order, by what was kept of a front of the history, such as nothing; the same is then kept of the whole.
     /// Fails only where memory is refused.
     pub fn go_on(&self, alloc: Global, progress: &mut Progress) -> Result<Order, AllocError>
-        requires follows { Follows self.now.setting progress.old }
+        requires follows { Follows self.now.run progress.old }
         ensures order { IfOk result (λ order. order ≡ due self.now) }
-        ensures follows { OnOk result (Follows self.now.setting progress.new) }
+        ensures follows { OnOk result (Follows self.now.run progress.new) }
     {
         progress.reach(alloc, self.entries, self.setups.len(), self.items)?;
         Ok(due_by(self, progress))
@@ -196,7 +197,7 @@ impl<'a> Plan<'a> {
 
 /// The next order, by what is kept of the whole history.
 fn due_by<'a>(plan: &'a Plan<'a>, progress: &'a Progress) -> Order
-    requires { IsSettled plan.now.setting progress.now }
+    requires { IsSettled plan.now.run progress.now }
     ensures { result ≡ due plan.now }
 {
     let segments = progress.segments(plan.items);

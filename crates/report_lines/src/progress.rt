@@ -3,8 +3,10 @@ ghost use Rattle.std.specs.Prelude.{◌≡◌, ◌+◌, ◌-◌, ◌<◌, ◌^�
 ghost use Rattle.report_lines.specs.Starts.{is_order};
 ghost use Rattle.report_lines.specs.Due.{orders};
 ghost use Rattle.report_lines.specs.Report.{report};
-ghost use Rattle.report_lines.specs.Places.{starts_from, starts_after, ended_behind, ends_after, IsZeros};
-ghost use Rattle.report_lines.specs.Progress.{Keeps, Lags, IsSettled, IsNext, IsNoted, Follows, setting_of};
+ghost use Rattle.report_lines.specs.Places.{starts_from};
+ghost use Rattle.report_lines.specs.Inner.Places.{starts_after, ended_behind, ends_after, IsZeros};
+ghost use Rattle.report_lines.specs.Progress.{Keeps, Follows, permutation_run};
+ghost use Rattle.report_lines.specs.Inner.Progress.{Lags, IsSettled, IsNext, IsNoted};
 
 use crate::course::Course;
 use crate::entries::{is_order, session_of};
@@ -76,7 +78,7 @@ impl Progress {
     /// Before anything has come.
     pub fn new(alloc: Global, entries: &[Entry], setups: usize) -> Result<Progress, AllocError>
         requires { setups + length entries.now + 1 < 2 ^ 64 }
-        ensures { IfOk result (λ p. Keeps (setting_of entries.now [] setups) p) }
+        ensures { IfOk result (λ p. Keeps (permutation_run entries.now [] setups) p) }
     {
         let stand = if entries.is_empty() {
             Stand::Whole
@@ -100,8 +102,8 @@ impl Progress {
         setups: usize,
         items: &[HistItem<'_>],
     ) -> Result<(), AllocError>
-        requires { Keeps (setting_of entries.now items.now setups) self.old }
-        ensures { OnOk result (IsSettled (setting_of entries.now items.now setups) self.new) }
+        requires { Keeps (permutation_run entries.now items.now setups) self.old }
+        ensures { OnOk result (IsSettled (permutation_run entries.now items.now setups) self.new) }
     {
         if self.starts.len().saturating_sub(setups) == self.there {
             return Ok(());
@@ -131,11 +133,11 @@ impl Progress {
         front: &[HistItem<'_>],
         item: &HistItem<'_>,
     ) -> Result<(), AllocError>
-        requires kept { Keeps (setting_of entries.now front.now setups) self.old }
-        requires next { (is_order item.now.event ≡ true) ⊎ Lags (setting_of entries.now front.now setups) self.old }
+        requires kept { Keeps (permutation_run entries.now front.now setups) self.old }
+        requires next { (is_order item.now.event ≡ true) ⊎ Lags (permutation_run entries.now front.now setups) self.old }
         requires room { length front.now + 1 < 2 ^ 64 }
-        ensures kept { OnOk result (Keeps (setting_of entries.now (front.now ++ item.now ∷ []) setups) self.new) }
-        ensures lags { OnOk result (Lags (setting_of entries.now (front.now ++ item.now ∷ []) setups) self.new) }
+        ensures kept { OnOk result (Keeps (permutation_run entries.now (front.now ++ item.now ∷ []) setups) self.new) }
+        ensures lags { OnOk result (Lags (permutation_run entries.now (front.now ++ item.now ∷ []) setups) self.new) }
     {
         if is_order(&item.event) {
             self.settle(entries, setups, front)?;
@@ -152,9 +154,9 @@ impl Progress {
         setups: usize,
         items: &[HistItem<'_>],
     ) -> Result<(), AllocError>
-        requires follows { Follows (setting_of entries.now items.now setups) self.old }
-        requires next { IsNext (setting_of entries.now items.now setups) self.old }
-        ensures { OnOk result (Keeps (setting_of entries.now items.now setups) self.new) }
+        requires follows { Follows (permutation_run entries.now items.now setups) self.old }
+        requires next { IsNext (permutation_run entries.now items.now setups) self.old }
+        ensures { OnOk result (Keeps (permutation_run entries.now items.now setups) self.new) }
     {
         for place in self.seen..items.len() {
             self.see(entries, setups, &items[..place], &items[place])?;
@@ -164,8 +166,8 @@ impl Progress {
 
     /// Whether the item behind those that have come is an order, or belongs to a segment that isn't told.
     fn goes_on(&self, entries: &[Entry], setups: usize, items: &[HistItem<'_>]) -> bool
-        requires follows { Follows (setting_of entries.now items.now setups) self.now }
-        ensures { IsTrue result → IsNext (setting_of entries.now items.now setups) self.now }
+        requires follows { Follows (permutation_run entries.now items.now setups) self.now }
+        ensures { IsTrue result → IsNext (permutation_run entries.now items.now setups) self.now }
     {
         if self.starts.len().saturating_sub(setups + 1) == self.there {
             return true;
@@ -185,8 +187,8 @@ impl Progress {
         items: &[HistItem<'_>],
     ) -> Result<(), AllocError>
         requires room { setups + length entries.now + 1 < 2 ^ 64 }
-        requires follows { Follows (setting_of entries.now items.now setups) self.old }
-        ensures { OnOk result (IsSettled (setting_of entries.now items.now setups) self.new) }
+        requires follows { Follows (permutation_run entries.now items.now setups) self.old }
+        ensures { OnOk result (IsSettled (permutation_run entries.now items.now setups) self.new) }
     {
         if !self.goes_on(entries, setups, items) {
             *self = Progress::new(alloc, entries, setups)?;

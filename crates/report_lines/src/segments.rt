@@ -23,7 +23,7 @@ impl<'a> Model for Segments<'a> {
 
     ghost Value = { List HistItem };
 
-    ghost use Rattle.report_lines.specs.Places.{IsFound};
+    ghost use Rattle.report_lines.specs.Inner.Places.{IsFound};
 
     ghost view = { λ s. s.history.now };
 

@@ -24,9 +24,9 @@ pub(crate) struct Sight<'a> {
 impl<'a> Model for Sight<'a> {
     ghost use Rattle.std.specs.Prelude.{map};
     ghost use Rattle.spec_parser.specs.Trees.{entry_view};
-    ghost use Rattle.report_lines.specs.History.{Setting};
+    ghost use Rattle.report_lines.specs.History.{PermutationRun};
 
-    ghost Value = { Setting };
+    ghost Value = { PermutationRun };
 
     ghost use Rattle.report_lines.specs.Places.{IsTimed};
 

@@ -1,11 +1,14 @@
 //! The lines of the entries, told in order with a list of the steps that wait.
-ghost use Rattle.std.specs.Prelude.{◌≡◌, ◌+◌, ◌-◌, ◌<◌, ◌≤◌, ◌^◌, ◌==◌, ◌&&◌, ℕ, not, nat_lt, [], ◌∷◌, ◌++◌, length, slice_get, OnOk, IfOk, OnSome, Some, None, if◌then◌else◌, vec_len, vec_capacity};
+ghost use Rattle.std.specs.Prelude.{◌≡◌, ◌+◌, ◌-◌, ◌<◌, ◌≤◌, ◌^◌, ◌==◌, ◌&&◌, ℕ, not, nat_lt, [], ◌∷◌, ◌++◌, length, slice_get, vec_len, vec_capacity};
+ghost use Rattle.std.specs.Prelude.{OnOk, IfOk, OnSome, Some, None, if◌then◌else◌};
 ghost use Rattle.std.specs.List.{list_any, filter, fold};
-ghost use Rattle.report_lines.specs.Telling.{Telling, IsKept, IsAt, Tells};
+ghost use Rattle.report_lines.specs.SoFar.{LinesSoFar, IsAt, IsReportSoFar};
+ghost use Rattle.report_lines.specs.Inner.Waiting.{IsKept};
 ghost use Rattle.report_lines.specs.Due.{orders};
 ghost use Rattle.report_lines.specs.History.{session_at, is_named, is_marked, has_ended, seen_before};
-ghost use Rattle.report_lines.specs.Trying.{is_chosen, chosen_retry, still_told};
-ghost use Rattle.report_lines.specs.Report.{is_reported, active, may_report, first_try, retry, own_retry, pass, goes_on, polled, poll, is_busy, is_of, made_way, launched, before, after, report, report_from, instances, is_empty};
+ghost use Rattle.report_lines.specs.Inner.Trying.{is_chosen, chosen_retry, still_told};
+ghost use Rattle.report_lines.specs.Report.{is_reported, active, may_report, first_try, retry, own_retry, pass, goes_on, polled, poll, is_busy, is_of};
+ghost use Rattle.report_lines.specs.Report.{made_way, launched, before, after, report, report_from, instances, is_empty};
 
 use crate::history::{Line, Moment, Stand};
 use crate::sight::Sight;
@@ -21,9 +24,10 @@ pub struct Told {
 }
 
 impl Model for Told {
-    ghost use Rattle.report_lines.specs.Telling.{Telling, IsKept};
+    ghost use Rattle.report_lines.specs.SoFar.{LinesSoFar};
+    ghost use Rattle.report_lines.specs.Inner.Waiting.{IsKept};
 
-    ghost Value = { Telling };
+    ghost Value = { LinesSoFar };
 
     ghost view = { λ t. record { lines = t.lines.items; launched = t.launched } };
 
@@ -372,8 +376,8 @@ impl Told {
         there: usize,
     ) -> Result<Stand, AllocError>
         requires orders { orders sight.now.items ≡ sight.now.setups + there + 1 }
-        requires told { Tells sight.now there self.old stand }
-        ensures { IfOk result (λ next. Tells sight.now (there + 1) self.new next) }
+        requires told { IsReportSoFar sight.now there self.old stand }
+        ensures { IfOk result (λ next. IsReportSoFar sight.now (there + 1) self.new next) }
     {
         match stand {
             Stand::Due(_) => {

@@ -156,7 +156,10 @@ fn third_order(alloc: Global) -> Option<Order> {
     }
     let launches = Launches::of(alloc, &spec, entries).ok()?;
     let items = history(alloc, &[To(0, 0), To(2, 2)]).ok()?;
-    launches.due(alloc, entries, &items).ok()
+    let Ok(mut progress) = launches.begin(alloc, entries) else {
+        return None;
+    };
+    launches.go_on(alloc, entries, &items, &mut progress).ok()
 }
 
 #[test]

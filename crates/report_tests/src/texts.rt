@@ -7,7 +7,7 @@ ghost use Rattle.result_tables.specs.Results.{IsEven};
 use crate::histories::{done, holds, item, last, launch, leave, waits};
 use iso_lexer::{DeviceFault, Ident, Name, Sink};
 use report_text::{Ended, ReportFault, write_permutation};
-use result_tables::{ResultSet, Title, TitleName};
+use result_tables::{ResultSet, Title};
 use session_machine::{Event, HistItem, Outcome, StmtFault};
 use spec_parser::{Entry, Spec, parse_spec};
 use sql_values::{Row, Value};
@@ -151,7 +151,7 @@ fn is_even(titles: &[Title<'_>], rows: &[Row]) -> bool
 
 /// A result of one column with one cell.
 fn cell<'a>(alloc: Global, title: &'a str, value: i32) -> Result<Outcome<'a>, AllocError> {
-    let titles = vec![in alloc; Title::Column(TitleName::new(Name::Folded(title)))]?;
+    let titles = vec![in alloc; Title::Column(Ident::new(Name::Folded(title)))]?;
     let mut rows = Vec::new(alloc);
     rows.push(Row::from_vec(vec![in alloc; Value::Int(value)]?))?;
     if is_even(&titles, &rows) {

@@ -14,10 +14,10 @@ use Rattle.session_machine.specs.declared.reply.Outcome.{Outcome}
 use Rattle.session_machine.specs.declared.reply.Outcome.TheVariants.{Launched, Done, Rows, Waits, Failed, Left}
 use Rattle.report_lines.specs.Starts.{session_of}
 use Rattle.report_text.specs.declared.standing.Standing.{Standing}
-use Rattle.report_text.specs.Steps.{session_numbered}
+use Rattle.spec_parser.specs.Numbered.{session_numbered}
 use Rattle.report_text.specs.FreeText.{past, moved, moves, standing, each_says, event_text, item_text, item_note, own_teardown, stands_in, teardown_of}
 use Rattle.report_text.specs.Teardowns.{failure_note}
-use Rattle.report_text.specs.Table.{at_number, or_nowhere, IsTable}
+use Rattle.report_text.specs.Inner.Table.{at_number, or_nowhere, IsTable}
 
 -- ---- one more item
 

@@ -3,7 +3,7 @@ use Rattle.std.proofs.Common.{◌≡◌, ℕ, ◌≤◌, ◌++◌, List, [], ◌
 use Rattle.std.specs.Prelude.{◌+◌, nat_le, IfOk, if◌then◌else◌}
 use Rattle.session_machine.specs.declared.reply.HistItem.{HistItem}
 use Rattle.spec_parser.specs.Trees.{EntryTree}
-use Rattle.report_lines.specs.History.{Setting}
+use Rattle.report_lines.specs.History.{PermutationRun}
 use Rattle.report_lines.specs.Due.{went_well}
 use Rattle.report_text.specs.Said.{Ending, whole, Said, says, is_whole, ◌>>◌}
 use Rattle.report_text.specs.Setups.{setups_say}
@@ -76,6 +76,6 @@ ended found.Invalid h = refl
 ended (found.SetupFailed text) h = refl
 ended found.SetupWaits h = refl
 
--- a setting, by its parts
-abbrev pub setting_of : List EntryTree → List HistItem → ℕ → Setting
-setting_of entries items setups = record { entries = entries; items = items; setups = setups }
+-- the run of a permutation, by its parts
+abbrev pub permutation_run : List EntryTree → List HistItem → ℕ → PermutationRun
+permutation_run entries items setups = record { entries = entries; items = items; setups = setups }

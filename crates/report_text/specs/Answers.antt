@@ -1,7 +1,7 @@
 -- What writing a permutation answers.
 use Rattle.std.specs.Prelude.{◌≡◌, ℕ, Bool, true, ◌||◌, List, Option, Result, Ok, Err, string_bytes}
-use Rattle.std.specs.Bool.{OnFalse}
 use Rattle.std.specs.Io.KnownBytes.{Appends}
+use Rattle.iso_lexer.specs.Devices.{PutsFront}
 use Rattle.report_text.specs.declared.fault.ReportFault.{ReportFault}
 use Rattle.report_text.specs.declared.fault.ReportFault.TheVariants as faults
 use Rattle.report_text.specs.declared.fault.Ended.{Ended}
@@ -9,7 +9,6 @@ use Rattle.report_text.specs.declared.fault.Ended.TheVariants as ends
 use Rattle.report_text.specs.declared.fault.Ending.{Ending as Found}
 use Rattle.report_text.specs.declared.fault.Ending.TheVariants as found
 use Rattle.report_text.specs.Said.{Ending, whole, invalid, setup_failed, setup_waits}
-use Rattle.report_text.specs.Fronts.{PutsFront}
 
 -- the ending that was found, with its text
 abbrev pub ending_of : Found → Ending
@@ -46,13 +45,13 @@ IsNotMemory (Err faults.SetupWaits) = Unit {0}
 IsNotMemory (Err faults.Write) = Unit {0}
 IsNotMemory (Err faults.Memory) = ⊥
 
--- this text went out; where memory was refused, a front of it, and so where the other sink failed: what one that has failed took isn't known
-abbrev pub Puts : {A : Type 0} → Bool → Option (List ℕ) → Option (List ℕ) → List ℕ → Result A ReportFault → Type 0
-Puts failed old new text (Ok a) = Appends old new text
-Puts failed old new text (Err (faults.SetupFailed why)) = Appends old new text
-Puts failed old new text (Err faults.SetupWaits) = Appends old new text
-Puts failed old new text (Err faults.Write) = OnFalse failed (PutsFront old new text)
-Puts failed old new text (Err faults.Memory) = PutsFront old new text
+-- this text went out; where a sink failed or memory was refused, a front of it
+abbrev pub Puts : {A : Type 0} → Option (List ℕ) → Option (List ℕ) → List ℕ → Result A ReportFault → Type 0
+Puts old new text (Ok a) = Appends old new text
+Puts old new text (Err (faults.SetupFailed why)) = Appends old new text
+Puts old new text (Err faults.SetupWaits) = Appends old new text
+Puts old new text (Err faults.Write) = PutsFront old new text
+Puts old new text (Err faults.Memory) = PutsFront old new text
 
 -- Write is answered exactly where one of the two sinks has failed in the call; else both marks are those from before
 abbrev pub TellsFailure : {A : Type 0} → Bool → Bool → Bool → Bool → Result A ReportFault → Type 0

@@ -3,6 +3,7 @@ use Rattle.std.specs.Prelude.{ℕ, ◌+◌, ◌==◌, Bool, false, List, [], ◌
 use Rattle.std.specs.List.{fold}
 use Rattle.std.specs.Option.{option_map_or}
 use Rattle.spec_parser.specs.Trees.{PartTree, StepTree, SessionTree, SpecTree}
+use Rattle.spec_parser.specs.Numbered.{session_numbered}
 use Rattle.session_machine.specs.declared.event.Event.{Event}
 use Rattle.session_machine.specs.declared.event.Event.TheVariants.{Launch, Step, Leave}
 use Rattle.session_machine.specs.declared.reply.HistItem.{HistItem}
@@ -12,7 +13,6 @@ use Rattle.report_lines.specs.Starts.{session_of}
 use Rattle.report_lines.specs.Due.{orders}
 use Rattle.report_text.specs.declared.standing.Standing.{Standing}
 use Rattle.report_text.specs.Replies.{outcome_text}
-use Rattle.report_text.specs.Steps.{session_numbered}
 use Rattle.report_text.specs.LineText.{step_name, step_sql}
 use Rattle.report_text.specs.Said.{Said}
 use Rattle.report_text.specs.Setups.{setups_of, setups_say}

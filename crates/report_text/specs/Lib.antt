@@ -6,7 +6,6 @@ pub mod Said
 pub mod Setups
 pub mod Teardowns
 pub mod Permutation
-pub mod Fronts
 pub mod Answers
 pub mod FreeText
-pub mod Table
+pub mod Inner

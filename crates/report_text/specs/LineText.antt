@@ -2,15 +2,15 @@
 use Rattle.std.specs.Prelude.{ℕ, List, [], ◌++◌, codes, Option, option_and_then, slice_get, slice_range}
 use Rattle.std.specs.Option.{option_map_or}
 use Rattle.iso_lexer.specs.Names.{decoded}
-use Rattle.spec_parser.specs.Trees.{StepTree, SessionTree}
+use Rattle.spec_parser.specs.Trees.{StepTree, SpecTree}
+use Rattle.spec_parser.specs.Numbered.{step_of_entry}
 use Rattle.report_lines.specs.declared.history.Line.{Line}
 use Rattle.report_lines.specs.declared.history.Line.TheVariants.{AtOnce, Waiting, Completed}
-use Rattle.report_lines.specs.History.{Setting, session_at, seen_before}
+use Rattle.report_lines.specs.History.{PermutationRun, session_at, seen_before}
 use Rattle.report_text.specs.Replies.{replies_text}
-use Rattle.report_text.specs.Steps.{named_step}
 
 -- the replies to an entry's block that are among so many items
-abbrev pub entry_replies : Setting → ℕ → ℕ → List ℕ
+abbrev pub entry_replies : PermutationRun → ℕ → ℕ → List ℕ
 entry_replies c i seen = replies_text (session_at c i) (slice_range c.items (seen_before c i) seen)
 
 abbrev pub step_name : StepTree → List ℕ
@@ -19,21 +19,21 @@ step_name s = codes "step " ++ decoded s.name ++ codes ": "
 abbrev pub step_sql : StepTree → List ℕ
 step_sql s = step_name s ++ s.part.sql
 
-abbrev pub at_once : Setting → ℕ → ℕ → StepTree → List ℕ
+abbrev pub at_once : PermutationRun → ℕ → ℕ → StepTree → List ℕ
 at_once c i seen s = step_sql s ++ codes "\n" ++ entry_replies c i seen
 
 abbrev pub waiting : StepTree → List ℕ
 waiting s = step_sql s ++ codes " <waiting ...>\n"
 
-abbrev pub completed : Setting → ℕ → ℕ → StepTree → List ℕ
+abbrev pub completed : PermutationRun → ℕ → ℕ → StepTree → List ℕ
 completed c i seen s = step_name s ++ codes "<... completed>\n" ++ entry_replies c i seen
 
 -- the step that the entry of this number names
-abbrev pub step_at : List SessionTree → Setting → ℕ → Option StepTree
-step_at sessions c i = option_and_then (named_step sessions) (slice_get c.entries i)
+abbrev pub step_at : SpecTree → PermutationRun → ℕ → Option StepTree
+step_at spec c i = option_and_then (step_of_entry spec) (slice_get c.entries i)
 
 -- an entry that names no step says nothing
-abbrev pub line_text : List SessionTree → Setting → Line → List ℕ
-line_text sessions c (AtOnce i seen) = option_map_or (at_once c i seen) (step_at sessions c i) []
-line_text sessions c (Waiting i) = option_map_or waiting (step_at sessions c i) []
-line_text sessions c (Completed i seen) = option_map_or (completed c i seen) (step_at sessions c i) []
+abbrev pub line_text : SpecTree → PermutationRun → Line → List ℕ
+line_text spec c (AtOnce i seen) = option_map_or (at_once c i seen) (step_at spec c i) []
+line_text spec c (Waiting i) = option_map_or waiting (step_at spec c i) []
+line_text spec c (Completed i seen) = option_map_or (completed c i seen) (step_at spec c i) []

@@ -1,10 +1,10 @@
 -- The report of a permutation with its history.
 use Rattle.std.specs.Prelude.{ℕ, ◌+◌, ◌-◌, List, [], length, flat_map, codes}
-use Rattle.spec_parser.specs.Trees.{SessionTree, EntryTree, SpecTree}
+use Rattle.spec_parser.specs.Trees.{EntryTree, SpecTree}
 use Rattle.session_machine.specs.declared.reply.HistItem.{HistItem}
 use Rattle.report_lines.specs.declared.history.Stand.{Stand}
 use Rattle.report_lines.specs.declared.history.Stand.TheVariants.{Due, Whole, Invalid}
-use Rattle.report_lines.specs.History.{Setting}
+use Rattle.report_lines.specs.History.{PermutationRun}
 use Rattle.report_lines.specs.Report.{report}
 use Rattle.report_lines.specs.Due.{orders}
 use Rattle.report_text.specs.Steps.{starting_text}
@@ -20,16 +20,16 @@ stand_says Whole = says []
 stand_says Invalid = record { text = codes "invalid permutation detected\n"; notes = []; ending = invalid }
 
 -- the entries' lines, of which so many segments are there, and that the permutation is invalid
-abbrev pub entries_say : List SessionTree → Setting → ℕ → Said
-entries_say sessions c there = says (flat_map (line_text sessions c) (report c there).lines) >> stand_says (report c there).stand
+abbrev pub entries_say : SpecTree → PermutationRun → ℕ → Said
+entries_say spec c there = says (flat_map (line_text spec c) (report c there).lines) >> stand_says (report c there).stand
 
 -- the entries' lines and the teardowns, where so many segments are there
-abbrev pub rest_says : SpecTree → Setting → ℕ → Said
-rest_says spec c there = entries_say spec.sessions c (there - c.setups) >> teardowns_say spec c.items there (c.setups + length c.entries)
+abbrev pub rest_says : SpecTree → PermutationRun → ℕ → Said
+rest_says spec c there = entries_say spec c (there - c.setups) >> teardowns_say spec c.items there (c.setups + length c.entries)
 
 -- the starting line, the setups, the entries' lines and the teardowns
-unfoldable pub all_says : SpecTree → Setting → Said
-all_says spec c = says (starting_text spec.sessions c.entries) >> setups_say c.items (orders c.items) 0 (setups_of spec) >> rest_says spec c (orders c.items)
+unfoldable pub all_says : SpecTree → PermutationRun → Said
+all_says spec c = says (starting_text spec c.entries) >> setups_say c.items (orders c.items) 0 (setups_of spec) >> rest_says spec c (orders c.items)
 
 -- a permutation of a spec with its history, as far as that has come
 unfoldable pub permutation_says : SpecTree → List EntryTree → List HistItem → Said

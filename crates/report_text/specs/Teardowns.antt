@@ -3,13 +3,13 @@ use Rattle.std.specs.Prelude.{ℕ, ◌+◌, Bool, nat_le, List, [], ◌∷◌, �
 use Rattle.std.specs.Option.{option_map_or}
 use Rattle.iso_lexer.specs.Names.{decoded}
 use Rattle.spec_parser.specs.Trees.{SessionTree, SpecTree}
+use Rattle.spec_parser.specs.Numbered.{session_numbered}
 use Rattle.session_machine.specs.declared.reply.HistItem.{HistItem}
 use Rattle.session_machine.specs.declared.reply.Outcome.{Outcome}
 use Rattle.session_machine.specs.declared.reply.Outcome.TheVariants.{Launched, Done, Rows, Waits, Failed, Left}
 use Rattle.report_lines.specs.Due.{segment, is_over}
 use Rattle.report_text.specs.FaultText.{fault_text}
 use Rattle.report_text.specs.Replies.{rows_text, last_outcome}
-use Rattle.report_text.specs.Steps.{session_numbered}
 use Rattle.report_text.specs.Said.{whole, Said}
 use Rattle.report_text.specs.Setups.{numbers_of}
 

@@ -2,18 +2,19 @@
 
 ghost use Rattle.std.specs.Prelude.{◌≡◌, ◌++◌, OnOk};
 ghost use Rattle.std.specs.Fmt.{signed_decimal};
+ghost use Rattle.iso_lexer.specs.Devices.{page_text};
 ghost use Rattle.iso_lexer.specs.Names.{name_view, decoded};
 ghost use Rattle.report_text.specs.FaultText.{in_quotes, the_column, the_relation, the_table, column_of, key_fault_text, position_fault_text, value_fault_text, fault_text};
 
-use crate::page::{Page, push_name};
-use iso_lexer::{Ident, Name};
+use crate::names::push_name;
+use iso_lexer::{Ident, Name, Page};
 use itoa::Buffer;
 use session_machine::{KeyName, StmtFault};
 use sql_values::ValueFault;
 use std::alloc::AllocError;
 
 fn push_quoted(page: &mut Page, name: &Name<'_>) -> Result<(), AllocError>
-    ensures { OnOk result (page.new.bytes.items ≡ page.old.bytes.items ++ in_quotes (decoded (name_view name.now))) }
+    ensures { OnOk result (page_text page.new ≡ page_text page.old ++ in_quotes (decoded (name_view name.now))) }
 {
     page.push(b"\"")?;
     push_name(page, name)?;
@@ -21,21 +22,21 @@ fn push_quoted(page: &mut Page, name: &Name<'_>) -> Result<(), AllocError>
 }
 
 fn push_column(page: &mut Page, name: &Name<'_>) -> Result<(), AllocError>
-    ensures { OnOk result (page.new.bytes.items ≡ page.old.bytes.items ++ the_column (decoded (name_view name.now))) }
+    ensures { OnOk result (page_text page.new ≡ page_text page.old ++ the_column (decoded (name_view name.now))) }
 {
     page.push(b"column ")?;
     push_quoted(page, name)
 }
 
 fn push_relation(page: &mut Page, name: &Ident<'_>) -> Result<(), AllocError>
-    ensures { OnOk result (page.new.bytes.items ≡ page.old.bytes.items ++ the_relation name.now) }
+    ensures { OnOk result (page_text page.new ≡ page_text page.old ++ the_relation name.now) }
 {
     page.push(b"relation ")?;
     push_quoted(page, &name.name())
 }
 
 fn push_value_fault(page: &mut Page, fault: &ValueFault<'_>) -> Result<(), AllocError>
-    ensures { OnOk result (page.new.bytes.items ≡ page.old.bytes.items ++ value_fault_text fault.now) }
+    ensures { OnOk result (page_text page.new ≡ page_text page.old ++ value_fault_text fault.now) }
 {
     match fault {
         ValueFault::DivisionByZero => page.push(b"division by zero"),
@@ -52,7 +53,7 @@ fn push_value_fault(page: &mut Page, fault: &ValueFault<'_>) -> Result<(), Alloc
 
 /// Of a column of a relation.
 fn push_column_of(page: &mut Page, column: &Ident<'_>, table: &Ident<'_>) -> Result<(), AllocError>
-    ensures { OnOk result (page.new.bytes.items ≡ page.old.bytes.items ++ column_of column.now table.now) }
+    ensures { OnOk result (page_text page.new ≡ page_text page.old ++ column_of column.now table.now) }
 {
     push_column(page, &column.name())?;
     page.push(b" of ")?;
@@ -60,14 +61,14 @@ fn push_column_of(page: &mut Page, column: &Ident<'_>, table: &Ident<'_>) -> Res
 }
 
 fn push_table(page: &mut Page, name: &Ident<'_>) -> Result<(), AllocError>
-    ensures { OnOk result (page.new.bytes.items ≡ page.old.bytes.items ++ the_table name.now) }
+    ensures { OnOk result (page_text page.new ≡ page_text page.old ++ the_table name.now) }
 {
     page.push(b"table ")?;
     push_quoted(page, &name.name())
 }
 
 fn push_key_fault(page: &mut Page, name: &KeyName) -> Result<(), AllocError>
-    ensures { OnOk result (page.new.bytes.items ≡ page.old.bytes.items ++ key_fault_text name.now) }
+    ensures { OnOk result (page_text page.new ≡ page_text page.old ++ key_fault_text name.now) }
 {
     page.push(b"duplicate key value violates unique constraint \"")?;
     page.push(name.text())?;
@@ -75,14 +76,14 @@ fn push_key_fault(page: &mut Page, name: &KeyName) -> Result<(), AllocError>
 }
 
 fn push_number(page: &mut Page, number: &i128) -> Result<(), AllocError>
-    ensures { OnOk result (page.new.bytes.items ≡ page.old.bytes.items ++ signed_decimal number.now) }
+    ensures { OnOk result (page_text page.new ≡ page_text page.old ++ signed_decimal number.now) }
 {
     let mut buffer = Buffer::new();
     page.push(buffer.format(*number).as_bytes())
 }
 
 fn push_position_fault(page: &mut Page, position: &i128) -> Result<(), AllocError>
-    ensures { OnOk result (page.new.bytes.items ≡ page.old.bytes.items ++ position_fault_text position.now) }
+    ensures { OnOk result (page_text page.new ≡ page_text page.old ++ position_fault_text position.now) }
 {
     page.push(b"ORDER BY position ")?;
     push_number(page, position)?;
@@ -92,7 +93,7 @@ fn push_position_fault(page: &mut Page, position: &i128) -> Result<(), AllocErro
 /// Pushes the text of a fault.
 #[tactic(auto, unfolding(crate::specs::FaultText::fault_text))]
 pub fn push_fault(page: &mut Page, fault: &StmtFault<'_>) -> Result<(), AllocError>
-    ensures { OnOk result (page.new.bytes.items ≡ page.old.bytes.items ++ fault_text fault.now) }
+    ensures { OnOk result (page_text page.new ≡ page_text page.old ++ fault_text fault.now) }
 {
     match fault {
         StmtFault::Value(fault) => push_value_fault(page, fault),

@@ -1,6 +1,7 @@
 //! The text of a free run, by its history.
 
 ghost use Rattle.std.specs.Prelude.{◌≡◌, ◌++◌, [], map, OnOk, IfOk};
+ghost use Rattle.iso_lexer.specs.Devices.{page_text};
 ghost use Rattle.spec_parser.specs.Trees.{session_view, spec_view};
 ghost use Rattle.report_lines.specs.Due.{orders};
 ghost use Rattle.report_text.specs.Setups.{setups_of, setups_say};
@@ -10,12 +11,11 @@ ghost use Rattle.report_text.specs.Answers.{ending_of, EndsAs, Puts, TellsFailur
 use crate::fault::{Ended, Ending, ReportFault};
 use crate::free_lines::{push_item, push_note};
 use crate::numbers::setups_of;
-use crate::page::Page;
 use crate::permutation::put_said;
 use crate::setups::push_setups;
 use crate::standing::{Standing, nowhere, standing_in, take_in};
 use crate::teardowns::Pages;
-use iso_lexer::Sink;
+use iso_lexer::{Page, Sink};
 use report_lines::{Course, session_of};
 use session_machine::HistItem;
 use spec_parser::Spec;
@@ -28,8 +28,8 @@ fn push_said(
     at: Option<Standing>,
     item: &HistItem<'_>,
 ) -> Result<(), AllocError>
-    ensures text { OnOk result (pages.new.text.bytes.items ≡ pages.old.text.bytes.items ++ item_text (spec_view spec.now).sessions at item.now) }
-    ensures notes { OnOk result (pages.new.notes.bytes.items ≡ pages.old.notes.bytes.items ++ item_note (spec_view spec.now) at item.now) }
+    ensures text { OnOk result (page_text pages.new.text ≡ page_text pages.old.text ++ item_text (spec_view spec.now).sessions at item.now) }
+    ensures notes { OnOk result (page_text pages.new.notes ≡ page_text pages.old.notes ++ item_note (spec_view spec.now) at item.now) }
 {
     push_item(&mut pages.text, &spec.sessions, at, item)?;
     push_note(&mut pages.notes, spec, at, item)
@@ -37,8 +37,8 @@ fn push_said(
 
 /// Pushes what all items say.
 fn push_items(pages: &mut Pages, spec: &Spec<'_>, items: &[HistItem<'_>]) -> Result<(), AllocError>
-    ensures text { OnOk result (pages.new.text.bytes.items ≡ pages.old.text.bytes.items ++ each_says (item_text (spec_view spec.now).sessions) [] items.now) }
-    ensures notes { OnOk result (pages.new.notes.bytes.items ≡ pages.old.notes.bytes.items ++ each_says (item_note (spec_view spec.now)) [] items.now) }
+    ensures text { OnOk result (page_text pages.new.text ≡ page_text pages.old.text ++ each_says (item_text (spec_view spec.now).sessions) [] items.now) }
+    ensures notes { OnOk result (page_text pages.new.notes ≡ page_text pages.old.notes ++ each_says (item_note (spec_view spec.now)) [] items.now) }
 {
     let mut table = nowhere(pages.text.alloc(), spec.sessions.len())?;
     for item in items {
@@ -67,8 +67,8 @@ fn setups_ending(
 /// All that is said of a free run, setups apart.
 #[tactic(auto, unfolding(crate::specs::FreeText::free_says))]
 fn said_of(alloc: Global, spec: &Spec<'_>, items: &[HistItem<'_>]) -> Result<Pages, AllocError>
-    ensures text { IfOk result (λ said. said.text.bytes.items ≡ (free_says (spec_view spec.now) items.now).text) }
-    ensures notes { IfOk result (λ said. said.notes.bytes.items ≡ (free_says (spec_view spec.now) items.now).notes) }
+    ensures text { IfOk result (λ said. page_text said.text ≡ (free_says (spec_view spec.now) items.now).text) }
+    ensures notes { IfOk result (λ said. page_text said.notes ≡ (free_says (spec_view spec.now) items.now).notes) }
 {
     let mut pages = Pages::new(alloc);
     pages.text.push(b"\nstarting free run\n")?;
@@ -86,8 +86,8 @@ pub fn write_free<W: Sink, N: Sink>(
     notes: &mut N,
 ) -> Result<Ended, ReportFault>
     ensures ending { EndsAs (free_says (spec_view spec.now) items.now).ending result }
-    ensures text { Puts (W.failed out.new) (W.put_so_far out.old) (W.put_so_far out.new) (free_says (spec_view spec.now) items.now).text result }
-    ensures notes { Puts (N.failed notes.new) (N.put_so_far notes.old) (N.put_so_far notes.new) (free_says (spec_view spec.now) items.now).notes result }
+    ensures text { Puts (W.put_so_far out.old) (W.put_so_far out.new) (free_says (spec_view spec.now) items.now).text result }
+    ensures notes { Puts (N.put_so_far notes.old) (N.put_so_far notes.new) (free_says (spec_view spec.now) items.now).notes result }
     ensures fails { TellsFailure (W.failed out.old) (W.failed out.new) (N.failed notes.old) (N.failed notes.new) result }
 {
     let ending = setups_ending(alloc, spec, items)?;

@@ -2,20 +2,20 @@
 
 ghost use Rattle.std.specs.Prelude.{◌≡◌, ◌++◌, [], false, map, decimal, codes, option_map, OnOk};
 ghost use Rattle.std.specs.Option.{option_map_or};
+ghost use Rattle.iso_lexer.specs.Devices.{page_text};
 ghost use Rattle.spec_parser.specs.Trees.{part_view, step_view, session_view, spec_view};
 ghost use Rattle.report_text.specs.Replies.{outcome_text};
 ghost use Rattle.report_text.specs.FreeText.{step_with, launch_text, statement_name, statement_text, step_text, event_text, item_text, teardown_of, stands_in, item_note};
 
 use crate::line_text::{push_step_name, push_step_sql};
 use crate::notes::push_outcome_note;
-use crate::page::Page;
 use crate::replies::push_outcome;
 use crate::standing::Standing;
-use crate::steps::session_numbered;
+use iso_lexer::Page;
 use itoa::Buffer;
 use report_lines::session_of;
 use session_machine::{Event, HistItem, Outcome};
-use spec_parser::{Part, SessionPart, Spec, StepPart};
+use spec_parser::{Part, SessionPart, Spec, StepPart, session_numbered};
 use std::alloc::AllocError;
 
 /// The session's step that has this block.
@@ -31,14 +31,14 @@ fn step_with<'a>(session: &SessionPart<'a>, block: u32) -> Option<StepPart<'a>>
 }
 
 fn push_launch(page: &mut Page, step: &StepPart<'_>) -> Result<(), AllocError>
-    ensures { OnOk result (page.new.bytes.items ≡ page.old.bytes.items ++ launch_text (step_view step.now)) }
+    ensures { OnOk result (page_text page.new ≡ page_text page.old ++ launch_text (step_view step.now)) }
 {
     push_step_sql(page, step)?;
     page.push(b"\n")
 }
 
 fn push_number(page: &mut Page, number: usize) -> Result<(), AllocError>
-    ensures { OnOk result (page.new.bytes.items ≡ page.old.bytes.items ++ decimal number) }
+    ensures { OnOk result (page_text page.new ≡ page_text page.old ++ decimal number) }
 {
     let mut buffer = Buffer::new();
     page.push(buffer.format(number).as_bytes())
@@ -49,7 +49,7 @@ fn push_statement_name(
     step: &StepPart<'_>,
     statement: usize,
 ) -> Result<(), AllocError>
-    ensures { OnOk result (page.new.bytes.items ≡ page.old.bytes.items ++ statement_name (step_view step.now) statement) }
+    ensures { OnOk result (page_text page.new ≡ page_text page.old ++ statement_name (step_view step.now) statement) }
 {
     push_step_name(page, step)?;
     page.push(b"statement ")?;
@@ -62,7 +62,7 @@ fn push_over(
     statement: usize,
     outcome: &Outcome<'_>,
 ) -> Result<(), AllocError>
-    ensures { OnOk result (page.new.bytes.items ≡ page.old.bytes.items ++ (statement_name (step_view step.now) statement ++ codes "\n" ++ outcome_text outcome.now)) }
+    ensures { OnOk result (page_text page.new ≡ page_text page.old ++ (statement_name (step_view step.now) statement ++ codes "\n" ++ outcome_text outcome.now)) }
 {
     push_statement_name(page, step, statement)?;
     page.push(b"\n")?;
@@ -76,7 +76,7 @@ fn push_statement(
     statement: usize,
     outcome: &Outcome<'_>,
 ) -> Result<(), AllocError>
-    ensures { OnOk result (page.new.bytes.items ≡ page.old.bytes.items ++ statement_text (step_view step.now) statement outcome.now) }
+    ensures { OnOk result (page_text page.new ≡ page_text page.old ++ statement_text (step_view step.now) statement outcome.now) }
 {
     match outcome {
         Outcome::Waits => {
@@ -93,7 +93,7 @@ fn push_step(
     at: Standing,
     outcome: &Outcome<'_>,
 ) -> Result<(), AllocError>
-    ensures { OnOk result (page.new.bytes.items ≡ page.old.bytes.items ++ step_text (session_view session.now) outcome.now at) }
+    ensures { OnOk result (page_text page.new ≡ page_text page.old ++ step_text (session_view session.now) outcome.now at) }
 {
     match step_with(session, at.block) {
         Some(step) => push_statement(page, &step, at.statement, outcome),
@@ -107,7 +107,7 @@ fn push_event(
     at: Option<Standing>,
     item: &HistItem<'_>,
 ) -> Result<(), AllocError>
-    ensures { OnOk result (page.new.bytes.items ≡ page.old.bytes.items ++ event_text item.now.event item.now.reply.outcome at (session_view session.now)) }
+    ensures { OnOk result (page_text page.new ≡ page_text page.old ++ event_text item.now.event item.now.reply.outcome at (session_view session.now)) }
 {
     match item.event {
         Event::Launch { block, .. } => match step_with(session, block) {
@@ -129,7 +129,7 @@ pub fn push_item(
     at: Option<Standing>,
     item: &HistItem<'_>,
 ) -> Result<(), AllocError>
-    ensures { OnOk result (page.new.bytes.items ≡ page.old.bytes.items ++ item_text (map session_view sessions.now) at item.now) }
+    ensures { OnOk result (page_text page.new ≡ page_text page.old ++ item_text (map session_view sessions.now) at item.now) }
 {
     match session_numbered(sessions, session_of(&item.event) as usize) {
         Some(session) => push_event(page, session, at, item),
@@ -176,7 +176,7 @@ pub fn push_note(
     at: Option<Standing>,
     item: &HistItem<'_>,
 ) -> Result<(), AllocError>
-    ensures { OnOk result (page.new.bytes.items ≡ page.old.bytes.items ++ item_note (spec_view spec.now) at item.now) }
+    ensures { OnOk result (page_text page.new ≡ page_text page.old ++ item_note (spec_view spec.now) at item.now) }
 {
     let session = session_of(&item.event);
     if is_torn_down(spec, session, at) {

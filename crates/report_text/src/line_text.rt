@@ -1,15 +1,16 @@
 //! The lines that are said of a permutation's steps.
 
-ghost use Rattle.std.specs.Prelude.{◌≡◌, ◌++◌, ◌<◌, ◌≤◌, map, length, option_map, slice_range, OnOk, OnSome};
-ghost use Rattle.spec_parser.specs.Trees.{step_view, session_view};
+ghost use Rattle.std.specs.Prelude.{◌≡◌, ◌++◌, ◌<◌, ◌≤◌, length, option_map, slice_range, OnOk, OnSome};
+ghost use Rattle.iso_lexer.specs.Devices.{page_text};
+ghost use Rattle.spec_parser.specs.Trees.{step_view, spec_view};
 ghost use Rattle.report_text.specs.LineText.{entry_replies, step_name, step_sql, at_once, waiting, completed, step_at, line_text};
 
-use crate::page::{Page, push_name};
+use crate::names::push_name;
 use crate::replies::push_replies;
-use crate::steps::named_step;
+use iso_lexer::Page;
 use report_lines::{Course, Line};
 use session_machine::HistItem;
-use spec_parser::{SessionPart, StepPart};
+use spec_parser::{Spec, StepPart};
 use std::alloc::AllocError;
 
 /// The items from one place up to another, as far as there are any.
@@ -30,7 +31,7 @@ fn push_entry_replies(
     seen: usize,
 ) -> Result<(), AllocError>
     requires { entry < length course.now.entries }
-    ensures { OnOk result (page.new.bytes.items ≡ page.old.bytes.items ++ entry_replies course.now entry seen) }
+    ensures { OnOk result (page_text page.new ≡ page_text page.old ++ entry_replies course.now entry seen) }
 {
     let items = course.items();
     let replies = between(items, course.seen_before(entry), seen);
@@ -38,7 +39,7 @@ fn push_entry_replies(
 }
 
 pub fn push_step_name(page: &mut Page, step: &StepPart<'_>) -> Result<(), AllocError>
-    ensures { OnOk result (page.new.bytes.items ≡ page.old.bytes.items ++ step_name (step_view step.now)) }
+    ensures { OnOk result (page_text page.new ≡ page_text page.old ++ step_name (step_view step.now)) }
 {
     page.push(b"step ")?;
     push_name(page, &step.name)?;
@@ -46,7 +47,7 @@ pub fn push_step_name(page: &mut Page, step: &StepPart<'_>) -> Result<(), AllocE
 }
 
 pub fn push_step_sql(page: &mut Page, step: &StepPart<'_>) -> Result<(), AllocError>
-    ensures { OnOk result (page.new.bytes.items ≡ page.old.bytes.items ++ step_sql (step_view step.now)) }
+    ensures { OnOk result (page_text page.new ≡ page_text page.old ++ step_sql (step_view step.now)) }
 {
     push_step_name(page, step)?;
     page.push(step.part.sql.as_bytes())
@@ -60,7 +61,7 @@ fn push_at_once(
     seen: usize,
 ) -> Result<(), AllocError>
     requires { entry < length course.now.entries }
-    ensures { OnOk result (page.new.bytes.items ≡ page.old.bytes.items ++ at_once course.now entry seen (step_view step.now)) }
+    ensures { OnOk result (page_text page.new ≡ page_text page.old ++ at_once course.now entry seen (step_view step.now)) }
 {
     push_step_sql(page, step)?;
     page.push(b"\n")?;
@@ -68,7 +69,7 @@ fn push_at_once(
 }
 
 fn push_waiting(page: &mut Page, step: &StepPart<'_>) -> Result<(), AllocError>
-    ensures { OnOk result (page.new.bytes.items ≡ page.old.bytes.items ++ waiting (step_view step.now)) }
+    ensures { OnOk result (page_text page.new ≡ page_text page.old ++ waiting (step_view step.now)) }
 {
     push_step_sql(page, step)?;
     page.push(b" <waiting ...>\n")
@@ -82,7 +83,7 @@ fn push_completed(
     seen: usize,
 ) -> Result<(), AllocError>
     requires { entry < length course.now.entries }
-    ensures { OnOk result (page.new.bytes.items ≡ page.old.bytes.items ++ completed course.now entry seen (step_view step.now)) }
+    ensures { OnOk result (page_text page.new ≡ page_text page.old ++ completed course.now entry seen (step_view step.now)) }
 {
     push_step_name(page, step)?;
     page.push(b"<... completed>\n")?;
@@ -90,37 +91,37 @@ fn push_completed(
 }
 
 /// The step that the entry of this number names.
-fn step_at<'a>(
-    sessions: &[SessionPart<'a>],
+fn step_at<'s, 'a>(
+    spec: &'s Spec<'a>,
     course: &Course<'_>,
     entry: usize,
-) -> Option<StepPart<'a>>
-    ensures step { option_map step_view result ≡ step_at (map session_view sessions.now) course.now entry }
+) -> Option<&'s StepPart<'a>>
+    ensures step { option_map (λ x. step_view x.now) result ≡ step_at (spec_view spec.now) course.now entry }
     ensures there { OnSome result (entry < length course.now.entries) }
 {
-    named_step(sessions, course.entries().get(entry)?)
+    spec.step_of(course.entries().get(entry)?)
 }
 
 /// Pushes what a line says.
 pub fn push_line(
     page: &mut Page,
-    sessions: &[SessionPart<'_>],
+    spec: &Spec<'_>,
     course: &Course<'_>,
     line: Line,
 ) -> Result<(), AllocError>
-    ensures { OnOk result (page.new.bytes.items ≡ page.old.bytes.items ++ line_text (map session_view sessions.now) course.now line) }
+    ensures { OnOk result (page_text page.new ≡ page_text page.old ++ line_text (spec_view spec.now) course.now line) }
 {
     match line {
-        Line::AtOnce { entry, seen } => match step_at(sessions, course, entry) {
-            Some(step) => push_at_once(page, course, &step, entry, seen),
+        Line::AtOnce { entry, seen } => match step_at(spec, course, entry) {
+            Some(step) => push_at_once(page, course, step, entry, seen),
             None => Ok(()),
         },
-        Line::Waiting { entry } => match step_at(sessions, course, entry) {
-            Some(step) => push_waiting(page, &step),
+        Line::Waiting { entry } => match step_at(spec, course, entry) {
+            Some(step) => push_waiting(page, step),
             None => Ok(()),
         },
-        Line::Completed { entry, seen } => match step_at(sessions, course, entry) {
-            Some(step) => push_completed(page, course, &step, entry, seen),
+        Line::Completed { entry, seen } => match step_at(spec, course, entry) {
+            Some(step) => push_completed(page, course, step, entry, seen),
             None => Ok(()),
         },
     }

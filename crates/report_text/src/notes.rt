@@ -2,17 +2,18 @@
 
 ghost use Rattle.std.specs.Prelude.{◌≡◌, ◌++◌, [], map, codes, OnOk};
 ghost use Rattle.std.specs.Option.{option_map_or};
+ghost use Rattle.iso_lexer.specs.Devices.{page_text};
 ghost use Rattle.spec_parser.specs.Trees.{session_view};
-ghost use Rattle.report_text.specs.Steps.{session_numbered};
+ghost use Rattle.spec_parser.specs.Numbered.{session_numbered};
 ghost use Rattle.report_text.specs.Replies.{last_outcome};
 ghost use Rattle.report_text.specs.FaultText.{fault_text};
 ghost use Rattle.report_text.specs.Teardowns.{name_of, note_front, note, failure_note};
 
 use crate::fault_text::push_fault;
-use crate::page::{Page, push_name};
-use crate::steps::session_numbered;
+use crate::names::push_name;
+use iso_lexer::Page;
 use session_machine::{HistItem, Outcome, StmtFault};
-use spec_parser::SessionPart;
+use spec_parser::{SessionPart, session_numbered};
 use std::alloc::AllocError;
 
 /// Pushes ` of session ` and its name, of a session of the file.
@@ -21,7 +22,7 @@ fn push_whose(
     sessions: &[SessionPart<'_>],
     session: usize,
 ) -> Result<(), AllocError>
-    ensures { OnOk result (page.new.bytes.items ≡ page.old.bytes.items ++ option_map_or name_of (session_numbered (map session_view sessions.now) session) []) }
+    ensures { OnOk result (page_text page.new ≡ page_text page.old ++ option_map_or name_of (session_numbered (map session_view sessions.now) session) []) }
 {
     match session_numbered(sessions, session) {
         Some(session) => {
@@ -37,7 +38,7 @@ fn push_front(
     sessions: &[SessionPart<'_>],
     session: usize,
 ) -> Result<(), AllocError>
-    ensures { OnOk result (page.new.bytes.items ≡ page.old.bytes.items ++ note_front (map session_view sessions.now) session) }
+    ensures { OnOk result (page_text page.new ≡ page_text page.old ++ note_front (map session_view sessions.now) session) }
 {
     page.push(b"isolationtester: teardown")?;
     push_whose(page, sessions, session)?;
@@ -50,7 +51,7 @@ pub fn push_would_wait(
     sessions: &[SessionPart<'_>],
     session: usize,
 ) -> Result<(), AllocError>
-    ensures { OnOk result (page.new.bytes.items ≡ page.old.bytes.items ++ note (map session_view sessions.now) session (codes "would wait")) }
+    ensures { OnOk result (page_text page.new ≡ page_text page.old ++ note (map session_view sessions.now) session (codes "would wait")) }
 {
     push_front(page, sessions, session)?;
     page.push(b"would wait\n")
@@ -62,7 +63,7 @@ fn push_failure(
     session: usize,
     fault: &StmtFault<'_>,
 ) -> Result<(), AllocError>
-    ensures { OnOk result (page.new.bytes.items ≡ page.old.bytes.items ++ note (map session_view sessions.now) session (fault_text fault.now)) }
+    ensures { OnOk result (page_text page.new ≡ page_text page.old ++ note (map session_view sessions.now) session (fault_text fault.now)) }
 {
     push_front(page, sessions, session)?;
     push_fault(page, fault)?;
@@ -75,7 +76,7 @@ pub fn push_outcome_note(
     session: usize,
     outcome: &Outcome<'_>,
 ) -> Result<(), AllocError>
-    ensures { OnOk result (page.new.bytes.items ≡ page.old.bytes.items ++ failure_note (map session_view sessions.now) session outcome.now) }
+    ensures { OnOk result (page_text page.new ≡ page_text page.old ++ failure_note (map session_view sessions.now) session outcome.now) }
 {
     match outcome {
         Outcome::Failed(fault) => push_failure(page, sessions, session, fault),
@@ -90,7 +91,7 @@ pub fn push_last_note(
     session: usize,
     segment: &[HistItem<'_>],
 ) -> Result<(), AllocError>
-    ensures { OnOk result (page.new.bytes.items ≡ page.old.bytes.items ++ failure_note (map session_view sessions.now) session (last_outcome segment.now)) }
+    ensures { OnOk result (page_text page.new ≡ page_text page.old ++ failure_note (map session_view sessions.now) session (last_outcome segment.now)) }
 {
     match segment.last() {
         Some(item) => push_outcome_note(page, sessions, session, &item.reply.outcome),

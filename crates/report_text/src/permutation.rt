@@ -1,7 +1,8 @@
 //! The report of a permutation with its history.
 
 ghost use Rattle.std.specs.Prelude.{◌≡◌, ◌++◌, ◌+◌, ◌-◌, ◌<◌, ◌^◌, length, map, flat_map, OnOk, IfOk};
-ghost use Rattle.spec_parser.specs.Trees.{entry_view, session_view, spec_view};
+ghost use Rattle.iso_lexer.specs.Devices.{page_text};
+ghost use Rattle.spec_parser.specs.Trees.{entry_view, spec_view};
 ghost use Rattle.report_lines.specs.Due.{orders};
 ghost use Rattle.report_text.specs.Steps.{starting_text};
 ghost use Rattle.report_text.specs.LineText.{line_text};
@@ -12,14 +13,13 @@ ghost use Rattle.report_text.specs.Answers.{ending_of, EndsAs, IsNotMemory, Puts
 use crate::fault::{Ended, Ending, ReportFault, answer_of};
 use crate::line_text::push_line;
 use crate::numbers::setups_of;
-use crate::page::Page;
 use crate::setups::push_setups;
 use crate::steps::push_starting;
 use crate::teardowns::{Pages, push_teardowns};
-use iso_lexer::Sink;
+use iso_lexer::{Page, Sink};
 use report_lines::{Course, Line, Stand, told_lines};
 use session_machine::HistItem;
-use spec_parser::{Entry, SessionPart, Spec};
+use spec_parser::{Entry, Spec};
 use std::alloc::{AllocError, Global};
 
 /// Pushes the starting line, and what the setups say.
@@ -30,31 +30,31 @@ fn push_front(
     setups: &[usize],
 ) -> Result<Ending, AllocError>
     requires { setups.now ≡ setups_of (spec_view spec.now) }
-    ensures text { OnOk result (page.new.bytes.items ≡ page.old.bytes.items
-        ++ (starting_text (spec_view spec.now).sessions course.now.entries ++ (setups_say course.now.items (orders course.now.items) 0 (setups_of (spec_view spec.now))).text)) }
+    ensures text { OnOk result (page_text page.new ≡ page_text page.old
+        ++ (starting_text (spec_view spec.now) course.now.entries ++ (setups_say course.now.items (orders course.now.items) 0 (setups_of (spec_view spec.now))).text)) }
     ensures ending { IfOk result (λ ending. ending_of ending ≡ (setups_say course.now.items (orders course.now.items) 0 (setups_of (spec_view spec.now))).ending) }
 {
-    push_starting(page, &spec.sessions, course.entries())?;
+    push_starting(page, spec, course.entries())?;
     push_setups(page, &course.segments(), setups)
 }
 
 fn push_lines(
     page: &mut Page,
-    sessions: &[SessionPart<'_>],
+    spec: &Spec<'_>,
     course: &Course<'_>,
     lines: &[Line],
 ) -> Result<(), AllocError>
-    ensures { OnOk result (page.new.bytes.items ≡ page.old.bytes.items ++ flat_map (line_text (map session_view sessions.now) course.now) lines.now) }
+    ensures { OnOk result (page_text page.new ≡ page_text page.old ++ flat_map (line_text (spec_view spec.now) course.now) lines.now) }
 {
     for line in lines {
-        push_line(page, sessions, course, *line)?;
+        push_line(page, spec, course, *line)?;
     }
     Ok(())
 }
 
 /// Pushes that the permutation is invalid, if it is.
 fn push_stand(page: &mut Page, stand: Stand) -> Result<Ending, AllocError>
-    ensures text { OnOk result (page.new.bytes.items ≡ page.old.bytes.items ++ (stand_says stand).text) }
+    ensures text { OnOk result (page_text page.new ≡ page_text page.old ++ (stand_says stand).text) }
     ensures ending { IfOk result (λ ending. ending_of ending ≡ (stand_says stand).ending) }
 {
     match stand {
@@ -67,16 +67,12 @@ fn push_stand(page: &mut Page, stand: Stand) -> Result<Ending, AllocError>
 }
 
 /// Pushes the entries' lines.
-fn push_entries(
-    page: &mut Page,
-    sessions: &[SessionPart<'_>],
-    course: &Course<'_>,
-) -> Result<Ending, AllocError>
-    ensures text { OnOk result (page.new.bytes.items ≡ page.old.bytes.items ++ (entries_say (map session_view sessions.now) course.now (orders course.now.items - course.now.setups)).text) }
-    ensures ending { IfOk result (λ ending. ending_of ending ≡ (entries_say (map session_view sessions.now) course.now (orders course.now.items - course.now.setups)).ending) }
+fn push_entries(page: &mut Page, spec: &Spec<'_>, course: &Course<'_>) -> Result<Ending, AllocError>
+    ensures text { OnOk result (page_text page.new ≡ page_text page.old ++ (entries_say (spec_view spec.now) course.now (orders course.now.items - course.now.setups)).text) }
+    ensures ending { IfOk result (λ ending. ending_of ending ≡ (entries_say (spec_view spec.now) course.now (orders course.now.items - course.now.setups)).ending) }
 {
     let (told, stand) = told_lines(page.alloc(), course)?;
-    push_lines(page, sessions, course, told.lines())?;
+    push_lines(page, spec, course, told.lines())?;
     push_stand(page, stand)
 }
 
@@ -90,12 +86,12 @@ fn push_rest(
     requires there { orders course.now.items + 2 < 2 ^ 64 }
     requires setups { setups ≡ course.now.setups }
     requires room { setups + length course.now.entries + 1 < 2 ^ 64 }
-    ensures text { OnOk result (pages.new.text.bytes.items ≡ pages.old.text.bytes.items ++ (rest_says (spec_view spec.now) course.now (orders course.now.items)).text) }
-    ensures notes { OnOk result (pages.new.notes.bytes.items ≡ pages.old.notes.bytes.items ++ (rest_says (spec_view spec.now) course.now (orders course.now.items)).notes) }
+    ensures text { OnOk result (page_text pages.new.text ≡ page_text pages.old.text ++ (rest_says (spec_view spec.now) course.now (orders course.now.items)).text) }
+    ensures notes { OnOk result (page_text pages.new.notes ≡ page_text pages.old.notes ++ (rest_says (spec_view spec.now) course.now (orders course.now.items)).notes) }
     ensures ending { IfOk result (λ ending. ending_of ending ≡ (rest_says (spec_view spec.now) course.now (orders course.now.items)).ending) }
 {
     let segments = course.segments();
-    match push_entries(&mut pages.text, &spec.sessions, course)? {
+    match push_entries(&mut pages.text, spec, course)? {
         Ending::Whole => {
             let first = setups + course.entries().len();
             push_teardowns(pages, spec, &segments, segments.count(), first)?;
@@ -116,8 +112,8 @@ fn push_all(
     requires setups { setups.now ≡ setups_of (spec_view spec.now) }
     requires count { course.now.setups ≡ length setups.now }
     requires room { length setups.now + length course.now.entries + 1 < 2 ^ 64 }
-    ensures text { OnOk result (pages.new.text.bytes.items ≡ pages.old.text.bytes.items ++ (all_says (spec_view spec.now) course.now).text) }
-    ensures notes { OnOk result (pages.new.notes.bytes.items ≡ pages.old.notes.bytes.items ++ (all_says (spec_view spec.now) course.now).notes) }
+    ensures text { OnOk result (page_text pages.new.text ≡ page_text pages.old.text ++ (all_says (spec_view spec.now) course.now).text) }
+    ensures notes { OnOk result (page_text pages.new.notes ≡ page_text pages.old.notes ++ (all_says (spec_view spec.now) course.now).notes) }
     ensures ending { IfOk result (λ ending. ending_of ending ≡ (all_says (spec_view spec.now) course.now).ending) }
 {
     match push_front(&mut pages.text, spec, course, setups)? {
@@ -133,8 +129,8 @@ fn said_of(
     entries: &[Entry],
     items: &[HistItem<'_>],
 ) -> Result<(Pages, Ending), AllocError>
-    ensures text { IfOk result (λ said. said.0.text.bytes.items ≡ (permutation_says (spec_view spec.now) (map entry_view entries.now) items.now).text) }
-    ensures notes { IfOk result (λ said. said.0.notes.bytes.items ≡ (permutation_says (spec_view spec.now) (map entry_view entries.now) items.now).notes) }
+    ensures text { IfOk result (λ said. page_text said.0.text ≡ (permutation_says (spec_view spec.now) (map entry_view entries.now) items.now).text) }
+    ensures notes { IfOk result (λ said. page_text said.0.notes ≡ (permutation_says (spec_view spec.now) (map entry_view entries.now) items.now).notes) }
     ensures ending { IfOk result (λ said. ending_of said.1 ≡ (permutation_says (spec_view spec.now) (map entry_view entries.now) items.now).ending) }
 {
     let setups = setups_of(alloc, spec)?;
@@ -153,8 +149,8 @@ pub fn put_said<W: Sink, N: Sink>(
 ) -> Result<Ended, ReportFault>
     ensures ending { EndsAs (ending_of ending) result }
     ensures grows_nothing { IsNotMemory result }
-    ensures text { Puts (W.failed out.new) (W.put_so_far out.old) (W.put_so_far out.new) pages.now.text.bytes.items result }
-    ensures notes { Puts (N.failed notes.new) (N.put_so_far notes.old) (N.put_so_far notes.new) pages.now.notes.bytes.items result }
+    ensures text { Puts (W.put_so_far out.old) (W.put_so_far out.new) (page_text pages.now.text) result }
+    ensures notes { Puts (N.put_so_far notes.old) (N.put_so_far notes.new) (page_text pages.now.notes) result }
     ensures fails { TellsFailure (W.failed out.old) (W.failed out.new) (N.failed notes.old) (N.failed notes.new) result }
 {
     out.put(pages.text.bytes())?;
@@ -173,9 +169,9 @@ pub fn write_permutation<W: Sink, N: Sink>(
     notes: &mut N,
 ) -> Result<Ended, ReportFault>
     ensures ending { EndsAs (permutation_says (spec_view spec.now) (map entry_view entries.now) items.now).ending result }
-    ensures text { Puts (W.failed out.new) (W.put_so_far out.old) (W.put_so_far out.new)
+    ensures text { Puts (W.put_so_far out.old) (W.put_so_far out.new)
         (permutation_says (spec_view spec.now) (map entry_view entries.now) items.now).text result }
-    ensures notes { Puts (N.failed notes.new) (N.put_so_far notes.old) (N.put_so_far notes.new)
+    ensures notes { Puts (N.put_so_far notes.old) (N.put_so_far notes.new)
         (permutation_says (spec_view spec.now) (map entry_view entries.now) items.now).notes result }
     // Write is answered exactly where a sink has failed in the call.
     ensures fails { TellsFailure (W.failed out.old) (W.failed out.new) (N.failed notes.old) (N.failed notes.new) result }

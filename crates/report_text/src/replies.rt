@@ -1,25 +1,26 @@
 //! What replies print.
 
 ghost use Rattle.std.specs.Prelude.{◌≡◌, ◌++◌, OnOk};
+ghost use Rattle.iso_lexer.specs.Devices.{page_text};
 ghost use Rattle.report_text.specs.Replies.{rows_text, outcome_text, reply_text, replies_text, last_outcome, error_line};
 ghost use Rattle.result_tables.specs.Results.{table_of};
 ghost use Rattle.result_tables.specs.TableText.{table_text};
 
 use crate::fault_text::push_fault;
-use crate::page::Page;
+use iso_lexer::Page;
 use report_lines::{ends_in, session_of};
 use result_tables::{ResultSet, write_table};
 use session_machine::{HistItem, Outcome, StmtFault};
 use std::alloc::AllocError;
 
 fn push_table(page: &mut Page, set: &ResultSet<'_>) -> Result<(), AllocError>
-    ensures { OnOk result (page.new.bytes.items ≡ page.old.bytes.items ++ table_text (table_of set.now)) }
+    ensures { OnOk result (page_text page.new ≡ page_text page.old ++ table_text (table_of set.now)) }
 {
     write_table(page.alloc(), page, set).map_err(|_| AllocError)
 }
 
 fn push_error(page: &mut Page, fault: &StmtFault<'_>) -> Result<(), AllocError>
-    ensures { OnOk result (page.new.bytes.items ≡ page.old.bytes.items ++ error_line fault.now) }
+    ensures { OnOk result (page_text page.new ≡ page_text page.old ++ error_line fault.now) }
 {
     page.push(b"ERROR:  ")?;
     push_fault(page, fault)?;
@@ -28,7 +29,7 @@ fn push_error(page: &mut Page, fault: &StmtFault<'_>) -> Result<(), AllocError>
 
 /// Pushes the table of a result set, and of another outcome nothing.
 fn push_rows(page: &mut Page, outcome: &Outcome<'_>) -> Result<(), AllocError>
-    ensures { OnOk result (page.new.bytes.items ≡ page.old.bytes.items ++ rows_text outcome.now) }
+    ensures { OnOk result (page_text page.new ≡ page_text page.old ++ rows_text outcome.now) }
 {
     match outcome {
         Outcome::Rows(set) => push_table(page, set),
@@ -38,7 +39,7 @@ fn push_rows(page: &mut Page, outcome: &Outcome<'_>) -> Result<(), AllocError>
 
 /// Pushes the table of a result set, or the line of a failure.
 pub fn push_outcome(page: &mut Page, outcome: &Outcome<'_>) -> Result<(), AllocError>
-    ensures { OnOk result (page.new.bytes.items ≡ page.old.bytes.items ++ outcome_text outcome.now) }
+    ensures { OnOk result (page_text page.new ≡ page_text page.old ++ outcome_text outcome.now) }
 {
     match outcome {
         Outcome::Rows(set) => push_table(page, set),
@@ -48,7 +49,7 @@ pub fn push_outcome(page: &mut Page, outcome: &Outcome<'_>) -> Result<(), AllocE
 }
 
 fn push_reply(page: &mut Page, session: u32, item: &HistItem<'_>) -> Result<(), AllocError>
-    ensures { OnOk result (page.new.bytes.items ≡ page.old.bytes.items ++ reply_text session item.now) }
+    ensures { OnOk result (page_text page.new ≡ page_text page.old ++ reply_text session item.now) }
 {
     if session_of(&item.event) == session {
         push_outcome(page, &item.reply.outcome)
@@ -59,7 +60,7 @@ fn push_reply(page: &mut Page, session: u32, item: &HistItem<'_>) -> Result<(), 
 
 /// Pushes what the session's statements print, up to the one with which its block is over.
 pub fn push_replies(page: &mut Page, session: u32, items: &[HistItem<'_>]) -> Result<(), AllocError>
-    ensures { OnOk result (page.new.bytes.items ≡ page.old.bytes.items ++ replies_text session items.now) }
+    ensures { OnOk result (page_text page.new ≡ page_text page.old ++ replies_text session items.now) }
 {
     for item in items {
         push_reply(page, session, item)?;
@@ -72,7 +73,7 @@ pub fn push_replies(page: &mut Page, session: u32, items: &[HistItem<'_>]) -> Re
 
 /// Pushes the table of what came last, if it is a result set.
 pub fn push_last_rows(page: &mut Page, items: &[HistItem<'_>]) -> Result<(), AllocError>
-    ensures { OnOk result (page.new.bytes.items ≡ page.old.bytes.items ++ rows_text (last_outcome items.now)) }
+    ensures { OnOk result (page_text page.new ≡ page_text page.old ++ rows_text (last_outcome items.now)) }
 {
     match items.last() {
         Some(item) => push_rows(page, &item.reply.outcome),

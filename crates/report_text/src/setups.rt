@@ -2,6 +2,7 @@
 
 ghost use Rattle.std.specs.Prelude.{◌≡◌, ◌++◌, OnOk, IfOk, string_bytes};
 ghost use Rattle.std.specs.Str.Lossy.{utf8_lossy};
+ghost use Rattle.iso_lexer.specs.Devices.{page_text};
 ghost use Rattle.report_text.specs.FaultText.{fault_text};
 ghost use Rattle.report_lines.specs.Due.{orders};
 ghost use Rattle.report_text.specs.Replies.{last_outcome};
@@ -10,9 +11,9 @@ ghost use Rattle.report_text.specs.Answers.{ending_of};
 
 use crate::fault::Ending;
 use crate::fault_text::push_fault;
-use crate::page::Page;
 use crate::replies::push_last_rows;
 use crate::segments::went_well;
+use iso_lexer::Page;
 use report_lines::Segments;
 use session_machine::{HistItem, Outcome, StmtFault};
 use std::alloc::{AllocError, Global};
@@ -50,7 +51,7 @@ pub fn push_setups(
     segments: &Segments<'_>,
     sessions: &[usize],
 ) -> Result<Ending, AllocError>
-    ensures text { OnOk result (page.new.bytes.items ≡ page.old.bytes.items ++ (setups_say segments.now (orders segments.now) 0 sessions.now).text) }
+    ensures text { OnOk result (page_text page.new ≡ page_text page.old ++ (setups_say segments.now (orders segments.now) 0 sessions.now).text) }
     ensures ending { IfOk result (λ ending. ending_of ending ≡ (setups_say segments.now (orders segments.now) 0 sessions.now).ending) }
 {
     let there = segments.count();

@@ -3,7 +3,7 @@
 ghost use Rattle.std.specs.Prelude.{◌≡◌, ◌+◌, ◌<◌, ◌^◌, None, replicate, length, slice_get, slice_set, IfOk, IfSome};
 ghost use Rattle.report_lines.specs.Starts.{session_of};
 ghost use Rattle.report_text.specs.FreeText.{past, moved};
-ghost use Rattle.report_text.specs.Table.{at_number};
+ghost use Rattle.report_text.specs.Inner.Table.{at_number};
 
 use report_lines::session_of;
 use session_machine::{Event, HistItem, Outcome};

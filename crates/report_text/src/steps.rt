@@ -1,42 +1,19 @@
-//! The steps that entries name.
+//! The line with which a permutation starts.
 
-ghost use Rattle.std.specs.Prelude.{◌≡◌, ◌++◌, map, flat_map, option_map, option_copied, OnOk};
-ghost use Rattle.spec_parser.specs.Trees.{step_view, session_view, entry_view};
-ghost use Rattle.report_text.specs.Steps.{session_numbered, named_step, entry_name, starting_text};
+ghost use Rattle.std.specs.Prelude.{◌≡◌, ◌++◌, map, flat_map, OnOk};
+ghost use Rattle.iso_lexer.specs.Devices.{page_text};
+ghost use Rattle.spec_parser.specs.Trees.{entry_view, spec_view};
+ghost use Rattle.report_text.specs.Steps.{entry_name, starting_text};
 
-use crate::page::{Page, push_name};
-use spec_parser::{Entry, SessionPart, StepPart};
+use crate::names::push_name;
+use iso_lexer::Page;
+use spec_parser::{Entry, Spec};
 use std::alloc::AllocError;
 
-/// The session of this number, from 1.
-pub fn session_numbered<'s, 'a>(
-    sessions: &'s [SessionPart<'a>],
-    number: usize,
-) -> Option<&'s SessionPart<'a>>
-    ensures { option_map session_view (option_copied result) ≡ session_numbered (map session_view sessions.now) number }
+fn push_entry_name(page: &mut Page, spec: &Spec<'_>, entry: &Entry) -> Result<(), AllocError>
+    ensures { OnOk result (page_text page.new ≡ page_text page.old ++ entry_name (spec_view spec.now) (entry_view entry.now)) }
 {
-    match number {
-        0 => None,
-        _ => sessions.get(number - 1),
-    }
-}
-
-/// The step that an entry names.
-pub fn named_step<'a>(sessions: &[SessionPart<'a>], entry: &Entry) -> Option<StepPart<'a>>
-    ensures { option_map step_view result ≡ named_step (map session_view sessions.now) (entry_view entry.now) }
-{
-    let session = session_numbered(sessions, entry.session as usize)?;
-    session.steps.get(entry.step as usize).copied()
-}
-
-fn push_entry_name(
-    page: &mut Page,
-    sessions: &[SessionPart<'_>],
-    entry: &Entry,
-) -> Result<(), AllocError>
-    ensures { OnOk result (page.new.bytes.items ≡ page.old.bytes.items ++ entry_name (map session_view sessions.now) (entry_view entry.now)) }
-{
-    match named_step(sessions, entry) {
+    match spec.step_of(entry) {
         None => Ok(()),
         Some(step) => {
             page.push(b" ")?;
@@ -45,28 +22,20 @@ fn push_entry_name(
     }
 }
 
-fn push_entry_names(
-    page: &mut Page,
-    sessions: &[SessionPart<'_>],
-    entries: &[Entry],
-) -> Result<(), AllocError>
-    ensures { OnOk result (page.new.bytes.items ≡ page.old.bytes.items ++ flat_map (entry_name (map session_view sessions.now)) (map entry_view entries.now)) }
+fn push_entry_names(page: &mut Page, spec: &Spec<'_>, entries: &[Entry]) -> Result<(), AllocError>
+    ensures { OnOk result (page_text page.new ≡ page_text page.old ++ flat_map (entry_name (spec_view spec.now)) (map entry_view entries.now)) }
 {
     for entry in entries {
-        push_entry_name(page, sessions, entry)?;
+        push_entry_name(page, spec, entry)?;
     }
     Ok(())
 }
 
 /// Pushes the line with which a permutation starts.
-pub fn push_starting(
-    page: &mut Page,
-    sessions: &[SessionPart<'_>],
-    entries: &[Entry],
-) -> Result<(), AllocError>
-    ensures { OnOk result (page.new.bytes.items ≡ page.old.bytes.items ++ starting_text (map session_view sessions.now) (map entry_view entries.now)) }
+pub fn push_starting(page: &mut Page, spec: &Spec<'_>, entries: &[Entry]) -> Result<(), AllocError>
+    ensures { OnOk result (page_text page.new ≡ page_text page.old ++ starting_text (spec_view spec.now) (map entry_view entries.now)) }
 {
     page.push(b"\nstarting permutation:")?;
-    push_entry_names(page, sessions, entries)?;
+    push_entry_names(page, spec, entries)?;
     page.push(b"\n")
 }

@@ -1,15 +1,16 @@
 //! What teardowns say.
 
 ghost use Rattle.std.specs.Prelude.{◌≡◌, ◌++◌, ◌+◌, ◌<◌, ◌^◌, [], map, codes, OnOk, IfOk};
+ghost use Rattle.iso_lexer.specs.Devices.{page_text};
 ghost use Rattle.spec_parser.specs.Trees.{session_view, spec_view};
 ghost use Rattle.report_text.specs.Replies.{rows_text, last_outcome};
 ghost use Rattle.report_text.specs.Teardowns.{note, failure_note, teardown_text, teardown_note, behind, torn, last_teardown_of, teardowns_say};
 
 use crate::notes::{push_last_note, push_would_wait};
 use crate::numbers::teardowns_of;
-use crate::page::Page;
 use crate::replies::push_last_rows;
 use crate::segments::is_over;
+use iso_lexer::Page;
 use report_lines::Segments;
 use session_machine::HistItem;
 use spec_parser::{SessionPart, Spec};
@@ -24,8 +25,8 @@ pub struct Pages {
 
 impl Pages {
     pub fn new(alloc: Global) -> Pages
-        ensures text { result.text.bytes.items ≡ [] }
-        ensures notes { result.notes.bytes.items ≡ [] }
+        ensures text { (page_text result.text) ≡ [] }
+        ensures notes { (page_text result.notes) ≡ [] }
     {
         Pages {
             text: Page::new(alloc),
@@ -41,8 +42,8 @@ fn push_over(
     session: usize,
     segment: &[HistItem<'_>],
 ) -> Result<(), AllocError>
-    ensures text { OnOk result (pages.new.text.bytes.items ≡ pages.old.text.bytes.items ++ rows_text (last_outcome segment.now)) }
-    ensures notes { OnOk result (pages.new.notes.bytes.items ≡ pages.old.notes.bytes.items ++ failure_note (map session_view sessions.now) session (last_outcome segment.now)) }
+    ensures text { OnOk result (page_text pages.new.text ≡ page_text pages.old.text ++ rows_text (last_outcome segment.now)) }
+    ensures notes { OnOk result (page_text pages.new.notes ≡ page_text pages.old.notes ++ failure_note (map session_view sessions.now) session (last_outcome segment.now)) }
 {
     push_last_rows(&mut pages.text, segment)?;
     push_last_note(&mut pages.notes, sessions, session, segment)
@@ -54,8 +55,8 @@ fn push_waiting(
     sessions: &[SessionPart<'_>],
     session: usize,
 ) -> Result<(), AllocError>
-    ensures text { OnOk result (pages.new.text.bytes.items ≡ pages.old.text.bytes.items) }
-    ensures notes { OnOk result (pages.new.notes.bytes.items ≡ pages.old.notes.bytes.items ++ note (map session_view sessions.now) session (codes "would wait")) }
+    ensures text { OnOk result (page_text pages.new.text ≡ page_text pages.old.text) }
+    ensures notes { OnOk result (page_text pages.new.notes ≡ page_text pages.old.notes ++ note (map session_view sessions.now) session (codes "would wait")) }
 {
     push_would_wait(&mut pages.notes, sessions, session)
 }
@@ -69,8 +70,8 @@ fn push_teardown(
     session: usize,
 ) -> Result<usize, AllocError>
     requires { number + 2 < 2 ^ 64 }
-    ensures text { OnOk result (pages.new.text.bytes.items ≡ pages.old.text.bytes.items ++ teardown_text segments.now number session) }
-    ensures notes { OnOk result (pages.new.notes.bytes.items ≡ pages.old.notes.bytes.items ++ teardown_note (map session_view sessions.now) segments.now number session) }
+    ensures text { OnOk result (page_text pages.new.text ≡ page_text pages.old.text ++ teardown_text segments.now number session) }
+    ensures notes { OnOk result (page_text pages.new.notes ≡ page_text pages.old.notes ++ teardown_note (map session_view sessions.now) segments.now number session) }
     ensures next { IfOk result (λ next. next ≡ behind segments.now number session) }
 {
     let segment = segments.segment(number);
@@ -93,8 +94,8 @@ fn push_torn(
     teardowns: &[usize],
 ) -> Result<usize, AllocError>
     requires { there + 2 < 2 ^ 64 }
-    ensures text { OnOk result (pages.new.text.bytes.items ≡ pages.old.text.bytes.items ++ (torn (map session_view sessions.now) segments.now there first teardowns.now).text) }
-    ensures notes { OnOk result (pages.new.notes.bytes.items ≡ pages.old.notes.bytes.items ++ (torn (map session_view sessions.now) segments.now there first teardowns.now).notes) }
+    ensures text { OnOk result (page_text pages.new.text ≡ page_text pages.old.text ++ (torn (map session_view sessions.now) segments.now there first teardowns.now).text) }
+    ensures notes { OnOk result (page_text pages.new.notes ≡ page_text pages.old.notes ++ (torn (map session_view sessions.now) segments.now there first teardowns.now).notes) }
     ensures next { IfOk result (λ next. next ≡ (torn (map session_view sessions.now) segments.now there first teardowns.now).next) }
 {
     let mut number = first;
@@ -116,8 +117,10 @@ fn push_last(
     number: usize,
 ) -> Result<(), AllocError>
     requires { there + 2 < 2 ^ 64 }
-    ensures text { OnOk result (pages.new.text.bytes.items ≡ pages.old.text.bytes.items ++ (torn (spec_view spec.now).sessions segments.now there number (last_teardown_of (spec_view spec.now))).text) }
-    ensures notes { OnOk result (pages.new.notes.bytes.items ≡ pages.old.notes.bytes.items ++ (torn (spec_view spec.now).sessions segments.now there number (last_teardown_of (spec_view spec.now))).notes) }
+    ensures text { OnOk result (page_text pages.new.text ≡ page_text pages.old.text
+        ++ (torn (spec_view spec.now).sessions segments.now there number (last_teardown_of (spec_view spec.now))).text) }
+    ensures notes { OnOk result (page_text pages.new.notes ≡ page_text pages.old.notes
+        ++ (torn (spec_view spec.now).sessions segments.now there number (last_teardown_of (spec_view spec.now))).notes) }
 {
     if spec.teardown.is_some() {
         push_torn(pages, &spec.sessions, segments, there, number, &[0])?;
@@ -134,8 +137,8 @@ pub fn push_teardowns(
     first: usize,
 ) -> Result<(), AllocError>
     requires { there + 2 < 2 ^ 64 }
-    ensures text { OnOk result (pages.new.text.bytes.items ≡ pages.old.text.bytes.items ++ (teardowns_say (spec_view spec.now) segments.now there first).text) }
-    ensures notes { OnOk result (pages.new.notes.bytes.items ≡ pages.old.notes.bytes.items ++ (teardowns_say (spec_view spec.now) segments.now there first).notes) }
+    ensures text { OnOk result (page_text pages.new.text ≡ page_text pages.old.text ++ (teardowns_say (spec_view spec.now) segments.now there first).text) }
+    ensures notes { OnOk result (page_text pages.new.notes ≡ page_text pages.old.notes ++ (teardowns_say (spec_view spec.now) segments.now there first).notes) }
 {
     let teardowns = teardowns_of(pages.text.alloc(), spec)?;
     let next = push_torn(pages, &spec.sessions, segments, there, first, &teardowns)?;

@@ -2,7 +2,7 @@
 use Rattle.std.proofs.Common.{◌≡◌, ℕ, ◌+◌, ◌<◌, [], ◌∷◌, ◌++◌, length, get_or, take, map, sym, ap, ◌∙◌, arith}
 use Rattle.std.proofs.lemmas.List.{take_more, get_or-map, length-map}
 use Rattle.std.proofs.lemmas.List.FromFn.{length-map-range_with_len, get_or-map-range_with_len}
-use Rattle.result_tables.specs.declared.column.Column.{Column}
+use Rattle.result_tables.specs.declared.column.ColumnLayout.{ColumnLayout}
 use Rattle.result_tables.specs.declared.title.Title.{Title}
 use Rattle.result_tables.specs.Printed.{printed}
 use Rattle.result_tables.specs.Titles.{title_text}
@@ -26,7 +26,7 @@ columns_more set k title h e =
     let within : k < length columns = omega (arith, length-columns_of_set set) in
     let inside : k < length t.titles = omega (arith, length-map set.titles title_text) in
     let here : get_or t.titles k [] ≡ title_text title = get_or-map title_text set.titles k title [] h ∙ ap title_text (sym e) in
-    let first : Column = column_of (title_text title) values in
+    let first : ColumnLayout = column_of (title_text title) values in
     let column : get_or columns k first ≡ first =
     get_or-map-range_with_len (λ i. column_of (get_or t.titles i []) (cells t.rows i)) 0 (length t.titles) k k first inside (omega arith) ∙ ap (λ x. column_of x values) here in
     take_more columns k first within ∙ ap (λ x. take k columns ++ x ∷ []) column

@@ -3,8 +3,8 @@ use Rattle.std.proofs.Common.{◌≡◌, ℕ, zero, suc, ◌+◌, ◌<◌, ◌�
 use Rattle.std.specs.List.{join_with_byte, zip}
 use Rattle.std.proofs.lemmas.List.{get_or-map, length-map, take_all}
 use Rattle.std.proofs.lemmas.Slice.Zip.{get_or-zip, length-zip}
-use Rattle.result_tables.specs.declared.column.Column.{Column}
-use Rattle.result_tables.specs.Lines.{separator}
+use Rattle.result_tables.specs.declared.column.ColumnLayout.{ColumnLayout}
+use Rattle.result_tables.specs.Inner.Lines.{separator}
 use Rattle.result_tables.specs.TableText.{padded, padded_cells}
 
 shifted : (p j s g : List ℕ) (c : ℕ) → p ++ (c ∷ ((j ++ s) ++ g)) ≡ ((p ++ (c ∷ j)) ++ s) ++ g
@@ -37,11 +37,11 @@ joined_more c old pieces k piece before between after h here e f g =
     ∙ regrouped old j (separator c k) piece ∙ ap (λ l. old ++ ((j ++ separator c k) ++ l)) (sym here) ∙ ap (λ l. old ++ l) (sym (join_more c pieces k h))
 
 -- as many cells as columns
-pub length-padded_cells : (columns : List Column) (texts : List (List ℕ)) → length texts ≡ length columns → length (padded_cells columns texts) ≡ length columns
+pub length-padded_cells : (columns : List ColumnLayout) (texts : List (List ℕ)) → length texts ≡ length columns → length (padded_cells columns texts) ≡ length columns
 length-padded_cells columns texts e = length-map (zip columns texts) (λ p. padded p.0 p.1) ∙ omega (arith, length-zip columns texts)
 
 -- a cell in its column
-pub padded_cells_at : {C : Type 0} (shown : C → List ℕ) (columns : List Column) (cells : List C) (k : ℕ) (column : Column) (cell : C)
+pub padded_cells_at : {C : Type 0} (shown : C → List ℕ) (columns : List ColumnLayout) (cells : List C) (k : ℕ) (column : ColumnLayout) (cell : C)
     → length cells ≡ length columns → k < length columns → column ≡ get_or columns k column → cell ≡ get_or cells k cell
     → get_or (padded_cells columns (map shown cells)) k [] ≡ padded column (shown cell)
 padded_cells_at shown columns cells k column cell e h i j =
@@ -51,8 +51,8 @@ padded_cells_at shown columns cells k column cell e h i j =
     let inside : k < length texts = omega arith in
     let both : k < length (zip columns texts) = omega (arith, length-zip columns texts) in
     let text : get_or texts k (shown cell) ≡ shown cell = get_or-map shown cells k cell (shown cell) within ∙ ap shown (sym j) in
-    get_or-map (λ (p : Column × List ℕ). padded p.0 p.1) (zip columns texts) k (column, shown cell) [] both
-    ∙ ap (λ (p : Column × List ℕ). padded p.0 p.1) (get_or-zip columns texts k (column, shown cell) h inside)
+    get_or-map (λ (p : ColumnLayout × List ℕ). padded p.0 p.1) (zip columns texts) k (column, shown cell) [] both
+    ∙ ap (λ (p : ColumnLayout × List ℕ). padded p.0 p.1) (get_or-zip columns texts k (column, shown cell) h inside)
     ∙ ap (λ x. padded x (get_or texts k (shown cell))) (sym i)
     ∙ ap (λ x. padded column x) text
 

@@ -1,7 +1,7 @@
 -- The text of a table, in the manner of libpq's PQprint with the separator `|`.
 use Rattle.std.specs.Prelude.{ℕ, ◌-◌, ◌==◌, ◌&&◌, Bool, not, List, [], ◌∷◌, ◌++◌, length, map, fold, max, replicate, decimal, codes, flat_map, nat_lt, if◌then◌else◌}
 use Rattle.std.specs.List.{list_any, zip, range_with_len, slice_index_or, join_with_byte}
-use Rattle.result_tables.specs.declared.column.Column.{Column}
+use Rattle.result_tables.specs.declared.column.ColumnLayout.{ColumnLayout}
 use Rattle.result_tables.specs.Numeric.{is_numeric}
 
 -- the titles, and the printed values row by row
@@ -18,27 +18,27 @@ abbrev pub is_word : List ℕ → Bool
 is_word text = nat_lt 0 (length text) && not (is_numeric text)
 
 -- as wide as the longest of the title and the values; aligned to the left where some value is a word
-abbrev pub column_of : List ℕ → List (List ℕ) → Column
+abbrev pub column_of : List ℕ → List (List ℕ) → ColumnLayout
 column_of title values = record { width = fold max 0 (map length (title ∷ values)); left = list_any is_word values }
 
 -- a column for each title
-abbrev pub columns_of : Table → List Column
+abbrev pub columns_of : Table → List ColumnLayout
 columns_of t = map (λ k. column_of (slice_index_or t.titles k []) (cells t.rows k)) (range_with_len 0 (length t.titles))
 
 -- a cell, filled up with blanks to the column's width
-abbrev pub padded : Column → List ℕ → List ℕ
+abbrev pub padded : ColumnLayout → List ℕ → List ℕ
 padded c text = let blanks = replicate (c.width - length text) 32 in if c.left then text ++ blanks else blanks ++ text
 
 -- each text in its column
-abbrev pub padded_cells : List Column → List (List ℕ) → List (List ℕ)
+abbrev pub padded_cells : List ColumnLayout → List (List ℕ) → List (List ℕ)
 padded_cells columns texts = map (λ p. padded p.0 p.1) (zip columns texts)
 
 -- the cells of a line, with `|` between them
-abbrev pub table_line : List Column → List (List ℕ) → List ℕ
+abbrev pub table_line : List ColumnLayout → List (List ℕ) → List ℕ
 table_line columns texts = join_with_byte 124 (padded_cells columns texts) ++ 10 ∷ []
 
 -- the rule below the titles: `-` as wide as each column, with `+` between them
-abbrev pub rule_line : List Column → List ℕ
+abbrev pub rule_line : List ColumnLayout → List ℕ
 rule_line columns = join_with_byte 43 (map (λ c. replicate c.width 45) columns) ++ 10 ∷ []
 
 -- the number of rows, and an empty line

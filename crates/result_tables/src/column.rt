@@ -14,28 +14,28 @@ use std::alloc::{AllocError, Global};
 
 /// A column's width in bytes, and whether it is aligned to the left.
 #[derive(Clone, Copy, Debug, PartialEq, Eq)]
-pub struct Column {
+pub struct ColumnLayout {
     pub width: usize,
     pub left: bool,
 }
 
 /// The column with one more value.
-fn with_value(column: Column, value: &Value) -> Column
+fn with_value(column: ColumnLayout, value: &Value) -> ColumnLayout
     ensures width { result.width ≡ max column.width (length (printed value.now)) }
     ensures left { result.left ≡ (column.left || is_word (printed value.now)) }
 {
-    Column {
+    ColumnLayout {
         width: column.width.max(value.shown_len()),
         left: column.left || shows_word(value),
     }
 }
 
 /// Column `k` of a table.
-fn measured(title: &Title<'_>, rows: &[Row], k: usize) -> Column
+fn measured(title: &Title<'_>, rows: &[Row], k: usize) -> ColumnLayout
     requires { All (λ row. k < length row) rows.now }
     ensures { result ≡ column_of (title_text title.now) (cells (map (map printed) rows.now) k) }
 {
-    let mut column = Column {
+    let mut column = ColumnLayout {
         width: title.shown_len(),
         left: false,
     };
@@ -47,7 +47,7 @@ fn measured(title: &Title<'_>, rows: &[Row], k: usize) -> Column
 }
 
 /// The columns of a result's table.
-pub fn measured_columns(alloc: Global, set: &ResultSet<'_>) -> Result<Vec<Column>, AllocError>
+pub fn measured_columns(alloc: Global, set: &ResultSet<'_>) -> Result<Vec<ColumnLayout>, AllocError>
     ensures { IfOk result (λ columns. columns.items ≡ columns_of (table_of set.now)) }
 {
     let titles = set.titles();

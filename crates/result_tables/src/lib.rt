@@ -15,4 +15,4 @@ pub use fault::TableFault;
 pub use numeric::is_numeric;
 pub use result_set::ResultSet;
 pub use table::write_table;
-pub use title::{Title, TitleName};
+pub use title::Title;

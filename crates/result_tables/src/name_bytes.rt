@@ -3,7 +3,7 @@
 ghost use Rattle.std.specs.Prelude.{◌≡◌, ◌+◌, ◌++◌, ◌∷◌, ◌<◌, [], length, map, MatchOption, OnOk};
 ghost use Rattle.std.specs.Char.{to_ascii_lowercase};
 ghost use Rattle.iso_lexer.specs.Names.{name_view, decoded, unquoted};
-ghost use Rattle.result_tables.specs.NameBytes.{FirstUnquoted};
+ghost use Rattle.result_tables.specs.Inner.NameBytes.{FirstUnquoted};
 
 use iso_lexer::Name;
 use std::alloc::AllocError;

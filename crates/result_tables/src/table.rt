@@ -8,7 +8,7 @@ ghost use Rattle.result_tables.specs.TableText.{table_line, rule_line, foot, tab
 ghost use Rattle.result_tables.specs.Results.{table_of};
 ghost use Rattle.result_tables.specs.Faults.{TellsFailure};
 
-use crate::column::{Column, measured_columns};
+use crate::column::{ColumnLayout, measured_columns};
 use crate::fault::TableFault;
 use crate::result_set::ResultSet;
 use crate::table_lines::{append_foot, append_line, append_rule};
@@ -21,7 +21,7 @@ use std::alloc::Global;
 fn put_head<W: Sink>(
     out: &mut W,
     line: &mut Vec<u8>,
-    columns: &[Column],
+    columns: &[ColumnLayout],
     titles: &[Title<'_>],
 ) -> Result<(), TableFault>
     requires { length titles.now ≡ length columns.now }
@@ -40,7 +40,7 @@ fn put_head<W: Sink>(
 fn put_row<W: Sink>(
     out: &mut W,
     line: &mut Vec<u8>,
-    columns: &[Column],
+    columns: &[ColumnLayout],
     row: &Row,
 ) -> Result<(), TableFault>
     requires { length row.now ≡ length columns.now }
@@ -58,7 +58,7 @@ fn put_row<W: Sink>(
 fn put_rows<W: Sink>(
     out: &mut W,
     line: &mut Vec<u8>,
-    columns: &[Column],
+    columns: &[ColumnLayout],
     rows: &[Row],
 ) -> Result<(), TableFault>
     requires { All (λ row. length row ≡ length columns.now) rows.now }

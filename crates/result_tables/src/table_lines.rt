@@ -1,10 +1,10 @@
 //! The lines of a table.
 
 ghost use Rattle.std.specs.Prelude.{◌≡◌, ◌++◌, length, map, replicate, OnOk};
-ghost use Rattle.result_tables.specs.Lines.{separator};
+ghost use Rattle.result_tables.specs.Inner.Lines.{separator};
 ghost use Rattle.result_tables.specs.TableText.{padded, table_line, rule_line, foot};
 
-use crate::column::Column;
+use crate::column::ColumnLayout;
 use crate::shown::Shown;
 use itoa::Buffer;
 use std::alloc::AllocError;
@@ -31,7 +31,11 @@ fn append_separator(line: &mut Vec<u8>, byte: u8, place: usize) -> Result<(), Al
     }
 }
 
-fn append_cell<C: Shown>(line: &mut Vec<u8>, column: Column, cell: &C) -> Result<(), AllocError>
+fn append_cell<C: Shown>(
+    line: &mut Vec<u8>,
+    column: ColumnLayout,
+    cell: &C,
+) -> Result<(), AllocError>
     ensures { OnOk result (line.new.items ≡ line.old.items ++ padded column (C.shown cell.now)) }
 {
     let blanks = column.width.saturating_sub(cell.shown_len());
@@ -47,7 +51,7 @@ fn append_cell<C: Shown>(line: &mut Vec<u8>, column: Column, cell: &C) -> Result
 /// Appends the line of the titles or of a row.
 pub fn append_line<C: Shown>(
     line: &mut Vec<u8>,
-    columns: &[Column],
+    columns: &[ColumnLayout],
     cells: &[C],
 ) -> Result<(), AllocError>
     requires { length cells.now ≡ length columns.now }
@@ -65,7 +69,7 @@ pub fn append_line<C: Shown>(
 }
 
 /// Appends the rule below the titles.
-pub fn append_rule(line: &mut Vec<u8>, columns: &[Column]) -> Result<(), AllocError>
+pub fn append_rule(line: &mut Vec<u8>, columns: &[ColumnLayout]) -> Result<(), AllocError>
     ensures { OnOk result (line.new.items ≡ line.old.items ++ rule_line columns.now) }
 {
     for k in 0..columns.len() {

@@ -1,61 +1,14 @@
 //! Titles of columns.
 
 ghost use Rattle.std.specs.Prelude.{◌≡◌, ◌↔◌, IsTrue};
-ghost use Rattle.iso_lexer.specs.Names.{name_view, decoded};
 
-use iso_lexer::{Name, same_name};
-use std::marker::Model;
-
-/// The name in a title, which contracts see as the bytes that it stands for.
-#[derive(Debug, Drop)]
-pub struct TitleName<'a> {
-    written: Name<'a>,
-}
-
-impl<'a> Model for TitleName<'a> {
-    ghost use Rattle.std.specs.Prelude.{ℕ, List};
-    ghost use Rattle.iso_lexer.specs.Names.{name_view, decoded};
-
-    ghost Value = { List ℕ };
-
-    ghost view = { λ t. decoded (name_view t.written) };
-}
-
-impl<'a> TitleName<'a> {
-    pub fn new(name: Name<'a>) -> TitleName<'a>
-        ensures { result ≡ decoded (name_view name.entry) }
-    {
-        TitleName { written: name }
-    }
-
-    pub fn name(&self) -> Name<'a>
-        ensures { decoded (name_view result) ≡ self.now }
-    {
-        self.written
-    }
-
-    /// The same name again.
-    pub fn again(&self) -> TitleName<'a>
-        ensures { result ≡ self.now }
-    {
-        TitleName {
-            written: self.name(),
-        }
-    }
-
-    /// Whether both stand for the same bytes.
-    pub fn same(&self, other: &TitleName<'_>) -> bool
-        ensures { IsTrue result ↔ (self.now ≡ other.now) }
-    {
-        same_name(&self.name(), &other.name())
-    }
-}
+use iso_lexer::Ident;
 
 /// A column's title.
 #[derive(Debug, Drop)]
 pub enum Title<'a> {
     /// An alias, or the name of the column that alone makes the item.
-    Column(TitleName<'a>),
+    Column(Ident<'a>),
     /// `?column?`, which is not the title of an alias with these bytes.
     Unnamed,
     Count,

@@ -9,7 +9,7 @@ use Rattle.std.proofs.lemmas.List.Quantifiers.{position-Some}
 use Rattle.row_versions.specs.declared.names.TxId.{TxId}
 use Rattle.row_locks.specs.Members.{has, same_tx}
 use Rattle.row_locks.specs.Waiting.{Waiting}
-use Rattle.row_locks.specs.Searching.{blockers_at, blockers_in, is_reached, is_reached_in}
+use Rattle.row_locks.specs.Inner.Searching.{blockers_at, blockers_in, is_reached, is_reached_in}
 use Rattle.row_locks.specs.Cycles.{Path, Leads, Closes, blocks}
 use Rattle.row_locks.proofs.Paths.{one_step, leads_on, nowhere}
 

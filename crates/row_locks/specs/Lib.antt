@@ -2,5 +2,5 @@ pub mod Members
 pub mod Held
 pub mod Waiting
 pub mod Cycles
-pub mod Searching
 pub mod Laws
+pub mod Inner

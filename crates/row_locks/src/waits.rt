@@ -3,7 +3,7 @@ ghost use Rattle.std.specs.Prelude.{◌≡◌, ◌↔◌, ℕ, IsTrue, true, Lis
 ghost use Rattle.std.specs.Option.{option_copied};
 ghost use Rattle.row_locks.specs.Members.{has};
 ghost use Rattle.row_locks.specs.Waiting.{Waiting, is_free, is_of, without, with_blockers};
-ghost use Rattle.row_locks.specs.Searching.{is_reached, blockers_at};
+ghost use Rattle.row_locks.specs.Inner.Searching.{is_reached, blockers_at};
 ghost use Rattle.row_locks.specs.Cycles.{Closes, blocks};
 
 use crate::members::has;

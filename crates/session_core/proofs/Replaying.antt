@@ -7,7 +7,8 @@ use Rattle.session_machine.specs.declared.reply.Reply.{Reply}
 use Rattle.session_machine.specs.declared.reply.HistItem.{HistItem}
 use Rattle.session_machine.specs.declared.fault.Refusal.{Refusal}
 use Rattle.session_machine.specs.Machine.{Machine, Blocks, Next, next}
-use Rattle.session_machine.specs.Engine.{Answered, answered, Follows, Run}
+use Rattle.session_machine.specs.Engine.{Follows, Run}
+use Rattle.session_core.specs.Inner.Answers.{Answered, answered}
 use Rattle.session_machine.specs.Sound.{IsSoundMachine, StaysSound}
 
 abbrev ok_next : Next → Result Next Refusal

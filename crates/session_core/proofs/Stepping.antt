@@ -17,7 +17,7 @@ use Rattle.session_machine.specs.declared.reply.Reply.{Reply}
 use Rattle.session_machine.specs.declared.fault.Refusal.{Refusal}
 use Rattle.session_machine.specs.declared.fault.Refusal.TheVariants.{StillBlocked}
 use Rattle.session_machine.specs.Tables.{Database}
-use Rattle.session_machine.specs.Statements.{Did}
+use Rattle.session_machine.specs.Statements.{Effect}
 use Rattle.session_machine.specs.Running.{run_stmt}
 use Rattle.session_machine.specs.Machine.{Machine, Blocks, Next, after_stmt, around, closed_at_end, finished, is_failed, is_still_blocked, next, step_of, step_at, step_stmt, stmts_at, waits_there, with_session}
 use Rattle.session_machine.specs.Sound.{IsSoundMachine, StaysSound, tx_in, tx_of, command_in, command_of, progress_of}
@@ -36,14 +36,14 @@ pub within_at : (m : Machine) (i : ℕ) (s : Session) (p : Progress) → IsSound
 within_at m i s p sound at is = sound.within i p (ap progress_of at ∙ is)
 
 -- where the statement isn't the block's last, its session's transaction is what it left
-abbrev goes_or_waits : Machine → ℕ → Place → Did → Bool → Bool → Bool → Next
+abbrev goes_or_waits : Machine → ℕ → Place → Effect → Bool → Bool → Bool → Next
 goes_or_waits m i place d waits fails more =
     if waits then waits_there m i place d
     else if fails then finished m i d None
     else if more then finished m i d (Some (record { block = place.block; next = place.next + 1 }))
     else finished m i (closed_at_end d d.transaction) None
 
-keeps : (m : Machine) (i : ℕ) (place : Place) (d : Did) (waits fails more : Bool) → more ≡ true
+keeps : (m : Machine) (i : ℕ) (place : Place) (d : Effect) (waits fails more : Bool) → more ≡ true
     → (s : Session) × ((goes_or_waits m i place d waits fails more).machine ≡ with_session m d.db i s) × (s.transaction ≡ d.transaction)
 keeps m i place d true fails more h = (record { place = Some place; transaction = d.transaction; statement = d.statement }, refl, refl)
 keeps m i place d false true more h = (record { place = None; transaction = d.transaction; statement = None }, refl, refl)
@@ -92,7 +92,7 @@ runs_there blocks m i s place stmt at stands free is =
     ∙ ap (λ b. ok_or_blocked b (after_stmt m i place (length (stmts_at blocks place.block)) (run_stmt m.db s.transaction s.statement (around m i s) stmt))) free))
 
 -- so a statement leaves its transaction open, if it leaves one
-pub left_open : StaysSound → (m : Machine) (i : ℕ) (s : Session) (place : Place) (stmt : StmtTree) (d : Did) (t : OpenTransaction) → IsSoundMachine m
+pub left_open : StaysSound → (m : Machine) (i : ℕ) (s : Session) (place : Place) (stmt : StmtTree) (d : Effect) (t : OpenTransaction) → IsSoundMachine m
     → slice_get m.sessions i ≡ Some s → s.place ≡ Some place → is_still_blocked m.db s ≡ false
     → run_stmt m.db s.transaction s.statement (around m i s) stmt ≡ d → d.transaction ≡ Open t → IsOpen d.db.content t.tx
 left_open law m i s place stmt d t sound at stands free ran is =
@@ -102,7 +102,7 @@ left_open law m i s place stmt d t sound at stands free ran is =
     let more : nat_lt (place.next + 1) count ≡ true =
     ap (λ (ss : List StmtTree). nat_lt (place.next + 1) (length ss)) (block_is place stmt) ∙ lt_true _ _ (more_behind place stmt) in
     let steps : next blocks Free m (Step i) ≡ Ok (after_stmt m i place count d) =
-    subst (λ (x : Did). next blocks Free m (Step i) ≡ Ok (after_stmt m i place count x)) ran (runs_there blocks m i s place stmt at stands free here) in
+    subst (λ (x : Effect). next blocks Free m (Step i) ≡ Ok (after_stmt m i place count x)) ran (runs_there blocks m i s place stmt at stands free here) in
     let after = law.goes_on blocks Free m (Step i) (after_stmt m i place count d) sound steps in
     let kept = keeps m i place d (is_some d.statement) (is_failed d.outcome) (nat_lt (place.next + 1) count) more in
     let there : IsSoundMachine (with_session m d.db i kept.0) = subst IsSoundMachine kept.1 after.0 in
@@ -115,7 +115,7 @@ set_twice (z ∷ xs) zero x y = refl
 set_twice (z ∷ xs) (suc i) x y = ap (λ ys. z ∷ ys) (set_twice xs i x y)
 
 -- what was set at the session before doesn't matter
-same : (m n : Machine) (i : ℕ) (place : Place) (d : Did) (waits fails more : Bool) → ((db : Database) (s : Session) → with_session m db i s ≡ with_session n db i s)
+same : (m n : Machine) (i : ℕ) (place : Place) (d : Effect) (waits fails more : Bool) → ((db : Database) (s : Session) → with_session m db i s ≡ with_session n db i s)
     → goes_or_waits m i place d waits fails more ≡ goes_or_waits n i place d waits fails more
 same m n i place d true fails more e = ap (λ (x : Machine). let k : Next = record { machine = x; reply = record { outcome = d.outcome; ended = false } } in k) (e _ _)
 same m n i place d false true more e = ap (λ (x : Machine). let k : Next = record { machine = x; reply = record { outcome = d.outcome; ended = true } } in k) (e _ _)
@@ -123,7 +123,7 @@ same m n i place d false false true e = ap (λ (x : Machine). let k : Next = rec
 same m n i place d false false false e = ap (λ (x : Machine). let k : Next = record { machine = x; reply = record { outcome = (closed_at_end d d.transaction).outcome; ended = true } } in k) (e _ _)
 
 -- a statement that ran over the machine without it in its session
-pub ran : (m mid new : Machine) (i : ℕ) (s taken : Session) (place : Place) (count : ℕ) (stmt : StmtTree) (d : Did) (reply : Reply) → slice_get m.sessions i ≡ Some s
+pub ran : (m mid new : Machine) (i : ℕ) (s taken : Session) (place : Place) (count : ℕ) (stmt : StmtTree) (d : Effect) (reply : Reply) → slice_get m.sessions i ≡ Some s
     → mid ≡ record { db = d.db; sessions = set m.sessions i taken; events = m.events } → run_stmt m.db s.transaction s.statement (around m i s) stmt ≡ d
     → after_stmt mid i place count d ≡ record { machine = new; reply = reply }
     → IfSome (slice_get m.sessions i) (λ s. after_stmt m i place count (run_stmt m.db s.transaction s.statement (around m i s) stmt) ≡ record { machine = new; reply = reply })
@@ -147,12 +147,12 @@ there m inside i s at is =
     omega arith
 
 -- what runs over it finds the sessions of the definition around it
-pub ran_over : (m inside : Machine) (i : ℕ) (s : Session) (stmt : StmtTree) (lent : List Session) (d : Did) → inside ≡ taken_out m i s → lent ≡ inside.sessions
+pub ran_over : (m inside : Machine) (i : ℕ) (s : Session) (stmt : StmtTree) (lent : List Session) (d : Effect) → inside ≡ taken_out m i s → lent ≡ inside.sessions
     → run_stmt inside.db s.transaction s.statement (record { sessions = lent; number = inside.events }) stmt ≡ d
     → run_stmt m.db s.transaction s.statement (around m i s) stmt ≡ d
 ran_over m inside i s stmt lent d is is_lent run =
-    let over : Machine → Did = λ x. run_stmt x.db s.transaction s.statement (record { sessions = x.sessions; number = x.events }) stmt in
-    let lend : List Session → Did = λ xs. run_stmt inside.db s.transaction s.statement (record { sessions = xs; number = inside.events }) stmt in
+    let over : Machine → Effect = λ x. run_stmt x.db s.transaction s.statement (record { sessions = x.sessions; number = x.events }) stmt in
+    let lend : List Session → Effect = λ xs. run_stmt inside.db s.transaction s.statement (record { sessions = xs; number = inside.events }) stmt in
     ap over (sym is) ∙ (ap lend (sym is_lent) ∙ run)
 
 abbrev some_session : Session → Option Session

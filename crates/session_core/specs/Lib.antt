@@ -1,3 +1,3 @@
 pub mod Blocks
 pub mod Engines
-pub mod TreeCodes
+pub mod Inner

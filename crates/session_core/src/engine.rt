@@ -38,7 +38,7 @@ impl<'a, 't, V: Versions> Model for EngineState<'a, 't, V> {
     ghost use Rattle.session_machine.specs.Engine.{Engine, IsLegal, Run};
     ghost use Rattle.session_machine.specs.Sound.{IsSoundMachine};
     ghost use Rattle.session_core.specs.Blocks.{blocks_of};
-    ghost use Rattle.session_core.specs.TreeCodes.{tree_code};
+    ghost use Rattle.session_core.specs.Inner.TreeCodes.{tree_code};
     ghost use Rattle.std.specs.Coded.{codes};
 
     ghost Value = { Engine };

@@ -4,7 +4,7 @@ ghost use Rattle.std.specs.List.{list_any};
 ghost use Rattle.sql_trees.specs.Statements.{stmt_of};
 ghost use Rattle.session_machine.specs.Running.{is_definition};
 ghost use Rattle.session_machine.specs.Machine.{first_place, is_allowed, next, stmts_at, with_session};
-ghost use Rattle.session_machine.specs.Engine.{answered};
+ghost use Rattle.session_core.specs.Inner.Answers.{answered};
 ghost use Rattle.session_core.specs.Blocks.{blocks_of};
 
 use crate::block_stmts::block_stmts;

@@ -3,7 +3,7 @@ ghost use Rattle.std.specs.Prelude.{◌≡◌, ◌<◌, ◌+◌, ◌^◌, true, 
 ghost use Rattle.row_versions.specs.Log.{IsOpen};
 ghost use Rattle.session_machine.specs.declared.session.OpenTransaction.{OpenTransaction};
 ghost use Rattle.session_machine.specs.Machine.{at_rest, leave_of, left_behind, with_session};
-ghost use Rattle.session_machine.specs.Engine.{answered};
+ghost use Rattle.session_core.specs.Inner.Answers.{answered};
 ghost use Rattle.session_machine.specs.Sound.{IsSoundMachine};
 
 use crate::live::Live;

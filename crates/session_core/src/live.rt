@@ -5,7 +5,7 @@ ghost use Rattle.sql_values.specs.declared.value.Value.{Value as SqlValue};
 ghost use Rattle.row_versions.specs.Log.{empty_content};
 ghost use Rattle.session_machine.specs.Sound.{IsSoundMachine};
 ghost use Rattle.session_machine.specs.Machine.{next, opening, visible, with_session};
-ghost use Rattle.session_machine.specs.Engine.{answered};
+ghost use Rattle.session_core.specs.Inner.Answers.{answered};
 ghost use Rattle.session_core.specs.Blocks.{blocks_of};
 ghost use Rattle.session_core.specs.Engines.{Goes};
 

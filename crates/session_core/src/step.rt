@@ -6,7 +6,7 @@ ghost use Rattle.session_machine.specs.declared.session.OpenTransaction.{OpenTra
 ghost use Rattle.session_machine.specs.declared.session.Session.{Session as SessionFacts};
 ghost use Rattle.session_machine.specs.Running.{run_stmt};
 ghost use Rattle.session_machine.specs.Sound.{IsSoundMachine};
-ghost use Rattle.session_machine.specs.Engine.{answered};
+ghost use Rattle.session_core.specs.Inner.Answers.{answered};
 ghost use Rattle.session_machine.specs.Machine.{Machine, after_end, after_stmt, around, finished, closed_at_end, is_failed, is_still_blocked, next, with_session};
 ghost use Rattle.session_core.specs.Blocks.{blocks_of};
 ghost use Rattle.session_core.specs.Engines.{Goes};
@@ -17,7 +17,7 @@ use crate::waits::is_still_blocked;
 use row_versions::Versions;
 use session_laws::laws::stays_sound;
 use session_machine::{Event, Mode, Outcome, Place, Refusal, Reply, Session, Transaction};
-use session_statements::{Around, Database, Did};
+use session_statements::{Database, Effect, Surroundings};
 use sql_parser::Block;
 use std::alloc::AllocError;
 
@@ -141,7 +141,7 @@ impl<'a, 't, V: Versions> Live<'a, 't, V> {
     }
 
     /// The session stays at its statement, or goes on behind it.
-    fn go_on(&mut self, session: u32, place: Place, count: usize, did: Did<'t>) -> Reply<'t>
+    fn go_on(&mut self, session: u32, place: Place, count: usize, did: Effect<'t>) -> Reply<'t>
         requires there { session < length self.old.sessions }
         requires room { self.old.events + 1 < 2 ^ 64 }
         requires opened { (t : OpenTransaction) → did.transaction ≡ Transaction.Open t → IsOpen self.old.db.content t.tx }
@@ -197,7 +197,7 @@ impl<'a, 't, V: Versions> Live<'a, 't, V> {
         let taken = self.take_session(session);
         let transaction = taken.transaction;
         let statement = taken.statement;
-        let around = Around {
+        let around = Surroundings {
             sessions: &self.sessions,
             number: self.events,
         };

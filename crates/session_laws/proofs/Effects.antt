@@ -25,7 +25,7 @@ use Rattle.session_machine.specs.declared.reply.Outcome.TheVariants.{Done, Rows,
 use Rattle.session_machine.specs.Tables.{Database, Table, find_table}
 use Rattle.session_machine.specs.Transactions.{fresh, begun, committed, rolled_back, view_of}
 use Rattle.session_machine.specs.Views.{rows_shown}
-use Rattle.session_machine.specs.Statements.{Around, Did, DroppedUpTo, fails, answers, turns, columns_at, with_table, with_drop, create, dropped_at, dropped, drop_ended, drop_tables, is_level, level_set, begin_in, run_aborted, is_end}
+use Rattle.session_machine.specs.Statements.{Surroundings, Effect, DroppedUpTo, fails, answers, turns, columns_at, with_table, with_drop, create, dropped_at, dropped, drop_ended, drop_tables, is_level, level_set, begin_in, run_aborted, is_end}
 use Rattle.session_machine.specs.Walks.{Stop, Walk, Blocked, Fails, walked, walked_from}
 use Rattle.session_machine.specs.Rows.{Work, columns_in, insert_at, update_at, delete_at, lock_at, passing_targets, taken_targets}
 use Rattle.session_machine.specs.Running.{beginning, pauses, comes_to, ended, done, assigned_to, insert_from, insert_fitting, insert_to, insert, update_from, update_fitting, update_to, update, delete_from, delete_fitting, delete, lock_from, answered, select_rows, unless_wrong, select_at, select, run_open, run_closed, lock_again, run_on, run_stmt}
@@ -46,7 +46,7 @@ may_turn SetDeadlockTimeout = true
 may_turn stmt = false
 
 -- of a statement in this transaction: each way in which it may come out is so, where P is so of the database that it made
-pub record EffectsIf (may : Bool) (db : Database) (t : OpenTransaction) (around : Around) (P : Database → Type 0) (M : Did → Type 0) : Type 0 where
+pub record EffectsIf (may : Bool) (db : Database) (t : OpenTransaction) (around : Surroundings) (P : Database → Type 0) (M : Effect → Type 0) : Type 0 where
   pub lasts : Lasts t P
   pub firm : IsFirm db
   pub here : P db
@@ -58,11 +58,11 @@ pub record EffectsIf (may : Bool) (db : Database) (t : OpenTransaction) (around 
   pub pause : (k : ℕ) (view : View) (walk : Walk) (request : Request) → IsFirm walk.db → P walk.db → k < length walk.db.catalog.tables
       → M (pauses db.content (record { t = t; table = k; view = view; around = around }) walk request)
 
-abbrev pub Effects : Database → OpenTransaction → Around → (Database → Type 0) → (Did → Type 0) → Type 0
+abbrev pub Effects : Database → OpenTransaction → Surroundings → (Database → Type 0) → (Effect → Type 0) → Type 0
 Effects db t around P M = EffectsIf true db t around P M
 
-module _ (may : Bool) (db : Database) (t : OpenTransaction) (around : Around) (P : Database → Type 0) (M : Did → Type 0) (eff : EffectsIf may db t around P M) where
-  either : (b : Bool) (x y : Did) → M x → M y → M (if b then x else y)
+module _ (may : Bool) (db : Database) (t : OpenTransaction) (around : Surroundings) (P : Database → Type 0) (M : Effect → Type 0) (eff : EffectsIf may db t around P M) where
+  either : (b : Bool) (x y : Effect) → M x → M y → M (if b then x else y)
   either true x y h k = h
   either false x y h k = k
 
@@ -198,7 +198,7 @@ module _ (may : Bool) (db : Database) (t : OpenTransaction) (around : Around) (P
   answers_set (Ok set) = eff.answer db (Rows set) eff.firm eff.here
   answers_set (Err fault) = failed_here (OfValue fault)
 
-  selects_unless : (o : Option (List ℕ)) (position : Option ℤ) (due : Did) → M due → M (unless_wrong db t o position due)
+  selects_unless : (o : Option (List ℕ)) (position : Option ℤ) (due : Effect) → M due → M (unless_wrong db t o position due)
   selects_unless (Some name) position due h = failed_here (OfValue (NoColumn name))
   selects_unless None (Some n) due h = failed_here (NoPosition n)
   selects_unless None None due h = h
@@ -251,7 +251,7 @@ module _ (may : Bool) (db : Database) (t : OpenTransaction) (around : Around) (P
   after_on p table at (Selects s) h = locks_again s p table at s.lock
 
 -- a statement where no transaction is open: nothing is done, a transaction begins, or the statement is its first
-pub after_closed : (db : Database) (around : Around) (M : Did → Type 0) (stmt : StmtTree) → M (turns db Closed)
+pub after_closed : (db : Database) (around : Surroundings) (M : Effect → Type 0) (stmt : StmtTree) → M (turns db Closed)
     → ((level : Level) (explicit : Bool) → M (turns (begun db) (Open (fresh db.content level explicit))))
     → (may_turn stmt ≡ false → M (run_open (begun db) (fresh db.content ReadCommitted false) around stmt)) → M (run_closed db around stmt)
 after_closed db around M (Begin level) none starts_one runs = starts_one (unwrap_or level ReadCommitted) true
@@ -262,7 +262,7 @@ after_closed db around M SetDeadlockTimeout none starts_one runs = none
 after_closed db around M _ none starts_one runs = runs refl
 
 -- a statement in an aborted transaction ends it, or fails
-pub after_aborted : (db : Database) (M : Did → Type 0) → M (turns db Closed) → M (record { db = db; transaction = Aborted; statement = None; outcome = Failed AbortedFault })
+pub after_aborted : (db : Database) (M : Effect → Type 0) → M (turns db Closed) → M (record { db = db; transaction = Aborted; statement = None; outcome = Failed AbortedFault })
     → (stmt : StmtTree) → M (run_aborted db stmt)
 after_aborted db M closes refuses stmt = at_end (is_end stmt) where
   at_end : (b : Bool) → M (if b then turns db Closed else record { db = db; transaction = Aborted; statement = None; outcome = Failed AbortedFault })
@@ -275,7 +275,7 @@ found_within (x ∷ xs) zero l = (x, refl)
 found_within (x ∷ xs) (suc i) l = found_within xs i (omega arith)
 
 -- what is so after each effect, whatever the session's transaction, is so after each statement
-pub run_effects : (may : Bool) (db : Database) (t : Transaction) (statement : Option Progress) (around : Around) (stmt : StmtTree) (P : OpenTransaction → Database → Type 0) (M : Did → Type 0)
+pub run_effects : (may : Bool) (db : Database) (t : Transaction) (statement : Option Progress) (around : Surroundings) (stmt : StmtTree) (P : OpenTransaction → Database → Type 0) (M : Effect → Type 0)
     → (may_turn stmt ≡ true → may ≡ true) → ((p : Progress) → statement ≡ Some p → p.table.0 < length db.catalog.tables)
     → ((u : OpenTransaction) → t ≡ Open u → EffectsIf may db u around (P u) M)
     → (t ≡ Closed → M (turns db Closed) × ((level : Level) (explicit : Bool) → M (turns (begun db) (Open (fresh db.content level explicit))))

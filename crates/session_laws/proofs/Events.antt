@@ -9,9 +9,8 @@ use Rattle.session_machine.specs.declared.event.Event.{Event}
 use Rattle.session_machine.specs.declared.event.Event.TheVariants.{Launch, Step, Leave}
 use Rattle.session_machine.specs.declared.event.Mode.{Mode}
 use Rattle.session_machine.specs.declared.fault.Refusal.TheVariants.{Busy, NotYourTurn, BlockNotAllowed}
-use Rattle.session_machine.specs.Statements.{Did}
-use Rattle.session_machine.specs.Machine.{Machine, Blocks, Next, next, stmts_at, is_failed, is_allowed, is_directed, is_quiet, first_place, launched, launch_of, step_of, step_at, step_stmt, leave_of, after_end, after_stmt, waits_there, finished, closed_at_end}
-use Rattle.session_laws.specs.Laws.{session_of}
+use Rattle.session_machine.specs.Statements.{Effect}
+use Rattle.session_machine.specs.Machine.{Machine, Blocks, Next, next, stmts_at, is_failed, is_allowed, is_directed, is_quiet, first_place, launched, launch_of, step_of, step_at, step_stmt, leave_of, after_end, after_stmt, waits_there, finished, closed_at_end, session_of}
 use Rattle.session_laws.proofs.Sound.{if_ok, ok_launch, ok_step, ok_leave, ran, left_by}
 
 -- a session that is launched is in no block
@@ -55,7 +54,7 @@ event_cases blocks mode m (Leave i) n G h launches steps leaves = at_leave (slic
   at_leave (Some s) e h = subst G (ok_leave mode m i s n h) (leaves s e)
 
 -- after its statement the session waits there, goes on or drops its block's rest, or ends its block
-pub after_cases : (m : Machine) (i : ℕ) (place : Place) (count : ℕ) (d : Did) (G : Next → Type 0) → G (waits_there m i place d) → ((place : Option Place) → G (finished m i d place))
+pub after_cases : (m : Machine) (i : ℕ) (place : Place) (count : ℕ) (d : Effect) (G : Next → Type 0) → G (waits_there m i place d) → ((place : Option Place) → G (finished m i d place))
     → G (finished m i (closed_at_end d d.transaction) None) → G (after_stmt m i place count d)
 after_cases m i place count d G waits ends closes =
     either (is_some d.statement) (waits_there m i place d) (after_end m i place count d) waits
@@ -67,7 +66,7 @@ after_cases m i place count d G waits ends closes =
       either false x y h k = k
 
 -- the same, where it is known that a session that doesn't wait there is in no statement
-pub after_over : (m : Machine) (i : ℕ) (place : Place) (count : ℕ) (d : Did) (G : Next → Type 0) → G (waits_there m i place d) → (d.statement ≡ None → (place : Option Place) → G (finished m i d place))
+pub after_over : (m : Machine) (i : ℕ) (place : Place) (count : ℕ) (d : Effect) (G : Next → Type 0) → G (waits_there m i place d) → (d.statement ≡ None → (place : Option Place) → G (finished m i d place))
     → (d.statement ≡ None → G (finished m i (closed_at_end d d.transaction) None)) → G (after_stmt m i place count d)
 after_over m i place count d G waits ends closes = at_statement d.statement refl where
   either : (b : Bool) (x y : Next) → G x → G y → G (if b then x else y)

@@ -14,7 +14,7 @@ use Rattle.session_machine.specs.declared.session.Transaction.TheVariants.{Close
 use Rattle.session_machine.specs.declared.session.Progress.{Progress}
 use Rattle.session_machine.specs.Tables.{Database}
 use Rattle.session_machine.specs.Transactions.{fresh, begun, started, after_failure, moved_on}
-use Rattle.session_machine.specs.Statements.{Around, Did}
+use Rattle.session_machine.specs.Statements.{Surroundings, Effect}
 use Rattle.session_machine.specs.Running.{run_stmt}
 use Rattle.session_machine.specs.Sound.{tx_in, command_in}
 use Rattle.session_laws.proofs.Lists.{slice_get-set_other, slice_get-append_left, slice_get-append_seam}
@@ -117,7 +117,7 @@ leaves-opened db level explicit =
     (keeps-on (after_begin db.content) (after_begin db.content) t t (fresh-live db.content level explicit) refl refl (omega arith))
 
 -- what else a statement leaves: firm rows, no table less, and where it is in the middle of its targets its table, and a wait that begins now
-pub record IsLeft (db : Database) (number : ℕ) (d : Did) : Type 0 where
+pub record IsLeft (db : Database) (number : ℕ) (d : Effect) : Type 0 where
   pub firm : IsFirm d.db
   pub longer : length db.catalog.tables ≤ length d.db.catalog.tables
   pub within : (p : Progress) → d.statement ≡ Some p → p.table.0 < length d.db.catalog.tables
@@ -127,7 +127,7 @@ no_progress : (p : Progress) → None ≡ Some p → ⊥
 no_progress p h = cc
 
 -- no statement is in the middle of its targets
-left-over : (db : Database) (number : ℕ) (d : Did) → IsFirm d.db → length db.catalog.tables ≤ length d.db.catalog.tables → d.statement ≡ None → IsLeft db number d
+left-over : (db : Database) (number : ℕ) (d : Effect) → IsFirm d.db → length db.catalog.tables ≤ length d.db.catalog.tables → d.statement ≡ None → IsLeft db number d
 left-over db number d firm longer none =
     record { firm = firm; longer = longer; within = λ p e. absurd (no_progress p (sym none ∙ e)); now = λ p e. absurd (no_progress p (sym none ∙ e)) }
 
@@ -136,7 +136,7 @@ pub record IsGrown (db e : Database) : Type 0 where
   pub same : e.content.fates ≡ db.content.fates
   pub longer : length db.catalog.tables ≤ length e.catalog.tables
 
-abbrev pub KeptAndLeft : Database → OpenTransaction → ℕ → Did → Type 0
+abbrev pub KeptAndLeft : Database → OpenTransaction → ℕ → Effect → Type 0
 KeptAndLeft db t number d = Keeps db.content (Open t) d.db.content d.transaction × IsLeft db number d
 
 lasts-grown : (db : Database) (t : OpenTransaction) → Lasts t (IsGrown db)
@@ -151,7 +151,7 @@ lasts-grown db t =
       dropped = λ e k h. record { same = h.same; longer = h.longer };
     }
 
-pub effects-kept : (db : Database) (t : OpenTransaction) (around : Around) → IsLive db.content (Open t) → IsFirm db → Effects db t around (IsGrown db) (KeptAndLeft db t around.number)
+pub effects-kept : (db : Database) (t : OpenTransaction) (around : Surroundings) → IsLive db.content (Open t) → IsFirm db → Effects db t around (IsGrown db) (KeptAndLeft db t around.number)
 effects-kept db t around live firm =
     record {
       lasts = lasts-grown db t;
@@ -175,14 +175,14 @@ effects-kept db t around live firm =
       );
     }
 
-abbrev pub Leaving : Database → Transaction → ℕ → Did → Type 0
+abbrev pub Leaving : Database → Transaction → ℕ → Effect → Type 0
 Leaving db t number d = Leaves db.content t d.db.content d.transaction × IsLeft db number d
 
 begun-firm : (db : Database) → IsFirm db → IsFirm (begun db)
 begun-firm db f = record { fit = f.fit; stay = f.stay }
 
 -- a statement keeps the open transactions of others open, and its own if it has one
-pub leaving-run : (db : Database) (t : Transaction) (statement : Option Progress) (around : Around) (stmt : StmtTree) → IsLive db.content t → IsFirm db
+pub leaving-run : (db : Database) (t : Transaction) (statement : Option Progress) (around : Surroundings) (stmt : StmtTree) → IsLive db.content t → IsFirm db
     → ((p : Progress) → statement ≡ Some p → p.table.0 < length db.catalog.tables) → Leaving db t around.number (run_stmt db t statement around stmt)
 leaving-run db Closed statement around stmt live firm within =
     after_closed db around (Leaving db Closed around.number) stmt

@@ -19,12 +19,11 @@ use Rattle.session_machine.specs.declared.event.Mode.{Mode}
 use Rattle.session_machine.specs.declared.reply.HistItem.{HistItem}
 use Rattle.session_machine.specs.declared.fault.StmtFault.TheVariants.{LevelTooLate}
 use Rattle.session_machine.specs.Tables.{Database}
-use Rattle.session_machine.specs.Statements.{Around, Did, fails, turns, is_level, level_set, begin_in}
+use Rattle.session_machine.specs.Statements.{Surroundings, Effect, fails, turns, is_level, level_set, begin_in}
 use Rattle.session_machine.specs.Running.{run_open, run_on, run_closed, run_stmt}
-use Rattle.session_machine.specs.Machine.{Machine, Blocks, Next, next, around, with_session, at_rest, opening, stmts_at, left_behind, closed_at_end}
+use Rattle.session_machine.specs.Machine.{Machine, Blocks, Next, next, around, with_session, at_rest, opening, stmts_at, left_behind, closed_at_end, session_of}
 use Rattle.session_machine.specs.Engine.{Run}
 use Rattle.session_machine.specs.Sound.{IsSoundMachine, tx_in, tx_of}
-use Rattle.session_laws.specs.Laws.{session_of}
 use Rattle.session_laws.proofs.Lists.{slice_get-set_same, slice_get-set_other}
 use Rattle.session_laws.proofs.Effects.{may_turn, after_aborted}
 use Rattle.session_laws.proofs.Keeping.{IsLive}
@@ -36,17 +35,17 @@ use Rattle.session_laws.proofs.Orderly.{IsKnown, IsBehind, IsTurning, Adds, adds
 -- a statement that may change its transaction alone doesn't stop in the middle
 level_over : (db : Database) (t : OpenTransaction) (explicit : Bool) (level : Level) → (level_set db t explicit level).statement ≡ None
 level_over db t explicit level = at_test (is_some t.snapshot && not (is_level t.level level)) where
-  at_test : (b : Bool) → (let d : Did = if b then fails db t LevelTooLate else turns db (Open (record t { explicit = explicit; level = level })) in d.statement ≡ None)
+  at_test : (b : Bool) → (let d : Effect = if b then fails db t LevelTooLate else turns db (Open (record t { explicit = explicit; level = level })) in d.statement ≡ None)
   at_test true = refl
   at_test false = refl
 
 begin_over : (db : Database) (t : OpenTransaction) (level : Option Level) → (begin_in db t level).statement ≡ None
 begin_over db t level = at_test t.explicit where
-  at_test : (b : Bool) → (let d : Did = if b then turns db (Open t) else level_set db t true (unwrap_or level t.level) in d.statement ≡ None)
+  at_test : (b : Bool) → (let d : Effect = if b then turns db (Open t) else level_set db t true (unwrap_or level t.level) in d.statement ≡ None)
   at_test true = refl
   at_test false = level_over db t true (unwrap_or level t.level)
 
-open_over : (db : Database) (t : OpenTransaction) (around : Around) (stmt : StmtTree) → may_turn stmt ≡ true → (run_open db t around stmt).statement ≡ None
+open_over : (db : Database) (t : OpenTransaction) (around : Surroundings) (stmt : StmtTree) → may_turn stmt ≡ true → (run_open db t around stmt).statement ≡ None
 open_over db t around (Begin level) h = begin_over db t level
 open_over db t around Commit h = refl
 open_over db t around Rollback h = refl
@@ -54,7 +53,7 @@ open_over db t around (SetTransaction level) h = level_over db t t.explicit leve
 open_over db t around SetDeadlockTimeout h = refl
 open_over db t around _ h = cc
 
-on_over : (db : Database) (t : OpenTransaction) (around : Around) (p : Progress) (stmt : StmtTree) → may_turn stmt ≡ true → (run_on db t around p stmt).statement ≡ None
+on_over : (db : Database) (t : OpenTransaction) (around : Surroundings) (p : Progress) (stmt : StmtTree) → may_turn stmt ≡ true → (run_on db t around p stmt).statement ≡ None
 on_over db t around p (Begin level) h = begin_over db t level
 on_over db t around p Commit h = refl
 on_over db t around p Rollback h = refl
@@ -62,7 +61,7 @@ on_over db t around p (SetTransaction level) h = level_over db t t.explicit leve
 on_over db t around p SetDeadlockTimeout h = refl
 on_over db t around p _ h = cc
 
-closed_over : (db : Database) (around : Around) (stmt : StmtTree) → may_turn stmt ≡ true → (run_closed db around stmt).statement ≡ None
+closed_over : (db : Database) (around : Surroundings) (stmt : StmtTree) → may_turn stmt ≡ true → (run_closed db around stmt).statement ≡ None
 closed_over db around (Begin level) h = refl
 closed_over db around Commit h = refl
 closed_over db around Rollback h = refl
@@ -70,7 +69,7 @@ closed_over db around (SetTransaction level) h = refl
 closed_over db around SetDeadlockTimeout h = refl
 closed_over db around _ h = cc
 
-turning_over : (db : Database) (t : Transaction) (statement : Option Progress) (around : Around) (stmt : StmtTree) → may_turn stmt ≡ true → (run_stmt db t statement around stmt).statement ≡ None
+turning_over : (db : Database) (t : Transaction) (statement : Option Progress) (around : Surroundings) (stmt : StmtTree) → may_turn stmt ≡ true → (run_stmt db t statement around stmt).statement ≡ None
 turning_over db Closed statement around stmt h = closed_over db around stmt h
 turning_over db (Open t) None around stmt h = open_over db t around stmt h
 turning_over db (Open t) (Some p) around stmt h = on_over db t around p stmt h

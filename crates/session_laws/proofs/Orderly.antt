@@ -17,7 +17,7 @@ use Rattle.session_machine.specs.declared.session.Transaction.TheVariants.{Close
 use Rattle.session_machine.specs.declared.session.Progress.{Progress}
 use Rattle.session_machine.specs.Tables.{Database, Table, Dropped}
 use Rattle.session_machine.specs.Transactions.{fresh, begun, committed, after_failure}
-use Rattle.session_machine.specs.Statements.{Around, Did, turns}
+use Rattle.session_machine.specs.Statements.{Surroundings, Effect, turns}
 use Rattle.session_machine.specs.Running.{run_stmt}
 use Rattle.session_machine.specs.Machine.{around, closed_at_end}
 use Rattle.session_machine.specs.Sound.{tx_in}
@@ -129,7 +129,7 @@ pub record Adds (db : Database) (t : Transaction) (e : Database) (u : Transactio
   pub writes : (place : ℕ) (w : Write) → slice_get e.content.log place ≡ Some w
       → (slice_get db.content.log place ≡ Some w) ⊎ ((tx_in t ≡ Some w.tx.0) ⊎ (length db.content.fates ≤ w.tx.0))
 
-abbrev AddsDid : Database → Transaction → Did → Type 0
+abbrev AddsDid : Database → Transaction → Effect → Type 0
 AddsDid db t d = Adds db t d.db d.transaction d.statement
 
 -- it has begun, or begins
@@ -153,7 +153,7 @@ failed_none : (b : Bool) → tx_in (if b then Aborted else Closed) ≡ None
 failed_none true = refl
 failed_none false = refl
 
-effects-adds : (may : Bool) (db : Database) (t : Transaction) (e : Database) (u : OpenTransaction) (around : Around) → Owns db t u → IsFirm e → Since db u e
+effects-adds : (may : Bool) (db : Database) (t : Transaction) (e : Database) (u : OpenTransaction) (around : Surroundings) → Owns db t u → IsFirm e → Since db u e
     → (may ≡ true → (place : ℕ) (w : Write) → slice_get e.content.log place ≡ Some w → w.tx.0 ≡ u.tx.0 → w.command < u.command)
     → EffectsIf may e u around (Since db u) (AddsDid db t)
 effects-adds may db t e u around owns firm here strict =
@@ -193,7 +193,7 @@ weaker : (t : OpenTransaction) (p : Option Progress) (k : ℕ) → k < command_n
 weaker t None k h = omega arith
 weaker t (Some p) k h = h
 
-pub adds_run : (db : Database) (t : Transaction) (statement : Option Progress) (around : Around) (stmt : StmtTree) → IsLive db.content t → IsFirm db
+pub adds_run : (db : Database) (t : Transaction) (statement : Option Progress) (around : Surroundings) (stmt : StmtTree) → IsLive db.content t → IsFirm db
     → ((p : Progress) → statement ≡ Some p → p.table.0 < length db.catalog.tables) → IsKnown db → IsBehind db.content t statement → IsTurning statement stmt
     → AddsDid db t (run_stmt db t statement around stmt)
 adds_run db t statement around stmt live firm within known behind turning =
@@ -230,14 +230,14 @@ adds_run db t statement around stmt live firm within known behind turning =
       closes e = (adds_none db t Closed refl known, starts, begins)
 
 -- the end of a block
-pub adds_closes : (db : Database) (t : Transaction) (d : Did) (u : Transaction) → d.transaction ≡ u → d.statement ≡ None → IsLive d.db.content d.transaction → AddsDid db t d
+pub adds_closes : (db : Database) (t : Transaction) (d : Effect) (u : Transaction) → d.transaction ≡ u → d.statement ≡ None → IsLive d.db.content d.transaction → AddsDid db t d
     → (let e = closed_at_end d u in Adds db t e.db e.transaction None)
 adds_closes db t d Closed e over live h = record { known = h.known; behind = λ p w at its. absurd (none_is (sym (ap tx_in e) ∙ its)); writes = h.writes }
 adds_closes db t d Aborted e over live h = record { known = h.known; behind = λ p w at its. absurd (none_is (sym (ap tx_in e) ∙ its)); writes = h.writes }
 adds_closes db t d (Open u) e over live h = at_test u.explicit where
-  shuts : Did
+  shuts : Effect
   shuts = record { db = committed d.db u.tx; transaction = Closed; statement = None; outcome = d.outcome }
 
-  at_test : (b : Bool) → (let x : Did = if b then d else shuts in Adds db t x.db x.transaction None)
+  at_test : (b : Bool) → (let x : Effect = if b then d else shuts in Adds db t x.db x.transaction None)
   at_test true = subst (Adds db t d.db d.transaction) over h
   at_test false = record { known = known_grows u d.db (committed d.db u.tx) (live u.tx.0 (ap tx_in e)) h.known (grows_commit u d.db (live u.tx.0 (ap tx_in e))); behind = λ p w at its. absurd (none_is its); writes = h.writes }

@@ -30,7 +30,7 @@ use Rattle.session_machine.specs.Tables.{Database}
 use Rattle.session_machine.specs.Transactions.{committed, view_now}
 use Rattle.session_machine.specs.Views.{rows_shown}
 use Rattle.session_machine.specs.declared.session.Progress.{Progress}
-use Rattle.session_machine.specs.Statements.{Around, Did, turns, is_level}
+use Rattle.session_machine.specs.Statements.{Surroundings, Effect, turns, is_level}
 use Rattle.session_machine.specs.Running.{run_stmt}
 use Rattle.session_machine.specs.Machine.{Machine, Blocks, Next, next, around, stmts_at, step_of, step_at, step_stmt, after_stmt, finished}
 use Rattle.session_machine.specs.Sound.{tx_in}
@@ -65,13 +65,13 @@ begins_due blocks mode m i s stmt n at due h = at_place s.place due (sym (ap (st
 commit_done : (m : Machine) (i : ℕ) (place : Place) (count : ℕ) (t : OpenTransaction) → (after_stmt m i place count (turns (committed m.db t.tx) Closed)).machine.db ≡ committed m.db t.tx
 commit_done m i place count t = at_test (nat_lt (place.next + 1) count) where
   at_test : (b : Bool)
-      → (let d : Did = turns (committed m.db t.tx) Closed in
+      → (let d : Effect = turns (committed m.db t.tx) Closed in
       let n : Next = if b then finished m i d (Some (record { block = place.block; next = place.next + 1 })) else finished m i d None in n.machine.db ≡ committed m.db t.tx)
   at_test true = refl
   at_test false = refl
 
 -- a COMMIT commits, whatever the session was at
-commit_is : (db : Database) (t : OpenTransaction) (p : Option Progress) (a : Around) → run_stmt db (Open t) p a Commit ≡ turns (committed db t.tx) Closed
+commit_is : (db : Database) (t : OpenTransaction) (p : Option Progress) (a : Surroundings) → run_stmt db (Open t) p a Commit ≡ turns (committed db t.tx) Closed
 commit_is db t None a = refl
 commit_is db t (Some p) a = refl
 

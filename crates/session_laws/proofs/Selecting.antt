@@ -33,7 +33,7 @@ use Rattle.sql_values.specs.Sorting.{keys_at}
 use Rattle.session_machine.specs.Views.{rows_shown}
 use Rattle.session_machine.specs.declared.session.Progress.{Progress}
 use Rattle.session_machine.specs.declared.session.Session.{Session}
-use Rattle.session_machine.specs.Statements.{Around, Did, columns_at}
+use Rattle.session_machine.specs.Statements.{Surroundings, Effect, columns_at}
 use Rattle.session_machine.specs.Running.{answered, select_at, run_stmt}
 use Rattle.session_machine.specs.Machine.{Next, next, around, visible_to, visible_for}
 use Rattle.session_laws.specs.Laws.{VisibleIsSelected, select_all, shown_by}
@@ -83,7 +83,7 @@ all_shown name columns rows =
     ∙ (ap (λ (rs : List (List Value)). if_ok (each (row_values (cols_of columns) (All ∷ [])) rs) f) (picked_all rows 0 rows (λ i. let e : 0 + i ≡ i = omega arith in ap (keys_at rows) e))
     ∙ ap (λ (r : Result (List (List Value)) ValueFault). if_ok r f) (each_all (cols_of columns) rows))
 
-shown_in : (db : Database) (t : OpenTransaction) (a : Around) (name : List ℕ) (o : Option ℕ)
+shown_in : (db : Database) (t : OpenTransaction) (a : Surroundings) (name : List ℕ) (o : Option ℕ)
     → shown_by (select_at db t a (all_of name) name o).outcome ≡ Some (option_map (rows_shown db.content (view_of db.content t)) o)
 shown_in db t a name None = refl
 shown_in db t a name (Some k) =
@@ -147,7 +147,7 @@ map_same f g (Some x) h = ap Some (h x)
 abbrev session_in : Transaction → Session
 session_in t = record { place = None; transaction = t; statement = None }
 
-select_shows : (db : Database) (t : Transaction) (a : Around) (name : List ℕ) → IsKnown db → t ≢ Aborted → shown_by (run_stmt db t None a (select_all name)).outcome ≡ Some (visible_to db (session_in t) name)
+select_shows : (db : Database) (t : Transaction) (a : Surroundings) (name : List ℕ) → IsKnown db → t ≢ Aborted → shown_by (run_stmt db t None a (select_all name)).outcome ≡ Some (visible_to db (session_in t) name)
 select_shows db Closed a name known other =
     let c = db.content in
     shown_in (begun db) (fresh c ReadCommitted false) a name (find_table (begun db) (Some (next_tx c)) name)
@@ -171,4 +171,4 @@ visible_is_selected blocks count mode items m item after i s name rows few run a
     let same_rows : visible_to m.db (session_in s.transaction) name ≡ visible_to m.db s name =
     ap (λ (p : Option Progress). option_map (rows_shown m.db.content (view_now m.db.content s.transaction p)) (find_table m.db (own_of s.transaction) name)) (sym over) in
     let sees_rows : visible_to m.db s name ≡ rows = ok_same (sym (ap (visible_for m name) at) ∙ seen) in
-    ap shown_by outcome ∙ (ap (λ (x : Did). shown_by x.outcome) fresh_one ∙ (select_shows m.db s.transaction (around m i s) name orderly.known other ∙ (ap Some same_rows ∙ ap Some sees_rows)))
+    ap shown_by outcome ∙ (ap (λ (x : Effect). shown_by x.outcome) fresh_one ∙ (select_shows m.db s.transaction (around m i s) name orderly.known other ∙ (ap Some same_rows ∙ ap Some sees_rows)))

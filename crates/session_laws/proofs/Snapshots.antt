@@ -17,12 +17,11 @@ use Rattle.session_machine.specs.declared.event.Mode.{Mode}
 use Rattle.session_machine.specs.declared.reply.HistItem.{HistItem}
 use Rattle.session_machine.specs.Tables.{Database}
 use Rattle.session_machine.specs.Transactions.{begun, committed, fresh, after_failure, moved_on}
-use Rattle.session_machine.specs.Statements.{Around, Did}
+use Rattle.session_machine.specs.Statements.{Surroundings, Effect}
 use Rattle.session_machine.specs.Running.{run_stmt}
-use Rattle.session_machine.specs.Machine.{Machine, Blocks, Next, next, around, at_rest, opening, closed_at_end}
+use Rattle.session_machine.specs.Machine.{Machine, Blocks, Next, next, around, at_rest, opening, closed_at_end, session_of}
 use Rattle.session_machine.specs.Engine.{Run}
 use Rattle.session_machine.specs.Sound.{IsSoundMachine}
-use Rattle.session_laws.specs.Laws.{session_of}
 use Rattle.session_laws.proofs.Lists.{slice_get-set_same, slice_get-set_other}
 use Rattle.session_laws.proofs.Effects.{IsFirm, Effects, run_effects}
 use Rattle.session_laws.proofs.Events.{event_cases, after_cases}
@@ -40,7 +39,7 @@ snap_of None = 0
 snap_of (Some s) = snap_in s.transaction
 
 -- the snapshot of a statement's transaction is at most so late
-abbrev IsBy : ℕ → Did → Type 0
+abbrev IsBy : ℕ → Effect → Type 0
 IsBy k d = snap_in d.transaction ≤ k
 
 by-fails : (k : ℕ) (t : OpenTransaction) → snap_in (after_failure t) ≤ k
@@ -59,7 +58,7 @@ abbrev Nothing : OpenTransaction → Database → Type 0
 Nothing t db = Unit {0}
 
 -- a statement takes a snapshot of what has committed where there is none
-effects-by : (db : Database) (t : OpenTransaction) (around : Around) → IsFirm db → unwrap_or t.snapshot 0 ≤ commit_count db.content
+effects-by : (db : Database) (t : OpenTransaction) (around : Surroundings) → IsFirm db → unwrap_or t.snapshot 0 ≤ commit_count db.content
     → Effects db t around (Nothing t) (IsBy (commit_count db.content))
 effects-by db t around firm h =
     record {
@@ -78,7 +77,7 @@ effects-by db t around firm h =
 abbrev first_view : View
 first_view = record { tx = None; commits = 0; command = 0 }
 
-by-run : (db : Database) (t : Transaction) (statement : Option Progress) (around : Around) (stmt : StmtTree) → IsFirm db
+by-run : (db : Database) (t : Transaction) (statement : Option Progress) (around : Surroundings) (stmt : StmtTree) → IsFirm db
     → ((p : Progress) → statement ≡ Some p → p.table.0 < length db.catalog.tables) → snap_in t ≤ commit_count db.content → IsBy (commit_count db.content) (run_stmt db t statement around stmt)
 by-run db t statement around stmt firm within h =
     run_effects true db t statement around stmt Nothing (IsBy (commit_count db.content)) (λ e. refl) within
@@ -91,7 +90,7 @@ by-run db t statement around stmt firm within h =
     ))
     (λ e. (omega arith, omega arith))
 
-by-closes : (k : ℕ) (d : Did) (u : Transaction) → IsBy k d → IsBy k (closed_at_end d u)
+by-closes : (k : ℕ) (d : Effect) (u : Transaction) → IsBy k d → IsBy k (closed_at_end d u)
 by-closes k d Closed h = h
 by-closes k d Aborted h = h
 by-closes k d (Open u) h = at_test u.explicit where

@@ -22,7 +22,7 @@ use Rattle.session_machine.specs.declared.fault.Refusal.{Refusal}
 use Rattle.session_machine.specs.declared.fault.Refusal.TheVariants.{Busy, NotYourTurn, StillBlocked, BlockNotAllowed}
 use Rattle.session_machine.specs.Tables.{Database}
 use Rattle.session_machine.specs.Transactions.{committed}
-use Rattle.session_machine.specs.Statements.{Did}
+use Rattle.session_machine.specs.Statements.{Effect}
 use Rattle.session_machine.specs.Running.{run_stmt}
 use Rattle.session_machine.specs.Machine.{Machine, Blocks, Next, next, around, with_session, at_rest, opening, stmts_at, is_allowed, is_busy, is_directed, is_quiet, is_turn, turn_in, is_still_blocked, is_failed, first_place, launched, launch_of, step_of, step_at, step_stmt, leave_of, left_behind, after_end, after_stmt, waits_there, finished, closed_at_end}
 use Rattle.session_machine.specs.Sound.{IsSound, IsSoundMachine, StaysSound, tx_in, tx_of, command_in, command_of, progress_of}
@@ -139,11 +139,11 @@ then_ended c t d u left =
           (left.same_or_new n (ap Some (sym e)))
 
 -- the end of a block leaves what its last statement left
-pub left-ended : (db : Database) (t : Transaction) (number : ℕ) (d : Did) (u : Transaction) → d.transaction ≡ u → Leaving db t number d → Leaving db t number (closed_at_end d u)
+pub left-ended : (db : Database) (t : Transaction) (number : ℕ) (d : Effect) (u : Transaction) → d.transaction ≡ u → Leaving db t number d → Leaving db t number (closed_at_end d u)
 left-ended db t number d Closed e h = h
 left-ended db t number d Aborted e h = h
 left-ended db t number d (Open u) e h = at_test u.explicit where
-  closes : Did
+  closes : Effect
   closes = record { db = committed d.db u.tx; transaction = Closed; statement = None; outcome = d.outcome }
 
   at_test : (b : Bool) → Leaving db t number (if b then d else closes)
@@ -173,7 +173,7 @@ sound_if m true x y h k = h
 sound_if m false x y h k = k
 
 -- a statement is over, and its session stands at the place
-sound_finished : (m : Machine) (i : ℕ) (s : Session) (d : Did) (place : Option Place) → IsSoundMachine m → slice_get m.sessions i ≡ Some s
+sound_finished : (m : Machine) (i : ℕ) (s : Session) (d : Effect) (place : Option Place) → IsSoundMachine m → slice_get m.sessions i ≡ Some s
     → Leaving m.db s.transaction m.events d → SoundNext m (finished m i d place)
 sound_finished m i s d place sound at left = (
   sound_set m.db d.db m.sessions m.events i s (record { place = place; transaction = d.transaction; statement = None }) sound at left.0 left.1.firm left.1.longer
@@ -181,7 +181,7 @@ sound_finished m i s d place sound at left = (
   refl,
 )
 
-sound_waits : (m : Machine) (i : ℕ) (s : Session) (place : Place) (d : Did) → IsSoundMachine m → slice_get m.sessions i ≡ Some s
+sound_waits : (m : Machine) (i : ℕ) (s : Session) (place : Place) (d : Effect) → IsSoundMachine m → slice_get m.sessions i ≡ Some s
     → Leaving m.db s.transaction m.events d → SoundNext m (waits_there m i place d)
 sound_waits m i s place d sound at left = (
   sound_set m.db d.db m.sessions m.events i s (record { place = Some place; transaction = d.transaction; statement = d.statement }) sound at left.0 left.1.firm left.1.longer
@@ -189,7 +189,7 @@ sound_waits m i s place d sound at left = (
   refl,
 )
 
-sound_end : (m : Machine) (i : ℕ) (s : Session) (place : Place) (count : ℕ) (d : Did) → IsSoundMachine m → slice_get m.sessions i ≡ Some s
+sound_end : (m : Machine) (i : ℕ) (s : Session) (place : Place) (count : ℕ) (d : Effect) → IsSoundMachine m → slice_get m.sessions i ≡ Some s
     → Leaving m.db s.transaction m.events d → SoundNext m (after_end m i place count d)
 sound_end m i s place count d sound at left =
     sound_if m (is_failed d.outcome) (finished m i d None) _
@@ -198,7 +198,7 @@ sound_end m i s place count d sound at left =
     (sound_finished m i s d (Some (record { block = place.block; next = place.next + 1 })) sound at left)
     (sound_finished m i s (closed_at_end d d.transaction) None sound at (left-ended m.db s.transaction m.events d d.transaction refl left)))
 
-sound_after : (m : Machine) (i : ℕ) (s : Session) (place : Place) (count : ℕ) (d : Did) → IsSoundMachine m → slice_get m.sessions i ≡ Some s
+sound_after : (m : Machine) (i : ℕ) (s : Session) (place : Place) (count : ℕ) (d : Effect) → IsSoundMachine m → slice_get m.sessions i ≡ Some s
     → Leaving m.db s.transaction m.events d → SoundNext m (after_stmt m i place count d)
 sound_after m i s place count d sound at left =
     sound_if m (is_some d.statement) (waits_there m i place d) (after_end m i place count d) (sound_waits m i s place d sound at left) (sound_end m i s place count d sound at left)
@@ -226,7 +226,7 @@ ok_launch blocks mode m i block s n h =
     (if_ok (is_busy s) Busy _ n (if_ok (not (is_allowed blocks i block)) BlockNotAllowed _ n h)))
 
 -- what the session's next statement, which begins or goes on, does
-abbrev pub ran : Machine → ℕ → Session → StmtTree → Did
+abbrev pub ran : Machine → ℕ → Session → StmtTree → Effect
 ran m i s stmt = run_stmt m.db s.transaction s.statement (around m i s) stmt
 
 pub ok_step : (mode : Mode) (m : Machine) (i : ℕ) (s : Session) (place : Place) (count : ℕ) (stmt : StmtTree) (n : Next) → step_stmt mode m i s place count (Some stmt) ≡ Ok n

@@ -29,11 +29,10 @@ use Rattle.session_machine.specs.declared.event.Mode.{Mode}
 use Rattle.session_machine.specs.Tables.{Database}
 use Rattle.session_machine.specs.Transactions.{fresh, begun, committed}
 use Rattle.session_machine.specs.Views.{rows_shown}
-use Rattle.session_machine.specs.Statements.{Around, Did}
+use Rattle.session_machine.specs.Statements.{Surroundings, Effect}
 use Rattle.session_machine.specs.Running.{run_stmt}
-use Rattle.session_machine.specs.Machine.{Machine, Blocks, Next, next, is_failed, around, left_behind, closed_at_end}
+use Rattle.session_machine.specs.Machine.{Machine, Blocks, Next, next, is_failed, around, left_behind, closed_at_end, session_of}
 use Rattle.session_machine.specs.Sound.{IsSoundMachine, tx_in, tx_of}
-use Rattle.session_laws.specs.Laws.{session_of}
 use Rattle.session_laws.proofs.Lists.{slice_get-append_seam}
 use Rattle.session_laws.proofs.Writing.{Lasts}
 use Rattle.session_laws.proofs.Effects.{IsFirm, Effects, run_effects}
@@ -172,10 +171,10 @@ lasts-hidden view c t other =
     }
 
 -- so it stays, where the view is earlier
-abbrev pub StaysDid : View → Content → Did → Type 0
+abbrev pub StaysDid : View → Content → Effect → Type 0
 StaysDid view c d = Stays view c d.db.content
 
-effects-stay : (view : View) (c : Content) (db : Database) (t : OpenTransaction) (around : Around) → view.tx ≢ Some t.tx → view.commits ≤ commit_count c → IsFirm db → IsHidden view c t db
+effects-stay : (view : View) (c : Content) (db : Database) (t : OpenTransaction) (around : Surroundings) → view.tx ≢ Some t.tx → view.commits ≤ commit_count c → IsFirm db → IsHidden view c t db
     → Effects db t around (IsHidden view c t) (StaysDid view c)
 effects-stay view c db t around other earlier firm here =
     record {
@@ -191,13 +190,13 @@ effects-stay view c db t around other earlier firm here =
     }
 
 -- and if it failed it is hidden
-abbrev pub HidesFailed : View → Content → Did → Type 0
+abbrev pub HidesFailed : View → Content → Effect → Type 0
 HidesFailed view c d = is_failed d.outcome ≡ true → Hides view c d.db.content
 
 no_failure : {A : Type 0} → false ≡ true → A
 no_failure h = absurd (let z : ⊥ = cc in z)
 
-effects-hide : (view : View) (c : Content) (db : Database) (t : OpenTransaction) (around : Around) → view.tx ≢ Some t.tx → IsFirm db → IsHidden view c t db
+effects-hide : (view : View) (c : Content) (db : Database) (t : OpenTransaction) (around : Surroundings) → view.tx ≢ Some t.tx → IsFirm db → IsHidden view c t db
     → Effects db t around (IsHidden view c t) (HidesFailed view c)
 effects-hide view c db t around other firm here =
     record {
@@ -227,7 +226,7 @@ hidden-open view db t u e live = record { hides = hides_here view db.content; is
 not_own : (view : View) (c : Content) (t : Transaction) (u : OpenTransaction) → t ≡ Open u → IsApart view c t → view.tx ≢ Some u.tx
 not_own view c t u e apart = apart.not_its u.tx (ap tx_in e)
 
-pub stays-run : (view : View) (db : Database) (t : Transaction) (statement : Option Progress) (around : Around) (stmt : StmtTree) → IsLive db.content t → IsFirm db
+pub stays-run : (view : View) (db : Database) (t : Transaction) (statement : Option Progress) (around : Surroundings) (stmt : StmtTree) → IsLive db.content t → IsFirm db
     → ((p : Progress) → statement ≡ Some p → p.table.0 < length db.catalog.tables) → IsApart view db.content t → view.commits ≤ commit_count db.content
     → StaysDid view db.content (run_stmt db t statement around stmt)
 stays-run view db t statement around stmt live firm within apart earlier =
@@ -240,7 +239,7 @@ stays-run view db t statement around stmt live firm within apart earlier =
     ))
     (λ e. (stays_here view db.content, stays_here view db.content))
 
-pub hides-run : (view : View) (db : Database) (t : Transaction) (statement : Option Progress) (around : Around) (stmt : StmtTree) → IsLive db.content t → IsFirm db
+pub hides-run : (view : View) (db : Database) (t : Transaction) (statement : Option Progress) (around : Surroundings) (stmt : StmtTree) → IsLive db.content t → IsFirm db
     → ((p : Progress) → statement ≡ Some p → p.table.0 < length db.catalog.tables) → IsApart view db.content t
     → HidesFailed view db.content (run_stmt db t statement around stmt)
 hides-run view db t statement around stmt live firm within apart =
@@ -254,15 +253,15 @@ hides-run view db t statement around stmt live firm within apart =
     (λ e. (λ failed. hides_here view db.content, λ failed. hides_here view db.content))
 
 -- the end of a block
-stays-closes : (view : View) (c : Content) (d : Did) (u : Transaction) → d.transaction ≡ u → IsLive d.db.content d.transaction → view.commits ≤ commit_count c → Stays view c d.db.content
+stays-closes : (view : View) (c : Content) (d : Effect) (u : Transaction) → d.transaction ≡ u → IsLive d.db.content d.transaction → view.commits ≤ commit_count c → Stays view c d.db.content
     → Stays view c (closed_at_end d u).db.content
 stays-closes view c d Closed e live earlier h = h
 stays-closes view c d Aborted e live earlier h = h
 stays-closes view c d (Open u) e live earlier h = at_test u.explicit where
-  closes : Did
+  closes : Effect
   closes = record { db = committed d.db u.tx; transaction = Closed; statement = None; outcome = d.outcome }
 
-  at_test : (b : Bool) → (let x : Did = if b then d else closes in Stays view c x.db.content)
+  at_test : (b : Bool) → (let x : Effect = if b then d else closes in Stays view c x.db.content)
   at_test true = h
   at_test false = let counts = h.counts in stays_on view c d.db.content (after_commit d.db.content u.tx) h (stays-commit view d.db.content u.tx (live u.tx.0 (ap tx_in e)) (omega arith))
 

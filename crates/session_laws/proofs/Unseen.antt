@@ -19,10 +19,10 @@ use Rattle.session_machine.specs.Tables.{Database}
 use Rattle.session_machine.specs.Transactions.{committed, commits_seen, view_of, view_now}
 use Rattle.session_machine.specs.Views.{rows_shown}
 use Rattle.session_machine.specs.declared.session.Progress.{Progress}
-use Rattle.session_machine.specs.Statements.{Did}
-use Rattle.session_machine.specs.Machine.{Machine, Blocks, Next, next, around, opening, is_failed, waits_there, after_end, after_stmt, finished, closed_at_end}
+use Rattle.session_machine.specs.Statements.{Effect}
+use Rattle.session_machine.specs.Machine.{Machine, Blocks, Next, next, around, opening, is_failed, waits_there, after_end, after_stmt, finished, closed_at_end, session_of}
 use Rattle.session_machine.specs.Sound.{IsSoundMachine, tx_in}
-use Rattle.session_laws.specs.Laws.{SnapshotsStay, FailuresAreUnseen, session_of}
+use Rattle.session_laws.specs.Laws.{SnapshotsStay, FailuresAreUnseen}
 use Rattle.session_laws.proofs.Sound.{sound_live, sound_firm, sound_within, ran}
 use Rattle.session_laws.proofs.Events.{event_cases, after_cases}
 use Rattle.session_laws.proofs.Staying.{Hides, IsApart, hides-run, stays-next, shown_stays, apart_sessions}
@@ -71,24 +71,24 @@ now_own c (Open t) None tx h = own_number t tx h
 now_own c (Open t) (Some p) tx h = own_number t tx h
 
 -- a statement's outcome is the reply's
-end_outcome : (d : Did) (u : Transaction) → (closed_at_end d u).outcome ≡ d.outcome
+end_outcome : (d : Effect) (u : Transaction) → (closed_at_end d u).outcome ≡ d.outcome
 end_outcome d Closed = refl
 end_outcome d Aborted = refl
 end_outcome d (Open t) = at_explicit t.explicit where
-  at_explicit : (b : Bool) → (let e : Did = if b then d else record { db = committed d.db t.tx; transaction = Closed; statement = None; outcome = d.outcome } in e.outcome ≡ d.outcome)
+  at_explicit : (b : Bool) → (let e : Effect = if b then d else record { db = committed d.db t.tx; transaction = Closed; statement = None; outcome = d.outcome } in e.outcome ≡ d.outcome)
   at_explicit true = refl
   at_explicit false = refl
 
-pub after_outcome : (m : Machine) (i : ℕ) (place : Place) (count : ℕ) (d : Did) → (after_stmt m i place count d).reply.outcome ≡ d.outcome
+pub after_outcome : (m : Machine) (i : ℕ) (place : Place) (count : ℕ) (d : Effect) → (after_stmt m i place count d).reply.outcome ≡ d.outcome
 after_outcome m i place count d = after_cases m i place count d (λ n. n.reply.outcome ≡ d.outcome) refl (λ p. refl) (end_outcome d d.transaction)
 
-failed_is : (m : Machine) (i : ℕ) (place : Place) (count : ℕ) (d : Did) → is_failed d.outcome ≡ true → after_end m i place count d ≡ finished m i d None
+failed_is : (m : Machine) (i : ℕ) (place : Place) (count : ℕ) (d : Effect) → is_failed d.outcome ≡ true → after_end m i place count d ≡ finished m i d None
 failed_is m i place count d h =
     ap (λ (b : Bool). let n : Next = if b then finished m i d None else
     if nat_lt (place.next + 1) count then finished m i d (Some (record { block = place.block; next = place.next + 1 })) else finished m i (closed_at_end d d.transaction) None in n) h
 
 -- where a statement failed, what it left is the database
-failed_db : (m : Machine) (i : ℕ) (place : Place) (count : ℕ) (d : Did) → is_failed d.outcome ≡ true → (after_stmt m i place count d).machine.db ≡ d.db
+failed_db : (m : Machine) (i : ℕ) (place : Place) (count : ℕ) (d : Effect) → is_failed d.outcome ≡ true → (after_stmt m i place count d).machine.db ≡ d.db
 failed_db m i place count d h = at_test (is_some d.statement) where
   at_test : (b : Bool) → (let n : Next = if b then waits_there m i place d else after_end m i place count d in n.machine.db ≡ d.db)
   at_test true = refl

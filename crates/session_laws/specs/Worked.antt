@@ -1,4 +1,5 @@
--- A worked history: session 1 is in Repeatable Read when session 2 writes, and sees its row once it has left; then session 2 writes in a transaction that stays open, and commits it.
+-- A worked history: session 1 is in Repeatable Read when session 2 writes, and sees its row once it has left;
+-- then session 2 writes in a transaction that stays open, and commits it.
 use Rattle.std.specs.Prelude.{ℕ, Bool, true, false, List, [], ◌∷◌, take, ◌≡◌, Some, None, Ok, Err, pos}
 use Rattle.sql_trees.specs.declared.kind.Kind.TheVariants.{Int as Integer}
 use Rattle.sql_trees.specs.declared.stmt.Level.TheVariants.{RepeatableRead}

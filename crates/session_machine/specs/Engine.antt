@@ -45,15 +45,6 @@ fault_of Idle = IdleFault
 fault_of NoSession = SessionFault
 fault_of BlockNotAllowed = BlockFault
 
--- what stands after an event, and what was answered; a refusal changes nothing
-pub record Answered : Type 0 where
-  pub machine : Machine
-  pub answer : Result Reply Refusal
-
-abbrev pub answered : Machine → Result Next Refusal → Answered
-answered m (Ok n) = record { machine = n.machine; answer = Ok n.reply }
-answered m (Err refusal) = record { machine = m; answer = Err refusal }
-
 -- an engine that was refused memory in the middle of an event
 abbrev pub spent_engine : Engine → Engine
 spent_engine e = record e { machine = None }

@@ -23,7 +23,7 @@ use Rattle.session_machine.specs.Tables.{Database, find_table}
 use Rattle.session_machine.specs.Transactions.{committed, rolled_back, own_of, view_now}
 use Rattle.session_machine.specs.Views.{rows_shown}
 use Rattle.session_machine.specs.Waits.{is_blocked, wait_of}
-use Rattle.session_machine.specs.Statements.{Did, Around}
+use Rattle.session_machine.specs.Statements.{Effect, Surroundings}
 use Rattle.session_machine.specs.Running.{run_stmt, is_definition}
 
 -- what all sessions share, what each does, and how many events there were
@@ -143,35 +143,36 @@ is_failed (Failed fault) = true
 is_failed outcome = false
 
 -- an implicit transaction is committed with the block's last statement
-abbrev pub closed_at_end : Did → Transaction → Did
-closed_at_end d (Open t) = if t.explicit then d else record { db = committed d.db t.tx; transaction = Closed; statement = None; outcome = d.outcome }
-closed_at_end d transaction = d
+abbrev pub closed_at_end : Effect → Transaction → Effect
+closed_at_end effect (Open t) =
+    if t.explicit then effect else record { db = committed effect.db t.tx; transaction = Closed; statement = None; outcome = effect.outcome }
+closed_at_end effect transaction = effect
 
-abbrev pub finished : Machine → ℕ → Did → Option Place → Next
-finished m session d place = record {
-  machine = with_session m d.db session (record { place = place; transaction = d.transaction; statement = None });
-  reply = record { outcome = d.outcome; ended = is_none place };
+abbrev pub finished : Machine → ℕ → Effect → Option Place → Next
+finished m session effect place = record {
+  machine = with_session m effect.db session (record { place = place; transaction = effect.transaction; statement = None });
+  reply = record { outcome = effect.outcome; ended = is_none place };
 }
 
 -- a session that waits stays at its statement
-abbrev pub waits_there : Machine → ℕ → Place → Did → Next
-waits_there m session place d = record {
-  machine = with_session m d.db session (record { place = Some place; transaction = d.transaction; statement = d.statement });
-  reply = record { outcome = d.outcome; ended = false };
+abbrev pub waits_there : Machine → ℕ → Place → Effect → Next
+waits_there m session place effect = record {
+  machine = with_session m effect.db session (record { place = Some place; transaction = effect.transaction; statement = effect.statement });
+  reply = record { outcome = effect.outcome; ended = false };
 }
 
 -- after a statement that is over the rest of the block is dropped if it failed; else the session ends its block, or goes on
-abbrev pub after_end : Machine → ℕ → Place → ℕ → Did → Next
-after_end m session place count d =
-    if is_failed d.outcome then finished m session d None
-    else if nat_lt (place.next + 1) count then finished m session d (Some (record { block = place.block; next = place.next + 1 }))
-    else finished m session (closed_at_end d d.transaction) None
+abbrev pub after_end : Machine → ℕ → Place → ℕ → Effect → Next
+after_end m session place count effect =
+    if is_failed effect.outcome then finished m session effect None
+    else if nat_lt (place.next + 1) count then finished m session effect (Some (record { block = place.block; next = place.next + 1 }))
+    else finished m session (closed_at_end effect effect.transaction) None
 
-abbrev pub after_stmt : Machine → ℕ → Place → ℕ → Did → Next
-after_stmt m session place count d = if is_some d.statement then waits_there m session place d else after_end m session place count d
+abbrev pub after_stmt : Machine → ℕ → Place → ℕ → Effect → Next
+after_stmt m session place count effect = if is_some effect.statement then waits_there m session place effect else after_end m session place count effect
 
 -- what a statement of the session finds around it: while it runs, the session doesn't wait
-abbrev pub around : Machine → ℕ → Session → Around
+abbrev pub around : Machine → ℕ → Session → Surroundings
 around m session s = record { sessions = slice_set m.sessions session (record s { statement = None }); number = m.events }
 
 abbrev pub step_stmt : Mode → Machine → ℕ → Session → Place → ℕ → Option StmtTree → Result Next Refusal
@@ -199,7 +200,16 @@ abbrev pub leave_of : Mode → Machine → ℕ → Option Session → Result Nex
 leave_of mode m session None = Err NoSession
 leave_of mode m session (Some s) =
     if is_directed mode && not (is_quiet m) then Err NotYourTurn
-    else Ok (record { machine = with_session m (left_behind m.db s.transaction) session at_rest; reply = record { outcome = Left; ended = true } })
+    else Ok (record {
+      machine = with_session m (left_behind m.db s.transaction) session at_rest;
+      reply = record { outcome = Left; ended = true };
+    })
+
+-- the session that does an event
+abbrev pub session_of : Event → ℕ
+session_of (Launch session block) = session
+session_of (Step session) = session
+session_of (Leave session) = session
 
 -- what an event makes of the machine, with the reply to it, or why it is refused
 abbrev pub next : Blocks → Mode → Machine → Event → Result Next Refusal

@@ -1,4 +1,5 @@
--- What a statement does with rows: SELECT, INSERT, and UPDATE, DELETE and a locking SELECT at each of their targets (PostgreSQL manual, 13.2.1 and 13.3.2, and the pages of the statements).
+-- What a statement does with rows: SELECT, INSERT, and UPDATE, DELETE and a locking SELECT at each of their targets
+-- (PostgreSQL manual, 13.2.1 and 13.3.2, and the pages of the statements).
 use Rattle.std.specs.Prelude.{ℕ, Bool, true, false, List, [], ◌∷◌, length, map, Option, Some, None, option_map, unwrap_or, slice_get, filter_map, Result, Ok, Err, if◌then◌else◌}
 use Rattle.std.specs.Option.{option_or}
 use Rattle.sql_trees.specs.declared.stmt.Lock.{Lock}
@@ -32,7 +33,7 @@ use Rattle.session_machine.specs.Tables.{Database}
 use Rattle.session_machine.specs.Views.{rows_shown}
 use Rattle.session_machine.specs.AskedKeys.{AskedKey}
 use Rattle.session_machine.specs.Waits.{blockers, waits_in}
-use Rattle.session_machine.specs.Statements.{Around, columns_at, keys_at}
+use Rattle.session_machine.specs.Statements.{Surroundings, columns_at, keys_at}
 use Rattle.session_machine.specs.Walks.{Stop, Visit, Walk, Blocked, Fails, stops, goes_on}
 
 -- a statement at work: in this transaction, at the table of this place, with this view, and what it finds around it
@@ -40,7 +41,7 @@ pub record Work : Type 0 where
   pub t : OpenTransaction
   pub table : ℕ
   pub view : View
-  pub around : Around
+  pub around : Surroundings
 
 abbrev pub columns_in : Database → Work → List ColumnTree
 columns_in db w = columns_at db.catalog w.table
@@ -106,7 +107,8 @@ unless_null name db due None = due
 abbrev pub insert_made : Work → List ℕ → Database → Result (List Value) ValueFault → Visit
 insert_made w name db (Err fault) = stops db (Fails (OfValue fault))
 insert_made w name db (Ok values) =
-    unless_null name db (unless_stopped_by db (inserted db w values) (stop_at_keys db w name values None (keys_in db w))) (null_in (columns_in db w) values)
+    unless_null name db (unless_stopped_by db (inserted db w values) (stop_at_keys db w name values None (keys_in db w)))
+    (null_in (columns_in db w) values)
 
 -- INSERT at a row of its VALUES: it is evaluated and assigned, its NULLs and then its keys are checked, and it is written
 abbrev pub insert_at : Work → List ℕ → List AssignedColumn → Database → List Tree → Visit
@@ -149,7 +151,8 @@ values_of db seen = unwrap_or (values_at db.content seen.place) []
 abbrev pub update_made : Work → List ℕ → Database → RowId → Result (List Value) ValueFault → Visit
 update_made w name db row (Err fault) = stops db (Fails (OfValue fault))
 update_made w name db row (Ok values) =
-    unless_null name db (unless_stopped_by db (written db w row (Some values)) (stop_at_keys db w name values (Some row) (keys_in db w))) (null_in (columns_in db w) values)
+    unless_null name db (unless_stopped_by db (written db w row (Some values)) (stop_at_keys db w name values (Some row) (keys_in db w)))
+    (null_in (columns_in db w) values)
 
 abbrev pub update_with : Work → UpdateTree → List AssignedColumn → Database → Seen → Visit
 update_with w u to db seen = update_made w u.table db seen.row (updated (cols_in db w) to u.sets (values_of db seen))

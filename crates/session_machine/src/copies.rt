@@ -5,7 +5,7 @@ ghost use Rattle.std.specs.Prelude.{◌≡◌, IfOk};
 use crate::fault::StmtFault;
 use crate::reply::{HistItem, Outcome, Reply};
 use result_tables::ResultSet;
-use sql_values::{ColumnName, ValueFault};
+use sql_values::ValueFault;
 use std::alloc::{AllocError, Global};
 
 fn value_fault_again<'a>(fault: &ValueFault<'a>) -> ValueFault<'a>
@@ -16,7 +16,7 @@ fn value_fault_again<'a>(fault: &ValueFault<'a>) -> ValueFault<'a>
         ValueFault::IntegerRange => ValueFault::IntegerRange,
         ValueFault::BigintRange => ValueFault::BigintRange,
         ValueFault::TypeMismatch => ValueFault::TypeMismatch,
-        ValueFault::NoColumn(name) => ValueFault::NoColumn(ColumnName::of(name.name())),
+        ValueFault::NoColumn(name) => ValueFault::NoColumn(name.again()),
         ValueFault::Memory => ValueFault::Memory,
     }
 }

@@ -4,14 +4,7 @@ ghost use Rattle.std.specs.Prelude.{◌≡◌, ◌↔◌, IsTrue};
 
 use crate::fault::StmtFault;
 use crate::reply::{Outcome, Reply};
-use iso_lexer::same_name;
-use sql_values::{ColumnName, ValueFault};
-
-fn same_columns(a: &ColumnName<'_>, b: &ColumnName<'_>) -> bool
-    ensures { IsTrue result ↔ (a.now ≡ b.now) }
-{
-    same_name(&a.name(), &b.name())
-}
+use sql_values::ValueFault;
 
 fn same_value_faults(a: &ValueFault<'_>, b: &ValueFault<'_>) -> bool
     ensures { IsTrue result ↔ (a.now ≡ b.now) }
@@ -21,7 +14,7 @@ fn same_value_faults(a: &ValueFault<'_>, b: &ValueFault<'_>) -> bool
         (ValueFault::IntegerRange, ValueFault::IntegerRange) => true,
         (ValueFault::BigintRange, ValueFault::BigintRange) => true,
         (ValueFault::TypeMismatch, ValueFault::TypeMismatch) => true,
-        (ValueFault::NoColumn(x), ValueFault::NoColumn(y)) => same_columns(x, y),
+        (ValueFault::NoColumn(x), ValueFault::NoColumn(y)) => x.same(y),
         (ValueFault::Memory, ValueFault::Memory) => true,
         _ => false,
     }

@@ -3,7 +3,7 @@ use Rattle.std.proofs.Common.{◌≡◌, List, ◌++◌, Ok, Err, refl, sym, ap,
 use Rattle.std.specs.Prelude.{Result}
 use Rattle.sql_values.specs.declared.fault.ValueFault.{ValueFault}
 use Rattle.sql_values.specs.Values.{if_ok}
-use Rattle.session_queries.specs.Fronts.{in_front}
+use Rattle.session_queries.specs.Inner.Fronts.{in_front}
 
 longer_by : {A : Type 0} (xs ys : List A) (rest : Result (List A) ValueFault) → in_front xs (if_ok rest (λ zs. Ok (ys ++ zs))) ≡ in_front (xs ++ ys) rest
 longer_by xs ys (Ok zs) = ap Ok (sym (append_assoc xs ys zs))

@@ -8,7 +8,7 @@ use Rattle.sql_values.specs.Values.{Answers, if_ok}
 use Rattle.result_tables.specs.Results.{Results}
 use Rattle.session_queries.specs.Ordering.{rows_at}
 use Rattle.session_queries.specs.Queries.{taken}
-use Rattle.session_queries.specs.Answers.{answered, selected}
+use Rattle.session_queries.specs.Inner.Answers.{answered, selected}
 
 pub selected_from : (s : SelectTree) (columns : List ColumnTree) (rows shown : List (List Value)) (places : List ℕ) (result : Result Results ValueFault) → taken s columns rows ≡ Ok places → shown ≡ rows_at rows places → Answers result (answered columns s.items shown) → Answers result (selected s columns rows)
 selected_from s columns rows shown places result h same fact =

@@ -4,11 +4,6 @@ use Rattle.std.specs.Global.{Vec}
 use Rattle.sql_values.specs.declared.fault.ValueFault.{ValueFault}
 use Rattle.sql_values.specs.declared.fault.ValueFault.TheVariants.{Memory}
 
--- what is answered behind a list, with the list in front of it
-abbrev pub in_front : {A E : Type 0} → List A → Result (List A) E → Result (List A) E
-in_front xs (Ok ys) = Ok (xs ++ ys)
-in_front xs (Err e) = Err e
-
 -- the call answers this list, unless it was refused memory
 abbrev pub AnswersList : {A : Type 0} → Result (Vec A) ValueFault → Result (List A) ValueFault → Type 0
 AnswersList (Ok v) answer = answer ≡ Ok v.items

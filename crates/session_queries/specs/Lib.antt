@@ -1,5 +1,5 @@
 pub mod Ordering
 pub mod Queries
 pub mod Updates
-pub mod Answers
 pub mod Fronts
+pub mod Inner

@@ -176,11 +176,6 @@ ordered cols is (k ∷ ks) rows places =
 abbrev pub taken : SelectTree → List ColumnTree → List (List Value) → Result (List ℕ) ValueFault
 taken s columns rows = if_ok (passing (cols_of columns) s.filter 0 rows) (ordered (cols_of columns) s.items s.order rows)
 
--- the list is empty
-abbrev pub has_none : {A : Type 0} → List A → Bool
-has_none [] = true
-has_none (x ∷ xs) = false
-
 -- an aggregate among the items, with the name given to it
 pub record Counted : Type 0 where
   pub agg : AggTree
@@ -224,7 +219,8 @@ abbrev pub results_by : List ColumnTree → List ItemTree → List Counted → L
 results_by columns is [] taken = row_results columns is taken
 results_by columns is (a ∷ more) taken = agg_results columns (a ∷ more) taken
 
--- the result of a SELECT whose table has these columns and shows these rows: WHERE is tested at all of them, then they are sorted, and then the items are evaluated
+-- the result of a SELECT whose table has these columns and shows these rows: WHERE is tested at all of them, then they are sorted,
+-- and then the items are evaluated
 abbrev pub result_of : SelectTree → List ColumnTree → List (List Value) → Result Results ValueFault
 result_of s columns rows = unless_lacking (lacking_select (cols_of columns) s)
     (if_ok (taken s columns rows) (λ places. results_by columns s.items (counted s.items) (rows_at rows places)))

@@ -5,9 +5,9 @@ ghost use Rattle.sql_trees.specs.Statements.{column_of, item_of, select_of};
 ghost use Rattle.sql_values.specs.Values.{Answers};
 ghost use Rattle.sql_values.specs.Aggregates.{aggregate};
 ghost use Rattle.session_queries.specs.Queries.{Counted, agg_results, cols_of, counted, each, item_values, lacking_select, result_of, row_results, row_values, titles_of};
-ghost use Rattle.session_queries.specs.Queries.{has_none};
-ghost use Rattle.session_queries.specs.Answers.{answered, selected};
-ghost use Rattle.session_queries.specs.Fronts.{in_front};
+ghost use Rattle.session_queries.specs.Inner.Answers.{has_none};
+ghost use Rattle.session_queries.specs.Inner.Answers.{answered, selected};
+ghost use Rattle.session_queries.specs.Inner.Fronts.{in_front};
 
 use crate::known::known;
 use crate::lacking::lacking_select;
@@ -15,7 +15,7 @@ use crate::ordering::{rows_at, taken_places};
 use crate::titles::{agg_titles, titles_of};
 use result_tables::ResultSet;
 use sql_trees::{Column, Item, Select};
-use sql_values::{ColumnName, Columns, Row, Value, ValueFault, aggregate, eval};
+use sql_values::{Columns, Row, Value, ValueFault, aggregate, eval};
 use std::alloc::{AllocError, Global};
 
 /// Appends the row's values.
@@ -221,7 +221,7 @@ pub fn result_of<'a>(
     ensures memory { IsErrOf result ValueFault.Memory → lacking_select (cols_of (map column_of columns.now)) (select_of select.now) ≡ None }
 {
     match lacking_select(columns, select) {
-        Some(name) => Err(ValueFault::NoColumn(ColumnName::of(name.name()))),
+        Some(name) => Err(ValueFault::NoColumn(name)),
         None => selected(alloc, select, columns, rows),
     }
 }

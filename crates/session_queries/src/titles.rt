@@ -5,8 +5,8 @@ ghost use Rattle.sql_trees.specs.Trees.{agg_of, tree_of};
 ghost use Rattle.sql_trees.specs.Statements.{All, column_of, item_of, name_of};
 ghost use Rattle.session_queries.specs.Queries.{Counted, agg_title, counted, item_titles, kind_title, own_title, title_of, title_or, titles_of};
 
-use iso_lexer::Name;
-use result_tables::{Title, TitleName};
+use iso_lexer::{Ident, Name};
+use result_tables::Title;
 use sql_trees::{Agg, AggKind, Column, Expr, Item};
 use std::alloc::{AllocError, Global};
 
@@ -15,7 +15,7 @@ fn title_of<'a>(expr: &Expr<'a>) -> Title<'a>
     ensures { result ≡ title_of (tree_of expr.now) }
 {
     match expr {
-        Expr::Column(name) => Title::Column(TitleName::new(*name)),
+        Expr::Column(name) => Title::Column(Ident::new(*name)),
         _ => Title::Unnamed,
     }
 }
@@ -24,7 +24,7 @@ fn title_or<'a>(expr: &Expr<'a>, alias: Option<Name<'a>>) -> Title<'a>
     ensures { result ≡ title_or (tree_of expr.now) (option_map name_of alias.entry) }
 {
     match alias {
-        Some(name) => Title::Column(TitleName::new(name)),
+        Some(name) => Title::Column(Ident::new(name)),
         None => title_of(expr),
     }
 }
@@ -34,7 +34,7 @@ fn append_columns<'a>(titles: &mut Vec<Title<'a>>, columns: &[Column<'a>]) -> Re
     ensures { OnOk result (titles.new.items ≡ titles.old.items ++ item_titles (map column_of columns.now) All) }
 {
     for column in columns {
-        titles.push(Title::Column(TitleName::new(column.name)))?;
+        titles.push(Title::Column(Ident::new(column.name)))?;
     }
     Ok(())
 }
@@ -94,7 +94,7 @@ fn agg_title<'a>(agg: &Agg<'a>, alias: Option<Name<'a>>) -> Title<'a>
     ensures { result ≡ agg_title (agg_of agg.now) (option_map name_of alias.entry) }
 {
     match alias {
-        Some(given) => Title::Column(TitleName::new(given)),
+        Some(given) => Title::Column(Ident::new(given)),
         None => own_title(agg),
     }
 }

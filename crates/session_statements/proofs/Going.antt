@@ -6,7 +6,7 @@ use Rattle.sql_values.specs.declared.fault.ValueFault.{ValueFault}
 use Rattle.row_versions.specs.declared.write.Seen.{Seen}
 use Rattle.session_machine.specs.declared.session.OpenTransaction.{OpenTransaction}
 use Rattle.session_machine.specs.Tables.{Database}
-use Rattle.session_machine.specs.Statements.{Did}
+use Rattle.session_machine.specs.Statements.{Effect}
 use Rattle.session_machine.specs.Walks.{Visit, walked, walked_from}
 use Rattle.session_machine.specs.Running.{unless_wrong}
 
@@ -16,5 +16,5 @@ pub found_targets : (at : Database → Seen → Visit) (db : Database) (place : 
 found_targets at db place rows r targets got is same = ap (walked_from at db place rows) is ∙ ap (λ (xs : List Seen). walked at db place rows (drop place xs)) (sym same)
 
 -- a SELECT that names nothing wrong comes to what is due
-pub not_wrong : (db : Database) (t : OpenTransaction) (lacking : Option (List ℕ)) (position : Option ℤ) (due : Did) → lacking ≡ None → position ≡ None → unless_wrong db t lacking position due ≡ due
+pub not_wrong : (db : Database) (t : OpenTransaction) (lacking : Option (List ℕ)) (position : Option ℤ) (due : Effect) → lacking ≡ None → position ≡ None → unless_wrong db t lacking position due ≡ due
 not_wrong db t lacking position due a b = ap (λ (x : Option (List ℕ)). unless_wrong db t x position due) a ∙ ap (λ (y : Option ℤ). unless_wrong db t None y due) b

@@ -23,7 +23,7 @@ use Rattle.session_machine.specs.Sound.{RowsFit, RowsStay}
 use Rattle.session_queries.specs.Queries.{known}
 use Rattle.session_machine.specs.Rows.{cols_in}
 use Rattle.session_machine.specs.Rows.{Work, columns_in}
-use Rattle.session_statements.specs.Keeping.{RowIn, RowsIn, IsOrderly}
+use Rattle.session_statements.specs.Inner.Keeping.{RowIn, RowsIn, IsOrderly}
 
 -- the columns of the table at a place
 pub columns_are : (catalog : Catalog) (k : ℕ) (t : Table) → slice_get catalog.tables k ≡ Some t → length (columns_at catalog k) ≡ length t.made.columns

@@ -40,8 +40,8 @@ use Rattle.session_statements.specs.declared.act.Act.{Act}
 use Rattle.session_statements.specs.declared.act.Act.TheVariants.{Update, Delete, Lock}
 use Rattle.session_statements.specs.declared.act.Visited.{Visited}
 use Rattle.session_statements.specs.declared.act.Visited.TheVariants.{Passes, Shows, Stops}
-use Rattle.session_statements.specs.Acting.{act_with, asks, visit_at, visit_of}
-use Rattle.session_statements.specs.Keeping.{RowIn, RowsIn, IsOrderly, IsKept, CanTake}
+use Rattle.session_statements.specs.Inner.Acting.{act_with, asks, visit_at, visit_of}
+use Rattle.session_statements.specs.Inner.Keeping.{RowIn, RowsIn, IsOrderly, IsKept, CanTake}
 use Rattle.session_statements.proofs.Keeping.{columns_are, newest_fits}
 use Rattle.session_statements.proofs.Lists.{drop_at}
 

@@ -2,7 +2,7 @@
 
 ghost use Rattle.std.specs.Prelude.{◌≡◌, option_map};
 ghost use Rattle.sql_trees.specs.Trees.{tree_of};
-ghost use Rattle.session_statements.specs.Acting.{filter_in, strength_in};
+ghost use Rattle.session_statements.specs.Inner.Acting.{filter_in, strength_in};
 
 use row_locks::Strength;
 use session_machine::{Request, StmtFault};

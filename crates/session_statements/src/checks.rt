@@ -6,11 +6,11 @@ ghost use Rattle.row_versions.specs.Log.{IsOpen};
 ghost use Rattle.session_queries.specs.Queries.{null_in};
 ghost use Rattle.session_machine.specs.Tables.{Database as DatabaseFacts};
 ghost use Rattle.session_machine.specs.Rows.{columns_in, keys_in, stop_at_keys, unless_null, unless_stopped_by};
-ghost use Rattle.session_statements.specs.Acting.{stop_of};
+ghost use Rattle.session_statements.specs.Inner.Acting.{stop_of};
 
 use crate::act::Stop;
 use crate::database::Database;
-use crate::did::Work;
+use crate::effect::Work;
 use iso_lexer::{Ident, Name};
 use row_versions::{RowId, Versions};
 use session_machine::StmtFault;

@@ -18,7 +18,7 @@ ghost use Rattle.session_machine.specs.Rows.{columns_in, inserted, keys_in, seen
 ghost use Rattle.session_machine.specs.Machine.{empty_database, visible_to};
 
 use crate::catalog::Catalog;
-use crate::did::{Around, Work};
+use crate::effect::{Surroundings, Work};
 use iso_lexer::Name;
 use row_locks::{LockTable, Strength};
 use row_versions::{RowId, Seen, TableId, TxId, Versions, View};
@@ -330,7 +330,7 @@ impl<'a, 't, V: Versions> Database<'a, 't, V> {
         &self,
         by: &OpenTransaction,
         place: usize,
-        around: &'w Around<'w>,
+        around: &'w Surroundings<'w>,
     ) -> Work<'w>
         ensures { result ≡ beginning self.now by.now around.now place }
     {

@@ -4,11 +4,11 @@ ghost use Rattle.std.specs.Prelude.{◌≡◌, ◌+◌, ◌<◌, ◌^◌, Some, 
 ghost use Rattle.sql_trees.specs.Statements.{create_of, drop_of, name_of};
 ghost use Rattle.row_versions.specs.Log.{IsOpen};
 ghost use Rattle.session_machine.specs.Tables.{find_table};
-ghost use Rattle.session_statements.specs.Left.{left};
+ghost use Rattle.session_statements.specs.Inner.Left.{left};
 ghost use Rattle.session_machine.specs.Statements.{create, dropped, drop_tables};
 
 use crate::database::Database;
-use crate::did::Did;
+use crate::effect::Effect;
 use iso_lexer::{Ident, Name};
 use row_versions::Versions;
 use session_machine::{OpenTransaction, StmtFault, Transaction};
@@ -21,7 +21,7 @@ impl<'a, 't, V: Versions> Database<'a, 't, V> {
         &mut self,
         by: &OpenTransaction,
         made: &'a CreateTable<'t>,
-    ) -> Result<Did<'t>, AllocError>
+    ) -> Result<Effect<'t>, AllocError>
         requires opened { IsOpen self.old.content by.now.tx }
         requires room { by.now.command + 1 < 2 ^ 64 }
         ensures did { IfOk result (λ did.
@@ -34,7 +34,7 @@ impl<'a, 't, V: Versions> Database<'a, 't, V> {
         }
         let after = self.after_query(by);
         self.add_table(made, by.tx)?;
-        Ok(Did::turned(Transaction::Open(after)))
+        Ok(Effect::turned(Transaction::Open(after)))
     }
 
     /// Drops one table after the other, up to the first that isn't there, which it answers; with IF EXISTS none is missed.
@@ -65,7 +65,7 @@ impl<'a, 't, V: Versions> Database<'a, 't, V> {
         &mut self,
         by: &OpenTransaction,
         stmt: &'a DropTable<'t>,
-    ) -> Result<Did<'t>, AllocError>
+    ) -> Result<Effect<'t>, AllocError>
         requires opened { IsOpen self.old.content by.now.tx }
         requires room { by.now.command + 1 < 2 ^ 64 }
         ensures { IfOk result (λ did. drop_tables self.old by.now (drop_of stmt.now) ≡ left self.new did) }
@@ -73,7 +73,7 @@ impl<'a, 't, V: Versions> Database<'a, 't, V> {
         let after = self.after_query(by);
         match self.drop_all(by, stmt.if_exists, stmt.names.as_slice())? {
             Some(name) => Ok(self.fail(by, StmtFault::NoTableToDrop(name))),
-            None => Ok(Did::turned(Transaction::Open(after))),
+            None => Ok(Effect::turned(Transaction::Open(after))),
         }
     }
 }

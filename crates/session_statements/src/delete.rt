@@ -6,13 +6,13 @@ ghost use Rattle.row_versions.specs.Log.{IsOpen};
 ghost use Rattle.session_machine.specs.Tables.{find_table};
 ghost use Rattle.session_machine.specs.Rows.{delete_with};
 ghost use Rattle.session_machine.specs.Running.{delete, delete_from};
-ghost use Rattle.session_statements.specs.Acting.{visit_of};
-ghost use Rattle.session_statements.specs.Keeping.{IsOrderly};
-ghost use Rattle.session_statements.specs.Left.{left};
+ghost use Rattle.session_statements.specs.Inner.Acting.{visit_of};
+ghost use Rattle.session_statements.specs.Inner.Keeping.{IsOrderly};
+ghost use Rattle.session_statements.specs.Inner.Left.{left};
 
 use crate::act::{Act, Visited};
 use crate::database::Database;
-use crate::did::{Around, Did, Work};
+use crate::effect::{Effect, Surroundings, Work};
 use crate::insert::fault_of;
 use iso_lexer::Ident;
 use row_versions::{Seen, Versions};
@@ -43,7 +43,7 @@ impl<'a, 't, V: Versions> Database<'a, 't, V> {
         stmt: &'a Delete<'t>,
         place: usize,
         rows: Vec<Row>,
-    ) -> Result<Did<'t>, AllocError>
+    ) -> Result<Effect<'t>, AllocError>
         requires opened { IsOpen self.old.content work.now.t.tx }
         requires room { work.now.t.command + 1 < 2 ^ 64 }
         requires within { work.now.table < length self.old.catalog.tables }
@@ -63,9 +63,9 @@ impl<'a, 't, V: Versions> Database<'a, 't, V> {
     pub(crate) fn delete(
         &mut self,
         by: &OpenTransaction,
-        around: &Around<'_>,
+        around: &Surroundings<'_>,
         stmt: &'a Delete<'t>,
-    ) -> Result<Did<'t>, AllocError>
+    ) -> Result<Effect<'t>, AllocError>
         requires opened { IsOpen self.old.content by.now.tx }
         requires room { by.now.command + 1 < 2 ^ 64 }
         requires orderly { IsOrderly self.old }

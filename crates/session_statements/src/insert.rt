@@ -11,12 +11,12 @@ ghost use Rattle.session_machine.specs.Tables.{find_table};
 ghost use Rattle.session_machine.specs.Walks.{walked};
 ghost use Rattle.session_machine.specs.Rows.{insert_at, insert_made};
 ghost use Rattle.session_machine.specs.Running.{assigned_to, done, ended, insert, insert_fitting, insert_from};
-ghost use Rattle.session_statements.specs.Acting.{halted, stop_of};
-ghost use Rattle.session_statements.specs.Left.{left};
+ghost use Rattle.session_statements.specs.Inner.Acting.{halted, stop_of};
+ghost use Rattle.session_statements.specs.Inner.Left.{left};
 
 use crate::act::{Halt, Stop};
 use crate::database::Database;
-use crate::did::{Around, Did, Work};
+use crate::effect::{Effect, Surroundings, Work};
 use crate::targets::all_or_none;
 use iso_lexer::{Ident, Name};
 use row_versions::Versions;
@@ -125,7 +125,7 @@ impl<'a, 't, V: Versions> Database<'a, 't, V> {
         stmt: &'a Insert<'t>,
         place: usize,
         rows: Vec<Row>,
-    ) -> Result<Did<'t>, AllocError>
+    ) -> Result<Effect<'t>, AllocError>
         requires opened { IsOpen self.old.content work.now.t.tx }
         requires room { work.now.t.command + 1 < 2 ^ 64 }
         requires within { work.now.table < length self.old.catalog.tables }
@@ -135,7 +135,7 @@ impl<'a, 't, V: Versions> Database<'a, 't, V> {
         let after = self.after_query(&work.by);
         let to = inserted_to(self.alloc, self.columns_in(work), stmt.columns.as_ref())?;
         match self.insert_rows(work, stmt, &to, place)? {
-            None => Ok(Did::turned(Transaction::Open(after))),
+            None => Ok(Effect::turned(Transaction::Open(after))),
             Some(halt) => Ok(self.halt(work, begun, halt, rows)),
         }
     }
@@ -146,7 +146,7 @@ impl<'a, 't, V: Versions> Database<'a, 't, V> {
         work: &Work<'_>,
         stmt: &'a Insert<'t>,
         to: &AssignedColumns,
-    ) -> Result<Did<'t>, AllocError>
+    ) -> Result<Effect<'t>, AllocError>
         requires opened { IsOpen self.old.content work.now.t.tx }
         requires room { work.now.t.command + 1 < 2 ^ 64 }
         requires within { work.now.table < length self.old.catalog.tables }
@@ -166,9 +166,9 @@ impl<'a, 't, V: Versions> Database<'a, 't, V> {
     pub(crate) fn insert(
         &mut self,
         by: &OpenTransaction,
-        around: &Around<'_>,
+        around: &Surroundings<'_>,
         stmt: &'a Insert<'t>,
-    ) -> Result<Did<'t>, AllocError>
+    ) -> Result<Effect<'t>, AllocError>
         requires opened { IsOpen self.old.content by.now.tx }
         requires room { by.now.command + 1 < 2 ^ 64 }
         ensures did { IfOk result (λ did.

@@ -9,12 +9,12 @@ ghost use Rattle.update_recheck.specs.Settling.{SameMembers};
 ghost use Rattle.unique_keys.specs.Checks.{NamesBlockers, found_of, key_found};
 ghost use Rattle.session_machine.specs.Rows.{asked_key, columns_in, held_by_others, names_at, stop_at_key};
 ghost use Rattle.session_machine.specs.Waits.{blockers, is_blocked, waits_in};
-ghost use Rattle.session_statements.specs.Acting.{stop_of};
-ghost use Rattle.session_statements.specs.Keys.{name_at};
+ghost use Rattle.session_statements.specs.Inner.Acting.{stop_of};
+ghost use Rattle.session_statements.specs.Inner.Keys.{name_at};
 
 use crate::act::Stop;
 use crate::database::Database;
-use crate::did::Work;
+use crate::effect::Work;
 use iso_lexer::Name;
 use row_locks::laws::{cycle_test_is_exact, cycles_by_who_blocks};
 use row_versions::{RowId, TableId, TxId, Versions};

@@ -7,7 +7,7 @@ mod checks;
 mod database;
 mod definitions;
 mod delete;
-mod did;
+mod effect;
 mod insert;
 mod keys;
 mod lock;
@@ -22,4 +22,4 @@ mod waits;
 mod walk;
 
 pub use database::Database;
-pub use did::{Around, Did};
+pub use effect::{Effect, Surroundings};

@@ -10,13 +10,13 @@ ghost use Rattle.session_machine.specs.Rows.{columns_in, lock_with, strength_of,
 ghost use Rattle.session_machine.specs.Running.{ended, lock_from};
 ghost use Rattle.session_machine.specs.Walks.{walked};
 ghost use Rattle.session_machine.specs.declared.reply.Outcome.TheVariants.{Rows};
-ghost use Rattle.session_statements.specs.Acting.{visit_at, visit_of};
-ghost use Rattle.session_statements.specs.Keeping.{IsOrderly, RowsIn};
-ghost use Rattle.session_statements.specs.Left.{left};
+ghost use Rattle.session_statements.specs.Inner.Acting.{visit_at, visit_of};
+ghost use Rattle.session_statements.specs.Inner.Keeping.{IsOrderly, RowsIn};
+ghost use Rattle.session_statements.specs.Inner.Left.{left};
 
 use crate::act::{Act, Stop, Visited};
 use crate::database::Database;
-use crate::did::{Did, Work};
+use crate::effect::{Effect, Work};
 use crate::insert::fault_of;
 use result_tables::{ResultSet, Title};
 use row_locks::Strength;
@@ -88,7 +88,7 @@ impl<'a, 't, V: Versions> Database<'a, 't, V> {
         targets: &[Seen],
         place: usize,
         rows: Vec<Row>,
-    ) -> Result<Did<'t>, AllocError>
+    ) -> Result<Effect<'t>, AllocError>
         requires opened { IsOpen self.old.content work.now.t.tx }
         requires room { work.now.t.command + 1 < 2 ^ 64 }
         requires within { work.now.table < length self.old.catalog.tables }
@@ -105,7 +105,7 @@ impl<'a, 't, V: Versions> Database<'a, 't, V> {
         match self.walk(work, act, targets, place, &mut answered)? {
             None => {
                 let set = result_of(titles, answered)?;
-                Ok(Did::of(Transaction::Open(after), Outcome::Rows(set)))
+                Ok(Effect::of(Transaction::Open(after), Outcome::Rows(set)))
             }
             Some(halt) => Ok(self.halt(work, begun, halt, answered)),
         }
@@ -119,7 +119,7 @@ impl<'a, 't, V: Versions> Database<'a, 't, V> {
         lock: Lock,
         place: usize,
         rows: Vec<Row>,
-    ) -> Result<Did<'t>, AllocError>
+    ) -> Result<Effect<'t>, AllocError>
         requires opened { IsOpen self.old.content work.now.t.tx }
         requires room { work.now.t.command + 1 < 2 ^ 64 }
         requires within { work.now.table < length self.old.catalog.tables }

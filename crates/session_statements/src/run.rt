@@ -9,12 +9,12 @@ ghost use Rattle.session_machine.specs.declared.session.Progress.{Progress as Pr
 ghost use Rattle.session_machine.specs.Statements.{turns};
 ghost use Rattle.session_machine.specs.Running.{run_open, run_closed, run_first, run_on, run_stmt};
 ghost use Rattle.session_machine.specs.Sound.{RowsFit, RowsStay};
-ghost use Rattle.session_statements.specs.Keeping.{IsOrderly};
-ghost use Rattle.session_statements.specs.Left.{left};
+ghost use Rattle.session_statements.specs.Inner.Keeping.{IsOrderly};
+ghost use Rattle.session_statements.specs.Inner.Left.{left};
 ghost use Rattle.session_statements.specs.Growing.{begins, is_query, may_grow};
 
 use crate::database::Database;
-use crate::did::{Around, Did, Work};
+use crate::effect::{Effect, Surroundings, Work};
 use crate::transactions::run_aborted;
 use row_versions::Versions;
 use session_machine::{OpenTransaction, Progress, Transaction};
@@ -26,9 +26,9 @@ impl<'a, 't, V: Versions> Database<'a, 't, V> {
     fn run_open(
         &mut self,
         by: &OpenTransaction,
-        around: &Around<'_>,
+        around: &Surroundings<'_>,
         stmt: &'a Stmt<'t>,
-    ) -> Result<Did<'t>, AllocError>
+    ) -> Result<Effect<'t>, AllocError>
         requires opened { IsOpen self.old.content by.now.tx }
         requires room { by.now.command + 1 < 2 ^ 64 }
         requires orderly { IsOrderly self.old }
@@ -41,16 +41,16 @@ impl<'a, 't, V: Versions> Database<'a, 't, V> {
             Stmt::Begin(level) => Ok(self.begin_again(by, *level)),
             Stmt::Commit => {
                 self.commit(by.tx);
-                Ok(Did::turned(Transaction::Closed))
+                Ok(Effect::turned(Transaction::Closed))
             }
             Stmt::Rollback => {
                 self.roll_back(by.tx);
-                Ok(Did::turned(Transaction::Closed))
+                Ok(Effect::turned(Transaction::Closed))
             }
             Stmt::SetTransaction(level) => Ok(self.set_level(by, by.explicit, *level)),
             Stmt::CreateTable(made) => self.create(by, made),
             Stmt::DropTable(drop) => self.drop_tables(by, drop),
-            Stmt::SetDeadlockTimeout => Ok(Did::turned(Transaction::Open(*by))),
+            Stmt::SetDeadlockTimeout => Ok(Effect::turned(Transaction::Open(*by))),
             Stmt::Insert(insert) => self.insert(by, around, insert),
             Stmt::Update(update) => self.update(by, around, update),
             Stmt::Delete(delete) => self.delete(by, around, delete),
@@ -59,7 +59,11 @@ impl<'a, 't, V: Versions> Database<'a, 't, V> {
     }
 
     /// An implicit transaction begins, and the statement is its first.
-    fn run_first(&mut self, around: &Around<'_>, stmt: &'a Stmt<'t>) -> Result<Did<'t>, AllocError>
+    fn run_first(
+        &mut self,
+        around: &Surroundings<'_>,
+        stmt: &'a Stmt<'t>,
+    ) -> Result<Effect<'t>, AllocError>
         requires orderly { IsOrderly self.old }
         ensures { IfOk result (λ did.
             run_first self.old around.now (stmt_of stmt.now)
@@ -70,17 +74,21 @@ impl<'a, 't, V: Versions> Database<'a, 't, V> {
     }
 
     /// A transaction begins, and nothing else is done.
-    fn begin_one(&mut self, level: Level, explicit: bool) -> Result<Did<'t>, AllocError>
+    fn begin_one(&mut self, level: Level, explicit: bool) -> Result<Effect<'t>, AllocError>
         ensures { IfOk result (λ did.
             turns (begun self.old) (Transaction.Open (fresh self.old.content level explicit))
             ≡ left self.new did) }
     {
         let open = self.begin(level, explicit)?;
-        Ok(Did::turned(Transaction::Open(open)))
+        Ok(Effect::turned(Transaction::Open(open)))
     }
 
     /// A statement where no transaction is open.
-    fn run_closed(&mut self, around: &Around<'_>, stmt: &'a Stmt<'t>) -> Result<Did<'t>, AllocError>
+    fn run_closed(
+        &mut self,
+        around: &Surroundings<'_>,
+        stmt: &'a Stmt<'t>,
+    ) -> Result<Effect<'t>, AllocError>
         requires orderly { IsOrderly self.old }
         ensures did { IfOk result (λ did.
             run_closed self.old around.now (stmt_of stmt.now)
@@ -91,7 +99,7 @@ impl<'a, 't, V: Versions> Database<'a, 't, V> {
             Stmt::Begin(level) => self.begin_one(level.unwrap_or(Level::ReadCommitted), true),
             Stmt::SetTransaction(level) => self.begin_one(*level, false),
             Stmt::Commit | Stmt::Rollback | Stmt::SetDeadlockTimeout => {
-                Ok(Did::turned(Transaction::Closed))
+                Ok(Effect::turned(Transaction::Closed))
             }
             _ => self.run_first(around, stmt),
         }
@@ -101,10 +109,10 @@ impl<'a, 't, V: Versions> Database<'a, 't, V> {
     fn run_on(
         &mut self,
         by: &OpenTransaction,
-        around: &Around<'_>,
+        around: &Surroundings<'_>,
         progress: Progress,
         stmt: &'a Stmt<'t>,
-    ) -> Result<Did<'t>, AllocError>
+    ) -> Result<Effect<'t>, AllocError>
         requires opened { IsOpen self.old.content by.now.tx }
         requires room { by.now.command + 1 < 2 ^ 64 }
         requires orderly { IsOrderly self.old }
@@ -139,9 +147,9 @@ impl<'a, 't, V: Versions> Database<'a, 't, V> {
         &mut self,
         transaction: &Transaction,
         statement: Option<Progress>,
-        around: &Around<'_>,
+        around: &Surroundings<'_>,
         stmt: &'a Stmt<'t>,
-    ) -> Result<Did<'t>, AllocError>
+    ) -> Result<Effect<'t>, AllocError>
         requires opened { (t : OpenFacts) → transaction.now ≡ Transaction.Open t → IsOpen self.old.content t.tx }
         requires room { (t : OpenFacts) → transaction.now ≡ Transaction.Open t → t.command + 1 < 2 ^ 64 }
         requires fit { RowsFit self.old.content self.old.catalog }

@@ -12,11 +12,11 @@ ghost use Rattle.session_machine.specs.Views.{rows_shown};
 ghost use Rattle.session_machine.specs.Rows.{columns_in};
 ghost use Rattle.session_machine.specs.Running.{answered, select, select_at, select_in, select_rows, unless_wrong};
 ghost use Rattle.session_machine.specs.Sound.{RowsFit};
-ghost use Rattle.session_statements.specs.Keeping.{IsOrderly};
-ghost use Rattle.session_statements.specs.Left.{left};
+ghost use Rattle.session_statements.specs.Inner.Keeping.{IsOrderly};
+ghost use Rattle.session_statements.specs.Inner.Left.{left};
 
 use crate::database::Database;
-use crate::did::{Around, Did, Work};
+use crate::effect::{Effect, Surroundings, Work};
 use crate::insert::fault_of;
 use iso_lexer::{Ident, Name};
 use result_tables::ResultSet;
@@ -57,7 +57,7 @@ impl<'a, 't, V: Versions> Database<'a, 't, V> {
         &mut self,
         by: &OpenTransaction,
         made: Result<ResultSet<'t>, ValueFault<'t>>,
-    ) -> Result<Did<'t>, AllocError>
+    ) -> Result<Effect<'t>, AllocError>
         requires opened { IsOpen self.old.content by.now.tx }
         requires room { by.now.command + 1 < 2 ^ 64 }
         ensures did { (due : Result Results ValueFaultFacts) → Answers made.entry due → IfOk result (λ did. answered self.old by.now due ≡ left self.new did) }
@@ -66,7 +66,7 @@ impl<'a, 't, V: Versions> Database<'a, 't, V> {
         match made {
             Ok(set) => {
                 let after = self.after_query(by);
-                Ok(Did::of(Transaction::Open(after), Outcome::Rows(set)))
+                Ok(Effect::of(Transaction::Open(after), Outcome::Rows(set)))
             }
             Err(fault) => {
                 let fault = fault_of(fault)?;
@@ -76,7 +76,11 @@ impl<'a, 't, V: Versions> Database<'a, 't, V> {
     }
 
     /// A SELECT goes by whether it locks.
-    fn select_rows(&mut self, work: &Work<'_>, stmt: &'a Select<'t>) -> Result<Did<'t>, AllocError>
+    fn select_rows(
+        &mut self,
+        work: &Work<'_>,
+        stmt: &'a Select<'t>,
+    ) -> Result<Effect<'t>, AllocError>
         requires opened { IsOpen self.old.content work.now.t.tx }
         requires room { work.now.t.command + 1 < 2 ^ 64 }
         requires within { work.now.table < length self.old.catalog.tables }
@@ -93,7 +97,7 @@ impl<'a, 't, V: Versions> Database<'a, 't, V> {
     }
 
     /// A SELECT from its table: it names no column that isn't there, and no position.
-    fn select_in(&mut self, work: &Work<'_>, stmt: &'a Select<'t>) -> Result<Did<'t>, AllocError>
+    fn select_in(&mut self, work: &Work<'_>, stmt: &'a Select<'t>) -> Result<Effect<'t>, AllocError>
         requires opened { IsOpen self.old.content work.now.t.tx }
         requires room { work.now.t.command + 1 < 2 ^ 64 }
         requires within { work.now.table < length self.old.catalog.tables }
@@ -113,10 +117,10 @@ impl<'a, 't, V: Versions> Database<'a, 't, V> {
     fn select_at(
         &mut self,
         by: &OpenTransaction,
-        around: &Around<'_>,
+        around: &Surroundings<'_>,
         stmt: &'a Select<'t>,
         name: Name<'t>,
-    ) -> Result<Did<'t>, AllocError>
+    ) -> Result<Effect<'t>, AllocError>
         requires opened { IsOpen self.old.content by.now.tx }
         requires room { by.now.command + 1 < 2 ^ 64 }
         requires orderly { IsOrderly self.old }
@@ -136,7 +140,7 @@ impl<'a, 't, V: Versions> Database<'a, 't, V> {
         &mut self,
         by: &OpenTransaction,
         stmt: &'a Select<'t>,
-    ) -> Result<Did<'t>, AllocError>
+    ) -> Result<Effect<'t>, AllocError>
         requires opened { IsOpen self.old.content by.now.tx }
         requires room { by.now.command + 1 < 2 ^ 64 }
         ensures { IfOk result (λ did.
@@ -157,9 +161,9 @@ impl<'a, 't, V: Versions> Database<'a, 't, V> {
     pub(crate) fn select(
         &mut self,
         by: &OpenTransaction,
-        around: &Around<'_>,
+        around: &Surroundings<'_>,
         stmt: &'a Select<'t>,
-    ) -> Result<Did<'t>, AllocError>
+    ) -> Result<Effect<'t>, AllocError>
         requires opened { IsOpen self.old.content by.now.tx }
         requires room { by.now.command + 1 < 2 ^ 64 }
         requires orderly { IsOrderly self.old }

@@ -9,12 +9,12 @@ ghost use Rattle.update_recheck.specs.Outcome.{is_target_locked, target_outcome}
 ghost use Rattle.update_recheck.specs.Settling.{lock_of, locks_after, outcome_of};
 ghost use Rattle.session_machine.specs.Waits.{waits_in};
 ghost use Rattle.session_machine.specs.Rows.{at_outcome, columns_in, settled, values_of};
-ghost use Rattle.session_statements.specs.Acting.{act_with, asks, visit_at, visit_of};
-ghost use Rattle.session_statements.specs.Keeping.{CanTake, IsOrderly, RowIn};
+ghost use Rattle.session_statements.specs.Inner.Acting.{act_with, asks, visit_at, visit_of};
+ghost use Rattle.session_statements.specs.Inner.Keeping.{CanTake, IsOrderly, RowIn};
 
 use crate::act::{Act, Stop, Visited};
 use crate::database::Database;
-use crate::did::Work;
+use crate::effect::Work;
 use row_locks::Waits;
 use row_versions::{Seen, Versions};
 use session_machine::{Request, StmtFault};

@@ -7,10 +7,10 @@ ghost use Rattle.row_versions.specs.Log.{IsOpen};
 ghost use Rattle.session_machine.specs.Rows.{at_places, passing_targets, seen_by, shown_to, taken_targets};
 ghost use Rattle.session_machine.specs.Running.{assigned_to};
 ghost use Rattle.session_queries.specs.Fronts.{AnswersList};
-ghost use Rattle.session_statements.specs.Keeping.{IsOrderly, RowsIn};
+ghost use Rattle.session_statements.specs.Inner.Keeping.{IsOrderly, RowsIn};
 
 use crate::database::Database;
-use crate::did::Work;
+use crate::effect::Work;
 use iso_lexer::Ident;
 use row_versions::{Seen, Versions};
 use session_queries::{AssignedColumns, passing_places, taken_places};

@@ -5,16 +5,16 @@ ghost use Rattle.sql_trees.specs.Statements.{stmt_of};
 ghost use Rattle.row_versions.specs.Log.{IsOpen};
 ghost use Rattle.session_machine.specs.Tables.{Database as DatabaseFacts};
 ghost use Rattle.session_machine.specs.Transactions.{after_failure};
-ghost use Rattle.session_statements.specs.Left.{left};
+ghost use Rattle.session_statements.specs.Inner.Left.{left};
 ghost use Rattle.session_machine.specs.Statements.{fails, is_level, level_set, begin_in, is_end, run_aborted};
 
 use crate::database::Database;
-use crate::did::Did;
+use crate::effect::Effect;
 use iso_lexer::Ident;
 use row_versions::Versions;
 use session_machine::{OpenTransaction, Outcome, StmtFault, Transaction};
 use sql_trees::{Level, Stmt};
-use sql_values::{ColumnName, ValueFault};
+use sql_values::ValueFault;
 
 fn same_level(a: Level, b: Level) -> bool
     ensures { result ≡ is_level a b }
@@ -46,21 +46,20 @@ fn has_query(by: &OpenTransaction) -> bool
 
 impl<'a, 't, V: Versions> Database<'a, 't, V> {
     /// The statement failed: its transaction is undone.
-    pub(crate) fn fail(&mut self, by: &OpenTransaction, fault: StmtFault<'t>) -> Did<'t>
+    pub(crate) fn fail(&mut self, by: &OpenTransaction, fault: StmtFault<'t>) -> Effect<'t>
         requires { IsOpen self.old.content by.now.tx }
         ensures { fails self.old by.now fault.entry ≡ left self.new result }
     {
         self.roll_back(by.tx);
-        Did::of(after_failure(by), Outcome::Failed(fault))
+        Effect::of(after_failure(by), Outcome::Failed(fault))
     }
 
     /// The statement names a column that isn't there.
-    pub(crate) fn fail_column(&mut self, by: &OpenTransaction, name: Ident<'t>) -> Did<'t>
+    pub(crate) fn fail_column(&mut self, by: &OpenTransaction, name: Ident<'t>) -> Effect<'t>
         requires { IsOpen self.old.content by.now.tx }
         ensures { fails self.old by.now (StmtFault.Value (ValueFault.NoColumn name.entry)) ≡ left self.new result }
     {
-        let fault = ValueFault::NoColumn(ColumnName::of(name.name()));
-        self.fail(by, StmtFault::Value(fault))
+        self.fail(by, StmtFault::Value(ValueFault::NoColumn(name)))
     }
 
     /// The level is set before the transaction's first query, or stays.
@@ -69,7 +68,7 @@ impl<'a, 't, V: Versions> Database<'a, 't, V> {
         by: &OpenTransaction,
         explicit: bool,
         level: Level,
-    ) -> Did<'t>
+    ) -> Effect<'t>
         requires { IsOpen self.old.content by.now.tx }
         ensures { level_set self.old by.now explicit level ≡ left self.new result }
     {
@@ -83,27 +82,27 @@ impl<'a, 't, V: Versions> Database<'a, 't, V> {
             snapshot: by.snapshot,
             command: by.command,
         };
-        Did::turned(Transaction::Open(open))
+        Effect::turned(Transaction::Open(open))
     }
 
     /// BEGIN in an open transaction.
-    pub(crate) fn begin_again(&mut self, by: &OpenTransaction, level: Option<Level>) -> Did<'t>
+    pub(crate) fn begin_again(&mut self, by: &OpenTransaction, level: Option<Level>) -> Effect<'t>
         requires { IsOpen self.old.content by.now.tx }
         ensures { begin_in self.old by.now level ≡ left self.new result }
     {
         if by.explicit {
-            return Did::turned(Transaction::Open(*by));
+            return Effect::turned(Transaction::Open(*by));
         }
         self.set_level(by, true, level.unwrap_or(by.level))
     }
 }
 
 /// A statement in an aborted transaction, which changes nothing of the database.
-pub(crate) fn run_aborted<'t>(stmt: &Stmt<'_>) -> Did<'t>
+pub(crate) fn run_aborted<'t>(stmt: &Stmt<'_>) -> Effect<'t>
     ensures { (db : DatabaseFacts) → run_aborted db (stmt_of stmt.now) ≡ left db result }
 {
     match stmt {
-        Stmt::Commit | Stmt::Rollback => Did::turned(Transaction::Closed),
-        _ => Did::of(Transaction::Aborted, Outcome::Failed(StmtFault::Aborted)),
+        Stmt::Commit | Stmt::Rollback => Effect::turned(Transaction::Closed),
+        _ => Effect::of(Transaction::Aborted, Outcome::Failed(StmtFault::Aborted)),
     }
 }

@@ -9,13 +9,13 @@ ghost use Rattle.session_queries.specs.Queries.{cols_of};
 ghost use Rattle.session_machine.specs.Tables.{find_table};
 ghost use Rattle.session_machine.specs.Rows.{cols_in, columns_in, update_made, update_with, values_of};
 ghost use Rattle.session_machine.specs.Running.{assigned_to, update, update_fitting, update_from};
-ghost use Rattle.session_statements.specs.Acting.{visit_of};
-ghost use Rattle.session_statements.specs.Keeping.{IsOrderly};
-ghost use Rattle.session_statements.specs.Left.{left};
+ghost use Rattle.session_statements.specs.Inner.Acting.{visit_of};
+ghost use Rattle.session_statements.specs.Inner.Keeping.{IsOrderly};
+ghost use Rattle.session_statements.specs.Inner.Left.{left};
 
 use crate::act::{Act, Stop, Visited};
 use crate::database::Database;
-use crate::did::{Around, Did, Work};
+use crate::effect::{Effect, Surroundings, Work};
 use crate::insert::fault_of;
 use crate::targets::all_or_none;
 use iso_lexer::{Ident, Name};
@@ -104,7 +104,7 @@ impl<'a, 't, V: Versions> Database<'a, 't, V> {
         stmt: &'a Update<'t>,
         place: usize,
         rows: Vec<Row>,
-    ) -> Result<Did<'t>, AllocError>
+    ) -> Result<Effect<'t>, AllocError>
         requires opened { IsOpen self.old.content work.now.t.tx }
         requires room { work.now.t.command + 1 < 2 ^ 64 }
         requires within { work.now.table < length self.old.catalog.tables }
@@ -126,7 +126,7 @@ impl<'a, 't, V: Versions> Database<'a, 't, V> {
         &mut self,
         work: &Work<'_>,
         stmt: &'a Update<'t>,
-    ) -> Result<Did<'t>, AllocError>
+    ) -> Result<Effect<'t>, AllocError>
         requires opened { IsOpen self.old.content work.now.t.tx }
         requires room { work.now.t.command + 1 < 2 ^ 64 }
         requires within { work.now.table < length self.old.catalog.tables }
@@ -144,9 +144,9 @@ impl<'a, 't, V: Versions> Database<'a, 't, V> {
     pub(crate) fn update(
         &mut self,
         by: &OpenTransaction,
-        around: &Around<'_>,
+        around: &Surroundings<'_>,
         stmt: &'a Update<'t>,
-    ) -> Result<Did<'t>, AllocError>
+    ) -> Result<Effect<'t>, AllocError>
         requires opened { IsOpen self.old.content by.now.tx }
         requires room { by.now.command + 1 < 2 ^ 64 }
         requires orderly { IsOrderly self.old }

@@ -6,10 +6,10 @@ ghost use Rattle.row_locks.specs.Laws.{SamePairs};
 ghost use Rattle.row_locks.specs.Cycles.{blocks};
 ghost use Rattle.session_machine.specs.Waits.{blockers, waiting_in, waits_in};
 ghost use Rattle.row_locks.specs.Members.{has, same_tx};
-ghost use Rattle.session_statements.specs.Waits.{blocks_in};
+ghost use Rattle.session_statements.specs.Inner.Waits.{blocks_in};
 
 use crate::database::Database;
-use crate::did::Around;
+use crate::effect::Surroundings;
 use row_locks::Waits;
 use row_versions::{TxId, Versions};
 use session_machine::{Request, Session, Transaction};
@@ -45,7 +45,7 @@ impl<'a, 't, V: Versions> Database<'a, 't, V> {
     }
 
     /// All that wait, each with those that stand in its way now.
-    pub(crate) fn waits_now(&self, around: &Around<'_>) -> Result<Waits, AllocError>
+    pub(crate) fn waits_now(&self, around: &Surroundings<'_>) -> Result<Waits, AllocError>
         ensures { IfOk result (λ waits. SamePairs waits (waits_in self.now around.now.sessions)) }
     {
         let mut waits = Waits::new(self.alloc);

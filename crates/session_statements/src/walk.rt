@@ -8,13 +8,13 @@ ghost use Rattle.session_machine.specs.Transactions.{started};
 ghost use Rattle.session_machine.specs.Walks.{Blocked, walked};
 ghost use Rattle.session_machine.specs.Tables.{Database as DatabaseFacts};
 ghost use Rattle.session_machine.specs.Running.{done, ended, pauses};
-ghost use Rattle.session_statements.specs.Acting.{halted, visit_at};
-ghost use Rattle.session_statements.specs.Keeping.{IsKept, IsOrderly, RowsIn};
-ghost use Rattle.session_statements.specs.Left.{left};
+ghost use Rattle.session_statements.specs.Inner.Acting.{halted, visit_at};
+ghost use Rattle.session_statements.specs.Inner.Keeping.{IsKept, IsOrderly, RowsIn};
+ghost use Rattle.session_statements.specs.Inner.Left.{left};
 
 use crate::act::{Act, Halt, Stop, Visited};
 use crate::database::Database;
-use crate::did::{Did, Work};
+use crate::effect::{Effect, Work};
 use row_versions::{Seen, TableId, Versions};
 use session_machine::{
     Gathered, OpenTransaction, Outcome, Progress, Request, Transaction, Waiting,
@@ -58,12 +58,12 @@ impl<'a, 't, V: Versions> Database<'a, 't, V> {
         place: usize,
         request: Request,
         rows: Vec<Row>,
-    ) -> Did<'t>
+    ) -> Effect<'t>
         ensures { (before : Content) (db : DatabaseFacts) → begun ≡ started before work.now.t →
             pauses before work.now (record { db = db; place = place; rows = rows.items; stop = Some (Blocked request) }) request ≡ left db result }
     {
         let around = work.around;
-        Did {
+        Effect {
             transaction: Transaction::Open(begun),
             statement: Some(Progress {
                 table: TableId(work.place as u64),
@@ -86,7 +86,7 @@ impl<'a, 't, V: Versions> Database<'a, 't, V> {
         begun: OpenTransaction,
         halt: Halt<'t>,
         rows: Vec<Row>,
-    ) -> Did<'t>
+    ) -> Effect<'t>
         requires opened { IsOpen self.old.content work.now.t.tx }
         ensures { (before : Content) (outcome : List (List SqlValue) → OutcomeFacts) → begun ≡ started before work.now.t →
             halted before work.now outcome self.old rows.items (Some halt.entry) ≡ left self.new result }
@@ -108,7 +108,7 @@ impl<'a, 't, V: Versions> Database<'a, 't, V> {
         targets: &[Seen],
         place: usize,
         rows: Vec<Row>,
-    ) -> Result<Did<'t>, AllocError>
+    ) -> Result<Effect<'t>, AllocError>
         requires opened { IsOpen self.old.content work.now.t.tx }
         requires room { work.now.t.command + 1 < 2 ^ 64 }
         requires within { work.now.table < length self.old.catalog.tables }
@@ -121,7 +121,7 @@ impl<'a, 't, V: Versions> Database<'a, 't, V> {
         let begun = self.started(&work.by);
         let after = self.after_query(&work.by);
         match self.walk(work, act, targets, place, &mut answered)? {
-            None => Ok(Did::turned(Transaction::Open(after))),
+            None => Ok(Effect::turned(Transaction::Open(after))),
             Some(halt) => Ok(self.halt(work, begun, halt, answered)),
         }
     }

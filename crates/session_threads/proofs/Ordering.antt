@@ -13,7 +13,8 @@ use Rattle.session_threads.specs.declared.seat.ThreadFault.{ThreadFault}
 use Rattle.session_threads.specs.declared.seat.ThreadFault.TheVariants as thread_faults
 use Rattle.session_threads.specs.Acts.{Acted, NotActed, Refuses}
 use Rattle.session_threads.specs.Seats.{SeatOf}
-use Rattle.session_threads.specs.Orders.{Orders, IsOrder, OrderedAfter, IsOrderly, IsLed}
+use Rattle.session_threads.specs.Orders.{Orders, IsOrder, OrderedAfter}
+use Rattle.session_threads.specs.Inner.Shared.{IsOrderly, IsLed}
 
 -- the items go on by one that is ordered
 ordered_on : (orders : Orders) (before items : List HistItem) (item : HistItem) → OrderedAfter orders before items → IsOrder item.event (orders (before ++ items)) → OrderedAfter orders before (items ++ item ∷ [])

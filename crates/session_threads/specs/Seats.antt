@@ -1,27 +1,14 @@
 -- A session's own items, and that they are the history's.
-use Rattle.std.specs.Prelude.{◌≡◌, Option, Some, None, ℕ, ◌+◌, ◌<◌, nat_eq, nat_lt, Bool, true, false, List, [], ◌∷◌}
+use Rattle.std.specs.Prelude.{◌≡◌, ℕ, ◌+◌, ◌<◌, nat_eq, nat_lt, Bool, true, false, List, [], ◌∷◌}
 use Rattle.std.specs.List.{filter}
-use Rattle.session_machine.specs.declared.event.Event.{Event}
-use Rattle.session_machine.specs.declared.event.Event.TheVariants.{Launch, Step, Leave}
 use Rattle.session_machine.specs.declared.reply.HistItem.{HistItem}
+use Rattle.session_machine.specs.Machine.{session_of}
 use Rattle.session_machine.specs.Engine.{Engine}
-use Rattle.session_threads.specs.declared.shared.Task.{Task}
-use Rattle.session_threads.specs.declared.shared.Task.TheVariants.{Do, End}
 
 -- a session's number, and its events with their replies
 pub record SeatOf : Type 0 where
   pub session : ℕ
   pub items : List HistItem
-
-abbrev pub session_of : Event → ℕ
-session_of (Launch session block) = session
-session_of (Step session) = session
-session_of (Leave session) = session
-
--- an event that a session's thread is to do is the session's
-abbrev pub IsFor : ℕ → Task → Type 0
-IsFor session (Do event) = session_of event ≡ session
-IsFor session End = Unit {0}
 
 -- the items of one session, in order
 abbrev pub items_of : ℕ → List HistItem → List HistItem
@@ -36,7 +23,8 @@ abbrev pub seat_if : Bool → ℕ → List HistItem → List SeatOf
 seat_if true session history = record { session = session; items = items_of session history } ∷ []
 seat_if false session history = []
 
--- the control session, which is session 0, and the sessions that the engine has beside it have one seat each, which holds the session's items; no other session has one
+-- the control session, which is session 0, and the sessions that the engine has beside it have one seat each,
+-- which holds the session's items; no other session has one
 abbrev pub Fits : Engine → List SeatOf → ℕ → Type 0
 Fits engine seats session = seats_of session seats ≡ seat_if (nat_lt session (engine.count + 1)) session engine.history
 
@@ -46,8 +34,3 @@ AllFit engine seats = (session : ℕ) → Fits engine seats session
 -- the least session whose seats don't fit
 abbrev pub IsMisfit : Engine → List SeatOf → ℕ → Type 0
 IsMisfit engine seats session = ¬ (Fits engine seats session) × ((lower : ℕ) → lower < session → Fits engine seats lower)
-
--- the number is less than the other, if there is one
-abbrev pub is_less : ℕ → Option ℕ → Bool
-is_less n None = true
-is_less n (Some m) = nat_lt n m

@@ -1,6 +1,8 @@
 //! The end of a run: the engine's state beside the seats.
 ghost use Rattle.std.specs.Prelude.{◌≡◌, ◌≢◌, ◌<◌, ◌↔◌, ℕ, [], true, IsTrue, IfOk, IfErr, MatchOption};
-ghost use Rattle.session_threads.specs.Seats.{items_of, seats_of, seat_if, session_of, is_less, AllFit, IsMisfit};
+ghost use Rattle.session_threads.specs.Seats.{items_of, seats_of, seat_if, AllFit, IsMisfit};
+ghost use Rattle.session_machine.specs.Machine.{session_of};
+ghost use Rattle.session_threads.specs.Inner.Seats.{is_less};
 
 use crate::seat::{Seat, ThreadFault};
 use row_versions::Versions;
@@ -19,7 +21,7 @@ pub struct Closed<'a, 't, V: Versions> {
 impl<'a, 't, V: Versions> Model for Closed<'a, 't, V> {
     ghost use Rattle.session_threads.specs.Closing.{ClosedOf};
     ghost use Rattle.session_threads.specs.Seats.{AllFit};
-    ghost use Rattle.session_core.specs.TreeCodes.{tree_code};
+    ghost use Rattle.session_core.specs.Inner.TreeCodes.{tree_code};
     ghost use Rattle.std.specs.Coded.{codes};
 
     ghost Value = { ClosedOf };

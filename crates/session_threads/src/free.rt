@@ -31,22 +31,22 @@ pub struct FreePlan {
 
 /// How far the block has come that a session was given last.
 #[derive(Clone, Copy)]
-enum Course {
+enum BlockState {
     /// It has statements left, or waits.
     GoesOn { waits: bool },
     Ended { failed: bool },
 }
 
-fn course_of(seat: &Seat<'_>) -> Course {
+fn block_state(seat: &Seat<'_>) -> BlockState {
     let Some(item) = seat.items().last() else {
-        return Course::Ended { failed: false };
+        return BlockState::Ended { failed: false };
     };
     if item.reply.ended {
-        Course::Ended {
+        BlockState::Ended {
             failed: matches!(item.reply.outcome, Outcome::Failed(_)),
         }
     } else {
-        Course::GoesOn {
+        BlockState::GoesOn {
             waits: matches!(item.reply.outcome, Outcome::Waits),
         }
     }
@@ -62,16 +62,16 @@ fn run_block<'a, 't, V: Versions, G: Gate, R: Wait>(
     seat: &mut Seat<'t>,
     block: u32,
     may_wait: bool,
-) -> Option<Course> {
+) -> Option<BlockState> {
     let session = seat.session();
     let launch = Event::Launch { session, block };
     if !free_event(rt, shared, bell, gate, seat, launch) {
         return None;
     }
     for _ in rt.forever() {
-        match course_of(seat) {
-            Course::GoesOn { waits } if may_wait || !waits => {}
-            course => return Some(course),
+        match block_state(seat) {
+            BlockState::GoesOn { waits } if may_wait || !waits => {}
+            state => return Some(state),
         }
         let step = Event::Step {
             session: seat.session(),
@@ -118,8 +118,8 @@ fn run_setup<'a, 't, V: Versions, R: Wait>(
     seat: &mut Seat<'t>,
     block: u32,
 ) -> bool {
-    let course = run_block(rt, shared, bell, &OpenGate, seat, block, false);
-    matches!(course, Some(Course::Ended { failed: false }))
+    let state = run_block(rt, shared, bell, &OpenGate, seat, block, false);
+    matches!(state, Some(BlockState::Ended { failed: false }))
 }
 
 /// Runs the blocks that come before the threads, up to one that fails or waits. Says whether all went well.

@@ -1,6 +1,6 @@
 //! What stands behind the lock of a free run, and how an event is done there.
 ghost use Rattle.std.specs.Prelude.{◌≡◌};
-ghost use Rattle.session_threads.specs.Seats.{session_of};
+ghost use Rattle.session_machine.specs.Machine.{session_of};
 
 use crate::gate::Gate;
 use crate::seat::{Seat, ThreadFault, act};

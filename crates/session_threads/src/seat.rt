@@ -2,7 +2,7 @@
 ghost use Rattle.std.specs.Prelude.{◌≡◌, ◌≢◌, ◌≤◌, [], Err, OnOk, OnErr, IfErr, IsErrOf};
 ghost use Rattle.session_machine.specs.Engine.{engine_after, spent_engine};
 ghost use Rattle.session_core.specs.Engines.{IsDue};
-ghost use Rattle.session_threads.specs.Seats.{session_of};
+ghost use Rattle.session_machine.specs.Machine.{session_of};
 ghost use Rattle.session_threads.specs.Acts.{Acted, NotActed};
 
 use row_versions::Versions;

@@ -1,6 +1,7 @@
 //! What stands behind the lock of a directed run, and what a session's thread does with it.
 ghost use Rattle.std.specs.Prelude.{◌≡◌, ◌||◌, true, false, [], None, Some, IfSome, is_some};
-ghost use Rattle.session_threads.specs.Seats.{session_of, IsFor};
+ghost use Rattle.session_machine.specs.Machine.{session_of};
+ghost use Rattle.session_threads.specs.Inner.Seats.{IsFor};
 ghost use Rattle.session_threads.specs.Orders.{IsDriven, IsOrder};
 
 use crate::bells::Bells;
@@ -30,8 +31,8 @@ pub struct Shared<'a, 't, V: Versions, O: Ordering, D: Driver<V>> {
 }
 
 impl<'a, 't, V: Versions, O: Ordering, D: Driver<V>> Model for Shared<'a, 't, V, O, D> {
-    ghost use Rattle.session_threads.specs.Orders.{SharedOf, IsOrderly, IsLed};
-    ghost use Rattle.session_core.specs.TreeCodes.{tree_code};
+    ghost use Rattle.session_threads.specs.Inner.Shared.{SharedOf, IsOrderly, IsLed};
+    ghost use Rattle.session_core.specs.Inner.TreeCodes.{tree_code};
     ghost use Rattle.std.specs.Coded.{codes};
 
     ghost Value = { SharedOf };
@@ -169,12 +170,12 @@ impl<'a, 't, V: Versions, O: Ordering, D: Driver<V>> Shared<'a, 't, V, O, D> {
     }
 
     /// What the session's thread is to do; nothing yet where that is `None`.
-    fn task(&self, session: u32) -> Option<Task>
+    fn task(&self, session: u32) -> Option<Instruction>
         ensures { IfSome result (λ task. IsFor session task) }
     {
         match self.due(session) {
-            _ if self.over() => Some(Task::End),
-            Some(event) => Some(Task::Do(event)),
+            _ if self.over() => Some(Instruction::End),
+            Some(event) => Some(Instruction::Do(event)),
             None => None,
         }
     }
@@ -191,7 +192,7 @@ impl<'a, 't, V: Versions, O: Ordering, D: Driver<V> + Drop> Shared<'a, 't, V, O,
 
 /// What a thread is to do.
 #[derive(Clone, Copy)]
-pub enum Task {
+pub enum Instruction {
     /// This event.
     Do(Event),
     /// Nothing any more.
@@ -242,14 +243,14 @@ pub fn next_task<'a, 't, V: Versions, O: Ordering, D: Driver<V>, R: Wait>(
     shared: &Mutex<Shared<'a, 't, V, O, D>>,
     bells: &Bells,
     session: u32,
-) -> Task
+) -> Instruction
     ensures { IsFor session result }
 {
     let bell = bells.of(session);
     let guard = bell.wait_while(rt, shared.lock(rt), |s| s.task(session).is_none());
     match guard.task(session) {
         Some(task) => task,
-        None => Task::End,
+        None => Instruction::End,
     }
 }
 
@@ -302,7 +303,7 @@ pub fn work<'a, 't, V: Versions, O: Ordering, D: Driver<V>, G: Gate, R: Wait>(
 ) {
     let Post { bells, seat } = post;
     for _ in rt.forever() {
-        let Task::Do(event) = next_task(rt, shared, bells, seat.session()) else {
+        let Instruction::Do(event) = next_task(rt, shared, bells, seat.session()) else {
             return;
         };
         if !one_event(rt, shared, bells, gate, seat, event) {

@@ -24,9 +24,9 @@ use Rattle.spec_parser.proofs.Complete.{Again, whole, over, LongFile}
 use Rattle.spec_parser.proofs.WholeLaws.{read_or_over, reads_are_files, files_are_read, stops_first}
 use Rattle.spec_parser.proofs.Limits.{within, is_read_whole}
 use Rattle.spec_parser.specs.LimitFaults.{HasLimit}
-use Rattle.spec_parser.proofs.Overs.{limit_stop}
+use Rattle.spec_parser.proofs.StopsAreAtLimits.{limit_stop}
 use Rattle.spec_parser.proofs.Notices.{file_ends}
-use Rattle.spec_parser.proofs.Looking.{names_differ, no_repeat, repeats_first, first_repeats, perms_are, perms_ok, undefined_first, first_undefined}
+use Rattle.spec_parser.proofs.NamesAreFound.{names_differ, no_repeat, repeats_first, first_repeats, perms_are, perms_ok, undefined_first, first_undefined}
 
 -- ---- a file that was read whole
 

@@ -6,12 +6,12 @@ pub mod TokenCount
 pub mod Whole
 pub mod Complete
 pub mod WholeLaws
-pub mod Gists
+pub mod ContentsAreCounted
 pub mod Tokens
 pub mod Limits
-pub mod Looking
+pub mod NamesAreFound
 pub mod Exact
 pub mod Standing
-pub mod NeverOver
-pub mod Overs
+pub mod NeverAtLimit
+pub mod StopsAreAtLimits
 pub mod Notices

@@ -20,7 +20,7 @@ use Rattle.spec_parser.proofs.Local.{AreLocal, Means, is_read, stops_at, goes, g
 use Rattle.spec_parser.proofs.Tokens.{name_past}
 use Rattle.spec_parser.proofs.Productions.{word_local, name_within_local, step_local, setup_local, teardown_local, setups_local, perms_local}
 use Rattle.spec_parser.proofs.Complete.{Again, whole, over, IsOver, many_sessions, many_steps, long, SomeLong, LongFile}
-use Rattle.spec_parser.proofs.Gists.{Moves, parts_gist, session_word, step_has, setups_have, maybe_has, setup_has, teardown_has, perms_quiet, file_has}
+use Rattle.spec_parser.proofs.ContentsAreCounted.{Holds, only_parts, session_word, step_has, setups_have, maybe_has, setup_has, teardown_has, perms_quiet, file_has}
 use Rattle.spec_parser.proofs.WholeLaws.{read_or_over, reads_are_files}
 
 -- ---- lists
@@ -79,7 +79,7 @@ quiet_keeps G p local quiet r after x e few =
     let j = ap (λ (c : Counts). c.steps) w.1 in
     record { sessions = omega (arith, k, same.0, few.sessions); steps = omega (arith, j, same.1, few.steps) }
 
-parts_count : (c d : Counts) (ts : List (At Token)) (ps : List PartTree) → Moves c d ts (parts_gist ps) → (d.sessions ≡ c.sessions) × (d.steps ≡ c.steps)
+parts_count : (c d : Counts) (ts : List (At Token)) (ps : List PartTree) → Holds c d ts (only_parts ps) → (d.sessions ≡ c.sessions) × (d.steps ≡ c.steps)
 parts_count c d ts ps m = (omega (arith, m.sessions), omega (arith, m.steps))
 
 pub setups_keep : Keeps setups_at

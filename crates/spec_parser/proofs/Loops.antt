@@ -9,7 +9,7 @@ use Rattle.spec_parser.specs.declared.fault.Halt.{Halt}
 use Rattle.spec_parser.specs.declared.fault.Halt.TheVariants as halts
 use Rattle.spec_parser.specs.Reading.{Rest, Read, ◌>>=◌, first_is, many_at, all_at}
 use Rattle.iso_lexer.specs.SpecTokens.{Token}
-use Rattle.spec_parser.specs.Readers.{FailsAs, behind, rest_of}
+use Rattle.spec_parser.specs.Inner.Readers.{FailsAs, behind, rest_of}
 use Rattle.spec_parser.proofs.Local.{stops_at, goes_on, goes}
 
 -- with those read so far, what is left gives the whole

@@ -16,7 +16,7 @@ use Rattle.spec_parser.specs.Grammar.{session as session_grammar}
 use Rattle.spec_parser.specs.Names.{StepAt, steps_from, sessions_from, step_tree, session_tree}
 use Rattle.spec_parser.specs.IsSpec.{IsShort, Names, MarkerIs, EntryIs, PermIs, IsSpec}
 use Rattle.spec_parser.specs.Stands.{StepStands, MarkerStands, EntryStands, PermStands, session_parts, parts_of, names_of, PartLies, NameLies, Stands, LiesIn}
-use Rattle.spec_parser.proofs.Gists.{file_has, steps_len}
+use Rattle.spec_parser.proofs.ContentsAreCounted.{file_has, steps_len}
 use Rattle.spec_parser.proofs.Limits.{all_from, all_to}
 
 nothing_in : {A : Type 0} (x : A) → Contains [] x → ⊥

@@ -12,7 +12,7 @@ use Rattle.iso_lexer.specs.declared.runs.Run.TheVariants.{Blanks}
 use Rattle.iso_lexer.specs.SpecTokens.{Token, keyword, name, digits, sign, block, at_view, at_views}
 use Rattle.iso_lexer.specs.SpecText.{block_of}
 use Rattle.iso_lexer.specs.SpecSpelling.{LiesAt, Spells}
-use Rattle.spec_parser.specs.Places.{text_start_of, FitsAll}
+use Rattle.spec_parser.specs.Inner.Places.{text_start_of, FitsAll}
 
 pub few_views : (n : ℕ) (ts : List (At SpecTok)) → n ≤ 1048576 → length (at_views ts) ≤ n → length ts < 2 ^ 32
 few_views n ts few le = omega (arith, few, le, length-map ts at_view)

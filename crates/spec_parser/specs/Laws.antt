@@ -43,7 +43,8 @@ ReadsAreFiles = (ts : List (At Token)) (f : FileTree) (rest : Rest) → file_at 
 
 -- A file of the grammar is read whole where it is within the limits, and else reading stops at a limit.
 abbrev pub FilesAreRead : Type 0
-FilesAreRead = (ts : List (At Token)) (f : FileTree) → file start ts f → (WithinLimits f → file_at (start, ts) ≡ (Ok f, (past start ts, []))) × ((WithinLimits f → ⊥) → (file_at (start, ts)).0 ≡ Err OverLimit)
+FilesAreRead = (ts : List (At Token)) (f : FileTree) → file start ts f
+    → (WithinLimits f → file_at (start, ts) ≡ (Ok f, (past start ts, []))) × ((WithinLimits f → ⊥) → (file_at (start, ts)).0 ≡ Err OverLimit)
 
 -- Reading stops at a limit before the name that is over it.
 abbrev pub LimitsAreFirst : Type 0

@@ -114,4 +114,9 @@ abbrev pub perm_names_view : Vec EntryName → List NamedEntry
 perm_names_view es = map entry_name_view es.items
 
 abbrev pub file_view : FileDraft → FileTree
-file_view f = record { setups = map part_view f.setups.items; teardown = option_map part_view f.teardown; sessions = map session_draft_view f.sessions.items; perms = map perm_names_view f.perms.items }
+file_view f = record {
+  setups = map part_view f.setups.items;
+  teardown = option_map part_view f.teardown;
+  sessions = map session_draft_view f.sessions.items;
+  perms = map perm_names_view f.perms.items;
+}

@@ -8,13 +8,13 @@ use std::alloc::Global;
 impl<'t, 'a> Reader<'t, 'a> {
     ghost use Rattle.spec_parser.specs.Trees.{file_view};
     ghost use Rattle.spec_parser.specs.Reading.{file_at};
-    ghost use Rattle.spec_parser.specs.Readers.{rest_of, Same, Gives};
+    ghost use Rattle.spec_parser.specs.Inner.Readers.{end_of, rest_of, Same, Gives};
 
     /// The whole file.
     #[tactic(auto, unfolding(crate::specs::Reading::file_at))]
     pub fn file(&mut self, alloc: Global) -> Result<FileDraft<'a>, Halt>
         ensures same { Same self.old self.new }
-        ensures reads { Gives self.old.end (λ x. (file_view x, rest_of self.new)) result (file_at (rest_of self.old)) }
+        ensures reads { Gives (end_of self.old) (λ x. (file_view x, rest_of self.new)) result (file_at (rest_of self.old)) }
     {
         let setups = self.setups(alloc)?;
         let teardown = self.teardown()?;

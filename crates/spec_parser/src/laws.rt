@@ -1,6 +1,7 @@
 //! What is so of every text.
 
-ghost use Rattle.spec_parser.specs.Laws.{FaultsAreFirst, ReadsAreFiles, FilesAreRead, LimitsAreFirst, OneAnswer, SpecsAreExact, LimitsAreNames, RepeatsAreExact, UndefinedAreExact, SpecsStand, SpecsAreSlices, StopsAreFirst};
+ghost use Rattle.spec_parser.specs.Laws.{OneAnswer, ReadsAreFiles, FaultsAreFirst, StopsAreFirst, FilesAreRead, LimitsAreFirst, LimitsAreNames};
+ghost use Rattle.spec_parser.specs.Laws.{SpecsAreExact, RepeatsAreExact, UndefinedAreExact, SpecsStand, SpecsAreSlices};
 
 /// A text says one thing, or has one fault.
 pub fn one_answer()

@@ -7,6 +7,7 @@ mod fault;
 mod file;
 mod known;
 mod laws;
+mod numbered;
 mod parse;
 mod perms;
 mod reader;
@@ -19,5 +20,6 @@ pub use laws::{
     faults_are_first, files_are_read, limits_are_first, one_answer, reads_are_files,
     repeats_are_exact, specs_are_exact, specs_are_slices, specs_stand, undefined_are_exact,
 };
+pub use numbered::session_numbered;
 pub use parse::parse_spec;
 pub use tree::{Entry, Marker, Part, SessionPart, Spec, StepPart};

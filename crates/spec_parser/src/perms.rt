@@ -12,11 +12,11 @@ impl<'t, 'a> Reader<'t, 'a> {
     ghost use Rattle.std.specs.Prelude.{◌≢◌, Err, option_map, map};
     ghost use Rattle.spec_parser.specs.Trees.{placed_view, marker_view, entry_name_view, perm_names_view};
     ghost use Rattle.spec_parser.specs.Reading.{no_notices, marker_at, next_marker_at, next_markers_at, markers_at, some_markers_at, entry_at, entries_at, perm_at, perms_at, all_at, starts_name};
-    ghost use Rattle.spec_parser.specs.Readers.{rest_of, Same, Gives, behind};
+    ghost use Rattle.spec_parser.specs.Inner.Readers.{end_of, rest_of, Same, Gives, behind};
 
     #[tactic(auto, unfolding(crate::specs::Reading::no_notices))]
     fn no_notices(&self, name: PlacedName<'a>) -> Result<MarkerName<'a>, Halt>
-        ensures reads { Gives self.now.end (λ x. (marker_view x, rest_of self.now)) result (no_notices (placed_view name.entry) (rest_of self.now)) }
+        ensures reads { Gives (end_of self.now) (λ x. (marker_view x, rest_of self.now)) result (no_notices (placed_view name.entry) (rest_of self.now)) }
         ensures calm { result ≢ Err Halt.Memory }
     {
         if self.starts_word(Keyword::Notices) {
@@ -28,7 +28,7 @@ impl<'t, 'a> Reader<'t, 'a> {
     #[tactic(auto, unfolding(crate::specs::Reading::marker_at))]
     fn marker(&mut self) -> Result<MarkerName<'a>, Halt>
         ensures same { Same self.old self.new }
-        ensures reads { Gives self.old.end (λ x. (marker_view x, rest_of self.new)) result (marker_at (rest_of self.old)) }
+        ensures reads { Gives (end_of self.old) (λ x. (marker_view x, rest_of self.new)) result (marker_at (rest_of self.old)) }
         ensures calm { result ≢ Err Halt.Memory }
     {
         if self.starts_sign(Sign::Star) {
@@ -42,7 +42,7 @@ impl<'t, 'a> Reader<'t, 'a> {
     #[tactic(auto, unfolding(crate::specs::Reading::next_marker_at))]
     fn next_marker(&mut self) -> Result<MarkerName<'a>, Halt>
         ensures same { Same self.old self.new }
-        ensures reads { Gives self.old.end (λ x. (marker_view x, rest_of self.new)) result (next_marker_at (rest_of self.old)) }
+        ensures reads { Gives (end_of self.old) (λ x. (marker_view x, rest_of self.new)) result (next_marker_at (rest_of self.old)) }
         ensures calm { result ≢ Err Halt.Memory }
     {
         self.sign(Sign::Comma, What::CommaOrClose)?;
@@ -52,7 +52,7 @@ impl<'t, 'a> Reader<'t, 'a> {
     /// The markers from here on, behind the first.
     fn next_markers(&mut self, mut items: Vec<MarkerName<'a>>) -> Result<Vec<MarkerName<'a>>, Halt>
         ensures same { Same self.old self.new }
-        ensures reads { Gives self.old.end (λ x. (map marker_view x.items, rest_of self.new)) result (behind (map marker_view items.entry.items) (next_markers_at (rest_of self.old))) }
+        ensures reads { Gives (end_of self.old) (λ x. (map marker_view x.items, rest_of self.new)) result (behind (map marker_view items.entry.items) (next_markers_at (rest_of self.old))) }
     {
         while self.starts_sign(Sign::Comma) {
             let item = self.next_marker()?;
@@ -64,7 +64,7 @@ impl<'t, 'a> Reader<'t, 'a> {
     #[tactic(auto, unfolding(crate::specs::Reading::markers_at))]
     fn markers(&mut self, alloc: Global) -> Result<Vec<MarkerName<'a>>, Halt>
         ensures same { Same self.old self.new }
-        ensures reads { Gives self.old.end (λ x. (map marker_view x.items, rest_of self.new)) result (markers_at (rest_of self.old)) }
+        ensures reads { Gives (end_of self.old) (λ x. (map marker_view x.items, rest_of self.new)) result (markers_at (rest_of self.old)) }
     {
         self.sign(Sign::Open, What::Item)?;
         let first = self.marker()?;
@@ -78,7 +78,7 @@ impl<'t, 'a> Reader<'t, 'a> {
     #[tactic(auto, unfolding(crate::specs::Reading::entry_at, crate::specs::Reading::some_markers_at))]
     fn entry(&mut self, alloc: Global, before: usize) -> Result<EntryName<'a>, Halt>
         ensures same { Same self.old self.new }
-        ensures reads { Gives self.old.end (λ x. (entry_name_view x, rest_of self.new)) result (entry_at before (rest_of self.old)) }
+        ensures reads { Gives (end_of self.old) (λ x. (entry_name_view x, rest_of self.new)) result (entry_at before (rest_of self.old)) }
     {
         let name = self.name_within(before, MOST_ENTRIES)?;
         let markers = if self.starts_sign(Sign::Open) {
@@ -92,7 +92,7 @@ impl<'t, 'a> Reader<'t, 'a> {
     #[tactic(auto, unfolding(crate::specs::Reading::entries_at))]
     fn entries(&mut self, alloc: Global) -> Result<Vec<EntryName<'a>>, Halt>
         ensures same { Same self.old self.new }
-        ensures reads { Gives self.old.end (λ x. (perm_names_view x, rest_of self.new)) result (entries_at (rest_of self.old)) }
+        ensures reads { Gives (end_of self.old) (λ x. (perm_names_view x, rest_of self.new)) result (entries_at (rest_of self.old)) }
     {
         if !self.starts_name() {
             return Err(self.stop(Stop::Expected(What::Name)));
@@ -102,7 +102,7 @@ impl<'t, 'a> Reader<'t, 'a> {
 
     fn each_entry(&mut self, alloc: Global) -> Result<Vec<EntryName<'a>>, Halt>
         ensures same { Same self.old self.new }
-        ensures reads { Gives self.old.end (λ x. (perm_names_view x, rest_of self.new)) result (all_at starts_name entry_at (rest_of self.old)) }
+        ensures reads { Gives (end_of self.old) (λ x. (perm_names_view x, rest_of self.new)) result (all_at starts_name entry_at (rest_of self.old)) }
     {
         let mut items = Vec::new(alloc);
         while self.starts_name() {
@@ -115,7 +115,7 @@ impl<'t, 'a> Reader<'t, 'a> {
     #[tactic(auto, unfolding(crate::specs::Reading::perm_at))]
     fn perm(&mut self, alloc: Global) -> Result<Vec<EntryName<'a>>, Halt>
         ensures same { Same self.old self.new }
-        ensures reads { Gives self.old.end (λ x. (perm_names_view x, rest_of self.new)) result (perm_at (rest_of self.old)) }
+        ensures reads { Gives (end_of self.old) (λ x. (perm_names_view x, rest_of self.new)) result (perm_at (rest_of self.old)) }
     {
         self.word(Keyword::Permutation, What::Item)?;
         self.entries(alloc)
@@ -123,7 +123,7 @@ impl<'t, 'a> Reader<'t, 'a> {
 
     pub fn perms(&mut self, alloc: Global) -> Result<Vec<Vec<EntryName<'a>>>, Halt>
         ensures same { Same self.old self.new }
-        ensures reads { Gives self.old.end (λ x. (map perm_names_view x.items, rest_of self.new)) result (perms_at (rest_of self.old)) }
+        ensures reads { Gives (end_of self.old) (λ x. (map perm_names_view x.items, rest_of self.new)) result (perms_at (rest_of self.old)) }
     {
         let mut items = Vec::new(alloc);
         while self.starts_word(Keyword::Permutation) {

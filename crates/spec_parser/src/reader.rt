@@ -1,7 +1,7 @@
 //! Tokens, read from left to right.
 
 ghost use Rattle.std.specs.Prelude.{◌^◌, ◌<◌, ◌≤◌, length};
-ghost use Rattle.spec_parser.specs.Places.{FitsAll};
+ghost use Rattle.spec_parser.specs.Inner.Places.{FitsAll};
 
 use crate::draft::PlacedName;
 use crate::fault::{Halt, Stop, What};
@@ -31,13 +31,13 @@ impl<'t, 'a> Reader<'t, 'a> {
     ghost use Rattle.spec_parser.specs.Trees.{part_view, placed_view};
     ghost use Rattle.spec_parser.specs.Counts.{start};
     ghost use Rattle.spec_parser.specs.Reading.{place, starts_word, starts_sign, starts_name, word_at, sign_at, name_at, name_within, block_at, end_at};
-    ghost use Rattle.spec_parser.specs.Readers.{rest_of, IsNext, Same, Gives, StopsAt};
+    ghost use Rattle.spec_parser.specs.Inner.Readers.{end_of, rest_of, IsNext, Same, Gives, StopsAt};
 
     pub fn new(tokens: &'t [At<SpecTok<'a>>], end: usize) -> Self
         requires few { length tokens.now < 2 ^ 32 }
         requires fits { FitsAll tokens.now }
         ensures at { rest_of result ≡ (start, at_views tokens.now) }
-        ensures ends { result.end ≡ end }
+        ensures ends { end_of result ≡ end }
     {
         Reader {
             tokens,
@@ -60,7 +60,7 @@ impl<'t, 'a> Reader<'t, 'a> {
     }
 
     fn place(&self) -> usize
-        ensures { result ≡ place self.now.end (rest_of self.now).1 }
+        ensures { result ≡ place (end_of self.now) (rest_of self.now).1 }
     {
         match self.peek() {
             Some(token) => token.span.start,
@@ -70,7 +70,7 @@ impl<'t, 'a> Reader<'t, 'a> {
 
     /// Reading stops here.
     pub fn stop(&self, stop: Stop) -> Halt
-        ensures { StopsAt self.now.end stop (rest_of self.now).1 result }
+        ensures { StopsAt (end_of self.now) stop (rest_of self.now).1 result }
     {
         Halt::At(stop, self.place())
     }
@@ -127,7 +127,7 @@ impl<'t, 'a> Reader<'t, 'a> {
 
     #[tactic(auto, unfolding(crate::specs::Reading::end_at))]
     pub fn end(&self) -> Result<(), Halt>
-        ensures reads { Gives self.now.end (λ x. (x, rest_of self.now)) result (end_at (rest_of self.now)) }
+        ensures reads { Gives (end_of self.now) (λ x. (x, rest_of self.now)) result (end_at (rest_of self.now)) }
         ensures calm { result ≢ Err Halt.Memory }
     {
         match self.peek() {
@@ -139,7 +139,7 @@ impl<'t, 'a> Reader<'t, 'a> {
     #[tactic(auto, unfolding(crate::specs::Reading::word_at))]
     pub fn word(&mut self, word: Keyword, what: What) -> Result<(), Halt>
         ensures same { Same self.old self.new }
-        ensures reads { Gives self.old.end (λ x. (x, rest_of self.new)) result (word_at word what (rest_of self.old)) }
+        ensures reads { Gives (end_of self.old) (λ x. (x, rest_of self.new)) result (word_at word what (rest_of self.old)) }
         ensures calm { result ≢ Err Halt.Memory }
     {
         match self.peek() {
@@ -162,7 +162,7 @@ impl<'t, 'a> Reader<'t, 'a> {
     #[tactic(auto, unfolding(crate::specs::Reading::sign_at))]
     pub fn sign(&mut self, sign: Sign, what: What) -> Result<(), Halt>
         ensures same { Same self.old self.new }
-        ensures reads { Gives self.old.end (λ x. (x, rest_of self.new)) result (sign_at sign what (rest_of self.old)) }
+        ensures reads { Gives (end_of self.old) (λ x. (x, rest_of self.new)) result (sign_at sign what (rest_of self.old)) }
         ensures calm { result ≢ Err Halt.Memory }
     {
         match self.peek() {
@@ -180,7 +180,7 @@ impl<'t, 'a> Reader<'t, 'a> {
     #[tactic(auto, unfolding(crate::specs::Reading::name_at))]
     pub fn name(&mut self, what: What) -> Result<PlacedName<'a>, Halt>
         ensures same { Same self.old self.new }
-        ensures reads { Gives self.old.end (λ x. (placed_view x, rest_of self.new)) result (name_at what (rest_of self.old)) }
+        ensures reads { Gives (end_of self.old) (λ x. (placed_view x, rest_of self.new)) result (name_at what (rest_of self.old)) }
         ensures calm { result ≢ Err Halt.Memory }
     {
         match self.peek() {
@@ -201,7 +201,7 @@ impl<'t, 'a> Reader<'t, 'a> {
     #[tactic(auto, unfolding(crate::specs::Reading::block_at))]
     pub fn block(&mut self) -> Result<Part<'a>, Halt>
         ensures same { Same self.old self.new }
-        ensures reads { Gives self.old.end (λ x. (part_view x, rest_of self.new)) result (block_at (rest_of self.old)) }
+        ensures reads { Gives (end_of self.old) (λ x. (part_view x, rest_of self.new)) result (block_at (rest_of self.old)) }
         ensures calm { result ≢ Err Halt.Memory }
     {
         match self.peek() {

@@ -16,13 +16,13 @@ impl<'t, 'a> Reader<'t, 'a> {
     ghost use Rattle.iso_lexer.specs.declared.spec_token.Keyword.TheVariants.{Session, Step};
     ghost use Rattle.spec_parser.specs.Trees.{part_view, placed_view, draft_view, session_draft_view};
     ghost use Rattle.spec_parser.specs.Reading.{name_within, block_after, setup_at, teardown_at, setups_at, step_at, steps_at, session_at, sessions_at, all_at, starts_word};
-    ghost use Rattle.spec_parser.specs.Readers.{rest_of, Same, Gives};
+    ghost use Rattle.spec_parser.specs.Inner.Readers.{end_of, rest_of, Same, Gives};
 
     /// The name of a thing behind `before` others of its kind, of which there may be `most`.
     #[tactic(auto, unfolding(crate::specs::Reading::name_within))]
     pub fn name_within(&mut self, before: usize, most: usize) -> Result<PlacedName<'a>, Halt>
         ensures same { Same self.old self.new }
-        ensures reads { Gives self.old.end (λ x. (placed_view x, rest_of self.new)) result (name_within before most (rest_of self.old)) }
+        ensures reads { Gives (end_of self.old) (λ x. (placed_view x, rest_of self.new)) result (name_within before most (rest_of self.old)) }
         ensures calm { result ≢ Err Halt.Memory }
     {
         if before < most {
@@ -37,7 +37,7 @@ impl<'t, 'a> Reader<'t, 'a> {
     #[tactic(auto, unfolding(crate::specs::Reading::block_after))]
     fn block_after(&mut self, word: Keyword) -> Result<Part<'a>, Halt>
         ensures same { Same self.old self.new }
-        ensures reads { Gives self.old.end (λ x. (part_view x, rest_of self.new)) result (block_after word (rest_of self.old)) }
+        ensures reads { Gives (end_of self.old) (λ x. (part_view x, rest_of self.new)) result (block_after word (rest_of self.old)) }
         ensures calm { result ≢ Err Halt.Memory }
     {
         self.word(word, What::Item)?;
@@ -47,7 +47,7 @@ impl<'t, 'a> Reader<'t, 'a> {
     #[tactic(auto, unfolding(crate::specs::Reading::setup_at))]
     fn setup(&mut self) -> Result<Option<Part<'a>>, Halt>
         ensures same { Same self.old self.new }
-        ensures reads { Gives self.old.end (λ x. (option_map part_view x, rest_of self.new)) result (setup_at (rest_of self.old)) }
+        ensures reads { Gives (end_of self.old) (λ x. (option_map part_view x, rest_of self.new)) result (setup_at (rest_of self.old)) }
         ensures calm { result ≢ Err Halt.Memory }
     {
         if !self.starts_word(Keyword::Setup) {
@@ -60,7 +60,7 @@ impl<'t, 'a> Reader<'t, 'a> {
     #[tactic(auto, unfolding(crate::specs::Reading::teardown_at))]
     pub fn teardown(&mut self) -> Result<Option<Part<'a>>, Halt>
         ensures same { Same self.old self.new }
-        ensures reads { Gives self.old.end (λ x. (option_map part_view x, rest_of self.new)) result (teardown_at (rest_of self.old)) }
+        ensures reads { Gives (end_of self.old) (λ x. (option_map part_view x, rest_of self.new)) result (teardown_at (rest_of self.old)) }
         ensures calm { result ≢ Err Halt.Memory }
     {
         if !self.starts_word(Keyword::Teardown) {
@@ -72,7 +72,7 @@ impl<'t, 'a> Reader<'t, 'a> {
 
     pub fn setups(&mut self, alloc: Global) -> Result<Vec<Part<'a>>, Halt>
         ensures same { Same self.old self.new }
-        ensures reads { Gives self.old.end (λ x. (map part_view x.items, rest_of self.new)) result (setups_at (rest_of self.old)) }
+        ensures reads { Gives (end_of self.old) (λ x. (map part_view x.items, rest_of self.new)) result (setups_at (rest_of self.old)) }
     {
         let mut items = Vec::new(alloc);
         while self.starts_word(Keyword::Setup) {
@@ -85,7 +85,7 @@ impl<'t, 'a> Reader<'t, 'a> {
     #[tactic(auto, unfolding(crate::specs::Reading::step_at))]
     fn step(&mut self) -> Result<StepDraft<'a>, Halt>
         ensures same { Same self.old self.new }
-        ensures reads { Gives self.old.end (λ x. (draft_view x, rest_of self.new)) result (step_at (rest_of self.old)) }
+        ensures reads { Gives (end_of self.old) (λ x. (draft_view x, rest_of self.new)) result (step_at (rest_of self.old)) }
         ensures calm { result ≢ Err Halt.Memory }
     {
         let before = self.steps_so_far();
@@ -99,7 +99,7 @@ impl<'t, 'a> Reader<'t, 'a> {
     fn steps(&mut self, alloc: Global) -> Result<Vec<StepDraft<'a>>, Halt>
         ensures same { Same self.old self.new }
         ensures few { IfOk result (λ x. vec_len x < 2 ^ 32) }
-        ensures reads { Gives self.old.end (λ x. (map draft_view x.items, rest_of self.new)) result (steps_at (rest_of self.old)) }
+        ensures reads { Gives (end_of self.old) (λ x. (map draft_view x.items, rest_of self.new)) result (steps_at (rest_of self.old)) }
     {
         if !self.starts_word(Keyword::Step) {
             return Err(self.stop(Stop::Expected(What::Step)));
@@ -110,7 +110,7 @@ impl<'t, 'a> Reader<'t, 'a> {
     fn each_step(&mut self, alloc: Global) -> Result<Vec<StepDraft<'a>>, Halt>
         ensures same { Same self.old self.new }
         ensures few { IfOk result (λ x. vec_len x < 2 ^ 32) }
-        ensures reads { Gives self.old.end (λ x. (map draft_view x.items, rest_of self.new)) result (all_at (starts_word Step) (λ k. step_at) (rest_of self.old)) }
+        ensures reads { Gives (end_of self.old) (λ x. (map draft_view x.items, rest_of self.new)) result (all_at (starts_word Step) (λ k. step_at) (rest_of self.old)) }
     {
         let mut items = Vec::new(alloc);
         while self.starts_word(Keyword::Step) {
@@ -123,7 +123,7 @@ impl<'t, 'a> Reader<'t, 'a> {
     #[tactic(auto, unfolding(crate::specs::Reading::session_at))]
     fn session(&mut self, alloc: Global) -> Result<SessionDraft<'a>, Halt>
         ensures same { Same self.old self.new }
-        ensures reads { Gives self.old.end (λ x. (session_draft_view x, rest_of self.new)) result (session_at (rest_of self.old)) }
+        ensures reads { Gives (end_of self.old) (λ x. (session_draft_view x, rest_of self.new)) result (session_at (rest_of self.old)) }
     {
         let before = self.sessions_so_far();
         self.word(Keyword::Session, What::Item)?;
@@ -143,7 +143,7 @@ impl<'t, 'a> Reader<'t, 'a> {
     pub fn sessions(&mut self, alloc: Global) -> Result<Vec<SessionDraft<'a>>, Halt>
         ensures same { Same self.old self.new }
         ensures few { IfOk result (λ x. vec_len x < 2 ^ 32) }
-        ensures reads { Gives self.old.end (λ x. (map session_draft_view x.items, rest_of self.new)) result (sessions_at (rest_of self.old)) }
+        ensures reads { Gives (end_of self.old) (λ x. (map session_draft_view x.items, rest_of self.new)) result (sessions_at (rest_of self.old)) }
     {
         if !self.starts_word(Keyword::Session) {
             return Err(self.stop(Stop::Expected(What::Session)));
@@ -154,7 +154,7 @@ impl<'t, 'a> Reader<'t, 'a> {
     fn each_session(&mut self, alloc: Global) -> Result<Vec<SessionDraft<'a>>, Halt>
         ensures same { Same self.old self.new }
         ensures few { IfOk result (λ x. vec_len x < 2 ^ 32) }
-        ensures reads { Gives self.old.end (λ x. (map session_draft_view x.items, rest_of self.new)) result (all_at (starts_word Session) (λ k. session_at) (rest_of self.old)) }
+        ensures reads { Gives (end_of self.old) (λ x. (map session_draft_view x.items, rest_of self.new)) result (all_at (starts_word Session) (λ k. session_at) (rest_of self.old)) }
     {
         let mut items = Vec::new(alloc);
         while self.starts_word(Keyword::Session) {

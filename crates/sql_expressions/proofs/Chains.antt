@@ -1,5 +1,5 @@
 -- The chains of operators.
-use Rattle.std.proofs.Common.{◌≡◌, ℕ, zero, suc, ◌+◌, ◌*◌, ◌<◌, ◌≤◌, Option, Some, None, refl, sym, ap, ◌∙◌, subst, length, List, [], ◌∷◌, ◌++◌, arith, rules, Bool, true, false, ◌-◌}
+use Rattle.std.proofs.Common.{◌≡◌, ℕ, zero, suc, ◌+◌, ◌<◌, ◌≤◌, Option, Some, None, refl, sym, ap, ◌∙◌, length, List, [], ◌∷◌, ◌++◌, arith, rules, Bool, true, false, ◌-◌}
 use Rattle.std.specs.Prelude.{IfOk, Result, Ok, Err, max, nat_lt, if◌then◌else◌}
 use Rattle.sql_expressions.specs.declared.level.Chain.{Chain}
 use Rattle.sql_expressions.specs.declared.level.Chain.TheVariants.{Or, And, Concat, Sum, Product}
@@ -13,7 +13,7 @@ use Rattle.sql_trees.specs.declared.expr.Expr.{Expr}
 use Rattle.sql_expressions.specs.declared.parsed.Parsed.{Parsed}
 use Rattle.sql_trees.specs.Trees.{tree_of, trees, more, none}
 use Rattle.sql_expressions.specs.Build.{push}
-use Rattle.sql_expressions.specs.Reading.{Found, Found_op, Found_list, found, found_list, is_comma, list_more, list_at, after_comma, Reader, Gives, Fails, deeper, join, next_op, chain_op, chain_more, chain, chain_at, operand_at, at_level, inside, or_at, and_at, cat_at, add_at, mul_at, ◌>>=◌}
+use Rattle.sql_expressions.specs.Reading.{Found, Found_op, Found_list, found, found_list, is_comma, list_more, list_at, after_comma, Reader, Gives, Fails, deeper, join, next_op, chain_op, chain_more, chain, chain_at, operand_at, at_level, inside, or_at, and_at, cat_at, add_at, mul_at}
 use Rattle.sql_expressions.specs.declared.level.Opened.{Opened}
 use Rattle.sql_trees.specs.declared.fault.SqlFault.TheVariants.{Memory}
 

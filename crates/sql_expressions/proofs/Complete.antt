@@ -1,10 +1,7 @@
 -- What is in the grammar is read, where what stands behind it doesn't go on with it.
 use Rattle.std.proofs.Common.{◌≡◌, ℕ, zero, suc, ◌+◌, ◌<◌, ◌≤◌, Bool, true, false, not, ◌||◌, List, [], ◌∷◌, ◌++◌, length, Option, Some, None, refl, sym, ap, ◌∙◌, subst, arith, rules, append_assoc, length-append}
-use Rattle.std.specs.Prelude.{Result, Ok, Err, max, nat_lt, is_some, if◌then◌else◌}
-use Rattle.sql_trees.specs.declared.fault.SqlFault.{SqlFault}
-use Rattle.sql_trees.specs.declared.fault.SqlFault.TheVariants.{TooDeep, LeftOut}
-use Rattle.sql_expressions.specs.declared.level.Opened.{Opened}
-use Rattle.sql_expressions.specs.declared.level.Opened.TheVariants.{Whole, Negation, Unary}
+use Rattle.std.specs.Prelude.{Ok, max, nat_lt, is_some}
+use Rattle.sql_expressions.specs.declared.level.Opened.TheVariants.{Whole}
 use Rattle.iso_lexer.specs.declared.token.At.{At}
 use Rattle.sql_trees.specs.Tokens.{Token, Tokens, named}
 use Rattle.sql_trees.specs.Tokens as tok
@@ -12,7 +9,7 @@ use Rattle.iso_lexer.specs.declared.sql_token.SqlSign.TheVariants as signs
 use Rattle.sql_trees.specs.declared.word.Word.TheVariants as words
 use Rattle.sql_trees.specs.declared.expr.Operator.{Operator}
 use Rattle.sql_trees.specs.declared.expr.Truth.{Truth}
-use Rattle.sql_trees.specs.Trees.{Tree, Trees, Null, Flag, Number, Text, Column, Plus, Minus, Not, Binary, Is, In, Between, more, none}
+use Rattle.sql_trees.specs.Trees.{Tree, Trees, Column, Plus, Not, Binary, Is, In, Between, more, none}
 use Rattle.sql_expressions.specs.Build.{negated, push}
 use Rattle.sql_expressions.specs.Reading.{name_at, Found, Found_op, Found_list, Reader, leaf, deeper, join, next_op, found_op, comparison_op, expect, misplaced, is_open, is_close, is_and, is_not, is_is, truth_of, place_of, column_at, parens_at, prim_of, prim_at, sign_at, una_of, una_at, mul_at, add_at, cat_at, in_at, between_at, not_in_of, not_in_at, inn_of, inn_more, inn_at, cmp_more, cmp_at, is_node, is_of, is_tail, is_more, is_at, negation_at, not_at, and_at, or_at, at_level, inside, expr_at, list_at, list_more, after_comma, chain_more, ◌>>=◌}
 use Rattle.sql_expressions.specs.Reading as reading
@@ -459,21 +456,21 @@ module _ (last : ℕ) where
 
   mutual
     complete : {n : ℕ} {l : Level} {ts : Tokens} {e : Tree} {d : ℕ} → Spells n l ts e d → Claim n l ts e d
-    complete (only {n = n} l ts e d p) = claim_only n l ts e d (reads n (tighter l) ts e d (complete p)) (spells_starts p)
-    complete (chain {n = n} l fs bs t o a b c d p h q lt) = claim_chain n l fs bs t o a b c d (complete p) h (reads n (tighter l) bs b d (complete q)) lt
-    complete (negation {n = n} ts t e d h p lt) = claim_not n ts t e d h (complete p) lt
-    complete (is {n = n} ts ws t no' truth e d p i h lt) = claim_is n ts ws t no' truth e d (complete p) i h lt
-    complete (comparison {n = n} fs bs t o a b c d p h q lt) = claim_comparison n fs bs t o a b c d (complete p) h (complete q) lt
-    complete (contained {n = n} ts ws us t u no' e es c d p i h q g lt) = claim_in n ts ws us t u no' e es c d (reads (suc n) CAT ts e c (complete p)) i h (items_complete q) g lt
-    complete (between {n = n} ts ws us vs t no' e low high b c d p i q h r lt) = claim_between n ts ws us vs t no' e low high b c d (reads n CAT ts e b (complete p)) i (reads n CAT us low c (complete q)) h (reads n CAT vs high d (complete r)) lt
-    complete (minus {n = n} ts t e d h p lt) = claim_minus n ts t e d h (complete p) lt
-    complete (plus {n = n} ts t e d h p lt) = claim_plus n ts t e d h (complete p) lt
-    complete (parens {n = n} ts t u e d h p g lt) = claim_parens n ts t u e d h (reads n OR ts e d (complete p)) g lt
-    complete (literal {n = n} t e p) = leaf_read n t t.tok e refl p
+    complete (only {room = n} l ts e d p) = claim_only n l ts e d (reads n (tighter l) ts e d (complete p)) (spells_starts p)
+    complete (chain {room = n} l fs bs t o a b c d p h q lt) = claim_chain n l fs bs t o a b c d (complete p) h (reads n (tighter l) bs b d (complete q)) lt
+    complete (negation {room = n} ts t e d h p lt) = claim_not n ts t e d h (complete p) lt
+    complete (is {room = n} ts ws t no' truth e d p i h lt) = claim_is n ts ws t no' truth e d (complete p) i h lt
+    complete (comparison {room = n} fs bs t o a b c d p h q lt) = claim_comparison n fs bs t o a b c d (complete p) h (complete q) lt
+    complete (contained {room = n} ts ws us t u no' e es c d p i h q g lt) = claim_in n ts ws us t u no' e es c d (reads (suc n) CAT ts e c (complete p)) i h (items_complete q) g lt
+    complete (between {room = n} ts ws us vs t no' e low high b c d p i q h r lt) = claim_between n ts ws us vs t no' e low high b c d (reads n CAT ts e b (complete p)) i (reads n CAT us low c (complete q)) h (reads n CAT vs high d (complete r)) lt
+    complete (minus {room = n} ts t e d h p lt) = claim_minus n ts t e d h (complete p) lt
+    complete (plus {room = n} ts t e d h p lt) = claim_plus n ts t e d h (complete p) lt
+    complete (parens {room = n} ts t u e d h p g lt) = claim_parens n ts t u e d h (reads n OR ts e d (complete p)) g lt
+    complete (literal {room = n} t e p) = leaf_read n t t.tok e refl p
 
     items_complete : {n : ℕ} {us : Tokens} {es : Trees} {d : ℕ} → Items n us es d → Lists n us es d
-    items_complete (one {n = n} ts e d p) = list_first n ts e d (reads n OR ts e d (complete p))
-    items_complete (next {n = n} fs bs t es e c d p h q) = list_on n fs bs t es e c d (items_complete p) h (reads n OR bs e d (complete q))
+    items_complete (one {room = n} ts e d p) = list_first n ts e d (reads n OR ts e d (complete p))
+    items_complete (next {room = n} fs bs t es e c d p h q) = list_on n fs bs t es e c d (items_complete p) h (reads n OR bs e d (complete q))
 
   pub ends_stops : (rest : Tokens) → Ends rest → Stops OR rest
   ends_stops [] e = tt

@@ -14,9 +14,9 @@ use Rattle.sql_trees.specs.Tokens.{Token, Tokens, named}
 use Rattle.sql_trees.specs.Tokens as tok
 use Rattle.sql_trees.specs.Trees.{Tree, Trees, more, none, Plus}
 use Rattle.sql_trees.specs.Trees as tree
-use Rattle.sql_expressions.specs.Build.{negated, push}
-use Rattle.sql_expressions.specs.Reading.{Found, Found_op, Found_list, Reader, leaf, deeper, join, next_op, found_op, comparison_op, or_op, and_op, concat_op, sum_op, product_op, expect, misplaced, left_out, is_open, is_close, is_and, is_not, is_is, is_comma, is_call, truth_of, place_of, column_at, name_at, parens_at, prim_of, prim_at, sign_at, una_of, una_at, mul_at, add_at, cat_at, in_at, between_at, not_in_of, not_in_at, not_in_from, inn_of, inn_more, inn_at, cmp_more, cmp_at, is_node, is_of, is_tail, is_from, is_more, is_at, negation_at, not_at, and_at, or_at, at_level, inside, expr_at, list_at, list_more, list_turn, after_comma, chain, chain_more, chain_end, chain_turn, ◌>>=◌}
-use Rattle.sql_expressions.specs.Grammar.{Level, OR, AND, NOT, IS, CMP, INN, CAT, ADD, MUL, UNA, PRIM, Spells, goes_on}
+use Rattle.sql_expressions.specs.Build.{negated}
+use Rattle.sql_expressions.specs.Reading.{Found, Found_op, Found_list, Reader, leaf, deeper, join, next_op, found_op, comparison_op, or_op, and_op, concat_op, sum_op, product_op, expect, misplaced, left_out, is_open, is_close, is_and, is_not, is_is, is_call, truth_of, place_of, column_at, name_at, parens_at, prim_of, prim_at, sign_at, una_of, una_at, mul_at, add_at, cat_at, in_at, between_at, not_in_of, not_in_at, inn_of, inn_more, inn_at, cmp_more, cmp_at, is_node, is_of, is_tail, is_from, is_more, is_at, negation_at, not_at, and_at, or_at, at_level, inside, expr_at, list_at, list_more, list_turn, after_comma, chain, chain_more, chain_end, chain_turn, ◌>>=◌}
+use Rattle.sql_expressions.specs.Grammar.{OR, AND, NOT, ADD, MUL, UNA, Spells, goes_on}
 use Rattle.sql_expressions.specs.Laws.{Makes}
 use Rattle.sql_expressions.proofs.Steps.{expect_ok, is_open_true, after_comma_ok}
 use Rattle.sql_expressions.proofs.Sound.{Took, Sound}

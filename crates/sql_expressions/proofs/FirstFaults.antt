@@ -9,7 +9,7 @@ use Rattle.sql_expressions.specs.Reading.{Found, place_of, expr_at}
 use Rattle.sql_expressions.specs.Grammar.{OR}
 use Rattle.sql_expressions.specs.Laws.{head, Spelled, IsRefusal, Refuses, ended, misplaced, StopsFirst, FaultsAreFirst, first, DeepFirst, DeepIsFirst, TakesFront, FrontsAreTaken, ExpressionsAreRead}
 use Rattle.sql_expressions.proofs.Complete.{expr_complete}
-use Rattle.sql_expressions.proofs.Beyond.{read_or_deep}
+use Rattle.sql_expressions.proofs.ReadOrDeep.{read_or_deep}
 use Rattle.sql_expressions.proofs.Deep.{expr_tells}
 use Rattle.sql_expressions.proofs.Local.{put, Means, is_read}
 use Rattle.sql_expressions.proofs.Tails.{seen}

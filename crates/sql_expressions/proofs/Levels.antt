@@ -1,8 +1,8 @@
 -- Each level reads what the grammar has at it.
-use Rattle.std.proofs.Common.{◌≡◌, ℕ, zero, suc, ◌+◌, ◌<◌, ◌≤◌, Bool, true, false, List, [], ◌∷◌, ◌++◌, length, Option, Some, None, refl, sym, ap, ◌∙◌, subst, arith, rules, append_assoc, length-append}
+use Rattle.std.proofs.Common.{◌≡◌, ℕ, zero, suc, ◌+◌, ◌<◌, Bool, true, false, List, [], ◌∷◌, ◌++◌, length, Option, Some, None, refl, sym, ap, ◌∙◌, subst, arith, append_assoc, length-append}
 use Rattle.std.specs.Prelude.{Result, Ok, Err, max, if◌then◌else◌}
 use Rattle.sql_trees.specs.declared.fault.SqlFault.{SqlFault}
-use Rattle.sql_trees.specs.declared.fault.SqlFault.TheVariants.{TooDeep, LeftOut}
+use Rattle.sql_trees.specs.declared.fault.SqlFault.TheVariants.{LeftOut}
 use Rattle.sql_expressions.specs.declared.level.Opened.{Opened}
 use Rattle.sql_expressions.specs.declared.level.Opened.TheVariants.{Whole, Negation, Unary}
 use Rattle.iso_lexer.specs.declared.token.At.{At}
@@ -10,14 +10,13 @@ use Rattle.sql_trees.specs.Tokens.{Token, Tokens, named}
 use Rattle.sql_trees.specs.Tokens as tok
 use Rattle.iso_lexer.specs.declared.sql_token.SqlSign.TheVariants as signs
 use Rattle.sql_trees.specs.declared.word.Word.TheVariants as words
-use Rattle.sql_trees.specs.declared.expr.Operator.{Operator}
 use Rattle.sql_trees.specs.declared.expr.Truth.{Truth}
-use Rattle.sql_trees.specs.Trees.{Tree, Trees, Null, Flag, Number, Text, Column, Plus, Minus, Not, Binary, Is, In, Between, more, none}
-use Rattle.sql_expressions.specs.Build.{negated, push}
-use Rattle.sql_expressions.specs.Reading.{is_call, name_at, Found, Found_op, Found_list, Reader, leaf, deeper, join, next_op, comparison_op, expect, misplaced, is_open, is_close, is_and, is_not, is_is, truth_of, place_of, column_at, parens_at, prim_of, prim_at, sign_at, una_of, una_at, mul_at, add_at, cat_at, in_at, between_at, not_in_of, not_in_at, inn_of, inn_more, inn_at, cmp_more, cmp_at, is_node, is_of, is_tail, is_from, is_more, is_at, negation_at, not_at, and_at, or_at, at_level, inside, expr_at, list_at, list_more, ◌>>=◌}
+use Rattle.sql_trees.specs.Trees.{Tree, Column, Plus, Not, Is, In, Between, more, none}
+use Rattle.sql_expressions.specs.Build.{negated}
+use Rattle.sql_expressions.specs.Reading.{is_call, name_at, Found, Found_op, Found_list, Reader, leaf, deeper, join, next_op, comparison_op, expect, is_open, is_close, is_and, is_not, is_is, truth_of, place_of, column_at, parens_at, prim_of, prim_at, sign_at, una_of, una_at, mul_at, add_at, cat_at, in_at, between_at, not_in_of, not_in_at, inn_of, inn_more, inn_at, cmp_more, cmp_at, is_node, is_of, is_tail, is_from, is_more, is_at, negation_at, not_at, and_at, or_at, at_level, inside, expr_at, list_at, list_more, ◌>>=◌}
 use Rattle.sql_expressions.specs.Grammar.{Begins, IsWord, Level, OR, AND, NOT, IS, CMP, INN, CAT, ADD, MUL, UNA, PRIM, Spells, only, chain, negation, is, comparison, contained, between, minus, plus, parens, literal, Items, one, next, IsLeaf, number, text, column, yes, no, null, IsIn, IsBetween, IsIs}
-use Rattle.sql_expressions.proofs.Steps.{bind_ok, deeper_ok, expect_ok, next_op_ok, is_close_true, is_open_true, is_and_true, is_not_true, is_is_true}
-use Rattle.sql_expressions.proofs.Sound.{Took, took_up, Sound, joined_as, chain_sound, Took_list, list_sound}
+use Rattle.sql_expressions.proofs.Steps.{bind_ok, deeper_ok, expect_ok, is_close_true, is_open_true, is_and_true, is_not_true, is_is_true}
+use Rattle.sql_expressions.proofs.Sound.{Took, took_up, Sound, joined_as, chain_sound, list_sound}
 
 abbrev pub level_of : Opened → Level
 level_of Whole = OR

@@ -9,6 +9,6 @@ pub mod Shapes
 pub mod Local
 pub mod Tails
 pub mod Stops
-pub mod Beyond
+pub mod ReadOrDeep
 pub mod Deep
 pub mod FirstFaults

@@ -1,5 +1,5 @@
 -- What is read takes a token at least.
-use Rattle.std.proofs.Common.{◌≡◌, ℕ, ◌<◌, ◌++◌, length, ap, arith, length-append}
+use Rattle.std.proofs.Common.{◌≡◌, ℕ, ◌<◌, length, ap, arith, length-append}
 use Rattle.std.specs.Prelude.{Ok}
 use Rattle.sql_trees.specs.Tokens.{Tokens}
 use Rattle.sql_expressions.specs.declared.level.Opened.{Opened}

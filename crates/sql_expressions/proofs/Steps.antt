@@ -1,5 +1,5 @@
 -- What a reading that succeeds has met.
-use Rattle.std.proofs.Common.{◌≡◌, ℕ, zero, suc, ◌+◌, ◌<◌, ◌≤◌, Bool, true, false, List, [], ◌∷◌, ◌++◌, length, Option, Some, None, refl, sym, ap, ◌∙◌, subst, arith, rules}
+use Rattle.std.proofs.Common.{◌≡◌, ℕ, ◌+◌, ◌<◌, Bool, true, false, [], ◌∷◌, Option, Some, None, refl, ◌∙◌, rules}
 use Rattle.std.specs.Prelude.{Result, Ok, Err, nat_lt, if◌then◌else◌}
 use Rattle.sql_trees.specs.declared.fault.SqlFault.{SqlFault}
 use Rattle.sql_trees.specs.declared.fault.SqlFault.TheVariants.{TooDeep}
@@ -10,7 +10,7 @@ use Rattle.sql_trees.specs.Tokens.{Token, Tokens, tok_views}
 use Rattle.sql_trees.specs.Tokens as tok
 use Rattle.sql_trees.specs.declared.expr.Operator.{Operator}
 use Rattle.sql_expressions.specs.Grammar.{IsWord}
-use Rattle.sql_expressions.specs.Reading.{Found, Found_op, deeper, next_op, found_op, expect, misplaced, is_open, is_close, is_and, is_not, is_is, is_comma, after_comma, ◌>>=◌}
+use Rattle.sql_expressions.specs.Reading.{Found_op, deeper, next_op, found_op, expect, misplaced, is_open, is_close, is_and, is_not, is_is, is_comma, after_comma, ◌>>=◌}
 
 pub bind_ok : {A B : Type 0} (r : Result A SqlFault) (f : A → Result B SqlFault) (y : B) → (r >>= f) ≡ Ok y → (x : A) × (r ≡ Ok x) × (f x ≡ Ok y)
 bind_ok (Ok x) f y e = (x, refl, e)

@@ -1,5 +1,5 @@
 -- The tree of an expression that holds a list.
-use Rattle.std.proofs.Common.{◌≡◌, ℕ, Bool, List, refl, ap, ◌∙◌, Box, Global}
+use Rattle.std.proofs.Common.{◌≡◌, Bool, refl, ap, ◌∙◌, Box, Global}
 use Rattle.std.specs.Prelude.{Vec}
 use mathlib.Core.Former.{Count}
 use Rattle.sql_trees.specs.declared.expr.Expr.{Expr, Row_of-Expr, end_of-Expr, more_of-Expr, items-the_row-Expr, items_hidden-the_row-Expr-0}

@@ -1,4 +1,4 @@
--- The grammar of expressions: which tokens spell which tree (PostgreSQL manual, 4.1.6 for the order of operators, 9.1 to 9.3 and 9.25 for what they are).
+-- The grammar of expressions: which tokens spell which tree. Numbers are sections of PostgreSQL 17's manual.
 use Rattle.std.specs.Prelude.{◌≡◌, ℕ, suc, ◌+◌, ◌<◌, max, Bool, true, false, List, [], ◌∷◌, ◌++◌, Option, Some, None}
 use Rattle.iso_lexer.specs.declared.token.At.{At}
 use Rattle.iso_lexer.specs.declared.sql_token.SqlSign.TheVariants as signs
@@ -16,18 +16,26 @@ use Rattle.sql_expressions.specs.Reading.{Found, or_op, and_op, concat_op, sum_o
 abbrev pub IsWord : Word → Token → Type 0
 IsWord w t = (s : List ℕ) × (t ≡ tok.word w s)
 
--- the levels, the loosest first
+-- the levels of operators, the loosest first (4.1.6)
 pub data Level : Type 0 where
   OR : Level
   AND : Level
   NOT : Level
+  -- IS TRUE, IS NULL and their like
   IS : Level
+  -- < > = <= >= <>
   CMP : Level
+  -- BETWEEN and IN
   INN : Level
+  -- ||, and with it each operator that has no level of its own
   CAT : Level
+  -- + and -
   ADD : Level
+  -- * / %
   MUL : Level
+  -- the signs + and - before an operand
   UNA : Level
+  -- a literal, a name, or an expression in parentheses
   PRIM : Level
 
 abbrev pub tighter : Level → Level
@@ -52,47 +60,91 @@ binary ADD = sum_op
 binary MUL = product_op
 binary _ = λ t. None
 
--- IN, or NOT IN, or BETWEEN, or NOT BETWEEN, or IS, or IS NOT
+-- the tokens are this keyword alone
+abbrev pub OneWord : Word → Tokens → Type 0
+OneWord w tokens = (word : At Token) × (tokens ≡ word ∷ []) × (IsWord w word.tok)
+
+-- the tokens are these two keywords
+abbrev pub TwoWords : Word → Word → Tokens → Type 0
+TwoWords v w tokens = (first second : At Token) × (tokens ≡ first ∷ second ∷ []) × (IsWord v first.tok) × (IsWord w second.tok)
+
+-- [NOT] IN (9.25)
 abbrev pub IsIn : Bool → Tokens → Type 0
-IsIn false ws = (t : At Token) × (ws ≡ t ∷ []) × (IsWord words.In t.tok)
-IsIn true ws = (t u : At Token) × (ws ≡ t ∷ u ∷ []) × (IsWord words.Not t.tok) × (IsWord words.In u.tok)
+IsIn false = OneWord words.In
+IsIn true = TwoWords words.Not words.In
 
+-- [NOT] BETWEEN (9.2)
 abbrev pub IsBetween : Bool → Tokens → Type 0
-IsBetween false ws = (t : At Token) × (ws ≡ t ∷ []) × (IsWord words.Between t.tok)
-IsBetween true ws = (t u : At Token) × (ws ≡ t ∷ u ∷ []) × (IsWord words.Not t.tok) × (IsWord words.Between u.tok)
+IsBetween false = OneWord words.Between
+IsBetween true = TwoWords words.Not words.Between
 
+-- IS [NOT] (9.2)
 abbrev pub IsIs : Bool → Tokens → Type 0
-IsIs false ws = (t : At Token) × (ws ≡ t ∷ []) × (IsWord words.Is t.tok)
-IsIs true ws = (t u : At Token) × (ws ≡ t ∷ u ∷ []) × (IsWord words.Is t.tok) × (IsWord words.Not u.tok)
+IsIs false = OneWord words.Is
+IsIs true = TwoWords words.Is words.Not
 
--- a literal or a name
+-- a literal (4.1.2) or a name (4.2.1)
 pub data IsLeaf : Token → Tree → Type 0 where
-  number : (n : ℕ) → IsLeaf (tok.number n) (Number false n)
-  text : (s : List ℕ) → IsLeaf (tok.string s) (Text (undoubled s))
-  column : (t : Token) (name : List ℕ) → named t ≡ Some name → IsLeaf t (Column name)
-  yes : (s : List ℕ) → IsLeaf (tok.word words.True s) (Flag true)
-  no : (s : List ℕ) → IsLeaf (tok.word words.False s) (Flag false)
-  null : (s : List ℕ) → IsLeaf (tok.word words.Null s) Null
+  number : (value : ℕ) → IsLeaf (tok.number value) (Number false value)
+  text : (quoted : List ℕ) → IsLeaf (tok.string quoted) (Text (undoubled quoted))
+  column : (token : Token) (name : List ℕ) → named token ≡ Some name → IsLeaf token (Column name)
+  yes : (spelling : List ℕ) → IsLeaf (tok.word words.True spelling) (Flag true)
+  no : (spelling : List ℕ) → IsLeaf (tok.word words.False spelling) (Flag false)
+  null : (spelling : List ℕ) → IsLeaf (tok.word words.Null spelling) Null
 
 mutual
   -- The tokens spell the tree at this level, with this depth, where so many openings may still be made and no node is deeper than the limit.
   pub data SpellsIn (limit : ℕ) : ℕ → Level → Tokens → Tree → ℕ → Type 0 where
-    only : {n : ℕ} (l : Level) (ts : Tokens) (e : Tree) (d : ℕ) → SpellsIn limit n (tighter l) ts e d → SpellsIn limit n l ts e d
-    chain : {n : ℕ} (l : Level) (fs bs : Tokens) (t : At Token) (o : Operator) (a b : Tree) (c d : ℕ) → SpellsIn limit n l fs a c → binary l t.tok ≡ Some o → SpellsIn limit n (tighter l) bs b d → max c d < limit → SpellsIn limit n l (fs ++ t ∷ bs) (Binary o a b) (max c d + 1)
-    negation : {n : ℕ} (ts : Tokens) (t : At Token) (e : Tree) (d : ℕ) → IsWord words.Not t.tok → SpellsIn limit n NOT ts e d → d < limit → SpellsIn limit (suc n) NOT (t ∷ ts) (Not e) (d + 1)
-    is : {n : ℕ} (ts ws : Tokens) (t : At Token) (no : Bool) (truth : Truth) (e : Tree) (d : ℕ) → SpellsIn limit n CMP ts e d → IsIs no ws → truth_of t.tok ≡ Some truth → d < limit → SpellsIn limit n IS (ts ++ (ws ++ t ∷ [])) (Is e no truth) (d + 1)
-    comparison : {n : ℕ} (fs bs : Tokens) (t : At Token) (o : Operator) (a b : Tree) (c d : ℕ) → SpellsIn limit n INN fs a c → comparison_op t.tok ≡ Some o → SpellsIn limit n INN bs b d → max c d < limit → SpellsIn limit n CMP (fs ++ t ∷ bs) (Binary o a b) (max c d + 1)
-    contained : {n : ℕ} (ts ws us : Tokens) (t u : At Token) (no : Bool) (e : Tree) (es : Trees) (c d : ℕ) → SpellsIn limit (suc n) CAT ts e c → IsIn no ws → t.tok ≡ tok.sign signs.Open → ItemsIn limit n us es d → u.tok ≡ tok.sign signs.Close → max c d < limit → SpellsIn limit (suc n) INN (ts ++ (ws ++ t ∷ (us ++ u ∷ []))) (In e no es) (max c d + 1)
-    between : {n : ℕ} (ts ws us vs : Tokens) (t : At Token) (no : Bool) (e low high : Tree) (b c d : ℕ) → SpellsIn limit n CAT ts e b → IsBetween no ws → SpellsIn limit n CAT us low c → IsWord words.And t.tok → SpellsIn limit n CAT vs high d → max b (max c d) < limit → SpellsIn limit n INN (ts ++ (ws ++ (us ++ t ∷ vs))) (Between e no low high) (max b (max c d) + 1)
-    minus : {n : ℕ} (ts : Tokens) (t : At Token) (e : Tree) (d : ℕ) → t.tok ≡ tok.sign signs.Minus → SpellsIn limit n UNA ts e d → d < limit → SpellsIn limit (suc n) UNA (t ∷ ts) (negated e) (d + 1)
-    plus : {n : ℕ} (ts : Tokens) (t : At Token) (e : Tree) (d : ℕ) → t.tok ≡ tok.sign signs.Plus → SpellsIn limit n UNA ts e d → d < limit → SpellsIn limit (suc n) UNA (t ∷ ts) (Plus e) (d + 1)
-    parens : {n : ℕ} (ts : Tokens) (t u : At Token) (e : Tree) (d : ℕ) → t.tok ≡ tok.sign signs.Open → SpellsIn limit n OR ts e d → u.tok ≡ tok.sign signs.Close → d < limit → SpellsIn limit (suc n) PRIM (t ∷ (ts ++ u ∷ [])) e (d + 1)
-    literal : {n : ℕ} (t : At Token) (e : Tree) → IsLeaf t.tok e → SpellsIn limit n PRIM (t ∷ []) e 0
+    -- what binds tighter
+    only : {room : ℕ} (level : Level) (tokens : Tokens) (tree : Tree) (depth : ℕ) →
+        SpellsIn limit room (tighter level) tokens tree depth →
+        SpellsIn limit room level tokens tree depth
+    -- left operator right: OR and AND (9.1), || (9.4), + - * / % (9.3); they group to the left
+    chain : {room : ℕ} (level : Level) (before behind : Tokens) (sign : At Token) (operator : Operator) (left right : Tree) (c d : ℕ) →
+        SpellsIn limit room level before left c → binary level sign.tok ≡ Some operator → SpellsIn limit room (tighter level) behind right d → max c d < limit →
+        SpellsIn limit room level (before ++ sign ∷ behind) (Binary operator left right) (max c d + 1)
+    -- NOT condition (9.1)
+    negation : {room : ℕ} (tokens : Tokens) (not_word : At Token) (condition : Tree) (d : ℕ) →
+        IsWord words.Not not_word.tok → SpellsIn limit room NOT tokens condition d → d < limit →
+        SpellsIn limit (suc room) NOT (not_word ∷ tokens) (Not condition) (d + 1)
+    -- operand IS [NOT] (NULL | TRUE | FALSE | UNKNOWN) (9.2)
+    is : {room : ℕ} (tokens is_words : Tokens) (asked : At Token) (negated : Bool) (truth : Truth) (operand : Tree) (d : ℕ) →
+        SpellsIn limit room CMP tokens operand d → IsIs negated is_words → truth_of asked.tok ≡ Some truth → d < limit →
+        SpellsIn limit room IS (tokens ++ (is_words ++ asked ∷ [])) (Is operand negated truth) (d + 1)
+    -- left (< | > | = | <= | >= | <>) right, with no further comparison in either (9.2)
+    comparison : {room : ℕ} (before behind : Tokens) (sign : At Token) (operator : Operator) (left right : Tree) (c d : ℕ) →
+        SpellsIn limit room INN before left c → comparison_op sign.tok ≡ Some operator → SpellsIn limit room INN behind right d → max c d < limit →
+        SpellsIn limit room CMP (before ++ sign ∷ behind) (Binary operator left right) (max c d + 1)
+    -- operand [NOT] IN "(" value {"," value} ")" (9.25)
+    contained : {room : ℕ} (tokens in_words items : Tokens) (opening closing : At Token) (negated : Bool) (operand : Tree) (values : Trees) (c d : ℕ) →
+        SpellsIn limit (suc room) CAT tokens operand c → IsIn negated in_words →
+        opening.tok ≡ tok.sign signs.Open → ItemsIn limit room items values d → closing.tok ≡ tok.sign signs.Close → max c d < limit →
+        SpellsIn limit (suc room) INN (tokens ++ (in_words ++ opening ∷ (items ++ closing ∷ []))) (In operand negated values) (max c d + 1)
+    -- operand [NOT] BETWEEN low AND high (9.2)
+    between : {room : ℕ} (tokens between_words lower upper : Tokens) (and_word : At Token) (negated : Bool) (operand low high : Tree) (b c d : ℕ) →
+        SpellsIn limit room CAT tokens operand b → IsBetween negated between_words →
+        SpellsIn limit room CAT lower low c → IsWord words.And and_word.tok → SpellsIn limit room CAT upper high d → max b (max c d) < limit →
+        SpellsIn limit room INN (tokens ++ (between_words ++ (lower ++ and_word ∷ upper))) (Between operand negated low high) (max b (max c d) + 1)
+    -- - operand (9.3)
+    minus : {room : ℕ} (tokens : Tokens) (sign : At Token) (operand : Tree) (d : ℕ) →
+        sign.tok ≡ tok.sign signs.Minus → SpellsIn limit room UNA tokens operand d → d < limit →
+        SpellsIn limit (suc room) UNA (sign ∷ tokens) (negated operand) (d + 1)
+    -- + operand (9.3)
+    plus : {room : ℕ} (tokens : Tokens) (sign : At Token) (operand : Tree) (d : ℕ) →
+        sign.tok ≡ tok.sign signs.Plus → SpellsIn limit room UNA tokens operand d → d < limit →
+        SpellsIn limit (suc room) UNA (sign ∷ tokens) (Plus operand) (d + 1)
+    -- "(" expression ")" (4.2)
+    parens : {room : ℕ} (tokens : Tokens) (opening closing : At Token) (inner : Tree) (d : ℕ) →
+        opening.tok ≡ tok.sign signs.Open → SpellsIn limit room OR tokens inner d → closing.tok ≡ tok.sign signs.Close → d < limit →
+        SpellsIn limit (suc room) PRIM (opening ∷ (tokens ++ closing ∷ [])) inner (d + 1)
+    literal : {room : ℕ} (token : At Token) (leaf : Tree) → IsLeaf token.tok leaf → SpellsIn limit room PRIM (token ∷ []) leaf 0
 
-  -- the items of a list, with commas between them
+  -- value {"," value}
   pub data ItemsIn (limit : ℕ) : ℕ → Tokens → Trees → ℕ → Type 0 where
-    one : {n : ℕ} (ts : Tokens) (e : Tree) (d : ℕ) → SpellsIn limit n OR ts e d → ItemsIn limit n ts (more e none) d
-    next : {n : ℕ} (fs bs : Tokens) (t : At Token) (es : Trees) (e : Tree) (c d : ℕ) → ItemsIn limit n fs es c → t.tok ≡ tok.sign signs.Comma → SpellsIn limit n OR bs e d → ItemsIn limit n (fs ++ t ∷ bs) (push es e) (max c d)
+    one : {room : ℕ} (tokens : Tokens) (value : Tree) (d : ℕ) → SpellsIn limit room OR tokens value d → ItemsIn limit room tokens (more value none) d
+    next : {room : ℕ} (before behind : Tokens) (comma : At Token) (values : Trees) (value : Tree) (c d : ℕ) →
+        ItemsIn limit room before values c → comma.tok ≡ tok.sign signs.Comma → SpellsIn limit room OR behind value d →
+        ItemsIn limit room (before ++ comma ∷ behind) (push values value) (max c d)
 
 -- the same, where no node is deeper than 64
 abbrev pub Spells : ℕ → Level → Tokens → Tree → ℕ → Type 0

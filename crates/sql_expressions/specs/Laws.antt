@@ -24,7 +24,9 @@ pub data Refuses (last : ℕ) : Tokens → Tokens → SqlFault → Type 0 where
   ended : (front : Tokens) → Refuses last front [] (Syntax last)
   misplaced : (front rest : Tokens) (t : At Token) → left_out t.tok ≡ false → Refuses last front (t ∷ rest) (Syntax t.span.start)
   excluded : (front rest : Tokens) (t : At Token) → left_out t.tok ≡ true → Refuses last front (t ∷ rest) (LeftOut t.span.start)
-  called : (before rest : Tokens) (name paren : At Token) (n : List ℕ) → named name.tok ≡ Some n → paren.tok ≡ tok.sign signs.Open → Refuses last (before ++ name ∷ []) (paren ∷ rest) (LeftOut (if is_call name.tok then name.span.start else paren.span.start))
+  called : (before rest : Tokens) (name paren : At Token) (n : List ℕ) →
+      named name.tok ≡ Some n → paren.tok ≡ tok.sign signs.Open →
+      Refuses last (before ++ name ∷ []) (paren ∷ rest) (LeftOut (if is_call name.tok then name.span.start else paren.span.start))
 
 -- a fault of one token that can't be
 abbrev pub IsRefusal : SqlFault → Type 0
@@ -80,4 +82,6 @@ FrontsAreTaken = (last : ℕ) (ts : Tokens) (f : Found) → expr_at last ts ≡ 
 
 -- An expression at the front of the tokens, whatever its depth, is read whole, or is too deep.
 abbrev pub ExpressionsAreRead : Type 0
-ExpressionsAreRead = (last : ℕ) (ts rest : Tokens) → Spelled OR ts → Ends rest → ((e : Tree) × (d : ℕ) × (expr_at last (ts ++ rest) ≡ Ok (record { tree = e; depth = d; rest = rest }))) ⊎ ((place : ℕ) × (expr_at last (ts ++ rest) ≡ Err (TooDeep place)))
+ExpressionsAreRead = (last : ℕ) (ts rest : Tokens) → Spelled OR ts → Ends rest →
+    ((e : Tree) × (d : ℕ) × (expr_at last (ts ++ rest) ≡ Ok (record { tree = e; depth = d; rest = rest })))
+    ⊎ ((place : ℕ) × (expr_at last (ts ++ rest) ≡ Err (TooDeep place)))

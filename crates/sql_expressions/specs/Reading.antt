@@ -15,7 +15,7 @@ use Rattle.sql_trees.specs.declared.expr.Truth.TheVariants as truth
 use Rattle.sql_trees.specs.Words.{is_left_out, is_aggregate, same_word}
 use Rattle.sql_trees.specs.Tokens.{Token, Tokens, named, tok_views}
 use Rattle.sql_trees.specs.Tokens as tok
-use Rattle.sql_trees.specs.Trees.{Tree, Trees, none, more, Null, Flag, Number, Text, Column, Plus, Minus, Not, Binary, Is, In, Between, undoubled, tree_of, trees}
+use Rattle.sql_trees.specs.Trees.{Tree, Trees, none, more, Null, Flag, Number, Text, Column, Plus, Not, Binary, Is, In, Between, undoubled, tree_of, trees}
 use Rattle.sql_expressions.specs.declared.level.Chain.{Chain}
 use Rattle.sql_expressions.specs.declared.level.Chain.TheVariants as chain_of
 use Rattle.sql_expressions.specs.declared.level.Opened.{Opened}

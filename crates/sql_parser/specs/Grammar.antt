@@ -1,4 +1,5 @@
--- The grammar of statements and blocks: which tokens spell which trees (PostgreSQL manual: the pages of the SQL commands). E says which tokens spell an expression.
+-- The grammar of statements and blocks: which tokens spell which trees. Above each rule stands what is kept of the synopsis on the command's page of
+-- PostgreSQL 17's manual; numbers are sections of it. E says which tokens spell an expression.
 use Rattle.std.specs.Prelude.{◌≡◌, ℕ, Bool, true, false, List, [], ◌∷◌, ◌++◌, length, map, Option, Some, None, option_map}
 use Rattle.iso_lexer.specs.declared.token.At.{At}
 use Rattle.sql_trees.specs.declared.word.Word.{Word}
@@ -10,7 +11,8 @@ use Rattle.sql_trees.specs.declared.stmt.Level.{Level}
 use Rattle.sql_trees.specs.declared.stmt.Level.TheVariants.{ReadCommitted, RepeatableRead}
 use Rattle.sql_trees.specs.declared.stmt.Lock.{Lock}
 use Rattle.sql_trees.specs.declared.stmt.Lock.TheVariants as locks
-use Rattle.sql_trees.specs.Statements.{StmtTree, SetTree, ItemTree, OrderTree, Begin, Commit, Rollback, SetTransaction, SetDeadlockTimeout, Create, DropTables, Inserts, Updates, Deletes, Selects, All, Value, Aggregate}
+use Rattle.sql_trees.specs.Statements.{StmtTree, Begin, Commit, Rollback, SetTransaction, SetDeadlockTimeout, Create, DropTables, Inserts, Updates, Deletes, Selects}
+use Rattle.sql_trees.specs.Statements.{SetTree, ItemTree, OrderTree, All, Value, Aggregate}
 use Rattle.sql_trees.specs.Tokens.{Token, Tokens, named}
 use Rattle.sql_trees.specs.Trees.{Tree, AggTree, CountRows, Of}
 use Rattle.sql_expressions.specs.Reading.{is_word, is_open, is_close, is_comma}
@@ -25,65 +27,88 @@ use Rattle.sql_parser.specs.Blocks.{is_semicolon}
 
 -- the token is of this kind
 abbrev pub Is : (Token → Bool) → At Token → Type 0
-Is is_it t = is_it t.tok ≡ true
+Is is_it token = is_it token.tok ≡ true
 
 -- the token is this keyword, in whatever letters
 abbrev pub Key : Word → At Token → Type 0
-Key w t = is_word w t.tok ≡ true
+Key w token = is_word w token.tok ≡ true
 
 -- the token is this name
 abbrev pub Names : List ℕ → At Token → Type 0
-Names n t = named t.tok ≡ Some n
+Names name token = named token.tok ≡ Some name
 
 -- nothing, or one token of this kind
 pub data Perhaps (is_it : Token → Bool) : Tokens → Type 0 where
   nothing : Perhaps is_it []
-  one_is : (t : At Token) → Is is_it t → Perhaps is_it (t ∷ [])
+  one_is : (token : At Token) → Is is_it token → Perhaps is_it (token ∷ [])
 
 -- items with commas between them, of which each adds to what those before it made
 pub data Commas {S : Type 0} (Adds : S → Tokens → S → Type 0) : S → Tokens → S → Type 0 where
-  last_item : (s t : S) (ts : Tokens) → Adds s ts t → Commas Adds s ts t
-  next_item : (s t v : S) (ts us : Tokens) (c : At Token) → Adds s ts t → Is is_comma c → Commas Adds t us v → Commas Adds s (ts ++ c ∷ us) v
+  last_item : (old new : S) (item : Tokens) → Adds old item new → Commas Adds old item new
+  next_item : (old new all : S) (item others : Tokens) (comma : At Token) →
+      Adds old item new → Is is_comma comma → Commas Adds new others all →
+      Commas Adds old (item ++ comma ∷ others) all
 
 -- a name
 pub data NameIs : Tokens → List ℕ → Type 0 where
-  is_name : (t : At Token) (n : List ℕ) → Names n t → NameIs (t ∷ []) n
+  is_name : (token : At Token) (name : List ℕ) → Names name token → NameIs (token ∷ []) name
 
 pub data AddsName : List (List ℕ) → Tokens → List (List ℕ) → Type 0 where
-  adds_name : (ns : List (List ℕ)) (t : At Token) (n : List ℕ) → Names n t → AddsName ns (t ∷ []) (ns ++ n ∷ [])
+  adds_name : (names : List (List ℕ)) (token : At Token) (name : List ℕ) → Names name token → AddsName names (token ∷ []) (names ++ name ∷ [])
 
 -- ---- transactions
 
--- ISOLATION LEVEL (READ UNCOMMITTED | READ COMMITTED | REPEATABLE READ)
+-- transaction_mode: ISOLATION LEVEL (READ UNCOMMITTED | READ COMMITTED | REPEATABLE READ); READ UNCOMMITTED is READ COMMITTED (13.2)
 pub data IsolationIs : Tokens → Level → Type 0 where
-  uncommitted : (i l r u : At Token) → Key words.Isolation i → Key words.Level l → Key words.Read r → Key words.Uncommitted u → IsolationIs (i ∷ l ∷ r ∷ u ∷ []) ReadCommitted
-  committed : (i l r c : At Token) → Key words.Isolation i → Key words.Level l → Key words.Read r → Key words.Committed c → IsolationIs (i ∷ l ∷ r ∷ c ∷ []) ReadCommitted
-  repeatable : (i l p r : At Token) → Key words.Isolation i → Key words.Level l → Key words.Repeatable p → Key words.Read r → IsolationIs (i ∷ l ∷ p ∷ r ∷ []) RepeatableRead
+  uncommitted : (isolation level read uncommitted : At Token) →
+      Key words.Isolation isolation → Key words.Level level → Key words.Read read → Key words.Uncommitted uncommitted →
+      IsolationIs (isolation ∷ level ∷ read ∷ uncommitted ∷ []) ReadCommitted
+  committed : (isolation level read committed : At Token) →
+      Key words.Isolation isolation → Key words.Level level → Key words.Read read → Key words.Committed committed →
+      IsolationIs (isolation ∷ level ∷ read ∷ committed ∷ []) ReadCommitted
+  repeatable : (isolation level repeatable read : At Token) →
+      Key words.Isolation isolation → Key words.Level level → Key words.Repeatable repeatable → Key words.Read read →
+      IsolationIs (isolation ∷ level ∷ repeatable ∷ read ∷ []) RepeatableRead
 
+-- [transaction_mode]
 pub data MaybeLevel : Tokens → Option Level → Type 0 where
   no_level : MaybeLevel [] None
-  a_level : (ts : Tokens) (level : Level) → IsolationIs ts level → MaybeLevel ts (Some level)
+  a_level : (mode : Tokens) (level : Level) → IsolationIs mode level → MaybeLevel mode (Some level)
 
 -- ---- CREATE TABLE
 
 abbrev pub placed : List ℕ → At Token → Placed
-placed n t = record { name = n; place = t.span.start }
+placed name token = record { name = name; place = token.span.start }
 
 pub data AddsColumn : List Placed → Tokens → List Placed → Type 0 where
-  adds_column : (ns : List Placed) (t : At Token) (n : List ℕ) → Names n t → AddsColumn ns (t ∷ []) (ns ++ placed n t ∷ [])
+  adds_column : (columns : List Placed) (token : At Token) (name : List ℕ) →
+      Names name token →
+      AddsColumn columns (token ∷ []) (columns ++ placed name token ∷ [])
 
--- {NOT NULL | PRIMARY KEY | UNIQUE} behind a column
-pub data Says (c : Placed) : Constraints → Tokens → Constraints → Type 0 where
-  no_more : (s : Constraints) → Says c s [] s
-  not_null : (s v : Constraints) (n u : At Token) (ts : Tokens) → Key words.Not n → Key words.Null u → Says c (record { not_null = true; keys = s.keys }) ts v → Says c s (n ∷ u ∷ ts) v
-  primary_key : (s v : Constraints) (p k : At Token) (ts : Tokens) → Key words.Primary p → Key words.Key k → Says c (key_limit true c s) ts v → Says c s (p ∷ k ∷ ts) v
-  unique_key : (s v : Constraints) (u : At Token) (ts : Tokens) → Key words.Unique u → Says c (key_limit false c s) ts v → Says c s (u ∷ ts) v
+-- {column_constraint}: NOT NULL, PRIMARY KEY or UNIQUE, each behind the ones said before
+pub data Says (column : Placed) : Constraints → Tokens → Constraints → Type 0 where
+  no_more : (said : Constraints) → Says column said [] said
+  not_null : (said all : Constraints) (not_word null : At Token) (others : Tokens) →
+      Key words.Not not_word → Key words.Null null → Says column (record { not_null = true; keys = said.keys }) others all →
+      Says column said (not_word ∷ null ∷ others) all
+  primary_key : (said all : Constraints) (primary key : At Token) (others : Tokens) →
+      Key words.Primary primary → Key words.Key key → Says column (key_limit true column said) others all →
+      Says column said (primary ∷ key ∷ others) all
+  unique_key : (said all : Constraints) (unique : At Token) (others : Tokens) →
+      Key words.Unique unique → Says column (key_limit false column said) others all →
+      Says column said (unique ∷ others) all
 
--- name kind {NOT NULL | PRIMARY KEY | UNIQUE} | (PRIMARY KEY | UNIQUE) "(" name {"," name} ")"
+-- column_name data_type {column_constraint} | (PRIMARY KEY | UNIQUE) "(" column_name {"," column_name} ")"
 pub data AddsPart : TableRead → Tokens → TableRead → Type 0 where
-  a_column : (t : TableRead) (n k : At Token) (name : List ℕ) (kind : Kind) (ts : Tokens) (s : Constraints) → Names name n → kind_of k.tok ≡ Some kind → Says (placed name n) (record { not_null = false; keys = t.keys }) ts s → AddsPart t (n ∷ k ∷ ts) (with_column (placed name n) kind s t)
-  a_primary : (t : TableRead) (p k o c : At Token) (ts : Tokens) (columns : List Placed) → Key words.Primary p → Key words.Key k → Is is_open o → Commas AddsColumn [] ts columns → Is is_close c → AddsPart t (p ∷ k ∷ o ∷ (ts ++ c ∷ [])) (with_key true columns t)
-  a_unique : (t : TableRead) (u o c : At Token) (ts : Tokens) (columns : List Placed) → Key words.Unique u → Is is_open o → Commas AddsColumn [] ts columns → Is is_close c → AddsPart t (u ∷ o ∷ (ts ++ c ∷ [])) (with_key false columns t)
+  a_column : (table : TableRead) (column data_type : At Token) (name : List ℕ) (kind : Kind) (constraints : Tokens) (said : Constraints) →
+      Names name column → kind_of data_type.tok ≡ Some kind → Says (placed name column) (record { not_null = false; keys = table.keys }) constraints said →
+      AddsPart table (column ∷ data_type ∷ constraints) (with_column (placed name column) kind said table)
+  a_primary : (table : TableRead) (primary key opening closing : At Token) (list : Tokens) (columns : List Placed) →
+      Key words.Primary primary → Key words.Key key → Is is_open opening → Commas AddsColumn [] list columns → Is is_close closing →
+      AddsPart table (primary ∷ key ∷ opening ∷ (list ++ closing ∷ [])) (with_key true columns table)
+  a_unique : (table : TableRead) (unique opening closing : At Token) (list : Tokens) (columns : List Placed) →
+      Key words.Unique unique → Is is_open opening → Commas AddsColumn [] list columns → Is is_close closing →
+      AddsPart table (unique ∷ opening ∷ (list ++ closing ∷ [])) (with_key false columns table)
 
 -- the table of these columns and keys: a column of a primary key is NOT NULL, and the primary key stands first
 abbrev pub created : List ℕ → TableRead → StmtTree
@@ -92,11 +117,13 @@ created name t = Create (record { name = name; columns = map (completed t.keys) 
 -- ---- INSERT, UPDATE and DELETE
 
 pub data AddsValue (E : Tokens → Tree → Type 0) : List Tree → Tokens → List Tree → Type 0 where
-  adds_value : (es : List Tree) (ts : Tokens) (e : Tree) → E ts e → AddsValue E es ts (es ++ e ∷ [])
+  adds_value : (values : List Tree) (expression : Tokens) (value : Tree) → E expression value → AddsValue E values expression (values ++ value ∷ [])
 
--- "(" expr {"," expr} ")"
+-- "(" expression {"," expression} ")"
 pub data RowIs (E : Tokens → Tree → Type 0) : Tokens → List Tree → Type 0 where
-  is_row : (o c : At Token) (ts : Tokens) (es : List Tree) → Is is_open o → Commas (AddsValue E) [] ts es → Is is_close c → RowIs E (o ∷ (ts ++ c ∷ [])) es
+  is_row : (opening closing : At Token) (list : Tokens) (values : List Tree) →
+      Is is_open opening → Commas (AddsValue E) [] list values → Is is_close closing →
+      RowIs E (opening ∷ (list ++ closing ∷ [])) values
 
 abbrev pub with_row : Rows → List Tree → Rows
 with_row s es = record { rows = s.rows ++ es ∷ []; width = Some (length es) }
@@ -106,127 +133,175 @@ abbrev pub no_rows : Option (List (List ℕ)) → Rows
 no_rows columns = record { rows = []; width = option_map length columns }
 
 pub data AddsRow (E : Tokens → Tree → Type 0) : Rows → Tokens → Rows → Type 0 where
-  adds_row : (s : Rows) (ts : Tokens) (es : List Tree) → RowIs E ts es → AddsRow E s ts (with_row s es)
+  adds_row : (rows : Rows) (row : Tokens) (values : List Tree) → RowIs E row values → AddsRow E rows row (with_row rows values)
 
--- ["(" name {"," name} ")"]
+-- ["(" column_name {"," column_name} ")"]
 pub data ColumnsAre : Tokens → Option (List (List ℕ)) → Type 0 where
   unlisted : ColumnsAre [] None
-  listed_columns : (o c : At Token) (ts : Tokens) (ns : List (List ℕ)) → Is is_open o → Commas AddsName [] ts ns → Is is_close c → ColumnsAre (o ∷ (ts ++ c ∷ [])) (Some ns)
+  listed_columns : (opening closing : At Token) (list : Tokens) (names : List (List ℕ)) →
+      Is is_open opening → Commas AddsName [] list names → Is is_close closing →
+      ColumnsAre (opening ∷ (list ++ closing ∷ [])) (Some names)
 
--- name "=" expr
+-- column_name "=" expression
 pub data AddsSet (E : Tokens → Tree → Type 0) : List SetTree → Tokens → List SetTree → Type 0 where
-  adds_set : (ss : List SetTree) (n q : At Token) (name : List ℕ) (ts : Tokens) (e : Tree) → Names name n → Is is_equal q → E ts e → AddsSet E ss (n ∷ q ∷ ts) (ss ++ (record { column = name; value = e }) ∷ [])
+  adds_set : (sets : List SetTree) (column equals : At Token) (name : List ℕ) (expression : Tokens) (value : Tree) →
+      Names name column → Is is_equal equals → E expression value →
+      AddsSet E sets (column ∷ equals ∷ expression) (sets ++ (record { column = name; value = value }) ∷ [])
 
--- [WHERE expr]
+-- [WHERE condition]
 pub data WhereIs (E : Tokens → Tree → Type 0) : Tokens → Option Tree → Type 0 where
   unfiltered : WhereIs E [] None
-  filtered : (w : At Token) (ts : Tokens) (e : Tree) → Key words.Where w → E ts e → WhereIs E (w ∷ ts) (Some e)
+  filtered : (where_word : At Token) (condition : Tokens) (filter : Tree) →
+      Key words.Where where_word → E condition filter →
+      WhereIs E (where_word ∷ condition) (Some filter)
 
 -- ---- SELECT
 
--- [[AS] name]
+-- [[AS] output_name]
 pub data AliasIs : Tokens → Option (List ℕ) → Type 0 where
   no_alias : AliasIs [] None
-  as_alias : (a t : At Token) (n : List ℕ) → Key words.As a → Names n t → AliasIs (a ∷ t ∷ []) (Some n)
-  bare_alias : (t : At Token) (n : List ℕ) → Names n t → AliasIs (t ∷ []) (Some n)
+  as_alias : (as_word token : At Token) (name : List ℕ) → Key words.As as_word → Names name token → AliasIs (as_word ∷ token ∷ []) (Some name)
+  bare_alias : (token : At Token) (name : List ℕ) → Names name token → AliasIs (token ∷ []) (Some name)
 
--- COUNT "(" "*" ")" | (COUNT | SUM | MIN | MAX) "(" expr ")"
+-- COUNT "(" "*" ")" | (COUNT | SUM | MIN | MAX) "(" expression ")" (4.2.7)
 pub data AggIs (E : Tokens → Tree → Type 0) : Tokens → AggTree → Type 0 where
-  all_rows : (k o s c : At Token) → agg_kind k.tok ≡ Some aggs.Count → Is is_open o → Is is_star s → Is is_close c → AggIs E (k ∷ o ∷ s ∷ c ∷ []) CountRows
-  of_values : (k o c : At Token) (kind : AggKind) (ts : Tokens) (e : Tree) → agg_kind k.tok ≡ Some kind → Is is_open o → E ts e → Is is_close c → AggIs E (k ∷ o ∷ (ts ++ c ∷ [])) (Of kind e)
+  all_rows : (count opening star closing : At Token) →
+      agg_kind count.tok ≡ Some aggs.Count → Is is_open opening → Is is_star star → Is is_close closing →
+      AggIs E (count ∷ opening ∷ star ∷ closing ∷ []) CountRows
+  of_values : (aggregate opening closing : At Token) (kind : AggKind) (expression : Tokens) (value : Tree) →
+      agg_kind aggregate.tok ≡ Some kind → Is is_open opening → E expression value → Is is_close closing →
+      AggIs E (aggregate ∷ opening ∷ (expression ++ closing ∷ [])) (Of kind value)
 
--- "*" | (expr | agg) [[AS] name]
+-- "*" | (expression | aggregate) [[AS] output_name]
 pub data AddsItem (E : Tokens → Tree → Type 0) : List ItemTree → Tokens → List ItemTree → Type 0 where
-  a_star : (is : List ItemTree) (s : At Token) → Is is_star s → AddsItem E is (s ∷ []) (is ++ All ∷ [])
-  a_value : (is : List ItemTree) (ts us : Tokens) (e : Tree) (n : Option (List ℕ)) → E ts e → AliasIs us n → AddsItem E is (ts ++ us) (is ++ Value e n ∷ [])
-  an_aggregate : (is : List ItemTree) (ts us : Tokens) (a : AggTree) (n : Option (List ℕ)) → AggIs E ts a → AliasIs us n → AddsItem E is (ts ++ us) (is ++ Aggregate a n ∷ [])
+  a_star : (items : List ItemTree) (star : At Token) → Is is_star star → AddsItem E items (star ∷ []) (items ++ All ∷ [])
+  a_value : (items : List ItemTree) (expression alias : Tokens) (value : Tree) (name : Option (List ℕ)) →
+      E expression value → AliasIs alias name →
+      AddsItem E items (expression ++ alias) (items ++ Value value name ∷ [])
+  an_aggregate : (items : List ItemTree) (call alias : Tokens) (aggregate : AggTree) (name : Option (List ℕ)) →
+      AggIs E call aggregate → AliasIs alias name →
+      AddsItem E items (call ++ alias) (items ++ Aggregate aggregate name ∷ [])
 
--- [FROM name]
+-- [FROM table_name]
 pub data FromIs : Tokens → Option (List ℕ) → Type 0 where
   no_table : FromIs [] None
-  from_table : (f t : At Token) (n : List ℕ) → Key words.From f → Names n t → FromIs (f ∷ t ∷ []) (Some n)
+  from_table : (from token : At Token) (name : List ℕ) → Key words.From from → Names name token → FromIs (from ∷ token ∷ []) (Some name)
 
 -- [ASC | DESC]: whether sorting goes down
 pub data DirectionIs : Tokens → Bool → Type 0 where
   as_ever : DirectionIs [] false
-  ascending : (a : At Token) → Key words.Asc a → DirectionIs (a ∷ []) false
-  descending : (d : At Token) → Key words.Desc d → DirectionIs (d ∷ []) true
+  ascending : (asc : At Token) → Key words.Asc asc → DirectionIs (asc ∷ []) false
+  descending : (desc : At Token) → Key words.Desc desc → DirectionIs (desc ∷ []) true
 
 -- [NULLS (FIRST | LAST)]: whether NULL comes first, as it does where sorting goes down and nothing is said
 pub data NullsAre (down : Bool) : Tokens → Bool → Type 0 where
   unsaid : NullsAre down [] down
-  nulls_first : (n f : At Token) → Key words.Nulls n → Key words.First f → NullsAre down (n ∷ f ∷ []) true
-  nulls_last : (n l : At Token) → Key words.Nulls n → Key words.Last l → NullsAre down (n ∷ l ∷ []) false
+  nulls_first : (nulls first : At Token) → Key words.Nulls nulls → Key words.First first → NullsAre down (nulls ∷ first ∷ []) true
+  nulls_last : (nulls last : At Token) → Key words.Nulls nulls → Key words.Last last → NullsAre down (nulls ∷ last ∷ []) false
 
--- expr [ASC | DESC] [NULLS (FIRST | LAST)]
+-- expression [ASC | DESC] [NULLS (FIRST | LAST)] (7.5)
 pub data AddsKey (E : Tokens → Tree → Type 0) : List OrderTree → Tokens → List OrderTree → Type 0 where
-  adds_key : (ks : List OrderTree) (ts ds ns : Tokens) (e : Tree) (desc first : Bool) → E ts e → DirectionIs ds desc → NullsAre desc ns first → AddsKey E ks (ts ++ (ds ++ ns)) (ks ++ (record { expr = e; dir = record { desc = desc; nulls_first = first } }) ∷ [])
+  adds_key : (keys : List OrderTree) (expression direction nulls : Tokens) (value : Tree) (desc nulls_first : Bool) →
+      E expression value → DirectionIs direction desc → NullsAre desc nulls nulls_first →
+      AddsKey E keys (expression ++ (direction ++ nulls)) (keys ++ (record { expr = value; dir = record { desc = desc; nulls_first = nulls_first } }) ∷ [])
 
--- [ORDER BY key {"," key}]
+-- [ORDER BY sort_key {"," sort_key}]
 pub data OrderIs (E : Tokens → Tree → Type 0) : Tokens → List OrderTree → Type 0 where
   unordered : OrderIs E [] []
-  ordered : (o b : At Token) (ts : Tokens) (ks : List OrderTree) → Key words.Order o → Key words.By b → Commas (AddsKey E) [] ts ks → OrderIs E (o ∷ b ∷ ts) ks
+  ordered : (order by : At Token) (list : Tokens) (keys : List OrderTree) →
+      Key words.Order order → Key words.By by → Commas (AddsKey E) [] list keys →
+      OrderIs E (order ∷ by ∷ list) keys
 
--- [FOR (UPDATE | SHARE)]
+-- [FOR (UPDATE | SHARE)] (13.3.2)
 pub data LockIs : Tokens → Option Lock → Type 0 where
   no_lock : LockIs [] None
-  for_update : (f u : At Token) → Key words.For f → Key words.Update u → LockIs (f ∷ u ∷ []) (Some locks.Update)
-  for_share : (f s : At Token) → Key words.For f → Key words.Share s → LockIs (f ∷ s ∷ []) (Some locks.Share)
+  for_update : (for_word update : At Token) → Key words.For for_word → Key words.Update update → LockIs (for_word ∷ update ∷ []) (Some locks.Update)
+  for_share : (for_word share : At Token) → Key words.For for_word → Key words.Share share → LockIs (for_word ∷ share ∷ []) (Some locks.Share)
 
 -- ---- statements
 
 pub data Spells (E : Tokens → Tree → Type 0) : Tokens → StmtTree → Type 0 where
-  -- BEGIN [WORK | TRANSACTION] [iso]
-  begin : (b : At Token) (ws is : Tokens) (level : Option Level) → Key words.Begin b → Perhaps is_work ws → MaybeLevel is level → Spells E (b ∷ (ws ++ is)) (Begin level)
-  -- START TRANSACTION [iso]
-  start : (s t : At Token) (is : Tokens) (level : Option Level) → Key words.Start s → Key words.Transaction t → MaybeLevel is level → Spells E (s ∷ t ∷ is) (Begin level)
+  -- BEGIN [WORK | TRANSACTION] [transaction_mode]
+  begin : (begin_word : At Token) (work mode : Tokens) (level : Option Level) →
+      Key words.Begin begin_word → Perhaps is_work work → MaybeLevel mode level →
+      Spells E (begin_word ∷ (work ++ mode)) (Begin level)
+  -- START TRANSACTION [transaction_mode]
+  start : (start_word transaction : At Token) (mode : Tokens) (level : Option Level) →
+      Key words.Start start_word → Key words.Transaction transaction → MaybeLevel mode level →
+      Spells E (start_word ∷ transaction ∷ mode) (Begin level)
   -- (COMMIT | END) [WORK | TRANSACTION]
-  commit : (c : At Token) (ws : Tokens) → Key words.Commit c → Perhaps is_work ws → Spells E (c ∷ ws) Commit
-  end : (e : At Token) (ws : Tokens) → Key words.End e → Perhaps is_work ws → Spells E (e ∷ ws) Commit
+  commit : (word : At Token) (work : Tokens) → Key words.Commit word → Perhaps is_work work → Spells E (word ∷ work) Commit
+  end : (word : At Token) (work : Tokens) → Key words.End word → Perhaps is_work work → Spells E (word ∷ work) Commit
   -- (ROLLBACK | ABORT) [WORK | TRANSACTION]
-  rollback : (r : At Token) (ws : Tokens) → Key words.Rollback r → Perhaps is_work ws → Spells E (r ∷ ws) Rollback
-  abort : (a : At Token) (ws : Tokens) → Key words.Abort a → Perhaps is_work ws → Spells E (a ∷ ws) Rollback
-  -- SET TRANSACTION iso
-  set_transaction : (s t : At Token) (is : Tokens) (level : Level) → Key words.Set s → Key words.Transaction t → IsolationIs is level → Spells E (s ∷ t ∷ is) (SetTransaction level)
-  -- SET [SESSION | LOCAL] deadlock_timeout (= | TO) (number | string)
-  set_timeout : (s d q v : At Token) (ws : Tokens) → Key words.Set s → Perhaps is_scope ws → Key words.DeadlockTimeout d → Is is_to q → Is is_setting v → Spells E (s ∷ (ws ++ d ∷ q ∷ v ∷ [])) SetDeadlockTimeout
-  -- CREATE TABLE name "(" item {"," item} ")"
-  create : (c t n o z : At Token) (name : List ℕ) (ts : Tokens) (parts : TableRead) → Key words.Create c → Key words.Table t → Names name n → Is is_open o → Commas AddsPart empty_table ts parts → Is is_close z → Spells E (c ∷ t ∷ n ∷ o ∷ (ts ++ z ∷ [])) (created name parts)
+  rollback : (word : At Token) (work : Tokens) → Key words.Rollback word → Perhaps is_work work → Spells E (word ∷ work) Rollback
+  abort : (word : At Token) (work : Tokens) → Key words.Abort word → Perhaps is_work work → Spells E (word ∷ work) Rollback
+  -- SET TRANSACTION transaction_mode
+  set_transaction : (set_word transaction : At Token) (mode : Tokens) (level : Level) →
+      Key words.Set set_word → Key words.Transaction transaction → IsolationIs mode level →
+      Spells E (set_word ∷ transaction ∷ mode) (SetTransaction level)
+  -- SET [SESSION | LOCAL] deadlock_timeout (TO | "=") (number | string) (19.12)
+  set_timeout : (set_word timeout to setting : At Token) (scope : Tokens) →
+      Key words.Set set_word → Perhaps is_scope scope → Key words.DeadlockTimeout timeout → Is is_to to → Is is_setting setting →
+      Spells E (set_word ∷ (scope ++ timeout ∷ to ∷ setting ∷ [])) SetDeadlockTimeout
+  -- CREATE TABLE table_name "(" part {"," part} ")"
+  create : (create_word table token opening closing : At Token) (name : List ℕ) (list : Tokens) (parts : TableRead) →
+      Key words.Create create_word → Key words.Table table → Names name token → Is is_open opening → Commas AddsPart empty_table list parts → Is is_close closing →
+      Spells E (create_word ∷ table ∷ token ∷ opening ∷ (list ++ closing ∷ [])) (created name parts)
   -- DROP TABLE [IF EXISTS] name {"," name}
-  drop : (d t : At Token) (ts : Tokens) (ns : List (List ℕ)) → Key words.Drop d → Key words.Table t → Commas AddsName [] ts ns → Spells E (d ∷ t ∷ ts) (DropTables (record { if_exists = false; names = ns }))
-  drop_if : (d t i e : At Token) (ts : Tokens) (ns : List (List ℕ)) → Key words.Drop d → Key words.Table t → Key words.If i → Key words.Exists e → Commas AddsName [] ts ns → Spells E (d ∷ t ∷ i ∷ e ∷ ts) (DropTables (record { if_exists = true; names = ns }))
-  -- INSERT INTO name ["(" name {"," name} ")"] VALUES row {"," row}
-  insert : (i o n v : At Token) (name : List ℕ) (cs ts : Tokens) (columns : Option (List (List ℕ))) (rows : Rows) → Key words.Insert i → Key words.Into o → Names name n → ColumnsAre cs columns → Key words.Values v → Commas (AddsRow E) (no_rows columns) ts rows → Spells E (i ∷ o ∷ n ∷ (cs ++ v ∷ ts)) (Inserts (record { table = name; columns = columns; rows = rows.rows }))
-  -- UPDATE name SET name "=" expr {"," name "=" expr} [WHERE expr]
-  update : (u n s : At Token) (name : List ℕ) (ts ws : Tokens) (sets : List SetTree) (filter : Option Tree) → Key words.Update u → Names name n → Key words.Set s → Commas (AddsSet E) [] ts sets → WhereIs E ws filter → Spells E (u ∷ n ∷ s ∷ (ts ++ ws)) (Updates (record { table = name; sets = sets; filter = filter }))
-  -- DELETE FROM name [WHERE expr]
-  delete : (d f n : At Token) (name : List ℕ) (ws : Tokens) (filter : Option Tree) → Key words.Delete d → Key words.From f → Names name n → WhereIs E ws filter → Spells E (d ∷ f ∷ n ∷ ws) (Deletes (record { table = name; filter = filter }))
-  -- SELECT out {"," out} [FROM name] [WHERE expr] [ORDER BY key {"," key}] [FOR (UPDATE | SHARE)]
-  select : (s : At Token) (is fs ws os ls : Tokens) (items : List ItemTree) (table : Option (List ℕ)) (filter : Option Tree) (order : List OrderTree) (lock : Option Lock) → Key words.Select s → Commas (AddsItem E) [] is items → FromIs fs table → WhereIs E ws filter → OrderIs E os order → LockIs ls lock → Spells E (s ∷ (is ++ (fs ++ (ws ++ (os ++ ls))))) (Selects (record { items = items; table = table; filter = filter; order = order; lock = lock }))
+  drop : (drop_word table : At Token) (list : Tokens) (names : List (List ℕ)) →
+      Key words.Drop drop_word → Key words.Table table → Commas AddsName [] list names →
+      Spells E (drop_word ∷ table ∷ list) (DropTables (record { if_exists = false; names = names }))
+  drop_if : (drop_word table if_word exists : At Token) (list : Tokens) (names : List (List ℕ)) →
+      Key words.Drop drop_word → Key words.Table table → Key words.If if_word → Key words.Exists exists → Commas AddsName [] list names →
+      Spells E (drop_word ∷ table ∷ if_word ∷ exists ∷ list) (DropTables (record { if_exists = true; names = names }))
+  -- INSERT INTO table_name ["(" column_name {"," column_name} ")"] VALUES row {"," row}
+  insert : (insert_word into token values : At Token) (table : List ℕ) (listed list : Tokens) (columns : Option (List (List ℕ))) (rows : Rows) →
+      Key words.Insert insert_word → Key words.Into into → Names table token → ColumnsAre listed columns → Key words.Values values →
+      Commas (AddsRow E) (no_rows columns) list rows →
+      Spells E (insert_word ∷ into ∷ token ∷ (listed ++ values ∷ list)) (Inserts (record { table = table; columns = columns; rows = rows.rows }))
+  -- UPDATE table_name SET column_name "=" expression {"," column_name "=" expression} [WHERE condition]
+  update : (update_word token set_word : At Token) (table : List ℕ) (list where_part : Tokens) (sets : List SetTree) (filter : Option Tree) →
+      Key words.Update update_word → Names table token → Key words.Set set_word → Commas (AddsSet E) [] list sets → WhereIs E where_part filter →
+      Spells E (update_word ∷ token ∷ set_word ∷ (list ++ where_part)) (Updates (record { table = table; sets = sets; filter = filter }))
+  -- DELETE FROM table_name [WHERE condition]
+  delete : (delete_word from token : At Token) (table : List ℕ) (where_part : Tokens) (filter : Option Tree) →
+      Key words.Delete delete_word → Key words.From from → Names table token → WhereIs E where_part filter →
+      Spells E (delete_word ∷ from ∷ token ∷ where_part) (Deletes (record { table = table; filter = filter }))
+  -- SELECT item {"," item} [FROM table_name] [WHERE condition] [ORDER BY sort_key {"," sort_key}] [FOR (UPDATE | SHARE)]
+  select : (select_word : At Token) (list from_part where_part order_part lock_part : Tokens)
+      (items : List ItemTree) (table : Option (List ℕ)) (filter : Option Tree) (order : List OrderTree) (lock : Option Lock) →
+      Key words.Select select_word → Commas (AddsItem E) [] list items →
+      FromIs from_part table → WhereIs E where_part filter → OrderIs E order_part order → LockIs lock_part lock →
+      Spells E (select_word ∷ (list ++ (from_part ++ (where_part ++ (order_part ++ lock_part)))))
+      (Selects (record { items = items; table = table; filter = filter; order = order; lock = lock }))
 
 -- ---- blocks
 
--- [stmt]
+-- [statement]
 pub data PieceIs (E : Tokens → Tree → Type 0) : Tokens → List StmtTree → Type 0 where
   no_stmt : PieceIs E [] []
-  a_stmt : (ts : Tokens) (s : StmtTree) → Spells E ts s → PieceIs E ts (s ∷ [])
+  a_stmt : (tokens : Tokens) (statement : StmtTree) → Spells E tokens statement → PieceIs E tokens (statement ∷ [])
 
--- [stmt] {";" [stmt]}
+-- [statement] {";" [statement]}
 pub data BlockIs (E : Tokens → Tree → Type 0) : Tokens → List StmtTree → Type 0 where
-  last_piece : (ts : Tokens) (ss : List StmtTree) → PieceIs E ts ss → BlockIs E ts ss
-  next_piece : (ts us : Tokens) (ss rs : List StmtTree) (c : At Token) → PieceIs E ts ss → Is is_semicolon c → BlockIs E us rs → BlockIs E (ts ++ c ∷ us) (ss ++ rs)
+  last_piece : (piece : Tokens) (statements : List StmtTree) → PieceIs E piece statements → BlockIs E piece statements
+  next_piece : (piece behind : Tokens) (statements others : List StmtTree) (semicolon : At Token) →
+      PieceIs E piece statements → Is is_semicolon semicolon → BlockIs E behind others →
+      BlockIs E (piece ++ semicolon ∷ behind) (statements ++ others)
 
--- {[stmt] ";"}: statements with a semicolon behind each
+-- {[statement] ";"}: statements with a semicolon behind each
 pub data EndedAre (E : Tokens → Tree → Type 0) : Tokens → List StmtTree → Type 0 where
   no_pieces : EndedAre E [] []
-  ended_piece : (ts us : Tokens) (ss rs : List StmtTree) (c : At Token) → PieceIs E ts ss → Is is_semicolon c → EndedAre E us rs → EndedAre E (ts ++ c ∷ us) (ss ++ rs)
+  ended_piece : (piece behind : Tokens) (statements others : List StmtTree) (semicolon : At Token) →
+      PieceIs E piece statements → Is is_semicolon semicolon → EndedAre E behind others →
+      EndedAre E (piece ++ semicolon ∷ behind) (statements ++ others)
 
 -- ---- expressions
 
 -- the tokens spell the expression, no deeper than 64 and with no more than 64 openings within one another
 abbrev pub Shallow : Tokens → Tree → Type 0
-Shallow ts e = (d : ℕ) × SpellsIn 64 64 OR ts e d
+Shallow tokens tree = (depth : ℕ) × SpellsIn 64 64 OR tokens tree depth
 
 -- the tokens spell the expression, whatever its depth
 abbrev pub OfAnyDepth : Tokens → Tree → Type 0
-OfAnyDepth ts e = (limit room d : ℕ) × SpellsIn limit room OR ts e d
+OfAnyDepth tokens tree = (limit room depth : ℕ) × SpellsIn limit room OR tokens tree depth

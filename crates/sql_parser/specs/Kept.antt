@@ -2,7 +2,8 @@
 use Rattle.std.specs.Prelude.{ℕ, suc, ◌^◌, max, nat_lt, ◌==◌, Bool, true, false, not, ◌&&◌, List, [], ◌∷◌, length, map, get_or, bytes_eq, Option, Some, None, option_map}
 use Rattle.std.specs.List.{list_any, list_all}
 use Rattle.sql_trees.specs.Trees.{Tree, Trees, none, more, Plus, Minus, Not, Binary, Is, In, Between, CountRows, Of}
-use Rattle.sql_trees.specs.Statements.{StmtTree, Create, Inserts, Updates, Deletes, Selects, CreateTree, InsertTree, UpdateTree, SelectTree, KeyTree, ItemTree, All, Value, Aggregate, DropTables, key_name}
+use Rattle.sql_trees.specs.Statements.{StmtTree, Create, DropTables, Inserts, Updates, Deletes, Selects, CreateTree, InsertTree, UpdateTree, SelectTree}
+use Rattle.sql_trees.specs.Statements.{KeyTree, ItemTree, All, Value, Aggregate, key_name}
 use Rattle.sql_parser.specs.declared.block.Role.{Role}
 use Rattle.sql_parser.specs.Blocks.{is_session}
 use Rattle.sql_parser.specs.Tables.{column_names}

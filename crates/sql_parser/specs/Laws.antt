@@ -18,7 +18,8 @@ use Rattle.sql_parser.specs.Stops.{Refuses, WantsWords, IsStop}
 
 -- The tokens are read as these statements exactly where they spell them, there are 256 at most, and each is one that a block keeps.
 abbrev pub BlocksAreRead : Type 0
-BlocksAreRead = (last : ℕ) (role : Role) (ts : Tokens) (ss : List StmtTree) → length ts < 2 ^ 32 → (block_at last role ts ≡ Ok ss) ↔ (BlockIs Shallow ts ss × (length ss ≤ 256) × (list_all (is_kept_in role) ss ≡ true))
+BlocksAreRead = (last : ℕ) (role : Role) (ts : Tokens) (ss : List StmtTree) → length ts < 2 ^ 32 →
+    (block_at last role ts ≡ Ok ss) ↔ (BlockIs Shallow ts ss × (length ss ≤ 256) × (list_all (is_kept_in role) ss ≡ true))
 
 -- some statement begins with these tokens, whatever its depth and its names
 abbrev pub BeginsStatement : Tokens → Type 0
@@ -38,15 +39,20 @@ pub record StopsFirst (last : ℕ) (role : Role) (ts : Tokens) (f : SqlFault) : 
 -- What is no fault of one token: at its SELECT that of a whole query whose parts don't go together, and that of the keys of a whole table, at the first name
 -- or key that is wrong.
 pub data Excepted (last : ℕ) (ts : Tokens) (f : SqlFault) : Type 0 where
-  whole_query : (s : At Token) (us : Tokens) (q : SelectTree) → ts ≡ s ∷ us → f ≡ LeftOut s.span.start → is_allowed q ≡ false → Spells OfAnyDepth ts (Selects q) → Excepted last ts f
-  whole_table : (name : List ℕ) (t : TableRead) (n : ℕ) → f ≡ BadColumns n → keys_fault name (column_names t.columns) [] t.keys ≡ Some n → Spells OfAnyDepth ts (created name t) → Excepted last ts f
+  whole_query : (select : At Token) (behind : Tokens) (query : SelectTree) →
+      ts ≡ select ∷ behind → f ≡ LeftOut select.span.start → is_allowed query ≡ false → Spells OfAnyDepth ts (Selects query) →
+      Excepted last ts f
+  whole_table : (name : List ℕ) (table : TableRead) (place : ℕ) →
+      f ≡ BadColumns place → keys_fault name (column_names table.columns) [] table.keys ≡ Some place → Spells OfAnyDepth ts (created name table) →
+      Excepted last ts f
 
 -- Where a statement is refused: at the first token that can't stand there, or as the exceptions say.
 pub data Stops (last : ℕ) (role : Role) (ts : Tokens) (f : SqlFault) : Type 0 where
   at_token : StopsFirst last role ts f → Stops last role ts f
   elsewhere : Excepted last ts f → Stops last role ts f
 
--- A statement that is refused as Syntax, LeftOut, TooDeep or BadColumns is refused at its first fault. last is the text's length, or where the next semicolon stands.
+-- A statement that is refused as Syntax, LeftOut, TooDeep or BadColumns is refused at its first fault. last is the text's length, or where the next
+-- semicolon stands.
 abbrev pub FaultsAreFirst : Type 0
 FaultsAreFirst = (last : ℕ) (role : Role) (ts : Tokens) (f : SqlFault) → IsStop f → whole_at last role ts ≡ Err f → Stops last role ts f
 
@@ -56,9 +62,11 @@ pub record BlockStopsFirst (last : ℕ) (role : Role) (ts : Tokens) (f : SqlFaul
   pub front : Tokens
   pub rest : Tokens
   pub split : ts ≡ front ++ rest
-  pub refuses : (before here : Tokens) × (ended : List StmtTree) × (front ≡ before ++ here) × EndedAre OfAnyDepth before ended × Refuses last OfAnyDepth (WantsWords (here ++ rest)) BeginsStatement here rest f
+  pub refuses : (before here : Tokens) × (ended : List StmtTree) × (front ≡ before ++ here) × EndedAre OfAnyDepth before ended
+      × Refuses last OfAnyDepth (WantsWords (here ++ rest)) BeginsStatement here rest f
   pub begins : (more : Tokens) × (ss : List StmtTree) × BlockIs OfAnyDepth (front ++ more) ss
-  pub none : (n : ℕ) (others : Tokens) (ss : List StmtTree) → head others ≡ head rest → length (front ++ others) < 2 ^ 32 → block_at n role (front ++ others) ≡ Ok ss → ⊥
+  pub none : (n : ℕ) (others : Tokens) (ss : List StmtTree) → head others ≡ head rest → length (front ++ others) < 2 ^ 32 →
+      block_at n role (front ++ others) ≡ Ok ss → ⊥
 
 pub data BlockStops (last : ℕ) (role : Role) (ts : Tokens) (f : SqlFault) : Type 0 where
   at_block_token : BlockStopsFirst last role ts f → BlockStops last role ts f
@@ -92,4 +100,5 @@ pub record BeginsOneMore (role : Role) (ts : Tokens) (place : ℕ) : Type 0 wher
 
 -- A block is refused as TooMany exactly there.
 abbrev pub TooManyIsRefused : Type 0
-TooManyIsRefused = (last place : ℕ) (role : Role) (ts : Tokens) → length ts < 2 ^ 32 → (block_at last role ts ≡ Err (TooMany place)) ↔ BeginsOneMore role ts place
+TooManyIsRefused = (last place : ℕ) (role : Role) (ts : Tokens) → length ts < 2 ^ 32 →
+    (block_at last role ts ≡ Err (TooMany place)) ↔ BeginsOneMore role ts place

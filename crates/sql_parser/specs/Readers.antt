@@ -39,7 +39,9 @@ items_at add s ts = do
 -- What a list read by calls is: an item that a call added, and more behind a comma, or the fault of the first call that answered one.
 pub data Listed {S : Type 0} (adds : S → Tokens → Result (S × Tokens) SqlFault → Type 0) : S → Tokens → Result (S × Tokens) SqlFault → Type 0 where
   ends : {s t : S} {ts rest : Tokens} {answer : Result (S × Tokens) SqlFault} → adds s ts (Ok (t, rest)) → after_comma rest ≡ None → answer ≡ Ok (t, rest) → Listed adds s ts answer
-  goes_on : {s t : S} {ts rest us : Tokens} {answer : Result (S × Tokens) SqlFault} → adds s ts (Ok (t, rest)) → length rest ≤ length ts → after_comma rest ≡ Some us → Listed adds t us answer → Listed adds s ts answer
+  goes_on : {s t : S} {ts rest us : Tokens} {answer : Result (S × Tokens) SqlFault} →
+      adds s ts (Ok (t, rest)) → length rest ≤ length ts → after_comma rest ≡ Some us → Listed adds t us answer →
+      Listed adds s ts answer
   stops : {s : S} {ts : Tokens} {f : SqlFault} {answer : Result (S × Tokens) SqlFault} → adds s ts (Err f) → answer ≡ Err f → Listed adds s ts answer
 
 -- ---- with the text's length

@@ -1,162 +1,61 @@
 -- The words of SQL, in lower case, each with what it is to the grammar; synonyms are one.
-use Rattle.std.specs.Prelude.{ℕ, List, [], ◌∷◌, codes}
+use Rattle.std.specs.Prelude.{ℕ, List, [], ◌∷◌, ◌++◌, ◌==◌, map, codes, if◌then◌else◌}
 use Rattle.sql_trees.specs.declared.word.Word.{Word}
 use Rattle.sql_trees.specs.declared.word.Word.TheVariants as words
 
+-- the words of a line, between its spaces
+abbrev pub words_behind : List ℕ → List ℕ → List (List ℕ)
+words_behind word [] = word ∷ []
+words_behind word (c ∷ cs) = if c == 32 then word ∷ words_behind [] cs else words_behind (word ++ c ∷ []) cs
+
+abbrev pub words_of : List ℕ → List (List ℕ)
+words_of line = words_behind [] line
+
+-- each word of a line, as this one
+abbrev pub each : Word → List ℕ → List (List ℕ × Word)
+each w line = map (λ text. (text, w)) (words_of line)
+
 unfoldable pub keywords : List (List ℕ × Word)
 keywords =
-    (codes "abort", words.Abort) ∷
-    (codes "all", words.Excluded) ∷
-    (codes "alter", words.LeftOut) ∷
-    (codes "and", words.And) ∷
-    (codes "any", words.Excluded) ∷
-    (codes "as", words.As) ∷
-    (codes "asc", words.Asc) ∷
-    (codes "begin", words.Begin) ∷
-    (codes "between", words.Between) ∷
-    (codes "bigint", words.Bigint) ∷
-    (codes "bool", words.Boolean) ∷
-    (codes "boolean", words.Boolean) ∷
-    (codes "by", words.By) ∷
-    (codes "case", words.Excluded) ∷
-    (codes "cast", words.Excluded) ∷
-    (codes "check", words.Excluded) ∷
-    (codes "collate", words.Excluded) ∷
-    (codes "commit", words.Commit) ∷
-    (codes "committed", words.Committed) ∷
-    (codes "constraint", words.Excluded) ∷
-    (codes "copy", words.LeftOut) ∷
-    (codes "count", words.Count) ∷
-    (codes "create", words.Create) ∷
-    (codes "cross", words.Excluded) ∷
-    (codes "deadlock_timeout", words.DeadlockTimeout) ∷
-    (codes "default", words.Excluded) ∷
-    (codes "deferrable", words.LeftOut) ∷
-    (codes "delete", words.Delete) ∷
-    (codes "desc", words.Desc) ∷
-    (codes "distinct", words.Excluded) ∷
-    (codes "drop", words.Drop) ∷
-    (codes "else", words.Excluded) ∷
-    (codes "end", words.End) ∷
-    (codes "except", words.Excluded) ∷
-    (codes "execute", words.LeftOut) ∷
-    (codes "exists", words.Exists) ∷
-    (codes "explain", words.LeftOut) ∷
-    (codes "false", words.False) ∷
-    (codes "fetch", words.Excluded) ∷
-    (codes "first", words.First) ∷
-    (codes "for", words.For) ∷
-    (codes "foreign", words.Excluded) ∷
-    (codes "from", words.From) ∷
-    (codes "full", words.Excluded) ∷
-    (codes "group", words.Excluded) ∷
-    (codes "having", words.Excluded) ∷
-    (codes "if", words.If) ∷
-    (codes "ilike", words.Excluded) ∷
-    (codes "in", words.In) ∷
-    (codes "index", words.LeftOut) ∷
-    (codes "inner", words.Excluded) ∷
-    (codes "insert", words.Insert) ∷
-    (codes "int", words.Integer) ∷
-    (codes "int4", words.Integer) ∷
-    (codes "int8", words.Bigint) ∷
-    (codes "integer", words.Integer) ∷
-    (codes "intersect", words.Excluded) ∷
-    (codes "into", words.Into) ∷
-    (codes "is", words.Is) ∷
-    (codes "isnull", words.Excluded) ∷
-    (codes "isolation", words.Isolation) ∷
-    (codes "join", words.Excluded) ∷
-    (codes "key", words.Key) ∷
-    (codes "last", words.Last) ∷
-    (codes "left", words.Excluded) ∷
-    (codes "level", words.Level) ∷
-    (codes "like", words.Excluded) ∷
-    (codes "limit", words.Excluded) ∷
-    (codes "local", words.Local) ∷
-    (codes "lock", words.LeftOut) ∷
-    (codes "max", words.Max) ∷
-    (codes "min", words.Min) ∷
-    (codes "natural", words.Excluded) ∷
-    (codes "no", words.LeftOut) ∷
-    (codes "not", words.Not) ∷
-    (codes "notnull", words.Excluded) ∷
-    (codes "nowait", words.LeftOut) ∷
-    (codes "null", words.Null) ∷
-    (codes "nulls", words.Nulls) ∷
-    (codes "offset", words.Excluded) ∷
-    (codes "on", words.Excluded) ∷
-    (codes "only", words.LeftOut) ∷
-    (codes "or", words.Or) ∷
-    (codes "order", words.Order) ∷
-    (codes "outer", words.Excluded) ∷
-    (codes "prepare", words.LeftOut) ∷
-    (codes "primary", words.Primary) ∷
-    (codes "read", words.Read) ∷
-    (codes "references", words.Excluded) ∷
-    (codes "release", words.LeftOut) ∷
-    (codes "repeatable", words.Repeatable) ∷
-    (codes "returning", words.Excluded) ∷
-    (codes "right", words.Excluded) ∷
-    (codes "rollback", words.Rollback) ∷
-    (codes "savepoint", words.LeftOut) ∷
-    (codes "select", words.Select) ∷
-    (codes "sequence", words.LeftOut) ∷
-    (codes "serializable", words.LeftOut) ∷
-    (codes "session", words.Session) ∷
-    (codes "set", words.Set) ∷
-    (codes "share", words.Share) ∷
-    (codes "similar", words.Excluded) ∷
-    (codes "skip", words.LeftOut) ∷
-    (codes "start", words.Start) ∷
-    (codes "sum", words.Sum) ∷
-    (codes "table", words.Table) ∷
-    (codes "text", words.Text) ∷
-    (codes "then", words.Excluded) ∷
-    (codes "to", words.To) ∷
-    (codes "transaction", words.Transaction) ∷
-    (codes "true", words.True) ∷
-    (codes "truncate", words.LeftOut) ∷
-    (codes "uncommitted", words.Uncommitted) ∷
-    (codes "union", words.Excluded) ∷
-    (codes "unique", words.Unique) ∷
-    (codes "unknown", words.Unknown) ∷
-    (codes "update", words.Update) ∷
-    (codes "using", words.Excluded) ∷
-    (codes "vacuum", words.LeftOut) ∷
-    (codes "values", words.Values) ∷
-    (codes "varchar", words.Text) ∷
-    (codes "view", words.LeftOut) ∷
-    (codes "when", words.Excluded) ∷
-    (codes "where", words.Where) ∷
-    (codes "window", words.Excluded) ∷
-    (codes "with", words.Excluded) ∷
-    (codes "work", words.Work) ∷ []
+    -- transactions and settings
+    ((codes "begin", words.Begin) ∷ (codes "start", words.Start) ∷ (codes "commit", words.Commit) ∷ (codes "end", words.End) ∷
+    (codes "rollback", words.Rollback) ∷ (codes "abort", words.Abort) ∷ (codes "work", words.Work) ∷ (codes "transaction", words.Transaction) ∷
+    (codes "isolation", words.Isolation) ∷ (codes "level", words.Level) ∷ (codes "read", words.Read) ∷ (codes "committed", words.Committed) ∷
+    (codes "uncommitted", words.Uncommitted) ∷ (codes "repeatable", words.Repeatable) ∷ (codes "set", words.Set) ∷ (codes "session", words.Session) ∷
+    (codes "local", words.Local) ∷ (codes "to", words.To) ∷ (codes "deadlock_timeout", words.DeadlockTimeout) ∷
+    -- tables and their columns
+    (codes "create", words.Create) ∷ (codes "table", words.Table) ∷ (codes "drop", words.Drop) ∷ (codes "if", words.If) ∷ (codes "exists", words.Exists) ∷
+    (codes "primary", words.Primary) ∷ (codes "key", words.Key) ∷ (codes "unique", words.Unique) ∷ (codes "integer", words.Integer) ∷
+    (codes "int", words.Integer) ∷ (codes "int4", words.Integer) ∷ (codes "bigint", words.Bigint) ∷ (codes "int8", words.Bigint) ∷
+    (codes "text", words.Text) ∷ (codes "varchar", words.Text) ∷ (codes "boolean", words.Boolean) ∷ (codes "bool", words.Boolean) ∷
+    -- rows
+    (codes "insert", words.Insert) ∷ (codes "into", words.Into) ∷ (codes "values", words.Values) ∷ (codes "update", words.Update) ∷
+    (codes "delete", words.Delete) ∷ (codes "select", words.Select) ∷ (codes "as", words.As) ∷ (codes "from", words.From) ∷ (codes "where", words.Where) ∷
+    (codes "order", words.Order) ∷ (codes "by", words.By) ∷ (codes "asc", words.Asc) ∷ (codes "desc", words.Desc) ∷ (codes "nulls", words.Nulls) ∷
+    (codes "first", words.First) ∷ (codes "last", words.Last) ∷ (codes "for", words.For) ∷ (codes "share", words.Share) ∷
+    -- expressions and aggregates
+    (codes "and", words.And) ∷ (codes "or", words.Or) ∷ (codes "not", words.Not) ∷ (codes "is", words.Is) ∷ (codes "in", words.In) ∷
+    (codes "between", words.Between) ∷ (codes "null", words.Null) ∷ (codes "true", words.True) ∷ (codes "false", words.False) ∷
+    (codes "unknown", words.Unknown) ∷ (codes "count", words.Count) ∷ (codes "sum", words.Sum) ∷ (codes "min", words.Min) ∷ (codes "max", words.Max) ∷ [])
+    -- no names: they stand for a part that is left out
+    ++ each words.Excluded (codes "all any case cast check collate constraint cross default distinct else except fetch foreign full group having ilike inner")
+    ++ each words.Excluded (codes "intersect isnull join left like limit natural notnull offset on outer references returning right similar then union using")
+    ++ each words.Excluded (codes "when window with")
+    -- names: where none can stand, they stand for a part that is left out
+    ++ each words.LeftOut (codes "alter copy deferrable execute explain index lock no nowait only prepare release savepoint sequence serializable skip")
+    ++ each words.LeftOut (codes "truncate vacuum view")
 
 -- the words that are no name, unless they stand in quotes (PostgreSQL manual, appendix C)
 unfoldable pub reserved_words : List (List ℕ)
 reserved_words =
-    codes "all" ∷ codes "and" ∷ codes "any" ∷ codes "as" ∷ codes "asc" ∷ codes "between" ∷ codes "case" ∷
-    codes "cast" ∷ codes "check" ∷ codes "collate" ∷ codes "constraint" ∷ codes "create" ∷ codes "cross" ∷
-    codes "default" ∷ codes "desc" ∷ codes "distinct" ∷ codes "else" ∷ codes "end" ∷ codes "except" ∷ codes "false" ∷
-    codes "fetch" ∷ codes "for" ∷ codes "foreign" ∷ codes "from" ∷ codes "full" ∷ codes "group" ∷ codes "having" ∷
-    codes "ilike" ∷ codes "in" ∷ codes "inner" ∷ codes "intersect" ∷ codes "into" ∷ codes "is" ∷ codes "isnull" ∷
-    codes "join" ∷ codes "left" ∷ codes "like" ∷ codes "limit" ∷ codes "natural" ∷ codes "not" ∷ codes "notnull" ∷
-    codes "null" ∷ codes "offset" ∷ codes "on" ∷ codes "or" ∷ codes "order" ∷ codes "outer" ∷ codes "primary" ∷
-    codes "references" ∷ codes "returning" ∷ codes "right" ∷ codes "select" ∷ codes "similar" ∷ codes "table" ∷
-    codes "then" ∷ codes "true" ∷ codes "union" ∷ codes "unique" ∷ codes "using" ∷ codes "when" ∷ codes "where" ∷
-    codes "window" ∷ codes "with" ∷ []
+    words_of (codes "end create table primary unique into select as from where order asc desc for and or not is in between null true false all any case cast")
+    ++ words_of (codes "check collate constraint cross default distinct else except fetch foreign full group having ilike inner intersect isnull join left")
+    ++ words_of (codes "like limit natural notnull offset on outer references returning right similar then union using when window with")
 
 -- the words that stand for a part of SQL that is left out, where no rule allows them
 unfoldable pub left_out_words : List (List ℕ)
 left_out_words =
-    codes "all" ∷ codes "alter" ∷ codes "any" ∷ codes "case" ∷ codes "cast" ∷ codes "check" ∷ codes "collate" ∷
-    codes "constraint" ∷ codes "copy" ∷ codes "cross" ∷ codes "default" ∷ codes "deferrable" ∷ codes "distinct" ∷
-    codes "drop" ∷ codes "else" ∷ codes "except" ∷ codes "execute" ∷ codes "explain" ∷ codes "fetch" ∷
-    codes "foreign" ∷ codes "full" ∷ codes "group" ∷ codes "having" ∷ codes "ilike" ∷ codes "index" ∷ codes "inner" ∷
-    codes "intersect" ∷ codes "isnull" ∷ codes "join" ∷ codes "key" ∷ codes "left" ∷ codes "like" ∷ codes "limit" ∷
-    codes "lock" ∷ codes "natural" ∷ codes "no" ∷ codes "notnull" ∷ codes "nowait" ∷ codes "offset" ∷ codes "on" ∷
-    codes "only" ∷ codes "outer" ∷ codes "prepare" ∷ codes "read" ∷ codes "references" ∷ codes "release" ∷
-    codes "returning" ∷ codes "right" ∷ codes "savepoint" ∷ codes "select" ∷ codes "sequence" ∷ codes "serializable" ∷
-    codes "similar" ∷ codes "skip" ∷ codes "then" ∷ codes "truncate" ∷ codes "union" ∷ codes "using" ∷
-    codes "vacuum" ∷ codes "view" ∷ codes "when" ∷ codes "window" ∷ codes "with" ∷ []
+    words_of (codes "read drop key select all any case cast check collate constraint cross default distinct else except fetch foreign full group having")
+    ++ words_of (codes "ilike inner intersect isnull join left like limit natural notnull offset on outer references returning right similar then union")
+    ++ words_of (codes "using when window with alter copy deferrable execute explain index lock no nowait only prepare release savepoint sequence")
+    ++ words_of (codes "serializable skip truncate vacuum view")

@@ -1,5 +1,5 @@
 -- A test of whether two trees are one.
-use Rattle.std.specs.Prelude.{ℕ, Bool, true, false, ◌&&◌, ◌==◌, bytes_eq}
+use Rattle.std.specs.Prelude.{Bool, true, false, ◌&&◌, ◌==◌, bytes_eq}
 use denote.Enum.Bare.{sameb}
 use Rattle.sql_trees.specs.contracts.expr.Operator as operator
 use Rattle.sql_trees.specs.contracts.expr.Truth as truth

@@ -10,7 +10,7 @@ use Rattle.sql_trees.specs.Keywords.{keywords}
 -- the first word of a table that is spelled so, in any case of its letters (PostgreSQL manual, 4.1.1)
 abbrev pub first_spelled : List (List ℕ × Word) → List ℕ → Word
 first_spelled [] text = words.Plain
-first_spelled (k ∷ ks) text = if str_eq_ignore_ascii_case k.0 text then k.1 else first_spelled ks text
+first_spelled (row ∷ rows) text = if str_eq_ignore_ascii_case row.0 text then row.1 else first_spelled rows text
 
 -- the keyword that a word is
 unfoldable pub word_of : List ℕ → Word

@@ -66,7 +66,7 @@ impl<'a, 'b> Alike<Agg<'b>> for Agg<'a> {
         match (self, other) {
             (Agg::CountRows, Agg::CountRows) => true,
             (Agg::Of(kind, expr), Agg::Of(asked, of)) => kind.alike(asked) && expr.alike(of),
-            _ => false,
+            (Agg::CountRows | Agg::Of(..), _) => false,
         }
     }
 }
@@ -235,7 +235,7 @@ impl<'a, 'b> Alike<Item<'b>> for Item<'a> {
             (Item::All, Item::All) => true,
             (Item::Expr(expr, name), Item::Expr(of, alias)) => expr.alike(of) && name.alike(alias),
             (Item::Agg(agg, name), Item::Agg(of, alias)) => agg.alike(of) && name.alike(alias),
-            _ => false,
+            (Item::All | Item::Expr(..) | Item::Agg(..), _) => false,
         }
     }
 }
@@ -288,7 +288,20 @@ impl<'a, 'b> Alike<Stmt<'b>> for Stmt<'a> {
             (Stmt::Update(update), Stmt::Update(other)) => update.alike(other),
             (Stmt::Delete(delete), Stmt::Delete(other)) => delete.alike(other),
             (Stmt::Select(select), Stmt::Select(other)) => select.alike(other),
-            _ => false,
+            (
+                Stmt::Begin(_)
+                | Stmt::Commit
+                | Stmt::Rollback
+                | Stmt::SetTransaction(_)
+                | Stmt::SetDeadlockTimeout
+                | Stmt::CreateTable(_)
+                | Stmt::DropTable(_)
+                | Stmt::Insert(_)
+                | Stmt::Update(_)
+                | Stmt::Delete(_)
+                | Stmt::Select(_),
+                _,
+            ) => false,
         }
     }
 }

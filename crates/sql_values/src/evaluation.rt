@@ -10,13 +10,13 @@ ghost use Rattle.sql_values.specs.Expressions.{value, column, binary, compares, 
 
 use crate::arithmetic::{minus, number, plus};
 use crate::columns::Columns;
-use crate::fault::{ColumnName, ValueFault};
+use crate::fault::ValueFault;
 use crate::literal::literal;
 use crate::logic::{and, boolean, is_test, not_if, or, truth};
 use crate::operation::operate;
 use crate::row::Row;
 use crate::value::Value;
-use iso_lexer::Name;
+use iso_lexer::{Ident, Name};
 use sql_trees::{Expr, Operator};
 use std::alloc::Global;
 
@@ -32,7 +32,7 @@ fn column<'a>(
 {
     match cols.place(name) {
         Some(i) => Ok(row.values()[i].copied(alloc)?),
-        None => Err(ValueFault::NoColumn(ColumnName::of(*name))),
+        None => Err(ValueFault::NoColumn(Ident::new(*name))),
     }
 }
 

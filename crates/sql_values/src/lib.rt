@@ -22,7 +22,7 @@ pub use assignment::assign;
 pub use columns::Columns;
 pub use comparison::compare;
 pub use evaluation::{eval, passes};
-pub use fault::{ColumnName, ValueFault};
+pub use fault::ValueFault;
 pub use laws::{one_sorted_order, rows_turned};
 pub use row::{Row, copy_row};
 pub use sorting::order;

@@ -14,7 +14,8 @@ use Rattle.unique_keys.specs.Keys.{Keys, columns_at}
 use Rattle.unique_keys.specs.Writes.{writes}
 use Rattle.unique_keys.specs.Finding.{blockers_among, is_taken_among}
 
--- the blockers of a key request: the other open transactions that wrote a row of the table whose newest committed version, or any version by that transaction, has the key
+-- the blockers of a key request: the other open transactions that wrote a row of the table whose newest committed version,
+-- or any version by that transaction, has the key
 abbrev pub blockers : Content → TableId → TxId → List Value → List ℕ → List TxId
 blockers c table tx asked columns = blockers_among (has_committed c) (is_open c.fates) (writes c) table tx asked columns
 

@@ -14,7 +14,8 @@ use Rattle.update_recheck.specs.Asked.{Asked}
 use Rattle.update_recheck.specs.Outcome.{holders_of, holders, blockers, outcome, is_locked, newest_version}
 use Rattle.update_recheck.specs.Laws.{OutcomesByWhatIsHeld}
 use Rattle.update_recheck.specs.Outcome.Outcome.{Waits, Deadlocks}
-use Rattle.update_recheck.specs.Settling.{SameMembers, stop_of}
+use Rattle.update_recheck.specs.Settling.{SameMembers}
+use Rattle.update_recheck.specs.Inner.Stopping.{stop_of}
 
 -- lists with the same members are empty together
 pub none_same : (xs ys : List TxId) → SameMembers xs ys → is_none_of xs ≡ is_none_of ys

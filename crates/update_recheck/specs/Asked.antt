@@ -24,7 +24,15 @@ pub record Asked : Type 0 where
 
 -- what an ask says, its condition as a tree
 abbrev pub asked : Ask → Asked
-asked a = record { tx = a.tx; level = a.level; view = a.view; seen = a.seen; strength = a.strength; condition = option_map (λ e. tree_of e.now) a.filter; cols = a.cols.now }
+asked a = record {
+  tx = a.tx;
+  level = a.level;
+  view = a.view;
+  seen = a.seen;
+  strength = a.strength;
+  condition = option_map (λ e. tree_of e.now) a.filter;
+  cols = a.cols.now;
+}
 
 -- the row's newest version, if it isn't gone, has a value for each column
 abbrev pub Fits : Content → Asked → Type 0

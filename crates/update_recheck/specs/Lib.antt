@@ -1,5 +1,5 @@
 pub mod Asked
 pub mod Outcome
 pub mod Settling
-pub mod Found
 pub mod Laws
+pub mod Inner

@@ -1,5 +1,5 @@
 -- What `settle` answers, and the locks after it.
-use Rattle.std.specs.Prelude.{◌≡◌, Bool, true, false, List, Option, Some, None}
+use Rattle.std.specs.Prelude.{◌≡◌, Bool, true, false, List}
 use Rattle.row_versions.specs.declared.names.TxId.{TxId}
 use Rattle.row_locks.specs.declared.held.Held.{Held}
 use Rattle.row_locks.specs.Members.{has, is_distinct}
@@ -7,8 +7,7 @@ use Rattle.row_locks.specs.Held.{IsTaken, with_lock}
 use Rattle.update_recheck.specs.declared.ask.Settled.{Settled}
 use Rattle.update_recheck.specs.declared.ask.Settled.TheVariants.{Take, Skip, Wait, Deadlock, Serialize, Fault}
 use Rattle.update_recheck.specs.Asked.{Asked}
-use Rattle.update_recheck.specs.Outcome.{Holders, Outcome}
-use Rattle.update_recheck.specs.Outcome.Holders.{Nobody, Others, OthersInACycle}
+use Rattle.update_recheck.specs.Outcome.{Outcome}
 use Rattle.update_recheck.specs.Outcome.Outcome.{Takes, Skips, Waits, Deadlocks, Serializes, Faults}
 
 -- the outcome that an answer names
@@ -46,9 +45,3 @@ LocksAfter false old lock new = new ≡ old
 abbrev pub locks_after : Bool → List Held → Held → List Held
 locks_after true held lock = with_lock held lock
 locks_after false held lock = held
-
--- what stops a target before its version is looked at
-abbrev pub stop_of : Holders → Option Outcome
-stop_of Nobody = None
-stop_of Others = Some Waits
-stop_of OthersInACycle = Some Deadlocks

@@ -2,7 +2,7 @@
 ghost use Rattle.std.specs.Prelude.{◌≡◌};
 ghost use Rattle.update_recheck.specs.Asked.{Fits, asked};
 ghost use Rattle.update_recheck.specs.Outcome.{newest_version as version_now};
-ghost use Rattle.update_recheck.specs.Found.{told, IsWhole};
+ghost use Rattle.update_recheck.specs.Inner.Found.{told, IsWhole};
 
 use crate::ask::Ask;
 use row_versions::{Seen, Versions};

@@ -7,8 +7,9 @@ ghost use Rattle.row_locks.specs.Waiting.{is_none_of};
 ghost use Rattle.row_locks.specs.Cycles.{closes};
 ghost use Rattle.update_recheck.specs.Asked.{Fits, asked};
 ghost use Rattle.update_recheck.specs.Outcome.{blockers, holders, is_locked, is_target_locked, read_committed, rechecked, repeatable_read, target_outcome};
-ghost use Rattle.update_recheck.specs.Settling.{LocksAfter, locks_after, SameMembers, WaitsFor, lock_of, outcome_of, stop_of};
-ghost use Rattle.update_recheck.specs.Found.{told, IsWhole};
+ghost use Rattle.update_recheck.specs.Settling.{LocksAfter, locks_after, SameMembers, WaitsFor, lock_of, outcome_of};
+ghost use Rattle.update_recheck.specs.Inner.Stopping.{stop_of};
+ghost use Rattle.update_recheck.specs.Inner.Found.{told, IsWhole};
 
 use crate::ask::{Ask, Settled};
 use crate::newest::{Newest, newest_version};

@@ -5,8 +5,8 @@ ghost use Rattle.std.specs.Bool.{OnTrue};
 ghost use Rattle.result_tables.specs.Results.{IsEven};
 
 use crate::told::holds;
-use iso_lexer::{DeviceFault, Name, Sink};
-use result_tables::{ResultSet, TableFault, Title, TitleName, is_numeric, write_table};
+use iso_lexer::{DeviceFault, Ident, Name, Sink};
+use result_tables::{ResultSet, TableFault, Title, is_numeric, write_table};
 use sql_values::{Row, Text, Value};
 use std::alloc::{AllocError, Global};
 
@@ -93,7 +93,7 @@ fn text(alloc: Global, bytes: &str) -> Result<Value, AllocError> {
 }
 
 fn named(name: Name<'_>) -> Title<'_> {
-    Title::Column(TitleName::new(name))
+    Title::Column(Ident::new(name))
 }
 
 fn text_row(alloc: Global, bytes: &str) -> Result<Row, AllocError> {

@@ -1,9 +1,9 @@
 //! Expressions as they are written, and answers in words.
 
-use iso_lexer::{At, LexFault, Name, SqlTok, same_name, sql_tokens};
+use iso_lexer::{At, Ident, LexFault, Name, SqlTok, same_name, sql_tokens};
 use sql_expressions::parse_expr;
 use sql_trees::{Expr, SqlFault, classified};
-use sql_values::{ColumnName, Columns, Row, Value, ValueFault, eval};
+use sql_values::{Columns, Row, Value, ValueFault, eval};
 use std::alloc::{AllocError, Global};
 use std::process::Abort;
 
@@ -62,7 +62,7 @@ fn is_value(value: &Value, words: &str) -> bool {
     }
 }
 
-fn is_column(column: &ColumnName<'_>, words: &str) -> bool {
+fn is_column(column: &Ident<'_>, words: &str) -> bool {
     match words.strip_prefix("no column ") {
         Some(name) => same_name(&column.name(), &Name::Plain(name)),
         None => false,

@@ -11,7 +11,7 @@ use Rattle.session_machine.specs.declared.session.Progress.{Progress}
 use Rattle.session_machine.specs.declared.reply.Outcome.{Outcome}
 use Rattle.session_machine.specs.declared.reply.Outcome.TheVariants.{Rows}
 use Rattle.session_machine.specs.Tables.{Database}
-use Rattle.session_machine.specs.Statements.{Around}
+use Rattle.session_machine.specs.Statements.{Surroundings}
 use Rattle.session_machine.specs.Walks.{Stop, Visit, Walk, Blocked, Fails, unless_stopped, walked, walked_from}
 use Rattle.session_machine.specs.Rows.{columns_in, insert_at, update_at, delete_at, lock_at, passing_targets, taken_targets}
 use Rattle.session_machine.specs.Running.{going_on, comes_to, ended, done, assigned_to, lock_again}
@@ -38,7 +38,7 @@ walked_from_on visit db place rows (Err fault) = omega arith
 walked_from_on visit db place rows (Ok targets) = walked_on visit db place rows (drop place targets)
 
 -- a statement that stops stands in its view
-pub stands : (before : Content) (t : OpenTransaction) (around : Around) (p q : Progress) (f : List (List Value) → Outcome) (k : Walk) → p.place ≤ k.place
+pub stands : (before : Content) (t : OpenTransaction) (around : Surroundings) (p q : Progress) (f : List (List Value) → Outcome) (k : Walk) → p.place ≤ k.place
     → (ended before (going_on t around p) f k).statement ≡ Some q → IsInViewOf p around q
 stands before t around p q f k on h = by k.stop h where
   by : (o : Option Stop) → (comes_to before (going_on t around p) f k o).statement ≡ Some q → IsInViewOf p around q

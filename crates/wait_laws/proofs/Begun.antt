@@ -29,9 +29,9 @@ use Rattle.session_machine.specs.Transactions.{begun, commits_seen, view_of}
 use Rattle.session_machine.specs.Statements.{columns_at}
 use Rattle.session_machine.specs.Rows.{at_places}
 use Rattle.session_machine.specs.Running.{run_stmt}
-use Rattle.session_machine.specs.Machine.{Machine, Blocks, Next, next, opening, stmts_at, around, at_rest, first_place, launch_of, step_of, leave_of, with_session}
+use Rattle.session_machine.specs.Machine.{Machine, Blocks, Next, next, opening, stmts_at, around, at_rest, first_place, launch_of, step_of, leave_of, with_session, session_of}
 use Rattle.session_machine.specs.Sound.{command_in, tx_in, tx_of}
-use Rattle.wait_laws.specs.Laws.{session_of, Reaches, FindsTheSame, WaitsGoOnAsBegun}
+use Rattle.wait_laws.specs.Laws.{Reaches, FindsTheSame, WaitsGoOnAsBegun}
 use Rattle.wait_laws.proofs.Lists.{slice_get-set_same, slice_get-set_other}
 use Rattle.wait_laws.proofs.Doing.{Keeps, Ran, doer, start, Allows}
 use Rattle.wait_laws.proofs.Events.{session_there, ok_is, ok_else, stepped, after, left_as, Rests, Moved, moved, always}

@@ -9,11 +9,11 @@ use Rattle.session_machine.specs.declared.session.Transaction.TheVariants.{Close
 use Rattle.session_machine.specs.declared.session.Progress.{Progress}
 use Rattle.session_machine.specs.Tables.{Database, find_table}
 use Rattle.session_machine.specs.Transactions.{committed, rolled_back}
-use Rattle.session_machine.specs.Statements.{Around, Did, turns, create, drop_tables, level_set, begin_in}
+use Rattle.session_machine.specs.Statements.{Surroundings, Effect, turns, create, drop_tables, level_set, begin_in}
 use Rattle.session_machine.specs.Running.{going_on, insert_from, update_from, delete_from, lock_from, insert, update, delete, select, run_open, lock_again, run_on}
 
 -- of statements that are never in the middle of targets
-pub record AtOnce (db : Database) (t : OpenTransaction) (around : Around) (M : Did → Type 0) : Type 0 where
+pub record AtOnce (db : Database) (t : OpenTransaction) (around : Surroundings) (M : Effect → Type 0) : Type 0 where
   pub begins : (level : Option Level) → M (begin_in db t level)
   pub sets : (level : Level) → M (level_set db t t.explicit level)
   pub stays : M (turns db (Open t))
@@ -24,20 +24,20 @@ pub record AtOnce (db : Database) (t : OpenTransaction) (around : Around) (M : D
   pub shows : (s : SelectTree) → s.lock ≡ None → M (select db t around s s.table)
 
 -- of the others, where they begin
-pub record FromStart (db : Database) (t : OpenTransaction) (around : Around) (M : Did → Type 0) : Type 0 where
+pub record FromStart (db : Database) (t : OpenTransaction) (around : Surroundings) (M : Effect → Type 0) : Type 0 where
   pub inserts : (i : InsertTree) → M (insert db t around i (find_table db (Some t.tx) i.table))
   pub updates : (u : UpdateTree) → M (update db t around u (find_table db (Some t.tx) u.table))
   pub deletes : (d : DeleteTree) → M (delete db t around d (find_table db (Some t.tx) d.table))
   pub locks : (s : SelectTree) (l : Lock) → s.lock ≡ Some l → M (select db t around s s.table)
 
 -- and where they go on
-pub record FromPlace (db : Database) (t : OpenTransaction) (around : Around) (p : Progress) (M : Did → Type 0) : Type 0 where
+pub record FromPlace (db : Database) (t : OpenTransaction) (around : Surroundings) (p : Progress) (M : Effect → Type 0) : Type 0 where
   pub inserts : (i : InsertTree) → M (insert_from db (going_on t around p) i p.place p.rows)
   pub updates : (u : UpdateTree) → M (update_from db (going_on t around p) u p.place p.rows)
   pub deletes : (d : DeleteTree) → M (delete_from db (going_on t around p) d p.place p.rows)
   pub locks : (s : SelectTree) (l : Lock) → s.lock ≡ Some l → M (lock_from db (going_on t around p) s l p.place p.rows)
 
-module _ (db : Database) (t : OpenTransaction) (around : Around) (M : Did → Type 0) (once : AtOnce db t around M) where
+module _ (db : Database) (t : OpenTransaction) (around : Surroundings) (M : Effect → Type 0) (once : AtOnce db t around M) where
   pub by_kind : FromStart db t around M → (stmt : StmtTree) → M (run_open db t around stmt)
   by_kind start (Begin level) = once.begins level
   by_kind start Commit = once.commits

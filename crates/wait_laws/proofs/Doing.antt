@@ -46,7 +46,7 @@ use Rattle.session_machine.specs.Tables.{Database, find_table}
 use Rattle.session_machine.specs.Transactions.{begun, committed, fresh, rolled_back, view_of}
 use Rattle.session_machine.specs.Waits.{blockers, is_blocked, waits_in}
 use Rattle.session_machine.specs.Sound.{command_in}
-use Rattle.session_machine.specs.Statements.{Around, Did, DroppedUpTo, fails, turns, create, dropped, dropped_at, drop_ended, level_set, with_table, with_drop, is_end}
+use Rattle.session_machine.specs.Statements.{Surroundings, Effect, DroppedUpTo, fails, turns, create, dropped, dropped_at, drop_ended, level_set, with_table, with_drop, is_end}
 use Rattle.session_machine.specs.Walks.{Stop, Visit, Walk, Blocked, Fails, goes_on, unless_stopped, walked, walked_from}
 use Rattle.session_machine.specs.AskedKeys.{AskedKey}
 use Rattle.session_machine.specs.Rows.{Work, columns_in, keys_in, cols_in, asked_key, stop_by, stop_at_key, stop_at_keys, unless_stopped_by, inserted, written, unless_null, insert_made, insert_at, ask, at_outcome, at_target, values_of, update_made, update_with, update_at, delete_with, delete_at, lock_made, lock_with, lock_at, strength_of, passing_targets, taken_targets}
@@ -84,7 +84,7 @@ pub record Comes (x : TxId) (P : Database → Type 0) (ss : List Session) (db : 
   pub blocked : (r : Request) → stop ≡ Some (Blocked r) → Refused x ss db r
 
 -- what a statement left
-pub record Ran (x : TxId) (n : ℕ) (P Q : Database → Type 0) (V : View → Type 0) (ss : List Session) (d : Did) : Type 0 where
+pub record Ran (x : TxId) (n : ℕ) (P Q : Database → Type 0) (V : View → Type 0) (ss : List Session) (d : Effect) : Type 0 where
   pub db : Q d.db
   pub own : (u : OpenTransaction) → d.transaction ≡ Open u → (u.tx ≡ x) × P d.db
   pub waits : (p : Progress) → d.statement ≡ Some p → Refused x ss d.db p.wait.request × V p.view × ((u : OpenTransaction) × (d.transaction ≡ Open u) × (u.command ≡ n))
@@ -359,7 +359,7 @@ ran_closed P Q V ss x n e q = record { db = q; own = λ u h. absurd (never u h);
   never : (u : OpenTransaction) → Closed ≡ Open u → ⊥
   never u h = cc
 
-ran_if : (P Q : Database → Type 0) (V : View → Type 0) (ss : List Session) (x : TxId) (n : ℕ) (b : Bool) (d e : Did) → Ran x n P Q V ss d → Ran x n P Q V ss e → Ran x n P Q V ss (if b then d else e)
+ran_if : (P Q : Database → Type 0) (V : View → Type 0) (ss : List Session) (x : TxId) (n : ℕ) (b : Bool) (d e : Effect) → Ran x n P Q V ss d → Ran x n P Q V ss e → Ran x n P Q V ss (if b then d else e)
 ran_if P Q V ss x n true d e h k = h
 ran_if P Q V ss x n false d e h k = k
 
@@ -433,7 +433,7 @@ ran_answered : (P Q : Database → Type 0) (V : View → Type 0) (ss : List Sess
 ran_answered P Q V ss db t (Ok set) keeps p = ran_open P Q V ss db t _ _ refl keeps p
 ran_answered P Q V ss db t (Err fault) keeps p = ran_fails P Q V ss db t _ keeps p
 
-ran_unless_wrong : (P Q : Database → Type 0) (V : View → Type 0) (ss : List Session) (db : Database) (t : OpenTransaction) (o : Option (List ℕ)) (n : Option ℤ) (due : Did) → Keeps t.tx t.command P Q → P db
+ran_unless_wrong : (P Q : Database → Type 0) (V : View → Type 0) (ss : List Session) (db : Database) (t : OpenTransaction) (o : Option (List ℕ)) (n : Option ℤ) (due : Effect) → Keeps t.tx t.command P Q → P db
     → Ran t.tx t.command P Q V ss due → Ran t.tx t.command P Q V ss (unless_wrong db t o n due)
 ran_unless_wrong P Q V ss db t (Some name) n due keeps p k = ran_fails P Q V ss db t _ keeps p
 ran_unless_wrong P Q V ss db t None (Some n) due keeps p k = ran_fails P Q V ss db t _ keeps p
@@ -448,7 +448,7 @@ ran_select_in : (P Q : Database → Type 0) (V : View → Type 0) (db : Database
     → Ran w.t.tx w.t.command P Q V w.around.sessions (select_in db w s)
 ran_select_in P Q V db w s keeps view p = ran_unless_wrong P Q V w.around.sessions db w.t _ _ _ keeps p (ran_select_rows P Q V db w s s.lock keeps view p)
 
-ran_select : (P Q : Database → Type 0) (V : View → Type 0) (db : Database) (t : OpenTransaction) (around : Around) (s : SelectTree) (o : Option (List ℕ))
+ran_select : (P Q : Database → Type 0) (V : View → Type 0) (db : Database) (t : OpenTransaction) (around : Surroundings) (s : SelectTree) (o : Option (List ℕ))
     → Keeps t.tx t.command P Q → V (view_of db.content t) → P db → Ran t.tx t.command P Q V around.sessions (select db t around s o)
 ran_select P Q V db t around s None keeps view p = ran_unless_wrong P Q V around.sessions db t _ _ _ keeps p (ran_answered P Q V around.sessions db t _ keeps p)
 ran_select P Q V db t around s (Some name) keeps view p = at (find_table db (Some t.tx) name) where
@@ -482,22 +482,22 @@ ran_create : (P Q : Database → Type 0) (V : View → Type 0) (ss : List Sessio
 ran_create P Q V ss db t c (Some k) keeps p = ran_fails P Q V ss db t _ keeps p
 ran_create P Q V ss db t c None keeps p = ran_open P Q V ss _ t _ _ refl keeps (keeps.create db c p)
 
-ran_insert : (P Q : Database → Type 0) (V : View → Type 0) (db : Database) (t : OpenTransaction) (around : Around) (i : InsertTree) (o : Option ℕ)
+ran_insert : (P Q : Database → Type 0) (V : View → Type 0) (db : Database) (t : OpenTransaction) (around : Surroundings) (i : InsertTree) (o : Option ℕ)
     → Keeps t.tx t.command P Q → V (view_of db.content t) → P db → Ran t.tx t.command P Q V around.sessions (insert db t around i o)
 ran_insert P Q V db t around i None keeps view p = ran_fails P Q V around.sessions db t _ keeps p
 ran_insert P Q V db t around i (Some k) keeps view p = ran_insert_to P Q V db (beginning db t around k) i _ keeps view p
 
-ran_update : (P Q : Database → Type 0) (V : View → Type 0) (db : Database) (t : OpenTransaction) (around : Around) (u : UpdateTree) (o : Option ℕ)
+ran_update : (P Q : Database → Type 0) (V : View → Type 0) (db : Database) (t : OpenTransaction) (around : Surroundings) (u : UpdateTree) (o : Option ℕ)
     → Keeps t.tx t.command P Q → V (view_of db.content t) → P db → Ran t.tx t.command P Q V around.sessions (update db t around u o)
 ran_update P Q V db t around u None keeps view p = ran_fails P Q V around.sessions db t _ keeps p
 ran_update P Q V db t around u (Some k) keeps view p = ran_update_to P Q V db (beginning db t around k) u _ keeps view p
 
-ran_delete : (P Q : Database → Type 0) (V : View → Type 0) (db : Database) (t : OpenTransaction) (around : Around) (d : DeleteTree) (o : Option ℕ)
+ran_delete : (P Q : Database → Type 0) (V : View → Type 0) (db : Database) (t : OpenTransaction) (around : Surroundings) (d : DeleteTree) (o : Option ℕ)
     → Keeps t.tx t.command P Q → V (view_of db.content t) → P db → Ran t.tx t.command P Q V around.sessions (delete db t around d o)
 ran_delete P Q V db t around d None keeps view p = ran_fails P Q V around.sessions db t _ keeps p
 ran_delete P Q V db t around d (Some k) keeps view p = ran_delete_fitting P Q V db (beginning db t around k) d _ keeps view p
 
-ran_once : (P Q : Database → Type 0) (V : View → Type 0) (db : Database) (t : OpenTransaction) (around : Around)
+ran_once : (P Q : Database → Type 0) (V : View → Type 0) (db : Database) (t : OpenTransaction) (around : Surroundings)
     → Keeps t.tx t.command P Q → V (view_of db.content t) → P db → AtOnce db t around (Ran t.tx t.command P Q V around.sessions)
 ran_once P Q V db t around keeps view p = record {
   begins = λ level. ran_if P Q V around.sessions t.tx t.command t.explicit _ _ (ran_open P Q V around.sessions db t t _ refl keeps p) (ran_level P Q V around.sessions db t true (unwrap_or level t.level) keeps p);
@@ -511,7 +511,7 @@ ran_once P Q V db t around keeps view p = record {
 }
 
 -- a statement that begins in an open transaction
-pub ran_begins : (P Q : Database → Type 0) (V : View → Type 0) (db : Database) (t : OpenTransaction) (around : Around) (stmt : StmtTree)
+pub ran_begins : (P Q : Database → Type 0) (V : View → Type 0) (db : Database) (t : OpenTransaction) (around : Surroundings) (stmt : StmtTree)
     → Keeps t.tx t.command P Q → V (view_of db.content t) → P db → Ran t.tx t.command P Q V around.sessions (run_open db t around stmt)
 ran_begins P Q V db t around stmt keeps view p = by_kind db t around (Ran t.tx t.command P Q V around.sessions) (ran_once P Q V db t around keeps view p) start stmt where
   start : FromStart db t around (Ran t.tx t.command P Q V around.sessions)
@@ -523,7 +523,7 @@ ran_begins P Q V db t around stmt keeps view p = by_kind db t around (Ran t.tx t
   }
 
 -- one that goes on
-pub ran_on : (P Q : Database → Type 0) (V : View → Type 0) (db : Database) (t : OpenTransaction) (around : Around) (g : Progress) (stmt : StmtTree)
+pub ran_on : (P Q : Database → Type 0) (V : View → Type 0) (db : Database) (t : OpenTransaction) (around : Surroundings) (g : Progress) (stmt : StmtTree)
     → Keeps t.tx t.command P Q → V (view_of db.content t) → V g.view → P db → Ran t.tx t.command P Q V around.sessions (run_on db t around g stmt)
 ran_on P Q V db t around g stmt keeps view own p = on_kind db t around (Ran t.tx t.command P Q V around.sessions) (ran_once P Q V db t around keeps view p) g place stmt where
   place : FromPlace db t around g (Ran t.tx t.command P Q V around.sessions)
@@ -554,17 +554,17 @@ Allows V db (Open t) (Some g) = V (view_of db.content t) × V g.view
 Allows V db Aborted statement = Unit {0}
 
 -- nothing was done, and no transaction is open
-pub record Idles (db : Database) (d : Did) : Type 0 where
+pub record Idles (db : Database) (d : Effect) : Type 0 where
   pub same : d.db ≡ db
   pub over : d.statement ≡ None
   pub shut : (u : OpenTransaction) → d.transaction ≡ Open u → ⊥
 
 -- a statement did nothing, or what its transaction may do
-pub does_stmt : (P Q : Database → Type 0) (V : View → Type 0) (db : Database) (tr : Transaction) (statement : Option Progress) (around : Around) (stmt : StmtTree)
+pub does_stmt : (P Q : Database → Type 0) (V : View → Type 0) (db : Database) (tr : Transaction) (statement : Option Progress) (around : Surroundings) (stmt : StmtTree)
     → Keeps (doer db tr) (command_in tr) P Q → Allows V db tr statement → P (start db tr)
     → Idles db (run_stmt db tr statement around stmt) ⊎ Ran (doer db tr) (command_in tr) P Q V around.sessions (run_stmt db tr statement around stmt)
 does_stmt P Q V db Aborted statement around stmt keeps view p = inl (by (is_end stmt)) where
-  by : (b : Bool) → (let d : Did = if b then turns db Closed else record { db = db; transaction = Aborted; statement = None; outcome = Failed AbortedFault } in Idles db d)
+  by : (b : Bool) → (let d : Effect = if b then turns db Closed else record { db = db; transaction = Aborted; statement = None; outcome = Failed AbortedFault } in Idles db d)
   by true = record { same = refl; over = refl; shut = λ u h. cc }
   by false = record { same = refl; over = refl; shut = λ u h. cc }
 does_stmt P Q V db (Open t) None around stmt keeps view p = inr (ran_begins P Q V db t around stmt keeps view p)

@@ -18,12 +18,11 @@ use Rattle.session_machine.specs.declared.fault.Refusal.{Refusal}
 use Rattle.session_machine.specs.declared.fault.Refusal.TheVariants.{Busy, NotYourTurn, StillBlocked, Idle, NoSession, BlockNotAllowed}
 use Rattle.session_machine.specs.Tables.{Database}
 use Rattle.session_machine.specs.Transactions.{committed}
-use Rattle.session_machine.specs.Statements.{Did}
+use Rattle.session_machine.specs.Statements.{Effect}
 use Rattle.session_machine.specs.Running.{run_stmt}
-use Rattle.session_machine.specs.Machine.{Machine, Blocks, Next, next, stmts_at, is_still_blocked, is_failed, with_session, first_place, launch_of, closed_at_end, finished, waits_there, after_end, after_stmt, around, step_stmt, step_at, step_of, left_behind, leave_of, at_rest}
+use Rattle.session_machine.specs.Machine.{Machine, Blocks, Next, next, stmts_at, is_still_blocked, is_failed, with_session, first_place, launch_of, closed_at_end, finished, waits_there, after_end, after_stmt, around, step_stmt, step_at, step_of, left_behind, leave_of, at_rest, session_of}
 use Rattle.session_machine.specs.Engine.{Run}
 use Rattle.session_machine.specs.Sound.{command_in}
-use Rattle.wait_laws.specs.Laws.{session_of}
 use Rattle.wait_laws.proofs.Doing.{Keeps, Refused, Ran, Idles, doer, start, Allows, does_stmt}
 
 err_not : (f : Refusal) (n : Next) → (let y : Result Next Refusal = Err f in y ≡ Ok n) → ⊥
@@ -75,7 +74,7 @@ stepped blocks mode m i s n h = at_place s.place refl h where
   at_place (Some p) e k = at_stmt p e (slice_get (stmts_at blocks p.block) p.next) refl k
 
 -- what is left of the database and of the session
-abbrev pub left_as : Database → Session → Did
+abbrev pub left_as : Database → Session → Effect
 left_as e u = record { db = e; transaction = u.transaction; statement = u.statement; outcome = Done }
 
 -- nothing but the session's place changed, and it doesn't wait
@@ -133,7 +132,7 @@ no_statement : (p : Progress) → None ≡ Some p → ⊥
 no_statement p h = cc
 
 -- how the session goes on after its statement: where it waits, at the same place
-pub record After (m : Machine) (i : ℕ) (place : Place) (d : Did) (n : Next) : Type 0 where
+pub record After (m : Machine) (i : ℕ) (place : Place) (d : Effect) (n : Next) : Type 0 where
   pub e : Database
   pub u : Session
   pub is : n.machine ≡ with_session m e i u
@@ -141,13 +140,13 @@ pub record After (m : Machine) (i : ℕ) (place : Place) (d : Did) (n : Next) : 
       ⊎ ((t : OpenTransaction) × (d.transaction ≡ Open t) × (e ≡ committed d.db t.tx) × (u.transaction ≡ Closed) × (u.statement ≡ None))
   pub stays : (q : Progress) → u.statement ≡ Some q → u.place ≡ Some place
 
-pub after : (m : Machine) (i : ℕ) (place : Place) (count : ℕ) (d : Did) → After m i place d (after_stmt m i place count d)
+pub after : (m : Machine) (i : ℕ) (place : Place) (count : ℕ) (d : Effect) → After m i place d (after_stmt m i place count d)
 after m i place count d = at (is_some d.statement) where
   ends : (tr : Transaction) → d.transaction ≡ tr → After m i place d (finished m i (closed_at_end d tr) None)
   ends Closed f = record { e = d.db; u = record { place = None; transaction = d.transaction; statement = None }; is = refl; how = inl (refl, refl, inr refl); stays = λ q h. absurd (no_statement q h) }
   ends Aborted f = record { e = d.db; u = record { place = None; transaction = d.transaction; statement = None }; is = refl; how = inl (refl, refl, inr refl); stays = λ q h. absurd (no_statement q h) }
   ends (Open t) f = explicit t.explicit where
-    explicit : (b : Bool) → (let c : Did = if b then d else record { db = committed d.db t.tx; transaction = Closed; statement = None; outcome = d.outcome } in After m i place d (finished m i c None))
+    explicit : (b : Bool) → (let c : Effect = if b then d else record { db = committed d.db t.tx; transaction = Closed; statement = None; outcome = d.outcome } in After m i place d (finished m i c None))
     explicit true = record { e = d.db; u = record { place = None; transaction = d.transaction; statement = None }; is = refl; how = inl (refl, refl, inr refl); stays = λ q h. absurd (no_statement q h) }
     explicit false = record { e = committed d.db t.tx; u = record { place = None; transaction = Closed; statement = None }; is = refl; how = inr (t, f, refl, refl, refl); stays = λ q h. absurd (no_statement q h) }
 
@@ -173,7 +172,7 @@ after m i place count d = at (is_some d.statement) where
 not_closed : (t : OpenTransaction) → Closed ≡ Open t → ⊥
 not_closed t h = cc
 
-moved_after : (P Q : Database → Type 0) (V : View → Type 0) (m : Machine) (i : ℕ) (s : Session) (place : Place) (d : Did) (n : Next)
+moved_after : (P Q : Database → Type 0) (V : View → Type 0) (m : Machine) (i : ℕ) (s : Session) (place : Place) (d : Effect) (n : Next)
     → Keeps (doer m.db s.transaction) (command_in s.transaction) P Q → Idles m.db d ⊎ Ran (doer m.db s.transaction) (command_in s.transaction) P Q V (around m i s).sessions d → After m i place d n → Moved P Q V m i s n.machine
 moved_after P Q V m i s place d n keeps did a = record { e = a.e; u = a.u; is = a.is; did = by did a.how } where
   idle : Idles m.db d

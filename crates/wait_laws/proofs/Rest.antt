@@ -34,12 +34,12 @@ use Rattle.session_machine.specs.declared.reply.HistItem.{HistItem}
 use Rattle.session_machine.specs.Tables.{Catalog, Database}
 use Rattle.session_machine.specs.Transactions.{begun}
 use Rattle.session_machine.specs.Waits.{is_blocked, wait_of}
-use Rattle.session_machine.specs.Statements.{Did, with_table, with_drop}
+use Rattle.session_machine.specs.Statements.{Effect, with_table, with_drop}
 use Rattle.session_machine.specs.Running.{run_stmt}
-use Rattle.session_machine.specs.Machine.{Machine, Blocks, Next, next, stmts_at, is_busy, is_failed, is_stopped, is_still_blocked, finished, closed_at_end, waits_there, after_end, after_stmt, around, step_of}
+use Rattle.session_machine.specs.Machine.{Machine, Blocks, Next, next, stmts_at, is_busy, is_failed, is_stopped, is_still_blocked, finished, closed_at_end, waits_there, after_end, after_stmt, around, step_of, session_of}
 use Rattle.session_machine.specs.Engine.{Run}
 use Rattle.session_machine.specs.Sound.{command_in, tx_in, tx_of}
-use Rattle.wait_laws.specs.Laws.{session_of, left_from, left_of, statements_left, can_step, able, IsNearerRest, AreSteps, RestIsReached}
+use Rattle.wait_laws.specs.Laws.{left_from, left_of, statements_left, can_step, able, IsNearerRest, AreSteps, RestIsReached}
 use Rattle.wait_laws.proofs.Counting.{sum_set, count_set, count_most}
 use Rattle.wait_laws.proofs.Doing.{Keeps, Ran, Idles, doer, start, does_stmt}
 use Rattle.wait_laws.proofs.Events.{session_there, Stepped, stepped, moved}
@@ -121,10 +121,10 @@ record Ends (given : Blocks) (m : Machine) (i : ℕ) (left : ℕ) (n : Next) : T
   pub is : n.machine.sessions ≡ set m.sessions i u
   pub fewer : left_of given u < left
 
-ends : (given : Blocks) (m : Machine) (i : ℕ) (place : Place) (d : Did) → place.next < length (stmts_at given place.block)
+ends : (given : Blocks) (m : Machine) (i : ℕ) (place : Place) (d : Effect) → place.next < length (stmts_at given place.block)
     → Ends given m i (length (stmts_at given place.block) - place.next) (after_end m i place (length (stmts_at given place.block)) d)
 ends given m i place d within = failed (is_failed d.outcome) where
-  none : (e : Did) → Ends given m i (length (stmts_at given place.block) - place.next) (finished m i e None)
+  none : (e : Effect) → Ends given m i (length (stmts_at given place.block) - place.next) (finished m i e None)
   none e = record { u = record { place = None; transaction = e.transaction; statement = None }; is = refl; fewer = omega arith }
 
   goes : (b : Bool) → nat_lt (place.next + 1) (length (stmts_at given place.block)) ≡ b
@@ -168,7 +168,7 @@ nearer given mode m i n old h =
     subst (λ (y : Next). IsNearerRest given m y.machine) (sym k.is) (by s there.1 k (run_stmt m.db s.transaction s.statement (around m i s) k.stmt)
     (does_stmt (BlockedBy (doer m.db s.transaction) m.db) (λ d. Unit {0}) (λ v. Unit {0}) m.db s.transaction s.statement (around m i s) k.stmt
     (still_keeps (doer m.db s.transaction) (command_in s.transaction) m.db) (allows_all m.db s.transaction s.statement) (still_start m.db s.transaction old.rows.known (λ q f. old.opened i q (ap tx_of there.1 ∙ f))))) where
-      by : (s : Session) → slice_get m.sessions i ≡ Some s → (k : Stepped given m i s n) → (d : Did)
+      by : (s : Session) → slice_get m.sessions i ≡ Some s → (k : Stepped given m i s n) → (d : Effect)
           → Idles m.db d ⊎ Ran (doer m.db s.transaction) (command_in s.transaction) (BlockedBy (doer m.db s.transaction) m.db) (λ d. Unit {0}) (λ v. Unit {0}) (around m i s).sessions d
           → IsNearerRest given m (after_stmt m i k.place (length (stmts_at given k.place.block)) d).machine
       by s at k d did = on d.statement refl where

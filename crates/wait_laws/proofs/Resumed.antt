@@ -23,12 +23,12 @@ use Rattle.session_machine.specs.declared.reply.HistItem.{HistItem}
 use Rattle.session_machine.specs.declared.fault.Refusal.TheVariants.{Busy, NotYourTurn, BlockNotAllowed}
 use Rattle.session_machine.specs.Tables.{Database, find_table}
 use Rattle.session_machine.specs.Transactions.{view_of}
-use Rattle.session_machine.specs.Statements.{Around, Did, create, drop_ended, dropped, level_set}
+use Rattle.session_machine.specs.Statements.{Surroundings, Effect, create, drop_ended, dropped, level_set}
 use Rattle.session_machine.specs.Rows.{Work}
 use Rattle.session_machine.specs.Running.{answered, beginning, lock_again, run_on, run_stmt, select, select_at, select_rows, unless_wrong}
-use Rattle.session_machine.specs.Machine.{Machine, Blocks, Next, next, stmts_at, around, at_rest, first_place, launch_of, step_of, leave_of}
+use Rattle.session_machine.specs.Machine.{Machine, Blocks, Next, next, stmts_at, around, at_rest, first_place, launch_of, step_of, leave_of, session_of}
 use Rattle.session_machine.specs.Sound.{command_in}
-use Rattle.wait_laws.specs.Laws.{session_of, GoesOnInItsView, IsAtWork, IsInViewOf, RunAtWork, StatementsStayAsBegun, transaction_at, view_at}
+use Rattle.wait_laws.specs.Laws.{GoesOnInItsView, IsAtWork, IsInViewOf, RunAtWork, StatementsStayAsBegun, transaction_at, view_at}
 use Rattle.wait_laws.proofs.ByKind.{on_kind}
 use Rattle.wait_laws.proofs.Doing.{Keeps, doer, Allows, does_stmt}
 use Rattle.wait_laws.proofs.Events.{ok_is, ok_else, stepped, after}
@@ -50,7 +50,7 @@ closed_not : (t : OpenTransaction) → Closed ≡ Open t → ⊥
 closed_not t h = cc
 
 -- a statement without targets is over at once
-over_if : (b : Bool) (d e : Did) → d.statement ≡ None → e.statement ≡ None → (if b then d else e).statement ≡ None
+over_if : (b : Bool) (d e : Effect) → d.statement ≡ None → e.statement ≡ None → (if b then d else e).statement ≡ None
 over_if true d e h k = h
 over_if false d e h k = k
 
@@ -61,7 +61,7 @@ over_answered : (db : Database) (t : OpenTransaction) (r : Result Results ValueF
 over_answered db t (Ok set) = refl
 over_answered db t (Err fault) = refl
 
-over_unless_wrong : (db : Database) (t : OpenTransaction) (o : Option (List ℕ)) (n : Option ℤ) (due : Did) → due.statement ≡ None → (unless_wrong db t o n due).statement ≡ None
+over_unless_wrong : (db : Database) (t : OpenTransaction) (o : Option (List ℕ)) (n : Option ℤ) (due : Effect) → due.statement ≡ None → (unless_wrong db t o n due).statement ≡ None
 over_unless_wrong db t (Some name) n due h = refl
 over_unless_wrong db t None (Some n) due h = refl
 over_unless_wrong db t None None due h = h
@@ -70,7 +70,7 @@ over_rows : (db : Database) (w : Work) (s : SelectTree) (o : Option Lock) → o 
 over_rows db w s None h = over_answered db w.t _
 over_rows db w s (Some l) h = cc
 
-over_select : (db : Database) (t : OpenTransaction) (around : Around) (s : SelectTree) → s.lock ≡ None → (select db t around s s.table).statement ≡ None
+over_select : (db : Database) (t : OpenTransaction) (around : Surroundings) (s : SelectTree) → s.lock ≡ None → (select db t around s s.table).statement ≡ None
 over_select db t around s h = from s.table where
   at : (name : List ℕ) (o : Option ℕ) → (select_at db t around s name o).statement ≡ None
   at name None = refl
@@ -89,7 +89,7 @@ over_drop before t db None = refl
 over_drop before t db (Some name) = refl
 
 -- a statement that goes on and waits again is in its view
-in_its_view : (db : Database) (t : OpenTransaction) (around : Around) (p q : Progress) (stmt : StmtTree) → (run_on db t around p stmt).statement ≡ Some q → IsInViewOf p around q
+in_its_view : (db : Database) (t : OpenTransaction) (around : Surroundings) (p q : Progress) (stmt : StmtTree) → (run_on db t around p stmt).statement ≡ Some q → IsInViewOf p around q
 in_its_view db t around p q stmt = on_kind db t around In (record {
   begins = λ level. over _ (over_if t.explicit _ _ refl (over_level db t true (unwrap_or level t.level)));
   sets = λ level. over _ (over_level db t t.explicit level);
@@ -105,7 +105,7 @@ in_its_view db t around p q stmt = on_kind db t around In (record {
   deletes = again.deletes;
   locks = λ s l e h. again.locks s l e (subst (λ o. (lock_again db t around s p o).statement ≡ Some q) (sym e) h);
 }) stmt where
-  In : Did → Type 0
+  In : Effect → Type 0
   In d = d.statement ≡ Some q → IsInViewOf p around q
 
   over : (o : Option Progress) → o ≡ None → o ≡ Some q → IsInViewOf p around q
@@ -127,7 +127,7 @@ free_keeps x n = record {
 }
 
 -- one that begins and waits is in the view that is taken now
-in_first_view : (db : Database) (tr : Transaction) (around : Around) (q : Progress) (stmt : StmtTree) → (run_stmt db tr None around stmt).statement ≡ Some q
+in_first_view : (db : Database) (tr : Transaction) (around : Surroundings) (q : Progress) (stmt : StmtTree) → (run_stmt db tr None around stmt).statement ≡ Some q
     → q.view ≡ view_of db.content (transaction_at db.content tr)
 in_first_view db tr around q stmt h =
     elim (does_stmt (λ d. Unit {0}) (λ d. Unit {0}) (λ v. v ≡ view_of db.content (transaction_at db.content tr)) db tr None around stmt (free_keeps (doer db tr) (command_in tr)) (allows tr) tt) [
@@ -144,7 +144,7 @@ record Waits (c : Content) (tr : Transaction) (st : Option Progress) (q : Progre
   view : q.view ≡ view_at c tr st
   goes_on : (p : Progress) → st ≡ Some p → (q.table ≡ p.table) × (p.place ≤ q.place)
 
-waits_at : (db : Database) (tr : Transaction) (st : Option Progress) (around : Around) (q : Progress) (stmt : StmtTree)
+waits_at : (db : Database) (tr : Transaction) (st : Option Progress) (around : Surroundings) (q : Progress) (stmt : StmtTree)
     → ((p : Progress) → st ≡ Some p → (t : OpenTransaction) × (tr ≡ Open t)) → (run_stmt db tr st around stmt).statement ≡ Some q → Waits db.content tr st q
 waits_at db tr None around q stmt is_open h = record { view = in_first_view db tr around q stmt h; goes_on = λ p e. absurd (none_not p e) }
 waits_at db tr (Some g) around q stmt is_open h =
@@ -158,7 +158,7 @@ waits_at db tr (Some g) around q stmt is_open h =
 -- a session that is in the middle of a statement after an event of its own has made a step of it
 record StepsOn (m : Machine) (s u : Session) (q : Progress) : Type 0 where
   place : u.place ≡ s.place
-  around : Around
+  around : Surroundings
   stmt : StmtTree
   is : (run_stmt m.db s.transaction s.statement around stmt).statement ≡ Some q
 

@@ -21,7 +21,7 @@ use Rattle.session_machine.specs.declared.reply.Outcome.{Outcome}
 use Rattle.session_machine.specs.declared.reply.Outcome.TheVariants.{Failed, Rows}
 use Rattle.session_machine.specs.Tables.{Database, find_table}
 use Rattle.session_machine.specs.Transactions.{begun, fresh, moved_on, started}
-use Rattle.session_machine.specs.Statements.{Around, Did, fails, turns, create, drop_ended, dropped, level_set, is_end}
+use Rattle.session_machine.specs.Statements.{Surroundings, Effect, fails, turns, create, drop_ended, dropped, level_set, is_end}
 use Rattle.session_machine.specs.Walks.{Stop, Walk, Blocked, Fails, walked, walked_from}
 use Rattle.session_machine.specs.Rows.{Work, columns_in, insert_at, update_at, delete_at, lock_at, passing_targets, taken_targets}
 use Rattle.session_machine.specs.Running.{beginning, going_on, comes_to, ended, done, insert_from, update_from, delete_from, lock_from, assigned_to, insert_fitting, insert_to, insert, update_fitting, update_to, update, delete_fitting, delete, answered, select_rows, unless_wrong, select_at, select, run_open, run_first, run_closed, run_on, run_stmt}
@@ -32,7 +32,7 @@ use Rattle.wait_laws.proofs.Staying.{count-begin}
 abbrev pub Has : ℕ → OpenTransaction → Type 0
 Has count t = (k : ℕ) → t.snapshot ≡ Some k → k ≤ count
 
-pub record Shot (count : ℕ) (d : Did) : Type 0 where
+pub record Shot (count : ℕ) (d : Effect) : Type 0 where
   pub its : (u : OpenTransaction) → d.transaction ≡ Open u → Has count u
 
 same_open : (t u : OpenTransaction) → Open t ≡ Open u → t ≡ u
@@ -65,7 +65,7 @@ shot_fails count e t fault = record { its = λ u h. absurd (never t.explicit u h
   never true u h = cc
   never false u h = cc
 
-shot_if : (count : ℕ) (b : Bool) (d e : Did) → Shot count d → Shot count e → Shot count (if b then d else e)
+shot_if : (count : ℕ) (b : Bool) (d e : Effect) → Shot count d → Shot count e → Shot count (if b then d else e)
 shot_if count true d e h k = h
 shot_if count false d e h k = k
 
@@ -118,7 +118,7 @@ shot_answered : (count : ℕ) (db : Database) (t : OpenTransaction) (r : Result 
 shot_answered count db t (Ok results) has same = shot_query count db.content db t None _ has same
 shot_answered count db t (Err fault) has same = shot_fails count db t _
 
-shot_unless_wrong : (count : ℕ) (db : Database) (t : OpenTransaction) (o : Option (List ℕ)) (n : Option ℤ) (due : Did) → Shot count due → Shot count (unless_wrong db t o n due)
+shot_unless_wrong : (count : ℕ) (db : Database) (t : OpenTransaction) (o : Option (List ℕ)) (n : Option ℤ) (due : Effect) → Shot count due → Shot count (unless_wrong db t o n due)
 shot_unless_wrong count db t (Some name) n due k = shot_fails count db t _
 shot_unless_wrong count db t None (Some n) due k = shot_fails count db t _
 shot_unless_wrong count db t None None due k = k
@@ -127,7 +127,7 @@ shot_rows : (count : ℕ) (db : Database) (w : Work) (s : SelectTree) (o : Optio
 shot_rows count db w s None has same = shot_answered count db w.t _ has same
 shot_rows count db w s (Some l) has same = shot_lock_from count db w s l 0 [] has same
 
-shot_select : (count : ℕ) (db : Database) (t : OpenTransaction) (around : Around) (s : SelectTree) (o : Option (List ℕ)) → Has count t → commit_count db.content ≡ count
+shot_select : (count : ℕ) (db : Database) (t : OpenTransaction) (around : Surroundings) (s : SelectTree) (o : Option (List ℕ)) → Has count t → commit_count db.content ≡ count
     → Shot count (select db t around s o)
 shot_select count db t around s None has same = shot_unless_wrong count db t _ _ _ (shot_answered count db t _ has same)
 shot_select count db t around s (Some name) has same = by (find_table db (Some t.tx) name) where
@@ -146,19 +146,19 @@ shot_drop : (count : ℕ) (before : Content) (t : OpenTransaction) (e : Database
 shot_drop count before t e None has same = shot_query count before e t None _ has same
 shot_drop count before t e (Some name) has same = shot_fails count e t _
 
-shot_insert : (count : ℕ) (db : Database) (t : OpenTransaction) (around : Around) (i : InsertTree) (o : Option ℕ) → Has count t → commit_count db.content ≡ count → Shot count (insert db t around i o)
+shot_insert : (count : ℕ) (db : Database) (t : OpenTransaction) (around : Surroundings) (i : InsertTree) (o : Option ℕ) → Has count t → commit_count db.content ≡ count → Shot count (insert db t around i o)
 shot_insert count db t around i None has same = shot_fails count db t _
 shot_insert count db t around i (Some k) has same = shot_insert_to count db (beginning db t around k) i _ has same
 
-shot_update : (count : ℕ) (db : Database) (t : OpenTransaction) (around : Around) (u : UpdateTree) (o : Option ℕ) → Has count t → commit_count db.content ≡ count → Shot count (update db t around u o)
+shot_update : (count : ℕ) (db : Database) (t : OpenTransaction) (around : Surroundings) (u : UpdateTree) (o : Option ℕ) → Has count t → commit_count db.content ≡ count → Shot count (update db t around u o)
 shot_update count db t around u None has same = shot_fails count db t _
 shot_update count db t around u (Some k) has same = shot_update_to count db (beginning db t around k) u _ has same
 
-shot_delete : (count : ℕ) (db : Database) (t : OpenTransaction) (around : Around) (d : DeleteTree) (o : Option ℕ) → Has count t → commit_count db.content ≡ count → Shot count (delete db t around d o)
+shot_delete : (count : ℕ) (db : Database) (t : OpenTransaction) (around : Surroundings) (d : DeleteTree) (o : Option ℕ) → Has count t → commit_count db.content ≡ count → Shot count (delete db t around d o)
 shot_delete count db t around d None has same = shot_fails count db t _
 shot_delete count db t around d (Some k) has same = shot_delete_to count db (beginning db t around k) d _ has same
 
-shot_once : (count : ℕ) (db : Database) (t : OpenTransaction) (around : Around) → Has count t → commit_count db.content ≡ count → AtOnce db t around (Shot count)
+shot_once : (count : ℕ) (db : Database) (t : OpenTransaction) (around : Surroundings) → Has count t → commit_count db.content ≡ count → AtOnce db t around (Shot count)
 shot_once count db t around has same = record {
   begins = λ level. shot_if count t.explicit _ _ (shot_open count db t None _ has) (shot_level count db t true (unwrap_or level t.level) has);
   sets = λ level. shot_level count db t t.explicit level has;
@@ -170,7 +170,7 @@ shot_once count db t around has same = record {
   shows = λ s e. shot_select count db t around s s.table has same;
 }
 
-shot_begins : (count : ℕ) (db : Database) (t : OpenTransaction) (around : Around) (stmt : StmtTree) → Has count t → commit_count db.content ≡ count → Shot count (run_open db t around stmt)
+shot_begins : (count : ℕ) (db : Database) (t : OpenTransaction) (around : Surroundings) (stmt : StmtTree) → Has count t → commit_count db.content ≡ count → Shot count (run_open db t around stmt)
 shot_begins count db t around stmt has same = by_kind db t around (Shot count) (shot_once count db t around has same) start stmt where
   start : FromStart db t around (Shot count)
   start = record {
@@ -180,7 +180,7 @@ shot_begins count db t around stmt has same = by_kind db t around (Shot count) (
     locks = λ s l e. shot_select count db t around s s.table has same;
   }
 
-shot_on : (count : ℕ) (db : Database) (t : OpenTransaction) (around : Around) (g : Progress) (stmt : StmtTree) → Has count t → commit_count db.content ≡ count
+shot_on : (count : ℕ) (db : Database) (t : OpenTransaction) (around : Surroundings) (g : Progress) (stmt : StmtTree) → Has count t → commit_count db.content ≡ count
     → Shot count (run_on db t around g stmt)
 shot_on count db t around g stmt has same = on_kind db t around (Shot count) (shot_once count db t around has same) g place stmt where
   place : FromPlace db t around g (Shot count)
@@ -195,13 +195,13 @@ none_not : (k : ℕ) → None ≡ Some k → ⊥
 none_not k h = cc
 
 -- whatever a statement did, its transaction's snapshot is of commits before it
-pub shot_stmt : (db : Database) (tr : Transaction) (statement : Option Progress) (around : Around) (stmt : StmtTree) → ((t : OpenTransaction) → tr ≡ Open t → Has (commit_count db.content) t)
+pub shot_stmt : (db : Database) (tr : Transaction) (statement : Option Progress) (around : Surroundings) (stmt : StmtTree) → ((t : OpenTransaction) → tr ≡ Open t → Has (commit_count db.content) t)
     → Shot (commit_count db.content) (run_stmt db tr statement around stmt)
 shot_stmt db Aborted statement around stmt has = by (is_end stmt) where
   aborted_not : (u : OpenTransaction) → Aborted ≡ Open u → ⊥
   aborted_not u k = cc
 
-  by : (b : Bool) → (let d : Did = if b then turns db Closed else record { db = db; transaction = Aborted; statement = None; outcome = Failed AbortedFault } in Shot (commit_count db.content) d)
+  by : (b : Bool) → (let d : Effect = if b then turns db Closed else record { db = db; transaction = Aborted; statement = None; outcome = Failed AbortedFault } in Shot (commit_count db.content) d)
   by true = shot_closed (commit_count db.content) db
   by false = record { its = λ u h. absurd (aborted_not u h) }
 shot_stmt db (Open t) None around stmt has = shot_begins (commit_count db.content) db t around stmt (has t refl) refl

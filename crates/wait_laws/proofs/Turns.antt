@@ -20,10 +20,10 @@ use Rattle.session_machine.specs.declared.fault.Refusal.{Refusal}
 use Rattle.session_machine.specs.declared.fault.Refusal.TheVariants.{Busy, NotYourTurn, StillBlocked, BlockNotAllowed}
 use Rattle.session_machine.specs.Tables.{Database}
 use Rattle.session_machine.specs.Waits.{wait_of}
-use Rattle.session_machine.specs.Statements.{Did}
+use Rattle.session_machine.specs.Statements.{Effect}
 use Rattle.session_machine.specs.Running.{run_stmt}
-use Rattle.session_machine.specs.Machine.{Machine, Blocks, Next, next, opening, at_rest, stmts_at, is_busy, is_ready, first_ready, is_stopped, is_still_blocked, free_wait, FreeWait, sooner, earliest_free, turn_in, is_turn, is_directed, is_failed, first_place, finished, closed_at_end, waits_there, after_end, after_stmt, around, launch_of, step_stmt, step_at, step_of, leave_of}
-use Rattle.wait_laws.specs.Laws.{session_of, Reaches}
+use Rattle.session_machine.specs.Machine.{Machine, Blocks, Next, next, opening, at_rest, stmts_at, is_busy, is_ready, first_ready, is_stopped, is_still_blocked, free_wait, FreeWait, sooner, earliest_free, turn_in, is_turn, is_directed, is_failed, first_place, finished, closed_at_end, waits_there, after_end, after_stmt, around, launch_of, step_stmt, step_at, step_of, leave_of, session_of}
+use Rattle.wait_laws.specs.Laws.{Reaches}
 use Rattle.wait_laws.proofs.Lists.{slice_get-set_same, slice_get-set_other}
 use Rattle.wait_laws.proofs.Events.{session_there, ok_is, ok_else, stepped, always}
 
@@ -60,10 +60,10 @@ placed_over given place tr h = record { within = h; busy = λ g k. absurd (no_pr
 at_place : (given : Blocks) (p : Place) → p.next < length (stmts_at given p.block) → (q : Place) → Some p ≡ Some q → q.next < length (stmts_at given q.block)
 at_place given p h q e = subst (λ (y : Place). y.next < length (stmts_at given y.block)) (same_place p q e) h
 
-becomes_after : (given : Blocks) (m : Machine) (i : ℕ) (place : Place) (d : Did) → place.next < length (stmts_at given place.block)
+becomes_after : (given : Blocks) (m : Machine) (i : ℕ) (place : Place) (d : Effect) → place.next < length (stmts_at given place.block)
     → Becomes given m i (after_stmt m i place (length (stmts_at given place.block)) d)
 becomes_after given m i place d within = by (is_some d.statement) where
-  none : (e : Did) → Becomes given m i (finished m i e None)
+  none : (e : Effect) → Becomes given m i (finished m i e None)
   none e = record { u = record { place = None; transaction = e.transaction; statement = None }; is = refl; placed = placed_over given None e.transaction (λ p k. absurd (no_place p k)) }
 
   goes : (b : Bool) → nat_lt (place.next + 1) (length (stmts_at given place.block)) ≡ b

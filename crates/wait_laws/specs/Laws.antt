@@ -31,18 +31,18 @@ use Rattle.session_machine.specs.declared.session.Transaction.TheVariants.{Open}
 use Rattle.session_machine.specs.declared.fault.StmtFault.{StmtFault}
 use Rattle.session_machine.specs.declared.fault.StmtFault.TheVariants.{Deadlock, KeyTaken}
 use Rattle.session_machine.specs.declared.event.Event.{Event}
-use Rattle.session_machine.specs.declared.event.Event.TheVariants.{Launch, Step, Leave}
+use Rattle.session_machine.specs.declared.event.Event.TheVariants.{Step}
 use Rattle.session_machine.specs.declared.event.Mode.{Mode}
 use Rattle.session_machine.specs.declared.reply.HistItem.{HistItem}
 use Rattle.session_machine.specs.Tables.{Database, Table}
 use Rattle.session_machine.specs.Views.{rows_shown}
 use Rattle.session_machine.specs.Transactions.{fresh, view_of}
 use Rattle.session_machine.specs.Waits.{blockers, is_blocked, waits_in}
-use Rattle.session_machine.specs.Statements.{Around}
+use Rattle.session_machine.specs.Statements.{Surroundings}
 use Rattle.session_machine.specs.Rows.{Work, asked_key, columns_in, names_at, passing_targets, stop_at_key, taken_targets}
 use Rattle.session_machine.specs.Walks.{Blocked, Fails}
 use Rattle.session_machine.specs.Running.{going_on, run_stmt}
-use Rattle.session_machine.specs.Machine.{Machine, Blocks, Next, next, opening, stmts_at, is_busy, is_still_blocked, turn_in}
+use Rattle.session_machine.specs.Machine.{Machine, Blocks, Next, next, opening, session_of, stmts_at, is_busy, is_still_blocked, turn_in}
 use Rattle.session_machine.specs.Engine.{Follows, Run}
 
 -- the machine comes to the state, from its opening with so many sessions
@@ -67,7 +67,8 @@ pub record DeadlockIsExactAt (c : Content) (held : List Held) (waits : List Wait
   pub deadlocks : (target_outcome c held waits ask ≡ Deadlocks)
       ↔ (IsTrue (is_worth_a_wait ask.level (newest_version c ask)) × Closes (blocks waits) ask.tx (target_blockers held ask))
   pub waits_else : (target_outcome c held waits ask ≡ Waits)
-      ↔ (IsTrue (is_worth_a_wait ask.level (newest_version c ask)) × (is_none_of (target_blockers held ask) ≡ false) × ¬ Closes (blocks waits) ask.tx (target_blockers held ask))
+      ↔ (IsTrue (is_worth_a_wait ask.level (newest_version c ask)) × (is_none_of (target_blockers held ask) ≡ false)
+      × ¬ Closes (blocks waits) ask.tx (target_blockers held ask))
 
 abbrev pub DeadlockIsExact : Type 0
 DeadlockIsExact = (c : Content) (held : List Held) (waits : List Waiting) (ask : Asked) → DeadlockIsExactAt c held waits ask
@@ -84,9 +85,10 @@ has_another db w values except key = is_taken db.content (record { 0 = w.table }
 abbrev pub key_taken : Database → Work → List ℕ → KeyTree → StmtFault
 key_taken db w name key = KeyTaken (key_name name key.primary (names_at (columns_in db w) key.columns))
 
--- a statement is about to write a row with these values, and asks for one of its table's keys. It fails by a deadlock exactly where a wait for those that hold the key
--- would close a cycle; it waits exactly where others hold it, and a wait for them closes none; the key is taken exactly where nobody holds it and another row has it;
--- and the key stops nothing exactly where nobody holds it and no other row has it (5.5.3, 13.3.4)
+-- a statement is about to write a row with these values, and asks for one of its table's keys. It fails by a deadlock exactly where
+-- a wait for those that hold the key would close a cycle; it waits exactly where others hold it, and a wait for them closes none;
+-- the key is taken exactly where nobody holds it and another row has it; and the key stops nothing exactly where nobody holds it
+-- and no other row has it (5.5.3, 13.3.4)
 pub record KeyIsExactAt (db : Database) (w : Work) (name : List ℕ) (values : List Value) (except : Option RowId) (key : KeyTree) : Type 0 where
   pub deadlocks : (stop_at_key db w name values except key ≡ Some (Fails Deadlock))
       ↔ Closes (blocks (waits_in db w.around.sessions)) w.t.tx (key_holders db w values key)
@@ -110,14 +112,8 @@ abbrev pub WritesAreHeld : Type 0
 WritesAreHeld = (given : Blocks) (mode : Mode) (count : ℕ) (m : Machine) → Reaches given mode count m
     → (place : ℕ) (w : Write) → slice_get m.db.content.log place ≡ Some w → IsOpen m.db.content w.tx → IsHeldAlone m.db w
 
--- the session that an event is of
-abbrev pub session_of : Event → ℕ
-session_of (Launch session block) = session
-session_of (Step session) = session
-session_of (Leave session) = session
-
 -- where a statement goes on, its targets are the same: those that pass WHERE, and those that a locking SELECT takes
-pub record SameTargets (before after : Database) (p : Progress) (t : OpenTransaction) (around : Around) : Type 0 where
+pub record SameTargets (before after : Database) (p : Progress) (t : OpenTransaction) (around : Surroundings) : Type 0 where
   pub passing : (filter : Option Tree) → passing_targets after (going_on t around p) filter ≡ passing_targets before (going_on t around p) filter
   pub taken : (s : SelectTree) → taken_targets after (going_on t around p) s ≡ taken_targets before (going_on t around p) s
 
@@ -126,10 +122,11 @@ pub record FindsTheSame (before after : Database) (p : Progress) : Type 0 where
   pub seen : rows_of after.content p.view p.table ≡ rows_of before.content p.view p.table
   pub rows : rows_shown after.content p.view p.table.0 ≡ rows_shown before.content p.view p.table.0
   pub table : (made : Table) → slice_get before.catalog.tables p.table.0 ≡ Some made → slice_get after.catalog.tables p.table.0 ≡ Some made
-  pub targets : (made : Table) → slice_get before.catalog.tables p.table.0 ≡ Some made → (t : OpenTransaction) (around : Around) → SameTargets before after p t around
+  pub targets : (made : Table) → slice_get before.catalog.tables p.table.0 ≡ Some made
+      → (t : OpenTransaction) (around : Surroundings) → SameTargets before after p t around
 
--- in every state a session in the middle of a statement, which waits, is left as it is by what is done to another session, and its statement finds the same when it goes on:
--- whatever others commit meanwhile, its targets stay those of its view (13.2.1, 13.2.2)
+-- in every state a session in the middle of a statement, which waits, is left as it is by what is done to another session,
+-- and its statement finds the same when it goes on: whatever others commit meanwhile, its targets stay those of its view (13.2.1, 13.2.2)
 abbrev pub WaitsGoOnAsBegun : Type 0
 WaitsGoOnAsBegun = (given : Blocks) (mode : Mode) (count : ℕ) (m : Machine) → Reaches given mode count m
     → (k : ℕ) (s : Session) (p : Progress) → slice_get m.sessions k ≡ Some s → s.statement ≡ Some p
@@ -137,21 +134,21 @@ WaitsGoOnAsBegun = (given : Blocks) (mode : Mode) (count : ℕ) (m : Machine) �
     → (slice_get n.machine.sessions k ≡ Some s) × FindsTheSame m.db n.machine.db p
 
 -- the one is in the table and the view of the other, at no earlier target, and its wait began now
-pub record IsInViewOf (p : Progress) (around : Around) (q : Progress) : Type 0 where
+pub record IsInViewOf (p : Progress) (around : Surroundings) (q : Progress) : Type 0 where
   pub table : q.table ≡ p.table
   pub view : q.view ≡ p.view
   pub onward : p.place ≤ q.place
   pub number : q.wait.number ≡ around.number
 
 -- a statement that goes on, and stops at a later target, is in its view and at its table still, and waits anew: its view is taken once, when it begins (13.2.1)
-pub record GoesOnInItsView (db : Database) (t : OpenTransaction) (around : Around) (p q : Progress) : Type 0 where
+pub record GoesOnInItsView (db : Database) (t : OpenTransaction) (around : Surroundings) (p q : Progress) : Type 0 where
   pub inserts : (i : InsertTree) → (run_stmt db (Open t) (Some p) around (Inserts i)).statement ≡ Some q → IsInViewOf p around q
   pub updates : (u : UpdateTree) → (run_stmt db (Open t) (Some p) around (Updates u)).statement ≡ Some q → IsInViewOf p around q
   pub deletes : (d : DeleteTree) → (run_stmt db (Open t) (Some p) around (Deletes d)).statement ≡ Some q → IsInViewOf p around q
   pub locks : (s : SelectTree) (l : Lock) → s.lock ≡ Some l → (run_stmt db (Open t) (Some p) around (Selects s)).statement ≡ Some q → IsInViewOf p around q
 
 abbrev pub StatementsGoOnInTheirView : Type 0
-StatementsGoOnInTheirView = (db : Database) (t : OpenTransaction) (around : Around) (p q : Progress) → GoesOnInItsView db t around p q
+StatementsGoOnInTheirView = (db : Database) (t : OpenTransaction) (around : Surroundings) (p q : Progress) → GoesOnInItsView db t around p q
 
 -- the session is in the middle of a statement, and has come so far with it
 abbrev pub IsAtWork : Machine → ℕ → Session → Progress → Type 0
@@ -181,8 +178,9 @@ pub record IsAsBegun (m after : Machine) (s u : Session) (q : Progress) : Type 0
   pub goes_on : (p : Progress) → s.statement ≡ Some p → (q.table ≡ p.table) × (p.place ≤ q.place)
   pub finds : FindsTheSame m.db after.db q
 
--- from the state in which a statement begins, and from each in which it waits, a run leads to the same statement, as long as that isn't over: its targets are those
--- at its beginning, whatever others commit meanwhile, and whatever the statement itself has written at its targets before (13.2.1, 13.2.2)
+-- from the state in which a statement begins, and from each in which it waits, a run leads to the same statement, as long as that
+-- isn't over: its targets are those at its beginning, whatever others commit meanwhile, and whatever the statement itself has
+-- written at its targets before (13.2.1, 13.2.2)
 abbrev pub StatementsStayAsBegun : Type 0
 StatementsStayAsBegun = (given : Blocks) (mode : Mode) (count : ℕ) (m : Machine) → Reaches given mode count m
     → (k : ℕ) (s : Session) → slice_get m.sessions k ≡ Some s
@@ -220,12 +218,15 @@ abbrev pub AreSteps : List HistItem → Type 0
 AreSteps [] = Unit {0}
 AreSteps (item ∷ items) = ((session : ℕ) × (item.event ≡ Step session)) × AreSteps items
 
--- in every state each step that is taken, in turn or not, comes nearer to rest; so where sessions are given no more blocks, only so many steps follow one another:
--- for each statement that is left one of each session and one more, and one of each session that can step now.
+-- in every state each step that is taken, in turn or not, comes nearer to rest; so where sessions are given no more blocks,
+-- only so many steps follow one another: for each statement that is left one of each session and one more, and one of each session
+-- that can step now.
 -- And the step of the session whose turn it is is taken; so steps in turn come to a state in which it is nobody's turn
 pub record RestIsReached : Type 0 where
-  pub nearer : (given : Blocks) (mode : Mode) (count : ℕ) (m : Machine) → Reaches given mode count m → (session : ℕ) (n : Next) → next given mode m (Step session) ≡ Ok n
-      → IsNearerRest given m n.machine
-  pub bounded : (given : Blocks) (mode : Mode) (count : ℕ) (m after : Machine) (items : List HistItem) → Reaches given mode count m → Run given mode m items after → AreSteps items
+  pub nearer : (given : Blocks) (mode : Mode) (count : ℕ) (m : Machine) → Reaches given mode count m
+      → (session : ℕ) (n : Next) → next given mode m (Step session) ≡ Ok n → IsNearerRest given m n.machine
+  pub bounded : (given : Blocks) (mode : Mode) (count : ℕ) (m after : Machine) (items : List HistItem)
+      → Reaches given mode count m → Run given mode m items after → AreSteps items
       → length items ≤ statements_left given m * (length m.sessions + 1) + able m
-  pub in_turn : (given : Blocks) (mode : Mode) (count : ℕ) (m : Machine) → Reaches given mode count m → (k : ℕ) → turn_in m ≡ Some k → (n : Next) × (next given mode m (Step k) ≡ Ok n)
+  pub in_turn : (given : Blocks) (mode : Mode) (count : ℕ) (m : Machine) → Reaches given mode count m
+      → (k : ℕ) → turn_in m ≡ Some k → (n : Next) × (next given mode m (Step k) ≡ Ok n)

@@ -1,5 +1,5 @@
 -- The lists that are still to be given.
-use Rattle.std.specs.Prelude.{◌≡◌, ℕ, ◌^◌, ◌<◌, ◌≤◌, List, [], ◌∷◌, length, sum, Bool, true, false}
+use Rattle.std.specs.Prelude.{◌≡◌, ℕ, ◌^◌, ◌≤◌, List, [], ◌∷◌, length, sum, Bool, true, false}
 use Rattle.permutation_lists.specs.Inner.Prefixes.{later, IsAt}
 
 -- the next list and all above it, unless all were given

@@ -7,6 +7,7 @@ returns-then-options g c = (
     lists = c.list_spec.ensures.lists;
     refused = c.list_spec.ensures.refused;
     kinds = c.list_spec.ensures.kinds;
+    begun = c.list_spec.ensures.begun;
     noted = refl;
   },
   λ is is_free. absurd (let it = c.if-options.true in cc),

@@ -1,4 +1,4 @@
-use Rattle.std.proofs.Common.{◌≡◌, ◌≤◌, ◌++◌, [], length, map}
+use Rattle.std.proofs.Common.{◌≡◌, ◌++◌, length}
 use Rattle.iso_lexer.specs.Names.{unquoted}
 use Rattle.iso_lexer.proofs.name_bytes.push_unquoted.Given as goal
 

@@ -9,5 +9,5 @@ abbrev pub invariant-loop-place : goal.invariant-loop-place
 invariant-loop-place l = record {
   fit : FitsAfter (due_after l.launches (map entry_view l.entries)) (take l.place l.items) (drop l.place l.items)
       ↔ FitsAfter (due_after l.launches (map entry_view l.entries)) [] l.items;
-  follows : Follows (plan_of l.launches (map entry_view l.entries) (take l.place l.items)).setting l.progress;
+  follows : Follows (plan_of l.launches (map entry_view l.entries) (take l.place l.items)).run l.progress;
 }

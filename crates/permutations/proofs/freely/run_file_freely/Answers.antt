@@ -29,11 +29,9 @@ returns-clause-told g c =
 pub returns-clause-begun : goal.returns-clause-begun
 returns-clause-begun g c =
     let spec = spec_view c.in_ok-file.file.spec in
-    let failed = g.W.Sink.failed c.run_freely.new.out in
-    let noted = g.N.Sink.failed c.run_freely.new.notes in
     let wo = g.W.Sink.put_so_far c.args.out.now in
     let wn = g.W.Sink.put_so_far c.run_freely.new.out in
     let eo = g.N.Sink.put_so_far c.args.notes.now in
     let en = g.N.Sink.put_so_far c.run_freely.new.notes in
-    let begun = subst (λ (bs : Blocks). Begun (FreeSays spec bs) failed noted wo wn eo en) (ap blocks_of c.deref.ensures.value) c.run_freely.ensures.begun in
-    freely_begun c.args.bytes.now (file_view c.in_ok-file.file) failed noted wo wn eo en c.in_ok-file.ensures.ok begun
+    let begun = subst (λ (bs : Blocks). Begun (FreeSays spec bs) wo wn eo en) (ap blocks_of c.deref.ensures.value) c.run_freely.ensures.begun in
+    freely_begun c.args.bytes.now (file_view c.in_ok-file.file) wo wn eo en c.in_ok-file.ensures.ok begun

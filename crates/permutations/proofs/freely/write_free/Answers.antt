@@ -12,9 +12,10 @@ returns-in_err-line g c =
 
 pub returns-in_err-put : goal.returns-in_err-put
 returns-in_err-put g c =
+    let line = c.as_slice.ensures.value ∙ c.in_ok-line.ensures in
     let p = err_from_is_err_and c.from_residual-in_err-put.result c.from_residual-in_err-put.ensures.1 in
     rw (p.1, p.2) (no_line (spec_view c.args.spec.now) c.args.items.now (g.W.Sink.put_so_far c.args.out.now) (g.W.Sink.put_so_far c.put.new.self) (g.N.Sink.put_so_far c.args.notes.now)
-    (g.W.Sink.failed c.args.out.now) (g.W.Sink.failed c.put.new.self) (g.N.Sink.failed c.args.notes.now) c.in_err-put.field-0.0 c.in_err-put.ensures.fails)
+    (g.W.Sink.failed c.args.out.now) (g.W.Sink.failed c.put.new.self) (g.N.Sink.failed c.args.notes.now) c.in_err-put.field-0.0 c.as_slice.result.now line c.in_err-put.ensures.front c.in_err-put.ensures.fails)
 
 pub returns-in_err-write_free : goal.returns-in_err-write_free
 returns-in_err-write_free g c =

@@ -1,6 +1,6 @@
 use Rattle.std.proofs.lemmas.Result.{err_from_is_err_and}
 use Rattle.permutations.specs.BlockAnswers.{file_view}
-use Rattle.permutations.proofs.Listing.{refused_list, file_listed, nothing_out, list_begun, reading_lists}
+use Rattle.permutations.proofs.Listing.{refused_list, file_listed, list_begun, reading_lists}
 use Rattle.permutations.proofs.list.list_file.Goals as goal
 
 pub returns-in_err-file-clause-refused : goal.returns-in_err-file-clause-refused
@@ -11,9 +11,6 @@ returns-in_err-file-clause-refused g c =
 pub returns-clause-lists : goal.returns-clause-lists
 returns-clause-lists g c = λ ended. (_, file_listed c.args.bytes.now c.args.limit (file_view c.in_ok-file.file) c.in_ok-file.ensures.ok, c.list_permutations.ensures.lists ended)
 
-pub returns-in_err-file-clause-begun : goal.returns-in_err-file-clause-begun
-returns-in_err-file-clause-begun g c = nothing_out c.args.bytes.now c.args.limit (g.W.Sink.failed c.args.out.now) (g.W.Sink.put_so_far c.args.out.now)
-
 pub returns-in_err-file-clause-kinds : goal.returns-in_err-file-clause-kinds
 returns-in_err-file-clause-kinds g c =
     let p = err_from_is_err_and c.from_residual.result c.from_residual.ensures.1 in
@@ -21,4 +18,4 @@ returns-in_err-file-clause-kinds g c =
 
 pub returns-clause-begun : goal.returns-clause-begun
 returns-clause-begun g c =
-    list_begun c.args.bytes.now c.args.limit (file_view c.in_ok-file.file) (g.W.Sink.failed c.list_permutations.new.out) (g.W.Sink.put_so_far c.args.out.now) (g.W.Sink.put_so_far c.list_permutations.new.out) c.in_ok-file.ensures.ok c.list_permutations.ensures.begun
+    list_begun c.args.bytes.now c.args.limit (file_view c.in_ok-file.file) (g.W.Sink.put_so_far c.args.out.now) (g.W.Sink.put_so_far c.list_permutations.new.out) c.in_ok-file.ensures.ok c.list_permutations.ensures.begun

@@ -5,7 +5,7 @@ use Rattle.permutations.proofs.list.list_spec.Goals as goal
 
 pub returns-clause-begun : goal.returns-clause-begun
 returns-clause-begun g c =
-    of_bytes (λ bytes. ListBegun bytes c.args.limit (g.W.Sink.failed c.list_file.new.out) (g.W.Sink.put_so_far c.args.out.now) (g.W.Sink.put_so_far c.list_file.new.out)) 1048577
+    of_bytes (λ bytes. ListBegun bytes c.args.limit (g.W.Sink.put_so_far c.args.out.now) (g.W.Sink.put_so_far c.list_file.new.out)) 1048577
     (g.S.Source.left c.args.input.now) c.deref.result.now c.in_ok-bytes.bytes.items c.deref.ensures.value c.in_ok-bytes.ensures.bytes.front c.list_file.ensures.begun
 
 pub returns-in_err-bytes-clause-kinds : goal.returns-in_err-bytes-clause-kinds

@@ -6,7 +6,7 @@ use Rattle.spec_parser.specs.Trees.{spec_view}
 use Rattle.permutation_lists.specs.Permutations.{permutations_of}
 use Rattle.permutations.specs.BlockAnswers.{file_view}
 use Rattle.permutations.specs.Prints.{Prints}
-use Rattle.permutations.specs.Begun.{Begun, RunSays, FileMaySay}
+use Rattle.permutations.specs.Begun.{Begun, RunSays}
 use Rattle.permutations.specs.Broken.{RunBroken}
 use Rattle.permutations.proofs.Whole.{refused_file, ran, broke}
 use Rattle.permutations.proofs.Beginning.{no_line_begun, file_begun}
@@ -45,19 +45,18 @@ returns-clause-broken g c =
 
 pub returns-in_err-put-clause-begun : goal.returns-in_err-put-clause-begun
 returns-in_err-put-clause-begun g c =
-    no_line_begun (FileMaySay c.args.bytes.now c.args.limit) (g.W.Sink.failed c.put.new.self) (g.N.Sink.failed c.args.notes.now)
-    (g.W.Sink.put_so_far c.args.out.now) (g.W.Sink.put_so_far c.put.new.self) (g.N.Sink.put_so_far c.args.notes.now) c.in_err-put.ensures.fails.tells
+    let line = c.as_slice.ensures.value ∙ c.in_ok-line.ensures in
+    no_line_begun c.args.bytes.now c.args.limit (file_view c.in_ok-file.file)
+    (g.W.Sink.put_so_far c.args.out.now) (g.W.Sink.put_so_far c.put.new.self) (g.N.Sink.put_so_far c.args.notes.now) c.as_slice.result.now c.in_ok-file.ensures.ok line c.in_err-put.ensures.front
 
 pub returns-clause-begun : goal.returns-clause-begun
 returns-clause-begun g c =
     let line = c.as_slice.ensures.value ∙ c.in_ok-line.ensures in
     let blocks = ap blocks_of c.deref.ensures.value in
-    let failed = g.W.Sink.failed c.run_permutations.new.out in
-    let noted = g.N.Sink.failed c.run_permutations.new.notes in
     let wm = g.W.Sink.put_so_far c.put.new.self in
     let wn = g.W.Sink.put_so_far c.run_permutations.new.out in
     let eo = g.N.Sink.put_so_far c.args.notes.now in
     let en = g.N.Sink.put_so_far c.run_permutations.new.notes in
     let spec = spec_view c.in_ok-file.file.spec in
-    let begun = subst (λ (bs : Blocks). Begun (RunSays spec bs c.args.limit (permutations_of spec)) failed noted wm wn eo en) blocks c.run_permutations.ensures.begun in
-    file_begun c.args.bytes.now c.args.limit (file_view c.in_ok-file.file) failed noted (g.W.Sink.put_so_far c.args.out.now) wm wn eo en c.as_slice.result.now c.in_ok-file.ensures.ok line c.in_ok-put.ensures.bytes begun
+    let begun = subst (λ (bs : Blocks). Begun (RunSays spec bs c.args.limit (permutations_of spec)) wm wn eo en) blocks c.run_permutations.ensures.begun in
+    file_begun c.args.bytes.now c.args.limit (file_view c.in_ok-file.file) (g.W.Sink.put_so_far c.args.out.now) wm wn eo en c.as_slice.result.now c.in_ok-file.ensures.ok line c.in_ok-put.ensures.bytes begun

@@ -75,24 +75,24 @@ returns-in_err-permutations-clause-begun g c =
     let spec = spec_view c.args.spec.now in
     let out = g.W.Sink.put_so_far c.args.out.now in
     let notes = g.N.Sink.put_so_far c.args.notes.now in
-    whole_begun (spec_view c.args.spec.now) (blocks_of c.args.blocks.now) c.args.limit (permutations_of (spec_view c.args.spec.now)) (g.W.Sink.failed c.args.out.now) (g.N.Sink.failed c.args.notes.now) out out notes notes
+    whole_begun (spec_view c.args.spec.now) (blocks_of c.args.blocks.now) c.args.limit (permutations_of (spec_view c.args.spec.now)) out out notes notes
     c.args.limit (permutations_of spec) (starts spec (blocks_of c.args.blocks.now) out notes c.args.limit (permutations_of spec))
 
 pub returns-in_err-advance-clause-begun : goal.returns-in_err-advance-clause-begun
 returns-in_err-advance-clause-begun g c =
-    whole_begun (spec_view c.args.spec.now) (blocks_of c.args.blocks.now) c.args.limit (permutations_of (spec_view c.args.spec.now)) (g.W.Sink.failed c.loop-permutations.out) (g.N.Sink.failed c.loop-permutations.notes)
+    whole_begun (spec_view c.args.spec.now) (blocks_of c.args.blocks.now) c.args.limit (permutations_of (spec_view c.args.spec.now))
     (g.W.Sink.put_so_far c.args.out.now) (g.W.Sink.put_so_far c.loop-permutations.out) (g.N.Sink.put_so_far c.args.notes.now) (g.N.Sink.put_so_far c.loop-permutations.notes)
     c.loop-permutations.left c.loop-permutations.permutations.more c.loop-permutations.invariant
 
 pub returns-then-left-eq0-clause-begun : goal.returns-then-left-eq0-clause-begun
 returns-then-left-eq0-clause-begun g c =
-    whole_begun (spec_view c.args.spec.now) (blocks_of c.args.blocks.now) c.args.limit (permutations_of (spec_view c.args.spec.now)) (g.W.Sink.failed c.loop-permutations.out) (g.N.Sink.failed c.loop-permutations.notes)
+    whole_begun (spec_view c.args.spec.now) (blocks_of c.args.blocks.now) c.args.limit (permutations_of (spec_view c.args.spec.now))
     (g.W.Sink.put_so_far c.args.out.now) (g.W.Sink.put_so_far c.loop-permutations.out) (g.N.Sink.put_so_far c.args.notes.now) (g.N.Sink.put_so_far c.loop-permutations.notes)
     c.loop-permutations.left c.loop-permutations.permutations.more c.loop-permutations.invariant
 
 pub returns-clause-begun : goal.returns-clause-begun
 returns-clause-begun g c =
-    whole_begun (spec_view c.args.spec.now) (blocks_of c.args.blocks.now) c.args.limit (permutations_of (spec_view c.args.spec.now)) (g.W.Sink.failed c.loop-permutations.out) (g.N.Sink.failed c.loop-permutations.notes)
+    whole_begun (spec_view c.args.spec.now) (blocks_of c.args.blocks.now) c.args.limit (permutations_of (spec_view c.args.spec.now))
     (g.W.Sink.put_so_far c.args.out.now) (g.W.Sink.put_so_far c.loop-permutations.out) (g.N.Sink.put_so_far c.args.notes.now) (g.N.Sink.put_so_far c.loop-permutations.notes)
     c.loop-permutations.left c.loop-permutations.permutations.more c.loop-permutations.invariant
 
@@ -101,7 +101,7 @@ returns-in_err-run_permutation-clause-begun g c =
     let next : c.loop-permutations.permutations.more ≡ c.advance.new.self.here ∷ c.advance.new.self.more = search rules in
     let more = next ∙ ap (λ (p : List EntryTree). p ∷ c.advance.new.self.more) (sym c.entries.ensures) in
     let some : 0 < c.loop-permutations.left = omega (arith, c.if-left-eq0.false) in
-    next_begun (spec_view c.args.spec.now) (blocks_of c.args.blocks.now) c.args.limit (permutations_of (spec_view c.args.spec.now)) (g.W.Sink.failed c.run_permutation.new.out) (g.N.Sink.failed c.run_permutation.new.notes)
+    next_begun (spec_view c.args.spec.now) (blocks_of c.args.blocks.now) c.args.limit (permutations_of (spec_view c.args.spec.now))
     (g.W.Sink.put_so_far c.args.out.now) (g.W.Sink.put_so_far c.loop-permutations.out) (g.W.Sink.put_so_far c.run_permutation.new.out)
     (g.N.Sink.put_so_far c.args.notes.now) (g.N.Sink.put_so_far c.loop-permutations.notes) (g.N.Sink.put_so_far c.run_permutation.new.notes)
     c.loop-permutations.left c.loop-permutations.permutations.more (map entry_view c.entries.result.now) c.advance.new.self.more

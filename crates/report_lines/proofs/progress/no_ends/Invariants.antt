@@ -1,4 +1,4 @@
-use Rattle.report_lines.specs.Places.{IsZeros}
+use Rattle.report_lines.specs.Inner.Places.{IsZeros}
 use Rattle.report_lines.proofs.progress.no_ends.Given as goal
 
 abbrev pub invariant-loop : goal.invariant-loop

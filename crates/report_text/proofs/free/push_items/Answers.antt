@@ -1,12 +1,13 @@
 use Rattle.std.proofs.Common.{◌≡◌, ◌<◌, ◌≤◌, ◌++◌, ℕ, ◌+◌, List, length, take, drop, map, ap, sym, ◌∙◌, subst, arith, append_assoc, length-take, length-set}
 use Rattle.std.proofs.lemmas.List.{length-map}
 use Rattle.std.specs.Prelude.{Option, slice_set}
+use Rattle.iso_lexer.specs.Devices.{page_text}
 use Rattle.spec_parser.specs.Trees.{session_view, spec_view}
 use Rattle.session_machine.specs.declared.reply.HistItem.{HistItem}
 use Rattle.report_lines.specs.Starts.{session_of}
 use Rattle.report_text.specs.declared.standing.Standing.{Standing}
 use Rattle.report_text.specs.FreeText.{each_says, item_text, item_note, moved}
-use Rattle.report_text.specs.Table.{at_number, IsTable}
+use Rattle.report_text.specs.Inner.Table.{at_number, IsTable}
 use Rattle.report_text.proofs.FreeSaying.{each_more, table_more, text_alike, note_alike, at_few}
 use Rattle.report_text.proofs.free.push_items.Goals as goal
 
@@ -40,8 +41,8 @@ loop-item-preserved c =
     let next : List (Option Standing) = slice_set table s (moved item.event item.reply.outcome at) in
     let text : Option Standing → HistItem → List ℕ = item_text spec.sessions in
     let note : Option Standing → HistItem → List ℕ = item_note spec in
-    let page = c.loop-item.pages.text.bytes.items in
-    let notes = c.loop-item.pages.notes.bytes.items in
+    let page = page_text c.loop-item.pages.text in
+    let notes = page_text c.loop-item.pages.notes in
     record {
       text = ap (λ (l : List ℕ). l ++ each_says text (take (i + 1) items) (drop (i + 1) items)) c.in_ok-push_said.ensures.text
           ∙ append_assoc page (text at item) (each_says text (take (i + 1) items) (drop (i + 1) items))

@@ -16,7 +16,7 @@ returns-in-Whole-clause-text c =
     let course = c.args.course.now in
     let front = setups_say course.items (orders course.items) 0 (setups_of spec) in
     let well : front.ending ≡ whole = sym c.in_ok-early.ensures.ending ∙ ap ending_of c.in-Whole.is in
-    text_well c.push_rest.result (starting_text spec.sessions course.entries) front (rest_says spec course (orders course.items)) _ _ _ well c.in_ok-early.ensures.text c.push_rest.ensures.text
+    text_well c.push_rest.result (starting_text spec course.entries) front (rest_says spec course (orders course.items)) _ _ _ well c.in_ok-early.ensures.text c.push_rest.ensures.text
 
 pub returns-in-Whole-clause-notes : goal.returns-in-Whole-clause-notes
 unfolding all_says
@@ -25,7 +25,7 @@ returns-in-Whole-clause-notes c =
     let course = c.args.course.now in
     let front = setups_say course.items (orders course.items) 0 (setups_of spec) in
     let well : front.ending ≡ whole = sym c.in_ok-early.ensures.ending ∙ ap ending_of c.in-Whole.is in
-    notes_well c.push_rest.result (starting_text spec.sessions course.entries) front (rest_says spec course (orders course.items)) _ _ well (setups_notes course.items (orders course.items) 0 (setups_of spec)) c.push_rest.ensures.notes
+    notes_well c.push_rest.result (starting_text spec course.entries) front (rest_says spec course (orders course.items)) _ _ well (setups_notes course.items (orders course.items) 0 (setups_of spec)) c.push_rest.ensures.notes
 
 pub returns-in-Whole-clause-ending : goal.returns-in-Whole-clause-ending
 unfolding all_says
@@ -34,7 +34,7 @@ returns-in-Whole-clause-ending c =
     let course = c.args.course.now in
     let front = setups_say course.items (orders course.items) 0 (setups_of spec) in
     let well : front.ending ≡ whole = sym c.in_ok-early.ensures.ending ∙ ap ending_of c.in-Whole.is in
-    ends_well c.push_rest.result (starting_text spec.sessions course.entries) front (rest_says spec course (orders course.items)) well c.push_rest.ensures.ending
+    ends_well c.push_rest.result (starting_text spec course.entries) front (rest_says spec course (orders course.items)) well c.push_rest.ensures.ending
 
 pub returns-in_default-clause-text : goal.returns-in_default-clause-text
 unfolding all_says
@@ -43,7 +43,7 @@ returns-in_default-clause-text c =
     let course = c.args.course.now in
     let front = setups_say course.items (orders course.items) 0 (setups_of spec) in
     let early : is_whole front.ending ≡ false = ap is_whole (sym c.in_ok-early.ensures.ending) ∙ ended c.in_ok-early.early c.in_default.not-Whole in
-    text_early (starting_text spec.sessions course.entries) front (rest_says spec course (orders course.items)) _ _ early c.in_ok-early.ensures.text
+    text_early (starting_text spec course.entries) front (rest_says spec course (orders course.items)) _ _ early c.in_ok-early.ensures.text
 
 pub returns-in_default-clause-notes : goal.returns-in_default-clause-notes
 unfolding all_says
@@ -52,7 +52,7 @@ returns-in_default-clause-notes c =
     let course = c.args.course.now in
     let front = setups_say course.items (orders course.items) 0 (setups_of spec) in
     let early : is_whole front.ending ≡ false = ap is_whole (sym c.in_ok-early.ensures.ending) ∙ ended c.in_ok-early.early c.in_default.not-Whole in
-    notes_early (starting_text spec.sessions course.entries) front (rest_says spec course (orders course.items)) _ early (setups_notes course.items (orders course.items) 0 (setups_of spec))
+    notes_early (starting_text spec course.entries) front (rest_says spec course (orders course.items)) _ early (setups_notes course.items (orders course.items) 0 (setups_of spec))
 
 pub returns-in_default-clause-ending : goal.returns-in_default-clause-ending
 unfolding all_says
@@ -61,4 +61,4 @@ returns-in_default-clause-ending c =
     let course = c.args.course.now in
     let front = setups_say course.items (orders course.items) 0 (setups_of spec) in
     let early : is_whole front.ending ≡ false = ap is_whole (sym c.in_ok-early.ensures.ending) ∙ ended c.in_ok-early.early c.in_default.not-Whole in
-    ends_early (starting_text spec.sessions course.entries) front (rest_says spec course (orders course.items)) _ early c.in_ok-early.ensures.ending
+    ends_early (starting_text spec course.entries) front (rest_says spec course (orders course.items)) _ early c.in_ok-early.ensures.ending

@@ -1,8 +1,9 @@
 use Rattle.std.proofs.Common.{◌≡◌, ◌++◌, take}
-use Rattle.std.specs.Prelude.{map, flat_map}
-use Rattle.spec_parser.specs.Trees.{session_view}
+use Rattle.iso_lexer.specs.Devices.{page_text}
+use Rattle.std.specs.Prelude.{flat_map}
+use Rattle.spec_parser.specs.Trees.{spec_view}
 use Rattle.report_text.specs.LineText.{line_text}
 use Rattle.report_text.proofs.permutation.push_lines.Given as goal
 
 abbrev pub invariant-loop-line : goal.invariant-loop-line
-invariant-loop-line l = l.page.bytes.items ≡ l.fn.page.bytes.items ++ flat_map (line_text (map session_view l.sessions) l.course) (take l.line-index l.lines)
+invariant-loop-line l = page_text l.page ≡ page_text l.fn.page ++ flat_map (line_text (spec_view l.spec) l.course) (take l.line-index l.lines)

@@ -1,7 +1,8 @@
-use Rattle.std.proofs.Common.{◌≡◌, ◌+◌, ◌-◌, ◌++◌, List, length, map, sym, ap, subst, ◌∙◌, arith}
+use Rattle.std.proofs.Common.{◌≡◌, ◌+◌, ◌-◌, ◌++◌, List, length, sym, ap, ◌∙◌, arith}
 use Rattle.std.proofs.lemmas.List.{length-map}
+use Rattle.iso_lexer.specs.Devices.{page_text}
 use Rattle.session_machine.specs.declared.reply.HistItem.{HistItem}
-use Rattle.spec_parser.specs.Trees.{SessionTree, entry_view, session_view, spec_view}
+use Rattle.spec_parser.specs.Trees.{entry_view, spec_view}
 use Rattle.report_lines.specs.Due.{orders}
 use Rattle.report_text.specs.Said.{Said, whole}
 use Rattle.report_text.specs.Teardowns.{teardowns_say}
@@ -15,12 +16,8 @@ returns-in_ok-push_teardowns-in-Whole-clause-text c =
     let spec = spec_view c.args.spec.now in
     let course = c.args.course.now in
     let there = orders course.items - course.setups in
-    let sessions : map session_view c.deref.result.now ≡ spec.sessions = ap (map session_view) c.deref.ensures.value in
-    let said = entries_say spec.sessions course there in
-    let told : c.push_entries.new.page.bytes.items ≡ c.args.pages.now.text.bytes.items ++ said.text =
-    subst (λ (ss : List SessionTree). c.push_entries.new.page.bytes.items ≡ c.args.pages.now.text.bytes.items ++ (entries_say ss course there).text) sessions c.in_ok-early.ensures.text in
-    let well : said.ending ≡ whole =
-    sym (subst (λ (ss : List SessionTree). ending_of c.in_ok-early.early ≡ (entries_say ss course there).ending) sessions c.in_ok-early.ensures.ending) ∙ ap ending_of c.in-Whole.is in
+    let said = entries_say spec course there in
+    let well : said.ending ≡ whole = sym c.in_ok-early.ensures.ending ∙ ap ending_of c.in-Whole.is in
     let long : length c.entries.result.now ≡ length course.entries = sym (length-map c.entries.result.now entry_view) ∙ ap length c.entries.ensures in
     let from : c.args.setups + length c.entries.result.now ≡ course.setups + length course.entries = omega (arith, c.requires.setups, long) in
     let count : c.count.result ≡ orders course.items = c.count.ensures ∙ ap orders c.segments-segments.ensures in
@@ -29,5 +26,5 @@ returns-in_ok-push_teardowns-in-Whole-clause-text c =
     ∙ ap (λ n. teardowns_say spec course.items n (c.args.setups + length c.entries.result.now)) count
     ∙ ap (λ n. teardowns_say spec course.items (orders course.items) n) from in
     text_after said (teardowns_say spec course.items (orders course.items) (course.setups + length course.entries))
-    c.args.pages.now.text.bytes.items c.push_entries.new.page.bytes.items c.push_teardowns.new.pages.text.bytes.items well told
-    (c.in_ok-push_teardowns-in-Whole.ensures.text ∙ ap (λ (t : Said). c.push_entries.new.page.bytes.items ++ t.text) same)
+    (page_text c.args.pages.now.text) (page_text c.push_entries.new.page) (page_text c.push_teardowns.new.pages.text) well c.in_ok-early.ensures.text
+    (c.in_ok-push_teardowns-in-Whole.ensures.text ∙ ap (λ (t : Said). page_text c.push_entries.new.page ++ t.text) same)

@@ -1,4 +1,5 @@
 use Rattle.std.proofs.Common.{◌≡◌, ◌≤◌, ◌++◌, [], ℕ, sym, ap, ◌∙◌, arith, drop}
+use Rattle.iso_lexer.specs.Devices.{page_text}
 use Rattle.report_text.specs.Said.{Said, says}
 use Rattle.report_text.specs.Setups.{setups_say}
 use Rattle.report_text.proofs.Saying.{setups_gone, gone_text}
@@ -10,8 +11,8 @@ returns-then-there-number-clause-text c =
     let left = setups_say c.args.segments.now c.count-there.result c.loop-number.number (drop c.loop-number.number c.args.sessions.now) in
     let all = setups_say c.args.segments.now c.count-there.result 0 c.args.sessions.now in
     let gone : left ≡ says [] = setups_gone c.args.segments.now c.count-there.result c.loop-number.number (drop c.loop-number.number c.args.sessions.now) over in
-    gone_text c.loop-number.page.bytes.items left.text c.args.page.now.bytes.items all.text (ap (λ (s : Said). s.text) gone) c.loop-number.invariant.text
-    ∙ ap (λ (n : ℕ). c.args.page.now.bytes.items ++ (setups_say c.args.segments.now n 0 c.args.sessions.now).text) c.count-there.ensures
+    gone_text (page_text c.loop-number.page) left.text (page_text c.args.page.now) all.text (ap (λ (s : Said). s.text) gone) c.loop-number.invariant.text
+    ∙ ap (λ (n : ℕ). page_text c.args.page.now ++ (setups_say c.args.segments.now n 0 c.args.sessions.now).text) c.count-there.ensures
 
 pub returns-then-there-number-clause-ending : goal.returns-then-there-number-clause-ending
 returns-then-there-number-clause-ending c =

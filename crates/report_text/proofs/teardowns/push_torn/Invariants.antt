@@ -1,5 +1,6 @@
 use Rattle.std.proofs.Common.{◌≡◌, ◌++◌, drop}
 use Rattle.std.specs.Prelude.{map}
+use Rattle.iso_lexer.specs.Devices.{page_text}
 use Rattle.spec_parser.specs.Trees.{session_view}
 use Rattle.report_text.specs.Teardowns.{torn}
 use Rattle.report_text.proofs.teardowns.push_torn.Given as goal
@@ -9,7 +10,7 @@ invariant-loop-session l =
     let now = torn (map session_view l.sessions) l.segments l.there l.number (drop l.session-index l.teardowns) in
     let all = torn (map session_view l.sessions) l.segments l.there l.first l.teardowns in
     record {
-      text : l.pages.text.bytes.items ++ now.text ≡ l.fn.pages.text.bytes.items ++ all.text;
-      notes : l.pages.notes.bytes.items ++ now.notes ≡ l.fn.pages.notes.bytes.items ++ all.notes;
+      text : page_text l.pages.text ++ now.text ≡ page_text l.fn.pages.text ++ all.text;
+      notes : page_text l.pages.notes ++ now.notes ≡ page_text l.fn.pages.notes ++ all.notes;
       next : now.next ≡ all.next;
     }

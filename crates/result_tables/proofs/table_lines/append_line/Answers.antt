@@ -1,6 +1,6 @@
 use Rattle.std.proofs.Common.{arith, false, ◌≡◌, ◌∙◌, length, map, slice_index_or}
 use Rattle.std.proofs.lemmas.List.{length-map, get_or_default}
-use Rattle.result_tables.specs.declared.column.Column.{Column}
+use Rattle.result_tables.specs.declared.column.ColumnLayout.{ColumnLayout}
 use Rattle.result_tables.specs.TableText.{padded_cells}
 use Rattle.result_tables.proofs.Joins.{joined_more, padded_cells_at, length-padded_cells, joined_all}
 use Rattle.result_tables.proofs.table_lines.append_line.Goals as goal
@@ -11,8 +11,8 @@ loop-k-preserved g c =
     let shown = g.C.Shown.shown in
     let cells = c.args.cells.now in
     let k = c.loop-k.k in
-    let none : Column = record { width = 0; left = false } in
-    let column : Column = slice_index_or columns k none in
+    let none : ColumnLayout = record { width = 0; left = false } in
+    let column : ColumnLayout = slice_index_or columns k none in
     let long : length (padded_cells columns (map shown cells)) ≡ length columns = length-padded_cells columns (map shown cells) (length-map cells shown ∙ c.requires) in
     let here = padded_cells_at shown columns cells k column c.index-cells-k.result c.requires c.loop-k-test.true
     (get_or_default columns k none column c.loop-k-test.true) c.index-cells-k.is in

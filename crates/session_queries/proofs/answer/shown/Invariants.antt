@@ -1,7 +1,7 @@
 use Rattle.std.proofs.Common.{◌≡◌, drop, map}
 use Rattle.sql_trees.specs.Statements.{item_of}
 use Rattle.session_queries.specs.Queries.{each, row_values}
-use Rattle.session_queries.specs.Fronts.{in_front}
+use Rattle.session_queries.specs.Inner.Fronts.{in_front}
 use Rattle.session_queries.proofs.answer.shown.Given as goal
 
 abbrev pub invariant-loop-row : goal.invariant-loop-row

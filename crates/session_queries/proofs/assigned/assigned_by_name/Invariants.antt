@@ -1,7 +1,7 @@
 use Rattle.std.proofs.Common.{◌≡◌, drop, map}
 use Rattle.sql_trees.specs.Statements.{column_of, name_of}
 use Rattle.session_queries.specs.Queries.{assigned_by_name}
-use Rattle.session_queries.specs.Fronts.{in_front}
+use Rattle.session_queries.specs.Inner.Fronts.{in_front}
 use Rattle.session_queries.proofs.assigned.assigned_by_name.Given as goal
 
 abbrev pub invariant-loop-name : goal.invariant-loop-name

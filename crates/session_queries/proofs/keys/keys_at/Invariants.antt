@@ -1,7 +1,7 @@
 use Rattle.std.proofs.Common.{◌≡◌, drop, length, map}
 use Rattle.std.specs.Prelude.{All}
 use Rattle.sql_trees.specs.Statements.{item_of, order_of}
-use Rattle.session_queries.specs.Fronts.{in_front}
+use Rattle.session_queries.specs.Inner.Fronts.{in_front}
 use Rattle.session_queries.specs.Ordering.{rows_at}
 use Rattle.session_queries.specs.Queries.{each, keys_of}
 use Rattle.session_queries.proofs.keys.keys_at.Given as goal

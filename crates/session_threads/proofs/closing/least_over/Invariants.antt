@@ -1,6 +1,7 @@
 use Rattle.std.proofs.Common.{◌≡◌, ◌≢◌, ◌↔◌, ◌<◌, ℕ, [], true, drop}
 use Rattle.std.specs.Prelude.{IfSome}
-use Rattle.session_threads.specs.Seats.{seats_of, is_less}
+use Rattle.session_threads.specs.Seats.{seats_of}
+use Rattle.session_threads.specs.Inner.Seats.{is_less}
 use Rattle.session_threads.proofs.closing.least_over.Given as goal
 
 abbrev pub invariant-loop-seat : goal.invariant-loop-seat

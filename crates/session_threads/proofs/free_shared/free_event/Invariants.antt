@@ -1,5 +1,5 @@
 use Rattle.std.proofs.Common.{◌≡◌}
-use Rattle.session_threads.specs.Seats.{session_of}
+use Rattle.session_machine.specs.Machine.{session_of}
 use Rattle.session_threads.proofs.free_shared.free_event.Given as goal
 
 abbrev pub invariant-loop : goal.invariant-loop

@@ -2,7 +2,7 @@ use Rattle.std.proofs.Common.{◌≡◌, drop, map}
 use Rattle.std.specs.Prelude.{find}
 use Rattle.iso_lexer.specs.Names.{name_view}
 use Rattle.spec_parser.specs.Names.{is_named}
-use Rattle.spec_parser.specs.Known.{known_view}
+use Rattle.spec_parser.specs.Inner.Known.{known_view}
 use Rattle.spec_parser.proofs.known.find_step.Given as goal
 
 abbrev pub invariant-loop-step : goal.invariant-loop-step

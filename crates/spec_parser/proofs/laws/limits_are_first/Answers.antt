@@ -1,5 +1,5 @@
 use Rattle.spec_parser.proofs.Exact.{limits_are_names}
-use Rattle.spec_parser.proofs.Overs.{limit_stop}
+use Rattle.spec_parser.proofs.StopsAreAtLimits.{limit_stop}
 use Rattle.spec_parser.proofs.laws.limits_are_first.Goals as goal
 
 pub returns : goal.returns

@@ -1,4 +1,4 @@
-use Rattle.std.proofs.Common.{rules, ◌≡◌, sym, ap, ◌∙◌}
+use Rattle.std.proofs.Common.{rules, sym, ap, ◌∙◌}
 use Rattle.sql_trees.specs.declared.expr.Expr.TheViews.{the_lemmas}
 use Rattle.std.proofs.lemmas.List.{drop_all}
 use Rattle.sql_trees.specs.Trees.{trees}

@@ -1,4 +1,4 @@
-use Rattle.std.proofs.Common.{◌≡◌, sym, ◌∙◌}
+use Rattle.std.proofs.Common.{sym, ◌∙◌}
 use Rattle.sql_trees.specs.Trees.{tree_of}
 use Rattle.sql_trees.proofs.Sameness.{same_decides}
 use Rattle.sql_trees.proofs.same.same_expr.Goals as goal

@@ -3,7 +3,8 @@ use Rattle.std.specs.Prelude.{slice_get}
 use Rattle.session_machine.specs.declared.reply.HistItem.{HistItem}
 use Rattle.spec_parser.specs.Trees.{entry_view}
 use Rattle.report_lines.specs.Starts.{is_order}
-use Rattle.report_lines.specs.Progress.{Keeps, Lags}
+use Rattle.report_lines.specs.Progress.{Keeps}
+use Rattle.report_lines.specs.Inner.Progress.{Lags}
 use Rattle.report_lines.proofs.progress.Progress.see_all.Given as goal
 
 abbrev pub invariant-loop-place : goal.invariant-loop-place

@@ -1,8 +1,8 @@
 use Rattle.std.proofs.Common.{◌≡◌, ◌+◌, sym, subst, arith, map, refl}
 use Rattle.spec_parser.specs.Trees.{entry_view}
 use Rattle.report_lines.specs.Due.{orders}
-use Rattle.report_lines.specs.History.{Setting}
-use Rattle.report_lines.specs.Telling.{Tells}
+use Rattle.report_lines.specs.History.{PermutationRun}
+use Rattle.report_lines.specs.SoFar.{IsReportSoFar}
 use Rattle.report_lines.proofs.Keeping.{settled_already, settled_next, one_behind, room_to_tell}
 use Rattle.report_lines.proofs.progress.Progress.settle.Goals as goal
 
@@ -15,7 +15,7 @@ pub go_on-requires-clause-orders : goal.go_on-requires-clause-orders
 go_on-requires-clause-orders c =
     let behind = one_behind (record { entries = map entry_view c.args.entries.now; items = c.args.items.now; setups = c.args.setups }) c.args.self.now c.requires
     (λ same. c.if-saturating_sub-self.false (let long = c.len.ensures in let left = c.saturating_sub.ensures in omega arith)) in
-    subst (λ (s : Setting). orders s.items ≡ s.setups + c.args.self.now.there + 1) (sym c.new-sight.ensures) behind
+    subst (λ (s : PermutationRun). orders s.items ≡ s.setups + c.args.self.now.there + 1) (sym c.new-sight.ensures) behind
 
 pub overflow_add-self : goal.overflow_add-self
 overflow_add-self c =
@@ -28,8 +28,8 @@ overflow_add-self c =
 
 pub returns : goal.returns
 returns c =
-    let course : Setting = record { entries = map entry_view c.args.entries.now; items = c.args.items.now; setups = c.args.setups } in
+    let course : PermutationRun = record { entries = map entry_view c.args.entries.now; items = c.args.items.now; setups = c.args.setups } in
     let behind = one_behind course c.args.self.now c.requires
     (λ same. c.if-saturating_sub-self.false (let long = c.len.ensures in let left = c.saturating_sub.ensures in omega arith)) in
     settled_next course c.args.self.now _ c.requires behind refl refl refl refl
-    (subst (λ (s : Setting). Tells s (c.args.self.now.there + 1) c.go_on.new.self c.in_ok-self.field-0) c.new-sight.ensures c.in_ok-self.ensures)
+    (subst (λ (s : PermutationRun). IsReportSoFar s (c.args.self.now.there + 1) c.go_on.new.self c.in_ok-self.field-0) c.new-sight.ensures c.in_ok-self.ensures)

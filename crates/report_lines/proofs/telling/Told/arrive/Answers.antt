@@ -1,5 +1,5 @@
 use Rattle.std.proofs.Common.{◌≡◌, ◌<◌, ◌∙◌, ap, sym, arith, true, false, length}
-use Rattle.report_lines.specs.Telling.{Telling}
+use Rattle.report_lines.specs.SoFar.{LinesSoFar}
 use Rattle.report_lines.specs.Report.{made_way, is_busy}
 use Rattle.report_lines.proofs.Reports.{report_stuck, report_due}
 use Rattle.report_lines.proofs.telling.Told.arrive.Goals as goal
@@ -10,7 +10,7 @@ returns-then-is_busy-clause-told c =
     let e = c.args.entry in
     let way = c.make_way.new.self.lines in
     let less : e < length course.entries = grind arith in
-    let is : way ≡ made_way course c.args.self.now.lines e = ap (λ (t : Telling). t.lines) c.in_ok-make_way.ensures in
+    let is : way ≡ made_way course c.args.self.now.lines e = ap (λ (t : LinesSoFar). t.lines) c.in_ok-make_way.ensures in
     let busy : is_busy course way e ≡ true = sym c.is_busy.ensures ∙ c.if-is_busy.true in
     report_stuck course (length course.entries) e c.args.self.now.lines way less is busy
 
@@ -20,6 +20,6 @@ returns-else-is_busy-clause-told c =
     let e = c.args.entry in
     let way = c.make_way.new.self.lines in
     let less : e < length course.entries = grind arith in
-    let is : way ≡ made_way course c.args.self.now.lines e = ap (λ (t : Telling). t.lines) c.in_ok-make_way.ensures in
+    let is : way ≡ made_way course c.args.self.now.lines e = ap (λ (t : LinesSoFar). t.lines) c.in_ok-make_way.ensures in
     let free : is_busy course way e ≡ false = sym c.is_busy.ensures ∙ c.if-is_busy.false in
     report_due course (length course.entries) e c.args.self.now.lines way less is free

@@ -4,7 +4,7 @@ use Rattle.session_queries.specs.Queries.{AssignedColumn, columns_assigned}
 use Rattle.session_machine.specs.Rows.{columns_in, insert_at}
 use Rattle.session_machine.specs.Running.{assigned_to, done, ended}
 use Rattle.session_machine.specs.Walks.{walked}
-use Rattle.session_statements.specs.Acting.{halted}
+use Rattle.session_statements.specs.Inner.Acting.{halted}
 use Rattle.session_statements.proofs.database.Database.insert_from.Goals as goal
 
 pub returns : goal.returns

@@ -7,7 +7,7 @@ use Rattle.session_machine.specs.Rows.{insert_at}
 use Rattle.session_machine.specs.Walks.{Visit}
 use Rattle.session_machine.specs.Running.{done, ended}
 use Rattle.session_statements.specs.declared.act.Stop.{Stop}
-use Rattle.session_statements.specs.Acting.{stop_of}
+use Rattle.session_statements.specs.Inner.Acting.{stop_of}
 use Rattle.session_statements.proofs.Inserting.{row_passes, row_stops}
 use Rattle.session_statements.proofs.database.Database.insert_rows.Goals as goal
 

@@ -9,10 +9,10 @@ use Rattle.session_machine.specs.declared.reply.Outcome.{Outcome}
 use Rattle.session_machine.specs.declared.reply.Outcome.TheVariants.{Rows}
 use Rattle.session_machine.specs.Tables.{Database}
 use Rattle.session_machine.specs.Rows.{ask, at_target, columns_in, lock_at, lock_with, taken_targets}
-use Rattle.session_machine.specs.Statements.{Did}
+use Rattle.session_machine.specs.Statements.{Effect}
 use Rattle.session_machine.specs.Running.{ended, lock_from}
 use Rattle.session_machine.specs.Walks.{Visit, walked}
-use Rattle.session_statements.specs.Left.{left}
+use Rattle.session_statements.specs.Inner.Left.{left}
 use Rattle.session_statements.proofs.Going.{found_targets}
 use Rattle.session_statements.proofs.database.Database.lock_from.Goals as goal
 
@@ -27,6 +27,6 @@ returns-in-Ok g c =
     ≡ ended db.content w outcome (walked (lock_at w s c.args.lock) db c.args.place c.args.rows.items (drop c.args.place c.deref.result.now)) =
     ap (ended db.content w outcome) (found_targets (lock_at w s c.args.lock) db c.args.place c.args.rows.items (taken_targets db w s) c.in-Ok.targets.items c.deref.result.now
     c.in-Ok.ensures.targets c.deref.ensures.value) in
-    subst (λ (x : Did). IfOk c.lock_over.result (λ did. x ≡ left c.lock_over.new.self did)) (sym e)
+    subst (λ (x : Effect). IfOk c.lock_over.result (λ did. x ≡ left c.lock_over.new.self did)) (sym e)
     (subst (λ (x : Strength). IfOk c.lock_over.result (λ did.
     ended db.content w outcome (walked (at x) db c.args.place c.args.rows.items (drop c.args.place c.deref.result.now)) ≡ left c.lock_over.new.self did)) c.strength_of.ensures c.lock_over.ensures)

@@ -5,7 +5,7 @@ use Rattle.session_queries.specs.Queries.{titles_of}
 use Rattle.session_machine.specs.declared.reply.Outcome.{Outcome}
 use Rattle.session_machine.specs.declared.reply.Outcome.TheVariants.{Rows}
 use Rattle.session_machine.specs.Rows.{columns_in}
-use Rattle.session_statements.specs.Acting.{halted}
+use Rattle.session_statements.specs.Inner.Acting.{halted}
 use Rattle.session_statements.proofs.database.Database.lock_over.Goals as goal
 
 pub returns : goal.returns

@@ -8,7 +8,7 @@ use Rattle.row_versions.specs.Rows.{rows_of}
 use Rattle.session_machine.specs.Views.{rows_shown}
 use Rattle.session_machine.specs.Statements.{columns_at}
 use Rattle.row_versions.specs.Log.{values_at}
-use Rattle.session_statements.specs.Keeping.{RowIn, RowsIn}
+use Rattle.session_statements.specs.Inner.Keeping.{RowIn, RowsIn}
 use Rattle.session_statements.proofs.Lent.{lent_fit}
 use Rattle.session_statements.proofs.Keeping.{picked_hold, shown_in}
 use Rattle.session_statements.proofs.database.Database.passing_targets.Goals as goal

@@ -1,6 +1,6 @@
 use Rattle.std.proofs.Common.{sym, subst}
 use Rattle.session_machine.specs.Tables.{Database}
-use Rattle.session_statements.specs.Keeping.{IsOrderly}
+use Rattle.session_statements.specs.Inner.Keeping.{IsOrderly}
 use Rattle.session_statements.proofs.database.Database.run_first.Goals as goal
 
 pub run_open-requires-clause-orderly : goal.run_open-requires-clause-orderly

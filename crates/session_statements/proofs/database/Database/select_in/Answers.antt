@@ -3,9 +3,9 @@ use Rattle.std.specs.Prelude.{IfOk, None}
 use Rattle.sql_trees.specs.Statements.{select_of}
 use Rattle.session_queries.specs.Queries.{cols_of, lacking_select, wrong_position}
 use Rattle.session_machine.specs.Rows.{columns_in}
-use Rattle.session_machine.specs.Statements.{Did}
+use Rattle.session_machine.specs.Statements.{Effect}
 use Rattle.session_machine.specs.Running.{select_rows}
-use Rattle.session_statements.specs.Left.{left}
+use Rattle.session_statements.specs.Inner.Left.{left}
 use Rattle.session_statements.proofs.Going.{not_wrong}
 use Rattle.session_statements.proofs.database.Database.select_in.Goals as goal
 
@@ -19,4 +19,4 @@ returns g c =
     let position : wrong_position (columns_in db w) s ≡ None =
     sym (ap (λ cs. wrong_position cs s) c.columns_in-columns.ensures) ∙ sym c.wrong_position.ensures ∙ c.in_default-wrong_position.is in
     let e = not_wrong db w.t (lacking_select (cols_of (columns_in db w)) s) (wrong_position (columns_in db w) s) (select_rows db w s s.lock) lacks position in
-    subst (λ (x : Did). IfOk c.select_rows.result (λ did. x ≡ left c.select_rows.new.self did)) (sym e) c.select_rows.ensures
+    subst (λ (x : Effect). IfOk c.select_rows.result (λ did. x ≡ left c.select_rows.new.self did)) (sym e) c.select_rows.ensures

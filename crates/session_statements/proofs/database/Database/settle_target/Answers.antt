@@ -6,7 +6,7 @@ use Rattle.update_recheck.specs.Asked.{Asked}
 use Rattle.update_recheck.specs.Outcome.{target_outcome}
 use Rattle.session_machine.specs.Waits.{waits_in}
 use Rattle.session_machine.specs.Rows.{Work}
-use Rattle.session_statements.specs.Acting.{asks}
+use Rattle.session_statements.specs.Inner.Acting.{asks}
 use Rattle.session_statements.proofs.database.Database.settle_target.Goals as goal
 
 pub returns-clause-outcome : goal.returns-clause-outcome

@@ -9,7 +9,7 @@ use Rattle.row_versions.specs.Rows.{rows_of}
 use Rattle.session_machine.specs.Views.{rows_shown}
 use Rattle.session_machine.specs.Statements.{columns_at}
 use Rattle.row_versions.specs.Log.{values_at}
-use Rattle.session_statements.specs.Keeping.{RowIn, RowsIn}
+use Rattle.session_statements.specs.Inner.Keeping.{RowIn, RowsIn}
 use Rattle.sql_trees.specs.Statements.{select_of}
 use Rattle.session_queries.specs.Queries.{taken}
 use Rattle.session_machine.specs.Rows.{seen_by, columns_in, shown_to}

@@ -1,7 +1,7 @@
 use Rattle.std.proofs.Common.{◌≡◌, drop}
 use Rattle.session_machine.specs.Walks.{walked}
-use Rattle.session_statements.specs.Acting.{visit_at}
-use Rattle.session_statements.specs.Keeping.{IsKept}
+use Rattle.session_statements.specs.Inner.Acting.{visit_at}
+use Rattle.session_statements.specs.Inner.Keeping.{IsKept}
 use Rattle.session_statements.proofs.database.Database.walk.Given as goal
 
 abbrev pub invariant-loop-at : goal.invariant-loop-at

@@ -3,7 +3,7 @@ use Rattle.std.proofs.lemmas.Result.{err_from_is_err_and}
 use Rattle.std.proofs.ResultArms.{chosen}
 use Rattle.spec_parser.specs.Trees.{entry_name_view}
 use Rattle.spec_parser.specs.Reading.{starts_name, entry_at, all_at, is_name}
-use Rattle.spec_parser.specs.Readers.{FailsAs, rest_of}
+use Rattle.spec_parser.specs.Inner.Readers.{FailsAs, rest_of}
 use Rattle.spec_parser.proofs.Loops.{SoFar, on_end, on_item, on_stop, behind_nothing, views_push, views_len, starts_nonempty}
 use Rattle.spec_parser.proofs.Productions.{entry_shorter}
 use Rattle.spec_parser.proofs.reader.Reader.each_entry.Goals as goal

@@ -3,7 +3,7 @@ use Rattle.std.specs.Prelude.{map}
 use Rattle.iso_lexer.specs.declared.spec_token.Keyword.TheVariants.{Step}
 use Rattle.spec_parser.specs.Trees.{draft_view}
 use Rattle.spec_parser.specs.Reading.{starts_word, step_at}
-use Rattle.spec_parser.specs.Readers.{rest_of, Same}
+use Rattle.spec_parser.specs.Inner.Readers.{rest_of, Same}
 use Rattle.spec_parser.proofs.Loops.{SoFar}
 use Rattle.spec_parser.proofs.reader.Reader.each_step.Given as goal
 

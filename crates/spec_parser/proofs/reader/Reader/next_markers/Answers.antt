@@ -4,7 +4,7 @@ use Rattle.std.proofs.ResultArms.{chosen}
 use Rattle.iso_lexer.specs.declared.spec_token.Sign.TheVariants.{Comma}
 use Rattle.spec_parser.specs.Trees.{marker_view}
 use Rattle.spec_parser.specs.Reading.{starts_sign, next_marker_at, next_markers_at, is_sign}
-use Rattle.spec_parser.specs.Readers.{FailsAs, rest_of}
+use Rattle.spec_parser.specs.Inner.Readers.{FailsAs, rest_of}
 use Rattle.spec_parser.proofs.Loops.{SoFar, on_end, on_item, on_stop, views_push, starts_nonempty}
 use Rattle.spec_parser.proofs.Productions.{next_marker_shorter}
 use Rattle.spec_parser.proofs.reader.Reader.next_markers.Goals as goal

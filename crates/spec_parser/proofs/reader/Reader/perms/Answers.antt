@@ -4,7 +4,7 @@ use Rattle.std.proofs.ResultArms.{chosen}
 use Rattle.iso_lexer.specs.declared.spec_token.Keyword.TheVariants.{Permutation}
 use Rattle.spec_parser.specs.Trees.{perm_names_view}
 use Rattle.spec_parser.specs.Reading.{starts_word, perm_at, perms_at, is_word}
-use Rattle.spec_parser.specs.Readers.{FailsAs, rest_of}
+use Rattle.spec_parser.specs.Inner.Readers.{FailsAs, rest_of}
 use Rattle.spec_parser.proofs.Loops.{SoFar, on_end, on_item, on_stop, behind_nothing, views_push, starts_nonempty}
 use Rattle.spec_parser.proofs.Productions.{perm_shorter}
 use Rattle.spec_parser.proofs.reader.Reader.perms.Goals as goal

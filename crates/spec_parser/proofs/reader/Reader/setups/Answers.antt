@@ -4,7 +4,7 @@ use Rattle.std.proofs.ResultArms.{chosen}
 use Rattle.iso_lexer.specs.declared.spec_token.Keyword.TheVariants.{Setup}
 use Rattle.spec_parser.specs.Trees.{part_view}
 use Rattle.spec_parser.specs.Reading.{starts_word, block_after, setups_at, is_word}
-use Rattle.spec_parser.specs.Readers.{FailsAs, rest_of}
+use Rattle.spec_parser.specs.Inner.Readers.{FailsAs, rest_of}
 use Rattle.spec_parser.proofs.Loops.{SoFar, on_end, on_item, on_stop, behind_nothing, views_push, starts_nonempty}
 use Rattle.spec_parser.proofs.Productions.{block_shorter}
 use Rattle.spec_parser.proofs.reader.Reader.setups.Goals as goal

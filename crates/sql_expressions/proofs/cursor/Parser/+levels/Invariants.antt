@@ -1,4 +1,4 @@
-use Rattle.std.proofs.Common.{ℕ, ◌+◌, ◌-◌, ◌*◌, length}
+use Rattle.std.proofs.Common.{◌+◌, ◌-◌, ◌*◌, length}
 use Rattle.sql_trees.specs.Tokens.{tok_views}
 use Rattle.sql_expressions.specs.Reading.{found, found_list, list_at, chain_op, chain_at, operand_at, inside}
 use Rattle.sql_expressions.proofs.Chains.{rank_of, Goes, Lists}

@@ -1,5 +1,4 @@
-use Rattle.std.proofs.Common.{◌≡◌, ap, sym, ◌∙◌, subst}
-use Rattle.std.specs.Prelude.{Ok}
+use Rattle.std.proofs.Common.{ap, ◌∙◌, subst}
 use Rattle.sql_expressions.specs.Reading.{Gives, found, expr_at}
 use Rattle.sql_expressions.proofs.Complete.{expr_complete}
 use Rattle.sql_expressions.proofs.Chains.{ok_gives}

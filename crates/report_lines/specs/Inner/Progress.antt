@@ -1,0 +1,31 @@
+-- What the code does with what is kept, item by item.
+use Rattle.std.specs.Prelude.{◌≡◌, ◌+◌, ◌-◌, ◌⊎◌, true, Some, slice_get}
+use Rattle.report_lines.specs.declared.progress.Progress.{Progress}
+use Rattle.session_machine.specs.declared.reply.HistItem.{HistItem}
+use Rattle.report_lines.specs.Starts.{is_order}
+use Rattle.report_lines.specs.History.{PermutationRun}
+use Rattle.report_lines.specs.Due.{orders}
+use Rattle.report_lines.specs.Progress.{Keeps, front}
+use Rattle.report_lines.specs.Inner.Places.{starts_after, ends_after}
+
+-- the last segment, if it is an entry's, is not told
+abbrev pub Lags : PermutationRun → Progress → Type 0
+Lags c p = p.there ≡ orders c.items - (c.setups + 1)
+
+-- all segments are told
+pub record IsSettled (c : PermutationRun) (p : Progress) : Type 0 where
+  pub kept : Keeps c p
+  pub all : p.there ≡ orders c.items - c.setups
+
+-- the item behind that front, if there is one, is an order, or belongs to a segment that isn't told
+abbrev pub IsNext : PermutationRun → Progress → Type 0
+IsNext c p = (item : HistItem) → slice_get c.items p.seen ≡ Some item → (is_order item.event ≡ true) ⊎ Lags (front c p.seen) p
+
+-- the item has come
+pub record IsNoted (item : HistItem) (p q : Progress) : Type 0 where
+  pub starts_are : q.starts.items ≡ starts_after item p.seen p.starts.items
+  pub last_is : q.last.items ≡ ends_after item (p.seen + 1) p.last.items
+  pub told_is : q.told ≡ p.told
+  pub stand_is : q.stand ≡ p.stand
+  pub seen_is : q.seen ≡ p.seen + 1
+  pub there_is : q.there ≡ p.there

@@ -1,7 +1,0 @@
--- What a statement leaves, as the machine's definitions say it.
-use Rattle.session_machine.specs.Tables.{Database}
-use Rattle.session_machine.specs.Statements.{Did}
-use Rattle.session_statements.specs.declared.did.Did.{Did as Left}
-
-abbrev pub left : Database → Left → Did
-left db did = record { db = db; transaction = did.transaction; statement = did.statement; outcome = did.outcome }

@@ -1,0 +1,32 @@
+-- What stands behind the lock of a run.
+use Rattle.std.specs.Prelude.{◌≡◌, List, [], Option, Some, None, Bool, true}
+use Rattle.session_machine.specs.declared.event.Event.{Event}
+use Rattle.session_machine.specs.declared.event.Order.{Order}
+use Rattle.session_machine.specs.declared.event.Order.TheVariants.{Stop}
+use Rattle.session_machine.specs.declared.reply.HistItem.{HistItem}
+use Rattle.session_machine.specs.Engine.{Engine}
+use Rattle.session_threads.specs.declared.seat.ThreadFault.{ThreadFault}
+use Rattle.session_threads.specs.Orders.{Orders, IsOrder, OrderedAfter}
+
+-- what stands behind the lock of a run: the engine, the order that was given and is not yet done, whether the driver said Stop, and a fault that was met
+pub record SharedOf : Type 0 where
+  pub engine : Engine
+  pub order : Option Event
+  pub stop : Bool
+  pub fault : Option ThreadFault
+
+-- an order that was given is the one that stands
+abbrev pub IsGiven : Option Event → Order → Type 0
+IsGiven None order = Unit {0}
+IsGiven (Some event) order = IsOrder event order
+
+-- what was done so far was ordered, and so are the order that was given and the Stop
+pub record IsOrderly (orders : Orders) (items : List HistItem) (order : Option Event) (stop : Bool) : Type 0 where
+  pub ordered : OrderedAfter orders [] items
+  pub given : IsGiven order (orders items)
+  pub stopped : stop ≡ true → orders items ≡ Stop
+
+-- the driver's own orders are these, and unless a fault was met what it keeps fits the history
+pub record IsLed (orders driven : Orders) (follows : List HistItem → Type 0) (items : List HistItem) (fault : Option ThreadFault) : Type 0 where
+  pub own : driven ≡ orders
+  pub keeps : fault ≡ None → follows items
