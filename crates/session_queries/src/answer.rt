@@ -5,6 +5,7 @@ ghost use Rattle.sql_trees.specs.Statements.{column_of, item_of, select_of};
 ghost use Rattle.sql_values.specs.Values.{Answers};
 ghost use Rattle.sql_values.specs.Aggregates.{aggregate};
 ghost use Rattle.session_queries.specs.Queries.{Counted, agg_results, cols_of, counted, each, item_values, lacking_select, result_of, row_results, row_values, titles_of};
+ghost use Rattle.session_queries.specs.Fronts.{AnswersList};
 ghost use Rattle.session_queries.specs.Inner.Answers.{has_none};
 ghost use Rattle.session_queries.specs.Inner.Answers.{answered, selected};
 ghost use Rattle.session_queries.specs.Inner.Fronts.{in_front};
@@ -90,9 +91,7 @@ fn shown<'a>(
     rows: &[&Row],
 ) -> Result<Vec<Row>, ValueFault<'a>>
     requires { All (λ row. length row.now ≡ length columns.now) rows.now }
-    ensures { MatchResult result
-        (λ shown. each (row_values columns.now (map item_of items.now)) (map (λ row. row.now) rows.now) ≡ Ok shown.items)
-        (λ fault. fault ≢ ValueFault.Memory → each (row_values columns.now (map item_of items.now)) (map (λ row. row.now) rows.now) ≡ Err fault) }
+    ensures { AnswersList result (each (row_values columns.now (map item_of items.now)) (map (λ row. row.now) rows.now)) }
 {
     let mut shown = Vec::new(alloc);
     for row in rows {
@@ -136,9 +135,7 @@ fn agg_values<'a>(
     taken: &[&Row],
 ) -> Result<Vec<Value>, ValueFault<'a>>
     requires { All (λ row. length row.now ≡ length columns.now) taken.now }
-    ensures values { MatchResult result
-        (λ values. each (λ (a : Counted). aggregate a.agg columns.now (map (λ row. row.now) taken.now)) (counted (map item_of items.now)) ≡ Ok values.items)
-        (λ fault. fault ≢ ValueFault.Memory → each (λ (a : Counted). aggregate a.agg columns.now (map (λ row. row.now) taken.now)) (counted (map item_of items.now)) ≡ Err fault) }
+    ensures values { AnswersList result (each (λ (a : Counted). aggregate a.agg columns.now (map (λ row. row.now) taken.now)) (counted (map item_of items.now))) }
     ensures long { IfOk result (λ values. length values.items ≡ length (counted (map item_of items.now))) }
 {
     let mut values = Vec::new(alloc);

@@ -13,7 +13,6 @@ ghost use Rattle.session_statements.specs.Inner.Left.{left};
 use crate::act::{Act, Visited};
 use crate::database::Database;
 use crate::effect::{Effect, Surroundings, Work};
-use crate::insert::fault_of;
 use iso_lexer::Ident;
 use row_versions::{Seen, Versions};
 use session_machine::{OpenTransaction, StmtFault};
@@ -50,13 +49,7 @@ impl<'a, 't, V: Versions> Database<'a, 't, V> {
         requires orderly { IsOrderly self.old }
         ensures { IfOk result (λ did. delete_from self.old work.now (delete_of stmt.now) place rows.items ≡ left self.new did) }
     {
-        match self.passing_targets(work, &stmt.filter) {
-            Ok(targets) => self.go_over(work, &Act::Delete(stmt), &targets, place, rows),
-            Err(fault) => {
-                let fault = fault_of(fault)?;
-                Ok(self.fail(&work.by, fault))
-            }
-        }
+        self.go_over_passing(work, &Act::Delete(stmt), &stmt.filter, place, rows)
     }
 
     /// DELETE: what its WHERE matches is gone.

@@ -131,10 +131,7 @@ impl<'a, 't, V: Versions> Database<'a, 't, V> {
                 let act = Act::Lock(stmt, strength_of(lock));
                 self.lock_over(work, stmt, &act, &targets, place, rows)
             }
-            Err(fault) => {
-                let fault = fault_of(fault)?;
-                Ok(self.fail(&work.by, fault))
-            }
+            Err(fault) => self.fail_value(&work.by, fault),
         }
     }
 }

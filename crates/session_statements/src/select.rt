@@ -17,7 +17,6 @@ ghost use Rattle.session_statements.specs.Inner.Left.{left};
 
 use crate::database::Database;
 use crate::effect::{Effect, Surroundings, Work};
-use crate::insert::fault_of;
 use iso_lexer::{Ident, Name};
 use result_tables::ResultSet;
 use row_versions::Versions;
@@ -68,10 +67,7 @@ impl<'a, 't, V: Versions> Database<'a, 't, V> {
                 let after = self.after_query(by);
                 Ok(Effect::of(Transaction::Open(after), Outcome::Rows(set)))
             }
-            Err(fault) => {
-                let fault = fault_of(fault)?;
-                Ok(self.fail(by, fault))
-            }
+            Err(fault) => self.fail_value(by, fault),
         }
     }
 

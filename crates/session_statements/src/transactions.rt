@@ -1,6 +1,6 @@
 //! How a statement ends its transaction, or goes on in it.
 
-ghost use Rattle.std.specs.Prelude.{◌≡◌, is_some};
+ghost use Rattle.std.specs.Prelude.{◌≡◌, ◌≢◌, is_some, IfOk, OnOk, OnErr};
 ghost use Rattle.sql_trees.specs.Statements.{stmt_of};
 ghost use Rattle.row_versions.specs.Log.{IsOpen};
 ghost use Rattle.session_machine.specs.Tables.{Database as DatabaseFacts};
@@ -10,11 +10,13 @@ ghost use Rattle.session_machine.specs.Statements.{fails, is_level, level_set, b
 
 use crate::database::Database;
 use crate::effect::Effect;
+use crate::insert::fault_of;
 use iso_lexer::Ident;
 use row_versions::Versions;
 use session_machine::{OpenTransaction, Outcome, StmtFault, Transaction};
 use sql_trees::{Level, Stmt};
 use sql_values::ValueFault;
+use std::alloc::AllocError;
 
 fn same_level(a: Level, b: Level) -> bool
     ensures { result ≡ is_level a b }
@@ -60,6 +62,21 @@ impl<'a, 't, V: Versions> Database<'a, 't, V> {
         ensures { fails self.old by.now (StmtFault.Value (ValueFault.NoColumn name.entry)) ≡ left self.new result }
     {
         self.fail(by, StmtFault::Value(ValueFault::NoColumn(name)))
+    }
+
+    /// The statement fails by the fault of a value, unless that is want of memory.
+    pub(crate) fn fail_value(
+        &mut self,
+        by: &OpenTransaction,
+        fault: ValueFault<'t>,
+    ) -> Result<Effect<'t>, AllocError>
+        requires { IsOpen self.old.content by.now.tx }
+        ensures did { IfOk result (λ did. fails self.old by.now (StmtFault.Value fault.entry) ≡ left self.new did) }
+        ensures other { OnOk result (fault.entry ≢ ValueFault.Memory) }
+        ensures memory { OnErr result (fault.entry ≡ ValueFault.Memory) }
+    {
+        let fault = fault_of(fault)?;
+        Ok(self.fail(by, fault))
     }
 
     /// The level is set before the transaction's first query, or stays.

@@ -112,13 +112,7 @@ impl<'a, 't, V: Versions> Database<'a, 't, V> {
         ensures { IfOk result (λ did. update_from self.old work.now (update_of stmt.now) place rows.items ≡ left self.new did) }
     {
         let to = assigned_to(self.alloc, self.columns_in(work), &stmt.sets)?;
-        match self.passing_targets(work, &stmt.filter) {
-            Ok(targets) => self.go_over(work, &Act::Update(stmt, &to), &targets, place, rows),
-            Err(fault) => {
-                let fault = fault_of(fault)?;
-                Ok(self.fail(&work.by, fault))
-            }
-        }
+        self.go_over_passing(work, &Act::Update(stmt, &to), &stmt.filter, place, rows)
     }
 
     /// The UPDATE whose assigned columns are there: it names no other that isn't.

@@ -1,11 +1,13 @@
 //! How a statement goes from one of its targets to the next, up to the one at which it stops.
 
-ghost use Rattle.std.specs.Prelude.{◌≡◌, ◌+◌, ◌<◌, ◌^◌, List, Some, length, drop, IfOk, OnOk};
+ghost use Rattle.std.specs.Prelude.{◌≡◌, ◌+◌, ◌<◌, ◌^◌, List, Some, length, drop, option_map, IfOk, OnOk};
+ghost use Rattle.sql_trees.specs.Trees.{tree_of};
 ghost use Rattle.sql_values.specs.declared.value.Value.{Value as SqlValue};
 ghost use Rattle.row_versions.specs.Log.{Content, IsOpen};
 ghost use Rattle.session_machine.specs.declared.reply.Outcome.{Outcome as OutcomeFacts};
 ghost use Rattle.session_machine.specs.Transactions.{started};
-ghost use Rattle.session_machine.specs.Walks.{Blocked, walked};
+ghost use Rattle.session_machine.specs.Walks.{Blocked, walked, walked_from};
+ghost use Rattle.session_machine.specs.Rows.{passing_targets};
 ghost use Rattle.session_machine.specs.Tables.{Database as DatabaseFacts};
 ghost use Rattle.session_machine.specs.Running.{done, ended, pauses};
 ghost use Rattle.session_statements.specs.Inner.Acting.{halted, visit_at};
@@ -19,6 +21,7 @@ use row_versions::{Seen, TableId, Versions};
 use session_machine::{
     Gathered, OpenTransaction, Outcome, Progress, Request, Transaction, Waiting,
 };
+use sql_trees::Expr;
 use sql_values::Row;
 use std::alloc::AllocError;
 
@@ -100,8 +103,8 @@ impl<'a, 't, V: Versions> Database<'a, 't, V> {
         }
     }
 
-    /// A statement without a result goes over its targets, from this place on.
-    pub(crate) fn go_over(
+    /// A statement without a result goes over these targets, from this place on.
+    fn go_over(
         &mut self,
         work: &Work<'_>,
         act: &Act<'_, 'a, 't>,
@@ -123,6 +126,29 @@ impl<'a, 't, V: Versions> Database<'a, 't, V> {
         match self.walk(work, act, targets, place, &mut answered)? {
             None => Ok(Effect::turned(Transaction::Open(after))),
             Some(halt) => Ok(self.halt(work, begun, halt, answered)),
+        }
+    }
+
+    /// A statement without a result goes over the targets that pass its WHERE, from this place on.
+    pub(crate) fn go_over_passing(
+        &mut self,
+        work: &Work<'_>,
+        act: &Act<'_, 'a, 't>,
+        filter: &Option<Expr<'t>>,
+        place: usize,
+        rows: Vec<Row>,
+    ) -> Result<Effect<'t>, AllocError>
+        requires opened { IsOpen self.old.content work.now.t.tx }
+        requires room { work.now.t.command + 1 < 2 ^ 64 }
+        requires within { work.now.table < length self.old.catalog.tables }
+        requires orderly { IsOrderly self.old }
+        ensures { IfOk result (λ did.
+            ended self.old.content work.now done (walked_from (visit_at work.now act.now) self.old place rows.items (passing_targets self.old work.now (option_map tree_of filter.now)))
+            ≡ left self.new did) }
+    {
+        match self.passing_targets(work, filter) {
+            Ok(targets) => self.go_over(work, act, &targets, place, rows),
+            Err(fault) => self.fail_value(&work.by, fault),
         }
     }
 }

@@ -1,12 +1,11 @@
 //! Who stands in the way of a key.
-ghost use Rattle.std.specs.Prelude.{◌≡◌, ◌==◌, not, ◌&&◌, IfOk, if◌then◌else◌};
+ghost use Rattle.std.specs.Prelude.{◌≡◌, ◌==◌, not, ◌&&◌, IfOk};
 ghost use Rattle.std.specs.List.{list_any};
 ghost use Rattle.row_versions.specs.Log.{has_committed};
 ghost use Rattle.unique_keys.specs.Members.{EachOnce, has};
-ghost use Rattle.unique_keys.specs.Keys.{has_key};
-ghost use Rattle.unique_keys.specs.Finding.{is_committed_version, committed_has, own_has, is_in_way, blockers_among};
+ghost use Rattle.unique_keys.specs.Finding.{committed_has, own_has, is_in_way, blockers_among};
 
-use crate::noted::{Noted, has_key};
+use crate::noted::{Noted, has_key, version_has};
 use row_versions::{RowId, TableId, TxId, Versions};
 use smallvec::SmallVec;
 use sql_values::Value;
@@ -18,24 +17,7 @@ fn has(list: &[TxId], tx: TxId) -> bool
     list.iter().any(|other| other.0 == tx.0)
 }
 
-/// Whether the row's newest committed version has the key, by what is known without this write.
-fn committed_after<V: Versions>(
-    store: &V,
-    columns: &[u32],
-    asked: &[Value],
-    row: RowId,
-    note: &Noted,
-    before: bool,
-) -> bool
-    ensures { result ≡ (if is_committed_version (has_committed (V.content store.now)) row note.now then has_key columns.now asked.now note.now.values else before) }
-{
-    if note.row.0 == row.0 && store.has_committed(note.tx) {
-        has_key(columns, asked, note)
-    } else {
-        before
-    }
-}
-
+/// Whether the row's newest committed version has the key.
 fn committed_has<V: Versions>(
     store: &V,
     notes: &[Noted],
@@ -45,11 +27,11 @@ fn committed_has<V: Versions>(
 ) -> bool
     ensures { result ≡ committed_has (has_committed (V.content store.now)) notes.now columns.now asked.now row }
 {
-    let mut has = false;
-    for note in notes {
-        has = committed_after(store, columns, asked, row, note, has);
-    }
-    has
+    let newest = notes
+        .iter()
+        .rev()
+        .find(|note| note.row.0 == row.0 && store.has_committed(note.tx));
+    version_has(columns, asked, newest)
 }
 
 fn own_has(notes: &[Noted], columns: &[u32], asked: &[Value], row: RowId, tx: TxId) -> bool

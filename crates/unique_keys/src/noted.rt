@@ -1,7 +1,9 @@
 //! Writes as the index knows them.
 ghost use Rattle.std.specs.Prelude.{◌≡◌};
 ghost use Rattle.unique_keys.specs.Keys.{agree, are_equal, has_key};
+ghost use Rattle.unique_keys.specs.Finding.{version_has};
 ghost use Rattle.std.specs.List.{slice_get};
+ghost use Rattle.std.specs.Option.{option_copied};
 
 use row_versions::{RowId, TableId, TxId};
 use sql_values::{Row, Value, compare};
@@ -43,6 +45,16 @@ pub fn has_key(columns: &[u32], asked: &[Value], note: &Noted) -> bool
 {
     match &note.values {
         Some(row) => agree(columns, asked, row.values()),
+        None => false,
+    }
+}
+
+/// Whether the write, if there is one, gave its row the key.
+pub fn version_has(columns: &[u32], asked: &[Value], note: Option<&Noted>) -> bool
+    ensures { result ≡ version_has columns.now asked.now (option_copied note.entry) }
+{
+    match note {
+        Some(note) => has_key(columns, asked, note),
         None => false,
     }
 }

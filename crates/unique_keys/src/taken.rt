@@ -1,11 +1,11 @@
 //! Which row has a key.
-ghost use Rattle.std.specs.Prelude.{◌≡◌, ◌==◌, ◌&&◌, if◌then◌else◌};
+ghost use Rattle.std.specs.Prelude.{◌≡◌, ◌==◌, ◌&&◌};
 ghost use Rattle.std.specs.List.{list_any};
 ghost use Rattle.row_versions.specs.Log.{has_committed};
 ghost use Rattle.unique_keys.specs.Keys.{has_key};
-ghost use Rattle.unique_keys.specs.Finding.{counts_for, is_version_for, is_another, newest_has, is_taken_among};
+ghost use Rattle.unique_keys.specs.Finding.{counts_for, is_another, newest_has, is_taken_among};
 
-use crate::noted::{Noted, has_key};
+use crate::noted::{Noted, has_key, version_has};
 use row_versions::{RowId, TableId, TxId, Versions};
 use sql_values::Value;
 
@@ -16,25 +16,7 @@ fn counts_for<V: Versions>(store: &V, tx: TxId, note: &Noted) -> bool
     store.has_committed(note.tx) || note.tx.0 == tx.0
 }
 
-/// Whether the row's newest version for the transaction has the key, by what is known without this write.
-fn newest_after<V: Versions>(
-    store: &V,
-    columns: &[u32],
-    asked: &[Value],
-    row: RowId,
-    tx: TxId,
-    note: &Noted,
-    before: bool,
-) -> bool
-    ensures { result ≡ (if is_version_for (has_committed (V.content store.now)) row tx note.now then has_key columns.now asked.now note.now.values else before) }
-{
-    if note.row.0 == row.0 && counts_for(store, tx, note) {
-        has_key(columns, asked, note)
-    } else {
-        before
-    }
-}
-
+/// Whether the row's newest version for the transaction has the key.
 fn newest_has<V: Versions>(
     store: &V,
     notes: &[Noted],
@@ -45,11 +27,11 @@ fn newest_has<V: Versions>(
 ) -> bool
     ensures { result ≡ newest_has (has_committed (V.content store.now)) notes.now columns.now asked.now row tx }
 {
-    let mut has = false;
-    for note in notes {
-        has = newest_after(store, columns, asked, row, tx, note, has);
-    }
-    has
+    let newest = notes
+        .iter()
+        .rev()
+        .find(|note| note.row.0 == row.0 && counts_for(store, tx, note));
+    version_has(columns, asked, newest)
 }
 
 fn is_another(except: Option<RowId>, row: RowId) -> bool
