@@ -8,8 +8,8 @@ use Rattle.report_text.proofs.Counting.{orders-le}
 use Rattle.report_text.proofs.Saying.{permutation_run}
 use Rattle.report_text.proofs.permutation.said_of.Goals as goal
 
-pub push_all-requires-clause-count : goal.push_all-requires-clause-count
-push_all-requires-clause-count c =
+pub push_all-requires-clause-orders : goal.push_all-requires-clause-orders
+push_all-requires-clause-orders c =
     let items : c.in_ok-run.run.items ≡ c.args.items.now = ap (λ (s : PermutationRun). s.items) c.in_ok-run.ensures in
     omega (arith, orders-le c.in_ok-run.run.items, ap length items)
 
