@@ -2,12 +2,12 @@
 use Rattle.std.specs.Prelude.{ℕ, List, [], ◌∷◌, ◌++◌, map, option_to_list}
 use Rattle.std.specs.Global.{Vec}
 use Rattle.spec_parser.specs.Trees.{PartTree, StepTree, SessionTree, SpecTree}
-use Rattle.report_lines.specs.declared.history.Task.{Task}
-use Rattle.permutation_plans.specs.Launches.{task, own_tasks}
+use Rattle.report_lines.specs.declared.history.PlannedLaunch.{PlannedLaunch}
+use Rattle.permutation_plans.specs.Launches.{launch_in, own_launches}
 
 -- blocks with their sessions that run one after the other; of each session the blocks of its own; the blocks of the control session behind them
 pub record FreeLaunches : Type 0 where
-  pub before : List Task
+  pub before : List PlannedLaunch
   pub scripts : List (List ℕ)
   pub after : List ℕ
 
@@ -30,7 +30,7 @@ script s = map step_block s.steps ++ map block (option_to_list s.teardown)
 -- the main setups in the control session and each session's setup; each session's script; the main teardown
 abbrev pub free_launches : SpecTree → FreeLaunches
 free_launches spec = record {
-  before = map (task 0) spec.setups ++ own_tasks (λ s. s.setup) 1 spec.sessions;
+  before = map (launch_in 0) spec.setups ++ own_launches (λ s. s.setup) 1 spec.sessions;
   scripts = map script spec.sessions;
   after = map block (option_to_list spec.teardown);
 }

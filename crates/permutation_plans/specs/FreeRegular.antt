@@ -8,11 +8,11 @@ use Rattle.session_machine.specs.declared.event.Mode.TheVariants.{Free}
 use Rattle.session_machine.specs.declared.reply.HistItem.{HistItem}
 use Rattle.session_machine.specs.declared.reply.Outcome.{Outcome}
 use Rattle.session_machine.specs.declared.reply.Outcome.TheVariants.{Launched, Done, Rows, Waits, Failed, Left}
-use Rattle.session_machine.specs.Machine.{Blocks}
+use Rattle.session_machine.specs.Machine.{Blocks, session_of}
 use Rattle.session_machine.specs.Engine.{IsLegal}
 use Rattle.spec_parser.specs.Trees.{SpecTree}
-use Rattle.report_lines.specs.declared.history.Task.{Task}
-use Rattle.report_lines.specs.Starts.{is_order, session_of}
+use Rattle.report_lines.specs.declared.history.PlannedLaunch.{PlannedLaunch}
+use Rattle.report_lines.specs.Starts.{is_order}
 use Rattle.report_lines.specs.Due.{went_well}
 use Rattle.permutation_plans.specs.FreeLaunches.{FreeLaunches, free_launches}
 
@@ -94,7 +94,7 @@ IfWell true Well Other = Well
 IfWell false Well Other = Other
 
 -- the setups from this segment on: each is launched where those before it went well; with one that doesn't the history ends, and behind them all it is whole
-abbrev pub FitsFrom : Type 0 → List HistItem → ℕ → List Task → Type 0
+abbrev pub FitsFrom : Type 0 → List HistItem → ℕ → List PlannedLaunch → Type 0
 FitsFrom Whole items k [] = Whole
 FitsFrom Whole items k (t ∷ ts) =
     (slice_get (given items) k ≡ Some (Launch t.session t.block)) × IfWell (went_well items k t.session) (FitsFrom Whole items (k + 1) ts) (IsStopped items k)

@@ -4,14 +4,14 @@ use Rattle.session_machine.specs.declared.event.Order.{Order}
 use Rattle.session_machine.specs.declared.event.Order.TheVariants.{Launch, Leave, Stop}
 use Rattle.session_machine.specs.declared.reply.HistItem.{HistItem}
 use Rattle.spec_parser.specs.Trees.{EntryTree, SpecTree}
-use Rattle.report_lines.specs.declared.history.Task.{Task}
-use Rattle.report_lines.specs.declared.history.Stand.TheVariants.{Invalid}
+use Rattle.report_lines.specs.declared.history.PlannedLaunch.{PlannedLaunch}
+use Rattle.report_lines.specs.declared.history.RunState.TheVariants.{Invalid}
 use Rattle.report_lines.specs.Report.{report}
 use Rattle.report_lines.specs.Due.{Planned, or_else, orders, went_well, is_over}
 use Rattle.permutation_plans.specs.Launches.{Launches, launches, planned, due_in}
 use Rattle.permutation_plans.specs.Worked.{worked_spec, worked_entries, worked_items}
 
-abbrev pub launch : Task → Order
+abbrev pub launch : PlannedLaunch → Order
 launch t = Launch t.session t.block
 
 -- so many sessions leave, from this one on
@@ -21,28 +21,28 @@ leaves session (suc n) = Leave session ∷ leaves (session + 1) n
 
 -- the setups of the file and of its sessions, the entries' steps, the sessions' teardowns, each session leaves, the teardown of the file
 abbrev pub whole_orders : Launches → List Order
-whole_orders l = map launch l.setups ++ (map launch l.tasks ++ (map launch l.teardowns ++ (leaves 1 l.sessions ++ map launch l.last)))
+whole_orders l = map launch l.setups ++ (map launch l.steps ++ (map launch l.teardowns ++ (leaves 1 l.sessions ++ map launch l.last)))
 
 -- the order of this number, from 0; behind the last one a Stop
 abbrev pub order_at : List Order → ℕ → Order
 order_at os k = or_else (slice_get os k) Stop
 
 -- of these setups, the first of which has this number, each that is there ended, and nothing in it failed
-abbrev pub AreWell : List HistItem → ℕ → ℕ → List Task → Type 0
-AreWell items there k [] = Unit {0}
-AreWell items there k (t ∷ ts) = (k < there → went_well items k t.session ≡ true) × AreWell items there (k + 1) ts
+abbrev pub AreWell : List HistItem → ℕ → ℕ → List PlannedLaunch → Type 0
+AreWell items count k [] = Unit {0}
+AreWell items count k (t ∷ ts) = (k < count → went_well items k t.session ≡ true) × AreWell items count (k + 1) ts
 
 -- of these teardowns each that is there ended
-abbrev pub AreOver : List HistItem → ℕ → ℕ → List Task → Type 0
-AreOver items there k [] = Unit {0}
-AreOver items there k (t ∷ ts) = (k < there → is_over items k t.session ≡ true) × AreOver items there (k + 1) ts
+abbrev pub AreOver : List HistItem → ℕ → ℕ → List PlannedLaunch → Type 0
+AreOver items count k [] = Unit {0}
+AreOver items count k (t ∷ ts) = (k < count → is_over items k t.session ≡ true) × AreOver items count (k + 1) ts
 
 -- so far no setup failed or waits, no teardown waits, and the permutation is not invalid
 pub record GoesWell (p : Planned) : Type 0 where
   pub setups : AreWell p.run.items (orders p.run.items) 0 p.setups
-  pub entries : (report p.run (orders p.run.items - length p.setups)).stand ≢ Invalid
-  pub teardowns : AreOver p.run.items (orders p.run.items) (length p.setups + length p.tasks) p.teardowns
-  pub last : AreOver p.run.items (orders p.run.items) (length p.setups + length p.tasks + length p.teardowns + p.sessions) p.last
+  pub entries : (report p.run (orders p.run.items - length p.setups)).state ≢ Invalid
+  pub teardowns : AreOver p.run.items (orders p.run.items) (length p.setups + length p.steps) p.teardowns
+  pub last : AreOver p.run.items (orders p.run.items) (length p.setups + length p.steps + length p.teardowns + p.sessions) p.last
 
 -- as long as all goes well, what is due after a history is the next of those orders
 abbrev pub NextIsDue : Type 0

@@ -7,7 +7,7 @@ ghost use Rattle.permutation_plans.specs.FreeRegular.{given, events_of, launches
 ghost use Rattle.permutation_plans.specs.FreeRegular.{items_of, ends_each, EachEnds, IsWhole, stops, item_stops, IsStopped, FitsFrom, FreeFits};
 
 use crate::free_launches::FreeLaunches;
-use report_lines::{Course, Segments, Task, is_order, session_of};
+use report_lines::{PermutationRun, PlannedLaunch, Segments, is_order, session_of};
 use session_machine::{Event, HistItem, Outcome};
 use spec_parser::Spec;
 use std::alloc::{AllocError, Global};
@@ -211,15 +211,15 @@ fn setups_fit(plan: &FreeLaunches, segments: &Segments<'_>, events: &[Event]) ->
     requires { events.now ≡ given segments.now }
     ensures { MatchOption result (FreeFits plan.now segments.now ↔ IsWhole plan.now segments.now) (λ fit. IsTrue fit ↔ FreeFits plan.now segments.now) }
 {
-    for (number, task) in plan.before.iter().enumerate() {
+    for (number, setup) in plan.before.iter().enumerate() {
         let launch = Event::Launch {
-            session: task.session,
-            block: task.block,
+            session: setup.session,
+            block: setup.block,
         };
         if !is_at(events, number, launch) {
             return Some(false);
         }
-        if !segments.went_well(number, task.session) {
+        if !segments.went_well(number, setup.session) {
             return Some(is_stopped(segments.items(), events, number));
         }
     }
@@ -231,9 +231,9 @@ fn fits(alloc: Global, plan: &FreeLaunches, items: &[HistItem<'_>]) -> Result<bo
     ensures { IfOk result (λ fit. IsTrue fit ↔ FreeFits plan.now items.now) }
 {
     let no_entries = Vec::new(alloc);
-    let course = Course::new(alloc, &no_entries, items, 0)?;
+    let run = PermutationRun::new(alloc, &no_entries, items, 0)?;
     let events = given(alloc, items)?;
-    match setups_fit(plan, &course.segments(), &events) {
+    match setups_fit(plan, &run.segments(), &events) {
         Some(fit) => Ok(fit),
         None => {
             let whole = is_whole(alloc, plan, items, &events)?;

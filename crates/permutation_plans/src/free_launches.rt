@@ -4,7 +4,7 @@ ghost use Rattle.spec_parser.specs.Trees.{part_view, step_view, session_view, sp
 ghost use Rattle.permutation_plans.specs.FreeLaunches.{block, step_block, script, free_launches, scripts_of};
 
 use crate::launches::setups;
-use report_lines::Task;
+use report_lines::PlannedLaunch;
 use spec_parser::{Part, SessionPart, Spec, StepPart};
 use std::alloc::{AllocError, Global};
 use std::marker::Model;
@@ -12,7 +12,7 @@ use std::marker::Model;
 /// The blocks that run before the sessions' threads, those of each session, and those of the control session behind them.
 #[derive(Drop)]
 pub struct FreeLaunches {
-    pub before: Vec<Task>,
+    pub before: Vec<PlannedLaunch>,
     pub scripts: Vec<Vec<u32>>,
     pub after: Vec<u32>,
 }

@@ -2,10 +2,10 @@
 ghost use Rattle.std.specs.Prelude.{◌≡◌, ◌+◌, ◌<◌, ◌^◌, ◌++◌, length, map, option_map, IfOk, OnOk};
 ghost use Rattle.spec_parser.specs.Trees.{part_view, session_view, spec_view, entry_view};
 ghost use Rattle.spec_parser.specs.Numbered.{step_of_entry};
-ghost use Rattle.permutation_plans.specs.Launches.{task, task_if, own_tasks, block_of_step, task_of_entry, launches, plan_of, due_after};
+ghost use Rattle.permutation_plans.specs.Launches.{launch_in, launch_if, own_launches, block_of_step, launch_of_entry, launches, plan_of, due_after};
 ghost use Rattle.report_lines.specs.Progress.{Follows};
 
-use report_lines::{Plan, Progress, Schedule, Task};
+use report_lines::{Plan, PlannedLaunch, Progress, Schedule};
 use session_machine::{HistItem, Order};
 use spec_parser::{Entry, Part, SessionPart, Spec};
 use std::alloc::{AllocError, Global};
@@ -14,11 +14,11 @@ use std::marker::Model;
 /// The blocks of a permutation's setups, steps and teardowns, each with its session.
 #[derive(Drop)]
 pub struct Launches {
-    setups: Vec<Task>,
-    tasks: Vec<Task>,
-    teardowns: Vec<Task>,
+    setups: Vec<PlannedLaunch>,
+    steps: Vec<PlannedLaunch>,
+    teardowns: Vec<PlannedLaunch>,
     sessions: u32,
-    last: Vec<Task>,
+    last: Vec<PlannedLaunch>,
 }
 
 impl Model for Launches {
@@ -26,15 +26,19 @@ impl Model for Launches {
 
     ghost Value = { Listed };
 
-    ghost view = { λ l. record { setups = l.setups.items; tasks = l.tasks.items; teardowns = l.teardowns.items; sessions = l.sessions; last = l.last.items } };
+    ghost view = { λ l. record { setups = l.setups.items; steps = l.steps.items; teardowns = l.teardowns.items; sessions = l.sessions; last = l.last.items } };
 }
 
-/// Adds the part, if it is there, as a task of the session.
-fn push_part(tasks: &mut Vec<Task>, session: u32, part: Option<Part<'_>>) -> Result<(), AllocError>
-    ensures { OnOk result (tasks.new.items ≡ tasks.old.items ++ task_if session (option_map part_view part.entry)) }
+/// Adds the part, if it is there, as a launch in the session.
+fn push_part(
+    launches: &mut Vec<PlannedLaunch>,
+    session: u32,
+    part: Option<Part<'_>>,
+) -> Result<(), AllocError>
+    ensures { OnOk result (launches.new.items ≡ launches.old.items ++ launch_if session (option_map part_view part.entry)) }
 {
     if let Some(part) = part {
-        tasks.push(Task {
+        launches.push(PlannedLaunch {
             session,
             block: part.block,
         })?;
@@ -43,38 +47,44 @@ fn push_part(tasks: &mut Vec<Task>, session: u32, part: Option<Part<'_>>) -> Res
 }
 
 /// Adds the setup of each session.
-fn push_setups(tasks: &mut Vec<Task>, sessions: &[SessionPart<'_>]) -> Result<(), AllocError>
+fn push_setups(
+    setups: &mut Vec<PlannedLaunch>,
+    sessions: &[SessionPart<'_>],
+) -> Result<(), AllocError>
     requires { length sessions.now < 2 ^ 32 }
-    ensures { OnOk result (tasks.new.items ≡ tasks.old.items ++ own_tasks (λ s. s.setup) 1 (map session_view sessions.now)) }
+    ensures { OnOk result (setups.new.items ≡ setups.old.items ++ own_launches (λ s. s.setup) 1 (map session_view sessions.now)) }
 {
     for (place, session) in sessions.iter().enumerate() {
-        push_part(tasks, place as u32 + 1, session.setup)?;
+        push_part(setups, place as u32 + 1, session.setup)?;
     }
     Ok(())
 }
 
 /// Adds the teardown of each session.
-fn push_teardowns(tasks: &mut Vec<Task>, sessions: &[SessionPart<'_>]) -> Result<(), AllocError>
+fn push_teardowns(
+    teardowns: &mut Vec<PlannedLaunch>,
+    sessions: &[SessionPart<'_>],
+) -> Result<(), AllocError>
     requires { length sessions.now < 2 ^ 32 }
-    ensures { OnOk result (tasks.new.items ≡ tasks.old.items ++ own_tasks (λ s. s.teardown) 1 (map session_view sessions.now)) }
+    ensures { OnOk result (teardowns.new.items ≡ teardowns.old.items ++ own_launches (λ s. s.teardown) 1 (map session_view sessions.now)) }
 {
     for (place, session) in sessions.iter().enumerate() {
-        push_part(tasks, place as u32 + 1, session.teardown)?;
+        push_part(teardowns, place as u32 + 1, session.teardown)?;
     }
     Ok(())
 }
 
 /// The setups of the file, then those of the sessions.
-pub fn setups(alloc: Global, spec: &Spec<'_>) -> Result<Vec<Task>, AllocError>
+pub fn setups(alloc: Global, spec: &Spec<'_>) -> Result<Vec<PlannedLaunch>, AllocError>
     requires { length spec.now.sessions.items < 2 ^ 32 }
-    ensures { IfOk result (λ tasks. tasks.items ≡ map (task 0) (spec_view spec.now).setups ++ own_tasks (λ s. s.setup) 1 (spec_view spec.now).sessions) }
+    ensures { IfOk result (λ setups. setups.items ≡ map (launch_in 0) (spec_view spec.now).setups ++ own_launches (λ s. s.setup) 1 (spec_view spec.now).sessions) }
 {
-    let mut tasks = Vec::new(alloc);
+    let mut setups = Vec::new(alloc);
     for part in &spec.setups {
-        push_part(&mut tasks, 0, Some(*part))?;
+        push_part(&mut setups, 0, Some(*part))?;
     }
-    push_setups(&mut tasks, &spec.sessions)?;
-    Ok(tasks)
+    push_setups(&mut setups, &spec.sessions)?;
+    Ok(setups)
 }
 
 /// The number of the block of an entry's step.
@@ -88,17 +98,21 @@ fn block_of(spec: &Spec<'_>, entry: &Entry) -> u32
 }
 
 /// The blocks of the entries' steps.
-fn tasks(alloc: Global, spec: &Spec<'_>, entries: &[Entry]) -> Result<Vec<Task>, AllocError>
-    ensures { IfOk result (λ tasks. tasks.items ≡ map (task_of_entry (spec_view spec.now)) (map entry_view entries.now)) }
+fn steps(
+    alloc: Global,
+    spec: &Spec<'_>,
+    entries: &[Entry],
+) -> Result<Vec<PlannedLaunch>, AllocError>
+    ensures { IfOk result (λ steps. steps.items ≡ map (launch_of_entry (spec_view spec.now)) (map entry_view entries.now)) }
 {
-    let mut tasks = Vec::new(alloc);
+    let mut steps = Vec::new(alloc);
     for entry in entries {
-        tasks.push(Task {
+        steps.push(PlannedLaunch {
             session: entry.session,
             block: block_of(spec, entry),
         })?;
     }
-    Ok(tasks)
+    Ok(steps)
 }
 
 impl Launches {
@@ -118,7 +132,7 @@ impl Launches {
         push_part(&mut last, 0, spec.teardown)?;
         Ok(Launches {
             setups: setups(alloc, spec)?,
-            tasks: tasks(alloc, spec, entries)?,
+            steps: steps(alloc, spec, entries)?,
             teardowns,
             sessions: spec.sessions.len() as u32,
             last,
@@ -162,7 +176,7 @@ fn order_on<'a>(
 {
     let schedule = Schedule {
         setups: &launches.setups,
-        tasks: &launches.tasks,
+        steps: &launches.steps,
         teardowns: &launches.teardowns,
         sessions: launches.sessions,
         last: &launches.last,

@@ -5,7 +5,7 @@ use Rattle.session_machine.specs.declared.reply.HistItem.{HistItem}
 use Rattle.session_machine.specs.Machine.{Blocks}
 use Rattle.spec_parser.specs.Trees.{SpecTree}
 use Rattle.permutation_plans.specs.FreeRegular.{IsFreeRegular}
-use Rattle.report_lines.specs.declared.history.Task.{Task}
+use Rattle.report_lines.specs.declared.history.PlannedLaunch.{PlannedLaunch}
 use Rattle.report_text.specs.declared.fault.Ended.{Ended}
 use Rattle.report_text.specs.declared.fault.ReportFault.{ReportFault}
 use Rattle.report_text.specs.Answers.{EndsAs, Puts, TellsFailure}
@@ -16,9 +16,9 @@ use Rattle.permutations.specs.FirstLine.{first_line}
 use Rattle.permutations.specs.Files.{File, FileIs}
 use Rattle.permutations.specs.Runs.{AnswersOne}
 
--- a task, as the threads are given it
-abbrev pub pair_of : Task → ℕ × ℕ
-pair_of task = (task.session, task.block)
+-- a launch, as the threads are given it
+abbrev pub pair_of : PlannedLaunch → ℕ × ℕ
+pair_of launch = (launch.session, launch.block)
 
 -- the first line, and what the items say
 abbrev pub free_text : SpecTree → List HistItem → List ℕ

@@ -13,7 +13,7 @@ ghost use Rattle.permutations.specs.Runs.{is_of_run};
 
 use crate::fault::RunFault;
 use permutation_plans::{FreeLaunches, free_fits};
-use report_lines::Task;
+use report_lines::PlannedLaunch;
 use row_versions::ListStore;
 use session_threads::{Closed, FreePlan, Gate, run_free};
 use spec_parser::Spec;
@@ -22,12 +22,12 @@ use std::alloc::{AllocError, Global};
 use std::sync::Wait;
 use std::thread::Threads;
 
-fn pairs(alloc: Global, tasks: &[Task]) -> Result<Vec<(u32, u32)>, AllocError>
-    ensures { IfOk result (λ pairs. pairs.items ≡ map pair_of tasks.now) }
+fn pairs(alloc: Global, launches: &[PlannedLaunch]) -> Result<Vec<(u32, u32)>, AllocError>
+    ensures { IfOk result (λ pairs. pairs.items ≡ map pair_of launches.now) }
 {
     let mut pairs = Vec::new(alloc);
-    for task in tasks {
-        pairs.push((task.session, task.block))?;
+    for launch in launches {
+        pairs.push((launch.session, launch.block))?;
     }
     Ok(pairs)
 }

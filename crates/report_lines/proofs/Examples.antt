@@ -7,11 +7,11 @@ use Rattle.session_machine.specs.declared.reply.Outcome.TheVariants.{Launched, D
 use Rattle.session_machine.specs.declared.reply.HistItem.{HistItem}
 use Rattle.spec_parser.specs.declared.tree.Marker.{Marker}
 use Rattle.spec_parser.specs.declared.tree.Marker.TheVariants.{Star, Step as Named}
-use Rattle.report_lines.specs.declared.history.Stand.TheVariants.{Due, Whole, Invalid}
+use Rattle.report_lines.specs.declared.history.RunState.TheVariants.{Due, Whole, Invalid}
 use Rattle.session_machine.specs.declared.event.Order.TheVariants.{Launch as LaunchOf, Leave as LeaveOf, Stop}
 use Rattle.report_lines.specs.Starts.{start}
 use Rattle.report_lines.specs.Due.{due, Planned, orders, segment, is_over, went_well}
-use Rattle.report_lines.specs.declared.history.Task.{Task}
+use Rattle.report_lines.specs.declared.history.PlannedLaunch.{PlannedLaunch}
 use Rattle.spec_parser.specs.Trees.{EntryTree}
 use Rattle.session_machine.specs.declared.fault.StmtFault.TheVariants.{TooManyValues}
 use Rattle.report_lines.specs.History.{PermutationRun}
@@ -37,10 +37,10 @@ ten = record {
 ten_lines : (report ten 2).lines ≡ Waiting 0 ∷ AtOnce 1 4 ∷ Completed 0 4 ∷ []
 ten_lines = refl
 
-ten_ends : (report ten 2).stand ≡ Whole
+ten_ends : (report ten 2).state ≡ Whole
 ten_ends = refl
 
-ten_due : (report ten 1).stand ≡ Due 1
+ten_due : (report ten 1).state ≡ Due 1
 ten_due = refl
 
 -- permutation a y x(y) ac, after a setup
@@ -58,7 +58,7 @@ eleven = record {
 eleven_lines : (report eleven 4).lines ≡ AtOnce 0 4 ∷ Waiting 1 ∷ Waiting 2 ∷ AtOnce 3 11 ∷ Completed 1 11 ∷ Completed 2 11 ∷ []
 eleven_lines = refl
 
-eleven_ends : (report eleven 4).stand ≡ Whole
+eleven_ends : (report eleven 4).state ≡ Whole
 eleven_ends = refl
 
 -- permutation a b bc ac
@@ -72,7 +72,7 @@ twelve = record {
 twelve_lines : (report twelve 2).lines ≡ AtOnce 0 2 ∷ Waiting 1 ∷ []
 twelve_lines = refl
 
-twelve_ends : (report twelve 2).stand ≡ Invalid
+twelve_ends : (report twelve 2).state ≡ Invalid
 twelve_ends = refl
 
 -- permutation a x(*, y) y ac: x is passed over, y reported, and a second pass reports x
@@ -89,18 +89,18 @@ polls = record {
 polls_lines : (report polls 4).lines ≡ AtOnce 0 2 ∷ Waiting 1 ∷ Waiting 2 ∷ AtOnce 3 9 ∷ Completed 2 9 ∷ Completed 1 9 ∷ []
 polls_lines = refl
 
-abbrev task : ℕ → ℕ → Task
-task session block = record { session = session; block = block }
+abbrev launch : ℕ → ℕ → PlannedLaunch
+launch session block = record { session = session; block = block }
 
 -- a setup of block 0; session 2 has a teardown of block 9, which waits; block 8 is the main teardown
 abbrev plan : List HistItem → Planned
 plan items = record {
-  setups = task 0 0 ∷ [];
+  setups = launch 0 0 ∷ [];
   run = record { entries = entry 1 0 [] ∷ entry 2 0 [] ∷ []; items = items; setups = 1 };
-  tasks = task 1 3 ∷ task 2 4 ∷ [];
-  teardowns = task 2 9 ∷ [];
+  steps = launch 1 3 ∷ launch 2 4 ∷ [];
+  teardowns = launch 2 9 ∷ [];
   sessions = 2;
-  last = task 0 8 ∷ [];
+  last = launch 0 8 ∷ [];
 }
 
 abbrev leaves : ℕ → HistItem
@@ -133,25 +133,25 @@ fourth_due = refl
 waits_due : due (plan (entered ++ begins 2 ∷ does 2 Waits false ∷ [])) ≡ LeaveOf 2
 waits_due = refl
 
-abbrev torn : List HistItem
-torn = entered ++ begins 2 ∷ does 2 Waits false ∷ leaves 2 ∷ []
+abbrev left_teardown : List HistItem
+left_teardown = entered ++ begins 2 ∷ does 2 Waits false ∷ leaves 2 ∷ []
 
-leave_due : due (plan torn) ≡ LeaveOf 1
+leave_due : due (plan left_teardown) ≡ LeaveOf 1
 leave_due = refl
 
-leaves_due : due (plan (torn ++ leaves 1 ∷ [])) ≡ LeaveOf 2
+leaves_due : due (plan (left_teardown ++ leaves 1 ∷ [])) ≡ LeaveOf 2
 leaves_due = refl
 
-last_due : due (plan (torn ++ leaves 1 ∷ leaves 2 ∷ [])) ≡ LaunchOf 0 8
+last_due : due (plan (left_teardown ++ leaves 1 ∷ leaves 2 ∷ [])) ≡ LaunchOf 0 8
 last_due = refl
 
-over_due : due (plan (torn ++ leaves 1 ∷ leaves 2 ∷ begins 0 ∷ does 0 Done true ∷ [])) ≡ Stop
+over_due : due (plan (left_teardown ++ leaves 1 ∷ leaves 2 ∷ begins 0 ∷ does 0 Done true ∷ [])) ≡ Stop
 over_due = refl
 
-torn_well_due : due (plan (entered ++ begins 2 ∷ does 2 Done true ∷ [])) ≡ LeaveOf 1
-torn_well_due = refl
+teardown_well_due : due (plan (entered ++ begins 2 ∷ does 2 Done true ∷ [])) ≡ LeaveOf 1
+teardown_well_due = refl
 
-failed_last_due : due (plan (torn ++ leaves 1 ∷ leaves 2 ∷ begins 0 ∷ does 0 (Failed TooManyValues) true ∷ [])) ≡ Stop
+failed_last_due : due (plan (left_teardown ++ leaves 1 ∷ leaves 2 ∷ begins 0 ∷ does 0 (Failed TooManyValues) true ∷ [])) ≡ Stop
 failed_last_due = refl
 
 waiting_setup_due : due (plan (begins 0 ∷ does 0 Waits false ∷ [])) ≡ Stop
@@ -163,9 +163,9 @@ late_failure_due = refl
 -- setups of the file and of session 1, and one step
 abbrev two_setups : List HistItem → Planned
 two_setups items = record {
-  setups = task 0 0 ∷ task 1 1 ∷ [];
+  setups = launch 0 0 ∷ launch 1 1 ∷ [];
   run = record { entries = entry 1 0 [] ∷ []; items = items; setups = 2 };
-  tasks = task 1 3 ∷ [];
+  steps = launch 1 3 ∷ [];
   teardowns = [];
   sessions = 1;
   last = [];
@@ -187,7 +187,7 @@ waits_on = record { entries = entry 1 0 [] ∷ []; items = begins 1 ∷ does 1 W
 waits_on_lines : (report waits_on 1).lines ≡ Waiting 0 ∷ []
 waits_on_lines = refl
 
-waits_on_ends : (report waits_on 1).stand ≡ Invalid
+waits_on_ends : (report waits_on 1).state ≡ Invalid
 waits_on_ends = refl
 
 -- three segments: of three items, of one, and of two

@@ -73,7 +73,7 @@ count_found (item ∷ items) p = count_case (is_order item.event) p item (starts
 
 -- there is nothing behind the last segment
 pub start_past : (items : List HistItem) (k : ℕ) → orders items ≤ k → start items k ≡ length items
-start_past items k few = let count = count_found items 0 in missing items 0 k (omega arith)
+start_past items k few = let counted = count_found items 0 in missing items 0 k (omega arith)
 
 -- ---- the last ends of blocks
 

@@ -8,15 +8,15 @@ use Rattle.session_machine.specs.declared.reply.HistItem.{HistItem}
 use Rattle.report_lines.specs.declared.history.Line.{Line}
 use Rattle.report_lines.specs.declared.history.Line.TheVariants.{AtOnce, Waiting, Completed}
 use Rattle.report_lines.specs.declared.history.Moment.{Moment}
-use Rattle.report_lines.specs.declared.history.Stand.TheVariants.{Whole, Invalid, Due}
+use Rattle.report_lines.specs.declared.history.RunState.TheVariants.{Whole, Invalid, Due}
 use Rattle.report_lines.specs.Starts.{start, is_order, ends_in}
-use Rattle.report_lines.specs.Due.{Planned, orders, segment, fails, is_over, went_well, due_setup, torn_down, or_else, due_last, due_entry, due_at, due}
+use Rattle.report_lines.specs.Due.{Planned, orders, segment, fails, is_over, went_well, due_setup, teardowns_so_far, or_else, due_last, due_entry, due_at, due}
 use Rattle.report_lines.specs.History.{PermutationRun, session_at, seen_before, has_ended, is_named, is_starred}
 use Rattle.report_lines.specs.Report.{Report, is_reported, active, instances, before, after, may_report, first_try, retry, pass, goes_on, polled, poll, is_of, is_busy, own_retry, made_way, launched, is_empty, report_from, report}
 use Rattle.report_lines.specs.Fronts.{longer, longer_plan}
-use Rattle.report_lines.specs.declared.history.Task.{Task}
-use Rattle.report_lines.specs.declared.history.TornDown.{TornDown}
-use Rattle.report_lines.specs.declared.history.Stand.{Stand}
+use Rattle.report_lines.specs.declared.history.PlannedLaunch.{PlannedLaunch}
+use Rattle.report_lines.specs.declared.history.TeardownsSoFar.{TeardownsSoFar}
+use Rattle.report_lines.specs.declared.history.RunState.{RunState}
 use Rattle.session_machine.specs.declared.event.Order.{Order}
 use Rattle.session_machine.specs.declared.event.Order.TheVariants.{Launch, Leave, Stop}
 use Rattle.std.specs.Prelude.{nat_le, Option, Some}
@@ -72,24 +72,24 @@ range_stays front rest from to low high =
     ap (take (to - from)) (drop-append-le from front rest low) ∙ take-append-le (to - from) (drop from front) rest (omega arith)
 
 -- the moments of these entries, and what has ended at them, are the same in the longer history
-record Stays (c : PermutationRun) (more : List HistItem) (there : ℕ) : Type 0 where
-  seen : (e : ℕ) → e ≤ there → seen_before (longer c more) e ≡ seen_before c e
-  ended : (e i : ℕ) → e ≤ there → i ≤ there → has_ended (longer c more) (seen_before c e) i ≡ has_ended c (seen_before c e) i
+record Stays (c : PermutationRun) (more : List HistItem) (count : ℕ) : Type 0 where
+  seen : (e : ℕ) → e ≤ count → seen_before (longer c more) e ≡ seen_before c e
+  ended : (e i : ℕ) → e ≤ count → i ≤ count → has_ended (longer c more) (seen_before c e) i ≡ has_ended c (seen_before c e) i
 
 -- at this moment the blocks of these entries have ended in both histories or in neither
 abbrev EndAlike : PermutationRun → List HistItem → ℕ → Moment → Type 0
-EndAlike c more there m = (i : ℕ) → i ≤ there → has_ended (longer c more) m.seen i ≡ has_ended c m.seen i
+EndAlike c more count m = (i : ℕ) → i ≤ count → has_ended (longer c more) m.seen i ≡ has_ended c m.seen i
 
 -- ---- the tries
 
-may_same : (c : PermutationRun) (more : List HistItem) (there : ℕ) (m : Moment) (lines : List Line) (i : ℕ) → EndAlike c more there m → i ≤ there → may_report (longer c more) m lines i ≡ may_report c m lines i
-may_same c more there m lines i same le = ap (λ b. b && not (list_any (is_named c i) (active lines m.launched))) (same i le)
+may_same : (c : PermutationRun) (more : List HistItem) (count : ℕ) (m : Moment) (lines : List Line) (i : ℕ) → EndAlike c more count m → i ≤ count → may_report (longer c more) m lines i ≡ may_report c m lines i
+may_same c more count m lines i same le = ap (λ b. b && not (list_any (is_named c i) (active lines m.launched))) (same i le)
 
-retry_same : (c : PermutationRun) (more : List HistItem) (there : ℕ) (m : Moment) (lines : List Line) (i : ℕ) → EndAlike c more there m → i ≤ there → retry (longer c more) m lines i ≡ retry c m lines i
-retry_same c more there m lines i same le = ap (λ b. if not (is_reported lines i) && b then lines ++ Completed i m.seen ∷ [] else lines) (may_same c more there m lines i same le)
+retry_same : (c : PermutationRun) (more : List HistItem) (count : ℕ) (m : Moment) (lines : List Line) (i : ℕ) → EndAlike c more count m → i ≤ count → retry (longer c more) m lines i ≡ retry c m lines i
+retry_same c more count m lines i same le = ap (λ b. if not (is_reported lines i) && b then lines ++ Completed i m.seen ∷ [] else lines) (may_same c more count m lines i same le)
 
-own_same : (c : PermutationRun) (more : List HistItem) (there : ℕ) (m : Moment) (session : ℕ) (lines : List Line) (i : ℕ) → EndAlike c more there m → i ≤ there → own_retry (longer c more) m session lines i ≡ own_retry c m session lines i
-own_same c more there m session lines i same le = ap (λ w. if is_of c session i then w else lines) (retry_same c more there m lines i same le)
+own_same : (c : PermutationRun) (more : List HistItem) (count : ℕ) (m : Moment) (session : ℕ) (lines : List Line) (i : ℕ) → EndAlike c more count m → i ≤ count → own_retry (longer c more) m session lines i ≡ own_retry c m session lines i
+own_same c more count m session lines i same le = ap (λ w. if is_of c session i then w else lines) (retry_same c more count m lines i same le)
 
 fold_same : (f g : List Line → ℕ → List Line) (n : ℕ) (lines : List Line) → ((w : List Line) (i : ℕ) → i < n → f w i ≡ g w i) → fold f lines (instances n) ≡ fold g lines (instances n)
 fold_same f g zero lines same = refl
@@ -99,66 +99,66 @@ fold_same f g (suc n) lines same =
     ∙ ap (λ w. g w n) (fold_same f g n lines (λ w i less. same w i (omega (arith, less))))
     ∙ sym (fold-append g lines (instances n) (n ∷ []))
 
-pass_same : (c : PermutationRun) (more : List HistItem) (there : ℕ) (m : Moment) (lines : List Line) → EndAlike c more there m → m.joined ≤ there → pass (longer c more) m lines ≡ pass c m lines
-pass_same c more there m lines same le = fold_same (retry (longer c more) m) (retry c m) m.joined lines (λ w i less. retry_same c more there m w i same (omega (arith, less)))
+pass_same : (c : PermutationRun) (more : List HistItem) (count : ℕ) (m : Moment) (lines : List Line) → EndAlike c more count m → m.joined ≤ count → pass (longer c more) m lines ≡ pass c m lines
+pass_same c more count m lines same le = fold_same (retry (longer c more) m) (retry c m) m.joined lines (λ w i less. retry_same c more count m w i same (omega (arith, less)))
 
-polled_same : (c : PermutationRun) (more : List HistItem) (there : ℕ) (m : Moment) (count : ℕ) (lines : List Line) → EndAlike c more there m → m.joined ≤ there → polled (longer c more) m count lines ≡ polled c m count lines
-polled_same c more there m zero lines same le = refl
-polled_same c more there m (suc count) lines same le =
-    ap (λ (new : List Line). if goes_on c m lines new then polled (longer c more) m count new else new) (pass_same c more there m lines same le)
-    ∙ ap (λ (w : List Line). if goes_on c m lines (pass c m lines) then w else pass c m lines) (polled_same c more there m count (pass c m lines) same le)
+polled_same : (c : PermutationRun) (more : List HistItem) (count : ℕ) (m : Moment) (counted : ℕ) (lines : List Line) → EndAlike c more count m → m.joined ≤ count → polled (longer c more) m counted lines ≡ polled c m counted lines
+polled_same c more count m zero lines same le = refl
+polled_same c more count m (suc counted) lines same le =
+    ap (λ (new : List Line). if goes_on c m lines new then polled (longer c more) m counted new else new) (pass_same c more count m lines same le)
+    ∙ ap (λ (w : List Line). if goes_on c m lines (pass c m lines) then w else pass c m lines) (polled_same c more count m counted (pass c m lines) same le)
 
-poll_same : (c : PermutationRun) (more : List HistItem) (there : ℕ) (m : Moment) (lines : List Line) → EndAlike c more there m → m.joined ≤ there → poll (longer c more) m lines ≡ poll c m lines
-poll_same c more there m lines same le = polled_same c more there m (m.joined + 1) lines same le
+poll_same : (c : PermutationRun) (more : List HistItem) (count : ℕ) (m : Moment) (lines : List Line) → EndAlike c more count m → m.joined ≤ count → poll (longer c more) m lines ≡ poll c m lines
+poll_same c more count m lines same le = polled_same c more count m (m.joined + 1) lines same le
 
-first_same : (c : PermutationRun) (more : List HistItem) (there : ℕ) (m : Moment) (lines : List Line) (i : ℕ) → EndAlike c more there m → i ≤ there → first_try (longer c more) m lines i ≡ first_try c m lines i
-first_same c more there m lines i same le = ap (λ b. lines ++ (if b && not (is_starred c i) then AtOnce i m.seen else Waiting i) ∷ []) (may_same c more there m lines i same le)
+first_same : (c : PermutationRun) (more : List HistItem) (count : ℕ) (m : Moment) (lines : List Line) (i : ℕ) → EndAlike c more count m → i ≤ count → first_try (longer c more) m lines i ≡ first_try c m lines i
+first_same c more count m lines i same le = ap (λ b. lines ++ (if b && not (is_starred c i) then AtOnce i m.seen else Waiting i) ∷ []) (may_same c more count m lines i same le)
 
 -- ---- the entries
 
-before_same : (c : PermutationRun) (more : List HistItem) (there e : ℕ) → Stays c more there → e ≤ there → before (longer c more) e ≡ before c e
-before_same c more there e stays le = ap (λ (s : ℕ). record { seen = s; launched = e; joined = e }) (stays.seen e le)
+before_same : (c : PermutationRun) (more : List HistItem) (count e : ℕ) → Stays c more count → e ≤ count → before (longer c more) e ≡ before c e
+before_same c more count e stays le = ap (λ (s : ℕ). record { seen = s; launched = e; joined = e }) (stays.seen e le)
 
-after_same : (c : PermutationRun) (more : List HistItem) (there e : ℕ) → Stays c more there → e + 1 ≤ there → after (longer c more) e ≡ after c e
-after_same c more there e stays le = ap (λ (s : ℕ). record { seen = s; launched = e + 1; joined = e }) (stays.seen (e + 1) le)
+after_same : (c : PermutationRun) (more : List HistItem) (count e : ℕ) → Stays c more count → e + 1 ≤ count → after (longer c more) e ≡ after c e
+after_same c more count e stays le = ap (λ (s : ℕ). record { seen = s; launched = e + 1; joined = e }) (stays.seen (e + 1) le)
 
-before_poll : (c : PermutationRun) (more : List HistItem) (there e : ℕ) (lines : List Line) → Stays c more there → e ≤ there → poll (longer c more) (before (longer c more) e) lines ≡ poll c (before c e) lines
-before_poll c more there e lines stays le =
-    ap (λ (m : Moment). poll (longer c more) m lines) (before_same c more there e stays le)
-    ∙ poll_same c more there (before c e) lines (λ i low. stays.ended e i le low) le
+before_poll : (c : PermutationRun) (more : List HistItem) (count e : ℕ) (lines : List Line) → Stays c more count → e ≤ count → poll (longer c more) (before (longer c more) e) lines ≡ poll c (before c e) lines
+before_poll c more count e lines stays le =
+    ap (λ (m : Moment). poll (longer c more) m lines) (before_same c more count e stays le)
+    ∙ poll_same c more count (before c e) lines (λ i low. stays.ended e i le low) le
 
-way_same : (c : PermutationRun) (more : List HistItem) (there e : ℕ) (lines : List Line) → Stays c more there → e ≤ there → made_way (longer c more) lines e ≡ made_way c lines e
-way_same c more there e lines stays le =
-    let same : EndAlike c more there (before c e) = λ i low. stays.ended e i le low in
-    ap (λ (m : Moment). if is_busy c lines e then poll (longer c more) m (fold (own_retry (longer c more) m (session_at c e)) lines (instances e)) else lines) (before_same c more there e stays le)
+way_same : (c : PermutationRun) (more : List HistItem) (count e : ℕ) (lines : List Line) → Stays c more count → e ≤ count → made_way (longer c more) lines e ≡ made_way c lines e
+way_same c more count e lines stays le =
+    let same : EndAlike c more count (before c e) = λ i low. stays.ended e i le low in
+    ap (λ (m : Moment). if is_busy c lines e then poll (longer c more) m (fold (own_retry (longer c more) m (session_at c e)) lines (instances e)) else lines) (before_same c more count e stays le)
     ∙ ap (λ (w : List Line). if is_busy c lines e then w else lines)
-    (poll_same c more there (before c e) (fold (own_retry (longer c more) (before c e) (session_at c e)) lines (instances e)) same le
-    ∙ ap (poll c (before c e)) (fold_same (own_retry (longer c more) (before c e) (session_at c e)) (own_retry c (before c e) (session_at c e)) e lines (λ w i less. own_same c more there (before c e) (session_at c e) w i same (omega (arith, less, le)))))
+    (poll_same c more count (before c e) (fold (own_retry (longer c more) (before c e) (session_at c e)) lines (instances e)) same le
+    ∙ ap (poll c (before c e)) (fold_same (own_retry (longer c more) (before c e) (session_at c e)) (own_retry c (before c e) (session_at c e)) e lines (λ w i less. own_same c more count (before c e) (session_at c e) w i same (omega (arith, less, le)))))
 
-launched_same : (c : PermutationRun) (more : List HistItem) (there e : ℕ) (lines : List Line) → Stays c more there → e + 1 ≤ there → launched (longer c more) lines e ≡ launched c lines e
-launched_same c more there e lines stays le =
-    let same : EndAlike c more there (after c e) = λ i low. stays.ended (e + 1) i le low in
-    ap (λ (m : Moment). poll (longer c more) m (first_try (longer c more) m lines e)) (after_same c more there e stays le)
-    ∙ poll_same c more there (after c e) (first_try (longer c more) (after c e) lines e) same (omega (arith, le))
-    ∙ ap (poll c (after c e)) (first_same c more there (after c e) lines e same (omega (arith, le)))
+launched_same : (c : PermutationRun) (more : List HistItem) (count e : ℕ) (lines : List Line) → Stays c more count → e + 1 ≤ count → launched (longer c more) lines e ≡ launched c lines e
+launched_same c more count e lines stays le =
+    let same : EndAlike c more count (after c e) = λ i low. stays.ended (e + 1) i le low in
+    ap (λ (m : Moment). poll (longer c more) m (first_try (longer c more) m lines e)) (after_same c more count e stays le)
+    ∙ poll_same c more count (after c e) (first_try (longer c more) (after c e) lines e) same (omega (arith, le))
+    ∙ ap (poll c (after c e)) (first_same c more count (after c e) lines e same (omega (arith, le)))
 
 if_same : {A : Type 0} (b : Bool) (x y z : A) → (true ≡ b → x ≡ y) → (if b then x else z) ≡ (if b then y else z)
 if_same true x y z same = same refl
 if_same false x y z same = refl
 
-from_same : (c : PermutationRun) (more : List HistItem) (there e rest : ℕ) (lines : List Line) → Stays c more there → e ≤ there → report_from (longer c more) e rest there lines ≡ report_from c e rest there lines
-from_same c more there e zero lines stays le =
-    ap (λ (all : List Line). record { lines = all; stand = if is_empty (active all e) then Whole else Invalid }) (before_poll c more there e lines stays le)
-from_same c more there e (suc rest) lines stays le =
+from_same : (c : PermutationRun) (more : List HistItem) (count e rest : ℕ) (lines : List Line) → Stays c more count → e ≤ count → report_from (longer c more) e rest count lines ≡ report_from c e rest count lines
+from_same c more count e zero lines stays le =
+    ap (λ (all : List Line). record { lines = all; state = if is_empty (active all e) then Whole else Invalid }) (before_poll c more count e lines stays le)
+from_same c more count e (suc rest) lines stays le =
     let way = made_way c lines e in
-    ap (λ (w : List Line). if is_busy c w e then record { lines = w; stand = Invalid } else (if nat_lt e there then report_from (longer c more) (e + 1) rest there (launched (longer c more) w e) else record { lines = w; stand = Due e })) (way_same c more there e lines stays le)
-    ∙ ap (λ (r : Report). if is_busy c way e then record { lines = way; stand = Invalid } else r)
-    (if_same (nat_lt e there) (report_from (longer c more) (e + 1) rest there (launched (longer c more) way e)) (report_from c (e + 1) rest there (launched c way e)) (record { lines = way; stand = Due e })
-    (λ less. let next : e + 1 ≤ there = grind arith in ap (report_from (longer c more) (e + 1) rest there) (launched_same c more there e way stays next) ∙ from_same c more there (e + 1) rest (launched c way e) stays next))
+    ap (λ (w : List Line). if is_busy c w e then record { lines = w; state = Invalid } else (if nat_lt e count then report_from (longer c more) (e + 1) rest count (launched (longer c more) w e) else record { lines = w; state = Due e })) (way_same c more count e lines stays le)
+    ∙ ap (λ (r : Report). if is_busy c way e then record { lines = way; state = Invalid } else r)
+    (if_same (nat_lt e count) (report_from (longer c more) (e + 1) rest count (launched (longer c more) way e)) (report_from c (e + 1) rest count (launched c way e)) (record { lines = way; state = Due e })
+    (λ less. let next : e + 1 ≤ count = grind arith in ap (report_from (longer c more) (e + 1) rest count) (launched_same c more count e way stays next) ∙ from_same c more count (e + 1) rest (launched c way e) stays next))
 
-stays_so : (c : PermutationRun) (item : HistItem) (more : List HistItem) (there : ℕ) → is_order item.event ≡ true → orders c.items ≡ c.setups + there → Stays c (item ∷ more) there
-stays_so c item more there ordered all =
-    let seen : (e : ℕ) → e ≤ there → seen_before (longer c (item ∷ more)) e ≡ seen_before c e = λ e le. start_stays c.items item more (c.setups + e) ordered (omega (arith, le, all)) in
+stays_so : (c : PermutationRun) (item : HistItem) (more : List HistItem) (count : ℕ) → is_order item.event ≡ true → orders c.items ≡ c.setups + count → Stays c (item ∷ more) count
+stays_so c item more count ordered all =
+    let seen : (e : ℕ) → e ≤ count → seen_before (longer c (item ∷ more)) e ≡ seen_before c e = λ e le. start_stays c.items item more (c.setups + e) ordered (omega (arith, le, all)) in
     record {
       seen = seen;
       ended = λ e i le low.
@@ -166,12 +166,12 @@ stays_so c item more there ordered all =
           ∙ ap (list_any (ends_in (session_at c i))) (range_stays c.items (item ∷ more) (seen_before c i) (seen_before c e) (start_within c.items (c.setups + i)) (start_within c.items (c.setups + e)));
     }
 
-pub front_stays : (c : PermutationRun) (item : HistItem) (more : List HistItem) (there : ℕ) → is_order item.event ≡ true → orders c.items ≡ c.setups + there → report (longer c (item ∷ more)) there ≡ report c there
-front_stays c item more there ordered all = from_same c (item ∷ more) there 0 (length c.entries) [] (stays_so c item more there ordered all) (omega arith)
+pub front_stays : (c : PermutationRun) (item : HistItem) (more : List HistItem) (count : ℕ) → is_order item.event ≡ true → orders c.items ≡ c.setups + count → report (longer c (item ∷ more)) count ≡ report c count
+front_stays c item more count ordered all = from_same c (item ∷ more) count 0 (length c.entries) [] (stays_so c item more count ordered all) (omega arith)
 
-stays_kept : (c : PermutationRun) (more : List HistItem) (there : ℕ) → c.setups + there < orders c.items → Stays c more there
-stays_kept c more there past =
-    let seen : (e : ℕ) → e ≤ there → seen_before (longer c more) e ≡ seen_before c e = λ e le. start_kept c.items more (c.setups + e) (omega (arith, le, past)) in
+stays_kept : (c : PermutationRun) (more : List HistItem) (count : ℕ) → c.setups + count < orders c.items → Stays c more count
+stays_kept c more count past =
+    let seen : (e : ℕ) → e ≤ count → seen_before (longer c more) e ≡ seen_before c e = λ e le. start_kept c.items more (c.setups + e) (omega (arith, le, past)) in
     record {
       seen = seen;
       ended = λ e i le low.
@@ -180,8 +180,8 @@ stays_kept c more there past =
     }
 
 -- what was told before an order that is there stays so, whatever follows
-pub past_stays : (c : PermutationRun) (more : List HistItem) (there : ℕ) → c.setups + there < orders c.items → report (longer c more) there ≡ report c there
-past_stays c more there past = from_same c more there 0 (length c.entries) [] (stays_kept c more there past) (omega arith)
+pub past_stays : (c : PermutationRun) (more : List HistItem) (count : ℕ) → c.setups + count < orders c.items → report (longer c more) count ≡ report c count
+past_stays c more count past = from_same c more count 0 (length c.entries) [] (stays_kept c more count past) (omega arith)
 
 -- ---- the next order
 
@@ -195,7 +195,7 @@ unless_same : {A : Type 0} (b : Bool) (x y z : A) → (false ≡ b → x ≡ y) 
 unless_same true x y z same = refl
 unless_same false x y z same = same refl
 
-setup_stays : (front : List HistItem) (item : HistItem) (more : List HistItem) (k : ℕ) (ts : List Task) → is_order item.event ≡ true → due_setup (front ++ item ∷ more) (orders front) k ts ≡ due_setup front (orders front) k ts
+setup_stays : (front : List HistItem) (item : HistItem) (more : List HistItem) (k : ℕ) (ts : List PlannedLaunch) → is_order item.event ≡ true → due_setup (front ++ item ∷ more) (orders front) k ts ≡ due_setup front (orders front) k ts
 setup_stays front item more k [] ordered = refl
 setup_stays front item more k (t ∷ ts) ordered =
     unless_same (nat_le (orders front) k)
@@ -206,32 +206,32 @@ setup_stays front item more k (t ∷ ts) ordered =
     ap (λ (w : List HistItem). if list_any (ends_in t.session) w && not (list_any fails w) then due_setup (front ++ item ∷ more) (orders front) (k + 1) ts else Some Stop) (segment_stays front item more k ordered less)
     ∙ ap (λ (o : Option Order). if went_well front k t.session then o else Some Stop) (setup_stays front item more (k + 1) ts ordered))
 
-torn_stays : (front : List HistItem) (item : HistItem) (more : List HistItem) (k : ℕ) (ts : List Task) → is_order item.event ≡ true → torn_down (front ++ item ∷ more) (orders front) k ts ≡ torn_down front (orders front) k ts
-torn_stays front item more k [] ordered = refl
-torn_stays front item more k (t ∷ ts) ordered =
+teardowns_stay : (front : List HistItem) (item : HistItem) (more : List HistItem) (k : ℕ) (ts : List PlannedLaunch) → is_order item.event ≡ true → teardowns_so_far (front ++ item ∷ more) (orders front) k ts ≡ teardowns_so_far front (orders front) k ts
+teardowns_stay front item more k [] ordered = refl
+teardowns_stay front item more k (t ∷ ts) ordered =
     let d = front ++ item ∷ more in
-    let there = orders front in
-    unless_same (nat_le there k)
-    (if is_over d k t.session then torn_down d there (k + 1) ts else (if nat_le there (k + 1) then record { orders = k; due = Some (Leave t.session) } else torn_down d there (k + 2) ts))
-    (if is_over front k t.session then torn_down front there (k + 1) ts else (if nat_le there (k + 1) then record { orders = k; due = Some (Leave t.session) } else torn_down front there (k + 2) ts))
+    let count = orders front in
+    unless_same (nat_le count k)
+    (if is_over d k t.session then teardowns_so_far d count (k + 1) ts else (if nat_le count (k + 1) then record { orders = k; due = Some (Leave t.session) } else teardowns_so_far d count (k + 2) ts))
+    (if is_over front k t.session then teardowns_so_far front count (k + 1) ts else (if nat_le count (k + 1) then record { orders = k; due = Some (Leave t.session) } else teardowns_so_far front count (k + 2) ts))
     (record { orders = k; due = Some (Launch t.session t.block) })
     (λ some. let less : k < orders front = grind arith in
-    ap (λ (w : List HistItem). if list_any (ends_in t.session) w then torn_down d there (k + 1) ts else (if nat_le there (k + 1) then record { orders = k; due = Some (Leave t.session) } else torn_down d there (k + 2) ts)) (segment_stays front item more k ordered less)
-    ∙ ap (λ (x : TornDown). if is_over front k t.session then x else (if nat_le there (k + 1) then record { orders = k; due = Some (Leave t.session) } else torn_down d there (k + 2) ts)) (torn_stays front item more (k + 1) ts ordered)
-    ∙ ap (λ (x : TornDown). if is_over front k t.session then torn_down front there (k + 1) ts else (if nat_le there (k + 1) then record { orders = k; due = Some (Leave t.session) } else x)) (torn_stays front item more (k + 2) ts ordered))
+    ap (λ (w : List HistItem). if list_any (ends_in t.session) w then teardowns_so_far d count (k + 1) ts else (if nat_le count (k + 1) then record { orders = k; due = Some (Leave t.session) } else teardowns_so_far d count (k + 2) ts)) (segment_stays front item more k ordered less)
+    ∙ ap (λ (x : TeardownsSoFar). if is_over front k t.session then x else (if nat_le count (k + 1) then record { orders = k; due = Some (Leave t.session) } else teardowns_so_far d count (k + 2) ts)) (teardowns_stay front item more (k + 1) ts ordered)
+    ∙ ap (λ (x : TeardownsSoFar). if is_over front k t.session then teardowns_so_far front count (k + 1) ts else (if nat_le count (k + 1) then record { orders = k; due = Some (Leave t.session) } else x)) (teardowns_stay front item more (k + 2) ts ordered))
 
-last_stays : (p : Planned) (item : HistItem) (more : List HistItem) (w : TornDown) → is_order item.event ≡ true → due_last (longer_plan p (item ∷ more)) (p.run.items ++ item ∷ more) (orders p.run.items) w ≡ due_last p p.run.items (orders p.run.items) w
+last_stays : (p : Planned) (item : HistItem) (more : List HistItem) (w : TeardownsSoFar) → is_order item.event ≡ true → due_last (longer_plan p (item ∷ more)) (p.run.items ++ item ∷ more) (orders p.run.items) w ≡ due_last p p.run.items (orders p.run.items) w
 last_stays p item more w ordered =
-    let there = orders p.run.items in
-    ap (λ (x : TornDown). or_else w.due (if nat_lt there (w.orders + p.sessions) then Leave (there - w.orders + 1) else or_else x.due Stop))
-    (torn_stays p.run.items item more (w.orders + p.sessions) p.last ordered)
+    let count = orders p.run.items in
+    ap (λ (x : TeardownsSoFar). or_else w.due (if nat_lt count (w.orders + p.sessions) then Leave (count - w.orders + 1) else or_else x.due Stop))
+    (teardowns_stay p.run.items item more (w.orders + p.sessions) p.last ordered)
 
-entry_stays : (p : Planned) (item : HistItem) (more : List HistItem) (stand : Stand) → is_order item.event ≡ true → due_entry (longer_plan p (item ∷ more)) (p.run.items ++ item ∷ more) (orders p.run.items) stand ≡ due_entry p p.run.items (orders p.run.items) stand
+entry_stays : (p : Planned) (item : HistItem) (more : List HistItem) (state : RunState) → is_order item.event ≡ true → due_entry (longer_plan p (item ∷ more)) (p.run.items ++ item ∷ more) (orders p.run.items) state ≡ due_entry p p.run.items (orders p.run.items) state
 entry_stays p item more (Due e) ordered = refl
 entry_stays p item more Invalid ordered = refl
 entry_stays p item more Whole ordered =
-    ap (due_last (longer_plan p (item ∷ more)) (p.run.items ++ item ∷ more) (orders p.run.items)) (torn_stays p.run.items item more (length p.setups + length p.tasks) p.teardowns ordered)
-    ∙ last_stays p item more (torn_down p.run.items (orders p.run.items) (length p.setups + length p.tasks) p.teardowns) ordered
+    ap (due_last (longer_plan p (item ∷ more)) (p.run.items ++ item ∷ more) (orders p.run.items)) (teardowns_stay p.run.items item more (length p.setups + length p.steps) p.teardowns ordered)
+    ∙ last_stays p item more (teardowns_so_far p.run.items (orders p.run.items) (length p.setups + length p.steps) p.teardowns) ordered
 
 -- where setups are still due, nothing else is
 case_first : (b g : Bool) (x y : Order) (some stop : Order) (rest : Option Order) → (false ≡ b → or_else rest x ≡ or_else rest y) → or_else (if b then Some some else (if g then rest else Some stop)) x ≡ or_else (if b then Some some else (if g then rest else Some stop)) y
@@ -239,24 +239,24 @@ case_first true g x y some stop rest same = refl
 case_first false true x y some stop rest same = same refl
 case_first false false x y some stop rest same = refl
 
-setups_first : (items : List HistItem) (there k : ℕ) (ts : List Task) (x y : Order) → there < k + length ts → k ≤ there → or_else (due_setup items there k ts) x ≡ or_else (due_setup items there k ts) y
-setups_first items there k [] x y less le = absurd (omega (arith, less, le))
-setups_first items there k (t ∷ ts) x y less le =
-    case_first (nat_le there k) (went_well items k t.session) x y (Launch t.session t.block) Stop (due_setup items there (k + 1) ts)
-    (λ past. let next : k + 1 ≤ there = grind arith in setups_first items there (k + 1) ts x y (omega (arith, less)) next)
+setups_first : (items : List HistItem) (count k : ℕ) (ts : List PlannedLaunch) (x y : Order) → count < k + length ts → k ≤ count → or_else (due_setup items count k ts) x ≡ or_else (due_setup items count k ts) y
+setups_first items count k [] x y less le = absurd (omega (arith, less, le))
+setups_first items count k (t ∷ ts) x y less le =
+    case_first (nat_le count k) (went_well items k t.session) x y (Launch t.session t.block) Stop (due_setup items count (k + 1) ts)
+    (λ past. let next : k + 1 ≤ count = grind arith in setups_first items count (k + 1) ts x y (omega (arith, less)) next)
 
 due_case : (p : Planned) (item : HistItem) (more : List HistItem) → is_order item.event ≡ true → p.run.setups ≡ length p.setups → (orders p.run.items < length p.setups) ⊎ (length p.setups ≤ orders p.run.items) → due_at (longer_plan p (item ∷ more)) (orders p.run.items) ≡ due p
 due_case p item more ordered setups (inr le) =
-    let there = orders p.run.items in
-    let split : there ≡ p.run.setups + (there - length p.setups) = omega (arith, le, setups) in
-    ap (λ (o : Option Order). or_else o (due_entry (longer_plan p (item ∷ more)) (p.run.items ++ item ∷ more) there (report (longer p.run (item ∷ more)) (there - length p.setups)).stand)) (setup_stays p.run.items item more 0 p.setups ordered)
-    ∙ ap (λ (r : Report). or_else (due_setup p.run.items there 0 p.setups) (due_entry (longer_plan p (item ∷ more)) (p.run.items ++ item ∷ more) there r.stand)) (front_stays p.run item more (there - length p.setups) ordered split)
-    ∙ ap (or_else (due_setup p.run.items there 0 p.setups)) (entry_stays p item more (report p.run (there - length p.setups)).stand ordered)
+    let count = orders p.run.items in
+    let split : count ≡ p.run.setups + (count - length p.setups) = omega (arith, le, setups) in
+    ap (λ (o : Option Order). or_else o (due_entry (longer_plan p (item ∷ more)) (p.run.items ++ item ∷ more) count (report (longer p.run (item ∷ more)) (count - length p.setups)).state)) (setup_stays p.run.items item more 0 p.setups ordered)
+    ∙ ap (λ (r : Report). or_else (due_setup p.run.items count 0 p.setups) (due_entry (longer_plan p (item ∷ more)) (p.run.items ++ item ∷ more) count r.state)) (front_stays p.run item more (count - length p.setups) ordered split)
+    ∙ ap (or_else (due_setup p.run.items count 0 p.setups)) (entry_stays p item more (report p.run (count - length p.setups)).state ordered)
 due_case p item more ordered setups (inl less) =
-    let there = orders p.run.items in
-    let other = due_entry (longer_plan p (item ∷ more)) (p.run.items ++ item ∷ more) there (report (longer p.run (item ∷ more)) (there - length p.setups)).stand in
+    let count = orders p.run.items in
+    let other = due_entry (longer_plan p (item ∷ more)) (p.run.items ++ item ∷ more) count (report (longer p.run (item ∷ more)) (count - length p.setups)).state in
     ap (λ (o : Option Order). or_else o other) (setup_stays p.run.items item more 0 p.setups ordered)
-    ∙ setups_first p.run.items there 0 p.setups other (due_entry p p.run.items there (report p.run (there - length p.setups)).stand) (omega (arith, less)) (omega arith)
+    ∙ setups_first p.run.items count 0 p.setups other (due_entry p p.run.items count (report p.run (count - length p.setups)).state) (omega (arith, less)) (omega arith)
 
 pub due_stays : (p : Planned) (item : HistItem) (more : List HistItem) → is_order item.event ≡ true → p.run.setups ≡ length p.setups → due_at (longer_plan p (item ∷ more)) (orders p.run.items) ≡ due p
 due_stays p item more ordered setups = due_case p item more ordered setups (cases_lt (orders p.run.items) (length p.setups))

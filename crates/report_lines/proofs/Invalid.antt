@@ -2,7 +2,7 @@
 use Rattle.std.proofs.Common.{◌≡◌, ℕ, zero, suc, ◌+◌, ◌<◌, ◌≤◌, ◌⊎◌, ◌↔◌, List, [], length, refl, ap, sym, ◌∙◌, subst, arith, true, false, Bool, not, nat_lt, if◌then◌else◌, inl, inr}
 use Rattle.std.proofs.lemmas.Bool.{cases_lt, le-ltb, ltb-true, ltb-false}
 use Rattle.report_lines.specs.declared.history.Line.{Line}
-use Rattle.report_lines.specs.declared.history.Stand.TheVariants.{Due, Whole, Invalid}
+use Rattle.report_lines.specs.declared.history.RunState.TheVariants.{Due, Whole, Invalid}
 use Rattle.report_lines.specs.History.{PermutationRun}
 use Rattle.report_lines.specs.Report.{before, active, poll, is_busy, is_empty, made_way, launched, report_from, report}
 use Rattle.report_lines.specs.Tries.{Try, still_active, all_passes, has_active, tries_before, tries_after}
@@ -10,25 +10,25 @@ use Rattle.report_lines.specs.Invalid.{launched_tries, tries_up_to, tries_to_the
 use Rattle.report_lines.proofs.Tried.{Follows, follows_polled, follows_busy, follows_way, follows_launch, follows_active}
 
 -- so many entries are launched after these tries, and none before was stuck
-record IsLaunched (c : PermutationRun) (there e : ℕ) (ts : List Try) : Type 0 where
+record IsLaunched (c : PermutationRun) (count e : ℕ) (ts : List Try) : Type 0 where
   tries_are : ts ≡ launched_tries c e
-  reached : e ≤ there
+  reached : e ≤ count
   free : (d : ℕ) → d < e → has_active c (tries_up_to c d) d ≡ false
 
 not_both : {A : Type 0} (b : Bool) → b ≡ true → b ≡ false → A
 not_both b holds fails = cc
 
-no_stuck_below : (c : PermutationRun) (there e : ℕ) (ts : List Try) → IsLaunched c there e ts → length c.entries ≤ e → IsStuck c there → ⊥
-no_stuck_below c there e ts l few s =
+no_stuck_below : (c : PermutationRun) (count e : ℕ) (ts : List Try) → IsLaunched c count e ts → length c.entries ≤ e → IsStuck c count → ⊥
+no_stuck_below c count e ts l few s =
     let one = s.one in
     not_both (has_active c (tries_up_to c s.entry) s.entry) s.active (l.free s.entry (omega arith))
 
 -- ---- at the end
 
-end_case : (c : PermutationRun) (there e : ℕ) (ts : List Try) (b : Bool) → IsLaunched c there e ts → e ≡ length c.entries → b ≡ is_empty (still_active c (tries_to_the_end c) (length c.entries))
-    → (if b then Whole else Invalid) ≡ Invalid ↔ IsInvalid c there
-end_case c there e ts true l all is = (λ (h : Whole ≡ Invalid). cc, λ h. elim h [ inl s ↦ absurd (no_stuck_below c there e ts l (omega arith) s) | inr a ↦ not_both (is_empty (still_active c (tries_to_the_end c) (length c.entries))) (sym is) a.active ])
-end_case c there e ts false l all is =
+end_case : (c : PermutationRun) (count e : ℕ) (ts : List Try) (b : Bool) → IsLaunched c count e ts → e ≡ length c.entries → b ≡ is_empty (still_active c (tries_to_the_end c) (length c.entries))
+    → (if b then Whole else Invalid) ≡ Invalid ↔ IsInvalid c count
+end_case c count e ts true l all is = (λ (h : Whole ≡ Invalid). cc, λ h. elim h [ inl s ↦ absurd (no_stuck_below c count e ts l (omega arith) s) | inr a ↦ not_both (is_empty (still_active c (tries_to_the_end c) (length c.entries))) (sym is) a.active ])
+end_case c count e ts false l all is =
     let reached = l.reached in
     (λ _. inr (record { reached = omega arith; active = sym is }), λ _. refl)
 
@@ -44,48 +44,48 @@ next_tries c e ts h =
     let next : suc e ≡ e + 1 = omega arith in
     ap (λ (w : List Try). tries_after c (tries_before c w e) e) h ∙ ap (launched_tries c) next
 
-next_launched : (c : PermutationRun) (there e : ℕ) (ts : List Try) → IsLaunched c there e ts → e < there → has_active c (tries_before c ts e) e ≡ false → IsLaunched c there (e + 1) (tries_after c (tries_before c ts e) e)
-next_launched c there e ts l lt free = record {
+next_launched : (c : PermutationRun) (count e : ℕ) (ts : List Try) → IsLaunched c count e ts → e < count → has_active c (tries_before c ts e) e ≡ false → IsLaunched c count (e + 1) (tries_after c (tries_before c ts e) e)
+next_launched c count e ts l lt free = record {
   tries_are = next_tries c e ts l.tries_are;
   reached = omega arith;
   free = λ d less. later_free c e l.free (subst (λ (w : List Try). has_active c (tries_before c w e) e ≡ false) l.tries_are free) d less (cases_lt d e);
 }
 
-not_there : (c : PermutationRun) (there e : ℕ) (ts : List Try) → IsLaunched c there e ts → there ≤ e → e < length c.entries → has_active c (tries_before c ts e) e ≡ false → IsInvalid c there → ⊥
-not_there c there e ts l few less free (inl s) =
+not_there : (c : PermutationRun) (count e : ℕ) (ts : List Try) → IsLaunched c count e ts → count ≤ e → e < length c.entries → has_active c (tries_before c ts e) e ≡ false → IsInvalid c count → ⊥
+not_there c count e ts l few less free (inl s) =
     let reached = s.reached in
     not_both (has_active c (tries_up_to c s.entry) s.entry) s.active
     (later_free c e l.free (subst (λ (w : List Try). has_active c (tries_before c w e) e ≡ false) l.tries_are free) s.entry (omega arith) (cases_lt s.entry e))
-not_there c there e ts l few less free (inr a) = let reached = a.reached in absurd (omega arith)
+not_there c count e ts l few less free (inr a) = let reached = a.reached in absurd (omega arith)
 
-entry_case : (c : PermutationRun) (there e rest : ℕ) (ts : List Try) (way more : List Line) (busy present : Bool) → IsLaunched c there e ts → e < length c.entries
-    → busy ≡ has_active c (tries_before c ts e) e → (present ≡ true → e < there) → (present ≡ false → there ≤ e)
-    → (e < there → busy ≡ false → (report_from c (e + 1) rest there more).stand ≡ Invalid ↔ IsInvalid c there)
-    → (if busy then record { lines = way; stand = Invalid } else (if present then report_from c (e + 1) rest there more else record { lines = way; stand = Due e })).stand ≡ Invalid ↔ IsInvalid c there
-entry_case c there e rest ts way more true present l less is before_it behind_it next =
+entry_case : (c : PermutationRun) (count e rest : ℕ) (ts : List Try) (way more : List Line) (busy present : Bool) → IsLaunched c count e ts → e < length c.entries
+    → busy ≡ has_active c (tries_before c ts e) e → (present ≡ true → e < count) → (present ≡ false → count ≤ e)
+    → (e < count → busy ≡ false → (report_from c (e + 1) rest count more).state ≡ Invalid ↔ IsInvalid c count)
+    → (if busy then record { lines = way; state = Invalid } else (if present then report_from c (e + 1) rest count more else record { lines = way; state = Due e })).state ≡ Invalid ↔ IsInvalid c count
+entry_case c count e rest ts way more true present l less is before_it behind_it next =
     (λ _. inl (record { entry = e; one = less; reached = l.reached; active = subst (λ (w : List Try). has_active c (tries_before c w e) e ≡ true) l.tries_are (sym is) }), λ _. refl)
-entry_case c there e rest ts way more false true l less is before_it behind_it next = next (before_it refl) refl
-entry_case c there e rest ts way more false false l less is before_it behind_it next =
-    (λ (h : Due e ≡ Invalid). cc, λ h. absurd (not_there c there e ts l (behind_it refl) less (sym is) h))
+entry_case c count e rest ts way more false true l less is before_it behind_it next = next (before_it refl) refl
+entry_case c count e rest ts way more false false l less is before_it behind_it next =
+    (λ (h : Due e ≡ Invalid). cc, λ h. absurd (not_there c count e ts l (behind_it refl) less (sym is) h))
 
-invalid_from : (c : PermutationRun) (there rest e : ℕ) (lines : List Line) (ts : List Try) → Follows c e lines ts → IsLaunched c there e ts → e + rest ≡ length c.entries
-    → (report_from c e rest there lines).stand ≡ Invalid ↔ IsInvalid c there
-invalid_from c there zero e lines ts f l all =
+invalid_from : (c : PermutationRun) (count rest e : ℕ) (lines : List Line) (ts : List Try) → Follows c e lines ts → IsLaunched c count e ts → e + rest ≡ length c.entries
+    → (report_from c e rest count lines).state ≡ Invalid ↔ IsInvalid c count
+invalid_from c count zero e lines ts f l all =
     let m = before c e in
     let at_end : e ≡ length c.entries = omega arith in
     let polled = follows_polled c m e (m.joined + 1) lines ts (omega arith) (omega arith) f in
     let tries_are : all_passes c m ts ≡ tries_to_the_end c = ap (all_passes c m) l.tries_are ∙ ap (λ (n : ℕ). all_passes c (before c n) (launched_tries c n)) at_end in
     let left : active (poll c m lines) e ≡ still_active c (tries_to_the_end c) (length c.entries) =
     follows_active c e (poll c m lines) (all_passes c m ts) e polled ∙ ap (λ (w : List Try). still_active c w e) tries_are ∙ ap (still_active c (tries_to_the_end c)) at_end in
-    end_case c there e ts (is_empty (active (poll c m lines) e)) l at_end (ap is_empty left)
-invalid_from c there (suc rest) e lines ts f l all =
+    end_case c count e ts (is_empty (active (poll c m lines) e)) l at_end (ap is_empty left)
+invalid_from c count (suc rest) e lines ts f l all =
     let way = follows_way c e lines ts f in
     let busy = follows_busy c e (made_way c lines e) (tries_before c ts e) way in
-    entry_case c there e rest ts (made_way c lines e) (launched c (made_way c lines e) e) (is_busy c (made_way c lines e) e) (nat_lt e there) l (omega arith) busy (ltb-true e there) (ltb-false e there)
-    (λ lt free. invalid_from c there rest (e + 1) (launched c (made_way c lines e) e) (tries_after c (tries_before c ts e) e)
-    (follows_launch c e (made_way c lines e) (tries_before c ts e) way) (next_launched c there e ts l lt (sym busy ∙ free)) (omega arith))
+    entry_case c count e rest ts (made_way c lines e) (launched c (made_way c lines e) e) (is_busy c (made_way c lines e) e) (nat_lt e count) l (omega arith) busy (ltb-true e count) (ltb-false e count)
+    (λ lt free. invalid_from c count rest (e + 1) (launched c (made_way c lines e) e) (tries_after c (tries_before c ts e) e)
+    (follows_launch c e (made_way c lines e) (tries_before c ts e) way) (next_launched c count e ts l lt (sym busy ∙ free)) (omega arith))
 
-pub invalid_is : (c : PermutationRun) (there : ℕ) → (report c there).stand ≡ Invalid ↔ IsInvalid c there
-invalid_is c there =
-    invalid_from c there (length c.entries) 0 [] [] (record { told = refl; tried = λ i. ap not (sym (le-ltb i 0 (omega arith))) })
+pub invalid_is : (c : PermutationRun) (count : ℕ) → (report c count).state ≡ Invalid ↔ IsInvalid c count
+invalid_is c count =
+    invalid_from c count (length c.entries) 0 [] [] (record { said_is = refl; tried = λ i. ap not (sym (le-ltb i 0 (omega arith))) })
     (record { tries_are = refl; reached = omega arith; free = λ d h. absurd (omega arith) }) (omega arith)

@@ -7,10 +7,11 @@ use Rattle.std.proofs.lemmas.List.{get_or-set_same, get_or-set_other, length-set
 use Rattle.std.proofs.lemmas.Option.{slice_get-get_or}
 use Rattle.std.proofs.lemmas.Bool.{cases_lt}
 use Rattle.session_machine.specs.declared.reply.HistItem.{HistItem}
-use Rattle.report_lines.specs.declared.history.Stand.{Stand}
-use Rattle.report_lines.specs.declared.history.Stand.TheVariants.{Due, Whole, Invalid}
+use Rattle.report_lines.specs.declared.history.RunState.{RunState}
+use Rattle.report_lines.specs.declared.history.RunState.TheVariants.{Due, Whole, Invalid}
 use Rattle.report_lines.specs.declared.progress.Progress.{Progress}
-use Rattle.report_lines.specs.Starts.{is_order, session_of, ends_in}
+use Rattle.session_machine.specs.Machine.{session_of}
+use Rattle.report_lines.specs.Starts.{is_order, ends_in}
 use Rattle.report_lines.specs.Due.{orders}
 use Rattle.report_lines.specs.History.{PermutationRun}
 use Rattle.report_lines.specs.Report.{report, report_from, launched}
@@ -65,30 +66,30 @@ orders_snoc items item =
     ap length (filter-append (λ (i : HistItem). is_order i.event) items (item ∷ []))
     ∙ length-append (filter (λ (i : HistItem). is_order i.event) items) (filter (λ (i : HistItem). is_order i.event) (item ∷ []))
 
--- ---- what was told stays
+-- ---- the lines so far stay
 
-is_at_longer : (c : PermutationRun) (more : List HistItem) (there launched : ℕ) (s : Stand) → IsAt c there launched s → IsAt (longer c more) there launched s
-is_at_longer c more there launched (Due e) h = h
-is_at_longer c more there launched Whole h = h
-is_at_longer c more there launched Invalid h = h
+is_at_longer : (c : PermutationRun) (more : List HistItem) (count launched : ℕ) (s : RunState) → IsAt c count launched s → IsAt (longer c more) count launched s
+is_at_longer c more count launched (Due e) h = h
+is_at_longer c more count launched Whole h = h
+is_at_longer c more count launched Invalid h = h
 
-tells_longer : (c : PermutationRun) (more : List HistItem) (there : ℕ) (t : LinesSoFar) (s : Stand) → report (longer c more) there ≡ report c there → IsReportSoFar c there t s → IsReportSoFar (longer c more) there t s
-tells_longer c more there t s same h = record { report_is = same ∙ h.report_is; at = is_at_longer c more there t.launched s h.at }
+tells_longer : (c : PermutationRun) (more : List HistItem) (count : ℕ) (t : LinesSoFar) (s : RunState) → report (longer c more) count ≡ report c count → IsReportSoFar c count t s → IsReportSoFar (longer c more) count t s
+tells_longer c more count t s same h = record { report_is = same ∙ h.report_is; at = is_at_longer c more count t.launched s h.at }
 
 -- before an order
-before_order : (c : PermutationRun) (item : HistItem) (there : ℕ) → is_order item.event ≡ true → there ≡ orders c.items - c.setups → (orders c.items < c.setups) ⊎ (c.setups ≤ orders c.items) → report (longer c (item ∷ [])) there ≡ report c there
-before_order c item there ordered is (inl few) =
-    let none : there ≡ 0 = omega (arith, is, few) in
+before_order : (c : PermutationRun) (item : HistItem) (count : ℕ) → is_order item.event ≡ true → count ≡ orders c.items - c.setups → (orders c.items < c.setups) ⊎ (c.setups ≤ orders c.items) → report (longer c (item ∷ [])) count ≡ report c count
+before_order c item count ordered is (inl few) =
+    let none : count ≡ 0 = omega (arith, is, few) in
     rw none (first_same (longer c (item ∷ [])) c refl)
-before_order c item there ordered is (inr enough) =
-    let all : orders c.items ≡ c.setups + there = omega (arith, is, enough) in
-    front_stays c item [] there ordered all
+before_order c item count ordered is (inr enough) =
+    let all : orders c.items ≡ c.setups + count = omega (arith, is, enough) in
+    front_stays c item [] count ordered all
 
--- within a segment that is not told
-within_segment : (c : PermutationRun) (item : HistItem) (there : ℕ) → there ≡ orders c.items - (c.setups + 1) → there ≤ orders c.items - c.setups → (c.setups < orders c.items) ⊎ (orders c.items ≤ c.setups) → report (longer c (item ∷ [])) there ≡ report c there
-within_segment c item there lags low (inl past) = past_stays c (item ∷ []) there (omega (arith, lags, past))
-within_segment c item there lags low (inr few) =
-    let none : there ≡ 0 = omega (arith, low, few) in
+-- within a segment whose lines are missing
+within_segment : (c : PermutationRun) (item : HistItem) (count : ℕ) → count ≡ orders c.items - (c.setups + 1) → count ≤ orders c.items - c.setups → (c.setups < orders c.items) ⊎ (orders c.items ≤ c.setups) → report (longer c (item ∷ [])) count ≡ report c count
+within_segment c item count lags low (inl past) = past_stays c (item ∷ []) count (omega (arith, lags, past))
+within_segment c item count lags low (inr few) =
+    let none : count ≡ 0 = omega (arith, low, few) in
     rw none (first_same (longer c (item ∷ [])) c refl)
 
 -- ---- what is kept stays right
@@ -162,55 +163,55 @@ seen_more c item starts last place is seen = record {
   timed = subst (λ k. IsTimed (longer c (item ∷ [])) (ends_after item (k + 1) last)) (sym is) (timed_more c item last seen.timed);
 }
 
-keeps_next : (c : PermutationRun) (item : HistItem) (p q : Progress) → Keeps c p → report (longer c (item ∷ [])) p.there ≡ report c p.there → p.there ≡ orders (c.items ++ item ∷ []) - (c.setups + 1) → IsNoted item p q → Keeps (longer c (item ∷ [])) q
+keeps_next : (c : PermutationRun) (item : HistItem) (p q : Progress) → Keeps c p → report (longer c (item ∷ [])) p.segments_done ≡ report c p.segments_done → p.segments_done ≡ orders (c.items ++ item ∷ []) - (c.setups + 1) → IsNoted item p q → Keeps (longer c (item ∷ [])) q
 keeps_next c item p q kept same lags n =
     let long = length-append c.items (item ∷ []) in
     let at = kept.seen_are in
     let seen = n.seen_is in
-    let there = n.there_is in
+    let done = n.segments_done_is in
     let found : IsSeen (longer c (item ∷ [])) q.starts.items q.last.items =
     subst (λ (w : List ℕ). IsSeen (longer c (item ∷ [])) q.starts.items w) (sym n.last_is)
     (subst (λ (w : List ℕ). IsSeen (longer c (item ∷ [])) w (ends_after item (p.seen + 1) p.last.items)) (sym n.starts_are)
     (seen_more c item p.starts.items p.last.items p.seen at kept.found)) in
-    let tells : IsReportSoFar (longer c (item ∷ [])) q.there q.told q.stand =
-    subst (λ k. IsReportSoFar (longer c (item ∷ [])) k q.told q.stand) (sym there)
-    (subst (λ (t : LinesSoFar). IsReportSoFar (longer c (item ∷ [])) p.there t q.stand) (sym n.told_is)
-    (subst (λ (s : Stand). IsReportSoFar (longer c (item ∷ [])) p.there p.told s) (sym n.stand_is)
-    (tells_longer c (item ∷ []) p.there p.told p.stand same kept.told))) in
+    let tells : IsReportSoFar (longer c (item ∷ [])) q.segments_done q.so_far q.state =
+    subst (λ k. IsReportSoFar (longer c (item ∷ [])) k q.so_far q.state) (sym done)
+    (subst (λ (t : LinesSoFar). IsReportSoFar (longer c (item ∷ [])) p.segments_done t q.state) (sym n.so_far_is)
+    (subst (λ (s : RunState). IsReportSoFar (longer c (item ∷ [])) p.segments_done p.so_far s) (sym n.state_is)
+    (tells_longer c (item ∷ []) p.segments_done p.so_far p.state same kept.reported))) in
     record {
       seen_are = omega (arith, seen, at, long);
       found = found;
-      told = tells;
-      low = omega (arith, lags, there);
-      high = omega (arith, lags, there);
+      reported = tells;
+      low = omega (arith, lags, done);
+      high = omega (arith, lags, done);
     }
 
--- an order follows what is told
-order_lags : (c : PermutationRun) (item : HistItem) (there : ℕ) → is_order item.event ≡ true → there ≡ orders c.items - c.setups → there ≡ orders (c.items ++ item ∷ []) - (c.setups + 1)
-order_lags c item there ordered is =
+-- an order follows a segment whose lines are there
+order_lags : (c : PermutationRun) (item : HistItem) (count : ℕ) → is_order item.event ≡ true → count ≡ orders c.items - c.setups → count ≡ orders (c.items ++ item ∷ []) - (c.setups + 1)
+order_lags c item count ordered is =
     let more = orders_snoc c.items item in
     let one = one_order (is_order item.event) item ordered in
     omega (arith, is, more, one)
 
-order_stays : (c : PermutationRun) (item : HistItem) (there : ℕ) → is_order item.event ≡ true → there ≡ orders c.items - c.setups → report (longer c (item ∷ [])) there ≡ report c there
-order_stays c item there ordered is = before_order c item there ordered is (cases_lt (orders c.items) c.setups)
+order_stays : (c : PermutationRun) (item : HistItem) (count : ℕ) → is_order item.event ≡ true → count ≡ orders c.items - c.setups → report (longer c (item ∷ [])) count ≡ report c count
+order_stays c item count ordered is = before_order c item count ordered is (cases_lt (orders c.items) c.setups)
 
 -- a Step follows within the last segment
-step_lags : (c : PermutationRun) (item : HistItem) (there : ℕ) → is_order item.event ≡ false → there ≡ orders c.items - (c.setups + 1) → there ≡ orders (c.items ++ item ∷ []) - (c.setups + 1)
-step_lags c item there step is =
+step_lags : (c : PermutationRun) (item : HistItem) (count : ℕ) → is_order item.event ≡ false → count ≡ orders c.items - (c.setups + 1) → count ≡ orders (c.items ++ item ∷ []) - (c.setups + 1)
+step_lags c item count step is =
     let more = orders_snoc c.items item in
     let none = no_order (is_order item.event) item step in
     omega (arith, is, more, none)
 
-step_stays : (c : PermutationRun) (item : HistItem) (there : ℕ) → there ≡ orders c.items - (c.setups + 1) → there ≤ orders c.items - c.setups → report (longer c (item ∷ [])) there ≡ report c there
-step_stays c item there is low = within_segment c item there is low (cases_lt c.setups (orders c.items))
+step_stays : (c : PermutationRun) (item : HistItem) (count : ℕ) → count ≡ orders c.items - (c.setups + 1) → count ≤ orders c.items - c.setups → report (longer c (item ∷ [])) count ≡ report c count
+step_stays c item count is low = within_segment c item count is low (cases_lt c.setups (orders c.items))
 
--- what is kept once an order has come, and that its segment isn't told
+-- what is kept once an order has come, and that the lines of its segment are missing
 pub seen_order : (c : PermutationRun) (item : HistItem) (p q : Progress) → IsSettled c p → is_order item.event ≡ true → IsNoted item p q → Keeps (longer c (item ∷ [])) q
-seen_order c item p q settled ordered n = keeps_next c item p q settled.kept (order_stays c item p.there ordered settled.all) (order_lags c item p.there ordered settled.all) n
+seen_order c item p q settled ordered n = keeps_next c item p q settled.kept (order_stays c item p.segments_done ordered settled.all) (order_lags c item p.segments_done ordered settled.all) n
 
 pub order_waits : (c : PermutationRun) (item : HistItem) (p q : Progress) → IsSettled c p → is_order item.event ≡ true → IsNoted item p q → Lags (longer c (item ∷ [])) q
-order_waits c item p q settled ordered n = n.there_is ∙ order_lags c item p.there ordered settled.all
+order_waits c item p q settled ordered n = n.segments_done_is ∙ order_lags c item p.segments_done ordered settled.all
 
 in_segment : (c : PermutationRun) (item : HistItem) (p : Progress) → is_order item.event ≡ false → (is_order item.event ≡ true) ⊎ Lags c p → Lags c p
 in_segment c item p step (inl ordered) = cc
@@ -220,10 +221,10 @@ in_segment c item p step (inr lags) = lags
 pub seen_step : (c : PermutationRun) (item : HistItem) (p q : Progress) → Keeps c p → (is_order item.event ≡ true) ⊎ Lags c p → is_order item.event ≡ false → IsNoted item p q → Keeps (longer c (item ∷ [])) q
 seen_step c item p q kept next step n =
     let lags = in_segment c item p step next in
-    keeps_next c item p q kept (step_stays c item p.there lags kept.low) (step_lags c item p.there step lags) n
+    keeps_next c item p q kept (step_stays c item p.segments_done lags kept.low) (step_lags c item p.segments_done step lags) n
 
 pub step_waits : (c : PermutationRun) (item : HistItem) (p q : Progress) → (is_order item.event ≡ true) ⊎ Lags c p → is_order item.event ≡ false → IsNoted item p q → Lags (longer c (item ∷ [])) q
-step_waits c item p q next step n = n.there_is ∙ step_lags c item p.there step (in_segment c item p step next)
+step_waits c item p q next step n = n.segments_done_is ∙ step_lags c item p.segments_done step (in_segment c item p step next)
 
 zeros_case : (xs : List ℕ) (k : ℕ) → get_or xs k 0 ≡ 0 → get_or (xs ++ 0 ∷ []) k 0 ≡ 0
 zeros_case [] zero h = refl
@@ -234,71 +235,71 @@ zeros_case (x ∷ xs) (suc k) h = zeros_case xs k h
 pub zeros_more : (xs ys : List ℕ) → IsZeros xs → ys ≡ xs ++ 0 ∷ [] → IsZeros ys
 zeros_more xs ys zeros is = λ k. ap (λ (w : List ℕ). get_or w k 0) is ∙ zeros_case xs k (zeros k)
 
--- ---- the next segment is told
+-- ---- the lines of the next segment
 
 pub both : {X E : Type 0} (r : Result X E) (P Q R : X → Type 0) → ((x : X) → P x → Q x → R x) → IfOk r P → IfOk r Q → IfOk r R
 both (Ok x) P Q R f p q = f x p q
 both (Err e) P Q R f p q = tt
 
-pub tells_over : (c : PermutationRun) (there : ℕ) (t : LinesSoFar) (s : Stand) → IsReportSoFar c there t s → (s ≡ Whole) ⊎ (s ≡ Invalid) → IsReportSoFar c (there + 1) t s
-tells_over c there t (Due e) told (inl h) = absurd (whole_due e (sym h))
-tells_over c there t (Due e) told (inr h) = absurd (invalid_due e (sym h))
-tells_over c there t Whole told h = record { report_is = report_over c there t.lines Whole refl told.report_is; at = told.at }
-tells_over c there t Invalid told h = record { report_is = report_over c there t.lines Invalid refl told.report_is; at = told.at }
+pub tells_over : (c : PermutationRun) (count : ℕ) (t : LinesSoFar) (s : RunState) → IsReportSoFar c count t s → (s ≡ Whole) ⊎ (s ≡ Invalid) → IsReportSoFar c (count + 1) t s
+tells_over c count t (Due e) reported (inl h) = absurd (whole_due e (sym h))
+tells_over c count t (Due e) reported (inr h) = absurd (invalid_due e (sym h))
+tells_over c count t Whole reported h = record { report_is = report_over c count t.lines Whole refl reported.report_is; at = reported.at }
+tells_over c count t Invalid reported h = record { report_is = report_over c count t.lines Invalid refl reported.report_is; at = reported.at }
 
-tells_due : (c : PermutationRun) (there e : ℕ) (t new : LinesSoFar) (next : Stand) → IsReportSoFar c there t (Due e)
-    → report_from c (there + 1) (length c.entries - (there + 1)) (there + 1) (launched c t.lines there) ≡ record { lines = new.lines; stand = next } → IsAt c (there + 1) new.launched next → IsReportSoFar c (there + 1) new next
-tells_due c there e t new next told h at = record { report_is = report_next c there t.lines e told.report_is ∙ h; at = at }
+tells_due : (c : PermutationRun) (count e : ℕ) (t new : LinesSoFar) (next : RunState) → IsReportSoFar c count t (Due e)
+    → report_from c (count + 1) (length c.entries - (count + 1)) (count + 1) (launched c t.lines count) ≡ record { lines = new.lines; state = next } → IsAt c (count + 1) new.launched next → IsReportSoFar c (count + 1) new next
+tells_due c count e t new next reported h at = record { report_is = report_next c count t.lines e reported.report_is ∙ h; at = at }
 
-pub tells_next : (c : PermutationRun) (there e l : ℕ) (t mid new : LinesSoFar) (s next : Stand) → IsReportSoFar c there t s → s ≡ Due e → mid ≡ record { lines = launched c t.lines t.launched; launched = t.launched + 1 } → l ≡ mid.launched
-    → report_from c l (length c.entries - l) l mid.lines ≡ record { lines = new.lines; stand = next } → IsAt c l new.launched next → IsReportSoFar c (there + 1) new next
-tells_next c there e l t mid new s next told due is at_l h at =
-    let so : IsReportSoFar c there t (Due e) = subst (λ (x : Stand). IsReportSoFar c there t x) due told in
-    let first : there ≡ t.launched = so.at.1.0 in
-    let count : mid.launched ≡ t.launched + 1 = ap (λ (x : LinesSoFar). x.launched) is in
-    let there_is : l ≡ there + 1 = omega (arith, first, count, at_l) in
-    let lines : mid.lines ≡ launched c t.lines there = ap (λ (x : LinesSoFar). x.lines) is ∙ ap (launched c t.lines) (sym first) in
-    tells_due c there e t new next so
-    (subst (λ k. report_from c k (length c.entries - k) k (launched c t.lines there) ≡ record { lines = new.lines; stand = next }) there_is
+pub tells_next : (c : PermutationRun) (count e l : ℕ) (t mid new : LinesSoFar) (s next : RunState) → IsReportSoFar c count t s → s ≡ Due e → mid ≡ record { lines = launched c t.lines t.launched; launched = t.launched + 1 } → l ≡ mid.launched
+    → report_from c l (length c.entries - l) l mid.lines ≡ record { lines = new.lines; state = next } → IsAt c l new.launched next → IsReportSoFar c (count + 1) new next
+tells_next c count e l t mid new s next reported due is at_l h at =
+    let so : IsReportSoFar c count t (Due e) = subst (λ (x : RunState). IsReportSoFar c count t x) due reported in
+    let first : count ≡ t.launched = so.at.1.0 in
+    let counted : mid.launched ≡ t.launched + 1 = ap (λ (x : LinesSoFar). x.launched) is in
+    let next_is : l ≡ count + 1 = omega (arith, first, counted, at_l) in
+    let lines : mid.lines ≡ launched c t.lines count = ap (λ (x : LinesSoFar). x.lines) is ∙ ap (launched c t.lines) (sym first) in
+    tells_due c count e t new next so
+    (subst (λ k. report_from c k (length c.entries - k) k (launched c t.lines count) ≡ record { lines = new.lines; state = next }) next_is
     (ap (report_from c l (length c.entries - l) l) (sym lines) ∙ h))
-    (subst (λ k. IsAt c k new.launched next) there_is at)
+    (subst (λ k. IsAt c k new.launched next) next_is at)
 
 starts_count : (c : PermutationRun) (p : Progress) → Keeps c p → length p.starts.items ≡ orders c.items
 starts_count c p kept = ap length kept.found.starts_are ∙ count_found c.items 0
 
-pub settled_already : (c : PermutationRun) (p : Progress) → Keeps c p → length p.starts.items - c.setups ≡ p.there → IsSettled c p
-settled_already c p kept all = let count = starts_count c p kept in record { kept = kept; all = omega (arith, all, count) }
+pub settled_already : (c : PermutationRun) (p : Progress) → Keeps c p → length p.starts.items - c.setups ≡ p.segments_done → IsSettled c p
+settled_already c p kept all = let counted = starts_count c p kept in record { kept = kept; all = omega (arith, all, counted) }
 
-not_there_case : (n s there : ℕ) → there ≤ n - s → n - s ≤ there + 1 → (n - s ≡ there → ⊥) → (n - s < there + 1) ⊎ (there + 1 ≤ n - s) → n ≡ s + there + 1
-not_there_case n s there low high differs (inl less) = absurd (differs (omega (arith, less, low)))
-not_there_case n s there low high differs (inr more) = omega (arith, more, high)
+not_there_case : (n s count : ℕ) → count ≤ n - s → n - s ≤ count + 1 → (n - s ≡ count → ⊥) → (n - s < count + 1) ⊎ (count + 1 ≤ n - s) → n ≡ s + count + 1
+not_there_case n s count low high differs (inl less) = absurd (differs (omega (arith, less, low)))
+not_there_case n s count low high differs (inr more) = omega (arith, more, high)
 
-not_there : (n s there : ℕ) → there ≤ n - s → n - s ≤ there + 1 → (n - s ≡ there → ⊥) → n ≡ s + there + 1
-not_there n s there low high differs = not_there_case n s there low high differs (cases_lt (n - s) (there + 1))
+not_there : (n s count : ℕ) → count ≤ n - s → n - s ≤ count + 1 → (n - s ≡ count → ⊥) → n ≡ s + count + 1
+not_there n s count low high differs = not_there_case n s count low high differs (cases_lt (n - s) (count + 1))
 
-pub one_behind : (c : PermutationRun) (p : Progress) → Keeps c p → (length p.starts.items - c.setups ≡ p.there → ⊥) → orders c.items ≡ c.setups + p.there + 1
+pub one_behind : (c : PermutationRun) (p : Progress) → Keeps c p → (length p.starts.items - c.setups ≡ p.segments_done → ⊥) → orders c.items ≡ c.setups + p.segments_done + 1
 one_behind c p kept differs =
-    let count = starts_count c p kept in
+    let counted = starts_count c p kept in
     let low = kept.low in
     let high = kept.high in
-    not_there (orders c.items) c.setups p.there low high (λ same. differs (omega (arith, count, same)))
+    not_there (orders c.items) c.setups p.segments_done low high (λ same. differs (omega (arith, counted, same)))
 
-pub settled_next : (c : PermutationRun) (p q : Progress) → Keeps c p → orders c.items ≡ c.setups + p.there + 1 → q.starts ≡ p.starts → q.last ≡ p.last → q.seen ≡ p.seen → q.there ≡ p.there + 1 → IsReportSoFar c (p.there + 1) q.told q.stand → IsSettled c q
-settled_next c p q kept behind starts last seen there told =
+pub settled_next : (c : PermutationRun) (p q : Progress) → Keeps c p → orders c.items ≡ c.setups + p.segments_done + 1 → q.starts ≡ p.starts → q.last ≡ p.last → q.seen ≡ p.seen → q.segments_done ≡ p.segments_done + 1 → IsReportSoFar c (p.segments_done + 1) q.so_far q.state → IsSettled c q
+settled_next c p q kept behind starts last seen done reported =
     let seen_are = kept.seen_are in
     record {
       kept = record {
         seen_are = seen ∙ seen_are;
         found = subst (λ (w : List ℕ). IsSeen c q.starts.items w) (sym (ap (λ v. v.items) last)) (subst (λ (w : List ℕ). IsSeen c w p.last.items) (sym (ap (λ v. v.items) starts)) kept.found);
-        told = subst (λ k. IsReportSoFar c k q.told q.stand) (sym there) told;
-        low = omega (arith, behind, there);
-        high = omega (arith, behind, there);
+        reported = subst (λ k. IsReportSoFar c k q.so_far q.state) (sym done) reported;
+        low = omega (arith, behind, done);
+        high = omega (arith, behind, done);
       };
-      all = omega (arith, behind, there);
+      all = omega (arith, behind, done);
     }
 
-pub room_to_tell : (c : PermutationRun) (p : Progress) → Keeps c p → orders c.items ≡ c.setups + p.there + 1 → p.there + 1 ≤ length p.starts.items
-room_to_tell c p kept behind = let count = starts_count c p kept in omega (arith, behind, count)
+pub room_to_tell : (c : PermutationRun) (p : Progress) → Keeps c p → orders c.items ≡ c.setups + p.segments_done + 1 → p.segments_done + 1 ≤ length p.starts.items
+room_to_tell c p kept behind = let counted = starts_count c p kept in omega (arith, behind, counted)
 
 -- ---- which item comes next
 
@@ -307,8 +308,8 @@ past_end [] k item over h = cc
 past_end (x ∷ xs) zero item over h = absurd (omega (arith, over))
 past_end (x ∷ xs) (suc k) item over h = past_end xs k item (omega (arith, over)) h
 
-pub lags_so : (c : PermutationRun) (p : Progress) → Follows c p → length p.starts.items - (c.setups + 1) ≡ p.there → Lags (front c p.seen) p
-lags_so c p follows is = let count = starts_count (front c p.seen) p follows.kept in omega (arith, count, is)
+pub lags_so : (c : PermutationRun) (p : Progress) → Follows c p → length p.starts.items - (c.setups + 1) ≡ p.segments_done → Lags (front c p.seen) p
+lags_so c p follows is = let counted = starts_count (front c p.seen) p follows.kept in omega (arith, counted, is)
 
 pub none_next : (c : PermutationRun) (p : Progress) (item : HistItem) → length c.items ≤ p.seen → slice_get c.items p.seen ≡ Some item → ⊥
 none_next c p item over h = past_end c.items p.seen item over h
@@ -322,8 +323,8 @@ order_next items k item other within at h =
 pub one_further : (items : List HistItem) (k : ℕ) (item : HistItem) → k < length items → item ≡ get_or items k item → take (k + 1) items ≡ take k items ++ item ∷ []
 one_further items k item less at = take_more items k item less ∙ ap (λ (x : HistItem). take k items ++ x ∷ []) (sym at)
 
-pub settled_tells : (c : PermutationRun) (p : Progress) → IsSettled c p → report c (orders c.items - c.setups) ≡ record { lines = p.told.lines; stand = p.stand }
-settled_tells c p settled = ap (report c) (sym settled.all) ∙ settled.kept.told.report_is
+pub settled_tells : (c : PermutationRun) (p : Progress) → IsSettled c p → report c (orders c.items - c.setups) ≡ record { lines = p.so_far.lines; state = p.state }
+settled_tells c p settled = ap (report c) (sym settled.all) ∙ settled.kept.reported.report_is
 
 -- what is kept of a front is kept of the whole
 pub follows_whole : (c : PermutationRun) (k : ℕ) (p : Progress) → Follows (front c k) p → Follows c p

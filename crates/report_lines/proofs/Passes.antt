@@ -6,11 +6,11 @@ use Rattle.std.proofs.lemmas.Bool.{cases_lt, not-true, not-false}
 use Rattle.report_lines.specs.declared.history.Line.{Line}
 use Rattle.report_lines.specs.declared.history.Line.TheVariants.{Completed}
 use Rattle.report_lines.specs.declared.history.Moment.{Moment}
-use Rattle.report_lines.specs.declared.telling.Chosen.{Chosen}
-use Rattle.report_lines.specs.declared.telling.Chosen.TheVariants.{Joined}
+use Rattle.report_lines.specs.declared.lines_so_far.Chosen.{Chosen}
+use Rattle.report_lines.specs.declared.lines_so_far.Chosen.TheVariants.{Joined}
 use Rattle.report_lines.specs.History.{PermutationRun}
 use Rattle.report_lines.specs.Report.{is_reported, active, instances, may_report, retry, pass}
-use Rattle.report_lines.specs.Inner.Trying.{is_chosen, chosen_retry, still_told}
+use Rattle.report_lines.specs.Inner.Trying.{is_chosen, chosen_retry, retried_from}
 use Rattle.report_lines.proofs.Waits.{active_leave, reported_push}
 use Rattle.report_lines.proofs.Rising.{Between, between_instances, between_filter, between_at, between_leave, filter_at, fold_at}
 
@@ -43,7 +43,7 @@ tried c m chosen lines e waits can = rw waits (when_chosen (is_chosen c m chosen
 passed_over : (c : PermutationRun) (m : Moment) (chosen : Chosen) (lines : List Line) (e : ℕ) → is_reported lines e ≡ false → (is_chosen c m chosen e && may_report c m lines e) ≡ false → chosen_retry c m chosen lines e ≡ lines
 passed_over c m chosen lines e waits cannot = rw waits (when_not (is_chosen c m chosen e) (may_report c m lines e) (lines ++ Completed e m.seen ∷ []) lines cannot)
 
-pub try_reports : (c : PermutationRun) (m : Moment) (chosen : Chosen) (lines : List Line) (n place e : ℕ) → slice_get (active lines n) place ≡ Some e → (is_chosen c m chosen e && may_report c m lines e) ≡ true → still_told c m chosen (lines ++ Completed e m.seen ∷ []) n place ≡ still_told c m chosen lines n place
+pub try_reports : (c : PermutationRun) (m : Moment) (chosen : Chosen) (lines : List Line) (n place e : ℕ) → slice_get (active lines n) place ≡ Some e → (is_chosen c m chosen e && may_report c m lines e) ≡ true → retried_from c m chosen (lines ++ Completed e m.seen ∷ []) n place ≡ retried_from c m chosen lines n place
 try_reports c m chosen lines n place e h can =
     let g = chosen_retry c m chosen in
     let now : g lines e ≡ lines ++ Completed e m.seen ∷ [] = tried c m chosen lines e (waits_unreported lines n place e h) can in
@@ -58,7 +58,7 @@ try_fewer lines n place e s h =
     let old = length-drop (place + 1) (active lines n) in
     omega arith
 
-pub try_passes : (c : PermutationRun) (m : Moment) (chosen : Chosen) (lines : List Line) (n place e : ℕ) → slice_get (active lines n) place ≡ Some e → (is_chosen c m chosen e && may_report c m lines e) ≡ false → still_told c m chosen lines n (place + 1) ≡ still_told c m chosen lines n place
+pub try_passes : (c : PermutationRun) (m : Moment) (chosen : Chosen) (lines : List Line) (n place e : ℕ) → slice_get (active lines n) place ≡ Some e → (is_chosen c m chosen e && may_report c m lines e) ≡ false → retried_from c m chosen lines n (place + 1) ≡ retried_from c m chosen lines n place
 try_passes c m chosen lines n place e h cannot =
     let g = chosen_retry c m chosen in
     ap (λ (w : List Line). fold g w (drop (place + 1) (active lines n))) (sym (passed_over c m chosen lines e (waits_unreported lines n place e h) cannot))
@@ -91,7 +91,7 @@ pub skip_reported : (g : List Line → ℕ → List Line) → ((lines : List Lin
 skip_reported g over keeps lines n = skip g over keeps (λ j. not (is_reported lines j)) (instances n) lines (λ i no. not-false (is_reported lines i) no)
 
 -- to try the waiting list is to try all instances
-pub through_waiting : (c : PermutationRun) (m : Moment) (chosen : Chosen) (lines : List Line) (n : ℕ) → fold (chosen_retry c m chosen) lines (instances n) ≡ still_told c m chosen lines n 0
+pub through_waiting : (c : PermutationRun) (m : Moment) (chosen : Chosen) (lines : List Line) (n : ℕ) → fold (chosen_retry c m chosen) lines (instances n) ≡ retried_from c m chosen lines n 0
 through_waiting c m chosen lines n = skip_reported (chosen_retry c m chosen) (retry_reported c m chosen) (retry_keeps c m chosen) lines n
 
 nothing_left : (xs : List ℕ) (k : ℕ) → length xs ≤ k → drop k xs ≡ []
@@ -100,7 +100,7 @@ nothing_left [] (suc k) h = refl
 nothing_left (x ∷ xs) zero h = absurd (omega arith)
 nothing_left (x ∷ xs) (suc k) h = nothing_left xs k (omega arith)
 
-pub through_end : (c : PermutationRun) (m : Moment) (chosen : Chosen) (lines : List Line) (n place : ℕ) → length (active lines n) ≤ place → still_told c m chosen lines n place ≡ lines
+pub through_end : (c : PermutationRun) (m : Moment) (chosen : Chosen) (lines : List Line) (n place : ℕ) → length (active lines n) ≤ place → retried_from c m chosen lines n place ≡ lines
 through_end c m chosen lines n place h = ap (fold (chosen_retry c m chosen) lines) (nothing_left (active lines n) place h)
 
 fold_more : (g : List Line → ℕ → List Line) (lines : List Line) (n : ℕ) → fold g lines (instances (suc n)) ≡ g (fold g lines (instances n)) n

@@ -169,7 +169,7 @@ enough : (c : PermutationRun) (m : Moment) (more k : ℕ) (lines : List Line) �
 enough c m more zero lines h = absurd (omega arith)
 enough c m more (suc k) lines h =
     let next : suc k + more ≡ suc (k + more) = omega arith in
-    let count = pass_count c m lines in
+    let counted = pass_count c m lines in
     rw next (enough_case c m k more lines (pass c m lines) (goes_on c m lines (pass c m lines)) refl (λ grew. enough c m more k (pass c m lines) (omega arith)))
 
 -- any larger number of passes gives the same lines

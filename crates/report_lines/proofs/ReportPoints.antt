@@ -57,10 +57,10 @@ at_most_one true = omega arith
 at_most_one false = omega arith
 
 -- no instance is reported twice
-pub reported_once : (c : PermutationRun) (there i : ℕ) → count_by (reports i) (report c there).lines ≤ 1
-reported_once c there i =
-    let count = sym (length-filter (reports i) (report c there).lines) ∙ ap (times i) (lines_are_said c there) ∙ said_once c i (tries c there) in
-    let most = at_most_one (was_reported c (tries c there) i) in
+pub reported_once : (c : PermutationRun) (count i : ℕ) → count_by (reports i) (report c count).lines ≤ 1
+reported_once c count i =
+    let counted = sym (length-filter (reports i) (report c count).lines) ∙ ap (times i) (lines_are_said c count) ∙ said_once c i (tries c count) in
+    let most = at_most_one (was_reported c (tries c count) i) in
     omega arith
 
 or_none : (a b : Bool) → (a || b) ≡ false → (a ≡ false) × (b ≡ false)
@@ -137,8 +137,8 @@ kept : (c : PermutationRun) (line : Line) (later ts : List Try) → Contains (sa
 kept c line [] ts has = has
 kept c line (t ∷ later) ts has = Contains-append_left (said c (later ++ ts)) (says c (later ++ ts) t) line (kept c line later ts has)
 
-told : (c : PermutationRun) (i : ℕ) (line : Line) (ts : List Try) → IsReportPoint c ts i line → Contains (said c ts) line × (reports i line ≡ true)
-told c i line ts p =
+point_is_said : (c : PermutationRun) (i : ℕ) (line : Line) (ts : List Try) → IsReportPoint c ts i line → Contains (said c ts) line × (reports i line ≡ true)
+point_is_said c i line ts p =
     let seen = p.t.moment.seen in
     let was : was_reported c p.earlier p.t.entry ≡ false = ap (was_reported c p.earlier) (sym p.of) ∙ never_met c i p.earlier p.first in
     let is : (if is_untried p.earlier p.t.entry then AtOnce p.t.entry seen else Completed p.t.entry seen) ≡ line =
@@ -152,8 +152,8 @@ told c i line ts p =
     (subst (λ (w : List Try). Contains (said c w) line) (sym p.stands) there, ap (reports i) p.is ∙ reporting)
 
 -- a line of the report reports an instance exactly where it is that of the instance's report point
-pub points_are_least : (c : PermutationRun) (there i : ℕ) (line : Line) → (Contains (report c there).lines line × (reports i line ≡ true)) ↔ IsReportPoint c (tries c there) i line
-points_are_least c there i line = (
-  λ h. found c i line (tries c there) h.1 (subst (λ (w : List Line). Contains w line) (lines_are_said c there) h.0),
-  λ p. let h = told c i line (tries c there) p in (subst (λ (w : List Line). Contains w line) (sym (lines_are_said c there)) h.0, h.1),
+pub points_are_least : (c : PermutationRun) (count i : ℕ) (line : Line) → (Contains (report c count).lines line × (reports i line ≡ true)) ↔ IsReportPoint c (tries c count) i line
+points_are_least c count i line = (
+  λ h. found c i line (tries c count) h.1 (subst (λ (w : List Line). Contains w line) (lines_are_said c count) h.0),
+  λ p. let h = point_is_said c i line (tries c count) p in (subst (λ (w : List Line). Contains w line) (sym (lines_are_said c count)) h.0, h.1),
 )

@@ -1,23 +1,23 @@
 -- How the report goes on at each entry.
 use Rattle.std.proofs.Common.{◌≡◌, ℕ, zero, suc, ◌+◌, ◌-◌, ◌<◌, ◌≤◌, List, [], length, refl, ap, sym, ◌∙◌, arith, Bool, true, false, if◌then◌else◌, nat_lt}
 use Rattle.report_lines.specs.declared.history.Line.{Line}
-use Rattle.report_lines.specs.declared.history.Stand.{Stand}
-use Rattle.report_lines.specs.declared.history.Stand.TheVariants.{Due, Whole, Invalid}
+use Rattle.report_lines.specs.declared.history.RunState.{RunState}
+use Rattle.report_lines.specs.declared.history.RunState.TheVariants.{Due, Whole, Invalid}
 use Rattle.report_lines.specs.History.{PermutationRun}
 use Rattle.report_lines.specs.Report.{Report, report, report_from, made_way, launched, poll, before, is_busy, is_empty, active}
 
 -- where the entries come to an end
-pub report_end : (c : PermutationRun) (n e there : ℕ) (lines : List Line) → n ≤ e → report_from c e (n - e) there lines ≡ (let all = poll c (before c e) lines in record { lines = all; stand = if is_empty (active all e) then Whole else Invalid })
-report_end c n e there lines h = let over : n - e ≡ 0 = omega arith in rw over refl
+pub report_end : (c : PermutationRun) (n e count : ℕ) (lines : List Line) → n ≤ e → report_from c e (n - e) count lines ≡ (let all = poll c (before c e) lines in record { lines = all; state = if is_empty (active all e) then Whole else Invalid })
+report_end c n e count lines h = let over : n - e ≡ 0 = omega arith in rw over refl
 
 -- at an entry of which no segment is there
-pub report_stuck : (c : PermutationRun) (n e : ℕ) (lines way : List Line) → e < n → way ≡ made_way c lines e → is_busy c way e ≡ true → report_from c e (n - e) e lines ≡ record { lines = way; stand = Invalid }
+pub report_stuck : (c : PermutationRun) (n e : ℕ) (lines way : List Line) → e < n → way ≡ made_way c lines e → is_busy c way e ≡ true → report_from c e (n - e) e lines ≡ record { lines = way; state = Invalid }
 report_stuck c n e lines way h is busy =
     let more : n - e ≡ suc (n - (e + 1)) = omega arith in
     let busy_way : is_busy c (made_way c lines e) e ≡ true = ap (λ (w : List Line). is_busy c w e) (sym is) ∙ busy in
     rw (more, busy_way, is) refl
 
-pub report_due : (c : PermutationRun) (n e : ℕ) (lines way : List Line) → e < n → way ≡ made_way c lines e → is_busy c way e ≡ false → report_from c e (n - e) e lines ≡ record { lines = way; stand = Due e }
+pub report_due : (c : PermutationRun) (n e : ℕ) (lines way : List Line) → e < n → way ≡ made_way c lines e → is_busy c way e ≡ false → report_from c e (n - e) e lines ≡ record { lines = way; state = Due e }
 report_due c n e lines way h is free =
     let more : n - e ≡ suc (n - (e + 1)) = omega arith in
     let absent : nat_lt e e ≡ false = grind arith in
@@ -26,10 +26,10 @@ report_due c n e lines way h is free =
 
 -- ---- with no segment
 
-pub report_none : (c : PermutationRun) → length c.entries ≡ 0 → report c 0 ≡ record { lines = []; stand = Whole }
+pub report_none : (c : PermutationRun) → length c.entries ≡ 0 → report c 0 ≡ record { lines = []; state = Whole }
 report_none c none = rw none refl
 
-pub report_some : (c : PermutationRun) (more : ℕ) → length c.entries ≡ suc more → report c 0 ≡ record { lines = []; stand = Due 0 }
+pub report_some : (c : PermutationRun) (more : ℕ) → length c.entries ≡ suc more → report c 0 ≡ record { lines = []; state = Due 0 }
 report_some c more some = rw some refl
 
 same_first : (c d : PermutationRun) (n : ℕ) → length c.entries ≡ n → length d.entries ≡ n → report c 0 ≡ report d 0
@@ -42,13 +42,13 @@ first_same c d same = same_first c d (length d.entries) same refl
 
 -- ---- with a segment more
 
-pub whole_due : (d : ℕ) → (let s : Stand = Whole in let t : Stand = Due d in s ≡ t) → ⊥
+pub whole_due : (d : ℕ) → (let s : RunState = Whole in let t : RunState = Due d in s ≡ t) → ⊥
 whole_due d h = cc
 
-pub invalid_due : (d : ℕ) → (let s : Stand = Invalid in let t : Stand = Due d in s ≡ t) → ⊥
+pub invalid_due : (d : ℕ) → (let s : RunState = Invalid in let t : RunState = Due d in s ≡ t) → ⊥
 invalid_due d h = cc
 
-same_due : (e d : ℕ) → (let s : Stand = Due e in let t : Stand = Due d in s ≡ t) → e ≡ d
+same_due : (e d : ℕ) → (let s : RunState = Due e in let t : RunState = Due d in s ≡ t) → e ≡ d
 same_due e d h = cc
 
 ends_so : (b : Bool) (d : ℕ) → (if b then Whole else Invalid) ≡ Due d → ⊥
@@ -56,76 +56,76 @@ ends_so true d h = whole_due d h
 ends_so false d h = invalid_due d h
 
 -- an entry is due, as the first without a segment
-record Next (c : PermutationRun) (e rest there : ℕ) (lines way : List Line) (d : ℕ) : Type 0 where
-  first : d ≡ there
-  within : there < e + rest
-  goes_on : report_from c e rest (there + 1) lines ≡ report_from c (there + 1) (e + rest - (there + 1)) (there + 1) (launched c way there)
+record Next (c : PermutationRun) (e rest count : ℕ) (lines way : List Line) (d : ℕ) : Type 0 where
+  first : d ≡ count
+  within : count < e + rest
+  goes_on : report_from c e rest (count + 1) lines ≡ report_from c (count + 1) (e + rest - (count + 1)) (count + 1) (launched c way count)
 
-next_case : (c : PermutationRun) (e rest there : ℕ) (lines way : List Line) (d : ℕ) (busy past : Bool) → busy ≡ is_busy c (made_way c lines e) e → past ≡ nat_lt e there → e ≤ there
-    → (e + 1 ≤ there → report_from c (e + 1) rest there (launched c (made_way c lines e) e) ≡ record { lines = way; stand = Due d } → Next c (e + 1) rest there (launched c (made_way c lines e) e) way d)
-    → (if busy then record { lines = made_way c lines e; stand = Invalid } else (if past then report_from c (e + 1) rest there (launched c (made_way c lines e) e) else record { lines = made_way c lines e; stand = Due e })) ≡ record { lines = way; stand = Due d }
-    → Next c e (suc rest) there lines way d
-next_case c e rest there lines way d true past is_b is_p le later h = absurd (invalid_due d (ap (λ (r : Report). r.stand) h))
-next_case c e rest there lines way d false true is_b is_p le later h =
-    let more : e + 1 ≤ there = grind arith in
+next_case : (c : PermutationRun) (e rest count : ℕ) (lines way : List Line) (d : ℕ) (busy past : Bool) → busy ≡ is_busy c (made_way c lines e) e → past ≡ nat_lt e count → e ≤ count
+    → (e + 1 ≤ count → report_from c (e + 1) rest count (launched c (made_way c lines e) e) ≡ record { lines = way; state = Due d } → Next c (e + 1) rest count (launched c (made_way c lines e) e) way d)
+    → (if busy then record { lines = made_way c lines e; state = Invalid } else (if past then report_from c (e + 1) rest count (launched c (made_way c lines e) e) else record { lines = made_way c lines e; state = Due e })) ≡ record { lines = way; state = Due d }
+    → Next c e (suc rest) count lines way d
+next_case c e rest count lines way d true past is_b is_p le later h = absurd (invalid_due d (ap (λ (r : Report). r.state) h))
+next_case c e rest count lines way d false true is_b is_p le later h =
+    let more : e + 1 ≤ count = grind arith in
     let n = later more h in
-    let on : nat_lt e (there + 1) ≡ true = grind arith in
+    let on : nat_lt e (count + 1) ≡ true = grind arith in
     let far : e + 1 + rest ≡ e + suc rest = omega arith in
     record {
       first = n.first;
       within = omega (arith, n.within);
-      goes_on = rw (sym is_b, on) (n.goes_on ∙ ap (λ k. report_from c (there + 1) (k - (there + 1)) (there + 1) (launched c way there)) far);
+      goes_on = rw (sym is_b, on) (n.goes_on ∙ ap (λ k. report_from c (count + 1) (k - (count + 1)) (count + 1) (launched c way count)) far);
     }
-next_case c e rest there lines way d false false is_b is_p le later h =
-    let same : e ≡ there = grind arith in
-    let on : nat_lt e (there + 1) ≡ true = grind arith in
-    let left : rest ≡ e + suc rest - (there + 1) = omega (arith, same) in
+next_case c e rest count lines way d false false is_b is_p le later h =
+    let same : e ≡ count = grind arith in
+    let on : nat_lt e (count + 1) ≡ true = grind arith in
+    let left : rest ≡ e + suc rest - (count + 1) = omega (arith, same) in
     let lines_are : made_way c lines e ≡ way = ap (λ (r : Report). r.lines) h in
-    let due_is = same_due e d (ap (λ (r : Report). r.stand) h) in
+    let due_is = same_due e d (ap (λ (r : Report). r.state) h) in
     record {
       first = sym due_is ∙ same;
       within = omega (arith, same);
-      goes_on = rw (sym is_b, on) (ap (λ (w : List Line). report_from c (e + 1) rest (there + 1) (launched c w e)) lines_are
-          ∙ ap (λ k. report_from c (k + 1) rest (there + 1) (launched c way k)) same
-          ∙ ap (λ k. report_from c (there + 1) k (there + 1) (launched c way there)) left);
+      goes_on = rw (sym is_b, on) (ap (λ (w : List Line). report_from c (e + 1) rest (count + 1) (launched c w e)) lines_are
+          ∙ ap (λ k. report_from c (k + 1) rest (count + 1) (launched c way k)) same
+          ∙ ap (λ k. report_from c (count + 1) k (count + 1) (launched c way count)) left);
     }
 
-from_next : (c : PermutationRun) (e rest there : ℕ) (lines way : List Line) (d : ℕ) → e ≤ there → report_from c e rest there lines ≡ record { lines = way; stand = Due d } → Next c e rest there lines way d
-from_next c e zero there lines way d le h = absurd (ends_so (is_empty (active (poll c (before c e) lines) e)) d (ap (λ (r : Report). r.stand) h))
-from_next c e (suc rest) there lines way d le h =
-    next_case c e rest there lines way d (is_busy c (made_way c lines e) e) (nat_lt e there) refl refl le
-    (λ more h'. from_next c (e + 1) rest there (launched c (made_way c lines e) e) way d more h') h
+from_next : (c : PermutationRun) (e rest count : ℕ) (lines way : List Line) (d : ℕ) → e ≤ count → report_from c e rest count lines ≡ record { lines = way; state = Due d } → Next c e rest count lines way d
+from_next c e zero count lines way d le h = absurd (ends_so (is_empty (active (poll c (before c e) lines) e)) d (ap (λ (r : Report). r.state) h))
+from_next c e (suc rest) count lines way d le h =
+    next_case c e rest count lines way d (is_busy c (made_way c lines e) e) (nat_lt e count) refl refl le
+    (λ more h'. from_next c (e + 1) rest count (launched c (made_way c lines e) e) way d more h') h
 
-pub report_next : (c : PermutationRun) (there : ℕ) (way : List Line) (d : ℕ) → report c there ≡ record { lines = way; stand = Due d } → report c (there + 1) ≡ report_from c (there + 1) (length c.entries - (there + 1)) (there + 1) (launched c way there)
-report_next c there way d h =
-    let n = from_next c 0 (length c.entries) there [] way d (omega arith) h in
+pub report_next : (c : PermutationRun) (count : ℕ) (way : List Line) (d : ℕ) → report c count ≡ record { lines = way; state = Due d } → report c (count + 1) ≡ report_from c (count + 1) (length c.entries - (count + 1)) (count + 1) (launched c way count)
+report_next c count way d h =
+    let n = from_next c 0 (length c.entries) count [] way d (omega arith) h in
     let all : 0 + length c.entries ≡ length c.entries = omega arith in
-    n.goes_on ∙ ap (λ k. report_from c (there + 1) (k - (there + 1)) (there + 1) (launched c way there)) all
+    n.goes_on ∙ ap (λ k. report_from c (count + 1) (k - (count + 1)) (count + 1) (launched c way count)) all
 
-abbrev pub is_due : Stand → Bool
+abbrev pub is_due : RunState → Bool
 is_due (Due d) = true
 is_due Whole = false
 is_due Invalid = false
 
-not_due : (s : Stand) (e : ℕ) → is_due s ≡ false → Due e ≡ s → ⊥
+not_due : (s : RunState) (e : ℕ) → is_due s ≡ false → Due e ≡ s → ⊥
 not_due (Due d) e over h = cc
 not_due Whole e over h = whole_due e (sym h)
 not_due Invalid e over h = invalid_due e (sym h)
 
-over_case : (c : PermutationRun) (e rest there : ℕ) (lines way : List Line) (s : Stand) (busy past : Bool) → busy ≡ is_busy c (made_way c lines e) e → past ≡ nat_lt e there → is_due s ≡ false
-    → (report_from c (e + 1) rest there (launched c (made_way c lines e) e) ≡ record { lines = way; stand = s } → report_from c (e + 1) rest (there + 1) (launched c (made_way c lines e) e) ≡ record { lines = way; stand = s })
-    → (if busy then record { lines = made_way c lines e; stand = Invalid } else (if past then report_from c (e + 1) rest there (launched c (made_way c lines e) e) else record { lines = made_way c lines e; stand = Due e })) ≡ record { lines = way; stand = s }
-    → report_from c e (suc rest) (there + 1) lines ≡ record { lines = way; stand = s }
-over_case c e rest there lines way s true past is_b is_p over later h = rw (sym is_b) h
-over_case c e rest there lines way s false true is_b is_p over later h = let on : nat_lt e (there + 1) ≡ true = grind arith in rw (sym is_b, on) (later h)
-over_case c e rest there lines way s false false is_b is_p over later h = absurd (not_due s e over (ap (λ (r : Report). r.stand) h))
+over_case : (c : PermutationRun) (e rest count : ℕ) (lines way : List Line) (s : RunState) (busy past : Bool) → busy ≡ is_busy c (made_way c lines e) e → past ≡ nat_lt e count → is_due s ≡ false
+    → (report_from c (e + 1) rest count (launched c (made_way c lines e) e) ≡ record { lines = way; state = s } → report_from c (e + 1) rest (count + 1) (launched c (made_way c lines e) e) ≡ record { lines = way; state = s })
+    → (if busy then record { lines = made_way c lines e; state = Invalid } else (if past then report_from c (e + 1) rest count (launched c (made_way c lines e) e) else record { lines = made_way c lines e; state = Due e })) ≡ record { lines = way; state = s }
+    → report_from c e (suc rest) (count + 1) lines ≡ record { lines = way; state = s }
+over_case c e rest count lines way s true past is_b is_p over later h = rw (sym is_b) h
+over_case c e rest count lines way s false true is_b is_p over later h = let on : nat_lt e (count + 1) ≡ true = grind arith in rw (sym is_b, on) (later h)
+over_case c e rest count lines way s false false is_b is_p over later h = absurd (not_due s e over (ap (λ (r : Report). r.state) h))
 
-from_over : (c : PermutationRun) (e rest there : ℕ) (lines way : List Line) (s : Stand) → is_due s ≡ false → report_from c e rest there lines ≡ record { lines = way; stand = s } → report_from c e rest (there + 1) lines ≡ record { lines = way; stand = s }
-from_over c e zero there lines way s over h = h
-from_over c e (suc rest) there lines way s over h =
-    over_case c e rest there lines way s (is_busy c (made_way c lines e) e) (nat_lt e there) refl refl over
-    (from_over c (e + 1) rest there (launched c (made_way c lines e) e) way s over) h
+from_over : (c : PermutationRun) (e rest count : ℕ) (lines way : List Line) (s : RunState) → is_due s ≡ false → report_from c e rest count lines ≡ record { lines = way; state = s } → report_from c e rest (count + 1) lines ≡ record { lines = way; state = s }
+from_over c e zero count lines way s over h = h
+from_over c e (suc rest) count lines way s over h =
+    over_case c e rest count lines way s (is_busy c (made_way c lines e) e) (nat_lt e count) refl refl over
+    (from_over c (e + 1) rest count (launched c (made_way c lines e) e) way s over) h
 
 -- what is whole or invalid stays so
-pub report_over : (c : PermutationRun) (there : ℕ) (way : List Line) (s : Stand) → is_due s ≡ false → report c there ≡ record { lines = way; stand = s } → report c (there + 1) ≡ record { lines = way; stand = s }
-report_over c there way s over h = from_over c 0 (length c.entries) there [] way s over h
+pub report_over : (c : PermutationRun) (count : ℕ) (way : List Line) (s : RunState) → is_due s ≡ false → report c count ≡ record { lines = way; state = s } → report c (count + 1) ≡ record { lines = way; state = s }
+report_over c count way s over h = from_over c 0 (length c.entries) count [] way s over h

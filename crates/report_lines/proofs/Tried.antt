@@ -9,7 +9,7 @@ use Rattle.std.proofs.Math.Bool.{or-false}
 use Rattle.report_lines.specs.declared.history.Line.{Line}
 use Rattle.report_lines.specs.declared.history.Line.TheVariants.{AtOnce, Waiting, Completed}
 use Rattle.report_lines.specs.declared.history.Moment.{Moment}
-use Rattle.report_lines.specs.declared.history.Stand.TheVariants.{Due, Invalid}
+use Rattle.report_lines.specs.declared.history.RunState.TheVariants.{Due, Invalid}
 use Rattle.report_lines.specs.History.{PermutationRun, session_at, has_ended, is_named, is_starred, is_marked}
 use Rattle.report_lines.specs.Report.{reports, is_reported, instances, active, before, after, first_try, retry, own_retry, pass, goes_on, polled, poll, is_of, is_busy, made_way, launched, report_from, report}
 use Rattle.report_lines.specs.Tries.{Try, is_try_of, is_untried, was_reported, still_active, is_met, says, said, try_each, gone_through, wants_another, passes, all_passes, has_active, tries_before, tries_after, tries_from, tries}
@@ -74,7 +74,7 @@ untried_waits c (t ∷ earlier) i h = untried_case (i == t.entry) (list_any (is_
 
 -- the lines are those of the tries, and just the instances of so many entries have been tried
 pub record Follows (c : PermutationRun) (n : ℕ) (lines : List Line) (ts : List Try) : Type 0 where
-  pub told : lines ≡ said c ts
+  pub said_is : lines ≡ said c ts
   pub tried : (i : ℕ) → is_untried ts i ≡ not (nat_lt i n)
 
 tried_case : (i j n : ℕ) (b tried : Bool) → (b ≡ true → j < n) → not tried ≡ not (nat_lt j n) → not (b || tried) ≡ not (nat_lt j n)
@@ -86,7 +86,7 @@ tried_again ts m i n less h j = tried_case i j n (j == i) (list_any (is_try_of j
 
 follows_retry : (c : PermutationRun) (m : Moment) (n : ℕ) (lines : List Line) (ts : List Try) (i : ℕ) → i < n → Follows c n lines ts → Follows c n (retry c m lines i) (record { entry = i; moment = m } ∷ ts)
 follows_retry c m n lines ts i less f = record {
-  told = ap (λ (w : List Line). retry c m w i) f.told ∙ says_retry c m ts i (f.tried i ∙ ap not (lt-ltb i n less));
+  said_is = ap (λ (w : List Line). retry c m w i) f.said_is ∙ says_retry c m ts i (f.tried i ∙ ap not (lt-ltb i n less));
   tried = tried_again ts m i n less f.tried;
 }
 
@@ -97,7 +97,7 @@ follows_each c m n low high (x ∷ xs) lines ts h le f =
     follows_each c m n (x + 1) high xs (retry c m lines x) (record { entry = x; moment = m } ∷ ts) h.1 le (follows_retry c m n lines ts x (omega arith) f)
 
 pub follows_active : (c : PermutationRun) (n : ℕ) (lines : List Line) (ts : List Try) (k : ℕ) → Follows c n lines ts → active lines k ≡ still_active c ts k
-follows_active c n lines ts k f = ap (λ (w : List Line). active w k) f.told ∙ said_active c ts k
+follows_active c n lines ts k f = ap (λ (w : List Line). active w k) f.said_is ∙ said_active c ts k
 
 rises : (c : PermutationRun) (ts : List Try) (k : ℕ) → Between 0 k (still_active c ts k)
 rises c ts k = between_filter (λ j. not (was_reported c ts j)) 0 k (instances k) (between_instances k)
@@ -137,7 +137,7 @@ same_any p q h [] = refl
 same_any p q h (x ∷ xs) = rw (h x, same_any p q h xs) refl
 
 follows_reports : (c : PermutationRun) (n : ℕ) (lines : List Line) (ts : List Try) (i : ℕ) → Follows c n lines ts → is_reported lines i ≡ was_reported c ts i
-follows_reports c n lines ts i f = ap (λ (w : List Line). is_reported w i) f.told ∙ said_reports c ts i
+follows_reports c n lines ts i f = ap (λ (w : List Line). is_reported w i) f.said_is ∙ said_reports c ts i
 
 follows_on : (c : PermutationRun) (m : Moment) (n : ℕ) (lines : List Line) (ts : List Try) → m.joined ≤ n → m.joined ≤ m.launched → Follows c n lines ts → goes_on c m lines (pass c m lines) ≡ wants_another c m ts (gone_through c m ts)
 follows_on c m n lines ts le few f =
@@ -198,7 +198,7 @@ follows_first : (c : PermutationRun) (m : Moment) (e : ℕ) (lines : List Line) 
 follows_first c m e lines ts f =
     let new : is_untried ts e ≡ true = f.tried e ∙ ap not (le-ltb e e (omega arith)) in
     record {
-      told = ap (λ (w : List Line). first_try c m w e) f.told ∙ says_first c m ts e new (untried_waits c ts e new);
+      said_is = ap (λ (w : List Line). first_try c m w e) f.said_is ∙ says_first c m ts e new (untried_waits c ts e new);
       tried = λ j. next_case j e (j == e) (list_any (is_try_of j) ts) (eqb-true j e) (eqb-false j e) (f.tried j);
     }
 
@@ -207,20 +207,20 @@ follows_launch c e lines ts f =
     let m = after c e in
     follows_polled c m (e + 1) (m.joined + 1) (first_try c m lines e) (record { entry = e; moment = m } ∷ ts) (omega arith) (omega arith) (follows_first c m e lines ts f)
 
-report_case : (c : PermutationRun) (e rest there : ℕ) (way : List Line) (ts : List Try) (busy active present : Bool) → busy ≡ active → way ≡ said c ts → (report_from c (e + 1) rest there (launched c way e)).lines ≡ said c (tries_from c (e + 1) rest there (tries_after c ts e))
-    → (if busy then record { lines = way; stand = Invalid } else (if present then report_from c (e + 1) rest there (launched c way e) else record { lines = way; stand = Due e })).lines ≡ said c (if active then ts else (if present then tries_from c (e + 1) rest there (tries_after c ts e) else ts))
-report_case c e rest there way ts busy true present is told more = rw is told
-report_case c e rest there way ts busy false true is told more = rw is more
-report_case c e rest there way ts busy false false is told more = rw is told
+report_case : (c : PermutationRun) (e rest count : ℕ) (way : List Line) (ts : List Try) (busy active present : Bool) → busy ≡ active → way ≡ said c ts → (report_from c (e + 1) rest count (launched c way e)).lines ≡ said c (tries_from c (e + 1) rest count (tries_after c ts e))
+    → (if busy then record { lines = way; state = Invalid } else (if present then report_from c (e + 1) rest count (launched c way e) else record { lines = way; state = Due e })).lines ≡ said c (if active then ts else (if present then tries_from c (e + 1) rest count (tries_after c ts e) else ts))
+report_case c e rest count way ts busy true present is said_is more = rw is said_is
+report_case c e rest count way ts busy false true is said_is more = rw is more
+report_case c e rest count way ts busy false false is said_is more = rw is said_is
 
-follows_report : (c : PermutationRun) (there rest e : ℕ) (lines : List Line) (ts : List Try) → Follows c e lines ts → (report_from c e rest there lines).lines ≡ said c (tries_from c e rest there ts)
-follows_report c there zero e lines ts f =
-    let m = before c e in (follows_polled c m e (m.joined + 1) lines ts (omega arith) (omega arith) f).told
-follows_report c there (suc rest) e lines ts f =
+follows_report : (c : PermutationRun) (count rest e : ℕ) (lines : List Line) (ts : List Try) → Follows c e lines ts → (report_from c e rest count lines).lines ≡ said c (tries_from c e rest count ts)
+follows_report c count zero e lines ts f =
+    let m = before c e in (follows_polled c m e (m.joined + 1) lines ts (omega arith) (omega arith) f).said_is
+follows_report c count (suc rest) e lines ts f =
     let way = follows_way c e lines ts f in
-    report_case c e rest there (made_way c lines e) (tries_before c ts e) (is_busy c (made_way c lines e) e) (has_active c (tries_before c ts e) e) (nat_lt e there) (follows_busy c e (made_way c lines e) (tries_before c ts e) way) way.told
-    (follows_report c there rest (e + 1) (launched c (made_way c lines e) e) (tries_after c (tries_before c ts e) e) (follows_launch c e (made_way c lines e) (tries_before c ts e) way))
+    report_case c e rest count (made_way c lines e) (tries_before c ts e) (is_busy c (made_way c lines e) e) (has_active c (tries_before c ts e) e) (nat_lt e count) (follows_busy c e (made_way c lines e) (tries_before c ts e) way) way.said_is
+    (follows_report c count rest (e + 1) (launched c (made_way c lines e) e) (tries_after c (tries_before c ts e) e) (follows_launch c e (made_way c lines e) (tries_before c ts e) way))
 
 -- the lines of the report are what its tries say
-pub lines_are_said : (c : PermutationRun) (there : ℕ) → (report c there).lines ≡ said c (tries c there)
-lines_are_said c there = follows_report c there (length c.entries) 0 [] [] (record { told = refl; tried = λ i. ap not (sym (le-ltb i 0 (omega arith))) })
+pub lines_are_said : (c : PermutationRun) (count : ℕ) → (report c count).lines ≡ said c (tries c count)
+lines_are_said c count = follows_report c count (length c.entries) 0 [] [] (record { said_is = refl; tried = λ i. ap not (sym (le-ltb i 0 (omega arith))) })

@@ -17,16 +17,16 @@ abbrev pub tries_to_the_end : PermutationRun → List Try
 tries_to_the_end c = all_passes c (before c (length c.entries)) (launched_tries c (length c.entries))
 
 -- a session's step is still active when the next one's turn comes, before which so many segments of entries are there
-pub record IsStuck (c : PermutationRun) (there : ℕ) : Type 0 where
+pub record IsStuck (c : PermutationRun) (count : ℕ) : Type 0 where
   pub entry : ℕ
   pub one : entry < length c.entries
-  pub reached : entry ≤ there
+  pub reached : entry ≤ count
   pub active : has_active c (tries_up_to c entry) entry ≡ true
 
 -- the segments of all entries are there, and some step is active at the end
-pub record StaysActive (c : PermutationRun) (there : ℕ) : Type 0 where
-  pub reached : length c.entries ≤ there
+pub record StaysActive (c : PermutationRun) (count : ℕ) : Type 0 where
+  pub reached : length c.entries ≤ count
   pub active : is_empty (still_active c (tries_to_the_end c) (length c.entries)) ≡ false
 
 abbrev pub IsInvalid : PermutationRun → ℕ → Type 0
-IsInvalid c there = IsStuck c there ⊎ StaysActive c there
+IsInvalid c count = IsStuck c count ⊎ StaysActive c count

@@ -13,13 +13,13 @@ use Rattle.report_lines.specs.SoFar.{IsReportSoFar}
 abbrev pub permutation_run : List Entry → List HistItem → ℕ → PermutationRun
 permutation_run entries items setups = record { entries = map entry_view entries; items = items; setups = setups }
 
--- what is kept is what these items lead to, but that the last segment may not be told yet
+-- what is kept is what these items lead to, but that the lines of the last segment may be missing yet
 pub record Keeps (c : PermutationRun) (p : Progress) : Type 0 where
   pub seen_are : p.seen ≡ length c.items
   pub found : IsSeen c p.starts.items p.last.items
-  pub told : IsReportSoFar c p.there p.told p.stand
-  pub low : p.there ≤ orders c.items - c.setups
-  pub high : orders c.items - c.setups ≤ p.there + 1
+  pub reported : IsReportSoFar c p.segments_done p.so_far p.state
+  pub low : p.segments_done ≤ orders c.items - c.setups
+  pub high : orders c.items - c.setups ≤ p.segments_done + 1
 
 -- the first so many items
 abbrev pub front : PermutationRun → ℕ → PermutationRun

@@ -4,8 +4,8 @@ use Rattle.std.specs.List.{list_any, filter, fold}
 use Rattle.report_lines.specs.declared.history.Line.{Line}
 use Rattle.report_lines.specs.declared.history.Line.TheVariants.{AtOnce, Waiting, Completed}
 use Rattle.report_lines.specs.declared.history.Moment.{Moment}
-use Rattle.report_lines.specs.declared.history.Stand.{Stand}
-use Rattle.report_lines.specs.declared.history.Stand.TheVariants.{Due, Whole, Invalid}
+use Rattle.report_lines.specs.declared.history.RunState.{RunState}
+use Rattle.report_lines.specs.declared.history.RunState.TheVariants.{Due, Whole, Invalid}
 use Rattle.report_lines.specs.History.{PermutationRun, session_at, seen_before, has_ended, is_named, is_starred, is_marked}
 
 -- the line reports the instance
@@ -86,7 +86,7 @@ launched c lines e = poll c (after c e) (first_try c (after c e) lines e)
 
 pub record Report : Type 0 where
   pub lines : List Line
-  pub stand : Stand
+  pub state : RunState
 
 abbrev pub is_empty : List ℕ → Bool
 is_empty [] = true
@@ -94,13 +94,13 @@ is_empty (x ∷ xs) = false
 
 -- the report of the entries from one on, of whose segments so many are there
 abbrev pub report_from : PermutationRun → ℕ → ℕ → ℕ → List Line → Report
-report_from c e zero there lines =
+report_from c e zero count lines =
     let all = poll c (before c e) lines in
-    record { lines = all; stand = if is_empty (active all e) then Whole else Invalid }
-report_from c e (suc rest) there lines =
+    record { lines = all; state = if is_empty (active all e) then Whole else Invalid }
+report_from c e (suc rest) count lines =
     let way = made_way c lines e in
-    if is_busy c way e then record { lines = way; stand = Invalid }
-    else (if nat_lt e there then report_from c (e + 1) rest there (launched c way e) else record { lines = way; stand = Due e })
+    if is_busy c way e then record { lines = way; state = Invalid }
+    else (if nat_lt e count then report_from c (e + 1) rest count (launched c way e) else record { lines = way; state = Due e })
 
 abbrev pub report : PermutationRun → ℕ → Report
-report c there = report_from c 0 (length c.entries) there []
+report c count = report_from c 0 (length c.entries) count []

@@ -90,14 +90,14 @@ tries_after c tries e = all_passes c (after c e) (record { entry = e; moment = a
 
 -- the tries of the entries from one on, of whose segments so many are there
 abbrev pub tries_from : PermutationRun → ℕ → ℕ → ℕ → List Try → List Try
-tries_from c e zero there tries = all_passes c (before c e) tries
-tries_from c e (suc rest) there tries =
+tries_from c e zero count tries = all_passes c (before c e) tries
+tries_from c e (suc rest) count tries =
     let way = tries_before c tries e in
     if has_active c way e then way
-    else (if nat_lt e there then tries_from c (e + 1) rest there (tries_after c way e) else way)
+    else (if nat_lt e count then tries_from c (e + 1) rest count (tries_after c way e) else way)
 
 abbrev pub tries : PermutationRun → ℕ → List Try
-tries c there = tries_from c 0 (length c.entries) there []
+tries c count = tries_from c 0 (length c.entries) count []
 
 -- the line reports the instance at the first of its tries that meets the condition
 pub record IsReportPoint (c : PermutationRun) (tries : List Try) (i : ℕ) (line : Line) : Type 0 where

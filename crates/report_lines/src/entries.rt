@@ -3,7 +3,8 @@ ghost use Rattle.std.specs.Prelude.{◌≡◌, map, slice_get};
 ghost use Rattle.std.specs.List.{list_any};
 ghost use Rattle.spec_parser.specs.Trees.{entry_view};
 ghost use Rattle.report_lines.specs.History.{session_or_zero, names, is_star, is_some_marker};
-ghost use Rattle.report_lines.specs.Starts.{is_order, session_of, ends_in};
+ghost use Rattle.session_machine.specs.Machine.{session_of};
+ghost use Rattle.report_lines.specs.Starts.{is_order, ends_in};
 
 use session_machine::{Event, HistItem};
 use spec_parser::{Entry, Marker};

@@ -18,24 +18,24 @@ pub struct Moment {
     pub joined: usize,
 }
 
-/// How far a history has come: to an entry that is to be launched, or to the end.
+/// How far a run has come: to an entry that is due, or to the end, or to where the permutation is found invalid.
 #[derive(Clone, Copy, Debug, PartialEq, Eq)]
-pub enum Stand {
+pub enum RunState {
     Due(usize),
     Whole,
     Invalid,
 }
 
-/// A session and a block for it.
+/// What a Launch is given: a session, and the block for it.
 #[derive(Clone, Copy)]
-pub struct Task {
+pub struct PlannedLaunch {
     pub session: u32,
     pub block: u32,
 }
 
-/// How far the teardowns have come: so many orders came before the one that is due, or before the end.
+/// The teardowns so far: so many orders came before the one that is due, or before the end.
 #[derive(Clone, Copy)]
-pub struct TornDown {
+pub struct TeardownsSoFar {
     pub orders: usize,
     pub due: Option<Order>,
 }

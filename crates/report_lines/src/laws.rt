@@ -11,7 +11,7 @@ ghost use Rattle.report_lines.specs.Starts.{is_order};
 ghost use Rattle.report_lines.specs.Due.{Planned, orders, due_at, due};
 ghost use Rattle.report_lines.specs.Fronts.{longer, longer_plan};
 ghost use Rattle.report_lines.specs.Invalid.{IsInvalid};
-ghost use Rattle.report_lines.specs.declared.history.Stand.TheVariants.{Invalid};
+ghost use Rattle.report_lines.specs.declared.history.RunState.TheVariants.{Invalid};
 
 /// However many passes were made at a moment, no more would report anything.
 pub fn no_further_pass()
@@ -20,29 +20,29 @@ pub fn no_further_pass()
 
 /// The lines of the report are what its tries say, in their order.
 pub fn lines_are_what_the_tries_say()
-    ensures { (c : PermutationRun) (there : ℕ) → (report c there).lines ≡ said c (tries c there) }
+    ensures { (c : PermutationRun) (count : ℕ) → (report c count).lines ≡ said c (tries c count) }
 {}
 
 /// A line reports an instance exactly where it stands for the first of the instance's tries that meets the condition;
 /// an instance without such a try has none.
 pub fn each_is_reported_at_its_first_chance()
-    ensures { (c : PermutationRun) (there i : ℕ) (line : Line) → (Contains (report c there).lines line × (reports i line ≡ true)) ↔ IsReportPoint c (tries c there) i line }
+    ensures { (c : PermutationRun) (count i : ℕ) (line : Line) → (Contains (report c count).lines line × (reports i line ≡ true)) ↔ IsReportPoint c (tries c count) i line }
 {}
 
 /// No instance is reported twice.
 pub fn no_step_is_reported_twice()
-    ensures { (c : PermutationRun) (there i : ℕ) → count_by (reports i) (report c there).lines ≤ 1 }
+    ensures { (c : PermutationRun) (count i : ℕ) → count_by (reports i) (report c count).lines ≤ 1 }
 {}
 
 /// A permutation is invalid exactly where a session's step is still active when its next one's turn comes, or some step at the end.
 pub fn invalid_where_a_step_is_still_active()
-    ensures { (c : PermutationRun) (there : ℕ) → (report c there).stand ≡ Invalid ↔ IsInvalid c there }
+    ensures { (c : PermutationRun) (count : ℕ) → (report c count).state ≡ Invalid ↔ IsInvalid c count }
 {}
 
 /// What was told before an order stays so, whatever the history goes on with.
 pub fn what_was_told_stays()
-    ensures { (c : PermutationRun) (item : HistItem) (more : List HistItem) (there : ℕ) → is_order item.event ≡ true → orders c.items ≡ c.setups + there →
-        report (longer c (item ∷ more)) there ≡ report c there }
+    ensures { (c : PermutationRun) (item : HistItem) (more : List HistItem) (count : ℕ) → is_order item.event ≡ true → orders c.items ≡ c.setups + count →
+        report (longer c (item ∷ more)) count ≡ report c count }
 {}
 
 /// What was due before an order can be told from the whole history.

@@ -1,11 +1,11 @@
 //! The next order of a permutation, from its history alone.
 ghost use Rattle.std.specs.Prelude.{◌≡◌, ◌+◌, ◌-◌, ◌<◌, ◌≤◌, ◌^◌, ℕ, not, ◌&&◌, length, map, IfOk, OnOk, drop, Option, Some, None};
 ghost use Rattle.spec_parser.specs.Trees.{entry_view};
-ghost use Rattle.report_lines.specs.Due.{is_over, went_well, orders, due_setup, torn_down, task_of, due_last, due_entry, due, or_else};
+ghost use Rattle.report_lines.specs.Due.{is_over, went_well, orders, due_setup, teardowns_so_far, entry_order, due_last, due_entry, due, or_else};
 ghost use Rattle.report_lines.specs.Progress.{Follows};
 ghost use Rattle.report_lines.specs.Inner.Progress.{IsSettled};
 
-use crate::history::{Stand, Task, TornDown};
+use crate::history::{PlannedLaunch, RunState, TeardownsSoFar};
 use crate::progress::Progress;
 use crate::segments::Segments;
 use session_machine::{HistItem, Order};
@@ -14,52 +14,57 @@ use std::alloc::{AllocError, Global};
 use std::marker::Model;
 
 /// The first setup that is not there yet, or a stop after one that failed or waits.
-fn due_setup(segments: &Segments<'_>, there: usize, setups: &[Task]) -> Option<Order>
-    ensures { result ≡ due_setup segments.now there 0 setups.now }
+fn due_setup(segments: &Segments<'_>, count: usize, setups: &[PlannedLaunch]) -> Option<Order>
+    ensures { result ≡ due_setup segments.now count 0 setups.now }
 {
-    for (number, task) in setups.iter().enumerate() {
-        if there <= number {
+    for (number, setup) in setups.iter().enumerate() {
+        if count <= number {
             return Some(Order::Launch {
-                session: task.session,
-                block: task.block,
+                session: setup.session,
+                block: setup.block,
             });
         }
-        if !segments.went_well(number, task.session) {
+        if !segments.went_well(number, setup.session) {
             return Some(Order::Stop);
         }
     }
     None
 }
 
-/// How far the teardowns have come.
-fn torn_down(segments: &Segments<'_>, there: usize, first: usize, tasks: &[Task]) -> TornDown
-    ensures { result ≡ torn_down segments.now there first tasks.now }
+/// The teardowns so far.
+fn teardowns_so_far(
+    segments: &Segments<'_>,
+    count: usize,
+    first: usize,
+    teardowns: &[PlannedLaunch],
+) -> TeardownsSoFar
+    ensures { result ≡ teardowns_so_far segments.now count first teardowns.now }
 {
     let mut number = first;
-    for task in tasks {
-        if there <= number {
-            return TornDown {
+    for teardown in teardowns {
+        if count <= number {
+            return TeardownsSoFar {
                 orders: number,
                 due: Some(Order::Launch {
-                    session: task.session,
-                    block: task.block,
+                    session: teardown.session,
+                    block: teardown.block,
                 }),
             };
         }
-        if segments.is_over(number, task.session) {
+        if segments.is_over(number, teardown.session) {
             number += 1;
-        } else if there <= number + 1 {
-            return TornDown {
+        } else if count <= number + 1 {
+            return TeardownsSoFar {
                 orders: number,
                 due: Some(Order::Leave {
-                    session: task.session,
+                    session: teardown.session,
                 }),
             };
         } else {
             number += 2;
         }
     }
-    TornDown {
+    TeardownsSoFar {
         orders: number,
         due: None,
     }
@@ -69,23 +74,23 @@ fn torn_down(segments: &Segments<'_>, there: usize, first: usize, tasks: &[Task]
 /// leaves before the last teardown, that of the whole file.
 #[derive(Clone, Copy)]
 pub struct Schedule<'a> {
-    pub setups: &'a [Task],
-    pub tasks: &'a [Task],
-    pub teardowns: &'a [Task],
+    pub setups: &'a [PlannedLaunch],
+    pub steps: &'a [PlannedLaunch],
+    pub teardowns: &'a [PlannedLaunch],
     pub sessions: u32,
-    pub last: &'a [Task],
+    pub last: &'a [PlannedLaunch],
 }
 
 /// A permutation with its history.
 #[derive(Drop)]
 pub struct Plan<'a> {
-    setups: &'a [Task],
+    setups: &'a [PlannedLaunch],
     entries: &'a [Entry],
     items: &'a [HistItem<'a>],
-    tasks: &'a [Task],
-    teardowns: &'a [Task],
+    steps: &'a [PlannedLaunch],
+    teardowns: &'a [PlannedLaunch],
     sessions: u32,
-    last: &'a [Task],
+    last: &'a [PlannedLaunch],
 }
 
 impl<'a> Model for Plan<'a> {
@@ -98,7 +103,7 @@ impl<'a> Model for Plan<'a> {
     ghost view = { λ p. record {
       setups = p.setups.now;
       run = record { entries = map entry_view p.entries.now; items = p.items.now; setups = length p.setups.now };
-      tasks = p.tasks.now;
+      steps = p.steps.now;
       teardowns = p.teardowns.now;
       sessions = p.sessions;
       last = p.last.now;
@@ -110,13 +115,13 @@ impl<'a> Model for Plan<'a> {
 impl<'a> Plan<'a> {
     ghost use Rattle.report_lines.specs.Due.{due_last, due_entry, due};
 
-    /// A permutation of these entries, whose steps are the tasks, with what stands around them, and its history.
+    /// A permutation of these entries, with the launches of their steps and of what stands around them, and its history.
     pub fn new(entries: &'a [Entry], items: &'a [HistItem<'a>], schedule: &Schedule<'a>) -> Plan<'a>
         requires { length schedule.now.setups.now + length entries.now + 1 < 2 ^ 64 }
         ensures { result ≡ record {
           setups = schedule.now.setups.now;
           run = record { entries = map entry_view entries.now; items = items.now; setups = length schedule.now.setups.now };
-          tasks = schedule.now.tasks.now;
+          steps = schedule.now.steps.now;
           teardowns = schedule.now.teardowns.now;
           sessions = schedule.now.sessions;
           last = schedule.now.last.now;
@@ -126,7 +131,7 @@ impl<'a> Plan<'a> {
             setups: schedule.setups,
             entries,
             items,
-            tasks: schedule.tasks,
+            steps: schedule.steps,
             teardowns: schedule.teardowns,
             sessions: schedule.sessions,
             last: schedule.last,
@@ -134,41 +139,41 @@ impl<'a> Plan<'a> {
     }
 
     /// What is due after the teardowns of sessions.
-    fn due_last(&self, segments: &Segments<'_>, there: usize, after: TornDown) -> Order
-        ensures { result ≡ due_last self.now segments.now there after }
+    fn due_last(&self, segments: &Segments<'_>, count: usize, after: TeardownsSoFar) -> Order
+        ensures { result ≡ due_last self.now segments.now count after }
     {
         if let Some(order) = after.due {
             return order;
         }
         let sessions = self.sessions as usize;
-        if there < after.orders {
+        if count < after.orders {
             return Order::Leave { session: 1 };
         }
-        if there - after.orders < sessions {
+        if count - after.orders < sessions {
             return Order::Leave {
-                session: (there - after.orders) as u32 + 1,
+                session: (count - after.orders) as u32 + 1,
             };
         }
-        match torn_down(segments, there, after.orders + sessions, self.last).due {
+        match teardowns_so_far(segments, count, after.orders + sessions, self.last).due {
             Some(order) => order,
             None => Order::Stop,
         }
     }
 
     /// What is due once the setups are there.
-    fn due_entry(&self, segments: &Segments<'_>, there: usize, stand: Stand) -> Order
-        ensures { result ≡ due_entry self.now segments.now there stand }
+    fn due_entry(&self, segments: &Segments<'_>, count: usize, state: RunState) -> Order
+        ensures { result ≡ due_entry self.now segments.now count state }
     {
-        match stand {
-            Stand::Due(entry) => task_of(self.tasks, entry),
-            Stand::Invalid => Order::Stop,
-            Stand::Whole => self.due_last(
+        match state {
+            RunState::Due(entry) => entry_order(self.steps, entry),
+            RunState::Invalid => Order::Stop,
+            RunState::Whole => self.due_last(
                 segments,
-                there,
-                torn_down(
+                count,
+                teardowns_so_far(
                     segments,
-                    there,
-                    self.setups.len() + self.tasks.len(),
+                    count,
+                    self.setups.len() + self.steps.len(),
                     self.teardowns,
                 ),
             ),
@@ -201,20 +206,20 @@ fn due_by<'a>(plan: &'a Plan<'a>, progress: &'a Progress) -> Order
     ensures { result ≡ due plan.now }
 {
     let segments = progress.segments(plan.items);
-    let there = segments.count();
-    match due_setup(&segments, there, plan.setups) {
+    let count = segments.count();
+    match due_setup(&segments, count, plan.setups) {
         Some(order) => order,
-        None => plan.due_entry(&segments, there, progress.stand()),
+        None => plan.due_entry(&segments, count, progress.state()),
     }
 }
 
-fn task_of(tasks: &[Task], entry: usize) -> Order
-    ensures { result ≡ task_of tasks.now entry }
+fn entry_order(steps: &[PlannedLaunch], entry: usize) -> Order
+    ensures { result ≡ entry_order steps.now entry }
 {
-    match tasks.get(entry) {
-        Some(task) => Order::Launch {
-            session: task.session,
-            block: task.block,
+    match steps.get(entry) {
+        Some(step) => Order::Launch {
+            session: step.session,
+            block: step.block,
         },
         None => Order::Stop,
     }

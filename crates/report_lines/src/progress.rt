@@ -8,27 +8,27 @@ ghost use Rattle.report_lines.specs.Inner.Places.{starts_after, ended_behind, en
 ghost use Rattle.report_lines.specs.Progress.{Keeps, Follows, permutation_run};
 ghost use Rattle.report_lines.specs.Inner.Progress.{Lags, IsSettled, IsNext, IsNoted};
 
-use crate::course::Course;
 use crate::entries::{is_order, session_of};
-use crate::history::Stand;
+use crate::history::RunState;
+use crate::lines_so_far::LinesSoFar;
+use crate::permutation_run::PermutationRun;
+use crate::run_so_far::RunSoFar;
 use crate::segments::Segments;
-use crate::sight::Sight;
-use crate::telling::Told;
 use session_machine::HistItem;
 use spec_parser::Entry;
 use std::alloc::{AllocError, Global};
 
-/// The orders so far, what is said of the entries, and how far they have come.
+/// The orders so far, the lines of the entries, and how far they have come.
 #[derive(Drop)]
 pub struct Progress {
     starts: Vec<usize>,
     // Behind which item the last block of each session ended.
     last: Vec<usize>,
-    told: Told,
-    stand: Stand,
-    // So many items have come, and so many segments of entries are told.
+    so_far: LinesSoFar,
+    state: RunState,
+    // So many items have come, and the lines are those of so many segments of entries.
     seen: usize,
-    there: usize,
+    segments_done: usize,
 }
 
 /// As many zeros as the entries' sessions need.
@@ -80,22 +80,22 @@ impl Progress {
         requires { setups + length entries.now + 1 < 2 ^ 64 }
         ensures { IfOk result (λ p. Keeps (permutation_run entries.now [] setups) p) }
     {
-        let stand = if entries.is_empty() {
-            Stand::Whole
+        let state = if entries.is_empty() {
+            RunState::Whole
         } else {
-            Stand::Due(0)
+            RunState::Due(0)
         };
         Ok(Progress {
             starts: Vec::new(alloc),
             last: no_ends(alloc, entries)?,
-            told: Told::new(alloc, entries.len())?,
-            stand,
+            so_far: LinesSoFar::new(alloc, entries.len())?,
+            state,
             seen: 0,
-            there: 0,
+            segments_done: 0,
         })
     }
 
-    /// Tells the last segment, if it is an entry's and isn't told.
+    /// Adds the lines of the last segment, if it is an entry's and they are missing.
     fn settle(
         &mut self,
         entries: &[Entry],
@@ -105,12 +105,12 @@ impl Progress {
         requires { Keeps (permutation_run entries.now items.now setups) self.old }
         ensures { OnOk result (IsSettled (permutation_run entries.now items.now setups) self.new) }
     {
-        if self.starts.len().saturating_sub(setups) == self.there {
+        if self.starts.len().saturating_sub(setups) == self.segments_done {
             return Ok(());
         }
-        let sight = Sight::new(entries, items, setups, &self.starts, &self.last);
-        self.stand = self.told.go_on(&sight, self.stand, self.there)?;
-        self.there += 1;
+        let run = RunSoFar::new(entries, items, setups, &self.starts, &self.last);
+        self.state = self.so_far.go_on(&run, self.state, self.segments_done)?;
+        self.segments_done += 1;
         Ok(())
     }
 
@@ -164,12 +164,12 @@ impl Progress {
         Ok(())
     }
 
-    /// Whether the item behind those that have come is an order, or belongs to a segment that isn't told.
+    /// Whether the item behind those that have come is an order, or belongs to a segment whose lines are missing.
     fn goes_on(&self, entries: &[Entry], setups: usize, items: &[HistItem<'_>]) -> bool
         requires follows { Follows (permutation_run entries.now items.now setups) self.now }
         ensures { IsTrue result → IsNext (permutation_run entries.now items.now setups) self.now }
     {
-        if self.starts.len().saturating_sub(setups + 1) == self.there {
+        if self.starts.len().saturating_sub(setups + 1) == self.segments_done {
             return true;
         }
         match items.get(self.seen) {
@@ -178,7 +178,7 @@ impl Progress {
         }
     }
 
-    /// Goes on to the end of these items. What was told of a segment that has grown since is told anew, from the first item on.
+    /// Goes on to the end of these items. Where a segment has grown since its lines were added, all are made anew, from the first item on.
     pub(crate) fn reach(
         &mut self,
         alloc: Global,
@@ -206,19 +206,19 @@ impl Progress {
     }
 
     /// How far the entries have come.
-    pub(crate) fn stand(&self) -> Stand
-        ensures { result ≡ self.now.stand }
+    pub(crate) fn state(&self) -> RunState
+        ensures { result ≡ self.now.state }
     {
-        self.stand
+        self.state
     }
 }
 
 /// The lines of the entries, and how far they have come.
-pub fn told_lines(alloc: Global, course: &Course<'_>) -> Result<(Told, Stand), AllocError>
-    ensures { IfOk result (λ told. report course.now (orders course.now.items - course.now.setups) ≡ record { lines = told.0.lines; stand = told.1 }) }
+pub fn report(alloc: Global, run: &PermutationRun<'_>) -> Result<(LinesSoFar, RunState), AllocError>
+    ensures { IfOk result (λ reported. report run.now (orders run.now.items - run.now.setups) ≡ record { lines = reported.0.lines; state = reported.1 }) }
 {
-    let mut progress = Progress::new(alloc, course.entries(), course.setups())?;
-    progress.reach(alloc, course.entries(), course.setups(), course.items())?;
-    let Progress { told, stand, .. } = progress;
-    Ok((told, stand))
+    let mut progress = Progress::new(alloc, run.entries(), run.setups())?;
+    progress.reach(alloc, run.entries(), run.setups(), run.items())?;
+    let Progress { so_far, state, .. } = progress;
+    Ok((so_far, state))
 }

@@ -3,7 +3,7 @@
 ghost use Rattle.std.specs.Prelude.{◌+◌, ◌<◌, ◌^◌, length};
 
 use crate::histories::{done, holds, launch};
-use report_lines::{Course, Line, Plan, Schedule, Stand, Task, told_lines};
+use report_lines::{Line, PermutationRun, Plan, PlannedLaunch, RunState, Schedule, report};
 use session_machine::{HistItem, Order};
 use spec_parser::{Entry, Marker};
 use std::alloc::{AllocError, Global};
@@ -24,9 +24,9 @@ fn lines_are(
 ) -> Result<bool, AllocError>
     requires { length entries.now + 3 < 2 ^ 64 }
 {
-    let course = Course::new(alloc, entries, items, 0)?;
-    let (told, stand) = told_lines(alloc, &course)?;
-    Ok(told.lines() == lines && stand == Stand::Due(1))
+    let run = PermutationRun::new(alloc, entries, items, 0)?;
+    let (lines_so_far, state) = report(alloc, &run)?;
+    Ok(lines_so_far.lines() == lines && state == RunState::Due(1))
 }
 
 /// a(*) b: both of session 1.
@@ -48,12 +48,12 @@ fn a_step_is_reported_before_its_session_goes_on(rt: HostRuntime) -> Result<(), 
 /// The blocks of two steps, and nothing else.
 const TWO_BLOCKS: Schedule<'static> = Schedule {
     setups: &[],
-    tasks: &[
-        Task {
+    steps: &[
+        PlannedLaunch {
             session: 1,
             block: 0,
         },
-        Task {
+        PlannedLaunch {
             session: 1,
             block: 1,
         },

@@ -12,7 +12,7 @@ use Rattle.session_machine.specs.declared.event.Event.TheVariants.{Launch, Step,
 use Rattle.session_machine.specs.declared.reply.HistItem.{HistItem}
 use Rattle.session_machine.specs.declared.reply.Outcome.{Outcome}
 use Rattle.session_machine.specs.declared.reply.Outcome.TheVariants.{Launched, Done, Rows, Waits, Failed, Left}
-use Rattle.report_lines.specs.Starts.{session_of}
+use Rattle.session_machine.specs.Machine.{session_of}
 use Rattle.report_text.specs.declared.standing.Standing.{Standing}
 use Rattle.spec_parser.specs.Numbered.{session_numbered}
 use Rattle.report_text.specs.FreeText.{past, moved, moves, standing, each_says, event_text, item_text, item_note, own_teardown, stands_in, teardown_of}

@@ -18,9 +18,9 @@ pub at_end : (a b : Said) → is_whole a.ending ≡ false → (a >> b) ≡ a
 at_end a b e = rw e refl
 
 -- setups that are not there say nothing
-pub setups_gone : (items : List HistItem) (there k : ℕ) (ss : List ℕ) → there ≤ k → setups_say items there k ss ≡ says []
-setups_gone items there k [] h = refl
-setups_gone items there k (s ∷ ss) h = let e : nat_le there k ≡ true = grind arith in rw e refl
+pub setups_gone : (items : List HistItem) (count k : ℕ) (ss : List ℕ) → count ≤ k → setups_say items count k ss ≡ says []
+setups_gone items count k [] h = refl
+setups_gone items count k (s ∷ ss) h = let e : nat_le count k ≡ true = grind arith in rw e refl
 
 notes_if : (b c : Bool) (x y z : Said) → x.notes ≡ [] → y.notes ≡ [] → z.notes ≡ [] → (if b then x else (if c then y else z)).notes ≡ []
 notes_if true c x y z e f g = e
@@ -28,10 +28,10 @@ notes_if false true x y z e f g = f
 notes_if false false x y z e f g = g
 
 -- setups say nothing on the notes
-pub setups_notes : (items : List HistItem) (there k : ℕ) (ss : List ℕ) → (setups_say items there k ss).notes ≡ []
-setups_notes items there k [] = refl
-setups_notes items there k (s ∷ ss) =
-    notes_if (nat_le there k) (went_well items k s) _ _ _ refl (setups_notes items there (k + 1) ss) refl
+pub setups_notes : (items : List HistItem) (count k : ℕ) (ss : List ℕ) → (setups_say items count k ss).notes ≡ []
+setups_notes items count k [] = refl
+setups_notes items count k (s ∷ ss) =
+    notes_if (nat_le count k) (went_well items k s) _ _ _ refl (setups_notes items count (k + 1) ss) refl
 
 -- what is left says nothing, so all is said
 pub gone_text : (page left old all : List ℕ) → left ≡ [] → page ++ left ≡ old ++ all → page ≡ old ++ all

@@ -2,8 +2,8 @@
 use Rattle.std.specs.Prelude.{ℕ, ◌+◌, ◌-◌, List, [], length, flat_map, codes}
 use Rattle.spec_parser.specs.Trees.{EntryTree, SpecTree}
 use Rattle.session_machine.specs.declared.reply.HistItem.{HistItem}
-use Rattle.report_lines.specs.declared.history.Stand.{Stand}
-use Rattle.report_lines.specs.declared.history.Stand.TheVariants.{Due, Whole, Invalid}
+use Rattle.report_lines.specs.declared.history.RunState.{RunState}
+use Rattle.report_lines.specs.declared.history.RunState.TheVariants.{Due, Whole, Invalid}
 use Rattle.report_lines.specs.History.{PermutationRun}
 use Rattle.report_lines.specs.Report.{report}
 use Rattle.report_lines.specs.Due.{orders}
@@ -13,19 +13,19 @@ use Rattle.report_text.specs.Said.{Said, says, invalid, ◌>>◌}
 use Rattle.report_text.specs.Setups.{setups_of, setups_say}
 use Rattle.report_text.specs.Teardowns.{teardowns_say}
 
--- where the report stands after the entries
-abbrev pub stand_says : Stand → Said
-stand_says (Due e) = says []
-stand_says Whole = says []
-stand_says Invalid = record { text = codes "invalid permutation detected\n"; notes = []; ending = invalid }
+-- what the state after the entries says
+abbrev pub state_says : RunState → Said
+state_says (Due e) = says []
+state_says Whole = says []
+state_says Invalid = record { text = codes "invalid permutation detected\n"; notes = []; ending = invalid }
 
 -- the entries' lines, of which so many segments are there, and that the permutation is invalid
 abbrev pub entries_say : SpecTree → PermutationRun → ℕ → Said
-entries_say spec c there = says (flat_map (line_text spec c) (report c there).lines) >> stand_says (report c there).stand
+entries_say spec c count = says (flat_map (line_text spec c) (report c count).lines) >> state_says (report c count).state
 
 -- the entries' lines and the teardowns, where so many segments are there
 abbrev pub rest_says : SpecTree → PermutationRun → ℕ → Said
-rest_says spec c there = entries_say spec c (there - c.setups) >> teardowns_say spec c.items there (c.setups + length c.entries)
+rest_says spec c count = entries_say spec c (count - c.setups) >> teardowns_say spec c.items count (c.setups + length c.entries)
 
 -- the starting line, the setups, the entries' lines and the teardowns
 unfoldable pub all_says : SpecTree → PermutationRun → Said

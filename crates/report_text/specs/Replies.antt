@@ -7,7 +7,8 @@ use Rattle.session_machine.specs.declared.reply.HistItem.{HistItem}
 use Rattle.session_machine.specs.declared.reply.Outcome.{Outcome}
 use Rattle.session_machine.specs.declared.reply.Outcome.TheVariants.{Launched, Done, Rows, Waits, Failed, Left}
 use Rattle.session_machine.specs.declared.fault.StmtFault.{StmtFault}
-use Rattle.report_lines.specs.Starts.{session_of, ends_in}
+use Rattle.session_machine.specs.Machine.{session_of}
+use Rattle.report_lines.specs.Starts.{ends_in}
 use Rattle.report_text.specs.FaultText.{fault_text}
 
 -- a result set prints its table

@@ -36,8 +36,8 @@ setup_ending Left = setup_waits
 
 -- the setups from a segment on, of which so many segments are there: the table of each one's last reply, up to one that did not go well
 abbrev pub setups_say : List HistItem → ℕ → ℕ → List ℕ → Said
-setups_say items there k [] = says []
-setups_say items there k (session ∷ sessions) =
-    if nat_le there k then says []
-    else (if went_well items k session then says (rows_text (last_outcome (segment items k))) >> setups_say items there (k + 1) sessions
+setups_say items count k [] = says []
+setups_say items count k (session ∷ sessions) =
+    if nat_le count k then says []
+    else (if went_well items k session then says (rows_text (last_outcome (segment items k))) >> setups_say items count (k + 1) sessions
     else ends (setup_ending (last_outcome (segment items k))))

@@ -62,24 +62,24 @@ behind items k session = if is_over items k session then k + 1 else k + 2
 -- ---- one after the other
 
 -- what teardowns say, and the segment behind theirs
-pub record Torn : Type 0 where
+pub record TeardownsSaid : Type 0 where
   pub text : List ℕ
   pub notes : List ℕ
   pub next : ℕ
 
-abbrev pub torn_first : List ℕ → List ℕ → Torn → Torn
-torn_first text notes t = record t { text = text ++ t.text; notes = notes ++ t.notes }
+abbrev pub teardown_first : List ℕ → List ℕ → TeardownsSaid → TeardownsSaid
+teardown_first text notes t = record t { text = text ++ t.text; notes = notes ++ t.notes }
 
 -- the teardowns from a segment on, of which so many segments are there
-abbrev pub torn : List SessionTree → List HistItem → ℕ → ℕ → List ℕ → Torn
-torn sessions items there k [] = record { text = []; notes = []; next = k }
-torn sessions items there k (t ∷ ts) =
-    if nat_le there k then record { text = []; notes = []; next = k }
-    else torn_first (teardown_text items k t) (teardown_note sessions items k t) (torn sessions items there (behind items k t) ts)
+abbrev pub teardowns_from : List SessionTree → List HistItem → ℕ → ℕ → List ℕ → TeardownsSaid
+teardowns_from sessions items count k [] = record { text = []; notes = []; next = k }
+teardowns_from sessions items count k (t ∷ ts) =
+    if nat_le count k then record { text = []; notes = []; next = k }
+    else teardown_first (teardown_text items k t) (teardown_note sessions items k t) (teardowns_from sessions items count (behind items k t) ts)
 
 -- the sessions' teardowns, and behind the sessions' leaves that of the whole file
 abbrev pub teardowns_say : SpecTree → List HistItem → ℕ → ℕ → Said
-teardowns_say spec items there k =
-    let first = torn spec.sessions items there k (teardowns_of spec) in
-    let last = torn spec.sessions items there (first.next + length spec.sessions) (last_teardown_of spec) in
+teardowns_say spec items count k =
+    let first = teardowns_from spec.sessions items count k (teardowns_of spec) in
+    let last = teardowns_from spec.sessions items count (first.next + length spec.sessions) (last_teardown_of spec) in
     record { text = first.text ++ last.text; notes = first.notes ++ last.notes; ending = whole }

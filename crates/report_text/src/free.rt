@@ -16,7 +16,7 @@ use crate::setups::push_setups;
 use crate::standing::{Standing, nowhere, standing_in, take_in};
 use crate::teardowns::Pages;
 use iso_lexer::{Page, Sink};
-use report_lines::{Course, session_of};
+use report_lines::{PermutationRun, session_of};
 use session_machine::HistItem;
 use spec_parser::Spec;
 use std::alloc::{AllocError, Global};
@@ -59,9 +59,9 @@ fn setups_ending(
 {
     let setups = setups_of(alloc, spec)?;
     let no_entries = Vec::new(alloc);
-    let course = Course::new(alloc, &no_entries, items, 0)?;
+    let run = PermutationRun::new(alloc, &no_entries, items, 0)?;
     let mut aside = Page::new(alloc);
-    push_setups(&mut aside, &course.segments(), &setups)
+    push_setups(&mut aside, &run.segments(), &setups)
 }
 
 /// All that is said of a free run, setups apart.

@@ -160,7 +160,7 @@ fn stands_in(at: Option<Standing>, part: &Part<'_>) -> bool
 }
 
 /// Whether the session stands in its teardown.
-fn is_torn_down(spec: &Spec<'_>, session: u32, at: Option<Standing>) -> bool
+fn is_in_teardown(spec: &Spec<'_>, session: u32, at: Option<Standing>) -> bool
     ensures { result ≡ option_map_or (stands_in at) (teardown_of (spec_view spec.now) session) false }
 {
     match teardown_of(spec, session) {
@@ -179,7 +179,7 @@ pub fn push_note(
     ensures { OnOk result (page_text page.new ≡ page_text page.old ++ item_note (spec_view spec.now) at item.now) }
 {
     let session = session_of(&item.event);
-    if is_torn_down(spec, session, at) {
+    if is_in_teardown(spec, session, at) {
         push_outcome_note(page, &spec.sessions, session as usize, &item.reply.outcome)
     } else {
         Ok(())

@@ -8,7 +8,7 @@ ghost use Rattle.report_text.specs.LineText.{entry_replies, step_name, step_sql,
 use crate::names::push_name;
 use crate::replies::push_replies;
 use iso_lexer::Page;
-use report_lines::{Course, Line};
+use report_lines::{Line, PermutationRun};
 use session_machine::HistItem;
 use spec_parser::{Spec, StepPart};
 use std::alloc::AllocError;
@@ -26,16 +26,16 @@ fn between<'s, 't>(items: &'s [HistItem<'t>], from: usize, to: usize) -> &'s [Hi
 /// Pushes the replies to an entry's block that are among so many items.
 fn push_entry_replies(
     page: &mut Page,
-    course: &Course<'_>,
+    run: &PermutationRun<'_>,
     entry: usize,
     seen: usize,
 ) -> Result<(), AllocError>
-    requires { entry < length course.now.entries }
-    ensures { OnOk result (page_text page.new ≡ page_text page.old ++ entry_replies course.now entry seen) }
+    requires { entry < length run.now.entries }
+    ensures { OnOk result (page_text page.new ≡ page_text page.old ++ entry_replies run.now entry seen) }
 {
-    let items = course.items();
-    let replies = between(items, course.seen_before(entry), seen);
-    push_replies(page, course.session_at(entry), replies)
+    let items = run.items();
+    let replies = between(items, run.seen_before(entry), seen);
+    push_replies(page, run.session_at(entry), replies)
 }
 
 pub fn push_step_name(page: &mut Page, step: &StepPart<'_>) -> Result<(), AllocError>
@@ -55,17 +55,17 @@ pub fn push_step_sql(page: &mut Page, step: &StepPart<'_>) -> Result<(), AllocEr
 
 fn push_at_once(
     page: &mut Page,
-    course: &Course<'_>,
+    run: &PermutationRun<'_>,
     step: &StepPart<'_>,
     entry: usize,
     seen: usize,
 ) -> Result<(), AllocError>
-    requires { entry < length course.now.entries }
-    ensures { OnOk result (page_text page.new ≡ page_text page.old ++ at_once course.now entry seen (step_view step.now)) }
+    requires { entry < length run.now.entries }
+    ensures { OnOk result (page_text page.new ≡ page_text page.old ++ at_once run.now entry seen (step_view step.now)) }
 {
     push_step_sql(page, step)?;
     page.push(b"\n")?;
-    push_entry_replies(page, course, entry, seen)
+    push_entry_replies(page, run, entry, seen)
 }
 
 fn push_waiting(page: &mut Page, step: &StepPart<'_>) -> Result<(), AllocError>
@@ -77,51 +77,51 @@ fn push_waiting(page: &mut Page, step: &StepPart<'_>) -> Result<(), AllocError>
 
 fn push_completed(
     page: &mut Page,
-    course: &Course<'_>,
+    run: &PermutationRun<'_>,
     step: &StepPart<'_>,
     entry: usize,
     seen: usize,
 ) -> Result<(), AllocError>
-    requires { entry < length course.now.entries }
-    ensures { OnOk result (page_text page.new ≡ page_text page.old ++ completed course.now entry seen (step_view step.now)) }
+    requires { entry < length run.now.entries }
+    ensures { OnOk result (page_text page.new ≡ page_text page.old ++ completed run.now entry seen (step_view step.now)) }
 {
     push_step_name(page, step)?;
     page.push(b"<... completed>\n")?;
-    push_entry_replies(page, course, entry, seen)
+    push_entry_replies(page, run, entry, seen)
 }
 
 /// The step that the entry of this number names.
 fn step_at<'s, 'a>(
     spec: &'s Spec<'a>,
-    course: &Course<'_>,
+    run: &PermutationRun<'_>,
     entry: usize,
 ) -> Option<&'s StepPart<'a>>
-    ensures step { option_map (λ x. step_view x.now) result ≡ step_at (spec_view spec.now) course.now entry }
-    ensures there { OnSome result (entry < length course.now.entries) }
+    ensures step { option_map (λ x. step_view x.now) result ≡ step_at (spec_view spec.now) run.now entry }
+    ensures there { OnSome result (entry < length run.now.entries) }
 {
-    spec.step_of(course.entries().get(entry)?)
+    spec.step_of(run.entries().get(entry)?)
 }
 
 /// Pushes what a line says.
 pub fn push_line(
     page: &mut Page,
     spec: &Spec<'_>,
-    course: &Course<'_>,
+    run: &PermutationRun<'_>,
     line: Line,
 ) -> Result<(), AllocError>
-    ensures { OnOk result (page_text page.new ≡ page_text page.old ++ line_text (spec_view spec.now) course.now line) }
+    ensures { OnOk result (page_text page.new ≡ page_text page.old ++ line_text (spec_view spec.now) run.now line) }
 {
     match line {
-        Line::AtOnce { entry, seen } => match step_at(spec, course, entry) {
-            Some(step) => push_at_once(page, course, step, entry, seen),
+        Line::AtOnce { entry, seen } => match step_at(spec, run, entry) {
+            Some(step) => push_at_once(page, run, step, entry, seen),
             None => Ok(()),
         },
-        Line::Waiting { entry } => match step_at(spec, course, entry) {
+        Line::Waiting { entry } => match step_at(spec, run, entry) {
             Some(step) => push_waiting(page, step),
             None => Ok(()),
         },
-        Line::Completed { entry, seen } => match step_at(spec, course, entry) {
-            Some(step) => push_completed(page, course, step, entry, seen),
+        Line::Completed { entry, seen } => match step_at(spec, run, entry) {
+            Some(step) => push_completed(page, run, step, entry, seen),
             None => Ok(()),
         },
     }

@@ -7,7 +7,7 @@ ghost use Rattle.report_lines.specs.Due.{orders};
 ghost use Rattle.report_text.specs.Steps.{starting_text};
 ghost use Rattle.report_text.specs.LineText.{line_text};
 ghost use Rattle.report_text.specs.Setups.{setups_of, setups_say};
-ghost use Rattle.report_text.specs.Permutation.{stand_says, entries_say, rest_says, all_says, permutation_says};
+ghost use Rattle.report_text.specs.Permutation.{state_says, entries_say, rest_says, all_says, permutation_says};
 ghost use Rattle.report_text.specs.Answers.{ending_of, EndsAs, IsNotMemory, Puts, TellsFailure};
 
 use crate::fault::{Ended, Ending, ReportFault, answer_of};
@@ -17,7 +17,7 @@ use crate::setups::push_setups;
 use crate::steps::push_starting;
 use crate::teardowns::{Pages, push_teardowns};
 use iso_lexer::{Page, Sink};
-use report_lines::{Course, Line, Stand, told_lines};
+use report_lines::{Line, PermutationRun, RunState, report};
 use session_machine::HistItem;
 use spec_parser::{Entry, Spec};
 use std::alloc::{AllocError, Global};
@@ -26,40 +26,40 @@ use std::alloc::{AllocError, Global};
 fn push_front(
     page: &mut Page,
     spec: &Spec<'_>,
-    course: &Course<'_>,
+    run: &PermutationRun<'_>,
     setups: &[usize],
 ) -> Result<Ending, AllocError>
     requires { setups.now ≡ setups_of (spec_view spec.now) }
     ensures text { OnOk result (page_text page.new ≡ page_text page.old
-        ++ (starting_text (spec_view spec.now) course.now.entries ++ (setups_say course.now.items (orders course.now.items) 0 (setups_of (spec_view spec.now))).text)) }
-    ensures ending { IfOk result (λ ending. ending_of ending ≡ (setups_say course.now.items (orders course.now.items) 0 (setups_of (spec_view spec.now))).ending) }
+        ++ (starting_text (spec_view spec.now) run.now.entries ++ (setups_say run.now.items (orders run.now.items) 0 (setups_of (spec_view spec.now))).text)) }
+    ensures ending { IfOk result (λ ending. ending_of ending ≡ (setups_say run.now.items (orders run.now.items) 0 (setups_of (spec_view spec.now))).ending) }
 {
-    push_starting(page, spec, course.entries())?;
-    push_setups(page, &course.segments(), setups)
+    push_starting(page, spec, run.entries())?;
+    push_setups(page, &run.segments(), setups)
 }
 
 fn push_lines(
     page: &mut Page,
     spec: &Spec<'_>,
-    course: &Course<'_>,
+    run: &PermutationRun<'_>,
     lines: &[Line],
 ) -> Result<(), AllocError>
-    ensures { OnOk result (page_text page.new ≡ page_text page.old ++ flat_map (line_text (spec_view spec.now) course.now) lines.now) }
+    ensures { OnOk result (page_text page.new ≡ page_text page.old ++ flat_map (line_text (spec_view spec.now) run.now) lines.now) }
 {
     for line in lines {
-        push_line(page, spec, course, *line)?;
+        push_line(page, spec, run, *line)?;
     }
     Ok(())
 }
 
 /// Pushes that the permutation is invalid, if it is.
-fn push_stand(page: &mut Page, stand: Stand) -> Result<Ending, AllocError>
-    ensures text { OnOk result (page_text page.new ≡ page_text page.old ++ (stand_says stand).text) }
-    ensures ending { IfOk result (λ ending. ending_of ending ≡ (stand_says stand).ending) }
+fn push_state(page: &mut Page, state: RunState) -> Result<Ending, AllocError>
+    ensures text { OnOk result (page_text page.new ≡ page_text page.old ++ (state_says state).text) }
+    ensures ending { IfOk result (λ ending. ending_of ending ≡ (state_says state).ending) }
 {
-    match stand {
-        Stand::Due(_) | Stand::Whole => Ok(Ending::Whole),
-        Stand::Invalid => {
+    match state {
+        RunState::Due(_) | RunState::Whole => Ok(Ending::Whole),
+        RunState::Invalid => {
             page.push(b"invalid permutation detected\n")?;
             Ok(Ending::Invalid)
         }
@@ -67,33 +67,37 @@ fn push_stand(page: &mut Page, stand: Stand) -> Result<Ending, AllocError>
 }
 
 /// Pushes the entries' lines.
-fn push_entries(page: &mut Page, spec: &Spec<'_>, course: &Course<'_>) -> Result<Ending, AllocError>
-    ensures text { OnOk result (page_text page.new ≡ page_text page.old ++ (entries_say (spec_view spec.now) course.now (orders course.now.items - course.now.setups)).text) }
-    ensures ending { IfOk result (λ ending. ending_of ending ≡ (entries_say (spec_view spec.now) course.now (orders course.now.items - course.now.setups)).ending) }
+fn push_entries(
+    page: &mut Page,
+    spec: &Spec<'_>,
+    run: &PermutationRun<'_>,
+) -> Result<Ending, AllocError>
+    ensures text { OnOk result (page_text page.new ≡ page_text page.old ++ (entries_say (spec_view spec.now) run.now (orders run.now.items - run.now.setups)).text) }
+    ensures ending { IfOk result (λ ending. ending_of ending ≡ (entries_say (spec_view spec.now) run.now (orders run.now.items - run.now.setups)).ending) }
 {
-    let (told, stand) = told_lines(page.alloc(), course)?;
-    push_lines(page, spec, course, told.lines())?;
-    push_stand(page, stand)
+    let (lines, state) = report(page.alloc(), run)?;
+    push_lines(page, spec, run, lines.lines())?;
+    push_state(page, state)
 }
 
 /// Pushes what comes after so many setups.
 fn push_rest(
     pages: &mut Pages,
     spec: &Spec<'_>,
-    course: &Course<'_>,
+    run: &PermutationRun<'_>,
     setups: usize,
 ) -> Result<Ending, AllocError>
-    requires there { orders course.now.items + 2 < 2 ^ 64 }
-    requires setups { setups ≡ course.now.setups }
-    requires room { setups + length course.now.entries + 1 < 2 ^ 64 }
-    ensures text { OnOk result (page_text pages.new.text ≡ page_text pages.old.text ++ (rest_says (spec_view spec.now) course.now (orders course.now.items)).text) }
-    ensures notes { OnOk result (page_text pages.new.notes ≡ page_text pages.old.notes ++ (rest_says (spec_view spec.now) course.now (orders course.now.items)).notes) }
-    ensures ending { IfOk result (λ ending. ending_of ending ≡ (rest_says (spec_view spec.now) course.now (orders course.now.items)).ending) }
+    requires orders { orders run.now.items + 2 < 2 ^ 64 }
+    requires setups { setups ≡ run.now.setups }
+    requires room { setups + length run.now.entries + 1 < 2 ^ 64 }
+    ensures text { OnOk result (page_text pages.new.text ≡ page_text pages.old.text ++ (rest_says (spec_view spec.now) run.now (orders run.now.items)).text) }
+    ensures notes { OnOk result (page_text pages.new.notes ≡ page_text pages.old.notes ++ (rest_says (spec_view spec.now) run.now (orders run.now.items)).notes) }
+    ensures ending { IfOk result (λ ending. ending_of ending ≡ (rest_says (spec_view spec.now) run.now (orders run.now.items)).ending) }
 {
-    let segments = course.segments();
-    match push_entries(&mut pages.text, spec, course)? {
+    let segments = run.segments();
+    match push_entries(&mut pages.text, spec, run)? {
         Ending::Whole => {
-            let first = setups + course.entries().len();
+            let first = setups + run.entries().len();
             push_teardowns(pages, spec, &segments, segments.count(), first)?;
             Ok(Ending::Whole)
         }
@@ -105,19 +109,19 @@ fn push_rest(
 fn push_all(
     pages: &mut Pages,
     spec: &Spec<'_>,
-    course: &Course<'_>,
+    run: &PermutationRun<'_>,
     setups: &[usize],
 ) -> Result<Ending, AllocError>
-    requires there { orders course.now.items + 2 < 2 ^ 64 }
+    requires orders { orders run.now.items + 2 < 2 ^ 64 }
     requires setups { setups.now ≡ setups_of (spec_view spec.now) }
-    requires count { course.now.setups ≡ length setups.now }
-    requires room { length setups.now + length course.now.entries + 1 < 2 ^ 64 }
-    ensures text { OnOk result (page_text pages.new.text ≡ page_text pages.old.text ++ (all_says (spec_view spec.now) course.now).text) }
-    ensures notes { OnOk result (page_text pages.new.notes ≡ page_text pages.old.notes ++ (all_says (spec_view spec.now) course.now).notes) }
-    ensures ending { IfOk result (λ ending. ending_of ending ≡ (all_says (spec_view spec.now) course.now).ending) }
+    requires count { run.now.setups ≡ length setups.now }
+    requires room { length setups.now + length run.now.entries + 1 < 2 ^ 64 }
+    ensures text { OnOk result (page_text pages.new.text ≡ page_text pages.old.text ++ (all_says (spec_view spec.now) run.now).text) }
+    ensures notes { OnOk result (page_text pages.new.notes ≡ page_text pages.old.notes ++ (all_says (spec_view spec.now) run.now).notes) }
+    ensures ending { IfOk result (λ ending. ending_of ending ≡ (all_says (spec_view spec.now) run.now).ending) }
 {
-    match push_front(&mut pages.text, spec, course, setups)? {
-        Ending::Whole => push_rest(pages, spec, course, setups.len()),
+    match push_front(&mut pages.text, spec, run, setups)? {
+        Ending::Whole => push_rest(pages, spec, run, setups.len()),
         early => Ok(early),
     }
 }
@@ -134,9 +138,9 @@ fn said_of(
     ensures ending { IfOk result (λ said. ending_of said.1 ≡ (permutation_says (spec_view spec.now) (map entry_view entries.now) items.now).ending) }
 {
     let setups = setups_of(alloc, spec)?;
-    let course = Course::new(alloc, entries, items, setups.len())?;
+    let run = PermutationRun::new(alloc, entries, items, setups.len())?;
     let mut pages = Pages::new(alloc);
-    let ending = push_all(&mut pages, spec, &course, &setups)?;
+    let ending = push_all(&mut pages, spec, &run, &setups)?;
     Ok((pages, ending))
 }
 

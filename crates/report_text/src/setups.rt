@@ -54,9 +54,9 @@ pub fn push_setups(
     ensures text { OnOk result (page_text page.new ≡ page_text page.old ++ (setups_say segments.now (orders segments.now) 0 sessions.now).text) }
     ensures ending { IfOk result (λ ending. ending_of ending ≡ (setups_say segments.now (orders segments.now) 0 sessions.now).ending) }
 {
-    let there = segments.count();
+    let count = segments.count();
     for (number, session) in sessions.iter().enumerate() {
-        if there <= number {
+        if count <= number {
             return Ok(Ending::Whole);
         }
         let segment = segments.segment(number);

@@ -1,7 +1,7 @@
 //! Where sessions stand in their blocks.
 
 ghost use Rattle.std.specs.Prelude.{◌≡◌, ◌+◌, ◌<◌, ◌^◌, None, replicate, length, slice_get, slice_set, IfOk, IfSome};
-ghost use Rattle.report_lines.specs.Starts.{session_of};
+ghost use Rattle.session_machine.specs.Machine.{session_of};
 ghost use Rattle.report_text.specs.FreeText.{past, moved};
 ghost use Rattle.report_text.specs.Inner.Table.{at_number};
 

@@ -4,7 +4,7 @@ ghost use Rattle.std.specs.Prelude.{◌≡◌, ◌++◌, ◌+◌, ◌<◌, ◌^�
 ghost use Rattle.iso_lexer.specs.Devices.{page_text};
 ghost use Rattle.spec_parser.specs.Trees.{session_view, spec_view};
 ghost use Rattle.report_text.specs.Replies.{rows_text, last_outcome};
-ghost use Rattle.report_text.specs.Teardowns.{note, failure_note, teardown_text, teardown_note, behind, torn, last_teardown_of, teardowns_say};
+ghost use Rattle.report_text.specs.Teardowns.{note, failure_note, teardown_text, teardown_note, behind, teardowns_from, last_teardown_of, teardowns_say};
 
 use crate::notes::{push_last_note, push_would_wait};
 use crate::numbers::teardowns_of;
@@ -85,22 +85,22 @@ fn push_teardown(
 }
 
 /// Pushes what these teardowns say, from a segment on, of which so many are there; answers the segment behind theirs.
-fn push_torn(
+fn push_teardowns_from(
     pages: &mut Pages,
     sessions: &[SessionPart<'_>],
     segments: &Segments<'_>,
-    there: usize,
+    count: usize,
     first: usize,
     teardowns: &[usize],
 ) -> Result<usize, AllocError>
-    requires { there + 2 < 2 ^ 64 }
-    ensures text { OnOk result (page_text pages.new.text ≡ page_text pages.old.text ++ (torn (map session_view sessions.now) segments.now there first teardowns.now).text) }
-    ensures notes { OnOk result (page_text pages.new.notes ≡ page_text pages.old.notes ++ (torn (map session_view sessions.now) segments.now there first teardowns.now).notes) }
-    ensures next { IfOk result (λ next. next ≡ (torn (map session_view sessions.now) segments.now there first teardowns.now).next) }
+    requires { count + 2 < 2 ^ 64 }
+    ensures text { OnOk result (page_text pages.new.text ≡ page_text pages.old.text ++ (teardowns_from (map session_view sessions.now) segments.now count first teardowns.now).text) }
+    ensures notes { OnOk result (page_text pages.new.notes ≡ page_text pages.old.notes ++ (teardowns_from (map session_view sessions.now) segments.now count first teardowns.now).notes) }
+    ensures next { IfOk result (λ next. next ≡ (teardowns_from (map session_view sessions.now) segments.now count first teardowns.now).next) }
 {
     let mut number = first;
     for session in teardowns {
-        if there <= number {
+        if count <= number {
             return Ok(number);
         }
         number = push_teardown(pages, sessions, segments, number, *session)?;
@@ -113,17 +113,17 @@ fn push_last(
     pages: &mut Pages,
     spec: &Spec<'_>,
     segments: &Segments<'_>,
-    there: usize,
+    count: usize,
     number: usize,
 ) -> Result<(), AllocError>
-    requires { there + 2 < 2 ^ 64 }
+    requires { count + 2 < 2 ^ 64 }
     ensures text { OnOk result (page_text pages.new.text ≡ page_text pages.old.text
-        ++ (torn (spec_view spec.now).sessions segments.now there number (last_teardown_of (spec_view spec.now))).text) }
+        ++ (teardowns_from (spec_view spec.now).sessions segments.now count number (last_teardown_of (spec_view spec.now))).text) }
     ensures notes { OnOk result (page_text pages.new.notes ≡ page_text pages.old.notes
-        ++ (torn (spec_view spec.now).sessions segments.now there number (last_teardown_of (spec_view spec.now))).notes) }
+        ++ (teardowns_from (spec_view spec.now).sessions segments.now count number (last_teardown_of (spec_view spec.now))).notes) }
 {
     if spec.teardown.is_some() {
-        push_torn(pages, &spec.sessions, segments, there, number, &[0])?;
+        push_teardowns_from(pages, &spec.sessions, segments, count, number, &[0])?;
     }
     Ok(())
 }
@@ -133,20 +133,20 @@ pub fn push_teardowns(
     pages: &mut Pages,
     spec: &Spec<'_>,
     segments: &Segments<'_>,
-    there: usize,
+    count: usize,
     first: usize,
 ) -> Result<(), AllocError>
-    requires { there + 2 < 2 ^ 64 }
-    ensures text { OnOk result (page_text pages.new.text ≡ page_text pages.old.text ++ (teardowns_say (spec_view spec.now) segments.now there first).text) }
-    ensures notes { OnOk result (page_text pages.new.notes ≡ page_text pages.old.notes ++ (teardowns_say (spec_view spec.now) segments.now there first).notes) }
+    requires { count + 2 < 2 ^ 64 }
+    ensures text { OnOk result (page_text pages.new.text ≡ page_text pages.old.text ++ (teardowns_say (spec_view spec.now) segments.now count first).text) }
+    ensures notes { OnOk result (page_text pages.new.notes ≡ page_text pages.old.notes ++ (teardowns_say (spec_view spec.now) segments.now count first).notes) }
 {
     let teardowns = teardowns_of(pages.text.alloc(), spec)?;
-    let next = push_torn(pages, &spec.sessions, segments, there, first, &teardowns)?;
+    let next = push_teardowns_from(pages, &spec.sessions, segments, count, first, &teardowns)?;
     push_last(
         pages,
         spec,
         segments,
-        there,
+        count,
         next.saturating_add(spec.sessions.len()),
     )
 }

@@ -11,7 +11,7 @@ mod table;
 use anyhow::{Context, Result, anyhow};
 use names::columns_of;
 use picture::picture_of;
-use reading::runs_in;
+use reading::reports_in;
 use spec_parser::parse_spec;
 use std::process::ExitCode;
 use std::{env, fs, io};
@@ -35,11 +35,11 @@ fn drawing(rt: &HostRuntime, path: &str, is_picture: bool) -> Result<String> {
     let spec = parse_spec(alloc, file.as_str()).map_err(|fault| anyhow!("{path}: {fault}"))?;
     let text = io::read_to_string(alloc, rt.reader()).context("reading standard input")?;
     let columns = columns_of(alloc, &spec)?;
-    let runs = runs_in(alloc, &columns, text.as_str())?;
+    let reports = reports_in(alloc, &columns, text.as_str())?;
     let drawn = if is_picture {
-        picture_of(alloc, &columns, &runs)?
+        picture_of(alloc, &columns, &reports)?
     } else {
-        table_of(alloc, &columns, &runs)?
+        table_of(alloc, &columns, &reports)?
     };
     Ok(drawn)
 }

@@ -1,7 +1,7 @@
 //! Permutations as a picture.
 
 use crate::names::Column;
-use crate::reading::{Event, Run, Told};
+use crate::reading::{PermutationReport, StepReport, StepStatus};
 use crate::table::widths_of;
 use std::alloc::{AllocError, Global};
 
@@ -37,10 +37,14 @@ struct Lane {
     waits_from: Option<usize>,
 }
 
-fn lanes_of(alloc: Global, columns: &[Column], run: &Run) -> Result<Vec<Lane>, AllocError> {
+fn lanes_of(
+    alloc: Global,
+    columns: &[Column],
+    report: &PermutationReport,
+) -> Result<Vec<Lane>, AllocError> {
     let mut lanes = Vec::new(alloc);
     let mut left = MARGIN;
-    for chars in &widths_of(alloc, columns, run)? {
+    for chars in &widths_of(alloc, columns, report)? {
         let width = chars.saturating_mul(TEN_CHARS) / 10;
         let width = width.saturating_add(2 * PAD);
         lanes.push(Lane {
@@ -91,26 +95,26 @@ fn put_bar(alloc: Global, out: &mut String, lane: &mut Lane, to: usize) -> Resul
     Ok(())
 }
 
-fn class_of(event: &Event) -> &'static str {
-    if event.is_failed() {
+fn class_of(step: &StepReport) -> &'static str {
+    if step.is_failed() {
         "failed"
-    } else if event.told == Told::Waits {
+    } else if step.status == StepStatus::Waits {
         "waits"
     } else {
         "done"
     }
 }
 
-/// Puts an event's box with its top at `top`, and gives its height.
+/// Puts a step's box with its top at `top`, and gives its height.
 fn put_box(
     alloc: Global,
     out: &mut String,
     lane: &Lane,
     top: usize,
-    event: &Event,
+    step: &StepReport,
 ) -> Result<usize, AllocError> {
-    let height = event.lines.len().saturating_mul(LINE).saturating_add(PAD);
-    let class = class_of(event);
+    let height = step.lines.len().saturating_mul(LINE).saturating_add(PAD);
+    let class = class_of(step);
     let x = lane.left;
     let width = lane.width;
     let frame = format!(in alloc;
@@ -118,7 +122,7 @@ fn put_box(
     )?;
     out.push_str(frame.as_str())?;
     let mut y = top;
-    for line in &event.lines {
+    for line in &step.lines {
         y = y.saturating_add(LINE);
         let class = if line.as_str().starts_with("ERROR:") {
             "error"
@@ -162,21 +166,21 @@ fn put_lives(
     Ok(())
 }
 
-/// Puts the events of a permutation from `top` on, and gives where they end.
-fn put_events(
+/// Puts the steps of a permutation from `top` on, and gives where they end.
+fn put_steps(
     alloc: Global,
     out: &mut String,
     lanes: &mut Vec<Lane>,
-    run: &Run,
+    report: &PermutationReport,
     top: usize,
 ) -> Result<usize, AllocError> {
     let mut y = top;
-    for event in &run.events {
-        if let Some(lane) = lanes.get_mut(event.column) {
+    for step in &report.steps {
+        if let Some(lane) = lanes.get_mut(step.column) {
             put_bar(alloc, out, lane, y)?;
-            let height = put_box(alloc, out, lane, y, event)?;
+            let height = put_box(alloc, out, lane, y, step)?;
             y = y.saturating_add(height);
-            if event.told == Told::Waits {
+            if step.status == StepStatus::Waits {
                 lane.waits_from = Some(y);
             }
             y = y.saturating_add(GAP);
@@ -189,24 +193,24 @@ fn put_events(
 }
 
 /// Puts a permutation from `top` on, and gives where it ends.
-fn put_run(
+fn put_report(
     alloc: Global,
     out: &mut String,
     columns: &[Column],
-    run: &Run,
+    report: &PermutationReport,
     top: usize,
 ) -> Result<usize, AllocError> {
-    let mut lanes = lanes_of(alloc, columns, run)?;
+    let mut lanes = lanes_of(alloc, columns, report)?;
     let title = top.saturating_add(LINE);
     let heads = title.saturating_add(2 * LINE);
     let first = heads.saturating_add(GAP);
-    let mut events = String::new(alloc);
-    let end = put_events(alloc, &mut events, &mut lanes, run, first)?;
-    put_text(alloc, out, "title", MARGIN, title, run.title.as_str())?;
+    let mut steps = String::new(alloc);
+    let end = put_steps(alloc, &mut steps, &mut lanes, report, first)?;
+    put_text(alloc, out, "title", MARGIN, title, report.title.as_str())?;
     put_heads(alloc, out, columns, &lanes, heads)?;
     put_lives(alloc, out, &lanes, first, end)?;
-    out.push_str(events.as_str())?;
-    if run.is_invalid {
+    out.push_str(steps.as_str())?;
+    if report.is_invalid {
         put_text(
             alloc,
             out,
@@ -219,9 +223,19 @@ fn put_run(
     Ok(end.saturating_add(2 * LINE))
 }
 
-fn width_of(alloc: Global, columns: &[Column], run: &Run) -> Result<usize, AllocError> {
-    let lanes = lanes_of(alloc, columns, run)?;
-    let title = run.title.as_str().chars().count().saturating_mul(TEN_CHARS) / 10;
+fn width_of(
+    alloc: Global,
+    columns: &[Column],
+    report: &PermutationReport,
+) -> Result<usize, AllocError> {
+    let lanes = lanes_of(alloc, columns, report)?;
+    let title = report
+        .title
+        .as_str()
+        .chars()
+        .count()
+        .saturating_mul(TEN_CHARS)
+        / 10;
     let right = match lanes.last() {
         Some(lane) => lane.left.saturating_add(lane.width),
         None => 0,
@@ -234,13 +248,17 @@ fn width_of(alloc: Global, columns: &[Column], run: &Run) -> Result<usize, Alloc
 }
 
 /// The permutations as an SVG file, one below the other.
-pub fn picture_of(alloc: Global, columns: &[Column], runs: &[Run]) -> Result<String, AllocError> {
+pub fn picture_of(
+    alloc: Global,
+    columns: &[Column],
+    reports: &[PermutationReport],
+) -> Result<String, AllocError> {
     let mut body = String::new(alloc);
     let mut height = PAD;
     let mut width = 0usize;
-    for run in runs {
-        height = put_run(alloc, &mut body, columns, run, height)?;
-        width = width_of(alloc, columns, run)?.max(width);
+    for report in reports {
+        height = put_report(alloc, &mut body, columns, report, height)?;
+        width = width_of(alloc, columns, report)?.max(width);
     }
     let body = body.as_str();
     let size = format!(in alloc;

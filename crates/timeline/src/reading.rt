@@ -6,24 +6,24 @@ use std::alloc::{AllocError, Global};
 /// Longer lines are broken at a blank.
 const WIDEST: usize = 46;
 
-/// How a step is told.
+/// What the line of a step says of it.
 #[derive(Clone, Copy, Debug, PartialEq, Eq)]
-pub enum Told {
+pub enum StepStatus {
     Done,
     Waits,
     Completed,
 }
 
-/// A step as it is told, in the column of its session.
+/// What is printed of a step, in the column of its session.
 #[derive(Debug, Drop)]
-pub struct Event {
+pub struct StepReport {
     pub column: usize,
-    pub told: Told,
+    pub status: StepStatus,
     /// Its name and SQL, and what came back.
     pub lines: Vec<String>,
 }
 
-impl Event {
+impl StepReport {
     /// Whether a statement of the step failed.
     pub fn is_failed(&self) -> bool {
         self.lines
@@ -32,11 +32,11 @@ impl Event {
     }
 }
 
-/// A permutation as it is told.
+/// What is printed of a permutation.
 #[derive(Debug, Drop)]
-pub struct Run {
+pub struct PermutationReport {
     pub title: String,
-    pub events: Vec<Event>,
+    pub steps: Vec<StepReport>,
     pub is_invalid: bool,
 }
 
@@ -76,36 +76,41 @@ fn step_of<'a>(columns: &[Column], line: &'a str) -> Option<(usize, &'a str)> {
     None
 }
 
-fn told_by(sql: &str) -> Told {
+fn status_of(sql: &str) -> StepStatus {
     if sql == "<... completed>" {
-        Told::Completed
+        StepStatus::Completed
     } else if sql.ends_with(" <waiting ...>") {
-        Told::Waits
+        StepStatus::Waits
     } else {
-        Told::Done
+        StepStatus::Done
     }
 }
 
-fn event_of(alloc: Global, column: usize, sql: &str, line: &str) -> Result<Event, AllocError> {
+fn step_report(
+    alloc: Global,
+    column: usize,
+    sql: &str,
+    line: &str,
+) -> Result<StepReport, AllocError> {
     let mut lines = Vec::new(alloc);
     put_broken(
         alloc,
         &mut lines,
         line.strip_prefix("step ").unwrap_or(line),
     )?;
-    Ok(Event {
+    Ok(StepReport {
         column,
-        told: told_by(sql),
+        status: status_of(sql),
         lines,
     })
 }
 
 /// Adds a line that isn't a step's first one to the step before it.
-fn put_below(alloc: Global, run: &mut Run, line: &str) -> Result<(), AllocError> {
-    if let Some(event) = run.events.last_mut() {
-        put_broken(alloc, &mut event.lines, line)?;
-        if told_by(line) == Told::Waits {
-            event.told = Told::Waits;
+fn put_below(alloc: Global, report: &mut PermutationReport, line: &str) -> Result<(), AllocError> {
+    if let Some(step) = report.steps.last_mut() {
+        put_broken(alloc, &mut step.lines, line)?;
+        if status_of(line) == StepStatus::Waits {
+            step.status = StepStatus::Waits;
         }
     }
     Ok(())
@@ -114,32 +119,36 @@ fn put_below(alloc: Global, run: &mut Run, line: &str) -> Result<(), AllocError>
 fn put_line(
     alloc: Global,
     columns: &[Column],
-    run: &mut Run,
+    report: &mut PermutationReport,
     line: &str,
 ) -> Result<(), AllocError> {
     if let Some((column, sql)) = step_of(columns, line) {
-        run.events.push(event_of(alloc, column, sql, line)?)?;
+        report.steps.push(step_report(alloc, column, sql, line)?)?;
     } else if line == "invalid permutation detected" {
-        run.is_invalid = true;
+        report.is_invalid = true;
     } else if !line.is_empty() {
-        put_below(alloc, run, line)?;
+        put_below(alloc, report, line)?;
     }
     Ok(())
 }
 
 /// The permutations that the text tells. Tables of setups are left out.
-pub fn runs_in(alloc: Global, columns: &[Column], text: &str) -> Result<Vec<Run>, AllocError> {
-    let mut runs: Vec<Run> = Vec::new(alloc);
+pub fn reports_in(
+    alloc: Global,
+    columns: &[Column],
+    text: &str,
+) -> Result<Vec<PermutationReport>, AllocError> {
+    let mut reports: Vec<PermutationReport> = Vec::new(alloc);
     for line in text.lines() {
         if line.starts_with("starting permutation:") {
-            runs.push(Run {
+            reports.push(PermutationReport {
                 title: String::from_str(alloc, line)?,
-                events: Vec::new(alloc),
+                steps: Vec::new(alloc),
                 is_invalid: false,
             })?;
-        } else if let Some(run) = runs.last_mut() {
-            put_line(alloc, columns, run, line)?;
+        } else if let Some(report) = reports.last_mut() {
+            put_line(alloc, columns, report, line)?;
         }
     }
-    Ok(runs)
+    Ok(reports)
 }

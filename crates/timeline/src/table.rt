@@ -1,21 +1,25 @@
 //! Permutations as tables of text.
 
 use crate::names::Column;
-use crate::reading::{Event, Run, Told};
+use crate::reading::{PermutationReport, StepReport, StepStatus};
 use std::alloc::{AllocError, Global};
 
 /// What stands in a session's column while its step waits.
 const WAITS: &str = ":";
 
 /// How wide each column has to be, in characters.
-pub fn widths_of(alloc: Global, columns: &[Column], run: &Run) -> Result<Vec<usize>, AllocError> {
+pub fn widths_of(
+    alloc: Global,
+    columns: &[Column],
+    report: &PermutationReport,
+) -> Result<Vec<usize>, AllocError> {
     let mut widths = Vec::new(alloc);
     for column in columns {
         widths.push(column.name.as_str().chars().count())?;
     }
-    for event in &run.events {
-        if let Some(width) = widths.get_mut(event.column) {
-            for line in &event.lines {
+    for step in &report.steps {
+        if let Some(width) = widths.get_mut(step.column) {
+            for line in &step.lines {
                 *width = line.as_str().chars().count().max(*width);
             }
         }
@@ -88,57 +92,61 @@ fn put_heads(
     out.push('\n')
 }
 
-fn put_event(
+fn put_step(
     alloc: Global,
     out: &mut String,
     widths: &[usize],
     waits: &mut Vec<bool>,
     number: usize,
-    event: &Event,
+    step: &StepReport,
 ) -> Result<(), AllocError> {
     let mut label = format!(in alloc; "{number:>3}")?;
-    for line in &event.lines {
+    for line in &step.lines {
         put_row(
             alloc,
             out,
             widths,
             waits,
             label.as_str(),
-            (event.column, line.as_str()),
+            (step.column, line.as_str()),
         )?;
         label = String::new(alloc);
     }
-    if let Some(wait) = waits.get_mut(event.column) {
-        *wait = event.told == Told::Waits;
+    if let Some(wait) = waits.get_mut(step.column) {
+        *wait = step.status == StepStatus::Waits;
     }
     Ok(())
 }
 
-fn put_run(
+fn put_report(
     alloc: Global,
     out: &mut String,
     columns: &[Column],
-    run: &Run,
+    report: &PermutationReport,
 ) -> Result<(), AllocError> {
-    let widths = widths_of(alloc, columns, run)?;
+    let widths = widths_of(alloc, columns, report)?;
     let mut waits = nobody(alloc, columns)?;
-    out.push_str(run.title.as_str())?;
+    out.push_str(report.title.as_str())?;
     out.push_str("\n\n")?;
     put_heads(alloc, out, columns, &widths)?;
-    for (at, event) in run.events.iter().enumerate() {
-        put_event(alloc, out, &widths, &mut waits, at.saturating_add(1), event)?;
+    for (at, step) in report.steps.iter().enumerate() {
+        put_step(alloc, out, &widths, &mut waits, at.saturating_add(1), step)?;
     }
-    if run.is_invalid {
+    if report.is_invalid {
         out.push_str("invalid permutation detected\n")?;
     }
     out.push('\n')
 }
 
-/// The permutations as text: each event has its number, a session that waits has a `:` in its column.
-pub fn table_of(alloc: Global, columns: &[Column], runs: &[Run]) -> Result<String, AllocError> {
+/// The permutations as text: each step has its number, a session that waits has a `:` in its column.
+pub fn table_of(
+    alloc: Global,
+    columns: &[Column],
+    reports: &[PermutationReport],
+) -> Result<String, AllocError> {
     let mut out = String::new(alloc);
-    for run in runs {
-        put_run(alloc, &mut out, columns, run)?;
+    for report in reports {
+        put_report(alloc, &mut out, columns, report)?;
     }
     Ok(out)
 }

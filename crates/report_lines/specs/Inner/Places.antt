@@ -1,7 +1,8 @@
 -- How the code finds segments and ends of blocks.
 use Rattle.std.specs.Prelude.{◌≡◌, ℕ, ◌+◌, ◌<◌, ◌^◌, List, [], ◌∷◌, ◌++◌, length, get_or, slice_set, nat_lt, if◌then◌else◌}
 use Rattle.session_machine.specs.declared.reply.HistItem.{HistItem}
-use Rattle.report_lines.specs.Starts.{is_order, session_of}
+use Rattle.session_machine.specs.Machine.{session_of}
+use Rattle.report_lines.specs.Starts.{is_order}
 use Rattle.report_lines.specs.History.{PermutationRun}
 use Rattle.report_lines.specs.Places.{starts_from}
 

@@ -8,16 +8,16 @@ use Rattle.report_lines.specs.Due.{orders}
 use Rattle.report_lines.specs.Progress.{Keeps, front}
 use Rattle.report_lines.specs.Inner.Places.{starts_after, ends_after}
 
--- the last segment, if it is an entry's, is not told
+-- the lines of the last segment, if it is an entry's, are missing
 abbrev pub Lags : PermutationRun → Progress → Type 0
-Lags c p = p.there ≡ orders c.items - (c.setups + 1)
+Lags c p = p.segments_done ≡ orders c.items - (c.setups + 1)
 
--- all segments are told
+-- the lines of no segment are missing
 pub record IsSettled (c : PermutationRun) (p : Progress) : Type 0 where
   pub kept : Keeps c p
-  pub all : p.there ≡ orders c.items - c.setups
+  pub all : p.segments_done ≡ orders c.items - c.setups
 
--- the item behind that front, if there is one, is an order, or belongs to a segment that isn't told
+-- the item behind that front, if there is one, is an order, or belongs to a segment whose lines are missing
 abbrev pub IsNext : PermutationRun → Progress → Type 0
 IsNext c p = (item : HistItem) → slice_get c.items p.seen ≡ Some item → (is_order item.event ≡ true) ⊎ Lags (front c p.seen) p
 
@@ -25,7 +25,7 @@ IsNext c p = (item : HistItem) → slice_get c.items p.seen ≡ Some item → (i
 pub record IsNoted (item : HistItem) (p q : Progress) : Type 0 where
   pub starts_are : q.starts.items ≡ starts_after item p.seen p.starts.items
   pub last_is : q.last.items ≡ ends_after item (p.seen + 1) p.last.items
-  pub told_is : q.told ≡ p.told
-  pub stand_is : q.stand ≡ p.stand
+  pub so_far_is : q.so_far ≡ p.so_far
+  pub state_is : q.state ≡ p.state
   pub seen_is : q.seen ≡ p.seen + 1
-  pub there_is : q.there ≡ p.there
+  pub segments_done_is : q.segments_done ≡ p.segments_done

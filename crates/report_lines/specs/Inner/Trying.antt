@@ -3,8 +3,8 @@ use Rattle.std.specs.Prelude.{ℕ, nat_lt, Bool, List, drop, if◌then◌else◌
 use Rattle.std.specs.List.{fold}
 use Rattle.report_lines.specs.declared.history.Line.{Line}
 use Rattle.report_lines.specs.declared.history.Moment.{Moment}
-use Rattle.report_lines.specs.declared.telling.Chosen.{Chosen}
-use Rattle.report_lines.specs.declared.telling.Chosen.TheVariants.{Joined, Own}
+use Rattle.report_lines.specs.declared.lines_so_far.Chosen.{Chosen}
+use Rattle.report_lines.specs.declared.lines_so_far.Chosen.TheVariants.{Joined, Own}
 use Rattle.report_lines.specs.History.{PermutationRun}
 use Rattle.report_lines.specs.Report.{active, is_of, retry}
 
@@ -17,5 +17,5 @@ abbrev pub chosen_retry : PermutationRun → Moment → Chosen → List Line →
 chosen_retry c m chosen lines i = if is_chosen c m chosen i then retry c m lines i else lines
 
 -- the lines once the chosen steps of the waiting list are tried from this place on
-abbrev pub still_told : PermutationRun → Moment → Chosen → List Line → ℕ → ℕ → List Line
-still_told c m chosen lines launched place = fold (chosen_retry c m chosen) lines (drop place (active lines launched))
+abbrev pub retried_from : PermutationRun → Moment → Chosen → List Line → ℕ → ℕ → List Line
+retried_from c m chosen lines launched place = fold (chosen_retry c m chosen) lines (drop place (active lines launched))

@@ -4,7 +4,7 @@ use Rattle.std.specs.Prelude.{Option, slice_set}
 use Rattle.iso_lexer.specs.Devices.{page_text}
 use Rattle.spec_parser.specs.Trees.{session_view, spec_view}
 use Rattle.session_machine.specs.declared.reply.HistItem.{HistItem}
-use Rattle.report_lines.specs.Starts.{session_of}
+use Rattle.session_machine.specs.Machine.{session_of}
 use Rattle.report_text.specs.declared.standing.Standing.{Standing}
 use Rattle.report_text.specs.FreeText.{each_says, item_text, item_note, moved}
 use Rattle.report_text.specs.Inner.Table.{at_number, IsTable}

@@ -13,52 +13,52 @@ pub returns-in-Whole-clause-text : goal.returns-in-Whole-clause-text
 unfolding all_says
 returns-in-Whole-clause-text c =
     let spec = spec_view c.args.spec.now in
-    let course = c.args.course.now in
-    let front = setups_say course.items (orders course.items) 0 (setups_of spec) in
+    let run = c.args.run.now in
+    let front = setups_say run.items (orders run.items) 0 (setups_of spec) in
     let well : front.ending ≡ whole = sym c.in_ok-early.ensures.ending ∙ ap ending_of c.in-Whole.is in
-    text_well c.push_rest.result (starting_text spec course.entries) front (rest_says spec course (orders course.items)) _ _ _ well c.in_ok-early.ensures.text c.push_rest.ensures.text
+    text_well c.push_rest.result (starting_text spec run.entries) front (rest_says spec run (orders run.items)) _ _ _ well c.in_ok-early.ensures.text c.push_rest.ensures.text
 
 pub returns-in-Whole-clause-notes : goal.returns-in-Whole-clause-notes
 unfolding all_says
 returns-in-Whole-clause-notes c =
     let spec = spec_view c.args.spec.now in
-    let course = c.args.course.now in
-    let front = setups_say course.items (orders course.items) 0 (setups_of spec) in
+    let run = c.args.run.now in
+    let front = setups_say run.items (orders run.items) 0 (setups_of spec) in
     let well : front.ending ≡ whole = sym c.in_ok-early.ensures.ending ∙ ap ending_of c.in-Whole.is in
-    notes_well c.push_rest.result (starting_text spec course.entries) front (rest_says spec course (orders course.items)) _ _ well (setups_notes course.items (orders course.items) 0 (setups_of spec)) c.push_rest.ensures.notes
+    notes_well c.push_rest.result (starting_text spec run.entries) front (rest_says spec run (orders run.items)) _ _ well (setups_notes run.items (orders run.items) 0 (setups_of spec)) c.push_rest.ensures.notes
 
 pub returns-in-Whole-clause-ending : goal.returns-in-Whole-clause-ending
 unfolding all_says
 returns-in-Whole-clause-ending c =
     let spec = spec_view c.args.spec.now in
-    let course = c.args.course.now in
-    let front = setups_say course.items (orders course.items) 0 (setups_of spec) in
+    let run = c.args.run.now in
+    let front = setups_say run.items (orders run.items) 0 (setups_of spec) in
     let well : front.ending ≡ whole = sym c.in_ok-early.ensures.ending ∙ ap ending_of c.in-Whole.is in
-    ends_well c.push_rest.result (starting_text spec course.entries) front (rest_says spec course (orders course.items)) well c.push_rest.ensures.ending
+    ends_well c.push_rest.result (starting_text spec run.entries) front (rest_says spec run (orders run.items)) well c.push_rest.ensures.ending
 
 pub returns-in_default-clause-text : goal.returns-in_default-clause-text
 unfolding all_says
 returns-in_default-clause-text c =
     let spec = spec_view c.args.spec.now in
-    let course = c.args.course.now in
-    let front = setups_say course.items (orders course.items) 0 (setups_of spec) in
+    let run = c.args.run.now in
+    let front = setups_say run.items (orders run.items) 0 (setups_of spec) in
     let early : is_whole front.ending ≡ false = ap is_whole (sym c.in_ok-early.ensures.ending) ∙ ended c.in_ok-early.early c.in_default.not-Whole in
-    text_early (starting_text spec course.entries) front (rest_says spec course (orders course.items)) _ _ early c.in_ok-early.ensures.text
+    text_early (starting_text spec run.entries) front (rest_says spec run (orders run.items)) _ _ early c.in_ok-early.ensures.text
 
 pub returns-in_default-clause-notes : goal.returns-in_default-clause-notes
 unfolding all_says
 returns-in_default-clause-notes c =
     let spec = spec_view c.args.spec.now in
-    let course = c.args.course.now in
-    let front = setups_say course.items (orders course.items) 0 (setups_of spec) in
+    let run = c.args.run.now in
+    let front = setups_say run.items (orders run.items) 0 (setups_of spec) in
     let early : is_whole front.ending ≡ false = ap is_whole (sym c.in_ok-early.ensures.ending) ∙ ended c.in_ok-early.early c.in_default.not-Whole in
-    notes_early (starting_text spec course.entries) front (rest_says spec course (orders course.items)) _ early (setups_notes course.items (orders course.items) 0 (setups_of spec))
+    notes_early (starting_text spec run.entries) front (rest_says spec run (orders run.items)) _ early (setups_notes run.items (orders run.items) 0 (setups_of spec))
 
 pub returns-in_default-clause-ending : goal.returns-in_default-clause-ending
 unfolding all_says
 returns-in_default-clause-ending c =
     let spec = spec_view c.args.spec.now in
-    let course = c.args.course.now in
-    let front = setups_say course.items (orders course.items) 0 (setups_of spec) in
+    let run = c.args.run.now in
+    let front = setups_say run.items (orders run.items) 0 (setups_of spec) in
     let early : is_whole front.ending ≡ false = ap is_whole (sym c.in_ok-early.ensures.ending) ∙ ended c.in_ok-early.early c.in_default.not-Whole in
-    ends_early (starting_text spec course.entries) front (rest_says spec course (orders course.items)) _ early c.in_ok-early.ensures.ending
+    ends_early (starting_text spec run.entries) front (rest_says spec run (orders run.items)) _ early c.in_ok-early.ensures.ending

@@ -14,17 +14,17 @@ use Rattle.report_text.proofs.permutation.push_rest.Goals as goal
 pub returns-in_ok-push_teardowns-in-Whole-clause-text : goal.returns-in_ok-push_teardowns-in-Whole-clause-text
 returns-in_ok-push_teardowns-in-Whole-clause-text c =
     let spec = spec_view c.args.spec.now in
-    let course = c.args.course.now in
-    let there = orders course.items - course.setups in
-    let said = entries_say spec course there in
+    let run = c.args.run.now in
+    let count = orders run.items - run.setups in
+    let said = entries_say spec run count in
     let well : said.ending ≡ whole = sym c.in_ok-early.ensures.ending ∙ ap ending_of c.in-Whole.is in
-    let long : length c.entries.result.now ≡ length course.entries = sym (length-map c.entries.result.now entry_view) ∙ ap length c.entries.ensures in
-    let from : c.args.setups + length c.entries.result.now ≡ course.setups + length course.entries = omega (arith, c.requires.setups, long) in
-    let count : c.count.result ≡ orders course.items = c.count.ensures ∙ ap orders c.segments-segments.ensures in
-    let same : teardowns_say spec c.segments-segments.result c.count.result (c.args.setups + length c.entries.result.now) ≡ teardowns_say spec course.items (orders course.items) (course.setups + length course.entries) =
+    let long : length c.entries.result.now ≡ length run.entries = sym (length-map c.entries.result.now entry_view) ∙ ap length c.entries.ensures in
+    let from : c.args.setups + length c.entries.result.now ≡ run.setups + length run.entries = omega (arith, c.requires.setups, long) in
+    let counted : c.count.result ≡ orders run.items = c.count.ensures ∙ ap orders c.segments-segments.ensures in
+    let same : teardowns_say spec c.segments-segments.result c.count.result (c.args.setups + length c.entries.result.now) ≡ teardowns_say spec run.items (orders run.items) (run.setups + length run.entries) =
     ap (λ (items : List HistItem). teardowns_say spec items c.count.result (c.args.setups + length c.entries.result.now)) c.segments-segments.ensures
-    ∙ ap (λ n. teardowns_say spec course.items n (c.args.setups + length c.entries.result.now)) count
-    ∙ ap (λ n. teardowns_say spec course.items (orders course.items) n) from in
-    text_after said (teardowns_say spec course.items (orders course.items) (course.setups + length course.entries))
+    ∙ ap (λ n. teardowns_say spec run.items n (c.args.setups + length c.entries.result.now)) counted
+    ∙ ap (λ n. teardowns_say spec run.items (orders run.items) n) from in
+    text_after said (teardowns_say spec run.items (orders run.items) (run.setups + length run.entries))
     (page_text c.args.pages.now.text) (page_text c.push_entries.new.page) (page_text c.push_teardowns.new.pages.text) well c.in_ok-early.ensures.text
     (c.in_ok-push_teardowns-in-Whole.ensures.text ∙ ap (λ (t : Said). page_text c.push_entries.new.page ++ t.text) same)

@@ -8,32 +8,32 @@ use Rattle.report_text.proofs.Counting.{orders-le}
 use Rattle.report_text.proofs.Saying.{permutation_run}
 use Rattle.report_text.proofs.permutation.said_of.Goals as goal
 
-pub push_all-requires-clause-there : goal.push_all-requires-clause-there
-push_all-requires-clause-there c =
-    let items : c.in_ok-course.course.items ≡ c.args.items.now = ap (λ (s : PermutationRun). s.items) c.in_ok-course.ensures in
-    omega (arith, orders-le c.in_ok-course.course.items, ap length items)
+pub push_all-requires-clause-orders : goal.push_all-requires-clause-orders
+push_all-requires-clause-orders c =
+    let items : c.in_ok-run.run'.items ≡ c.args.items.now = ap (λ (s : PermutationRun). s.items) c.in_ok-run.ensures in
+    omega (arith, orders-le c.in_ok-run.run'.items, ap length items)
 
 pub returns-clause-text : goal.returns-clause-text
 unfolding permutation_says
 returns-clause-text c =
     let count : c.len.result ≡ length (setups_of (spec_view c.args.spec.now)) = c.len.ensures ∙ sym c.deref.ensures.len ∙ ap length (c.deref.ensures.value ∙ c.in_ok-setups.ensures) in
-    let run = c.in_ok-course.ensures ∙ ap (λ (n : ℕ). permutation_run (map entry_view c.args.entries.now) c.args.items.now n) count in
+    let run = c.in_ok-run.ensures ∙ ap (λ (n : ℕ). permutation_run (map entry_view c.args.entries.now) c.args.items.now n) count in
     c.in_ok-ending.ensures.text
-    ∙ ap (λ l. l ++ (all_says (spec_view c.args.spec.now) c.in_ok-course.course).text) c.new-pages.ensures.text
+    ∙ ap (λ l. l ++ (all_says (spec_view c.args.spec.now) c.in_ok-run.run').text) c.new-pages.ensures.text
     ∙ ap (λ (s : PermutationRun). (all_says (spec_view c.args.spec.now) s).text) run
 
 pub returns-clause-notes : goal.returns-clause-notes
 unfolding permutation_says
 returns-clause-notes c =
     let count : c.len.result ≡ length (setups_of (spec_view c.args.spec.now)) = c.len.ensures ∙ sym c.deref.ensures.len ∙ ap length (c.deref.ensures.value ∙ c.in_ok-setups.ensures) in
-    let run = c.in_ok-course.ensures ∙ ap (λ (n : ℕ). permutation_run (map entry_view c.args.entries.now) c.args.items.now n) count in
+    let run = c.in_ok-run.ensures ∙ ap (λ (n : ℕ). permutation_run (map entry_view c.args.entries.now) c.args.items.now n) count in
     c.in_ok-ending.ensures.notes
-    ∙ ap (λ l. l ++ (all_says (spec_view c.args.spec.now) c.in_ok-course.course).notes) c.new-pages.ensures.notes
+    ∙ ap (λ l. l ++ (all_says (spec_view c.args.spec.now) c.in_ok-run.run').notes) c.new-pages.ensures.notes
     ∙ ap (λ (s : PermutationRun). (all_says (spec_view c.args.spec.now) s).notes) run
 
 pub returns-clause-ending : goal.returns-clause-ending
 unfolding permutation_says
 returns-clause-ending c =
     let count : c.len.result ≡ length (setups_of (spec_view c.args.spec.now)) = c.len.ensures ∙ sym c.deref.ensures.len ∙ ap length (c.deref.ensures.value ∙ c.in_ok-setups.ensures) in
-    let run = c.in_ok-course.ensures ∙ ap (λ (n : ℕ). permutation_run (map entry_view c.args.entries.now) c.args.items.now n) count in
+    let run = c.in_ok-run.ensures ∙ ap (λ (n : ℕ). permutation_run (map entry_view c.args.entries.now) c.args.items.now n) count in
     c.in_ok-ending.ensures.ending ∙ ap (λ (s : PermutationRun). (all_says (spec_view c.args.spec.now) s).ending) run

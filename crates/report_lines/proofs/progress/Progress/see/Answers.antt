@@ -7,24 +7,24 @@ use Rattle.report_lines.proofs.progress.Progress.see.Goals as goal
 
 pub returns-in_ok-settle-clause-kept : goal.returns-in_ok-settle-clause-kept
 returns-in_ok-settle-clause-kept c =
-    let course : PermutationRun = record { entries = map entry_view c.args.entries.now; items = c.args.front.now; setups = c.args.setups } in
+    let run : PermutationRun = record { entries = map entry_view c.args.entries.now; items = c.args.front.now; setups = c.args.setups } in
     on_ok_weaker c.note.result
-    (λ noted. seen_order course c.args.item.now c.settle.new.self c.note.new.self c.in_ok-settle.ensures (sym c.if-is_order.ensures) noted) c.note.ensures
+    (λ noted. seen_order run c.args.item.now c.settle.new.self c.note.new.self c.in_ok-settle.ensures (sym c.if-is_order.ensures) noted) c.note.ensures
 
 pub returns-in_ok-settle-clause-lags : goal.returns-in_ok-settle-clause-lags
 returns-in_ok-settle-clause-lags c =
-    let course : PermutationRun = record { entries = map entry_view c.args.entries.now; items = c.args.front.now; setups = c.args.setups } in
+    let run : PermutationRun = record { entries = map entry_view c.args.entries.now; items = c.args.front.now; setups = c.args.setups } in
     on_ok_weaker c.note.result
-    (λ noted. order_waits course c.args.item.now c.settle.new.self c.note.new.self c.in_ok-settle.ensures (sym c.if-is_order.ensures) noted) c.note.ensures
+    (λ noted. order_waits run c.args.item.now c.settle.new.self c.note.new.self c.in_ok-settle.ensures (sym c.if-is_order.ensures) noted) c.note.ensures
 
 pub returns-else-is_order-clause-kept : goal.returns-else-is_order-clause-kept
 returns-else-is_order-clause-kept c =
-    let course : PermutationRun = record { entries = map entry_view c.args.entries.now; items = c.args.front.now; setups = c.args.setups } in
+    let run : PermutationRun = record { entries = map entry_view c.args.entries.now; items = c.args.front.now; setups = c.args.setups } in
     on_ok_weaker c.note-else-is_order.result
-    (λ noted. seen_step course c.args.item.now c.args.self.now c.note-else-is_order.new.self c.requires.kept c.requires.next (sym c.if-is_order.ensures) noted) c.note-else-is_order.ensures
+    (λ noted. seen_step run c.args.item.now c.args.self.now c.note-else-is_order.new.self c.requires.kept c.requires.next (sym c.if-is_order.ensures) noted) c.note-else-is_order.ensures
 
 pub returns-else-is_order-clause-lags : goal.returns-else-is_order-clause-lags
 returns-else-is_order-clause-lags c =
-    let course : PermutationRun = record { entries = map entry_view c.args.entries.now; items = c.args.front.now; setups = c.args.setups } in
+    let run : PermutationRun = record { entries = map entry_view c.args.entries.now; items = c.args.front.now; setups = c.args.setups } in
     on_ok_weaker c.note-else-is_order.result
-    (λ noted. step_waits course c.args.item.now c.args.self.now c.note-else-is_order.new.self c.requires.next (sym c.if-is_order.ensures) noted) c.note-else-is_order.ensures
+    (λ noted. step_waits run c.args.item.now c.args.self.now c.note-else-is_order.new.self c.requires.next (sym c.if-is_order.ensures) noted) c.note-else-is_order.ensures

@@ -15,7 +15,7 @@ pub go_on-requires-clause-orders : goal.go_on-requires-clause-orders
 go_on-requires-clause-orders c =
     let behind = one_behind (record { entries = map entry_view c.args.entries.now; items = c.args.items.now; setups = c.args.setups }) c.args.self.now c.requires
     (λ same. c.if-saturating_sub-self.false (let long = c.len.ensures in let left = c.saturating_sub.ensures in omega arith)) in
-    subst (λ (s : PermutationRun). orders s.items ≡ s.setups + c.args.self.now.there + 1) (sym c.new-sight.ensures) behind
+    subst (λ (s : PermutationRun). orders s.items ≡ s.setups + c.args.self.now.segments_done + 1) (sym c.new-run.ensures) behind
 
 pub overflow_add-self : goal.overflow_add-self
 overflow_add-self c =
@@ -28,8 +28,8 @@ overflow_add-self c =
 
 pub returns : goal.returns
 returns c =
-    let course : PermutationRun = record { entries = map entry_view c.args.entries.now; items = c.args.items.now; setups = c.args.setups } in
-    let behind = one_behind course c.args.self.now c.requires
+    let run : PermutationRun = record { entries = map entry_view c.args.entries.now; items = c.args.items.now; setups = c.args.setups } in
+    let behind = one_behind run c.args.self.now c.requires
     (λ same. c.if-saturating_sub-self.false (let long = c.len.ensures in let left = c.saturating_sub.ensures in omega arith)) in
-    settled_next course c.args.self.now _ c.requires behind refl refl refl refl
-    (subst (λ (s : PermutationRun). IsReportSoFar s (c.args.self.now.there + 1) c.go_on.new.self c.in_ok-self.field-0) c.new-sight.ensures c.in_ok-self.ensures)
+    settled_next run c.args.self.now _ c.requires behind refl refl refl refl
+    (subst (λ (s : PermutationRun). IsReportSoFar s (c.args.self.now.segments_done + 1) c.go_on.new.self c.in_ok-self.field-0) c.new-run.ensures c.in_ok-self.ensures)

@@ -1,0 +1,9 @@
+use Rattle.std.proofs.Common.{◌≡◌, ◌-◌}
+use Rattle.report_lines.specs.Report.{polled, poll}
+use Rattle.report_lines.proofs.lines_so_far.LinesSoFar.poll.Given as goal
+
+abbrev pub invariant-loop-turn : goal.invariant-loop-turn
+invariant-loop-turn l = record {
+  launched : l.self.launched ≡ l.initial.self.launched;
+  lines : polled l.run l.m (l._turn-end - l._turn) l.self.lines ≡ poll l.run l.m l.initial.self.lines;
+}
