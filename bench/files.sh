@@ -1,6 +1,6 @@
 #!/usr/bin/env bash
 # Times the built program on the longest file, on 1,000 steps and on a mebibyte of permutation lines and its half.
-# Prints milliseconds, the best of five runs. Build the program first: ./isolationtester < examples/specs/literals.spec
+# Prints milliseconds, the best of five runs. Build the program first: ./build
 set -eu
 here=$(cd "$(dirname "$0")/.." && pwd)
 program="$here/crates/isolationtester/out/isolationtester"

@@ -3,7 +3,7 @@
 # 1,000 entries; a table is made, filled and dropped in each permutation. Prints permutations a second, of the best of five runs.
 # Where PostgreSQL 15 and its isolationtester are on the machine (Debian's package postgresql-15), a private cluster is started in a temporary folder
 # (unix socket only, fsync off), the real tool runs the same files, five times too, its text is compared with ours, and the ratio of the best runs is printed.
-# Build the program first: ./isolationtester < examples/specs/literals.spec
+# Build the program first: ./build
 set -eu
 here=$(cd "$(dirname "$0")/.." && pwd)
 program="$here/crates/isolationtester/out/isolationtester"
