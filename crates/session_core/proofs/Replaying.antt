@@ -1,5 +1,5 @@
 -- Runs of the machine: how they go on, and that an event leads to one state.
-use Rattle.std.proofs.Common.{◌≡◌, ◌↔◌, ℕ, suc, ◌+◌, ◌<◌, List, [], ◌∷◌, ◌++◌, length, length-append, refl, ap, ap₂, sym, ◌∙◌, subst, drop, get_or, add-one, drop-cons}
+use Rattle.std.proofs.Common.{◌≡◌, ◌↔◌, ℕ, suc, ◌+◌, ◌<◌, List, [], ◌∷◌, ◌++◌, length, length-append, ap, ap₂, sym, ◌∙◌, subst, drop, get_or, add-one, drop-cons}
 use Rattle.std.specs.Prelude.{Result, Ok, Err}
 use Rattle.session_machine.specs.declared.event.Event.{Event}
 use Rattle.session_machine.specs.declared.event.Mode.{Mode}
@@ -8,26 +8,15 @@ use Rattle.session_machine.specs.declared.reply.HistItem.{HistItem}
 use Rattle.session_machine.specs.declared.fault.Refusal.{Refusal}
 use Rattle.session_machine.specs.Machine.{Machine, Blocks, Next, next}
 use Rattle.session_machine.specs.Engine.{Follows, Run}
+use Rattle.session_laws.proofs.Replaying.{run_more, one_follows}
 use Rattle.session_core.specs.Inner.Answers.{Answered, answered}
 use Rattle.session_machine.specs.Sound.{IsSoundMachine, StaysSound}
-
-abbrev ok_next : Next → Result Next Refusal
-ok_next n = Ok n
 
 abbrev ok_reply : Reply → Result Reply Refusal
 ok_reply r = Ok r
 
 abbrev err_reply : Refusal → Result Reply Refusal
 err_reply r = Err r
-
-one_next : {a b : Next} → ok_next a ≡ ok_next b → a ≡ b
-one_next h = cc
-
--- a run goes on by one item
-pub run_more : (blocks : Blocks) (mode : Mode) (m mid after : Machine) (items : List HistItem) (item : HistItem) → Run blocks mode m items mid → Follows blocks mode mid item after
-    → Run blocks mode m (items ++ item ∷ []) after
-run_more blocks mode m mid after [] item h k = (after, subst (λ x. Follows blocks mode x item after) h k, refl)
-run_more blocks mode m mid after (i ∷ items) item h k = (h.0, h.1, run_more blocks mode h.0 mid after items item h.2 k)
 
 -- an answer that is no refusal is the machine's next reply
 pub answered_ok : (m after : Machine) (r : Result Next Refusal) (reply : Reply) → answered m r ≡ record { machine = after; answer = Ok reply }
@@ -59,10 +48,6 @@ goes_on law blocks mode start old new history after event reply sound count run 
     let f : next blocks mode old event ≡ Ok n = answered_ok old new (next blocks mode old event) reply h in
     let s = law.goes_on blocks mode old event n sound f in
     (s.0, s.1 ∙ (ap (λ k. k + 1) count ∙ (sym (length-append history (item ∷ [])) ∙ ap length (sym e))), subst (λ items. Run blocks mode start items new) (sym e) (run_more blocks mode start old new history item run f))
-
--- only one state follows
-pub one_follows : (blocks : Blocks) (mode : Mode) (m : Machine) (item : HistItem) (a b : Machine) → Follows blocks mode m item a → Follows blocks mode m item b → a ≡ b
-one_follows blocks mode m item a b h k = ap (λ (n : Next). n.machine) (one_next (sym h ∙ k))
 
 -- the items lead on to some state
 abbrev pub LeadsOn : Blocks → Mode → Machine → List HistItem → Type 0

@@ -1,22 +1,14 @@
 -- Rows fit their tables and stay in them; a write or a table more leaves them so.
-use Rattle.std.proofs.Common.{◌≡◌, ℕ, suc, ◌+◌, Bool, true, false, List, [], ◌∷◌, ◌++◌, length, length-set, length-append, set, refl, ap, sym, ◌∙◌, subst, arith, inl, inr, ◌⊎◌}
-use Rattle.std.specs.Prelude.{Option, Some, unwrap_or, option_map, option_and_then, replicate, slice_get, Result, Ok, Err, if◌then◌else◌}
+use Rattle.std.proofs.Common.{◌≡◌, ℕ, suc, ◌+◌, Bool, true, false, List, [], ◌∷◌, ◌++◌, length, length-append, refl, ap, sym, ◌∙◌, subst, arith, inl, inr, ◌⊎◌}
+use Rattle.std.specs.Prelude.{Option, Some, unwrap_or, option_map, option_and_then, slice_get, if◌then◌else◌}
 use Rattle.std.proofs.lemmas.Bool.{cases_eq}
-use Rattle.std.proofs.lemmas.List.{length-replicate}
 use Rattle.std.proofs.lemmas.Option.{slice_get_within, same_Some}
-use Rattle.sql_trees.specs.Trees.{Tree}
-use Rattle.sql_trees.specs.Statements.{CreateTree, SetTree}
+use Rattle.sql_trees.specs.Statements.{CreateTree}
 use Rattle.sql_values.specs.declared.value.Value.{Value}
-use Rattle.sql_values.specs.declared.value.Value.TheVariants.{Null}
-use Rattle.sql_values.specs.declared.fault.ValueFault.{ValueFault}
-use Rattle.sql_values.specs.Values.{if_ok}
-use Rattle.sql_values.specs.Expressions.{Cols, value}
 use Rattle.row_versions.specs.declared.names.TxId.{TxId}
 use Rattle.row_versions.specs.declared.write.Write.{Write}
 use Rattle.row_versions.specs.Log.{Content, values_at, after_write}
 use Rattle.row_versions.proofs.Gets.{get-append_left, get-append_last}
-use Rattle.session_queries.specs.Queries.{AssignedColumn, each, assigned, placed, new_values}
-use Rattle.session_queries.specs.Updates.{updated}
 use Rattle.session_machine.specs.Tables.{Database, Catalog, Table, Dropped, is_meant, find_from, find_table}
 use Rattle.session_machine.specs.Statements.{columns_at, with_table}
 use Rattle.session_machine.specs.Sound.{RowsFit, RowsStay}
@@ -32,33 +24,6 @@ fits_at c catalog k t fit at place w there its values e =
 
 pub its_values : (c : Content) (place : ℕ) (w : Write) → slice_get c.log place ≡ Some w → values_at c place ≡ w.values
 its_values c place w there = ap (option_and_then (λ (v : Write). v.values)) there
-
--- a value's place takes nothing from the row
-pub length-placed : (targets : List AssignedColumn) (values row : List Value) → length (placed targets values row) ≡ length row
-length-placed [] values row = refl
-length-placed (t ∷ ts) [] row = refl
-length-placed (t ∷ ts) (v ∷ vs) row = length-placed ts vs (set row t.place v) ∙ length-set row t.place v
-
-same_Ok : {A : Type 0} {a b : A} → (let x : Result A ValueFault = Ok a in let y : Result A ValueFault = Ok b in x ≡ y) → a ≡ b
-same_Ok h = cc
-
--- what is placed in a row has its length
-length-put : (targets : List AssignedColumn) (row values : List Value) (r : Result (List Value) ValueFault)
-    → if_ok r (λ vs. if_ok (assigned targets vs) (λ vs. Ok (placed targets vs row))) ≡ Ok values → length values ≡ length row
-length-put targets row values (Err f) e = cc
-length-put targets row values (Ok vs) e = at_assigned (assigned targets vs) e where
-  at_assigned : (r : Result (List Value) ValueFault) → if_ok r (λ vs. Ok (placed targets vs row)) ≡ Ok values → length values ≡ length row
-  at_assigned (Err f) e = cc
-  at_assigned (Ok vs) e = ap length (sym (same_Ok e)) ∙ length-placed targets vs row
-
--- a new row has a value for each column
-pub length-new_values : (width : ℕ) (targets : List AssignedColumn) (row : List Tree) (values : List Value) → new_values width targets row ≡ Ok values → length values ≡ width
-length-new_values width targets row values h =
-    length-put targets (replicate width Null) values (each (λ e. value e [] []) row) h ∙ length-replicate width Null
-
--- and an updated one as many as before
-pub length-updated : (cols : Cols) (targets : List AssignedColumn) (sets : List SetTree) (row values : List Value) → updated cols targets sets row ≡ Ok values → length values ≡ length row
-length-updated cols targets sets row values h = length-put targets row values (each (λ (s : SetTree). value s.value cols row) sets) h
 
 -- the first write of the row stands in the log, and is of that table
 abbrev pub IsRowOf : Content → ℕ → ℕ → Type 0

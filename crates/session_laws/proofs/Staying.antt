@@ -81,7 +81,7 @@ stays-write view c w is_open other =
     }
 
 -- a transaction begins
-count-begin : (fates : List Fate) → count_by is_commit (fates ++ OpenFate ∷ []) ≡ count_by is_commit fates
+pub count-begin : (fates : List Fate) → count_by is_commit (fates ++ OpenFate ∷ []) ≡ count_by is_commit fates
 count-begin fates =
     let more : count_by is_commit (fates ++ OpenFate ∷ []) ≡ count_by is_commit fates + 0 = sum_by-append (λ f. cond (is_commit f) 1 0) fates (OpenFate ∷ []) in
     omega (arith, more)

@@ -34,7 +34,8 @@ use Rattle.session_machine.specs.Walks.{Visit, Stop, unless_stopped, walked, wal
 use Rattle.session_machine.specs.Rows.{Work, columns_in, cols_in, keys_in, written, inserted, stop_at_keys, unless_stopped_by, unless_null, insert_made, insert_at, ask, settled, at_outcome, at_target, values_of, update_made, update_with, update_at, delete_with, delete_at, lock_made, lock_with, strength_of, lock_at, seen_by, at_places, passing_targets, taken_targets}
 use Rattle.session_machine.specs.Sound.{RowsFit, RowsStay}
 use Rattle.session_laws.proofs.Lists.{slice_get-append_left}
-use Rattle.session_laws.proofs.Fitting.{IsRowOf, fits_at, its_values, fit_written, stay_written, columns_are, length-new_values, length-updated}
+use Rattle.session_laws.proofs.Fitting.{IsRowOf, fits_at, its_values, fit_written, stay_written, columns_are}
+use Rattle.session_queries.proofs.Placing.{length-new_values, length-updated}
 use Rattle.session_laws.proofs.Taking.{IsVersion, takes_version}
 
 -- a write of a transaction

@@ -8,3 +8,4 @@ pub mod Selecting
 pub mod Counting
 pub mod Insertion
 pub mod Picking
+pub mod Placing

@@ -1,17 +1,16 @@
 -- What a visit keeps true of the database, and which versions a target can take.
-use Rattle.std.proofs.Common.{◌≡◌, ℕ, suc, ◌<◌, ◌≤◌, ◌+◌, ◌==◌, Bool, true, false, List, [], ◌∷◌, ◌++◌, get_or, zero, length, length-append, length-set, set, drop, refl, ap, sym, ◌∙◌, subst, arith, inl, inr, ◌⊎◌}
+use Rattle.std.proofs.Common.{◌≡◌, ℕ, suc, ◌<◌, ◌≤◌, ◌+◌, ◌==◌, Bool, true, false, List, [], ◌∷◌, ◌++◌, get_or, zero, length, length-append, drop, refl, ap, sym, ◌∙◌, subst, arith, inl, inr, ◌⊎◌}
 use Rattle.std.specs.Prelude.{Option, Some, None, slice_get, unwrap_or, Result, Ok, Err, if◌then◌else◌}
 use Rattle.std.proofs.lemmas.Bool.{cases_eq, eqb-true}
 use Rattle.std.proofs.lemmas.List.{length-map}
 use Rattle.std.proofs.lemmas.Option.{slice_get_cases, slice_get_within, same_Some}
-use Rattle.sql_trees.specs.Statements.{SetTree, UpdateTree, update_of}
+use Rattle.sql_trees.specs.Statements.{UpdateTree, update_of}
 use Rattle.sql_trees.specs.declared.stmt.Level.{Level}
 use Rattle.sql_trees.specs.declared.stmt.Level.TheVariants.{ReadCommitted, RepeatableRead}
 use Rattle.sql_values.specs.declared.value.Value.{Value}
 use Rattle.sql_values.specs.declared.row.Row.{Row}
 use Rattle.sql_values.specs.declared.fault.ValueFault.{ValueFault}
-use Rattle.sql_values.specs.Values.{if_ok}
-use Rattle.sql_values.specs.Expressions.{Cols, value}
+use Rattle.sql_values.specs.Expressions.{value}
 use Rattle.row_versions.specs.declared.names.RowId.{RowId}
 use Rattle.row_versions.specs.declared.names.TableId.{TableId}
 use Rattle.row_versions.specs.declared.write.Write.{Write}
@@ -23,8 +22,9 @@ use Rattle.row_versions.proofs.Last.{newest_is_the_last}
 use Rattle.row_versions.proofs.Gets.{get-append_left, get-append_last}
 use Rattle.row_locks.specs.declared.held.Held.{Held}
 use Rattle.row_locks.specs.Waiting.{Waiting}
-use Rattle.session_queries.specs.Queries.{AssignedColumn, each, assigned, placed, known, null_in}
+use Rattle.session_queries.specs.Queries.{AssignedColumn, each, known, null_in}
 use Rattle.session_queries.specs.Updates.{updated}
+use Rattle.session_queries.proofs.Placing.{length-updated}
 use Rattle.update_recheck.specs.Asked.{Asked}
 use Rattle.update_recheck.specs.Outcome.{Holders, Version, Outcome, rechecked, outcome, holders, version_at, version_of, newest_version, target_outcome}
 use Rattle.update_recheck.specs.Outcome.Holders.{Nobody, Others, OthersInACycle}
@@ -138,28 +138,6 @@ get-append_at : {A : Type 0} (xs ys : List A) (i : ℕ) (x : A) → slice_get xs
 get-append_at [] ys i x h = cc
 get-append_at (y ∷ xs) ys zero x h = h
 get-append_at (y ∷ xs) ys (suc i) x h = get-append_at xs ys i x h
-
--- a value's place takes nothing from the row
-length-placed : (targets : List AssignedColumn) (values row : List Value) → length (placed targets values row) ≡ length row
-length-placed [] values row = refl
-length-placed (t ∷ ts) [] row = refl
-length-placed (t ∷ ts) (v ∷ vs) row = length-placed ts vs (set row t.place v) ∙ length-set row t.place v
-
-same_Ok : {A : Type 0} {a b : A} → (let x : Result A ValueFault = Ok a in let y : Result A ValueFault = Ok b in x ≡ y) → a ≡ b
-same_Ok h = cc
-
--- what is placed in a row has its length
-length-put : (targets : List AssignedColumn) (row values : List Value) (r : Result (List Value) ValueFault)
-    → if_ok r (λ vs. if_ok (assigned targets vs) (λ vs. Ok (placed targets vs row))) ≡ Ok values → length values ≡ length row
-length-put targets row values (Err f) e = cc
-length-put targets row values (Ok vs) e = at_assigned (assigned targets vs) e where
-  at_assigned : (r : Result (List Value) ValueFault) → if_ok r (λ vs. Ok (placed targets vs row)) ≡ Ok values → length values ≡ length row
-  at_assigned (Err f) e = cc
-  at_assigned (Ok vs) e = ap length (sym (same_Ok e)) ∙ length-placed targets vs row
-
--- an updated row has as many values as before
-length-updated : (cols : Cols) (targets : List AssignedColumn) (sets : List SetTree) (row values : List Value) → updated cols targets sets row ≡ Ok values → length values ≡ length row
-length-updated cols targets sets row values h = length-put targets row values (each (λ (s : SetTree). value s.value cols row) sets) h
 
 -- what stands in a log with a last write: a write from before, or that one
 last_or_before : (c : Content) (new : Write) (place : ℕ) (w : Write) → slice_get (after_write c new).log place ≡ Some w → (slice_get c.log place ≡ Some w) ⊎ (new ≡ w)

@@ -92,7 +92,7 @@ stmt_sync κ =
     ) in
     recorded_sync _ _ _ ((Stmt.the_type κ).to_one) (enum_sync (shape (Stmt.the_type κ)) each)
 
-block_sync : (κ : NamedLft) → IsSync (Block.the_row κ)
+pub block_sync : (κ : NamedLft) → IsSync (Block.the_row κ)
 block_sync κ = search (sendable, crosses, stmt_sync) depth 60 fits 10000
 
 -- what is inside of an engine, and then the engine

@@ -32,10 +32,11 @@ use Rattle.session_machine.specs.Running.{run_stmt}
 use Rattle.session_machine.specs.Machine.{Machine, Blocks, Next, next, opening, stmts_at, around, at_rest, first_place, launch_of, step_of, leave_of, with_session, session_of}
 use Rattle.session_machine.specs.Sound.{command_in, tx_in, tx_of}
 use Rattle.wait_laws.specs.Laws.{Reaches, FindsTheSame, WaitsGoOnAsBegun}
-use Rattle.wait_laws.proofs.Lists.{slice_get-set_same, slice_get-set_other}
+use Rattle.session_laws.proofs.Lists.{slice_get-set_same, slice_get-set_other}
 use Rattle.wait_laws.proofs.Doing.{Keeps, Ran, doer, start, Allows}
 use Rattle.wait_laws.proofs.Events.{session_there, ok_is, ok_else, stepped, after, left_as, Rests, Moved, moved, always}
-use Rattle.wait_laws.proofs.Staying.{Stays, stays_here, stays_on, stays-write, stays-begin, stays-roll_back, stays-commit, shown_stays, count-begin}
+use Rattle.session_laws.proofs.Staying.{Stays, stays_here, stays_on, stays-begin, stays-roll_back, stays-commit, shown_stays, count-begin}
+use Rattle.wait_laws.proofs.Staying.{stays-unseen}
 use Rattle.wait_laws.proofs.Snapshots.{Has, shot_stmt}
 use Rattle.wait_laws.proofs.Cycles.{IsOrderly, orderly_next, orderly_opening, no_other}
 
@@ -64,7 +65,7 @@ stands_write : (x : TxId) (n : ℕ) (view : View) (db : Database) → IsBlind x 
     → Works x view db (record d { content = after_write d.content w; held = held })
 stands_write x n view db blind d w own now p held = record {
   all = record {
-    stays = stays_on view db.content d.content (after_write d.content w) p.all.stays (stays-write view d.content w (subst (IsOpen d.content) (sym own) p.mine) (elim blind.unseen [
+    stays = stays_on view db.content d.content (after_write d.content w) p.all.stays (stays-unseen view d.content w (subst (IsOpen d.content) (sym own) p.mine) (elim blind.unseen [
       | inl other ↦ inl (λ e. other (e ∙ ap Some own))
       | inr late ↦ inr (omega (arith, late, now))
     ]));

@@ -34,7 +34,7 @@ use Rattle.session_machine.specs.Waits.{blockers, waits_in}
 use Rattle.session_machine.specs.Machine.{Machine, Blocks, Next, next, opening, around, at_rest, empty_database, session_of}
 use Rattle.session_machine.specs.Sound.{command_in, tx_in, tx_of}
 use Rattle.wait_laws.specs.Laws.{Reaches, NoCycleOfWaits}
-use Rattle.wait_laws.proofs.Lists.{slice_get-set_same, slice_get-set_other}
+use Rattle.session_laws.proofs.Lists.{slice_get-set_same, slice_get-set_other}
 use Rattle.wait_laws.proofs.Doing.{Keeps, Ran, doer, start, Allows}
 use Rattle.wait_laws.proofs.KeyBlockers.{less_written, less_begun, less_rolled_back, less_committed}
 use Rattle.wait_laws.proofs.Exclusion.{AreHeld, AreHeldBy, held_keeps, held_start, writes_apart}

@@ -24,7 +24,8 @@ use Rattle.session_machine.specs.declared.session.Transaction.TheVariants.{Close
 use Rattle.session_machine.specs.Tables.{Database}
 use Rattle.session_machine.specs.Transactions.{begun}
 use Rattle.session_machine.specs.Sound.{tx_in}
-use Rattle.wait_laws.proofs.Lists.{get_more, slice_get-set_other, holds_before, holds_last, holds_more, holds_released}
+use Rattle.session_laws.proofs.Lists.{slice_get-set_other}
+use Rattle.wait_laws.proofs.Lists.{get_more, holds_before, holds_last, holds_more, holds_released}
 use Rattle.wait_laws.proofs.Doing.{Keeps, MayTake, doer, start}
 use Rattle.wait_laws.proofs.KeyBlockers.{AreApart}
 

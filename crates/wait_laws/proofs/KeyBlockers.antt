@@ -23,7 +23,8 @@ use Rattle.unique_keys.specs.Writes.{noted_of, writes}
 use Rattle.unique_keys.specs.Finding.{version_has, is_committed_version, committed_has, own_has, is_in_way}
 use Rattle.unique_keys.specs.Checks.{blockers as key_blockers}
 use Rattle.session_machine.specs.AskedKeys.{AskedKey}
-use Rattle.wait_laws.proofs.Lists.{slice_get-set_same, slice_get-set_other, get_more}
+use Rattle.session_laws.proofs.Lists.{slice_get-set_same, slice_get-set_other}
+use Rattle.wait_laws.proofs.Lists.{get_more}
 
 -- who blocks the key
 abbrev pub blocking : Content → AskedKey → TxId → List TxId

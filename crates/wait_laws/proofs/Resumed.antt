@@ -32,10 +32,10 @@ use Rattle.wait_laws.specs.Laws.{GoesOnInItsView, IsAtWork, IsInViewOf, RunAtWor
 use Rattle.wait_laws.proofs.ByKind.{on_kind}
 use Rattle.wait_laws.proofs.Doing.{Keeps, doer, Allows, does_stmt}
 use Rattle.wait_laws.proofs.Events.{ok_is, ok_else, stepped, after}
-use Rattle.wait_laws.proofs.Staying.{stays_here, stays_on, count-begin}
+use Rattle.session_laws.proofs.Staying.{stays_here, stays_on, count-begin}
 use Rattle.wait_laws.proofs.Again.{statements_go_on_in_their_view}
 use Rattle.wait_laws.proofs.Begun.{IsBegun, IsOwn, IsSame, begun_next, begun_there, did_next, finds, others_stay, same_next, same_to_others}
-use Rattle.wait_laws.proofs.Lists.{slice_get-set_same}
+use Rattle.session_laws.proofs.Lists.{slice_get-set_same}
 
 none_not : (p : Progress) → None ≡ Some p → ⊥
 none_not p h = cc

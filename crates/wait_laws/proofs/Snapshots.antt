@@ -26,7 +26,7 @@ use Rattle.session_machine.specs.Walks.{Stop, Walk, Blocked, Fails, walked, walk
 use Rattle.session_machine.specs.Rows.{Work, columns_in, insert_at, update_at, delete_at, lock_at, passing_targets, taken_targets}
 use Rattle.session_machine.specs.Running.{beginning, going_on, comes_to, ended, done, insert_from, update_from, delete_from, lock_from, assigned_to, insert_fitting, insert_to, insert, update_fitting, update_to, update, delete_fitting, delete, answered, select_rows, unless_wrong, select_at, select, run_open, run_first, run_closed, run_on, run_stmt}
 use Rattle.wait_laws.proofs.ByKind.{AtOnce, FromStart, FromPlace, by_kind, on_kind}
-use Rattle.wait_laws.proofs.Staying.{count-begin}
+use Rattle.session_laws.proofs.Staying.{count-begin}
 
 -- the snapshot, if there is one, is of at most so many commits
 abbrev pub Has : ℕ → OpenTransaction → Type 0
