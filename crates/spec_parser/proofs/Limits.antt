@@ -16,9 +16,9 @@ use Rattle.spec_parser.specs.Reading.{Rest, Read, ◌>>=◌, starts_word, starts
 use Rattle.spec_parser.specs.Grammar.{Grammar, one, Maybe, Many, block_behind, perm, file}
 use Rattle.spec_parser.specs.Grammar.{step as step_grammar}
 use Rattle.spec_parser.specs.IsSpec.{IsShort, WithinLimits}
-use Rattle.spec_parser.proofs.Local.{AreLocal, Means, is_read, stops_at, goes, goes_on}
+use Rattle.spec_parser.proofs.Local.{AreLocal, LocalRead, local_read, Means, is_read, no_value, in_two, stops_at, goes, goes_on}
 use Rattle.spec_parser.proofs.Tokens.{name_past}
-use Rattle.spec_parser.proofs.Productions.{word_local, name_within_local, step_local, setup_local, teardown_local, setups_local, perms_local}
+use Rattle.spec_parser.proofs.Productions.{word_read, name_within_local, step_read, setup_local, teardown_local, setups_local, perms_local}
 use Rattle.spec_parser.proofs.Complete.{Again, whole, over, IsOver, many_sessions, many_steps, long, SomeLong, LongFile}
 use Rattle.spec_parser.proofs.ContentsAreCounted.{Holds, only_parts, session_word, step_has, setups_have, maybe_has, setup_has, teardown_has, perms_quiet, file_has}
 use Rattle.spec_parser.proofs.WholeLaws.{read_or_over, reads_are_files}
@@ -36,24 +36,17 @@ all_to P (x ∷ xs) h = (h 0 x (omega arith), all_to P xs (λ k d lt. h (suc k) 
 
 -- ---- the parts of what was read
 
-pub no_value : {A : Type 0} (s : Stop) (x : A) → ◌≡◌ {A = Result A Stop} (Err s) (Ok x) → ⊥
-no_value s x e = cc
-
 pub value_is : {A : Type 0} (x y : A) → ◌≡◌ {A = Result A Stop} (Ok x) (Ok y) → x ≡ y
 value_is x y e = cc
-
-pub in_two : {A B : Type 0} (q : Read A) (f : A × Rest → Read B) (z : B) (after : Rest) → (q >>= f) ≡ (Ok z, after) → (x : A) × (mid : Rest) × (q ≡ (Ok x, mid)) × (f (x, mid) ≡ (Ok z, after))
-in_two (Ok x, mid) f z after e = (x, mid, refl, e)
-in_two {B = B} (Err s, mid) f z after e = absurd (no_value s z (ap (λ (r : Read B). r.0) e))
 
 pub ok_means : {A : Type 0} (G : Grammar A) (out : Result A Stop) (c : Counts) (front : List (At Token)) (x : A) → out ≡ Ok x → Means G out c front → G c front x
 ok_means G (Ok y) c front x e m = subst (G c front) (value_is y x e) m
 ok_means G (Err s) c front x e m = absurd (no_value s x e)
 
 -- the tokens that were read are in the grammar
-pub was_in : {A : Type 0} (G : Grammar A) (p : Rest → Read A) → AreLocal G p → (r after : Rest) (x : A) → p r ≡ (Ok x, after) → (front : List (At Token)) × (after.0 ≡ past r.0 front) × G r.0 front x
+pub was_in : {A : Type 0} (G : Grammar A) (p : Rest → Read A) → LocalRead G p → (r after : Rest) (x : A) → p r ≡ (Ok x, after) → (front : List (At Token)) × (after.0 ≡ past r.0 front) × G r.0 front x
 was_in {A} G p local r after x e =
-    let l = local r.0 r.1 in
+    let l = local r after x e in
     let same = sym (is_read G p r.0 r.1 l) ∙ e in
     (l.front, sym (ap (λ (q : Read A). q.1.0) same), ok_means G l.out r.0 l.front x (ap (λ (q : Read A). q.0) same) l.means)
 
@@ -73,7 +66,7 @@ keeps_then p f first next r after z e few = let t = in_two (p r) f z after e in 
 -- a piece that counts neither
 quiet_keeps : {A : Type 0} (G : Grammar A) (p : Rest → Read A) → AreLocal G p → ((c : Counts) (ts : List (At Token)) (x : A) → G c ts x → ((past c ts).sessions ≡ c.sessions) × ((past c ts).steps ≡ c.steps)) → Keeps p
 quiet_keeps G p local quiet r after x e few =
-    let w = was_in G p local r after x e in
+    let w = was_in G p (local_read local) r after x e in
     let same = quiet r.0 w.0 x w.2 in
     let k = ap (λ (c : Counts). c.sessions) w.1 in
     let j = ap (λ (c : Counts). c.steps) w.1 in
@@ -113,7 +106,7 @@ step_before r after s e =
 
 pub step_keeps : (k : ℕ) → Keeps step_at
 step_keeps k r after s e few =
-    let w = was_in step_grammar step_at step_local r after s e in
+    let w = was_in step_grammar step_at step_read r after s e in
     let m = step_has r.0 w.0 s w.2 in
     let lt = step_before r after s e in
     record { sessions = omega (arith, ap (λ (c : Counts). c.sessions) w.1, m.sessions, few.sessions); steps = omega (arith, ap (λ (c : Counts). c.steps) w.1, m.steps, lt) }
@@ -185,7 +178,7 @@ session_keeps k r after s e few =
     let key = in_two (word_at Session what.Item r) _ s after e in
     let n = in_two (name_within r.0.sessions 64 key.1) _ s after key.3 in
     let lt = within_is r.0.sessions 64 key.1 n.1 n.0 n.2 in
-    let w = was_in (one (the_word Session)) (word_at Session what.Item) (word_local Session what.Item) r key.1 key.0 key.2 in
+    let w = was_in (one (the_word Session)) (word_at Session what.Item) (word_read Session what.Item) r key.1 key.0 key.2 in
     let m = session_word r.0 w.0 key.0 w.2 in
     let few1 : Few key.1.0 = record { sessions = omega (arith, lt, m.sessions, ap (λ (c : Counts). c.sessions) w.1); steps = omega (arith, few.steps, m.steps, ap (λ (c : Counts). c.steps) w.1) } in
     session_end_keeps n.0 n.1 after s n.3 (name_keeps r.0.sessions 64 key.1 n.1 n.0 n.2 few1)

@@ -5,12 +5,12 @@ use Rattle.iso_lexer.specs.declared.token.At.{At}
 use Rattle.iso_lexer.specs.SpecTokens.{Token}
 use Rattle.spec_parser.specs.declared.fault.What.{What}
 use Rattle.spec_parser.specs.declared.fault.Stop.{Stop}
-use Rattle.spec_parser.specs.declared.fault.Stop.TheVariants.{Expected}
+use Rattle.spec_parser.specs.declared.fault.Stop.TheVariants.{Expected, NoticesLeftOut, OverLimit}
 use Rattle.spec_parser.specs.Counts.{Counts, past, past_token}
-use Rattle.spec_parser.specs.Reading.{Rest, Read, ◌>>=◌, token_at, first_is, many_at, all_at, some_at, maybe_at}
+use Rattle.spec_parser.specs.Reading.{Rest, Read, ◌>>=◌, taken, token_at, first_is, many_at, all_at, some_at, maybe_at}
 use Rattle.spec_parser.specs.Grammar.{Grammar, gives, one, Maybe, left_out, given, Many, none, more, some}
 use Rattle.spec_parser.specs.Grammar.{◌>>=◌ as ◌▸◌}
-use Rattle.spec_parser.specs.Laws.{head}
+use Rattle.spec_parser.specs.Laws.{head, names_token}
 
 some_none : (t : At Token) → ◌≡◌ {A = Option (At Token)} (Some t) None → ⊥
 some_none t e = cc
@@ -30,10 +30,22 @@ pub past_twice : (c : Counts) (xs ys : List (At Token)) → past c (xs ++ ys) �
 past_twice c [] ys = refl
 past_twice c (t ∷ xs) ys = past_twice (past_token t.tok c) xs ys
 
--- what is read is in the grammar; where reading stops, the tokens so far begin something that is
+-- the first of these tokens is one that the stop tells as expected
+abbrev pub Wants : Stop → List (At Token) → Type 0
+Wants (Expected w) ts = first_is (names_token w) ts ≡ true
+Wants NoticesLeftOut ts = Unit {0}
+Wants OverLimit ts = Unit {0}
+
+wants_more : (s : Stop) (ts others : List (At Token)) → Wants s ts → Wants s (ts ++ others)
+wants_more (Expected w) [] others e = let wrong : ◌≡◌ {A = Bool} false true = e in absurd cc
+wants_more (Expected w) (t ∷ ts) others e = e
+wants_more NoticesLeftOut ts others e = tt
+wants_more OverLimit ts others e = tt
+
+-- what is read is in the grammar; where reading stops, the tokens so far and then what is expected begin something that is
 abbrev pub Means : {A : Type 0} → Grammar A → Result A Stop → Counts → List (At Token) → Type 0
 Means G (Ok x) c front = G c front x
-Means {A} G (Err s) c front = (more : List (At Token)) × (x : A) × G c (front ++ more) x
+Means {A} G (Err s) c front = (more : List (At Token)) × (x : A) × G c (front ++ more) x × Wants s more
 
 -- a reading takes the front of the tokens, and answers the same for each list that has this front and the same token behind it
 pub record Local {A : Type 0} (G : Grammar A) (p : Rest → Read A) (c : Counts) (ts : List (At Token)) : Type 0 where
@@ -47,9 +59,27 @@ pub record Local {A : Type 0} (G : Grammar A) (p : Rest → Read A) (c : Counts)
 abbrev pub AreLocal : {A : Type 0} → Grammar A → (Rest → Read A) → Type 0
 AreLocal G p = (c : Counts) (ts : List (At Token)) → Local G p c ts
 
+-- it is so where this starts
+abbrev pub LocalFrom : {A : Type 0} → (Rest → Bool) → Grammar A → (Rest → Read A) → Type 0
+LocalFrom starts G p = (c : Counts) (ts : List (At Token)) → starts (c, ts) ≡ true → Local G p c ts
+
+-- it is so where something is read
+abbrev pub LocalRead : {A : Type 0} → Grammar A → (Rest → Read A) → Type 0
+LocalRead {A} G p = (r after : Rest) (x : A) → p r ≡ (Ok x, after) → Local G p r.0 r.1
+
+pub local_read : {A : Type 0} {G : Grammar A} {p : Rest → Read A} → AreLocal G p → LocalRead G p
+local_read local r after x e = local r.0 r.1
+
 -- something is in the grammar
 abbrev pub Inhabited : {A : Type 0} → Grammar A → Type 0
 Inhabited {A} G = (c : Counts) → (ts : List (At Token)) × (x : A) × G c ts x
+
+-- something is in the grammar, and its first token is one that is told as expected
+abbrev pub Begins : {A : Type 0} → What → Grammar A → Type 0
+Begins {A} w G = (c : Counts) → Means {A = A} G (Err (Expected w)) c []
+
+pub inhabited : {A : Type 0} (w : What) (G : Grammar A) → Begins w G → Inhabited G
+inhabited w G g c = let a = g c in (a.0, a.1, a.2)
 
 pub is_read : {A : Type 0} (G : Grammar A) (p : Rest → Read A) (c : Counts) (ts : List (At Token)) (l : Local G p c ts) → p (c, ts) ≡ (l.out, (past c l.front, l.rest))
 is_read G p c ts l = ap (λ (us : List (At Token)). p (c, us)) l.split ∙ l.local l.rest refl
@@ -64,7 +94,7 @@ fails_there : {A : Type 0} (f : Counts → At Token → Option A) (w : What) (c 
 fails_there f w c t [] e h = absurd (none_some t h)
 fails_there f w c t (s ∷ others) e h = rw (some_same s t h, e) refl
 
-token_case : {A : Type 0} (f : Counts → At Token → Option A) (w : What) → Inhabited (one f) → (c : Counts) (t : At Token) (ts : List (At Token)) (o : Option A) → f c t ≡ o → Local (one f) (token_at f w) c (t ∷ ts)
+token_case : {A : Type 0} (f : Counts → At Token → Option A) (w : What) → Begins w (one f) → (c : Counts) (t : At Token) (ts : List (At Token)) (o : Option A) → f c t ≡ o → Local (one f) (token_at f w) c (t ∷ ts)
 token_case f w some c t ts (Some x) e = record { out = Ok x; rest = ts; front = t ∷ []; split = refl; local = λ others h. rw e refl; means = (t, refl, e) }
 token_case f w some c t ts None e = record { out = Err (Expected w); rest = t ∷ ts; front = []; split = refl; local = λ others h. fails_there f w c t others e h; means = some c }
 
@@ -72,20 +102,39 @@ at_end : {A : Type 0} (f : Counts → At Token → Option A) (w : What) (c : Cou
 at_end f w c [] h = refl
 at_end f w c (t ∷ others) h = absurd (some_none t h)
 
-pub token_local : {A : Type 0} (f : Counts → At Token → Option A) (w : What) → Inhabited (one f) → AreLocal (one f) (token_at f w)
+pub token_local : {A : Type 0} (f : Counts → At Token → Option A) (w : What) → Begins w (one f) → AreLocal (one f) (token_at f w)
 token_local f w some c [] = record { out = Err (Expected w); rest = []; front = []; split = refl; local = λ others h. at_end f w c others h; means = some c }
 token_local f w some c (t ∷ ts) = token_case f w some c t ts (f c t) refl
+
+-- a token that says nothing but that it is there
+abbrev pub is_there : (Token → Bool) → Counts → At Token → Option (Unit {0})
+is_there p c t = cond (p t.tok) (Some tt) None
+
+pub there_local : (p : Token → Bool) (w : What) → LocalFrom (λ r. first_is p r.1) (one (is_there p)) (token_at (is_there p) w)
+there_local p w c [] e = let wrong : ◌≡◌ {A = Bool} false true = e in absurd cc
+there_local p w c (t ∷ ts) e = record { out = Ok tt; rest = ts; front = t ∷ []; split = refl; local = λ others h. rw e refl; means = (t, refl, rw e refl) }
+
+pub no_value : {A : Type 0} (s : Stop) (x : A) → ◌≡◌ {A = Result A Stop} (Err s) (Ok x) → ⊥
+no_value s x e = cc
+
+there_by : (p : Token → Bool) (w : What) (c : Counts) (t : At Token) (ts : List (At Token)) (after : Rest) (u : Unit {0}) (b : Bool) → p t.tok ≡ b → taken (cond b (Some tt) None) w c t ts ≡ (Ok u, after) → p t.tok ≡ true
+there_by p w c t ts after u true is e = is
+there_by p w c t ts after u false is e = absurd (no_value (Expected w) u (ap (λ (q : Read (Unit {0})). q.0) e))
+
+pub was_there : (p : Token → Bool) (w : What) (r after : Rest) (u : Unit {0}) → token_at (is_there p) w r ≡ (Ok u, after) → first_is p r.1 ≡ true
+was_there p w (c, []) after u e = absurd (no_value (Expected w) u (ap (λ (q : Read (Unit {0})). q.0) e))
+was_there p w (c, t ∷ ts) after u e = there_by p w c t ts after u (p t.tok) refl e
 
 -- ---- one after another
 
 seq_means : {A B : Type 0} (G : Grammar A) (H : A → Grammar B) (x : A) (c : Counts) (front next : List (At Token)) (out : Result B Stop) → G c front x → Means (H x) out (past c front) next → Means (G ▸ H) out c (front ++ next)
 seq_means G H x c front next (Ok z) g h = (x, front, next, refl, g, h)
-seq_means G H x c front next (Err s) g h = (h.0, h.1, (x, front, next ++ h.0, append_assoc front next h.0, g, h.2))
+seq_means G H x c front next (Err s) g h = (h.0, h.1, (x, front, next ++ h.0, append_assoc front next h.0, g, h.2), h.3)
 
 seq_stop : {A B : Type 0} (G : Grammar A) (H : A → Grammar B) (c : Counts) (front : List (At Token)) (s : Stop) → ((x : A) → Inhabited (H x)) → Means {A = A} G (Err s) c front → Means {A = B} (G ▸ H) (Err s) c front
 seq_stop G H c front s some g =
     let h = some g.1 (past c (front ++ g.0)) in
-    (g.0 ++ h.0, h.1, (g.1, front ++ g.0, h.0, sym (append_assoc front g.0 h.0), g.2, h.2))
+    (g.0 ++ h.0, h.1, (g.1, front ++ g.0, h.0, sym (append_assoc front g.0 h.0), g.2, h.2), wants_more s g.0 h.0 g.3)
 
 then_case : {A B : Type 0} (G : Grammar A) (H : A → Grammar B) (p : Rest → Read A) (f : A × Rest → Read B) (c : Counts) (ts : List (At Token)) (out : Result A Stop) (rest front : List (At Token)) → ts ≡ front ++ rest
     → ((others : List (At Token)) → head others ≡ head rest → p (c, front ++ others) ≡ (out, (past c front, others)))
@@ -112,16 +161,32 @@ then_case G H p f c ts (Ok x) rest front split local means some next =
       means = seq_means G H x c front n.front n.out means n.means;
     }
 
+then_at : {A B : Type 0} {G : Grammar A} {H : A → Grammar B} (p : Rest → Read A) (f : A × Rest → Read B) (c : Counts) (ts : List (At Token)) → Local G p c ts → ((x : A) → Inhabited (H x)) → ((x : A) → AreLocal (H x) (λ r. f (x, r))) → Local (G ▸ H) (λ r. p r >>= f) c ts
+then_at {G = G} {H = H} p f c ts l some next = then_case G H p f c ts l.out l.rest l.front l.split l.local l.means some next
+
 pub then : {A B : Type 0} {G : Grammar A} {H : A → Grammar B} (p : Rest → Read A) (f : A × Rest → Read B) → AreLocal G p → ((x : A) → Inhabited (H x)) → ((x : A) → AreLocal (H x) (λ r. f (x, r))) → AreLocal (G ▸ H) (λ r. p r >>= f)
-then {G = G} {H = H} p f first some next c ts =
-    let l = first c ts in
-    then_case G H p f c ts l.out l.rest l.front l.split l.local l.means some next
+then {G = G} {H = H} p f first some next c ts = then_at {G = G} {H = H} p f c ts (first c ts) some next
+
+pub start_then : {A B : Type 0} {G : Grammar A} {H : A → Grammar B} (starts : Rest → Bool) (p : Rest → Read A) (f : A × Rest → Read B) → LocalFrom starts G p → ((x : A) → Inhabited (H x)) → ((x : A) → AreLocal (H x) (λ r. f (x, r))) → LocalFrom starts (G ▸ H) (λ r. p r >>= f)
+start_then {G = G} {H = H} starts p f first some next c ts e = then_at {G = G} {H = H} p f c ts (first c ts e) some next
+
+-- both parts of a reading that gives a value
+pub in_two : {A B : Type 0} (q : Read A) (f : A × Rest → Read B) (z : B) (after : Rest) → (q >>= f) ≡ (Ok z, after) → (x : A) × (mid : Rest) × (q ≡ (Ok x, mid)) × (f (x, mid) ≡ (Ok z, after))
+in_two (Ok x, mid) f z after e = (x, mid, refl, e)
+in_two {B = B} (Err s, mid) f z after e = absurd (no_value s z (ap (λ (r : Read B). r.0) e))
+
+-- a reading that gives a value stands where its first token is
+pub was_first : {B : Type 0} (p : Token → Bool) (w : What) (f : Unit {0} × Rest → Read B) (r after : Rest) (z : B) → (token_at (is_there p) w r >>= f) ≡ (Ok z, after) → first_is p r.1 ≡ true
+was_first p w f r after z e = let b = in_two (token_at (is_there p) w r) f z after e in was_there p w r b.1 b.0 b.2
 
 pub seq_inhabited : {A B : Type 0} (G : Grammar A) (H : A → Grammar B) → Inhabited G → ((x : A) → Inhabited (H x)) → Inhabited (G ▸ H)
 seq_inhabited G H g h c =
     let a = g c in
     let k = h a.1 (past c a.0) in
     (a.0 ++ k.0, k.1, (a.1, a.0, k.0, refl, a.2, k.2))
+
+pub seq_begins : {A B : Type 0} (w : What) (G : Grammar A) (H : A → Grammar B) → Begins w G → ((x : A) → Inhabited (H x)) → Begins w (G ▸ H)
+seq_begins w G H g h c = seq_stop G H c [] (Expected w) h (g c)
 
 pub gives_inhabited : {A : Type 0} (v : A) → Inhabited (gives v)
 gives_inhabited v c = ([], v, (refl, refl))
@@ -164,11 +229,11 @@ choice_false test p q c ts e heads l = record {
       rw same (l.local others h);
 }
 
-choice_case : {A : Type 0} {G : Grammar A} (test : Rest → Bool) (p q : Rest → Read A) (c : Counts) (ts : List (At Token)) (b : Bool) → test (c, ts) ≡ b → ByHead test → Local G p c ts → Local G q c ts → Local G (λ r. cond (test r) (p r) (q r)) c ts
-choice_case test p q c ts true e heads lp lq = choice_true test p q c ts e heads lp
+choice_case : {A : Type 0} {G : Grammar A} (test : Rest → Bool) (p q : Rest → Read A) (c : Counts) (ts : List (At Token)) (b : Bool) → test (c, ts) ≡ b → ByHead test → (test (c, ts) ≡ true → Local G p c ts) → Local G q c ts → Local G (λ r. cond (test r) (p r) (q r)) c ts
+choice_case test p q c ts true e heads lp lq = choice_true test p q c ts e heads (lp e)
 choice_case test p q c ts false e heads lp lq = choice_false test p q c ts e heads lq
 
-pub choice : {A : Type 0} {G : Grammar A} (test : Rest → Bool) (p q : Rest → Read A) → ByHead test → AreLocal G p → AreLocal G q → AreLocal G (λ r. cond (test r) (p r) (q r))
+pub choice : {A : Type 0} {G : Grammar A} (test : Rest → Bool) (p q : Rest → Read A) → ByHead test → LocalFrom test G p → AreLocal G q → AreLocal G (λ r. cond (test r) (p r) (q r))
 choice test p q heads lp lq c ts = choice_case test p q c ts (test (c, ts)) refl heads (lp c ts) (lq c ts)
 
 -- ---- what has a wider grammar
@@ -178,12 +243,16 @@ Within {A} G K = (c : Counts) (ts : List (At Token)) (x : A) → G c ts x → K 
 
 wider_means : {A : Type 0} (G K : Grammar A) (out : Result A Stop) (c : Counts) (front : List (At Token)) → Within G K → Means G out c front → Means K out c front
 wider_means G K (Ok x) c front h m = h c front x m
-wider_means G K (Err s) c front h m = (m.0, m.1, h c (front ++ m.0) m.1 m.2)
+wider_means G K (Err s) c front h m = (m.0, m.1, h c (front ++ m.0) m.1 m.2, m.3)
+
+wider_at : {A : Type 0} {G K : Grammar A} (p : Rest → Read A) (c : Counts) (ts : List (At Token)) → Within G K → Local G p c ts → Local K p c ts
+wider_at {G = G} {K = K} p c ts h l = record { out = l.out; rest = l.rest; front = l.front; split = l.split; local = l.local; means = wider_means G K l.out c l.front h l.means }
 
 pub wider : {A : Type 0} {G K : Grammar A} (p : Rest → Read A) → Within G K → AreLocal G p → AreLocal K p
-wider {G = G} {K = K} p h first c ts =
-    let l = first c ts in
-    record { out = l.out; rest = l.rest; front = l.front; split = l.split; local = l.local; means = wider_means G K l.out c l.front h l.means }
+wider {G = G} {K = K} p h first c ts = wider_at {G = G} {K = K} p c ts h (first c ts)
+
+pub start_wider : {A : Type 0} {G K : Grammar A} (starts : Rest → Bool) (p : Rest → Read A) → Within G K → LocalFrom starts G p → LocalFrom starts K p
+start_wider {G = G} {K = K} starts p h first c ts e = wider_at {G = G} {K = K} p c ts h (first c ts e)
 
 -- ---- one, if it starts here
 
@@ -195,9 +264,9 @@ given_is G c ts o (x, xs, ys, e, g, (nothing, is)) =
     let whole : ts ≡ xs = e ∙ ap (λ (r : List (At Token)). xs ++ r) nothing ∙ append-nil xs in
     rw (whole, is) (given g)
 
-pub maybe_local : {A : Type 0} (G : Grammar A) (starts : Rest → Bool) (p : Rest → Read A) → ByHead starts → AreLocal G p → AreLocal (Maybe G) (maybe_at starts p)
+pub maybe_local : {A : Type 0} (G : Grammar A) (starts : Rest → Bool) (p : Rest → Read A) → ByHead starts → LocalFrom starts G p → AreLocal (Maybe G) (maybe_at starts p)
 maybe_local {A} G starts p heads first = choice {A = Option A} {G = Maybe G} starts (λ r. p r >>= λ one. (Ok (Some one.0), one.1)) (λ r. (Ok None, r)) heads
-    (wider {G = Given G} {K = Maybe G} (λ r. p r >>= λ one. (Ok (Some one.0), one.1)) (given_is G) (then {G = G} {H = λ x. gives (Some x)} p (λ one. (Ok (Some one.0), one.1)) first (λ x. gives_inhabited (Some x)) (λ x. gives_local (Some x))))
+    (start_wider {G = Given G} {K = Maybe G} starts (λ r. p r >>= λ one. (Ok (Some one.0), one.1)) (given_is G) (start_then {G = G} {H = λ x. gives (Some x)} starts p (λ one. (Ok (Some one.0), one.1)) first (λ x. gives_inhabited (Some x)) (λ x. gives_local (Some x))))
     (λ c ts. at_once (Maybe G) (Ok None) c ts left_out)
 
 pub maybe_inhabited : {A : Type 0} (G : Grammar A) → Inhabited (Maybe G)
@@ -269,8 +338,8 @@ first_stops {A} G starts item heads nonempty k c ts front rest s e split local m
       let same : starts (c, front ++ others) ≡ true = heads c c (front ++ others) ts (head_after front others rest h ∙ ap head (sym split)) ∙ e in
       let less = one_less m (omega (arith, le, no_start starts c (front ++ others) nonempty same)) in
       ap (λ n. many_at starts item k n (c, front ++ others)) less.1 ∙ goes_on starts item k less.0 c (front ++ others) same ∙ ap (λ (r : Read A). r >>= goes starts item k less.0) (local others h);
-  means = (means.0, means.1 ∷ [], one_many G c (front ++ means.0) means.1 means.2);
-  some_means = λ h. (means.0, means.1 ∷ [], (one_many G c (front ++ means.0) means.1 means.2, omega arith));
+  means = (means.0, means.1 ∷ [], one_many G c (front ++ means.0) means.1 means.2, means.3);
+  some_means = λ h. (means.0, means.1 ∷ [], (one_many G c (front ++ means.0) means.1 means.2, omega arith), means.3);
 }
 
 abbrev joined : {A : Type 0} → A → Result (List A) Stop → Result (List A) Stop
@@ -286,7 +355,7 @@ some_many G c ts xs h = h.0
 
 many_means : {A : Type 0} (G : Grammar A) (c : Counts) (front next : List (At Token)) (x : A) (out : Result (List A) Stop) → G c front x → Means (Many G) out (past c front) next → Means (some G) (joined x out) c (front ++ next)
 many_means G c front next x (Ok xs) g m = (more front next refl g m, omega arith)
-many_means G c front next x (Err s) g m = (m.0, x ∷ m.1, (more front (next ++ m.0) (append_assoc front next m.0) g m.2, omega arith))
+many_means G c front next x (Err s) g m = (m.0, x ∷ m.1, (more front (next ++ m.0) (append_assoc front next m.0) g m.2, omega arith), m.3)
 
 -- the first is read, and then the others
 first_read : {A : Type 0} (G : Grammar A) (starts : Rest → Bool) (item : ℕ → Rest → Read A) → ByHead starts → StartsSome starts → TakesOne G → (k : ℕ) (c : Counts) (ts front rest : List (At Token)) (x : A) → starts (c, ts) ≡ true → ts ≡ front ++ rest
@@ -320,41 +389,50 @@ many_case G starts item heads nonempty takes k c ts front rest (Ok x) e split lo
     let shorter : length rest < length ts = omega (arith, ap (λ (us : List (At Token)). length us) split, length-append front rest, takes c front x means) in
     first_read G starts item heads nonempty takes k c ts front rest x e split local means (later (past c front) shorter)
 
-many_by : {A : Type 0} (G : Grammar A) (starts : Rest → Bool) (item : ℕ → Rest → Read A) → ByHead starts → StartsSome starts → TakesOne G → ((k : ℕ) → AreLocal G (item k)) → (n k : ℕ) (c : Counts) (ts : List (At Token)) (b : Bool) → starts (c, ts) ≡ b → length ts ≤ n → LocalMany G starts (many_at starts item) k c ts
+many_by : {A : Type 0} (G : Grammar A) (starts : Rest → Bool) (item : ℕ → Rest → Read A) → ByHead starts → StartsSome starts → TakesOne G → ((k : ℕ) → LocalFrom starts G (item k)) → (n k : ℕ) (c : Counts) (ts : List (At Token)) (b : Bool) → starts (c, ts) ≡ b → length ts ≤ n → LocalMany G starts (many_at starts item) k c ts
 many_by G starts item heads nonempty takes items n k c ts false e le = none_local G starts item heads k c ts e
 many_by G starts item heads nonempty takes items zero k c ts true e le = absurd (omega (arith, le, no_start starts c ts nonempty e))
 many_by G starts item heads nonempty takes items (suc n) k c ts true e le =
-    let l = items k c ts in
+    let l = items k c ts e in
     many_case G starts item heads nonempty takes k c ts l.front l.rest l.out e l.split l.local l.means (λ d lt. many_by G starts item heads nonempty takes items n (k + 1) d l.rest (starts (d, l.rest)) refl (omega (arith, le, lt)))
 
-pub many_local : {A : Type 0} (G : Grammar A) (starts : Rest → Bool) (item : ℕ → Rest → Read A) → ByHead starts → StartsSome starts → TakesOne G → ((k : ℕ) → AreLocal G (item k)) → AreLocal (Many G) (all_at starts item)
+pub many_local : {A : Type 0} (G : Grammar A) (starts : Rest → Bool) (item : ℕ → Rest → Read A) → ByHead starts → StartsSome starts → TakesOne G → ((k : ℕ) → LocalFrom starts G (item k)) → AreLocal (Many G) (all_at starts item)
 many_local G starts item heads nonempty takes items c ts =
     let l = many_by G starts item heads nonempty takes items (length ts) 0 c ts (starts (c, ts)) refl (omega arith) in
     record { out = l.out; front = l.front; rest = l.rest; split = l.split; local = λ others h. l.local others (length (l.front ++ others)) (omega arith) h; means = l.means }
 
-pub some_inhabited : {A : Type 0} (G : Grammar A) → Inhabited G → Inhabited (some G)
-some_inhabited G g c = let a = g c in (a.0, a.1 ∷ [], (one_many G c a.0 a.1 a.2, omega arith))
-
 pub many_inhabited : {A : Type 0} (G : Grammar A) → Inhabited (Many G)
 many_inhabited G c = ([], [], none)
 
-some_case : {A : Type 0} (G : Grammar A) (w : What) (starts : Rest → Bool) (item : ℕ → Rest → Read A) → Inhabited G → ByHead starts → StartsSome starts → TakesOne G → ((k : ℕ) → AreLocal G (item k)) → (c : Counts) (ts : List (At Token)) (b : Bool) → starts (c, ts) ≡ b → Local (some G) (some_at w starts item) c ts
-some_case {A} G w starts item some_in heads nonempty takes items c ts true e =
+pub some_begins : {A : Type 0} (w : What) (G : Grammar A) → Begins w G → Begins w (some G)
+some_begins w G g c = let a = g c in (a.0, a.1 ∷ [], (one_many G c a.0 a.1 a.2, omega arith), a.3)
+
+pub many_begins : {A : Type 0} (w : What) (G : Grammar A) → Begins w G → Begins w (Many G)
+many_begins w G g c = wider_means (some G) (Many G) (Err (Expected w)) c [] (some_many G) (some_begins w G g c)
+
+-- so many, and then so many
+pub many_twice : {A : Type 0} (G : Grammar A) (c : Counts) (ts us : List (At Token)) (xs ys : List A) → Many G c ts xs → Many G (past c ts) us ys → Many G c (ts ++ us) (xs ++ ys)
+many_twice G c ts us xs ys none h = h
+many_twice G c ts us (x ∷ xs) ys (more front back e g others) h =
+    more front (back ++ us) (ap (λ (vs : List (At Token)). vs ++ us) e ∙ append_assoc front back us) g
+    (many_twice G (past c front) back us xs ys others (subst (λ (d : Counts). Many G d us ys) (ap (past c) e ∙ past_twice c front back) h))
+
+some_case : {A : Type 0} (G : Grammar A) (w : What) (starts : Rest → Bool) (item : ℕ → Rest → Read A) → Begins w G → ByHead starts → StartsSome starts → TakesOne G → ((k : ℕ) → LocalFrom starts G (item k)) → (c : Counts) (ts : List (At Token)) (b : Bool) → starts (c, ts) ≡ b → Local (some G) (some_at w starts item) c ts
+some_case {A} G w starts item begins heads nonempty takes items c ts true e =
     let l = many_by G starts item heads nonempty takes items (length ts) 0 c ts (starts (c, ts)) refl (omega arith) in
     choice_true {A = List A} {G = some G} starts (all_at starts item) (λ r. (Err (Expected w), r)) c ts e heads
     (record { out = l.out; front = l.front; rest = l.rest; split = l.split; local = λ others h. l.local others (length (l.front ++ others)) (omega arith) h; means = l.some_means e })
-some_case {A} G w starts item some_in heads nonempty takes items c ts false e =
-    choice_false {A = List A} {G = some G} starts (all_at starts item) (λ r. (Err (Expected w), r)) c ts e heads (at_once (some G) (Err (Expected w)) c ts (some_inhabited G some_in c))
+some_case {A} G w starts item begins heads nonempty takes items c ts false e =
+    choice_false {A = List A} {G = some G} starts (all_at starts item) (λ r. (Err (Expected w), r)) c ts e heads (at_once (some G) (Err (Expected w)) c ts (some_begins w G begins c))
 
-pub some_local : {A : Type 0} (G : Grammar A) (w : What) (starts : Rest → Bool) (item : ℕ → Rest → Read A) → Inhabited G → ByHead starts → StartsSome starts → TakesOne G → ((k : ℕ) → AreLocal G (item k)) → AreLocal (some G) (some_at w starts item)
-some_local G w starts item some_in heads nonempty takes items c ts = some_case G w starts item some_in heads nonempty takes items c ts (starts (c, ts)) refl
+pub some_local : {A : Type 0} (G : Grammar A) (w : What) (starts : Rest → Bool) (item : ℕ → Rest → Read A) → Begins w G → ByHead starts → StartsSome starts → TakesOne G → ((k : ℕ) → LocalFrom starts G (item k)) → AreLocal (some G) (some_at w starts item)
+some_local G w starts item begins heads nonempty takes items c ts = some_case G w starts item begins heads nonempty takes items c ts (starts (c, ts)) refl
 
 -- ---- a reading that depends on what stands before
 
-pub then_from : {A B : Type 0} {G : Grammar A} {H : A → Grammar B} (p : Rest → Read A) (f : Counts → A × Rest → Read B) → AreLocal G p → ((x : A) → Inhabited (H x)) → ((d : Counts) (x : A) → AreLocal (H x) (λ r. f d (x, r))) → AreLocal (G ▸ H) (λ r. p r >>= f r.0)
-then_from {G = G} {H = H} p f first some next c ts =
-    let l = first c ts in
-    let m = then_case G H p (f c) c ts l.out l.rest l.front l.split l.local l.means some (next c) in
+pub then_from : {A B : Type 0} {G : Grammar A} {H : A → Grammar B} (starts : Rest → Bool) (p : Rest → Read A) (f : Counts → A × Rest → Read B) → LocalFrom starts G p → ((x : A) → Inhabited (H x)) → ((d : Counts) (x : A) → AreLocal (H x) (λ r. f d (x, r))) → LocalFrom starts (G ▸ H) (λ r. p r >>= f r.0)
+then_from {G = G} {H = H} starts p f first some next c ts e =
+    let m = then_at {G = G} {H = H} p (f c) c ts (first c ts e) some (next c) in
     record { out = m.out; front = m.front; rest = m.rest; split = m.split; local = λ others h. m.local others h; means = m.means }
 
 -- ---- what is read is shorter
@@ -363,9 +441,9 @@ front_takes : {A : Type 0} (G : Grammar A) (c : Counts) (front : List (At Token)
 front_takes G c front (Ok y) x takes e m = takes c front y m
 front_takes G c front (Err s) x takes e m = absurd cc
 
-pub shortens : {A : Type 0} (G : Grammar A) (p : Rest → Read A) → TakesOne G → AreLocal G p → (r after : Rest) (x : A) → p r ≡ (Ok x, after) → length after.1 < length r.1
+pub shortens : {A : Type 0} (G : Grammar A) (p : Rest → Read A) → TakesOne G → LocalRead G p → (r after : Rest) (x : A) → p r ≡ (Ok x, after) → length after.1 < length r.1
 shortens {A} G p takes local r after x e =
-    let l = local r.0 r.1 in
+    let l = local r after x e in
     let both = sym (is_read G p r.0 r.1 l) ∙ e in
     let out_is : l.out ≡ Ok x = ap (λ (q : Read A). q.0) both in
     let rest_is : l.rest ≡ after.1 = ap (λ (q : Read A). q.1.1) both in

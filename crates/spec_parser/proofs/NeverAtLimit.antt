@@ -13,8 +13,7 @@ use Rattle.spec_parser.specs.declared.fault.Stop.TheVariants.{Expected, NoticesL
 use Rattle.spec_parser.specs.Trees.{NameAt, MarkerTree, star, named}
 use Rattle.spec_parser.specs.Counts.{Counts}
 use Rattle.spec_parser.specs.Reading.{Rest, Read, ◌>>=◌, starts_word, starts_sign, taken, token_in, many_at, maybe_at, word_at, sign_at, name_at, block_at, end_in, end_at, block_after, setup_at, teardown_at, setups_at, no_notices, marker_at, next_marker_at, next_markers_at, markers_at, some_markers_at, the_word, the_sign, the_name, the_block}
-use Rattle.spec_parser.proofs.Local.{stops_at, goes, goes_on}
-use Rattle.spec_parser.proofs.Limits.{no_value}
+use Rattle.spec_parser.proofs.Local.{no_value, stops_at, goes, goes_on}
 
 -- ---- readings that never stop at a limit
 

@@ -14,7 +14,7 @@ use Rattle.spec_parser.specs.declared.fault.Stop.TheVariants.{Expected, NoticesL
 use Rattle.spec_parser.specs.Trees.{PartTree, NameAt, NamedStep, NamedSession, MarkerTree, star, named, NamedEntry, FileTree}
 use Rattle.spec_parser.specs.Counts.{Counts}
 use Rattle.spec_parser.specs.Reading.{Rest, Read, ◌>>=◌, starts_word, starts_sign, starts_name, taken, token_in, many_at, some_at, maybe_at, word_at, sign_at, name_at, block_at, end_in, end_at, name_within, block_after, setup_at, teardown_at, setups_at, step_at, steps_at, session_at, sessions_at, no_notices, marker_at, next_marker_at, next_markers_at, markers_at, some_markers_at, entry_at, entries_at, perm_at, perms_at, file_at, the_word, the_sign, the_name, the_block}
-use Rattle.spec_parser.proofs.Limits.{no_value}
+use Rattle.spec_parser.proofs.Local.{no_value}
 use Rattle.spec_parser.proofs.NeverAtLimit.{err_two, many_zero, Stopped, stopped}
 
 abbrev AtNotices : Rest → Type 0

@@ -17,9 +17,9 @@ use Rattle.spec_parser.specs.Grammar.{Grammar, one, Maybe, Many, none, more, som
 use Rattle.spec_parser.specs.Grammar.{step as step_grammar, session as session_grammar}
 use Rattle.spec_parser.specs.IsSpec.{IsShort}
 use Rattle.spec_parser.specs.LimitFaults.{IsWord, IsOverAt, at_session, at_step, at_entry, LimitStop}
-use Rattle.spec_parser.proofs.Local.{AreLocal, is_read, past_twice}
+use Rattle.spec_parser.proofs.Local.{AreLocal, LocalRead, local_read, is_read, past_twice}
 use Rattle.spec_parser.proofs.Tokens.{test_true}
-use Rattle.spec_parser.proofs.Productions.{word_local, name_within_local, step_local, steps_local, session_local, sessions_local, setup_local, teardown_local, setups_local, entry_local, perm_local, perms_local}
+use Rattle.spec_parser.proofs.Productions.{word_read, name_within_local, step_read, steps_local, session_read, sessions_local, setup_local, teardown_local, setups_local, entry_local, perm_read, perms_local}
 use Rattle.spec_parser.proofs.ContentsAreCounted.{session_word}
 use Rattle.spec_parser.proofs.Limits.{all_from, ok_means, within_is, Few, Keeps, setups_keep, setup_keeps, teardown_keeps, step_keeps, steps_keep, session_keeps, sessions_keep, name_keeps, perms_keep, perm_short, entry_before}
 use Rattle.spec_parser.proofs.NeverAtLimit.{Never, not_expected, err_two, never_then, gives_never, end_never, many_zero, Stopped, stopped, block_never, setup_never, teardown_never, setups_never, some_markers_never, word_never, name_never}
@@ -46,9 +46,9 @@ abbrev Stops : {A : Type 0} → (Rest → Read A) → Type 0
 Stops {A} p = (r after : Rest) → Few r.0 → p r ≡ (Err OverLimit, after) → LimitLater r after
 
 -- what was read, and the tokens that it took
-was_front : {A : Type 0} (G : Grammar A) (p : Rest → Read A) → AreLocal G p → (r after : Rest) (x : A) → p r ≡ (Ok x, after) → (front : List (At Token)) × (r.1 ≡ front ++ after.1) × (after.0 ≡ past r.0 front) × G r.0 front x
+was_front : {A : Type 0} (G : Grammar A) (p : Rest → Read A) → LocalRead G p → (r after : Rest) (x : A) → p r ≡ (Ok x, after) → (front : List (At Token)) × (r.1 ≡ front ++ after.1) × (after.0 ≡ past r.0 front) × G r.0 front x
 was_front {A} G p local r after x e =
-    let l = local r.0 r.1 in
+    let l = local r after x e in
     let same = sym (is_read G p r.0 r.1 l) ∙ e in
     (l.front, l.split ∙ ap (λ (us : List (At Token)). l.front ++ us) (ap (λ (q : Read A). q.1.1) same), sym (ap (λ (q : Read A). q.1.0) same), ok_means G l.out r.0 l.front x (ap (λ (q : Read A). q.0) same) l.means)
 
@@ -67,7 +67,7 @@ stops_case : {A B : Type 0} (G : Grammar A) (p : Rest → Read A) (f : A × Rest
     → (p r ≡ (Err OverLimit, after)) ⊎ ((x : A) × (mid : Rest) × (p r ≡ (Ok x, mid)) × (f (x, mid) ≡ (Err OverLimit, after))) → LimitLater r after
 stops_case G p f r after local keeps stops next few (inl e) = stops r after few e
 stops_case G p f r after local keeps stops next few (inr (x, mid, is, e)) =
-    let w = was_front G p local r mid x is in
+    let w = was_front G p (local_read local) r mid x is in
     behind r mid after w.0 w.1 w.2 (next x mid after (keeps r mid x is few) e)
 
 stops_then : {A B : Type 0} (G : Grammar A) (p : Rest → Read A) (f : A × Rest → Read B) → AreLocal G p → Keeps p → Stops p → ((x : A) → Stops (λ r. f (x, r))) → Stops (λ r. p r >>= f)
@@ -76,14 +76,14 @@ stops_then G p f local keeps stops next r after few e = stops_case G p f r after
 never_stops : {A : Type 0} (p : Rest → Read A) → Never p → Stops p
 never_stops p never r after few e = absurd (never r after e)
 
-many_case : {A : Type 0} (G : Grammar A) (starts : Rest → Bool) (item : ℕ → Rest → Read A) (n k : ℕ) (r after : Rest) → ((k : ℕ) → AreLocal G (item k)) → ((k : ℕ) → Keeps (item k)) → ((k : ℕ) → Stops (item k)) → ((m : Rest) → Few m.0 → many_at starts item (k + 1) n m ≡ (Err OverLimit, after) → LimitLater m after) → Few r.0
+many_case : {A : Type 0} (G : Grammar A) (starts : Rest → Bool) (item : ℕ → Rest → Read A) (n k : ℕ) (r after : Rest) → ((k : ℕ) → LocalRead G (item k)) → ((k : ℕ) → Keeps (item k)) → ((k : ℕ) → Stops (item k)) → ((m : Rest) → Few m.0 → many_at starts item (k + 1) n m ≡ (Err OverLimit, after) → LimitLater m after) → Few r.0
     → Stopped starts item n k r after OverLimit → LimitLater r after
 many_case G starts item n k r after local keeps stops later few (inl e) = stops k r after few e
 many_case G starts item n k r after local keeps stops later few (inr (x, mid, is, e)) =
     let w = was_front G (item k) (local k) r mid x is in
     behind r mid after w.0 w.1 w.2 (later mid (keeps k r mid x is few) e)
 
-many_stop : {A : Type 0} (G : Grammar A) (starts : Rest → Bool) (item : ℕ → Rest → Read A) → ((k : ℕ) → AreLocal G (item k)) → ((k : ℕ) → Keeps (item k)) → ((k : ℕ) → Stops (item k)) → (n k : ℕ) → Stops (many_at starts item k n)
+many_stop : {A : Type 0} (G : Grammar A) (starts : Rest → Bool) (item : ℕ → Rest → Read A) → ((k : ℕ) → LocalRead G (item k)) → ((k : ℕ) → Keeps (item k)) → ((k : ℕ) → Stops (item k)) → (n k : ℕ) → Stops (many_at starts item k n)
 many_stop G starts item local keeps stops zero k r after few e = absurd (many_zero starts item k OverLimit r after e)
 many_stop G starts item local keeps stops (suc n) k r after few e = many_case G starts item n k r after local keeps stops (λ m f h. many_stop G starts item local keeps stops n (k + 1) m after f h) few (stopped starts item n k r after OverLimit e)
 
@@ -94,7 +94,7 @@ some_by {A} w starts item false r after s e = absurd (not_expected {A = List A} 
 some_all : {A : Type 0} (w : What) (starts : Rest → Bool) (item : ℕ → Rest → Read A) (r after : Rest) → some_at w starts item r ≡ (Err OverLimit, after) → all_at starts item r ≡ (Err OverLimit, after)
 some_all w starts item r after e = some_by w starts item (starts r) r after refl e
 
-some_stop : {A : Type 0} (G : Grammar A) (w : What) (starts : Rest → Bool) (item : ℕ → Rest → Read A) → ((k : ℕ) → AreLocal G (item k)) → ((k : ℕ) → Keeps (item k)) → ((k : ℕ) → Stops (item k)) → Stops (some_at w starts item)
+some_stop : {A : Type 0} (G : Grammar A) (w : What) (starts : Rest → Bool) (item : ℕ → Rest → Read A) → ((k : ℕ) → LocalRead G (item k)) → ((k : ℕ) → Keeps (item k)) → ((k : ℕ) → Stops (item k)) → Stops (some_at w starts item)
 some_stop G w starts item local keeps stops r after few e = many_stop G starts item local keeps stops (length r.1) 0 r after few (some_all w starts item r after e)
 
 -- ---- a name over a limit
@@ -113,7 +113,7 @@ name_over before most r after e = name_by (nat_lt before most) (starts_name r) b
 
 word_token : (k : Keyword) (w : What) (r mid : Rest) (u : Unit {0}) → word_at k w r ≡ (Ok u, mid) → (t : At Token) × (r.1 ≡ t ∷ mid.1) × IsWord k t × (mid.0 ≡ past r.0 (t ∷ []))
 word_token k w r mid u e =
-    let f = was_front (one (the_word k)) (word_at k w) (word_local k w) r mid u e in
+    let f = was_front (one (the_word k)) (word_at k w) (word_read k w) r mid u e in
     let t = f.3.0 in
     (t, f.1 ∙ ap (λ (us : List (At Token)). us ++ mid.1) f.3.1, test_true (is_word k t.tok) u f.3.2, f.2 ∙ ap (past r.0) f.3.1)
 
@@ -143,7 +143,7 @@ step_stops r after few e =
 
 steps_stop : Stops steps_at
 unfolding steps_at
-steps_stop = some_stop step_grammar what.Step (starts_word Step) (λ k. step_at) (λ k. step_local) step_keeps (λ k. step_stops)
+steps_stop = some_stop step_grammar what.Step (starts_word Step) (λ k. step_at) (λ k. step_read) step_keeps (λ k. step_stops)
 
 -- ---- sessions
 
@@ -165,8 +165,8 @@ session_name r mid after u few word (inl e) =
     let t = word_token Session what.Item r mid u word in
     record { fs = []; mid = r; split = refl; place = refl; few = few; is_named = subst (λ (m : Rest). starts_name m ≡ true) o.2 o.1; here = here_session t.0 (t.1 ∙ ap (λ (m : Rest). t.0 ∷ m.1) o.2) t.2 o.0 }
 session_name r mid after u few word (inr (n, m, is, e)) =
-    let w = was_front (one (the_word Session)) (word_at Session what.Item) (word_local Session what.Item) r mid u word in
-    let v = was_front (one the_name) (name_within r.0.sessions 64) (name_within_local r.0.sessions 64) mid m n is in
+    let w = was_front (one (the_word Session)) (word_at Session what.Item) (word_read Session what.Item) r mid u word in
+    let v = was_front (one the_name) (name_within r.0.sessions 64) (local_read (name_within_local r.0.sessions 64)) mid m n is in
     let lt = within_is r.0.sessions 64 mid m n is in
     let c = session_word r.0 w.0 u w.3 in
     let few1 : Few mid.0 = record { sessions = omega (arith, lt, c.sessions, ap (λ (c : Counts). c.sessions) w.2); steps = omega (arith, few.steps, c.steps, ap (λ (c : Counts). c.steps) w.2) } in
@@ -183,7 +183,7 @@ session_stops r after few e = session_case r after few (err_two (word_at Session
 
 sessions_stop : Stops sessions_at
 unfolding sessions_at
-sessions_stop = some_stop session_grammar what.Session (starts_word Session) (λ k. session_at) (λ k. session_local) session_keeps (λ k. session_stops)
+sessions_stop = some_stop session_grammar what.Session (starts_word Session) (λ k. session_at) (λ k. session_read) session_keeps (λ k. session_stops)
 
 -- ---- permutations
 
@@ -211,7 +211,7 @@ entries_case n k r after le later (inl e) =
     let o = entry_over k r after e in
     record { es = []; entries = []; split = ap (λ (m : Rest). m.1) o.2; many = none; count = omega (arith, le, o.0); is_named = subst (λ (m : Rest). starts_name m ≡ true) o.2 o.1 }
 entries_case n k r after le later (inr (x, mid, is, e)) =
-    let w = was_front entry (entry_at k) (entry_local k) r mid x is in
+    let w = was_front entry (entry_at k) (local_read (entry_local k)) r mid x is in
     let lt = entry_before k r mid x is in
     let o = later mid (omega (arith, lt)) e in
     record {
@@ -268,7 +268,7 @@ perm_over r after e = perm_case r after (err_two (word_at Permutation what.Item 
 perms_case : (n k : ℕ) (r after : Rest) → ((m : Rest) → many_at (starts_word Permutation) (λ k. perm_at) (k + 1) n m ≡ (Err OverLimit, after) → PermsOver m after) → Stopped (starts_word Permutation) (λ k. perm_at) n k r after OverLimit → PermsOver r after
 perms_case n k r after later (inl e) = perm_over r after e
 perms_case n k r after later (inr (x, mid, is, e)) =
-    let w = was_front perm perm_at perm_local r mid x is in
+    let w = was_front perm perm_at perm_read r mid x is in
     let o = later mid e in
     record {
       ps = w.0 ++ o.ps;

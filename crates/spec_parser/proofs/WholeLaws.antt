@@ -1,12 +1,13 @@
 -- The laws of whole files.
-use Rattle.std.proofs.Common.{◌≡◌, ℕ, List, [], ◌∷◌, ◌++◌, length, Result, Ok, Err, refl, sym, ap, subst, ◌∙◌, ◌⊎◌, inl, inr}
+use Rattle.std.proofs.Common.{◌≡◌, ℕ, Bool, true, false, List, [], ◌∷◌, ◌++◌, length, Result, Ok, Err, refl, sym, ap, subst, ◌∙◌, ◌⊎◌, inl, inr}
 use Rattle.std.proofs.lemmas.List.{append-nil}
 use Rattle.iso_lexer.specs.declared.token.At.{At}
 use Rattle.iso_lexer.specs.declared.fault.Fault.{Fault}
 use Rattle.iso_lexer.specs.SpecTokens.{Token}
 use Rattle.iso_lexer.specs.SpecText.{Lexes}
+use Rattle.spec_parser.specs.declared.fault.What.{What}
 use Rattle.spec_parser.specs.declared.fault.Stop.{Stop}
-use Rattle.spec_parser.specs.declared.fault.Stop.TheVariants.{OverLimit}
+use Rattle.spec_parser.specs.declared.fault.Stop.TheVariants.{Expected, OverLimit}
 use Rattle.spec_parser.specs.declared.fault.SpecFault.{SpecFault}
 use Rattle.spec_parser.specs.declared.fault.SpecFault.TheVariants as faults
 use Rattle.spec_parser.specs.Trees.{FileTree, SpecTree}
@@ -14,22 +15,14 @@ use Rattle.spec_parser.specs.Counts.{Counts, start, past}
 use Rattle.spec_parser.specs.Reading.{Rest, Read, ◌>>=◌, end_in, end_at, setups_at, teardown_at, sessions_at, perms_at, file_at}
 use Rattle.spec_parser.specs.Grammar.{file}
 use Rattle.spec_parser.specs.SpecText.{SpecReads, no_tokens, tokens, finished}
-use Rattle.spec_parser.specs.Laws.{head, StopsFirst}
-use Rattle.spec_parser.proofs.Local.{Means, is_read}
+use Rattle.spec_parser.specs.Laws.{head, names_token, StopsFirst}
+use Rattle.spec_parser.proofs.Local.{Means, Wants, is_read, no_value, in_two}
 use Rattle.spec_parser.proofs.Productions.{file_local}
 use Rattle.spec_parser.proofs.Complete.{Again, whole, over, LongFile, file_again}
 
-no_ok : {A : Type 0} (s : Stop) (x : A) → ◌≡◌ {A = Result A Stop} (Err s) (Ok x) → ⊥
-no_ok s x e = cc
-
--- both parts of a reading that gives a value
-both : {A B : Type 0} (q : Read A) (f : A × Rest → Read B) (z : B) (after : Rest) → (q >>= f) ≡ (Ok z, after) → (x : A) × (mid : Rest) × (f (x, mid) ≡ (Ok z, after))
-both (Ok x, mid) f z after e = (x, mid, e)
-both {B = B} (Err s, mid) f z after e = absurd (no_ok s z (ap (λ (r : Read B). r.0) e))
-
 end_of : (c : Counts) (ts : List (At Token)) (f g : FileTree) (after : Rest) → (end_in c ts >>= λ ended. (Ok f, ended.1)) ≡ (Ok g, after) → after.1 ≡ []
 end_of c [] f g after e = sym (ap (λ (r : Read FileTree). r.1.1) e)
-end_of c (t ∷ ts) f g after e = absurd (no_ok _ g (ap (λ (r : Read FileTree). r.0) e))
+end_of c (t ∷ ts) f g after e = absurd (no_value _ g (ap (λ (r : Read FileTree). r.0) e))
 
 at_end : (r : Rest) (f g : FileTree) (after : Rest) → (end_at r >>= λ ended. (Ok f, ended.1)) ≡ (Ok g, after) → after.1 ≡ []
 unfolding end_at
@@ -38,11 +31,11 @@ at_end r f g after e = end_of r.0 r.1 f g after e
 nothing_left : (r after : Rest) (g : FileTree) → file_at r ≡ (Ok g, after) → after.1 ≡ []
 unfolding file_at
 nothing_left r after g e =
-    let setups = both (setups_at r) _ g after e in
-    let teardown = both (teardown_at setups.1) _ g after setups.2 in
-    let sessions = both (sessions_at teardown.1) _ g after teardown.2 in
-    let perms = both (perms_at sessions.1) _ g after sessions.2 in
-    at_end perms.1 _ g after perms.2
+    let setups = in_two (setups_at r) _ g after e in
+    let teardown = in_two (teardown_at setups.1) _ g after setups.3 in
+    let sessions = in_two (sessions_at teardown.1) _ g after teardown.3 in
+    let perms = in_two (perms_at sessions.1) _ g after sessions.3 in
+    at_end perms.1 _ g after perms.3
 
 ok_same : (f g : FileTree) → ◌≡◌ {A = Result FileTree Stop} (Ok f) (Ok g) → f ≡ g
 ok_same f g e = cc
@@ -53,7 +46,7 @@ err_same s t e = cc
 whole_from : (ts front rest : List (At Token)) (out : Result FileTree Stop) (f : FileTree) → out ≡ Ok f → rest ≡ [] → ts ≡ front ++ rest → Means file out start front → file start ts f
 whole_from ts front rest (Ok g) f e nothing split is =
     subst (file start ts) (ok_same g f e) (subst (λ us. file start us g) (sym (split ∙ ap (λ (r : List (At Token)). front ++ r) nothing ∙ append-nil front)) is)
-whole_from ts front rest (Err s) f e nothing split is = absurd (no_ok s f e)
+whole_from ts front rest (Err s) f e nothing split is = absurd (no_value s f e)
 
 pub reads_are_files : (ts : List (At Token)) (f : FileTree) (rest : Rest) → file_at (start, ts) ≡ (Ok f, rest) → file start ts f
 reads_are_files ts f rest e =
@@ -72,16 +65,22 @@ pub files_are_read : (ts : List (At Token)) (f : FileTree) → file start ts f �
 files_are_read ts f h = sides (file_at (start, ts)) f (past start ts, []) (read_or_over ts f h)
 
 stopped_at : (r : Read FileTree) (f : FileTree) (after rest : Rest) (s : Stop) → r ≡ (Err s, rest) → Again LongFile f after r → s ≡ OverLimit
-stopped_at r f after rest s e (whole d) = absurd (no_ok s f (sym (ap (λ (q : Read FileTree). q.0) e) ∙ ap (λ (q : Read FileTree). q.0) d))
+stopped_at r f after rest s e (whole d) = absurd (no_value s f (sym (ap (λ (q : Read FileTree). q.0) e) ∙ ap (λ (q : Read FileTree). q.0) d))
 stopped_at r f after rest s e (over d o) = err_same s OverLimit (sym (ap (λ (q : Read FileTree). q.0) e) ∙ d)
+
+-- what is expected is the first token of what follows
+wanted : (w : What) (front more : List (At Token)) (f : FileTree) → file start (front ++ more) f → Wants (Expected w) more → (t : At Token) × (others : List (At Token)) × (g : FileTree) × (names_token w t.tok ≡ true) × file start (front ++ t ∷ others) g
+wanted w front [] f is e = let wrong : ◌≡◌ {A = Bool} false true = e in absurd cc
+wanted w front (t ∷ more) f is e = (t, more, f, e, is)
 
 stops_from : (ts front rest after : List (At Token)) (out : Result FileTree Stop) (s : Stop) → out ≡ Err s → rest ≡ after → ts ≡ front ++ rest
     → ((others : List (At Token)) → head others ≡ head rest → file_at (start, front ++ others) ≡ (out, (past start front, others))) → Means file out start front → StopsFirst ts s after
-stops_from ts front rest after (Ok g) s e is split local means = absurd (no_ok s g (sym e))
+stops_from ts front rest after (Ok g) s e is split local means = absurd (no_value s g (sym e))
 stops_from ts front rest after (Err t) s e is split local means = record {
   front = front;
   split = split ∙ ap (λ (r : List (At Token)). front ++ r) is;
-  begins = means;
+  begins = (means.0, means.1, means.2);
+  expects = λ w is_w. wanted w front means.0 means.1 means.2 (subst (λ u. Wants u means.0) (err_same t s e ∙ is_w) means.3);
   stuck = λ others f h in_grammar. sym (err_same t s e) ∙ stopped_at (file_at (start, front ++ others)) f (past start (front ++ others), []) (past start front, others) t (local others (h ∙ ap head (sym is))) (read_or_over (front ++ others) f in_grammar);
   stays = λ others h. local others (h ∙ ap head (sym is)) ∙ ap (λ (u : Stop). (Err u, (past start front, others))) (err_same t s e);
 }

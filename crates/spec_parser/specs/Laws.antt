@@ -1,14 +1,17 @@
 -- What is so of every list of tokens, and of every text.
-use Rattle.std.specs.Prelude.{◌≡◌, ℕ, true, List, [], ◌∷◌, ◌++◌, length, Option, Some, None, Result, Ok, Err}
+use Rattle.std.specs.Prelude.{◌≡◌, ℕ, Bool, true, ◌||◌, List, [], ◌∷◌, ◌++◌, length, Option, Some, None, is_some, Result, Ok, Err}
 use Rattle.iso_lexer.specs.declared.token.At.{At}
 use Rattle.iso_lexer.specs.SpecTokens.{Token}
+use Rattle.spec_parser.specs.declared.fault.What.{What}
+use Rattle.spec_parser.specs.declared.fault.What.TheVariants as what
 use Rattle.spec_parser.specs.declared.fault.Stop.{Stop}
-use Rattle.spec_parser.specs.declared.fault.Stop.TheVariants.{NoticesLeftOut, OverLimit}
+use Rattle.spec_parser.specs.declared.fault.Stop.TheVariants.{Expected, NoticesLeftOut, OverLimit}
 use Rattle.spec_parser.specs.declared.fault.SpecFault.{SpecFault}
 use Rattle.spec_parser.specs.Trees.{FileTree, SpecTree}
 use Rattle.spec_parser.specs.Counts.{start, past}
-use Rattle.iso_lexer.specs.declared.spec_token.Keyword.TheVariants.{Notices}
-use Rattle.spec_parser.specs.Reading.{Rest, is_word, first_is, file_at}
+use Rattle.iso_lexer.specs.declared.spec_token.Keyword.TheVariants.{Permutation, Session, Setup, Step, Teardown, Notices}
+use Rattle.iso_lexer.specs.declared.spec_token.Sign.TheVariants.{Close, Comma, Star}
+use Rattle.spec_parser.specs.Reading.{Rest, is_word, is_sign, is_name, block_in, first_is, file_at}
 use Rattle.spec_parser.specs.Reading.{place as place_of}
 use Rattle.spec_parser.specs.Faults.{stopped}
 use Rattle.spec_parser.specs.declared.fault.Halt.TheVariants.{At as AtPlace}
@@ -25,12 +28,24 @@ abbrev pub head : List (At Token) → Option (At Token)
 head [] = None
 head (t ∷ ts) = Some t
 
--- The tokens before a stop begin a file of the grammar. A list that has the same tokens up to there and the same next token is
--- none, whatever follows, but where the stop is at a limit; and reading it stops there too.
+-- the token is of the kind that is told as expected; an item of the file begins with one of four words
+abbrev pub names_token : What → Token → Bool
+names_token what.Session t = is_word Session t
+names_token what.Step t = is_word Step t
+names_token what.Name t = is_name t
+names_token what.Block t = is_some (block_in 0 0 t)
+names_token what.Marker t = is_sign Star t || is_name t
+names_token what.CommaOrClose t = is_sign Comma t || is_sign Close t
+names_token what.Item t = is_word Setup t || is_word Teardown t || is_word Session t || is_word Permutation t
+
+-- The tokens before a stop begin a file of the grammar; where something is told as expected, such a token can follow there. A list
+-- that has the same tokens up to there and the same next token is none, whatever follows, but where the stop is at a limit; and
+-- reading it stops there too.
 pub record StopsFirst (ts : List (At Token)) (stop : Stop) (rest : List (At Token)) : Type 0 where
   pub front : List (At Token)
   pub split : ts ≡ front ++ rest
   pub begins : (more : List (At Token)) × (f : FileTree) × file start (front ++ more) f
+  pub expects : (w : What) → stop ≡ Expected w → (token : At Token) × (more : List (At Token)) × (f : FileTree) × (names_token w token.tok ≡ true) × file start (front ++ token ∷ more) f
   pub stays : (others : List (At Token)) → head others ≡ head rest → file_at (start, front ++ others) ≡ (Err stop, (past start front, others))
   pub stuck : (others : List (At Token)) (f : FileTree) → head others ≡ head rest → file start (front ++ others) f → stop ≡ OverLimit
 

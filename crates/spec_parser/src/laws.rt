@@ -15,7 +15,8 @@ pub fn reads_are_files()
     ensures { ReadsAreFiles }
 {}
 
-/// Of tokens, and of texts: the tokens before a stop begin a file of the grammar; with the next token they begin none, or are at a limit.
+/// Of tokens, and of texts: the tokens before a stop begin a file of the grammar, and what is told as expected can follow
+/// them; with the next token they begin none, or are at a limit.
 pub fn faults_are_first()
     ensures tokens { FaultsAreFirst }
     ensures texts { StopsAreFirst }
