@@ -1,10 +1,11 @@
 -- What the program does with the words of its command line: its exit status, what goes to its output, and what to its errors.
-use Rattle.std.specs.Prelude.{◌≡◌, ◌⊎◌, ◌↔◌, ℕ, Bool, true, false, IsTrue, List, [], ◌++◌, take, Option, Result, Ok, Err, IfSome, IfErr}
+use Rattle.std.specs.Prelude.{◌≡◌, ◌⊎◌, ℕ, Bool, true, false, IsTrue, List, [], take, Option, Result, Ok, Err, IfSome, IfErr}
 use Rattle.std.specs.Bool.{OnFalse}
 use Rattle.std.specs.Io.KnownBytes.{Appends}
 use Rattle.clap.specs.Words.{IsAmong, Text, fault_of}
 use Rattle.clap.specs.declared.error.kind.ErrorKind.{ErrorKind}
 use Rattle.clap.specs.declared.error.kind.ErrorKind.TheVariants.{DisplayHelp, DisplayVersion, OutOfMemory}
+use Rattle.iso_lexer.specs.Devices.{PutsFront}
 use Rattle.permutations.specs.Begun.{Begun, FileMaySay, FileSaysFreely, ListBegun}
 use Rattle.permutations.specs.Broken.{FileBroken}
 use Rattle.permutations.specs.FaultText.{fault_line}
@@ -29,14 +30,19 @@ MayRefuse words kind = (kind ≡ OutOfMemory) ⊎ IsAmong kind (fault_of program
 abbrev pub memory_line : List ℕ
 memory_line = fault_line faults.Memory
 
--- a text that is clap's own went out, unless the sink has failed
+-- a text went out, or a front of it where the sink has failed
+pub record Took (failed : Bool) (old new : Option (List ℕ)) (text : List ℕ) : Type 0 where
+  pub front : PutsFront old new text
+  pub whole : OnFalse failed (Appends old new text)
+
+-- a text that is clap's own went out, or a front of it
 abbrev pub TookText : Bool → Option (List ℕ) → Option (List ℕ) → Type 0
-TookText failed old new = OnFalse failed ((text : List ℕ) × Appends old new text)
+TookText failed old new = (text : List ℕ) × Took failed old new text
 
 -- what was asked for goes to the output alone, or the errors tell of want of memory; a mistake is told to the errors alone
 abbrev pub IsShown : Bool → Bool → Option (List ℕ) → Option (List ℕ) → Bool → Option (List ℕ) → Option (List ℕ) → Type 0
 IsShown true out_failed out_old out_new err_failed err_old err_new =
-    (TookText out_failed out_old out_new × (err_new ≡ err_old)) ⊎ ((out_new ≡ out_old) × OnFalse err_failed (Appends err_old err_new memory_line))
+    (TookText out_failed out_old out_new × (err_new ≡ err_old)) ⊎ ((out_new ≡ out_old) × Took err_failed err_old err_new memory_line)
 IsShown false out_failed out_old out_new err_failed err_old err_new = (out_new ≡ out_old) × TookText err_failed err_old err_new
 
 -- help or the version was asked for
@@ -78,9 +84,9 @@ Runs o left out_old out_new notes_old notes_new answer =
     × (o.list ≡ false → o.free ≡ true → RanFreely left out_old out_new notes_old notes_new answer)
     × (o.list ≡ false → o.free ≡ false → Ran left o.limit out_old out_new notes_old notes_new answer)
 
--- the fault's line goes to the errors, unless they have failed; where memory for it is refused the line says so
+-- the fault's line goes to the errors; where memory for it is refused the line says so
 abbrev pub TookLine : RunFault → Bool → Option (List ℕ) → Option (List ℕ) → Type 0
-TookLine e failed noted new = OnFalse failed (Appends noted new (fault_line e) ⊎ Appends noted new memory_line)
+TookLine e failed noted new = Took failed noted new (fault_line e) ⊎ Took failed noted new memory_line
 
 abbrev pub TellsFault : Result (Unit {0}) RunFault → Bool → Option (List ℕ) → Option (List ℕ) → Type 0
 TellsFault (Ok x) failed noted new = new ≡ noted

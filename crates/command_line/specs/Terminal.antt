@@ -1,7 +1,7 @@
 -- What the program does where its errors go to a terminal: it also says where it reads from, and quotes the line of a file that is refused.
 use Rattle.std.specs.Prelude.{◌≡◌, ◌⊎◌, ℕ, ◌+◌, Bool, true, false, List, [], take, Option, Some, None, Result, Ok, Err, IfSome, codes, ⊤}
-use Rattle.std.specs.Bool.{OnFalse}
 use Rattle.std.specs.Io.KnownBytes.{Appends}
+use Rattle.iso_lexer.specs.Devices.{PutsFront}
 use Rattle.clap.specs.Words.{Text, fault_of}
 use Rattle.clap.specs.declared.error.kind.ErrorKind.{ErrorKind}
 use Rattle.spec_parser.specs.declared.fault.SpecFault.{SpecFault}
@@ -13,7 +13,7 @@ use Rattle.permutations.specs.declared.fault.RunFault.TheVariants as faults
 use Rattle.command_line.specs.declared.options.Options.{Options}
 use Rattle.command_line.specs.Options.{Gives, program, status_of}
 use Rattle.command_line.specs.Quote.{quoted}
-use Rattle.command_line.specs.Shell.{IsShown, MayRefuse, Runs, TellsFault, TookLine, exit_status, is_request}
+use Rattle.command_line.specs.Shell.{IsShown, MayRefuse, Runs, TellsFault, Took, TookLine, exit_status, is_request}
 
 -- ---- before the file is read
 
@@ -57,11 +57,12 @@ abbrev pub quoted_at : List ℕ → Option ℕ → List ℕ
 quoted_at file None = []
 quoted_at file (Some at) = quoted file at
 
--- behind the fault's line the line of the file goes to the errors, unless they have failed or memory for it is refused
+-- the fault's line goes to the errors, which may fail there already, and behind it the line of the file, unless memory for it is refused
 abbrev pub TellsQuoted : List ℕ → Result (Unit {0}) RunFault → Bool → Option (List ℕ) → Option (List ℕ) → Type 0
 TellsQuoted file (Ok x) failed noted new = new ≡ noted
 TellsQuoted file (Err e) failed noted new =
-    OnFalse failed ((told : Option (List ℕ)) × TookLine e false noted told × (Appends told new (quoted_at file (place_of e)) ⊎ (new ≡ told)))
+    (told : Option (List ℕ)) × (failed_there : Bool) × TookLine e failed_there noted told × (failed_there ≡ true → failed ≡ true)
+    × (Took failed told new (quoted_at file (place_of e)) ⊎ (new ≡ told))
 
 -- ---- all of it
 
@@ -75,7 +76,7 @@ pub record RunsFile (options : Options) (file : List ℕ) (out_old out_new : Opt
 
 -- it is said how to give a file, the file is read, and it runs; where the errors fail to take the first of these, nothing else is done
 pub data ReadsAndRuns (options : Options) (left : Option (List ℕ)) (in_failed typed : Bool) (out_old out_new : Option (List ℕ)) (err_failed : Bool) (err_old err_new : Option (List ℕ)) (status : ℕ) : Type 0 where
-  mute : typed ≡ true → err_failed ≡ true → out_new ≡ out_old → status ≡ 3 → ReadsAndRuns options left in_failed typed out_old out_new err_failed err_old err_new status
+  mute : typed ≡ true → err_failed ≡ true → PutsFront err_old err_new hint → out_new ≡ out_old → status ≡ 3 → ReadsAndRuns options left in_failed typed out_old out_new err_failed err_old err_new status
   unread : (hinted : Option (List ℕ)) → Hints typed err_old hinted → (e : RunFault) → FailsFirst in_failed e → out_new ≡ out_old
       → TellsFault (Err e) err_failed hinted err_new → status ≡ exit_status (Err e) → ReadsAndRuns options left in_failed typed out_old out_new err_failed err_old err_new status
   reads : (hinted : Option (List ℕ)) → Hints typed err_old hinted → (file : List ℕ) → IfSome left (λ bytes. file ≡ take 1048577 bytes)

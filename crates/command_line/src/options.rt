@@ -32,7 +32,7 @@ Exit status:
   0  all ran
   1  the file is refused, or its run ends early
   2  the command line is refused
-  3  memory, a read or a write failed";
+  3  memory, a thread, a read or a write failed";
 
 /// What the command line asks for.
 #[derive(Clone, Copy, Debug, PartialEq, Eq)]

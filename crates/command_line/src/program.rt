@@ -1,11 +1,9 @@
 //! Runs the program over its devices.
 
 ghost use Rattle.std.specs.Prelude.{◌≡◌, ◌≢◌, [], map, string_bytes, true};
-ghost use Rattle.std.specs.Bool.{OnFalse};
-ghost use Rattle.std.specs.Io.KnownBytes.{Appends};
 ghost use Rattle.clap.specs.Words.{fault_of, kind_of};
 ghost use Rattle.command_line.specs.Options.{program};
-ghost use Rattle.command_line.specs.Shell.{IsServed, IsShown, Runs, TookLine, TellsFault, exit_status, is_request};
+ghost use Rattle.command_line.specs.Shell.{IsServed, IsShown, Runs, Took, TookLine, TellsFault, exit_status, is_request};
 
 use crate::options::{Options, options_of, status_of};
 use iso_lexer::{Sink, Source};
@@ -17,7 +15,7 @@ use std::thread::Threads;
 
 /// Puts a text; of a sink that fails there is no one to tell.
 pub(crate) fn put_text<N: Sink>(sink: &mut N, text: &[u8])
-    ensures puts { OnFalse (N.failed sink.new) (Appends (N.put_so_far sink.old) (N.put_so_far sink.new) text.now) }
+    ensures puts { Took (N.failed sink.new) (N.put_so_far sink.old) (N.put_so_far sink.new) text.now }
     ensures stays { N.failed sink.old ≡ true → N.failed sink.new ≡ true }
 {
     let _ = sink.put(text);

@@ -1,22 +1,18 @@
 //! Runs the program where its errors go to a terminal, and so to someone who reads them as they come.
 
-ghost use Rattle.std.specs.Prelude.{◌≡◌, ◌≢◌, ◌⊎◌, ◌+◌, [], Some, OnOk, OnErr, map, string_bytes, true};
-ghost use Rattle.std.specs.Bool.{OnFalse};
-ghost use Rattle.std.specs.Io.KnownBytes.{Appends};
+ghost use Rattle.std.specs.Prelude.{◌≡◌, ◌≢◌, ◌⊎◌, [], Some, OnOk, OnErr, map, string_bytes, true};
+ghost use Rattle.iso_lexer.specs.Devices.{PutsFront};
 ghost use Rattle.clap.specs.Words.{fault_of};
-ghost use Rattle.sql_trees.specs.Faults.{place};
-ghost use Rattle.permutations.specs.FaultText.{shift_of};
 ghost use Rattle.command_line.specs.Options.{program};
-ghost use Rattle.command_line.specs.Shell.{exit_status};
-ghost use Rattle.command_line.specs.Terminal.{Hints, IsServedThere, ReadsAndRuns, RunsFile, TellsQuoted, place_of, quoted_at, spec_place};
+ghost use Rattle.command_line.specs.Shell.{Took, exit_status};
+ghost use Rattle.command_line.specs.Terminal.{Hints, IsServedThere, ReadsAndRuns, RunsFile, TellsQuoted, hint, place_of, quoted_at, spec_place};
 
 use crate::options::{Options, options_of, status_of};
 use crate::program::{end, put_error, put_fault, put_text, run};
 use crate::quote::quoted;
 use iso_lexer::{DeviceFault, FromStd, LONGEST_FILE, Sink, Source, read_all};
-use permutations::{BlockFault, RunFault};
+use permutations::RunFault;
 use spec_parser::SpecFault;
-use sql_trees::SqlFault;
 use std::alloc::Global;
 use std::sync::Wait;
 use std::thread::Threads;
@@ -28,7 +24,7 @@ const HINT: &[u8] =
 /// Says how to give a file, where none is given.
 fn put_hint<N: Sink>(err: &mut N, typed: bool) -> Result<(), DeviceFault>
     ensures hints { OnOk result (Hints typed (N.put_so_far err.old) (N.put_so_far err.new)) }
-    ensures mute { OnErr result ((typed ≡ true) × (N.failed err.new ≡ true)) }
+    ensures mute { OnErr result ((typed ≡ true) × (N.failed err.new ≡ true) × PutsFront (N.put_so_far err.old) (N.put_so_far err.new) hint) }
 {
     if typed {
         return err.put(HINT);
@@ -51,32 +47,6 @@ fn spec_place(fault: &SpecFault) -> Option<usize>
     }
 }
 
-fn place_in_block(fault: SqlFault) -> usize
-    ensures { result ≡ place fault }
-{
-    match fault {
-        SqlFault::Memory => 0,
-        SqlFault::Lex(fault) => fault.at,
-        SqlFault::Syntax(at)
-        | SqlFault::LeftOut(at)
-        | SqlFault::TooDeep(at)
-        | SqlFault::TooMany(at)
-        | SqlFault::DdlInSession(at)
-        | SqlFault::BadColumns(at) => at,
-    }
-}
-
-fn block_place(told: &BlockFault) -> usize
-    ensures { result ≡ shift_of told.now + place told.now.fault }
-{
-    let at = place_in_block(told.fault);
-    if at <= usize::MAX - told.block {
-        told.block + at
-    } else {
-        at
-    }
-}
-
 /// The byte of the file that a fault names.
 fn place_of(fault: &RunFault) -> Option<usize>
     ensures { result ≡ place_of fault.now }
@@ -84,7 +54,7 @@ fn place_of(fault: &RunFault) -> Option<usize>
     match fault {
         RunFault::Lex(fault) => Some(fault.at),
         RunFault::Spec(fault) => spec_place(fault),
-        RunFault::Sql(fault) => Some(block_place(fault)),
+        RunFault::Sql(fault) => Some(fault.place()),
         RunFault::NotUtf8(at) => Some(*at),
         RunFault::Read
         | RunFault::Write
@@ -99,8 +69,8 @@ fn place_of(fault: &RunFault) -> Option<usize>
 
 /// Quotes the line of the file that this byte is in. Where memory for it is refused, nothing is put.
 fn put_quote<N: Sink>(alloc: Global, err: &mut N, file: &[u8], at: Option<usize>)
-    ensures quotes { OnFalse (N.failed err.new)
-        (Appends (N.put_so_far err.old) (N.put_so_far err.new) (quoted_at file.now at) ⊎ (N.put_so_far err.new ≡ N.put_so_far err.old)) }
+    ensures quotes { Took (N.failed err.new) (N.put_so_far err.old) (N.put_so_far err.new) (quoted_at file.now at)
+        ⊎ (N.put_so_far err.new ≡ N.put_so_far err.old) }
     ensures stays { N.failed err.old ≡ true → N.failed err.new ≡ true }
 {
     if let Some(at) = at {

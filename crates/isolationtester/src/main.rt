@@ -4,7 +4,7 @@
 use command_line::{serve, serve_at_terminal};
 use iso_lexer::FromStd;
 use std::env;
-use std::io::{self, BufWriter, IsTerminal, Stderr, Write};
+use std::io::{self, BufWriter, ErrorKind, IsTerminal, Stderr, Write};
 use std::process::ExitCode;
 use std::rt::Runtime;
 use std::sync::Wait;
@@ -52,8 +52,12 @@ fn main(rt: HostRuntime) -> ExitCode {
     let typed = rt.reader().is_terminal();
     match run(&rt, rt.stderr(), typed) {
         Ok(status) => ExitCode::from(status),
-        Err(_) => {
-            let _ = eprintln!(rt; "isolationtester: R2 Write");
+        Err(fault) => {
+            let told = match fault.kind() {
+                ErrorKind::OutOfMemory => "Memory",
+                _ => "R2 Write",
+            };
+            let _ = eprintln!(rt; "isolationtester: {told}");
             ExitCode::from(FAILED)
         }
     }

@@ -1,5 +1,5 @@
 -- What a free run of a spec launches.
-use Rattle.std.specs.Prelude.{ℕ, List, [], ◌∷◌, ◌++◌, map, option_to_list}
+use Rattle.std.specs.Prelude.{ℕ, List, ◌++◌, map, option_to_list}
 use Rattle.std.specs.Global.{Vec}
 use Rattle.spec_parser.specs.Trees.{PartTree, StepTree, SessionTree, SpecTree}
 use Rattle.report_lines.specs.declared.history.PlannedLaunch.{PlannedLaunch}

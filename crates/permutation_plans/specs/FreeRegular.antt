@@ -1,9 +1,9 @@
 -- The histories that a free run may have.
-use Rattle.std.specs.Prelude.{◌≡◌, ℕ, ◌+◌, ◌-◌, ◌<◌, ◌==◌, Bool, true, false, not, ◌&&◌, ◌||◌, List, [], ◌∷◌, ◌++◌, length, map, drop, slice_get, slice_range, Option, Some, None}
+use Rattle.std.specs.Prelude.{◌≡◌, ℕ, ◌+◌, ◌-◌, ◌<◌, ◌==◌, Bool, true, false, not, ◌&&◌, ◌||◌, List, [], ◌∷◌, ◌++◌, length, map, drop, slice_get, slice_range, Some}
 use Rattle.std.specs.List.{filter}
 use Rattle.std.specs.Option.{option_map_or}
 use Rattle.session_machine.specs.declared.event.Event.{Event}
-use Rattle.session_machine.specs.declared.event.Event.TheVariants.{Launch, Step, Leave}
+use Rattle.session_machine.specs.declared.event.Event.TheVariants.{Launch, Leave}
 use Rattle.session_machine.specs.declared.event.Mode.TheVariants.{Free}
 use Rattle.session_machine.specs.declared.reply.HistItem.{HistItem}
 use Rattle.session_machine.specs.declared.reply.Outcome.{Outcome}

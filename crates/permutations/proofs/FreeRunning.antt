@@ -1,5 +1,5 @@
 -- A closed run whose launches fit has a history of the spec's free run.
-use Rattle.std.proofs.Common.{◌≡◌, ℕ, length, subst}
+use Rattle.std.proofs.Common.{ℕ, length, subst}
 use Rattle.session_machine.specs.declared.event.Mode.{Mode}
 use Rattle.session_machine.specs.declared.event.Mode.TheVariants.{Free}
 use Rattle.session_machine.specs.Machine.{Blocks}

@@ -12,3 +12,5 @@ pub mod FreeRunning
 pub mod FreeTelling
 pub mod OneText
 pub mod Whole
+pub mod Drafting
+pub mod Turns

@@ -16,3 +16,4 @@ pub mod Runs
 pub mod FreeRuns
 pub mod Begun
 pub mod Laws
+pub mod Inner

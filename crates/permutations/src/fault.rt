@@ -51,6 +51,15 @@ fn shift_of(told: &BlockFault) -> usize
     }
 }
 
+impl BlockFault {
+    /// The byte of the file at which the fault stands; that of the block where the file's has no number.
+    pub fn place(&self) -> usize
+        ensures { result ≡ shift_of self.now + place self.now.fault }
+    {
+        shift_of(self) + place_of(self.fault)
+    }
+}
+
 /// Prints the place in the file.
 impl fmt::Display for BlockFault {
     ghost output = { λ told. Some (block_fault_text told) };

@@ -1,7 +1,9 @@
 //! Runs the permutations of a spec file, or its sessions freely, and prints the text; or lists the permutations.
 #![tactic(auto)]
 
+mod ahead;
 mod blocks;
+mod draft;
 mod fault;
 mod file;
 mod first_line;

@@ -62,7 +62,7 @@ fn list_file<W: Sink>(alloc: Global, bytes: &[u8], out: &mut W, limit: u64) -> R
 }
 
 /// Reads a spec file, and writes a line for each of its permutations. After `limit` lines, with one more permutation
-/// there, it stops. A file is refused before anything is written, as a run of it is, but it may need what doesn't run yet.
+/// there, it stops. A file is refused before anything is written, as a run of it is.
 pub fn list_spec<S: Source, W: Sink>(
     alloc: Global,
     input: &mut S,

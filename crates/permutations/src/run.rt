@@ -1,57 +1,28 @@
 //! Runs a spec file.
 
-ghost use Rattle.std.specs.Prelude.{◌≡◌, ◌≢◌, ◌↔◌, ◌||◌, List, ℕ, Ok, Err, map, take, true, false, IsTrue, IfErr, IfSome, IsErrOf};
+ghost use Rattle.std.specs.Prelude.{◌≡◌, ◌≢◌, ◌↔◌, ◌||◌, List, ℕ, Ok, Err, take, true, false, IsTrue, IfErr, IfSome, IsErrOf};
 ghost use Rattle.iso_lexer.specs.Devices.{IsFront};
 ghost use Rattle.session_core.specs.Blocks.{blocks_of};
-ghost use Rattle.spec_parser.specs.Trees.{entry_view, spec_view};
+ghost use Rattle.spec_parser.specs.Trees.{spec_view};
 ghost use Rattle.spec_parser.specs.Stands.{Stands};
 ghost use Rattle.permutation_lists.specs.Permutations.{permutations_of};
-ghost use Rattle.permutations.specs.Begun.{Begun, OneSays, RunSays, FileMaySay};
+ghost use Rattle.permutations.specs.Begun.{Begun, RunSays, FileMaySay};
 ghost use Rattle.permutations.specs.Broken.{RunBroken, FileBroken};
 ghost use Rattle.permutations.specs.Prints.{Prints, FileSays};
-ghost use Rattle.permutations.specs.Runs.{is_refusal, is_of_one, has_broken, has_ended, has_read, IsTold, IsOneTold};
+ghost use Rattle.permutations.specs.Runs.{is_refusal, has_broken, has_ended, has_read, IsTold};
 ghost use Rattle.permutations.specs.Said.{Said};
 
+use crate::ahead::Ahead;
 use crate::fault::RunFault;
 use crate::file::read_file;
 use crate::first_line::first_line;
-use crate::report::write_permutation;
-use crate::thread_run::run_of;
 use iso_lexer::{LONGEST_FILE, Sink, Source, read_all};
-use permutation_lists::Permutations;
 use session_threads::Gate;
-use spec_parser::{Entry, Spec};
+use spec_parser::Spec;
 use sql_parser::Block;
 use std::alloc::Global;
 use std::sync::Wait;
 use std::thread::Threads;
-
-/// Runs a permutation on a new engine, with a thread for each session, and writes its report once the run is closed.
-fn run_permutation<W: Sink, N: Sink, G: Gate, R: Threads + Wait + Sync>(
-    rt: &R,
-    alloc: Global,
-    spec: &Spec<'_>,
-    blocks: &[Block<'_>],
-    entries: &[Entry],
-    out: &mut W,
-    notes: &mut N,
-    gate: &G,
-) -> Result<(), RunFault>
-    requires { Stands (spec_view spec.now) }
-    ensures told { IsTrue (has_ended result) → IsOneTold (spec_view spec.now) (blocks_of blocks.now) (map entry_view entries.now)
-        (W.put_so_far out.old) (W.put_so_far out.new) (N.put_so_far notes.old) (N.put_so_far notes.new) result }
-    ensures begun { Begun (OneSays (spec_view spec.now) (blocks_of blocks.now) (map entry_view entries.now))
-        (W.put_so_far out.old) (W.put_so_far out.new) (N.put_so_far notes.old) (N.put_so_far notes.new) }
-    ensures broken { IsTrue (has_broken result) → (out.new ≡ out.old) × (notes.new ≡ notes.old) }
-    ensures unbroken { result ≢ Err RunFault.ScheduleBroken }
-    ensures write { IsErrOf result RunFault.Write → (W.failed out.new || N.failed notes.new) ≡ true }
-    ensures kinds { IfErr result (λ e. is_of_one e ≡ true) }
-{
-    let closed = run_of(rt, alloc, spec, blocks, entries, gate)?;
-    let engine = closed.state();
-    write_permutation(alloc, spec, entries, engine.history(), out, notes)?;
-    Ok(())
-}
 
 /// Runs the permutations of a spec, up to so many.
 fn run_permutations<W: Sink, N: Sink, G: Gate, R: Threads + Wait + Sync>(
@@ -78,25 +49,20 @@ fn run_permutations<W: Sink, N: Sink, G: Gate, R: Threads + Wait + Sync>(
     ensures kinds { IfErr result (λ e. is_refusal e ≡ false) }
     ensures read { result ≢ Err RunFault.Read }
 {
-    let mut permutations = Permutations::of(alloc, spec)?;
+    let mut ahead = Ahead::of(alloc, spec)?;
     let mut left = limit;
-    while permutations.advance(alloc)? {
-        if left == 0 {
-            return Err(RunFault::TooManyPermutations);
-        }
+    while left > 0 {
+        let Some(draft) = ahead.next(rt, alloc, spec, blocks, left, gate)? else {
+            return Ok(());
+        };
         left -= 1;
-        run_permutation(
-            rt,
-            alloc,
-            spec,
-            blocks,
-            permutations.entries(),
-            out,
-            notes,
-            gate,
-        )?;
+        draft.put(out, notes)?;
     }
-    Ok(())
+    if ahead.is_over(alloc)? {
+        Ok(())
+    } else {
+        Err(RunFault::TooManyPermutations)
+    }
 }
 
 /// Runs the permutations of the spec file that these bytes are, up to so many.
@@ -128,9 +94,10 @@ fn run_file<W: Sink, N: Sink, G: Gate, R: Threads + Wait + Sync>(
     run_permutations(rt, alloc, &file.spec, &file.blocks, out, notes, limit, gate)
 }
 
-/// Reads a spec file, runs its permutations one after the other, each on a new engine and with a thread for each session,
-/// and writes their reports; what a teardown fails with goes to the notes. The gate is asked before each event and told each
-/// reply. Nothing that is written depends on anything but the bytes read and the limit. The file is refused before anything
+/// Reads a spec file, runs its permutations, each on a new engine and with a thread for each session, and writes their
+/// reports one after the other; what a teardown fails with goes to the notes. Up to eight run side by side, no more than the
+/// limit leaves, so that the gate, which is asked before each event and told each reply, sees events of several between each
+/// other. Nothing that is written depends on anything but the bytes read and the limit. The file is refused before anything
 /// is written: for its length, as no UTF-8, for its tokens, as no spec, and for its blocks in the order of the file, in this
 /// order. After `limit` permutations, with one more there, the run ends; so it does after a setup that fails or waits. A
 /// permutation whose threads come to no end writes nothing, and the run ends in `Threads`; none ends in `ScheduleBroken`.

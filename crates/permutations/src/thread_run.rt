@@ -1,15 +1,18 @@
 //! The run of one permutation, with a thread for each session.
 
-ghost use Rattle.std.specs.Prelude.{◌≡◌, ◌≢◌, length, true, Err, map, IfOk, IfErr, IsErrOf};
+ghost use Rattle.std.specs.Prelude.{◌≡◌, ◌≢◌, ◌||◌, length, true, Err, map, IsTrue, IfOk, IfErr, IsErrOf};
 ghost use Rattle.session_core.specs.Blocks.{blocks_of};
 ghost use Rattle.session_core.specs.Engines.{is_quiet_in};
 ghost use Rattle.spec_parser.specs.Trees.{entry_view, spec_view};
 ghost use Rattle.spec_parser.specs.Stands.{Stands};
 ghost use Rattle.permutation_plans.specs.Regular.{Fits, IsRegular};
-ghost use Rattle.permutations.specs.Runs.{is_of_run};
+ghost use Rattle.permutations.specs.Begun.{Begun, OneSays};
+ghost use Rattle.permutations.specs.Runs.{is_of_one, is_of_run, has_broken, has_ended, IsOneTold};
 
 use crate::fault::RunFault;
 use crate::plan::Plan;
+use crate::report::write_permutation;
+use iso_lexer::Sink;
 use permutation_plans::launches_fit;
 use row_versions::ListStore;
 use session_machine::Mode;
@@ -63,4 +66,31 @@ pub fn run_of<'a, 't, G: Gate, R: Threads + Wait + Sync>(
     let store = ListStore::new(alloc);
     let closed = run_directed(rt, alloc, blocks, sessions, store, plan, gate)?;
     fitting_run(alloc, spec, entries, closed)
+}
+
+/// Runs a permutation on a new engine, with a thread for each session, and writes its report once the run is closed.
+pub fn run_permutation<W: Sink, N: Sink, G: Gate, R: Threads + Wait + Sync>(
+    rt: &R,
+    alloc: Global,
+    spec: &Spec<'_>,
+    blocks: &[Block<'_>],
+    entries: &[Entry],
+    out: &mut W,
+    notes: &mut N,
+    gate: &G,
+) -> Result<(), RunFault>
+    requires { Stands (spec_view spec.now) }
+    ensures told { IsTrue (has_ended result) → IsOneTold (spec_view spec.now) (blocks_of blocks.now) (map entry_view entries.now)
+        (W.put_so_far out.old) (W.put_so_far out.new) (N.put_so_far notes.old) (N.put_so_far notes.new) result }
+    ensures begun { Begun (OneSays (spec_view spec.now) (blocks_of blocks.now) (map entry_view entries.now))
+        (W.put_so_far out.old) (W.put_so_far out.new) (N.put_so_far notes.old) (N.put_so_far notes.new) }
+    ensures broken { IsTrue (has_broken result) → (out.new ≡ out.old) × (notes.new ≡ notes.old) }
+    ensures unbroken { result ≢ Err RunFault.ScheduleBroken }
+    ensures write { IsErrOf result RunFault.Write → (W.failed out.new || N.failed notes.new) ≡ true }
+    ensures kinds { IfErr result (λ e. is_of_one e ≡ true) }
+{
+    let closed = run_of(rt, alloc, spec, blocks, entries, gate)?;
+    let engine = closed.state();
+    write_permutation(alloc, spec, entries, engine.history(), out, notes)?;
+    Ok(())
 }

@@ -40,7 +40,7 @@ pub fn invalid_where_a_step_is_still_active()
 {}
 
 /// What was told before an order stays so, whatever the history goes on with.
-pub fn what_was_told_stays()
+pub fn what_was_reported_stays()
     ensures { (c : PermutationRun) (item : HistItem) (more : List HistItem) (count : ℕ) → is_order item.event ≡ true → orders c.items ≡ c.setups + count →
         report (longer c (item ∷ more)) count ≡ report c count }
 {}

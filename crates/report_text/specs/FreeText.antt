@@ -8,7 +8,7 @@ use Rattle.session_machine.specs.declared.event.Event.{Event}
 use Rattle.session_machine.specs.declared.event.Event.TheVariants.{Launch, Step, Leave}
 use Rattle.session_machine.specs.declared.reply.HistItem.{HistItem}
 use Rattle.session_machine.specs.declared.reply.Outcome.{Outcome}
-use Rattle.session_machine.specs.declared.reply.Outcome.TheVariants.{Launched, Done, Rows, Waits, Failed, Left}
+use Rattle.session_machine.specs.declared.reply.Outcome.TheVariants.{Waits}
 use Rattle.session_machine.specs.Machine.{session_of}
 use Rattle.report_lines.specs.Due.{orders}
 use Rattle.report_text.specs.declared.standing.Standing.{Standing}

@@ -1,4 +1,3 @@
-use Rattle.std.proofs.Common.{refl}
 use Rattle.clap.specs.Words.{kind_of}
 use Rattle.command_line.specs.Shell.{refuses, serves}
 use Rattle.command_line.proofs.program.serve.Goals as goal

@@ -1,4 +1,4 @@
-use Rattle.std.proofs.Common.{◌≡◌, ◌<◌, ◌≤◌, ◌++◌, ℕ, ◌+◌, List, length, take, drop, map, ap, sym, ◌∙◌, subst, arith, append_assoc, length-take, length-set}
+use Rattle.std.proofs.Common.{◌≡◌, ◌<◌, ◌++◌, ℕ, ◌+◌, List, length, take, drop, map, ap, sym, ◌∙◌, subst, arith, append_assoc, length-take, length-set}
 use Rattle.std.proofs.lemmas.List.{length-map}
 use Rattle.std.specs.Prelude.{Option, slice_set}
 use Rattle.iso_lexer.specs.Devices.{page_text}

@@ -1,7 +1,6 @@
 use Rattle.std.proofs.Common.{◌≡◌, ◌+◌, ◌++◌, [], length, take, drop}
-use Rattle.std.specs.Prelude.{map}
 use Rattle.iso_lexer.specs.Devices.{page_text}
-use Rattle.spec_parser.specs.Trees.{session_view, spec_view}
+use Rattle.spec_parser.specs.Trees.{spec_view}
 use Rattle.report_text.specs.FreeText.{each_says, item_text, item_note}
 use Rattle.report_text.specs.Inner.Table.{IsTable}
 use Rattle.report_text.proofs.free.push_items.Given as goal

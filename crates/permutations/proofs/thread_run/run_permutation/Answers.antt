@@ -5,7 +5,7 @@ use Rattle.session_core.specs.Blocks.{blocks_of}
 use Rattle.spec_parser.specs.Trees.{entry_view, spec_view}
 use Rattle.permutation_plans.specs.Regular.{IsRegular}
 use Rattle.permutations.proofs.Beginning.{one_begun}
-use Rattle.permutations.proofs.run.run_permutation.Goals as goal
+use Rattle.permutations.proofs.thread_run.run_permutation.Goals as goal
 
 pub returns-in_err-write_permutation-clause-begun : goal.returns-in_err-write_permutation-clause-begun
 returns-in_err-write_permutation-clause-begun g c =

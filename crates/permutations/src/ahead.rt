@@ -1,0 +1,160 @@
+//! The permutations of a spec, run ahead of their turn, several side by side.
+
+ghost use Rattle.std.specs.Prelude.{◌≡◌, ◌<◌, ◌≢◌, [], ◌∷◌, ◌++◌, All, length, map, OnOk, IfOk, IfSome, IfNone};
+ghost use Rattle.std.specs.Bool.{OnTrue, OnFalse};
+ghost use Rattle.session_core.specs.Blocks.{blocks_of};
+ghost use Rattle.spec_parser.specs.Trees.{entry_view, spec_view};
+ghost use Rattle.spec_parser.specs.Stands.{Stands};
+ghost use Rattle.permutation_lists.specs.Permutations.{permutations_of};
+ghost use Rattle.permutations.specs.Inner.Drafts.{IsDraft, AreOf, entries_of, lists_of, to_come};
+
+use crate::draft::Draft;
+use permutation_lists::Permutations;
+use session_threads::Gate;
+use spec_parser::{Entry, Spec};
+use sql_parser::Block;
+use std::alloc::{AllocError, Global};
+use std::collections::VecDeque;
+use std::sync::Wait;
+use std::thread;
+use std::thread::Threads;
+
+/// How many permutations run at a time, at most. Each has a thread for each of its sessions.
+const MOST_AT_A_TIME: u64 = 8;
+
+/// The drafts of the permutations whose turn comes next, and the permutations behind them.
+#[derive(Drop)]
+pub struct Ahead<'s> {
+    pub drafts: VecDeque<Draft>,
+    pub behind: Permutations<'s>,
+}
+
+fn copy_entry(alloc: Global, entry: &Entry) -> Result<Entry, AllocError>
+    ensures { IfOk result (λ copy. entry_view copy ≡ entry_view entry.now) }
+{
+    Ok(Entry {
+        session: entry.session,
+        step: entry.step,
+        markers: Vec::from_slice(alloc, &entry.markers)?,
+    })
+}
+
+fn copy_of(alloc: Global, entries: &[Entry]) -> Result<Vec<Entry>, AllocError>
+    ensures { IfOk result (λ copy. map entry_view copy.items ≡ map entry_view entries.now) }
+{
+    let mut copy = Vec::with_capacity(alloc, entries.len())?;
+    for entry in entries {
+        copy.push(copy_entry(alloc, entry)?)?;
+    }
+    Ok(copy)
+}
+
+/// The entries of the next permutations, of at most so many.
+fn take_next(
+    alloc: Global,
+    permutations: &mut Permutations<'_>,
+    most: u64,
+) -> Result<Vec<Vec<Entry>>, AllocError>
+    requires { 0 < most }
+    ensures next { IfOk result (λ taken. permutations.old.more ≡ lists_of taken.items ++ permutations.new.more) }
+    ensures over { IfOk result (λ taken. taken.items ≡ [] → permutations.new.more ≡ []) }
+{
+    let mut taken = Vec::new(alloc);
+    while (taken.len() as u64) < most && permutations.advance(alloc)? {
+        taken.push(copy_of(alloc, permutations.entries())?)?;
+    }
+    Ok(taken)
+}
+
+/// The drafts of these permutations, each run by a thread of its own where one can be started.
+fn drafts_of<G: Gate, R: Threads + Wait + Sync>(
+    rt: &R,
+    alloc: Global,
+    spec: &Spec<'_>,
+    blocks: &[Block<'_>],
+    taken: Vec<Vec<Entry>>,
+    gate: &G,
+) -> Result<Vec<Draft>, AllocError>
+    requires { Stands (spec_view spec.now) }
+    ensures drafts { IfOk result (λ drafts. All (IsDraft (spec_view spec.now) (blocks_of blocks.now)) drafts.items) }
+    ensures long { IfOk result (λ drafts. length drafts.items ≡ length taken.items) }
+    ensures each { IfOk result (λ drafts. AreOf taken.items drafts.items) }
+{
+    thread::map_vec(
+        rt,
+        taken,
+        &|entries|
+            requires { Stands (spec_view spec.now) }
+        { Draft::of(rt, alloc, spec, blocks, entries, gate) },
+    )
+}
+
+impl<'s> Ahead<'s> {
+    /// The permutations of the spec, of which none has run.
+    pub fn of(alloc: Global, spec: &'s Spec<'_>) -> Result<Ahead<'s>, AllocError>
+        requires { Stands (spec_view spec.now) }
+        ensures drafts { IfOk result (λ ahead. ahead.drafts.items ≡ []) }
+        ensures behind { IfOk result (λ ahead. ahead.behind.more ≡ permutations_of (spec_view spec.now)) }
+    {
+        Ok(Ahead {
+            drafts: VecDeque::new(alloc),
+            behind: Permutations::of(alloc, spec)?,
+        })
+    }
+
+    /// Runs the next permutations, of at most so many, where no draft is left.
+    fn fill<G: Gate, R: Threads + Wait + Sync>(
+        &mut self,
+        rt: &R,
+        alloc: Global,
+        spec: &Spec<'_>,
+        blocks: &[Block<'_>],
+        most: u64,
+        gate: &G,
+    ) -> Result<(), AllocError>
+        requires stands { Stands (spec_view spec.now) }
+        requires some { 0 < most }
+        requires drafts { All (IsDraft (spec_view spec.now) (blocks_of blocks.now)) self.old.drafts.items }
+        ensures drafts { OnOk result (All (IsDraft (spec_view spec.now) (blocks_of blocks.now)) self.new.drafts.items) }
+        ensures same { OnOk result (to_come self.old.drafts.items self.old.behind.more ≡ to_come self.new.drafts.items self.new.behind.more) }
+        ensures over { OnOk result (self.new.drafts.items ≡ [] → self.new.behind.more ≡ []) }
+    {
+        if !self.drafts.is_empty() {
+            return Ok(());
+        }
+        let taken = take_next(alloc, &mut self.behind, most.min(MOST_AT_A_TIME))?;
+        self.drafts = drafts_of(rt, alloc, spec, blocks, taken, gate)?.into();
+        Ok(())
+    }
+
+    /// Takes the draft of the permutation whose turn it is. Where none was run ahead, the next ones run, of at most so many.
+    pub fn next<G: Gate, R: Threads + Wait + Sync>(
+        &mut self,
+        rt: &R,
+        alloc: Global,
+        spec: &Spec<'_>,
+        blocks: &[Block<'_>],
+        most: u64,
+        gate: &G,
+    ) -> Result<Option<Draft>, AllocError>
+        requires stands { Stands (spec_view spec.now) }
+        requires some { 0 < most }
+        requires drafts { All (IsDraft (spec_view spec.now) (blocks_of blocks.now)) self.old.drafts.items }
+        ensures drafts { OnOk result (All (IsDraft (spec_view spec.now) (blocks_of blocks.now)) self.new.drafts.items) }
+        ensures is { IfOk result (λ next. IfSome next (IsDraft (spec_view spec.now) (blocks_of blocks.now))) }
+        ensures next { IfOk result (λ next. IfSome next (λ draft.
+            to_come self.old.drafts.items self.old.behind.more ≡ entries_of draft ∷ to_come self.new.drafts.items self.new.behind.more)) }
+        ensures over { IfOk result (λ next. IfNone next (to_come self.old.drafts.items self.old.behind.more ≡ [])) }
+    {
+        self.fill(rt, alloc, spec, blocks, most, gate)?;
+        Ok(self.drafts.pop_front())
+    }
+
+    /// Whether no permutation is left.
+    pub fn is_over(&mut self, alloc: Global) -> Result<bool, AllocError>
+        ensures over { IfOk result (λ over. OnTrue over (to_come self.old.drafts.items self.old.behind.more ≡ [])) }
+        ensures more { IfOk result (λ over. OnFalse over (to_come self.old.drafts.items self.old.behind.more ≢ [])) }
+    {
+        Ok(self.drafts.is_empty() && !self.behind.advance(alloc)?)
+    }
+}
