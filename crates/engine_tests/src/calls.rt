@@ -2,7 +2,7 @@
 //! Each test also passes where any one allocation fails: the engine is then spent as it says, and the test is run again.
 
 use self::Given::{Launch, Leave, Step};
-use crate::trial::{Engine, Line, Wrong, act, blocks, engine_of, holds};
+use crate::trial::{Engine, Line, Wrong, act, at_last, blocks, engine_of, holds};
 use crate::words::{add_outcome, add_rows, refusal_text};
 use session_core::replays;
 use session_machine::{EngineFault, Event, HistItem, Mode, Reply, Turn};
@@ -310,8 +310,5 @@ fn all_once(rt: &impl Abort, alloc: Global) -> Result<(), Wrong> {
 
 #[test]
 fn two_sessions_by_calls(rt: HostRuntime) -> Result<(), Fail> {
-    match all_once(&rt, rt.alloc()) {
-        Err(Wrong::Memory) => Ok(all_once(&rt, rt.alloc())?),
-        answer => Ok(answer?),
-    }
+    at_last!(all_once(&rt, rt.alloc()))
 }

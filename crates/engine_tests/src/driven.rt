@@ -2,7 +2,7 @@
 ghost use Rattle.std.specs.Prelude.{◌==◌, length, if◌then◌else◌};
 ghost use Rattle.session_machine.specs.declared.event.Order.TheVariants.{Launch, Stop};
 
-use crate::trial::{Engine, Wrong, engine_of, holds};
+use crate::trial::{Engine, Wrong, at_last, engine_of, holds};
 use row_versions::Versions;
 use session_core::EngineState;
 use session_machine::{Mode, Order};
@@ -66,8 +66,5 @@ fn asked_once(rt: &impl Abort, alloc: Global) -> Result<(), Wrong> {
 
 #[test]
 fn a_driver_is_asked_and_lent(rt: HostRuntime) -> Result<(), Fail> {
-    match asked_once(&rt, rt.alloc()) {
-        Err(Wrong::Memory) => Ok(asked_once(&rt, rt.alloc())?),
-        answer => Ok(answer?),
-    }
+    at_last!(asked_once(&rt, rt.alloc()))
 }

@@ -1,7 +1,7 @@
 //! Interleavings at random of statements that write keys. After each no two rows of the table have one key,
 //! and its history replays. The generator is fixed, so they are the same ones in each run.
 
-use crate::trial::{Engine, Line, Wrong, blocks, engine_of, holds};
+use crate::trial::{Engine, Line, Wrong, at_last, blocks, engine_of, holds};
 use session_core::replays;
 use session_machine::{EngineFault, Mode, Outcome, StmtFault, Turn};
 use sql_parser::Block;
@@ -163,8 +163,5 @@ fn all_once(rt: &impl Abort, alloc: Global) -> Result<(), Wrong> {
 
 #[test]
 fn interleavings_keep_keys_unique(rt: HostRuntime) -> Result<(), Fail> {
-    match all_once(&rt, rt.alloc()) {
-        Err(Wrong::Memory) => Ok(all_once(&rt, rt.alloc())?),
-        answer => Ok(answer?),
-    }
+    at_last!(all_once(&rt, rt.alloc()))
 }

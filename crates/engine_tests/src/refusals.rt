@@ -3,13 +3,17 @@
 
 use crate::calls::Given::{Launch, Step};
 use crate::calls::{Call, has_answer};
-use crate::trial::{Engine, Line, Wrong, blocks, engine_of, holds};
+use crate::trial::{Engine, Line, Wrong, at_last, blocks, engine_of, holds};
+use crate::waits::{ACCT, SHARE};
 use session_core::replays;
 use session_machine::{EngineFault, Mode, Turn};
 use sql_parser::Block;
 use std::alloc::Global;
 use std::process::Abort;
 use std::test::Fail;
+
+/// A session is given a block, if any, and then makes steps with these answers.
+type Round = (u32, Option<u32>, &'static [&'static str]);
 
 /// Session 2 deletes what session 1 has changed.
 const DELETE: [Line<'static>; 5] = [
@@ -24,65 +28,38 @@ const DELETE: [Line<'static>; 5] = [
     (2, "SELECT hits FROM website ORDER BY hits", ""),
 ];
 
-const DELETE_CALLS: [Call; 13] = [
-    (Launch(0, 0), "answered"),
-    (Step(0), "answered"),
-    (Step(0), "answered, ended"),
-    (Launch(1, 1), "answered"),
-    (Step(1), "answered"),
-    (Step(1), "answered, ended"),
-    (Launch(2, 2), "answered"),
-    (Step(2), "answered waits"),
-    (Launch(1, 3), "answered"),
-    (Step(1), "answered, ended"),
-    (Step(2), "answered, ended"),
-    (Launch(2, 4), "answered"),
-    (Step(2), "answered hits | 10 | 11, ended"),
+const DELETE_ROUNDS: [Round; 6] = [
+    (0, Some(0), &["answered", "answered, ended"]),
+    (1, Some(1), &["answered", "answered, ended"]),
+    (2, Some(2), &["answered waits"]),
+    (1, Some(3), &["answered, ended"]),
+    (2, None, &["answered, ended"]),
+    (2, Some(4), &["answered hits | 10 | 11, ended"]),
 ];
 
 /// Sessions 1, 2 and 4 share the row for which session 3 waits, and session 4 asks for the row that session 3 holds.
 const LATER: [Line<'static>; 6] = [
-    (
-        0,
-        "CREATE TABLE acct (id int, bal int); INSERT INTO acct VALUES (1, 100), (2, 200)",
-        "",
-    ),
-    (1, "BEGIN; SELECT id FROM acct WHERE id = 1 FOR SHARE", ""),
+    ACCT,
+    (1, SHARE, ""),
     (3, "BEGIN; UPDATE acct SET bal = 0 WHERE id = 2", ""),
     (3, "UPDATE acct SET bal = 0 WHERE id = 1", ""),
     (4, "UPDATE acct SET bal = 5 WHERE id = 2", ""),
     (1, "COMMIT", ""),
 ];
 
-const LATER_CALLS: [Call; 28] = [
-    (Launch(0, 0), "answered"),
-    (Step(0), "answered"),
-    (Step(0), "answered, ended"),
-    (Launch(1, 1), "answered"),
-    (Step(1), "answered"),
-    (Step(1), "answered id | 1, ended"),
-    (Launch(2, 1), "answered"),
-    (Step(2), "answered"),
-    (Step(2), "answered id | 1, ended"),
-    (Launch(3, 2), "answered"),
-    (Step(3), "answered"),
-    (Step(3), "answered, ended"),
-    (Launch(3, 3), "answered"),
-    (Step(3), "answered waits"),
-    (Launch(4, 1), "answered"),
-    (Step(4), "answered"),
-    (Step(4), "answered id | 1, ended"),
-    (Launch(4, 4), "answered"),
-    (Step(4), "answered deadlock, ended"),
-    (Launch(1, 5), "answered"),
-    (Step(1), "answered, ended"),
-    (Launch(2, 5), "answered"),
-    (Step(2), "answered, ended"),
-    (Step(3), "answered, ended"),
-    (Launch(3, 5), "answered"),
-    (Step(3), "answered, ended"),
-    (Launch(4, 5), "answered"),
-    (Step(4), "answered, ended"),
+const LATER_ROUNDS: [Round; 12] = [
+    (0, Some(0), &["answered", "answered, ended"]),
+    (1, Some(1), &["answered", "answered id | 1, ended"]),
+    (2, Some(1), &["answered", "answered id | 1, ended"]),
+    (3, Some(2), &["answered", "answered, ended"]),
+    (3, Some(3), &["answered waits"]),
+    (4, Some(1), &["answered", "answered id | 1, ended"]),
+    (4, Some(4), &["answered deadlock, ended"]),
+    (1, Some(5), &["answered, ended"]),
+    (2, Some(5), &["answered, ended"]),
+    (3, None, &["answered, ended"]),
+    (3, Some(5), &["answered, ended"]),
+    (4, Some(5), &["answered, ended"]),
 ];
 
 /// Session 2 waits for a key that session 1 has written, which then asks for one that session 2 has written.
@@ -95,21 +72,14 @@ const KEYS: [Line<'static>; 6] = [
     (1, "INSERT INTO t VALUES (3, 3)", ""),
 ];
 
-const KEY_CALLS: [Call; 14] = [
-    (Launch(0, 0), "answered"),
-    (Step(0), "answered, ended"),
-    (Launch(1, 1), "answered"),
-    (Step(1), "answered"),
-    (Step(1), "answered, ended"),
-    (Launch(2, 2), "answered"),
-    (Step(2), "answered waits"),
-    (Launch(1, 3), "answered"),
-    (Step(1), "answered deadlock, ended"),
-    (Step(2), "answered, ended"),
-    (Launch(1, 4), "answered"),
-    (Step(1), "answered, ended"),
-    (Launch(1, 5), "answered"),
-    (Step(1), "answered taken t_v_key, ended"),
+const KEY_ROUNDS: [Round; 7] = [
+    (0, Some(0), &["answered, ended"]),
+    (1, Some(1), &["answered", "answered, ended"]),
+    (2, Some(2), &["answered waits"]),
+    (1, Some(3), &["answered deadlock, ended"]),
+    (2, None, &["answered, ended"]),
+    (1, Some(4), &["answered, ended"]),
+    (1, Some(5), &["answered taken t_v_key, ended"]),
 ];
 
 /// An event without an answer leaves the history as it was where the engine is spent, and only there;
@@ -132,49 +102,69 @@ fn stands(
     Ok(())
 }
 
-/// The calls have their answers, up to one that is refused memory.
+fn is_answered(
+    rt: &impl Abort,
+    alloc: Global,
+    engine: &mut Engine<'_, '_>,
+    blocks: &[Block<'_>],
+    call: &Call,
+) -> Result<(), Wrong> {
+    let before = engine.history().len();
+    if let Err(wrong) = has_answer(rt, alloc, engine, call) {
+        stands(rt, alloc, engine, blocks, before)?;
+        return Err(wrong);
+    }
+    Ok(())
+}
+
+/// The rounds have their answers, up to one that is refused memory: so many events.
 fn walks(
     rt: &impl Abort,
     alloc: Global,
     blocks: &[Block<'_>],
-    calls: &[Call],
+    rounds: &[Round],
+    events: usize,
 ) -> Result<(), Wrong> {
     let mut engine = engine_of(alloc, blocks, 4, Mode::Directed)?;
-    for call in calls {
-        let before = engine.history().len();
-        if let Err(wrong) = has_answer(rt, alloc, &mut engine, call) {
-            stands(rt, alloc, &mut engine, blocks, before)?;
-            return Err(wrong);
+    for (session, block, answers) in rounds {
+        if let Some(block) = block {
+            let launch = (Launch(*session, *block), "answered");
+            is_answered(rt, alloc, &mut engine, blocks, &launch)?;
+        }
+        for answer in *answers {
+            let step = (Step(*session), *answer);
+            is_answered(rt, alloc, &mut engine, blocks, &step)?;
         }
     }
-    holds(rt, "events", engine.history().len() == calls.len());
+    holds(rt, "events", engine.history().len() == events);
     Ok(())
 }
 
-fn run(rt: &impl Abort, alloc: Global, lines: &[Line<'_>], calls: &[Call]) -> Result<(), Wrong> {
+/// Blocks, who is given which of them with which answers, and the number of events.
+type Run = (&'static [Line<'static>], &'static [Round], usize);
+
+fn walks_over(rt: &impl Abort, alloc: Global, run: Run) -> Result<(), Wrong> {
+    let (lines, rounds, events) = run;
     let blocks = blocks(alloc, lines)?;
-    walks(rt, alloc, &blocks, calls)
+    walks(rt, alloc, &blocks, rounds, events)
 }
 
 /// One allocation at most fails, so the second run has all its answers.
-fn again(rt: &impl Abort, alloc: Global, lines: &[Line<'_>], calls: &[Call]) -> Result<(), Fail> {
-    match run(rt, alloc, lines, calls) {
-        Err(Wrong::Memory) => Ok(run(rt, alloc, lines, calls)?),
-        answer => Ok(answer?),
-    }
+fn again(rt: &impl Abort, alloc: Global, run: Run) -> Result<(), Fail> {
+    at_last!(walks_over(rt, alloc, run))
 }
 
 #[test]
 fn a_delete_that_waits_is_refused_memory(rt: HostRuntime) -> Result<(), Fail> {
-    again(&rt, rt.alloc(), &DELETE, &DELETE_CALLS)
+    again(&rt, rt.alloc(), (&DELETE, &DELETE_ROUNDS, 13))
 }
 
 #[test]
 fn a_deadlock_of_sharers_is_refused_memory(rt: HostRuntime) -> Result<(), Fail> {
-    again(&rt, rt.alloc(), &LATER, &LATER_CALLS)
+    again(&rt, rt.alloc(), (&LATER, &LATER_ROUNDS, 28))
 }
 
 #[test]
 fn a_cycle_of_keys_is_refused_memory(rt: HostRuntime) -> Result<(), Fail> {
-    again(&rt, rt.alloc(), &KEYS, &KEY_CALLS)
+    again(&rt, rt.alloc(), (&KEYS, &KEY_ROUNDS, 14))
 }

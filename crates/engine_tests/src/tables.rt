@@ -1,6 +1,6 @@
 //! Tables of tests: each line is a session, the block that it is given, and what that says.
 
-use crate::trial::{Engine, Line, Wrong, blocks, engine_of, holds};
+use crate::trial::{Engine, Line, Wrong, at_last, blocks, engine_of, holds};
 use crate::words::add_outcome;
 use session_machine::{Mode, Turn};
 use sql_parser::Block;
@@ -56,8 +56,5 @@ fn check_once(rt: &impl Abort, alloc: Global, lines: &[Line<'_>]) -> Result<(), 
 
 /// The blocks of the lines, one after the other, say what the lines have; where memory was refused they are run once more.
 pub fn check(rt: &impl Abort, alloc: Global, lines: &[Line<'_>]) -> Result<(), Fail> {
-    match check_once(rt, alloc, lines) {
-        Err(Wrong::Memory) => Ok(check_once(rt, alloc, lines)?),
-        answer => Ok(answer?),
-    }
+    at_last!(check_once(rt, alloc, lines))
 }

@@ -46,6 +46,18 @@ impl From<EngineFault> for Wrong {
     }
 }
 
+/// Runs it once more where memory was refused.
+macro_rules! at_last {
+    ($run:expr) => {
+        match $run {
+            Err($crate::trial::Wrong::Memory) => Ok($run?),
+            answer => Ok(answer?),
+        }
+    };
+}
+
+pub(crate) use at_last;
+
 pub fn holds(rt: &impl Abort, line: &str, fact: bool) {
     assert!(rt; fact, "{line}");
 }

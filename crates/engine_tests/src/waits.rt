@@ -3,14 +3,14 @@
 use crate::calls::Given::{Launch, Step};
 use crate::calls::{Call, all_see, has_answer};
 use crate::tables::check;
-use crate::trial::{Line, Wrong, blocks, engine_of};
+use crate::trial::{Line, Wrong, at_last, blocks, engine_of};
 use session_machine::Mode;
 use sql_parser::Block;
 use std::alloc::Global;
 use std::process::Abort;
 use std::test::Fail;
 
-const ACCT: Line<'static> = (
+pub const ACCT: Line<'static> = (
     0,
     "CREATE TABLE acct (id int, bal int); INSERT INTO acct VALUES (1, 100), (2, 200)",
     "",
@@ -20,6 +20,9 @@ const ADD: &str = "BEGIN; UPDATE acct SET bal = bal + 100 WHERE id = 1";
 
 const ADD_REPEATABLE: &str =
     "BEGIN ISOLATION LEVEL REPEATABLE READ; UPDATE acct SET bal = bal + 100 WHERE id = 1";
+
+/// Shares the row of the first account.
+pub const SHARE: &str = "BEGIN; SELECT id FROM acct WHERE id = 1 FOR SHARE";
 
 const ALL: &str = "COMMIT; SELECT * FROM acct ORDER BY id";
 
@@ -102,23 +105,11 @@ fn cycles_of_waits_are_refused(rt: HostRuntime) -> Result<(), Fail> {
             (2, "UPDATE acct SET bal = 2 WHERE id = 1", " deadlock"),
             (2, "COMMIT", ""),
             (1, ALL, " id bal | 1 1 | 2 1"),
-            (
-                1,
-                "BEGIN; SELECT id FROM acct WHERE id = 1 FOR SHARE",
-                " id | 1",
-            ),
-            (
-                2,
-                "BEGIN; SELECT id FROM acct WHERE id = 1 FOR SHARE",
-                " id | 1",
-            ),
+            (1, SHARE, " id | 1"),
+            (2, SHARE, " id | 1"),
             (3, "BEGIN; UPDATE acct SET bal = 0 WHERE id = 2", ""),
             (3, "UPDATE acct SET bal = 0 WHERE id = 1", " waits"),
-            (
-                4,
-                "BEGIN; SELECT id FROM acct WHERE id = 1 FOR SHARE",
-                " id | 1",
-            ),
+            (4, SHARE, " id | 1"),
             (4, "UPDATE acct SET bal = 5 WHERE id = 2", " deadlock"),
             (1, "COMMIT", ""),
             (2, "COMMIT", ""),
@@ -214,8 +205,5 @@ fn refused_twice(rt: &impl Abort, alloc: Global) -> Result<(), Wrong> {
 
 #[test]
 fn a_session_that_waits_is_not_stepped(rt: HostRuntime) -> Result<(), Fail> {
-    match refused_twice(&rt, rt.alloc()) {
-        Err(Wrong::Memory) => Ok(refused_twice(&rt, rt.alloc())?),
-        answer => Ok(answer?),
-    }
+    at_last!(refused_twice(&rt, rt.alloc()))
 }

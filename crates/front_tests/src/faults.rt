@@ -12,7 +12,7 @@ fn line_of(alloc: Global, fault: &SpecFault) -> Result<String, AllocError> {
 }
 
 /// Told again where memory was refused.
-fn prints(rt: &impl Abort, alloc: Global, fault: SpecFault, line: &str) -> Result<(), Fail> {
+pub fn prints(rt: &impl Abort, alloc: Global, fault: SpecFault, line: &str) -> Result<(), Fail> {
     let told = match line_of(alloc, &fault) {
         Ok(told) => told,
         Err(_) => line_of(alloc, &fault)?,

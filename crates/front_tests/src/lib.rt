@@ -12,6 +12,8 @@ mod memory;
 #[cfg(test)]
 mod names;
 #[cfg(test)]
+mod rows;
+#[cfg(test)]
 mod spec_files;
 #[cfg(test)]
 mod spec_tokens;

@@ -1,8 +1,10 @@
 //! To be run with each allocation failing in turn: the answer is the one of ample memory, or want of memory, and never a fault.
 
 use crate::asking::holds;
+use crate::faults::prints;
 use iso_lexer::{FromStd, LexFault, ReadFault, read_all, spec_tokens, sql_tokens};
 use spec_parser::{SpecFault, parse_spec};
+use std::test::Fail;
 
 #[test]
 fn want_of_memory_for_tokens(rt: HostRuntime) {
@@ -43,38 +45,26 @@ fn want_of_memory_for_a_spec(rt: HostRuntime) {
 }
 
 #[test]
-fn want_of_memory_for_a_refusal(rt: HostRuntime) {
-    match parse_spec(rt.alloc(), "session s step a { } step b { } step a { }") {
-        Ok(_) => holds(&rt, false, "a step stands twice"),
-        Err(fault) => holds(
-            &rt,
-            matches!(
-                fault,
-                SpecFault::Memory | SpecFault::DuplicateStep { at: 37 }
-            ),
-            "DuplicateStep",
+fn want_of_memory_for_a_refusal(rt: HostRuntime) -> Result<(), Fail> {
+    for (text, line) in [
+        (
+            "session s step a { } step b { } step a { }",
+            "S2 DuplicateStep at byte 37",
         ),
-    }
-    match parse_spec(rt.alloc(), "session s step a { } permutation a b") {
-        Ok(_) => holds(&rt, false, "a step is undefined"),
-        Err(fault) => holds(
-            &rt,
-            matches!(
-                fault,
-                SpecFault::Memory | SpecFault::UndefinedStep { at: 35 }
-            ),
-            "UndefinedStep",
+        (
+            "session s step a { } permutation a b",
+            "S3 UndefinedStep at byte 35",
         ),
-    }
-    match parse_spec(rt.alloc(), "session s step a { } permutation a(*, b)") {
-        Ok(_) => holds(&rt, false, "a marker is undefined"),
-        Err(fault) => holds(
-            &rt,
-            matches!(
-                fault,
-                SpecFault::Memory | SpecFault::UndefinedMarker { at: 38 }
-            ),
-            "UndefinedMarker",
+        (
+            "session s step a { } permutation a(*, b)",
+            "S4 UndefinedMarker at byte 38",
         ),
+    ] {
+        match parse_spec(rt.alloc(), text) {
+            Ok(_) => holds(&rt, false, text),
+            Err(SpecFault::Memory) => {}
+            Err(fault) => prints(&rt, rt.alloc(), fault, line)?,
+        }
     }
+    Ok(())
 }

@@ -1,8 +1,8 @@
 //! Names as the bytes that they stand for.
 
 use crate::asking::holds;
-use crate::devices::Takes;
 use iso_lexer::{Ident, Name, same_name, write_name};
+use test_devices::Takes;
 
 #[test]
 fn names_are_one_by_the_bytes_they_stand_for(rt: HostRuntime) {
@@ -30,7 +30,7 @@ fn names_are_written_as_the_bytes_they_stand_for(rt: HostRuntime) {
     ] {
         let mut out = Takes::new(10);
         let written = write_name(&mut out, &name).is_ok();
-        holds(&rt, written && out.has(text.as_bytes()), text);
+        holds(&rt, written && out.text() == text.as_bytes(), text);
     }
 }
 
@@ -39,6 +39,6 @@ fn a_failing_write_is_told(rt: HostRuntime) {
     let mut out = Takes::new(1);
     for name in [Name::Quoted("a\"\"b"), Name::Quoted(""), Name::Folded("")] {
         holds(&rt, write_name(&mut out, &name).is_err(), "failed");
-        holds(&rt, out.has(b"a\""), "what went out before");
+        holds(&rt, out.text() == b"a\"".as_slice(), "what went out before");
     }
 }

@@ -2,9 +2,10 @@
 //! `most_*` and `too_many_*`.
 
 use crate::asking::holds;
+use crate::faults::prints;
 use iso_lexer::{LONGEST_FILE, Name};
 use spec_parser::{Entry, Marker, Part, SessionPart, Spec, SpecFault, StepPart, parse_spec};
-use std::alloc::{AllocError, Global};
+use std::alloc::Global;
 use std::process::Abort;
 use std::test::Fail;
 
@@ -16,22 +17,12 @@ fn parsed(alloc: Global, text: &str) -> Result<Spec<'_>, SpecFault> {
     }
 }
 
-/// The line of the file's fault; nothing where there is none.
-fn told(alloc: Global, text: &str) -> Result<String, AllocError> {
-    match parsed(alloc, text) {
-        Ok(_) => Ok(String::new(alloc)),
-        Err(fault) => format!(in alloc; "{fault}"),
-    }
-}
-
-/// Told again where memory was refused.
+/// The file is refused with the fault of this line.
 fn refuses(rt: &impl Abort, alloc: Global, text: &str, line: &str) -> Result<(), Fail> {
-    let told = match told(alloc, text) {
-        Ok(told) => told,
-        Err(_) => told(alloc, text)?,
-    };
-    holds(rt, told.as_str() == line, line);
-    Ok(())
+    match parsed(alloc, text) {
+        Ok(_) => Err(Fail::new("not refused")),
+        Err(fault) => prints(rt, alloc, fault, line),
+    }
 }
 
 #[test]

@@ -1,13 +1,10 @@
 //! The tokens of worked spec files.
 
-use crate::asking::holds;
+use crate::rows::{InWords, Row, are_tokens};
 use iso_lexer::{At, Keyword, LexFault, Name, Sign, SpecTok, spec_tokens};
 use std::alloc::Global;
 use std::process::Abort;
 use std::test::Fail;
-
-/// A token: its kind, its text, the byte at which it begins, and the one behind it.
-type Row = (&'static str, &'static str, usize, usize);
 
 fn word_of(keyword: Keyword) -> &'static str {
     match keyword {
@@ -29,32 +26,27 @@ fn byte_of(sign: Sign) -> &'static str {
     }
 }
 
-fn kind_of(tok: &SpecTok<'_>) -> &'static str {
-    match tok {
-        SpecTok::Keyword(keyword) => word_of(*keyword),
-        SpecTok::Name(Name::Plain(_)) => "plain",
-        SpecTok::Name(Name::Quoted(_)) => "quoted",
-        SpecTok::Name(Name::Folded(_)) => "folded",
-        SpecTok::Digits(_) => "digits",
-        SpecTok::Sign(sign) => byte_of(*sign),
-        SpecTok::Block { .. } => "block",
+impl<'a> InWords for SpecTok<'a> {
+    fn kind(&self) -> &'static str {
+        match self {
+            SpecTok::Keyword(keyword) => word_of(*keyword),
+            SpecTok::Name(Name::Plain(_)) => "plain",
+            SpecTok::Name(Name::Quoted(_)) => "quoted",
+            SpecTok::Name(Name::Folded(_)) => "folded",
+            SpecTok::Digits(_) => "digits",
+            SpecTok::Sign(sign) => byte_of(*sign),
+            SpecTok::Block { .. } => "block",
+        }
     }
-}
 
-fn text_of<'a>(tok: &SpecTok<'a>) -> &'a str {
-    match tok {
-        SpecTok::Name(Name::Plain(text) | Name::Quoted(text) | Name::Folded(text)) => *text,
-        SpecTok::Digits(text) => *text,
-        SpecTok::Block { sql, .. } => *sql,
-        SpecTok::Keyword(_) | SpecTok::Sign(_) => "",
+    fn text(&self) -> &str {
+        match self {
+            SpecTok::Name(Name::Plain(text) | Name::Quoted(text) | Name::Folded(text)) => *text,
+            SpecTok::Digits(text) => *text,
+            SpecTok::Block { sql, .. } => *sql,
+            SpecTok::Keyword(_) | SpecTok::Sign(_) => "",
+        }
     }
-}
-
-fn is_told(token: &At<SpecTok<'_>>, row: &Row) -> bool {
-    kind_of(&token.tok) == row.0
-        && text_of(&token.tok) == row.1
-        && token.span.start == row.2
-        && token.span.end == row.3
 }
 
 /// Asked again where memory was refused.
@@ -67,10 +59,7 @@ fn tokens_of(alloc: Global, text: &str) -> Result<Vec<At<SpecTok<'_>>>, LexFault
 
 fn tokens_are(rt: &impl Abort, alloc: Global, text: &str, rows: &[Row]) -> Result<(), Fail> {
     let tokens = tokens_of(alloc, text)?;
-    holds(rt, tokens.len() == rows.len(), text);
-    for (token, row) in tokens.iter().zip(rows.iter()) {
-        holds(rt, is_told(token, row), row.0);
-    }
+    are_tokens(rt, text, &tokens, rows);
     Ok(())
 }
 

@@ -1,36 +1,29 @@
 //! The tokens of worked SQL texts, and their faults.
 
 use crate::asking::holds;
+use crate::rows::{InWords, are_tokens};
 use iso_lexer::{At, FaultKind, LexFault, SqlSign, SqlTok, sql_tokens};
 use std::alloc::Global;
 use std::process::Abort;
 use std::test::Fail;
 
-/// A token: its kind, its text, the byte at which it begins, and the one behind it.
-type Row = (&'static str, &'static str, usize, usize);
-
-fn kind_of(tok: &SqlTok<'_>) -> &'static str {
-    match tok {
-        SqlTok::Word(_) => "word",
-        SqlTok::Quoted(_) => "quoted",
-        SqlTok::Text(_) => "string",
-        SqlTok::Number(_) => "number",
-        SqlTok::Sign(_) => "sign",
+impl<'a> InWords for SqlTok<'a> {
+    fn kind(&self) -> &'static str {
+        match self {
+            SqlTok::Word(_) => "word",
+            SqlTok::Quoted(_) => "quoted",
+            SqlTok::Text(_) => "string",
+            SqlTok::Number(_) => "number",
+            SqlTok::Sign(_) => "sign",
+        }
     }
-}
 
-fn text_of<'a>(tok: &SqlTok<'a>) -> &'a str {
-    match tok {
-        SqlTok::Word(text) | SqlTok::Quoted(text) | SqlTok::Text(text) => *text,
-        SqlTok::Number(_) | SqlTok::Sign(_) => "",
+    fn text(&self) -> &str {
+        match self {
+            SqlTok::Word(text) | SqlTok::Quoted(text) | SqlTok::Text(text) => *text,
+            SqlTok::Number(_) | SqlTok::Sign(_) => "",
+        }
     }
-}
-
-fn is_told(token: &At<SqlTok<'_>>, row: &Row) -> bool {
-    kind_of(&token.tok) == row.0
-        && text_of(&token.tok) == row.1
-        && token.span.start == row.2
-        && token.span.end == row.3
 }
 
 /// Asked again where memory was refused.
@@ -41,21 +34,14 @@ fn tokens_of(alloc: Global, text: &str) -> Result<Vec<At<SqlTok<'_>>>, LexFault>
     }
 }
 
-fn tokens_are(rt: &impl Abort, alloc: Global, text: &str, rows: &[Row]) -> Result<(), Fail> {
-    let tokens = tokens_of(alloc, text)?;
-    holds(rt, tokens.len() == rows.len(), text);
-    for (token, row) in tokens.iter().zip(rows.iter()) {
-        holds(rt, is_told(token, row), row.0);
-    }
-    Ok(())
-}
-
 #[test]
 fn a_select_has_its_words_names_and_strings(rt: HostRuntime) -> Result<(), Fail> {
-    tokens_are(
+    let text = "SELECT \"a\nb\", 'Dianne''s horse' -- till the line's end\nFROM t$1;";
+    let tokens = tokens_of(rt.alloc(), text)?;
+    are_tokens(
         &rt,
-        rt.alloc(),
-        "SELECT \"a\nb\", 'Dianne''s horse' -- till the line's end\nFROM t$1;",
+        text,
+        &tokens,
         &[
             ("word", "SELECT", 0, 6),
             ("quoted", "a\nb", 7, 12),
@@ -65,7 +51,8 @@ fn a_select_has_its_words_names_and_strings(rt: HostRuntime) -> Result<(), Fail>
             ("word", "t$1", 60, 63),
             ("sign", "", 63, 64),
         ],
-    )
+    );
+    Ok(())
 }
 
 /// The text is this one sign.

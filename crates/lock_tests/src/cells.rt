@@ -204,65 +204,49 @@ fn each_cell_is_settled_as_defined(rt: HostRuntime) -> Result<(), Fail> {
     use Change::{Gone, Newer, Own, RolledBack, Unchanged};
     use Level::{ReadCommitted, RepeatableRead};
     use Strength::{Exclusive, Share};
-    let cells = [
+    let levels = [
         (
             ReadCommitted,
-            Unchanged,
-            Exclusive,
-            b"TTTT",
-            b"WWWW",
-            b"WWWW",
-        ),
-        (
-            ReadCommitted,
-            RolledBack,
-            Exclusive,
-            b"TTTT",
-            b"WWWW",
-            b"WWWW",
-        ),
-        (ReadCommitted, Newer, Exclusive, b"NKKF", b"WWWW", b"WWWW"),
-        (ReadCommitted, Gone, Exclusive, b"SSSS", b"WWWW", b"WWWW"),
-        (ReadCommitted, Own, Exclusive, b"TTTT", b"WWWW", b"WWWW"),
-        (ReadCommitted, Unchanged, Share, b"TTTT", b"TTTT", b"WWWW"),
-        (ReadCommitted, RolledBack, Share, b"TTTT", b"TTTT", b"WWWW"),
-        (ReadCommitted, Newer, Share, b"NKKF", b"NKKF", b"WWWW"),
-        (ReadCommitted, Gone, Share, b"SSSS", b"SSSS", b"WWWW"),
-        (ReadCommitted, Own, Share, b"TTTT", b"TTTT", b"WWWW"),
-        (
-            RepeatableRead,
-            Unchanged,
-            Exclusive,
-            b"TTTT",
-            b"WWWW",
-            b"WWWW",
+            [
+                (Unchanged, Exclusive, b"TTTT", b"WWWW", b"WWWW"),
+                (RolledBack, Exclusive, b"TTTT", b"WWWW", b"WWWW"),
+                (Newer, Exclusive, b"NKKF", b"WWWW", b"WWWW"),
+                (Gone, Exclusive, b"SSSS", b"WWWW", b"WWWW"),
+                (Own, Exclusive, b"TTTT", b"WWWW", b"WWWW"),
+                (Unchanged, Share, b"TTTT", b"TTTT", b"WWWW"),
+                (RolledBack, Share, b"TTTT", b"TTTT", b"WWWW"),
+                (Newer, Share, b"NKKF", b"NKKF", b"WWWW"),
+                (Gone, Share, b"SSSS", b"SSSS", b"WWWW"),
+                (Own, Share, b"TTTT", b"TTTT", b"WWWW"),
+            ],
         ),
         (
             RepeatableRead,
-            RolledBack,
-            Exclusive,
-            b"TTTT",
-            b"WWWW",
-            b"WWWW",
+            [
+                (Unchanged, Exclusive, b"TTTT", b"WWWW", b"WWWW"),
+                (RolledBack, Exclusive, b"TTTT", b"WWWW", b"WWWW"),
+                (Newer, Exclusive, b"ZZZZ", b"ZZZZ", b"ZZZZ"),
+                (Gone, Exclusive, b"ZZZZ", b"ZZZZ", b"ZZZZ"),
+                (Own, Exclusive, b"TTTT", b"WWWW", b"WWWW"),
+                (Unchanged, Share, b"TTTT", b"TTTT", b"WWWW"),
+                (RolledBack, Share, b"TTTT", b"TTTT", b"WWWW"),
+                (Newer, Share, b"ZZZZ", b"ZZZZ", b"ZZZZ"),
+                (Gone, Share, b"ZZZZ", b"ZZZZ", b"ZZZZ"),
+                (Own, Share, b"TTTT", b"TTTT", b"WWWW"),
+            ],
         ),
-        (RepeatableRead, Newer, Exclusive, b"ZZZZ", b"ZZZZ", b"ZZZZ"),
-        (RepeatableRead, Gone, Exclusive, b"ZZZZ", b"ZZZZ", b"ZZZZ"),
-        (RepeatableRead, Own, Exclusive, b"TTTT", b"WWWW", b"WWWW"),
-        (RepeatableRead, Unchanged, Share, b"TTTT", b"TTTT", b"WWWW"),
-        (RepeatableRead, RolledBack, Share, b"TTTT", b"TTTT", b"WWWW"),
-        (RepeatableRead, Newer, Share, b"ZZZZ", b"ZZZZ", b"ZZZZ"),
-        (RepeatableRead, Gone, Share, b"ZZZZ", b"ZZZZ", b"ZZZZ"),
-        (RepeatableRead, Own, Share, b"TTTT", b"TTTT", b"WWWW"),
     ];
-    for (level, change, strength, free, shared, exclusive) in cells {
-        let target = Target {
-            level,
-            change,
-            strength,
-        };
-        four_cells(&rt, rt.alloc(), target, None, free)?;
-        four_cells(&rt, rt.alloc(), target, Some(Share), shared)?;
-        four_cells(&rt, rt.alloc(), target, Some(Exclusive), exclusive)?;
+    for (level, cells) in levels {
+        for (change, strength, free, shared, exclusive) in cells {
+            let target = Target {
+                level,
+                change,
+                strength,
+            };
+            four_cells(&rt, rt.alloc(), target, None, free)?;
+            four_cells(&rt, rt.alloc(), target, Some(Share), shared)?;
+            four_cells(&rt, rt.alloc(), target, Some(Exclusive), exclusive)?;
+        }
     }
     Ok(())
 }

@@ -1,12 +1,12 @@
 //! What the tests ask, and of what.
 
-use crate::devices::Takes;
-use command_line::serve;
+use command_line::{serve, serve_at_terminal};
 use iso_lexer::Source;
 use std::alloc::{AllocError, Global};
 use std::process::Abort;
 use std::sync::Wait;
 use std::thread::Threads;
+use test_devices::Takes;
 
 /// Fails the test where the claim is false; `of` says which case it is.
 pub fn holds(rt: &impl Abort, claim: bool, of: &str) {
@@ -23,19 +23,73 @@ pub fn words_of(alloc: Global, words: &[&str]) -> Result<Vec<String>, AllocError
     Ok(all)
 }
 
-/// The status of the program. Where it tells that memory was refused, that is the answer.
+/// How a run of the program ended, and what its output and its errors took.
+#[derive(Drop)]
+pub struct Ran {
+    pub status: u8,
+    pub out: Takes,
+    pub err: Takes,
+}
+
+/// A thread's start takes memory too, and one that is refused is told as such.
+fn tells_of_memory(err: &[u8]) -> bool {
+    err.ends_with(b"isolationtester: Memory\n".as_slice())
+        || err.ends_with(b"isolationtester: R10 Threads\n".as_slice())
+}
+
+/// Where the program tells that memory was refused, that is the answer.
+fn ended(status: u8, out: Takes, err: Takes) -> Result<Ran, AllocError> {
+    if tells_of_memory(err.text()) {
+        return Err(AllocError);
+    }
+    Ok(Ran { status, out, err })
+}
+
+/// A run of the program whose output and errors take so many puts.
 pub fn served<S: Source, R: Threads + Wait + Sync>(
     rt: &R,
     alloc: Global,
     words: &[&str],
     input: &mut S,
-    out: &mut Takes<'_>,
-    err: &mut Takes<'_>,
-) -> Result<u8, AllocError> {
+    puts: (usize, usize),
+) -> Result<Ran, AllocError> {
     let words = words_of(alloc, words)?;
-    let status = serve(rt, alloc, words.as_slice(), input, out, err);
-    if err.was_told_of_memory() {
-        return Err(AllocError);
-    }
-    Ok(status)
+    let mut out = Takes::new(puts.0);
+    let mut err = Takes::new(puts.1);
+    let status = serve(rt, alloc, words.as_slice(), input, &mut out, &mut err);
+    ended(status, out, err)
+}
+
+/// A run of the program at a terminal, which is its input too where that is typed.
+pub fn served_there<S: Source, R: Threads + Wait + Sync>(
+    rt: &R,
+    alloc: Global,
+    words: &[&str],
+    input: &mut S,
+    typed: bool,
+    puts: (usize, usize),
+) -> Result<Ran, AllocError> {
+    let words = words_of(alloc, words)?;
+    let mut out = Takes::new(puts.0);
+    let mut err = Takes::new(puts.1);
+    let status = serve_at_terminal(
+        rt,
+        alloc,
+        words.as_slice(),
+        input,
+        typed,
+        &mut out,
+        &mut err,
+    );
+    ended(status, out, err)
+}
+
+/// Neither the output nor the errors fail.
+pub const ENDLESS: (usize, usize) = (usize::MAX, usize::MAX);
+
+/// The run ended with this status, behind this text and these errors.
+pub fn ends(rt: &impl Abort, run: &Ran, status: u8, text: &str, line: &str) {
+    holds(rt, run.status == status, "the status");
+    holds(rt, run.out.text() == text.as_bytes(), text);
+    holds(rt, run.err.text() == line.as_bytes(), line);
 }

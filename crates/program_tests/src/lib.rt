@@ -7,8 +7,6 @@ mod alone;
 #[cfg(test)]
 mod asking;
 #[cfg(test)]
-mod devices;
-#[cfg(test)]
 mod failures;
 #[cfg(test)]
 mod fault_lines;

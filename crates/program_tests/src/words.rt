@@ -1,10 +1,10 @@
 //! The options that words give, and those that are refused.
 
-use crate::asking::{holds, served, words_of};
-use crate::devices::{Gives, Takes};
+use crate::asking::{ENDLESS, holds, served, words_of};
 use command_line::options_of;
 use std::alloc::AllocError;
 use std::test::Fail;
+use test_devices::Gives;
 
 #[test]
 fn words_give_options(rt: HostRuntime) -> Result<(), Fail> {
@@ -32,7 +32,7 @@ fn words_give_options(rt: HostRuntime) -> Result<(), Fail> {
 
 #[test]
 fn other_words_are_refused_and_help_is_given(rt: HostRuntime) -> Result<(), AllocError> {
-    for (words, ends) in [
+    for (words, status) in [
         (["--limit", "x"].as_slice(), 2),
         (["--limit", "4294967296"].as_slice(), 2),
         (["--limit", "-1"].as_slice(), 2),
@@ -42,12 +42,14 @@ fn other_words_are_refused_and_help_is_given(rt: HostRuntime) -> Result<(), Allo
         (["--help"].as_slice(), 0),
     ] {
         let mut input = Gives::new("", 0);
-        let mut out = Takes::new("", usize::MAX);
-        let mut err = Takes::new("", usize::MAX);
-        let status = served(&rt, rt.alloc(), words, &mut input, &mut out, &mut err)?;
-        holds(&rt, status == ends, "the status");
-        holds(&rt, out.has_taken() == (ends == 0), "help");
-        holds(&rt, err.has_taken() == (ends == 2), "the refusal");
+        let run = served(&rt, rt.alloc(), words, &mut input, ENDLESS)?;
+        holds(&rt, run.status == status, "the status");
+        holds(&rt, run.out.text().is_empty() == (status != 0), "help");
+        holds(
+            &rt,
+            run.err.text().is_empty() == (status != 2),
+            "the refusal",
+        );
     }
     Ok(())
 }

@@ -1,10 +1,9 @@
 //! Tables of tests: each line is a statement, and what it answers or changes at the rows of one table.
 
-ghost use Rattle.std.specs.Bool.{OnTrue};
-ghost use Rattle.std.specs.Prelude.{◌≡◌, All, length};
+ghost use Rattle.std.specs.Prelude.{◌≡◌, All, length, OnOk};
 
 use crate::trial::{Wrong, block};
-use crate::words::{add_fault, add_named, add_places, add_row};
+use crate::words::{add_named, add_places, add_row};
 use session_queries::{
     columns_assigned, columns_set, lacking_filter, lacking_select, lacking_update, new_values,
     passing_places, result_of, row_values, taken_places, updated_values, wrong_position,
@@ -21,10 +20,15 @@ const TABLE: &str = "CREATE TABLE t (id int, a int, b text, c bool)";
 /// A statement, and what it says.
 pub type Line = (&'static str, &'static str);
 
-fn are_as_long(rows: &[&Row], long: usize) -> bool
-    ensures { OnTrue result (All (λ row. length row.now ≡ long) rows.now) }
+/// Each row has so many values.
+fn as_long(rows: &[&Row], long: usize) -> Result<(), Wrong>
+    ensures { OnOk result (All (λ row. length row.now ≡ long) rows.now) }
 {
-    rows.iter().all(|row| row.values().len() == long)
+    if rows.iter().all(|row| row.values().len() == long) {
+        Ok(())
+    } else {
+        Err(Wrong::Written("a row of another length"))
+    }
 }
 
 fn rows_of(alloc: Global, columns: &[Column<'_>], insert: &Insert<'_>) -> Result<Vec<Row>, Wrong> {
@@ -54,21 +58,13 @@ fn say_locked(
     columns: &[Column<'_>],
     rows: &[&Row],
 ) -> Result<(), Wrong> {
-    if !are_as_long(rows, columns.len()) {
-        return Err(Wrong::Written("a row of another length"));
+    as_long(rows, columns.len())?;
+    let places = taken_places(alloc, select, columns, rows)?;
+    for place in &places {
+        let shown = row_values(alloc, &select.items, columns, rows[*place])?;
+        add_row(words, &shown)?;
     }
-    match taken_places(alloc, select, columns, rows) {
-        Ok(places) => {
-            for place in &places {
-                match row_values(alloc, &select.items, columns, rows[*place]) {
-                    Ok(shown) => add_row(words, &shown)?,
-                    Err(fault) => return add_fault(words, fault),
-                }
-            }
-            Ok(())
-        }
-        Err(fault) => add_fault(words, fault),
-    }
+    Ok(())
 }
 
 fn say_shown<'a>(
@@ -78,18 +74,12 @@ fn say_shown<'a>(
     columns: &[Column<'a>],
     rows: &[&Row],
 ) -> Result<(), Wrong> {
-    if !are_as_long(rows, columns.len()) {
-        return Err(Wrong::Written("a row of another length"));
+    as_long(rows, columns.len())?;
+    let set = result_of(alloc, select, columns, rows)?;
+    for row in set.rows() {
+        add_row(words, row)?;
     }
-    match result_of(alloc, select, columns, rows) {
-        Ok(set) => {
-            for row in set.rows() {
-                add_row(words, row)?;
-            }
-            Ok(())
-        }
-        Err(fault) => add_fault(words, fault),
-    }
+    Ok(())
 }
 
 fn say_select<'a>(
@@ -122,21 +112,13 @@ fn say_updated(
     let Ok(targets) = columns_set(alloc, columns, &update.sets)? else {
         return Err(Wrong::Written("a column that isn't there"));
     };
-    if !are_as_long(rows, columns.len()) {
-        return Err(Wrong::Written("a row of another length"));
+    as_long(rows, columns.len())?;
+    let places = passing_places(alloc, &update.filter, columns, rows)?;
+    for place in &places {
+        let row = updated_values(alloc, columns, &targets, &update.sets, rows[*place])?;
+        add_row(words, &row)?;
     }
-    match passing_places(alloc, &update.filter, columns, rows) {
-        Ok(places) => {
-            for place in &places {
-                match updated_values(alloc, columns, &targets, &update.sets, rows[*place]) {
-                    Ok(row) => add_row(words, &row)?,
-                    Err(fault) => return add_fault(words, fault),
-                }
-            }
-            Ok(())
-        }
-        Err(fault) => add_fault(words, fault),
-    }
+    Ok(())
 }
 
 fn say_update(
@@ -165,15 +147,27 @@ fn say_delete(
     if let Some(name) = lacking_filter(columns, &delete.filter) {
         return Ok(add_named(words, " no column ", name.name())?);
     }
-    if !are_as_long(rows, columns.len()) {
-        return Err(Wrong::Written("a row of another length"));
-    }
-    match passing_places(alloc, &delete.filter, columns, rows) {
-        Ok(places) => Ok(add_places(words, &places)?),
-        Err(fault) => add_fault(words, fault),
+    as_long(rows, columns.len())?;
+    let places = passing_places(alloc, &delete.filter, columns, rows)?;
+    Ok(add_places(words, &places)?)
+}
+
+fn add_said<'a>(
+    alloc: Global,
+    words: &mut String,
+    stmt: &Stmt<'a>,
+    columns: &[Column<'a>],
+    rows: &[&Row],
+) -> Result<(), Wrong> {
+    match stmt {
+        Stmt::Select(select) => say_select(alloc, words, select, columns, rows),
+        Stmt::Update(update) => say_update(alloc, words, update, columns, rows),
+        Stmt::Delete(delete) => say_delete(alloc, words, delete, columns, rows),
+        _ => Err(Wrong::Written("another statement")),
     }
 }
 
+/// What the statement says of the rows; a fault comes behind what was said before it.
 pub fn say<'a>(
     alloc: Global,
     stmt: &Stmt<'a>,
@@ -181,11 +175,9 @@ pub fn say<'a>(
     rows: &[&Row],
 ) -> Result<String, Wrong> {
     let mut words = String::new(alloc);
-    match stmt {
-        Stmt::Select(select) => say_select(alloc, &mut words, select, columns, rows)?,
-        Stmt::Update(update) => say_update(alloc, &mut words, update, columns, rows)?,
-        Stmt::Delete(delete) => say_delete(alloc, &mut words, delete, columns, rows)?,
-        _ => return Err(Wrong::Written("another statement")),
+    match add_said(alloc, &mut words, stmt, columns, rows) {
+        Err(Wrong::Fault(fault)) => words.push_str(fault)?,
+        answer => answer?,
     }
     Ok(words)
 }

@@ -10,6 +10,8 @@ use std::alloc::{AllocError, AllocFailed, Global};
 pub enum Wrong {
     Memory,
     Written(&'static str),
+    /// The fault of a value, in words.
+    Fault(&'static str),
 }
 
 impl From<AllocError> for Wrong {
@@ -36,8 +38,12 @@ impl From<SqlFault> for Wrong {
 impl<'a> From<ValueFault<'a>> for Wrong {
     fn from(fault: ValueFault<'a>) -> Self {
         match fault {
+            ValueFault::DivisionByZero => Wrong::Fault(" division by zero"),
+            ValueFault::IntegerRange => Wrong::Fault(" integer out of range"),
+            ValueFault::BigintRange => Wrong::Fault(" bigint out of range"),
+            ValueFault::TypeMismatch => Wrong::Fault(" type mismatch"),
+            ValueFault::NoColumn(_) => Wrong::Fault(" no column"),
             ValueFault::Memory => Wrong::Memory,
-            _ => Wrong::Written("a row with a fault"),
         }
     }
 }

@@ -1,8 +1,7 @@
-//! Answers in a few words: each row behind a bar; or the fault, and the name that it tells.
+//! Answers in a few words: each row behind a bar, or the name that isn't there.
 
-use crate::trial::Wrong;
 use iso_lexer::Name;
-use sql_values::{Row, Value, ValueFault};
+use sql_values::{Row, Value};
 use std::alloc::AllocError;
 
 fn name_text<'a>(name: Name<'a>) -> &'a str {
@@ -43,15 +42,4 @@ pub fn add_places(words: &mut String, places: &[usize]) -> Result<(), AllocError
 pub fn add_named(words: &mut String, what: &str, name: Name<'_>) -> Result<(), AllocError> {
     words.push_str(what)?;
     words.push_str(name_text(name))
-}
-
-pub fn add_fault(words: &mut String, fault: ValueFault<'_>) -> Result<(), Wrong> {
-    Ok(words.push_str(match fault {
-        ValueFault::DivisionByZero => " division by zero",
-        ValueFault::IntegerRange => " integer out of range",
-        ValueFault::BigintRange => " bigint out of range",
-        ValueFault::TypeMismatch => " type mismatch",
-        ValueFault::NoColumn(_) => " no column",
-        ValueFault::Memory => return Err(Wrong::Memory),
-    })?)
 }

@@ -1,7 +1,7 @@
 //! The lines of statements that fail, as PostgreSQL prints them. Those of faults of values stand in the example files.
 
 use crate::histories::{holds, last, launch, leave};
-use crate::texts::{Case, ENDLESS, report};
+use crate::texts::{ENDLESS, report};
 use iso_lexer::{Ident, Name};
 use session_machine::{KeyName, Outcome, StmtFault};
 use std::alloc::{AllocError, Global};
@@ -29,12 +29,8 @@ fn c<'a>() -> Ident<'a> {
 
 fn prints(alloc: Global, fault: StmtFault<'_>, wanted: &str) -> Result<bool, &'static str> {
     let items = [launch(1, 0), last(1, Outcome::Failed(fault)), leave(1)];
-    let case = Case {
-        text: "session s step a { SELECT 2 } permutation a",
-        items: &items,
-        puts: ENDLESS,
-    };
-    let run = report(alloc, &case)?;
+    let text = "session s step a { SELECT 2 } permutation a";
+    let run = report(alloc, text, &items, ENDLESS)?;
     Ok(is_error(run.out.text(), wanted))
 }
 

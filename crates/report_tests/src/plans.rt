@@ -5,6 +5,7 @@ use permutation_plans::{Launches, launches_fit};
 use session_machine::{HistItem, Order};
 use spec_parser::parse_spec;
 use std::alloc::{AllocError, Global};
+use std::process::Abort;
 use std::test::Fail;
 
 /// Block 0 is that of step a, block 1 that of step b.
@@ -24,92 +25,32 @@ enum Part {
 
 use Part::{Out, To};
 
-struct Case {
-    text: &'static str,
-    parts: &'static [Part],
-    fits: bool,
-}
+/// Orders, and whether their history fits the permutation.
+type Case<'a> = (&'a [Part], bool);
 
-const CASES: [Case; 10] = [
-    Case {
-        text: STAR_MARKER,
-        parts: &[To(1, 0), To(2, 1), Out(1), Out(2)],
-        fits: true,
-    },
+const STAR_CASES: [Case<'static>; 7] = [
+    (&[To(1, 0), To(2, 1), Out(1), Out(2)], true),
     // cut off
-    Case {
-        text: STAR_MARKER,
-        parts: &[To(1, 0), To(2, 1), Out(1)],
-        fits: false,
-    },
-    Case {
-        text: STAR_MARKER,
-        parts: &[],
-        fits: false,
-    },
+    (&[To(1, 0), To(2, 1), Out(1)], false),
+    (&[], false),
     // gone on
-    Case {
-        text: STAR_MARKER,
-        parts: &[To(1, 0), To(2, 1), Out(1), Out(2), Out(2)],
-        fits: false,
-    },
+    (&[To(1, 0), To(2, 1), Out(1), Out(2), Out(2)], false),
     // another block, session, order
-    Case {
-        text: STAR_MARKER,
-        parts: &[To(1, 0), To(2, 0), Out(1), Out(2)],
-        fits: false,
-    },
-    Case {
-        text: STAR_MARKER,
-        parts: &[To(1, 0), To(1, 1), Out(1), Out(2)],
-        fits: false,
-    },
-    Case {
-        text: STAR_MARKER,
-        parts: &[To(2, 1), To(1, 0), Out(1), Out(2)],
-        fits: false,
-    },
-    Case {
-        text: SETUPS_AND_TEARDOWNS,
-        parts: &[
-            To(0, 0),
-            To(2, 2),
-            To(2, 3),
-            To(1, 1),
-            To(2, 3),
-            To(2, 4),
-            Out(1),
-            Out(2),
-        ],
-        fits: true,
-    },
-    // without the main setup, and without the last Leave
-    Case {
-        text: SETUPS_AND_TEARDOWNS,
-        parts: &[
-            To(2, 2),
-            To(2, 3),
-            To(1, 1),
-            To(2, 3),
-            To(2, 4),
-            Out(1),
-            Out(2),
-        ],
-        fits: false,
-    },
-    Case {
-        text: SETUPS_AND_TEARDOWNS,
-        parts: &[
-            To(0, 0),
-            To(2, 2),
-            To(2, 3),
-            To(1, 1),
-            To(2, 3),
-            To(2, 4),
-            Out(1),
-        ],
-        fits: false,
-    },
+    (&[To(1, 0), To(2, 0), Out(1), Out(2)], false),
+    (&[To(1, 0), To(1, 1), Out(1), Out(2)], false),
+    (&[To(2, 1), To(1, 0), Out(1), Out(2)], false),
+];
+
+/// The orders of the permutation with setups and a teardown.
+const WHOLE: [Part; 8] = [
+    To(0, 0),
+    To(2, 2),
+    To(2, 3),
+    To(1, 1),
+    To(2, 3),
+    To(2, 4),
+    Out(1),
+    Out(2),
 ];
 
 /// The history of these orders, each Launch with the one Step of its block.
@@ -128,9 +69,9 @@ fn history<'a>(alloc: Global, parts: &[Part]) -> Result<Vec<HistItem<'a>>, Alloc
 }
 
 /// Whether the history of these orders fits the first permutation of the text. None where memory was refused.
-fn fits(alloc: Global, case: &Case) -> Option<bool> {
-    let spec = parse_spec(alloc, case.text).ok()?;
-    let items = history(alloc, case.parts).ok()?;
+fn fits(alloc: Global, text: &str, parts: &[Part]) -> Option<bool> {
+    let spec = parse_spec(alloc, text).ok()?;
+    let items = history(alloc, parts).ok()?;
     let entries = spec.perms.first()?;
     if spec.sessions.len() > 64 {
         return None;
@@ -138,13 +79,24 @@ fn fits(alloc: Global, case: &Case) -> Option<bool> {
     launches_fit(alloc, &spec, entries, &items).ok()
 }
 
-#[test]
-fn histories_fit(rt: HostRuntime) -> Result<(), Fail> {
-    for case in &CASES {
-        let fit = fits(rt.alloc(), case).ok_or("out of memory")?;
-        holds(&rt, fit == case.fits);
+fn all_fit(rt: &impl Abort, alloc: Global, text: &str, cases: &[Case<'_>]) -> Result<(), Fail> {
+    for (parts, wanted) in cases {
+        let fit = fits(alloc, text, *parts).ok_or("out of memory")?;
+        holds(rt, fit == *wanted);
     }
     Ok(())
+}
+
+#[test]
+fn histories_fit(rt: HostRuntime) -> Result<(), Fail> {
+    all_fit(&rt, rt.alloc(), STAR_MARKER, &STAR_CASES)?;
+    // whole, without the main setup, and without the last Leave
+    let cases = [
+        (&WHOLE[..], true),
+        (&WHOLE[1..], false),
+        (&WHOLE[..7], false),
+    ];
+    all_fit(&rt, rt.alloc(), SETUPS_AND_TEARDOWNS, &cases)
 }
 
 /// The order after the two setups. None where memory was refused.

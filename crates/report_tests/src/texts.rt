@@ -1,75 +1,19 @@
 //! Reports byte for byte, of histories made by hand, and what a failing sink answers.
 
-ghost use Rattle.std.specs.Prelude.{None};
 ghost use Rattle.std.specs.Bool.{OnTrue};
 ghost use Rattle.result_tables.specs.Results.{IsEven};
 
 use crate::histories::{done, holds, item, last, launch, leave, waits};
-use iso_lexer::{DeviceFault, Ident, Name, Sink};
+use iso_lexer::{Ident, Name};
 use report_text::{Ended, ReportFault, write_permutation};
 use result_tables::{ResultSet, Title};
 use session_machine::{Event, HistItem, Outcome, StmtFault};
 use spec_parser::{Entry, Spec, parse_spec};
 use sql_values::{Row, Value};
 use std::alloc::{AllocError, Global};
+use std::process::Abort;
 use std::test::Fail;
-
-/// A sink that keeps its first bytes, takes no memory, and fails once so many puts are done.
-#[derive(Drop)]
-pub(crate) struct Kept {
-    bytes: [u8; 1024],
-    len: usize,
-    puts: usize,
-    failed: bool,
-}
-
-impl Kept {
-    fn new(puts: usize) -> Kept {
-        Kept {
-            bytes: [0; 1024],
-            len: 0,
-            puts,
-            failed: false,
-        }
-    }
-
-    pub(crate) fn text(&self) -> &[u8] {
-        match self.bytes.get(..self.len) {
-            Some(text) => text,
-            None => &[],
-        }
-    }
-}
-
-/// Keeps more bytes, as far as there is room, and says how many there are.
-fn keep(bytes: &mut [u8], len: usize, more: &[u8]) -> usize {
-    let mut end = len;
-    for byte in more {
-        if end < bytes.len() {
-            bytes[end] = *byte;
-            end += 1;
-        }
-    }
-    end
-}
-
-impl Sink for Kept {
-    ghost put_so_far = { λ _. None };
-
-    ghost failed = { λ s. s.failed };
-
-    fn put(&mut self, bytes: &[u8]) -> Result<(), DeviceFault> {
-        if self.puts == 0 {
-            self.failed = true;
-        }
-        if self.failed {
-            return Err(DeviceFault);
-        }
-        self.puts -= 1;
-        self.len = keep(&mut self.bytes, self.len, bytes);
-        Ok(())
-    }
-}
+use test_devices::Takes;
 
 #[derive(Clone, Copy, PartialEq, Eq)]
 pub(crate) enum Ending {
@@ -91,21 +35,14 @@ fn ending_of(ended: Result<Ended, ReportFault>) -> Result<Ending, &'static str> 
     }
 }
 
-/// A file and a history of its first permutation, and after how many puts each sink fails.
-#[derive(Clone, Copy)]
-pub(crate) struct Case<'a> {
-    pub(crate) text: &'a str,
-    pub(crate) items: &'a [HistItem<'a>],
-    pub(crate) puts: (usize, usize),
-}
-
+/// Neither sink fails.
 pub(crate) const ENDLESS: (usize, usize) = (usize::MAX, usize::MAX);
 
 /// What the report says, and how it ends.
 #[derive(Drop)]
 pub(crate) struct Reported {
-    pub(crate) out: Kept,
-    pub(crate) notes: Kept,
+    pub(crate) out: Takes,
+    pub(crate) notes: Takes,
     pub(crate) ending: Ending,
 }
 
@@ -116,21 +53,20 @@ fn entries_of<'s>(spec: &'s Spec<'_>) -> &'s [Entry] {
     }
 }
 
-pub(crate) fn report(alloc: Global, case: &Case<'_>) -> Result<Reported, &'static str> {
-    let spec = match parse_spec(alloc, case.text) {
+/// The report of a file's first permutation with this history, where the sinks of text and notes take so many puts.
+pub(crate) fn report<'a>(
+    alloc: Global,
+    text: &'a str,
+    items: &'a [HistItem<'a>],
+    puts: (usize, usize),
+) -> Result<Reported, &'static str> {
+    let spec = match parse_spec(alloc, text) {
         Ok(spec) => spec,
         Err(_) => return Err("out of memory"),
     };
-    let mut out = Kept::new(case.puts.0);
-    let mut notes = Kept::new(case.puts.1);
-    let ended = write_permutation(
-        alloc,
-        &spec,
-        entries_of(&spec),
-        case.items,
-        &mut out,
-        &mut notes,
-    );
+    let mut out = Takes::new(puts.0);
+    let mut notes = Takes::new(puts.1);
+    let ended = write_permutation(alloc, &spec, entries_of(&spec), items, &mut out, &mut notes);
     Ok(Reported {
         out,
         notes,
@@ -138,8 +74,23 @@ pub(crate) fn report(alloc: Global, case: &Case<'_>) -> Result<Reported, &'stati
     })
 }
 
-fn says(run: &Reported, out: &str, notes: &str, ending: Ending) -> bool {
-    run.out.text() == out.as_bytes() && run.notes.text() == notes.as_bytes() && run.ending == ending
+/// What a report says, what is noted, and how it ends.
+type Told = (&'static str, &'static str, Ending);
+
+/// The report of this file and history is that.
+fn says<'a>(
+    rt: &impl Abort,
+    alloc: Global,
+    text: &'a str,
+    items: &'a [HistItem<'a>],
+    told: Told,
+) -> Result<(), Fail> {
+    let run = report(alloc, text, items, ENDLESS)?;
+    let (out, notes, ending) = told;
+    holds(rt, run.out.text() == out.as_bytes());
+    holds(rt, run.notes.text() == notes.as_bytes());
+    holds(rt, run.ending == ending);
+    Ok(())
 }
 
 fn is_even(titles: &[Title<'_>], rows: &[Row]) -> bool
@@ -173,15 +124,10 @@ fn setup_waits(rt: HostRuntime) -> Result<(), Fail> {
         launch(1, 1),
         waits(1),
     ];
-    let case = Case {
-        text: "setup { SELECT 2; SELECT 1; } session s setup { SELECT 1 } step a { }\npermutation a",
-        items: &items,
-        puts: ENDLESS,
-    };
-    let run = report(rt.alloc(), &case)?;
+    let text =
+        "setup { SELECT 2; SELECT 1; } session s setup { SELECT 1 } step a { }\npermutation a";
     let out = "\nstarting permutation: a\nx\n-\n1\n(1 row)\n\n";
-    holds(&rt, says(&run, out, "", Ending::SetupWaits));
-    Ok(())
+    says(&rt, rt.alloc(), text, &items, (out, "", Ending::SetupWaits))
 }
 
 #[test]
@@ -197,31 +143,21 @@ fn teardown_would_wait(rt: HostRuntime) -> Result<(), Fail> {
         leave(1),
         leave(2),
     ];
-    let case = Case {
-        text: "session s1 step a { UPDATE t SET x = 1; } session s2 step b { COMMIT; } teardown { UPDATE t SET x = 0; } permutation a b",
-        items: &items,
-        puts: ENDLESS,
-    };
-    let run = report(rt.alloc(), &case)?;
+    let text =
+        "session s1 step a { UPDATE t SET x = 1; } session s2 step b { COMMIT; } teardown { UPDATE t SET x = 0; } permutation a b";
     let out = "\nstarting permutation: a b\nstep a: UPDATE t SET x = 1;\nstep b: COMMIT;\n";
     let notes = "isolationtester: teardown of session s2 failed: would wait\n";
-    holds(&rt, says(&run, out, notes, Ending::Whole));
-    Ok(())
+    says(&rt, rt.alloc(), text, &items, (out, notes, Ending::Whole))
 }
 
 #[test]
 fn invalid_permutation(rt: HostRuntime) -> Result<(), Fail> {
     let items = [launch(1, 0), done(1), launch(2, 1), waits(2)];
-    let case = Case {
-        text: "session s1 step a { UPDATE t SET x = 1; } session s2 step b { UPDATE t SET x = 2; } step c { COMMIT; } permutation a b c",
-        items: &items,
-        puts: ENDLESS,
-    };
-    let run = report(rt.alloc(), &case)?;
+    let text =
+        "session s1 step a { UPDATE t SET x = 1; } session s2 step b { UPDATE t SET x = 2; } step c { COMMIT; } permutation a b c";
     let out =
         "\nstarting permutation: a b c\nstep a: UPDATE t SET x = 1;\nstep b: UPDATE t SET x = 2; <waiting ...>\ninvalid permutation detected\n";
-    holds(&rt, says(&run, out, "", Ending::Invalid));
-    Ok(())
+    says(&rt, rt.alloc(), text, &items, (out, "", Ending::Invalid))
 }
 
 /// No entries, and three teardowns: the first shows a table, the others fail.
@@ -239,27 +175,18 @@ fn teardowns_fail(rt: HostRuntime) -> Result<(), Fail> {
         launch(0, 2),
         last(0, Outcome::Failed(StmtFault::NoTableToDrop(name))),
     ];
-    let case = Case {
-        text: "teardown { DROP TABLE t } session s1 step a { } teardown { } session \"s\"\"2\" step b { } teardown { }",
-        items: &items,
-        puts: ENDLESS,
-    };
-    let run = report(rt.alloc(), &case)?;
+    let text =
+        "teardown { DROP TABLE t } session s1 step a { } teardown { } session \"s\"\"2\" step b { } teardown { }";
     let out = "\nstarting permutation:\nx\n-\n3\n(1 row)\n\n";
     let notes =
         "isolationtester: teardown of session s\"2 failed: current transaction is aborted, commands ignored until end of transaction block\nisolationtester: teardown failed: table \"a\"B\" does not exist\n";
-    holds(&rt, says(&run, out, notes, Ending::Whole));
-    Ok(())
+    says(&rt, rt.alloc(), text, &items, (out, notes, Ending::Whole))
 }
 
 fn ending_after(alloc: Global, puts: (usize, usize)) -> Result<Ending, &'static str> {
     let items = [launch(1, 0), done(1), launch(1, 1), done(1), leave(1)];
-    let case = Case {
-        text: "session s step a { BEGIN } step b { COMMIT } permutation a(*) b",
-        items: &items,
-        puts,
-    };
-    Ok(report(alloc, &case)?.ending)
+    let text = "session s step a { BEGIN } step b { COMMIT } permutation a(*) b";
+    Ok(report(alloc, text, &items, puts)?.ending)
 }
 
 /// One put each: the text, then the notes.

@@ -1,6 +1,6 @@
 //! Texts that are the same block, the second one written out: each operator in parentheses, each word that may be left out in its place.
 
-use crate::asked::{are_one, block_of, differ, holds};
+use crate::asked::{block_of, holds, is_same};
 use sql_parser::Role;
 use sql_trees::{Key, Level, Lock, Stmt};
 use std::alloc::Global;
@@ -192,23 +192,22 @@ const UNLIKE: [(&str, &str); 20] = [
     ("DELETE FROM t", "DELETE FROM t WHERE TRUE"),
 ];
 
-fn all_one(rt: &impl Abort, alloc: Global, role: Role, rows: &[(&str, &str)]) {
+fn all_are(rt: &impl Abort, alloc: Global, role: Role, same: bool, rows: &[(&str, &str)]) {
     for (text, other) in rows {
-        holds(rt, are_one(alloc, role, *text, *other), *text);
+        let so = is_same(alloc, role, *text, *other) == Some(same);
+        holds(rt, so, *text);
     }
 }
 
 #[test]
 fn texts_of_one_block(rt: HostRuntime) {
-    all_one(&rt, rt.alloc(), Role::Session, STATEMENTS.as_slice());
-    all_one(&rt, rt.alloc(), Role::Main, TABLES.as_slice());
+    all_are(&rt, rt.alloc(), Role::Session, true, STATEMENTS.as_slice());
+    all_are(&rt, rt.alloc(), Role::Main, true, TABLES.as_slice());
 }
 
 #[test]
 fn texts_of_blocks_that_differ(rt: HostRuntime) {
-    for (text, other) in UNLIKE.as_slice() {
-        holds(&rt, differ(rt.alloc(), Role::Main, *text, *other), *text);
-    }
+    all_are(&rt, rt.alloc(), Role::Main, false, UNLIKE.as_slice());
 }
 
 // What kind of statement it is.

@@ -20,26 +20,11 @@ pub fn block_of<'a>(alloc: Global, role: Role, text: &'a str) -> Result<Block<'a
     parse_block(alloc, text, role)
 }
 
-/// Whether both texts are read, and as the same block.
-pub fn are_one(alloc: Global, role: Role, text: &str, other: &str) -> bool {
-    let Ok(read) = block_of(alloc, role, text) else {
-        return false;
-    };
-    match block_of(alloc, role, other) {
-        Ok(other) => read.same(&other),
-        Err(_) => false,
-    }
-}
-
-/// Whether both texts are read, and as blocks that differ.
-pub fn differ(alloc: Global, role: Role, text: &str, other: &str) -> bool {
-    let Ok(read) = block_of(alloc, role, text) else {
-        return false;
-    };
-    match block_of(alloc, role, other) {
-        Ok(other) => !read.same(&other),
-        Err(_) => false,
-    }
+/// Whether both texts are the same block, if both are read.
+pub fn is_same(alloc: Global, role: Role, text: &str, other: &str) -> Option<bool> {
+    let read = block_of(alloc, role, text).ok()?;
+    let other = block_of(alloc, role, other).ok()?;
+    Some(read.same(&other))
 }
 
 /// Whether the fault is told so.

@@ -1,7 +1,7 @@
 //! Values of expressions at a row, with what PostgreSQL's manual says of them; what columns take; what WHERE passes. The file `values` of the examples
 //! has more.
 
-use crate::told::{constant, expression, holds, is_answer};
+use crate::told::{at_last, constant, expression, holds, is_answer};
 use iso_lexer::Name;
 use sql_trees::{Column, Expr};
 use sql_values::{Columns, Kind, Row, Text, Value, assign, compare, copy_row, eval, passes};
@@ -92,21 +92,10 @@ fn is_so(alloc: Global, asked: Asked, text: &str, words: &str) -> Result<bool, A
     is_so_of(alloc, asked, &row, text, words)
 }
 
-/// Asked again where memory was refused.
-fn is_so_at_last(alloc: Global, asked: Asked, text: &str, words: &str) -> bool {
-    match is_so(alloc, asked, text, words) {
-        Ok(so) => so,
-        Err(_) => match is_so(alloc, asked, text, words) {
-            Ok(so) => so,
-            Err(_) => false,
-        },
-    }
-}
-
 fn all_are_so(rt: &impl Abort, alloc: Global, asked: Asked, cases: &[(&str, &str)]) {
     for (text, words) in cases {
         assert!(rt;
-            is_so_at_last(alloc, asked, text, words),
+            at_last(alloc, |alloc| is_so(alloc, asked, text, words)),
             "{text} is {words}"
         );
     }
@@ -361,9 +350,5 @@ fn copy_is_same(alloc: Global) -> Result<bool, AllocError> {
 
 #[test]
 fn copied_rows(rt: HostRuntime) {
-    let same = match copy_is_same(rt.alloc()) {
-        Err(_) => copy_is_same(rt.alloc()),
-        same => same,
-    };
-    holds(&rt, same == Ok(true));
+    holds(&rt, at_last(rt.alloc(), copy_is_same));
 }

@@ -1,8 +1,7 @@
 //! Keys that are held, taken or free, worked from the definitions.
 ghost use Rattle.std.specs.Prelude.{◌≡◌};
-ghost use Rattle.row_versions.specs.Log.{empty_content};
 
-use crate::told::holds;
+use crate::told::{at_last, holds};
 use row_versions::{ListStore, RowId, TableId, TxId, Versions};
 use sql_values::{Row, Value};
 use std::alloc::{AllocError, Global};
@@ -109,22 +108,24 @@ const PUTS: [Put; 13] = [
     (4, None, Some((Some(8), Some(80)))),
 ];
 
-/// All of them, and a row of another table.
-fn tell(alloc: Global, store: &mut ListStore, index: &mut KeyIndex) -> Result<(), AllocError>
-    requires { store.old ≡ empty_content }
-{
+/// A store and an index with all of them, and a row of another table.
+fn written(alloc: Global) -> Result<(ListStore, KeyIndex), AllocError> {
+    let mut store = ListStore::new(alloc);
+    let mut index = KeyIndex::new(alloc);
     let made = store.begin()?;
     let failed = store.begin()?;
     store.begin()?;
     store.begin()?;
     store.begin()?;
-    put_all(alloc, store, index, &two_keys(alloc, TABLE)?, &PUTS)?;
+    let keys = two_keys(alloc, TABLE)?;
+    put_all(alloc, &mut store, &mut index, &keys, &PUTS)?;
+    let keys = two_keys(alloc, OTHER)?;
     let other = [(0, None, Some((Some(12), Some(120))))];
-    put_all(alloc, store, index, &two_keys(alloc, OTHER)?, &other)?;
+    put_all(alloc, &mut store, &mut index, &keys, &other)?;
     store.commit(made);
     store.roll_back(failed);
     index.forget(failed);
-    Ok(())
+    Ok((store, index))
 }
 
 /// Whether these are found, in any order.
@@ -242,9 +243,7 @@ fn key_waits_for(
 }
 
 fn keys_are_found(alloc: Global) -> Result<bool, AllocError> {
-    let mut store = ListStore::new(alloc);
-    let mut index = KeyIndex::new(alloc);
-    tell(alloc, &mut store, &mut index)?;
+    let (store, index) = written(alloc)?;
     let found = finds_all(alloc, &store, &index, &two_keys(alloc, TABLE)?, &CASES)?;
     let wide = finds_all(alloc, &store, &index, &wide_key(alloc)?, &WIDE)?;
     Ok(
@@ -257,11 +256,7 @@ fn keys_are_found(alloc: Global) -> Result<bool, AllocError> {
 
 #[test]
 fn keys_are_held_taken_or_free(rt: HostRuntime) {
-    let found = match keys_are_found(rt.alloc()) {
-        Err(_) => keys_are_found(rt.alloc()),
-        found => found,
-    };
-    holds(&rt, found == Ok(true));
+    holds(&rt, at_last(rt.alloc(), keys_are_found));
 }
 
 /// A row with this number in the first column, which alone is asked for.
@@ -300,9 +295,7 @@ fn first_is_held(
 }
 
 fn one_key_is_found(alloc: Global) -> Result<bool, AllocError> {
-    let mut store = ListStore::new(alloc);
-    let mut index = KeyIndex::new(alloc);
-    tell(alloc, &mut store, &mut index)?;
+    let (store, index) = written(alloc)?;
     Ok(
         one_is(alloc, &store, &index, 4, 11, Wanted::Free)?
             && one_is(alloc, &store, &index, 4, 3, Wanted::Taken(0))?
@@ -314,17 +307,11 @@ fn one_key_is_found(alloc: Global) -> Result<bool, AllocError> {
 
 #[test]
 fn one_key_is_held_taken_or_free(rt: HostRuntime) {
-    let found = match one_key_is_found(rt.alloc()) {
-        Err(_) => one_key_is_found(rt.alloc()),
-        found => found,
-    };
-    holds(&rt, found == Ok(true));
+    holds(&rt, at_last(rt.alloc(), one_key_is_found));
 }
 
 fn held_keys_are_told(alloc: Global) -> Result<bool, AllocError> {
-    let mut store = ListStore::new(alloc);
-    let mut index = KeyIndex::new(alloc);
-    tell(alloc, &mut store, &mut index)?;
+    let (store, index) = written(alloc)?;
     // As it was committed and as it is; an own row's; one that another row has for good; one that nobody has.
     Ok(
         first_is_held(alloc, &store, &index, 4, 1)?
@@ -337,11 +324,7 @@ fn held_keys_are_told(alloc: Global) -> Result<bool, AllocError> {
 
 #[test]
 fn keys_are_held_by_other_open_transactions(rt: HostRuntime) {
-    let told = match held_keys_are_told(rt.alloc()) {
-        Err(_) => held_keys_are_told(rt.alloc()),
-        told => told,
-    };
-    holds(&rt, told == Ok(true));
+    holds(&rt, at_last(rt.alloc(), held_keys_are_told));
 }
 
 /// One transaction writes a row, whose values enter the index; another asks.
@@ -366,9 +349,5 @@ fn entered_values_are_found(alloc: Global) -> Result<bool, AllocError> {
 
 #[test]
 fn values_that_enter_are_found(rt: HostRuntime) {
-    let found = match entered_values_are_found(rt.alloc()) {
-        Err(_) => entered_values_are_found(rt.alloc()),
-        found => found,
-    };
-    holds(&rt, found == Ok(true));
+    holds(&rt, at_last(rt.alloc(), entered_values_are_found));
 }

@@ -2,7 +2,7 @@
 ghost use Rattle.std.specs.Prelude.{◌≡◌, All, length};
 ghost use Rattle.std.specs.Bool.{OnTrue};
 
-use crate::told::{holds, is_fault, rows_of};
+use crate::told::{at_last, holds, is_fault, rows_of};
 use sql_values::{Dir, Row, Value, ValueFault, order};
 use std::alloc::{AllocError, Global};
 
@@ -74,11 +74,11 @@ fn is_so(alloc: Global, case: &Case) -> Result<bool, AllocError> {
 #[test]
 fn order_of_rows(rt: HostRuntime) {
     for case in &CASES {
-        let so = match is_so(rt.alloc(), case) {
-            Err(_) => is_so(rt.alloc(), case),
-            so => so,
-        };
-        assert!(rt; so == Ok(true), "{}", case.1);
+        assert!(rt;
+            at_last(rt.alloc(), |alloc| is_so(alloc, case)),
+            "{}",
+            case.1
+        );
     }
 }
 
@@ -93,9 +93,5 @@ fn by_two(alloc: Global) -> Result<bool, AllocError> {
 
 #[test]
 fn order_by_two_keys(rt: HostRuntime) {
-    let so = match by_two(rt.alloc()) {
-        Err(_) => by_two(rt.alloc()),
-        so => so,
-    };
-    holds(&rt, so == Ok(true));
+    holds(&rt, at_last(rt.alloc(), by_two));
 }

@@ -2,7 +2,7 @@
 ghost use Rattle.std.specs.Prelude.{◌≡◌, All, length};
 ghost use Rattle.std.specs.Bool.{OnTrue};
 
-use crate::told::{expression, is_answer, rows_of};
+use crate::told::{at_last, expression, is_answer, rows_of};
 use iso_lexer::Name;
 use sql_trees::{Agg, AggKind, Column};
 use sql_values::{Columns, Kind, Row, aggregate};
@@ -70,16 +70,6 @@ fn is_so(alloc: Global, case: &Case) -> Result<bool, AllocError> {
     is_so_of(alloc, &rows, case)
 }
 
-fn is_so_at_last(alloc: Global, case: &Case) -> bool {
-    match is_so(alloc, case) {
-        Ok(so) => so,
-        Err(_) => match is_so(alloc, case) {
-            Ok(so) => so,
-            Err(_) => false,
-        },
-    }
-}
-
 const COUNT: Option<AggKind> = Some(AggKind::Count);
 
 const SUM: Option<AggKind> = Some(AggKind::Sum);
@@ -122,7 +112,7 @@ const CASES: [Case; 27] = [
 fn aggregates(rt: HostRuntime) {
     for case in &CASES {
         assert!(rt;
-            is_so_at_last(rt.alloc(), case),
+            at_last(rt.alloc(), |alloc| is_so(alloc, case)),
             "{} of {} is {}",
             case.1,
             case.2,

@@ -1,76 +1,14 @@
 //! Tables byte for byte, and what a failing sink or a want of memory leaves. The files `alignment`, `literals` and `values` of the examples have more.
 
-ghost use Rattle.std.specs.Prelude.{None};
 ghost use Rattle.std.specs.Bool.{OnTrue};
 ghost use Rattle.result_tables.specs.Results.{IsEven};
 
-use crate::told::holds;
-use iso_lexer::{DeviceFault, Ident, Name, Sink};
+use crate::told::{at_last, holds};
+use iso_lexer::{Ident, Name};
 use result_tables::{ResultSet, TableFault, Title, is_numeric, write_table};
 use sql_values::{Row, Text, Value};
 use std::alloc::{AllocError, Global};
-
-/// A sink that keeps its first bytes, takes no memory, and fails once so many puts are done.
-#[derive(Drop)]
-struct Kept {
-    bytes: [u8; 256],
-    len: usize,
-    puts: usize,
-    failed: bool,
-}
-
-impl Kept {
-    fn new(puts: usize) -> Kept {
-        Kept {
-            bytes: [0; 256],
-            len: 0,
-            puts,
-            failed: false,
-        }
-    }
-
-    fn is(&self, text: &[u8]) -> bool {
-        match self.bytes.get(..self.len) {
-            Some(kept) => kept == text,
-            None => false,
-        }
-    }
-
-    fn is_front_of(&self, text: &[u8]) -> bool {
-        match self.bytes.get(..self.len) {
-            Some(kept) => text.starts_with(kept),
-            None => false,
-        }
-    }
-}
-
-/// Keeps more bytes, as far as there is room, and says how many there are.
-fn keep(bytes: &mut [u8], len: usize, more: &[u8]) -> usize {
-    let mut end = len;
-    for byte in more {
-        if end < bytes.len() {
-            bytes[end] = *byte;
-            end += 1;
-        }
-    }
-    end
-}
-
-impl Sink for Kept {
-    ghost put_so_far = { λ _. None };
-
-    ghost failed = { λ s. s.failed };
-
-    fn put(&mut self, bytes: &[u8]) -> Result<(), DeviceFault> {
-        if self.failed || self.puts == 0 {
-            self.failed = true;
-            return Err(DeviceFault);
-        }
-        self.puts -= 1;
-        self.len = keep(&mut self.bytes, self.len, bytes);
-        Ok(())
-    }
-}
+use test_devices::Takes;
 
 fn is_even(titles: &[Title<'_>], rows: &[Row]) -> bool
     ensures { OnTrue result (IsEven titles.now rows.now) }
@@ -156,17 +94,17 @@ const EACH: &[u8] =
     b"a\"B|Col|col|?column?|               count|sum|min|max \n---+---+---+--------+--------------------+---+---+----\nx  |t  |f  |       2|-9223372036854775808| -7|   |yyyy\n(1 row)\n\n";
 
 fn is_whole(alloc: Global, set: &ResultSet<'_>, text: &[u8]) -> bool {
-    let mut out = Kept::new(9);
-    write_table(alloc, &mut out, set).is_ok() && out.is(text)
+    let mut out = Takes::new(9);
+    write_table(alloc, &mut out, set).is_ok() && out.text() == text
 }
 
 /// Whether the table is the text, and a front of it where memory was refused first.
 fn is_table(alloc: Global, set: &ResultSet<'_>, text: &[u8]) -> bool {
-    let mut out = Kept::new(9);
+    let mut out = Takes::new(9);
     match write_table(alloc, &mut out, set) {
-        Ok(()) => out.is(text),
+        Ok(()) => out.text() == text,
         Err(TableFault::Memory) => {
-            out.is_front_of(text) && !out.failed && is_whole(alloc, set, text)
+            text.starts_with(out.text()) && !out.failed && is_whole(alloc, set, text)
         }
         Err(TableFault::Write) => false,
     }
@@ -182,16 +120,12 @@ fn are_tables(alloc: Global) -> Result<bool, AllocError> {
 
 #[test]
 fn tables_of_results(rt: HostRuntime) {
-    let so = match are_tables(rt.alloc()) {
-        Err(_) => are_tables(rt.alloc()),
-        so => so,
-    };
-    holds(&rt, so == Ok(true));
+    holds(&rt, at_last(rt.alloc(), are_tables));
 }
 
 /// Whether a sink that takes so few puts is told to have failed.
 fn is_told_to_fail(alloc: Global, set: &ResultSet<'_>, puts: usize) -> bool {
-    let mut out = Kept::new(puts);
+    let mut out = Takes::new(puts);
     match write_table(alloc, &mut out, set) {
         Err(TableFault::Write) => out.failed,
         Err(TableFault::Memory) => !out.failed,
@@ -211,11 +145,7 @@ fn each_put_is_told(alloc: Global) -> Result<bool, AllocError> {
 
 #[test]
 fn each_put_failing_in_turn(rt: HostRuntime) {
-    let told = match each_put_is_told(rt.alloc()) {
-        Err(_) => each_put_is_told(rt.alloc()),
-        told => told,
-    };
-    holds(&rt, told == Ok(true));
+    holds(&rt, at_last(rt.alloc(), each_put_is_told));
 }
 
 #[test]
@@ -236,11 +166,7 @@ fn is_copied(alloc: Global) -> Result<bool, AllocError> {
 
 #[test]
 fn a_copy_is_the_same(rt: HostRuntime) {
-    let same = match is_copied(rt.alloc()) {
-        Err(_) => is_copied(rt.alloc()),
-        same => same,
-    };
-    holds(&rt, same == Ok(true));
+    holds(&rt, at_last(rt.alloc(), is_copied));
 }
 
 #[test]

@@ -11,6 +11,16 @@ pub(crate) fn holds(rt: &impl Abort, fact: bool) {
     assert!(rt; fact);
 }
 
+/// Whether it is so, asked again where memory was refused.
+pub(crate) fn at_last<F: Fn(Global) -> Result<bool, AllocError>>(alloc: Global, asked: F) -> bool
+    requires { F.IsAlwaysCallable asked }
+{
+    match asked(alloc) {
+        Ok(so) => so,
+        Err(_) => asked(alloc) == Ok(true),
+    }
+}
+
 fn parsed<'a>(
     alloc: Global,
     len: usize,

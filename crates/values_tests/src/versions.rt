@@ -2,7 +2,7 @@
 ghost use Rattle.std.specs.Prelude.{◌≡◌};
 ghost use Rattle.row_versions.specs.Log.{empty_content};
 
-use crate::told::holds;
+use crate::told::{at_last, holds};
 use row_versions::{ListStore, RowId, Seen, TableId, TxId, Versions, View};
 use sql_values::{Row, Value};
 use std::alloc::{AllocError, Global};
@@ -195,18 +195,18 @@ fn changes<V: Versions>(alloc: Global, store: &mut V) -> Result<bool, AllocError
 
 #[test]
 fn inserted_rows_are_seen_once_committed(rt: HostRuntime) {
-    let seen = match inserts(rt.alloc(), &mut ListStore::new(rt.alloc())) {
-        Err(_) => inserts(rt.alloc(), &mut ListStore::new(rt.alloc())),
-        seen => seen,
-    };
-    holds(&rt, seen == Ok(true));
+    let seen = at_last(
+        rt.alloc(),
+        |alloc| inserts(alloc, &mut ListStore::new(alloc)),
+    );
+    holds(&rt, seen);
 }
 
 #[test]
 fn open_and_rolled_back_writes_of_others_are_not_seen(rt: HostRuntime) {
-    let seen = match changes(rt.alloc(), &mut ListStore::new(rt.alloc())) {
-        Err(_) => changes(rt.alloc(), &mut ListStore::new(rt.alloc())),
-        seen => seen,
-    };
-    holds(&rt, seen == Ok(true));
+    let seen = at_last(
+        rt.alloc(),
+        |alloc| changes(alloc, &mut ListStore::new(alloc)),
+    );
+    holds(&rt, seen);
 }
