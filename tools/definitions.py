@@ -11,6 +11,8 @@ import sys
 
 TOP = os.path.dirname(os.path.dirname(os.path.realpath(__file__)))
 ROOT = "Rattle."
+# What a file is read as: who believes the grammars, and the laws of the first fault, needn't read what these name.
+READING = ("SpecReads", "BlocksRead")
 STARTS = re.compile(r"^(?:(?:pub|abbrev|unfoldable|opaque|data|record)\s+)*([^\s:(){},]+)")
 
 
@@ -57,24 +59,16 @@ def words(text):
     return set(re.findall(r"[^\s(){}\[\],;]+", text)) | set(re.findall(r"[^\s(){}\[\],;.]+", text))
 
 
-def main(wanted):
-    files = {module: read(lines) for module, lines in modules()}
-    # what a record or a relation names within it stands with it
-    holders = {}
-    for module, (_, _, found) in files.items():
-        for name, lines in found.items():
-            for line in lines[1:]:
-                inner = re.match(r"\s+(?:pub )?([^\s:(){},]+) :", line)
-                if inner:
-                    holders.setdefault((module, inner[1]), (module, name))
-    left = [(module, name) for module, (_, _, found) in files.items() for name in found if name in (wanted or ["FileSays"])]
-    believed = set()
+def named_from(wanted, files, holders, without=()):
+    """Returns what these definitions name, and what that names in turn, but for what is named through the ones without."""
+    left = [(module, name) for module, (_, _, found) in files.items() for name in found if name in wanted]
+    named = set()
     while left:
         at = left.pop()
         at = at if at[1] in files.get(at[0], ({}, {}, {}))[2] else holders.get(at)
-        if not at or at in believed:
+        if not at or at in named or at[1] in without:
             continue
-        believed.add(at)
+        named.add(at)
         imported, whole, found = files[at[0]]
         for word in words("\n".join(found[at[1]])):
             front, _, back = word.rpartition(".")
@@ -86,14 +80,30 @@ def main(wanted):
                 left.append((whole[front], back))
             elif (at[0], word) in holders:
                 left.append((at[0], word))
+    return named
+
+
+def main(wanted):
+    files = {module: read(lines) for module, lines in modules()}
+    # what a record or a relation names within it stands with it
+    holders = {}
+    for module, (_, _, found) in files.items():
+        for name, lines in found.items():
+            for line in lines[1:]:
+                inner = re.match(r"\s+(?:pub )?([^\s:(){},]+) :", line)
+                if inner:
+                    holders.setdefault((module, inner[1]), (module, name))
+    sizes = {(module, name): len(lines) for module, (_, _, found) in files.items() for name, lines in found.items()}
+    believed = named_from(wanted or ["FileSays"], files, holders)
+    reading = believed - named_from(wanted or ["FileSays"], files, holders, READING)
     by_file = {}
     for module, name in believed:
-        by_file[module] = by_file.get(module, 0) + len(files[module][2][name])
+        by_file[module] = by_file.get(module, 0) + sizes[module, name]
     for module in sorted(by_file):
         print(f"{by_file[module]:5} {module.replace('.specs.', '/')}")
-    sizes = {module: sum(len(x) for x in found.values()) for module, (_, _, found) in files.items()}
-    inner = sum(size for module, size in sizes.items() if ".specs.Inner." in module)
-    print(f"{sum(by_file.values())} lines of {len(believed)} definitions in {len(by_file)} files; {sum(sizes.values())} stand in specs/, {inner} of them in Inner")
+    inner = sum(size for (module, _), size in sizes.items() if ".specs.Inner." in module)
+    print(f"{sum(by_file.values())} lines of {len(believed)} definitions in {len(by_file)} files, {sum(sizes[it] for it in reading)} of them to read a file; "
+          f"{sum(sizes.values())} stand in specs/, {inner} of them in Inner")
 
 
 if __name__ == "__main__":
