@@ -20,7 +20,7 @@ use std::thread;
 use std::thread::Threads;
 
 /// How many permutations run at a time, at most. Each has a thread for each of its sessions.
-const MOST_AT_A_TIME: u64 = 8;
+const MOST_AT_A_TIME: u64 = 4;
 
 /// The drafts of the permutations whose turn comes next, and the permutations behind them.
 #[derive(Drop)]

@@ -95,7 +95,7 @@ fn run_file<W: Sink, N: Sink, G: Gate, R: Threads + Wait + Sync>(
 }
 
 /// Reads a spec file, runs its permutations, each on a new engine and with a thread for each session, and writes their
-/// reports one after the other; what a teardown fails with goes to the notes. Up to eight run side by side, no more than the
+/// reports one after the other; what a teardown fails with goes to the notes. Up to four run side by side, no more than the
 /// limit leaves, so that the gate, which is asked before each event and told each reply, sees events of several between each
 /// other. Nothing that is written depends on anything but the bytes read and the limit. The file is refused before anything
 /// is written: for its length, as no UTF-8, for its tokens, as no spec, and for its blocks in the order of the file, in this

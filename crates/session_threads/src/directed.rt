@@ -8,6 +8,7 @@ ghost use Rattle.session_threads.specs.Orders.{IsDriven};
 
 use crate::bells::Bells;
 use crate::closing::{Closed, close};
+use crate::crew::start_thread;
 use crate::driver::{Driver, Ordering};
 use crate::gate::Gate;
 use crate::seat::{Seat, ThreadFault, empty_seats};
@@ -22,7 +23,7 @@ use std::sync::{Mutex, Wait};
 use std::thread;
 use std::thread::{JoinHandle, Scope, Threads};
 
-/// Starts a thread for each seat. A thread's place in the crew is made first, so that each that was started is joined.
+/// Starts a thread for each seat.
 fn start<
     's,
     'e: 's,
@@ -44,14 +45,8 @@ fn start<
 ) -> Result<(), ThreadFault> {
     let each = seats.iter_mut();
     for seat in each {
-        if crew.try_reserve(1).is_err() {
-            return Err(ThreadFault::Memory);
-        }
         let post = Post { bells, seat };
-        let Ok(thread) = scope.spawn(move || work(rt, shared, gate, post)) else {
-            return Err(ThreadFault::ThreadRefused);
-        };
-        crew.push(thread).unwrap();
+        start_thread(scope, crew, move || work(rt, shared, gate, post))?;
     }
     Ok(())
 }

@@ -6,6 +6,7 @@ ghost use Rattle.session_core.specs.Engines.{IsOf};
 ghost use Rattle.session_threads.specs.Seats.{IsMisfit};
 
 use crate::closing::{Closed, close};
+use crate::crew::start_thread;
 use crate::free_shared::{FreeShared, free_event, stop};
 use crate::gate::{Gate, OpenGate};
 use crate::seat::{Seat, ThreadFault, empty_seats};
@@ -190,7 +191,7 @@ fn script_of(scripts: &[Vec<u32>], session: u32) -> Option<&[u32]> {
     }
 }
 
-/// Starts a thread for each script. A thread's place in the crew is made first, so that each that was started is joined.
+/// Starts a thread for each script.
 fn start_scripts<
     's,
     'e: 's,
@@ -214,14 +215,12 @@ fn start_scripts<
         let Some(script) = script_of(scripts, seat.session()) else {
             continue;
         };
-        if crew.try_reserve(1).is_err() {
-            return Err(ThreadFault::Memory);
-        }
         let runner = Runner { seat, script };
-        let Ok(thread) = scope.spawn(move || run_script(rt, shared, bell, gate, runner)) else {
-            return Err(ThreadFault::ThreadRefused);
-        };
-        crew.push(thread).unwrap();
+        start_thread(
+            scope,
+            crew,
+            move || run_script(rt, shared, bell, gate, runner),
+        )?;
     }
     Ok(())
 }

@@ -4,6 +4,7 @@
 
 mod bells;
 mod closing;
+mod crew;
 mod directed;
 mod driver;
 mod free;

@@ -5,5 +5,5 @@ use Rattle.session_threads.proofs.shared.Post.TheSendSync.{the_send as post_send
 use Rattle.session_threads.proofs.directed.start.Goals as goal
 
 -- what a thread is lent may cross to it
-pub spawn-requires-send-F : goal.spawn-requires-send-F
-spawn-requires-send-F g c κs within = search (sendable, mutex_sync, post_send, shared_send) depth 60 fits 10000
+pub start_thread-requires-send-F : goal.start_thread-requires-send-F
+start_thread-requires-send-F g c κs within = search (sendable, mutex_sync, post_send, shared_send) depth 60 fits 10000
