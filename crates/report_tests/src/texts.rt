@@ -54,10 +54,10 @@ fn entries_of<'s>(spec: &'s Spec<'_>) -> &'s [Entry] {
 }
 
 /// The report of a file's first permutation with this history, where the sinks of text and notes take so many puts.
-pub(crate) fn report<'a>(
+pub(crate) fn report(
     alloc: Global,
-    text: &'a str,
-    items: &'a [HistItem<'a>],
+    text: &str,
+    items: &[HistItem<'_>],
     puts: (usize, usize),
 ) -> Result<Reported, &'static str> {
     let spec = match parse_spec(alloc, text) {
@@ -78,11 +78,11 @@ pub(crate) fn report<'a>(
 type Told = (&'static str, &'static str, Ending);
 
 /// The report of this file and history is that.
-fn says<'a>(
+fn says(
     rt: &impl Abort,
     alloc: Global,
-    text: &'a str,
-    items: &'a [HistItem<'a>],
+    text: &str,
+    items: &[HistItem<'_>],
     told: Told,
 ) -> Result<(), Fail> {
     let run = report(alloc, text, items, ENDLESS)?;
