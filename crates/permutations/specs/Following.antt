@@ -13,5 +13,5 @@ follows_longer c more p follows =
     let long = length-append c.items more in
     record {
       few = omega arith;
-      kept = subst (λ (w : List HistItem). Keeps (record { entries = c.entries; items = w; setups = c.setups }) p) (sym (take-append-le p.seen c.items more few)) follows.kept;
+      kept = subst (λ (w : List HistItem). Keeps (record { entries = c.entries; items = w; setups = c.setups }) p) (sym (take-append-le _ c.items more few)) follows.kept;
     }
