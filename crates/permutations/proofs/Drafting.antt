@@ -1,28 +1,23 @@
 -- The drafts of permutations that were taken together.
-use Rattle.std.proofs.Common.{◌≡◌, ◌≢◌, ◌<◌, Bool, true, false, suc, ◌+◌, List, [], ◌∷◌, ◌++◌, length, map, refl, sym, ap, ◌∙◌, arith}
+use Rattle.std.proofs.Common.{◌≡◌, ◌≢◌, ◌<◌, Bool, true, false, ◌+◌, List, [], ◌∷◌, ◌++◌, length, map, refl, sym, ap, ◌∙◌, arith}
 use Rattle.std.specs.Prelude.{Option, Some, None, IfSome, IfNone, IsSome, ◌↔◌}
 use Rattle.std.specs.Option.{option_to_list}
 use Rattle.std.specs.Bool.{OnFalse}
 use Rattle.std.specs.Global.{Vec}
 use Rattle.spec_parser.specs.declared.tree.Entry.{Entry}
-use Rattle.spec_parser.specs.Trees.{EntryTree, perm_view}
+use Rattle.spec_parser.specs.Trees.{EntryTree}
 use Rattle.permutations.specs.declared.draft.Draft.{Draft}
-use Rattle.permutations.specs.Inner.Drafts.{AreOf, entries_of, lists_of, to_come}
+use Rattle.permutations.specs.Inner.Drafts.{entries_of, listed, lists_of, to_come}
 
--- drafts of the entries that stand at their places are, in order, of these permutations
-pub same_lists : (taken : List (Vec Entry)) (drafts : List Draft) → length drafts ≡ length taken → AreOf taken drafts → map entries_of drafts ≡ lists_of taken
-same_lists [] [] long each = refl
-same_lists [] (d ∷ ds) long each = absurd (omega (arith, long))
-same_lists (t ∷ ts) [] long each = absurd (omega (arith, long))
-same_lists (t ∷ ts) (d ∷ ds) long each =
-    ap (λ (first : Vec Entry). perm_view first ∷ map entries_of ds) (each 0 d (omega arith))
-    ∙ ap (λ (rest : List (List EntryTree)). perm_view t ∷ rest) (same_lists ts ds (omega (arith, long)) (λ place e lt. each (suc place) e (omega (arith, lt))))
+pub same_lists : (drafts : List Draft) → map entries_of drafts ≡ lists_of (map listed drafts)
+same_lists [] = refl
+same_lists (d ∷ ds) = ap (λ (rest : List (List EntryTree)). entries_of d ∷ rest) (same_lists ds)
 
 -- no draft is left, and these run next
 pub filled : (old drafts : List Draft) (before behind : List (List EntryTree)) (taken : List (Vec Entry)) → length old ≡ 0 → before ≡ lists_of taken ++ behind
-    → length drafts ≡ length taken → AreOf taken drafts → to_come old before ≡ to_come drafts behind
-filled (d ∷ ds) drafts before behind taken none next long each = absurd (omega (arith, none))
-filled [] drafts before behind taken none next long each = next ∙ ap (λ (lists : List (List EntryTree)). lists ++ behind) (sym (same_lists taken drafts long each))
+    → map listed drafts ≡ taken → to_come old before ≡ to_come drafts behind
+filled (d ∷ ds) drafts before behind taken none next same = absurd (omega (arith, none))
+filled [] drafts before behind taken none next same = next ∙ ap (λ (lists : List (List EntryTree)). lists ++ behind) (sym (same_lists drafts ∙ ap lists_of same))
 
 -- the first draft is that of the first permutation that is to come
 pub first_comes : (drafts rest : List Draft) (behind : List (List EntryTree)) (next : Option Draft) → drafts ≡ option_to_list next ++ rest

@@ -13,4 +13,5 @@ pub mod FreeTelling
 pub mod OneText
 pub mod Whole
 pub mod Drafting
+pub mod Joining
 pub mod Turns

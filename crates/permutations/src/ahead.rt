@@ -1,14 +1,15 @@
 //! The permutations of a spec, run ahead of their turn, several side by side.
 
-ghost use Rattle.std.specs.Prelude.{◌≡◌, ◌<◌, ◌≢◌, [], ◌∷◌, ◌++◌, All, length, map, OnOk, IfOk, IfSome, IfNone};
+ghost use Rattle.std.specs.Prelude.{◌≡◌, ◌<◌, ◌≢◌, [], ◌∷◌, ◌++◌, All, map, OnOk, IfOk, IfSome, IfNone};
 ghost use Rattle.std.specs.Bool.{OnTrue, OnFalse};
 ghost use Rattle.session_core.specs.Blocks.{blocks_of};
 ghost use Rattle.spec_parser.specs.Trees.{entry_view, spec_view};
 ghost use Rattle.spec_parser.specs.Stands.{Stands};
 ghost use Rattle.permutation_lists.specs.Permutations.{permutations_of};
-ghost use Rattle.permutations.specs.Inner.Drafts.{IsDraft, AreOf, entries_of, lists_of, to_come};
+ghost use Rattle.permutations.specs.Inner.Drafts.{IsDraft, entries_of, listed, lists_of, to_come};
 
 use crate::draft::Draft;
+use crate::side_by_side::{Lent, side_by_side};
 use permutation_lists::Permutations;
 use session_threads::Gate;
 use spec_parser::{Entry, Spec};
@@ -16,11 +17,20 @@ use sql_parser::Block;
 use std::alloc::{AllocError, Global};
 use std::collections::VecDeque;
 use std::sync::Wait;
-use std::thread;
 use std::thread::Threads;
 
-/// How many permutations run at a time, at most. Each has a thread for each of its sessions.
-const MOST_AT_A_TIME: u64 = 4;
+/// How many permutations run at a time, at most, and how many threads they have together: so many stacks of ended threads
+/// stay with the process.
+const MOST_AT_A_TIME: u64 = 8;
+
+const MOST_THREADS: u64 = 40;
+
+/// How many permutations of so many sessions run at a time; each has a thread for each session, and its own.
+pub fn at_a_time(sessions: usize) -> u64
+    ensures { 0 < result }
+{
+    (MOST_THREADS / (sessions as u64).saturating_add(1)).clamp(1, MOST_AT_A_TIME)
+}
 
 /// The drafts of the permutations whose turn comes next, and the permutations behind them.
 #[derive(Drop)]
@@ -66,7 +76,18 @@ fn take_next(
     Ok(taken)
 }
 
-/// The drafts of these permutations, each run by a thread of its own where one can be started.
+/// What the permutations of a file are lent.
+#[derive(Drop)]
+pub struct FileLent<'r, 't, 'b> {
+    pub spec: &'r Spec<'t>,
+    pub blocks: &'r [Block<'b>],
+}
+
+impl<'r, 't, 'b> Lent for FileLent<'r, 't, 'b> {
+    ghost gives = { λ lent draft. IsDraft (spec_view lent.spec.now) (blocks_of lent.blocks.now) draft };
+}
+
+/// The drafts of these permutations, all of which run at a time.
 fn drafts_of<G: Gate, R: Threads + Wait + Sync>(
     rt: &R,
     alloc: Global,
@@ -77,16 +98,12 @@ fn drafts_of<G: Gate, R: Threads + Wait + Sync>(
 ) -> Result<Vec<Draft>, AllocError>
     requires { Stands (spec_view spec.now) }
     ensures drafts { IfOk result (λ drafts. All (IsDraft (spec_view spec.now) (blocks_of blocks.now)) drafts.items) }
-    ensures long { IfOk result (λ drafts. length drafts.items ≡ length taken.items) }
-    ensures each { IfOk result (λ drafts. AreOf taken.items drafts.items) }
+    ensures entries { IfOk result (λ drafts. map listed drafts.items ≡ taken.items) }
 {
-    thread::map_vec(
-        rt,
-        taken,
-        &|entries|
-            requires { Stands (spec_view spec.now) }
-        { Draft::of(rt, alloc, spec, blocks, entries, gate) },
-    )
+    let run = |entries: Vec<Entry>|
+        requires { Stands (spec_view spec.now) }
+    { Draft::of(rt, alloc, spec, blocks, entries, gate) };
+    side_by_side(rt, alloc, &FileLent { spec, blocks }, &run, taken)
 }
 
 impl<'s> Ahead<'s> {
@@ -122,7 +139,7 @@ impl<'s> Ahead<'s> {
         if !self.drafts.is_empty() {
             return Ok(());
         }
-        let taken = take_next(alloc, &mut self.behind, most.min(MOST_AT_A_TIME))?;
+        let taken = take_next(alloc, &mut self.behind, most)?;
         self.drafts = drafts_of(rt, alloc, spec, blocks, taken, gate)?.into();
         Ok(())
     }

@@ -15,6 +15,7 @@ mod one_run;
 mod plan;
 mod report;
 mod run;
+mod side_by_side;
 mod thread_run;
 
 pub use fault::{BlockFault, RunFault};

@@ -12,7 +12,7 @@ ghost use Rattle.permutations.specs.Prints.{Prints, FileSays};
 ghost use Rattle.permutations.specs.Runs.{is_refusal, has_broken, has_ended, has_read, IsTold};
 ghost use Rattle.permutations.specs.Said.{Said};
 
-use crate::ahead::Ahead;
+use crate::ahead::{Ahead, at_a_time};
 use crate::fault::RunFault;
 use crate::file::read_file;
 use crate::first_line::first_line;
@@ -49,10 +49,11 @@ fn run_permutations<W: Sink, N: Sink, G: Gate, R: Threads + Wait + Sync>(
     ensures kinds { IfErr result (λ e. is_refusal e ≡ false) }
     ensures read { result ≢ Err RunFault.Read }
 {
+    let most = at_a_time(spec.sessions.len());
     let mut ahead = Ahead::of(alloc, spec)?;
     let mut left = limit;
     while left > 0 {
-        let Some(draft) = ahead.next(rt, alloc, spec, blocks, left, gate)? else {
+        let Some(draft) = ahead.next(rt, alloc, spec, blocks, left.min(most), gate)? else {
             return Ok(());
         };
         left -= 1;
@@ -95,7 +96,7 @@ fn run_file<W: Sink, N: Sink, G: Gate, R: Threads + Wait + Sync>(
 }
 
 /// Reads a spec file, runs its permutations, each on a new engine and with a thread for each session, and writes their
-/// reports one after the other; what a teardown fails with goes to the notes. Up to four run side by side, no more than the
+/// reports one after the other; what a teardown fails with goes to the notes. Several run side by side, no more than the
 /// limit leaves, so that the gate, which is asked before each event and told each reply, sees events of several between each
 /// other. Nothing that is written depends on anything but the bytes read and the limit. The file is refused before anything
 /// is written: for its length, as no UTF-8, for its tokens, as no spec, and for its blocks in the order of the file, in this

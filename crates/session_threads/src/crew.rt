@@ -2,9 +2,9 @@
 use crate::seat::ThreadFault;
 use std::thread::{Builder, JoinHandle, Scope};
 
-/// The stack of a thread, in bytes. The deepest expression takes a third of it; with the eight megabytes that a thread has by
-/// default few stacks stay with the process, and most starts of a thread would map one anew.
-const STACK: usize = 1 << 20;
+/// The stack of a session's thread, in bytes. The deepest expression takes a third of it; with the eight megabytes that a
+/// thread has by default few stacks stay with the process, and most starts of a thread would map one anew.
+pub const THREAD_STACK: usize = 1 << 20;
 
 /// Starts a thread of the crew. Its place in the crew is made first, so that each that was started is joined.
 pub fn start_thread<'s, 'e: 's, F: FnOnce() -> () + Send + Drop + 's>(
@@ -17,7 +17,10 @@ pub fn start_thread<'s, 'e: 's, F: FnOnce() -> () + Send + Drop + 's>(
     if crew.try_reserve(1).is_err() {
         return Err(ThreadFault::Memory);
     }
-    let Ok(thread) = Builder::new().stack_size(STACK).spawn_scoped(scope, work) else {
+    let Ok(thread) = Builder::new()
+        .stack_size(THREAD_STACK)
+        .spawn_scoped(scope, work)
+    else {
         return Err(ThreadFault::ThreadRefused);
     };
     crew.push(thread).unwrap();

@@ -14,6 +14,7 @@ mod seat;
 mod shared;
 
 pub use closing::{Closed, close};
+pub use crew::THREAD_STACK;
 pub use directed::run_directed;
 pub use driver::Driver;
 pub use free::{FreePlan, run_free};

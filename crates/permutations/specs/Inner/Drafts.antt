@@ -1,5 +1,5 @@
 -- A permutation's report in memory, before its turn comes.
-use Rattle.std.specs.Prelude.{◌≡◌, ◌<◌, ℕ, length, slice_index_or, ◌≢◌, true, List, [], ◌++◌, map, Some, Err, IfErr, IsTrue}
+use Rattle.std.specs.Prelude.{◌≡◌, ◌≢◌, true, List, [], ◌++◌, map, Some, Err, IfErr, IsTrue}
 use Rattle.std.specs.Global.{Vec}
 use Rattle.iso_lexer.specs.Devices.{page_text}
 use Rattle.session_machine.specs.Machine.{Blocks}
@@ -24,9 +24,8 @@ pub record IsDraft (spec : SpecTree) (blocks : Blocks) (draft : Draft) : Type 0 
 abbrev pub lists_of : List (Vec Entry) → List (List EntryTree)
 lists_of taken = map perm_view taken
 
--- each draft has the entries that stand at its place
-abbrev pub AreOf : List (Vec Entry) → List Draft → Type 0
-AreOf taken drafts = (place : ℕ) (d : Draft) → place < length taken → (slice_index_or drafts place d).entries ≡ slice_index_or taken place (slice_index_or drafts place d).entries
+abbrev pub listed : Draft → Vec Entry
+listed draft = draft.entries
 
 -- the permutations that are still to be written: those that were drafted, and those behind them
 abbrev pub to_come : List Draft → List (List EntryTree) → List (List EntryTree)

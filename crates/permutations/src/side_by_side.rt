@@ -1,0 +1,172 @@
+//! Permutations that run side by side, each in a thread of its own.
+
+ghost use Rattle.std.specs.Prelude.{◌≡◌, All, map, IfOk};
+ghost use Rattle.permutations.specs.Inner.Drafts.{listed};
+ghost use Rattle.permutations.specs.Inner.Coming.{coming_entries, IsComing};
+
+use crate::draft::Draft;
+use core::thread::Stack;
+use session_threads::THREAD_STACK;
+use spec_parser::Entry;
+use std::alloc::{AllocError, Global};
+use std::snapshot::Snapshot;
+use std::sync::Wait;
+use std::thread;
+use std::thread::{Promise, PromisedHandle, Scope, Threads};
+
+/// What the permutations that run side by side are lent.
+pub trait Lent {
+    ghost use Rattle.permutations.specs.declared.draft.Draft.{Draft};
+
+    /// Whether a draft may be one of its permutations'.
+    ghost gives: { Self → Draft → Type 0 };
+}
+
+/// That a draft is the one with these entries.
+#[derive(Drop)]
+pub struct DraftOf<L> {
+    pub lent: Snapshot<L>,
+    pub entries: Snapshot<Vec<Entry>>,
+}
+
+impl<L: Lent> Promise<Draft> for DraftOf<L> {
+    ghost kept_by = { λ promise draft. L.gives promise.lent.value draft × (draft.entries ≡ promise.entries.value) };
+}
+
+/// The draft of a permutation that has run, or the thread that runs it.
+#[derive(Drop)]
+pub enum Coming<L: Lent> {
+    There(Draft),
+    Running(PromisedHandle<Draft, DraftOf<L>>),
+}
+
+impl<L: Lent> Coming<L> {
+    /// The draft, once it is there.
+    fn draft<R: Threads>(self, rt: &R) -> Draft
+        ensures entries { result.entries ≡ coming_entries self }
+        ensures draft { (lent : L) → IsComing L.gives lent self → L.gives lent result }
+    {
+        match self {
+            Coming::There(draft) => draft,
+            Coming::Running(thread) => thread.join(rt),
+        }
+    }
+}
+
+/// Runs a permutation in a thread of its own; where none can be started, in the calling one. It does what is the control
+/// session's, so its stack is as a session's thread has it.
+fn begin<'s, 'e: 's, L: Lent + 's, F: Fn(Vec<Entry>) -> Draft + Sync + 's>(
+    scope: &Scope<'s, &'e ()>,
+    lent: &'s L,
+    run: &'s F,
+    entries: Vec<Entry>,
+) -> Coming<L>
+    requires accepts { F.pre run.now entries }
+    requires gives { (draft : _) → F.post run.now entries draft → L.gives lent.now draft }
+    requires keeps { (draft : _) → F.post run.now entries draft → draft.entries ≡ entries }
+    ensures draft { IsComing L.gives lent.now result }
+    ensures entries { coming_entries result ≡ entries }
+{
+    let promise = DraftOf {
+        lent: Snapshot::of(lent),
+        entries: Snapshot::of(&entries),
+    };
+    let call = move || -> Draft
+        requires { F.pre run.now entries }
+        ensures { F.post run.entry.now entries result }
+    { run(entries) };
+    let stack = Stack::new().stack_size(THREAD_STACK);
+    match stack.spawn_scoped_with(scope, promise, call) {
+        Ok(thread) => Coming::Running(thread),
+        Err(refused) => Coming::There((refused.value)()),
+    }
+}
+
+/// Runs these permutations, the last one in the calling thread.
+fn begin_each<'s, 'e: 's, L: Lent + 's, F: Fn(Vec<Entry>) -> Draft + Sync + 's>(
+    scope: &Scope<'s, &'e ()>,
+    alloc: Global,
+    lent: &'s L,
+    run: &'s F,
+    mut taken: Vec<Vec<Entry>>,
+) -> Result<Vec<Coming<L>>, AllocError>
+    requires accepts { (entries : _) → F.pre run.now entries }
+    requires gives { (entries draft : _) → F.post run.now entries draft → L.gives lent.now draft }
+    requires keeps { (entries draft : _) → F.post run.now entries draft → draft.entries ≡ entries }
+    ensures drafts { IfOk result (λ coming. All (IsComing L.gives lent.now) coming.items) }
+    ensures entries { IfOk result (λ coming. map coming_entries coming.items ≡ taken.items) }
+{
+    let mut coming = Vec::with_capacity(alloc, taken.len())?;
+    let Some(last) = taken.pop() else {
+        return Ok(coming);
+    };
+    for entries in taken {
+        coming.push(begin(scope, lent, run, entries))?;
+    }
+    coming.push(Coming::There(run(last)))?;
+    Ok(coming)
+}
+
+/// The drafts of all these, in the same order, once they are there. What they were lent stands for the contract alone.
+fn drafts_of_each<L: Lent, R: Threads>(
+    rt: &R,
+    alloc: Global,
+    _lent: &L,
+    all: Vec<Coming<L>>,
+) -> Result<Vec<Draft>, AllocError>
+    requires { All (IsComing L.gives _lent.now) all.items }
+    ensures drafts { IfOk result (λ drafts. All (L.gives _lent.now) drafts.items) }
+    ensures entries { IfOk result (λ drafts. map listed drafts.items ≡ map coming_entries all.items) }
+{
+    let mut drafts = Vec::with_capacity(alloc, all.len())?;
+    for coming in all {
+        drafts.push(coming.draft(rt))?;
+    }
+    Ok(drafts)
+}
+
+/// Runs these permutations in threads of the scope, each of which is joined.
+fn drafts_in<'s, 'e: 's, L: Lent + 's, F: Fn(Vec<Entry>) -> Draft + Sync + 's, R: Threads>(
+    scope: &Scope<'s, &'e ()>,
+    rt: &R,
+    alloc: Global,
+    lent: &'s L,
+    run: &'s F,
+    taken: Vec<Vec<Entry>>,
+) -> Result<Vec<Draft>, AllocError>
+    requires accepts { (entries : _) → F.pre run.now entries }
+    requires gives { (entries draft : _) → F.post run.now entries draft → L.gives lent.now draft }
+    requires keeps { (entries draft : _) → F.post run.now entries draft → draft.entries ≡ entries }
+    ensures drafts { IfOk result (λ drafts. All (L.gives lent.now) drafts.items) }
+    ensures entries { IfOk result (λ drafts. map listed drafts.items ≡ taken.items) }
+{
+    let all = begin_each(scope, alloc, lent, run, taken)?;
+    drafts_of_each(rt, alloc, lent, all)
+}
+
+/// Runs these permutations, all at a time, and answers their drafts in the same order.
+pub fn side_by_side<L: Lent, F: Fn(Vec<Entry>) -> Draft + Sync, R: Threads + Wait>(
+    rt: &R,
+    alloc: Global,
+    lent: &L,
+    run: &F,
+    taken: Vec<Vec<Entry>>,
+) -> Result<Vec<Draft>, AllocError>
+    requires accepts { (entries : _) → F.pre run.now entries }
+    requires gives { (entries draft : _) → F.post run.now entries draft → L.gives lent.now draft }
+    requires keeps { (entries draft : _) → F.post run.now entries draft → draft.entries ≡ entries }
+    ensures drafts { IfOk result (λ drafts. All (L.gives lent.now) drafts.items) }
+    ensures entries { IfOk result (λ drafts. map listed drafts.items ≡ taken.items) }
+{
+    thread::scope(
+        thread::scope_env(),
+        rt,
+        move |scope| -> Result<Vec<Draft>, AllocError>
+            requires accepts { (entries : _) → F.pre run.now entries }
+            requires gives { (entries draft : _) → F.post run.now entries draft → L.gives lent.now draft }
+            requires keeps { (entries draft : _) → F.post run.now entries draft → draft.entries ≡ entries }
+            ensures drafts { IfOk result (λ drafts. All (L.gives lent.entry.now) drafts.items) }
+            ensures entries { IfOk result (λ drafts. map listed drafts.items ≡ taken.items) }
+        { drafts_in(scope, rt, alloc, lent, run, taken) },
+    )
+}
