@@ -82,23 +82,25 @@ def quietly(crate, call):
 
 
 def build_all(libraries, told=lambda done, of, crate, well: None):
-    """Proves and builds these libraries, which stand on each other alone, several side by side. What is built already isn't looked at, so that each of the others
-    gets the processors that no other waits for. Returns whether all are built; of each that was tried, told learns which in turn it is, of how many, and whether it went well."""
+    """Proves and builds these libraries, which stand on each other alone, several side by side. Each may use all processors: the parts of a crate wait for each other,
+    so that alone it keeps two of four busy. What is built already isn't looked at. Returns whether all are built; of each that was tried, told learns which in turn it
+    is, of how many, and whether it went well."""
+    jobs = ["--jobs", str(rt.processors())]
     lacking = [it for it in libraries if not all(each.is_built() for each in [it, *it.below()])]
     tasks, done = {}, []
     for crate in lacking:
         below = [(it.name, "proof") for it in crate.below() if it in lacking]
 
-        def made(given, jobs, crate=crate, below=below):
+        def made(given, _, crate=crate, below=below):
             if not all(given[it] for it in below):
                 return False
-            well = quietly(crate, lambda it: it.build_rlib(["--jobs", str(jobs)], anew=False))
+            well = quietly(crate, lambda it: it.build_rlib(jobs, anew=False))
             done.append(crate.name)
             told(len(done), len(lacking), crate, well)
             return well
 
-        # (it goes by the second part of its key what is a proof)
-        tasks[crate.name, "proof"] = (below, crate.count(rb"\n"), rt.need(crate), made)
+        # (it goes by the second part of its key what is a proof; what more jobs take beside is half of what one is said to)
+        tasks[crate.name, "proof"] = (below, crate.count(rb"\n"), 1.5 * rt.need(crate), made)
     return all(rt.in_lanes(tasks).values())
 
 
