@@ -1,5 +1,5 @@
 -- The drafts of permutations that ran side by side, one after the other.
-use Rattle.std.proofs.Common.{◌≡◌, zero, suc, List, [], ◌∷◌, ◌++◌, map, sym, ap, subst, ◌∙◌, arith, append_assoc}
+use Rattle.std.proofs.Common.{◌≡◌, zero, suc, List, [], ◌∷◌, ◌++◌, length, map, sym, ap, subst, ◌∙◌, arith, append-nil, append_assoc}
 use Rattle.std.proofs.lemmas.List.{map-append}
 use Rattle.std.proofs.lemmas.List.Elements.{All-append}
 use Rattle.std.specs.List.{All}
@@ -8,7 +8,7 @@ use Rattle.spec_parser.specs.declared.tree.Entry.{Entry}
 use Rattle.permutations.specs.declared.draft.Draft.{Draft}
 use Rattle.permutations.specs.declared.side_by_side.Coming.{Coming}
 use Rattle.permutations.specs.Inner.Drafts.{listed}
-use Rattle.permutations.specs.Inner.Coming.{coming_entries, IsComing}
+use Rattle.permutations.specs.Inner.Coming.{coming_entries, AreDrafts, IsComing}
 
 -- the drafts that are there are those of the first of all, and the others are still to be joined
 pub record Joined {L : Type 0} (gives : L → Draft → Type 0) (lent : L) (all left : List (Coming L)) (drafts : List Draft) : Type 0 where
@@ -36,3 +36,8 @@ joined_more {L = L} gives lent all left rest drafts now coming draft so first pu
           ∙ ap (λ (cs : List (Coming L)). map listed drafts ++ map coming_entries cs) (sym first)
           ∙ so.entries;
     }
+
+pub joined_all : {L : Type 0} (gives : L → Draft → Type 0) (lent : L) (all left : List (Coming L)) (drafts : Vec Draft)
+    → Joined gives lent all left drafts.items → length left ≡ 0 → AreDrafts (gives lent) (map coming_entries all) drafts
+joined_all gives lent all [] drafts so none = record { given = so.given; entries = sym (append-nil (map listed drafts.items)) ∙ so.entries }
+joined_all gives lent all (c ∷ cs) drafts so none = absurd (omega (arith, none))

@@ -6,7 +6,8 @@ ghost use Rattle.session_core.specs.Blocks.{blocks_of};
 ghost use Rattle.spec_parser.specs.Trees.{entry_view, spec_view};
 ghost use Rattle.spec_parser.specs.Stands.{Stands};
 ghost use Rattle.permutation_lists.specs.Permutations.{permutations_of};
-ghost use Rattle.permutations.specs.Inner.Drafts.{IsDraft, entries_of, listed, lists_of, to_come};
+ghost use Rattle.permutations.specs.Inner.Coming.{AreDrafts};
+ghost use Rattle.permutations.specs.Inner.Drafts.{IsDraft, entries_of, lists_of, to_come};
 
 use crate::draft::Draft;
 use crate::side_by_side::{Lent, side_by_side};
@@ -97,8 +98,7 @@ fn drafts_of<G: Gate, R: Threads + Wait + Sync>(
     gate: &G,
 ) -> Result<Vec<Draft>, AllocError>
     requires { Stands (spec_view spec.now) }
-    ensures drafts { IfOk result (λ drafts. All (IsDraft (spec_view spec.now) (blocks_of blocks.now)) drafts.items) }
-    ensures entries { IfOk result (λ drafts. map listed drafts.items ≡ taken.items) }
+    ensures { IfOk result (AreDrafts (IsDraft (spec_view spec.now) (blocks_of blocks.now)) taken.items) }
 {
     let run = |entries: Vec<Entry>|
         requires { Stands (spec_view spec.now) }

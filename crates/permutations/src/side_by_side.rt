@@ -1,8 +1,7 @@
 //! Permutations that run side by side, each in a thread of its own.
 
 ghost use Rattle.std.specs.Prelude.{◌≡◌, All, map, IfOk};
-ghost use Rattle.permutations.specs.Inner.Drafts.{listed};
-ghost use Rattle.permutations.specs.Inner.Coming.{coming_entries, IsComing};
+ghost use Rattle.permutations.specs.Inner.Coming.{coming_entries, AreDrafts, IsComing, RunsAny};
 
 use crate::draft::Draft;
 use core::thread::Stack;
@@ -61,9 +60,7 @@ fn begin<'s, 'e: 's, L: Lent + 's, F: Fn(Vec<Entry>) -> Draft + Sync + 's>(
     run: &'s F,
     entries: Vec<Entry>,
 ) -> Coming<L>
-    requires accepts { F.pre run.now entries }
-    requires gives { (draft : _) → F.post run.now entries draft → L.gives lent.now draft }
-    requires keeps { (draft : _) → F.post run.now entries draft → draft.entries ≡ entries }
+    requires runs { RunsAny (F.pre run.now) (F.post run.now) (L.gives lent.now) }
     ensures draft { IsComing L.gives lent.now result }
     ensures entries { coming_entries result ≡ entries }
 {
@@ -90,9 +87,7 @@ fn begin_each<'s, 'e: 's, L: Lent + 's, F: Fn(Vec<Entry>) -> Draft + Sync + 's>(
     run: &'s F,
     mut taken: Vec<Vec<Entry>>,
 ) -> Result<Vec<Coming<L>>, AllocError>
-    requires accepts { (entries : _) → F.pre run.now entries }
-    requires gives { (entries draft : _) → F.post run.now entries draft → L.gives lent.now draft }
-    requires keeps { (entries draft : _) → F.post run.now entries draft → draft.entries ≡ entries }
+    requires runs { RunsAny (F.pre run.now) (F.post run.now) (L.gives lent.now) }
     ensures drafts { IfOk result (λ coming. All (IsComing L.gives lent.now) coming.items) }
     ensures entries { IfOk result (λ coming. map coming_entries coming.items ≡ taken.items) }
 {
@@ -107,41 +102,19 @@ fn begin_each<'s, 'e: 's, L: Lent + 's, F: Fn(Vec<Entry>) -> Draft + Sync + 's>(
     Ok(coming)
 }
 
-/// The drafts of all these, in the same order, once they are there. What they were lent stands for the contract alone.
+/// The drafts of all these, in the same order, once they are there.
 fn drafts_of_each<L: Lent, R: Threads>(
     rt: &R,
     alloc: Global,
-    _lent: &L,
     all: Vec<Coming<L>>,
 ) -> Result<Vec<Draft>, AllocError>
-    requires { All (IsComing L.gives _lent.now) all.items }
-    ensures drafts { IfOk result (λ drafts. All (L.gives _lent.now) drafts.items) }
-    ensures entries { IfOk result (λ drafts. map listed drafts.items ≡ map coming_entries all.items) }
+    ensures { IfOk result (λ drafts. (lent : L) → All (IsComing L.gives lent) all.items → AreDrafts (L.gives lent) (map coming_entries all.items) drafts) }
 {
     let mut drafts = Vec::with_capacity(alloc, all.len())?;
     for coming in all {
         drafts.push(coming.draft(rt))?;
     }
     Ok(drafts)
-}
-
-/// Runs these permutations in threads of the scope, each of which is joined.
-fn drafts_in<'s, 'e: 's, L: Lent + 's, F: Fn(Vec<Entry>) -> Draft + Sync + 's, R: Threads>(
-    scope: &Scope<'s, &'e ()>,
-    rt: &R,
-    alloc: Global,
-    lent: &'s L,
-    run: &'s F,
-    taken: Vec<Vec<Entry>>,
-) -> Result<Vec<Draft>, AllocError>
-    requires accepts { (entries : _) → F.pre run.now entries }
-    requires gives { (entries draft : _) → F.post run.now entries draft → L.gives lent.now draft }
-    requires keeps { (entries draft : _) → F.post run.now entries draft → draft.entries ≡ entries }
-    ensures drafts { IfOk result (λ drafts. All (L.gives lent.now) drafts.items) }
-    ensures entries { IfOk result (λ drafts. map listed drafts.items ≡ taken.items) }
-{
-    let all = begin_each(scope, alloc, lent, run, taken)?;
-    drafts_of_each(rt, alloc, lent, all)
 }
 
 /// Runs these permutations, all at a time, and answers their drafts in the same order.
@@ -152,21 +125,18 @@ pub fn side_by_side<L: Lent, F: Fn(Vec<Entry>) -> Draft + Sync, R: Threads + Wai
     run: &F,
     taken: Vec<Vec<Entry>>,
 ) -> Result<Vec<Draft>, AllocError>
-    requires accepts { (entries : _) → F.pre run.now entries }
-    requires gives { (entries draft : _) → F.post run.now entries draft → L.gives lent.now draft }
-    requires keeps { (entries draft : _) → F.post run.now entries draft → draft.entries ≡ entries }
-    ensures drafts { IfOk result (λ drafts. All (L.gives lent.now) drafts.items) }
-    ensures entries { IfOk result (λ drafts. map listed drafts.items ≡ taken.items) }
+    requires runs { RunsAny (F.pre run.now) (F.post run.now) (L.gives lent.now) }
+    ensures drafts { IfOk result (AreDrafts (L.gives lent.now) taken.items) }
 {
     thread::scope(
         thread::scope_env(),
         rt,
         move |scope| -> Result<Vec<Draft>, AllocError>
-            requires accepts { (entries : _) → F.pre run.now entries }
-            requires gives { (entries draft : _) → F.post run.now entries draft → L.gives lent.now draft }
-            requires keeps { (entries draft : _) → F.post run.now entries draft → draft.entries ≡ entries }
-            ensures drafts { IfOk result (λ drafts. All (L.gives lent.entry.now) drafts.items) }
-            ensures entries { IfOk result (λ drafts. map listed drafts.items ≡ taken.items) }
-        { drafts_in(scope, rt, alloc, lent, run, taken) },
+            requires { RunsAny (F.pre run.now) (F.post run.now) (L.gives lent.now) }
+            ensures { IfOk result (AreDrafts (L.gives lent.entry.now) taken.items) }
+        {
+            let all = begin_each(scope, alloc, lent, run, taken)?;
+            drafts_of_each(rt, alloc, all)
+        },
     )
 }

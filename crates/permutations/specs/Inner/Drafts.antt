@@ -24,6 +24,7 @@ pub record IsDraft (spec : SpecTree) (blocks : Blocks) (draft : Draft) : Type 0 
 abbrev pub lists_of : List (Vec Entry) → List (List EntryTree)
 lists_of taken = map perm_view taken
 
+-- the entries of a draft, as they were read
 abbrev pub listed : Draft → Vec Entry
 listed draft = draft.entries
 
