@@ -64,6 +64,20 @@ fn fault_text(fault: ThreadFault) -> &'static str {
     }
 }
 
+/// A run of the blocks, by at most 64 sessions.
+fn ended<'a, 't, G: Gate, R: Threads + Wait + Sync>(
+    rt: &R,
+    alloc: Global,
+    blocks: &'a [Block<'t>],
+    plan: &FreePlan,
+    gate: &G,
+) -> Result<Closed<'a, 't, ListStore>, ThreadFault> {
+    if plan.scripts.len() > 64 {
+        return Err(ThreadFault::Engine(EngineFault::NoSession));
+    }
+    run_free(rt, alloc, blocks, plan, ListStore::new(alloc), gate)
+}
+
 fn run<'a, 't, G: Gate, R: Threads + Wait + Sync>(
     rt: &R,
     alloc: Global,
@@ -71,11 +85,7 @@ fn run<'a, 't, G: Gate, R: Threads + Wait + Sync>(
     plan: &FreePlan,
     gate: &G,
 ) -> Result<Closed<'a, 't, ListStore>, Fail> {
-    if plan.scripts.len() > 64 {
-        return Err("too many sessions".into());
-    }
-    let store = ListStore::new(alloc);
-    Ok(run_free(rt, alloc, blocks, plan, store, gate).map_err(fault_text)?)
+    Ok(ended(rt, alloc, blocks, plan, gate).map_err(fault_text)?)
 }
 
 fn is_legal(
@@ -91,6 +101,67 @@ fn is_legal(
     Ok(replays(alloc, blocks, sessions, Mode::Free, items)?)
 }
 
+/// The number beside key 1, where that is the table's one row.
+fn number_of(engine: &EngineState<'_, '_, ListStore>) -> Result<Option<i32>, Fail> {
+    let rows = engine.visible(0, "t").map_err(|_| "a refusal")?;
+    let Some(rows) = rows else {
+        return Ok(None);
+    };
+    let [row] = rows.as_slice() else {
+        return Ok(None);
+    };
+    Ok(match row.values() {
+        [Value::Int(1), Value::Int(number)] => Some(*number),
+        _ => None,
+    })
+}
+
+/// What a run left: how many events, whether they replay, and the number beside key 1.
+#[derive(Drop)]
+struct Left {
+    events: usize,
+    is_legal: bool,
+    number: Option<i32>,
+}
+
+fn left_in(
+    alloc: Global,
+    blocks: &[Block<'_>],
+    plan: &FreePlan,
+    engine: &EngineState<'_, '_, ListStore>,
+) -> Result<Left, Fail> {
+    let items = engine.history();
+    Ok(Left {
+        events: items.len(),
+        is_legal: is_legal(alloc, blocks, plan, items)?,
+        number: number_of(engine)?,
+    })
+}
+
+fn left_by<G: Gate, R: Threads + Wait + Sync>(
+    rt: &R,
+    alloc: Global,
+    blocks: &[Block<'_>],
+    plan: &FreePlan,
+    gate: &G,
+) -> Result<Left, Fail> {
+    let closed = run(rt, alloc, blocks, plan, gate)?;
+    left_in(alloc, blocks, plan, closed.state())
+}
+
+/// What a run leaves of the blocks with these texts, of which the first so many are the control session's.
+fn left_of<G: Gate, R: Threads + Wait + Sync>(
+    rt: &R,
+    alloc: Global,
+    mains: usize,
+    texts: &[&str],
+    plan: &FreePlan,
+    gate: &G,
+) -> Result<Left, Fail> {
+    let blocks = blocks(alloc, mains, texts)?;
+    left_by(rt, alloc, &blocks, plan, gate)
+}
+
 const ONE: [&str; 3] = ["SELECT 0", "SELECT 0", "SELECT 1;"];
 
 /// The fault in which a run of these blocks ends.
@@ -101,11 +172,7 @@ fn fault_of<G: Gate, R: Threads + Wait + Sync>(
     gate: &G,
 ) -> Result<Option<ThreadFault>, Fail> {
     let blocks = blocks(alloc, 2, &ONE)?;
-    if plan.scripts.len() > 64 {
-        return Err("too many sessions".into());
-    }
-    let store = ListStore::new(alloc);
-    Ok(run_free(rt, alloc, &blocks, plan, store, gate).err())
+    Ok(ended(rt, alloc, &blocks, plan, gate).err())
 }
 
 /// Each of so many sessions runs one SELECT; how many events there were.
@@ -115,10 +182,9 @@ fn run_ones<G: Gate, R: Threads + Wait + Sync>(
     sessions: u32,
     gate: &G,
 ) -> Result<usize, Fail> {
-    let blocks = blocks(alloc, 2, &ONE)?;
     let plan = plan_of(alloc, sessions, &[FIRST_SCRIPT])?;
-    let closed = run(rt, alloc, &blocks, &plan, gate)?;
-    Ok(closed.state().history().len())
+    let left = left_of(rt, alloc, 2, &ONE, &plan, gate)?;
+    Ok(left.events)
 }
 
 /// The events of a run: of each session one launch, one step and one leave; of the control session two blocks and its leave.
@@ -189,6 +255,30 @@ fn tells(alloc: Global, seat: &Seat<'_>, told: &[String]) -> Result<bool, AllocE
     Ok(true)
 }
 
+/// Whether each session has three items, and its lines tell them.
+fn all_tell(alloc: Global, seats: &[Seat<'_>], told: &[String]) -> Result<bool, AllocError> {
+    for seat in seats {
+        let is_session = seat.session() > 0;
+        if is_session && (seat.items().len() != 3 || !tells(alloc, seat, told)?) {
+            return Ok(false);
+        }
+    }
+    Ok(true)
+}
+
+/// Whether a gate is told what the seats of the sessions hold.
+fn is_told_the_seats<R: Threads + Wait + Sync>(
+    rt: &R,
+    alloc: Global,
+    blocks: &[Block<'_>],
+    plan: &FreePlan,
+    gate: &Recorder<R>,
+) -> Result<bool, Fail> {
+    let closed = run(rt, alloc, blocks, plan, gate)?;
+    let told = gate.told.lock(rt);
+    Ok(told.len() == 6 && all_tell(alloc, closed.seats(), &told)?)
+}
+
 #[test]
 fn workers_tell_what_their_seats_hold(rt: HostRuntime) -> Result<(), Fail> {
     let alloc = rt.alloc();
@@ -199,17 +289,8 @@ fn workers_tell_what_their_seats_hold(rt: HostRuntime) -> Result<(), Fail> {
     };
     let blocks = blocks(alloc, 2, &ONE)?;
     let plan = plan_of(alloc, 2, &[FIRST_SCRIPT])?;
-    let closed = run(&rt, alloc, &blocks, &plan, &gate)?;
-    let told = gate.told.lock(&rt);
-    holds(&rt, told.len() == 6, "six");
-    for seat in closed.seats() {
-        holds(
-            &rt,
-            seat.session() == 0 || tells(alloc, seat, &told)?,
-            "told",
-        );
-        holds(&rt, seat.session() == 0 || seat.items().len() == 3, "items");
-    }
+    let tells = is_told_the_seats(&rt, alloc, &blocks, &plan, &gate)?;
+    holds(&rt, tells, "six lines, and they tell the seats");
     Ok(())
 }
 
@@ -219,37 +300,11 @@ const ADD: [&str; 3] = [
     "UPDATE t SET v = v + 1 WHERE k = 1;",
 ];
 
-/// Whether the table has one row alone, whose key and number these are.
-fn has_row(engine: &EngineState<'_, '_, ListStore>, key: i32, number: i32) -> Result<bool, Fail> {
-    let rows = engine.visible(0, "t").map_err(|_| "a refusal")?;
-    let Some(rows) = rows else {
-        return Ok(false);
-    };
-    let [row] = rows.as_slice() else {
-        return Ok(false);
-    };
-    Ok(match row.values() {
-        [Value::Int(k), Value::Int(v)] => *k == key && *v == number,
-        _ => false,
-    })
-}
-
-/// Whether a run of these blocks leaves 64 in the one row, and its history replays.
-fn adds<R: Threads + Wait + Sync>(
-    rt: &R,
-    alloc: Global,
-    blocks: &[Block<'_>],
-    plan: &FreePlan,
-) -> Result<bool, Fail> {
-    let closed = run(rt, alloc, blocks, plan, &OpenGate)?;
-    let engine = closed.state();
-    Ok(has_row(engine, 1, 64)? && is_legal(alloc, blocks, plan, engine.history())?)
-}
-
+/// Whether 64 sessions add 64 to the one row, and the history replays.
 fn add_by_all<R: Threads + Wait + Sync>(rt: &R, alloc: Global) -> Result<bool, Fail> {
-    let blocks = blocks(alloc, 2, &ADD)?;
     let plan = plan_of(alloc, 64, &[FIRST_SCRIPT])?;
-    Ok(adds(rt, alloc, &blocks, &plan)?)
+    let left = left_of(rt, alloc, 2, &ADD, &plan, &OpenGate)?;
+    Ok(left.is_legal && left.number == Some(64))
 }
 
 #[test]
@@ -267,23 +322,18 @@ const SETUPS: [&str; 5] = [
     "COMMIT",
 ];
 
-/// How many events there are where these setups come first, then a script of one block for each of two sessions.
+/// How many events there are, which replay, where these setups come first, then a script of one block for each of two sessions.
 fn events_behind<R: Threads + Wait + Sync>(
     rt: &R,
     alloc: Global,
     setups: &[(u32, u32)],
 ) -> Result<usize, Fail> {
-    let blocks = blocks(alloc, 1, &SETUPS)?;
     let mut plan = plan_of(alloc, 2, &[4])?;
     plan.after = Vec::new(alloc);
     plan.before = Vec::new(alloc);
     plan.before.extend_from_slice(setups)?;
-    let closed = run(rt, alloc, &blocks, &plan, &OpenGate)?;
-    let items = closed.state().history();
-    if !is_legal(alloc, &blocks, &plan, items)? {
-        return Err("a history that doesn't replay".into());
-    }
-    Ok(items.len())
+    let left = left_of(rt, alloc, 1, &SETUPS, &plan, &OpenGate)?;
+    Ok(if left.is_legal { left.events } else { 0 })
 }
 
 #[test]
@@ -314,12 +364,10 @@ const QUARREL: [&str; 6] = [
 const RUNS: usize = 20;
 
 fn quarrel<R: Threads + Wait + Sync + Abort>(rt: &R, alloc: Global) -> Result<(), Fail> {
-    let blocks = blocks(alloc, 2, &QUARREL)?;
     let plan = plan_of(alloc, 8, &[2, 3, 4, 5])?;
     for _ in 0..RUNS {
-        let closed = run(rt, alloc, &blocks, &plan, &OpenGate)?;
-        let items = closed.state().history();
-        holds(rt, is_legal(alloc, &blocks, &plan, items)?, "replays");
+        let left = left_of(rt, alloc, 2, &QUARREL, &plan, &OpenGate)?;
+        holds(rt, left.is_legal, "replays");
     }
     Ok(())
 }

@@ -6,7 +6,7 @@ use session_core::EngineState;
 use session_machine::{Event, Mode};
 use session_threads::{Seat, ThreadFault, act, close};
 use sql_parser::{Block, Role, parse_block};
-use std::alloc::Global;
+use std::alloc::{AllocError, Global};
 use std::test::Fail;
 
 fn blocks<'t>(alloc: Global) -> Result<Vec<Block<'t>>, Fail> {
@@ -21,25 +21,44 @@ fn blocks<'t>(alloc: Global) -> Result<Vec<Block<'t>>, Fail> {
     Ok(blocks)
 }
 
-/// Does the next step of the seat's session.
-fn do_step<'t>(
-    engine: &mut EngineState<'_, 't, ListStore>,
-    seat: &mut Seat<'t>,
-) -> Result<(), Fail> {
-    let session = seat.session();
-    act(engine, seat, Event::Step { session }).map_err(|_| "a step")?;
-    Ok(())
-}
-
-/// Launches a block in the seat's session, and does its first step.
+/// The seat's session does so many steps of the block with its number.
 fn do_block<'t>(
     engine: &mut EngineState<'_, 't, ListStore>,
     seat: &mut Seat<'t>,
-    block: u32,
+    steps: usize,
 ) -> Result<(), Fail> {
     let session = seat.session();
+    let block = session;
     act(engine, seat, Event::Launch { session, block }).map_err(|_| "a launch")?;
-    do_step(engine, seat)
+    for _ in 0..steps {
+        let session = seat.session();
+        act(engine, seat, Event::Step { session }).map_err(|_| "a step")?;
+    }
+    Ok(())
+}
+
+/// The seat of a session behind so many steps of its block.
+fn seat_behind<'t>(
+    alloc: Global,
+    engine: &mut EngineState<'_, 't, ListStore>,
+    session: u32,
+    steps: usize,
+) -> Result<Seat<'t>, Fail> {
+    let mut seat = Seat::new(alloc, session);
+    do_block(engine, &mut seat, steps)?;
+    Ok(seat)
+}
+
+/// The seats behind a run in which session 2 has a step left.
+fn seats_of<'t>(
+    alloc: Global,
+    engine: &mut EngineState<'_, 't, ListStore>,
+) -> Result<Vec<Seat<'t>>, Fail> {
+    let mut seats = Vec::new(alloc);
+    for (session, steps) in [(0, 2), (1, 2), (2, 1)] {
+        seats.push(seat_behind(alloc, engine, session, steps)?)?;
+    }
+    Ok(seats)
 }
 
 /// Which seats are put beside the engine.
@@ -52,38 +71,37 @@ enum Hands {
     TwoMore,
 }
 
+fn changed<'t>(
+    alloc: Global,
+    seats: Vec<Seat<'t>>,
+    hands: Hands,
+) -> Result<Vec<Seat<'t>>, AllocError> {
+    let mut changed = Vec::new(alloc);
+    for seat in seats {
+        match (hands, seat.session()) {
+            (Hands::NewZero, 0) => changed.push(Seat::new(alloc, 0))?,
+            (Hands::WithoutTwo, 2) => {}
+            (Hands::OneTwice, 2) => {
+                changed.push(Seat::new(alloc, 1))?;
+                changed.push(seat)?;
+            }
+            _ => changed.push(seat)?,
+        }
+    }
+    if let Hands::TwoMore = hands {
+        changed.push(Seat::new(alloc, 9))?;
+        changed.push(Seat::new(alloc, 7))?;
+    }
+    Ok(changed)
+}
+
 /// What `close` finds wrong with the seats after a run of two sessions.
 fn found(alloc: Global, blocks: &[Block<'_>], hands: Hands) -> Result<Option<ThreadFault>, Fail> {
     let store = ListStore::new(alloc);
     let mut engine = EngineState::new(alloc, blocks, 2, Mode::Directed, store)?;
-    let mut control = Seat::new(alloc, 0);
-    let mut first = Seat::new(alloc, 1);
-    let mut second = Seat::new(alloc, 2);
-    do_block(&mut engine, &mut control, 0)?;
-    do_step(&mut engine, &mut control)?;
-    do_block(&mut engine, &mut first, 1)?;
-    do_step(&mut engine, &mut first)?;
-    do_block(&mut engine, &mut second, 2)?;
-    let mut seats = Vec::new(alloc);
-    match hands {
-        Hands::NewZero => seats.push(Seat::new(alloc, 0))?,
-        _ => seats.push(control)?,
-    }
-    seats.push(first)?;
-    match hands {
-        Hands::All | Hands::NewZero => seats.push(second)?,
-        Hands::WithoutTwo => {}
-        Hands::OneTwice => {
-            seats.push(Seat::new(alloc, 1))?;
-            seats.push(second)?;
-        }
-        Hands::TwoMore => {
-            seats.push(second)?;
-            seats.push(Seat::new(alloc, 9))?;
-            seats.push(Seat::new(alloc, 7))?;
-        }
-    }
-    Ok(close(engine, seats).err())
+    let seats = seats_of(alloc, &mut engine)?;
+    let changed = changed(alloc, seats, hands)?;
+    Ok(close(engine, changed).err())
 }
 
 #[test]
