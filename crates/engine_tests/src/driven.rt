@@ -55,13 +55,17 @@ fn is_asked<V: Versions, D: Driver<V>>(
     ))
 }
 
+fn asks(rt: &impl Abort, alloc: Global, engine: &Engine<'_, '_>) -> Result<(), AllocError> {
+    let mut once = Once;
+    holds(rt, "itself", is_asked(alloc, &mut once, engine)?);
+    let mut lent = &mut once;
+    holds(rt, "lent", is_asked(alloc, &mut lent, engine)?);
+    Ok(())
+}
+
 fn asked_once(rt: &impl Abort, alloc: Global) -> Result<(), Wrong> {
     let engine: Engine<'_, '_> = engine_of(alloc, &[], 1, Mode::Directed)?;
-    let mut once = Once;
-    holds(rt, "itself", is_asked(alloc, &mut once, &engine)?);
-    let mut lent = &mut once;
-    holds(rt, "lent", is_asked(alloc, &mut lent, &engine)?);
-    Ok(())
+    Ok(asks(rt, alloc, &engine)?)
 }
 
 #[test]

@@ -128,6 +128,16 @@ fn stands(
     Ok(())
 }
 
+/// The table is made, and each session that isn't in its block is given one, 24 times.
+fn turns(engine: &mut Engine<'_, '_>, dice: &mut Dice, met: &mut Met) -> Result<(), Wrong> {
+    engine.launch(0, 0)?;
+    rest(engine, met)?;
+    for _ in 0..24 {
+        turn(engine, dice, met)?;
+    }
+    Ok(())
+}
+
 fn interleaving(
     rt: &impl Abort,
     alloc: Global,
@@ -136,11 +146,7 @@ fn interleaving(
     met: &mut Met,
 ) -> Result<(), Wrong> {
     let mut engine = engine_of(alloc, blocks, 3, Mode::Directed)?;
-    engine.launch(0, 0)?;
-    rest(&mut engine, met)?;
-    for _ in 0..24 {
-        turn(&mut engine, dice, met)?;
-    }
+    turns(&mut engine, dice, met)?;
     stands(rt, alloc, &engine, blocks)
 }
 
