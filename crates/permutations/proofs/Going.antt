@@ -1,77 +1,53 @@
--- What is kept of an engine's history is kept of what the history goes on with.
-use Rattle.std.proofs.Common.{◌≡◌, ◌≢◌, Bool, true, false, true≢false, List, [], ◌∷◌, ◌++◌, append-nil, refl, ap, sym, subst, Option, Some, None}
-use Rattle.std.specs.Prelude.{Result, Ok, Err, IsErrOf, IfErr, OnOk}
+-- A run on one thread, under way: what it did so far is in order.
+use Rattle.std.proofs.Common.{◌≡◌, true≢false, refl, List, [], ◌∷◌, sym, subst, ◌∙◌, None, false}
+use Rattle.std.specs.Prelude.{Ok}
 use Rattle.session_machine.specs.declared.event.Event.{Event}
 use Rattle.session_machine.specs.declared.reply.Reply.{Reply}
 use Rattle.session_machine.specs.declared.reply.HistItem.{HistItem}
-use Rattle.session_machine.specs.declared.fault.Refusal.{Refusal}
-use Rattle.session_machine.specs.declared.fault.EngineFault.{EngineFault}
-use Rattle.session_machine.specs.declared.fault.EngineFault.TheVariants.{Busy, NotYourTurn, StillBlocked, Idle, Spent, Memory, NoSession, BlockNotAllowed}
-use Rattle.session_machine.specs.Machine.{Machine, Next, next}
-use Rattle.session_machine.specs.Engine.{Engine, EngineAnswered, engine_after, engine_step, engine_answered, spent_engine}
-use Rattle.permutations.specs.Plans.{Planning, IsFollowing}
+use Rattle.session_machine.specs.Engine.{Engine, engine_after}
+use Rattle.session_core.specs.Engines.{IsOf}
+use Rattle.session_threads.specs.Acts.{Acted, with_item}
+use Rattle.session_threads.specs.Orders.{Orders, IsOrder}
+use Rattle.session_threads.specs.Inner.Shared.{IsOrderly}
+use Rattle.session_threads.specs.Seats.{SeatOf}
+use Rattle.session_threads.proofs.Ordering as threads
+use Rattle.spec_parser.specs.Trees.{EntryTree}
+use Rattle.permutation_plans.specs.Launches.{Launches, due_after}
+use Rattle.permutations.specs.Plans.{Planning, order_after, IsFollowing}
 use Rattle.permutations.specs.Following.{follows_longer}
 
--- the history goes on, or stays as it is
-record IsLonger (items others : List HistItem) : Type 0 where
-  more : List HistItem
-  is : others ≡ items ++ more
+-- what the engine did since it was opened is what the plan ordered at first, and orders now
+pub record IsUnderWay (first plan : Planning) (opened e : Engine) : Type 0 where
+  pub launches : plan.launches ≡ first.launches
+  pub entries : plan.entries ≡ first.entries
+  pub follows : IsFollowing plan e.history
+  pub orderly : IsOrderly (order_after first) e.history None false
+  pub same : IsOf e opened.blocks opened.count opened.mode
 
-following : (plan : Planning) (items others : List HistItem) → IsLonger items others → IsFollowing plan items → IsFollowing plan others
-following plan items others long follows =
-    subst (λ (w : List HistItem). IsFollowing plan w) (sym long.is) (follows_longer _ long.more plan.progress follows)
+-- plans of the same launches and entries order the same
+at_first : (P : Orders → Type 0) (first plan : Planning) → plan.launches ≡ first.launches → plan.entries ≡ first.entries → P (order_after plan) → P (order_after first)
+at_first P first plan launches entries is =
+    subst (λ (es : List EntryTree). P (due_after first.launches es)) entries (subst (λ (l : Launches). P (due_after l plan.entries)) launches is)
 
-answered_longer : (e : Engine) (event : Event) (n : Result Next Refusal) → IsLonger e.history (engine_answered e event n).engine.history
-answered_longer e event (Err refusal) = record { more = []; is = sym (append-nil e.history) }
-answered_longer e event (Ok n) = record { more = record { event = event; reply = n.reply } ∷ []; is = refl }
+abbrev no_seat : SeatOf
+no_seat = record { session = 0; items = [] }
 
-step_longer : (e : Engine) (event : Event) (m : Option Machine) → IsLonger e.history (engine_step e event m).engine.history
-step_longer e event None = record { more = []; is = sym (append-nil e.history) }
-step_longer e event (Some m) = answered_longer e event (next e.blocks e.mode m event)
+abbrev acted : (event : Event) (before after : Engine) (reply : Reply) → engine_after before event ≡ record { engine = after; answer = Ok reply }
+    → Acted event before after no_seat (with_item no_seat event reply)
+acted event before after reply is = record { reply = reply; engine = is; seat = refl }
 
-abbrev is_memory : EngineFault → Bool
-is_memory Memory = true
-is_memory Busy = false
-is_memory NotYourTurn = false
-is_memory StillBlocked = false
-is_memory Idle = false
-is_memory Spent = false
-is_memory NoSession = false
-is_memory BlockNotAllowed = false
-
--- the engine did the event, whatever the reply, or refused it
-abbrev Answered : Engine → Event → Engine → Result (Unit {0}) EngineFault → Type 0
-Answered old event new result = OnOk result ((reply : Reply) × (engine_after old event ≡ record { engine = new; answer = Ok reply }))
-
-abbrev Refused : Engine → Event → Engine → Result (Unit {0}) EngineFault → Type 0
-Refused old event new result = IfErr result (λ fault. fault ≢ Memory → engine_after old event ≡ record { engine = new; answer = Err fault })
-
-stays_so : (old new : Engine) → new ≡ spent_engine old → IsLonger old.history new.history
-stays_so old new is = subst (λ (e : Engine). IsLonger old.history e.history) (sym is) (record { more = []; is = sym (append-nil old.history) })
-
-goes_so : (old new : Engine) (event : Event) (answer : Result Reply EngineFault) → engine_after old event ≡ record { engine = new; answer = answer } → IsLonger old.history new.history
-goes_so old new event answer is = subst (λ (e : Engine). IsLonger old.history e.history) (ap (λ (a : EngineAnswered). a.engine) is) (step_longer old event old.machine)
-
-after_fault : (old new : Engine) (event : Event) (fault : EngineFault) → (fault ≡ Memory → new ≡ spent_engine old)
-    → (fault ≢ Memory → engine_after old event ≡ record { engine = new; answer = Err fault }) → IsLonger old.history new.history
-after_fault old new event Memory memory refused = stays_so old new (memory refl)
-after_fault old new event Busy memory refused = goes_so old new event (Err Busy) (refused (λ same. true≢false (sym (ap is_memory same))))
-after_fault old new event NotYourTurn memory refused = goes_so old new event (Err NotYourTurn) (refused (λ same. true≢false (sym (ap is_memory same))))
-after_fault old new event StillBlocked memory refused = goes_so old new event (Err StillBlocked) (refused (λ same. true≢false (sym (ap is_memory same))))
-after_fault old new event Idle memory refused = goes_so old new event (Err Idle) (refused (λ same. true≢false (sym (ap is_memory same))))
-after_fault old new event Spent memory refused = goes_so old new event (Err Spent) (refused (λ same. true≢false (sym (ap is_memory same))))
-after_fault old new event NoSession memory refused = goes_so old new event (Err NoSession) (refused (λ same. true≢false (sym (ap is_memory same))))
-after_fault old new event BlockNotAllowed memory refused = goes_so old new event (Err BlockNotAllowed) (refused (λ same. true≢false (sym (ap is_memory same))))
-
-after : (old new : Engine) (event : Event) (result : Result (Unit {0}) EngineFault) → (IsErrOf result Memory → new ≡ spent_engine old)
-    → Answered old event new result → Refused old event new result → IsLonger old.history new.history
-after old new event (Ok x) memory done refused = goes_so old new event (Ok done.0) done.1
-after old new event (Err fault) memory done refused =
-    after_fault old new event fault (λ same. memory (ap (λ (f : EngineFault). let r : Result (Unit {0}) EngineFault = Err f in r) same)) refused
-
--- an event was done, or refused, or memory was
-pub goes_on : (plan : Planning) (old new : Engine) (event : Event) (result : Result (Unit {0}) EngineFault) → (IsErrOf result Memory → new ≡ spent_engine old)
-    → OnOk result ((reply : Reply) × (engine_after old event ≡ record { engine = new; answer = Ok reply }))
-    → IfErr result (λ fault. fault ≢ Memory → engine_after old event ≡ record { engine = new; answer = Err fault })
-    → IsFollowing plan old.history → IsFollowing plan new.history
-goes_on plan old new event result memory done refused follows = following plan old.history new.history (after old new event result memory done refused) follows
+-- the event that the plan orders was done
+pub goes_on : (first plan now : Planning) (opened e after : Engine) (event : Event) (reply : Reply)
+    → IsUnderWay first plan opened e → now.launches ≡ plan.launches → now.entries ≡ plan.entries → IsFollowing now e.history → IsOrder event (order_after plan e.history)
+    → engine_after e event ≡ record { engine = after; answer = Ok reply } → IsOf after e.blocks e.count e.mode → IsUnderWay first now opened after
+goes_on first plan now opened e after event reply so launches entries follows ordered done same =
+    let item : HistItem = record { event = event; reply = reply } in
+    let act = acted event e after reply done in
+    let due = at_first (λ (orders : Orders). IsOrder event (orders e.history)) first plan so.launches so.entries ordered in
+    record {
+      launches = launches ∙ so.launches;
+      entries = entries ∙ so.entries;
+      follows = subst (λ (w : List HistItem). IsFollowing now w) (sym (threads.acted_history event e after no_seat _ act)) (follows_longer _ (item ∷ []) now.progress follows);
+      orderly = threads.goes_on (order_after first) event e after no_seat _ None false so.orderly due act (λ is. true≢false (sym is));
+      same = (same.0 ∙ so.same.0, same.1 ∙ so.same.1, same.2 ∙ so.same.2);
+    }

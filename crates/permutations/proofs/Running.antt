@@ -1,31 +1,27 @@
 -- A run that came to its end.
-use Rattle.std.proofs.Common.{◌≡◌, ℕ, length, List, Option, Some, None, IsTrue, true, ap, subst, ◌∙◌}
+use Rattle.std.proofs.Common.{◌≡◌, ℕ, length, List, Option, Some, None, true, ap, subst, ◌∙◌}
 use Rattle.std.specs.Prelude.{IfSome}
 use Rattle.session_machine.specs.declared.event.Mode.{Mode}
 use Rattle.session_machine.specs.declared.event.Mode.TheVariants.{Directed}
-use Rattle.session_machine.specs.declared.reply.HistItem.{HistItem}
-use Rattle.session_machine.specs.Machine.{Machine, Blocks, opening, is_quiet}
+use Rattle.session_machine.specs.Machine.{Machine, Blocks, opening}
 use Rattle.session_machine.specs.Engine.{Engine, Run, opened}
 use Rattle.session_core.specs.Engines.{IsOf, is_quiet_in}
 use Rattle.spec_parser.specs.Trees.{EntryTree, SpecTree}
 use Rattle.permutation_plans.specs.Regular.{Fits, IsRegular}
+use Rattle.permutations.specs.Inner.Resting.{IsAtRest}
 
--- a quiet state that a run led to
-record Rests (blocks : Blocks) (mode : Mode) (count : ℕ) (items : List HistItem) : Type 0 where
-  state : Machine
-  run : Run blocks mode (opening count) items state
-  quiet : IsTrue (is_quiet state)
+rests_in : (e : Engine) (machine : Option Machine) → is_quiet_in machine ≡ true → IfSome machine (λ m. Run e.blocks e.mode (opening e.count) e.history m) → IsAtRest e
+rests_in e None quiet leads = absurd cc
+rests_in e (Some m) quiet leads = record { state = m; run = leads; quiet = quiet }
 
-rests : (blocks : Blocks) (mode : Mode) (count : ℕ) (items : List HistItem) (machine : Option Machine) → is_quiet_in machine ≡ true → IfSome machine (λ m. Run blocks mode (opening count) items m) → Rests blocks mode count items
-rests blocks mode count items None quiet leads = absurd cc
-rests blocks mode count items (Some m) quiet leads = record { state = m; run = leads; quiet = quiet }
+pub rests : (e : Engine) → is_quiet_in e.machine ≡ true → IfSome e.machine (λ m. Run e.blocks e.mode (opening e.count) e.history m) → IsAtRest e
+rests e quiet leads = rests_in e e.machine quiet leads
 
 -- what was opened over the blocks and came to rest has a regular history, if it fits
 pub regular : (spec : SpecTree) (blocks : Blocks) (entries : List EntryTree) (count : ℕ) (old new : Engine)
-    → old ≡ opened blocks count Directed → IsOf new old.blocks old.count old.mode → count ≡ length spec.sessions → is_quiet_in new.machine ≡ true
-    → IfSome new.machine (λ m. Run new.blocks new.mode (opening new.count) new.history m) → Fits spec entries new.history → IsRegular spec blocks entries new.history
-regular spec blocks entries count old new is same long quiet leads fits =
-    let r = rests new.blocks new.mode new.count new.history new.machine quiet leads in
+    → old ≡ opened blocks count Directed → IsOf new old.blocks old.count old.mode → count ≡ length spec.sessions → IsAtRest new
+    → Fits spec entries new.history → IsRegular spec blocks entries new.history
+regular spec blocks entries count old new is same long r fits =
     let bs : new.blocks ≡ blocks = same.0 ∙ ap (λ (e : Engine). e.blocks) is in
     let mode : new.mode ≡ Directed = same.2 ∙ ap (λ (e : Engine). e.mode) is in
     let n : new.count ≡ length spec.sessions = same.1 ∙ ap (λ (e : Engine). e.count) is ∙ long in

@@ -5,7 +5,6 @@ pub mod BlockAnswers
 pub mod Files
 pub mod Said
 pub mod Lists
-pub mod Events
 pub mod FirstLine
 pub mod Prints
 pub mod Plans

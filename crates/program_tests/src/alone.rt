@@ -55,7 +55,7 @@ fn by_threads<R: Threads + Wait + Sync>(
 }
 
 /// The reports of all permutations, without the line that comes before them.
-fn by_one_thread(alloc: Global, spec: &str) -> Result<Printed, RunFault> {
+fn by_one_thread<R: Wait>(rt: &R, alloc: Global, spec: &str) -> Result<Printed, RunFault> {
     let mut text = Vec::new(alloc);
     let mut notes = Vec::new(alloc);
     let mut out = FromStd::new(&mut text);
@@ -67,7 +67,7 @@ fn by_one_thread(alloc: Global, spec: &str) -> Result<Printed, RunFault> {
             break;
         }
         let entries = permutations.entries();
-        let engine = run_alone(alloc, &file.spec, &file.blocks, entries)?;
+        let engine = run_alone(rt, alloc, &file.spec, &file.blocks, entries)?;
         write_permutation(
             alloc,
             &file.spec,
@@ -89,7 +89,7 @@ fn prints_the_same<R: Threads + Wait + Sync + Abort>(
     spec: &str,
 ) -> Result<(), RunFault> {
     let threads = by_threads(rt, alloc, spec)?;
-    let alone = by_one_thread(alloc, spec)?;
+    let alone = by_one_thread(rt, alloc, spec)?;
     let text = threads.text.as_slice();
     holds(rt, text.starts_with(FIRST_LINE), "the first line");
     holds(

@@ -6,8 +6,10 @@ use permutation_lists::Permutations;
 use permutations::{RunFault, read_file, run_alone, write_permutation};
 use std::alloc::Global;
 use std::io::{self, BufWriter, Write};
+use std::sync::Wait;
 
-fn print<W: Sink, N: Sink>(
+fn print<R: Wait, W: Sink, N: Sink>(
+    rt: &R,
     alloc: Global,
     bytes: &[u8],
     out: &mut W,
@@ -20,21 +22,22 @@ fn print<W: Sink, N: Sink>(
             break;
         }
         let entries = permutations.entries();
-        let engine = run_alone(alloc, &file.spec, &file.blocks, entries)?;
+        let engine = run_alone(rt, alloc, &file.spec, &file.blocks, entries)?;
         write_permutation(alloc, &file.spec, entries, engine.history(), out, notes)?;
     }
     Ok(())
 }
 
-pub fn run(rt: &HostRuntime) -> Result<()> {
-    let mut input = FromStd::new(rt.reader());
-    let Ok(bytes) = read_all(rt.alloc(), &mut input, LONGEST_FILE + 1) else {
+/// The same runtime twice: as what the program is given, and as what a run may wait by.
+pub fn run<R: Wait>(host: &HostRuntime, rt: &R) -> Result<()> {
+    let mut input = FromStd::new(host.reader());
+    let Ok(bytes) = read_all(host.alloc(), &mut input, LONGEST_FILE + 1) else {
         bail!("standard input can't be read");
     };
-    let mut text = BufWriter::new(rt.alloc(), io::writer(rt))?;
+    let mut text = BufWriter::new(host.alloc(), io::writer(host))?;
     let mut out = FromStd::new(&mut text);
-    let mut notes = FromStd::new(rt.stderr());
-    if print(rt.alloc(), &bytes, &mut out, &mut notes).is_err() {
+    let mut notes = FromStd::new(host.stderr());
+    if print(rt, host.alloc(), &bytes, &mut out, &mut notes).is_err() {
         bail!("the run ended early");
     }
     text.flush()?;

@@ -9,10 +9,11 @@ mod steps;
 
 use anyhow::{Result, bail};
 use std::env;
+use std::sync::Wait;
 
-fn timed(rt: &HostRuntime, word: &str) -> Result<()> {
+fn timed<R: Wait>(rt: &HostRuntime, waits: &R, word: &str) -> Result<()> {
     match word {
-        "alone" => alone::run(rt),
+        "alone" => alone::run(rt, waits),
         "reading" => reading::run(rt, true),
         "sorting" => sorting::run(rt, true),
         "steps" => steps::run(rt, true),
@@ -22,7 +23,7 @@ fn timed(rt: &HostRuntime, word: &str) -> Result<()> {
 
 fn main(rt: HostRuntime) -> Result<()> {
     match env::args(&rt)?.nth(1) {
-        Some(word) => timed(&rt, word.as_str()),
+        Some(word) => timed(&rt, &rt, word.as_str()),
         None => {
             reading::run(&rt, false)?;
             sorting::run(&rt, false)?;
