@@ -1,5 +1,8 @@
 //! A plan as a driver.
 
+ghost use Rattle.std.specs.Prelude.{[]};
+ghost use Rattle.permutations.specs.Plans.{IsFollowing};
+
 use crate::asking::holds;
 use permutations::Plan;
 use row_versions::{ListStore, Versions};
@@ -20,6 +23,14 @@ fn asked<V: Versions, D: Driver<V>>(
     driver.next(alloc, engine)
 }
 
+/// What a plan orders in an engine in which nothing has happened.
+fn order_at_first(alloc: Global, plan: &mut Plan<'_>) -> Result<Order, AllocError>
+    requires { IsFollowing plan.old [] }
+{
+    let engine = EngineState::new(alloc, &[], 1, Mode::Directed, ListStore::new(alloc))?;
+    asked(alloc, plan, &engine)
+}
+
 /// The first order of the first permutation line of a spec of few sessions; none where there is no such line.
 fn first_order(alloc: Global, spec: &Spec<'_>) -> Result<Option<Order>, AllocError> {
     let Some(entries) = spec.perms.first() else {
@@ -28,9 +39,8 @@ fn first_order(alloc: Global, spec: &Spec<'_>) -> Result<Option<Order>, AllocErr
     if spec.sessions.len() > 64 {
         return Ok(None);
     }
-    let engine = EngineState::new(alloc, &[], 1, Mode::Directed, ListStore::new(alloc))?;
     let mut plan = Plan::new(alloc, spec, entries)?;
-    Ok(Some(asked(alloc, &mut plan, &engine)?))
+    Ok(Some(order_at_first(alloc, &mut plan)?))
 }
 
 #[test]
