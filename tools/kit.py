@@ -82,10 +82,10 @@ def quietly(crate, call):
 
 
 def build_all(libraries, told=lambda done, of, crate, well: None):
-    """Proves and builds these libraries, which stand on each other alone, several side by side. Each may use all processors: the parts of a crate wait for each other,
-    so that alone it keeps two of four busy. What is built already isn't looked at. Returns whether all are built; of each that was tried, told learns which in turn it
+    """Proves and builds these libraries, which stand on each other alone, several side by side. Each may use four processors: the parts of a crate wait for each other,
+    so that alone it keeps two of them busy. What is built already isn't looked at. Returns whether all are built; of each that was tried, told learns which in turn it
     is, of how many, and whether it went well."""
-    jobs = ["--jobs", str(rt.processors())]
+    jobs = ["--jobs", str(min(4, rt.processors()))]
     lacking = [it for it in libraries if not all(each.is_built() for each in [it, *it.below()])]
     tasks, done = {}, []
     for crate in lacking:
@@ -99,7 +99,7 @@ def build_all(libraries, told=lambda done, of, crate, well: None):
             told(len(done), len(lacking), crate, well)
             return well
 
-        # (it goes by the second part of its key what is a proof; what more jobs take beside is half of what one is said to)
+        # (in_lanes takes a task for a proof by the second part of its key. It is told half as much memory again, since it reckons with fewer jobs than are used)
         tasks[crate.name, "proof"] = (below, crate.count(rb"\n"), 1.5 * rt.need(crate), made)
     return all(rt.in_lanes(tasks).values())
 
