@@ -1,5 +1,7 @@
 //! The end of a run: the engine's state beside the seats.
-ghost use Rattle.std.specs.Prelude.{◌≡◌, ◌≢◌, ◌<◌, ◌↔◌, ℕ, [], true, IsTrue, IfOk, IfErr, MatchOption};
+ghost use Rattle.std.specs.Prelude.{◌≡◌, ◌≢◌, ◌<◌, ◌↔◌, ℕ, [], true, Err, None, IsTrue, IfOk, IfErr, IfSome, MatchOption};
+ghost use Rattle.session_core.specs.Blocks.{blocks_of};
+ghost use Rattle.session_core.specs.Engines.{IsOf};
 ghost use Rattle.session_threads.specs.Seats.{items_of, seats_of, seat_if, AllFit, IsMisfit};
 ghost use Rattle.session_machine.specs.Machine.{session_of};
 ghost use Rattle.session_threads.specs.Inner.Seats.{is_less};
@@ -7,7 +9,8 @@ ghost use Rattle.session_threads.specs.Inner.Seats.{is_less};
 use crate::seat::{Seat, ThreadFault};
 use row_versions::Versions;
 use session_core::EngineState;
-use session_machine::{Event, HistItem};
+use session_machine::{Event, HistItem, Mode};
+use sql_parser::Block;
 use std::marker::Model;
 
 /// A run that is over: the engine's state, and a seat for each session, whose items are the history's items of that
@@ -62,6 +65,32 @@ pub fn close<'a, 't, V: Versions>(
     match first_misfit(&state, &seats) {
         None => Ok(Closed { state, seats }),
         Some(session) => Err(ThreadFault::SeatMismatch { session }),
+    }
+}
+
+/// The end of a run: the seats beside an engine that was opened over these blocks and sessions and in this mode. A fault that
+/// was met late comes after another run, and before the seats.
+pub fn end_of<'a, 't, V: Versions>(
+    engine: EngineState<'a, 't, V>,
+    blocks: &[Block<'_>],
+    sessions: u32,
+    mode: Mode,
+    late: Option<ThreadFault>,
+    seats: Vec<Seat<'t>>,
+) -> Result<Closed<'a, 't, V>, ThreadFault>
+    ensures other_run { ¬ (IsOf engine.entry (blocks_of blocks.now) sessions mode) → result ≡ Err ThreadFault.OtherRun }
+    ensures late { IsOf engine.entry (blocks_of blocks.now) sessions mode → IfSome late (λ fault. result ≡ Err fault) }
+    ensures seats { IsOf engine.entry (blocks_of blocks.now) sessions mode → late ≡ None
+        → IfErr result (λ e. (s : ℕ) × (e ≡ ThreadFault.SeatMismatch s) × IsMisfit engine.entry seats.entry.items s) }
+    ensures ok { IfOk result (λ c. IsOf engine.entry (blocks_of blocks.now) sessions mode × (late ≡ None)
+        × (c ≡ record { state = engine.entry; seats = seats.entry.items })) }
+{
+    if !engine.is_of(blocks, sessions, mode) {
+        return Err(ThreadFault::OtherRun);
+    }
+    match late {
+        Some(fault) => Err(fault),
+        None => close(engine, seats),
     }
 }
 

@@ -1,13 +1,12 @@
 //! A run with a thread for each session, in which a driver says what is given to whom.
-ghost use Rattle.std.specs.Prelude.{◌≡◌, ◌≤◌, ℕ, [], true, false, Err, None, IfOk, IfErr, IfSome, IfNone};
+ghost use Rattle.std.specs.Prelude.{◌≡◌, ◌≤◌, [], true, false, Err, None, IfOk, IfSome};
 ghost use Rattle.row_versions.specs.Log.{empty_content};
 ghost use Rattle.session_core.specs.Blocks.{blocks_of};
 ghost use Rattle.session_core.specs.Engines.{IsOf, is_quiet_in};
-ghost use Rattle.session_threads.specs.Seats.{IsMisfit};
 ghost use Rattle.session_threads.specs.Orders.{IsDriven};
 
 use crate::bells::Bells;
-use crate::closing::{Closed, close};
+use crate::closing::{Closed, end_of};
 use crate::crew::start_thread;
 use crate::driver::{Driver, Ordering};
 use crate::gate::Gate;
@@ -111,30 +110,6 @@ fn serve<
     })
 }
 
-/// The end of a run: the seats beside an engine that is quiet and was opened over these blocks and sessions.
-fn end_of<'a, 't, V: Versions>(
-    engine: EngineState<'a, 't, V>,
-    blocks: &[Block<'_>],
-    sessions: u32,
-    seats: Vec<Seat<'t>>,
-) -> Result<Closed<'a, 't, V>, ThreadFault>
-    ensures other_run { ¬ (IsOf engine.entry (blocks_of blocks.now) sessions Mode.Directed) → result ≡ Err ThreadFault.OtherRun }
-    ensures busy { IsOf engine.entry (blocks_of blocks.now) sessions Mode.Directed → is_quiet_in engine.entry.machine ≡ false
-        → result ≡ Err (ThreadFault.Engine EngineFault.NotYourTurn) }
-    ensures seats { IsOf engine.entry (blocks_of blocks.now) sessions Mode.Directed → is_quiet_in engine.entry.machine ≡ true
-        → IfErr result (λ e. (s : ℕ) × (e ≡ ThreadFault.SeatMismatch s) × IsMisfit engine.entry seats.entry.items s) }
-    ensures ok { IfOk result (λ c. IsOf engine.entry (blocks_of blocks.now) sessions Mode.Directed × (is_quiet_in engine.entry.machine ≡ true)
-        × (c ≡ record { state = engine.entry; seats = seats.entry.items })) }
-{
-    if !engine.is_of(blocks, sessions, Mode::Directed) {
-        return Err(ThreadFault::OtherRun);
-    }
-    if !engine.quiet() {
-        return Err(ThreadFault::Engine(EngineFault::NotYourTurn));
-    }
-    close(engine, seats)
-}
-
 /// The end of a run of what stood behind the lock. A fault that was met comes first.
 fn closed_of<'a, 't, V: Versions, O: Ordering, D: Driver<V> + Drop>(
     shared: Shared<'a, 't, V, O, D>,
@@ -146,17 +121,19 @@ fn closed_of<'a, 't, V: Versions, O: Ordering, D: Driver<V> + Drop>(
     ensures driven { IfOk result (λ c. IsDriven O.orders c.state.history) }
     ensures of { IfOk result (λ c. IsOf c.state (blocks_of blocks.now) sessions Mode.Directed) }
     ensures quiet { IfOk result (λ c. is_quiet_in c.state.machine ≡ true) }
+    ensures busy { shared.entry.fault ≡ None → IsOf shared.entry.engine (blocks_of blocks.now) sessions Mode.Directed
+        → is_quiet_in shared.entry.engine.machine ≡ false → result ≡ Err (ThreadFault.Engine EngineFault.NotYourTurn) }
 {
     let (engine, stop, fault) = shared.into_parts();
     if let Some(fault) = fault {
         return Err(fault);
     }
-    let closed = end_of(engine, blocks, sessions, seats)?;
-    if stop {
-        Ok(closed)
+    let busy = if stop && engine.quiet() {
+        None
     } else {
-        Err(ThreadFault::Engine(EngineFault::NotYourTurn))
-    }
+        Some(ThreadFault::Engine(EngineFault::NotYourTurn))
+    };
+    end_of(engine, blocks, sessions, Mode::Directed, busy, seats)
 }
 
 /// Runs what the driver orders, where the type says which orders these are.

@@ -1,11 +1,10 @@
 //! A run in which each session's thread runs the session's script, with no order between sessions.
-ghost use Rattle.std.specs.Prelude.{◌≡◌, ◌≤◌, Err, IfOk, IfErr, IfSome, ℕ, None, vec_len};
+ghost use Rattle.std.specs.Prelude.{◌≡◌, ◌≤◌, IfOk, vec_len};
 ghost use Rattle.row_versions.specs.Log.{empty_content};
 ghost use Rattle.session_core.specs.Blocks.{blocks_of};
 ghost use Rattle.session_core.specs.Engines.{IsOf};
-ghost use Rattle.session_threads.specs.Seats.{IsMisfit};
 
-use crate::closing::{Closed, close};
+use crate::closing::{Closed, end_of};
 use crate::crew::start_thread;
 use crate::free_shared::{FreeShared, free_event, stop};
 use crate::gate::{Gate, OpenGate};
@@ -285,31 +284,6 @@ fn run_plan<'a, 't, V: Versions + Send, G: Gate, R: Threads + Wait + Sync>(
     }
 }
 
-/// The end of a run: the seats beside an engine that was opened over these blocks and sessions. A fault that was met in
-/// the control session's last blocks comes after that.
-fn end_of<'a, 't, V: Versions>(
-    engine: EngineState<'a, 't, V>,
-    blocks: &[Block<'_>],
-    sessions: u32,
-    late: Option<ThreadFault>,
-    seats: Vec<Seat<'t>>,
-) -> Result<Closed<'a, 't, V>, ThreadFault>
-    ensures other_run { ¬ (IsOf engine.entry (blocks_of blocks.now) sessions Mode.Free) → result ≡ Err ThreadFault.OtherRun }
-    ensures late { IsOf engine.entry (blocks_of blocks.now) sessions Mode.Free → IfSome late (λ fault. result ≡ Err fault) }
-    ensures seats { IsOf engine.entry (blocks_of blocks.now) sessions Mode.Free → late ≡ None
-        → IfErr result (λ e. (s : ℕ) × (e ≡ ThreadFault.SeatMismatch s) × IsMisfit engine.entry seats.entry.items s) }
-    ensures ok { IfOk result (λ c. IsOf engine.entry (blocks_of blocks.now) sessions Mode.Free
-        × (c ≡ record { state = engine.entry; seats = seats.entry.items })) }
-{
-    if !engine.is_of(blocks, sessions, Mode::Free) {
-        return Err(ThreadFault::OtherRun);
-    }
-    if let Some(fault) = late {
-        return Err(fault);
-    }
-    close(engine, seats)
-}
-
 /// Runs the blocks that come before, one after the other in the calling thread; after one that fails or waits the run is
 /// over. Else the control session leaves, and the thread of each session runs its script and leaves, with no order between
 /// sessions. After the joins the calling thread runs the control session's last blocks. The sessions' threads ask the gate;
@@ -338,5 +312,5 @@ pub fn run_free<'a, 't, V: Versions + Send, G: Gate, R: Threads + Wait + Sync>(
     if let Some(fault) = early {
         return Err(fault);
     }
-    end_of(engine, blocks, sessions, late, seats)
+    end_of(engine, blocks, sessions, Mode::Free, late, seats)
 }
