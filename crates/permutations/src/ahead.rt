@@ -1,6 +1,6 @@
 //! The permutations of a spec, run ahead of their turn, several side by side.
 
-ghost use Rattle.std.specs.Prelude.{◌≡◌, ◌<◌, ◌≢◌, [], ◌∷◌, ◌++◌, All, map, OnOk, IfOk, IfSome, IfNone};
+ghost use Rattle.std.specs.Prelude.{◌≡◌, ◌<◌, ◌≤◌, ◌≢◌, [], ◌∷◌, ◌++◌, All, map, OnOk, IfOk, IfSome, IfNone};
 ghost use Rattle.std.specs.Bool.{OnTrue, OnFalse};
 ghost use Rattle.session_core.specs.Blocks.{blocks_of};
 ghost use Rattle.spec_parser.specs.Trees.{entry_view, spec_view};
@@ -22,15 +22,32 @@ use std::thread::Threads;
 
 /// How many permutations run at a time, at most, and how many threads they have together: so many stacks of ended threads
 /// stay with the process.
-const MOST_AT_A_TIME: u64 = 8;
+const MOST_AT_A_TIME: usize = 8;
 
-const MOST_THREADS: u64 = 40;
+const MOST_THREADS: usize = 40;
 
-/// How many permutations of so many sessions run at a time; each has a thread for each session, and its own.
-pub fn at_a_time(sessions: usize) -> u64
+/// How many one thread runs, one after the other, at most: each thread that is started takes time.
+const MOST_IN_TURN: u64 = 4;
+
+/// How many permutations of so many sessions run at a time; each has a thread for each session, and the one it runs in.
+fn at_a_time(sessions: usize) -> usize
+    ensures { (0 < result) × (result ≤ 8) }
+{
+    (MOST_THREADS / sessions.saturating_add(1)).clamp(1, MOST_AT_A_TIME)
+}
+
+/// How many permutations of so many sessions run ahead of their turn, at most.
+pub fn most_ahead(sessions: usize) -> u64
     ensures { 0 < result }
 {
-    (MOST_THREADS / (sessions as u64).saturating_add(1)).clamp(1, MOST_AT_A_TIME)
+    at_a_time(sessions) as u64 * MOST_IN_TURN
+}
+
+/// How many of so many permutations one thread runs, one after the other: they are dealt out evenly.
+fn in_turn(permutations: usize, sessions: usize) -> usize
+    ensures { 0 < result }
+{
+    permutations.div_ceil(at_a_time(sessions)).max(1)
 }
 
 /// The drafts of the permutations whose turn comes next, and the permutations behind them.
@@ -88,22 +105,24 @@ impl<'r, 't, 'b> Lent for FileLent<'r, 't, 'b> {
     ghost gives = { λ lent draft. IsDraft (spec_view lent.spec.now) (blocks_of lent.blocks.now) draft };
 }
 
-/// The drafts of these permutations, all of which run at a time.
+/// The drafts of these permutations, which run side by side, so many in turn in each thread.
 fn drafts_of<G: Gate, R: Threads + Wait + Sync>(
     rt: &R,
     alloc: Global,
     spec: &Spec<'_>,
     blocks: &[Block<'_>],
     taken: Vec<Vec<Entry>>,
+    in_turn: usize,
     gate: &G,
 ) -> Result<Vec<Draft>, AllocError>
-    requires { Stands (spec_view spec.now) }
+    requires stands { Stands (spec_view spec.now) }
+    requires some { 0 < in_turn }
     ensures { IfOk result (AreDrafts (IsDraft (spec_view spec.now) (blocks_of blocks.now)) taken.items) }
 {
     let run = |entries: Vec<Entry>|
         requires { Stands (spec_view spec.now) }
     { Draft::of(rt, alloc, spec, blocks, entries, gate) };
-    side_by_side(rt, alloc, &FileLent { spec, blocks }, &run, taken)
+    side_by_side(rt, alloc, &FileLent { spec, blocks }, &run, taken, in_turn)
 }
 
 impl<'s> Ahead<'s> {
@@ -140,7 +159,8 @@ impl<'s> Ahead<'s> {
             return Ok(());
         }
         let taken = take_next(alloc, &mut self.behind, most)?;
-        self.drafts = drafts_of(rt, alloc, spec, blocks, taken, gate)?.into();
+        let in_turn = in_turn(taken.len(), spec.sessions.len());
+        self.drafts = drafts_of(rt, alloc, spec, blocks, taken, in_turn, gate)?.into();
         Ok(())
     }
 

@@ -1,22 +1,22 @@
 //! The run of one permutation, on one thread.
 
-ghost use Rattle.std.specs.Prelude.{◌≡◌, ◌≢◌, [], true, Err, map, IfOk, IfErr, IfSome, IfNone, OnOk};
+ghost use Rattle.std.specs.Prelude.{◌≡◌, ◌≢◌, [], length, Err, map, IfOk, IfErr, OnOk};
 ghost use Rattle.session_core.specs.Blocks.{blocks_of};
 ghost use Rattle.session_core.specs.Engines.{IsOf};
-ghost use Rattle.session_threads.specs.Orders.{IsDriven, IsOrder};
-ghost use Rattle.session_machine.specs.declared.event.Order.TheVariants.{Stop};
+ghost use Rattle.session_threads.specs.Orders.{IsDriven};
 ghost use Rattle.spec_parser.specs.Trees.{entry_view, spec_view};
 ghost use Rattle.spec_parser.specs.Stands.{Stands};
+ghost use Rattle.permutation_plans.specs.Launches.{due_in};
 ghost use Rattle.permutation_plans.specs.Regular.{IsRegular};
+ghost use Rattle.permutations.specs.Alone.{IsOfAlone, RefusesNext};
 ghost use Rattle.permutations.specs.Plans.{order_after, IsFollowing};
-ghost use Rattle.permutations.specs.Runs.{is_of_run};
-ghost use Rattle.permutations.specs.Inner.Resting.{IsAtRest};
+ghost use Rattle.permutations.specs.Inner.Resting.{IsAtRest, IsNext};
 
 use crate::fault::RunFault;
 use crate::plan::Plan;
 use row_versions::ListStore;
 use session_core::EngineState;
-use session_machine::{Event, Mode, Turn};
+use session_machine::{EngineFault, Event, Mode, Turn};
 use session_threads::{Order, ThreadFault};
 use spec_parser::{Entry, Spec};
 use sql_parser::Block;
@@ -31,14 +31,14 @@ fn next_event<'a, 't>(
     engine: &EngineState<'a, 't, ListStore>,
 ) -> Result<Option<Event>, AllocError>
     requires follows { IsFollowing plan.old engine.now.history }
-    ensures ordered { IfOk result (λ next. IfSome next (λ event. IsOrder event (order_after plan.old engine.now.history))) }
-    ensures over { IfOk result (λ next. IfNone next ((order_after plan.old engine.now.history ≡ Stop) × IsAtRest engine.now)) }
+    ensures next { IfOk result (IsNext engine.now (order_after plan.old engine.now.history)) }
     ensures follows { OnOk result (IsFollowing plan.new engine.now.history) }
     ensures same { (plan.new.launches ≡ plan.old.launches) × (plan.new.entries ≡ plan.old.entries) }
 {
+    let items = engine.history();
     let order = match engine.turn() {
         Turn::Session(session) => return Ok(Some(Event::Step { session })),
-        Turn::Driver => plan.go_on(alloc, engine.history())?,
+        Turn::Driver => plan.go_on(alloc, items)?,
         Turn::Spent => return Err(AllocError),
     };
     Ok(match order {
@@ -54,23 +54,23 @@ fn run_to_end<'a, 't, R: Wait>(
     alloc: Global,
     plan: &mut Plan<'_>,
     engine: &mut EngineState<'a, 't, ListStore>,
-) -> Result<(), ThreadFault>
+) -> Result<(), EngineFault>
     requires follows { IsFollowing plan.old engine.old.history }
     requires empty { engine.old.history ≡ [] }
+    requires directed { engine.old.mode ≡ Mode.Directed }
     ensures driven { OnOk result (IsDriven (order_after plan.old) engine.new.history) }
     ensures rests { OnOk result (IsAtRest engine.new) }
     ensures same { OnOk result (IsOf engine.new engine.old.blocks engine.old.count engine.old.mode) }
+    ensures refused { IfErr result (λ fault. fault ≢ EngineFault.Memory → RefusesNext (order_after plan.old) engine.old.blocks engine.old.count fault) }
 {
     for _ in rt.forever() {
         let Ok(next) = next_event(alloc, plan, engine) else {
-            return Err(ThreadFault::Memory);
+            return Err(EngineFault::Memory);
         };
         let Some(event) = next else {
             return Ok(());
         };
-        if let Err(fault) = engine.perform(event) {
-            return Err(ThreadFault::Engine(fault));
-        }
+        engine.perform(event)?;
     }
     unreachable!()
 }
@@ -86,12 +86,14 @@ pub fn run_alone<'a, 't, R: Wait>(
     requires { Stands (spec_view spec.now) }
     ensures regular { IfOk result (λ e. IsRegular (spec_view spec.now) (blocks_of blocks.now) (map entry_view entries.now) e.history) }
     ensures unbroken { result ≢ Err RunFault.ScheduleBroken }
-    ensures faults { IfErr result (λ e. is_of_run e ≡ true) }
+    ensures faults { IfErr result (IsOfAlone (due_in (spec_view spec.now) (map entry_view entries.now)) (blocks_of blocks.now) (length (spec_view spec.now).sessions)) }
 {
     let sessions = spec.sessions.len() as u32;
     let store = ListStore::new(alloc);
     let mut engine = EngineState::new(alloc, blocks, sessions, Mode::Directed, store)?;
     let mut plan = Plan::new(alloc, spec, entries)?;
-    run_to_end(rt, alloc, &mut plan, &mut engine)?;
+    if let Err(fault) = run_to_end(rt, alloc, &mut plan, &mut engine) {
+        return Err(ThreadFault::Engine(fault).into());
+    }
     Ok(engine)
 }

@@ -12,7 +12,7 @@ ghost use Rattle.permutations.specs.Prints.{Prints, FileSays};
 ghost use Rattle.permutations.specs.Runs.{is_refusal, has_broken, has_ended, has_read, IsTold};
 ghost use Rattle.permutations.specs.Said.{Said};
 
-use crate::ahead::{Ahead, at_a_time};
+use crate::ahead::{Ahead, most_ahead};
 use crate::fault::RunFault;
 use crate::file::read_file;
 use crate::first_line::first_line;
@@ -49,7 +49,7 @@ fn run_permutations<W: Sink, N: Sink, G: Gate, R: Threads + Wait + Sync>(
     ensures kinds { IfErr result (λ e. is_refusal e ≡ false) }
     ensures read { result ≢ Err RunFault.Read }
 {
-    let most = at_a_time(spec.sessions.len());
+    let most = most_ahead(spec.sessions.len());
     let mut ahead = Ahead::of(alloc, spec)?;
     let mut left = limit;
     while left > 0 {

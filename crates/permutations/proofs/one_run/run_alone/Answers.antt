@@ -1,8 +1,13 @@
-use Rattle.std.proofs.Common.{map, arith}
+use Rattle.std.proofs.Common.{map, length, arith, rules}
 use Rattle.std.proofs.lemmas.List.{length-map}
 use Rattle.session_core.specs.Blocks.{blocks_of}
 use Rattle.spec_parser.specs.Trees.{entry_view, session_view, spec_view}
+use Rattle.session_threads.specs.declared.seat.ThreadFault.TheVariants.{Engine}
+use Rattle.permutation_plans.specs.Launches.{due_in}
+use Rattle.permutations.specs.Alone.{IsOfAlone}
+use Rattle.permutations.specs.Faults.{thread_fault}
 use Rattle.permutations.proofs.Driven.{plan_fits}
+use Rattle.permutations.proofs.Going.{told_alone}
 use Rattle.permutations.proofs.Running.{regular}
 use Rattle.permutations.proofs.one_run.run_alone.Goals as goal
 
@@ -10,7 +15,16 @@ pub returns-clause-regular : goal.returns-clause-regular
 returns-clause-regular g c =
     let spec = spec_view c.args.spec.now in
     let entries = map entry_view c.args.entries.now in
-    let ran = c.in_ok-run_to_end.ensures in
+    let ran = c.in_default.ensures in
     regular spec (blocks_of c.args.blocks.now) entries _ c.in_ok-engine.engine c.run_to_end.new.engine c.in_ok-engine.ensures ran.same
     (omega (arith, c.len-sessions.ensures, c.args.spec.now.sessions.ok.0, length-map c.args.spec.now.sessions.items session_view)) ran.rests
     (plan_fits spec entries c.in_ok-plan.plan c.run_to_end.new.engine.history c.in_ok-plan.ensures.plan.0 c.in_ok-plan.ensures.plan.1 ran.driven)
+
+pub returns-in-Err-clause-faults : goal.returns-in-Err-clause-faults
+returns-in-Err-clause-faults g c =
+    let spec = spec_view c.args.spec.now in
+    let entries = map entry_view c.args.entries.now in
+    let told : IsOfAlone (due_in spec entries) (blocks_of c.args.blocks.now) (length spec.sessions) (thread_fault (Engine c.in-Err.fault)) =
+    told_alone spec entries (blocks_of c.args.blocks.now) _ c.in_ok-plan.plan c.in_ok-engine.engine c.in-Err.fault c.in_ok-plan.ensures.plan.0 c.in_ok-plan.ensures.plan.1 c.in_ok-engine.ensures
+    (omega (arith, c.len-sessions.ensures, c.args.spec.now.sessions.ok.0, length-map c.args.spec.now.sessions.items session_view)) c.in-Err.ensures.refused in
+    search rules

@@ -1,12 +1,24 @@
-use Rattle.std.proofs.Common.{rules}
+use Rattle.std.proofs.Common.{◌≢◌, Some, rules}
+use Rattle.session_machine.specs.declared.fault.EngineFault.TheVariants.{Memory}
 use Rattle.session_threads.specs.Orders.{IsOrder}
 use Rattle.permutations.specs.Plans.{order_after}
-use Rattle.permutations.proofs.Going.{goes_on}
+use Rattle.permutations.specs.Inner.Resting.{IsNext}
+use Rattle.permutations.specs.Alone.{RefusesNext}
+use Rattle.permutations.proofs.Going.{goes_on, is_order, refuses_next}
 use Rattle.permutations.proofs.one_run.run_to_end.Goals as goal
 
 pub loop-preserved : goal.loop-preserved
 loop-preserved g c =
-    let ordered : IsOrder c.in-Some-next.event (order_after c.loop.plan c.loop.engine.history) = search rules in
-    let done = c.in_default-perform.ensures.done in
+    let ordered : IsOrder c.in-Some-next.event (order_after c.loop.plan c.loop.engine.history) = search (rules, is_order) in
+    let done = c.in_ok-perform.ensures.done in
     goes_on c.args.plan.now c.loop.plan c.next_event.new.plan c.args.engine.now c.loop.engine c.perform.new.self c.in-Some-next.event done.0
-    c.loop.invariant c.in-Ok.ensures.same.0 c.in-Ok.ensures.same.1 c.in-Ok.ensures.follows ordered done.1 c.in_default-perform.ensures.same
+    c.loop.invariant c.in-Ok.ensures.same.0 c.in-Ok.ensures.same.1 c.in-Ok.ensures.follows ordered done.1 c.in_ok-perform.ensures.same
+
+pub returns-in_err-perform-clause-refused : goal.returns-in_err-perform-clause-refused
+returns-in_err-perform-clause-refused g c =
+    let next : IsNext c.loop.engine (order_after c.loop.plan c.loop.engine.history) (Some c.in-Some-next.event) = search rules in
+    let fault = c.in_err-perform.field-0.0 in
+    let refused : fault ≢ Memory → RefusesNext (order_after c.args.plan.now) c.args.engine.now.blocks c.args.engine.now.count fault =
+    λ other. refuses_next c.args.plan.now c.loop.plan c.args.engine.now c.loop.engine c.perform.new.self c.in-Some-next.event fault
+    c.loop.invariant next c.requires.directed (c.in_err-perform.ensures.refused other) in
+    search rules

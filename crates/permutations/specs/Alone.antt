@@ -1,0 +1,41 @@
+-- What may stand in the way of a run on one thread: memory, or what the machine refuses.
+use Rattle.std.specs.Prelude.{◌≡◌, ℕ, List, [], Option, Some, None, Err}
+use Rattle.session_machine.specs.declared.event.Event.{Event}
+use Rattle.session_machine.specs.declared.event.Event.TheVariants.{Launch, Step, Leave}
+use Rattle.session_machine.specs.declared.event.Order.{Order}
+use Rattle.session_machine.specs.declared.event.Order.TheVariants.{Launch as LaunchOrder, Leave as LeaveOrder, Stop}
+use Rattle.session_machine.specs.declared.event.Mode.TheVariants.{Directed}
+use Rattle.session_machine.specs.declared.fault.Refusal.{Refusal}
+use Rattle.session_machine.specs.declared.fault.EngineFault.{EngineFault}
+use Rattle.session_machine.specs.declared.reply.HistItem.{HistItem}
+use Rattle.session_machine.specs.Machine.{Machine, Blocks, opening, next, turn_in}
+use Rattle.session_machine.specs.Engine.{Run, fault_of}
+use Rattle.session_threads.specs.declared.seat.ThreadFault.TheVariants as thread_faults
+use Rattle.session_threads.specs.Orders.{Orders, OrderedAfter}
+use Rattle.permutations.specs.declared.fault.RunFault.{RunFault}
+use Rattle.permutations.specs.declared.fault.RunFault.TheVariants as faults
+
+-- the event that is next: the Step of the session whose turn it is, or else what is ordered
+abbrev pub next_event : Option ℕ → Order → Option Event
+next_event (Some session) order = Some (Step session)
+next_event None (LaunchOrder session block) = Some (Launch session block)
+next_event None (LeaveOrder session) = Some (Leave session)
+next_event None Stop = None
+
+-- after a history in order, the machine refuses the event that is next
+pub record RefusesNext (orders : Orders) (blocks : Blocks) (count : ℕ) (fault : EngineFault) : Type 0 where
+  pub items : List HistItem
+  pub state : Machine
+  pub run : Run blocks Directed (opening count) items state
+  pub ordered : OrderedAfter orders [] items
+  pub event : Event
+  pub due : next_event (turn_in state) (orders items) ≡ Some event
+  pub refusal : Refusal
+  pub refuses : next blocks Directed state event ≡ Err refusal
+  pub told : fault ≡ fault_of refusal
+
+-- the faults of such a run
+abbrev pub IsOfAlone : Orders → Blocks → ℕ → RunFault → Type 0
+IsOfAlone orders blocks count faults.Memory = Unit {0}
+IsOfAlone orders blocks count (faults.Threads (thread_faults.Engine fault)) = RefusesNext orders blocks count fault
+IsOfAlone orders blocks count _ = ⊥
