@@ -20,8 +20,8 @@ use std::collections::VecDeque;
 use std::sync::Wait;
 use std::thread::Threads;
 
-/// How many permutations run at a time, at most, and how many threads they have together: so many stacks of ended threads
-/// stay with the process.
+/// How many permutations run at a time, at most, and how many threads they have together, where it is more than one: so
+/// many stacks of ended threads stay with the process.
 const MOST_AT_A_TIME: usize = 8;
 
 const MOST_THREADS: usize = 40;

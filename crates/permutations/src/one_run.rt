@@ -75,7 +75,8 @@ fn run_to_end<'a, 't, R: Wait>(
     unreachable!()
 }
 
-/// A new engine after the run of a permutation on the calling thread alone.
+/// A new engine after the run of a permutation on the calling thread alone. It answers `Memory` where memory is refused, and
+/// `Threads` with an engine's fault where the machine refuses what is next: the blocks may be any.
 pub fn run_alone<'a, 't, R: Wait>(
     rt: &R,
     alloc: Global,
