@@ -1,6 +1,6 @@
 -- A run on one thread, under way: what it did so far is in order.
 use Rattle.std.proofs.Common.{◌≡◌, ◌≢◌, true≢false, refl, ℕ, length, List, [], ◌∷◌, sym, ap, subst, ◌∙◌, Option, Some, None, false}
-use Rattle.std.specs.Prelude.{Result, Ok, Err, is_none}
+use Rattle.std.specs.Prelude.{Result, Ok, Err}
 use Rattle.session_machine.specs.declared.event.Event.{Event}
 use Rattle.session_machine.specs.declared.event.Event.TheVariants.{Launch, Step, Leave}
 use Rattle.session_machine.specs.declared.event.Order.{Order}
@@ -25,7 +25,7 @@ use Rattle.spec_parser.specs.Trees.{EntryTree, SpecTree}
 use Rattle.permutation_plans.specs.Launches.{Launches, launches, due_after, due_in}
 use Rattle.permutations.specs.Alone.{next_event, IsOfAlone, RefusesNext}
 use Rattle.permutations.specs.Faults.{thread_fault}
-use Rattle.permutations.specs.Inner.Resting.{IsAtRest, IsNext}
+use Rattle.permutations.specs.Inner.Resting.{IsNext}
 use Rattle.permutations.specs.Plans.{Planning, order_after, IsFollowing}
 use Rattle.permutations.specs.Following.{follows_longer}
 
@@ -65,7 +65,7 @@ goes_on first plan now opened e after event reply so launches entries follows or
       same = (same.0 ∙ so.same.0, same.1 ∙ so.same.1, same.2 ∙ so.same.2);
     }
 
--- what is next is ordered, and where nothing is the run is over
+-- what is next is ordered
 is_order_in : (turn : Option ℕ) (order : Order) (event : Event) → Some event ≡ next_event turn order → IsOrder event order
 is_order_in (Some session) order event is = let same : event ≡ Step session = cc in subst (λ (e : Event). IsOrder e order) (sym same) tt
 is_order_in None (LaunchOrder session block) event is = let same : event ≡ Launch session block = cc in subst (λ (e : Event). IsOrder e (LaunchOrder session block)) (sym same) refl
@@ -75,18 +75,6 @@ is_order_in None Stop event is = absurd cc
 pub is_order : (e : Engine) (order : Order) (event : Event) → IsNext e order (Some event) → IsOrder event order
 is_order e order event next = is_order_in (turn_in next.state) order event next.is
 
-over_in : (turn : Option ℕ) (order : Order) → None ≡ next_event turn order → (turn ≡ None) × (order ≡ Stop)
-over_in (Some session) order is = absurd cc
-over_in None (LaunchOrder session block) is = absurd cc
-over_in None (LeaveOrder session) is = absurd cc
-over_in None Stop is = (refl, refl)
-
-pub stops : (e : Engine) (order : Order) → IsNext e order None → order ≡ Stop
-stops e order next = (over_in (turn_in next.state) order next.is).1
-
-pub rests : (e : Engine) (order : Order) → IsNext e order None → IsAtRest e
-rests e order next = record { state = next.state; run = next.run; quiet = ap is_none (over_in (turn_in next.state) order next.is).0 }
-
 refused_in : (e : Engine) (event : Event) (n : Result Next Refusal) (fault : EngineFault) → (engine_answered e event n).answer ≡ Err fault
     → (refusal : Refusal) × (n ≡ Err refusal) × (fault ≡ fault_of refusal)
 refused_in e event (Err refusal) fault is = (refusal, refl, cc)
@@ -94,27 +82,26 @@ refused_in e event (Ok n) fault is = absurd cc
 
 -- what is next was refused
 pub refuses_next : (first plan : Planning) (opened e after : Engine) (event : Event) (fault : EngineFault)
-    → IsUnderWay first plan opened e → IsNext e (order_after plan e.history) (Some event) → opened.mode ≡ Directed
-    → engine_after e event ≡ record { engine = after; answer = Err fault } → RefusesNext (order_after first) opened.blocks opened.count fault
-refuses_next first plan opened e after event fault so is_next directed is =
-    let mode : e.mode ≡ Directed = so.same.2 ∙ directed in
+    → IsUnderWay first plan opened e → IsNext e (order_after plan e.history) (Some event)
+    → engine_after e event ≡ record { engine = after; answer = Err fault } → RefusesNext (order_after first) opened.blocks opened.count opened.mode fault
+refuses_next first plan opened e after event fault so is_next is =
     let answer = ap (λ (m : Option Machine). (engine_step e event m).answer) (sym is_next.live) ∙ ap (λ (a : EngineAnswered). a.answer) is in
     let refused = refused_in e event (next e.blocks e.mode is_next.state event) fault answer in
     record {
       items = e.history;
       state = is_next.state;
-      run = subst (λ (b : Blocks). Run b Directed (opening opened.count) e.history is_next.state) so.same.0
-          (subst (λ (m : Mode). Run e.blocks m (opening opened.count) e.history is_next.state) mode
+      run = subst (λ (b : Blocks). Run b opened.mode (opening opened.count) e.history is_next.state) so.same.0
+          (subst (λ (m : Mode). Run e.blocks m (opening opened.count) e.history is_next.state) so.same.2
           (subst (λ (k : ℕ). Run e.blocks e.mode (opening k) e.history is_next.state) so.same.1 is_next.run));
       ordered = so.orderly.ordered;
       event = event;
       due = at_first (λ (orders : Orders). next_event (turn_in is_next.state) (orders e.history) ≡ Some event) first plan so.launches so.entries (sym is_next.is);
       refusal = refused.0;
-      refuses = ap (λ (b : Blocks). next b Directed is_next.state event) (sym so.same.0) ∙ ap (λ (m : Mode). next e.blocks m is_next.state event) (sym mode) ∙ refused.1;
+      refuses = ap (λ (b : Blocks). next b opened.mode is_next.state event) (sym so.same.0) ∙ ap (λ (m : Mode). next e.blocks m is_next.state event) (sym so.same.2) ∙ refused.1;
       told = refused.2;
     }
 
-told_as : (orders : Orders) (blocks : Blocks) (count : ℕ) (fault : EngineFault) → (fault ≢ Memory → RefusesNext orders blocks count fault) → IsOfAlone orders blocks count (thread_fault (Engine_fault fault))
+told_as : (orders : Orders) (blocks : Blocks) (count : ℕ) (fault : EngineFault) → (fault ≢ Memory → RefusesNext orders blocks count Directed fault) → IsOfAlone orders blocks count (thread_fault (Engine_fault fault))
 told_as orders blocks count Memory refused = tt
 told_as orders blocks count Busy refused = refused (λ is. absurd cc)
 told_as orders blocks count NotYourTurn refused = refused (λ is. absurd cc)
@@ -127,10 +114,10 @@ told_as orders blocks count BlockNotAllowed refused = refused (λ is. absurd cc)
 -- a fault of the run of a permutation is one that its own orders met
 pub told_alone : (spec : SpecTree) (entries : List EntryTree) (blocks : Blocks) (count : ℕ) (plan : Planning) (e : Engine) (fault : EngineFault)
     → plan.launches ≡ launches spec entries → plan.entries ≡ entries → e ≡ opened blocks count Directed → count ≡ length spec.sessions
-    → (fault ≢ Memory → RefusesNext (order_after plan) e.blocks e.count fault) → IsOfAlone (due_in spec entries) blocks (length spec.sessions) (thread_fault (Engine_fault fault))
+    → (fault ≢ Memory → RefusesNext (order_after plan) e.blocks e.count e.mode fault) → IsOfAlone (due_in spec entries) blocks (length spec.sessions) (thread_fault (Engine_fault fault))
 told_alone spec entries blocks count plan e fault its own is long refused =
     subst (λ (es : List EntryTree). IsOfAlone (due_after (launches spec entries) es) blocks (length spec.sessions) (thread_fault (Engine_fault fault))) own
     (subst (λ (l : Launches). IsOfAlone (due_after l plan.entries) blocks (length spec.sessions) (thread_fault (Engine_fault fault))) its
     (subst (λ (n : ℕ). IsOfAlone (order_after plan) blocks n (thread_fault (Engine_fault fault))) (ap (λ (o : Engine). o.count) is ∙ long)
     (subst (λ (b : Blocks). IsOfAlone (order_after plan) b e.count (thread_fault (Engine_fault fault))) (ap (λ (o : Engine). o.blocks) is)
-    (told_as (order_after plan) e.blocks e.count fault refused))))
+    (told_as (order_after plan) e.blocks e.count fault (λ other. subst (λ (m : Mode). RefusesNext (order_after plan) e.blocks e.count m fault) (ap (λ (o : Engine). o.mode) is) (refused other))))))

@@ -59,7 +59,7 @@ kept {L = L} gives pre post lent lent_told taken taken_told (Ok drafts) its own 
 kept gives pre post lent lent_told taken taken_told (Err e) its own runs each = tt
 
 -- those that were begun, and those that are still to begin
-pub record Begun {L : Type 0} (gives : L → Draft → Type 0) (lent : L) (begun : List (Coming L)) (behind taken : List (Vec Entry)) : Type 0 where
+pub record BegunSoFar {L : Type 0} (gives : L → Draft → Type 0) (lent : L) (begun : List (Coming L)) (behind taken : List (Vec Entry)) : Type 0 where
   pub coming : All (IsComing gives lent) begun
   pub entries : all_entries begun ++ behind ≡ taken
 
@@ -68,7 +68,7 @@ all_append [] other = refl
 all_append (c ∷ cs) other = ap (λ (es : List (Vec Entry)). coming_entries c ++ es) (all_append cs other) ∙ sym (append_assoc (coming_entries c) (all_entries cs) (all_entries other))
 
 begun_more : {L : Type 0} (gives : L → Draft → Type 0) (lent : L) (coming now : List (Coming L)) (more : Coming L) (old first behind taken : List (Vec Entry))
-    → Begun gives lent coming old taken → now ≡ coming ++ more ∷ [] → IsComing gives lent more → coming_entries more ≡ first → old ≡ first ++ behind → Begun gives lent now behind taken
+    → BegunSoFar gives lent coming old taken → now ≡ coming ++ more ∷ [] → IsComing gives lent more → coming_entries more ≡ first → old ≡ first ++ behind → BegunSoFar gives lent now behind taken
 begun_more {L = L} gives lent coming now more old first behind taken so pushed is its cut = record {
   coming = subst (All (IsComing gives lent)) (sym pushed) (All-append (IsComing gives lent) coming (more ∷ []) so.coming (of_one (IsComing gives lent) more is));
   entries =
@@ -81,16 +81,16 @@ begun_more {L = L} gives lent coming now more old first behind taken so pushed i
 }
 
 pub begun_first : {L : Type 0} (gives : L → Draft → Type 0) (lent : L) (coming now : List (Coming L)) (more : Coming L) (n : ℕ) (old first behind taken : List (Vec Entry))
-    → Begun gives lent coming old taken → now ≡ coming ++ more ∷ [] → IsComing gives lent more → coming_entries more ≡ first → first ≡ take n old → behind ≡ drop n old → Begun gives lent now behind taken
+    → BegunSoFar gives lent coming old taken → now ≡ coming ++ more ∷ [] → IsComing gives lent more → coming_entries more ≡ first → first ≡ take n old → behind ≡ drop n old → BegunSoFar gives lent now behind taken
 begun_first gives lent coming now more n old first behind taken so pushed is its front rest =
     begun_more gives lent coming now more old first behind taken so pushed is its
     (sym (take-append-drop n old) ∙ ap (λ (es : List (Vec Entry)). es ++ drop n old) (sym front) ∙ ap (λ (es : List (Vec Entry)). first ++ es) (sym rest))
 
 pub begun_all : {L : Type 0} (gives : L → Draft → Type 0) (lent : L) (coming now : List (Coming L)) (drafts : Vec Draft) (behind taken : List (Vec Entry))
-    → Begun gives lent coming behind taken → now ≡ coming ++ There drafts ∷ [] → AreDrafts (gives lent) behind drafts → Begun gives lent now [] taken
+    → BegunSoFar gives lent coming behind taken → now ≡ coming ++ There drafts ∷ [] → AreDrafts (gives lent) behind drafts → BegunSoFar gives lent now [] taken
 begun_all gives lent coming now drafts behind taken so pushed are = begun_more gives lent coming now (There drafts) behind behind [] taken so pushed are.given are.entries (sym (append-nil behind))
 
-pub all_begun : {L : Type 0} (gives : L → Draft → Type 0) (lent : L) (coming : List (Coming L)) (taken : List (Vec Entry)) → Begun gives lent coming [] taken → all_entries coming ≡ taken
+pub all_begun : {L : Type 0} (gives : L → Draft → Type 0) (lent : L) (coming : List (Coming L)) (taken : List (Vec Entry)) → BegunSoFar gives lent coming [] taken → all_entries coming ≡ taken
 all_begun gives lent coming taken so = sym (append-nil (all_entries coming)) ∙ so.entries
 
 -- the drafts that are there are those of the first of all, and the others are still to be joined

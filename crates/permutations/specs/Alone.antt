@@ -4,6 +4,7 @@ use Rattle.session_machine.specs.declared.event.Event.{Event}
 use Rattle.session_machine.specs.declared.event.Event.TheVariants.{Launch, Step, Leave}
 use Rattle.session_machine.specs.declared.event.Order.{Order}
 use Rattle.session_machine.specs.declared.event.Order.TheVariants.{Launch as LaunchOrder, Leave as LeaveOrder, Stop}
+use Rattle.session_machine.specs.declared.event.Mode.{Mode}
 use Rattle.session_machine.specs.declared.event.Mode.TheVariants.{Directed}
 use Rattle.session_machine.specs.declared.fault.Refusal.{Refusal}
 use Rattle.session_machine.specs.declared.fault.EngineFault.{EngineFault}
@@ -23,19 +24,19 @@ next_event None (LeaveOrder session) = Some (Leave session)
 next_event None Stop = None
 
 -- after a history in order, the machine refuses the event that is next
-pub record RefusesNext (orders : Orders) (blocks : Blocks) (count : ℕ) (fault : EngineFault) : Type 0 where
+pub record RefusesNext (orders : Orders) (blocks : Blocks) (count : ℕ) (mode : Mode) (fault : EngineFault) : Type 0 where
   pub items : List HistItem
   pub state : Machine
-  pub run : Run blocks Directed (opening count) items state
+  pub run : Run blocks mode (opening count) items state
   pub ordered : OrderedAfter orders [] items
   pub event : Event
   pub due : next_event (turn_in state) (orders items) ≡ Some event
   pub refusal : Refusal
-  pub refuses : next blocks Directed state event ≡ Err refusal
+  pub refuses : next blocks mode state event ≡ Err refusal
   pub told : fault ≡ fault_of refusal
 
 -- the faults of such a run
 abbrev pub IsOfAlone : Orders → Blocks → ℕ → RunFault → Type 0
 IsOfAlone orders blocks count faults.Memory = Unit {0}
-IsOfAlone orders blocks count (faults.Threads (thread_faults.Engine fault)) = RefusesNext orders blocks count fault
+IsOfAlone orders blocks count (faults.Threads (thread_faults.Engine fault)) = RefusesNext orders blocks count Directed fault
 IsOfAlone orders blocks count _ = ⊥

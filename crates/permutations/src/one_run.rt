@@ -57,11 +57,10 @@ fn run_to_end<'a, 't, R: Wait>(
 ) -> Result<(), EngineFault>
     requires follows { IsFollowing plan.old engine.old.history }
     requires empty { engine.old.history ≡ [] }
-    requires directed { engine.old.mode ≡ Mode.Directed }
     ensures driven { OnOk result (IsDriven (order_after plan.old) engine.new.history) }
     ensures rests { OnOk result (IsAtRest engine.new) }
     ensures same { OnOk result (IsOf engine.new engine.old.blocks engine.old.count engine.old.mode) }
-    ensures refused { IfErr result (λ fault. fault ≢ EngineFault.Memory → RefusesNext (order_after plan.old) engine.old.blocks engine.old.count fault) }
+    ensures refused { IfErr result (λ fault. fault ≢ EngineFault.Memory → RefusesNext (order_after plan.old) engine.old.blocks engine.old.count engine.old.mode fault) }
 {
     for _ in rt.forever() {
         let Ok(next) = next_event(alloc, plan, engine) else {

@@ -82,8 +82,7 @@ fn begin<'s, 'e: 's, L: Lent + 's, F: Fn(Vec<Entry>) -> Draft + Sync + 's>(
     taken: Vec<Vec<Entry>>,
 ) -> Result<Coming<L>, AllocError>
     requires runs { RunsAny (F.pre run.now) (F.post run.now) (L.gives lent.now) }
-    ensures drafts { IfOk result (IsComing L.gives lent.now) }
-    ensures entries { IfOk result (λ coming. coming_entries coming ≡ taken.items) }
+    ensures { IfOk result (λ coming. IsComing L.gives lent.now coming × (coming_entries coming ≡ taken.items)) }
 {
     let promise = DraftsOf {
         lent: Snapshot::of(lent),

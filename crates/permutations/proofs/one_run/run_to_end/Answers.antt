@@ -18,7 +18,7 @@ pub returns-in_err-perform-clause-refused : goal.returns-in_err-perform-clause-r
 returns-in_err-perform-clause-refused g c =
     let next : IsNext c.loop.engine (order_after c.loop.plan c.loop.engine.history) (Some c.in-Some-next.event) = search rules in
     let fault = c.in_err-perform.field-0.0 in
-    let refused : fault ≢ Memory → RefusesNext (order_after c.args.plan.now) c.args.engine.now.blocks c.args.engine.now.count fault =
+    let refused : fault ≢ Memory → RefusesNext (order_after c.args.plan.now) c.args.engine.now.blocks c.args.engine.now.count c.args.engine.now.mode fault =
     λ other. refuses_next c.args.plan.now c.loop.plan c.args.engine.now c.loop.engine c.perform.new.self c.in-Some-next.event fault
-    c.loop.invariant next c.requires.directed (c.in_err-perform.ensures.refused other) in
+    c.loop.invariant next (c.in_err-perform.ensures.refused other) in
     search rules
