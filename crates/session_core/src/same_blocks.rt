@@ -2,8 +2,8 @@
 ghost use Rattle.std.specs.Prelude.{◌≡◌, ◌↔◌, IsTrue};
 ghost use Rattle.session_core.specs.Blocks.{blocks_of};
 
+use sql_equality::same_stmts;
 use sql_parser::Block;
-use sql_trees::same_stmts;
 
 /// Whether two lists of blocks are one: the same statements in the same order, block for block.
 pub fn same_blocks(blocks: &[Block<'_>], others: &[Block<'_>]) -> bool

@@ -12,8 +12,9 @@ ghost use Rattle.sql_parser.specs.Kept.{is_kept_in};
 
 use crate::statement::stmt;
 use iso_lexer::{LexFault, SqlSign, sql_tokens};
+use sql_equality::same_stmts;
 use sql_expressions::{Parser, Tokens};
-use sql_trees::{SqlFault, Stmt, Tok, classified, same_stmts};
+use sql_trees::{SqlFault, Stmt, Tok, classified};
 use std::alloc::Global;
 use std::marker::Model;
 

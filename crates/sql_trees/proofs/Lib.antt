@@ -1,3 +1,1 @@
-pub mod Rows
-pub mod Sameness
 pub mod Table

@@ -5,4 +5,3 @@ pub mod Words
 pub mod Tokens
 pub mod Faults
 pub mod FaultText
-pub mod Same

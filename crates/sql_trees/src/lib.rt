@@ -1,21 +1,16 @@
 //! Trees of SQL text, over slices of the text.
 #![tactic(auto)]
 
-mod alike;
-mod blocks;
 mod expr;
 mod fault;
 mod kind;
-mod same;
 mod stmt;
 mod token;
 mod word;
 
-pub use blocks::{same_stmt, same_stmts};
 pub use expr::{Agg, AggKind, Expr, Operator, Truth};
 pub use fault::SqlFault;
 pub use kind::{Dir, Kind};
-pub use same::{same_expr, same_text};
 pub use stmt::{
     Column, CreateTable, Delete, DropTable, Insert, Item, Key, Level, Lock, OrderKey, Select, Stmt,
     Update,

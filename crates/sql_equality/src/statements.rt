@@ -10,14 +10,12 @@ ghost use Rattle.sql_trees.specs.declared.stmt.Level as levels;
 ghost use Rattle.sql_trees.specs.declared.stmt.Lock as locks;
 
 use crate::alike::{Alike, all_alike};
-use crate::expr::{Agg, AggKind, Expr};
-use crate::kind::{Dir, Kind};
-use crate::same::same_expr;
-use crate::stmt::{
-    Column, CreateTable, Delete, DropTable, Insert, Item, Key, Level, Lock, OrderKey, Select, Stmt,
-    Update,
-};
+use crate::expressions::same_expr;
 use iso_lexer::{Name, same_name};
+use sql_trees::{
+    Agg, AggKind, Column, CreateTable, Delete, Dir, DropTable, Expr, Insert, Item, Key, Kind,
+    Level, Lock, OrderKey, Select, Stmt, Update,
+};
 
 impl<'a, 'b> Alike<Name<'b>> for Name<'a> {
     ghost Seen = { List ℕ };

@@ -2,13 +2,13 @@
 
 ghost use Rattle.std.specs.Prelude.{◌≡◌, ◌↔◌, ◌<◌, [], ◌∷◌, IsTrue, MatchOption, bytes_eq, length};
 ghost use Rattle.sql_trees.specs.Trees.{tree_of, trees, undoubled};
-ghost use Rattle.sql_trees.specs.Same.{same_flag, same_tree, same_trees};
+ghost use Rattle.sql_equality.specs.Same.{same_flag, same_tree, same_trees};
 
-use crate::expr::Expr;
 use iso_lexer::same_name;
+use sql_trees::Expr;
 
 /// The first byte that a part of a string stands for, and the part behind it.
-#[tactic(auto, unfolding(crate::specs::Trees::undoubled))]
+#[tactic(auto, unfolding(sql_trees::specs::Trees::undoubled))]
 fn first_of(part: &[u8]) -> Option<(u8, &[u8])>
     ensures { MatchOption result (undoubled part.now ≡ []) (λ x. (undoubled part.now ≡ x.0 ∷ undoubled x.1.now) × (length x.1.now < length part.now)) }
 {

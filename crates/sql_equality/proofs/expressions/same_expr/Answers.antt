@@ -1,7 +1,7 @@
 use Rattle.std.proofs.Common.{sym, ◌∙◌}
 use Rattle.sql_trees.specs.Trees.{tree_of}
-use Rattle.sql_trees.proofs.Sameness.{same_decides}
-use Rattle.sql_trees.proofs.same.same_expr.Goals as goal
+use Rattle.sql_equality.proofs.Sameness.{same_decides}
+use Rattle.sql_equality.proofs.expressions.same_expr.Goals as goal
 
 pub returns : goal.returns
 returns c =

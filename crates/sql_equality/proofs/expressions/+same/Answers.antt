@@ -2,10 +2,10 @@ use Rattle.std.proofs.Common.{rules, sym, ap, ◌∙◌}
 use Rattle.sql_trees.specs.declared.expr.Expr.TheViews.{the_lemmas}
 use Rattle.std.proofs.lemmas.List.{drop_all}
 use Rattle.sql_trees.specs.Trees.{trees}
-use Rattle.sql_trees.specs.Same.{same_trees}
-use Rattle.sql_trees.proofs.Sameness.{none_left}
-use Rattle.sql_trees.proofs.Rows.{trees_of_row}
-use Rattle.sql_trees.proofs.same.+same.Goals as goal
+use Rattle.sql_equality.specs.Same.{same_trees}
+use Rattle.sql_equality.proofs.Sameness.{none_left}
+use Rattle.sql_equality.proofs.Rows.{trees_of_row}
+use Rattle.sql_equality.proofs.expressions.+same.Goals as goal
 
 pub alike-returns-in-In-matches : goal.alike-returns-in-In-matches
 alike-returns-in-In-matches t c = search (rules, the_lemmas, trees_of_row)
