@@ -30,14 +30,16 @@ def modules():
 
 def read(lines):
     """Returns the names that a file imports, each with where it stands, and its definitions, each with its lines."""
-    imported, whole, found, name, inside = {}, {}, {}, None, False
+    imported, whole, found, name, depth = {}, {}, {}, None, 0
     for line in lines:
-        if re.match(r"module _ .* where$", line):
-            inside, name = True, None
+        if not line.strip() or line.strip().startswith("--"):
             continue
-        if re.match(r"\S", line):
-            inside = False
-        line = line[2:] if inside else line
+        # (what stands in a module with parameters stands two columns further in)
+        depth = min(depth, (len(line) - len(line.lstrip())) // 2)
+        line = line[2 * depth :]
+        if re.match(r"module _ .* where$", line):
+            depth, name = depth + 1, None
+            continue
         given = re.match(r"use Rattle\.([\w.]+?)(?:\.\{(.*)\})?(?: as (\S+))?$", line)
         if given:
             module, names, alias = given.groups()
@@ -47,7 +49,7 @@ def read(lines):
                     imported[new or old] = module, old
             if not names:
                 whole[alias or module.rpartition(".")[2]] = module
-        elif line.strip() and not line.strip().startswith("--"):
+        else:
             start = STARTS.match(line)
             name = start[1] if start else name
             if name:

@@ -81,19 +81,33 @@ def quietly(crate, call):
     return not status
 
 
+def waited_for(among):
+    """Returns the names of the crates that the others wait for: each chain of crates on which one of them stands is, by its lines, nearly as long as the longest."""
+    lines, under, above = {it.name: it.count(rb"\n") for it in among}, {}, {it.name: 0 for it in among}
+    for crate in among:
+        below = [it.name for it in crate.below() if it.name in lines]
+        under[crate.name] = lines[crate.name] + max((under[it] for it in below), default=0)
+    for crate in reversed(among):
+        for it in (it.name for it in crate.below() if it.name in lines):
+            above[it] = max(above[it], above[crate.name] + lines[crate.name])
+    longest = max(under.values(), default=0)
+    return {it for it in lines if under[it] + above[it] > 0.95 * longest}
+
+
 def build_all(libraries, told=lambda done, of, crate, well: None):
-    """Proves and builds these libraries, which stand on each other alone, several side by side. Each may use four processors: the parts of a crate wait for each other,
-    so that alone it keeps two of them busy. What is built already isn't looked at. Returns whether all are built; of each that was tried, told learns which in turn it
-    is, of how many, and whether it went well."""
-    jobs = ["--jobs", str(min(4, rt.processors()))]
+    """Proves and builds these libraries, which stand on each other alone, several side by side. What is built already isn't looked at. Returns whether all are built; of
+    each that was tried, told learns which in turn it is, of how many, and whether it went well.
+
+    A check by one job takes least processor time, by four some six tenths more: so those have four that the others wait for."""
     lacking = [it for it in libraries if not all(each.is_built() for each in [it, *it.below()])]
-    tasks, done = {}, []
+    first, tasks, done = waited_for(lacking), {}, []
     for crate in lacking:
         below = [(it.name, "proof") for it in crate.below() if it in lacking]
 
         def made(given, _, crate=crate, below=below):
             if not all(given[it] for it in below):
                 return False
+            jobs = ["--jobs", str(min(4, rt.processors()) if crate.name in first else 1)]
             well = quietly(crate, lambda it: it.build_rlib(jobs, anew=False))
             done.append(crate.name)
             told(len(done), len(lacking), crate, well)
@@ -102,6 +116,43 @@ def build_all(libraries, told=lambda done, of, crate, well: None):
         # (in_lanes takes a task for a proof by the second part of its key. It is told half as much memory again, since it reckons with fewer jobs than are used)
         tasks[crate.name, "proof"] = (below, crate.count(rb"\n"), 1.5 * rt.need(crate), made)
     return all(rt.in_lanes(tasks).values())
+
+
+def words_with(program, apart):
+    """Returns the words by which a program is checked together with those of its libraries that are passed as source, over the others as they are built."""
+    sources = [it for it in program.below() if it in apart]
+    of_kit = {"core", *(name for it in [program, *sources] for name in it.of_kit)}
+    words = ["--crate-name", program.name, "src/main.rt"]
+    for name in sorted(of_kit):
+        words += ["--extern", f"{name}={rt.KIT}/rlibs/{name}.rlib"]
+    for it in program.below():
+        if it in apart:
+            uses = dict.fromkeys(["core", *it.of_kit, *(dep.name for dep in it.deps)])
+            words += ["--lib", f"{it.name}:{','.join(uses)}={it.folder}/src/lib.rt"]
+        else:
+            words += ["--extern", f"{it.name}={it.rlib}", "-L", f"dependency={os.path.dirname(it.rlib)}"]
+    words += ["-L", f"dependency={rt.KIT}/rlibs", "--antt-project", f"{rt.KIT}/rattle/logic/antt-project.json"]
+    return [*words, "--logic-built", f"{rt.KIT}/logic_built"]
+
+
+def built_with(program, apart, say):
+    """Proves and builds a program together with those of its libraries, which are passed as source, so that none of them waits for another; say is told how far it is.
+    What they kept serves the next time. Returns whether all went well."""
+    room, sofar = f"{program.folder}/out/{program.name}", re.compile(r"so far: (.*?)(?:; .*)?$")
+    os.makedirs(os.path.dirname(room), exist_ok=True)
+    words = [*words_with(program, apart), "--jobs", str(rt.processors()), "--incremental", "out/with_libraries"]
+    words += ["--toolchain", f"{rt.KIT}/toolchain", "--backend", "llvm", "-o", f"{room}.o"]
+    how = {"cwd": program.folder, "stdin": subprocess.DEVNULL, "stdout": subprocess.PIPE, "stderr": subprocess.STDOUT, "text": True, "errors": "replace"}
+    printed = []
+    with subprocess.Popen([*rtlib.guarded(), rtlib.RATTLE, "build", *words], **how) as ran:
+        for line in ran.stdout:
+            printed.append(line)
+            found = sofar.match(line)
+            if found:
+                say(f"{', '.join(it.name for it in [*apart, program])}: {found[1].strip()}")
+    if ran.returncode:
+        print("".join(printed), end="", flush=True)
+    return not ran.returncode and quietly(program, lambda it: it.link(f"out/{it.name}.o", f"out/{it.name}"))
 
 
 def named(words, among):

@@ -1,7 +1,7 @@
 //! Events, and whose they are.
 
 /// Whether a driver orders the sessions.
-#[derive(Clone, Copy, Debug, PartialEq, Eq)]
+#[derive(Clone, Copy, PartialEq, Eq)]
 pub enum Mode {
     /// A block is launched only when the engine is quiet, and a step is that of the session whose turn it is.
     Directed,
@@ -9,7 +9,7 @@ pub enum Mode {
 }
 
 /// Whose turn it is.
-#[derive(Clone, Copy, Debug, PartialEq, Eq)]
+#[derive(Clone, Copy, PartialEq, Eq)]
 pub enum Turn {
     Session(u32),
     /// No session can go on.
@@ -19,7 +19,7 @@ pub enum Turn {
 }
 
 /// What is done to a session.
-#[derive(Clone, Copy, Debug, PartialEq, Eq)]
+#[derive(Clone, Copy, PartialEq, Eq)]
 pub enum Event {
     /// The session is given a block.
     Launch { session: u32, block: u32 },
@@ -30,7 +30,7 @@ pub enum Event {
 }
 
 /// What a driver orders when the engine is quiet.
-#[derive(Clone, Copy, Debug, PartialEq, Eq)]
+#[derive(Clone, Copy, PartialEq, Eq)]
 pub enum Order {
     Launch { session: u32, block: u32 },
     Leave { session: u32 },

@@ -38,7 +38,7 @@ pub enum EngineFault {
 }
 
 /// The name that a key is given: `t_pkey`, or `t_a_b_key` of the columns `a` and `b` of `t`. Contracts see its bytes.
-#[derive(Debug, Drop)]
+#[derive(Drop)]
 pub struct KeyName {
     text: Vec<u8>,
 }
@@ -81,7 +81,7 @@ impl KeyName {
 }
 
 /// Why a statement fails: one variant for each text that it fails with.
-#[derive(Debug, Drop)]
+#[derive(Drop)]
 pub enum StmtFault<'a> {
     /// An expression has no value, or names a column that isn't there.
     Value(ValueFault<'a>),

@@ -5,7 +5,7 @@ use crate::fault::StmtFault;
 use result_tables::ResultSet;
 
 /// What came of an event.
-#[derive(Debug, Drop)]
+#[derive(Drop)]
 pub enum Outcome<'a> {
     Launched,
     /// The statement has no result.
@@ -17,14 +17,14 @@ pub enum Outcome<'a> {
 }
 
 /// The reply to an event, and whether the session's block is over after it.
-#[derive(Debug, Drop)]
+#[derive(Drop)]
 pub struct Reply<'a> {
     pub outcome: Outcome<'a>,
     pub ended: bool,
 }
 
 /// An event with its reply.
-#[derive(Debug, Drop)]
+#[derive(Drop)]
 pub struct HistItem<'a> {
     pub event: Event,
     pub reply: Reply<'a>,

@@ -10,14 +10,14 @@ use sql_values::Row;
 use std::marker::Model;
 
 /// Where a session stands: at a statement of a block.
-#[derive(Clone, Copy, Debug, PartialEq, Eq)]
+#[derive(Clone, Copy, PartialEq, Eq)]
 pub struct Place {
     pub block: u32,
     pub next: usize,
 }
 
 /// An open transaction.
-#[derive(Clone, Copy, Debug, PartialEq, Eq)]
+#[derive(Clone, Copy, PartialEq, Eq)]
 pub struct OpenTransaction {
     pub tx: TxId,
     /// Begun by BEGIN; one that isn't ends with its block.
@@ -30,7 +30,7 @@ pub struct OpenTransaction {
 }
 
 /// A session's transaction.
-#[derive(Clone, Copy, Debug, PartialEq, Eq)]
+#[derive(Clone, Copy, PartialEq, Eq)]
 pub enum Transaction {
     Closed,
     Open(OpenTransaction),
@@ -39,7 +39,7 @@ pub enum Transaction {
 }
 
 /// A key of a table, by the places of its columns, and the row that is to have it.
-#[derive(Debug, Drop)]
+#[derive(Drop)]
 pub struct KeyAsked {
     pub table: TableId,
     pub columns: Vec<u32>,
@@ -55,7 +55,7 @@ impl Model for KeyAsked {
 }
 
 /// What a statement waits for.
-#[derive(Debug, Drop)]
+#[derive(Drop)]
 pub enum Request {
     /// A row, to be held this strongly.
     Row { row: RowId, strength: Strength },
@@ -64,14 +64,14 @@ pub enum Request {
 }
 
 /// A wait, with the number of the event in which it began and the request that it began with.
-#[derive(Debug, Drop)]
+#[derive(Drop)]
 pub struct Waiting {
     pub number: u64,
     pub request: Request,
 }
 
 /// Rows that a statement has answered so far, which contracts see as the list of them.
-#[derive(Debug, Drop)]
+#[derive(Drop)]
 pub struct Gathered {
     rows: Vec<Row>,
 }
@@ -101,7 +101,7 @@ impl Gathered {
 
 /// A statement in the middle of its targets: its table, its view, the place among its targets of the one that it is
 /// at, what it has answered so far, and what it waits for there.
-#[derive(Debug, Drop)]
+#[derive(Drop)]
 pub struct Progress {
     pub table: TableId,
     pub view: View,
@@ -111,7 +111,7 @@ pub struct Progress {
 }
 
 /// A session.
-#[derive(Debug, Drop)]
+#[derive(Drop)]
 pub struct Session {
     /// Where it stands in its block, if it has one.
     pub place: Option<Place>,

@@ -22,7 +22,7 @@ impl<'s> Model for Surroundings<'s> {
 }
 
 /// What a statement leaves of its session's transaction, where it is in the middle of its targets, and what came of it.
-#[derive(Debug, Drop)]
+#[derive(Drop)]
 pub struct Effect<'t> {
     pub transaction: Transaction,
     pub statement: Option<Progress>,

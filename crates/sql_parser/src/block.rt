@@ -19,7 +19,7 @@ use std::alloc::Global;
 use std::marker::Model;
 
 /// Where a block stands: in the setup or teardown of a whole spec, or in a session.
-#[derive(Clone, Copy, Debug, PartialEq, Eq)]
+#[derive(Clone, Copy, PartialEq, Eq)]
 pub enum Role {
     Main,
     /// Makes and drops no table.

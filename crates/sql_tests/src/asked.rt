@@ -1,9 +1,10 @@
 //! What the tests ask of texts.
 
 use iso_lexer::{At, sql_tokens};
+use sql_equality::same_expr;
 use sql_expressions::parse_expr;
 use sql_parser::{Block, Role, parse_block};
-use sql_trees::{SqlFault, Tok, classified, same_expr};
+use sql_trees::{SqlFault, Tok, classified};
 use std::alloc::Global;
 use std::process::Abort;
 

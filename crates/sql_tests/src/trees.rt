@@ -2,8 +2,9 @@
 
 use crate::asked::{block_of, holds};
 use iso_lexer::{At, Span, SqlTok};
+use sql_equality::{same_stmt, same_stmts, same_text};
 use sql_parser::Role;
-use sql_trees::{Tok, Word, classified, same_stmt, same_stmts, same_text, word_of};
+use sql_trees::{Tok, Word, classified, word_of};
 use std::alloc::Global;
 
 // What stands between the quotes of two strings, and whether they are one.

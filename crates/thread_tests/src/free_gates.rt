@@ -1,11 +1,9 @@
-//! Gates that look at what the threads of other sessions do, and one that writes down what it is told.
+//! Gates that look at what the threads of other sessions do.
 
 use crate::gates::LOOKS;
 use session_machine::{Event, Reply};
 use session_threads::Gate;
-use std::alloc::Global;
 use std::sync::atomic::{AtomicU64, Ordering};
-use std::sync::{Mutex, Wait};
 use std::thread::yield_now;
 
 /// Lets session 2 launch behind session 1, and session 1 step behind session 2.
@@ -123,30 +121,6 @@ impl Gate for Reversed {
         if let Event::Step { session } = event {
             self.turn
                 .store((session as u64).saturating_sub(1), Ordering::SeqCst);
-        }
-    }
-}
-
-/// Writes down what it is told, line by line.
-#[derive(Drop)]
-pub struct Recorder<R: Wait> {
-    pub rt: R,
-    pub alloc: Global,
-    pub told: Mutex<Vec<String>>,
-}
-
-impl<R: Wait + Sync> Gate for Recorder<R> {
-    fn tries(&self) -> u64 {
-        1
-    }
-
-    fn admits(&self, _event: Event) -> bool {
-        true
-    }
-
-    fn answered(&self, event: Event, reply: &Reply<'_>) {
-        if let Ok(line) = format!(in self.alloc; "{event:?} {reply:?}") {
-            let _ = self.told.lock(&self.rt).push(line);
         }
     }
 }

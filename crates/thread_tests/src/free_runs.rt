@@ -1,18 +1,19 @@
 //! Runs in which each session's thread runs its script, with no order between sessions. What is asked is the same whatever the schedule was.
 
 use crate::asking::holds;
-use crate::free_gates::{Crossed, Handshake, Recorder, Reversed};
-use crate::gates::{Meeting, Shut};
+use crate::free_gates::{Crossed, Handshake, Reversed};
+use crate::gates::{Meeting, Shut, Telling};
+use crate::telling::was_told;
 use row_versions::ListStore;
 use session_core::{EngineState, replays};
 use session_machine::{EngineFault, HistItem, Mode};
-use session_threads::{Closed, FreePlan, Gate, OpenGate, Seat, ThreadFault, run_free};
+use session_threads::{Closed, FreePlan, Gate, OpenGate, ThreadFault, run_free};
 use sql_parser::{Block, Role, parse_block};
 use sql_values::Value;
 use std::alloc::{AllocError, Global};
 use std::process::Abort;
+use std::sync::Wait;
 use std::sync::atomic::{AtomicU64, Ordering};
-use std::sync::{Mutex, Wait};
 use std::test::Fail;
 use std::thread::Threads;
 
@@ -243,54 +244,32 @@ fn a_block_of_no_session_is_refused(rt: HostRuntime) -> Result<(), Fail> {
     Ok(())
 }
 
-/// Whether the lines that were told are the seat's items, in order; lines of other sessions are passed over.
-fn tells(alloc: Global, seat: &Seat<'_>, told: &[String]) -> Result<bool, AllocError> {
-    let mut left = told.iter();
-    for item in seat.items() {
-        let line = format!(in alloc; "{:?} {:?}", item.event, item.reply)?;
-        if !left.any(|it| it.as_str() == line.as_str()) {
-            return Ok(false);
-        }
-    }
-    Ok(true)
-}
-
-/// Whether each session has three items, and its lines tell them.
-fn all_tell(alloc: Global, seats: &[Seat<'_>], told: &[String]) -> Result<bool, AllocError> {
-    for seat in seats {
-        let is_session = seat.session() > 0;
-        if is_session && (seat.items().len() != 3 || !tells(alloc, seat, told)?) {
-            return Ok(false);
-        }
-    }
-    Ok(true)
-}
-
 /// Whether a gate is told what the seats of the sessions hold.
 fn is_told_the_seats<R: Threads + Wait + Sync>(
     rt: &R,
     alloc: Global,
     blocks: &[Block<'_>],
     plan: &FreePlan,
-    gate: &Recorder<R>,
 ) -> Result<bool, Fail> {
-    let closed = run(rt, alloc, blocks, plan, gate)?;
-    let told = gate.told.lock(rt);
-    Ok(told.len() == 6 && all_tell(alloc, closed.seats(), &told)?)
+    let gate = Telling::new();
+    let closed = run(rt, alloc, blocks, plan, &gate)?;
+    Ok(was_told(&gate, closed.seats()))
 }
 
 #[test]
 fn workers_tell_what_their_seats_hold(rt: HostRuntime) -> Result<(), Fail> {
     let alloc = rt.alloc();
-    let gate = Recorder {
-        rt,
+    let blocks = blocks(
         alloc,
-        told: Mutex::new(Vec::new(alloc)),
-    };
-    let blocks = blocks(alloc, 2, &ONE)?;
-    let plan = plan_of(alloc, 2, &[FIRST_SCRIPT])?;
-    let tells = is_told_the_seats(&rt, alloc, &blocks, &plan, &gate)?;
-    holds(&rt, tells, "six lines, and they tell the seats");
+        2,
+        &["SELECT 0", "SELECT 0", "SELECT 11;", "SELECT 21;"],
+    )?;
+    let mut plan = plan_of(alloc, 1, &[FIRST_SCRIPT])?;
+    let mut other = Vec::new(alloc);
+    other.push(FIRST_SCRIPT + 1)?;
+    plan.scripts.push(other)?;
+    let tells = is_told_the_seats(&rt, alloc, &blocks, &plan)?;
+    holds(&rt, tells, "what was told is what the seats hold");
     Ok(())
 }
 

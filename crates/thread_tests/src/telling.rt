@@ -38,7 +38,7 @@ fn step_blocks<'t>(alloc: Global, spec: &Spec<'t>) -> Result<Vec<Block<'t>>, Fai
 }
 
 /// Whether the gate was told what the seats of sessions 1 and 2 hold.
-fn was_told(gate: &Telling, seats: &[Seat<'_>]) -> bool {
+pub fn was_told(gate: &Telling, seats: &[Seat<'_>]) -> bool {
     let [_, first, second] = seats else {
         return false;
     };
