@@ -1,14 +1,14 @@
 //! A token's place.
 
 /// The bytes from `start` up to `end`.
-#[derive(Clone, Copy, PartialEq, Eq)]
+#[derive(Clone, Copy, Debug, PartialEq, Eq)]
 pub struct Span {
     pub start: usize,
     pub end: usize,
 }
 
 /// A token, and where it stands.
-#[derive(Clone, Copy)]
+#[derive(Clone, Copy, Debug)]
 pub struct At<T> {
     pub tok: T,
     pub span: Span,

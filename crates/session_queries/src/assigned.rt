@@ -11,7 +11,7 @@ use std::alloc::{AllocError, Global};
 use std::marker::Model;
 
 /// Where a value goes: a column's place in its table, from 0, and the column's kind.
-#[derive(Drop)]
+#[derive(Debug, Drop)]
 pub struct AssignedColumn {
     place: usize,
     kind: Kind,
@@ -47,7 +47,7 @@ impl AssignedColumn {
 }
 
 /// Where the values go, one after the other. Contracts see the list of the columns.
-#[derive(Drop)]
+#[derive(Debug, Drop)]
 pub struct AssignedColumns {
     to: Vec<AssignedColumn>,
 }

@@ -7,7 +7,7 @@ use Rattle.sql_trees.specs.contracts.expr.Operator as operator
 use Rattle.sql_trees.specs.contracts.expr.Truth as truth
 use Rattle.sql_trees.specs.declared.expr.Expr.{Expr}
 use Rattle.sql_trees.specs.Trees.{Tree, Trees, none, more, Null, Flag, Number, Text, Column, Plus, Minus, Not, Binary, Is, In, Between, trees}
-use Rattle.sql_equality.specs.Same.{same_flag, same_tree, same_trees}
+use Rattle.sql_trees.specs.Same.{same_flag, same_tree, same_trees}
 use Rattle.std.proofs.lemmas.Bool.Decides.{Decides-eqb}
 
 and_true : (p q : Bool) → (p && q) ≡ true → (p ≡ true) × (q ≡ true)

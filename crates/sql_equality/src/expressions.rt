@@ -2,7 +2,7 @@
 
 ghost use Rattle.std.specs.Prelude.{◌≡◌, ◌↔◌, ◌<◌, [], ◌∷◌, IsTrue, MatchOption, bytes_eq, length};
 ghost use Rattle.sql_trees.specs.Trees.{tree_of, trees, undoubled};
-ghost use Rattle.sql_equality.specs.Same.{same_flag, same_tree, same_trees};
+ghost use Rattle.sql_trees.specs.Same.{same_flag, same_tree, same_trees};
 
 use iso_lexer::same_name;
 use sql_trees::Expr;

@@ -5,3 +5,4 @@ pub mod Words
 pub mod Tokens
 pub mod Faults
 pub mod FaultText
+pub mod Same

@@ -2,7 +2,7 @@ use Rattle.std.proofs.Common.{rules, sym, ap, ◌∙◌}
 use Rattle.sql_trees.specs.declared.expr.Expr.TheViews.{the_lemmas}
 use Rattle.std.proofs.lemmas.List.{drop_all}
 use Rattle.sql_trees.specs.Trees.{trees}
-use Rattle.sql_equality.specs.Same.{same_trees}
+use Rattle.sql_trees.specs.Same.{same_trees}
 use Rattle.sql_equality.proofs.Sameness.{none_left}
 use Rattle.sql_equality.proofs.Rows.{trees_of_row}
 use Rattle.sql_equality.proofs.expressions.+same.Goals as goal
