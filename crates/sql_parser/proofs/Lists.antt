@@ -10,7 +10,7 @@ use Rattle.sql_trees.specs.Tokens.{Tokens, tok_at, tok_views}
 use Rattle.sql_trees.specs.declared.fault.SqlFault.TheVariants.{Memory}
 use Rattle.std.specs.Borrow.{Bor}
 use Rattle.sql_expressions.specs.Reading.{Gives, Fails, after_comma, is_comma, ◌>>=◌}
-use Rattle.sql_parser.specs.Readers.{Listed, seen, more_at, more_turn, items_at}
+use Rattle.sql_parser.specs.Readers.{Listed, seen, more_at, items_at}
 use Rattle.sql_parser.specs.Readers as lists
 
 -- behind a comma there are fewer tokens

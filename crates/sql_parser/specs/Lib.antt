@@ -1,6 +1,7 @@
 pub mod Readers
 pub mod Transactions
 pub mod Tables
+pub mod OneConstraint
 pub mod Changes
 pub mod Queries
 pub mod Blocks

@@ -1,4 +1,4 @@
-use Rattle.std.proofs.Common.{◌≡◌, ◌≤◌, ◌++◌, [], length, map}
+use Rattle.std.proofs.Common.{◌≡◌, length}
 use Rattle.std.specs.Prelude.{◌+◌}
 use Rattle.sql_parser.specs.Blocks.{piece_len}
 use Rattle.sql_trees.specs.Tokens.{tok_views}

@@ -1,4 +1,4 @@
-use Rattle.std.proofs.Common.{◌≡◌, ◌≤◌, ◌++◌, [], length, map}
+use Rattle.std.proofs.Common.{◌≡◌, ◌≤◌, length, map}
 use Rattle.std.proofs.Common.{vec_len}
 use Rattle.sql_parser.specs.Blocks.{block_from, block_at}
 use Rattle.sql_trees.specs.Statements.{stmt_of}
