@@ -17,7 +17,7 @@ use Rattle.sql_trees.specs.Trees.{Tree}
 use Rattle.sql_expressions.specs.Reading.{is_word, is_open, is_close, is_comma, after, after_comma}
 use Rattle.sql_expressions.specs.Grammar.{Ends}
 use Rattle.sql_parser.specs.Readers.{some_or, past, items_at, added, tree_at, name_at}
-use Rattle.sql_parser.specs.Transactions.{is_work, is_scope, is_to, is_setting, isolation_at, begin_at, start_at, parameter_at, set_at}
+use Rattle.sql_parser.specs.Transactions.{is_work, is_scope, is_to, is_setting, level_at, begin_at, start_at, parameter_at, set_at}
 use Rattle.sql_parser.specs.Tables.{is_among, drop_at, after_if}
 use Rattle.sql_parser.specs.Changes.{Rows, fits, set_columns, distinct_add, row_add, columns_at, insert_at, filter_at, set_add, update_at, delete_at}
 use Rattle.sql_parser.specs.Kept.{all_differ, rows_fit, columns_differ}
@@ -34,21 +34,15 @@ key_work w f g t h = rw (not_key w words.Work t h f, not_key w words.Transaction
 key_scope : (w : Word) → (w ≡ words.Session → ⊥) → (w ≡ words.Local → ⊥) → (t : At Token) → Key w t → is_scope t.tok ≡ false
 key_scope w f g t h = rw (not_key w words.Session t h f, not_key w words.Local t h g) refl
 
-pub isolation_reads : (last : ℕ) (ts : Tokens) (level : Level) → IsolationIs ts level → isolation_at last ts ≡ Ok (level, [])
-unfolding isolation_at
-isolation_reads last _ _ (uncommitted i l r u hi hl hr hu) = rw (hi, hl, hr, not_key words.Uncommitted words.Committed u hu (λ e. cc), hu) refl
-isolation_reads last _ _ (committed i l r c hi hl hr hc) = rw (hi, hl, hr, hc) refl
-isolation_reads last _ _ (repeatable i l p r hi hl hp hr) = rw (hi, hl, not_key words.Repeatable words.Read p hp (λ e. cc), hp, hr) refl
-
-isolation_first : (ts : Tokens) (level : Level) → IsolationIs ts level → (us : Tokens) × (after (is_word words.Isolation) ts ≡ Some us)
-isolation_first _ _ (uncommitted i l r u hi hl hr hu) = (l ∷ r ∷ u ∷ [], rw hi refl)
-isolation_first _ _ (committed i l r c hi hl hr hc) = (l ∷ r ∷ c ∷ [], rw hi refl)
-isolation_first _ _ (repeatable i l p r hi hl hp hr) = (l ∷ p ∷ r ∷ [], rw hi refl)
-
 pub begin_reads : (last : ℕ) (ts : Tokens) (level : Option Level) → MaybeLevel ts level → begin_at last ts ≡ Ok (Begin level, [])
-unfolding begin_at
+unfolding begin_at level_at
 begin_reads last _ _ no_level = refl
-begin_reads last _ _ (a_level ts level h) = let k = isolation_first ts level h in rw (k.1, isolation_reads last ts level h) refl
+begin_reads last _ _ (a_level ts level h) = of_level ts level h
+  where
+    of_level : (ts : Tokens) (level : Level) → IsolationIs ts level → begin_at last ts ≡ Ok (Begin (Some level), [])
+    of_level _ _ (uncommitted i l r u hi hl hr hu) = rw (hi, hl, hr, not_key words.Uncommitted words.Committed u hu (λ e. cc), hu) refl
+    of_level _ _ (committed i l r c hi hl hr hc) = rw (hi, hl, hr, hc) refl
+    of_level _ _ (repeatable i l p r hi hl hp hr) = rw (hi, hl, not_key words.Repeatable words.Read p hp (λ e. cc), hp, hr) refl
 
 -- WORK or TRANSACTION is passed over, and a level is none of them
 level_no_work : (ts : Tokens) (level : Option Level) → MaybeLevel ts level → after is_work ts ≡ None
@@ -71,8 +65,10 @@ pub work_reads : (ws : Tokens) → Perhaps is_work ws → past is_work ws ≡ []
 work_reads ws p = ap (past is_work) (sym (append-nil ws)) ∙ perhaps_past is_work ws [] p refl
 
 pub set_transaction_reads : (last : ℕ) (t : At Token) (is : Tokens) (level : Level) → Key words.Transaction t → IsolationIs is level → set_at last (t ∷ is) ≡ Ok (SetTransaction level, [])
-unfolding set_at
-set_transaction_reads last t is level h m = rw (h, isolation_reads last is level m) refl
+unfolding set_at level_at
+set_transaction_reads last t _ _ h (uncommitted i l r u hi hl hr hu) = rw (h, hi, hl, hr, not_key words.Uncommitted words.Committed u hu (λ e. cc), hu) refl
+set_transaction_reads last t _ _ h (committed i l r c hi hl hr hc) = rw (h, hi, hl, hr, hc) refl
+set_transaction_reads last t _ _ h (repeatable i l p r hi hl hp hr) = rw (h, hi, hl, not_key words.Repeatable words.Read p hp (λ e. cc), hp, hr) refl
 
 parameter_reads : (last : ℕ) (d q v : At Token) → Key words.DeadlockTimeout d → Is is_to q → Is is_setting v → parameter_at last (d ∷ q ∷ v ∷ []) ≡ Ok (SetDeadlockTimeout, [])
 unfolding parameter_at

@@ -19,7 +19,7 @@ use Rattle.sql_trees.specs.Trees.{Tree}
 use Rattle.sql_expressions.specs.Reading.{expect, is_word, after, ◌>>=◌}
 use Rattle.sql_expressions.proofs.Shapes.{some_token}
 use Rattle.sql_parser.specs.Readers.{is_unquoted, past, keyword, misplaced_word, items_at, Reader, some_or, added, name_at}
-use Rattle.sql_parser.specs.Transactions.{is_work, is_scope, is_to, is_setting, isolation_at, begin_at, start_at, parameter_at, set_at, level_at}
+use Rattle.sql_parser.specs.Transactions.{is_work, is_scope, is_to, is_setting, level_at, begin_at, start_at, parameter_at, set_at}
 use Rattle.sql_parser.specs.Tables.{drop_of, drop_at, after_if}
 use Rattle.sql_parser.specs.Grammar.{Key, Names, Perhaps, nothing, one_is, Commas, NameIs, is_name, AddsName, adds_name, IsolationIs, uncommitted, committed, repeatable, MaybeLevel, no_level, a_level, Spells, begin, start, set_transaction, set_timeout, drop, drop_if}
 use Rattle.sql_parser.specs.Stops.{Refuses, at_next, at_word}
@@ -64,11 +64,11 @@ module _ (last : ℕ) (E : Tokens → Tree → Type 0) (W Any : Type 0) where
   some_level : Inhabited IsolationIs
   some_level = (a_word words.Isolation ∷ a_word words.Level ∷ a_word words.Read ∷ a_word words.Committed ∷ [], ReadCommitted, committed (a_word words.Isolation) (a_word words.Level) (a_word words.Read) (a_word words.Committed) (key_is words.Isolation []) (key_is words.Level []) (key_is words.Read []) (key_is words.Committed []))
 
-  isolation_local : (ts : Tokens) → Local last E W Any IsolationIs (isolation_at last) ts
-  unfolding isolation_at
-  isolation_local ts =
-      token_then last E W Any IsolationIs (is_word words.Isolation) (λ us. keyword last words.Level us >>= level_at last) ts some_level (λ i us hi.
-      token_then last E W Any (λ xs w. IsolationIs (i ∷ xs) w) (is_word words.Level) (level_at last) us
+  -- what stands behind ISOLATION
+  level_local : (i : At Token) → Key words.Isolation i → (ts : Tokens) → Local last E W Any (λ xs w. IsolationIs (i ∷ xs) w) (level_at last) ts
+  unfolding level_at
+  level_local i hi us =
+      token_then last E W Any (λ xs w. IsolationIs (i ∷ xs) w) (is_word words.Level) (λ vs. some_or (λ ws. some_or (λ rest. Ok (ReadCommitted, rest)) (keyword last words.Uncommitted ws >>= λ rest. Ok (ReadCommitted, rest)) (after (is_word words.Committed) ws)) (keyword last words.Repeatable vs >>= λ ws. keyword last words.Read ws >>= λ rest. Ok (RepeatableRead, rest)) (after (is_word words.Read) vs)) us
       (a_word words.Level ∷ a_word words.Read ∷ a_word words.Committed ∷ [], ReadCommitted, committed i (a_word words.Level) (a_word words.Read) (a_word words.Committed) hi (key_is words.Level []) (key_is words.Read []) (key_is words.Committed [])) (λ l vs hl.
       chosen last E W Any (λ xs w. IsolationIs (i ∷ l ∷ xs) w) (is_word words.Read) (λ ws. some_or (λ rest. Ok (ReadCommitted, rest)) (keyword last words.Uncommitted ws >>= λ rest. Ok (ReadCommitted, rest)) (after (is_word words.Committed) ws)) (λ ws. keyword last words.Repeatable ws >>= λ xs. keyword last words.Read xs >>= λ rest. Ok (RepeatableRead, rest)) vs
       (λ r ws hr. chosen last E W Any (λ xs w. IsolationIs (i ∷ l ∷ r ∷ xs) w) (is_word words.Committed) (λ rest. Ok (ReadCommitted, rest)) (λ xs. keyword last words.Uncommitted xs >>= λ rest. Ok (ReadCommitted, rest)) ws
@@ -76,21 +76,14 @@ module _ (last : ℕ) (E : Tokens → Tree → Type 0) (W Any : Type 0) where
       (token_last last E W Any (λ xs w. IsolationIs (i ∷ l ∷ r ∷ xs) w) (is_word words.Uncommitted) ReadCommitted ws (a_word words.Committed ∷ [], ReadCommitted, committed i l r (a_word words.Committed) hi hl hr (key_is words.Committed [])) (λ u hu. uncommitted i l r u hi hl hr hu)))
       (token_then last E W Any (λ xs w. IsolationIs (i ∷ l ∷ xs) w) (is_word words.Repeatable) (λ xs. keyword last words.Read xs >>= λ rest. Ok (RepeatableRead, rest)) vs
       (a_word words.Read ∷ a_word words.Committed ∷ [], ReadCommitted, committed i l (a_word words.Read) (a_word words.Committed) hi hl (key_is words.Read []) (key_is words.Committed [])) (λ p ws hp.
-      token_last last E W Any (λ xs w. IsolationIs (i ∷ l ∷ p ∷ xs) w) (is_word words.Read) RepeatableRead ws (a_word words.Read ∷ [], RepeatableRead, repeatable i l p (a_word words.Read) hi hl hp (key_is words.Read [])) (λ r hr. repeatable i l p r hi hl hp hr)))))
+      token_last last E W Any (λ xs w. IsolationIs (i ∷ l ∷ p ∷ xs) w) (is_word words.Read) RepeatableRead ws (a_word words.Read ∷ [], RepeatableRead, repeatable i l p (a_word words.Read) hi hl hp (key_is words.Read [])) (λ r hr. repeatable i l p r hi hl hp hr))))
 
   -- what stands behind BEGIN
-  abbrev begun_at : Reader StmtTree
-  begun_at r = some_or (λ us. isolation_at last r >>= λ x. Ok (Begin (Some x.0), x.1)) (Ok (Begin None, r)) (after (is_word words.Isolation) r)
-
   begin_local : (K : Tokens → StmtTree → Type 0) → ((xs : Tokens) (level : Option Level) → MaybeLevel xs level → K xs (Begin level)) → (ts : Tokens) → Local last E W Any K (begin_at last) ts
   unfolding begin_at
-  begin_local K up [] = gives_end last E W Any K (begin_at last) (Begin None) refl (up [] None no_level)
-  begin_local K up (t ∷ us) = of_test (is_word words.Isolation t.tok) refl
-    where
-      of_test : (b : Bool) → is_word words.Isolation t.tok ≡ b → Local last E W Any K begun_at (t ∷ us)
-      of_test true h = switch_at last E W Any K (λ r. isolation_at last r >>= λ x. Ok (Begin (Some x.0), x.1)) begun_at t us (λ vs. rw h refl)
-          (mapped last E W Any IsolationIs K (isolation_at last) (λ l. Begin (Some l)) (t ∷ us) (λ xs v q. up xs (Some v) (a_level xs v q)) (isolation_local (t ∷ us)))
-      of_test false h = gives_at last E W Any K begun_at (Begin None) t us (λ vs. rw h refl) (up [] None no_level)
+  begin_local K up ts = chosen last E W Any K (is_word words.Isolation) (λ us. level_at last us >>= λ x. Ok (Begin (Some x.0), x.1)) (λ us. Ok (Begin None, us)) ts
+      (λ i us hi. mapped last E W Any (λ xs w. IsolationIs (i ∷ xs) w) (λ xs w. K (i ∷ xs) w) (level_at last) (λ l. Begin (Some l)) us (λ xs v q. up (i ∷ xs) (Some v) (a_level (i ∷ xs) v q)) (level_local i hi us))
+      (gives last E W Any K (Begin None) ts (up [] None no_level))
 
   pub start_local : (s : At Token) → Key words.Start s → (ts : Tokens) → Local last E W Any (λ xs w. Spells E (s ∷ xs) w) (start_at last) ts
   unfolding start_at
@@ -135,8 +128,10 @@ module _ (last : ℕ) (E : Tokens → Tree → Type 0) (W Any : Type 0) where
 
   pub set_local : W → (s : At Token) → Key words.Set s → (ts : Tokens) → Local last E W Any (λ xs w. Spells E (s ∷ xs) w) (set_at last) ts
   unfolding set_at
-  set_local w s h ts = chosen last E W Any (λ xs w. Spells E (s ∷ xs) w) (is_word words.Transaction) (λ us. isolation_at last us >>= λ x. Ok (SetTransaction x.0, x.1)) (λ us. parameter_at last (past is_scope us)) ts
-      (λ t us g. mapped last E W Any IsolationIs (λ xs w. Spells E (s ∷ t ∷ xs) w) (isolation_at last) SetTransaction us (λ xs v q. set_transaction s t xs v h g q) (isolation_local us))
+  set_local w s h ts = chosen last E W Any (λ xs w. Spells E (s ∷ xs) w) (is_word words.Transaction) (λ us. keyword last words.Isolation us >>= λ vs. level_at last vs >>= λ x. Ok (SetTransaction x.0, x.1)) (λ us. parameter_at last (past is_scope us)) ts
+      (λ t us g. token_then last E W Any (λ xs w. Spells E (s ∷ t ∷ xs) w) (is_word words.Isolation) (λ vs. level_at last vs >>= λ x. Ok (SetTransaction x.0, x.1)) us
+      (some_level.0, SetTransaction some_level.1, set_transaction s t some_level.0 some_level.1 h g some_level.2) (λ i vs hi.
+      mapped last E W Any (λ xs w. IsolationIs (i ∷ xs) w) (λ xs w. Spells E (s ∷ t ∷ i ∷ xs) w) (level_at last) SetTransaction vs (λ xs v q. set_transaction s t (i ∷ xs) v h g q) (level_local i hi vs)))
       (perhaps_then (λ xs w. Spells E (s ∷ xs) w) is_scope (parameter_at last) ts (λ ws us p. parameter_local w s ws h p us))
 
   -- ---- DROP

@@ -14,7 +14,7 @@ infixr 10 ◌>>◌
 abbrev pub Reader : Type 0 → Type 0
 Reader X = Tokens → Result (X × Tokens) SqlFault
 
--- one reader, and behind it the one that its value chooses
+-- One reader, and behind it the one that its value chooses. A do block has a line for each; there (← r) is the value that r reads, behind those before it.
 abbrev pub ◌>>=◌ : {X Y : Type 0} → Reader X → (X → Reader Y) → Reader Y
 ◌>>=◌ first next ts = and_then (first ts) (λ x. next x.0 x.1)
 
@@ -39,7 +39,7 @@ some_or make none None = none
 abbrev pub either : {R : Type 0} → (Token → Bool) → (Tokens → R) → (Tokens → R) → Tokens → R
 either is_it behind others ts = some_or behind (others ts) (after is_it ts)
 
--- the same where there are no others
+-- where the first token is of this kind, what is read behind it, else nothing
 abbrev pub maybe : {X : Type 0} → (Token → Bool) → Reader X → Reader (Option X)
 maybe is_it reader = either is_it (made (λ x. Some x) reader) (gives None)
 

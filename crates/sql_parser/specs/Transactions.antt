@@ -26,19 +26,15 @@ is_setting (tok.string s) = true
 is_setting _ = false
 
 module _ (last : ℕ) where
-  -- READ UNCOMMITTED, READ COMMITTED or REPEATABLE READ
-  abbrev pub level_at : Reader Level
-  level_at = either (is_word words.Read)
+  -- what stands behind ISOLATION: LEVEL and READ UNCOMMITTED, READ COMMITTED or REPEATABLE READ
+  unfoldable pub level_at : Reader Level
+  level_at = keyword last words.Level >> either (is_word words.Read)
       (either (is_word words.Committed) (gives ReadCommitted) (keyword last words.Uncommitted >> gives ReadCommitted))
       (keyword last words.Repeatable >> keyword last words.Read >> gives RepeatableRead)
 
-  -- ISOLATION LEVEL and a level
-  unfoldable pub isolation_at : Reader Level
-  isolation_at = keyword last words.Isolation >> keyword last words.Level >> level_at
-
   -- what stands behind BEGIN and WORK or TRANSACTION
   unfoldable pub begin_at : Reader StmtTree
-  begin_at ts = either (is_word words.Isolation) (λ us. made (λ l. Begin (Some l)) isolation_at ts) (gives (Begin None)) ts
+  begin_at = either (is_word words.Isolation) (made (λ l. Begin (Some l)) level_at) (gives (Begin None))
 
   -- what stands behind START
   unfoldable pub start_at : Reader StmtTree
@@ -50,4 +46,4 @@ module _ (last : ℕ) where
 
   -- what stands behind SET
   unfoldable pub set_at : Reader StmtTree
-  set_at = either (is_word words.Transaction) (made SetTransaction isolation_at) (λ ts. parameter_at (past is_scope ts))
+  set_at = either (is_word words.Transaction) (keyword last words.Isolation >> made SetTransaction level_at) (λ ts. parameter_at (past is_scope ts))
