@@ -46,24 +46,16 @@ module _ (last : ℕ) where
   simple_of (tok.word words.Delete s) t ts = delete_at last ts
   simple_of _ t ts = Err (misplaced last (t ∷ ts))
 
-  abbrev pub simple_at : Reader StmtTree
-  simple_at [] = Err (misplaced last [])
-  simple_at (t ∷ ts) = simple_of t.tok t ts
-
   -- a statement by its first token, or what is wrong with the whole of it
   abbrev pub begun_of : Token → At Token → Reader (Result StmtTree SqlFault)
   begun_of (tok.word words.Create s) t ts = create_at last ts
   begun_of (tok.word words.Select s) t ts = select_at last t.span.start ts
-  begun_of _ t ts = made (λ s. Ok s) simple_at (t ∷ ts)
-
-  abbrev pub begun_at : Reader (Result StmtTree SqlFault)
-  begun_at [] = Err (misplaced last [])
-  begun_at (t ∷ ts) = begun_of t.tok t ts
+  begun_of _ t ts = made (λ s. Ok s) (simple_of t.tok t) ts
 
   -- a statement, which makes and drops no table in a session's block
   unfoldable pub stmt_at : Role → Reader (Result StmtTree SqlFault)
   stmt_at role [] = Err (misplaced last [])
-  stmt_at role (t ∷ ts) = if is_session role && is_ddl t.tok then Err (DdlInSession t.span.start) else begun_at (t ∷ ts)
+  stmt_at role (t ∷ ts) = if is_session role && is_ddl t.tok then Err (DdlInSession t.span.start) else begun_of t.tok t ts
 
   -- the tokens have all been read
   abbrev pub at_end : {A : Type 0} → Result A SqlFault → Tokens → Result A SqlFault
@@ -89,7 +81,16 @@ stmts_at last role ss piece (t ∷ ts) =
 abbrev pub block_at : ℕ → Role → Tokens → Result (List StmtTree) SqlFault
 block_at last role ts = stmts_at last role [] [] ts
 
--- ---- a block, piece by piece
+-- ---- as the code reads them, piece by piece
+
+module _ (last : ℕ) where
+  abbrev pub simple_at : Reader StmtTree
+  simple_at [] = Err (misplaced last [])
+  simple_at (t ∷ ts) = simple_of last t.tok t ts
+
+  abbrev pub begun_at : Reader (Result StmtTree SqlFault)
+  begun_at [] = Err (misplaced last [])
+  begun_at (t ∷ ts) = begun_of last t.tok t ts
 
 -- the statements of a block, behind these
 abbrev pub block_from : ℕ → Role → List StmtTree → Tokens → Result (List StmtTree) SqlFault
