@@ -23,7 +23,7 @@ use Rattle.sql_parser.specs.Transactions.{is_work, is_scope, is_to, is_setting, 
 use Rattle.sql_parser.specs.Tables.{drop_of, drop_at, after_if}
 use Rattle.sql_parser.specs.Grammar.{Key, Names, Perhaps, nothing, one_is, Commas, NameIs, is_name, AddsName, adds_name, IsolationIs, uncommitted, committed, repeatable, MaybeLevel, no_level, a_level, Spells, begin, start, set_transaction, set_timeout, drop, drop_if}
 use Rattle.sql_parser.specs.Stops.{Refuses, at_next, at_word}
-use Rattle.sql_parser.proofs.Locals.{Inhabited, Begins, Local, gives, gives_at, gives_end, stuck_at, stuck_end, behind, same_at, switch_at, switch_end, mapped, token_then, token_last, name_then, either, list_local, some_list, Tail, left_of, tail_local, joined, items_is, chosen}
+use Rattle.sql_parser.proofs.Locals.{Inhabited, Begins, Local, gives, stuck_at, stuck_end, behind, same_at, switch_at, switch_end, mapped, token_then, token_last, name_then, either, list_local, some_list, Tail, left_of, tail_local, joined, items_is, chosen}
 
 -- ---- tokens that can stand there
 

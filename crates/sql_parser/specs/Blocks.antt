@@ -1,5 +1,5 @@
 -- Statements and blocks.
-use Rattle.std.specs.Prelude.{◌≡◌, ℕ, suc, Bool, true, false, ◌&&◌, List, [], ◌∷◌, ◌++◌, length, Option, Some, None, Result, Ok, Err, nat_lt, if◌then◌else◌}
+use Rattle.std.specs.Prelude.{ℕ, Bool, true, false, ◌&&◌, List, [], ◌∷◌, ◌++◌, length, Result, Ok, Err, nat_lt, if◌then◌else◌}
 use Rattle.iso_lexer.specs.declared.token.At.{At}
 use Rattle.iso_lexer.specs.declared.sql_token.SqlSign.TheVariants as signs
 use Rattle.sql_trees.specs.declared.fault.SqlFault.{SqlFault}
@@ -80,28 +80,3 @@ stmts_at last role ss piece (t ∷ ts) =
 -- the statements of a block
 abbrev pub block_at : ℕ → Role → Tokens → Result (List StmtTree) SqlFault
 block_at last role ts = stmts_at last role [] [] ts
-
--- ---- as the code reads them, piece by piece
-
-module _ (last : ℕ) where
-  abbrev pub simple_at : Reader StmtTree
-  simple_at [] = Err (misplaced last [])
-  simple_at (t ∷ ts) = simple_of last t.tok t ts
-
-  abbrev pub begun_at : Reader (Result StmtTree SqlFault)
-  begun_at [] = Err (misplaced last [])
-  begun_at (t ∷ ts) = begun_of last t.tok t ts
-
--- the statements of a block, behind these
-abbrev pub block_from : ℕ → Role → List StmtTree → Tokens → Result (List StmtTree) SqlFault
-block_from last role ss ts = stmts_at last role ss [] ts
-
--- how many tokens stand before the first semicolon
-abbrev pub piece_len : Tokens → ℕ
-piece_len [] = 0
-piece_len (t ∷ ts) = if is_semicolon t.tok then 0 else suc (piece_len ts)
-
--- the tokens before the first semicolon, its place and the tokens behind it, so far as a block is concerned
-abbrev pub SplitsAs : Tokens → Option (Tokens × ℕ × Tokens) → Type 0
-SplitsAs ts None = (last : ℕ) (role : Role) (ss : List StmtTree) → block_from last role ss ts ≡ piece_at last role ss ts
-SplitsAs ts (Some x) = (last : ℕ) (role : Role) (ss : List StmtTree) → block_from last role ss ts ≡ (piece_at x.1 role ss x.0 >>= λ more. block_from last role more x.2)

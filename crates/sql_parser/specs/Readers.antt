@@ -1,12 +1,12 @@
 -- Reading from left to right with the first fault that is met: words of reading, and parts that several kinds of statement have.
-use Rattle.std.specs.Prelude.{◌≡◌, ℕ, zero, suc, ◌≤◌, Bool, true, false, List, [], ◌∷◌, ◌++◌, length, Option, Some, None, Result, Ok, Err, unwrap_or}
+use Rattle.std.specs.Prelude.{ℕ, zero, suc, Bool, true, false, List, [], ◌∷◌, ◌++◌, length, Option, Some, None, Result, Ok, Err, unwrap_or}
 use Rattle.sql_trees.specs.declared.fault.SqlFault.{SqlFault}
 use Rattle.sql_trees.specs.declared.fault.SqlFault.TheVariants.{LeftOut}
 use Rattle.sql_trees.specs.declared.word.Word.{Word}
 use Rattle.sql_trees.specs.Tokens.{Token, Tokens, named}
 use Rattle.sql_trees.specs.Tokens as tok
 use Rattle.sql_trees.specs.Trees.{Tree}
-use Rattle.sql_expressions.specs.Reading.{after, after_comma, is_comma, is_close, expect, expr_at, is_word, misplaced, place_of, ◌>>=◌ as and_then}
+use Rattle.sql_expressions.specs.Reading.{after, is_comma, is_close, expect, expr_at, is_word, misplaced, place_of, ◌>>=◌ as and_then}
 
 infixr 10 ◌>>=◌
 infixr 10 ◌>>◌
@@ -56,11 +56,6 @@ abbrev pub is_unquoted : Token → Bool
 is_unquoted (tok.word w s) = true
 is_unquoted _ = false
 
--- an answer of a call, with another view of its value
-abbrev pub seen : {X Y : Type 0} → (X → Y) → Result X SqlFault → Result Y SqlFault
-seen view (Ok x) = Ok (view x)
-seen view (Err f) = Err f
-
 -- ---- lists
 
 -- one more item behind each comma, as many as there are tokens at most
@@ -75,14 +70,6 @@ items_at add s ts = (add s >>= more_at add (length ts)) ts
 -- an item that is added behind the others
 abbrev pub added : {X : Type 0} → Reader X → List X → Reader (List X)
 added reader xs ts = and_then (reader ts) (λ x. Ok (xs ++ x.0 ∷ [], x.1))
-
--- What a list read by calls is: an item that a call added, and more behind a comma, or the fault of the first call that answered one.
-pub data Listed {S : Type 0} (adds : S → Tokens → Result (S × Tokens) SqlFault → Type 0) : S → Tokens → Result (S × Tokens) SqlFault → Type 0 where
-  ends : {s t : S} {ts rest : Tokens} {answer : Result (S × Tokens) SqlFault} → adds s ts (Ok (t, rest)) → after_comma rest ≡ None → answer ≡ Ok (t, rest) → Listed adds s ts answer
-  goes_on : {s t : S} {ts rest us : Tokens} {answer : Result (S × Tokens) SqlFault} →
-      adds s ts (Ok (t, rest)) → length rest ≤ length ts → after_comma rest ≡ Some us → Listed adds t us answer →
-      Listed adds s ts answer
-  stops : {s : S} {ts : Tokens} {f : SqlFault} {answer : Result (S × Tokens) SqlFault} → adds s ts (Err f) → answer ≡ Err f → Listed adds s ts answer
 
 -- ---- with the text's length
 
