@@ -88,7 +88,7 @@ module _ (last : ℕ) where
   unfoldable pub key_at : Bool → TableRead → Reader TableRead
   key_at primary t = expect last is_open >> closed last (λ ns. with_key primary ns t) (items_at key_add [])
 
-  -- NOT NULL, PRIMARY KEY and UNIQUE behind a column, as many times as there are tokens at most
+  -- NOT NULL, PRIMARY KEY and UNIQUE behind a column, so many times at most
   unfoldable pub constraints_at : Placed → ℕ → Constraints → Reader Constraints
   constraints_at c zero s ts = Ok (s, ts)
   constraints_at c (suc n) s ts =
@@ -96,9 +96,15 @@ module _ (last : ℕ) where
       (either (is_word words.Primary) (keyword last words.Key >> constraints_at c n (key_limit true c s))
       (either (is_word words.Unique) (constraints_at c n (key_limit false c s)) (gives s))) ts
 
+  -- all that is said of a column
+  abbrev pub said_at : Placed → Constraints → Reader Constraints
+  said_at c s ts = constraints_at c (length ts) s ts
+
   -- a column's kind and what is said of it, behind the keys before it
   unfoldable pub limits_at : Placed → List KeyRead → Reader (Kind × Constraints)
-  limits_at c keys = kind_at >>= λ kind ts. made (λ s. (kind, s)) (constraints_at c (length ts) (record { not_null = false; keys = keys })) ts
+  limits_at c keys = do
+    kind ← kind_at
+    gives (kind, (← said_at c (record { not_null = false; keys = keys })))
 
   -- a column behind its name
   unfoldable pub column_behind : Placed → TableRead → Reader TableRead
