@@ -1,27 +1,28 @@
 -- Statements are read as far as their tokens allow.
 use Rattle.std.proofs.Common.{◌≡◌, ℕ, Bool, true, false, List, [], ◌∷◌, ◌++◌, Option, Some, None, refl, ap, ◌∙◌}
-use Rattle.std.specs.Prelude.{Result, Ok, Err, ◌&&◌, ◌||◌}
+use Rattle.std.specs.Prelude.{Result, Ok, Err, ◌&&◌, ◌||◌, if◌then◌else◌}
 use Rattle.iso_lexer.specs.declared.token.At.{At}
 use Rattle.iso_lexer.specs.declared.sql_token.SqlSign.TheVariants as signs
 use Rattle.sql_trees.specs.declared.fault.SqlFault.{SqlFault}
-use Rattle.sql_trees.specs.declared.fault.SqlFault.TheVariants.{DdlInSession}
+use Rattle.sql_trees.specs.declared.fault.SqlFault.TheVariants.{DdlInSession, BadColumns}
 use Rattle.sql_trees.specs.declared.word.Word.{Word}
 use Rattle.sql_trees.specs.declared.word.Word.TheVariants as words
 use Rattle.sql_trees.specs.Statements.{StmtTree, Commit, Rollback}
 use Rattle.sql_trees.specs.Tokens.{Token, Tokens, named}
 use Rattle.sql_trees.specs.Tokens as tok
 use Rattle.sql_trees.specs.Trees.{Tree}
-use Rattle.sql_expressions.specs.Reading.{expect, is_word, is_open, is_close, ◌>>=◌}
+use Rattle.sql_expressions.specs.Reading.{expect, is_word, is_open, is_close, ◌>>=◌, misplaced}
 use Rattle.sql_parser.specs.declared.block.Role.{Role}
-use Rattle.sql_parser.specs.Readers.{past, name_at, tree_at, items_at}
+use Rattle.sql_parser.specs.Readers.{some_or, past, name_at, tree_at, items_at, Reader}
 use Rattle.sql_parser.specs.Transactions.{is_work, begin_at, start_at, set_at}
-use Rattle.sql_parser.specs.Tables.{TableRead, empty_table, table_add, table_of, keys_fault, column_names, finished, create_at, drop_at}
+use Rattle.sql_parser.specs.Tables.{TableRead, empty_table, table_add, keys_fault, column_names, finished, create_at, drop_at, created}
 use Rattle.sql_parser.specs.Changes.{insert_at, update_at, delete_at}
 use Rattle.sql_parser.specs.Queries.{select_at}
-use Rattle.sql_parser.specs.Blocks.{is_ddl, is_session, begun_at, allowed_at, stmt_at, whole_at}
-use Rattle.sql_parser.specs.Grammar.{Is, Key, Names, nothing, Commas, AddsPart, Spells, commit, end, rollback, abort, create, created}
+use Rattle.sql_parser.specs.Blocks.{is_ddl, is_session, stmt_at, whole_at}
+use Rattle.sql_parser.specs.Pieces.{begun_at}
+use Rattle.sql_parser.specs.Grammar.{Is, Key, Names, nothing, Commas, AddsPart, Spells, commit, end, rollback, abort, create}
 use Rattle.sql_parser.specs.Stops.{WantsWords}
-use Rattle.sql_parser.proofs.Locals.{Reader, Inhabited, Local, behind, switch_at, in_turn, mapped, token_then, token_last, name_then, no_rule_at, no_rule_end}
+use Rattle.sql_parser.proofs.Locals.{Inhabited, Local, behind, switch_at, in_turn, mapped, token_then, token_last, name_then, no_rule_at, no_rule_end}
 use Rattle.sql_parser.proofs.StmtLocals.{a_word, a_sign, a_name, the_name, key_is, begun_local, start_local, word_local, set_local, drop_local}
 use Rattle.sql_parser.proofs.TableLocals.{parts_local, some_parts}
 use Rattle.sql_parser.proofs.ChangeLocals.{insert_local, update_local, delete_local}
@@ -31,7 +32,7 @@ finished_shown : (ts : Tokens) (name : List ℕ) (t : TableRead) → Shown ts (f
 unfolding finished
 finished_shown ts name t = of_fault (keys_fault name (column_names t.columns) [] t.keys) refl
   where
-    of_fault : (o : Option ℕ) → keys_fault name (column_names t.columns) [] t.keys ≡ o → Shown ts (table_of o name t) (created name t)
+    of_fault : (o : Option ℕ) → keys_fault name (column_names t.columns) [] t.keys ≡ o → Shown ts (some_or (λ place. Err (BadColumns place)) (Ok (created name t)) o) (created name t)
     of_fault None h = shown (created name t)
     of_fault (Some place) h = no_columns place name t h
 
@@ -116,8 +117,9 @@ module _ (last : ℕ) (E : Tokens → Tree → Type 0) (W Any : Type 0) (an_expr
   begun_token t us wants (tok.word words.Delete s) h = simple_case (delete_at last) t us (λ vs. rw h refl) (delete_local last E W Any an_expr exprs t (key_of words.Delete t s h) us)
   begun_token t us wants _ h = no_rule_at last E W Any (Whole E) (begun_at last) t us some_stmt (λ vs. rw h refl)
 
-  abbrev allowed : Role → Tokens → Result (Result StmtTree SqlFault × Tokens) SqlFault
-  allowed role ts = allowed_at last (is_session role) ts
+  abbrev allowed : Role → Reader (Result StmtTree SqlFault)
+  allowed role [] = Err (misplaced last [])
+  allowed role (t ∷ ts) = if is_session role && is_ddl t.tok then Err (DdlInSession t.span.start) else begun_at last (t ∷ ts)
 
   pub stmt_local : (role : Role) (ts : Tokens) → barred role ts ≡ false → (WantsWords ts → W) → Local last E W Any (Whole E) (stmt_at last role) ts
   unfolding stmt_at

@@ -1,5 +1,5 @@
 -- Blocks, piece after piece.
-use Rattle.std.proofs.Common.{◌≡◌, ℕ, zero, suc, List, [], ◌∷◌, ◌++◌, ◌<◌, length, take, drop, map, Option, Some, None, refl, sym, ap, ◌∙◌, subst, append_assoc, append-nil, arith}
+use Rattle.std.proofs.Common.{◌≡◌, ℕ, suc, List, [], ◌∷◌, ◌++◌, ◌<◌, length, take, drop, map, Some, None, refl, sym, ap, ◌∙◌, append_assoc, append-nil, arith}
 use Rattle.std.proofs.lemmas.Bool.{lt-ltb}
 use Rattle.std.proofs.lemmas.List.{length-map}
 use Rattle.std.specs.Prelude.{Result, Ok, Err, Bool, true, false, nat_lt, if◌then◌else◌}
@@ -8,10 +8,11 @@ use Rattle.sql_trees.specs.declared.fault.SqlFault.{SqlFault}
 use Rattle.sql_trees.specs.declared.token.Tok.{Tok}
 use Rattle.sql_trees.specs.declared.stmt.Stmt.{Stmt}
 use Rattle.sql_trees.specs.Statements.{StmtTree, stmt_of}
-use Rattle.sql_trees.specs.Tokens.{Token, Tokens, tok_at, tok_view, tok_views}
+use Rattle.sql_trees.specs.Tokens.{Tokens, tok_at, tok_view, tok_views}
 use Rattle.sql_expressions.specs.Reading.{◌>>=◌}
 use Rattle.sql_parser.specs.declared.block.Role.{Role}
-use Rattle.sql_parser.specs.Blocks.{is_semicolon, whole_at, piece_at, piece_len, stmts_at, block_from, SplitsAs}
+use Rattle.sql_parser.specs.Blocks.{is_semicolon, whole_at, piece_at, stmts_at}
+use Rattle.sql_parser.specs.Pieces.{piece_len, block_from, SplitsAs}
 
 module _ (last : ℕ) (role : Role) (ss : List StmtTree) where
   -- without a semicolon the rest is one piece

@@ -12,10 +12,11 @@ use Rattle.sql_trees.specs.Tokens.{Token, Tokens}
 use Rattle.sql_trees.specs.Tokens as tok
 use Rattle.sql_expressions.specs.Reading.{after, expect, is_word, ◌>>=◌}
 use Rattle.sql_parser.specs.declared.block.Role.{Role}
-use Rattle.sql_parser.specs.Readers.{items_at, keyword, past}
-use Rattle.sql_parser.specs.Transactions.{is_work, is_scope, is_to, is_setting, isolation_at, begin_of, begin_at, start_at, parameter_of, parameter_at, set_of, set_at}
-use Rattle.sql_parser.specs.Tables.{drop_add, drop_of, drop_names, drop_at, after_if}
-use Rattle.sql_parser.specs.Blocks.{is_ddl, is_session, is_semicolon, simple_of, simple_at, begun_of, begun_at, stmt_at, at_end, whole_at, piece_at, stmts_at, block_at}
+use Rattle.sql_parser.specs.Readers.{items_at, keyword, past, some_or, added, misplaced_word, name_at}
+use Rattle.sql_parser.specs.Transactions.{is_work, is_scope, is_to, is_setting, level_at, begin_at, start_at, parameter_at, set_at}
+use Rattle.sql_parser.specs.Tables.{drop_of, drop_at, after_if}
+use Rattle.sql_parser.specs.Blocks.{is_ddl, is_session, is_semicolon, simple_of, begun_of, stmt_at, at_end, whole_at, piece_at, stmts_at, block_at}
+use Rattle.sql_parser.specs.Pieces.{simple_at, begun_at}
 use Rattle.sql_parser.specs.Kept.{is_kept, is_kept_in, makes_or_drops}
 use Rattle.sql_parser.proofs.Keeping.{Fine, FineOrNot, insert_fine, update_fine, delete_fine, select_fine}
 use Rattle.sql_parser.proofs.KeysKept.{create_fine}
@@ -26,10 +27,10 @@ module _ (last : ℕ) where
   unfolding begin_at
   begin_fine ts x e = of_level (after (is_word words.Isolation) ts) e
     where
-      of_level : (o : Option Tokens) → begin_of last o ts ≡ Ok x → Fine false x.0
+      of_level : (o : Option Tokens) → some_or (λ us. level_at last us >>= λ y. Ok (Begin (Some y.0), y.1)) (Ok (Begin None, ts)) o ≡ Ok x → Fine false x.0
       of_level None h = subst (λ (y : StmtTree × Tokens). Fine false y.0) (ok_same (Begin None, ts) x h) (record { kept = refl; made = refl })
       of_level (Some us) h =
-          let a = bind_ok (isolation_at last ts) (λ y. Ok (Begin (Some y.0), y.1)) x h in
+          let a = bind_ok (level_at last us) (λ y. Ok (Begin (Some y.0), y.1)) x h in
           subst (λ (y : StmtTree × Tokens). Fine false y.0) (ok_same (Begin (Some a.0.0), a.0.1) x a.2) (record { kept = refl; made = refl })
 
   start_fine : (ts : Tokens) (x : StmtTree × Tokens) → start_at last ts ≡ Ok x → Fine false x.0
@@ -42,7 +43,7 @@ module _ (last : ℕ) where
   unfolding parameter_at
   parameter_fine ts x e = of_name (after (is_word words.DeadlockTimeout) ts) e
     where
-      of_name : (o : Option Tokens) → parameter_of last o ts ≡ Ok x → Fine false x.0
+      of_name : (o : Option Tokens) → some_or (λ us. expect last is_to us >>= λ vs. expect last is_setting vs >>= λ rest. Ok (SetDeadlockTimeout, rest)) (Err (misplaced_word last ts)) o ≡ Ok x → Fine false x.0
       of_name None h = absurd cc
       of_name (Some us) h =
           let a = bind_ok (expect last is_to us) (λ vs. expect last is_setting vs >>= λ rest. Ok (SetDeadlockTimeout, rest)) x h in
@@ -53,24 +54,25 @@ module _ (last : ℕ) where
   unfolding set_at
   set_fine ts x e = of_transaction (after (is_word words.Transaction) ts) e
     where
-      of_transaction : (o : Option Tokens) → set_of last o ts ≡ Ok x → Fine false x.0
+      of_transaction : (o : Option Tokens) → some_or (λ us. keyword last words.Isolation us >>= λ vs. level_at last vs >>= λ y. Ok (SetTransaction y.0, y.1)) (parameter_at last (past is_scope ts)) o ≡ Ok x → Fine false x.0
       of_transaction (Some us) h =
-          let a = bind_ok (isolation_at last us) (λ y. Ok (SetTransaction y.0, y.1)) x h in
-          subst (λ (y : StmtTree × Tokens). Fine false y.0) (ok_same (SetTransaction a.0.0, a.0.1) x a.2) (record { kept = refl; made = refl })
+          let a = bind_ok (keyword last words.Isolation us) (λ vs. level_at last vs >>= λ y. Ok (SetTransaction y.0, y.1)) x h in
+          let b = bind_ok (level_at last a.0) (λ y. Ok (SetTransaction y.0, y.1)) x a.2 in
+          subst (λ (y : StmtTree × Tokens). Fine false y.0) (ok_same (SetTransaction b.0.0, b.0.1) x b.2) (record { kept = refl; made = refl })
       of_transaction None h = parameter_fine (past is_scope ts) x h
 
   drop_of_fine : (if_exists : Bool) (ts : Tokens) (x : StmtTree × Tokens) → drop_of last if_exists ts ≡ Ok x → Fine true x.0
   drop_of_fine if_exists ts x e =
-      let a = bind_ok (items_at (drop_add last) [] ts) (λ y. Ok (DropTables (record { if_exists = if_exists; names = y.0 }), y.1)) x e in
+      let a = bind_ok (items_at (added (name_at last)) [] ts) (λ y. Ok (DropTables (record { if_exists = if_exists; names = y.0 }), y.1)) x e in
       subst (λ (y : StmtTree × Tokens). Fine true y.0) (ok_same (DropTables (record { if_exists = if_exists; names = a.0.0 }), a.0.1) x a.2) (record { kept = refl; made = refl })
 
   drop_fine : (ts : Tokens) (x : StmtTree × Tokens) → drop_at last ts ≡ Ok x → Fine true x.0
   unfolding drop_at
   drop_fine ts x e =
-      let a = bind_ok (keyword last words.Table ts) (λ us. drop_names last (after_if us) us) x e in
+      let a = bind_ok (keyword last words.Table ts) (λ us. some_or (drop_of last true) (drop_of last false us) (after_if us)) x e in
       of_if a.0 (after_if a.0) a.2
     where
-      of_if : (us : Tokens) (o : Option Tokens) → drop_names last o us ≡ Ok x → Fine true x.0
+      of_if : (us : Tokens) (o : Option Tokens) → some_or (drop_of last true) (drop_of last false us) o ≡ Ok x → Fine true x.0
       of_if us None h = drop_of_fine false us x h
       of_if us (Some vs) h = drop_of_fine true vs x h
 

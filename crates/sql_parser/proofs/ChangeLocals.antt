@@ -9,14 +9,14 @@ use Rattle.sql_trees.specs.declared.word.Word.TheVariants as words
 use Rattle.sql_trees.specs.Statements.{StmtTree, SetTree, Inserts, Updates, Deletes}
 use Rattle.sql_trees.specs.Tokens.{Token, Tokens}
 use Rattle.sql_trees.specs.Trees.{Tree}
-use Rattle.sql_expressions.specs.Reading.{place_of, expect, is_word, is_open, is_close, after, ◌>>=◌}
+use Rattle.sql_expressions.specs.Reading.{place_of, expect, is_word, is_open, is_close, ◌>>=◌}
 use Rattle.sql_expressions.specs.Laws.{head}
-use Rattle.sql_parser.specs.Readers.{keyword, name_at, tree_at, items_at}
+use Rattle.sql_parser.specs.Readers.{keyword, name_at, tree_at, items_at, Reader, added}
 use Rattle.sql_parser.specs.Tables.{is_among}
-use Rattle.sql_parser.specs.Changes.{Rows, fits, is_equal, set_columns, distinct_add, value_add, row_add, columns_of, columns_at, insert_at, filter_of, filter_at, set_value, set_add, update_at, delete_at}
+use Rattle.sql_parser.specs.Changes.{Rows, fits, is_equal, set_columns, distinct_add, row_add, columns_at, insert_at, filter_at, set_value, set_add, update_at, delete_at}
 use Rattle.sql_parser.specs.Grammar.{Key, Names, Commas, AddsName, adds_name, AddsValue, adds_value, RowIs, is_row, with_row, no_rows, AddsRow, adds_row, ColumnsAre, unlisted, listed_columns, AddsSet, adds_set, WhereIs, unfiltered, filtered, Spells, insert, update, delete}
 use Rattle.sql_parser.specs.Stops.{at_row}
-use Rattle.sql_parser.proofs.Locals.{Reader, Inhabited, Local, took, stopped, gives, begun_as, in_turn, mapped, token_then, token_last, name_then, either, list_local, some_list}
+use Rattle.sql_parser.proofs.Locals.{Inhabited, Local, took, stopped, gives, begun_as, in_turn, mapped, token_then, token_last, name_then, list_local, some_list, chosen}
 use Rattle.sql_parser.proofs.StmtLocals.{a_word, a_sign, a_name, the_name, key_is, adds_some_name}
 use Rattle.sql_parser.proofs.TableLocals.{distinct_local}
 
@@ -26,22 +26,22 @@ module _ (last : ℕ) (E : Tokens → Tree → Type 0) (W Any : Type 0) (an_expr
   adds_some_value : (es : List Tree) → Inhabited (AddsValue E es)
   adds_some_value es = (an_expr.0, es ++ an_expr.1 ∷ [], adds_value es an_expr.0 an_expr.1 an_expr.2)
 
-  value_local : (es : List Tree) (ts : Tokens) → Local last E W Any (AddsValue E es) (value_add last es) ts
+  value_local : (es : List Tree) (ts : Tokens) → Local last E W Any (AddsValue E es) (added (tree_at last) es) ts
   value_local es ts = mapped last E W Any E (AddsValue E es) (tree_at last) (λ e. es ++ e ∷ []) ts (λ xs e q. adds_value es xs e q) (exprs ts)
 
   abbrev row_at : Reader (List Tree)
-  row_at ts = expect last is_open ts >>= λ us. items_at (value_add last) [] us >>= λ x. expect last is_close x.1 >>= λ rest. Ok (x.0, rest)
+  row_at ts = expect last is_open ts >>= λ us. items_at (added (tree_at last)) [] us >>= λ x. expect last is_close x.1 >>= λ rest. Ok (x.0, rest)
 
   some_row : Inhabited (RowIs E)
   some_row =
-      let s = some_list last E W Any (value_add last) (AddsValue E) adds_some_value value_local [] in
+      let s = some_list last E W Any (added (tree_at last)) (AddsValue E) adds_some_value value_local [] in
       (a_sign signs.Open ∷ (s.0 ++ a_sign signs.Close ∷ []), s.1, is_row (a_sign signs.Open) (a_sign signs.Close) s.0 s.1 refl s.2 refl)
 
   row_local : (ts : Tokens) → Local last E W Any (RowIs E) row_at ts
-  row_local ts = token_then last E W Any (RowIs E) is_open (λ us. items_at (value_add last) [] us >>= λ x. expect last is_close x.1 >>= λ rest. Ok (x.0, rest)) ts some_row
-      (λ o us ho. in_turn last E W Any (Commas (AddsValue E) []) (λ xs w. RowIs E (o ∷ xs) w) (items_at (value_add last) []) (λ v r. expect last is_close r >>= λ rest. Ok (v, rest)) us
+  row_local ts = token_then last E W Any (RowIs E) is_open (λ us. items_at (added (tree_at last)) [] us >>= λ x. expect last is_close x.1 >>= λ rest. Ok (x.0, rest)) ts some_row
+      (λ o us ho. in_turn last E W Any (Commas (AddsValue E) []) (λ xs w. RowIs E (o ∷ xs) w) (items_at (added (tree_at last)) []) (λ v r. expect last is_close r >>= λ rest. Ok (v, rest)) us
       (λ xs es q. (a_sign signs.Close ∷ [], es, is_row o (a_sign signs.Close) xs es ho q refl))
-      (list_local last E W Any (value_add last) (AddsValue E) adds_some_value value_local [] us)
+      (list_local last E W Any (added (tree_at last)) (AddsValue E) adds_some_value value_local [] us)
       (λ es xs rest split q. token_last last E W Any (λ ys w. RowIs E (o ∷ (xs ++ ys)) w) is_close es rest (a_sign signs.Close ∷ [], es, is_row o (a_sign signs.Close) xs es ho q refl) (λ c hc. is_row o c xs es ho q hc)))
 
   -- a row, which has to have as many values as those before it
@@ -60,8 +60,8 @@ module _ (last : ℕ) (E : Tokens → Tree → Type 0) (W Any : Type 0) (an_expr
       of_items (Ok x) = of_close x.0 (expect last is_close x.1)
       of_items (Err e) = refl
 
-      of_open : (r : Result Tokens SqlFault) → (r >>= λ us. items_at (value_add last) [] us >>= λ x. expect last is_close x.1 >>= λ rest. row_fits s (place_of last ts) (x.0, rest)) ≡ ((r >>= λ us. items_at (value_add last) [] us >>= λ x. expect last is_close x.1 >>= λ rest. Ok (x.0, rest)) >>= row_fits s (place_of last ts))
-      of_open (Ok us) = of_items (items_at (value_add last) [] us)
+      of_open : (r : Result Tokens SqlFault) → (r >>= λ us. items_at (added (tree_at last)) [] us >>= λ x. expect last is_close x.1 >>= λ rest. row_fits s (place_of last ts) (x.0, rest)) ≡ ((r >>= λ us. items_at (added (tree_at last)) [] us >>= λ x. expect last is_close x.1 >>= λ rest. Ok (x.0, rest)) >>= row_fits s (place_of last ts))
+      of_open (Ok us) = of_items (items_at (added (tree_at last)) [] us)
       of_open (Err e) = refl
 
   row_place : (xs : Tokens) (es : List Tree) → RowIs E xs es → (others : Tokens) → place_of last (xs ++ others) ≡ place_of last xs
@@ -91,8 +91,7 @@ module _ (last : ℕ) (E : Tokens → Tree → Type 0) (W Any : Type 0) (an_expr
 
   columns_local : (ts : Tokens) → Local last E W Any ColumnsAre (columns_at last) ts
   unfolding columns_at
-  columns_local ts = either last E W Any ColumnsAre is_open (λ us. items_at (distinct_add last) [] us >>= λ x. expect last is_close x.1 >>= λ rest. Ok (Some x.0, rest)) (λ us. Ok (None, us)) (λ r. columns_of last (after is_open r) r) ts
-      (λ o vs h. rw h refl) (λ o vs h. rw h refl) refl
+  columns_local ts = chosen last E W Any ColumnsAre is_open (λ us. items_at (distinct_add last) [] us >>= λ x. expect last is_close x.1 >>= λ rest. Ok (Some x.0, rest)) (λ us. Ok (None, us)) ts
       (λ o us ho. in_turn last E W Any (Commas AddsName []) (λ xs w. ColumnsAre (o ∷ xs) w) (items_at (distinct_add last) []) (λ v r. expect last is_close r >>= λ rest. Ok (Some v, rest)) us
       (λ xs ns q. (a_sign signs.Close ∷ [], Some ns, listed_columns o (a_sign signs.Close) xs ns ho q refl))
       (list_local last E W Any (distinct_add last) AddsName adds_some_name distinct_add_local [] us)
@@ -131,8 +130,7 @@ module _ (last : ℕ) (E : Tokens → Tree → Type 0) (W Any : Type 0) (an_expr
 
   pub where_local : (ts : Tokens) → Local last E W Any (WhereIs E) (filter_at last) ts
   unfolding filter_at
-  where_local ts = either last E W Any (WhereIs E) (is_word words.Where) (λ us. tree_at last us >>= λ e. Ok (Some e.0, e.1)) (λ us. Ok (None, us)) (λ r. filter_of last (after (is_word words.Where) r) r) ts
-      (λ w vs h. rw h refl) (λ w vs h. rw h refl) refl
+  where_local ts = chosen last E W Any (WhereIs E) (is_word words.Where) (λ us. tree_at last us >>= λ e. Ok (Some e.0, e.1)) (λ us. Ok (None, us)) ts
       (λ w us hw. mapped last E W Any E (λ xs f. WhereIs E (w ∷ xs) f) (tree_at last) (λ e. Some e) us (λ xs e q. filtered w xs e hw q) (exprs us))
       (gives last E W Any (WhereIs E) None ts unfiltered)
 

@@ -17,11 +17,13 @@ use Rattle.sql_trees.specs.Trees.{Tree, AggTree}
 use Rattle.sql_expressions.specs.Reading.{Found, chain, expr_at, or_at, and_at, is_at, cmp_at, inn_at, cat_at, add_at, mul_at, misplaced, is_word, is_open, is_comma, after, after_comma}
 use Rattle.sql_expressions.specs.Grammar.{Ends, goes_on}
 use Rattle.sql_expressions.proofs.Complete.{expr_complete}
-use Rattle.sql_parser.specs.Queries.{is_star, agg_kind, call_of, call_at, rows_of, maybe_name, direction_at, alias_at, agg_at, item_at, item_add, from_at, nulls_at, order_add, order_at, lock_at, is_allowed, select_at}
+use Rattle.sql_parser.specs.Queries.{is_star, agg_kind, call_at, rows_of, maybe_name, direction_at, alias_at, agg_at, item_at, from_at, nulls_at, order_add, order_at, lock_at, is_allowed, select_at}
 use Rattle.sql_parser.specs.Grammar.{Is, Commas, AliasIs, no_alias, as_alias, bare_alias, AggIs, all_rows, of_values, AddsItem, a_star, a_value, an_aggregate, FromIs, no_table, from_table, DirectionIs, as_ever, ascending, descending, NullsAre, unsaid, nulls_first, nulls_last, AddsKey, adds_key, OrderIs, unordered, ordered, LockIs, no_lock, for_update, for_share, WhereIs, unfiltered, filtered, Shallow}
+use Rattle.sql_parser.specs.Readers.{added}
 use Rattle.sql_parser.proofs.StmtLocals.{word_is}
 use Rattle.sql_parser.proofs.Completes.{other_word, not_key, ends_part, Parted, part_ends, no_name_next, no_part_word, comma_is_parted, close_ends, tree_reads, list_reads}
 use Rattle.sql_parser.proofs.CompleteStmts.{where_reads}
+use Rattle.sql_parser.proofs.QueryLocals.{call_of}
 
 -- ---- what can't begin an expression
 
@@ -94,7 +96,7 @@ module _ (last : ℕ) where
   name_goes_on (tok.number k) n e = absurd cc
   name_goes_on (tok.sign s) n e = absurd cc
 
-  nothing_named : (rest : Tokens) → Parted rest → maybe_name rest ≡ (None, rest)
+  nothing_named : (rest : Tokens) → Parted rest → maybe_name rest ≡ Ok (None, rest)
   nothing_named [] p = refl
   nothing_named (t ∷ ts) p = rw (no_name_next t p) refl
 
@@ -156,7 +158,7 @@ module _ (last : ℕ) where
   unfolding item_at
   star_reads s rest h = rw h refl
 
-  item_reads : (s t : List ItemTree) (ts rest : Tokens) → Unit {0} → AddsItem Shallow s ts t → Unit {0} → Parted rest → item_add last s (ts ++ rest) ≡ Ok (t, rest)
+  item_reads : (s t : List ItemTree) (ts rest : Tokens) → Unit {0} → AddsItem Shallow s ts t → Unit {0} → Parted rest → added (item_at last) s (ts ++ rest) ≡ Ok (t, rest)
   item_reads _ _ _ rest b (a_star is s h) f p = rw (star_reads s rest h) refl
   item_reads _ _ _ rest b (a_value is ts us e n q a) f p = rw (append_assoc ts us rest, value_reads ts us rest e n q (alias_ends us rest n a p) (alias_reads us rest n a p)) refl
   item_reads _ _ _ rest b (an_aggregate is ts us g n q a) f p = rw (append_assoc ts us rest, call_reads ts us rest g n (agg_reads ts (us ++ rest) g q) (alias_reads us rest n a p)) refl
@@ -282,7 +284,7 @@ module _ (last : ℕ) where
   nulls_ends down _ rest _ (nulls_first n f hn hf) p = let k = word_is words.Nulls n.tok hn in rw k.1 refl
   nulls_ends down _ rest _ (nulls_last n l hn hl) p = let k = word_is words.Nulls n.tok hn in rw k.1 refl
 
-  direction_reads : (ds us : Tokens) (desc : Bool) → DirectionIs ds desc → after (is_word words.Asc) us ≡ None → after (is_word words.Desc) us ≡ None → direction_at (ds ++ us) ≡ (desc, us)
+  direction_reads : (ds us : Tokens) (desc : Bool) → DirectionIs ds desc → after (is_word words.Asc) us ≡ None → after (is_word words.Desc) us ≡ None → direction_at (ds ++ us) ≡ Ok (desc, us)
   unfolding direction_at
   direction_reads _ us _ as_ever f g = rw (f, g) refl
   direction_reads _ us _ (ascending a ha) f g = rw ha refl
@@ -321,6 +323,6 @@ module _ (last : ℕ) where
       let lc = lock_clause ls l e in
       let oc = order_clause os ls o d lc in
       let wc = where_clause ws (os ++ ls) f c oc in
-      let items = list_reads (item_add last) (AddsItem Shallow) (λ s. Unit {0}) (λ s. Unit {0}) Parted (λ s t ts b a. tt) (λ s t ts a b. tt) item_reads comma_is_parted a tt tt (fs ++ (ws ++ (os ++ ls))) (from_part fs (ws ++ (os ++ ls)) t b wc) (from_no_comma fs (ws ++ (os ++ ls)) t b wc) in
+      let items = list_reads (added (item_at last)) (AddsItem Shallow) (λ s. Unit {0}) (λ s. Unit {0}) Parted (λ s t ts b a. tt) (λ s t ts a b. tt) item_reads comma_is_parted a tt tt (fs ++ (ws ++ (os ++ ls))) (from_part fs (ws ++ (os ++ ls)) t b wc) (from_no_comma fs (ws ++ (os ++ ls)) t b wc) in
       let filter = where_reads last ws (os ++ ls) f c (part_ends (os ++ ls) (parted (os ++ ls) (up is_order is_where order_where (os ++ ls) oc))) (none_after is_order words.Where (order_word words.Where (λ e. cc) (λ e. cc)) (os ++ ls) oc) in
       rw (items, from_reads fs (ws ++ (os ++ ls)) t b wc, filter, order_reads os ls o d lc, lock_reads ls l e, ok) refl

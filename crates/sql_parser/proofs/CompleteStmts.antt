@@ -16,10 +16,10 @@ use Rattle.sql_trees.specs.Tokens as tok
 use Rattle.sql_trees.specs.Trees.{Tree}
 use Rattle.sql_expressions.specs.Reading.{is_word, is_open, is_close, is_comma, after, after_comma}
 use Rattle.sql_expressions.specs.Grammar.{Ends}
-use Rattle.sql_parser.specs.Readers.{past, items_at}
-use Rattle.sql_parser.specs.Transactions.{is_work, is_scope, is_to, is_setting, isolation_at, begin_at, start_at, parameter_at, set_at}
-use Rattle.sql_parser.specs.Tables.{is_among, drop_add, drop_at, after_if}
-use Rattle.sql_parser.specs.Changes.{Rows, fits, set_columns, distinct_add, value_add, row_add, columns_at, insert_at, filter_at, set_add, update_at, delete_at}
+use Rattle.sql_parser.specs.Readers.{some_or, past, items_at, added, tree_at, name_at}
+use Rattle.sql_parser.specs.Transactions.{is_work, is_scope, is_to, is_setting, level_at, begin_at, start_at, parameter_at, set_at}
+use Rattle.sql_parser.specs.Tables.{is_among, drop_at, after_if}
+use Rattle.sql_parser.specs.Changes.{Rows, fits, set_columns, distinct_add, row_add, columns_at, insert_at, filter_at, set_add, update_at, delete_at}
 use Rattle.sql_parser.specs.Kept.{all_differ, rows_fit, columns_differ}
 use Rattle.sql_parser.specs.Grammar.{Is, Key, Names, Perhaps, nothing, one_is, Commas, last_item, next_item, AddsName, adds_name, IsolationIs, uncommitted, committed, repeatable, MaybeLevel, no_level, a_level, AddsValue, adds_value, RowIs, is_row, with_row, no_rows, AddsRow, adds_row, ColumnsAre, unlisted, listed_columns, AddsSet, adds_set, WhereIs, unfiltered, filtered, Shallow}
 use Rattle.sql_parser.proofs.Keeping.{width_behind, behind_push}
@@ -34,21 +34,15 @@ key_work w f g t h = rw (not_key w words.Work t h f, not_key w words.Transaction
 key_scope : (w : Word) → (w ≡ words.Session → ⊥) → (w ≡ words.Local → ⊥) → (t : At Token) → Key w t → is_scope t.tok ≡ false
 key_scope w f g t h = rw (not_key w words.Session t h f, not_key w words.Local t h g) refl
 
-pub isolation_reads : (last : ℕ) (ts : Tokens) (level : Level) → IsolationIs ts level → isolation_at last ts ≡ Ok (level, [])
-unfolding isolation_at
-isolation_reads last _ _ (uncommitted i l r u hi hl hr hu) = rw (hi, hl, hr, not_key words.Uncommitted words.Committed u hu (λ e. cc), hu) refl
-isolation_reads last _ _ (committed i l r c hi hl hr hc) = rw (hi, hl, hr, hc) refl
-isolation_reads last _ _ (repeatable i l p r hi hl hp hr) = rw (hi, hl, not_key words.Repeatable words.Read p hp (λ e. cc), hp, hr) refl
-
-isolation_first : (ts : Tokens) (level : Level) → IsolationIs ts level → (us : Tokens) × (after (is_word words.Isolation) ts ≡ Some us)
-isolation_first _ _ (uncommitted i l r u hi hl hr hu) = (l ∷ r ∷ u ∷ [], rw hi refl)
-isolation_first _ _ (committed i l r c hi hl hr hc) = (l ∷ r ∷ c ∷ [], rw hi refl)
-isolation_first _ _ (repeatable i l p r hi hl hp hr) = (l ∷ p ∷ r ∷ [], rw hi refl)
-
 pub begin_reads : (last : ℕ) (ts : Tokens) (level : Option Level) → MaybeLevel ts level → begin_at last ts ≡ Ok (Begin level, [])
-unfolding begin_at
+unfolding begin_at level_at
 begin_reads last _ _ no_level = refl
-begin_reads last _ _ (a_level ts level h) = let k = isolation_first ts level h in rw (k.1, isolation_reads last ts level h) refl
+begin_reads last _ _ (a_level ts level h) = of_level ts level h
+  where
+    of_level : (ts : Tokens) (level : Level) → IsolationIs ts level → begin_at last ts ≡ Ok (Begin (Some level), [])
+    of_level _ _ (uncommitted i l r u hi hl hr hu) = rw (hi, hl, hr, not_key words.Uncommitted words.Committed u hu (λ e. cc), hu) refl
+    of_level _ _ (committed i l r c hi hl hr hc) = rw (hi, hl, hr, hc) refl
+    of_level _ _ (repeatable i l p r hi hl hp hr) = rw (hi, hl, not_key words.Repeatable words.Read p hp (λ e. cc), hp, hr) refl
 
 -- WORK or TRANSACTION is passed over, and a level is none of them
 level_no_work : (ts : Tokens) (level : Option Level) → MaybeLevel ts level → after is_work ts ≡ None
@@ -71,8 +65,10 @@ pub work_reads : (ws : Tokens) → Perhaps is_work ws → past is_work ws ≡ []
 work_reads ws p = ap (past is_work) (sym (append-nil ws)) ∙ perhaps_past is_work ws [] p refl
 
 pub set_transaction_reads : (last : ℕ) (t : At Token) (is : Tokens) (level : Level) → Key words.Transaction t → IsolationIs is level → set_at last (t ∷ is) ≡ Ok (SetTransaction level, [])
-unfolding set_at
-set_transaction_reads last t is level h m = rw (h, isolation_reads last is level m) refl
+unfolding set_at level_at
+set_transaction_reads last t _ _ h (uncommitted i l r u hi hl hr hu) = rw (h, hi, hl, hr, not_key words.Uncommitted words.Committed u hu (λ e. cc), hu) refl
+set_transaction_reads last t _ _ h (committed i l r c hi hl hr hc) = rw (h, hi, hl, hr, hc) refl
+set_transaction_reads last t _ _ h (repeatable i l p r hi hl hp hr) = rw (h, hi, hl, not_key words.Repeatable words.Read p hp (λ e. cc), hp, hr) refl
 
 parameter_reads : (last : ℕ) (d q v : At Token) → Key words.DeadlockTimeout d → Is is_to q → Is is_setting v → parameter_at last (d ∷ q ∷ v ∷ []) ≡ Ok (SetDeadlockTimeout, [])
 unfolding parameter_at
@@ -92,10 +88,10 @@ set_timeout_reads last d q v _ (one_is s h) hd hq hv = rw (scope_words s.tok h, 
 
 -- ---- DROP
 
-drop_list_reads : (last : ℕ) (ts : Tokens) (ns : List (List ℕ)) → Commas AddsName [] ts ns → (s : List (List ℕ)) → s ≡ [] → items_at (drop_add last) [] ts ≡ Ok (ns, [])
-drop_list_reads last ts ns k s e = ap (items_at (drop_add last) []) (sym (append-nil ts)) ∙ list_reads (drop_add last) AddsName (λ s. Unit {0}) (λ s. Unit {0}) (λ rest. Unit {0}) (λ s t ts b a. tt) (λ s t ts a b. tt) add_reads (λ c us h. tt) k tt tt [] tt refl
+drop_list_reads : (last : ℕ) (ts : Tokens) (ns : List (List ℕ)) → Commas AddsName [] ts ns → (s : List (List ℕ)) → s ≡ [] → items_at (added (name_at last)) [] ts ≡ Ok (ns, [])
+drop_list_reads last ts ns k s e = ap (items_at (added (name_at last)) []) (sym (append-nil ts)) ∙ list_reads (added (name_at last)) AddsName (λ s. Unit {0}) (λ s. Unit {0}) (λ rest. Unit {0}) (λ s t ts b a. tt) (λ s t ts a b. tt) add_reads (λ c us h. tt) k tt tt [] tt refl
   where
-    add_reads : (s t : List (List ℕ)) (ts rest : Tokens) → Unit {0} → AddsName s ts t → Unit {0} → Unit {0} → drop_add last s (ts ++ rest) ≡ Ok (t, rest)
+    add_reads : (s t : List (List ℕ)) (ts rest : Tokens) → Unit {0} → AddsName s ts t → Unit {0} → Unit {0} → added (name_at last) s (ts ++ rest) ≡ Ok (t, rest)
     add_reads _ _ _ rest b (adds_name ns t n h) f g = rw h refl
 
 pub drop_if_reads : (last : ℕ) (t i e : At Token) (ts : Tokens) (ns : List (List ℕ)) → Key words.Table t → Key words.If i → Key words.Exists e → Commas AddsName [] ts ns → drop_at last (t ∷ i ∷ e ∷ ts) ≡ Ok (DropTables (record { if_exists = true; names = ns }), [])
@@ -109,7 +105,7 @@ no_exists _ _ _ (last_item s v ts a) = of_name s v ts a
     of_name : (s v : List (List ℕ)) (ts : Tokens) → AddsName s ts v → after_if ts ≡ None
     of_name _ _ _ (adds_name ns t n h) = of_test (is_word words.If t.tok)
       where
-        of_test : (b : Bool) → (if b then after (is_word words.Exists) [] else None) ≡ None
+        of_test : (b : Bool) → some_or (after (is_word words.Exists)) None (if b then Some [] else None) ≡ None
         of_test true = refl
         of_test false = refl
 no_exists _ _ _ (next_item s t v ts us c a g k) = of_name s t ts a c us g
@@ -121,7 +117,7 @@ no_exists _ _ _ (next_item s t v ts us c a g k) = of_name s t ts a c us g
     of_name : (s v : List (List ℕ)) (ts : Tokens) → AddsName s ts v → (c : At Token) (us : Tokens) → Is is_comma c → after_if (ts ++ c ∷ us) ≡ None
     of_name _ _ _ (adds_name ns t n h) c us g = of_test (is_word words.If t.tok)
       where
-        of_test : (b : Bool) → (if b then after (is_word words.Exists) (c ∷ us) else None) ≡ None
+        of_test : (b : Bool) → some_or (after (is_word words.Exists)) None (if b then Some (c ∷ us) else None) ≡ None
         of_test true = rw (comma_word c.tok g) refl
         of_test false = refl
 
@@ -164,11 +160,11 @@ rows_pop w (q ∷ rs) r h =
     (both_true (fits w (length q)) (rows_fit (Some (length q)) rs) p.0 s.0, s.1)
 
 module _ (last : ℕ) where
-  value_reads : (s t : List Tree) (ts rest : Tokens) → Unit {0} → AddsValue Shallow s ts t → Unit {0} → Ends rest → value_add last s (ts ++ rest) ≡ Ok (t, rest)
+  value_reads : (s t : List Tree) (ts rest : Tokens) → Unit {0} → AddsValue Shallow s ts t → Unit {0} → Ends rest → added (tree_at last) s (ts ++ rest) ≡ Ok (t, rest)
   value_reads _ _ _ rest b (adds_value es ts e h) f g = rw (tree_reads last ts rest e h g) refl
 
-  values_read : (ts : Tokens) (es : List Tree) (c : At Token) (rest : Tokens) → Commas (AddsValue Shallow) [] ts es → Is is_close c → items_at (value_add last) [] (ts ++ (c ∷ rest)) ≡ Ok (es, c ∷ rest)
-  values_read ts es c rest k h = list_reads (value_add last) (AddsValue Shallow) (λ s. Unit {0}) (λ s. Unit {0}) Ends (λ s t ts b a. tt) (λ s t ts a b. tt) value_reads (λ c us h. comma_ends c us h) k tt tt (c ∷ rest) (close_ends c rest h) (no_comma_at_close c rest h)
+  values_read : (ts : Tokens) (es : List Tree) (c : At Token) (rest : Tokens) → Commas (AddsValue Shallow) [] ts es → Is is_close c → items_at (added (tree_at last)) [] (ts ++ (c ∷ rest)) ≡ Ok (es, c ∷ rest)
+  values_read ts es c rest k h = list_reads (added (tree_at last)) (AddsValue Shallow) (λ s. Unit {0}) (λ s. Unit {0}) Ends (λ s t ts b a. tt) (λ s t ts a b. tt) value_reads (λ c us h. comma_ends c us h) k tt tt (c ∷ rest) (close_ends c rest h) (no_comma_at_close c rest h)
 
   row_reads : (s : Rows) (ts rest : Tokens) (es : List Tree) → RowIs Shallow ts es → fits s.width (length es) ≡ true → row_add last s (ts ++ rest) ≡ Ok (with_row s es, rest)
   unfolding row_add

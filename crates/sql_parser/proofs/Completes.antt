@@ -11,9 +11,8 @@ use Rattle.sql_trees.specs.Trees.{Tree}
 use Rattle.sql_expressions.specs.Reading.{expect, is_word, is_comma, is_close, after, after_comma, ◌>>=◌}
 use Rattle.sql_expressions.specs.Grammar.{Ends, goes_on}
 use Rattle.sql_expressions.proofs.Complete.{expr_complete}
-use Rattle.sql_parser.specs.Readers.{past, tree_at, more_at, items_at}
+use Rattle.sql_parser.specs.Readers.{past, tree_at, more_at, items_at, Reader}
 use Rattle.sql_parser.specs.Grammar.{Is, Key, Perhaps, nothing, one_is, Commas, last_item, next_item, Shallow}
-use Rattle.sql_parser.proofs.Locals.{Reader}
 use Rattle.sql_parser.proofs.StmtLocals.{word_is}
 
 -- ---- words

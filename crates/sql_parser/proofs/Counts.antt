@@ -1,20 +1,19 @@
 -- A table has no more columns than tokens.
-use Rattle.std.proofs.Common.{◌≡◌, ℕ, zero, suc, ◌+◌, ◌<◌, ◌≤◌, List, [], ◌∷◌, ◌++◌, length, Option, Some, None, refl, sym, ap, ◌∙◌, subst, arith, length-append}
+use Rattle.std.proofs.Common.{◌≡◌, ℕ, zero, suc, ◌+◌, ◌≤◌, List, [], length, Option, Some, None, subst, arith, length-append}
 use Rattle.std.proofs.lemmas.List.{length-map}
 use Rattle.std.specs.Prelude.{map, Result, Ok, Err, Bool, true, false, if◌then◌else◌}
 use Rattle.sql_trees.specs.declared.fault.SqlFault.{SqlFault}
 use Rattle.sql_trees.specs.declared.fault.SqlFault.TheVariants.{BadColumns}
 use Rattle.sql_trees.specs.declared.word.Word.TheVariants as words
 use Rattle.iso_lexer.specs.declared.token.At.{At}
-use Rattle.sql_trees.specs.declared.kind.Kind.{Kind}
 use Rattle.sql_trees.specs.declared.stmt.Column.{Column}
 use Rattle.sql_trees.specs.declared.token.Tok.{Tok}
 use Rattle.sql_trees.specs.Statements.{ColumnTree, column_of}
 use Rattle.sql_trees.specs.Tokens.{Tokens, tok_at, tok_views}
 use Rattle.sql_expressions.specs.Reading.{after, after_comma, expect, is_close, is_open, is_word, place_of, ◌>>=◌}
-use Rattle.sql_parser.specs.Readers.{items_at, keyword, more_at, more_turn, name_at}
+use Rattle.sql_parser.specs.Readers.{items_at, keyword, more_at, name_at, some_or}
 use Rattle.sql_parser.proofs.Steps.{bind_ok, ok_same}
-use Rattle.sql_parser.specs.Tables.{Placed, KeyRead, TableRead, Constraints, column_at, column_behind, column_names, empty_table, is_among, key_add, key_at, limits_at, table_add, table_item, with_column, with_key}
+use Rattle.sql_parser.specs.Tables.{Placed, KeyRead, TableRead, column_at, column_behind, column_names, empty_table, is_among, key_add, key_at, limits_at, table_add, with_column, with_key}
 
 abbrev OneMore : TableRead → TableRead × Tokens → Type 0
 OneMore t x = length x.0.columns ≤ suc (length t.columns)
@@ -31,8 +30,8 @@ module _ (last : ℕ) where
   behind_counts : (c : Placed) (t : TableRead) (ts : Tokens) (x : TableRead × Tokens) → column_behind last c t ts ≡ Ok x → OneMore t x
   unfolding column_behind
   behind_counts c t ts x e =
-      let a = bind_ok (limits_at last c t.keys ts) (λ y. Ok (with_column c y.0 y.1.0 t, y.1.1)) x e in
-      subst (OneMore t) (ok_same (with_column c a.0.0 a.0.1.0 t, a.0.1.1) x a.2) (omega (arith, length-append {A = ColumnTree}))
+      let a = bind_ok (limits_at last c t.keys ts) (λ y. Ok (with_column c y.0.0 y.0.1 t, y.1)) x e in
+      subst (OneMore t) (ok_same (with_column c a.0.0.0 a.0.0.1 t, a.0.1) x a.2) (omega (arith, length-append {A = ColumnTree}))
 
   abbrev named_column : TableRead → Tokens → List ℕ × Tokens → Bool → Result (TableRead × Tokens) SqlFault
   named_column t ts n b = if b then Err (BadColumns (place_of last ts)) else column_behind last (record { name = n.0; place = place_of last ts }) t n.1
@@ -47,16 +46,19 @@ module _ (last : ℕ) where
       of_test n true h = absurd cc
       of_test n false h = behind_counts (record { name = n.0; place = place_of last ts }) t n.1 x h
 
-  item_counts : (p u : Option Tokens) (t : TableRead) (ts : Tokens) (x : TableRead × Tokens) → table_item last p u t ts ≡ Ok x → OneMore t x
-  item_counts (Some us) u t ts x e =
-      let a = bind_ok (keyword last words.Key us) (key_at last true t) x e in
-      key_counts true t a.0 x a.2
-  item_counts None (Some us) t ts x e = key_counts false t us x e
-  item_counts None None t ts x e = column_counts t ts x e
-
   add_counts : (t : TableRead) (ts : Tokens) (x : TableRead × Tokens) → table_add last t ts ≡ Ok x → OneMore t x
   unfolding table_add
-  add_counts t ts x e = item_counts (after (is_word words.Primary) ts) (after (is_word words.Unique) ts) t ts x e
+  add_counts t ts x e = of_primary (after (is_word words.Primary) ts) e
+    where
+      of_unique : (o : Option Tokens) → some_or (key_at last false t) (column_at last t ts) o ≡ Ok x → OneMore t x
+      of_unique (Some us) h = key_counts false t us x h
+      of_unique None h = column_counts t ts x h
+
+      of_primary : (o : Option Tokens) → some_or (λ us. keyword last words.Key us >>= key_at last true t) (some_or (key_at last false t) (column_at last t ts) (after (is_word words.Unique) ts)) o ≡ Ok x → OneMore t x
+      of_primary (Some us) h =
+          let a = bind_ok (keyword last words.Key us) (key_at last true t) x h in
+          key_counts true t a.0 x a.2
+      of_primary None h = of_unique (after (is_word words.Unique) ts) h
 
   more_counts : (n : ℕ) (t : TableRead) (ts : Tokens) (x : TableRead × Tokens) → more_at (table_add last) n t ts ≡ Ok x → length x.0.columns ≤ length t.columns + n
   unfolding more_at
@@ -64,7 +66,7 @@ module _ (last : ℕ) where
       subst (λ (y : TableRead × Tokens). length y.0.columns ≤ length t.columns + 0) (ok_same (t, ts) x e) (omega arith)
   more_counts (suc n) t ts x e = of_comma (more_counts n) (after_comma ts) e
     where
-      of_comma : ((u : TableRead) (us : Tokens) (y : TableRead × Tokens) → more_at (table_add last) n u us ≡ Ok y → length y.0.columns ≤ length u.columns + n) → (m : Option Tokens) → more_turn (table_add last) (more_at (table_add last) n) m t ts ≡ Ok x → length x.0.columns ≤ length t.columns + suc n
+      of_comma : ((u : TableRead) (us : Tokens) (y : TableRead × Tokens) → more_at (table_add last) n u us ≡ Ok y → length y.0.columns ≤ length u.columns + n) → (m : Option Tokens) → some_or (λ us. table_add last t us >>= λ y. more_at (table_add last) n y.0 y.1) (Ok (t, ts)) m ≡ Ok x → length x.0.columns ≤ length t.columns + suc n
       of_comma more None h =
           subst (λ (y : TableRead × Tokens). length y.0.columns ≤ length t.columns + suc n) (ok_same (t, ts) x h) (omega arith)
       of_comma more (Some us) h =

@@ -14,7 +14,7 @@ use Rattle.sql_trees.specs.Trees.{Tree, Plus, Column}
 use Rattle.sql_expressions.specs.declared.level.Opened.{Opened}
 use Rattle.sql_expressions.specs.declared.level.Opened.TheVariants.{Whole, Negation, Unary}
 use Rattle.sql_expressions.specs.Build.{negated}
-use Rattle.sql_expressions.specs.Reading.{Found, Found_op, Found_list, Reader, leaf, misplaced, place_of, left_out, is_call, is_open, is_close, is_and, is_not, is_is, truth_of, deeper, expect, found_op, next_op, join, chain_end, chain_turn, chain_more, chain, product_op, sum_op, concat_op, comparison_op, and_op, or_op, after_comma, list_turn, list_more, list_at, column_at, name_at, is_node, is_of, is_tail, is_from, is_more, parens_at, prim_of, prim_at, sign_at, una_of, una_at, mul_at, add_at, cat_at, in_at, between_at, not_in_of, not_in_at, not_in_from, inn_of, inn_more, inn_at, cmp_more, cmp_at, is_at, negation_at, not_at, and_at, or_at, at_level, inside, expr_at, ◌>>=◌}
+use Rattle.sql_expressions.specs.Reading.{Found, Found_op, Found_list, Reader, leaf, misplaced, place_of, left_out, is_call, is_open, is_close, is_and, is_not, is_is, truth_of, deeper, expect, next_op, join, chain_end, chain_turn, chain_more, chain, product_op, sum_op, concat_op, comparison_op, and_op, or_op, after_comma, list_turn, list_more, list_at, column_at, name_at, is_node, is_of, is_tail, is_from, is_more, parens_at, prim_of, prim_at, sign_at, una_of, una_at, mul_at, add_at, cat_at, in_at, between_at, not_in_of, not_in_at, not_in_from, inn_of, inn_more, inn_at, cmp_more, cmp_at, is_at, negation_at, not_at, and_at, or_at, at_level, inside, expr_at, ◌>>=◌}
 
 abbrev pub IsExprFault : SqlFault → Type 0
 IsExprFault (Syntax n) = Unit {0}

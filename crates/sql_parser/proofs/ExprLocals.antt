@@ -17,7 +17,7 @@ use Rattle.sql_expressions.proofs.Levels.{expr_begins}
 use Rattle.sql_expressions.proofs.Shapes.{a_number, some_token}
 use Rattle.sql_parser.specs.Readers.{tree_at}
 use Rattle.sql_parser.specs.Grammar.{Names, Shallow, OfAnyDepth}
-use Rattle.sql_parser.specs.Stops.{Refuses, in_expression, too_deep}
+use Rattle.sql_parser.specs.Stops.{in_expression, too_deep}
 use Rattle.sql_parser.proofs.Locals.{Inhabited, Local, took, stopped}
 use Rattle.sql_parser.proofs.ExprFaults.{expr_told}
 

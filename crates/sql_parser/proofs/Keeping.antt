@@ -13,10 +13,10 @@ use Rattle.sql_trees.specs.Statements.{StmtTree, SetTree, ItemTree, OrderTree, S
 use Rattle.sql_trees.specs.Tokens.{Tokens}
 use Rattle.sql_trees.specs.Trees.{Tree, AggTree, CountRows, Of}
 use Rattle.sql_expressions.specs.Reading.{after, expect, is_close, is_open, is_word, place_of, ◌>>=◌}
-use Rattle.sql_parser.specs.Readers.{items_at, keyword, name_at, tree_at}
+use Rattle.sql_parser.specs.Readers.{items_at, keyword, name_at, tree_at, some_or, closed, added}
 use Rattle.sql_parser.specs.Tables.{is_among}
-use Rattle.sql_parser.specs.Changes.{Rows, fits, is_equal, set_columns, distinct_add, value_add, row_add, columns_of, columns_at, insert_at, filter_of, filter_at, set_value, set_add, update_at, delete_at}
-use Rattle.sql_parser.specs.Queries.{is_star, call_at, rows_of, direction_at, nulls_at, alias_at, agg_of, agg_at, item_of, item_star, item_at, item_add, from_at, order_add, order_of, order_at, lock_at, is_allowed, query_of, select_at}
+use Rattle.sql_parser.specs.Changes.{Rows, fits, is_equal, set_columns, distinct_add, row_add, columns_at, insert_at, filter_at, set_value, set_add, update_at, delete_at}
+use Rattle.sql_parser.specs.Queries.{is_star, call_at, rows_of, direction_at, nulls_at, alias_at, agg_at, item_of, item_at, from_at, order_add, order_at, lock_at, is_allowed, query_of, select_at}
 use Rattle.sql_parser.specs.Kept.{is_shallow, maybe_shallow, item_shallow, all_differ, columns_differ, rows_fit, is_kept, makes_or_drops}
 use Rattle.sql_parser.proofs.Depths.{read_shallow}
 use Rattle.sql_parser.proofs.Steps.{bind_ok, ok_same, unless_ok, when_ok, items_hold, push_all}
@@ -70,7 +70,7 @@ abbrev OneRow : Rows → List Tree → Rows
 OneRow s r = record { rows = s.rows ++ r ∷ []; width = Some (length r) }
 
 module _ (last : ℕ) where
-  value_keeps : (es : List Tree) (ts : Tokens) (x : List Tree × Tokens) → list_all is_shallow es ≡ true → value_add last es ts ≡ Ok x → list_all is_shallow x.0 ≡ true
+  value_keeps : (es : List Tree) (ts : Tokens) (x : List Tree × Tokens) → list_all is_shallow es ≡ true → added (tree_at last) es ts ≡ Ok x → list_all is_shallow x.0 ≡ true
   value_keeps es ts x h e =
       let a = bind_ok (tree_at last ts) (λ y. Ok (es ++ y.0 ∷ [], y.1)) x e in
       subst (λ (y : List Tree × Tokens). list_all is_shallow y.0 ≡ true) (ok_same (es ++ a.0.0 ∷ [], a.0.1) x a.2) (push_all is_shallow es a.0.0 h (read_shallow last ts a.0 a.1))
@@ -87,21 +87,21 @@ module _ (last : ℕ) where
   row_keeps : (w : Option ℕ) (s : Rows) (ts : Tokens) (x : Rows × Tokens) → RowsKept w s → row_add last s ts ≡ Ok x → RowsKept w x.0
   unfolding row_add
   row_keeps w s ts x k e =
-      let a = bind_ok (expect last is_open ts) (λ us. items_at (value_add last) [] us >>= λ v. expect last is_close v.1 >>= λ rest. row_end s ts v.0 rest) x e in
-      let b = bind_ok (items_at (value_add last) [] a.0) (λ v. expect last is_close v.1 >>= λ rest. row_end s ts v.0 rest) x a.2 in
+      let a = bind_ok (expect last is_open ts) (λ us. items_at (added (tree_at last)) [] us >>= λ v. expect last is_close v.1 >>= λ rest. row_end s ts v.0 rest) x e in
+      let b = bind_ok (items_at (added (tree_at last)) [] a.0) (λ v. expect last is_close v.1 >>= λ rest. row_end s ts v.0 rest) x a.2 in
       let c = bind_ok (expect last is_close b.0.1) (λ rest. row_end s ts b.0.0 rest) x b.2 in
       let d = when_ok (fits s.width (length b.0.0)) (Syntax (place_of last ts)) (Ok (OneRow s b.0.0, c.0)) x c.2 in
       subst (λ (y : Rows × Tokens). RowsKept w y.0) (ok_same (OneRow s b.0.0, c.0) x d.1) (record {
         width = sym (behind_push w s.rows b.0.0);
         fit = rows_push w s.rows b.0.0 k.fit (subst (λ o. fits o (length b.0.0) ≡ true) k.width d.0);
-        shallow = push_all (list_all is_shallow) s.rows b.0.0 k.shallow (items_hold (value_add last) (λ es. list_all is_shallow es ≡ true) value_keeps [] a.0 b.0 refl b.1);
+        shallow = push_all (list_all is_shallow) s.rows b.0.0 k.shallow (items_hold (added (tree_at last)) (λ es. list_all is_shallow es ≡ true) value_keeps [] a.0 b.0 refl b.1);
       })
 
   columns_keep : (ts : Tokens) (x : Option (List (List ℕ)) × Tokens) → columns_at last ts ≡ Ok x → columns_differ x.0 ≡ true
   unfolding columns_at
   columns_keep ts x e = of_open (after is_open ts) e
     where
-      of_open : (o : Option Tokens) → columns_of last o ts ≡ Ok x → columns_differ x.0 ≡ true
+      of_open : (o : Option Tokens) → some_or (closed last (λ ns. Some ns) (items_at (distinct_add last) [])) (Ok (None, ts)) o ≡ Ok x → columns_differ x.0 ≡ true
       of_open None h = subst (λ (y : Option (List (List ℕ)) × Tokens). columns_differ y.0 ≡ true) (ok_same (None, ts) x h) refl
       of_open (Some us) h =
           let a = bind_ok (items_at (distinct_add last) [] us) (λ y. expect last is_close y.1 >>= λ rest. Ok (Some y.0, rest)) x h in
@@ -130,7 +130,7 @@ module _ (last : ℕ) where
   unfolding filter_at
   filter_keeps ts x e = of_where (after (is_word words.Where) ts) e
     where
-      of_where : (o : Option Tokens) → filter_of last o ts ≡ Ok x → maybe_shallow x.0 ≡ true
+      of_where : (o : Option Tokens) → some_or (λ us. tree_at last us >>= λ e. Ok (Some e.0, e.1)) (Ok (None, ts)) o ≡ Ok x → maybe_shallow x.0 ≡ true
       of_where None h = subst (λ (y : Option Tree × Tokens). maybe_shallow y.0 ≡ true) (ok_same (None, ts) x h) refl
       of_where (Some us) h =
           let a = bind_ok (tree_at last us) (λ y. Ok (Some y.0, y.1)) x h in
@@ -186,7 +186,7 @@ module _ (last : ℕ) where
   unfolding agg_at
   agg_keeps k ts x e = of_rows (rows_of k ts) e
     where
-      of_rows : (o : Option Tokens) → agg_of last o k ts ≡ Ok x → agg_shallow x.0 ≡ true
+      of_rows : (o : Option Tokens) → some_or (λ us. expect last is_close us >>= λ rest. Ok (CountRows, rest)) (closed last (Of k) (tree_at last) ts) o ≡ Ok x → agg_shallow x.0 ≡ true
       of_rows (Some us) h =
           let a = bind_ok (expect last is_close us) (λ rest. Ok (CountRows, rest)) x h in
           subst (λ (y : AggTree × Tokens). agg_shallow y.0 ≡ true) (ok_same (CountRows, a.0) x a.2) refl
@@ -213,11 +213,11 @@ module _ (last : ℕ) where
           let n = bind_ok (alias_at last a.0.1) (λ n. Ok (Value a.0.0 n.0, n.1)) x a.2 in
           subst (λ (y : ItemTree × Tokens). item_shallow y.0 ≡ true) (ok_same (Value a.0.0 n.0.0, n.0.1) x n.2) (read_shallow last ts a.0 a.1)
 
-      of_star : (o : Option Tokens) → item_star last o ts ≡ Ok x → item_shallow x.0 ≡ true
+      of_star : (o : Option Tokens) → some_or (λ us. Ok (All, us)) (item_of last (call_at ts) ts) o ≡ Ok x → item_shallow x.0 ≡ true
       of_star (Some us) h = subst (λ (y : ItemTree × Tokens). item_shallow y.0 ≡ true) (ok_same (All, us) x h) refl
       of_star None h = of_call (call_at ts) h
 
-  items_add_keep : (is : List ItemTree) (ts : Tokens) (x : List ItemTree × Tokens) → list_all item_shallow is ≡ true → item_add last is ts ≡ Ok x → list_all item_shallow x.0 ≡ true
+  items_add_keep : (is : List ItemTree) (ts : Tokens) (x : List ItemTree × Tokens) → list_all item_shallow is ≡ true → added (item_at last) is ts ≡ Ok x → list_all item_shallow x.0 ≡ true
   items_add_keep is ts x h e =
       let a = bind_ok (item_at last ts) (λ y. Ok (is ++ y.0 ∷ [], y.1)) x e in
       subst (λ (y : List ItemTree × Tokens). list_all item_shallow y.0 ≡ true) (ok_same (is ++ a.0.0 ∷ [], a.0.1) x a.2) (push_all item_shallow is a.0.0 h (item_keeps ts a.0 a.1))
@@ -231,16 +231,17 @@ module _ (last : ℕ) where
   key_keeps : (ks : List OrderTree) (ts : Tokens) (x : List OrderTree × Tokens) → list_all key_shallow ks ≡ true → order_add last ks ts ≡ Ok x → list_all key_shallow x.0 ≡ true
   unfolding order_add
   key_keeps ks ts x h e =
-      let a = bind_ok (tree_at last ts) (λ y. nulls_at last (direction_at y.1).0 (direction_at y.1).1 >>= λ n. Ok (ks ++ one_key y.0 (direction_at y.1).0 n.0 ∷ [], n.1)) x e in
-      let n = bind_ok (nulls_at last (direction_at a.0.1).0 (direction_at a.0.1).1) (λ n. Ok (ks ++ one_key a.0.0 (direction_at a.0.1).0 n.0 ∷ [], n.1)) x a.2 in
-      subst (λ (y : List OrderTree × Tokens). list_all key_shallow y.0 ≡ true) (ok_same (ks ++ one_key a.0.0 (direction_at a.0.1).0 n.0.0 ∷ [], n.0.1) x n.2)
-      (push_all key_shallow ks (one_key a.0.0 (direction_at a.0.1).0 n.0.0) h (read_shallow last ts a.0 a.1))
+      let a = bind_ok (tree_at last ts) (λ y. direction_at y.1 >>= λ d. nulls_at last d.0 d.1 >>= λ n. Ok (ks ++ one_key y.0 d.0 n.0 ∷ [], n.1)) x e in
+      let d = bind_ok (direction_at a.0.1) (λ d. nulls_at last d.0 d.1 >>= λ n. Ok (ks ++ one_key a.0.0 d.0 n.0 ∷ [], n.1)) x a.2 in
+      let n = bind_ok (nulls_at last d.0.0 d.0.1) (λ n. Ok (ks ++ one_key a.0.0 d.0.0 n.0 ∷ [], n.1)) x d.2 in
+      subst (λ (y : List OrderTree × Tokens). list_all key_shallow y.0 ≡ true) (ok_same (ks ++ one_key a.0.0 d.0.0 n.0.0 ∷ [], n.0.1) x n.2)
+      (push_all key_shallow ks (one_key a.0.0 d.0.0 n.0.0) h (read_shallow last ts a.0 a.1))
 
   order_keeps : (ts : Tokens) (x : List OrderTree × Tokens) → order_at last ts ≡ Ok x → list_all key_shallow x.0 ≡ true
   unfolding order_at
   order_keeps ts x e = of_order (after (is_word words.Order) ts) e
     where
-      of_order : (o : Option Tokens) → order_of last o ts ≡ Ok x → list_all key_shallow x.0 ≡ true
+      of_order : (o : Option Tokens) → some_or (λ us. keyword last words.By us >>= items_at (order_add last) []) (Ok ([], ts)) o ≡ Ok x → list_all key_shallow x.0 ≡ true
       of_order None h = subst (λ (y : List OrderTree × Tokens). list_all key_shallow y.0 ≡ true) (ok_same ([], ts) x h) refl
       of_order (Some us) h =
           let a = bind_ok (keyword last words.By us) (λ vs. items_at (order_add last) [] vs) x h in
@@ -265,12 +266,12 @@ module _ (last : ℕ) where
   pub select_fine : (place : ℕ) (ts : Tokens) (x : Result StmtTree SqlFault × Tokens) → select_at last place ts ≡ Ok x → FineOrNot false x.0
   unfolding select_at
   select_fine place ts x e =
-      let i = bind_ok (items_at (item_add last) [] ts) (λ i. from_at last i.1 >>= λ t. filter_at last t.1 >>= λ f. order_at last f.1 >>= λ o. query place i.0 t.0 f.0 o.0 o.1) x e in
+      let i = bind_ok (items_at (added (item_at last)) [] ts) (λ i. from_at last i.1 >>= λ t. filter_at last t.1 >>= λ f. order_at last f.1 >>= λ o. query place i.0 t.0 f.0 o.0 o.1) x e in
       let t = bind_ok (from_at last i.0.1) (λ t. filter_at last t.1 >>= λ f. order_at last f.1 >>= λ o. query place i.0.0 t.0 f.0 o.0 o.1) x i.2 in
       let f = bind_ok (filter_at last t.0.1) (λ f. order_at last f.1 >>= λ o. query place i.0.0 t.0.0 f.0 o.0 o.1) x t.2 in
       let o = bind_ok (order_at last f.0.1) (λ o. query place i.0.0 t.0.0 f.0.0 o.0 o.1) x f.2 in
       let l = bind_ok (lock_at last o.0.1) (λ l. Ok (query_of place (record { items = i.0.0; table = t.0.0; filter = f.0.0; order = o.0.0; lock = l.0 }), l.1)) x o.2 in
       subst (λ (y : Result StmtTree SqlFault × Tokens). FineOrNot false y.0) (ok_same (query_of place (record { items = i.0.0; table = t.0.0; filter = f.0.0; order = o.0.0; lock = l.0.0 }), l.0.1) x l.2)
       (query_fine place (record { items = i.0.0; table = t.0.0; filter = f.0.0; order = o.0.0; lock = l.0.0 })
-      (and_from (list_all item_shallow i.0.0) (maybe_shallow f.0.0 && list_all (λ (k : OrderTree). is_shallow k.expr) o.0.0) (items_hold (item_add last) (λ is. list_all item_shallow is ≡ true) (items_add_keep last) [] ts i.0 refl i.1)
+      (and_from (list_all item_shallow i.0.0) (maybe_shallow f.0.0 && list_all (λ (k : OrderTree). is_shallow k.expr) o.0.0) (items_hold (added (item_at last)) (λ is. list_all item_shallow is ≡ true) (items_add_keep last) [] ts i.0 refl i.1)
       (and_from (maybe_shallow f.0.0) (list_all (λ (k : OrderTree). is_shallow k.expr) o.0.0) (filter_keeps last t.0.1 f.0 f.1) (order_keeps last f.0.1 o.0 o.1))))

@@ -6,15 +6,16 @@ use Rattle.std.proofs.lemmas.List.{map-append, length-map}
 use Rattle.std.proofs.lemmas.List.Folds.{list_any-append, list_all-append}
 use Rattle.std.proofs.lemmas.Slice.Eq.{bytes_eq-Decides}
 use Rattle.std.specs.List.{list_any, list_all, filter}
-use Rattle.std.specs.Prelude.{Result, Ok, Bool, true, false, not, ◌&&◌, ◌||◌, ◌==◌, nat_lt, bytes_eq, if◌then◌else◌}
+use Rattle.std.specs.Prelude.{Result, Ok, Err, Bool, true, false, not, ◌&&◌, ◌||◌, ◌==◌, nat_lt, bytes_eq, if◌then◌else◌}
 use Rattle.sql_trees.specs.declared.fault.SqlFault.{SqlFault}
 use Rattle.sql_trees.specs.declared.word.Word.TheVariants as words
 use Rattle.sql_trees.specs.Statements.{StmtTree, ColumnTree, KeyTree, key_name}
 use Rattle.sql_trees.specs.Tokens.{Tokens}
 use Rattle.sql_expressions.specs.Reading.{expect, is_close, is_open, is_word, ◌>>=◌}
-use Rattle.sql_parser.specs.Readers.{items_at, keyword, name_at}
-use Rattle.sql_parser.specs.Tables.{Placed, KeyRead, TableRead, is_among, placed_names, column_names, empty_table, made_name, first_place, first_lacking, text_fault, or_else, keys_fault, completed, place_among, places_in, resolved, is_kept, resolved_keys, declared, table_of, finished, table_add, create_at}
+use Rattle.sql_parser.specs.Readers.{some_or, items_at, keyword, name_at}
+use Rattle.sql_parser.specs.Tables.{Placed, KeyRead, TableRead, is_among, placed_names, column_names, empty_table, made_name, first_place, first_lacking, text_fault, keys_fault, completed, place_among, places_in, resolved, is_kept, resolved_keys, declared, finished, table_add, create_at, created}
 use Rattle.sql_parser.specs.Kept.{all_differ, places_differ, names_at, key_fits, tree_name, table_kept}
+use Rattle.sql_trees.specs.declared.fault.SqlFault.TheVariants.{BadColumns}
 use Rattle.sql_parser.proofs.Keeping.{FineOrNot, differ_push, or_none}
 use Rattle.sql_parser.proofs.Steps.{bind_ok, ok_same}
 use Rattle.sql_parser.proofs.TablesKept.{TableWithin, key_differs, table_within, expect_shorter, name_shorter}
@@ -29,9 +30,9 @@ text_none : (b : Bool) (p : ℕ) (o : Option ℕ) → (if b then Some p else o) 
 text_none true p o e = absurd cc
 text_none false p o e = (refl, e)
 
-or_else_none : (a b : Option ℕ) → or_else a b ≡ None → (a ≡ None) × (b ≡ None)
-or_else_none (Some n) b e = absurd cc
-or_else_none None b e = (refl, e)
+both_none : (a b : Option ℕ) → some_or (λ place. Some place) b a ≡ None → (a ≡ None) × (b ≡ None)
+both_none (Some n) b e = absurd cc
+both_none None b e = (refl, e)
 
 none_lacks : (columns : List (List ℕ)) (ns : List Placed) → first_lacking columns ns ≡ None → list_all (λ n. is_among n columns) (placed_names ns) ≡ true
 none_lacks columns [] e = refl
@@ -45,7 +46,7 @@ no_fault : (table : List ℕ) (columns earlier : List (List ℕ)) (ks : List Key
 unfolding keys_fault
 no_fault table columns earlier [] e h = (ap all_differ (append-nil earlier) ∙ h, refl)
 no_fault table columns earlier (k ∷ ks) e h =
-    let p = or_else_none (text_fault (made_name table k) columns earlier k) (keys_fault table columns (earlier ++ made_name table k ∷ []) ks) e in
+    let p = both_none (text_fault (made_name table k) columns earlier k) (keys_fault table columns (earlier ++ made_name table k ∷ []) ks) e in
     let q = text_none (is_among (made_name table k) earlier) (first_place k.columns) (first_lacking columns k.columns) p.0 in
     let r = no_fault table columns (earlier ++ made_name table k ∷ []) ks p.1 (differ_push earlier (made_name table k) h q.0) in
     (ap all_differ (sym (append_assoc earlier (made_name table k ∷ []) (map (made_name table) ks))) ∙ r.0, and_from (key_among columns k) (list_all (key_among columns) ks) (none_lacks columns k.columns q.1) r.1)
@@ -231,7 +232,7 @@ finished_fine : (name : List ℕ) (bound : ℕ) (t : TableRead) (ts : Tokens) �
 unfolding finished
 finished_fine name bound t ts w less = of_fault (keys_fault name (column_names t.columns) [] t.keys) refl
   where
-    of_fault : (o : Option ℕ) → keys_fault name (column_names t.columns) [] t.keys ≡ o → FineOrNot true (table_of o name t)
+    of_fault : (o : Option ℕ) → keys_fault name (column_names t.columns) [] t.keys ≡ o → FineOrNot true (some_or (λ place. Err (BadColumns place)) (Ok (created name t)) o)
     of_fault (Some place) e = tt
     of_fault None e =
         let cols = column_names t.columns in

@@ -1,9 +1,9 @@
 -- Where a statement is refused as DdlInSession, and a block as TooMany.
-use Rattle.std.proofs.Common.{◌≡◌, ℕ, zero, suc, ◌+◌, ◌<◌, ◌≤◌, ◌^◌, Bool, true, false, List, [], ◌∷◌, ◌++◌, length, Option, Some, refl, sym, ap, subst, ◌∙◌, append_assoc, append-nil, length-append, arith, rules}
+use Rattle.std.proofs.Common.{◌≡◌, ℕ, zero, suc, ◌+◌, ◌<◌, ◌≤◌, ◌^◌, Bool, true, false, List, [], ◌∷◌, ◌++◌, length, refl, sym, ap, subst, ◌∙◌, append_assoc, append-nil, length-append, arith, rules}
 use Rattle.std.proofs.lemmas.Bool.{and_parts, and_from}
 use Rattle.std.proofs.lemmas.List.Folds.{list_all-append}
 use Rattle.std.specs.List.{list_all}
-use Rattle.std.specs.Prelude.{Result, Ok, Err, ◌&&◌, not, nat_lt, if◌then◌else◌}
+use Rattle.std.specs.Prelude.{Result, Ok, Err, not, nat_lt, if◌then◌else◌}
 use Rattle.iso_lexer.specs.declared.token.At.{At}
 use Rattle.sql_trees.specs.declared.fault.SqlFault.{SqlFault}
 use Rattle.sql_trees.specs.declared.fault.SqlFault.TheVariants.{Syntax, LeftOut, TooDeep, TooMany, BadColumns, DdlInSession}
@@ -24,7 +24,7 @@ use Rattle.sql_parser.proofs.ExprFaults.{IsExprFault, misplaced_told}
 use Rattle.sql_parser.proofs.QueryLocals.{Shown, shown, no_columns, no_query, Whole}
 use Rattle.sql_parser.proofs.BlockLocals.{barred, barred_is, stmt_local}
 use Rattle.sql_parser.proofs.BlocksKept.{whole_kept}
-use Rattle.sql_parser.proofs.BlocksRead.{free_of, whole_sound, piece_of, last_of, piece_free, piece_reads}
+use Rattle.sql_parser.proofs.BlocksRead.{whole_sound, piece_of, last_of, piece_free, piece_reads}
 use Rattle.sql_parser.proofs.BlockFaults.{Split, whole, ended, split}
 use Rattle.sql_parser.proofs.Frees.{is_free, Free}
 

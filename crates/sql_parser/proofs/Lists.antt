@@ -10,8 +10,9 @@ use Rattle.sql_trees.specs.Tokens.{Tokens, tok_at, tok_views}
 use Rattle.sql_trees.specs.declared.fault.SqlFault.TheVariants.{Memory}
 use Rattle.std.specs.Borrow.{Bor}
 use Rattle.sql_expressions.specs.Reading.{Gives, Fails, after_comma, is_comma, ◌>>=◌}
-use Rattle.sql_parser.specs.Readers.{Listed, seen, more_at, more_turn, items_at}
-use Rattle.sql_parser.specs.Readers as lists
+use Rattle.sql_parser.specs.Readers.{more_at, items_at}
+use Rattle.sql_parser.specs.Calls.{Listed, seen}
+use Rattle.sql_parser.specs.Calls as lists
 
 -- behind a comma there are fewer tokens
 pub comma_shortens : (ts us : Tokens) → after_comma ts ≡ Some us → length us < length ts

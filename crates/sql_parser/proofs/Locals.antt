@@ -6,15 +6,12 @@ use Rattle.sql_trees.specs.declared.fault.SqlFault.{SqlFault}
 use Rattle.sql_trees.specs.declared.fault.SqlFault.TheVariants.{Syntax, TooDeep}
 use Rattle.sql_trees.specs.Tokens.{Token, Tokens, named}
 use Rattle.sql_trees.specs.Trees.{Tree}
-use Rattle.sql_expressions.specs.Reading.{misplaced, place_of, expect, is_comma, ◌>>=◌}
+use Rattle.sql_expressions.specs.Reading.{misplaced, place_of, expect, is_comma, after, ◌>>=◌}
 use Rattle.sql_expressions.specs.Laws.{head}
 use Rattle.sql_expressions.proofs.Local.{first_is, nothing_is, head_after}
-use Rattle.sql_parser.specs.Readers.{name_at, named_at, more_at, items_at}
+use Rattle.sql_parser.specs.Readers.{Reader, some_or, name_at, more_at, items_at}
 use Rattle.sql_parser.specs.Grammar.{Is, Names, NameIs, is_name, Commas, last_item, next_item}
 use Rattle.sql_parser.specs.Stops.{Refuses, at_next, at_word, at_name, at_row, in_expression, too_deep}
-
-abbrev pub Reader : Type 0 → Type 0
-Reader A = Tokens → Result (A × Tokens) SqlFault
 
 -- something is in the grammar
 abbrev pub Inhabited : {A : Type 0} → (Tokens → A → Type 0) → Type 0
@@ -146,16 +143,16 @@ module _ (last : ℕ) (E : Tokens → Tree → Type 0) (W Any : Type 0) where
   name_local (t ∷ us) some = of_name (named t.tok) refl
     where
       of_name : (o : Option (List ℕ)) → named t.tok ≡ o → Local NameIs (name_at last) (t ∷ us)
-      of_name None h = no_rule_at NameIs (name_at last) t us some (λ vs. ap (λ o. named_at last o (t ∷ vs) vs) h)
-      of_name (Some n) h = behind NameIs (λ r. Ok (n, r)) (name_at last) t us (λ vs. ap (λ o. named_at last o (t ∷ vs) vs) h) (gives (λ xs v. NameIs (t ∷ xs) v) n us (is_name t n h))
+      of_name None h = no_rule_at NameIs (name_at last) t us some (λ vs. rw h refl)
+      of_name (Some n) h = behind NameIs (λ r. Ok (n, r)) (name_at last) t us (λ vs. rw h refl) (gives (λ xs v. NameIs (t ∷ xs) v) n us (is_name t n h))
 
   pub name_then : {B : Type 0} (K : Tokens → B → Type 0) (k : List ℕ → Reader B) (ts : Tokens) → Inhabited K → ((t : At Token) (n : List ℕ) (us : Tokens) → Names n t → Local (λ xs w. K (t ∷ xs) w) (k n) us) → Local K (λ r. name_at last r >>= λ x. k x.0 x.1) ts
   name_then K k [] some next = no_rule_end K (λ r. name_at last r >>= λ x. k x.0 x.1) some refl
   name_then K k (t ∷ us) some next = of_name (named t.tok) refl
     where
       of_name : (o : Option (List ℕ)) → named t.tok ≡ o → Local K (λ r. name_at last r >>= λ x. k x.0 x.1) (t ∷ us)
-      of_name None h = no_rule_at K (λ r. name_at last r >>= λ x. k x.0 x.1) t us some (λ vs. ap (λ o. named_at last o (t ∷ vs) vs >>= λ x. k x.0 x.1) h)
-      of_name (Some n) h = behind K (k n) (λ r. name_at last r >>= λ x. k x.0 x.1) t us (λ vs. ap (λ o. named_at last o (t ∷ vs) vs >>= λ x. k x.0 x.1) h) (next t n us h)
+      of_name None h = no_rule_at K (λ r. name_at last r >>= λ x. k x.0 x.1) t us some (λ vs. rw h refl)
+      of_name (Some n) h = behind K (k n) (λ r. name_at last r >>= λ x. k x.0 x.1) t us (λ vs. rw h refl) (next t n us h)
 
   -- one reading behind a token of a kind, another where none stands
   pub either : {B : Type 0} (K : Tokens → B → Type 0) (is_it : Token → Bool) (p p' q : Reader B) (ts : Tokens) → ((t : At Token) (vs : Tokens) → Is is_it t → q (t ∷ vs) ≡ p vs) → ((t : At Token) (vs : Tokens) → is_it t.tok ≡ false → q (t ∷ vs) ≡ p' (t ∷ vs)) → q [] ≡ p' [] → ((t : At Token) (us : Tokens) → Is is_it t → Local (λ xs w. K (t ∷ xs) w) p us) → Local K p' ts → Local K q ts
@@ -165,6 +162,9 @@ module _ (last : ℕ) (E : Tokens → Tree → Type 0) (W Any : Type 0) where
       of_test : (b : Bool) → is_it t.tok ≡ b → Local K q (t ∷ us)
       of_test true h = behind K p q t us (λ vs. there_is t vs h) (there t us h)
       of_test false h = switch_at K p' q t us (λ vs. none t vs h) l
+
+  pub chosen : {B : Type 0} (K : Tokens → B → Type 0) (is_it : Token → Bool) (p p' : Reader B) (ts : Tokens) → ((t : At Token) (us : Tokens) → Is is_it t → Local (λ xs w. K (t ∷ xs) w) p us) → Local K p' ts → Local K (λ r. some_or p (p' r) (after is_it r)) ts
+  chosen K is_it p p' ts there l = either K is_it p p' (λ r. some_or p (p' r) (after is_it r)) ts (λ t vs h. rw h refl) (λ t vs h. rw h refl) refl there l
 
   -- ---- lists
 

@@ -1,6 +1,6 @@
 -- SELECT is read as far as its tokens allow.
 use Rattle.std.proofs.Common.{◌≡◌, ℕ, Bool, true, false, List, [], ◌∷◌, ◌++◌, Option, Some, None, refl, sym, ap, subst, ◌∙◌, append-nil}
-use Rattle.std.specs.Prelude.{Result, Ok, Err, if◌then◌else◌}
+use Rattle.std.specs.Prelude.{Result, Ok, Err, option_map, if◌then◌else◌}
 use Rattle.iso_lexer.specs.declared.token.At.{At}
 use Rattle.iso_lexer.specs.declared.sql_token.SqlSign.TheVariants as signs
 use Rattle.iso_lexer.specs.Names as names
@@ -18,12 +18,12 @@ use Rattle.sql_trees.specs.Trees.{Tree, AggTree, CountRows, Of}
 use Rattle.sql_expressions.specs.Reading.{expect, is_word, is_open, is_close, after, ◌>>=◌}
 use Rattle.sql_expressions.specs.Laws.{head}
 use Rattle.sql_expressions.proofs.Local.{first_is, head_after}
-use Rattle.sql_parser.specs.Readers.{keyword, name_at, tree_at, items_at}
-use Rattle.sql_parser.specs.Tables.{TableRead, keys_fault, column_names}
+use Rattle.sql_parser.specs.Readers.{keyword, name_at, tree_at, items_at, Reader, some_or, added}
+use Rattle.sql_parser.specs.Tables.{TableRead, keys_fault, column_names, created}
 use Rattle.sql_parser.specs.Changes.{filter_at}
-use Rattle.sql_parser.specs.Queries.{is_star, agg_kind, call_of, call_at, rows_of, maybe_name, direction_of, direction_at, alias_of, alias_at, agg_of, agg_at, item_of, item_star, item_at, item_add, from_of, from_at, nulls_end, nulls_of, nulls_at, order_add, order_of, order_at, lock_end, lock_of, lock_at, is_allowed, query_of, select_at}
-use Rattle.sql_parser.specs.Grammar.{created, Is, Key, Names, Commas, AliasIs, no_alias, as_alias, bare_alias, AggIs, all_rows, of_values, AddsItem, a_star, a_value, an_aggregate, FromIs, no_table, from_table, DirectionIs, as_ever, ascending, descending, NullsAre, unsaid, nulls_first, nulls_last, AddsKey, adds_key, OrderIs, unordered, ordered, LockIs, no_lock, for_update, for_share, WhereIs, unfiltered, Spells, select}
-use Rattle.sql_parser.proofs.Locals.{Reader, Inhabited, Local, Begun, took, stopped, gives, gives_at, gives_end, behind, same_at, switch_at, switch_end, in_turn, mapped, token_then, token_last, name_then, either, list_local, some_list}
+use Rattle.sql_parser.specs.Queries.{is_star, agg_kind, call_at, maybe_name, direction_at, alias_at, agg_at, item_of, item_at, from_at, nulls_at, order_add, order_at, lock_at, is_allowed, query_of, select_at}
+use Rattle.sql_parser.specs.Grammar.{Is, Key, Names, Commas, AliasIs, no_alias, as_alias, bare_alias, AggIs, all_rows, of_values, AddsItem, a_star, a_value, an_aggregate, FromIs, no_table, from_table, DirectionIs, as_ever, ascending, descending, NullsAre, unsaid, nulls_first, nulls_last, AddsKey, adds_key, OrderIs, unordered, ordered, LockIs, no_lock, for_update, for_share, WhereIs, unfiltered, Spells, select}
+use Rattle.sql_parser.proofs.Locals.{Inhabited, Local, Begun, took, stopped, gives, gives_at, gives_end, behind, same_at, switch_at, switch_end, in_turn, mapped, token_then, token_last, name_then, list_local, some_list, chosen}
 use Rattle.sql_parser.proofs.StmtLocals.{a_word, a_sign, a_name, the_name, key_is}
 use Rattle.sql_parser.proofs.ChangeLocals.{where_local}
 
@@ -57,6 +57,9 @@ after_same is_it (x ∷ xs) ys h e =
     of_test true k g = absurd cc
     of_test false k g = rw k refl
 
+abbrev pub call_of : Option AggKind → Option Tokens → Option (AggKind × Tokens)
+call_of k o = some_or (λ j. option_map (λ us. (j, us)) o) None k
+
 call_none : (k : Option AggKind) (xs ys : Tokens) → head xs ≡ head ys → call_of k (after is_open xs) ≡ None → call_of k (after is_open ys) ≡ None
 call_none None xs ys h e = refl
 call_none (Some k) xs ys h e = of_after (after is_open xs) refl e
@@ -70,18 +73,17 @@ module _ (last : ℕ) (E : Tokens → Tree → Type 0) (W Any : Type 0) (an_expr
     (one_name : (t : At Token) (n : List ℕ) → Names n t → (e : Tree) × (tree_at last (t ∷ []) ≡ Ok (e, []))) where
   -- ---- items
 
-  maybe_local : (ts : Tokens) → Local last E W Any AliasIs (λ r. Ok (maybe_name r)) ts
-  maybe_local [] = gives_end last E W Any AliasIs (λ r. Ok (maybe_name r)) None refl no_alias
+  maybe_local : (ts : Tokens) → Local last E W Any AliasIs maybe_name ts
+  maybe_local [] = gives_end last E W Any AliasIs maybe_name None refl no_alias
   maybe_local (t ∷ us) = of_name (named t.tok) refl
     where
-      of_name : (o : Option (List ℕ)) → named t.tok ≡ o → Local last E W Any AliasIs (λ r. Ok (maybe_name r)) (t ∷ us)
-      of_name None h = gives_at last E W Any AliasIs (λ r. Ok (maybe_name r)) None t us (λ vs. rw h refl) no_alias
-      of_name (Some n) h = behind last E W Any AliasIs (λ r. Ok (Some n, r)) (λ r. Ok (maybe_name r)) t us (λ vs. rw h refl) (gives last E W Any (λ xs w. AliasIs (t ∷ xs) w) (Some n) us (bare_alias t n h))
+      of_name : (o : Option (List ℕ)) → named t.tok ≡ o → Local last E W Any AliasIs maybe_name (t ∷ us)
+      of_name None h = gives_at last E W Any AliasIs maybe_name None t us (λ vs. rw h refl) no_alias
+      of_name (Some n) h = behind last E W Any AliasIs (λ r. Ok (Some n, r)) maybe_name t us (λ vs. rw h refl) (gives last E W Any (λ xs w. AliasIs (t ∷ xs) w) (Some n) us (bare_alias t n h))
 
   alias_local : (ts : Tokens) → Local last E W Any AliasIs (alias_at last) ts
   unfolding alias_at
-  alias_local ts = either last E W Any AliasIs (is_word words.As) (λ us. name_at last us >>= λ x. Ok (Some x.0, x.1)) (λ us. Ok (maybe_name us)) (λ r. alias_of last (after (is_word words.As) r) r) ts
-      (λ a vs h. rw h refl) (λ a vs h. rw h refl) refl
+  alias_local ts = chosen last E W Any AliasIs (is_word words.As) (λ us. name_at last us >>= λ x. Ok (Some x.0, x.1)) maybe_name ts
       (λ a us ha. name_then last E W Any (λ xs w. AliasIs (a ∷ xs) w) (λ n r. Ok (Some n, r)) us (a_name ∷ [], Some the_name, as_alias a a_name the_name ha refl) (λ t n vs hn. gives last E W Any (λ xs w. AliasIs (a ∷ t ∷ xs) w) (Some n) vs (as_alias a t n ha hn)))
       (maybe_local ts)
 
@@ -96,8 +98,7 @@ module _ (last : ℕ) (E : Tokens → Tree → Type 0) (W Any : Type 0) (an_expr
 
   agg_local : (k o : At Token) (kind : AggKind) → agg_kind k.tok ≡ Some kind → Is is_open o → (ts : Tokens) → Local last E W Any (λ xs w. AggIs E (k ∷ o ∷ xs) w) (agg_at last kind) ts
   unfolding agg_at
-  agg_local k o aggs.Count hk ho ts = either last E W Any (λ xs w. AggIs E (k ∷ o ∷ xs) w) is_star (λ us. expect last is_close us >>= λ rest. Ok (CountRows, rest)) (λ r. tree_at last r >>= λ e. expect last is_close e.1 >>= λ rest. Ok (Of aggs.Count e.0, rest)) (λ r. agg_of last (rows_of aggs.Count r) aggs.Count r) ts
-      (λ s vs h. rw h refl) (λ s vs h. rw h refl) refl
+  agg_local k o aggs.Count hk ho ts = chosen last E W Any (λ xs w. AggIs E (k ∷ o ∷ xs) w) is_star (λ us. expect last is_close us >>= λ rest. Ok (CountRows, rest)) (λ r. tree_at last r >>= λ e. expect last is_close e.1 >>= λ rest. Ok (Of aggs.Count e.0, rest)) ts
       (λ s us hs. token_last last E W Any (λ xs w. AggIs E (k ∷ o ∷ s ∷ xs) w) is_close CountRows us (a_sign signs.Close ∷ [], CountRows, all_rows k o s (a_sign signs.Close) hk ho hs refl) (λ c hc. all_rows k o s c hk ho hs hc))
       (of_local k o aggs.Count hk ho ts)
   agg_local k o aggs.Sum hk ho ts = of_local k o aggs.Sum hk ho ts
@@ -204,12 +205,11 @@ module _ (last : ℕ) (E : Tokens → Tree → Type 0) (W Any : Type 0) (an_expr
 
   item_local : (ts : Tokens) → Local last E W Any ItemIs (item_at last) ts
   unfolding item_at
-  item_local ts = either last E W Any ItemIs is_star (λ rest. Ok (All, rest)) item_of_call (λ r. item_star last (after is_star r) r) ts
-      (λ s vs h. rw h refl) (λ s vs h. rw h refl) refl
+  item_local ts = chosen last E W Any ItemIs is_star (λ rest. Ok (All, rest)) item_of_call ts
       (λ s us hs. gives last E W Any (λ xs w. ItemIs (s ∷ xs) w) All us (λ is. a_star is s hs))
       (item_call_local ts)
 
-  item_add_local : (is : List ItemTree) (ts : Tokens) → Local last E W Any (AddsItem E is) (item_add last is) ts
+  item_add_local : (is : List ItemTree) (ts : Tokens) → Local last E W Any (AddsItem E is) (added (item_at last) is) ts
   item_add_local is ts = mapped last E W Any ItemIs (AddsItem E is) (item_at last) (λ i. is ++ i ∷ []) ts (λ xs i q. q is) (item_local ts)
 
   adds_some_item : (is : List ItemTree) → Inhabited (AddsItem E is)
@@ -219,17 +219,14 @@ module _ (last : ℕ) (E : Tokens → Tree → Type 0) (W Any : Type 0) (an_expr
 
   from_local : (ts : Tokens) → Local last E W Any FromIs (from_at last) ts
   unfolding from_at
-  from_local ts = either last E W Any FromIs (is_word words.From) (λ us. name_at last us >>= λ x. Ok (Some x.0, x.1)) (λ us. Ok (None, us)) (λ r. from_of last (after (is_word words.From) r) r) ts
-      (λ f vs h. rw h refl) (λ f vs h. rw h refl) refl
+  from_local ts = chosen last E W Any FromIs (is_word words.From) (λ us. name_at last us >>= λ x. Ok (Some x.0, x.1)) (λ us. Ok (None, us)) ts
       (λ f us hf. name_then last E W Any (λ xs w. FromIs (f ∷ xs) w) (λ n r. Ok (Some n, r)) us (a_name ∷ [], Some the_name, from_table f a_name the_name hf refl) (λ t n vs hn. gives last E W Any (λ xs w. FromIs (f ∷ t ∷ xs) w) (Some n) vs (from_table f t n hf hn)))
       (gives last E W Any FromIs None ts no_table)
 
   nulls_local : (down : Bool) (ts : Tokens) → Local last E W Any (NullsAre down) (nulls_at last down) ts
   unfolding nulls_at
-  nulls_local down ts = either last E W Any (NullsAre down) (is_word words.Nulls) (λ us. nulls_end last (after (is_word words.First) us) us) (λ us. Ok (down, us)) (λ r. nulls_of last down (after (is_word words.Nulls) r) r) ts
-      (λ n vs h. rw h refl) (λ n vs h. rw h refl) refl
-      (λ n us hn. either last E W Any (λ xs w. NullsAre down (n ∷ xs) w) (is_word words.First) (λ rest. Ok (true, rest)) (λ vs. keyword last words.Last vs >>= λ rest. Ok (false, rest)) (λ vs. nulls_end last (after (is_word words.First) vs) vs) us
-      (λ f vs h. rw h refl) (λ f vs h. rw h refl) refl
+  nulls_local down ts = chosen last E W Any (NullsAre down) (is_word words.Nulls) (λ us. some_or (λ rest. Ok (true, rest)) (keyword last words.Last us >>= λ rest. Ok (false, rest)) (after (is_word words.First) us)) (λ us. Ok (down, us)) ts
+      (λ n us hn. chosen last E W Any (λ xs w. NullsAre down (n ∷ xs) w) (is_word words.First) (λ rest. Ok (true, rest)) (λ vs. keyword last words.Last vs >>= λ rest. Ok (false, rest)) us
       (λ f vs hf. gives last E W Any (λ xs w. NullsAre down (n ∷ f ∷ xs) w) true vs (nulls_first n f hn hf))
       (token_last last E W Any (λ xs w. NullsAre down (n ∷ xs) w) (is_word words.Last) false us (a_word words.Last ∷ [], false, nulls_last n (a_word words.Last) hn (key_is words.Last [])) (λ l hl. nulls_last n l hn hl)))
       (gives last E W Any (NullsAre down) down ts unsaid)
@@ -240,34 +237,30 @@ module _ (last : ℕ) (E : Tokens → Tree → Type 0) (W Any : Type 0) (an_expr
   abbrev keys_with : List OrderTree → Tree → Bool → Reader (List OrderTree)
   keys_with ks e desc r = nulls_at last desc r >>= λ n. Ok (ks ++ one_key e desc n.0 ∷ [], n.1)
 
-  -- the direction of a key, and where NULL stands
-  direction_local : (K : Tokens → List OrderTree → Type 0) (ks : List OrderTree) (e : Tree) → ((ds ns : Tokens) (desc first : Bool) → DirectionIs ds desc → NullsAre desc ns first → K (ds ++ ns) (ks ++ one_key e desc first ∷ [])) → (ts : Tokens) → Local last E W Any K (λ r. keys_with ks e (direction_at r).0 (direction_at r).1) ts
+  direction_local : (ts : Tokens) → Local last E W Any DirectionIs direction_at ts
   unfolding direction_at
-  direction_local K ks e up ts = either last E W Any K (is_word words.Asc) (keys_with ks e false) (λ r. keys_with ks e (direction_of None (after (is_word words.Desc) r) r).0 (direction_of None (after (is_word words.Desc) r) r).1) (λ r. keys_with ks e (direction_of (after (is_word words.Asc) r) (after (is_word words.Desc) r) r).0 (direction_of (after (is_word words.Asc) r) (after (is_word words.Desc) r) r).1) ts
-      (λ a vs h. rw h refl) (λ a vs h. rw h refl) refl
-      (λ a us ha. keys (λ xs w. K (a ∷ xs) w) false (λ ns first k. up (a ∷ []) ns false first (ascending a ha) k) us)
-      (either last E W Any K (is_word words.Desc) (keys_with ks e true) (keys_with ks e false) (λ r. keys_with ks e (direction_of None (after (is_word words.Desc) r) r).0 (direction_of None (after (is_word words.Desc) r) r).1) ts
-      (λ d vs h. rw h refl) (λ d vs h. rw h refl) refl
-      (λ d us hd. keys (λ xs w. K (d ∷ xs) w) true (λ ns first k. up (d ∷ []) ns true first (descending d hd) k) us)
-      (keys K false (λ ns first k. up [] ns false first as_ever k) ts))
-    where
-      keys : (Q : Tokens → List OrderTree → Type 0) (desc : Bool) → ((ns : Tokens) (first : Bool) → NullsAre desc ns first → Q ns (ks ++ one_key e desc first ∷ [])) → (us : Tokens) → Local last E W Any Q (keys_with ks e desc) us
-      keys Q desc q us = mapped last E W Any (NullsAre desc) Q (nulls_at last desc) (λ first. ks ++ one_key e desc first ∷ []) us q (nulls_local desc us)
+  direction_local ts = chosen last E W Any DirectionIs (is_word words.Asc) (λ us. Ok (false, us)) (λ us. some_or (λ vs. Ok (true, vs)) (Ok (false, us)) (after (is_word words.Desc) us)) ts
+      (λ a us ha. gives last E W Any (λ xs w. DirectionIs (a ∷ xs) w) false us (ascending a ha))
+      (chosen last E W Any DirectionIs (is_word words.Desc) (λ us. Ok (true, us)) (λ us. Ok (false, us)) ts
+      (λ d us hd. gives last E W Any (λ xs w. DirectionIs (d ∷ xs) w) true us (descending d hd))
+      (gives last E W Any DirectionIs false ts as_ever))
 
   order_add_local : (ks : List OrderTree) (ts : Tokens) → Local last E W Any (AddsKey E ks) (order_add last ks) ts
   unfolding order_add
-  order_add_local ks ts = in_turn last E W Any E (AddsKey E ks) (tree_at last) (λ e r. keys_with ks e (direction_at r).0 (direction_at r).1) ts
+  order_add_local ks ts = in_turn last E W Any E (AddsKey E ks) (tree_at last) (λ e r. direction_at r >>= λ d. keys_with ks e d.0 d.1) ts
       (λ xs e q. ([], ks ++ one_key e false false ∷ [], adds_key ks xs [] [] e false false q as_ever unsaid))
-      (exprs ts)
-      (λ e xs rest split q. direction_local (λ ys w. AddsKey E ks (xs ++ ys) w) ks e (λ ds ns desc first d n. adds_key ks xs ds ns e desc first q d n) rest)
+      (exprs ts) (λ e xs rest split q.
+      in_turn last E W Any DirectionIs (λ ys w. AddsKey E ks (xs ++ ys) w) direction_at (keys_with ks e) rest
+      (λ ds desc d. ([], ks ++ one_key e desc desc ∷ [], adds_key ks xs ds [] e desc desc q d unsaid))
+      (direction_local rest) (λ desc ds us split' d.
+      mapped last E W Any (NullsAre desc) (λ ns w. AddsKey E ks (xs ++ (ds ++ ns)) w) (nulls_at last desc) (λ first. ks ++ one_key e desc first ∷ []) us (λ ns first n. adds_key ks xs ds ns e desc first q d n) (nulls_local desc us)))
 
   adds_some_key : (ks : List OrderTree) → Inhabited (AddsKey E ks)
   adds_some_key ks = (an_expr.0 ++ [], ks ++ one_key an_expr.1 false false ∷ [], adds_key ks an_expr.0 [] [] an_expr.1 false false an_expr.2 as_ever unsaid)
 
   order_local : (ts : Tokens) → Local last E W Any (OrderIs E) (order_at last) ts
   unfolding order_at
-  order_local ts = either last E W Any (OrderIs E) (is_word words.Order) (λ us. keyword last words.By us >>= items_at (order_add last) []) (λ us. Ok ([], us)) (λ r. order_of last (after (is_word words.Order) r) r) ts
-      (λ o vs h. rw h refl) (λ o vs h. rw h refl) refl
+  order_local ts = chosen last E W Any (OrderIs E) (is_word words.Order) (λ us. keyword last words.By us >>= items_at (order_add last) []) (λ us. Ok ([], us)) ts
       (λ o us ho. let a = some_list last E W Any (order_add last) (AddsKey E) adds_some_key order_add_local [] in
       token_then last E W Any (λ xs w. OrderIs E (o ∷ xs) w) (is_word words.By) (items_at (order_add last) []) us (a_word words.By ∷ a.0, a.1, ordered o (a_word words.By) a.0 a.1 ho (key_is words.By []) a.2) (λ b vs hb.
       same_at last E W Any (Commas (AddsKey E) []) (λ xs w. OrderIs E (o ∷ b ∷ xs) w) (items_at (order_add last) []) (items_at (order_add last) []) vs (λ xs ks q. ordered o b xs ks ho hb q) (λ ws h. refl) (list_local last E W Any (order_add last) (AddsKey E) adds_some_key order_add_local [] vs)))
@@ -275,10 +268,8 @@ module _ (last : ℕ) (E : Tokens → Tree → Type 0) (W Any : Type 0) (an_expr
 
   lock_local : (ts : Tokens) → Local last E W Any LockIs (lock_at last) ts
   unfolding lock_at
-  lock_local ts = either last E W Any LockIs (is_word words.For) (λ us. lock_end last (after (is_word words.Update) us) us) (λ us. Ok (None, us)) (λ r. lock_of last (after (is_word words.For) r) r) ts
-      (λ f vs h. rw h refl) (λ f vs h. rw h refl) refl
-      (λ f us hf. either last E W Any (λ xs w. LockIs (f ∷ xs) w) (is_word words.Update) (λ rest. Ok (Some locks.Update, rest)) (λ vs. keyword last words.Share vs >>= λ rest. Ok (Some locks.Share, rest)) (λ vs. lock_end last (after (is_word words.Update) vs) vs) us
-      (λ u vs h. rw h refl) (λ u vs h. rw h refl) refl
+  lock_local ts = chosen last E W Any LockIs (is_word words.For) (λ us. some_or (λ rest. Ok (Some locks.Update, rest)) (keyword last words.Share us >>= λ rest. Ok (Some locks.Share, rest)) (after (is_word words.Update) us)) (λ us. Ok (None, us)) ts
+      (λ f us hf. chosen last E W Any (λ xs w. LockIs (f ∷ xs) w) (is_word words.Update) (λ rest. Ok (Some locks.Update, rest)) (λ vs. keyword last words.Share vs >>= λ rest. Ok (Some locks.Share, rest)) us
       (λ u vs hu. gives last E W Any (λ xs w. LockIs (f ∷ u ∷ xs) w) (Some locks.Update) vs (for_update f u hf hu))
       (token_last last E W Any (λ xs w. LockIs (f ∷ xs) w) (is_word words.Share) (Some locks.Share) us (a_word words.Share ∷ [], Some locks.Share, for_share f (a_word words.Share) hf (key_is words.Share [])) (λ s hs. for_share f s hf hs)))
       (gives last E W Any LockIs None ts no_lock)
@@ -299,9 +290,9 @@ module _ (last : ℕ) (E : Tokens → Tree → Type 0) (W Any : Type 0) (an_expr
   unfolding select_at
   select_local s hs ts =
       let p = s.span.start in
-      in_turn last E W Any (Commas (AddsItem E) []) (λ xs r. Whole E (s ∷ xs) r) (items_at (item_add last) []) (λ i r. from_at last r >>= λ t. filter_at last t.1 >>= λ f. order_at last f.1 >>= λ o. lock_at last o.1 >>= λ l. Ok (query_of p (selected i t.0 f.0 o.0 l.0), l.1)) ts
+      in_turn last E W Any (Commas (AddsItem E) []) (λ xs r. Whole E (s ∷ xs) r) (items_at (added (item_at last)) []) (λ i r. from_at last r >>= λ t. filter_at last t.1 >>= λ f. order_at last f.1 >>= λ o. lock_at last o.1 >>= λ l. Ok (query_of p (selected i t.0 f.0 o.0 l.0), l.1)) ts
       (λ is i a. ([], query_of p (selected i None None [] None), whole_of s hs is [] [] [] [] i None None [] None a no_table unfiltered unordered no_lock))
-      (list_local last E W Any (item_add last) (AddsItem E) adds_some_item item_add_local [] ts) (λ i is us e1 a.
+      (list_local last E W Any (added (item_at last)) (AddsItem E) adds_some_item item_add_local [] ts) (λ i is us e1 a.
       in_turn last E W Any FromIs (λ xs r. Whole E (s ∷ (is ++ xs)) r) (from_at last) (λ t r. filter_at last r >>= λ f. order_at last f.1 >>= λ o. lock_at last o.1 >>= λ l. Ok (query_of p (selected i t f.0 o.0 l.0), l.1)) us
       (λ fs t b. ([], query_of p (selected i t None [] None), whole_of s hs is fs [] [] [] i t None [] None a b unfiltered unordered no_lock))
       (from_local us) (λ t fs vs e2 b.

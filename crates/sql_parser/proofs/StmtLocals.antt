@@ -18,12 +18,12 @@ use Rattle.sql_trees.specs.Tokens as tok
 use Rattle.sql_trees.specs.Trees.{Tree}
 use Rattle.sql_expressions.specs.Reading.{expect, is_word, after, ◌>>=◌}
 use Rattle.sql_expressions.proofs.Shapes.{some_token}
-use Rattle.sql_parser.specs.Readers.{past, keyword, misplaced_word, items_at}
-use Rattle.sql_parser.specs.Transactions.{is_work, is_scope, is_to, is_setting, read_level, level_of, isolation_at, begin_of, begin_at, start_at, parameter_of, parameter_at, set_of, set_at}
-use Rattle.sql_parser.specs.Tables.{drop_add, drop_of, drop_names, drop_at, after_if}
+use Rattle.sql_parser.specs.Readers.{is_unquoted, past, keyword, misplaced_word, items_at, Reader, some_or, added, name_at}
+use Rattle.sql_parser.specs.Transactions.{is_work, is_scope, is_to, is_setting, level_at, begin_at, start_at, parameter_at, set_at}
+use Rattle.sql_parser.specs.Tables.{drop_of, drop_at, after_if}
 use Rattle.sql_parser.specs.Grammar.{Key, Names, Perhaps, nothing, one_is, Commas, NameIs, is_name, AddsName, adds_name, IsolationIs, uncommitted, committed, repeatable, MaybeLevel, no_level, a_level, Spells, begin, start, set_transaction, set_timeout, drop, drop_if}
-use Rattle.sql_parser.specs.Stops.{Refuses, at_next, at_word, is_unquoted}
-use Rattle.sql_parser.proofs.Locals.{Reader, Inhabited, Begins, Local, gives, gives_at, gives_end, stuck_at, stuck_end, behind, same_at, switch_at, switch_end, mapped, token_then, token_last, name_then, either, list_local, some_list, Tail, left_of, tail_local, joined, items_is}
+use Rattle.sql_parser.specs.Stops.{Refuses, at_next, at_word}
+use Rattle.sql_parser.proofs.Locals.{Inhabited, Begins, Local, gives, stuck_at, stuck_end, behind, same_at, switch_at, switch_end, mapped, token_then, token_last, name_then, either, list_local, some_list, Tail, left_of, tail_local, joined, items_is, chosen}
 
 -- ---- tokens that can stand there
 
@@ -64,32 +64,26 @@ module _ (last : ℕ) (E : Tokens → Tree → Type 0) (W Any : Type 0) where
   some_level : Inhabited IsolationIs
   some_level = (a_word words.Isolation ∷ a_word words.Level ∷ a_word words.Read ∷ a_word words.Committed ∷ [], ReadCommitted, committed (a_word words.Isolation) (a_word words.Level) (a_word words.Read) (a_word words.Committed) (key_is words.Isolation []) (key_is words.Level []) (key_is words.Read []) (key_is words.Committed []))
 
-  isolation_local : (ts : Tokens) → Local last E W Any IsolationIs (isolation_at last) ts
-  unfolding isolation_at
-  isolation_local ts =
-      token_then last E W Any IsolationIs (is_word words.Isolation) (λ us. keyword last words.Level us >>= λ vs. level_of last (after (is_word words.Read) vs) vs) ts some_level (λ i us hi.
-      token_then last E W Any (λ xs w. IsolationIs (i ∷ xs) w) (is_word words.Level) (λ vs. level_of last (after (is_word words.Read) vs) vs) us
+  -- what stands behind ISOLATION
+  level_local : (i : At Token) → Key words.Isolation i → (ts : Tokens) → Local last E W Any (λ xs w. IsolationIs (i ∷ xs) w) (level_at last) ts
+  unfolding level_at
+  level_local i hi us =
+      token_then last E W Any (λ xs w. IsolationIs (i ∷ xs) w) (is_word words.Level) (λ vs. some_or (λ ws. some_or (λ rest. Ok (ReadCommitted, rest)) (keyword last words.Uncommitted ws >>= λ rest. Ok (ReadCommitted, rest)) (after (is_word words.Committed) ws)) (keyword last words.Repeatable vs >>= λ ws. keyword last words.Read ws >>= λ rest. Ok (RepeatableRead, rest)) (after (is_word words.Read) vs)) us
       (a_word words.Level ∷ a_word words.Read ∷ a_word words.Committed ∷ [], ReadCommitted, committed i (a_word words.Level) (a_word words.Read) (a_word words.Committed) hi (key_is words.Level []) (key_is words.Read []) (key_is words.Committed [])) (λ l vs hl.
-      either last E W Any (λ xs w. IsolationIs (i ∷ l ∷ xs) w) (is_word words.Read) (λ ws. read_level last (after (is_word words.Committed) ws) ws) (λ ws. keyword last words.Repeatable ws >>= λ xs. keyword last words.Read xs >>= λ rest. Ok (RepeatableRead, rest)) (λ ws. level_of last (after (is_word words.Read) ws) ws) vs
-      (λ t ws h. rw h refl) (λ t ws h. rw h refl) refl
-      (λ r ws hr. either last E W Any (λ xs w. IsolationIs (i ∷ l ∷ r ∷ xs) w) (is_word words.Committed) (λ rest. Ok (ReadCommitted, rest)) (λ xs. keyword last words.Uncommitted xs >>= λ rest. Ok (ReadCommitted, rest)) (λ xs. read_level last (after (is_word words.Committed) xs) xs) ws
-      (λ t xs h. rw h refl) (λ t xs h. rw h refl) refl
+      chosen last E W Any (λ xs w. IsolationIs (i ∷ l ∷ xs) w) (is_word words.Read) (λ ws. some_or (λ rest. Ok (ReadCommitted, rest)) (keyword last words.Uncommitted ws >>= λ rest. Ok (ReadCommitted, rest)) (after (is_word words.Committed) ws)) (λ ws. keyword last words.Repeatable ws >>= λ xs. keyword last words.Read xs >>= λ rest. Ok (RepeatableRead, rest)) vs
+      (λ r ws hr. chosen last E W Any (λ xs w. IsolationIs (i ∷ l ∷ r ∷ xs) w) (is_word words.Committed) (λ rest. Ok (ReadCommitted, rest)) (λ xs. keyword last words.Uncommitted xs >>= λ rest. Ok (ReadCommitted, rest)) ws
       (λ c xs hc. gives last E W Any (λ ys w. IsolationIs (i ∷ l ∷ r ∷ c ∷ ys) w) ReadCommitted xs (committed i l r c hi hl hr hc))
       (token_last last E W Any (λ xs w. IsolationIs (i ∷ l ∷ r ∷ xs) w) (is_word words.Uncommitted) ReadCommitted ws (a_word words.Committed ∷ [], ReadCommitted, committed i l r (a_word words.Committed) hi hl hr (key_is words.Committed [])) (λ u hu. uncommitted i l r u hi hl hr hu)))
       (token_then last E W Any (λ xs w. IsolationIs (i ∷ l ∷ xs) w) (is_word words.Repeatable) (λ xs. keyword last words.Read xs >>= λ rest. Ok (RepeatableRead, rest)) vs
       (a_word words.Read ∷ a_word words.Committed ∷ [], ReadCommitted, committed i l (a_word words.Read) (a_word words.Committed) hi hl (key_is words.Read []) (key_is words.Committed [])) (λ p ws hp.
-      token_last last E W Any (λ xs w. IsolationIs (i ∷ l ∷ p ∷ xs) w) (is_word words.Read) RepeatableRead ws (a_word words.Read ∷ [], RepeatableRead, repeatable i l p (a_word words.Read) hi hl hp (key_is words.Read [])) (λ r hr. repeatable i l p r hi hl hp hr)))))
+      token_last last E W Any (λ xs w. IsolationIs (i ∷ l ∷ p ∷ xs) w) (is_word words.Read) RepeatableRead ws (a_word words.Read ∷ [], RepeatableRead, repeatable i l p (a_word words.Read) hi hl hp (key_is words.Read [])) (λ r hr. repeatable i l p r hi hl hp hr))))
 
   -- what stands behind BEGIN
   begin_local : (K : Tokens → StmtTree → Type 0) → ((xs : Tokens) (level : Option Level) → MaybeLevel xs level → K xs (Begin level)) → (ts : Tokens) → Local last E W Any K (begin_at last) ts
   unfolding begin_at
-  begin_local K up [] = gives_end last E W Any K (begin_at last) (Begin None) refl (up [] None no_level)
-  begin_local K up (t ∷ us) = of_test (is_word words.Isolation t.tok) refl
-    where
-      of_test : (b : Bool) → is_word words.Isolation t.tok ≡ b → Local last E W Any K (λ r. begin_of last (after (is_word words.Isolation) r) r) (t ∷ us)
-      of_test true h = switch_at last E W Any K (λ r. isolation_at last r >>= λ x. Ok (Begin (Some x.0), x.1)) (λ r. begin_of last (after (is_word words.Isolation) r) r) t us (λ vs. rw h refl)
-          (mapped last E W Any IsolationIs K (isolation_at last) (λ l. Begin (Some l)) (t ∷ us) (λ xs v q. up xs (Some v) (a_level xs v q)) (isolation_local (t ∷ us)))
-      of_test false h = gives_at last E W Any K (λ r. begin_of last (after (is_word words.Isolation) r) r) (Begin None) t us (λ vs. rw h refl) (up [] None no_level)
+  begin_local K up ts = chosen last E W Any K (is_word words.Isolation) (λ us. level_at last us >>= λ x. Ok (Begin (Some x.0), x.1)) (λ us. Ok (Begin None, us)) ts
+      (λ i us hi. mapped last E W Any (λ xs w. IsolationIs (i ∷ xs) w) (λ xs w. K (i ∷ xs) w) (level_at last) (λ l. Begin (Some l)) us (λ xs v q. up (i ∷ xs) (Some v) (a_level (i ∷ xs) v q)) (level_local i hi us))
+      (gives last E W Any K (Begin None) ts (up [] None no_level))
 
   pub start_local : (s : At Token) → Key words.Start s → (ts : Tokens) → Local last E W Any (λ xs w. Spells E (s ∷ xs) w) (start_at last) ts
   unfolding start_at
@@ -126,8 +120,7 @@ module _ (last : ℕ) (E : Tokens → Tree → Type 0) (W Any : Type 0) where
   unfolding parameter_at
   parameter_local w s ws h p ts =
       let some : Inhabited (λ xs w. Spells E (s ∷ (ws ++ xs)) w) = (a_word words.DeadlockTimeout ∷ a_sign signs.Equal ∷ some_token (tok.number 1) ∷ [], SetDeadlockTimeout, set_timeout s (a_word words.DeadlockTimeout) (a_sign signs.Equal) (some_token (tok.number 1)) ws h p (key_is words.DeadlockTimeout []) refl refl) in
-      either last E W Any (λ xs w. Spells E (s ∷ (ws ++ xs)) w) (is_word words.DeadlockTimeout) (λ us. expect last is_to us >>= λ vs. expect last is_setting vs >>= λ rest. Ok (SetDeadlockTimeout, rest)) (λ us. Err (misplaced_word last us)) (λ r. parameter_of last (after (is_word words.DeadlockTimeout) r) r) ts
-      (λ t vs g. rw g refl) (λ t vs g. rw g refl) refl
+      chosen last E W Any (λ xs w. Spells E (s ∷ (ws ++ xs)) w) (is_word words.DeadlockTimeout) (λ us. expect last is_to us >>= λ vs. expect last is_setting vs >>= λ rest. Ok (SetDeadlockTimeout, rest)) (λ us. Err (misplaced_word last us)) ts
       (λ d us hd. token_then last E W Any (λ xs w. Spells E (s ∷ (ws ++ d ∷ xs)) w) is_to (λ vs. expect last is_setting vs >>= λ rest. Ok (SetDeadlockTimeout, rest)) us
       (a_sign signs.Equal ∷ some_token (tok.number 1) ∷ [], SetDeadlockTimeout, set_timeout s d (a_sign signs.Equal) (some_token (tok.number 1)) ws h p hd refl refl) (λ q vs hq.
       token_last last E W Any (λ xs w. Spells E (s ∷ (ws ++ d ∷ q ∷ xs)) w) is_setting SetDeadlockTimeout vs (some_token (tok.number 1) ∷ [], SetDeadlockTimeout, set_timeout s d q (some_token (tok.number 1)) ws h p hd hq refl) (λ v hv. set_timeout s d q v ws h p hd hq hv)))
@@ -135,24 +128,25 @@ module _ (last : ℕ) (E : Tokens → Tree → Type 0) (W Any : Type 0) where
 
   pub set_local : W → (s : At Token) → Key words.Set s → (ts : Tokens) → Local last E W Any (λ xs w. Spells E (s ∷ xs) w) (set_at last) ts
   unfolding set_at
-  set_local w s h ts = either last E W Any (λ xs w. Spells E (s ∷ xs) w) (is_word words.Transaction) (λ us. isolation_at last us >>= λ x. Ok (SetTransaction x.0, x.1)) (λ us. parameter_at last (past is_scope us)) (λ r. set_of last (after (is_word words.Transaction) r) r) ts
-      (λ t vs g. rw g refl) (λ t vs g. rw g refl) refl
-      (λ t us g. mapped last E W Any IsolationIs (λ xs w. Spells E (s ∷ t ∷ xs) w) (isolation_at last) SetTransaction us (λ xs v q. set_transaction s t xs v h g q) (isolation_local us))
+  set_local w s h ts = chosen last E W Any (λ xs w. Spells E (s ∷ xs) w) (is_word words.Transaction) (λ us. keyword last words.Isolation us >>= λ vs. level_at last vs >>= λ x. Ok (SetTransaction x.0, x.1)) (λ us. parameter_at last (past is_scope us)) ts
+      (λ t us g. token_then last E W Any (λ xs w. Spells E (s ∷ t ∷ xs) w) (is_word words.Isolation) (λ vs. level_at last vs >>= λ x. Ok (SetTransaction x.0, x.1)) us
+      (some_level.0, SetTransaction some_level.1, set_transaction s t some_level.0 some_level.1 h g some_level.2) (λ i vs hi.
+      mapped last E W Any (λ xs w. IsolationIs (i ∷ xs) w) (λ xs w. Spells E (s ∷ t ∷ i ∷ xs) w) (level_at last) SetTransaction vs (λ xs v q. set_transaction s t (i ∷ xs) v h g q) (level_local i hi vs)))
       (perhaps_then (λ xs w. Spells E (s ∷ xs) w) is_scope (parameter_at last) ts (λ ws us p. parameter_local w s ws h p us))
 
   -- ---- DROP
 
-  name_add_local : (ns : List (List ℕ)) (ts : Tokens) → Local last E W Any (AddsName ns) (drop_add last ns) ts
+  name_add_local : (ns : List (List ℕ)) (ts : Tokens) → Local last E W Any (AddsName ns) (added (name_at last) ns) ts
   name_add_local ns ts = name_then last E W Any (AddsName ns) (λ n r. Ok (ns ++ n ∷ [], r)) ts (adds_some_name ns) (λ t n us h. gives last E W Any (λ xs w. AddsName ns (t ∷ xs) w) (ns ++ n ∷ []) us (adds_name ns t n h))
 
   abbrev dropped : Bool → List (List ℕ) → StmtTree
   dropped b ns = DropTables (record { if_exists = b; names = ns })
 
   drop_if_local : (d t i e : At Token) → Key words.Drop d → Key words.Table t → Key words.If i → Key words.Exists e → (ts : Tokens) → Local last E W Any (λ xs w. Spells E (d ∷ t ∷ i ∷ e ∷ xs) w) (drop_of last true) ts
-  drop_if_local d t i e hd ht hi he ts = mapped last E W Any (Commas AddsName []) (λ xs w. Spells E (d ∷ t ∷ i ∷ e ∷ xs) w) (items_at (drop_add last) []) (dropped true) ts (λ xs ns q. drop_if d t i e xs ns hd ht hi he q) (list_local last E W Any (drop_add last) AddsName adds_some_name name_add_local [] ts)
+  drop_if_local d t i e hd ht hi he ts = mapped last E W Any (Commas AddsName []) (λ xs w. Spells E (d ∷ t ∷ i ∷ e ∷ xs) w) (items_at (added (name_at last)) []) (dropped true) ts (λ xs ns q. drop_if d t i e xs ns hd ht hi he q) (list_local last E W Any (added (name_at last)) AddsName adds_some_name name_add_local [] ts)
 
   drop_plain_local : (d t : At Token) → Key words.Drop d → Key words.Table t → (ts : Tokens) → Local last E W Any (λ xs w. Spells E (d ∷ t ∷ xs) w) (drop_of last false) ts
-  drop_plain_local d t hd ht ts = mapped last E W Any (Commas AddsName []) (λ xs w. Spells E (d ∷ t ∷ xs) w) (items_at (drop_add last) []) (dropped false) ts (λ xs ns q. drop d t xs ns hd ht q) (list_local last E W Any (drop_add last) AddsName adds_some_name name_add_local [] ts)
+  drop_plain_local d t hd ht ts = mapped last E W Any (Commas AddsName []) (λ xs w. Spells E (d ∷ t ∷ xs) w) (items_at (added (name_at last)) []) (dropped false) ts (λ xs ns q. drop d t xs ns hd ht q) (list_local last E W Any (added (name_at last)) AddsName adds_some_name name_add_local [] ts)
 
   -- IF may be a name, where no EXISTS follows
   if_named : (i : At Token) → Key words.If i → (n : List ℕ) × Names n i
@@ -160,29 +154,29 @@ module _ (last : ℕ) (E : Tokens → Tree → Type 0) (W Any : Type 0) where
 
   drop_named_local : (d t i : At Token) (n : List ℕ) → Key words.Drop d → Key words.Table t → Names n i → (ts : Tokens) → Local last E W Any (λ xs w. Spells E (d ∷ t ∷ i ∷ xs) w) (λ vs. drop_of last false (i ∷ vs)) ts
   drop_named_local d t i n hd ht hi ts =
-      let behind_it : Reader StmtTree = λ vs. left_of last E W Any (drop_add last) AddsName adds_some_name name_add_local (n ∷ []) vs >>= λ x. Ok (dropped false x.0, x.1) in
-      let same : (vs : Tokens) → drop_of last false (i ∷ vs) ≡ behind_it vs = λ vs. ap (λ r. r >>= λ x. Ok (dropped false x.0, x.1)) (items_is last E W Any (drop_add last) AddsName adds_some_name name_add_local [] (i ∷ vs)) ∙ rw hi refl in
+      let behind_it : Reader StmtTree = λ vs. left_of last E W Any (added (name_at last)) AddsName adds_some_name name_add_local (n ∷ []) vs >>= λ x. Ok (dropped false x.0, x.1) in
+      let same : (vs : Tokens) → drop_of last false (i ∷ vs) ≡ behind_it vs = λ vs. ap (λ r. r >>= λ x. Ok (dropped false x.0, x.1)) (items_is last E W Any (added (name_at last)) AddsName adds_some_name name_add_local [] (i ∷ vs)) ∙ rw hi refl in
       same_at last E W Any (λ xs w. Spells E (d ∷ t ∷ i ∷ xs) w) (λ xs w. Spells E (d ∷ t ∷ i ∷ xs) w) behind_it (λ vs. drop_of last false (i ∷ vs)) ts (λ xs w k. k) (λ us h. same us)
-      (mapped last E W Any (Tail last E W Any (drop_add last) AddsName adds_some_name name_add_local (n ∷ [])) (λ xs w. Spells E (d ∷ t ∷ i ∷ xs) w) (left_of last E W Any (drop_add last) AddsName adds_some_name name_add_local (n ∷ [])) (dropped false) ts
-      (λ xs ns q. drop d t (i ∷ xs) ns hd ht (joined last E W Any (drop_add last) AddsName adds_some_name name_add_local [] (n ∷ []) ns (i ∷ []) xs (adds_name [] i n hi) q))
-      (tail_local last E W Any (drop_add last) AddsName adds_some_name name_add_local (length ts) (n ∷ []) ts (omega arith)))
+      (mapped last E W Any (Tail last E W Any (added (name_at last)) AddsName adds_some_name name_add_local (n ∷ [])) (λ xs w. Spells E (d ∷ t ∷ i ∷ xs) w) (left_of last E W Any (added (name_at last)) AddsName adds_some_name name_add_local (n ∷ [])) (dropped false) ts
+      (λ xs ns q. drop d t (i ∷ xs) ns hd ht (joined last E W Any (added (name_at last)) AddsName adds_some_name name_add_local [] (n ∷ []) ns (i ∷ []) xs (adds_name [] i n hi) q))
+      (tail_local last E W Any (added (name_at last)) AddsName adds_some_name name_add_local (length ts) (n ∷ []) ts (omega arith)))
 
-  drop_names_token : (d t i : At Token) (us : Tokens) (b : Bool) → Key words.Drop d → Key words.Table t → is_word words.If i.tok ≡ b → Local last E W Any (λ xs w. Spells E (d ∷ t ∷ xs) w) (λ vs. drop_names last (after_if vs) vs) (i ∷ us)
-  drop_names_token d t i us false hd ht h = switch_at last E W Any (λ xs w. Spells E (d ∷ t ∷ xs) w) (drop_of last false) (λ vs. drop_names last (after_if vs) vs) i us (λ vs. rw h refl) (drop_plain_local d t hd ht (i ∷ us))
+  drop_names_token : (d t i : At Token) (us : Tokens) (b : Bool) → Key words.Drop d → Key words.Table t → is_word words.If i.tok ≡ b → Local last E W Any (λ xs w. Spells E (d ∷ t ∷ xs) w) (λ vs. some_or (drop_of last true) (drop_of last false vs) (after_if vs)) (i ∷ us)
+  drop_names_token d t i us false hd ht h = switch_at last E W Any (λ xs w. Spells E (d ∷ t ∷ xs) w) (drop_of last false) (λ vs. some_or (drop_of last true) (drop_of last false vs) (after_if vs)) i us (λ vs. rw h refl) (drop_plain_local d t hd ht (i ∷ us))
   drop_names_token d t i us true hd ht h =
       let n = if_named i h in
-      behind last E W Any (λ xs w. Spells E (d ∷ t ∷ xs) w) (λ vs. drop_names last (after (is_word words.Exists) vs) (i ∷ vs)) (λ vs. drop_names last (after_if vs) vs) i us (λ vs. rw h refl)
-      (either last E W Any (λ xs w. Spells E (d ∷ t ∷ i ∷ xs) w) (is_word words.Exists) (drop_of last true) (λ vs. drop_of last false (i ∷ vs)) (λ vs. drop_names last (after (is_word words.Exists) vs) (i ∷ vs)) us
+      behind last E W Any (λ xs w. Spells E (d ∷ t ∷ xs) w) (λ vs. some_or (drop_of last true) (drop_of last false (i ∷ vs)) (after (is_word words.Exists) vs)) (λ vs. some_or (drop_of last true) (drop_of last false vs) (after_if vs)) i us (λ vs. rw h refl)
+      (either last E W Any (λ xs w. Spells E (d ∷ t ∷ i ∷ xs) w) (is_word words.Exists) (drop_of last true) (λ vs. drop_of last false (i ∷ vs)) (λ vs. some_or (drop_of last true) (drop_of last false (i ∷ vs)) (after (is_word words.Exists) vs)) us
       (λ e vs g. rw g refl) (λ e vs g. rw g refl) refl
       (λ e vs he. drop_if_local d t i e hd ht h he vs)
       (drop_named_local d t i n.0 hd ht n.1 us))
 
-  drop_names_local : (d t : At Token) (ts : Tokens) → Key words.Drop d → Key words.Table t → Local last E W Any (λ xs w. Spells E (d ∷ t ∷ xs) w) (λ vs. drop_names last (after_if vs) vs) ts
-  drop_names_local d t [] hd ht = switch_end last E W Any (λ xs w. Spells E (d ∷ t ∷ xs) w) (drop_of last false) (λ vs. drop_names last (after_if vs) vs) refl (drop_plain_local d t hd ht [])
+  drop_names_local : (d t : At Token) (ts : Tokens) → Key words.Drop d → Key words.Table t → Local last E W Any (λ xs w. Spells E (d ∷ t ∷ xs) w) (λ vs. some_or (drop_of last true) (drop_of last false vs) (after_if vs)) ts
+  drop_names_local d t [] hd ht = switch_end last E W Any (λ xs w. Spells E (d ∷ t ∷ xs) w) (drop_of last false) (λ vs. some_or (drop_of last true) (drop_of last false vs) (after_if vs)) refl (drop_plain_local d t hd ht [])
   drop_names_local d t (i ∷ us) hd ht = drop_names_token d t i us (is_word words.If i.tok) hd ht refl
 
   pub drop_local : (d : At Token) → Key words.Drop d → (ts : Tokens) → Local last E W Any (λ xs w. Spells E (d ∷ xs) w) (drop_at last) ts
   unfolding drop_at
-  drop_local d hd ts = token_then last E W Any (λ xs w. Spells E (d ∷ xs) w) (is_word words.Table) (λ vs. drop_names last (after_if vs) vs) ts
-      (let a = some_list last E W Any (drop_add last) AddsName adds_some_name name_add_local [] in (a_word words.Table ∷ a.0, dropped false a.1, drop d (a_word words.Table) a.0 a.1 hd (key_is words.Table []) a.2))
+  drop_local d hd ts = token_then last E W Any (λ xs w. Spells E (d ∷ xs) w) (is_word words.Table) (λ vs. some_or (drop_of last true) (drop_of last false vs) (after_if vs)) ts
+      (let a = some_list last E W Any (added (name_at last)) AddsName adds_some_name name_add_local [] in (a_word words.Table ∷ a.0, dropped false a.1, drop d (a_word words.Table) a.0 a.1 hd (key_is words.Table []) a.2))
       (λ t us ht. drop_names_local d t us hd ht)

@@ -13,12 +13,14 @@ use Rattle.sql_trees.specs.Tokens.{Token, Tokens, named}
 use Rattle.sql_trees.specs.Tokens as tok
 use Rattle.sql_trees.specs.Trees.{Tree}
 use Rattle.sql_expressions.specs.Reading.{place_of, expect, is_word, is_open, is_close, after, ◌>>=◌}
-use Rattle.sql_parser.specs.Readers.{keyword, misplaced_word, name_at, items_at}
-use Rattle.sql_parser.specs.Tables.{Placed, KeyRead, TableRead, Constraints, is_among, placed_names, column_names, empty_table, with_key, with_column, key_limit, kind_of, kind_at, is_constraint, key_add, key_at, constraint_of, constraint_at, constraints_at, limits_at, column_behind, column_at, table_item, table_add}
+use Rattle.sql_parser.specs.Readers.{keyword, misplaced_word, name_at, items_at, Reader, some_or}
+use Rattle.sql_parser.specs.Tables.{Placed, KeyRead, TableRead, Constraints, is_among, placed_names, column_names, empty_table, with_key, with_column, key_limit, kind_of, kind_at, key_add, key_at, constraints_at, limits_at, column_behind, column_at, table_add}
+use Rattle.sql_parser.specs.OneConstraint.{is_constraint, constraint_of, constraint_at}
 use Rattle.sql_parser.specs.Grammar.{Is, Key, Names, Commas, placed, AddsColumn, adds_column, Says, no_more, not_null, primary_key, unique_key, AddsPart, a_column, a_primary, a_unique}
 use Rattle.sql_parser.specs.Stops.{at_name}
-use Rattle.sql_parser.proofs.Locals.{Reader, Inhabited, Local, gives, gives_at, gives_end, stuck_at, goes_on, no_rule_at, no_rule_end, behind, same_at, switch_at, switch_end, in_turn, mapped, token_in, token_then, token_last, either, list_local, some_list}
+use Rattle.sql_parser.proofs.Locals.{Inhabited, Local, gives, gives_at, gives_end, stuck_at, goes_on, no_rule_at, no_rule_end, behind, same_at, switch_at, switch_end, in_turn, mapped, token_in, token_then, token_last, list_local, some_list, chosen}
 use Rattle.sql_parser.proofs.Steps.{bind_ok, ok_same}
+use Rattle.sql_parser.proofs.Going.{turn_is}
 use Rattle.sql_parser.proofs.TablesKept.{expect_shorter}
 use Rattle.sql_parser.proofs.StmtLocals.{a_word, a_sign, a_name, the_name, key_is, no_word}
 
@@ -76,11 +78,10 @@ module _ (last : ℕ) (E : Tokens → Tree → Type 0) (W Any : Type 0) where
   pub says_no_more : (n : ℕ) (c : Placed) (s : Constraints) (t : At Token) (vs : Tokens) → is_constraint t.tok ≡ false → constraints_at last c n s (t ∷ vs) ≡ Ok (s, t ∷ vs)
   unfolding constraints_at
   says_no_more zero c s t vs h = refl
-  says_no_more (suc n) c s t vs h = rw h refl
+  says_no_more (suc n) c s t vs h = turn_is last c n s (t ∷ vs) ∙ rw h refl
 
   says_next : (n : ℕ) (c : Placed) (s : Constraints) (t : At Token) (vs : Tokens) → is_constraint t.tok ≡ true → constraints_at last c (suc n) s (t ∷ vs) ≡ (constraint_at last c s (t ∷ vs) >>= λ x. constraints_at last c n x.0 x.1)
-  unfolding constraints_at
-  says_next n c s t vs h = rw h refl
+  says_next n c s t vs h = turn_is last c n s (t ∷ vs) ∙ rw h refl
 
   constraint_left : (c : Placed) (s : Constraints) (t : At Token) (ts : Tokens) (y : Constraints × Tokens) (x : Token) → constraint_of last c s x (t ∷ ts) ts ≡ Ok y → length y.1 ≤ length ts
   constraint_left c s t ts y (tok.word words.Not w) e =
@@ -160,13 +161,13 @@ module _ (last : ℕ) (E : Tokens → Tree → Type 0) (W Any : Type 0) where
   some_part t = (a_name ∷ a_kind ∷ [], with_column (placed the_name a_name) kinds.Int (nothing_said t.keys) t, a_column t a_name a_kind the_name kinds.Int [] (nothing_said t.keys) refl refl (no_more (nothing_said t.keys)))
 
   -- a column behind its name
-  abbrev pub with_kind : Kind → Result (Constraints × Tokens) SqlFault → Result (Kind × (Constraints × Tokens)) SqlFault
-  with_kind k r = r >>= λ x. Ok (k, x)
+  abbrev pub with_kind : Kind → Result (Constraints × Tokens) SqlFault → Result ((Kind × Constraints) × Tokens) SqlFault
+  with_kind k r = r >>= λ x. Ok ((k, x.0), x.1)
 
-  abbrev pub made_column : Placed → TableRead → Kind × (Constraints × Tokens) → Result (TableRead × Tokens) SqlFault
-  made_column c t x = Ok (with_column c x.0 x.1.0 t, x.1.1)
+  abbrev pub made_column : Placed → TableRead → (Kind × Constraints) × Tokens → Result (TableRead × Tokens) SqlFault
+  made_column c t x = Ok (with_column c x.0.0 x.0.1 t, x.1)
 
-  abbrev pub limits_of : TableRead → Placed → Kind × Tokens → Result (Kind × (Constraints × Tokens)) SqlFault
+  abbrev pub limits_of : TableRead → Placed → Kind × Tokens → Result ((Kind × Constraints) × Tokens) SqlFault
   limits_of t c k = with_kind k.0 (constraints_at last c (length k.1) (nothing_said t.keys) k.1)
 
   behind_is : (c : Placed) (t : TableRead) (ts : Tokens) → column_behind last c t ts ≡ ((kind_at last ts >>= limits_of t c) >>= made_column c t)
@@ -202,18 +203,13 @@ module _ (last : ℕ) (E : Tokens → Tree → Type 0) (W Any : Type 0) where
   unfolding column_at
   column_local w t ts = distinct_local (AddsPart t) (λ n. is_among n (column_names t.columns)) (λ n p. column_behind last (record { name = n; place = p }) t) ts (some_part t) (λ n name us hn. behind_local w t n name hn us)
 
-  part_is : (t : TableRead) (ts : Tokens) → table_add last t ts ≡ table_item last (after (is_word words.Primary) ts) (after (is_word words.Unique) ts) t ts
-  unfolding table_add
-  part_is t ts = refl
-
   part_local : W → (t : TableRead) (ts : Tokens) → Local last E W Any (AddsPart t) (table_add last t) ts
-  part_local w t ts = either last E W Any (AddsPart t) (is_word words.Primary) (λ us. keyword last words.Key us >>= key_at last true t) (λ us. table_item last None (after (is_word words.Unique) us) t us) (table_add last t) ts
-      (λ p vs h. part_is t (p ∷ vs) ∙ rw h refl) (λ p vs h. part_is t (p ∷ vs) ∙ rw h refl) (part_is t [])
+  unfolding table_add
+  part_local w t ts = chosen last E W Any (AddsPart t) (is_word words.Primary) (λ us. keyword last words.Key us >>= key_at last true t) (λ us. some_or (key_at last false t) (column_at last t us) (after (is_word words.Unique) us)) ts
       (λ p us hp. let s = some_columns in token_then last E W Any (λ xs w. AddsPart t (p ∷ xs) w) (is_word words.Key) (key_at last true t) us
       (a_word words.Key ∷ a_sign signs.Open ∷ (s.0 ++ a_sign signs.Close ∷ []), with_key true s.1 t, a_primary t p (a_word words.Key) (a_sign signs.Open) (a_sign signs.Close) s.0 s.1 hp (key_is words.Key []) refl s.2 refl)
       (λ k vs hk. key_local (λ xs w. AddsPart t (p ∷ k ∷ xs) w) true t vs (λ o c xs ns ho q hc. a_primary t p k o c xs ns hp hk ho q hc)))
-      (either last E W Any (AddsPart t) (is_word words.Unique) (key_at last false t) (column_at last t) (λ us. table_item last None (after (is_word words.Unique) us) t us) ts
-      (λ u vs h. rw h refl) (λ u vs h. rw h refl) refl
+      (chosen last E W Any (AddsPart t) (is_word words.Unique) (key_at last false t) (column_at last t) ts
       (λ u us hu. key_local (λ xs w. AddsPart t (u ∷ xs) w) false t us (λ o c xs ns ho q hc. a_unique t u o c xs ns hu ho q hc))
       (column_local w t ts))
 

@@ -1,5 +1,5 @@
 -- What is read of CREATE TABLE is kept: columns and keys as they are written.
-use Rattle.std.proofs.Common.{◌≡◌, ℕ, zero, suc, ◌+◌, ◌<◌, ◌≤◌, List, [], ◌∷◌, ◌++◌, length, Option, Some, None, refl, ap, subst, ◌∙◌, arith, length-append}
+use Rattle.std.proofs.Common.{◌≡◌, ℕ, zero, suc, ◌+◌, ◌<◌, ◌≤◌, List, [], ◌∷◌, ◌++◌, length, Option, Some, None, refl, sym, ap, subst, ◌∙◌, arith, length-append}
 use Rattle.std.proofs.lemmas.List.{map-append}
 use Rattle.std.specs.List.{list_all}
 use Rattle.std.specs.Prelude.{Result, Ok, Err, Bool, true, false, if◌then◌else◌}
@@ -11,10 +11,12 @@ use Rattle.sql_trees.specs.Statements.{ColumnTree}
 use Rattle.sql_trees.specs.Tokens.{Token, Tokens, named}
 use Rattle.sql_trees.specs.Tokens as tok
 use Rattle.sql_expressions.specs.Reading.{after, after_comma, expect, misplaced, is_close, is_open, is_word, place_of, ◌>>=◌}
-use Rattle.sql_parser.specs.Readers.{items_at, keyword, name_at, named_at}
-use Rattle.sql_parser.specs.Tables.{Placed, KeyRead, TableRead, Constraints, is_among, placed_names, column_names, empty_table, with_key, with_column, key_limit, kind_of, kind_named, kind_at, key_add, key_at, constraint_of, constraint_at, constrained, constraints_turn, constraints_at, limits_at, column_behind, column_at, table_item, table_add}
+use Rattle.sql_parser.specs.Readers.{items_at, keyword, name_at, some_or, misplaced_word}
+use Rattle.sql_parser.specs.Tables.{Placed, KeyRead, TableRead, Constraints, is_among, placed_names, column_names, empty_table, with_key, with_column, key_limit, kind_of, kind_at, key_add, key_at, constraints_at, limits_at, column_behind, column_at, table_add}
+use Rattle.sql_parser.specs.OneConstraint.{constraint_of, constraint_at, constrained}
 use Rattle.sql_parser.specs.Kept.{all_differ}
 use Rattle.sql_parser.proofs.Keeping.{differ_push}
+use Rattle.sql_parser.proofs.Going.{turn_is}
 use Rattle.sql_parser.proofs.Lists.{comma_shortens}
 use Rattle.sql_parser.proofs.Steps.{bind_ok, ok_same, unless_ok, items_keep, push_all}
 
@@ -48,7 +50,7 @@ module _ (last : ℕ) where
   name_shorter [] x e = absurd cc
   name_shorter (t ∷ ts) x e = of_name (named t.tok) e
     where
-      of_name : (o : Option (List ℕ)) → named_at last o (t ∷ ts) ts ≡ Ok x → length x.1 < length (t ∷ ts)
+      of_name : (o : Option (List ℕ)) → some_or (λ n. Ok (n, ts)) (Err (misplaced last (t ∷ ts))) o ≡ Ok x → length x.1 < length (t ∷ ts)
       of_name None h = absurd cc
       of_name (Some n) h = subst (λ (y : List ℕ × Tokens). length y.1 < length (t ∷ ts)) (ok_same (n, ts) x h) (omega arith)
 
@@ -56,7 +58,7 @@ module _ (last : ℕ) where
   kind_shorter [] x e = absurd cc
   kind_shorter (t ∷ ts) x e = of_kind (kind_of t.tok) e
     where
-      of_kind : (o : Option Kind) → kind_named last o (t ∷ ts) ts ≡ Ok x → length x.1 < length (t ∷ ts)
+      of_kind : (o : Option Kind) → some_or (λ k. Ok (k, ts)) (Err (misplaced_word last (t ∷ ts))) o ≡ Ok x → length x.1 < length (t ∷ ts)
       of_kind None h = absurd cc
       of_kind (Some k) h = subst (λ (y : Kind × Tokens). length y.1 < length (t ∷ ts)) (ok_same (k, ts) x h) (omega arith)
 
@@ -129,9 +131,9 @@ module _ (last : ℕ) where
   constraints_keep : (bound left : ℕ) (c : Placed) (n : ℕ) (s : Constraints) (ts : Tokens) (x : Constraints × Tokens) → KeysWithin bound left s.keys ts → constraints_at last c n s ts ≡ Ok x → KeysWithin bound left x.0.keys x.1
   unfolding constraints_at
   constraints_keep bound left c zero s ts x k e = subst (λ (y : Constraints × Tokens). KeysWithin bound left y.0.keys y.1) (ok_same (s, ts) x e) k
-  constraints_keep bound left c (suc n) s ts x k e = of_test (constraints_keep bound left c n) (constrained ts) e
+  constraints_keep bound left c (suc n) s ts x k e = of_test (constraints_keep bound left c n) (constrained ts) (sym (turn_is last c n s ts) ∙ e)
     where
-      of_test : ((r : Constraints) (us : Tokens) (y : Constraints × Tokens) → KeysWithin bound left r.keys us → constraints_at last c n r us ≡ Ok y → KeysWithin bound left y.0.keys y.1) → (b : Bool) → constraints_turn last (constraints_at last c n) c b s ts ≡ Ok x → KeysWithin bound left x.0.keys x.1
+      of_test : ((r : Constraints) (us : Tokens) (y : Constraints × Tokens) → KeysWithin bound left r.keys us → constraints_at last c n r us ≡ Ok y → KeysWithin bound left y.0.keys y.1) → (b : Bool) → (if b then (constraint_at last c s ts >>= λ y. constraints_at last c n y.0 y.1) else Ok (s, ts)) ≡ Ok x → KeysWithin bound left x.0.keys x.1
       of_test go false h = subst (λ (y : Constraints × Tokens). KeysWithin bound left y.0.keys y.1) (ok_same (s, ts) x h) k
       of_test go true h =
           let a = bind_ok (constraint_at last c s ts) (λ y. constraints_at last c n y.0 y.1) x h in
@@ -140,12 +142,12 @@ module _ (last : ℕ) where
   behind_keeps : (bound : ℕ) (c : Placed) (t : TableRead) (ts : Tokens) (x : TableRead × Tokens) → length t.columns + suc (length ts) ≤ bound → length t.keys + length ts ≤ bound → all_differ (column_names t.columns) ≡ true → list_all key_differs t.keys ≡ true → is_among c.name (column_names t.columns) ≡ false → column_behind last c t ts ≡ Ok x → TableWithin bound x.0 x.1
   unfolding column_behind limits_at
   behind_keeps bound c t ts x hc hk hn hd new e =
-      let a = bind_ok (limits_at last c t.keys ts) (λ y. Ok (with_column c y.0 y.1.0 t, y.1.1)) x e in
-      let k = bind_ok (kind_at last ts) (λ k. constraints_at last c (length k.1) (record { not_null = false; keys = t.keys }) k.1 >>= λ y. Ok (k.0, y)) a.0 a.1 in
-      let s = bind_ok (constraints_at last c (length k.0.1) (record { not_null = false; keys = t.keys }) k.0.1) (λ y. Ok (k.0.0, y)) a.0 k.2 in
+      let a = bind_ok (limits_at last c t.keys ts) (λ y. Ok (with_column c y.0.0 y.0.1 t, y.1)) x e in
+      let k = bind_ok (kind_at last ts) (λ k. constraints_at last c (length k.1) (record { not_null = false; keys = t.keys }) k.1 >>= λ y. Ok ((k.0, y.0), y.1)) a.0 a.1 in
+      let s = bind_ok (constraints_at last c (length k.0.1) (record { not_null = false; keys = t.keys }) k.0.1) (λ y. Ok ((k.0.0, y.0), y.1)) a.0 k.2 in
       let w = constraints_keep bound (length ts) c (length k.0.1) (record { not_null = false; keys = t.keys }) k.0.1 s.0 (record { few = omega (arith, hk, kind_shorter ts k.0 k.1); shorter = omega (arith, kind_shorter ts k.0 k.1); differ = hd }) s.1 in
-      let same = ok_same (k.0.0, s.0) a.0 s.2 in
-      subst (λ (y : TableRead × Tokens). TableWithin bound y.0 y.1) (ok_same (with_column c a.0.0 a.0.1.0 t, a.0.1.1) x a.2) (subst (λ (z : Kind × (Constraints × Tokens)). TableWithin bound (with_column c z.0 z.1.0 t) z.1.1) same (record {
+      let same = ok_same ((k.0.0, s.0.0), s.0.1) a.0 s.2 in
+      subst (λ (y : TableRead × Tokens). TableWithin bound y.0 y.1) (ok_same (with_column c a.0.0.0 a.0.0.1 t, a.0.1) x a.2) (subst (λ (z : (Kind × Constraints) × Tokens). TableWithin bound (with_column c z.0.0 z.0.1 t) z.1) same (record {
         columns = omega (arith, hc, w.shorter, length-append {A = ColumnTree});
         keys = w.few;
         names = ap all_differ (map-append (λ (n : ColumnTree). n.name) t.columns (record { name = c.name; kind = k.0.0; not_null = s.0.0.not_null } ∷ [])) ∙ differ_push (column_names t.columns) c.name hn new;
@@ -178,14 +180,17 @@ module _ (last : ℕ) where
 
   add_keeps : (bound : ℕ) (t : TableRead) (ts : Tokens) (x : TableRead × Tokens) → TableWithin bound t ts → table_add last t ts ≡ Ok x → TableWithin bound x.0 x.1
   unfolding table_add
-  add_keeps bound t ts x k e = of_item (after (is_word words.Primary) ts) (after (is_word words.Unique) ts) refl refl e
+  add_keeps bound t ts x k e = of_primary (after (is_word words.Primary) ts) refl e
     where
-      of_item : (p u : Option Tokens) → after (is_word words.Primary) ts ≡ p → after (is_word words.Unique) ts ≡ u → table_item last p u t ts ≡ Ok x → TableWithin bound x.0 x.1
-      of_item (Some us) u hp hu h =
+      of_unique : (o : Option Tokens) → after (is_word words.Unique) ts ≡ o → some_or (key_at last false t) (column_at last t ts) o ≡ Ok x → TableWithin bound x.0 x.1
+      of_unique (Some us) hu h = key_keeps bound false t us x (fewer_tokens bound t ts us k (after_shorter (is_word words.Unique) ts us hu)) h
+      of_unique None hu h = column_keeps bound t ts x k h
+
+      of_primary : (o : Option Tokens) → after (is_word words.Primary) ts ≡ o → some_or (λ us. keyword last words.Key us >>= key_at last true t) (some_or (key_at last false t) (column_at last t ts) (after (is_word words.Unique) ts)) o ≡ Ok x → TableWithin bound x.0 x.1
+      of_primary (Some us) hp h =
           let a = bind_ok (keyword last words.Key us) (λ vs. key_at last true t vs) x h in
           key_keeps bound true t a.0 x (fewer_tokens bound t ts a.0 k (omega (arith, after_shorter (is_word words.Primary) ts us hp, expect_shorter (is_word words.Key) us a.0 a.1))) a.2
-      of_item None (Some us) hp hu h = key_keeps bound false t us x (fewer_tokens bound t ts us k (after_shorter (is_word words.Unique) ts us hu)) h
-      of_item None None hp hu h = column_keeps bound t ts x k h
+      of_primary None hp h = of_unique (after (is_word words.Unique) ts) refl h
 
   -- a table has no more columns and no more keys than it has tokens, and its columns differ, and those of each key
   pub table_within : (ts : Tokens) (x : TableRead × Tokens) → items_at (table_add last) empty_table ts ≡ Ok x → TableWithin (length ts) x.0 x.1

@@ -1,5 +1,5 @@
 -- SQL text and its tokens.
-use Rattle.std.proofs.Common.{◌≡◌, ℕ, zero, suc, ◌+◌, ◌<◌, ◌≤◌, List, [], ◌∷◌, ◌++◌, length, map, refl, sym, ap, ◌∙◌, subst, arith, inl, inr}
+use Rattle.std.proofs.Common.{◌≡◌, ℕ, ◌<◌, ◌≤◌, List, [], ◌∷◌, length, map, refl, sym, ap, ◌∙◌, subst, arith, inr}
 use Rattle.std.proofs.lemmas.List.{length-map}
 use Rattle.std.specs.Prelude.{Result, Ok, Err}
 use Rattle.iso_lexer.specs.declared.fault.Fault.{Fault}
@@ -18,9 +18,9 @@ use Rattle.sql_trees.specs.declared.token.Tok.{Tok}
 use Rattle.sql_trees.specs.Tokens.{classify_at, tok_at, tok_views}
 use Rattle.sql_expressions.specs.Reading.{Gives}
 use Rattle.sql_parser.specs.declared.block.Role.{Role}
-use Rattle.sql_parser.specs.Readers.{seen}
+use Rattle.sql_parser.specs.Calls.{seen}
 use Rattle.sql_parser.specs.Blocks.{block_at}
-use Rattle.sql_parser.specs.Texts.{ReadsAs, Parses}
+use Rattle.sql_parser.specs.Texts.{Parses}
 
 some_token : (text : List ℕ) (t : SqlToken) (rest : List ℕ) → sql_front text ≡ token t rest → 0 < length text
 some_token [] t rest e = let n = sql_rules.nothing in absurd cc

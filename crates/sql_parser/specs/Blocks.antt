@@ -1,5 +1,5 @@
 -- Statements and blocks.
-use Rattle.std.specs.Prelude.{◌≡◌, ℕ, suc, Bool, true, false, ◌&&◌, List, [], ◌∷◌, ◌++◌, length, Option, Some, None, Result, Ok, Err, nat_lt, if◌then◌else◌}
+use Rattle.std.specs.Prelude.{ℕ, Bool, true, false, ◌&&◌, List, [], ◌∷◌, ◌++◌, length, Result, Ok, Err, nat_lt, if◌then◌else◌}
 use Rattle.iso_lexer.specs.declared.token.At.{At}
 use Rattle.iso_lexer.specs.declared.sql_token.SqlSign.TheVariants as signs
 use Rattle.sql_trees.specs.declared.fault.SqlFault.{SqlFault}
@@ -11,7 +11,7 @@ use Rattle.sql_trees.specs.Tokens as tok
 use Rattle.sql_expressions.specs.Reading.{misplaced, ◌>>=◌}
 use Rattle.sql_parser.specs.declared.block.Role.{Role}
 use Rattle.sql_parser.specs.declared.block.Role.TheVariants as roles
-use Rattle.sql_parser.specs.Readers.{past}
+use Rattle.sql_parser.specs.Readers.{Reader, made, past}
 use Rattle.sql_parser.specs.Transactions.{is_work, begin_at, start_at, set_at}
 use Rattle.sql_parser.specs.Tables.{create_at, drop_at}
 use Rattle.sql_parser.specs.Changes.{insert_at, update_at, delete_at}
@@ -32,7 +32,7 @@ is_semicolon _ = false
 
 module _ (last : ℕ) where
   -- a statement of which nothing has to hold as a whole, by its first token
-  abbrev pub simple_of : Token → At Token → Tokens → Result (StmtTree × Tokens) SqlFault
+  abbrev pub simple_of : Token → At Token → Reader StmtTree
   simple_of (tok.word words.Begin s) t ts = begin_at last (past is_work ts)
   simple_of (tok.word words.Start s) t ts = start_at last ts
   simple_of (tok.word words.Commit s) t ts = Ok (Commit, past is_work ts)
@@ -46,29 +46,16 @@ module _ (last : ℕ) where
   simple_of (tok.word words.Delete s) t ts = delete_at last ts
   simple_of _ t ts = Err (misplaced last (t ∷ ts))
 
-  abbrev pub simple_at : Tokens → Result (StmtTree × Tokens) SqlFault
-  simple_at [] = Err (misplaced last [])
-  simple_at (t ∷ ts) = simple_of t.tok t ts
-
   -- a statement by its first token, or what is wrong with the whole of it
-  abbrev pub begun_of : Token → At Token → Tokens → Result (Result StmtTree SqlFault × Tokens) SqlFault
+  abbrev pub begun_of : Token → At Token → Reader (Result StmtTree SqlFault)
   begun_of (tok.word words.Create s) t ts = create_at last ts
   begun_of (tok.word words.Select s) t ts = select_at last t.span.start ts
-  begun_of _ t ts = do
-    x ← simple_at (t ∷ ts)
-    Ok (Ok x.0, x.1)
-
-  abbrev pub begun_at : Tokens → Result (Result StmtTree SqlFault × Tokens) SqlFault
-  begun_at [] = Err (misplaced last [])
-  begun_at (t ∷ ts) = begun_of t.tok t ts
+  begun_of _ t ts = made (λ s. Ok s) (simple_of t.tok t) ts
 
   -- a statement, which makes and drops no table in a session's block
-  abbrev pub allowed_at : Bool → Tokens → Result (Result StmtTree SqlFault × Tokens) SqlFault
-  allowed_at session [] = Err (misplaced last [])
-  allowed_at session (t ∷ ts) = if session && is_ddl t.tok then Err (DdlInSession t.span.start) else begun_at (t ∷ ts)
-
-  unfoldable pub stmt_at : Role → Tokens → Result (Result StmtTree SqlFault × Tokens) SqlFault
-  stmt_at role ts = allowed_at (is_session role) ts
+  unfoldable pub stmt_at : Role → Reader (Result StmtTree SqlFault)
+  stmt_at role [] = Err (misplaced last [])
+  stmt_at role (t ∷ ts) = if is_session role && is_ddl t.tok then Err (DdlInSession t.span.start) else begun_of t.tok t ts
 
   -- the tokens have all been read
   abbrev pub at_end : {A : Type 0} → Result A SqlFault → Tokens → Result A SqlFault
@@ -77,38 +64,19 @@ module _ (last : ℕ) where
 
   -- a statement behind which nothing stands
   unfoldable pub whole_at : Role → Tokens → Result StmtTree SqlFault
-  whole_at role ts = do
-    x ← stmt_at role ts
-    at_end x.0 x.1
+  whole_at role ts = stmt_at role ts >>= λ x. at_end x.0 x.1
 
   -- what stands between two semicolons, the second of them or the text's end at last: nothing or one more statement, of which a block has at most 256
   unfoldable pub piece_at : Role → List StmtTree → Tokens → Result (List StmtTree) SqlFault
   piece_at role ss [] = Ok ss
-  piece_at role ss (t ∷ ts) = if nat_lt (length ss) 256 then (do
-    s ← whole_at role (t ∷ ts)
-    Ok (ss ++ s ∷ [])) else Err (TooMany t.span.start)
+  piece_at role ss (t ∷ ts) = if nat_lt (length ss) 256 then (whole_at role (t ∷ ts) >>= λ s. Ok (ss ++ s ∷ [])) else Err (TooMany t.span.start)
 
 -- the statements of a block behind these, where piece is what has passed since the last semicolon
 unfoldable pub stmts_at : ℕ → Role → List StmtTree → Tokens → Tokens → Result (List StmtTree) SqlFault
 stmts_at last role ss piece [] = piece_at last role ss piece
-stmts_at last role ss piece (t ∷ ts) = if is_semicolon t.tok then (do
-  more ← piece_at t.span.start role ss piece
-  stmts_at last role more [] ts) else stmts_at last role ss (piece ++ t ∷ []) ts
-
--- the statements of a block, behind these
-abbrev pub block_from : ℕ → Role → List StmtTree → Tokens → Result (List StmtTree) SqlFault
-block_from last role ss ts = stmts_at last role ss [] ts
+stmts_at last role ss piece (t ∷ ts) =
+    if is_semicolon t.tok then (piece_at t.span.start role ss piece >>= λ more. stmts_at last role more [] ts) else stmts_at last role ss (piece ++ t ∷ []) ts
 
 -- the statements of a block
 abbrev pub block_at : ℕ → Role → Tokens → Result (List StmtTree) SqlFault
-block_at last role ts = block_from last role [] ts
-
--- how many tokens stand before the first semicolon
-abbrev pub piece_len : Tokens → ℕ
-piece_len [] = 0
-piece_len (t ∷ ts) = if is_semicolon t.tok then 0 else suc (piece_len ts)
-
--- the tokens before the first semicolon, its place and the tokens behind it, so far as a block is concerned
-abbrev pub SplitsAs : Tokens → Option (Tokens × ℕ × Tokens) → Type 0
-SplitsAs ts None = (last : ℕ) (role : Role) (ss : List StmtTree) → block_from last role ss ts ≡ piece_at last role ss ts
-SplitsAs ts (Some x) = (last : ℕ) (role : Role) (ss : List StmtTree) → block_from last role ss ts ≡ (piece_at x.1 role ss x.0 >>= λ more. block_from last role more x.2)
+block_at last role ts = stmts_at last role [] [] ts

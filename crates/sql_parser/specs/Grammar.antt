@@ -1,6 +1,6 @@
 -- The grammar of statements and blocks: which tokens spell which trees. Above each rule stands what is kept of the synopsis on the command's page of
 -- PostgreSQL 17's manual; numbers are sections of it. E says which tokens spell an expression.
-use Rattle.std.specs.Prelude.{◌≡◌, ℕ, Bool, true, false, List, [], ◌∷◌, ◌++◌, length, map, Option, Some, None, option_map}
+use Rattle.std.specs.Prelude.{◌≡◌, ℕ, Bool, true, false, List, [], ◌∷◌, ◌++◌, length, Option, Some, None, option_map}
 use Rattle.iso_lexer.specs.declared.token.At.{At}
 use Rattle.sql_trees.specs.declared.word.Word.{Word}
 use Rattle.sql_trees.specs.declared.word.Word.TheVariants as words
@@ -11,14 +11,14 @@ use Rattle.sql_trees.specs.declared.stmt.Level.{Level}
 use Rattle.sql_trees.specs.declared.stmt.Level.TheVariants.{ReadCommitted, RepeatableRead}
 use Rattle.sql_trees.specs.declared.stmt.Lock.{Lock}
 use Rattle.sql_trees.specs.declared.stmt.Lock.TheVariants as locks
-use Rattle.sql_trees.specs.Statements.{StmtTree, Begin, Commit, Rollback, SetTransaction, SetDeadlockTimeout, Create, DropTables, Inserts, Updates, Deletes, Selects}
+use Rattle.sql_trees.specs.Statements.{StmtTree, Begin, Commit, Rollback, SetTransaction, SetDeadlockTimeout, DropTables, Inserts, Updates, Deletes, Selects}
 use Rattle.sql_trees.specs.Statements.{SetTree, ItemTree, OrderTree, All, Value, Aggregate}
 use Rattle.sql_trees.specs.Tokens.{Token, Tokens, named}
 use Rattle.sql_trees.specs.Trees.{Tree, AggTree, CountRows, Of}
 use Rattle.sql_expressions.specs.Reading.{is_word, is_open, is_close, is_comma}
 use Rattle.sql_expressions.specs.Grammar.{OR, SpellsIn}
 use Rattle.sql_parser.specs.Transactions.{is_work, is_scope, is_to, is_setting}
-use Rattle.sql_parser.specs.Tables.{Placed, TableRead, Constraints, empty_table, with_key, with_column, key_limit, kind_of, column_names, completed, declared}
+use Rattle.sql_parser.specs.Tables.{Placed, TableRead, Constraints, empty_table, with_key, with_column, key_limit, kind_of, created}
 use Rattle.sql_parser.specs.Changes.{Rows, is_equal}
 use Rattle.sql_parser.specs.Queries.{is_star, agg_kind}
 use Rattle.sql_parser.specs.Blocks.{is_semicolon}
@@ -109,10 +109,6 @@ pub data AddsPart : TableRead → Tokens → TableRead → Type 0 where
   a_unique : (table : TableRead) (unique opening closing : At Token) (list : Tokens) (columns : List Placed) →
       Key words.Unique unique → Is is_open opening → Commas AddsColumn [] list columns → Is is_close closing →
       AddsPart table (unique ∷ opening ∷ (list ++ closing ∷ [])) (with_key false columns table)
-
--- the table of these columns and keys: a column of a primary key is NOT NULL, and the primary key stands first
-abbrev pub created : List ℕ → TableRead → StmtTree
-created name t = Create (record { name = name; columns = map (completed t.keys) t.columns; keys = declared (column_names t.columns) t.keys })
 
 -- ---- INSERT, UPDATE and DELETE
 

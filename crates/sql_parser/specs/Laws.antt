@@ -10,8 +10,8 @@ use Rattle.sql_expressions.specs.Reading.{place_of}
 use Rattle.sql_expressions.specs.Laws.{head}
 use Rattle.sql_parser.specs.declared.block.Role.{Role}
 use Rattle.sql_parser.specs.Blocks.{is_session, is_ddl, is_semicolon, block_at, whole_at}
-use Rattle.sql_parser.specs.Tables.{TableRead, keys_fault, column_names}
-use Rattle.sql_parser.specs.Grammar.{BlockIs, EndedAre, Spells, Shallow, OfAnyDepth, created}
+use Rattle.sql_parser.specs.Tables.{TableRead, keys_fault, column_names, created}
+use Rattle.sql_parser.specs.Grammar.{BlockIs, EndedAre, Spells, Shallow, OfAnyDepth}
 use Rattle.sql_parser.specs.Kept.{is_kept_in}
 use Rattle.sql_parser.specs.Queries.{is_allowed}
 use Rattle.sql_parser.specs.Stops.{Refuses, WantsWords, IsStop}

@@ -1,9 +1,12 @@
 pub mod Readers
+pub mod Calls
 pub mod Transactions
 pub mod Tables
+pub mod OneConstraint
 pub mod Changes
 pub mod Queries
 pub mod Blocks
+pub mod Pieces
 pub mod BlockViews
 pub mod Views
 pub mod Texts

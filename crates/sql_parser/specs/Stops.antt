@@ -1,15 +1,15 @@
 -- Where a statement is refused, and with which fault.
-use Rattle.std.specs.Prelude.{◌≡◌, ℕ, Bool, true, false, ◌||◌, List, [], ◌∷◌, ◌++◌}
+use Rattle.std.specs.Prelude.{◌≡◌, ℕ, true, ◌||◌, List, [], ◌∷◌, ◌++◌}
 use Rattle.iso_lexer.specs.declared.token.At.{At}
 use Rattle.sql_trees.specs.declared.fault.SqlFault.{SqlFault}
 use Rattle.sql_trees.specs.declared.fault.SqlFault.TheVariants.{Syntax, LeftOut, TooDeep, BadColumns}
 use Rattle.sql_trees.specs.declared.word.Word.TheVariants as words
 use Rattle.sql_trees.specs.Tokens.{Token, Tokens}
-use Rattle.sql_trees.specs.Tokens as tok
 use Rattle.sql_trees.specs.Trees.{Tree}
 use Rattle.sql_expressions.specs.Reading.{misplaced, place_of, is_word}
 use Rattle.sql_expressions.specs.Laws.{Makes, first}
 use Rattle.sql_expressions.specs.Laws as expr
+use Rattle.sql_parser.specs.Readers.{is_unquoted}
 use Rattle.sql_parser.specs.Grammar.{Names, RowIs}
 
 -- a fault of one token that can't stand there
@@ -19,10 +19,6 @@ IsStop (LeftOut n) = Unit {0}
 IsStop (TooDeep n) = Unit {0}
 IsStop (BadColumns n) = Unit {0}
 IsStop _ = ⊥
-
-abbrev pub is_unquoted : Token → Bool
-is_unquoted (tok.word w s) = true
-is_unquoted _ = false
 
 -- a statement that has kinds, or a parameter behind SET
 abbrev pub WantsWords : Tokens → Type 0

@@ -1,5 +1,6 @@
 -- CREATE TABLE and DROP TABLE (PostgreSQL manual: CREATE TABLE, DROP TABLE).
-use Rattle.std.specs.Prelude.{ℕ, zero, suc, Bool, true, false, not, ◌||◌, ◌&&◌, List, [], ◌∷◌, ◌++◌, length, map, filter, bytes_eq, Option, Some, None, Result, Ok, Err, if◌then◌else◌}
+use Rattle.std.specs.Prelude.{ℕ, zero, suc, Bool, true, false, not, ◌||◌, ◌&&◌, List, [], ◌∷◌, ◌++◌, length, map, filter, bytes_eq}
+use Rattle.std.specs.Prelude.{Option, Some, None, Result, Ok, Err, if◌then◌else◌}
 use Rattle.std.specs.List.{list_any}
 use Rattle.sql_trees.specs.declared.fault.SqlFault.{SqlFault}
 use Rattle.sql_trees.specs.declared.fault.SqlFault.TheVariants.{BadColumns}
@@ -9,9 +10,8 @@ use Rattle.sql_trees.specs.declared.kind.Kind.TheVariants as kinds
 use Rattle.sql_trees.specs.Statements.{StmtTree, ColumnTree, KeyTree, Create, DropTables, key_name}
 use Rattle.sql_trees.specs.Tokens.{Token, Tokens}
 use Rattle.sql_trees.specs.Tokens as tok
-use Rattle.sql_expressions.specs.Reading.{misplaced, place_of, expect, is_open, is_close, ◌>>=◌}
-use Rattle.sql_expressions.specs.Reading.{is_word, after}
-use Rattle.sql_parser.specs.Readers.{keyword, misplaced_word, name_at, items_at}
+use Rattle.sql_expressions.specs.Reading.{after, place_of, expect, is_open, is_word, ◌>>=◌ as and_then}
+use Rattle.sql_parser.specs.Readers.{Reader, gives, made, some_or, either, one_at, keyword, closed, misplaced_word, name_at, items_at, added, ◌>>=◌, ◌>>◌}
 
 -- the name is one of these
 abbrev pub is_among : List ℕ → List (List ℕ) → Bool
@@ -67,99 +67,56 @@ kind_of (tok.word words.Text s) = Some kinds.Text
 kind_of (tok.word words.Boolean s) = Some kinds.Bool
 kind_of _ = None
 
-abbrev pub is_constraint : Token → Bool
-is_constraint (tok.word words.Not s) = true
-is_constraint (tok.word words.Primary s) = true
-is_constraint (tok.word words.Unique s) = true
-is_constraint _ = false
-
-abbrev pub constrained : Tokens → Bool
-constrained [] = false
-constrained (t ∷ ts) = is_constraint t.tok
-
 -- the tokens behind IF EXISTS
 abbrev pub after_if : Tokens → Option Tokens
-after_if [] = None
-after_if (t ∷ ts) = if is_word words.If t.tok then after (is_word words.Exists) ts else None
+after_if = either (is_word words.If) (after (is_word words.Exists)) (λ ts. None)
 
 module _ (last : ℕ) where
-  abbrev pub kind_named : Option Kind → Tokens → Tokens → Result (Kind × Tokens) SqlFault
-  kind_named None ts rest = Err (misplaced_word last ts)
-  kind_named (Some k) ts rest = Ok (k, rest)
+  -- a name that is none of these, and what is read behind it
+  abbrev pub new_name : {X : Type 0} → List (List ℕ) → (Placed → Reader X) → Reader X
+  new_name names next ts =
+      and_then (name_at last ts) (λ x. if is_among x.0 names then Err (BadColumns (place_of last ts)) else next (record { name = x.0; place = place_of last ts }) x.1)
 
-  abbrev pub kind_at : Tokens → Result (Kind × Tokens) SqlFault
-  kind_at [] = Err (misplaced_word last [])
-  kind_at (t ∷ ts) = kind_named (kind_of t.tok) (t ∷ ts) ts
+  abbrev pub kind_at : Reader Kind
+  kind_at = one_at (misplaced_word last) kind_of
 
   -- one more column of a key, which may not stand there twice
-  abbrev pub key_add : List Placed → Tokens → Result (List Placed × Tokens) SqlFault
-  key_add ns ts = do
-    x ← name_at last ts
-    if is_among x.0 (placed_names ns) then Err (BadColumns (place_of last ts)) else Ok (ns ++ (record { name = x.0; place = place_of last ts }) ∷ [], x.1)
+  abbrev pub key_add : List Placed → Reader (List Placed)
+  key_add ns = new_name (placed_names ns) (λ n. gives (ns ++ n ∷ []))
 
   -- the columns of a key in parentheses
-  unfoldable pub key_at : Bool → TableRead → Tokens → Result (TableRead × Tokens) SqlFault
-  key_at primary t ts = do
-    us ← expect last is_open ts
-    x ← items_at key_add [] us
-    rest ← expect last is_close x.1
-    Ok (with_key primary x.0 t, rest)
+  unfoldable pub key_at : Bool → TableRead → Reader TableRead
+  key_at primary t = expect last is_open >> closed last (λ ns. with_key primary ns t) (items_at key_add [])
 
-  -- NOT NULL, PRIMARY KEY or UNIQUE behind a column
-  abbrev pub constraint_of : Placed → Constraints → Token → Tokens → Tokens → Result (Constraints × Tokens) SqlFault
-  constraint_of c s (tok.word words.Not w) ts rest = do
-    us ← keyword last words.Null rest
-    Ok (record { not_null = true; keys = s.keys }, us)
-  constraint_of c s (tok.word words.Primary w) ts rest = do
-    us ← keyword last words.Key rest
-    Ok (key_limit true c s, us)
-  constraint_of c s (tok.word words.Unique w) ts rest = Ok (key_limit false c s, rest)
-  constraint_of c s _ ts rest = Err (misplaced last ts)
-
-  abbrev pub constraint_at : Placed → Constraints → Tokens → Result (Constraints × Tokens) SqlFault
-  constraint_at c s [] = Err (misplaced last [])
-  constraint_at c s (t ∷ ts) = constraint_of c s t.tok (t ∷ ts) ts
-
-  abbrev pub constraints_turn : (Constraints → Tokens → Result (Constraints × Tokens) SqlFault) → Placed → Bool → Constraints → Tokens → Result (Constraints × Tokens) SqlFault
-  constraints_turn go c false s ts = Ok (s, ts)
-  constraints_turn go c true s ts = do
-    x ← constraint_at c s ts
-    go x.0 x.1
-
-  -- what is said of a column, as many times as there are tokens at most
-  unfoldable pub constraints_at : Placed → ℕ → Constraints → Tokens → Result (Constraints × Tokens) SqlFault
+  -- NOT NULL, PRIMARY KEY and UNIQUE behind a column, so many times at most
+  unfoldable pub constraints_at : Placed → ℕ → Constraints → Reader Constraints
   constraints_at c zero s ts = Ok (s, ts)
-  constraints_at c (suc n) s ts = constraints_turn (constraints_at c n) c (constrained ts) s ts
+  constraints_at c (suc n) s ts =
+      either (is_word words.Not) (keyword last words.Null >> constraints_at c n (record { not_null = true; keys = s.keys }))
+      (either (is_word words.Primary) (keyword last words.Key >> constraints_at c n (key_limit true c s))
+      (either (is_word words.Unique) (constraints_at c n (key_limit false c s)) (gives s))) ts
+
+  -- all that is said of a column
+  abbrev pub said_at : Placed → Constraints → Reader Constraints
+  said_at c s ts = constraints_at c (length ts) s ts
 
   -- a column's kind and what is said of it, behind the keys before it
-  unfoldable pub limits_at : Placed → List KeyRead → Tokens → Result (Kind × (Constraints × Tokens)) SqlFault
-  limits_at c keys ts = do
-    k ← kind_at ts
-    x ← constraints_at c (length k.1) (record { not_null = false; keys = keys }) k.1
-    Ok (k.0, x)
+  unfoldable pub limits_at : Placed → List KeyRead → Reader (Kind × Constraints)
+  limits_at c keys = do
+    kind ← kind_at
+    gives (kind, (← said_at c (record { not_null = false; keys = keys })))
 
   -- a column behind its name
-  unfoldable pub column_behind : Placed → TableRead → Tokens → Result (TableRead × Tokens) SqlFault
-  column_behind c t ts = do
-    x ← limits_at c t.keys ts
-    Ok (with_column c x.0 x.1.0 t, x.1.1)
+  unfoldable pub column_behind : Placed → TableRead → Reader TableRead
+  column_behind c t = made (λ x. with_column c x.0 x.1 t) (limits_at c t.keys)
 
   -- a column, whose name may not stand there twice
-  unfoldable pub column_at : TableRead → Tokens → Result (TableRead × Tokens) SqlFault
-  column_at t ts = do
-    x ← name_at last ts
-    if is_among x.0 (column_names t.columns) then Err (BadColumns (place_of last ts)) else column_behind (record { name = x.0; place = place_of last ts }) t x.1
-
-  abbrev pub table_item : Option Tokens → Option Tokens → TableRead → Tokens → Result (TableRead × Tokens) SqlFault
-  table_item (Some us) unique t ts = do
-    vs ← keyword last words.Key us
-    key_at true t vs
-  table_item None (Some us) t ts = key_at false t us
-  table_item None None t ts = column_at t ts
+  unfoldable pub column_at : TableRead → Reader TableRead
+  column_at t = new_name (column_names t.columns) (λ c. column_behind c t)
 
   -- one more column or key
-  unfoldable pub table_add : TableRead → Tokens → Result (TableRead × Tokens) SqlFault
-  table_add t ts = table_item (after (is_word words.Primary) ts) (after (is_word words.Unique) ts) t ts
+  unfoldable pub table_add : TableRead → Reader TableRead
+  table_add t = either (is_word words.Primary) (keyword last words.Key >> key_at true t) (either (is_word words.Unique) (key_at false t) (column_at t))
 
 -- ---- what has to hold of the whole
 
@@ -179,14 +136,10 @@ first_lacking columns (n ∷ ns) = if is_among n.name columns then first_lacking
 abbrev pub text_fault : List ℕ → List (List ℕ) → List (List ℕ) → KeyRead → Option ℕ
 text_fault name columns earlier k = if is_among name earlier then Some (first_place k.columns) else first_lacking columns k.columns
 
-abbrev pub or_else : Option ℕ → Option ℕ → Option ℕ
-or_else (Some n) m = Some n
-or_else None m = m
-
 -- the place of the first fault of the keys, in the order of the text; earlier are the names made before
 unfoldable pub keys_fault : List ℕ → List (List ℕ) → List (List ℕ) → List KeyRead → Option ℕ
 keys_fault table columns earlier [] = None
-keys_fault table columns earlier (k ∷ ks) = or_else (text_fault (made_name table k) columns earlier k) (keys_fault table columns (earlier ++ made_name table k ∷ []) ks)
+keys_fault table columns earlier (k ∷ ks) = some_or (λ place. Some place) (keys_fault table columns (earlier ++ made_name table k ∷ []) ks) (text_fault (made_name table k) columns earlier k)
 
 -- a column of a primary key is NOT NULL
 abbrev pub in_primary : List KeyRead → List ℕ → Bool
@@ -219,44 +172,28 @@ resolved_keys primary columns ks = map (resolved columns) (filter (is_kept prima
 abbrev pub declared : List (List ℕ) → List KeyRead → List KeyTree
 declared columns ks = resolved_keys true columns ks ++ resolved_keys false columns ks
 
-abbrev pub table_of : Option ℕ → List ℕ → TableRead → Result StmtTree SqlFault
-table_of (Some place) name t = Err (BadColumns place)
-table_of None name t = Ok (Create (record { name = name; columns = map (completed t.keys) t.columns; keys = declared (column_names t.columns) t.keys }))
+-- the table of these columns and keys: a column of a primary key is NOT NULL, and the primary key stands first
+abbrev pub created : List ℕ → TableRead → StmtTree
+created name t = Create (record { name = name; columns = map (completed t.keys) t.columns; keys = declared (column_names t.columns) t.keys })
 
 -- the table as it was read, or the fault of its keys
 unfoldable pub finished : List ℕ → TableRead → Result StmtTree SqlFault
-finished name t = table_of (keys_fault name (column_names t.columns) [] t.keys) name t
+finished name t = some_or (λ place. Err (BadColumns place)) (Ok (created name t)) (keys_fault name (column_names t.columns) [] t.keys)
 
 -- ---- statements
 
 module _ (last : ℕ) where
   -- what stands behind CREATE
-  unfoldable pub create_at : Tokens → Result (Result StmtTree SqlFault × Tokens) SqlFault
-  create_at ts = do
-    us ← keyword last words.Table ts
-    x ← name_at last us
-    vs ← expect last is_open x.1
-    t ← items_at (table_add last) empty_table vs
-    rest ← expect last is_close t.1
-    Ok (finished x.0 t.0, rest)
+  unfoldable pub create_at : Reader (Result StmtTree SqlFault)
+  create_at = do
+    keyword last words.Table
+    name ← name_at last
+    expect last is_open
+    closed last (finished name) (items_at (table_add last) empty_table)
 
-  -- one more name of a DROP
-  abbrev pub drop_add : List (List ℕ) → Tokens → Result (List (List ℕ) × Tokens) SqlFault
-  drop_add ns ts = do
-    x ← name_at last ts
-    Ok (ns ++ x.0 ∷ [], x.1)
-
-  abbrev pub drop_of : Bool → Tokens → Result (StmtTree × Tokens) SqlFault
-  drop_of if_exists ts = do
-    x ← items_at drop_add [] ts
-    Ok (DropTables (record { if_exists = if_exists; names = x.0 }), x.1)
-
-  abbrev pub drop_names : Option Tokens → Tokens → Result (StmtTree × Tokens) SqlFault
-  drop_names None ts = drop_of false ts
-  drop_names (Some us) ts = drop_of true us
+  abbrev pub drop_of : Bool → Reader StmtTree
+  drop_of if_exists = made (λ ns. DropTables (record { if_exists = if_exists; names = ns })) (items_at (added (name_at last)) [])
 
   -- what stands behind DROP
-  unfoldable pub drop_at : Tokens → Result (StmtTree × Tokens) SqlFault
-  drop_at ts = do
-    us ← keyword last words.Table ts
-    drop_names (after_if us) us
+  unfoldable pub drop_at : Reader StmtTree
+  drop_at = keyword last words.Table >> λ ts. some_or (drop_of true) (drop_of false ts) (after_if ts)

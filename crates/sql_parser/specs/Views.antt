@@ -1,5 +1,5 @@
 -- What was read so far of a statement, without where it lies in memory.
-use Rattle.std.specs.Prelude.{List, map}
+use Rattle.std.specs.Prelude.{map}
 use Rattle.sql_trees.specs.Statements.{name_of, exprs_of, column_of}
 use Rattle.sql_parser.specs.declared.names.RowList.{RowList}
 use Rattle.sql_parser.specs.declared.table.PlacedName.{PlacedName}

@@ -4,9 +4,8 @@ ghost use Rattle.std.specs.Prelude.{◌≡◌, ◌≤◌, [], IfOk, length, map}
 ghost use Rattle.sql_trees.specs.Statements.{name_of, exprs_of};
 ghost use Rattle.sql_trees.specs.Tokens.{tok_views};
 ghost use Rattle.sql_expressions.specs.Reading.{Gives};
-ghost use Rattle.sql_parser.specs.Readers.{items_at};
-ghost use Rattle.sql_parser.specs.Tables.{drop_add};
-ghost use Rattle.sql_parser.specs.Changes.{distinct_add, value_add, row_add};
+ghost use Rattle.sql_parser.specs.Readers.{items_at, added, tree_at, name_at};
+ghost use Rattle.sql_parser.specs.Changes.{distinct_add, row_add};
 ghost use Rattle.sql_parser.specs.Views.{rows_of};
 
 use crate::list::{List, items};
@@ -22,7 +21,7 @@ pub struct NameList<'a> {
 }
 
 impl<'a> List<'a> for NameList<'a> {
-    ghost adds = { λ last s ts r. Gives (λ x. (map name_of x.0.names.items, x.1)) r (drop_add last (map name_of s.names.items) ts) };
+    ghost adds = { λ last s ts r. Gives (λ x. (map name_of x.0.names.items, x.1)) r (added (name_at last) (map name_of s.names.items) ts) };
 
     fn add<'t>(
         mut self,
@@ -65,7 +64,7 @@ pub struct ValueList<'a> {
 }
 
 impl<'a> List<'a> for ValueList<'a> {
-    ghost adds = { λ last s ts r. Gives (λ x. (exprs_of x.0.values, x.1)) r (value_add last (exprs_of s.values) ts) };
+    ghost adds = { λ last s ts r. Gives (λ x. (exprs_of x.0.values, x.1)) r (added (tree_at last) (exprs_of s.values) ts) };
 
     fn add<'t>(
         mut self,
@@ -114,7 +113,7 @@ pub fn names<'t, 'a>(
     parser: Parser,
     tokens: Tokens<'t, 'a>,
 ) -> Result<(NameList<'a>, Tokens<'t, 'a>), SqlFault>
-    ensures exact { Gives (λ x. (map name_of x.0.names.items, tok_views x.1.now)) result (items_at (drop_add parser.text_len) [] (tok_views tokens.now)) }
+    ensures exact { Gives (λ x. (map name_of x.0.names.items, tok_views x.1.now)) result (items_at (added (name_at parser.text_len)) [] (tok_views tokens.now)) }
     ensures shorter { IfOk result (λ x. length x.1.now ≤ length tokens.now) }
 {
     let list = NameList {
@@ -142,7 +141,7 @@ pub fn values<'t, 'a>(
     parser: Parser,
     tokens: Tokens<'t, 'a>,
 ) -> Result<(ValueList<'a>, Tokens<'t, 'a>), SqlFault>
-    ensures exact { Gives (λ x. (exprs_of x.0.values, tok_views x.1.now)) result (items_at (value_add parser.text_len) [] (tok_views tokens.now)) }
+    ensures exact { Gives (λ x. (exprs_of x.0.values, tok_views x.1.now)) result (items_at (added (tree_at parser.text_len)) [] (tok_views tokens.now)) }
     ensures shorter { IfOk result (λ x. length x.1.now ≤ length tokens.now) }
 {
     let list = ValueList {

@@ -7,8 +7,9 @@ ghost use Rattle.sql_trees.specs.Tokens.{tok_view, tok_views};
 ghost use Rattle.sql_trees.specs.Trees.{agg_of};
 ghost use Rattle.sql_expressions.specs.Reading.{Gives};
 ghost use Rattle.sql_expressions.specs.Reading.{after};
-ghost use Rattle.sql_parser.specs.Readers.{items_at, seen};
-ghost use Rattle.sql_parser.specs.Queries.{is_star, agg_kind, call_at, rows_of, maybe_name, direction_at, alias_at, agg_at, item_at, item_add, from_at, nulls_at, order_add, order_at, lock_at, is_aggregate, is_all, is_sorted, is_allowed, select_at};
+ghost use Rattle.sql_parser.specs.Readers.{items_at, added};
+ghost use Rattle.sql_parser.specs.Calls.{seen};
+ghost use Rattle.sql_parser.specs.Queries.{is_star, agg_kind, call_at, rows_of, maybe_name, direction_at, alias_at, agg_at, item_at, from_at, nulls_at, order_add, order_at, lock_at, is_aggregate, is_all, is_sorted, is_allowed, select_at};
 
 use crate::change::filter;
 use crate::list::{List, items};
@@ -103,7 +104,7 @@ fn agg<'t, 'a>(
 
 // The name that stands next, if one does.
 fn maybe_name<'t, 'a>(tokens: Tokens<'t, 'a>) -> (Option<Name<'a>>, Tokens<'t, 'a>)
-    ensures exact { (option_map name_of result.0, tok_views result.1.now) ≡ maybe_name (tok_views tokens.now) }
+    ensures exact { maybe_name (tok_views tokens.now) ≡ Ok (option_map name_of result.0, tok_views result.1.now) }
     ensures shorter { length result.1.now ≤ length tokens.now }
 {
     let [token, rest @ ..] = tokens else {
@@ -154,7 +155,7 @@ fn item<'t, 'a>(
 }
 
 impl<'a> List<'a> for ItemList<'a> {
-    ghost adds = { λ last s ts r. Gives (λ x. (map item_of x.0.items.items, x.1)) r (item_add last (map item_of s.items.items) ts) };
+    ghost adds = { λ last s ts r. Gives (λ x. (map item_of x.0.items.items, x.1)) r (added (item_at last) (map item_of s.items.items) ts) };
 
     fn add<'t>(
         mut self,
@@ -172,7 +173,7 @@ fn item_list<'t, 'a>(
     parser: Parser,
     tokens: Tokens<'t, 'a>,
 ) -> Result<(ItemList<'a>, Tokens<'t, 'a>), SqlFault>
-    ensures exact { Gives (λ x. (map item_of x.0.items.items, tok_views x.1.now)) result (items_at (item_add parser.text_len) [] (tok_views tokens.now)) }
+    ensures exact { Gives (λ x. (map item_of x.0.items.items, tok_views x.1.now)) result (items_at (added (item_at parser.text_len)) [] (tok_views tokens.now)) }
     ensures shorter { IfOk result (λ x. length x.1.now ≤ length tokens.now) }
 {
     let list = ItemList {
@@ -199,7 +200,7 @@ fn from<'t, 'a>(
 // ASC, DESC or none of them: whether sorting goes down.
 #[tactic(auto, unfolding(crate::specs::Queries::direction_at))]
 fn direction<'t, 'a>(tokens: Tokens<'t, 'a>) -> (bool, Tokens<'t, 'a>)
-    ensures exact { (result.0, tok_views result.1.now) ≡ direction_at (tok_views tokens.now) }
+    ensures exact { direction_at (tok_views tokens.now) ≡ Ok (result.0, tok_views result.1.now) }
     ensures shorter { length result.1.now ≤ length tokens.now }
 {
     if let Some(rest) = after_word(Word::Asc, tokens) {

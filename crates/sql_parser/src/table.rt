@@ -5,7 +5,8 @@ ghost use Rattle.sql_trees.specs.Statements.{name_of, stmt_of, column_of};
 ghost use Rattle.sql_trees.specs.Tokens.{tok_view, tok_views};
 ghost use Rattle.sql_expressions.specs.Reading.{Gives};
 ghost use Rattle.sql_parser.specs.Readers.{items_at};
-ghost use Rattle.sql_parser.specs.Tables.{is_among, placed_names, column_names, empty_table, kind_of, is_constraint, kind_at, key_limit, key_add, key_at, constraint_at, constrained, limits_at, column_behind, column_at, table_add, after_if, drop_at};
+ghost use Rattle.sql_parser.specs.Tables.{is_among, placed_names, column_names, empty_table, kind_of, kind_at, key_limit, key_add, key_at, limits_at, column_behind, column_at, table_add, after_if, drop_at};
+ghost use Rattle.sql_parser.specs.OneConstraint.{is_constraint, constraint_at, constrained};
 ghost use Rattle.sql_parser.specs.Views.{placed_of, key_text_of, table_text_of, limits_of};
 
 use crate::list::{List, items};
@@ -197,7 +198,7 @@ fn read_limits<'t, 'a>(
     keys: Vec<KeyText<'a>>,
     tokens: Tokens<'t, 'a>,
 ) -> Result<(Kind, Limits<'a>, Tokens<'t, 'a>), SqlFault>
-    ensures exact { Gives (λ x. (x.0, (limits_of x.1, tok_views x.2.now))) result (limits_at parser.text_len (placed_of column.entry) (map key_text_of keys.entry.items) (tok_views tokens.now)) }
+    ensures exact { Gives (λ x. ((x.0, limits_of x.1), tok_views x.2.now)) result (limits_at parser.text_len (placed_of column.entry) (map key_text_of keys.entry.items) (tok_views tokens.now)) }
     ensures shorter { IfOk result (λ x. length x.2.now ≤ length tokens.now) }
 {
     let (kind, mut rest) = kind(parser, tokens)?;

@@ -5,7 +5,7 @@ ghost use Rattle.sql_trees.specs.Tokens.{tok_view, tok_views};
 ghost use Rattle.sql_trees.specs.Statements.{stmt_of};
 ghost use Rattle.sql_expressions.specs.Reading.{Gives, expect};
 ghost use Rattle.sql_parser.specs.Readers.{past};
-ghost use Rattle.sql_parser.specs.Transactions.{is_work, is_scope, is_to, is_setting, isolation_at, begin_at, start_at, parameter_at, set_at};
+ghost use Rattle.sql_parser.specs.Transactions.{is_work, is_scope, is_to, is_setting, level_at, begin_at, start_at, parameter_at, set_at};
 
 use crate::part::{after_word, is_word, keyword, misplaced_word};
 use iso_lexer::SqlSign;
@@ -37,15 +37,14 @@ fn past_scope<'t, 'a>(tokens: Tokens<'t, 'a>) -> Tokens<'t, 'a>
     }
 }
 
-// ISOLATION LEVEL and a level.
-#[tactic(auto, unfolding(crate::specs::Transactions::isolation_at))]
-fn isolation<'t, 'a>(
+// What stands behind ISOLATION: LEVEL and a level.
+#[tactic(auto, unfolding(crate::specs::Transactions::level_at))]
+fn level<'t, 'a>(
     parser: Parser,
     tokens: Tokens<'t, 'a>,
 ) -> Result<(Level, Tokens<'t, 'a>), SqlFault>
-    ensures { Gives (λ x. (x.0, tok_views x.1.now)) result (isolation_at parser.text_len (tok_views tokens.now)) }
+    ensures { Gives (λ x. (x.0, tok_views x.1.now)) result (level_at parser.text_len (tok_views tokens.now)) }
 {
-    let tokens = keyword(parser, Word::Isolation, tokens)?;
     let tokens = keyword(parser, Word::Level, tokens)?;
     let Some(read) = after_word(Word::Read, tokens) else {
         let tokens = keyword(parser, Word::Repeatable, tokens)?;
@@ -64,10 +63,10 @@ fn isolation<'t, 'a>(
 pub fn begin<'t, 'a>(parser: Parser, tokens: Tokens<'t, 'a>) -> ReadStmt<'t, 'a>
     ensures { Gives (λ x. (stmt_of x.0, tok_views x.1.now)) result (begin_at parser.text_len (tok_views tokens.now)) }
 {
-    if after_word(Word::Isolation, tokens).is_none() {
+    let Some(isolation) = after_word(Word::Isolation, tokens) else {
         return Ok((Stmt::Begin(None), tokens));
-    }
-    let (level, rest) = isolation(parser, tokens)?;
+    };
+    let (level, rest) = level(parser, isolation)?;
     Ok((Stmt::Begin(Some(level)), rest))
 }
 
@@ -135,6 +134,7 @@ pub fn set<'t, 'a>(parser: Parser, tokens: Tokens<'t, 'a>) -> ReadStmt<'t, 'a>
     let Some(transaction) = after_word(Word::Transaction, tokens) else {
         return parameter(parser, past_scope(tokens));
     };
-    let (level, rest) = isolation(parser, transaction)?;
+    let isolation = keyword(parser, Word::Isolation, transaction)?;
+    let (level, rest) = level(parser, isolation)?;
     Ok((Stmt::SetTransaction(level), rest))
 }

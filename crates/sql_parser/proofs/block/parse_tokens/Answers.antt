@@ -1,4 +1,4 @@
-use Rattle.std.proofs.Common.{arith, rules}
+use Rattle.std.proofs.Common.{arith}
 use Rattle.std.proofs.lemmas.List.{length-map}
 use Rattle.sql_trees.specs.Tokens.{tok_at}
 use Rattle.sql_parser.proofs.BlocksKept.{block_kept}

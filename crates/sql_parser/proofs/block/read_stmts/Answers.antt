@@ -1,4 +1,4 @@
-use Rattle.std.proofs.Common.{sym, ap, ◌∙◌, refl, arith, length}
+use Rattle.std.proofs.Common.{ap, refl, arith, length}
 use Rattle.std.proofs.lemmas.Result.{err_from_is_err_and}
 use Rattle.sql_parser.proofs.Lists.{fails_on, gives_same}
 use Rattle.sql_parser.proofs.Blocks.{last_piece, piece_on, piece_stops}

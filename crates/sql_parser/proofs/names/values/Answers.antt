@@ -1,13 +1,9 @@
-use Rattle.std.proofs.Common.{map, [], ap, subst}
-use Rattle.sql_trees.specs.Tokens.{tok_views}
-use Rattle.sql_expressions.specs.Reading.{Gives}
-use Rattle.sql_parser.specs.Readers.{items_at}
+use Rattle.sql_parser.specs.Readers.{added, tree_at}
 use Rattle.sql_parser.proofs.Lists.{items_give}
 use Rattle.sql_trees.specs.Statements.{exprs_of}
-use Rattle.sql_parser.specs.Changes.{value_add}
 use Rattle.sql_parser.proofs.names.values.Goals as goal
 
 pub returns-clause-exact : goal.returns-clause-exact
 returns-clause-exact c =
-    let g = items_give (λ s. exprs_of s.values) (value_add c.args.parser.text_len) _ _ _ c.items.ensures.exact in
+    let g = items_give (λ s. exprs_of s.values) (added (tree_at c.args.parser.text_len)) _ _ _ c.items.ensures.exact in
     rw c.new.ensures.items at g

@@ -1,7 +1,7 @@
-use Rattle.std.proofs.Common.{sym, ◌∙◌, map, rules, tests}
+use Rattle.std.proofs.Common.{sym, ◌∙◌, rules, tests}
 use Rattle.std.proofs.lemmas.Iterator.{YieldsList-from_slice}
-use Rattle.std.proofs.lemmas.Iterator.Search.{any_from_yields_List, all_from_yields_List}
-use Rattle.sql_parser.proofs.Lists.{any_view, all_view}
+use Rattle.std.proofs.lemmas.Iterator.Search.{all_from_yields_List}
+use Rattle.sql_parser.proofs.Lists.{all_view}
 use Rattle.sql_trees.specs.Statements.{item_of}
 use Rattle.sql_trees.specs.declared.stmt.Item.{Item}
 use Rattle.sql_parser.specs.Queries.{is_aggregate}

@@ -1,8 +1,8 @@
 use Rattle.std.proofs.Common.{sym, ◌∙◌, map, rules, tests}
 use Rattle.std.proofs.lemmas.Iterator.{YieldsList-from_slice}
-use Rattle.std.proofs.lemmas.Iterator.Search.{any_from_yields_List, all_from_yields_List}
-use Rattle.sql_parser.proofs.Lists.{any_view, all_view}
-use Rattle.std.specs.Prelude.{bytes_eq, ◌&&◌}
+use Rattle.std.proofs.lemmas.Iterator.Search.{any_from_yields_List}
+use Rattle.sql_parser.proofs.Lists.{any_view}
+use Rattle.std.specs.Prelude.{bytes_eq}
 use Rattle.sql_trees.specs.Statements.{ColumnTree, name_of, column_of}
 use Rattle.sql_trees.specs.declared.stmt.Column.{Column}
 use Rattle.sql_parser.proofs.table.is_column.Goals as goal

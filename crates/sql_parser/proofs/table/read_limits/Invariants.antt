@@ -1,4 +1,4 @@
-use Rattle.std.proofs.Common.{◌≡◌, ◌≤◌, ◌++◌, [], length, map}
+use Rattle.std.proofs.Common.{◌≤◌, length}
 use Rattle.sql_parser.specs.Tables.{constraints_at}
 use Rattle.sql_parser.specs.Views.{placed_of, limits_of}
 use Rattle.sql_trees.specs.Tokens.{tok_views}

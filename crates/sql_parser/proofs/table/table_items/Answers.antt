@@ -1,7 +1,3 @@
-use Rattle.std.proofs.Common.{map, [], ap, subst}
-use Rattle.sql_trees.specs.Tokens.{tok_views}
-use Rattle.sql_expressions.specs.Reading.{Gives}
-use Rattle.sql_parser.specs.Readers.{items_at}
 use Rattle.sql_parser.proofs.Lists.{items_give}
 use Rattle.sql_parser.specs.Views.{table_text_of}
 use Rattle.sql_parser.specs.Tables.{table_add}

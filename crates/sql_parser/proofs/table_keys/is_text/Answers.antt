@@ -1,7 +1,7 @@
-use Rattle.std.proofs.Common.{sym, ◌∙◌, map, rules, tests}
+use Rattle.std.proofs.Common.{sym, ◌∙◌, rules, tests}
 use Rattle.std.proofs.lemmas.Iterator.{YieldsList-from_slice}
-use Rattle.std.proofs.lemmas.Iterator.Search.{any_from_yields_List, all_from_yields_List}
-use Rattle.sql_parser.proofs.Lists.{any_view, all_view}
+use Rattle.std.proofs.lemmas.Iterator.Search.{any_from_yields_List}
+use Rattle.sql_parser.proofs.Lists.{any_view}
 use Rattle.std.specs.Prelude.{bytes_eq, ℕ}
 use Rattle.std.specs.Global.{Vec}
 use Rattle.sql_parser.proofs.table_keys.is_text.Goals as goal

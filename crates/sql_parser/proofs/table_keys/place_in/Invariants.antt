@@ -1,4 +1,4 @@
-use Rattle.std.proofs.Common.{◌≡◌, ◌≤◌, ◌++◌, [], length, map}
+use Rattle.std.proofs.Common.{◌≡◌, length, map}
 use Rattle.std.specs.Prelude.{◌+◌}
 use Rattle.sql_parser.specs.Tables.{column_names, place_among}
 use Rattle.sql_trees.specs.Statements.{column_of, name_of}

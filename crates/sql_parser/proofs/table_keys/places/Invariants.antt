@@ -1,4 +1,4 @@
-use Rattle.std.proofs.Common.{◌≡◌, ◌≤◌, ◌++◌, [], length, map}
+use Rattle.std.proofs.Common.{◌≡◌, ◌++◌, length, map}
 use Rattle.sql_parser.specs.Tables.{places_in, column_names}
 use Rattle.sql_parser.specs.Views.{placed_of}
 use Rattle.sql_trees.specs.Statements.{column_of}

@@ -1,0 +1,32 @@
+-- Statements and blocks as the code reads them, piece by piece.
+use Rattle.std.specs.Prelude.{◌≡◌, ℕ, suc, List, [], ◌∷◌, Option, Some, None, Result, Err, if◌then◌else◌}
+use Rattle.sql_trees.specs.declared.fault.SqlFault.{SqlFault}
+use Rattle.sql_trees.specs.Statements.{StmtTree}
+use Rattle.sql_trees.specs.Tokens.{Tokens}
+use Rattle.sql_expressions.specs.Reading.{misplaced, ◌>>=◌}
+use Rattle.sql_parser.specs.declared.block.Role.{Role}
+use Rattle.sql_parser.specs.Readers.{Reader}
+use Rattle.sql_parser.specs.Blocks.{is_semicolon, simple_of, begun_of, piece_at, stmts_at}
+
+module _ (last : ℕ) where
+  abbrev pub simple_at : Reader StmtTree
+  simple_at [] = Err (misplaced last [])
+  simple_at (t ∷ ts) = simple_of last t.tok t ts
+
+  abbrev pub begun_at : Reader (Result StmtTree SqlFault)
+  begun_at [] = Err (misplaced last [])
+  begun_at (t ∷ ts) = begun_of last t.tok t ts
+
+-- the statements of a block, behind these
+abbrev pub block_from : ℕ → Role → List StmtTree → Tokens → Result (List StmtTree) SqlFault
+block_from last role ss ts = stmts_at last role ss [] ts
+
+-- how many tokens stand before the first semicolon
+abbrev pub piece_len : Tokens → ℕ
+piece_len [] = 0
+piece_len (t ∷ ts) = if is_semicolon t.tok then 0 else suc (piece_len ts)
+
+-- the tokens before the first semicolon, its place and the tokens behind it, so far as a block is concerned
+abbrev pub SplitsAs : Tokens → Option (Tokens × ℕ × Tokens) → Type 0
+SplitsAs ts None = (last : ℕ) (role : Role) (ss : List StmtTree) → block_from last role ss ts ≡ piece_at last role ss ts
+SplitsAs ts (Some x) = (last : ℕ) (role : Role) (ss : List StmtTree) → block_from last role ss ts ≡ (piece_at x.1 role ss x.0 >>= λ more. block_from last role more x.2)
