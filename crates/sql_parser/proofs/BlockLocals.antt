@@ -19,7 +19,7 @@ use Rattle.sql_parser.specs.Tables.{TableRead, empty_table, table_add, keys_faul
 use Rattle.sql_parser.specs.Changes.{insert_at, update_at, delete_at}
 use Rattle.sql_parser.specs.Queries.{select_at}
 use Rattle.sql_parser.specs.Blocks.{is_ddl, is_session, stmt_at, whole_at}
-use Rattle.sql_parser.specs.Pieces.{begun_at}
+use Rattle.sql_parser.specs.Inner.Pieces.{begun_at}
 use Rattle.sql_parser.specs.Grammar.{Is, Key, Names, nothing, Commas, AddsPart, Spells, commit, end, rollback, abort, create}
 use Rattle.sql_parser.specs.Stops.{WantsWords}
 use Rattle.sql_parser.proofs.Locals.{Inhabited, Local, behind, switch_at, in_turn, mapped, token_then, token_last, name_then, no_rule_at, no_rule_end}

@@ -12,7 +12,7 @@ use Rattle.sql_trees.specs.Tokens.{Tokens, tok_at, tok_view, tok_views}
 use Rattle.sql_expressions.specs.Reading.{◌>>=◌}
 use Rattle.sql_parser.specs.declared.block.Role.{Role}
 use Rattle.sql_parser.specs.Blocks.{is_semicolon, whole_at, piece_at, stmts_at}
-use Rattle.sql_parser.specs.Pieces.{piece_len, block_from, SplitsAs}
+use Rattle.sql_parser.specs.Inner.Pieces.{piece_len, block_from, SplitsAs}
 
 module _ (last : ℕ) (role : Role) (ss : List StmtTree) where
   -- without a semicolon the rest is one piece

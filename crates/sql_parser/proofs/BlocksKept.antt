@@ -16,7 +16,7 @@ use Rattle.sql_parser.specs.Readers.{items_at, keyword, past, some_or, added, mi
 use Rattle.sql_parser.specs.Transactions.{is_work, is_scope, is_to, is_setting, level_at, begin_at, start_at, parameter_at, set_at}
 use Rattle.sql_parser.specs.Tables.{drop_of, drop_at, after_if}
 use Rattle.sql_parser.specs.Blocks.{is_ddl, is_session, is_semicolon, simple_of, begun_of, stmt_at, at_end, whole_at, piece_at, stmts_at, block_at}
-use Rattle.sql_parser.specs.Pieces.{simple_at, begun_at}
+use Rattle.sql_parser.specs.Inner.Pieces.{simple_at, begun_at}
 use Rattle.sql_parser.specs.Kept.{is_kept, is_kept_in, makes_or_drops}
 use Rattle.sql_parser.proofs.Keeping.{Fine, FineOrNot, insert_fine, update_fine, delete_fine, select_fine}
 use Rattle.sql_parser.proofs.KeysKept.{create_fine}

@@ -10,7 +10,7 @@ use Rattle.sql_expressions.specs.Reading.{◌>>=◌}
 use Rattle.sql_parser.specs.Readers.{keyword}
 use Rattle.sql_trees.specs.declared.kind.Kind.{Kind}
 use Rattle.sql_parser.specs.Tables.{Placed, KeyRead, Constraints, key_limit, constraints_at, kind_at, limits_at}
-use Rattle.sql_parser.specs.OneConstraint.{constraint_at, constrained}
+use Rattle.sql_parser.specs.Inner.OneConstraint.{constraint_at, constrained}
 
 -- the constraints so far, and enough turns for the tokens that are left, give what the whole gives
 pub record Going (last : ℕ) (c : Placed) (s : Constraints) (ts : Tokens) (whole : Result (Constraints × Tokens) SqlFault) : Type 0 where

@@ -11,8 +11,8 @@ use Rattle.sql_trees.specs.declared.fault.SqlFault.TheVariants.{Memory}
 use Rattle.std.specs.Borrow.{Bor}
 use Rattle.sql_expressions.specs.Reading.{Gives, Fails, after_comma, is_comma, ◌>>=◌}
 use Rattle.sql_parser.specs.Readers.{more_at, items_at}
-use Rattle.sql_parser.specs.Calls.{Listed, seen}
-use Rattle.sql_parser.specs.Calls as lists
+use Rattle.sql_parser.specs.Inner.Calls.{Listed, seen}
+use Rattle.sql_parser.specs.Inner.Calls as lists
 
 -- behind a comma there are fewer tokens
 pub comma_shortens : (ts us : Tokens) → after_comma ts ≡ Some us → length us < length ts

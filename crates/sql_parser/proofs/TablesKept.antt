@@ -13,7 +13,7 @@ use Rattle.sql_trees.specs.Tokens as tok
 use Rattle.sql_expressions.specs.Reading.{after, after_comma, expect, misplaced, is_close, is_open, is_word, place_of, ◌>>=◌}
 use Rattle.sql_parser.specs.Readers.{items_at, keyword, name_at, some_or, misplaced_word}
 use Rattle.sql_parser.specs.Tables.{Placed, KeyRead, TableRead, Constraints, is_among, placed_names, column_names, empty_table, with_key, with_column, key_limit, kind_of, kind_at, key_add, key_at, constraints_at, limits_at, column_behind, column_at, table_add}
-use Rattle.sql_parser.specs.OneConstraint.{constraint_of, constraint_at, constrained}
+use Rattle.sql_parser.specs.Inner.OneConstraint.{constraint_of, constraint_at, constrained}
 use Rattle.sql_parser.specs.Kept.{all_differ}
 use Rattle.sql_parser.proofs.Keeping.{differ_push}
 use Rattle.sql_parser.proofs.Going.{turn_is}

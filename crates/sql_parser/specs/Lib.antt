@@ -1,12 +1,9 @@
 pub mod Readers
-pub mod Calls
 pub mod Transactions
 pub mod Tables
-pub mod OneConstraint
 pub mod Changes
 pub mod Queries
 pub mod Blocks
-pub mod Pieces
 pub mod BlockViews
 pub mod Views
 pub mod Texts
@@ -14,3 +11,4 @@ pub mod Kept
 pub mod Grammar
 pub mod Stops
 pub mod Laws
+pub mod Inner

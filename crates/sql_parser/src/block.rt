@@ -5,10 +5,10 @@ ghost use Rattle.std.specs.Prelude.{◌≡◌, ◌↔◌, true, ◌<◌, ◌≤�
 ghost use Rattle.sql_trees.specs.Statements.{stmt_of};
 ghost use Rattle.sql_trees.specs.Tokens.{tok_view, tok_views};
 ghost use Rattle.sql_expressions.specs.Reading.{Gives};
-ghost use Rattle.sql_parser.specs.Calls.{seen};
+ghost use Rattle.sql_parser.specs.Inner.Calls.{seen};
 ghost use Rattle.sql_parser.specs.Texts.{Parses};
 ghost use Rattle.sql_parser.specs.Blocks.{is_semicolon, whole_at, piece_at, block_at};
-ghost use Rattle.sql_parser.specs.Pieces.{piece_len, SplitsAs};
+ghost use Rattle.sql_parser.specs.Inner.Pieces.{piece_len, SplitsAs};
 ghost use Rattle.sql_parser.specs.Kept.{is_kept_in};
 
 use crate::statement::stmt;

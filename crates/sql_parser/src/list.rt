@@ -3,7 +3,7 @@
 ghost use Rattle.std.specs.Prelude.{◌≡◌, ℕ, ◌≤◌, IfOk, length, Result};
 ghost use Rattle.sql_trees.specs.declared.fault.SqlFault.{SqlFault};
 ghost use Rattle.sql_trees.specs.Tokens.{Tokens, tok_views};
-ghost use Rattle.sql_parser.specs.Calls.{Listed, seen};
+ghost use Rattle.sql_parser.specs.Inner.Calls.{Listed, seen};
 
 use sql_expressions::{Parser, Tokens, after_comma};
 use sql_trees::SqlFault;

@@ -8,7 +8,7 @@ ghost use Rattle.sql_trees.specs.Trees.{agg_of};
 ghost use Rattle.sql_expressions.specs.Reading.{Gives};
 ghost use Rattle.sql_expressions.specs.Reading.{after};
 ghost use Rattle.sql_parser.specs.Readers.{items_at, added};
-ghost use Rattle.sql_parser.specs.Calls.{seen};
+ghost use Rattle.sql_parser.specs.Inner.Calls.{seen};
 ghost use Rattle.sql_parser.specs.Queries.{is_star, agg_kind, call_at, rows_of, maybe_name, direction_at, alias_at, agg_at, item_at, from_at, nulls_at, order_add, order_at, lock_at, is_aggregate, is_all, is_sorted, is_allowed, select_at};
 
 use crate::change::filter;

@@ -1,6 +1,6 @@
 use Rattle.std.proofs.Common.{◌≡◌, [], ◌∷◌, drop, sym, ap, ◌∙◌}
 use Rattle.sql_trees.specs.Tokens.{tok_views}
-use Rattle.sql_parser.specs.Pieces.{piece_len}
+use Rattle.sql_parser.specs.Inner.Pieces.{piece_len}
 use Rattle.sql_parser.proofs.Blocks.{nothing, splits_none, splits_some}
 use Rattle.sql_parser.proofs.block.next_piece.Goals as goal
 

@@ -1,6 +1,6 @@
 use Rattle.std.proofs.Common.{◌≡◌, length}
 use Rattle.std.specs.Prelude.{◌+◌}
-use Rattle.sql_parser.specs.Pieces.{piece_len}
+use Rattle.sql_parser.specs.Inner.Pieces.{piece_len}
 use Rattle.sql_trees.specs.Tokens.{tok_views}
 use Rattle.sql_parser.proofs.block.piece_len.Given as goal
 

@@ -1,0 +1,4 @@
+-- Definitions that only the inner functions' clauses need: no clause of a public function has them.
+pub mod Calls
+pub mod OneConstraint
+pub mod Pieces
