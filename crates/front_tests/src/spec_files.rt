@@ -18,80 +18,83 @@ fn parsed(alloc: Global, text: &str) -> Result<Spec<'_>, SpecFault> {
 }
 
 /// The file is refused with the fault of this line.
-fn refuses(rt: &impl Abort, alloc: Global, text: &str, line: &str) -> Result<(), Fail> {
+fn is_refused(alloc: Global, text: &str, line: &str) -> bool {
     match parsed(alloc, text) {
-        Ok(_) => Err(Fail::new("not refused")),
-        Err(fault) => prints(rt, alloc, fault, line),
+        Ok(_) => false,
+        Err(fault) => prints(alloc, &fault, line),
     }
 }
 
+const REFUSED: [(&str, &str); 15] = [
+    ("step \"a", "L2 UnterminatedName at byte 5"),
+    ("step \"a\nb\" { }", "L3 NewlineInName at byte 7"),
+    ("step a { } ;", "L4 UnexpectedByte at byte 11"),
+    ("# a\r\"", "L2 UnterminatedName at byte 4"),
+    (
+        "setup { } session s teardown { }",
+        "S1 Expected Step at byte 20",
+    ),
+    ("session step a { }", "S1 Expected Name at byte 8"),
+    ("session s step a b", "S1 Expected Block at byte 17"),
+    (
+        "session s step a { } permutation",
+        "S1 Expected Name at byte 32",
+    ),
+    (
+        "session s step a { } permutation a(1)",
+        "S1 Expected Marker at byte 35",
+    ),
+    (
+        "session s step a { } permutation a(a b)",
+        "S1 Expected CommaOrClose at byte 37",
+    ),
+    (
+        "session s step a { } permutation a *",
+        "S1 Expected Item at byte 35",
+    ),
+    (
+        "session s step a { } step \"a\" { }",
+        "S2 DuplicateStep at byte 26",
+    ),
+    (
+        "session s step a { } step a { } permutation b setup",
+        "S1 Expected Item at byte 46",
+    ),
+    (
+        "session s step a { } permutation c(b) b",
+        "S3 UndefinedStep at byte 33",
+    ),
+    (
+        "session s step a { } permutation a(*, b) b",
+        "S4 UndefinedMarker at byte 38",
+    ),
+];
+
 #[test]
-fn refusals_and_their_places(rt: HostRuntime) -> Result<(), Fail> {
-    for (text, line) in [
-        ("step \"a", "L2 UnterminatedName at byte 5"),
-        ("step \"a\nb\" { }", "L3 NewlineInName at byte 7"),
-        ("step a { } ;", "L4 UnexpectedByte at byte 11"),
-        ("# a\r\"", "L2 UnterminatedName at byte 4"),
-        (
-            "setup { } session s teardown { }",
-            "S1 Expected Step at byte 20",
-        ),
-        ("session step a { }", "S1 Expected Name at byte 8"),
-        ("session s step a b", "S1 Expected Block at byte 17"),
-        (
-            "session s step a { } permutation",
-            "S1 Expected Name at byte 32",
-        ),
-        (
-            "session s step a { } permutation a(1)",
-            "S1 Expected Marker at byte 35",
-        ),
-        (
-            "session s step a { } permutation a(a b)",
-            "S1 Expected CommaOrClose at byte 37",
-        ),
-        (
-            "session s step a { } permutation a *",
-            "S1 Expected Item at byte 35",
-        ),
-        (
-            "session s step a { } step \"a\" { }",
-            "S2 DuplicateStep at byte 26",
-        ),
-        (
-            "session s step a { } step a { } permutation b setup",
-            "S1 Expected Item at byte 46",
-        ),
-        (
-            "session s step a { } permutation c(b) b",
-            "S3 UndefinedStep at byte 33",
-        ),
-        (
-            "session s step a { } permutation a(*, b) b",
-            "S4 UndefinedMarker at byte 38",
-        ),
-    ] {
-        refuses(&rt, rt.alloc(), text, line)?;
+fn refusals_and_their_places(rt: HostRuntime) {
+    for (text, line) in &REFUSED {
+        holds(&rt, is_refused(rt.alloc(), *text, *line), *text);
     }
+}
+
+/// A file of so many blanks is refused with the fault of this line.
+fn blanks_are_refused(
+    rt: &impl Abort,
+    alloc: Global,
+    count: usize,
+    line: &str,
+) -> Result<(), Fail> {
+    let blanks = " ".repeat(alloc, count)?;
+    holds(rt, is_refused(alloc, blanks.as_str(), line), line);
     Ok(())
 }
 
 #[test]
 fn the_longest_file_is_read_and_one_byte_more_is_too_long(rt: HostRuntime) -> Result<(), Fail> {
-    let longest = " ".repeat(rt.alloc(), LONGEST_FILE)?;
-    refuses(
-        &rt,
-        rt.alloc(),
-        longest.as_str(),
-        "S1 Expected Session at byte 1048576",
-    )?;
-    let longer = " ".repeat(rt.alloc(), LONGEST_FILE + 1)?;
-    refuses(
-        &rt,
-        rt.alloc(),
-        longer.as_str(),
-        "L5 FileTooLong at byte 1048576",
-    )
+    let longest = "S1 Expected Session at byte 1048576";
+    blanks_are_refused(&rt, rt.alloc(), LONGEST_FILE, longest)?;
+    let longer = "L5 FileTooLong at byte 1048576";
+    blanks_are_refused(&rt, rt.alloc(), LONGEST_FILE + 1, longer)
 }
 
 const WHOLE: &str =

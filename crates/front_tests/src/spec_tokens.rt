@@ -1,10 +1,10 @@
 //! The tokens of worked spec files.
 
+use crate::asking::holds;
 use crate::rows::{InWords, Row, are_tokens};
 use iso_lexer::{At, Keyword, LexFault, Name, Sign, SpecTok, spec_tokens};
 use std::alloc::Global;
 use std::process::Abort;
-use std::test::Fail;
 
 fn word_of(keyword: Keyword) -> &'static str {
     match keyword {
@@ -57,46 +57,43 @@ fn tokens_of(alloc: Global, text: &str) -> Result<Vec<At<SpecTok<'_>>>, LexFault
     }
 }
 
-fn tokens_are(rt: &impl Abort, alloc: Global, text: &str, rows: &[Row]) -> Result<(), Fail> {
-    let tokens = tokens_of(alloc, text)?;
-    are_tokens(rt, text, &tokens, rows);
-    Ok(())
+fn tokens_are(rt: &impl Abort, alloc: Global, text: &str, rows: &[Row]) {
+    match tokens_of(alloc, text) {
+        Ok(tokens) => are_tokens(rt, text, &tokens, rows),
+        Err(_) => holds(rt, false, text),
+    }
 }
 
-#[test]
-fn a_step_has_five_tokens(rt: HostRuntime) -> Result<(), Fail> {
-    tokens_are(
-        &rt,
-        rt.alloc(),
-        "session \"a\"\"b\" step \u{e9}$ {  SELECT 1; } # end\n",
-        &[
-            ("session", "", 0, 7),
-            ("quoted", "a\"\"b", 8, 14),
-            ("step", "", 15, 19),
-            ("plain", "\u{e9}$", 20, 23),
-            ("block", "SELECT 1;", 24, 38),
-        ],
-    )
-}
+const STEP: [Row; 5] = [
+    ("session", "", 0, 7),
+    ("quoted", "a\"\"b", 8, 14),
+    ("step", "", 15, 19),
+    ("plain", "\u{e9}$", 20, 23),
+    ("block", "SELECT 1;", 24, 38),
+];
 
 #[test]
-fn marks_digits_and_words_are_tokens(rt: HostRuntime) -> Result<(), Fail> {
-    tokens_are(
-        &rt,
-        rt.alloc(),
-        "permutation FOO(*,b notices 12)setup teardown",
-        &[
-            ("permutation", "", 0, 11),
-            ("plain", "FOO", 12, 15),
-            ("(", "", 15, 16),
-            ("*", "", 16, 17),
-            (",", "", 17, 18),
-            ("plain", "b", 18, 19),
-            ("notices", "", 20, 27),
-            ("digits", "12", 28, 30),
-            (")", "", 30, 31),
-            ("setup", "", 31, 36),
-            ("teardown", "", 37, 45),
-        ],
-    )
+fn a_step_has_five_tokens(rt: HostRuntime) {
+    let text = "session \"a\"\"b\" step \u{e9}$ {  SELECT 1; } # end\n";
+    tokens_are(&rt, rt.alloc(), text, &STEP);
+}
+
+const MARKS: [Row; 11] = [
+    ("permutation", "", 0, 11),
+    ("plain", "FOO", 12, 15),
+    ("(", "", 15, 16),
+    ("*", "", 16, 17),
+    (",", "", 17, 18),
+    ("plain", "b", 18, 19),
+    ("notices", "", 20, 27),
+    ("digits", "12", 28, 30),
+    (")", "", 30, 31),
+    ("setup", "", 31, 36),
+    ("teardown", "", 37, 45),
+];
+
+#[test]
+fn marks_digits_and_words_are_tokens(rt: HostRuntime) {
+    let text = "permutation FOO(*,b notices 12)setup teardown";
+    tokens_are(&rt, rt.alloc(), text, &MARKS);
 }

@@ -3,10 +3,13 @@
 ghost use Rattle.std.specs.Prelude.{IsTrue};
 ghost use Rattle.update_recheck.specs.Asked.{Fits, asked};
 
+use crate::asking::holds;
+use crate::stores::Change::{Gone, Newer, Own, RolledBack, Unchanged};
 use crate::stores::{ASKER, Change, ROW, changed};
 use iso_lexer::Name;
+use row_locks::Strength::{Exclusive, Share};
 use row_locks::{LockTable, Strength, Waits};
-use row_versions::{Seen, TxId, Versions, View};
+use row_versions::{ListStore, Seen, TxId, Versions, View};
 use smallvec::SmallVec;
 use sql_trees::{Column, Expr, Kind, Level, Operator};
 use sql_values::Columns;
@@ -144,6 +147,36 @@ pub struct Target {
     pub strength: Strength,
 }
 
+/// What comes of the target in this store.
+fn came_in(
+    rt: &impl Abort,
+    alloc: Global,
+    store: &ListStore,
+    locks: &mut LockTable,
+    waits: &Waits,
+    target: Target,
+    condition: &Expr<'static>,
+) -> Result<u8, Fail> {
+    let place = if let Own = target.change { 1 } else { 0 };
+    let view = View {
+        tx: Some(ASKER),
+        commits: 1,
+        command: place,
+    };
+    let cols = Columns::of(&COLUMNS);
+    let ask = Ask {
+        tx: ASKER,
+        level: target.level,
+        view,
+        seen: Seen { row: ROW, place },
+        strength: target.strength,
+        filter: Some(condition),
+        cols: &cols,
+    };
+    let settled = settled(rt, alloc, store, locks, waits, &ask)?;
+    Ok(letter(&settled, place, is_locked(locks)?))
+}
+
 /// The letter of what comes of the target with that condition.
 pub fn came(
     rt: &impl Abort,
@@ -153,29 +186,11 @@ pub fn came(
     closing: bool,
     which: usize,
 ) -> Result<u8, Fail> {
-    let is_own = matches!(target.change, Change::Own);
-    let place = if is_own { 1 } else { 0 };
-    let view = View {
-        tx: Some(ASKER),
-        commits: 1,
-        command: place,
-    };
-    let condition = some_condition(alloc, which)?;
-    let cols = Columns::of(&COLUMNS);
-    let ask = Ask {
-        tx: ASKER,
-        level: target.level,
-        view,
-        seen: Seen { row: ROW, place },
-        strength: target.strength,
-        filter: Some(&condition),
-        cols: &cols,
-    };
     let store = changed(alloc, target.change)?;
-    let mut locks = locks_of(alloc, held)?;
+    let condition = some_condition(alloc, which)?;
     let waits = waits_of(alloc, closing)?;
-    let settled = settled(rt, alloc, &store, &mut locks, &waits, &ask)?;
-    Ok(letter(&settled, place, is_locked(&locks)?))
+    let mut locks = locks_of(alloc, held)?;
+    came_in(rt, alloc, &store, &mut locks, &waits, target, &condition)
 }
 
 /// The target under each condition, and once more where the holder waits for the asker: a wait would close a cycle.
@@ -188,9 +203,60 @@ fn four_cells(
 ) -> Result<(), Fail> {
     for which in 0..4 {
         let want = wanted[which];
-        assert!(rt; came(rt, alloc, target, held, false, which)? == want);
+        let found = came(rt, alloc, target, held, false, which)?;
+        holds(rt, found == want, "no cycle");
         let in_a_cycle = if want == b'W' { b'D' } else { want };
-        assert!(rt; came(rt, alloc, target, held, true, which)? == in_a_cycle);
+        let found = came(rt, alloc, target, held, true, which)?;
+        holds(rt, found == in_a_cycle, "a cycle");
+    }
+    Ok(())
+}
+
+/// What became of the row and how strongly it is wanted, and what comes of it where it is free, held in share, and held exclusively.
+type Cells = (
+    Change,
+    Strength,
+    &'static [u8; 4],
+    &'static [u8; 4],
+    &'static [u8; 4],
+);
+
+const AT_READ_COMMITTED: [Cells; 10] = [
+    (Unchanged, Exclusive, b"TTTT", b"WWWW", b"WWWW"),
+    (RolledBack, Exclusive, b"TTTT", b"WWWW", b"WWWW"),
+    (Newer, Exclusive, b"NKKF", b"WWWW", b"WWWW"),
+    (Gone, Exclusive, b"SSSS", b"WWWW", b"WWWW"),
+    (Own, Exclusive, b"TTTT", b"WWWW", b"WWWW"),
+    (Unchanged, Share, b"TTTT", b"TTTT", b"WWWW"),
+    (RolledBack, Share, b"TTTT", b"TTTT", b"WWWW"),
+    (Newer, Share, b"NKKF", b"NKKF", b"WWWW"),
+    (Gone, Share, b"SSSS", b"SSSS", b"WWWW"),
+    (Own, Share, b"TTTT", b"TTTT", b"WWWW"),
+];
+
+const AT_REPEATABLE_READ: [Cells; 10] = [
+    (Unchanged, Exclusive, b"TTTT", b"WWWW", b"WWWW"),
+    (RolledBack, Exclusive, b"TTTT", b"WWWW", b"WWWW"),
+    (Newer, Exclusive, b"ZZZZ", b"ZZZZ", b"ZZZZ"),
+    (Gone, Exclusive, b"ZZZZ", b"ZZZZ", b"ZZZZ"),
+    (Own, Exclusive, b"TTTT", b"WWWW", b"WWWW"),
+    (Unchanged, Share, b"TTTT", b"TTTT", b"WWWW"),
+    (RolledBack, Share, b"TTTT", b"TTTT", b"WWWW"),
+    (Newer, Share, b"ZZZZ", b"ZZZZ", b"ZZZZ"),
+    (Gone, Share, b"ZZZZ", b"ZZZZ", b"ZZZZ"),
+    (Own, Share, b"TTTT", b"TTTT", b"WWWW"),
+];
+
+fn are_settled(rt: &impl Abort, alloc: Global, level: Level, all: &[Cells]) -> Result<(), Fail> {
+    for (change, strength, free, shared, exclusive) in all {
+        let target = Target {
+            level,
+            change: *change,
+            strength: *strength,
+        };
+        four_cells(rt, alloc, target, None, *free)?;
+        four_cells(rt, alloc, target, Some(Share), *shared)?;
+        four_cells(rt, alloc, target, Some(Exclusive), *exclusive)?;
     }
     Ok(())
 }
@@ -201,52 +267,6 @@ fn four_cells(
 /// locked. Nothing else locks it. S: it is passed over. W: it waits. Z: it can't serialize.
 #[test]
 fn each_cell_is_settled_as_defined(rt: HostRuntime) -> Result<(), Fail> {
-    use Change::{Gone, Newer, Own, RolledBack, Unchanged};
-    use Level::{ReadCommitted, RepeatableRead};
-    use Strength::{Exclusive, Share};
-    let levels = [
-        (
-            ReadCommitted,
-            [
-                (Unchanged, Exclusive, b"TTTT", b"WWWW", b"WWWW"),
-                (RolledBack, Exclusive, b"TTTT", b"WWWW", b"WWWW"),
-                (Newer, Exclusive, b"NKKF", b"WWWW", b"WWWW"),
-                (Gone, Exclusive, b"SSSS", b"WWWW", b"WWWW"),
-                (Own, Exclusive, b"TTTT", b"WWWW", b"WWWW"),
-                (Unchanged, Share, b"TTTT", b"TTTT", b"WWWW"),
-                (RolledBack, Share, b"TTTT", b"TTTT", b"WWWW"),
-                (Newer, Share, b"NKKF", b"NKKF", b"WWWW"),
-                (Gone, Share, b"SSSS", b"SSSS", b"WWWW"),
-                (Own, Share, b"TTTT", b"TTTT", b"WWWW"),
-            ],
-        ),
-        (
-            RepeatableRead,
-            [
-                (Unchanged, Exclusive, b"TTTT", b"WWWW", b"WWWW"),
-                (RolledBack, Exclusive, b"TTTT", b"WWWW", b"WWWW"),
-                (Newer, Exclusive, b"ZZZZ", b"ZZZZ", b"ZZZZ"),
-                (Gone, Exclusive, b"ZZZZ", b"ZZZZ", b"ZZZZ"),
-                (Own, Exclusive, b"TTTT", b"WWWW", b"WWWW"),
-                (Unchanged, Share, b"TTTT", b"TTTT", b"WWWW"),
-                (RolledBack, Share, b"TTTT", b"TTTT", b"WWWW"),
-                (Newer, Share, b"ZZZZ", b"ZZZZ", b"ZZZZ"),
-                (Gone, Share, b"ZZZZ", b"ZZZZ", b"ZZZZ"),
-                (Own, Share, b"TTTT", b"TTTT", b"WWWW"),
-            ],
-        ),
-    ];
-    for (level, cells) in levels {
-        for (change, strength, free, shared, exclusive) in cells {
-            let target = Target {
-                level,
-                change,
-                strength,
-            };
-            four_cells(&rt, rt.alloc(), target, None, free)?;
-            four_cells(&rt, rt.alloc(), target, Some(Share), shared)?;
-            four_cells(&rt, rt.alloc(), target, Some(Exclusive), exclusive)?;
-        }
-    }
-    Ok(())
+    are_settled(&rt, rt.alloc(), Level::ReadCommitted, &AT_READ_COMMITTED)?;
+    are_settled(&rt, rt.alloc(), Level::RepeatableRead, &AT_REPEATABLE_READ)
 }

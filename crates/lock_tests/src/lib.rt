@@ -2,6 +2,8 @@
 #![tactic(auto)]
 
 #[cfg(test)]
+mod asking;
+#[cfg(test)]
 mod cells;
 #[cfg(test)]
 mod locks_and_waits;

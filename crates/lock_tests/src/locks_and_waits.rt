@@ -1,6 +1,8 @@
 //! What no clause says of locks and waits: that each call can succeed, worked rows, and calls after memory was refused.
 //! Run also with `rt try --test --fail-alloc N` for each N: a call that was refused has changed nothing, and is made again.
 
+use crate::asking::holds;
+use row_locks::Strength::{Exclusive, Share};
 use row_locks::{LockTable, Strength, Waits};
 use row_versions::{RowId, TxId};
 use smallvec::SmallVec;
@@ -22,10 +24,10 @@ fn list(alloc: Global, numbers: &[u64]) -> Result<SmallVec<TxId, 4>, AllocError>
     Ok(list)
 }
 
-fn some_list(alloc: Global, numbers: &[u64]) -> Result<SmallVec<TxId, 4>, Fail> {
+fn some_list(alloc: Global, numbers: &[u64]) -> Result<SmallVec<TxId, 4>, AllocError> {
     match list(alloc, numbers) {
         Ok(list) => Ok(list),
-        Err(_) => Ok(list(alloc, numbers)?),
+        Err(_) => list(alloc, numbers),
     }
 }
 
@@ -37,18 +39,14 @@ fn are(found: &[TxId], numbers: &[u64]) -> bool {
             .all(|(tx, number)| tx.0 == *number)
 }
 
-/// The blockers of the transaction's request are these, in the order in which they took their locks.
-fn blocked_by(
-    locks: &LockTable,
-    row: RowId,
-    tx: u64,
-    strength: Strength,
-    numbers: &[u64],
-) -> Result<bool, Fail> {
-    match locks.against(row, TxId(tx), strength) {
-        Ok(found) => Ok(are(&found, numbers)),
-        Err(_) => Ok(are(&locks.against(row, TxId(tx), strength)?, numbers)),
+/// The blockers of the transaction's request are these, in the order in which they took their locks. Asked again where memory was refused.
+fn blocked_by(locks: &LockTable, row: RowId, tx: u64, strength: Strength, numbers: &[u64]) -> bool {
+    for _ in 0..2 {
+        if let Ok(found) = locks.against(row, TxId(tx), strength) {
+            return are(&found, numbers);
+        }
     }
+    false
 }
 
 /// Takes the row's first lock.
@@ -59,47 +57,61 @@ fn take_first(
     strength: Strength,
 ) -> Result<(), Fail> {
     if locks.take(ROW, TxId(tx), strength).is_err() {
-        assert!(rt; blocked_by(locks, ROW, 9, Strength::Exclusive, &NOBODY)?);
+        let nobody = blocked_by(locks, ROW, 9, Exclusive, &NOBODY);
+        holds(rt, nobody, "a lock that was refused");
         locks.take(ROW, TxId(tx), strength)?;
     }
     Ok(())
 }
 
+/// Of a row that is held: who else wants it is blocked as it should be, the holder is not, nor is anyone at another row.
+fn conflict_is(rt: &impl Abort, locks: &LockTable, asked: Strength, conflicts: bool) {
+    let blocker: &[u64] = if conflicts { &[1] } else { &NOBODY };
+    holds(rt, blocked_by(locks, ROW, 2, asked, blocker), "the blocker");
+    holds(rt, blocked_by(locks, ROW, 1, asked, &NOBODY), "the holder");
+    let other = blocked_by(locks, OTHER_ROW, 2, asked, &NOBODY);
+    holds(rt, other, "another row");
+}
+
 #[test]
 fn shared_locks_agree_and_others_conflict(rt: HostRuntime) -> Result<(), Fail> {
-    use Strength::{Exclusive, Share};
-    let pairs = [
+    for (held, asked, conflicts) in [
         (Share, Share, false),
         (Share, Exclusive, true),
         (Exclusive, Share, true),
         (Exclusive, Exclusive, true),
-    ];
-    for (held, asked, conflicts) in pairs {
+    ] {
         let mut locks = LockTable::new(rt.alloc());
         take_first(&rt, &mut locks, 1, held)?;
-        let blocker: &[u64] = if conflicts { &[1] } else { &NOBODY };
-        assert!(rt; blocked_by(&locks, ROW, 2, asked, blocker)?);
-        assert!(rt; blocked_by(&locks, ROW, 1, asked, &NOBODY)?);
-        assert!(rt; blocked_by(&locks, OTHER_ROW, 2, asked, &NOBODY)?);
+        conflict_is(&rt, &locks, asked, conflicts);
         locks.release(TxId(1));
-        assert!(rt; blocked_by(&locks, ROW, 2, asked, &NOBODY)?);
+        let nobody = blocked_by(&locks, ROW, 2, asked, &NOBODY);
+        holds(&rt, nobody, "a lock that is released");
+    }
+    Ok(())
+}
+
+/// The row is shared by these, of whom the first asks twice.
+fn take_all(locks: &mut LockTable) -> Result<(), Fail> {
+    for tx in [5, 1, 2, 3, 4, 5] {
+        if locks.take(ROW, TxId(tx), Share).is_err() {
+            locks.take(ROW, TxId(tx), Share)?;
+        }
     }
     Ok(())
 }
 
 #[test]
 fn each_blocker_is_found_once(rt: HostRuntime) -> Result<(), Fail> {
-    use Strength::{Exclusive, Share};
     let mut locks = LockTable::new(rt.alloc());
-    for tx in [5, 1, 2, 3, 4, 5] {
-        if locks.take(ROW, TxId(tx), Share).is_err() {
-            locks.take(ROW, TxId(tx), Share)?;
-        }
-    }
-    assert!(rt; blocked_by(&locks, ROW, 9, Exclusive, &[5, 1, 2, 3, 4])?);
-    assert!(rt; blocked_by(&locks, ROW, 2, Exclusive, &[5, 1, 3, 4])?);
+    take_all(&mut locks)?;
+    let all = blocked_by(&locks, ROW, 9, Exclusive, &[5, 1, 2, 3, 4]);
+    holds(&rt, all, "all");
+    let others = blocked_by(&locks, ROW, 2, Exclusive, &[5, 1, 3, 4]);
+    holds(&rt, others, "the others");
     locks.release(TxId(5));
-    assert!(rt; blocked_by(&locks, ROW, 9, Exclusive, &[1, 2, 3, 4])?);
+    let left = blocked_by(&locks, ROW, 9, Exclusive, &[1, 2, 3, 4]);
+    holds(&rt, left, "those that are left");
     Ok(())
 }
 
@@ -121,35 +133,40 @@ fn waits_of(alloc: Global, waiters: &[Waiter]) -> Result<Waits, Fail> {
     Ok(waits)
 }
 
-fn closes(alloc: Global, waits: &Waits, tx: u64, blockers: &[u64]) -> Result<bool, Fail> {
-    let blockers = some_list(alloc, blockers)?;
+fn closes(alloc: Global, waits: &Waits, tx: u64, blockers: &[u64]) -> Option<bool> {
+    let blockers = some_list(alloc, blockers).ok()?;
     match waits.closes(TxId(tx), &blockers) {
-        Ok(closes) => Ok(closes),
-        Err(_) => Ok(waits.closes(TxId(tx), &blockers)?),
+        Ok(closes) => Some(closes),
+        Err(_) => waits.closes(TxId(tx), &blockers).ok(),
     }
 }
 
+const WAITERS: [Waiter; 4] = [(1, [2, 5]), (3, [1, 6]), (4, [3, 3]), (8, [7, 8])];
+
+/// Who would wait for number 10 and for whom else, and whether that closes a cycle.
+const QUESTIONS: [(u64, u64, bool); 11] = [
+    (2, 1, true),
+    (5, 1, true),
+    (2, 3, true),
+    (2, 4, true),
+    (6, 4, true),
+    (6, 1, false),
+    (7, 4, false),
+    (9, 4, false),
+    (4, 2, false),
+    (7, 8, true),
+    (2, 2, true),
+];
+
 #[test]
 fn cycles_are_found_through_any_wait(rt: HostRuntime) -> Result<(), Fail> {
-    let waiters = [(1, [2, 5]), (3, [1, 6]), (4, [3, 3]), (8, [7, 8])];
-    let questions = [
-        (2, 1, true),
-        (5, 1, true),
-        (2, 3, true),
-        (2, 4, true),
-        (6, 4, true),
-        (6, 1, false),
-        (7, 4, false),
-        (9, 4, false),
-        (4, 2, false),
-        (7, 8, true),
-        (2, 2, true),
-    ];
-    let waits = waits_of(rt.alloc(), &waiters)?;
-    for (tx, blocker, is_closed) in questions {
-        assert!(rt; closes(rt.alloc(), &waits, tx, &[10, blocker])? == is_closed);
+    let waits = waits_of(rt.alloc(), &WAITERS)?;
+    for (tx, blocker, is_closed) in &QUESTIONS {
+        let closes = closes(rt.alloc(), &waits, *tx, &[10, *blocker]);
+        holds(&rt, closes == Some(*is_closed), "a cycle");
     }
-    assert!(rt; !closes(rt.alloc(), &waits, 2, &NOBODY)?);
+    let closes = closes(rt.alloc(), &waits, 2, &NOBODY);
+    holds(&rt, closes == Some(false), "nobody");
     Ok(())
 }
 
@@ -170,23 +187,28 @@ fn is_free(waits: &Waits, tx: u64) -> bool {
     }
 }
 
+/// Sets the blockers of a wait to nobody, after which it is the earliest that is free.
+fn frees(rt: &impl Abort, alloc: Global, waits: &mut Waits, tx: u64) -> Result<(), Fail> {
+    set(alloc, waits, tx, &NOBODY)?;
+    holds(rt, is_free(waits, tx), "the earliest free one");
+    Ok(())
+}
+
 #[test]
 fn the_earliest_free_wait_goes_first(rt: HostRuntime) -> Result<(), Fail> {
     let mut waits = waits_of(rt.alloc(), &[(5, [1, 2]), (3, [1, 1]), (4, [5, 1])])?;
-    assert!(rt; waits.earliest_free().is_none());
-    set(rt.alloc(), &mut waits, 4, &NOBODY)?;
-    assert!(rt; is_free(&waits, 4));
-    set(rt.alloc(), &mut waits, 3, &NOBODY)?;
-    assert!(rt; is_free(&waits, 3));
-    set(rt.alloc(), &mut waits, 5, &NOBODY)?;
-    assert!(rt; is_free(&waits, 5));
+    holds(&rt, waits.earliest_free().is_none(), "none is free");
+    frees(&rt, rt.alloc(), &mut waits, 4)?;
+    frees(&rt, rt.alloc(), &mut waits, 3)?;
+    frees(&rt, rt.alloc(), &mut waits, 5)?;
     waits.remove(TxId(5));
     waits.remove(TxId(6));
-    assert!(rt; is_free(&waits, 3));
+    holds(&rt, is_free(&waits, 3), "the next");
     set(rt.alloc(), &mut waits, 3, &[4])?;
-    assert!(rt; is_free(&waits, 4));
-    assert!(rt; closes(rt.alloc(), &waits, 4, &[3])?);
+    holds(&rt, is_free(&waits, 4), "the last");
+    let closes = closes(rt.alloc(), &waits, 4, &[3]);
+    holds(&rt, closes == Some(true), "a cycle");
     waits.remove(TxId(4));
-    assert!(rt; waits.earliest_free().is_none());
+    holds(&rt, waits.earliest_free().is_none(), "none is left");
     Ok(())
 }

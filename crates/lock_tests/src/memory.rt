@@ -1,5 +1,6 @@
 //! Each place where settling may want memory. Run with `rt try --test --fail-alloc 1..`.
 
+use crate::asking::holds;
 use crate::cells::{Target, came};
 use crate::stores::Change;
 use row_locks::Strength;
@@ -20,7 +21,8 @@ fn refused_memory_leaves_the_locks(rt: HostRuntime) -> Result<(), Fail> {
             change,
             strength: Strength::Exclusive,
         };
-        assert!(rt; came(&rt, rt.alloc(), target, held, true, which)? == want);
+        let found = came(&rt, rt.alloc(), target, held, true, which)?;
+        holds(&rt, found == want, "a cell");
     }
     Ok(())
 }

@@ -19,20 +19,18 @@ enum Asked {
     Taken(Kind),
 }
 
-fn columns<'a>() -> [Column<'a>; 2] {
-    [
-        Column {
-            name: Name::Folded("A"),
-            kind: Kind::Int,
-            not_null: false,
-        },
-        Column {
-            name: Name::Quoted("b\"\"B"),
-            kind: Kind::Text,
-            not_null: true,
-        },
-    ]
-}
+const COLUMNS: [Column<'static>; 2] = [
+    Column {
+        name: Name::Folded("A"),
+        kind: Kind::Int,
+        not_null: false,
+    },
+    Column {
+        name: Name::Quoted("b\"\"B"),
+        kind: Kind::Text,
+        not_null: true,
+    },
+];
 
 /// A row of `a`, which is 7, and `b"B`, which is `x`.
 fn two_values(alloc: Global) -> Result<Row, AllocError> {
@@ -50,8 +48,7 @@ fn is_so_at(
     row: &Row,
     words: &str,
 ) -> Result<bool, AllocError> {
-    let columns = columns();
-    let cols = Columns::of(&columns);
+    let cols = Columns::of(&COLUMNS);
     if row.values().len() != cols.len() {
         return Ok(false);
     }
@@ -94,10 +91,7 @@ fn is_so(alloc: Global, asked: Asked, text: &str, words: &str) -> Result<bool, A
 
 fn all_are_so(rt: &impl Abort, alloc: Global, asked: Asked, cases: &[(&str, &str)]) {
     for (text, words) in cases {
-        assert!(rt;
-            at_last(alloc, |alloc| is_so(alloc, asked, text, words)),
-            "{text} is {words}"
-        );
+        holds(rt, at_last!(is_so(alloc, asked, *text, *words)), *text);
     }
 }
 
@@ -278,7 +272,7 @@ fn in_and_between(rt: HostRuntime) {
     all_are_so(&rt, rt.alloc(), Asked::Value, &IN_AND_BETWEEN);
 }
 
-const COLUMNS: [(&str, &str); 4] = [
+const NAMED: [(&str, &str); 4] = [
     ("a + 1", "int 8"),
     ("\"b\"\"B\"", "text x"),
     ("\"A\"\"1\"", "no column A\"1"),
@@ -287,7 +281,7 @@ const COLUMNS: [(&str, &str); 4] = [
 
 #[test]
 fn columns_by_name(rt: HostRuntime) {
-    all_are_so(&rt, rt.alloc(), Asked::Value, &COLUMNS);
+    all_are_so(&rt, rt.alloc(), Asked::Value, &NAMED);
 }
 
 const PASSED: [(&str, &str); 4] = [
@@ -332,10 +326,22 @@ fn compare_as(a: &Value, b: &Value, order: Option<Ordering>) -> bool {
 #[test]
 fn compared(rt: HostRuntime) {
     let two = Value::Int(2);
-    holds(&rt, compare_as(&two, &Value::Big(2), Some(Ordering::Equal)));
-    holds(&rt, compare_as(&Value::Big(-3), &two, Some(Ordering::Less)));
-    holds(&rt, compare_as(&Value::Null, &Value::Null, None));
-    holds(&rt, compare_as(&two, &Value::Bool(true), None));
+    holds(
+        &rt,
+        compare_as(&two, &Value::Big(2), Some(Ordering::Equal)),
+        "equal",
+    );
+    holds(
+        &rt,
+        compare_as(&Value::Big(-3), &two, Some(Ordering::Less)),
+        "less",
+    );
+    holds(&rt, compare_as(&Value::Null, &Value::Null, None), "NULL");
+    holds(
+        &rt,
+        compare_as(&two, &Value::Bool(true), None),
+        "other kinds",
+    );
 }
 
 fn is_copied(alloc: Global, row: &Row) -> Result<bool, AllocError> {
@@ -350,5 +356,5 @@ fn copy_is_same(alloc: Global) -> Result<bool, AllocError> {
 
 #[test]
 fn copied_rows(rt: HostRuntime) {
-    holds(&rt, at_last(rt.alloc(), copy_is_same));
+    holds(&rt, at_last!(copy_is_same(rt.alloc())), "a copy");
 }

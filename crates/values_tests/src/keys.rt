@@ -25,19 +25,23 @@ fn row_of(alloc: Global, pair: Pair) -> Result<Row, AllocError> {
     Ok(Row::from_vec(vec![in alloc; value_of(pair.0), value_of(pair.1)]?))
 }
 
+/// A key on the columns at each of these places.
+fn keys_at(alloc: Global, table: TableId, places: &[&[u32]]) -> Result<TableKeys, AllocError> {
+    let mut keys = Vec::new(alloc);
+    for columns in places {
+        keys.push(Vec::from_slice(alloc, *columns)?)?;
+    }
+    Ok(TableKeys { table, keys })
+}
+
 /// A key on each column.
 fn two_keys(alloc: Global, table: TableId) -> Result<TableKeys, AllocError> {
-    let first = vec![in alloc; 0u32]?;
-    let second = vec![in alloc; 1u32]?;
-    let keys = vec![in alloc; first, second]?;
-    Ok(TableKeys { table, keys })
+    keys_at(alloc, table, &[&[0], &[1]])
 }
 
 /// One key on both columns.
 fn wide_key(alloc: Global) -> Result<TableKeys, AllocError> {
-    let both = vec![in alloc; 0u32, 1u32]?;
-    let keys = vec![in alloc; both]?;
-    Ok(TableKeys { table: TABLE, keys })
+    keys_at(alloc, TABLE, &[&[0, 1]])
 }
 
 /// A write: of this transaction, of this row or a new one, with these values unless it deletes the row.
@@ -256,7 +260,7 @@ fn keys_are_found(alloc: Global) -> Result<bool, AllocError> {
 
 #[test]
 fn keys_are_held_taken_or_free(rt: HostRuntime) {
-    holds(&rt, at_last(rt.alloc(), keys_are_found));
+    holds(&rt, at_last!(keys_are_found(rt.alloc())), "keys");
 }
 
 /// A row with this number in the first column, which alone is asked for.
@@ -307,7 +311,7 @@ fn one_key_is_found(alloc: Global) -> Result<bool, AllocError> {
 
 #[test]
 fn one_key_is_held_taken_or_free(rt: HostRuntime) {
-    holds(&rt, at_last(rt.alloc(), one_key_is_found));
+    holds(&rt, at_last!(one_key_is_found(rt.alloc())), "one key");
 }
 
 fn held_keys_are_told(alloc: Global) -> Result<bool, AllocError> {
@@ -324,7 +328,7 @@ fn held_keys_are_told(alloc: Global) -> Result<bool, AllocError> {
 
 #[test]
 fn keys_are_held_by_other_open_transactions(rt: HostRuntime) {
-    holds(&rt, at_last(rt.alloc(), held_keys_are_told));
+    holds(&rt, at_last!(held_keys_are_told(rt.alloc())), "held keys");
 }
 
 /// One transaction writes a row, whose values enter the index; another asks.
@@ -349,5 +353,9 @@ fn entered_values_are_found(alloc: Global) -> Result<bool, AllocError> {
 
 #[test]
 fn values_that_enter_are_found(rt: HostRuntime) {
-    holds(&rt, at_last(rt.alloc(), entered_values_are_found));
+    holds(
+        &rt,
+        at_last!(entered_values_are_found(rt.alloc())),
+        "entered values",
+    );
 }

@@ -74,11 +74,7 @@ fn is_so(alloc: Global, case: &Case) -> Result<bool, AllocError> {
 #[test]
 fn order_of_rows(rt: HostRuntime) {
     for case in &CASES {
-        assert!(rt;
-            at_last(rt.alloc(), |alloc| is_so(alloc, case)),
-            "{}",
-            case.1
-        );
+        holds(&rt, at_last!(is_so(rt.alloc(), case)), case.1);
     }
 }
 
@@ -93,5 +89,5 @@ fn by_two(alloc: Global) -> Result<bool, AllocError> {
 
 #[test]
 fn order_by_two_keys(rt: HostRuntime) {
-    holds(&rt, at_last(rt.alloc(), by_two));
+    holds(&rt, at_last!(by_two(rt.alloc())), "two keys");
 }

@@ -7,6 +7,7 @@ use iso_lexer::Name;
 use sql_trees::{Agg, AggKind, Column};
 use sql_values::{Columns, Kind, Row, aggregate};
 use std::alloc::{AllocError, Global};
+use std::process::Abort;
 
 fn are_as_long(rows: &[&Row], long: usize) -> bool
     ensures { OnTrue result (All (λ row. length row.now ≡ long) rows.now) }
@@ -22,13 +23,14 @@ fn lent<'r>(alloc: Global, rows: &'r [Row]) -> Result<Vec<&'r Row>, AllocError> 
     Ok(lent)
 }
 
+const COLUMN: [Column<'static>; 1] = [Column {
+    name: Name::Folded("x"),
+    kind: Kind::Int,
+    not_null: false,
+}];
+
 fn gives(alloc: Global, agg: &Agg<'_>, rows: &[&Row], words: &str) -> Result<bool, AllocError> {
-    let column = [Column {
-        name: Name::Folded("x"),
-        kind: Kind::Int,
-        not_null: false,
-    }];
-    let cols = Columns::of(&column);
+    let cols = Columns::of(&COLUMN);
     if !are_as_long(rows, cols.len()) {
         return Ok(false);
     }
@@ -108,15 +110,13 @@ const CASES: [Case; 27] = [
     (COUNT, "y", "", "bigint 0"),
 ];
 
+fn tells(rt: &impl Abort, so: bool, case: &Case) {
+    assert!(rt; so, "{} of {} is {}", case.1, case.2, case.3);
+}
+
 #[test]
 fn aggregates(rt: HostRuntime) {
     for case in &CASES {
-        assert!(rt;
-            at_last(rt.alloc(), |alloc| is_so(alloc, case)),
-            "{} of {} is {}",
-            case.1,
-            case.2,
-            case.3
-        );
+        tells(&rt, at_last!(is_so(rt.alloc(), case)), case);
     }
 }

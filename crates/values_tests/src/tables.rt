@@ -120,7 +120,7 @@ fn are_tables(alloc: Global) -> Result<bool, AllocError> {
 
 #[test]
 fn tables_of_results(rt: HostRuntime) {
-    holds(&rt, at_last(rt.alloc(), are_tables));
+    holds(&rt, at_last!(are_tables(rt.alloc())), "tables");
 }
 
 /// Whether a sink that takes so few puts is told to have failed.
@@ -145,16 +145,16 @@ fn each_put_is_told(alloc: Global) -> Result<bool, AllocError> {
 
 #[test]
 fn each_put_failing_in_turn(rt: HostRuntime) {
-    holds(&rt, at_last(rt.alloc(), each_put_is_told));
+    holds(&rt, at_last!(each_put_is_told(rt.alloc())), "puts");
 }
 
 #[test]
 fn texts_that_look_like_numbers(rt: HostRuntime) {
     for text in ["0", "-3", "1.5", "1e5", "1 2"] {
-        holds(&rt, is_numeric(text.as_bytes()));
+        holds(&rt, is_numeric(text.as_bytes()), text);
     }
     for text in ["-", "e1", "E1", "1-", "1.", "", "a1", "1\t2"] {
-        holds(&rt, !is_numeric(text.as_bytes()));
+        holds(&rt, !is_numeric(text.as_bytes()), text);
     }
 }
 
@@ -166,12 +166,12 @@ fn is_copied(alloc: Global) -> Result<bool, AllocError> {
 
 #[test]
 fn a_copy_is_the_same(rt: HostRuntime) {
-    holds(&rt, at_last(rt.alloc(), is_copied));
+    holds(&rt, at_last!(is_copied(rt.alloc())), "a copy");
 }
 
 #[test]
 fn an_alias_is_not_the_unnamed_title(rt: HostRuntime) {
     let alias = named(Name::Quoted("?column?"));
-    holds(&rt, !Title::Unnamed.same(&alias));
-    holds(&rt, alias.same(&alias.again()));
+    holds(&rt, !Title::Unnamed.same(&alias), "the unnamed title");
+    holds(&rt, alias.same(&alias.again()), "the alias");
 }

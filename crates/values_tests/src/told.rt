@@ -7,19 +7,22 @@ use sql_values::{Columns, Row, Value, ValueFault, eval};
 use std::alloc::{AllocError, Global};
 use std::process::Abort;
 
-pub(crate) fn holds(rt: &impl Abort, fact: bool) {
-    assert!(rt; fact);
+/// Fails the test where the claim is false; `of` says which case it is.
+pub(crate) fn holds(rt: &impl Abort, claim: bool, of: &str) {
+    assert!(rt; claim, "{of}");
 }
 
 /// Whether it is so, asked again where memory was refused.
-pub(crate) fn at_last<F: Fn(Global) -> Result<bool, AllocError>>(alloc: Global, asked: F) -> bool
-    requires { F.IsAlwaysCallable asked }
-{
-    match asked(alloc) {
-        Ok(so) => so,
-        Err(_) => asked(alloc) == Ok(true),
-    }
+macro_rules! at_last {
+    ($asked:expr) => {
+        match $asked {
+            Ok(so) => so,
+            Err(_) => matches!($asked, Ok(true)),
+        }
+    };
 }
+
+pub(crate) use at_last;
 
 fn parsed<'a>(
     alloc: Global,

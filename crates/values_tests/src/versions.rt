@@ -193,20 +193,20 @@ fn changes<V: Versions>(alloc: Global, store: &mut V) -> Result<bool, AllocError
     Ok(before && after && store.committed() == 2)
 }
 
+fn inserts_alone(alloc: Global) -> Result<bool, AllocError> {
+    inserts(alloc, &mut ListStore::new(alloc))
+}
+
+fn changes_alone(alloc: Global) -> Result<bool, AllocError> {
+    changes(alloc, &mut ListStore::new(alloc))
+}
+
 #[test]
 fn inserted_rows_are_seen_once_committed(rt: HostRuntime) {
-    let seen = at_last(
-        rt.alloc(),
-        |alloc| inserts(alloc, &mut ListStore::new(alloc)),
-    );
-    holds(&rt, seen);
+    holds(&rt, at_last!(inserts_alone(rt.alloc())), "inserts");
 }
 
 #[test]
 fn open_and_rolled_back_writes_of_others_are_not_seen(rt: HostRuntime) {
-    let seen = at_last(
-        rt.alloc(),
-        |alloc| changes(alloc, &mut ListStore::new(alloc)),
-    );
-    holds(&rt, seen);
+    holds(&rt, at_last!(changes_alone(rt.alloc())), "changes");
 }
