@@ -72,7 +72,9 @@ def named_from(wanted, files, holders, without=()):
             continue
         named.add(at)
         imported, whole, found = files[at[0]]
-        for word in words("\n".join(found[at[1]])):
+        written = words("\n".join(found[at[1]]))
+        # (an operator is defined with a mark for each side, and a do block by what stands between its lines)
+        for word in [*written, *(f"◌{it}◌" for it in written), *(["◌>>=◌"] if "do" in written else [])]:
             front, _, back = word.rpartition(".")
             if word in found:
                 left.append((at[0], word))

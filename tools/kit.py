@@ -266,7 +266,8 @@ def tried(crate, edits):
 def judged(came_to):
     """Returns whether what a try came to is a refusal, and what the gate says of it."""
     kind, text = came_to
-    return kind in (rt.REFUSED, rt.AT_LIMIT), text
+    # (a kit says whether the edit was refused, or in which way)
+    return kind in (getattr(rt, "REFUSED", True), getattr(rt, "AT_LIMIT", True)), text
 
 
 def told_by_tests(crate, edit):
