@@ -98,16 +98,17 @@ def build_all(libraries, told=lambda done, of, crate, well: None):
     """Proves and builds these libraries, which stand on each other alone, several side by side. What is built already isn't looked at. Returns whether all are built; of
     each that was tried, told learns which in turn it is, of how many, and whether it went well.
 
-    A check by one job takes least processor time, by four some six tenths more: so those have four that the others wait for."""
+    A check by one job takes least processor time, by four some six tenths more: so a crate has as many as there are processors that no other wants, and else two where the
+    others wait for it."""
     lacking = [it for it in libraries if not all(each.is_built() for each in [it, *it.below()])]
     first, tasks, done = waited_for(lacking), {}, []
     for crate in lacking:
         below = [(it.name, "proof") for it in crate.below() if it in lacking]
 
-        def made(given, _, crate=crate, below=below):
+        def made(given, spare, crate=crate, below=below):
             if not all(given[it] for it in below):
                 return False
-            jobs = ["--jobs", str(min(4, rt.processors()) if crate.name in first else 1)]
+            jobs = ["--jobs", str(max(spare, min(2, rt.processors()) if crate.name in first else 1))]
             well = quietly(crate, lambda it: it.build_rlib(jobs, anew=False))
             done.append(crate.name)
             told(len(done), len(lacking), crate, well)
