@@ -17,6 +17,8 @@ TRIED = f"{TOP}/wrong_bodies.txt"
 ROOMS = ("must-fail", "wrong_bodies", "wrong_bodies/due", "wrong_bodies/by_tests")
 # The crate whose tests tell them, and how many seconds its tests may take on a wrong body.
 TELLS, PATIENCE = "thread_tests", 600
+# From so many lines on a crate is proved by two jobs at least.
+LONG = 1500
 
 
 def load():
@@ -99,7 +101,7 @@ def build_all(libraries, told=lambda done, of, crate, well: None):
     each that was tried, told learns which in turn it is, of how many, and whether it went well.
 
     A check by one job takes least processor time, by four some six tenths more: so a crate has as many as there are processors that no other wants, and else two where the
-    others wait for it."""
+    others wait for it, or where it is long."""
     lacking = [it for it in libraries if not all(each.is_built() for each in [it, *it.below()])]
     first, tasks, done = waited_for(lacking), {}, []
     for crate in lacking:
@@ -108,14 +110,14 @@ def build_all(libraries, told=lambda done, of, crate, well: None):
         def made(given, spare, crate=crate, below=below):
             if not all(given[it] for it in below):
                 return False
-            jobs = ["--jobs", str(max(spare, min(2, rt.processors()) if crate.name in first else 1))]
+            jobs = ["--jobs", str(max(spare, min(2, rt.processors()) if crate.name in first or crate.count(rb"\n") > LONG else 1))]
             well = quietly(crate, lambda it: it.build_rlib(jobs, anew=False))
             done.append(crate.name)
             told(len(done), len(lacking), crate, well)
             return well
 
-        # (in_lanes takes a task for a proof by the second part of its key. It is told half as much memory again, since it reckons with fewer jobs than are used)
-        tasks[crate.name, "proof"] = (below, crate.count(rb"\n"), 1.5 * rt.need(crate), made)
+        # (in_lanes takes a task for a proof by the second part of its key. What it reckons with is the most that a check was ever seen to take; over kept work it takes half of that)
+        tasks[crate.name, "proof"] = (below, crate.count(rb"\n"), rt.need(crate) / 2, made)
     return all(rt.in_lanes(tasks).values())
 
 
