@@ -116,46 +116,9 @@ def build_all(libraries, told=lambda done, of, crate, well: None):
             told(len(done), len(lacking), crate, well)
             return well
 
-        # (in_lanes takes a task for a proof by the second part of its key. What it reckons with is the most that a check was ever seen to take; over kept work it takes half of that)
+        # (in_lanes takes a task for a proof by the second part of its key. A check that keeps its work takes half of the memory that it reckons with)
         tasks[crate.name, "proof"] = (below, crate.count(rb"\n"), rt.need(crate) / 2, made)
     return all(rt.in_lanes(tasks).values())
-
-
-def words_with(program, apart):
-    """Returns the words by which a program is checked together with those of its libraries that are passed as source, over the others as they are built."""
-    sources = [it for it in program.below() if it in apart]
-    of_kit = {"core", *(name for it in [program, *sources] for name in it.of_kit)}
-    words = ["--crate-name", program.name, "src/main.rt"]
-    for name in sorted(of_kit):
-        words += ["--extern", f"{name}={rt.KIT}/rlibs/{name}.rlib"]
-    for it in program.below():
-        if it in apart:
-            uses = dict.fromkeys(["core", *it.of_kit, *(dep.name for dep in it.deps)])
-            words += ["--lib", f"{it.name}:{','.join(uses)}={it.folder}/src/lib.rt"]
-        else:
-            words += ["--extern", f"{it.name}={it.rlib}", "-L", f"dependency={os.path.dirname(it.rlib)}"]
-    words += ["-L", f"dependency={rt.KIT}/rlibs", "--antt-project", f"{rt.KIT}/rattle/logic/antt-project.json"]
-    return [*words, "--logic-built", f"{rt.KIT}/logic_built"]
-
-
-def built_with(program, apart, say):
-    """Proves and builds a program together with those of its libraries, which are passed as source, so that none of them waits for another; say is told how far it is.
-    What they kept serves the next time. Returns whether all went well."""
-    room, sofar = f"{program.folder}/out/{program.name}", re.compile(r"so far: (.*?)(?:; .*)?$")
-    os.makedirs(os.path.dirname(room), exist_ok=True)
-    words = [*words_with(program, apart), "--jobs", str(rt.processors()), "--incremental", "out/with_libraries"]
-    words += ["--toolchain", f"{rt.KIT}/toolchain", "--backend", "llvm", "-o", f"{room}.o"]
-    how = {"cwd": program.folder, "stdin": subprocess.DEVNULL, "stdout": subprocess.PIPE, "stderr": subprocess.STDOUT, "text": True, "errors": "replace"}
-    printed = []
-    with subprocess.Popen([*rtlib.guarded(), rtlib.RATTLE, "build", *words], **how) as ran:
-        for line in ran.stdout:
-            printed.append(line)
-            found = sofar.match(line)
-            if found:
-                say(f"{', '.join(it.name for it in [*apart, program])}: {found[1].strip()}")
-    if ran.returncode:
-        print("".join(printed), end="", flush=True)
-    return not ran.returncode and quietly(program, lambda it: it.link(f"out/{it.name}.o", f"out/{it.name}"))
 
 
 def named(words, among):
