@@ -44,6 +44,7 @@ abbrev pub each : {A B : Type 0} → (A → Result B SpecFault) → List A → R
 each f [] = Ok []
 each f (x ∷ xs) = f x >>= λ y. each f xs >>= λ ys. Ok (y ∷ ys)
 
+-- what a marker, or an entry, stands for; or its first name that no step has
 abbrev pub known_marker : List StepAt → MarkerTree → Result Marker SpecFault
 known_marker known star = Ok markers.Star
 known_marker known (named n) = ok_or (option_map (λ s. markers.Step s.session s.step) (find (is_named n.name) known)) (UndefinedMarker n.at)
@@ -61,7 +62,7 @@ step_tree s = record { name = s.name.name; part = s.part }
 abbrev pub session_tree : NamedSession → SessionTree
 session_tree s = record { name = s.name.name; setup = s.setup; steps = map step_tree s.steps; teardown = s.teardown }
 
--- a file whose step names differ, and whose permutations name steps of it
+-- a file whose step names differ, and whose permutations name steps of it; else the first name that stands again, or the first that no step has
 abbrev pub resolved : FileTree → Result SpecTree SpecFault
 resolved f =
     let known = sessions_from 1 f.sessions in
