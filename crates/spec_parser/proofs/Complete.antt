@@ -14,11 +14,12 @@ use Rattle.spec_parser.specs.declared.fault.What.TheVariants as what
 use Rattle.spec_parser.specs.declared.fault.Stop.TheVariants.{Expected, OverLimit}
 use Rattle.spec_parser.specs.Trees.{PartTree, NameAt, NamedStep, NamedSession, MarkerTree, star, named, NamedEntry, FileTree}
 use Rattle.spec_parser.specs.Counts.{Counts, past, past_token}
-use Rattle.spec_parser.specs.Reading.{Rest, Read, ◌>>=◌, is_word, is_sign, is_name, first_is, starts_name, the_word, the_sign, the_name, the_block, token_at, many_at, all_at, some_at, maybe_at, word_at, sign_at, name_at, block_at, end_at, name_within, block_after, setup_at, teardown_at, setups_at, step_at, steps_at, session_at, sessions_at, no_notices, marker_at, next_marker_at, next_markers_at, markers_at, some_markers_at, entry_at, entries_at, perm_at, perms_at, file_at}
-use Rattle.spec_parser.specs.Grammar.{Grammar, gives, one, Maybe, left_out, given, Many, none, more, some, first, second, block_behind, step, session, marker, markers, entry, perm, file}
+use Rattle.spec_parser.specs.Reading.{Rest, Read, is_word, is_sign, is_name, first_is, the_name, the_block, token_at, next, many_at, all_at, some_at, maybe_at, name_at, block_at, end_at, name_within, block_after, maybe_block, step_at, session_at, no_notices, marker_at, markers_at, entry_at, perm_at, file_at}
+use Rattle.spec_parser.specs.Inner.Pieces.{starts_name, word_at, sign_at, setup_at, teardown_at, setups_at, steps_at, sessions_at, next_marker_at, next_markers_at, some_markers_at, entries_at, perms_at}
+use Rattle.spec_parser.specs.Grammar.{Grammar, gives, one, the_word, the_sign, Maybe, left_out, given, Many, none, more, some, first, second, block_behind, step, session, marker, markers, entry, perm, file}
 use Rattle.spec_parser.specs.Grammar.{◌>>=◌ as ◌▸◌}
 use Rattle.spec_parser.proofs.Tokens.{test_true, keyword_in, sign_in, named_in, word_past, grows}
-use Rattle.spec_parser.proofs.Local.{past_twice, stops_at, goes_on, goes, TakesOne, first_takes}
+use Rattle.spec_parser.proofs.Local.{◌>>=◌, past_twice, stops_at, goes_on, goes, TakesOne, first_takes}
 
 -- what is over a limit: the sessions or steps up to a place, or what was read
 pub data IsOver {A : Type 0} (Long : A → Type 0) (d : Counts) (x : A) : Type 0 where
@@ -131,11 +132,11 @@ unfolding name_within name_at
 name_within_again before most c xs rest n follows (t, e, is) = rw e (within_case (nat_lt before most) before most c t rest n refl is)
 
 word_again : (k : Keyword) (w : What) → Completes (one (the_word k)) (word_at k w) Any
-unfolding word_at
+unfolding next
 word_again k w = token_again (the_word k) w
 
 sign_again : (g : Sign) (w : What) → Completes (one (the_sign g)) (sign_at g w) Any
-unfolding sign_at
+unfolding next
 sign_again g w = token_again (the_sign g) w
 
 name_again : (w : What) → Completes (one the_name) (name_at w) Any
@@ -152,6 +153,7 @@ abbrev Starts : {A : Type 0} → (Token → Bool) → Grammar A → Type 0
 Starts {A} p G = (c : Counts) (xs rest : List (At Token)) (x : A) → G c xs x → first_is p (xs ++ rest) ≡ true
 
 maybe_again : {A : Type 0} (G : Grammar A) (p : Token → Bool) (read : Rest → Read A) → Completes G read Any → Starts p G → Completes (Maybe G) (maybe_at (λ r. first_is p r.1) read) (NotFirst p)
+unfolding maybe_at
 maybe_again G p read reads starts c xs rest o follows left_out = whole (rw follows refl)
 maybe_again G p read reads starts c xs rest o follows (given {x = x} g) =
     rw (starts c xs rest x g) (then_again Never Never (read (c, xs ++ rest)) (λ one. (Ok (Some one.0), one.1)) x (past c xs, rest) (Some x) (past c xs, rest) (still_over Never Never (past c xs) [] x (Some x) (λ h. h)) (reads c xs rest x tt g) (whole refl))
@@ -185,6 +187,7 @@ many_or {A} L M G p item F here there reads starts takes leads (suc n) k c ts re
 all_or : {A : Type 0} (L : ℕ → A → Type 0) (M : ℕ → List A → Type 0) (G : Grammar A) (p : Token → Bool) (item : ℕ → Rest → Read A) (F : List (At Token) → Type 0)
     → ((k : ℕ) (x : A) (xs : List A) → L k x → M k (x ∷ xs)) → ((k : ℕ) (x : A) (xs : List A) → M (k + 1) xs → M k (x ∷ xs))
     → ((k : ℕ) → CompletesOr (L k) G (item k) F) → Starts p G → TakesOne G → ((c : Counts) (xs rest : List (At Token)) (x : A) → G c xs x → F (xs ++ rest)) → CompletesOr (M 0) (Many G) (all_at (λ r. first_is p r.1) item) (λ rest. NotFirst p rest × F rest)
+unfolding all_at
 all_or L M G p item F here there reads starts takes leads c ts rest xs follows h = many_or L M G p item F here there reads starts takes leads (length (ts ++ rest)) 0 c ts rest xs (omega arith) follows h
 
 all_again : {A : Type 0} (G : Grammar A) (p : Token → Bool) (item : ℕ → Rest → Read A) (F : List (At Token) → Type 0) → ((k : ℕ) → Completes G (item k) F) → Starts p G → TakesOne G → ((c : Counts) (xs rest : List (At Token)) (x : A) → G c xs x → F (xs ++ rest)) → Completes (Many G) (all_at (λ r. first_is p r.1) item) (λ rest. NotFirst p rest × F rest)
@@ -197,6 +200,7 @@ some_starts G p starts c ts rest all (more {x = x} xs ys e g others, lt) = ap (f
 some_or : {A : Type 0} (L : ℕ → A → Type 0) (M : ℕ → List A → Type 0) (G : Grammar A) (w : What) (p : Token → Bool) (item : ℕ → Rest → Read A) (F : List (At Token) → Type 0)
     → ((k : ℕ) (x : A) (xs : List A) → L k x → M k (x ∷ xs)) → ((k : ℕ) (x : A) (xs : List A) → M (k + 1) xs → M k (x ∷ xs))
     → ((k : ℕ) → CompletesOr (L k) G (item k) F) → Starts p G → TakesOne G → ((c : Counts) (xs rest : List (At Token)) (x : A) → G c xs x → F (xs ++ rest)) → CompletesOr (M 0) (some G) (some_at w (λ r. first_is p r.1) item) (λ rest. NotFirst p rest × F rest)
+unfolding some_at
 some_or L M G w p item F here there reads starts takes leads c ts rest xs follows h = rw (some_starts G p starts c ts rest xs h) (all_or L M G p item F here there reads starts takes leads c ts rest xs follows h.0)
 
 some_again : {A : Type 0} (G : Grammar A) (w : What) (p : Token → Bool) (item : ℕ → Rest → Read A) (F : List (At Token) → Type 0) → ((k : ℕ) → Completes G (item k) F) → Starts p G → TakesOne G → ((c : Counts) (xs rest : List (At Token)) (x : A) → G c xs x → F (xs ++ rest)) → Completes (some G) (some_at w (λ r. first_is p r.1) item) (λ rest. NotFirst p rest × F rest)
@@ -236,15 +240,14 @@ teardown_begins : (p : Token → Bool) → Begins p (p (keyword Teardown)) (bloc
 teardown_begins p c xs rest x h = begins_word Teardown (λ _. one the_block) p c xs rest x h
 
 setup_again : Completes (Maybe (block_behind Setup)) setup_at (NotFirst (is_word Setup))
-unfolding setup_at
+unfolding maybe_block
 setup_again = maybe_again (block_behind Setup) (is_word Setup) (block_after Setup) (block_after_again Setup) (setup_begins (is_word Setup))
 
 teardown_again : Completes (Maybe (block_behind Teardown)) teardown_at (NotFirst (is_word Teardown))
-unfolding teardown_at
+unfolding maybe_block
 teardown_again = maybe_again (block_behind Teardown) (is_word Teardown) (block_after Teardown) (block_after_again Teardown) (teardown_begins (is_word Teardown))
 
 setups_again : Completes (Many (block_behind Setup)) setups_at (λ rest. NotFirst (is_word Setup) rest × Any rest)
-unfolding setups_at
 setups_again = all_again (block_behind Setup) (is_word Setup) (λ k. block_after Setup) Any (λ k. block_after_again Setup) (setup_begins (is_word Setup)) (first_takes (the_word Setup) (λ _. one the_block)) (λ c xs rest x g. tt)
 
 abbrev step_of : NameAt → PartTree → NamedStep
@@ -271,7 +274,6 @@ step_begins : (p : Token → Bool) → Begins p (p (keyword Step)) step
 step_begins p c xs rest x h = begins_word Step (λ _. one the_name ▸ λ n. one the_block ▸ λ b. gives (step_of n b)) p c xs rest x h
 
 steps_again : Completes (some step) steps_at (λ rest. NotFirst (is_word Step) rest × Any rest)
-unfolding steps_at
 steps_again = some_again step what.Step (is_word Step) (λ k. step_at) Any (λ k. step_again) (step_begins (is_word Step)) (first_takes (the_word Step) (λ _. one the_name ▸ λ n. one the_block ▸ λ b. gives (step_of n b))) (λ c xs rest x g. tt)
 
 -- ---- sessions
@@ -328,7 +330,6 @@ abbrev BehindSessions : List (At Token) → Type 0
 BehindSessions rest = NotFirst (is_word Session) rest × BehindSession rest
 
 sessions_again : Completes (some session) sessions_at BehindSessions
-unfolding sessions_at
 sessions_again = some_again session what.Session (is_word Session) (λ k. session_at) BehindSession (λ k. session_again) (session_begins (is_word Session)) (first_takes (the_word Session) (λ _. one the_name ▸ SetUp)) (λ c xs rest x g. (session_begins (is_word Step) c xs rest x g, session_begins (is_word Teardown) c xs rest x g))
 
 -- ---- markers
@@ -355,7 +356,6 @@ abbrev NextMarker : Grammar MarkerTree
 NextMarker = one (the_sign Comma) ▸ λ _. marker
 
 next_marker_again : Completes NextMarker next_marker_at BehindMarker
-unfolding next_marker_at
 next_marker_again = seq (one (the_sign Comma)) (λ _. marker) (sign_at Comma what.CommaOrClose) (λ comma. marker_at comma.1) Any BehindMarker (sign_again Comma what.CommaOrClose) (λ _. marker_again) (λ d x ys rest z f h. tt)
 
 next_begins : (p : Token → Bool) → Begins p (p (sign Comma)) NextMarker
@@ -365,7 +365,6 @@ abbrev BehindMarkers : List (At Token) → Type 0
 BehindMarkers rest = NotFirst (is_sign Comma) rest × BehindMarker rest
 
 next_markers_again : Completes (Many NextMarker) next_markers_at BehindMarkers
-unfolding next_markers_at
 next_markers_again = all_again NextMarker (is_sign Comma) (λ k. next_marker_at) BehindMarker (λ k. next_marker_again) (next_begins (is_sign Comma)) (first_takes (the_sign Comma) (λ _. marker)) (next_begins (is_word Notices))
 
 abbrev Closed : MarkerTree → List MarkerTree → Grammar (List MarkerTree)
@@ -398,7 +397,6 @@ markers_begin : (p : Token → Bool) → Begins p (p (sign Open)) markers
 markers_begin p c xs rest x h = begins_sign Open (λ _. marker ▸ Marked) p c xs rest x h
 
 some_markers_again : Completes (Maybe markers) some_markers_at (NotFirst (is_sign Open))
-unfolding some_markers_at
 some_markers_again = maybe_again markers (is_sign Open) markers_at markers_again (markers_begin (is_sign Open))
 
 -- ---- permutations
@@ -428,7 +426,6 @@ abbrev pub IsLong : List NamedEntry → Type 0
 IsLong es = 1000 < length es
 
 entries_again : CompletesOr IsLong (some entry) entries_at BehindEntries
-unfolding entries_at
 entries_again = reword (λ es. 1000 < 0 + length es) IsLong (some entry) (some_at what.Name starts_name entry_at) BehindEntries (λ es h. omega (arith, h))
     (some_or (λ k _. 1000 ≤ k) (λ k es. 1000 < k + length es) entry what.Name is_name entry_at BehindEntry (λ k x xs h. omega (arith, h)) (λ k x xs h. omega (arith, h)) entry_again
     (begins_name (λ n. Maybe markers ▸ λ ms. gives (entry_of n ms)) is_name true (λ m. refl)) (first_takes the_name (λ n. Maybe markers ▸ λ ms. gives (entry_of n ms))) (begins_name (λ n. Maybe markers ▸ λ ms. gives (entry_of n ms)) (is_sign Open) false (λ m. refl)))
@@ -449,7 +446,6 @@ SomeLong [] = ⊥
 SomeLong (es ∷ ps) = IsLong es ⊎ SomeLong ps
 
 perms_again : CompletesOr SomeLong (Many perm) perms_at BehindPerms
-unfolding perms_at
 perms_again = all_or (λ _. IsLong) (λ _. SomeLong) perm (is_word Permutation) (λ k. perm_at) BehindEntries (λ k x xs h. inl h) (λ k x xs h. inr h) (λ k. perm_again) (perm_begins (is_word Permutation)) (first_takes (the_word Permutation) (λ _. some entry)) (λ c xs rest x g. (perm_begins is_name c xs rest x g, perm_begins (is_sign Open) c xs rest x g))
 
 -- ---- the file

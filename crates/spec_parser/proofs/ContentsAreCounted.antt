@@ -17,8 +17,8 @@ use Rattle.iso_lexer.specs.SpecText.{block_of}
 use Rattle.iso_lexer.specs.SpecSpelling.{NameSpells, Spells, LiesAt}
 use Rattle.spec_parser.specs.Trees.{PartTree, StepTree, NameAt, NamedStep, NamedSession, star, named, FileTree}
 use Rattle.spec_parser.specs.Counts.{Counts, past, past_token}
-use Rattle.spec_parser.specs.Reading.{the_word, the_sign, the_name, the_block, name_in, block_in}
-use Rattle.spec_parser.specs.Grammar.{Grammar, gives, one, Maybe, left_out, given, Many, none, more, some, first, second, block_behind, step, session, marker, markers, entry, perm, file}
+use Rattle.spec_parser.specs.Reading.{the_name, the_block, name_in, block_in}
+use Rattle.spec_parser.specs.Grammar.{Grammar, gives, one, the_word, the_sign, Maybe, left_out, given, Many, none, more, some, first, second, block_behind, step, session, marker, markers, entry, perm, file}
 use Rattle.spec_parser.specs.Grammar.{◌>>=◌ as ◌▸◌}
 use Rattle.spec_parser.specs.Names.{steps_from, sessions_from, step_tree, session_tree}
 use Rattle.spec_parser.specs.Stands.{PartLies, NameLies, session_parts, session_names}

@@ -1,5 +1,6 @@
 -- What reading gives is just what the relations say.
 use Rattle.std.proofs.Common.{◌≡◌, ◌⊎◌, inl, inr, ℕ, length, List, [], map, Option, Some, None, Result, Ok, Err, refl, sym, ap, subst, ◌∙◌}
+use Rattle.std.specs.Prelude.{option_map, unwrap_or}
 use Rattle.std.proofs.lemmas.Option.{same_Some}
 use Rattle.iso_lexer.specs.declared.token.At.{At}
 use Rattle.iso_lexer.specs.declared.fault.Fault.{Fault}
@@ -15,7 +16,8 @@ use Rattle.spec_parser.specs.Faults.{stopped}
 use Rattle.spec_parser.specs.Counts.{start, past}
 use Rattle.spec_parser.specs.Reading.{Rest, Read, place, file_at}
 use Rattle.spec_parser.specs.Grammar.{file}
-use Rattle.spec_parser.specs.Names.{StepAt, first_repeat, known_perms, session_tree, ◌>>=◌, without_repeat, resolved}
+use Rattle.spec_parser.specs.Names.{StepAt, first_repeat, session_tree, ◌>>=◌, resolved}
+use Rattle.spec_parser.specs.Inner.Known.{known_perms}
 use Rattle.spec_parser.specs.SpecText.{SpecReads, no_tokens, tokens, finished}
 use Rattle.spec_parser.specs.Laws.{HasStop}
 use Rattle.spec_parser.specs.IsSpec.{steps_of, WithinLimits, IsSpec}
@@ -84,6 +86,10 @@ reads_so text ts f x lexes grammar limits is = tokens ts lexes (is ∙ sym (ap (
 
 abbrev made : FileTree → List (List EntryTree) → SpecTree
 made f ps = record { setups = f.setups; teardown = f.teardown; sessions = map session_tree f.sessions; perms = ps }
+
+-- the fault at the first repeat, or else this
+abbrev without_repeat : Option ℕ → Result SpecTree SpecFault → Result SpecTree SpecFault
+without_repeat o spec = unwrap_or (option_map (λ at. Err (faults.DuplicateStep at)) o) spec
 
 abbrev out_of : FileTree → Option ℕ → Result (List (List EntryTree)) SpecFault → Result SpecTree SpecFault
 out_of f o r = without_repeat o (r >>= λ ps. Ok (made f ps))

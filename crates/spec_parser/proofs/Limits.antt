@@ -12,11 +12,12 @@ use Rattle.spec_parser.specs.declared.fault.Stop.{Stop}
 use Rattle.spec_parser.specs.declared.fault.Stop.TheVariants.{Expected, OverLimit}
 use Rattle.spec_parser.specs.Trees.{PartTree, NameAt, NamedStep, NamedSession, NamedEntry, FileTree}
 use Rattle.spec_parser.specs.Counts.{Counts, start, past}
-use Rattle.spec_parser.specs.Reading.{Rest, Read, ◌>>=◌, starts_word, starts_name, many_at, all_at, some_at, word_at, name_at, end_in, end_at, name_within, setup_at, teardown_at, setups_at, step_at, steps_at, session_at, sessions_at, entry_at, entries_at, perm_at, perms_at, file_at, the_word, the_name}
-use Rattle.spec_parser.specs.Grammar.{Grammar, one, Maybe, Many, block_behind, perm, file}
+use Rattle.spec_parser.specs.Reading.{Rest, Read, many_at, all_at, some_at, name_at, end_at, name_within, step_at, session_at, entry_at, perm_at, file_at, the_name}
+use Rattle.spec_parser.specs.Inner.Pieces.{starts_word, starts_name, word_at, setup_at, teardown_at, setups_at, steps_at, sessions_at, perms_at}
+use Rattle.spec_parser.specs.Grammar.{Grammar, one, the_word, Maybe, Many, block_behind, perm, file}
 use Rattle.spec_parser.specs.Grammar.{step as step_grammar}
 use Rattle.spec_parser.specs.IsSpec.{IsShort, WithinLimits}
-use Rattle.spec_parser.proofs.Local.{AreLocal, LocalRead, local_read, Means, is_read, no_value, in_two, stops_at, goes, goes_on}
+use Rattle.spec_parser.proofs.Local.{◌>>=◌, AreLocal, LocalRead, local_read, Means, is_read, no_value, in_two, stops_at, goes, goes_on}
 use Rattle.spec_parser.proofs.Tokens.{name_past}
 use Rattle.spec_parser.proofs.Productions.{word_read, name_within_local, step_read, setup_local, teardown_local, setups_local, perms_local}
 use Rattle.spec_parser.proofs.Complete.{Again, whole, over, IsOver, many_sessions, many_steps, long, SomeLong, LongFile}
@@ -142,14 +143,16 @@ many_keep : {A : Type 0} (starts : Rest → Bool) (item : ℕ → Rest → Read 
 many_keep starts item keeps zero k r after xs e few = subst (λ (d : Rest). Few d.0) (none_at starts item k r after xs e).1 few
 many_keep starts item keeps (suc n) k r after xs e few = keeps_case starts item keeps n k r after xs (λ j m ys h f. many_keep starts item keeps n j m after ys h f) few (steps starts item n k r after xs e)
 
-some_by : {A : Type 0} (w : What) (starts : Rest → Bool) (item : ℕ → Rest → Read A) (b : Bool) (r after : Rest) (xs : List A) → starts r ≡ b → some_at w starts item r ≡ (Ok xs, after) → all_at starts item r ≡ (Ok xs, after)
-some_by w starts item true r after xs s e = rw s at e
-some_by {A} w starts item false r after xs s e = absurd (no_value (Expected w) xs (ap (λ (q : Read (List A)). q.0) (rw s at e)))
+some_by : {A : Type 0} (w : What) (read : Read (List A)) (b : Bool) (r after : Rest) (xs : List A) → cond b read (Err (Expected w), r) ≡ (Ok xs, after) → read ≡ (Ok xs, after)
+some_by w read true r after xs e = e
+some_by {A} w read false r after xs e = absurd (no_value (Expected w) xs (ap (λ (q : Read (List A)). q.0) e))
 
 some_ok : {A : Type 0} (w : What) (starts : Rest → Bool) (item : ℕ → Rest → Read A) (r after : Rest) (xs : List A) → some_at w starts item r ≡ (Ok xs, after) → all_at starts item r ≡ (Ok xs, after)
-some_ok w starts item r after xs e = some_by w starts item (starts r) r after xs refl e
+unfolding some_at
+some_ok w starts item r after xs e = some_by w (all_at starts item r) (starts r) r after xs e
 
 some_keep : {A : Type 0} (w : What) (starts : Rest → Bool) (item : ℕ → Rest → Read A) → ((k : ℕ) → Keeps (item k)) → Keeps (some_at w starts item)
+unfolding all_at
 some_keep w starts item keeps r after xs e few = many_keep starts item keeps (length r.1) 0 r after xs (some_ok w starts item r after xs e) few
 
 -- ---- sessions
@@ -158,7 +161,6 @@ gives_keep : {A : Type 0} (v : A) → Keeps (λ r. (Ok v, r))
 gives_keep {A} v r after x e few = subst (λ (d : Rest). Few d.0) (ap (λ (q : Read A). q.1) e) few
 
 pub steps_keep : Keeps steps_at
-unfolding steps_at
 steps_keep = some_keep what.Step (starts_word Step) (λ k. step_at) step_keeps
 
 abbrev session_of : NameAt → Option PartTree → List NamedStep → Option PartTree → NamedSession
@@ -184,7 +186,6 @@ session_keeps k r after s e few =
     session_end_keeps n.0 n.1 after s n.3 (name_keeps r.0.sessions 64 key.1 n.1 n.0 n.2 few1)
 
 pub sessions_keep : Keeps sessions_at
-unfolding sessions_at
 sessions_keep = some_keep what.Session (starts_word Session) (λ k. session_at) session_keeps
 
 -- ---- permutations
@@ -204,7 +205,7 @@ entries_few zero k r after es e le = omega (arith, le, ap (λ (l : List NamedEnt
 entries_few (suc n) k r after es e le = entries_case n k r after es (λ m ys h f. entries_few n (k + 1) m after ys h f) le (steps starts_name entry_at n k r after es e)
 
 pub perm_short : (r after : Rest) (es : List NamedEntry) → perm_at r ≡ (Ok es, after) → IsShort es
-unfolding perm_at entries_at
+unfolding perm_at all_at
 perm_short r after es e =
     let key = in_two (word_at Permutation what.Item r) _ es after e in
     omega (arith, entries_few (length key.1.1) 0 key.1 after es (some_ok what.Name starts_name entry_at key.1 after es key.3) (omega arith))
@@ -222,7 +223,8 @@ perms_keep = quiet_keeps (Many perm) perms_at perms_local (λ c ts ps h. (ap (λ
 
 -- ---- the file
 
-end_by : (c : Counts) (ts : List (At Token)) (u : Unit {0}) (after : Rest) → end_in c ts ≡ (Ok u, after) → (c, ts) ≡ after
+end_by : (c : Counts) (ts : List (At Token)) (u : Unit {0}) (after : Rest) → end_at (c, ts) ≡ (Ok u, after) → (c, ts) ≡ after
+unfolding end_at
 end_by c [] u after e = ap (λ (q : Read (Unit {0})). q.1) e
 end_by c (t ∷ ts) u after e = absurd (no_value (Expected what.Item) u (ap (λ (q : Read (Unit {0})). q.0) e))
 
@@ -242,7 +244,7 @@ file_keeps = keeps_then setups_at (λ setups. teardown_at setups.1 >>= λ teardo
     (λ perms. keeps_then end_at (λ ended. (Ok (file_of setups teardown ss perms), ended.1)) end_keeps (λ u. gives_keep (file_of setups teardown ss perms))))))
 
 file_short : (r after : Rest) (f : FileTree) → file_at r ≡ (Ok f, after) → AllByRecursion IsShort f.perms
-unfolding file_at perms_at
+unfolding file_at all_at
 file_short r after f e =
     let setups = in_two (setups_at r) _ f after e in
     let teardown = in_two (teardown_at setups.1) _ f after setups.3 in

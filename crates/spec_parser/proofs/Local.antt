@@ -1,5 +1,6 @@
 -- Where reading stops depends on the tokens up to there alone: the laws of the forms that readings are made of.
 use Rattle.std.proofs.Common.{◌≡◌, ◌<◌, ◌≤◌, ◌+◌, arith, length, ℕ, zero, suc, Bool, true, false, cond, List, [], ◌∷◌, ◌++◌, Option, Some, None, Result, Ok, Err, refl, sym, ap, subst, ◌∙◌, append_assoc, length-append}
+use Rattle.std.specs.Prelude.{option_map, unwrap_or}
 use Rattle.std.proofs.lemmas.List.{append-nil}
 use Rattle.iso_lexer.specs.declared.token.At.{At}
 use Rattle.iso_lexer.specs.SpecTokens.{Token}
@@ -7,10 +8,19 @@ use Rattle.spec_parser.specs.declared.fault.What.{What}
 use Rattle.spec_parser.specs.declared.fault.Stop.{Stop}
 use Rattle.spec_parser.specs.declared.fault.Stop.TheVariants.{Expected, NoticesLeftOut, OverLimit}
 use Rattle.spec_parser.specs.Counts.{Counts, past, past_token}
-use Rattle.spec_parser.specs.Reading.{Rest, Read, ◌>>=◌, taken, token_at, first_is, many_at, all_at, some_at, maybe_at}
+use Rattle.spec_parser.specs.Reading.{Rest, Read, and_then, token_at, first_is, many_at, all_at, some_at, maybe_at}
 use Rattle.spec_parser.specs.Grammar.{Grammar, gives, one, Maybe, left_out, given, Many, none, more, some}
 use Rattle.spec_parser.specs.Grammar.{◌>>=◌ as ◌▸◌}
 use Rattle.spec_parser.specs.Laws.{head, names_token}
+
+infixl 10 ◌>>=◌
+-- what was read, and what is read behind it
+abbrev pub ◌>>=◌ : {A B : Type 0} → Read A → (A × Rest → Read B) → Read B
+◌>>=◌ read f = and_then read f
+
+-- what is read at a token that says this
+abbrev pub taken : {A : Type 0} → Option A → What → Counts → At Token → List (At Token) → Read A
+taken o w c t ts = unwrap_or (option_map (λ x. (Ok x, (past_token t.tok c, ts))) o) (Err (Expected w), (c, t ∷ ts))
 
 some_none : (t : At Token) → ◌≡◌ {A = Option (At Token)} (Some t) None → ⊥
 some_none t e = cc
@@ -265,6 +275,7 @@ given_is G c ts o (x, xs, ys, e, g, (nothing, is)) =
     rw (whole, is) (given g)
 
 pub maybe_local : {A : Type 0} (G : Grammar A) (starts : Rest → Bool) (p : Rest → Read A) → ByHead starts → LocalFrom starts G p → AreLocal (Maybe G) (maybe_at starts p)
+unfolding maybe_at
 maybe_local {A} G starts p heads first = choice {A = Option A} {G = Maybe G} starts (λ r. p r >>= λ one. (Ok (Some one.0), one.1)) (λ r. (Ok None, r)) heads
     (start_wider {G = Given G} {K = Maybe G} starts (λ r. p r >>= λ one. (Ok (Some one.0), one.1)) (given_is G) (start_then {G = G} {H = λ x. gives (Some x)} starts p (λ one. (Ok (Some one.0), one.1)) first (λ x. gives_inhabited (Some x)) (λ x. gives_local (Some x))))
     (λ c ts. at_once (Maybe G) (Ok None) c ts left_out)
@@ -397,6 +408,7 @@ many_by G starts item heads nonempty takes items (suc n) k c ts true e le =
     many_case G starts item heads nonempty takes k c ts l.front l.rest l.out e l.split l.local l.means (λ d lt. many_by G starts item heads nonempty takes items n (k + 1) d l.rest (starts (d, l.rest)) refl (omega (arith, le, lt)))
 
 pub many_local : {A : Type 0} (G : Grammar A) (starts : Rest → Bool) (item : ℕ → Rest → Read A) → ByHead starts → StartsSome starts → TakesOne G → ((k : ℕ) → LocalFrom starts G (item k)) → AreLocal (Many G) (all_at starts item)
+unfolding all_at
 many_local G starts item heads nonempty takes items c ts =
     let l = many_by G starts item heads nonempty takes items (length ts) 0 c ts (starts (c, ts)) refl (omega arith) in
     record { out = l.out; front = l.front; rest = l.rest; split = l.split; local = λ others h. l.local others (length (l.front ++ others)) (omega arith) h; means = l.means }
@@ -418,6 +430,7 @@ many_twice G c ts us (x ∷ xs) ys (more front back e g others) h =
     (many_twice G (past c front) back us xs ys others (subst (λ (d : Counts). Many G d us ys) (ap (past c) e ∙ past_twice c front back) h))
 
 some_case : {A : Type 0} (G : Grammar A) (w : What) (starts : Rest → Bool) (item : ℕ → Rest → Read A) → Begins w G → ByHead starts → StartsSome starts → TakesOne G → ((k : ℕ) → LocalFrom starts G (item k)) → (c : Counts) (ts : List (At Token)) (b : Bool) → starts (c, ts) ≡ b → Local (some G) (some_at w starts item) c ts
+unfolding some_at all_at
 some_case {A} G w starts item begins heads nonempty takes items c ts true e =
     let l = many_by G starts item heads nonempty takes items (length ts) 0 c ts (starts (c, ts)) refl (omega arith) in
     choice_true {A = List A} {G = some G} starts (all_at starts item) (λ r. (Err (Expected w), r)) c ts e heads

@@ -1,6 +1,6 @@
 -- Looking names up finds what the names stand for, or the first that stands for nothing.
 use Rattle.std.proofs.Common.{◌≡◌, ◌<◌, ◌+◌, arith, length, ℕ, zero, suc, Bool, true, false, cond, List, [], ◌∷◌, ◌++◌, get_or, Option, Some, None, Result, Ok, Err, refl, sym, ap, subst, ◌∙◌, append_assoc, length-append}
-use Rattle.std.specs.Prelude.{All, Contains, find, flat_map}
+use Rattle.std.specs.Prelude.{All, Contains, find, flat_map, ok_or, option_map}
 use Rattle.std.specs.Option.{is_some}
 use Rattle.std.specs.List.{AllZip}
 use Rattle.std.proofs.lemmas.List.{append-nil, get_or_append_left, get_or-append-add}
@@ -13,7 +13,8 @@ use Rattle.spec_parser.specs.declared.tree.Marker.TheVariants as markers
 use Rattle.spec_parser.specs.declared.fault.SpecFault.{SpecFault}
 use Rattle.spec_parser.specs.declared.fault.SpecFault.TheVariants.{UndefinedStep, UndefinedMarker}
 use Rattle.spec_parser.specs.Trees.{EntryTree, NameAt, MarkerTree, star, named, NamedEntry}
-use Rattle.spec_parser.specs.Names.{StepAt, is_named, first_repeat, ◌>>=◌, each, marker_of, known_marker, step_of, known_entry, known_perms}
+use Rattle.spec_parser.specs.Names.{StepAt, is_named, first_repeat, ◌>>=◌, each, known_marker, known_entry}
+use Rattle.spec_parser.specs.Inner.Known.{known_perms}
 use Rattle.spec_parser.specs.IsSpec.{SameName, HasOtherName, NamesDiffer, Names, MarkerIs, EntryIs, PermIs}
 use Rattle.spec_parser.specs.NameFaults.{IsFirstRepeat, Mention, by_entry, by_marker, mentioned, of_marker, of_entry, mentions, IsDefined, undefined_at, IsFirstUndefined}
 
@@ -183,6 +184,12 @@ each_ok f R ok [] [] h = refl
 each_ok f R ok [] (y ∷ ys) h = absurd h
 each_ok f R ok (x ∷ xs) [] h = absurd h
 each_ok f R ok (x ∷ xs) (y ∷ ys) (r, h) = rw (ok x y r, each_ok f R ok xs ys h) refl
+
+abbrev marker_of : NameAt → Option StepAt → Result Marker SpecFault
+marker_of n o = ok_or (option_map (λ s. markers.Step s.session s.step) o) (UndefinedMarker n.at)
+
+abbrev step_of : NameAt → Option StepAt → Result StepAt SpecFault
+step_of n o = ok_or o (UndefinedStep n.at)
 
 names_found : (known : List StepAt) (n : NameAt) (s : StepAt) → find (is_named n.name) known ≡ Some s → Names known n s.session s.step
 names_found known n s e = let h = found (is_named n.name) known s e in record { step = s; listed = h.0; same = named_is n s h.1; session_is = refl; step_is = refl }

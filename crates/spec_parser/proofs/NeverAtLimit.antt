@@ -12,8 +12,10 @@ use Rattle.spec_parser.specs.declared.fault.Stop.{Stop}
 use Rattle.spec_parser.specs.declared.fault.Stop.TheVariants.{Expected, NoticesLeftOut, OverLimit}
 use Rattle.spec_parser.specs.Trees.{NameAt, MarkerTree, star, named}
 use Rattle.spec_parser.specs.Counts.{Counts}
-use Rattle.spec_parser.specs.Reading.{Rest, Read, ◌>>=◌, starts_word, starts_sign, taken, token_in, many_at, maybe_at, word_at, sign_at, name_at, block_at, end_in, end_at, block_after, setup_at, teardown_at, setups_at, no_notices, marker_at, next_marker_at, next_markers_at, markers_at, some_markers_at, the_word, the_sign, the_name, the_block}
-use Rattle.spec_parser.proofs.Local.{no_value, stops_at, goes, goes_on}
+use Rattle.spec_parser.specs.Reading.{Rest, Read, next, many_at, all_at, maybe_at, name_at, block_at, end_at, block_after, maybe_block, no_notices, marker_at, markers_at, the_name, the_block, token_at}
+use Rattle.spec_parser.specs.Inner.Pieces.{starts_word, starts_sign, word_at, sign_at, setup_at, teardown_at, setups_at, next_marker_at, next_markers_at, some_markers_at}
+use Rattle.spec_parser.specs.Grammar.{the_word, the_sign}
+use Rattle.spec_parser.proofs.Local.{◌>>=◌, taken, no_value, stops_at, goes, goes_on}
 
 -- ---- readings that never stop at a limit
 
@@ -30,16 +32,16 @@ taken_never : {A : Type 0} (o : Option A) (w : What) (c : Counts) (t : At Token)
 taken_never (Some x) w c t ts after e = not_value x _ after e
 taken_never {A} None w c t ts after e = not_expected {A = A} w _ after e
 
-token_never : {A : Type 0} (f : Counts → At Token → Option A) (w : What) (c : Counts) (ts : List (At Token)) (after : Rest) → token_in f w c ts ≡ (Err OverLimit, after) → ⊥
+token_never : {A : Type 0} (f : Counts → At Token → Option A) (w : What) (c : Counts) (ts : List (At Token)) (after : Rest) → token_at f w (c, ts) ≡ (Err OverLimit, after) → ⊥
 token_never {A} f w c [] after e = not_expected {A = A} w _ after e
 token_never f w c (t ∷ ts) after e = taken_never (f c t) w c t ts after e
 
 pub word_never : (k : Keyword) (w : What) → Never (word_at k w)
-unfolding word_at
+unfolding next
 word_never k w r after e = token_never (the_word k) w r.0 r.1 after e
 
 sign_never : (g : Sign) (w : What) → Never (sign_at g w)
-unfolding sign_at
+unfolding next
 sign_never g w r after e = token_never (the_sign g) w r.0 r.1 after e
 
 pub name_never : (w : What) → Never (name_at w)
@@ -50,7 +52,8 @@ pub block_never : Never block_at
 unfolding block_at
 block_never r after e = token_never the_block what.Block r.0 r.1 after e
 
-end_by : (c : Counts) (ts : List (At Token)) (after : Rest) → end_in c ts ≡ (Err OverLimit, after) → ⊥
+end_by : (c : Counts) (ts : List (At Token)) (after : Rest) → end_at (c, ts) ≡ (Err OverLimit, after) → ⊥
+unfolding end_at
 end_by c [] after e = not_value {A = Unit {0}} tt _ after e
 end_by c (t ∷ ts) after e = not_expected {A = Unit {0}} what.Item _ after e
 
@@ -81,6 +84,7 @@ pub gives_never : {A : Type 0} (v : A) → Never (λ r. (Ok v, r))
 gives_never v r after e = not_value v r after e
 
 maybe_never : {A : Type 0} (starts : Rest → Bool) (p : Rest → Read A) → Never p → Never (maybe_at starts p)
+unfolding maybe_at
 maybe_never {A} starts p never r after e = never_choice (starts r) (p r >>= λ one. (Ok (Some one.0), one.1)) (Ok None, r) after
     (never_then p (λ one. (Ok (Some one.0), one.1)) never (λ x. gives_never (Some x)) r after) (not_value {A = Option A} None r after) e
 
@@ -123,15 +127,15 @@ unfolding block_after
 block_after_never k = never_then (word_at k what.Item) (λ key. block_at key.1) (word_never k what.Item) (λ _. block_never)
 
 pub setup_never : Never setup_at
-unfolding setup_at
+unfolding maybe_block
 setup_never = maybe_never (starts_word Setup) (block_after Setup) (block_after_never Setup)
 
 pub teardown_never : Never teardown_at
-unfolding teardown_at
+unfolding maybe_block
 teardown_never = maybe_never (starts_word Teardown) (block_after Teardown) (block_after_never Teardown)
 
 pub setups_never : Never setups_at
-unfolding setups_at
+unfolding all_at
 setups_never r after e = many_never (starts_word Setup) (λ k. block_after Setup) (λ k. block_after_never Setup) (length r.1) 0 r after e
 
 notices_by : (b : Bool) (n : NameAt) (r after : Rest) → ◌≡◌ {A = Read MarkerTree} (cond b (Err NoticesLeftOut, r) (Ok (named n), r)) (Err OverLimit, after) → ⊥
@@ -149,11 +153,10 @@ marker_never r after e = never_choice (starts_sign Star r) (sign_at Star what.Ma
     (never_then (name_at what.Marker) (λ n. no_notices n.0 n.1) (name_never what.Marker) no_notices_never r after) e
 
 next_marker_never : Never next_marker_at
-unfolding next_marker_at
 next_marker_never = never_then (sign_at Comma what.CommaOrClose) (λ comma. marker_at comma.1) (sign_never Comma what.CommaOrClose) (λ _. marker_never)
 
 next_markers_never : Never next_markers_at
-unfolding next_markers_at
+unfolding all_at
 next_markers_never r after e = many_never (starts_sign Comma) (λ k. next_marker_at) (λ k. next_marker_never) (length r.1) 0 r after e
 
 markers_never : Never markers_at
@@ -164,5 +167,4 @@ markers_never = never_then (sign_at Open what.Item) (λ opened. marker_at opened
     (λ others. never_then (sign_at Close what.CommaOrClose) (λ closed. (Ok (m ∷ others), closed.1)) (sign_never Close what.CommaOrClose) (λ _. gives_never (m ∷ others)))))
 
 pub some_markers_never : Never some_markers_at
-unfolding some_markers_at
 some_markers_never = maybe_never (starts_sign Open) markers_at markers_never

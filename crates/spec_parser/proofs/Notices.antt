@@ -13,8 +13,10 @@ use Rattle.spec_parser.specs.declared.fault.Stop.{Stop}
 use Rattle.spec_parser.specs.declared.fault.Stop.TheVariants.{Expected, NoticesLeftOut, OverLimit}
 use Rattle.spec_parser.specs.Trees.{PartTree, NameAt, NamedStep, NamedSession, MarkerTree, star, named, NamedEntry, FileTree}
 use Rattle.spec_parser.specs.Counts.{Counts}
-use Rattle.spec_parser.specs.Reading.{Rest, Read, ◌>>=◌, starts_word, starts_sign, starts_name, taken, token_in, many_at, some_at, maybe_at, word_at, sign_at, name_at, block_at, end_in, end_at, name_within, block_after, setup_at, teardown_at, setups_at, step_at, steps_at, session_at, sessions_at, no_notices, marker_at, next_marker_at, next_markers_at, markers_at, some_markers_at, entry_at, entries_at, perm_at, perms_at, file_at, the_word, the_sign, the_name, the_block}
-use Rattle.spec_parser.proofs.Local.{no_value}
+use Rattle.spec_parser.specs.Reading.{Rest, Read, next, many_at, all_at, some_at, maybe_at, name_at, block_at, end_at, name_within, block_after, maybe_block, step_at, session_at, no_notices, marker_at, markers_at, entry_at, perm_at, file_at, the_name, the_block, token_at}
+use Rattle.spec_parser.specs.Inner.Pieces.{starts_word, starts_sign, starts_name, word_at, sign_at, setup_at, teardown_at, setups_at, steps_at, sessions_at, next_marker_at, next_markers_at, some_markers_at, entries_at, perms_at}
+use Rattle.spec_parser.specs.Grammar.{the_word, the_sign}
+use Rattle.spec_parser.proofs.Local.{◌>>=◌, taken, no_value}
 use Rattle.spec_parser.proofs.NeverAtLimit.{err_two, many_zero, Stopped, stopped}
 
 abbrev AtNotices : Rest → Type 0
@@ -38,16 +40,16 @@ taken_ends : {A : Type 0} (o : Option A) (w : What) (c : Counts) (t : At Token) 
 taken_ends (Some x) w c t ts after e = not_value x _ after e
 taken_ends {A} None w c t ts after e = not_expected {A = A} w _ after e
 
-token_ends : {A : Type 0} (f : Counts → At Token → Option A) (w : What) (c : Counts) (ts : List (At Token)) (after : Rest) → token_in f w c ts ≡ (Err NoticesLeftOut, after) → ⊥
+token_ends : {A : Type 0} (f : Counts → At Token → Option A) (w : What) (c : Counts) (ts : List (At Token)) (after : Rest) → token_at f w (c, ts) ≡ (Err NoticesLeftOut, after) → ⊥
 token_ends {A} f w c [] after e = not_expected {A = A} w _ after e
 token_ends f w c (t ∷ ts) after e = taken_ends (f c t) w c t ts after e
 
 word_ends : (k : Keyword) (w : What) → Ends (word_at k w)
-unfolding word_at
+unfolding next
 word_ends k w r after e = absurd (token_ends (the_word k) w r.0 r.1 after e)
 
 sign_ends : (g : Sign) (w : What) → Ends (sign_at g w)
-unfolding sign_at
+unfolding next
 sign_ends g w r after e = absurd (token_ends (the_sign g) w r.0 r.1 after e)
 
 name_ends : (w : What) → Ends (name_at w)
@@ -58,7 +60,8 @@ block_ends : Ends block_at
 unfolding block_at
 block_ends r after e = absurd (token_ends the_block what.Block r.0 r.1 after e)
 
-end_by : (c : Counts) (ts : List (At Token)) (after : Rest) → end_in c ts ≡ (Err NoticesLeftOut, after) → ⊥
+end_by : (c : Counts) (ts : List (At Token)) (after : Rest) → end_at (c, ts) ≡ (Err NoticesLeftOut, after) → ⊥
+unfolding end_at
 end_by c [] after e = not_value {A = Unit {0}} tt _ after e
 end_by c (t ∷ ts) after e = not_expected {A = Unit {0}} what.Item _ after e
 
@@ -93,6 +96,7 @@ gives_ends : {A : Type 0} (v : A) → Ends (λ r. (Ok v, r))
 gives_ends v r after e = absurd (not_value v r after e)
 
 maybe_ends : {A : Type 0} (starts : Rest → Bool) (p : Rest → Read A) → Ends p → Ends (maybe_at starts p)
+unfolding maybe_at
 maybe_ends {A} starts p ends r after e = ends_choice (starts r) (p r >>= λ one. (Ok (Some one.0), one.1)) (Ok None, r) after
     (ends_then p (λ one. (Ok (Some one.0), one.1)) ends (λ x. gives_ends (Some x)) r after) (λ d. absurd (not_value {A = Option A} None r after d)) e
 
@@ -105,6 +109,7 @@ many_ends starts item ends zero k r after e = absurd (many_zero starts item k No
 many_ends starts item ends (suc n) k r after e = many_case starts item n k r after ends (λ m h. many_ends starts item ends n (k + 1) m after h) (stopped starts item n k r after NoticesLeftOut e)
 
 some_ends : {A : Type 0} (w : What) (starts : Rest → Bool) (item : ℕ → Rest → Read A) → ((k : ℕ) → Ends (item k)) → Ends (some_at w starts item)
+unfolding some_at all_at
 some_ends {A} w starts item ends r after e = ends_choice (starts r) (many_at starts item 0 (length r.1) r) (Err (Expected w), r) after (many_ends starts item ends (length r.1) 0 r after) (λ d. absurd (not_expected {A = List A} w r after d)) e
 
 -- ---- the parts of a file
@@ -114,15 +119,15 @@ unfolding block_after
 block_after_ends k = ends_then (word_at k what.Item) (λ key. block_at key.1) (word_ends k what.Item) (λ _. block_ends)
 
 setup_ends : Ends setup_at
-unfolding setup_at
+unfolding maybe_block
 setup_ends = maybe_ends (starts_word Setup) (block_after Setup) (block_after_ends Setup)
 
 teardown_ends : Ends teardown_at
-unfolding teardown_at
+unfolding maybe_block
 teardown_ends = maybe_ends (starts_word Teardown) (block_after Teardown) (block_after_ends Teardown)
 
 setups_end : Ends setups_at
-unfolding setups_at
+unfolding all_at
 setups_end r after e = many_ends (starts_word Setup) (λ k. block_after Setup) (λ k. block_after_ends Setup) (length r.1) 0 r after e
 
 abbrev step_of : NameAt → PartTree → NamedStep
@@ -135,7 +140,6 @@ step_ends r after e = ends_then (word_at Step what.Item) (λ key. name_within r.
     (λ n. ends_then block_at (λ b. (Ok (step_of n b.0), b.1)) block_ends (λ b. gives_ends (step_of n b)))) r after e
 
 steps_end : Ends steps_at
-unfolding steps_at
 steps_end = some_ends what.Step (starts_word Step) (λ k. step_at) (λ k. step_ends)
 
 abbrev session_of : NameAt → Option PartTree → List NamedStep → Option PartTree → NamedSession
@@ -150,7 +154,6 @@ session_ends r after e = ends_then (word_at Session what.Item) (λ key. name_wit
     (λ ss. ends_then teardown_at (λ teardown. (Ok (session_of n setup ss teardown.0), teardown.1)) teardown_ends (λ teardown. gives_ends (session_of n setup ss teardown)))))) r after e
 
 sessions_end : Ends sessions_at
-unfolding sessions_at
 sessions_end = some_ends what.Session (starts_word Session) (λ k. session_at) (λ k. session_ends)
 
 -- the one place of the word
@@ -169,11 +172,10 @@ marker_ends r after e = ends_choice (starts_sign Star r) (sign_at Star what.Mark
     (ends_then (name_at what.Marker) (λ n. no_notices n.0 n.1) (name_ends what.Marker) no_notices_ends r after) e
 
 next_marker_ends : Ends next_marker_at
-unfolding next_marker_at
 next_marker_ends = ends_then (sign_at Comma what.CommaOrClose) (λ comma. marker_at comma.1) (sign_ends Comma what.CommaOrClose) (λ _. marker_ends)
 
 next_markers_end : Ends next_markers_at
-unfolding next_markers_at
+unfolding all_at
 next_markers_end r after e = many_ends (starts_sign Comma) (λ k. next_marker_at) (λ k. next_marker_ends) (length r.1) 0 r after e
 
 markers_end : Ends markers_at
@@ -184,7 +186,6 @@ markers_end = ends_then (sign_at Open what.Item) (λ opened. marker_at opened.1 
     (λ others. ends_then (sign_at Close what.CommaOrClose) (λ closed. (Ok (m ∷ others), closed.1)) (sign_ends Close what.CommaOrClose) (λ _. gives_ends (m ∷ others)))))
 
 some_markers_end : Ends some_markers_at
-unfolding some_markers_at
 some_markers_end = maybe_ends (starts_sign Open) markers_at markers_end
 
 abbrev entry_of : NameAt → Option (List MarkerTree) → NamedEntry
@@ -196,7 +197,6 @@ entry_ends k = ends_then (name_within k 1000) (λ n. some_markers_at n.1 >>= λ 
     (λ n. ends_then some_markers_at (λ ms. (Ok (entry_of n ms.0), ms.1)) some_markers_end (λ ms. gives_ends (entry_of n ms)))
 
 entries_end : Ends entries_at
-unfolding entries_at
 entries_end = some_ends what.Name starts_name entry_at entry_ends
 
 perm_ends : Ends perm_at
@@ -204,7 +204,7 @@ unfolding perm_at
 perm_ends = ends_then (word_at Permutation what.Item) (λ key. entries_at key.1) (word_ends Permutation what.Item) (λ _. entries_end)
 
 perms_end : Ends perms_at
-unfolding perms_at
+unfolding all_at
 perms_end r after e = many_ends (starts_word Permutation) (λ k. perm_at) (λ k. perm_ends) (length r.1) 0 r after e
 
 abbrev file_of : List PartTree → Option PartTree → List NamedSession → List (List NamedEntry) → FileTree

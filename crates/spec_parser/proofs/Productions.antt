@@ -2,11 +2,14 @@
 use Rattle.std.proofs.Common.{◌≡◌, ◌<◌, length, ℕ, true, List, [], ◌∷◌, ◌++◌, Option, Some, None, Ok, Err, refl, sym, ap, ◌∙◌, append_assoc}
 use Rattle.std.proofs.lemmas.List.{append-nil}
 use Rattle.std.specs.Prelude.{unwrap_or, nat_lt}
+use denote.Enum.Bare.{true_same}
 use Rattle.iso_lexer.specs.declared.token.At.{At}
 use Rattle.iso_lexer.specs.declared.spec_token.Keyword.{Keyword}
 use Rattle.iso_lexer.specs.declared.spec_token.Keyword.TheVariants.{Permutation, Session, Setup, Step, Teardown, Notices}
+use Rattle.iso_lexer.specs.contracts.spec_token.Keyword.{the_type as words}
 use Rattle.iso_lexer.specs.declared.spec_token.Sign.{Sign}
 use Rattle.iso_lexer.specs.declared.spec_token.Sign.TheVariants.{Open, Close, Comma, Star}
+use Rattle.iso_lexer.specs.contracts.spec_token.Sign.{the_type as signs}
 use Rattle.iso_lexer.specs.Names.{plain}
 use Rattle.iso_lexer.specs.SpecTokens.{Token, keyword, name, sign, block}
 use Rattle.spec_parser.specs.declared.fault.What.{What}
@@ -14,30 +17,23 @@ use Rattle.spec_parser.specs.declared.fault.What.TheVariants as what
 use Rattle.spec_parser.specs.declared.fault.Stop.TheVariants.{Expected, NoticesLeftOut, OverLimit}
 use Rattle.spec_parser.specs.Trees.{PartTree, NameAt, NamedStep, NamedSession, MarkerTree, star, named, NamedEntry, FileTree}
 use Rattle.spec_parser.specs.Counts.{Counts}
-use Rattle.spec_parser.specs.Reading.{Rest, ◌>>=◌, same_word, same_sign, is_word, is_sign, is_name, starts_word, starts_sign, starts_name, the_word, the_sign, the_name, the_block, word_at, sign_at, name_at, block_at, end_at, name_within, block_after, setup_at, teardown_at, setups_at, step_at, steps_at, session_at, sessions_at, no_notices, marker_at, next_marker_at, next_markers_at, markers_at, some_markers_at, entry_at, entries_at, perm_at, perms_at, file_at}
-use Rattle.spec_parser.specs.Grammar.{Grammar, gives, one, Maybe, Many, none, some, first, second, block_behind, step, session, marker, markers, entry, perm, file}
+use Rattle.spec_parser.specs.Reading.{Rest, is_word, is_sign, is_name, the_name, the_block, next, name_at, block_at, end_at, name_within, block_after, maybe_block, step_at, session_at, no_notices, marker_at, markers_at, entry_at, perm_at, file_at}
+use Rattle.spec_parser.specs.Inner.Pieces.{starts_word, starts_sign, starts_name, word_at, sign_at, setup_at, teardown_at, setups_at, steps_at, sessions_at, next_marker_at, next_markers_at, some_markers_at, entries_at, perms_at}
+use Rattle.spec_parser.specs.Grammar.{Grammar, gives, one, the_word, the_sign, Maybe, Many, none, some, first, second, block_behind, step, session, marker, markers, entry, perm, file}
 use Rattle.spec_parser.specs.Grammar.{◌>>=◌ as ◌▸◌}
 use Rattle.spec_parser.specs.Laws.{head, names_token}
-use Rattle.spec_parser.proofs.Local.{AreLocal, LocalFrom, LocalRead, local_read, Inhabited, Begins, inhabited, Within, token_local, there_local, was_there, was_first, then, start_then, then_from, seq_inhabited, seq_begins, gives_inhabited, gives_local, by_head, choice, wider, start_wider, at_once, maybe_local, maybe_inhabited, many_local, many_inhabited, many_begins, many_twice, some_local, some_begins, first_takes, shortens}
+use Rattle.spec_parser.proofs.Local.{◌>>=◌, AreLocal, LocalFrom, LocalRead, local_read, Inhabited, Begins, inhabited, Within, token_local, there_local, was_there, was_first, then, start_then, then_from, seq_inhabited, seq_begins, gives_inhabited, gives_local, by_head, choice, wider, start_wider, at_once, maybe_local, maybe_inhabited, many_local, many_inhabited, many_begins, many_twice, some_local, some_begins, first_takes, shortens}
 
 -- ---- one token
 
 made : Token → At Token
 made t = record { tok = t; span = record { start = 0; end = 0 } }
 
-same_itself : (k : Keyword) → same_word k k ≡ true
-same_itself Permutation = refl
-same_itself Session = refl
-same_itself Setup = refl
-same_itself Step = refl
-same_itself Teardown = refl
-same_itself Notices = refl
+same_itself : (k : Keyword) → is_word k (keyword k) ≡ true
+same_itself k = true_same words k k refl
 
-same_sign_itself : (g : Sign) → same_sign g g ≡ true
-same_sign_itself Open = refl
-same_sign_itself Close = refl
-same_sign_itself Comma = refl
-same_sign_itself Star = refl
+same_sign_itself : (g : Sign) → is_sign g (sign g) ≡ true
+same_sign_itself g = true_same signs g g refl
 
 word_begins : (w : What) (k : Keyword) → names_token w (keyword k) ≡ true → Begins w (one (the_word k))
 unfolding made
@@ -63,19 +59,19 @@ block_inhabited = inhabited what.Block (one the_block) block_begins
 
 -- the word with which a part begins, where it stands
 word_local : (k : Keyword) (w : What) → LocalFrom (starts_word k) (one (the_word k)) (word_at k w)
-unfolding word_at
+unfolding next
 word_local k w = there_local (is_word k) w
 
 pub word_read : (k : Keyword) (w : What) → LocalRead (one (the_word k)) (word_at k w)
-unfolding word_at
+unfolding next
 word_read k w r after u e = word_local k w r.0 r.1 (was_there (is_word k) w r after u e)
 
 sign_local : (g : Sign) (w : What) → LocalFrom (starts_sign g) (one (the_sign g)) (sign_at g w)
-unfolding sign_at
+unfolding next
 sign_local g w = there_local (is_sign g) w
 
 close_local : AreLocal (one (the_sign Close)) (sign_at Close what.CommaOrClose)
-unfolding sign_at
+unfolding next
 close_local = token_local (the_sign Close) what.CommaOrClose (sign_begins what.CommaOrClose Close refl)
 
 name_local : (w : What) → names_token w (name (plain [])) ≡ true → AreLocal (one the_name) (name_at w)
@@ -100,19 +96,18 @@ unfolding block_after
 block_after_local k = start_then {G = one (the_word k)} {H = λ _. one the_block} (starts_word k) (word_at k what.Item) (λ key. block_at key.1) (word_local k what.Item) (λ _. block_inhabited) (λ _. block_local)
 
 block_after_read : (k : Keyword) → LocalRead (block_behind k) (block_after k)
-unfolding block_after word_at
+unfolding block_after next
 block_after_read k r after b e = block_after_local k r.0 r.1 (was_first (is_word k) what.Item _ r after b e)
 
 pub setup_local : AreLocal (Maybe (block_behind Setup)) setup_at
-unfolding setup_at
+unfolding maybe_block
 setup_local = maybe_local (block_behind Setup) (starts_word Setup) (block_after Setup) (by_head (is_word Setup)) (block_after_local Setup)
 
 pub teardown_local : AreLocal (Maybe (block_behind Teardown)) teardown_at
-unfolding teardown_at
+unfolding maybe_block
 teardown_local = maybe_local (block_behind Teardown) (starts_word Teardown) (block_after Teardown) (by_head (is_word Teardown)) (block_after_local Teardown)
 
 pub setups_local : AreLocal (Many (block_behind Setup)) setups_at
-unfolding setups_at
 setups_local = many_local (block_behind Setup) (starts_word Setup) (λ k. block_after Setup) (by_head (is_word Setup)) (λ c. refl) (first_takes (the_word Setup) (λ _. one the_block)) (λ k. block_after_local Setup)
 
 -- ---- steps
@@ -139,11 +134,10 @@ step_local = then_from {G = one (the_word Step)} {H = λ _. one the_name ▸ λ 
     (λ d _. then {G = one the_name} {H = λ n. one the_block ▸ λ b. gives (step_of n b)} (name_within d.steps 1000) (λ n. block_at n.1 >>= λ b. (Ok (step_of n.0 b.0), b.1)) (name_within_local d.steps 1000) step_end_inhabited step_end_local)
 
 pub step_read : LocalRead step step_at
-unfolding step_at word_at
+unfolding step_at next
 step_read r after s e = step_local r.0 r.1 (was_first (is_word Step) what.Item _ r after s e)
 
 pub steps_local : AreLocal (some step) steps_at
-unfolding steps_at
 steps_local = some_local step what.Step (starts_word Step) (λ k. step_at) step_begins (by_head (is_word Step)) (λ c. refl) (first_takes (the_word Step) (λ _. one the_name ▸ λ n. one the_block ▸ λ b. gives (step_of n b))) (λ k. step_local)
 
 -- ---- sessions
@@ -191,11 +185,10 @@ session_local = then_from {G = one (the_word Session)} {H = λ _. one the_name �
     (λ d _. then {G = one the_name} {H = SetUp} (name_within d.sessions 64) (λ n. setup_at n.1 >>= λ setup. steps_at setup.1 >>= λ steps. teardown_at steps.1 >>= λ teardown. (Ok (session_of n.0 setup.0 steps.0 teardown.0), teardown.1)) (name_within_local d.sessions 64) set_up_inhabited set_up_local)
 
 pub session_read : LocalRead session session_at
-unfolding session_at word_at
+unfolding session_at next
 session_read r after s e = session_local r.0 r.1 (was_first (is_word Session) what.Item _ r after s e)
 
 pub sessions_local : AreLocal (some session) sessions_at
-unfolding sessions_at
 sessions_local = some_local session what.Session (starts_word Session) (λ k. session_at) session_begins (by_head (is_word Session)) (λ c. refl) (first_takes (the_word Session) (λ _. one the_name ▸ SetUp)) (λ k. session_local)
 
 -- ---- markers
@@ -231,15 +224,13 @@ abbrev NextMarker : Grammar MarkerTree
 NextMarker = one (the_sign Comma) ▸ λ _. marker
 
 next_marker_local : LocalFrom (starts_sign Comma) NextMarker next_marker_at
-unfolding next_marker_at
 next_marker_local = start_then {G = one (the_sign Comma)} {H = λ _. marker} (starts_sign Comma) (sign_at Comma what.CommaOrClose) (λ comma. marker_at comma.1) (sign_local Comma what.CommaOrClose) (λ _. marker_inhabited) (λ _. marker_local)
 
 next_marker_read : LocalRead NextMarker next_marker_at
-unfolding next_marker_at sign_at
+unfolding next
 next_marker_read r after m e = next_marker_local r.0 r.1 (was_first (is_sign Comma) what.CommaOrClose _ r after m e)
 
 pub next_markers_local : AreLocal (Many NextMarker) next_markers_at
-unfolding next_markers_at
 next_markers_local = many_local NextMarker (starts_sign Comma) (λ k. next_marker_at) (by_head (is_sign Comma)) (λ c. refl) (first_takes (the_sign Comma) (λ _. marker)) (λ k. next_marker_local)
 
 abbrev Closed : MarkerTree → List MarkerTree → Grammar (List MarkerTree)
@@ -270,7 +261,6 @@ markers_local = start_then {G = one (the_sign Open)} {H = λ _. marker ▸ Marke
     (λ _. then {G = marker} {H = Marked} marker_at (λ m. next_markers_at m.1 >>= λ others. sign_at Close what.CommaOrClose others.1 >>= λ closed. (Ok (m.0 ∷ others.0), closed.1)) marker_local marked_inhabited marked_local)
 
 pub some_markers_local : AreLocal (Maybe markers) some_markers_at
-unfolding some_markers_at
 some_markers_local = maybe_local markers (starts_sign Open) markers_at (by_head (is_sign Open)) markers_local
 
 -- ---- permutations
@@ -290,7 +280,6 @@ entry_local k = then {G = one the_name} {H = λ n. Maybe markers ▸ λ ms. give
     (λ n. then {G = Maybe markers} {H = λ ms. gives (entry_of n ms)} some_markers_at (λ ms. (Ok (entry_of n ms.0), ms.1)) some_markers_local (λ ms. gives_inhabited (entry_of n ms)) (λ ms. gives_local (entry_of n ms)))
 
 pub entries_local : AreLocal (some entry) entries_at
-unfolding entries_at
 entries_local = some_local entry what.Name starts_name entry_at entry_begins (by_head is_name) (λ c. refl) (first_takes the_name (λ n. Maybe markers ▸ λ ms. gives (entry_of n ms))) (λ k c ts e. entry_local k c ts)
 
 entries_inhabited : Inhabited (some entry)
@@ -304,11 +293,10 @@ unfolding perm_at
 perm_local = start_then {G = one (the_word Permutation)} {H = λ _. some entry} (starts_word Permutation) (word_at Permutation what.Item) (λ key. entries_at key.1) (word_local Permutation what.Item) (λ _. entries_inhabited) (λ _. entries_local)
 
 pub perm_read : LocalRead perm perm_at
-unfolding perm_at word_at
+unfolding perm_at next
 perm_read r after es e = perm_local r.0 r.1 (was_first (is_word Permutation) what.Item _ r after es e)
 
 pub perms_local : AreLocal (Many perm) perms_at
-unfolding perms_at
 perms_local = many_local perm (starts_word Permutation) (λ k. perm_at) (by_head (is_word Permutation)) (λ c. refl) (first_takes (the_word Permutation) (λ _. some entry)) (λ k. perm_local)
 
 -- ---- the file

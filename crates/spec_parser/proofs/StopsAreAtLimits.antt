@@ -12,12 +12,13 @@ use Rattle.spec_parser.specs.declared.fault.What.TheVariants as what
 use Rattle.spec_parser.specs.declared.fault.Stop.TheVariants.{Expected, OverLimit}
 use Rattle.spec_parser.specs.Trees.{PartTree, NameAt, NamedStep, NamedSession, MarkerTree, NamedEntry, FileTree}
 use Rattle.spec_parser.specs.Counts.{Counts, start, past}
-use Rattle.spec_parser.specs.Reading.{Rest, Read, ◌>>=◌, starts_word, starts_name, is_name, is_word, first_is, many_at, all_at, some_at, word_at, name_at, block_at, end_at, name_within, setup_at, teardown_at, setups_at, step_at, steps_at, session_at, sessions_at, some_markers_at, entry_at, entries_at, perm_at, perms_at, file_at, the_word, the_name}
-use Rattle.spec_parser.specs.Grammar.{Grammar, one, Maybe, Many, none, more, some, block_behind, entry, perm}
+use Rattle.spec_parser.specs.Reading.{Rest, Read, is_name, is_word, first_is, many_at, all_at, some_at, name_at, block_at, end_at, name_within, step_at, session_at, entry_at, perm_at, file_at, the_name}
+use Rattle.spec_parser.specs.Inner.Pieces.{starts_word, starts_name, word_at, setup_at, teardown_at, setups_at, steps_at, sessions_at, some_markers_at, perms_at}
+use Rattle.spec_parser.specs.Grammar.{Grammar, one, the_word, Maybe, Many, none, more, some, block_behind, entry, perm}
 use Rattle.spec_parser.specs.Grammar.{step as step_grammar, session as session_grammar}
 use Rattle.spec_parser.specs.IsSpec.{IsShort}
 use Rattle.spec_parser.specs.LimitFaults.{IsWord, IsOverAt, at_session, at_step, at_entry, LimitStop}
-use Rattle.spec_parser.proofs.Local.{AreLocal, LocalRead, local_read, is_read, past_twice}
+use Rattle.spec_parser.proofs.Local.{◌>>=◌, AreLocal, LocalRead, local_read, is_read, past_twice}
 use Rattle.spec_parser.proofs.Tokens.{test_true}
 use Rattle.spec_parser.proofs.Productions.{word_read, name_within_local, step_read, steps_local, session_read, sessions_local, setup_local, teardown_local, setups_local, entry_local, perm_read, perms_local}
 use Rattle.spec_parser.proofs.ContentsAreCounted.{session_word}
@@ -87,14 +88,16 @@ many_stop : {A : Type 0} (G : Grammar A) (starts : Rest → Bool) (item : ℕ �
 many_stop G starts item local keeps stops zero k r after few e = absurd (many_zero starts item k OverLimit r after e)
 many_stop G starts item local keeps stops (suc n) k r after few e = many_case G starts item n k r after local keeps stops (λ m f h. many_stop G starts item local keeps stops n (k + 1) m after f h) few (stopped starts item n k r after OverLimit e)
 
-some_by : {A : Type 0} (w : What) (starts : Rest → Bool) (item : ℕ → Rest → Read A) (b : Bool) (r after : Rest) → starts r ≡ b → some_at w starts item r ≡ (Err OverLimit, after) → all_at starts item r ≡ (Err OverLimit, after)
-some_by w starts item true r after s e = rw s at e
-some_by {A} w starts item false r after s e = absurd (not_expected {A = List A} w r after (rw s at e))
+some_by : {A : Type 0} (w : What) (read : Read (List A)) (b : Bool) (r after : Rest) → cond b read (Err (Expected w), r) ≡ (Err OverLimit, after) → read ≡ (Err OverLimit, after)
+some_by w read true r after e = e
+some_by {A} w read false r after e = absurd (not_expected {A = List A} w r after e)
 
 some_all : {A : Type 0} (w : What) (starts : Rest → Bool) (item : ℕ → Rest → Read A) (r after : Rest) → some_at w starts item r ≡ (Err OverLimit, after) → all_at starts item r ≡ (Err OverLimit, after)
-some_all w starts item r after e = some_by w starts item (starts r) r after refl e
+unfolding some_at
+some_all w starts item r after e = some_by w (all_at starts item r) (starts r) r after e
 
 some_stop : {A : Type 0} (G : Grammar A) (w : What) (starts : Rest → Bool) (item : ℕ → Rest → Read A) → ((k : ℕ) → LocalRead G (item k)) → ((k : ℕ) → Keeps (item k)) → ((k : ℕ) → Stops (item k)) → Stops (some_at w starts item)
+unfolding all_at
 some_stop G w starts item local keeps stops r after few e = many_stop G starts item local keeps stops (length r.1) 0 r after few (some_all w starts item r after e)
 
 -- ---- a name over a limit
@@ -142,7 +145,6 @@ step_stops r after few e =
     (err_two (word_at Step what.Item r) (λ key. name_within r.0.steps 1000 key.1 >>= λ n. block_at n.1 >>= λ b. (Ok (step_of n.0 b.0), b.1)) OverLimit after e)
 
 steps_stop : Stops steps_at
-unfolding steps_at
 steps_stop = some_stop step_grammar what.Step (starts_word Step) (λ k. step_at) (λ k. step_read) step_keeps (λ k. step_stops)
 
 -- ---- sessions
@@ -182,7 +184,6 @@ unfolding session_at
 session_stops r after few e = session_case r after few (err_two (word_at Session what.Item r) (λ key. name_within r.0.sessions 64 key.1 >>= session_end) OverLimit after e)
 
 sessions_stop : Stops sessions_at
-unfolding sessions_at
 sessions_stop = some_stop session_grammar what.Session (starts_word Session) (λ k. session_at) (λ k. session_read) session_keeps (λ k. session_stops)
 
 -- ---- permutations
@@ -242,6 +243,7 @@ record PermsOver (r after : Rest) : Type 0 where
   is_named : starts_name after ≡ true
 
 perm_case : (r after : Rest) → (word_at Permutation what.Item r ≡ (Err OverLimit, after)) ⊎ ((u : Unit {0}) × (mid : Rest) × (word_at Permutation what.Item r ≡ (Ok u, mid)) × (some_at what.Name starts_name entry_at mid ≡ (Err OverLimit, after))) → PermsOver r after
+unfolding all_at
 perm_case r after (inl e) = absurd (word_never Permutation what.Item r after e)
 perm_case r after (inr (u, mid, word, e)) =
     let t = word_token Permutation what.Item r mid u word in
@@ -262,7 +264,7 @@ perm_case r after (inr (u, mid, word, e)) =
     }
 
 perm_over : (r after : Rest) → perm_at r ≡ (Err OverLimit, after) → PermsOver r after
-unfolding perm_at entries_at
+unfolding perm_at
 perm_over r after e = perm_case r after (err_two (word_at Permutation what.Item r) (λ key. some_at what.Name starts_name entry_at key.1) OverLimit after e)
 
 perms_case : (n k : ℕ) (r after : Rest) → ((m : Rest) → many_at (starts_word Permutation) (λ k. perm_at) (k + 1) n m ≡ (Err OverLimit, after) → PermsOver m after) → Stopped (starts_word Permutation) (λ k. perm_at) n k r after OverLimit → PermsOver r after
@@ -290,7 +292,7 @@ perms_over zero k r after e = absurd (many_zero (starts_word Permutation) (λ k.
 perms_over (suc n) k r after e = perms_case n k r after (λ m h. perms_over n (k + 1) m after h) (stopped (starts_word Permutation) (λ k. perm_at) n k r after OverLimit e)
 
 perms_stop : Stops perms_at
-unfolding perms_at
+unfolding all_at
 perms_stop r after few e =
     let o = perms_over (length r.1) 0 r after e in
     record { fs = []; mid = r; split = refl; place = refl; few = few; is_named = o.is_named; here = here_entry o.ps o.word o.es o.perms o.entries o.split o.many o.short o.is_word o.among o.count }

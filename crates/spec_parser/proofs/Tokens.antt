@@ -1,36 +1,28 @@
 -- What one token is, and what stands before the place behind it.
 use Rattle.std.proofs.Common.{◌≡◌, ◌≤◌, arith, ℕ, Bool, true, false, cond, List, [], ◌∷◌, Option, Some, None, refl, ap, ◌∙◌}
+use denote.Enum.Bare.{sameb, same_true}
 use Rattle.iso_lexer.specs.declared.token.At.{At}
 use Rattle.iso_lexer.specs.declared.spec_token.Keyword.{Keyword}
 use Rattle.iso_lexer.specs.declared.spec_token.Keyword.TheVariants.{Permutation, Session, Setup, Step, Teardown, Notices}
+use Rattle.iso_lexer.specs.contracts.spec_token.Keyword.{the_type as words}
 use Rattle.iso_lexer.specs.declared.spec_token.Sign.{Sign}
-use Rattle.iso_lexer.specs.declared.spec_token.Sign.TheVariants.{Open, Close, Comma, Star}
+use Rattle.iso_lexer.specs.contracts.spec_token.Sign.{the_type as signs}
 use Rattle.iso_lexer.specs.Names.{Written}
 use Rattle.iso_lexer.specs.SpecTokens.{Token, keyword, name, digits, sign, block}
 use Rattle.spec_parser.specs.Trees.{NameAt}
 use Rattle.spec_parser.specs.Counts.{Counts, past, past_token}
-use Rattle.spec_parser.specs.Reading.{same_word, same_sign, is_word, is_sign, the_word, the_sign, the_name, name_in}
-use Rattle.spec_parser.specs.Grammar.{one}
+use Rattle.spec_parser.specs.Reading.{is_word, is_sign, the_name, name_in}
+use Rattle.spec_parser.specs.Grammar.{one, the_word, the_sign}
 
 pub test_true : (b : Bool) (u : Unit {0}) → ◌≡◌ {A = Option (Unit {0})} (cond b (Some tt) None) (Some u) → b ≡ true
 test_true true u e = refl
 test_true false u e = absurd cc
 
-pub same_is : (j k : Keyword) → same_word j k ≡ true → j ≡ k
-same_is Permutation Permutation e = refl
-same_is Session Session e = refl
-same_is Setup Setup e = refl
-same_is Step Step e = refl
-same_is Teardown Teardown e = refl
-same_is Notices Notices e = refl
-same_is _ _ e = absurd cc
+same_is : (j k : Keyword) → sameb words j k ≡ true → j ≡ k
+same_is j k e = same_true words tt j k e
 
-same_sign_is : (j k : Sign) → same_sign j k ≡ true → j ≡ k
-same_sign_is Open Open e = refl
-same_sign_is Close Close e = refl
-same_sign_is Comma Comma e = refl
-same_sign_is Star Star e = refl
-same_sign_is _ _ e = absurd cc
+same_sign_is : (g h : Sign) → sameb signs g h ≡ true → g ≡ h
+same_sign_is g h e = same_true signs tt g h e
 
 pub keyword_in : (k : Keyword) (t : Token) → is_word k t ≡ true → t ≡ keyword k
 keyword_in k (keyword j) e = ap keyword (same_is j k e)

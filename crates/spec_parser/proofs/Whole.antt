@@ -16,8 +16,8 @@ use Rattle.spec_parser.specs.Trees.{FileTree, SpecTree, EntryTree}
 use Rattle.spec_parser.specs.Counts.{start}
 use Rattle.spec_parser.specs.Reading.{Rest, Read, place, file_at}
 use Rattle.spec_parser.specs.Inner.Readers.{FailsAs}
-use Rattle.spec_parser.specs.Names.{StepAt, sessions_from, first_repeat, known_perms, session_tree, resolved}
-use Rattle.spec_parser.specs.Inner.Known.{FailsWith}
+use Rattle.spec_parser.specs.Names.{StepAt, sessions_from, first_repeat, session_tree, resolved}
+use Rattle.spec_parser.specs.Inner.Known.{known_perms, FailsWith}
 use Rattle.spec_parser.specs.SpecText.{SpecReads, no_tokens, tokens, finished, Answers}
 
 abbrev LexAnswers : List ℕ → LexFault → Type 0

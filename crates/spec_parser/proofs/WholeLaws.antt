@@ -12,15 +12,17 @@ use Rattle.spec_parser.specs.declared.fault.SpecFault.{SpecFault}
 use Rattle.spec_parser.specs.declared.fault.SpecFault.TheVariants as faults
 use Rattle.spec_parser.specs.Trees.{FileTree, SpecTree}
 use Rattle.spec_parser.specs.Counts.{Counts, start, past}
-use Rattle.spec_parser.specs.Reading.{Rest, Read, ◌>>=◌, end_in, end_at, setups_at, teardown_at, sessions_at, perms_at, file_at}
+use Rattle.spec_parser.specs.Reading.{Rest, Read, end_at, file_at}
+use Rattle.spec_parser.specs.Inner.Pieces.{setups_at, teardown_at, sessions_at, perms_at}
 use Rattle.spec_parser.specs.Grammar.{file}
 use Rattle.spec_parser.specs.SpecText.{SpecReads, no_tokens, tokens, finished}
 use Rattle.spec_parser.specs.Laws.{head, names_token, StopsFirst}
-use Rattle.spec_parser.proofs.Local.{Means, Wants, is_read, no_value, in_two}
+use Rattle.spec_parser.proofs.Local.{◌>>=◌, Means, Wants, is_read, no_value, in_two}
 use Rattle.spec_parser.proofs.Productions.{file_local}
 use Rattle.spec_parser.proofs.Complete.{Again, whole, over, LongFile, file_again}
 
-end_of : (c : Counts) (ts : List (At Token)) (f g : FileTree) (after : Rest) → (end_in c ts >>= λ ended. (Ok f, ended.1)) ≡ (Ok g, after) → after.1 ≡ []
+end_of : (c : Counts) (ts : List (At Token)) (f g : FileTree) (after : Rest) → (end_at (c, ts) >>= λ ended. (Ok f, ended.1)) ≡ (Ok g, after) → after.1 ≡ []
+unfolding end_at
 end_of c [] f g after e = sym (ap (λ (r : Read FileTree). r.1.1) e)
 end_of c (t ∷ ts) f g after e = absurd (no_value _ g (ap (λ (r : Read FileTree). r.0) e))
 

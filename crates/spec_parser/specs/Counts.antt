@@ -1,8 +1,8 @@
 -- What stands before a place of a file.
 use Rattle.std.specs.Prelude.{ℕ, ◌+◌, List, [], ◌∷◌}
 use Rattle.iso_lexer.specs.declared.token.At.{At}
-use Rattle.iso_lexer.specs.declared.spec_token.Keyword.TheVariants.{Permutation, Session, Setup, Step, Teardown, Notices}
-use Rattle.iso_lexer.specs.SpecTokens.{Token, keyword, name, digits, sign, block}
+use Rattle.iso_lexer.specs.declared.spec_token.Keyword.TheVariants.{Session, Step}
+use Rattle.iso_lexer.specs.SpecTokens.{Token, keyword, block}
 
 -- how many blocks, words `session` and words `step`
 pub record Counts : Type 0 where
@@ -16,14 +16,8 @@ start = record { blocks = 0; sessions = 0; steps = 0 }
 abbrev pub past_token : Token → Counts → Counts
 past_token (keyword Session) c = record c { sessions = c.sessions + 1 }
 past_token (keyword Step) c = record c { steps = c.steps + 1 }
-past_token (keyword Permutation) c = c
-past_token (keyword Setup) c = c
-past_token (keyword Teardown) c = c
-past_token (keyword Notices) c = c
 past_token (block blanks sql) c = record c { blocks = c.blocks + 1 }
-past_token (name n) c = c
-past_token (digits d) c = c
-past_token (sign s) c = c
+past_token _ c = c
 
 -- what stands before the place behind these tokens
 abbrev pub past : Counts → List (At Token) → Counts

@@ -1,13 +1,14 @@
 -- The grammar of spec files (README of src/test/isolation, "Test specification"): one definition for each production.
-use Rattle.std.specs.Prelude.{◌≡◌, ◌<◌, List, [], ◌∷◌, ◌++◌, length, Option, Some, None, unwrap_or}
+use Rattle.std.specs.Prelude.{◌≡◌, ◌<◌, List, [], ◌∷◌, ◌++◌, length, Option, Some, None, unwrap_or, if◌then◌else◌}
 use Rattle.iso_lexer.specs.declared.token.At.{At}
 use Rattle.iso_lexer.specs.declared.spec_token.Keyword.{Keyword}
 use Rattle.iso_lexer.specs.declared.spec_token.Keyword.TheVariants.{Permutation, Session, Setup, Step, Teardown}
+use Rattle.iso_lexer.specs.declared.spec_token.Sign.{Sign}
 use Rattle.iso_lexer.specs.declared.spec_token.Sign.TheVariants.{Open, Close, Comma, Star}
 use Rattle.iso_lexer.specs.SpecTokens.{Token}
 use Rattle.spec_parser.specs.Trees.{PartTree, NamedStep, NamedSession, MarkerTree, star, named, NamedEntry, FileTree}
 use Rattle.spec_parser.specs.Counts.{Counts, past}
-use Rattle.spec_parser.specs.Reading.{the_word, the_sign, the_name, the_block}
+use Rattle.spec_parser.specs.Reading.{is_word, is_sign, the_name, the_block}
 
 -- that these tokens, behind what is counted, say this
 abbrev pub Grammar : Type 0 → Type 1
@@ -25,6 +26,13 @@ gives v c ts x = (ts ≡ []) × (x ≡ v)
 -- one token, which says this
 abbrev pub one : {A : Type 0} → (Counts → At Token → Option A) → Grammar A
 one f c ts x = (t : At Token) × (ts ≡ t ∷ []) × (f c t ≡ Some x)
+
+-- nothing but that the token is this word, or this sign
+abbrev pub the_word : Keyword → Counts → At Token → Option (Unit {0})
+the_word k c t = if is_word k t.tok then Some tt else None
+
+abbrev pub the_sign : Sign → Counts → At Token → Option (Unit {0})
+the_sign g c t = if is_sign g t.tok then Some tt else None
 
 -- it, or no token
 pub data Maybe {A : Type 0} (G : Grammar A) (c : Counts) : List (At Token) → Option A → Type 0 where

@@ -1,5 +1,5 @@
 -- The steps that a file's names stand for.
-use Rattle.std.specs.Prelude.{ℕ, ◌+◌, Bool, List, [], ◌∷◌, ◌++◌, find, is_some, map, Option, Some, None, Result, Ok, Err, bytes_eq, if◌then◌else◌}
+use Rattle.std.specs.Prelude.{ℕ, ◌+◌, Bool, List, [], ◌∷◌, ◌++◌, find, is_some, map, Option, Some, None, ok_or, option_map, unwrap_or, Result, Ok, Err, bytes_eq, if◌then◌else◌}
 use Rattle.iso_lexer.specs.Names.{Written, decoded}
 use Rattle.spec_parser.specs.declared.tree.Marker.{Marker}
 use Rattle.spec_parser.specs.declared.tree.Marker.TheVariants as markers
@@ -42,31 +42,17 @@ abbrev pub ◌>>=◌ : {A B : Type 0} → Result A SpecFault → (A → Result B
 -- f of each, or the first fault
 abbrev pub each : {A B : Type 0} → (A → Result B SpecFault) → List A → Result (List B) SpecFault
 each f [] = Ok []
-each f (x ∷ xs) = do
-  y ← f x
-  ys ← each f xs
-  Ok (y ∷ ys)
+each f (x ∷ xs) = f x >>= λ y. each f xs >>= λ ys. Ok (y ∷ ys)
 
-abbrev pub marker_of : NameAt → Option StepAt → Result Marker SpecFault
-marker_of n (Some s) = Ok (markers.Step s.session s.step)
-marker_of n None = Err (UndefinedMarker n.at)
-
+-- what a marker, or an entry, stands for; or its first name that no step has
 abbrev pub known_marker : List StepAt → MarkerTree → Result Marker SpecFault
 known_marker known star = Ok markers.Star
-known_marker known (named n) = marker_of n (find (is_named n.name) known)
-
-abbrev pub step_of : NameAt → Option StepAt → Result StepAt SpecFault
-step_of n (Some s) = Ok s
-step_of n None = Err (UndefinedStep n.at)
+known_marker known (named n) = ok_or (option_map (λ s. markers.Step s.session s.step) (find (is_named n.name) known)) (UndefinedMarker n.at)
 
 abbrev pub known_entry : List StepAt → NamedEntry → Result EntryTree SpecFault
 known_entry known e = do
-  s ← step_of e.name (find (is_named e.name.name) known)
-  ms ← each (known_marker known) e.markers
-  Ok (record { session = s.session; step = s.step; markers = ms })
-
-abbrev pub known_perms : List StepAt → List (List NamedEntry) → Result (List (List EntryTree)) SpecFault
-known_perms known = each (each (known_entry known))
+  s ← ok_or (find (is_named e.name.name) known) (UndefinedStep e.name.at)
+  Ok (record { session = s.session; step = s.step; markers = (← each (known_marker known) e.markers) })
 
 -- ---- the whole
 
@@ -76,14 +62,9 @@ step_tree s = record { name = s.name.name; part = s.part }
 abbrev pub session_tree : NamedSession → SessionTree
 session_tree s = record { name = s.name.name; setup = s.setup; steps = map step_tree s.steps; teardown = s.teardown }
 
-abbrev pub without_repeat : Option ℕ → Result SpecTree SpecFault → Result SpecTree SpecFault
-without_repeat (Some at) spec = Err (DuplicateStep at)
-without_repeat None spec = spec
-
--- a file whose step names differ, and whose permutations name steps of it
+-- a file whose step names differ, and whose permutations name steps of it; else the first name that stands again, or the first that no step has
 abbrev pub resolved : FileTree → Result SpecTree SpecFault
 resolved f =
     let known = sessions_from 1 f.sessions in
-    without_repeat (first_repeat [] known) (do
-      perms ← known_perms known f.perms
-      Ok (record { setups = f.setups; teardown = f.teardown; sessions = map session_tree f.sessions; perms = perms }))
+    unwrap_or (option_map (λ at. Err (DuplicateStep at)) (first_repeat [] known)) (do
+      Ok (record { setups = f.setups; teardown = f.teardown; sessions = map session_tree f.sessions; perms = (← each (each (known_entry known)) f.perms) }))

@@ -11,7 +11,8 @@ const MOST_ENTRIES: usize = 1000;
 impl<'t, 'a> Reader<'t, 'a> {
     ghost use Rattle.std.specs.Prelude.{◌≢◌, Err, option_map, map};
     ghost use Rattle.spec_parser.specs.Trees.{placed_view, marker_view, entry_name_view, perm_names_view};
-    ghost use Rattle.spec_parser.specs.Reading.{no_notices, marker_at, next_marker_at, next_markers_at, markers_at, some_markers_at, entry_at, entries_at, perm_at, perms_at, all_at, starts_name};
+    ghost use Rattle.spec_parser.specs.Reading.{no_notices, marker_at, markers_at, entry_at, perm_at, all_at};
+    ghost use Rattle.spec_parser.specs.Inner.Pieces.{next_marker_at, next_markers_at, entries_at, perms_at, starts_name};
     ghost use Rattle.spec_parser.specs.Inner.Readers.{end_of, rest_of, Same, Gives, behind};
 
     #[tactic(auto, unfolding(crate::specs::Reading::no_notices))]
@@ -39,7 +40,6 @@ impl<'t, 'a> Reader<'t, 'a> {
         self.no_notices(name)
     }
 
-    #[tactic(auto, unfolding(crate::specs::Reading::next_marker_at))]
     fn next_marker(&mut self) -> Result<MarkerName<'a>, Halt>
         ensures same { Same self.old self.new }
         ensures reads { Gives (end_of self.old) (λ x. (marker_view x, rest_of self.new)) result (next_marker_at (rest_of self.old)) }
@@ -50,6 +50,7 @@ impl<'t, 'a> Reader<'t, 'a> {
     }
 
     /// The markers from here on, behind the first.
+    #[tactic(auto, unfolding(crate::specs::Reading::all_at))]
     fn next_markers(&mut self, mut items: Vec<MarkerName<'a>>) -> Result<Vec<MarkerName<'a>>, Halt>
         ensures same { Same self.old self.new }
         ensures reads { Gives (end_of self.old) (λ x. (map marker_view x.items, rest_of self.new)) result (behind (map marker_view items.entry.items) (next_markers_at (rest_of self.old))) }
@@ -61,7 +62,7 @@ impl<'t, 'a> Reader<'t, 'a> {
         Ok(items)
     }
 
-    #[tactic(auto, unfolding(crate::specs::Reading::markers_at))]
+    #[tactic(auto, unfolding(crate::specs::Reading::markers_at, crate::specs::Reading::all_at, crate::specs::Reading::many_at, crate::specs::Reading::next))]
     fn markers(&mut self, alloc: Global) -> Result<Vec<MarkerName<'a>>, Halt>
         ensures same { Same self.old self.new }
         ensures reads { Gives (end_of self.old) (λ x. (map marker_view x.items, rest_of self.new)) result (markers_at (rest_of self.old)) }
@@ -75,7 +76,7 @@ impl<'t, 'a> Reader<'t, 'a> {
         Ok(markers)
     }
 
-    #[tactic(auto, unfolding(crate::specs::Reading::entry_at, crate::specs::Reading::some_markers_at))]
+    #[tactic(auto, unfolding(crate::specs::Reading::entry_at, crate::specs::Reading::maybe_at))]
     fn entry(&mut self, alloc: Global, before: usize) -> Result<EntryName<'a>, Halt>
         ensures same { Same self.old self.new }
         ensures reads { Gives (end_of self.old) (λ x. (entry_name_view x, rest_of self.new)) result (entry_at before (rest_of self.old)) }
@@ -89,7 +90,7 @@ impl<'t, 'a> Reader<'t, 'a> {
         Ok(EntryName { name, markers })
     }
 
-    #[tactic(auto, unfolding(crate::specs::Reading::entries_at))]
+    #[tactic(auto, unfolding(crate::specs::Reading::some_at))]
     fn entries(&mut self, alloc: Global) -> Result<Vec<EntryName<'a>>, Halt>
         ensures same { Same self.old self.new }
         ensures reads { Gives (end_of self.old) (λ x. (perm_names_view x, rest_of self.new)) result (entries_at (rest_of self.old)) }
@@ -100,6 +101,7 @@ impl<'t, 'a> Reader<'t, 'a> {
         self.each_entry(alloc)
     }
 
+    #[tactic(auto, unfolding(crate::specs::Reading::all_at))]
     fn each_entry(&mut self, alloc: Global) -> Result<Vec<EntryName<'a>>, Halt>
         ensures same { Same self.old self.new }
         ensures reads { Gives (end_of self.old) (λ x. (perm_names_view x, rest_of self.new)) result (all_at starts_name entry_at (rest_of self.old)) }
@@ -121,6 +123,7 @@ impl<'t, 'a> Reader<'t, 'a> {
         self.entries(alloc)
     }
 
+    #[tactic(auto, unfolding(crate::specs::Reading::all_at))]
     pub fn perms(&mut self, alloc: Global) -> Result<Vec<Vec<EntryName<'a>>>, Halt>
         ensures same { Same self.old self.new }
         ensures reads { Gives (end_of self.old) (λ x. (map perm_names_view x.items, rest_of self.new)) result (perms_at (rest_of self.old)) }

@@ -30,7 +30,8 @@ impl<'t, 'a> Reader<'t, 'a> {
     ghost use Rattle.iso_lexer.specs.SpecTokens.{at_view, at_views, name, block};
     ghost use Rattle.spec_parser.specs.Trees.{part_view, placed_view};
     ghost use Rattle.spec_parser.specs.Counts.{start};
-    ghost use Rattle.spec_parser.specs.Reading.{place, starts_word, starts_sign, starts_name, word_at, sign_at, name_at, name_within, block_at, end_at};
+    ghost use Rattle.spec_parser.specs.Reading.{place, name_at, block_at, end_at};
+    ghost use Rattle.spec_parser.specs.Inner.Pieces.{starts_word, starts_sign, starts_name, word_at, sign_at};
     ghost use Rattle.spec_parser.specs.Inner.Readers.{end_of, rest_of, IsNext, Same, Gives, StopsAt};
 
     pub fn new(tokens: &'t [At<SpecTok<'a>>], end: usize) -> Self
@@ -136,7 +137,7 @@ impl<'t, 'a> Reader<'t, 'a> {
         }
     }
 
-    #[tactic(auto, unfolding(crate::specs::Reading::word_at))]
+    #[tactic(auto, unfolding(crate::specs::Reading::next))]
     pub fn word(&mut self, word: Keyword, what: What) -> Result<(), Halt>
         ensures same { Same self.old self.new }
         ensures reads { Gives (end_of self.old) (λ x. (x, rest_of self.new)) result (word_at word what (rest_of self.old)) }
@@ -147,7 +148,7 @@ impl<'t, 'a> Reader<'t, 'a> {
             Some(token) => match token.tok {
                 SpecTok::Keyword(k) if k == word => {
                     self.at += 1;
-                    match word {
+                    match k {
                         Keyword::Session => self.sessions += 1,
                         Keyword::Step => self.steps += 1,
                         _ => {}
@@ -159,7 +160,7 @@ impl<'t, 'a> Reader<'t, 'a> {
         }
     }
 
-    #[tactic(auto, unfolding(crate::specs::Reading::sign_at))]
+    #[tactic(auto, unfolding(crate::specs::Reading::next))]
     pub fn sign(&mut self, sign: Sign, what: What) -> Result<(), Halt>
         ensures same { Same self.old self.new }
         ensures reads { Gives (end_of self.old) (λ x. (x, rest_of self.new)) result (sign_at sign what (rest_of self.old)) }

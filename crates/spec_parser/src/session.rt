@@ -15,7 +15,8 @@ impl<'t, 'a> Reader<'t, 'a> {
     ghost use Rattle.std.specs.Prelude.{◌≢◌, ◌<◌, ◌^◌, Err, IfOk, vec_len, option_map, map};
     ghost use Rattle.iso_lexer.specs.declared.spec_token.Keyword.TheVariants.{Session, Step};
     ghost use Rattle.spec_parser.specs.Trees.{part_view, placed_view, draft_view, session_draft_view};
-    ghost use Rattle.spec_parser.specs.Reading.{name_within, block_after, setup_at, teardown_at, setups_at, step_at, steps_at, session_at, sessions_at, all_at, starts_word};
+    ghost use Rattle.spec_parser.specs.Reading.{name_within, block_after, step_at, session_at, all_at};
+    ghost use Rattle.spec_parser.specs.Inner.Pieces.{setup_at, teardown_at, setups_at, steps_at, sessions_at, starts_word};
     ghost use Rattle.spec_parser.specs.Inner.Readers.{end_of, rest_of, Same, Gives};
 
     /// The name of a thing behind `before` others of its kind, of which there may be `most`.
@@ -44,7 +45,7 @@ impl<'t, 'a> Reader<'t, 'a> {
         self.block()
     }
 
-    #[tactic(auto, unfolding(crate::specs::Reading::setup_at))]
+    #[tactic(auto, unfolding(crate::specs::Reading::maybe_block, crate::specs::Reading::maybe_at))]
     fn setup(&mut self) -> Result<Option<Part<'a>>, Halt>
         ensures same { Same self.old self.new }
         ensures reads { Gives (end_of self.old) (λ x. (option_map part_view x, rest_of self.new)) result (setup_at (rest_of self.old)) }
@@ -57,7 +58,7 @@ impl<'t, 'a> Reader<'t, 'a> {
         Ok(Some(part))
     }
 
-    #[tactic(auto, unfolding(crate::specs::Reading::teardown_at))]
+    #[tactic(auto, unfolding(crate::specs::Reading::maybe_block, crate::specs::Reading::maybe_at))]
     pub fn teardown(&mut self) -> Result<Option<Part<'a>>, Halt>
         ensures same { Same self.old self.new }
         ensures reads { Gives (end_of self.old) (λ x. (option_map part_view x, rest_of self.new)) result (teardown_at (rest_of self.old)) }
@@ -70,6 +71,7 @@ impl<'t, 'a> Reader<'t, 'a> {
         Ok(Some(part))
     }
 
+    #[tactic(auto, unfolding(crate::specs::Reading::all_at))]
     pub fn setups(&mut self, alloc: Global) -> Result<Vec<Part<'a>>, Halt>
         ensures same { Same self.old self.new }
         ensures reads { Gives (end_of self.old) (λ x. (map part_view x.items, rest_of self.new)) result (setups_at (rest_of self.old)) }
@@ -95,7 +97,7 @@ impl<'t, 'a> Reader<'t, 'a> {
         Ok(StepDraft { name, part })
     }
 
-    #[tactic(auto, unfolding(crate::specs::Reading::steps_at))]
+    #[tactic(auto, unfolding(crate::specs::Reading::some_at))]
     fn steps(&mut self, alloc: Global) -> Result<Vec<StepDraft<'a>>, Halt>
         ensures same { Same self.old self.new }
         ensures few { IfOk result (λ x. vec_len x < 2 ^ 32) }
@@ -107,6 +109,7 @@ impl<'t, 'a> Reader<'t, 'a> {
         self.each_step(alloc)
     }
 
+    #[tactic(auto, unfolding(crate::specs::Reading::all_at))]
     fn each_step(&mut self, alloc: Global) -> Result<Vec<StepDraft<'a>>, Halt>
         ensures same { Same self.old self.new }
         ensures few { IfOk result (λ x. vec_len x < 2 ^ 32) }
@@ -120,7 +123,7 @@ impl<'t, 'a> Reader<'t, 'a> {
         Ok(items)
     }
 
-    #[tactic(auto, unfolding(crate::specs::Reading::session_at))]
+    #[tactic(auto, unfolding(crate::specs::Reading::session_at, crate::specs::Reading::some_at, crate::specs::Reading::all_at, crate::specs::Reading::many_at))]
     fn session(&mut self, alloc: Global) -> Result<SessionDraft<'a>, Halt>
         ensures same { Same self.old self.new }
         ensures reads { Gives (end_of self.old) (λ x. (session_draft_view x, rest_of self.new)) result (session_at (rest_of self.old)) }
@@ -139,7 +142,7 @@ impl<'t, 'a> Reader<'t, 'a> {
         })
     }
 
-    #[tactic(auto, unfolding(crate::specs::Reading::sessions_at))]
+    #[tactic(auto, unfolding(crate::specs::Reading::some_at))]
     pub fn sessions(&mut self, alloc: Global) -> Result<Vec<SessionDraft<'a>>, Halt>
         ensures same { Same self.old self.new }
         ensures few { IfOk result (λ x. vec_len x < 2 ^ 32) }
@@ -151,6 +154,7 @@ impl<'t, 'a> Reader<'t, 'a> {
         self.each_session(alloc)
     }
 
+    #[tactic(auto, unfolding(crate::specs::Reading::all_at))]
     fn each_session(&mut self, alloc: Global) -> Result<Vec<SessionDraft<'a>>, Halt>
         ensures same { Same self.old self.new }
         ensures few { IfOk result (λ x. vec_len x < 2 ^ 32) }

@@ -3,11 +3,15 @@ use Rattle.std.specs.Prelude.{◌≡◌, ◌<◌, List, length, find, IsSome, Re
 use Rattle.spec_parser.specs.declared.known.KnownStep.{KnownStep}
 use Rattle.spec_parser.specs.declared.fault.SpecFault.{SpecFault}
 use Rattle.spec_parser.specs.declared.fault.SpecFault.TheVariants as faults
-use Rattle.spec_parser.specs.Trees.{placed_view, NamedEntry}
-use Rattle.spec_parser.specs.Names.{StepAt, is_named}
+use Rattle.spec_parser.specs.Trees.{EntryTree, placed_view, NamedEntry}
+use Rattle.spec_parser.specs.Names.{StepAt, is_named, each, known_entry}
 
 abbrev pub known_view : KnownStep → StepAt
 known_view s = record { name = placed_view s.name; session = s.session; step = s.step }
+
+-- permutations, entry by entry
+abbrev pub known_perms : List StepAt → List (List NamedEntry) → Result (List (List EntryTree)) SpecFault
+known_perms known = each (each (known_entry known))
 
 abbrev pub FailsWith : {Y : Type 0} → SpecFault → Result Y SpecFault → Type 0
 FailsWith faults.Memory wanted = Unit {0}

@@ -2,14 +2,11 @@
 use Rattle.std.specs.Prelude.{ℕ, ◌+◌, ◌<◌, ◌^◌, List, length, slice_index_or}
 use Rattle.iso_lexer.specs.declared.token.At.{At}
 use Rattle.iso_lexer.specs.declared.spec_token.SpecTok.{SpecTok}
-use Rattle.iso_lexer.specs.SpecTokens.{Token, keyword, name, digits, sign, block, at_view}
+use Rattle.iso_lexer.specs.SpecTokens.{Token, block, at_view}
 
 abbrev pub text_start_of : Token → ℕ → ℕ
 text_start_of (block blanks sql) at = at + 1 + blanks
-text_start_of (keyword k) at = 0
-text_start_of (name n) at = 0
-text_start_of (digits d) at = 0
-text_start_of (sign s) at = 0
+text_start_of _ at = 0
 
 -- the byte at which a block's text begins, behind the brace and its blanks
 abbrev pub text_start : At Token → ℕ

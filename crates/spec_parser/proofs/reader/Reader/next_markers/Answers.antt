@@ -3,14 +3,14 @@ use Rattle.std.proofs.lemmas.Result.{err_from_is_err_and}
 use Rattle.std.proofs.ResultArms.{chosen}
 use Rattle.iso_lexer.specs.declared.spec_token.Sign.TheVariants.{Comma}
 use Rattle.spec_parser.specs.Trees.{marker_view}
-use Rattle.spec_parser.specs.Reading.{starts_sign, next_marker_at, next_markers_at, is_sign}
+use Rattle.spec_parser.specs.Reading.{is_sign}
+use Rattle.spec_parser.specs.Inner.Pieces.{starts_sign, next_marker_at}
 use Rattle.spec_parser.specs.Inner.Readers.{FailsAs, rest_of}
 use Rattle.spec_parser.proofs.Loops.{SoFar, on_end, on_item, on_stop, views_push, starts_nonempty}
 use Rattle.spec_parser.proofs.Productions.{next_marker_shorter}
 use Rattle.spec_parser.proofs.reader.Reader.next_markers.Goals as goal
 
 pub returns-in_err-item-clause-reads : goal.returns-in_err-item-clause-reads
-unfolding next_markers_at
 returns-in_err-item-clause-reads c =
     let p = err_from_is_err_and c.from_residual.result c.from_residual.ensures.1 in
     let inv = c.loop-self.invariant in
@@ -31,7 +31,6 @@ loop-self-preserved c =
     }
 
 pub returns-clause-reads : goal.returns-clause-reads
-unfolding next_markers_at
 returns-clause-reads c =
     let inv = c.loop-self.invariant in
     on_end (starts_sign Comma) (λ k. next_marker_at) (map marker_view c.args.items.items) (rest_of c.args.self.now) (map marker_view c.loop-self.items.items) (rest_of c.loop-self.self) (sym c.loop-self-test.ensures) inv.so_far

@@ -2,7 +2,7 @@ use Rattle.std.proofs.Common.{length}
 use Rattle.std.specs.Prelude.{map}
 use Rattle.iso_lexer.specs.declared.spec_token.Sign.TheVariants.{Comma}
 use Rattle.spec_parser.specs.Trees.{marker_view}
-use Rattle.spec_parser.specs.Reading.{starts_sign, next_marker_at}
+use Rattle.spec_parser.specs.Inner.Pieces.{starts_sign, next_marker_at}
 use Rattle.spec_parser.specs.Inner.Readers.{rest_of, Same}
 use Rattle.spec_parser.proofs.Loops.{SoFar}
 use Rattle.spec_parser.proofs.reader.Reader.next_markers.Given as goal

@@ -3,14 +3,14 @@ use Rattle.std.proofs.lemmas.Result.{err_from_is_err_and}
 use Rattle.std.proofs.ResultArms.{chosen}
 use Rattle.iso_lexer.specs.declared.spec_token.Keyword.TheVariants.{Permutation}
 use Rattle.spec_parser.specs.Trees.{perm_names_view}
-use Rattle.spec_parser.specs.Reading.{starts_word, perm_at, perms_at, is_word}
+use Rattle.spec_parser.specs.Reading.{perm_at, is_word}
+use Rattle.spec_parser.specs.Inner.Pieces.{starts_word, perms_at}
 use Rattle.spec_parser.specs.Inner.Readers.{FailsAs, rest_of}
 use Rattle.spec_parser.proofs.Loops.{SoFar, on_end, on_item, on_stop, behind_nothing, views_push, starts_nonempty}
 use Rattle.spec_parser.proofs.Productions.{perm_shorter}
 use Rattle.spec_parser.proofs.reader.Reader.perms.Goals as goal
 
 pub returns-in_err-item-clause-reads : goal.returns-in_err-item-clause-reads
-unfolding perms_at
 returns-in_err-item-clause-reads c =
     let p = err_from_is_err_and c.from_residual.result c.from_residual.ensures.1 in
     let inv = c.loop-alloc.invariant in
@@ -31,7 +31,6 @@ loop-alloc-preserved c =
     }
 
 pub returns-clause-reads : goal.returns-clause-reads
-unfolding perms_at
 returns-clause-reads c =
     let inv = c.loop-alloc.invariant in
     sym (behind_nothing (perms_at (rest_of c.args.self.now))) ∙ on_end (starts_word Permutation) (λ k. perm_at) [] (rest_of c.args.self.now) (map perm_names_view c.loop-alloc.items.items) (rest_of c.loop-alloc.self) (sym c.loop-alloc-test.ensures) inv.so_far

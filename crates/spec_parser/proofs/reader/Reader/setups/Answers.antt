@@ -3,14 +3,14 @@ use Rattle.std.proofs.lemmas.Result.{err_from_is_err_and}
 use Rattle.std.proofs.ResultArms.{chosen}
 use Rattle.iso_lexer.specs.declared.spec_token.Keyword.TheVariants.{Setup}
 use Rattle.spec_parser.specs.Trees.{part_view}
-use Rattle.spec_parser.specs.Reading.{starts_word, block_after, setups_at, is_word}
+use Rattle.spec_parser.specs.Reading.{block_after, is_word}
+use Rattle.spec_parser.specs.Inner.Pieces.{starts_word, setups_at}
 use Rattle.spec_parser.specs.Inner.Readers.{FailsAs, rest_of}
 use Rattle.spec_parser.proofs.Loops.{SoFar, on_end, on_item, on_stop, behind_nothing, views_push, starts_nonempty}
 use Rattle.spec_parser.proofs.Productions.{block_shorter}
 use Rattle.spec_parser.proofs.reader.Reader.setups.Goals as goal
 
 pub returns-in_err-item-clause-reads : goal.returns-in_err-item-clause-reads
-unfolding setups_at
 returns-in_err-item-clause-reads c =
     let p = err_from_is_err_and c.from_residual.result c.from_residual.ensures.1 in
     let inv = c.loop-self.invariant in
@@ -31,7 +31,6 @@ loop-self-preserved c =
     }
 
 pub returns-clause-reads : goal.returns-clause-reads
-unfolding setups_at
 returns-clause-reads c =
     let inv = c.loop-self.invariant in
     sym (behind_nothing (setups_at (rest_of c.args.self.now))) ∙ on_end (starts_word Setup) (λ k. block_after Setup) [] (rest_of c.args.self.now) (map part_view c.loop-self.items.items) (rest_of c.loop-self.self) (sym c.loop-self-test.ensures) inv.so_far
