@@ -15,9 +15,13 @@ use Rattle.sql_trees.specs.Tokens as tok
 use Rattle.sql_trees.specs.Trees.{Tree, Trees, more, none, Plus}
 use Rattle.sql_trees.specs.Trees as tree
 use Rattle.sql_expressions.specs.Build.{negated}
-use Rattle.sql_expressions.specs.Reading.{Found, Found_op, Found_list, Reader, leaf, deeper, join, next_op, found_op, comparison_op, or_op, and_op, concat_op, sum_op, product_op, expect, misplaced, left_out, is_open, is_close, is_and, is_not, is_is, is_call, truth_of, place_of, column_at, name_at, parens_at, prim_of, prim_at, sign_at, una_of, una_at, mul_at, add_at, cat_at, in_at, between_at, not_in_of, not_in_at, inn_of, inn_more, inn_at, cmp_more, cmp_at, is_node, is_of, is_tail, is_from, is_more, is_at, negation_at, not_at, and_at, or_at, at_level, inside, expr_at, list_at, list_more, list_turn, after_comma, chain, chain_more, chain_end, chain_turn, ◌>>=◌}
+use Rattle.sql_expressions.specs.Results.{◌>>=◌}
+use Rattle.sql_expressions.specs.Readers.{expect, misplaced, left_out, is_open, is_close, place_of, after, is_comma}
+use Rattle.sql_expressions.specs.Reading.{Found, comparison_op, or_op, and_op, concat_op, sum_op, product_op, is_call, truth_of, expr_at}
+use Rattle.sql_expressions.specs.Inner.Pieces.{Found_op, Found_list, Reader, leaf, deeper, join, next_op, found_op, is_and, is_not, is_is, column_at, name_at, parens_at, prim_of, prim_at, sign_at, una_of, una_at, mul_at, add_at, cat_at, in_at, between_at, not_in_of, not_in_at, inn_of, inn_more, inn_at, cmp_more, cmp_at, is_node, is_of, is_tail, is_from, is_more, is_at, negation_at, not_at, and_at, or_at, at_level, inside, list_at, list_more, list_turn, chain, chain_more, chain_end, chain_turn}
 use Rattle.sql_expressions.specs.Grammar.{OR, AND, NOT, ADD, MUL, UNA, Spells, goes_on}
 use Rattle.sql_expressions.specs.Laws.{Makes}
+use Rattle.sql_expressions.proofs.Same.{expr_same}
 use Rattle.sql_expressions.proofs.Steps.{expect_ok, is_open_true, after_comma_ok}
 use Rattle.sql_expressions.proofs.Sound.{Took, Sound}
 use Rattle.sql_expressions.proofs.Levels.{Opens, opens_sound, una_sound, mul_sound, add_sound, cat_sound, inn_sound, cmp_sound, not_sound, and_sound}
@@ -230,10 +234,10 @@ module _ (last n : ℕ) (inside' : Opened → ℕ → Reader) (opens : Opens las
   -- ---- lists
 
   module _ (reader : Reader) (P : Tokens → Tree → ℕ → Type 0) (sound : Sound P reader) (all : Tokens) (M : ℕ → Type 0) (tells : (ts : Tokens) → Ends_in all ts → Deep M (reader ts)) where
-    comma_ends : (ts us : Tokens) → Ends_in all ts → after_comma ts ≡ Some us → Ends_in all us
+    comma_ends : (ts us : Tokens) → Ends_in all ts → after is_comma ts ≡ Some us → Ends_in all us
     comma_ends ts us s h = let c = after_comma_ok ts us h in later all ts us s (c.0 ∷ [], c.1)
 
-    list_turn_tells : (m : ℕ) → ((l : Found_list) → Ends_in all l.rest → Deep M (list_more reader m l)) → (l : Found_list) → Ends_in all l.rest → (o : Option Tokens) → after_comma l.rest ≡ o → Deep M (list_turn reader (list_more reader m) o l)
+    list_turn_tells : (m : ℕ) → ((l : Found_list) → Ends_in all l.rest → Deep M (list_more reader m l)) → (l : Found_list) → Ends_in all l.rest → (o : Option Tokens) → after is_comma l.rest ≡ o → Deep M (list_turn reader (list_more reader m) o l)
     list_turn_tells m go l s None h = given _ _
     list_turn_tells m go l s (Some us) h =
         let w = comma_ends l.rest us s h in
@@ -242,7 +246,7 @@ module _ (last n : ℕ) (inside' : Opened → ℕ → Reader) (opens : Opens las
     list_more_tells : (m : ℕ) (l : Found_list) → Ends_in all l.rest → Deep M (list_more reader m l)
     unfolding list_more
     list_more_tells zero l s = given _ _
-    list_more_tells (suc m) l s = list_turn_tells m (list_more_tells m) l s (after_comma l.rest) refl
+    list_more_tells (suc m) l s = list_turn_tells m (list_more_tells m) l s (after is_comma l.rest) refl
 
     list_tells : (ts : Tokens) → Ends_in all ts → Deep M (list_at reader ts)
     unfolding list_at
@@ -396,4 +400,4 @@ inside_tells last (suc n) level place ts = up _ _ (at_level last (inside last n)
 
 -- too deep is told at a token that makes a node
 pub expr_tells : (last place : ℕ) (ts : Tokens) → expr_at last ts ≡ Err (TooDeep place) → Makes place ts
-expr_tells last place ts e = or_tells last 64 (inside last 64) (opens_sound last 64) (inside_tells last 64) ts place e
+expr_tells last place ts e = or_tells last 64 (inside last 64) (opens_sound last 64) (inside_tells last 64) ts place (sym (expr_same last ts) ∙ e)

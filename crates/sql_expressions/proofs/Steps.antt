@@ -10,7 +10,9 @@ use Rattle.sql_trees.specs.Tokens.{Token, Tokens, tok_views}
 use Rattle.sql_trees.specs.Tokens as tok
 use Rattle.sql_trees.specs.declared.expr.Operator.{Operator}
 use Rattle.sql_expressions.specs.Grammar.{IsWord}
-use Rattle.sql_expressions.specs.Reading.{Found_op, deeper, next_op, found_op, expect, misplaced, is_open, is_close, is_and, is_not, is_is, is_comma, after_comma, ◌>>=◌}
+use Rattle.sql_expressions.specs.Results.{◌>>=◌}
+use Rattle.sql_expressions.specs.Readers.{expect, misplaced, is_open, is_close, is_comma, after}
+use Rattle.sql_expressions.specs.Inner.Pieces.{Found_op, deeper, next_op, found_op, is_and, is_not, is_is}
 
 pub bind_ok : {A B : Type 0} (r : Result A SqlFault) (f : A → Result B SqlFault) (y : B) → (r >>= f) ≡ Ok y → (x : A) × (r ≡ Ok x) × (f x ≡ Ok y)
 bind_ok (Ok x) f y e = (x, refl, e)
@@ -63,7 +65,7 @@ pub is_is_true : (x : Token) → is_is x ≡ true → IsWord words.Is x
 is_is_true (tok.word words.Is s) e = (s, refl)
 is_is_true _ e = absurd cc
 
-pub after_comma_ok : (ts us : Tokens) → after_comma ts ≡ Some us → (t : At Token) × (ts ≡ t ∷ us) × (t.tok ≡ tok.sign signs.Comma)
+pub after_comma_ok : (ts us : Tokens) → after is_comma ts ≡ Some us → (t : At Token) × (ts ≡ t ∷ us) × (t.tok ≡ tok.sign signs.Comma)
 after_comma_ok [] us e = absurd cc
 after_comma_ok (t ∷ ts) us e = of_test (is_comma t.tok) refl e
   where

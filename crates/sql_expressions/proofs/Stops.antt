@@ -14,13 +14,17 @@ use Rattle.sql_trees.specs.Tokens.{Token, Tokens, named}
 use Rattle.sql_trees.specs.Tokens as tok
 use Rattle.sql_trees.specs.Trees.{Tree, Null, Flag, Number, Text, Column, Plus, Not, Binary, Is, In, Between, undoubled}
 use Rattle.sql_expressions.specs.Build.{negated}
-use Rattle.sql_expressions.specs.Reading.{Found, Found_list, Reader, leaf, deeper, join, next_op, comparison_op, expect, is_open, is_close, is_and, is_not, is_is, truth_of, place_of, column_at, name_at, parens_at, prim_of, prim_at, sign_at, una_of, una_at, mul_at, add_at, cat_at, in_at, between_at, not_in_of, not_in_at, inn_of, inn_more, inn_at, cmp_more, cmp_at, is_node, is_of, is_tail, is_more, is_at, negation_at, not_at, and_at, or_at, at_level, inside, expr_at, list_at, ◌>>=◌}
+use Rattle.sql_expressions.specs.Results.{◌>>=◌}
+use Rattle.sql_expressions.specs.Readers.{expect, is_open, is_close, place_of}
+use Rattle.sql_expressions.specs.Reading.{Found, comparison_op, truth_of, expr_at}
+use Rattle.sql_expressions.specs.Inner.Pieces.{Found_list, Reader, leaf, deeper, join, next_op, is_and, is_not, is_is, column_at, name_at, parens_at, prim_of, prim_at, sign_at, una_of, una_at, mul_at, add_at, cat_at, in_at, between_at, not_in_of, not_in_at, inn_of, inn_more, inn_at, cmp_more, cmp_at, is_node, is_of, is_tail, is_more, is_at, negation_at, not_at, and_at, or_at, at_level, inside, list_at}
 use Rattle.sql_expressions.specs.Grammar.{IsWord, OR, AND, NOT, IS, CMP, INN, CAT, ADD, MUL, UNA, PRIM, IsLeaf, number, text, column, yes, no, null, IsIn, IsBetween, IsIs}
 use Rattle.sql_expressions.specs.Laws.{Spelled}
+use Rattle.sql_expressions.proofs.Same.{expr_same}
 use Rattle.sql_expressions.proofs.Steps.{is_open_true, is_close_true, is_and_true, is_not_true, is_is_true}
 use Rattle.sql_expressions.proofs.Levels.{level_of}
 use Rattle.sql_expressions.proofs.Shapes.{Listed, only_spelled, comparison_spelled, negation_spelled, minus_spelled, plus_spelled, parens_spelled, leaf_spelled, is_spelled, between_spelled, contained_spelled, some_token, a_number, prim_number, una_number, mul_number, add_number, cat_number, not_number, and_number, or_number}
-use Rattle.sql_expressions.proofs.Local.{Local, Nothing, One, Inhabited, at_end, at_token, called_at, stuck_end, stuck_at, behind, in_turn, gives, deeper_then, mapped, checked, deep_always, expect_local, switch_at, switch_end}
+use Rattle.sql_expressions.proofs.Local.{Local, Nothing, One, Inhabited, at_end, at_token, called_at, stuck_end, stuck_at, behind, in_turn, gives, deeper_then, mapped, checked, deep_always, expect_local, same_at, switch_at, switch_end}
 use Rattle.sql_expressions.proofs.Tails.{seen, Tail, no_tail, Reads, chain_local, list_local}
 use Rattle.sql_expressions.proofs.Shapes.{one_listed}
 use Rattle.sql_expressions.proofs.Shortens.{shortens}
@@ -323,4 +327,5 @@ inside_local last zero level place ts = deep_always last seen (Spelled (level_of
 inside_local last (suc n) level place ts = level_local last (inside last n) (λ l p us. inside_local last n l p us) (λ p us f e. shortens last n p Whole us f e) level ts
 
 pub expr_local : (last : ℕ) → Reads last OR (expr_at last)
-expr_local last ts = or_local last (inside last 64) (inside_local last 64) (λ p us f e. shortens last 64 p Whole us f e) ts
+expr_local last ts =
+    same_at last (Spelled OR) (Spelled OR) (or_at last (inside last 64)) (expr_at last) ts (λ xs g. g) (λ us h. expr_same last us) (or_local last (inside last 64) (inside_local last 64) (λ p us f e. shortens last 64 p Whole us f e) ts)

@@ -2,11 +2,12 @@
 
 ghost use Rattle.std.specs.Prelude.{◌≡◌, option_map};
 ghost use Rattle.sql_trees.specs.Tokens.{tok_views};
-ghost use Rattle.sql_expressions.specs.Reading.{Gives, after_comma, expect, is_and, is_close, is_open, misplaced, place_of};
+ghost use Rattle.sql_expressions.specs.Results.{Gives};
+ghost use Rattle.sql_expressions.specs.Readers.{after, is_comma, expect, is_close, is_open, misplaced, place_of};
 
 use crate::operator::is_left_out;
 use iso_lexer::{At, SqlSign};
-use sql_trees::{SqlFault, Tok, Word};
+use sql_trees::{SqlFault, Tok};
 use std::alloc::Global;
 
 pub type Tokens<'t, 'a> = &'t [At<Tok<'a>>];
@@ -21,7 +22,7 @@ pub struct Parser {
 
 /// The tokens after a comma, if one stands next.
 pub fn after_comma<'t, 'a>(tokens: Tokens<'t, 'a>) -> Option<Tokens<'t, 'a>>
-    ensures { option_map (λ rest. tok_views rest.now) result ≡ after_comma (tok_views tokens.now) }
+    ensures { option_map (λ rest. tok_views rest.now) result ≡ after is_comma (tok_views tokens.now) }
 {
     match tokens {
         [
@@ -81,22 +82,6 @@ impl Parser {
             [
                 At {
                     tok: Tok::Sign(SqlSign::Close),
-                    ..
-                },
-                rest @ ..,
-            ] => Ok(rest),
-            _ => Err(self.misplaced(tokens)),
-        }
-    }
-
-    /// The tokens behind an `AND`, which has to stand next.
-    pub fn and<'t, 'a>(self, tokens: Tokens<'t, 'a>) -> Result<Tokens<'t, 'a>, SqlFault>
-        ensures { Gives (λ rest. tok_views rest.now) result (expect self.text_len is_and (tok_views tokens.now)) }
-    {
-        match tokens {
-            [
-                At {
-                    tok: Tok::Word(Word::And, _),
                     ..
                 },
                 rest @ ..,

@@ -12,7 +12,9 @@ use Rattle.sql_trees.specs.Tokens.{Token, Tokens}
 use Rattle.sql_trees.specs.Tokens as tok
 use Rattle.iso_lexer.specs.declared.sql_token.SqlSign.TheVariants as signs
 use Rattle.sql_trees.specs.Trees.{Tree}
-use Rattle.sql_expressions.specs.Reading.{is_call, misplaced, place_of, ◌>>=◌}
+use Rattle.sql_expressions.specs.Results.{◌>>=◌}
+use Rattle.sql_expressions.specs.Readers.{misplaced, place_of}
+use Rattle.sql_expressions.specs.Reading.{is_call}
 use Rattle.sql_expressions.specs.Laws.{head, Makes, first}
 use Rattle.sql_expressions.specs.Laws as expr
 use Rattle.sql_parser.specs.declared.block.Role.{Role}

@@ -11,9 +11,10 @@ use Rattle.sql_trees.specs.Statements.{StmtTree, Commit, Rollback}
 use Rattle.sql_trees.specs.Tokens.{Token, Tokens, named}
 use Rattle.sql_trees.specs.Tokens as tok
 use Rattle.sql_trees.specs.Trees.{Tree}
-use Rattle.sql_expressions.specs.Reading.{expect, is_word, is_open, is_close, ◌>>=◌, misplaced}
+use Rattle.sql_expressions.specs.Results.{◌>>=◌}
+use Rattle.sql_expressions.specs.Readers.{expect, is_word, is_open, is_close, misplaced, some_or, name_at, items_at, Reader}
 use Rattle.sql_parser.specs.declared.block.Role.{Role}
-use Rattle.sql_parser.specs.Readers.{some_or, past, name_at, tree_at, items_at, Reader}
+use Rattle.sql_parser.specs.Readers.{past, tree_at}
 use Rattle.sql_parser.specs.Transactions.{is_work, begin_at, start_at, set_at}
 use Rattle.sql_parser.specs.Tables.{TableRead, empty_table, table_add, keys_fault, column_names, finished, create_at, drop_at, created}
 use Rattle.sql_parser.specs.Changes.{insert_at, update_at, delete_at}

@@ -9,7 +9,7 @@ use Rattle.sql_trees.specs.declared.token.Tok.{Tok}
 use Rattle.sql_trees.specs.declared.stmt.Stmt.{Stmt}
 use Rattle.sql_trees.specs.Statements.{StmtTree, stmt_of}
 use Rattle.sql_trees.specs.Tokens.{Tokens, tok_at, tok_view, tok_views}
-use Rattle.sql_expressions.specs.Reading.{◌>>=◌}
+use Rattle.sql_expressions.specs.Results.{◌>>=◌}
 use Rattle.sql_parser.specs.declared.block.Role.{Role}
 use Rattle.sql_parser.specs.Blocks.{is_semicolon, whole_at, piece_at, stmts_at}
 use Rattle.sql_parser.specs.Inner.Pieces.{piece_len, block_from, SplitsAs}

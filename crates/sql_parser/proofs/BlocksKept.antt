@@ -10,9 +10,10 @@ use Rattle.sql_trees.specs.declared.word.Word.TheVariants as words
 use Rattle.sql_trees.specs.Statements.{StmtTree, Begin, Commit, Rollback, SetTransaction, SetDeadlockTimeout, DropTables}
 use Rattle.sql_trees.specs.Tokens.{Token, Tokens}
 use Rattle.sql_trees.specs.Tokens as tok
-use Rattle.sql_expressions.specs.Reading.{after, expect, is_word, ◌>>=◌}
+use Rattle.sql_expressions.specs.Results.{◌>>=◌}
+use Rattle.sql_expressions.specs.Readers.{after, expect, is_word, items_at, keyword, some_or, name_at}
 use Rattle.sql_parser.specs.declared.block.Role.{Role}
-use Rattle.sql_parser.specs.Readers.{items_at, keyword, past, some_or, added, misplaced_word, name_at}
+use Rattle.sql_parser.specs.Readers.{past, added, misplaced_word}
 use Rattle.sql_parser.specs.Transactions.{is_work, is_scope, is_to, is_setting, level_at, begin_at, start_at, parameter_at, set_at}
 use Rattle.sql_parser.specs.Tables.{drop_of, drop_at, after_if}
 use Rattle.sql_parser.specs.Blocks.{is_ddl, is_session, is_semicolon, simple_of, begun_of, stmt_at, at_end, whole_at, piece_at, stmts_at, block_at}

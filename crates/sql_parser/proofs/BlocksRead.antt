@@ -12,7 +12,8 @@ use Rattle.sql_trees.specs.Statements.{StmtTree, SetTree, OrderTree, DropTables,
 use Rattle.sql_trees.specs.Tokens.{Token, Tokens}
 use Rattle.sql_trees.specs.Tokens as tok
 use Rattle.sql_trees.specs.Trees.{Tree}
-use Rattle.sql_expressions.specs.Reading.{misplaced, ◌>>=◌}
+use Rattle.sql_expressions.specs.Results.{◌>>=◌}
+use Rattle.sql_expressions.specs.Readers.{misplaced}
 use Rattle.sql_parser.specs.declared.block.Role.{Role}
 use Rattle.sql_parser.specs.Changes.{set_columns}
 use Rattle.sql_parser.specs.Queries.{is_allowed}

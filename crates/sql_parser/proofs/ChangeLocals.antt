@@ -9,9 +9,10 @@ use Rattle.sql_trees.specs.declared.word.Word.TheVariants as words
 use Rattle.sql_trees.specs.Statements.{StmtTree, SetTree, Inserts, Updates, Deletes}
 use Rattle.sql_trees.specs.Tokens.{Token, Tokens}
 use Rattle.sql_trees.specs.Trees.{Tree}
-use Rattle.sql_expressions.specs.Reading.{place_of, expect, is_word, is_open, is_close, ◌>>=◌}
+use Rattle.sql_expressions.specs.Results.{◌>>=◌}
+use Rattle.sql_expressions.specs.Readers.{place_of, expect, is_word, is_open, is_close, keyword, name_at, items_at, Reader}
 use Rattle.sql_expressions.specs.Laws.{head}
-use Rattle.sql_parser.specs.Readers.{keyword, name_at, tree_at, items_at, Reader, added}
+use Rattle.sql_parser.specs.Readers.{tree_at, added}
 use Rattle.sql_parser.specs.Tables.{is_among}
 use Rattle.sql_parser.specs.Changes.{Rows, fits, is_equal, set_columns, distinct_add, row_add, columns_at, insert_at, filter_at, set_value, set_add, update_at, delete_at}
 use Rattle.sql_parser.specs.Grammar.{Key, Names, Commas, AddsName, adds_name, AddsValue, adds_value, RowIs, is_row, with_row, no_rows, AddsRow, adds_row, ColumnsAre, unlisted, listed_columns, AddsSet, adds_set, WhereIs, unfiltered, filtered, Spells, insert, update, delete}

@@ -14,9 +14,12 @@ use Rattle.sql_trees.specs.Statements.{ItemTree, OrderTree, SelectTree, Selects,
 use Rattle.sql_trees.specs.Tokens.{Token, Tokens, named}
 use Rattle.sql_trees.specs.Tokens as tok
 use Rattle.sql_trees.specs.Trees.{Tree, AggTree}
-use Rattle.sql_expressions.specs.Reading.{Found, chain, expr_at, or_at, and_at, is_at, cmp_at, inn_at, cat_at, add_at, mul_at, misplaced, is_word, is_open, is_comma, after, after_comma}
+use Rattle.sql_expressions.specs.Readers.{misplaced, is_word, is_open, is_comma, after}
+use Rattle.sql_expressions.specs.Reading.{Found, expr_at}
+use Rattle.sql_expressions.specs.Inner.Pieces.{chain, or_at, and_at, is_at, cmp_at, inn_at, cat_at, add_at, mul_at}
 use Rattle.sql_expressions.specs.Grammar.{Ends, goes_on}
 use Rattle.sql_expressions.proofs.Complete.{expr_complete}
+use Rattle.sql_expressions.proofs.Same.{expr_same}
 use Rattle.sql_parser.specs.Queries.{is_star, agg_kind, call_at, rows_of, maybe_name, direction_at, alias_at, agg_at, item_at, from_at, nulls_at, order_add, order_at, lock_at, is_allowed, select_at}
 use Rattle.sql_parser.specs.Grammar.{Is, Commas, AliasIs, no_alias, as_alias, bare_alias, AggIs, all_rows, of_values, AddsItem, a_star, a_value, an_aggregate, FromIs, no_table, from_table, DirectionIs, as_ever, ascending, descending, NullsAre, unsaid, nulls_first, nulls_last, AddsKey, adds_key, OrderIs, unordered, ordered, LockIs, no_lock, for_update, for_share, WhereIs, unfiltered, filtered, Shallow}
 use Rattle.sql_parser.specs.Readers.{added}
@@ -33,15 +36,15 @@ no_both x e h = cc
 module _ (last : ℕ) where
   star_faults : (t : At Token) (ts : Tokens) (x : Token) → t.tok ≡ x → is_star x ≡ true → expr_at last (t ∷ ts) ≡ Err (misplaced last (t ∷ ts))
   unfolding chain or_at and_at is_at cmp_at inn_at cat_at add_at mul_at
-  star_faults t ts (tok.sign signs.Star) h e = rw h refl
+  star_faults t ts (tok.sign signs.Star) h e = expr_same last (t ∷ ts) ∙ rw h refl
   star_faults t ts _ h e = absurd cc
 
   call_faults : (t o : At Token) (ts : Tokens) (k : AggKind) (x : Token) → t.tok ≡ x → agg_kind x ≡ Some k → is_open o.tok ≡ true → expr_at last (t ∷ o ∷ ts) ≡ Err (LeftOut t.span.start)
   unfolding chain or_at and_at is_at cmp_at inn_at cat_at add_at mul_at
-  call_faults t o ts k (tok.word words.Count s) h e g = rw (h, g) refl
-  call_faults t o ts k (tok.word words.Sum s) h e g = rw (h, g) refl
-  call_faults t o ts k (tok.word words.Min s) h e g = rw (h, g) refl
-  call_faults t o ts k (tok.word words.Max s) h e g = rw (h, g) refl
+  call_faults t o ts k (tok.word words.Count s) h e g = expr_same last (t ∷ o ∷ ts) ∙ rw (h, g) refl
+  call_faults t o ts k (tok.word words.Sum s) h e g = expr_same last (t ∷ o ∷ ts) ∙ rw (h, g) refl
+  call_faults t o ts k (tok.word words.Min s) h e g = expr_same last (t ∷ o ∷ ts) ∙ rw (h, g) refl
+  call_faults t o ts k (tok.word words.Max s) h e g = expr_same last (t ∷ o ∷ ts) ∙ rw (h, g) refl
   call_faults t o ts k _ h e g = absurd cc
 
   no_star : (ts rest : Tokens) (e : Tree) → Shallow ts e → Ends rest → after is_star (ts ++ rest) ≡ None
@@ -230,7 +233,7 @@ module _ (last : ℕ) where
   where_commas (tok.word w s) e = refl
   where_commas _ e = absurd cc
 
-  no_comma : (ts : Tokens) → Clause is_where ts → after_comma ts ≡ None
+  no_comma : (ts : Tokens) → Clause is_where ts → after is_comma ts ≡ None
   no_comma [] c = refl
   no_comma (t ∷ ts) c = rw (where_commas t.tok c) refl
 
@@ -251,7 +254,7 @@ module _ (last : ℕ) where
   from_part _ rest _ no_table c = parted rest c
   from_part _ rest _ (from_table f t n hf hn) c = let k = word_is words.From f.tok hf in rw k.1 refl
 
-  from_no_comma : (fs rest : Tokens) (t : Option (List ℕ)) → FromIs fs t → Clause is_where rest → after_comma (fs ++ rest) ≡ None
+  from_no_comma : (fs rest : Tokens) (t : Option (List ℕ)) → FromIs fs t → Clause is_where rest → after is_comma (fs ++ rest) ≡ None
   from_no_comma _ rest _ no_table c = no_comma rest c
   from_no_comma _ rest _ (from_table f t n hf hn) c = let k = word_is words.From f.tok hf in rw k.1 refl
 

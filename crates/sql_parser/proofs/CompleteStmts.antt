@@ -14,9 +14,9 @@ use Rattle.sql_trees.specs.Statements.{SetTree, Begin, SetTransaction, SetDeadlo
 use Rattle.sql_trees.specs.Tokens.{Token, Tokens, named}
 use Rattle.sql_trees.specs.Tokens as tok
 use Rattle.sql_trees.specs.Trees.{Tree}
-use Rattle.sql_expressions.specs.Reading.{is_word, is_open, is_close, is_comma, after, after_comma}
+use Rattle.sql_expressions.specs.Readers.{is_word, is_open, is_close, is_comma, after, some_or, items_at, name_at}
 use Rattle.sql_expressions.specs.Grammar.{Ends}
-use Rattle.sql_parser.specs.Readers.{some_or, past, items_at, added, tree_at, name_at}
+use Rattle.sql_parser.specs.Readers.{past, added, tree_at}
 use Rattle.sql_parser.specs.Transactions.{is_work, is_scope, is_to, is_setting, level_at, begin_at, start_at, parameter_at, set_at}
 use Rattle.sql_parser.specs.Tables.{is_among, drop_at, after_if}
 use Rattle.sql_parser.specs.Changes.{Rows, fits, set_columns, distinct_add, row_add, columns_at, insert_at, filter_at, set_add, update_at, delete_at}
@@ -228,7 +228,7 @@ module _ (last : ℕ) where
   where_ends _ _ unfiltered = tt
   where_ends _ _ (filtered w ts x hw q) = let k = word_is words.Where w.tok hw in rw k.1 refl
 
-  where_commas : (ws : Tokens) (filter : Option Tree) → WhereIs Shallow ws filter → after_comma ws ≡ None
+  where_commas : (ws : Tokens) (filter : Option Tree) → WhereIs Shallow ws filter → after is_comma ws ≡ None
   where_commas _ _ unfiltered = refl
   where_commas _ _ (filtered w ts x hw q) = no_comma_at_key words.Where w ts hw
 

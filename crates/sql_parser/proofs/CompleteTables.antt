@@ -17,7 +17,7 @@ use Rattle.sql_trees.specs.declared.kind.Kind.{Kind}
 use Rattle.sql_trees.specs.Statements.{ColumnTree, KeyTree}
 use Rattle.sql_trees.specs.Tokens.{Token, Tokens, named}
 use Rattle.sql_trees.specs.Tokens as tok
-use Rattle.sql_expressions.specs.Reading.{is_word, is_open, is_close, is_comma}
+use Rattle.sql_expressions.specs.Readers.{is_word, is_open, is_close, is_comma}
 use Rattle.sql_parser.specs.Tables.{Placed, KeyRead, TableRead, Constraints, is_among, placed_names, column_names, empty_table, with_key, with_column, kind_of, key_add, key_at, constraints_at, column_at, table_add, made_name, first_lacking, keys_fault, completed, place_among, places_in, resolved, is_kept, resolved_keys, declared, finished, create_at, created}
 use Rattle.sql_parser.specs.Inner.OneConstraint.{is_constraint}
 use Rattle.sql_parser.specs.Kept.{all_differ, places_differ, key_fits, tree_name, table_kept}

@@ -8,10 +8,11 @@ use Rattle.sql_trees.specs.declared.word.Word.TheVariants as words
 use Rattle.sql_trees.specs.Tokens.{Token, Tokens, named}
 use Rattle.sql_trees.specs.Tokens as tok
 use Rattle.sql_trees.specs.Trees.{Tree}
-use Rattle.sql_expressions.specs.Reading.{expect, is_word, is_comma, is_close, after, after_comma, ◌>>=◌}
+use Rattle.sql_expressions.specs.Results.{◌>>=◌}
+use Rattle.sql_expressions.specs.Readers.{expect, is_word, is_comma, is_close, after, more_at, items_at, Reader}
 use Rattle.sql_expressions.specs.Grammar.{Ends, goes_on}
 use Rattle.sql_expressions.proofs.Complete.{expr_complete}
-use Rattle.sql_parser.specs.Readers.{past, tree_at, more_at, items_at, Reader}
+use Rattle.sql_parser.specs.Readers.{past, tree_at}
 use Rattle.sql_parser.specs.Grammar.{Is, Key, Perhaps, nothing, one_is, Commas, last_item, next_item, Shallow}
 use Rattle.sql_parser.proofs.StmtLocals.{word_is}
 
@@ -107,14 +108,14 @@ close_commas : (x : Token) → is_close x ≡ true → is_comma x ≡ false
 close_commas (tok.sign signs.Close) e = refl
 close_commas _ e = absurd cc
 
-pub no_comma_at_close : (c : At Token) (us : Tokens) → Is is_close c → after_comma (c ∷ us) ≡ None
+pub no_comma_at_close : (c : At Token) (us : Tokens) → Is is_close c → after is_comma (c ∷ us) ≡ None
 no_comma_at_close c us h = rw (close_commas c.tok h) refl
 
 key_commas : (x : Token) (w : Word) → is_word w x ≡ true → is_comma x ≡ false
 key_commas (tok.word v s) w e = refl
 key_commas _ w e = absurd cc
 
-pub no_comma_at_key : (w : Word) (t : At Token) (us : Tokens) → Key w t → after_comma (t ∷ us) ≡ None
+pub no_comma_at_key : (w : Word) (t : At Token) (us : Tokens) → Key w t → after is_comma (t ∷ us) ≡ None
 no_comma_at_key w t us h = rw (key_commas t.tok w h) refl
 
 -- ---- parts
@@ -140,7 +141,7 @@ module _ {S : Type 0} (add : S → Reader S) (Adds : S → Tokens → S → Type
   back (last_item s t ts a) h = comes s t ts a h
   back (next_item s t v ts us c a g k) h = comes s t ts a (back k h)
 
-  more_end : (n : ℕ) (s : S) (rest : Tokens) → after_comma rest ≡ None → more_at add n s rest ≡ Ok (s, rest)
+  more_end : (n : ℕ) (s : S) (rest : Tokens) → after is_comma rest ≡ None → more_at add n s rest ≡ Ok (s, rest)
   unfolding more_at
   more_end zero s rest h = refl
   more_end (suc n) s rest h = rw h refl
@@ -150,13 +151,13 @@ module _ {S : Type 0} (add : S → Reader S) (Adds : S → Tokens → S → Type
   more_on zero s v c us rest h le k = absurd (omega arith)
   more_on (suc n) s v c us rest h le k = rw h (k n (omega arith))
 
-  turns : {s v : S} {ts : Tokens} → Commas Adds s ts v → Before s → After v → (rest : Tokens) → Behind rest → after_comma rest ≡ None → (n : ℕ) → length (ts ++ rest) ≤ n → (add s (ts ++ rest) >>= λ x. more_at add n x.0 x.1) ≡ Ok (v, rest)
+  turns : {s v : S} {ts : Tokens} → Commas Adds s ts v → Before s → After v → (rest : Tokens) → Behind rest → after is_comma rest ≡ None → (n : ℕ) → length (ts ++ rest) ≤ n → (add s (ts ++ rest) >>= λ x. more_at add n x.0 x.1) ≡ Ok (v, rest)
   turns (last_item s t ts a) b f rest h e n le = rw (reads s t ts rest b a f h) (more_end n t rest e)
   turns (next_item s t v ts us c a g k) b f rest h e n le =
       let split : (ts ++ c ∷ us) ++ rest ≡ ts ++ (c ∷ (us ++ rest)) = append_assoc ts (c ∷ us) rest in
       let first : add s (ts ++ (c ∷ (us ++ rest))) ≡ Ok (t, c ∷ (us ++ rest)) = reads s t ts (c ∷ (us ++ rest)) b a (back k f) (commas c (us ++ rest) g) in
       rw (split, first) (more_on n t v c (us ++ rest) rest g (omega (arith, ap length split, length-append ts (c ∷ (us ++ rest)))) (λ m le'. turns k (goes s t ts b a) f rest h e m le'))
 
-  pub list_reads : {s v : S} {ts : Tokens} → Commas Adds s ts v → Before s → After v → (rest : Tokens) → Behind rest → after_comma rest ≡ None → items_at add s (ts ++ rest) ≡ Ok (v, rest)
+  pub list_reads : {s v : S} {ts : Tokens} → Commas Adds s ts v → Before s → After v → (rest : Tokens) → Behind rest → after is_comma rest ≡ None → items_at add s (ts ++ rest) ≡ Ok (v, rest)
   unfolding items_at
   list_reads {ts = ts} k b f rest h e = turns k b f rest h e (length (ts ++ rest)) (omega arith)

@@ -10,8 +10,8 @@ use Rattle.sql_trees.specs.declared.stmt.Column.{Column}
 use Rattle.sql_trees.specs.declared.token.Tok.{Tok}
 use Rattle.sql_trees.specs.Statements.{ColumnTree, column_of}
 use Rattle.sql_trees.specs.Tokens.{Tokens, tok_at, tok_views}
-use Rattle.sql_expressions.specs.Reading.{after, after_comma, expect, is_close, is_open, is_word, place_of, ◌>>=◌}
-use Rattle.sql_parser.specs.Readers.{items_at, keyword, more_at, name_at, some_or}
+use Rattle.sql_expressions.specs.Results.{◌>>=◌}
+use Rattle.sql_expressions.specs.Readers.{after, is_comma, expect, is_close, is_open, is_word, place_of, items_at, keyword, more_at, name_at, some_or}
 use Rattle.sql_parser.proofs.Steps.{bind_ok, ok_same}
 use Rattle.sql_parser.specs.Tables.{Placed, KeyRead, TableRead, column_at, column_behind, column_names, empty_table, is_among, key_add, key_at, limits_at, table_add, with_column, with_key}
 
@@ -64,7 +64,7 @@ module _ (last : ℕ) where
   unfolding more_at
   more_counts zero t ts x e =
       subst (λ (y : TableRead × Tokens). length y.0.columns ≤ length t.columns + 0) (ok_same (t, ts) x e) (omega arith)
-  more_counts (suc n) t ts x e = of_comma (more_counts n) (after_comma ts) e
+  more_counts (suc n) t ts x e = of_comma (more_counts n) (after is_comma ts) e
     where
       of_comma : ((u : TableRead) (us : Tokens) (y : TableRead × Tokens) → more_at (table_add last) n u us ≡ Ok y → length y.0.columns ≤ length u.columns + n) → (m : Option Tokens) → some_or (λ us. table_add last t us >>= λ y. more_at (table_add last) n y.0 y.1) (Ok (t, ts)) m ≡ Ok x → length x.0.columns ≤ length t.columns + suc n
       of_comma more None h =

@@ -1,5 +1,5 @@
 -- An expression that isn't read is refused as Syntax, LeftOut or TooDeep.
-use Rattle.std.proofs.Common.{◌≡◌, ℕ, zero, suc, ◌+◌, Bool, true, false, List, [], ◌∷◌, length, Option, Some, None, subst}
+use Rattle.std.proofs.Common.{◌≡◌, ℕ, zero, suc, ◌+◌, Bool, true, false, List, [], ◌∷◌, length, Option, Some, None, sym, ◌∙◌, subst}
 use Rattle.std.specs.Prelude.{Result, Ok, Err, max, nat_lt, if◌then◌else◌}
 use Rattle.iso_lexer.specs.declared.token.At.{At}
 use Rattle.iso_lexer.specs.declared.sql_token.SqlSign.TheVariants as signs
@@ -14,7 +14,11 @@ use Rattle.sql_trees.specs.Trees.{Tree, Plus, Column}
 use Rattle.sql_expressions.specs.declared.level.Opened.{Opened}
 use Rattle.sql_expressions.specs.declared.level.Opened.TheVariants.{Whole, Negation, Unary}
 use Rattle.sql_expressions.specs.Build.{negated}
-use Rattle.sql_expressions.specs.Reading.{Found, Found_op, Found_list, Reader, leaf, misplaced, place_of, left_out, is_call, is_open, is_close, is_and, is_not, is_is, truth_of, deeper, expect, next_op, join, chain_end, chain_turn, chain_more, chain, product_op, sum_op, concat_op, comparison_op, and_op, or_op, after_comma, list_turn, list_more, list_at, column_at, name_at, is_node, is_of, is_tail, is_from, is_more, parens_at, prim_of, prim_at, sign_at, una_of, una_at, mul_at, add_at, cat_at, in_at, between_at, not_in_of, not_in_at, not_in_from, inn_of, inn_more, inn_at, cmp_more, cmp_at, is_at, negation_at, not_at, and_at, or_at, at_level, inside, expr_at, ◌>>=◌}
+use Rattle.sql_expressions.specs.Results.{◌>>=◌}
+use Rattle.sql_expressions.specs.Readers.{misplaced, place_of, left_out, is_open, is_close, expect, after, is_comma}
+use Rattle.sql_expressions.specs.Reading.{Found, is_call, truth_of, product_op, sum_op, concat_op, comparison_op, and_op, or_op, expr_at}
+use Rattle.sql_expressions.specs.Inner.Pieces.{Found_op, Found_list, Reader, leaf, is_and, is_not, is_is, deeper, next_op, join, chain_end, chain_turn, chain_more, chain, list_turn, list_more, list_at, column_at, name_at, is_node, is_of, is_tail, is_from, is_more, parens_at, prim_of, prim_at, sign_at, una_of, una_at, mul_at, add_at, cat_at, in_at, between_at, not_in_of, not_in_at, not_in_from, inn_of, inn_more, inn_at, cmp_more, cmp_at, is_at, negation_at, not_at, and_at, or_at, at_level, inside}
+use Rattle.sql_expressions.proofs.Same.{expr_same}
 
 abbrev pub IsExprFault : SqlFault → Type 0
 IsExprFault (Syntax n) = Unit {0}
@@ -66,7 +70,7 @@ module _ (operand : Reader) (told : (ts : Tokens) → Told (operand ts)) where
   list_more_told : (n : ℕ) (l : Found_list) → Told (list_more operand n l)
   unfolding list_more
   list_more_told zero l = tt
-  list_more_told (suc n) l = list_turn_told (list_more operand n) (list_more_told n) (after_comma l.rest) l
+  list_more_told (suc n) l = list_turn_told (list_more operand n) (list_more_told n) (after is_comma l.rest) l
 
   list_told : (ts : Tokens) → Told (list_at operand ts)
   unfolding list_at
@@ -248,4 +252,4 @@ module _ (last : ℕ) where
   inside_told (suc n) l place ts = level_told (inside last n) (inside_told n) l ts
 
   pub expr_told : (ts : Tokens) (e : SqlFault) → expr_at last ts ≡ Err e → IsExprFault e
-  expr_told ts e h = subst Told h (or_told (inside last 64) (inside_told 64) ts)
+  expr_told ts e h = subst Told (sym (expr_same last ts) ∙ h) (or_told (inside last 64) (inside_told 64) ts)

@@ -20,7 +20,8 @@ use Rattle.sql_trees.specs.Statements.{StmtTree, SetTree, ItemTree, OrderTree}
 use Rattle.sql_trees.specs.Tokens.{Token, Tokens, named}
 use Rattle.sql_trees.specs.Tokens as tok
 use Rattle.sql_trees.specs.Trees.{Tree, Trees, AggTree}
-use Rattle.sql_expressions.specs.Reading.{is_word, is_open, is_close, is_comma, comparison_op, truth_of}
+use Rattle.sql_expressions.specs.Readers.{is_word, is_open, is_close, is_comma}
+use Rattle.sql_expressions.specs.Reading.{comparison_op, truth_of}
 use Rattle.sql_expressions.specs.Grammar.{IsWord, Level, OR, AND, CAT, ADD, MUL, binary, SpellsIn, ItemsIn, only, chain, negation, is, comparison, contained, between, minus, plus, parens, literal, one, next, IsLeaf, number, text, column, yes, no, null, IsIn, IsBetween, IsIs}
 use Rattle.sql_parser.specs.Blocks.{is_semicolon}
 use Rattle.sql_parser.specs.Transactions.{is_work, is_scope, is_to, is_setting}

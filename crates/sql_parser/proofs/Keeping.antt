@@ -12,8 +12,9 @@ use Rattle.sql_trees.specs.declared.expr.AggKind.{AggKind}
 use Rattle.sql_trees.specs.Statements.{StmtTree, SetTree, ItemTree, OrderTree, SelectTree, Inserts, Updates, Deletes, Selects, All, Value, Aggregate}
 use Rattle.sql_trees.specs.Tokens.{Tokens}
 use Rattle.sql_trees.specs.Trees.{Tree, AggTree, CountRows, Of}
-use Rattle.sql_expressions.specs.Reading.{after, expect, is_close, is_open, is_word, place_of, ◌>>=◌}
-use Rattle.sql_parser.specs.Readers.{items_at, keyword, name_at, tree_at, some_or, closed, added}
+use Rattle.sql_expressions.specs.Results.{◌>>=◌}
+use Rattle.sql_expressions.specs.Readers.{after, expect, is_close, is_open, is_word, place_of, items_at, keyword, name_at, some_or, closed}
+use Rattle.sql_parser.specs.Readers.{tree_at, added}
 use Rattle.sql_parser.specs.Tables.{is_among}
 use Rattle.sql_parser.specs.Changes.{Rows, fits, is_equal, set_columns, distinct_add, row_add, columns_at, insert_at, filter_at, set_value, set_add, update_at, delete_at}
 use Rattle.sql_parser.specs.Queries.{is_star, call_at, rows_of, direction_at, nulls_at, alias_at, agg_at, item_of, item_at, from_at, order_add, order_at, lock_at, is_allowed, query_of, select_at}

@@ -11,8 +11,8 @@ use Rattle.sql_trees.specs.declared.fault.SqlFault.{SqlFault}
 use Rattle.sql_trees.specs.declared.word.Word.TheVariants as words
 use Rattle.sql_trees.specs.Statements.{StmtTree, ColumnTree, KeyTree, key_name}
 use Rattle.sql_trees.specs.Tokens.{Tokens}
-use Rattle.sql_expressions.specs.Reading.{expect, is_close, is_open, is_word, ◌>>=◌}
-use Rattle.sql_parser.specs.Readers.{some_or, items_at, keyword, name_at}
+use Rattle.sql_expressions.specs.Results.{◌>>=◌}
+use Rattle.sql_expressions.specs.Readers.{expect, is_close, is_open, is_word, some_or, items_at, keyword, name_at}
 use Rattle.sql_parser.specs.Tables.{Placed, KeyRead, TableRead, is_among, placed_names, column_names, empty_table, made_name, first_place, first_lacking, text_fault, keys_fault, completed, place_among, places_in, resolved, is_kept, resolved_keys, declared, finished, table_add, create_at, created}
 use Rattle.sql_parser.specs.Kept.{all_differ, places_differ, names_at, key_fits, tree_name, table_kept}
 use Rattle.sql_trees.specs.declared.fault.SqlFault.TheVariants.{BadColumns}

@@ -15,10 +15,11 @@ use Rattle.sql_trees.specs.Statements.{StmtTree, ItemTree, OrderTree, SelectTree
 use Rattle.sql_trees.specs.Tokens.{Token, Tokens, named}
 use Rattle.sql_trees.specs.Tokens as tok
 use Rattle.sql_trees.specs.Trees.{Tree, AggTree, CountRows, Of}
-use Rattle.sql_expressions.specs.Reading.{expect, is_word, is_open, is_close, after, ◌>>=◌}
+use Rattle.sql_expressions.specs.Results.{◌>>=◌}
+use Rattle.sql_expressions.specs.Readers.{expect, is_word, is_open, is_close, after, keyword, name_at, items_at, Reader, some_or}
 use Rattle.sql_expressions.specs.Laws.{head}
 use Rattle.sql_expressions.proofs.Local.{first_is, head_after}
-use Rattle.sql_parser.specs.Readers.{keyword, name_at, tree_at, items_at, Reader, some_or, added}
+use Rattle.sql_parser.specs.Readers.{tree_at, added}
 use Rattle.sql_parser.specs.Tables.{TableRead, keys_fault, column_names, created}
 use Rattle.sql_parser.specs.Changes.{filter_at}
 use Rattle.sql_parser.specs.Queries.{is_star, agg_kind, call_at, maybe_name, direction_at, alias_at, agg_at, item_of, item_at, from_at, nulls_at, order_add, order_at, lock_at, is_allowed, query_of, select_at}

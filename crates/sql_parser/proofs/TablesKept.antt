@@ -10,8 +10,9 @@ use Rattle.sql_trees.specs.declared.kind.Kind.{Kind}
 use Rattle.sql_trees.specs.Statements.{ColumnTree}
 use Rattle.sql_trees.specs.Tokens.{Token, Tokens, named}
 use Rattle.sql_trees.specs.Tokens as tok
-use Rattle.sql_expressions.specs.Reading.{after, after_comma, expect, misplaced, is_close, is_open, is_word, place_of, ◌>>=◌}
-use Rattle.sql_parser.specs.Readers.{items_at, keyword, name_at, some_or, misplaced_word}
+use Rattle.sql_expressions.specs.Results.{◌>>=◌}
+use Rattle.sql_expressions.specs.Readers.{after, is_comma, expect, misplaced, is_close, is_open, is_word, place_of, items_at, keyword, name_at, some_or}
+use Rattle.sql_parser.specs.Readers.{misplaced_word}
 use Rattle.sql_parser.specs.Tables.{Placed, KeyRead, TableRead, Constraints, is_among, placed_names, column_names, empty_table, with_key, with_column, key_limit, kind_of, kind_at, key_add, key_at, constraints_at, limits_at, column_behind, column_at, table_add}
 use Rattle.sql_parser.specs.Inner.OneConstraint.{constraint_of, constraint_at, constrained}
 use Rattle.sql_parser.specs.Kept.{all_differ}
@@ -80,7 +81,7 @@ module _ (last : ℕ) where
         differ = ap all_differ (map-append (λ (n : Placed). n.name) ns (one_placed a.0.0 ts ∷ [])) ∙ differ_push (placed_names ns) a.0.0 k.differ b.0;
       })
 
-  columns_comma : (bound : ℕ) (ns : List Placed) (ts us : Tokens) → ColumnsWithin bound ns ts → after_comma ts ≡ Some us → ColumnsWithin bound ns us
+  columns_comma : (bound : ℕ) (ns : List Placed) (ts us : Tokens) → ColumnsWithin bound ns ts → after is_comma ts ≡ Some us → ColumnsWithin bound ns us
   columns_comma bound ns ts us k e = record { left = omega (arith, k.left, comma_shortens ts us e); differ = k.differ }
 
   -- one more key, for a token at least

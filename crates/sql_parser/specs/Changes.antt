@@ -7,8 +7,8 @@ use Rattle.sql_trees.specs.Statements.{StmtTree, SetTree, Inserts, Updates, Dele
 use Rattle.sql_trees.specs.Tokens.{Token, Tokens}
 use Rattle.sql_trees.specs.Tokens as tok
 use Rattle.sql_trees.specs.Trees.{Tree}
-use Rattle.sql_expressions.specs.Reading.{place_of, expect, is_open, is_close, is_word}
-use Rattle.sql_parser.specs.Readers.{Reader, gives, made, either, maybe, keyword, closed, name_at, tree_at, items_at, added, ◌>>=◌, ◌>>◌}
+use Rattle.sql_expressions.specs.Readers.{place_of, expect, is_open, is_close, is_word, Reader, gives, made, either, keyword, closed, name_at, items_at, ◌>>=◌, ◌>>◌}
+use Rattle.sql_parser.specs.Readers.{maybe, tree_at, added}
 use Rattle.sql_parser.specs.Tables.{new_name}
 
 -- the rows of VALUES so far, and how many values each has to have

@@ -15,7 +15,7 @@ use Rattle.sql_trees.specs.Statements.{StmtTree, Begin, Commit, Rollback, SetTra
 use Rattle.sql_trees.specs.Statements.{SetTree, ItemTree, OrderTree, All, Value, Aggregate}
 use Rattle.sql_trees.specs.Tokens.{Token, Tokens, named}
 use Rattle.sql_trees.specs.Trees.{Tree, AggTree, CountRows, Of}
-use Rattle.sql_expressions.specs.Reading.{is_word, is_open, is_close, is_comma}
+use Rattle.sql_expressions.specs.Readers.{is_word, is_open, is_close, is_comma}
 use Rattle.sql_expressions.specs.Grammar.{OR, SpellsIn}
 use Rattle.sql_parser.specs.Transactions.{is_work, is_scope, is_to, is_setting}
 use Rattle.sql_parser.specs.Tables.{Placed, TableRead, Constraints, empty_table, with_key, with_column, key_limit, kind_of, created}

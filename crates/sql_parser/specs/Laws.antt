@@ -6,7 +6,7 @@ use Rattle.sql_trees.specs.declared.fault.SqlFault.{SqlFault}
 use Rattle.sql_trees.specs.declared.fault.SqlFault.TheVariants.{LeftOut, TooMany, BadColumns, DdlInSession}
 use Rattle.sql_trees.specs.Statements.{StmtTree, SelectTree, Selects}
 use Rattle.sql_trees.specs.Tokens.{Token, Tokens}
-use Rattle.sql_expressions.specs.Reading.{place_of}
+use Rattle.sql_expressions.specs.Readers.{place_of}
 use Rattle.sql_expressions.specs.Laws.{head}
 use Rattle.sql_parser.specs.declared.block.Role.{Role}
 use Rattle.sql_parser.specs.Blocks.{is_session, is_ddl, is_semicolon, block_at, whole_at}

@@ -13,8 +13,8 @@ use Rattle.sql_trees.specs.Statements.{StmtTree, ItemTree, All, Value, Aggregate
 use Rattle.sql_trees.specs.Tokens.{Token, Tokens, named}
 use Rattle.sql_trees.specs.Tokens as tok
 use Rattle.sql_trees.specs.Trees.{AggTree, CountRows, Of}
-use Rattle.sql_expressions.specs.Reading.{after, expect, is_open, is_close, is_word}
-use Rattle.sql_parser.specs.Readers.{Reader, gives, made, some_or, either, maybe, keyword, closed, name_at, tree_at, items_at, added, ◌>>=◌, ◌>>◌}
+use Rattle.sql_expressions.specs.Readers.{after, expect, is_open, is_close, is_word, Reader, gives, made, some_or, either, keyword, closed, name_at, items_at, ◌>>=◌, ◌>>◌}
+use Rattle.sql_parser.specs.Readers.{maybe, tree_at, added}
 use Rattle.sql_parser.specs.Changes.{filter_at}
 
 abbrev pub is_star : Token → Bool

@@ -10,8 +10,9 @@ use Rattle.sql_trees.specs.declared.kind.Kind.TheVariants as kinds
 use Rattle.sql_trees.specs.Statements.{StmtTree, ColumnTree, KeyTree, Create, DropTables, key_name}
 use Rattle.sql_trees.specs.Tokens.{Token, Tokens}
 use Rattle.sql_trees.specs.Tokens as tok
-use Rattle.sql_expressions.specs.Reading.{after, place_of, expect, is_open, is_word, ◌>>=◌ as and_then}
-use Rattle.sql_parser.specs.Readers.{Reader, gives, made, some_or, either, one_at, keyword, closed, misplaced_word, name_at, items_at, added, ◌>>=◌, ◌>>◌}
+use Rattle.sql_expressions.specs.Results.{◌>>=◌ as and_then}
+use Rattle.sql_expressions.specs.Readers.{after, place_of, expect, is_open, is_word, Reader, gives, made, some_or, either, one_at, keyword, closed, name_at, items_at, ◌>>=◌, ◌>>◌}
+use Rattle.sql_parser.specs.Readers.{misplaced_word, added}
 
 -- the name is one of these
 abbrev pub is_among : List ℕ → List (List ℕ) → Bool

@@ -4,7 +4,7 @@ ghost use Rattle.std.specs.List.{list_all};
 ghost use Rattle.std.specs.Prelude.{◌≡◌, ◌↔◌, true, ◌<◌, ◌≤◌, ◌^◌, [], IfOk, IsTrue, length, map, IfSome, vec_len, option_map};
 ghost use Rattle.sql_trees.specs.Statements.{stmt_of};
 ghost use Rattle.sql_trees.specs.Tokens.{tok_view, tok_views};
-ghost use Rattle.sql_expressions.specs.Reading.{Gives};
+ghost use Rattle.sql_expressions.specs.Results.{Gives};
 ghost use Rattle.sql_parser.specs.Inner.Calls.{seen};
 ghost use Rattle.sql_parser.specs.Texts.{Parses};
 ghost use Rattle.sql_parser.specs.Blocks.{is_semicolon, whole_at, piece_at, block_at};

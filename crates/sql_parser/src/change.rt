@@ -4,8 +4,8 @@ ghost use Rattle.std.specs.Prelude.{◌≡◌, ◌≤◌, [], IfOk, length, map,
 ghost use Rattle.sql_trees.specs.Statements.{name_of, names_of, set_of, stmt_of};
 ghost use Rattle.sql_trees.specs.Tokens.{tok_view, tok_views};
 ghost use Rattle.sql_trees.specs.Trees.{tree_of};
-ghost use Rattle.sql_expressions.specs.Reading.{Gives, expect};
-ghost use Rattle.sql_parser.specs.Readers.{items_at};
+ghost use Rattle.sql_expressions.specs.Results.{Gives};
+ghost use Rattle.sql_expressions.specs.Readers.{expect, items_at};
 ghost use Rattle.sql_parser.specs.Tables.{is_among};
 ghost use Rattle.sql_parser.specs.Changes.{is_equal, set_columns, set_value, set_add, columns_at, filter_at, insert_at, update_at, delete_at};
 

@@ -4,10 +4,10 @@ ghost use Rattle.std.specs.Prelude.{◌≡◌, ◌<◌, ◌≤◌, IfOk, IfSome,
 ghost use Rattle.sql_trees.specs.Tokens.{tok_view, tok_views};
 ghost use Rattle.sql_trees.specs.Trees.{tree_of};
 ghost use Rattle.sql_trees.specs.Statements.{name_of};
-ghost use Rattle.sql_expressions.specs.Reading.{Gives, expect, is_open, is_close};
+ghost use Rattle.sql_expressions.specs.Results.{Gives};
+ghost use Rattle.sql_expressions.specs.Readers.{expect, is_open, is_close, after, is_word, keyword, name_at};
 ghost use Rattle.sql_parser.specs.Tables.{is_among};
-ghost use Rattle.sql_expressions.specs.Reading.{after, is_word};
-ghost use Rattle.sql_parser.specs.Readers.{keyword, misplaced_word, name_at, tree_at};
+ghost use Rattle.sql_parser.specs.Readers.{misplaced_word, tree_at};
 
 use iso_lexer::{At, Name, SqlSign, same_name};
 use sql_expressions::{Parser, Tokens, parse_expr};

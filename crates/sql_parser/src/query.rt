@@ -5,9 +5,9 @@ ghost use Rattle.std.specs.List.{list_any, list_all};
 ghost use Rattle.sql_trees.specs.Statements.{name_of, stmt_of, item_of, order_of, select_of};
 ghost use Rattle.sql_trees.specs.Tokens.{tok_view, tok_views};
 ghost use Rattle.sql_trees.specs.Trees.{agg_of};
-ghost use Rattle.sql_expressions.specs.Reading.{Gives};
-ghost use Rattle.sql_expressions.specs.Reading.{after};
-ghost use Rattle.sql_parser.specs.Readers.{items_at, added};
+ghost use Rattle.sql_expressions.specs.Results.{Gives};
+ghost use Rattle.sql_expressions.specs.Readers.{after, items_at};
+ghost use Rattle.sql_parser.specs.Readers.{added};
 ghost use Rattle.sql_parser.specs.Inner.Calls.{seen};
 ghost use Rattle.sql_parser.specs.Queries.{is_star, agg_kind, call_at, rows_of, maybe_name, direction_at, alias_at, agg_at, item_at, from_at, nulls_at, order_add, order_at, lock_at, is_aggregate, is_all, is_sorted, is_allowed, select_at};
 

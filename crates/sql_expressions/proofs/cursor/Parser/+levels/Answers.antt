@@ -1,7 +1,7 @@
 use Rattle.std.proofs.Common.{refl, arith, rules, sym}
 use Rattle.std.proofs.lemmas.Result.{err_from_is_err_and}
 use Rattle.sql_trees.specs.Tokens.{tok_views}
-use Rattle.sql_expressions.specs.Reading.{in_at}
+use Rattle.sql_expressions.specs.Inner.Pieces.{in_at}
 use Rattle.sql_expressions.proofs.Views.{in_tree}
 use Rattle.sql_expressions.proofs.Shortens.{shortens}
 use Rattle.sql_expressions.proofs.Chains.{passed_on, starts, starts_not, ends, no_room, no_operand, no_node, goes_on, list_starts, list_starts_not, list_ends, list_stops, list_next, comma_shortens, chain_at_is, opens}
