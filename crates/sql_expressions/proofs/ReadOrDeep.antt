@@ -14,7 +14,7 @@ use Rattle.sql_trees.specs.Tokens as tok
 use Rattle.sql_trees.specs.Trees.{Tree, Trees, more, none, Plus, Not, Binary, Is, In, Between}
 use Rattle.sql_expressions.specs.Build.{negated, push}
 use Rattle.sql_expressions.specs.Results.{◌>>=◌}
-use Rattle.sql_expressions.specs.Readers.{expect, is_open, is_close, place_of, after, is_comma}
+use Rattle.sql_expressions.specs.Readers.{expect, is_sign, place_of, after}
 use Rattle.sql_expressions.specs.Reading.{Found, comparison_op, truth_of, expr_at}
 use Rattle.sql_expressions.specs.Inner.Pieces.{Found_list, Reader, deeper, join, next_op, is_and, parens_at, prim_at, sign_at, una_at, mul_at, add_at, cat_at, in_at, between_at, inn_more, inn_at, cmp_more, cmp_at, is_more, is_at, negation_at, not_at, and_at, or_at, inside, list_at, list_more, chain_more}
 use Rattle.sql_expressions.specs.Inner.Pieces as reading
@@ -236,7 +236,7 @@ module _ (last : ℕ) where
       (lists_on (inside last n Whole place) (fs ++ (t ∷ (bs ++ rest))) rest t (bs ++ rest) h (omega (arith, length-append bs rest)) (k n place (t ∷ (bs ++ rest)) (rw h refl)) (opened_whole n place bs rest r s))
 
   after_list : (n : ℕ) (neg : Bool) (place from : ℕ) (ts rest : Tokens) (u : At Token) (e : Tree) (c : ℕ) → u.tok ≡ tok.sign signs.Close → Lists (inside last n Whole from) ts (u ∷ rest) →
-      Fits rest (list_at (inside last n Whole from) ts >>= λ items. deeper place (max c items.depth) >>= λ d. expect last is_close items.rest >>= λ after. Ok (record { tree = In e neg items.trees; depth = d; rest = after }))
+      Fits rest (list_at (inside last n Whole from) ts >>= λ items. deeper place (max c items.depth) >>= λ d. expect last (is_sign signs.Close) items.rest >>= λ after. Ok (record { tree = In e neg items.trees; depth = d; rest = after }))
   unfolding list_more
   after_list n neg place from ts rest u e c g (stops q h) = deep q (rw h refl)
   after_list n neg place from ts rest u e c g (lists zero v le h) = rw (h, g) (fits_deeper rest place (max c v.1) _ (λ x. read (In e neg v.0, x) refl))

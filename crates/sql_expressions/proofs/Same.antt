@@ -16,8 +16,8 @@ use Rattle.sql_expressions.specs.declared.level.Opened.{Opened}
 use Rattle.sql_expressions.specs.declared.level.Opened.TheVariants.{Whole, Negation, Unary}
 use Rattle.sql_expressions.specs.Build.{negated, push}
 use Rattle.sql_expressions.specs.Results.{◌>>=◌}
-use Rattle.sql_expressions.specs.Readers.{Reader, some_or, is_word, is_open, is_close, is_comma, after, either, more_at, items_at, place_of, misplaced, expect, keyword, closed}
-use Rattle.sql_expressions.specs.Reading.{Found, Part, Parts, fits, node, operation, item_add, sign_of, literal_of, truth_of, comparison_op, product_op, sum_op, concat_op, and_op, or_op, is_call, truth_at, opened, expr_at}
+use Rattle.sql_expressions.specs.Readers.{Reader, some_or, is_word, is_sign, after, either, more_at, items_at, place_of, misplaced, expect, keyword, closed}
+use Rattle.sql_expressions.specs.Reading.{Found, Part, Parts, fits, node, operation, item_add, literal_of, truth_of, comparison_op, product_op, sum_op, concat_op, and_op, or_op, is_call, truth_at, opened, expr_at}
 use Rattle.sql_expressions.specs.Reading as reading
 use Rattle.sql_expressions.specs.Inner.Pieces.{Found_op, Found_list, leaf, is_and, is_not, is_is, deeper, join, found_op, next_op, chain_end, chain_turn, chain_more, chain, list_turn, list_more, list_at, column_at, name_at, is_node, is_of, is_tail, is_more, parens_at, prim_of, prim_at, sign_at, una_of, una_at, mul_at, add_at, cat_at, in_at, between_at, not_in_of, not_in_at, not_in_from, inn_of, inn_more, inn_at, cmp_more, cmp_at, is_at, negation_at, not_at, and_at, or_at, at_level, inside}
 
@@ -151,7 +151,7 @@ module _ (read : Reader Part) (operand : Tokens → Result Found SqlFault) (same
   unfolding more_at list_more
   more_same zero l ts = refl
   more_same (suc n) l [] = refl
-  more_same (suc n) l (t ∷ ts) = of_test (more_same n) (is_comma t.tok)
+  more_same (suc n) l (t ∷ ts) = of_test (more_same n) (is_sign signs.Comma t.tok)
     where
       of_test : ((m : Parts) (us : Tokens) → SameList (more_at (item_add read) n m us) (list_more operand n (as_list (m, us)))) → (b : Bool) → SameList (some_or (λ us. item_add read l us >>= λ x. more_at (item_add read) n x.0 x.1) (Ok (l, t ∷ ts)) (if b then Some ts else None)) (list_turn operand (list_more operand n) (if b then Some ts else None) (as_list (l, t ∷ ts)))
       of_test on true = add_then (read ts) (operand ts) l (λ x. more_at (item_add read) n x.0 x.1) (λ e. list_more operand n (record { trees = push l.trees e.tree; depth = max l.depth e.depth; rest = e.rest })) (same ts) (λ x. on (grown l x.0) x.1)
@@ -186,9 +186,9 @@ module _ (last : ℕ) where
       either_same (is_word words.Is) (is_is t.tok) t ts (λ us. fits t.span.start a.depth us >>= either (is_word words.Not) (truth_at last true a) (truth_at last false a)) (λ us. Ok (a, us)) _ _ (is_is_word t.tok)
       (fits_then t.span.start a.depth ts (either (is_word words.Not) (truth_at last true a) (truth_at last false a)) (λ d. is_tail last a.tree d ts) (is_tail_same a ts)) refl
 
-  call_same : (n : List ℕ) (t : At Token) (ts : Tokens) → Same (either is_open (λ vs. Err (LeftOut (place_of last (if is_some (after is_call (t ∷ ts)) then t ∷ ts else ts)))) (reading.leaf (Column n)) ts) (column_at last t n ts)
+  call_same : (n : List ℕ) (t : At Token) (ts : Tokens) → Same (either (is_sign signs.Open) (λ vs. Err (LeftOut (place_of last (if is_some (after is_call (t ∷ ts)) then t ∷ ts else ts)))) (reading.leaf (Column n)) ts) (column_at last t n ts)
   call_same n t [] = refl
-  call_same n t (u ∷ us) = of_test (is_call t.tok) (is_open u.tok)
+  call_same n t (u ∷ us) = of_test (is_call t.tok) (is_sign signs.Open u.tok)
     where
       of_test : (c b : Bool) → Same (some_or (λ vs. Err (LeftOut (place_of last (if is_some (if c then Some (u ∷ us) else None) then t ∷ u ∷ us else u ∷ us)))) (Ok (part (Column n) 0, u ∷ us)) (if b then Some us else None)) (if b then Err (LeftOut (if c then t.span.start else u.span.start)) else leaf (Column n) (u ∷ us))
       of_test true true = refl
@@ -199,7 +199,7 @@ module _ (last : ℕ) where
   column_same : (t : At Token) (ts : Tokens) → Same (reading.column_at last (t ∷ ts)) (name_at last (named t.tok) t ts)
   column_same t ts = of_name (named t.tok)
     where
-      of_name : (o : Option (List ℕ)) → (let r : Result (List ℕ × Tokens) SqlFault = some_or (λ n. Ok (n, ts)) (Err (misplaced last (t ∷ ts))) o in Same (r >>= λ y. either is_open (λ vs. Err (LeftOut (place_of last (if is_some (after is_call (t ∷ ts)) then t ∷ ts else y.1)))) (reading.leaf (Column y.0)) y.1) (name_at last o t ts))
+      of_name : (o : Option (List ℕ)) → (let r : Result (List ℕ × Tokens) SqlFault = some_or (λ n. Ok (n, ts)) (Err (misplaced last (t ∷ ts))) o in Same (r >>= λ y. either (is_sign signs.Open) (λ vs. Err (LeftOut (place_of last (if is_some (after is_call (t ∷ ts)) then t ∷ ts else y.1)))) (reading.leaf (Column y.0)) y.1) (name_at last o t ts))
       of_name None = refl
       of_name (Some n) = call_same n t ts
 
@@ -213,11 +213,11 @@ module _ (last : ℕ) where
 
   -- a part before a closing parenthesis
   abbrev shut : Part × Tokens → Result (Part × Tokens) SqlFault
-  shut x = expect last is_close x.1 >>= λ rest. Ok (x.0, rest)
+  shut x = expect last (is_sign signs.Close) x.1 >>= λ rest. Ok (x.0, rest)
 
-  shut_same : (place d : ℕ) (e : Tree) (ts : Tokens) → Same (node place d e ts >>= shut) (deeper place d >>= λ x. expect last is_close ts >>= λ rest. Ok (record { tree = e; depth = x; rest = rest }))
-  shut_same place d e ts = node_then place d e ts shut (λ x. expect last is_close ts >>= λ rest. Ok (record { tree = e; depth = x; rest = rest }))
-      (pass_then (expect last is_close ts) (λ rest. Ok (part e (d + 1), rest)) (λ rest. Ok (record { tree = e; depth = d + 1; rest = rest })) (λ us. refl))
+  shut_same : (place d : ℕ) (e : Tree) (ts : Tokens) → Same (node place d e ts >>= shut) (deeper place d >>= λ x. expect last (is_sign signs.Close) ts >>= λ rest. Ok (record { tree = e; depth = x; rest = rest }))
+  shut_same place d e ts = node_then place d e ts shut (λ x. expect last (is_sign signs.Close) ts >>= λ rest. Ok (record { tree = e; depth = x; rest = rest }))
+      (pass_then (expect last (is_sign signs.Close) ts) (λ rest. Ok (part e (d + 1), rest)) (λ rest. Ok (record { tree = e; depth = d + 1; rest = rest })) (λ us. refl))
 
   module _ (within : Opened → ℕ → Reader Part) (inside' : Opened → ℕ → Tokens → Result Found SqlFault) (same : (level : Opened) (place : ℕ) (ts : Tokens) → Same (within level place ts) (inside' level place ts)) where
     opened_same : (level : Opened) (make : Tree → Tree) (place : ℕ) (ts : Tokens) → Same (opened last within level make place ts) (inside' level place ts >>= λ e. deeper place e.depth >>= λ d. Ok (record { tree = make e.tree; depth = d; rest = e.rest }))
@@ -228,13 +228,13 @@ module _ (last : ℕ) where
     unfolding parens_at
     parens_same place ts =
         ap seen (bind_assoc (within Whole place ts) (λ x. node place x.0.depth x.0.tree x.1) shut)
-        ∙ then_same (within Whole place ts) (inside' Whole place ts) (λ x. node place x.0.depth x.0.tree x.1 >>= shut) (λ e. deeper place e.depth >>= λ d. expect last is_close e.rest >>= λ rest. Ok (record { tree = e.tree; depth = d; rest = rest })) (same Whole place ts) (λ x. shut_same place x.0.depth x.0.tree x.1)
+        ∙ then_same (within Whole place ts) (inside' Whole place ts) (λ x. node place x.0.depth x.0.tree x.1 >>= shut) (λ e. deeper place e.depth >>= λ d. expect last (is_sign signs.Close) e.rest >>= λ rest. Ok (record { tree = e.tree; depth = d; rest = rest })) (same Whole place ts) (λ x. shut_same place x.0.depth x.0.tree x.1)
 
     prim_same : (ts : Tokens) → Same (reading.prim_at last within ts) (prim_at last inside' ts)
     prim_same [] = refl
     prim_same (t ∷ ts) = of_tok t.tok (column_same t ts)
       where
-        of_tok : (x : Token) → Same (reading.column_at last (t ∷ ts)) (name_at last (named x) t ts) → Same (some_or (closed last (λ e. e) (opened last within Whole (λ e. e) t.span.start)) (some_or (λ e. reading.leaf e ts) (reading.column_at last (t ∷ ts)) (literal_of x)) (if is_open x then Some ts else None)) (prim_of last inside' x t ts)
+        of_tok : (x : Token) → Same (reading.column_at last (t ∷ ts)) (name_at last (named x) t ts) → Same (some_or (closed last (λ e. e) (opened last within Whole (λ e. e) t.span.start)) (some_or (λ e. reading.leaf e ts) (reading.column_at last (t ∷ ts)) (literal_of x)) (if is_sign signs.Open x then Some ts else None)) (prim_of last inside' x t ts)
         of_tok (tok.number n) c = refl
         of_tok (tok.string s) c = refl
         of_tok (tok.word words.True s) c = refl
@@ -248,7 +248,7 @@ module _ (last : ℕ) where
     una_same [] = prim_same []
     una_same (t ∷ ts) = of_tok t.tok
       where
-        of_tok : (x : Token) → Same (some_or (λ make. opened last within Unary make t.span.start ts) (reading.prim_at last within (t ∷ ts)) (sign_of x)) (una_of last inside' x t ts)
+        of_tok : (x : Token) → Same (some_or (opened last within Unary negated t.span.start) (some_or (opened last within Unary Plus t.span.start) (reading.prim_at last within (t ∷ ts)) (if is_sign signs.Plus x then Some ts else None)) (if is_sign signs.Minus x then Some ts else None)) (una_of last inside' x t ts)
         of_tok (tok.sign signs.Minus) = opened_same Unary negated t.span.start ts
         of_tok (tok.sign signs.Plus) = opened_same Unary Plus t.span.start ts
         of_tok _ = prim_same (t ∷ ts)
@@ -266,15 +266,15 @@ module _ (last : ℕ) where
     cat_same ts = chain_same (reading.add_at last within) (add_at last inside') add_same last concat_op ts
 
     -- a list, its node and the closing parenthesis
-    in_list_same : (neg : Bool) (place from : ℕ) (a : Part) (ts : Tokens) → Same (closed last (λ e. e) (λ us. reading.list_at last within from us >>= λ x. node place (max a.depth x.0.depth) (In a.tree neg x.0.trees) x.1) ts) (list_at (inside' Whole from) ts >>= λ items. deeper place (max a.depth items.depth) >>= λ d. expect last is_close items.rest >>= λ rest. Ok (record { tree = In a.tree neg items.trees; depth = d; rest = rest }))
+    in_list_same : (neg : Bool) (place from : ℕ) (a : Part) (ts : Tokens) → Same (closed last (λ e. e) (λ us. reading.list_at last within from us >>= λ x. node place (max a.depth x.0.depth) (In a.tree neg x.0.trees) x.1) ts) (list_at (inside' Whole from) ts >>= λ items. deeper place (max a.depth items.depth) >>= λ d. expect last (is_sign signs.Close) items.rest >>= λ rest. Ok (record { tree = In a.tree neg items.trees; depth = d; rest = rest }))
     in_list_same neg place from a ts =
         ap seen (bind_assoc (reading.list_at last within from ts) (λ x. node place (max a.depth x.0.depth) (In a.tree neg x.0.trees) x.1) shut)
-        ∙ list_then (reading.list_at last within from ts) (list_at (inside' Whole from) ts) (λ x. node place (max a.depth x.0.depth) (In a.tree neg x.0.trees) x.1 >>= shut) (λ items. deeper place (max a.depth items.depth) >>= λ d. expect last is_close items.rest >>= λ rest. Ok (record { tree = In a.tree neg items.trees; depth = d; rest = rest })) (list_same (within Whole from) (inside' Whole from) (same Whole from) ts) (λ x. shut_same place (max a.depth x.0.depth) (In a.tree neg x.0.trees) x.1)
+        ∙ list_then (reading.list_at last within from ts) (list_at (inside' Whole from) ts) (λ x. node place (max a.depth x.0.depth) (In a.tree neg x.0.trees) x.1 >>= shut) (λ items. deeper place (max a.depth items.depth) >>= λ d. expect last (is_sign signs.Close) items.rest >>= λ rest. Ok (record { tree = In a.tree neg items.trees; depth = d; rest = rest })) (list_same (within Whole from) (inside' Whole from) (same Whole from) ts) (λ x. shut_same place (max a.depth x.0.depth) (In a.tree neg x.0.trees) x.1)
 
     in_same : (neg : Bool) (place : ℕ) (a : Part) (ts : Tokens) → Same (reading.in_at last within neg place a ts) (in_at last inside' neg place a.tree a.depth ts)
     unfolding reading.in_at in_at
     in_same neg place a ts =
-        fits_then place a.depth ts _ _ (pass_then (expect last is_open ts) _ _ (λ us. in_list_same neg place (place_of last ts) a us))
+        fits_then place a.depth ts _ _ (pass_then (expect last (is_sign signs.Open) ts) _ _ (λ us. in_list_same neg place (place_of last ts) a us))
 
     between_same : (neg : Bool) (place : ℕ) (a : Part) (ts : Tokens) → Same (reading.between_at last within neg place a ts) (between_at last inside' neg place a.tree a.depth ts)
     unfolding reading.between_at between_at

@@ -1,6 +1,9 @@
 -- Reading from left to right with the first fault that is met: words of reading, for expressions and for statements.
 use Rattle.std.specs.Prelude.{ℕ, zero, suc, Bool, true, false, List, [], ◌∷◌, length, Option, Some, None, Result, Ok, Err, if◌then◌else◌}
+use denote.Enum.Bare.{sameb}
+use Rattle.iso_lexer.specs.declared.sql_token.SqlSign.{SqlSign}
 use Rattle.iso_lexer.specs.declared.sql_token.SqlSign.TheVariants as signs
+use Rattle.iso_lexer.specs.contracts.sql_token.SqlSign.{the_type}
 use Rattle.sql_trees.specs.declared.fault.SqlFault.{SqlFault}
 use Rattle.sql_trees.specs.declared.fault.SqlFault.TheVariants.{Syntax, LeftOut}
 use Rattle.sql_trees.specs.declared.word.Word.{Word}
@@ -43,17 +46,10 @@ abbrev pub is_word : Word → Token → Bool
 is_word w (tok.word v s) = same_word v w
 is_word w _ = false
 
-abbrev pub is_open : Token → Bool
-is_open (tok.sign signs.Open) = true
-is_open _ = false
-
-abbrev pub is_close : Token → Bool
-is_close (tok.sign signs.Close) = true
-is_close _ = false
-
-abbrev pub is_comma : Token → Bool
-is_comma (tok.sign signs.Comma) = true
-is_comma _ = false
+-- the token is this sign
+abbrev pub is_sign : SqlSign → Token → Bool
+is_sign s (tok.sign r) = sameb the_type r s
+is_sign s _ = false
 
 -- a token that stands for a part that is left out
 abbrev pub left_out : Token → Bool
@@ -86,7 +82,7 @@ one_at fault says (t ∷ ts) = some_or (λ x. Ok (x, ts)) (Err (fault (t ∷ ts)
 -- one more item behind each comma, as many as there are tokens at most
 unfoldable pub more_at : {S : Type 0} → (S → Reader S) → ℕ → S → Reader S
 more_at add zero s ts = Ok (s, ts)
-more_at add (suc n) s ts = either is_comma (add s >>= more_at add n) (gives s) ts
+more_at add (suc n) s ts = either (is_sign signs.Comma) (add s >>= more_at add n) (gives s) ts
 
 -- items with commas between them, each added to what was read before it
 unfoldable pub items_at : {S : Type 0} → (S → Reader S) → S → Reader S
@@ -116,7 +112,7 @@ module _ (last : ℕ) where
 
   -- what is made of what stands before a closing parenthesis
   abbrev pub closed : {X Y : Type 0} → (X → Y) → Reader X → Reader Y
-  closed make reader ts = and_then (reader ts) (λ x. and_then (expect is_close x.1) (λ rest. Ok (make x.0, rest)))
+  closed make reader ts = and_then (reader ts) (λ x. and_then (expect (is_sign signs.Close) x.1) (λ rest. Ok (make x.0, rest)))
 
   -- a name
   abbrev pub name_at : Reader (List ℕ)

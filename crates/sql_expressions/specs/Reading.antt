@@ -19,7 +19,7 @@ use Rattle.sql_expressions.specs.declared.level.Opened.TheVariants.{Whole, Negat
 use Rattle.sql_expressions.specs.declared.parsed.Parsed.{Parsed}
 use Rattle.sql_expressions.specs.Build.{negated, push}
 use Rattle.sql_expressions.specs.Results.{◌>>=◌ as and_then}
-use Rattle.sql_expressions.specs.Readers.{Reader, ◌>>=◌, ◌>>◌, gives, is_word, is_open, after, either, by_first, one_at, items_at, place_of, misplaced, expect, keyword, closed, name_at}
+use Rattle.sql_expressions.specs.Readers.{Reader, ◌>>=◌, ◌>>◌, gives, is_word, is_sign, after, either, by_first, one_at, items_at, place_of, misplaced, expect, keyword, closed, name_at}
 
 -- an expression, its depth as it was written, and the tokens after it
 pub record Found : Type 0 where
@@ -66,12 +66,6 @@ comparison_op (tok.sign signs.AtMost) = Some op.AtMost
 comparison_op (tok.sign signs.Greater) = Some op.Greater
 comparison_op (tok.sign signs.AtLeast) = Some op.AtLeast
 comparison_op _ = None
-
--- what a sign before an operand makes of it
-abbrev pub sign_of : Token → Option (Tree → Tree)
-sign_of (tok.sign signs.Minus) = Some negated
-sign_of (tok.sign signs.Plus) = Some Plus
-sign_of _ = None
 
 abbrev pub truth_of : Token → Option Truth
 truth_of (tok.word words.Null s) = Some truth.Null
@@ -140,7 +134,7 @@ module _ (last : ℕ) where
 
   -- a name, with no call behind it: the name of an aggregate is left out there, elsewhere the call
   abbrev pub column_at : Reader Part
-  column_at ts = (name_at last >>= λ n us. either is_open (λ vs. Err (LeftOut (place_of last (if is_some (after is_call ts) then ts else us)))) (leaf (Column n)) us) ts
+  column_at ts = (name_at last >>= λ n us. either (is_sign signs.Open) (λ vs. Err (LeftOut (place_of last (if is_some (after is_call ts) then ts else us)))) (leaf (Column n)) us) ts
 
   -- what an IS, or an IS NOT, asks of this operand
   abbrev pub truth_at : Bool → Part → Reader Part
@@ -158,10 +152,10 @@ module _ (last : ℕ) where
 
     -- an expression in parentheses, a literal, or a column
     abbrev pub prim_at : Reader Part
-    prim_at ts = either is_open (closed last (λ e. e) (opened Whole (λ e. e) (place_of last ts))) (by_first literal_of leaf column_at) ts
+    prim_at ts = either (is_sign signs.Open) (closed last (λ e. e) (opened Whole (λ e. e) (place_of last ts))) (by_first literal_of leaf column_at) ts
 
     abbrev pub una_at : Reader Part
-    una_at ts = by_first sign_of (λ make. opened Unary make (place_of last ts)) prim_at ts
+    una_at ts = either (is_sign signs.Minus) (opened Unary negated (place_of last ts)) (either (is_sign signs.Plus) (opened Unary Plus (place_of last ts)) prim_at) ts
 
     unfoldable pub mul_at : Reader Part
     mul_at = chain una_at product_op
@@ -179,7 +173,7 @@ module _ (last : ℕ) where
     -- what stands behind IN, or NOT IN, which makes the node at this place
     unfoldable pub in_at : Bool → ℕ → Part → Reader Part
     in_at negated place a ts =
-        (fits place a.depth >> expect last is_open >> closed last (λ e. e) (list_at (place_of last ts) >>= λ l. node place (max a.depth l.depth) (In a.tree negated l.trees))) ts
+        (fits place a.depth >> expect last (is_sign signs.Open) >> closed last (λ e. e) (list_at (place_of last ts) >>= λ l. node place (max a.depth l.depth) (In a.tree negated l.trees))) ts
 
     -- what stands behind BETWEEN, or NOT BETWEEN
     unfoldable pub between_at : Bool → ℕ → Part → Reader Part

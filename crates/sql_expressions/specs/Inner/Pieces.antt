@@ -18,7 +18,7 @@ use Rattle.sql_expressions.specs.declared.level.Opened.{Opened}
 use Rattle.sql_expressions.specs.declared.level.Opened.TheVariants.{Whole, Negation, Unary}
 use Rattle.sql_expressions.specs.Build.{negated, push}
 use Rattle.sql_expressions.specs.Results.{◌>>=◌}
-use Rattle.sql_expressions.specs.Readers.{is_open, is_close, is_comma, after, place_of, misplaced, expect}
+use Rattle.sql_expressions.specs.Readers.{is_sign, after, place_of, misplaced, expect}
 use Rattle.sql_expressions.specs.Reading.{Found, or_op, and_op, concat_op, sum_op, product_op, comparison_op, is_call, truth_of}
 
 abbrev pub Reader : Type 0
@@ -109,7 +109,7 @@ list_turn reader go (Some ts) l = do
 -- the items of a list behind its first one, as many as there are tokens at most
 unfoldable pub list_more : Reader → ℕ → Found_list → Result Found_list SqlFault
 list_more reader zero l = Ok l
-list_more reader (suc n) l = list_turn reader (list_more reader n) (after is_comma l.rest) l
+list_more reader (suc n) l = list_turn reader (list_more reader n) (after (is_sign signs.Comma) l.rest) l
 
 unfoldable pub list_at : Reader → Tokens → Result Found_list SqlFault
 list_at reader ts = do
@@ -121,7 +121,7 @@ module _ (last : ℕ) where
   -- a name, with no call behind it: the name of an aggregate is left out there, elsewhere the call
   abbrev pub column_at : At Token → List ℕ → Reader
   column_at t n [] = leaf (Column n) []
-  column_at t n (u ∷ us) = if is_open u.tok then Err (LeftOut (if is_call t.tok then t.span.start else u.span.start)) else leaf (Column n) (u ∷ us)
+  column_at t n (u ∷ us) = if is_sign signs.Open u.tok then Err (LeftOut (if is_call t.tok then t.span.start else u.span.start)) else leaf (Column n) (u ∷ us)
 
   abbrev pub name_at : Option (List ℕ) → At Token → Reader
   name_at None t ts = Err (misplaced last (t ∷ ts))
@@ -160,7 +160,7 @@ module _ (last : ℕ) where
     parens_at place ts = do
       e ← inside Whole place ts
       d ← deeper place e.depth
-      rest ← expect last is_close e.rest
+      rest ← expect last (is_sign signs.Close) e.rest
       Ok (record { tree = e.tree; depth = d; rest = rest })
 
     abbrev pub prim_of : Token → At Token → Reader
@@ -204,10 +204,10 @@ module _ (last : ℕ) where
     unfoldable pub in_at : Bool → ℕ → Tree → ℕ → Tokens → Result Found SqlFault
     in_at negated place left depth ts = do
       here ← deeper place depth
-      behind ← expect last is_open ts
+      behind ← expect last (is_sign signs.Open) ts
       items ← list_at (inside Whole (place_of last ts)) behind
       d ← deeper place (max depth items.depth)
-      rest ← expect last is_close items.rest
+      rest ← expect last (is_sign signs.Close) items.rest
       Ok (record { tree = In left negated items.trees; depth = d; rest = rest })
 
     unfoldable pub between_at : Bool → ℕ → Tree → ℕ → Tokens → Result Found SqlFault

@@ -65,11 +65,11 @@ list-returns-in_err-next t c =
 
 pub list-loop-after-smaller : goal.list-loop-after-smaller
 list-loop-after-smaller t c =
-    omega (arith, shortens _ _ _ _ _ _ c.in_ok-next.ensures, comma_shortens _ _ (sym c.in-Some.ensures))
+    omega (arith, shortens _ _ _ _ _ _ c.in_ok-next.ensures, comma_shortens (tok_views c.loop-after.rest.now) _ (sym c.in-Some.ensures))
 
 pub list-loop-after-preserved : goal.list-loop-after-preserved
 list-loop-after-preserved t c =
-    rw (c.in_ok-push-2.ensures.items, c.max-depth.ensures) (list_next _ c.loop-after.items.items c.loop-after.depth c.loop-after.rest.now _ _ c.in_ok-next.next c.in_ok-next.after.now c.loop-after.invariant (sym c.in-Some.ensures) c.in_ok-next.ensures (omega (arith, shortens _ _ _ _ _ _ c.in_ok-next.ensures, comma_shortens _ _ (sym c.in-Some.ensures))))
+    rw (c.in_ok-push-2.ensures.items, c.max-depth.ensures) (list_next _ c.loop-after.items.items c.loop-after.depth c.loop-after.rest.now _ _ c.in_ok-next.next c.in_ok-next.after.now c.loop-after.invariant (sym c.in-Some.ensures) c.in_ok-next.ensures (omega (arith, shortens _ _ _ _ _ _ c.in_ok-next.ensures, comma_shortens (tok_views c.loop-after.rest.now) _ (sym c.in-Some.ensures))))
 
 pub list-returns : goal.list-returns
 list-returns t c = list_ends _ _ _ c.loop-after.invariant (sym c.in_default.ensures)
