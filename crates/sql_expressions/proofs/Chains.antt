@@ -1,6 +1,7 @@
 -- The chains of operators.
 use Rattle.std.proofs.Common.{◌≡◌, ℕ, zero, suc, ◌+◌, ◌<◌, ◌≤◌, Option, Some, None, refl, sym, ap, ◌∙◌, length, List, [], ◌∷◌, ◌++◌, arith, rules, Bool, true, false, ◌-◌}
 use Rattle.std.specs.Prelude.{IfOk, Result, Ok, Err, max, nat_lt, if◌then◌else◌}
+use Rattle.iso_lexer.specs.declared.sql_token.SqlSign.TheVariants as signs
 use Rattle.sql_expressions.specs.declared.level.Chain.{Chain}
 use Rattle.sql_expressions.specs.declared.level.Chain.TheVariants.{Or, And, Concat, Sum, Product}
 use Rattle.sql_trees.specs.declared.fault.SqlFault.{SqlFault}
@@ -13,7 +14,10 @@ use Rattle.sql_trees.specs.declared.expr.Expr.{Expr}
 use Rattle.sql_expressions.specs.declared.parsed.Parsed.{Parsed}
 use Rattle.sql_trees.specs.Trees.{tree_of, trees, more, none}
 use Rattle.sql_expressions.specs.Build.{push}
-use Rattle.sql_expressions.specs.Reading.{Found, Found_op, Found_list, found, found_list, is_comma, list_more, list_at, after_comma, Reader, Gives, Fails, deeper, join, next_op, chain_op, chain_more, chain, chain_at, operand_at, at_level, inside, or_at, and_at, cat_at, add_at, mul_at}
+use Rattle.sql_expressions.specs.Results.{Gives, Fails}
+use Rattle.sql_expressions.specs.Readers.{is_sign, after}
+use Rattle.sql_expressions.specs.Reading.{Found, found}
+use Rattle.sql_expressions.specs.Inner.Pieces.{Found_op, Found_list, found_list, list_more, list_at, Reader, deeper, join, next_op, chain_op, chain_more, chain, chain_at, operand_at, at_level, inside, or_at, and_at, cat_at, add_at, mul_at}
 use Rattle.sql_expressions.specs.declared.level.Opened.{Opened}
 use Rattle.sql_trees.specs.declared.fault.SqlFault.TheVariants.{Memory}
 
@@ -127,7 +131,7 @@ module _ (reader : Reader) where
   unfolding list_at
   list_starts_not ts f e = rw e refl
 
-  pub list_ends : (l : Found_list) (w : Result Found_list SqlFault) → Lists reader l w → after_comma l.rest ≡ None → w ≡ Ok l
+  pub list_ends : (l : Found_list) (w : Result Found_list SqlFault) → Lists reader l w → after (is_sign signs.Comma) l.rest ≡ None → w ≡ Ok l
   unfolding list_more
   list_ends l w g e = go g.turns g.same
     where
@@ -135,11 +139,11 @@ module _ (reader : Reader) where
       go zero s = sym s
       go (suc n) s = sym s ∙ rw e refl
 
-  none_after : (ts us : Tokens) → length ts ≤ 0 → after_comma ts ≡ Some us → ⊥
+  none_after : (ts us : Tokens) → length ts ≤ 0 → after (is_sign signs.Comma) ts ≡ Some us → ⊥
   none_after [] us h e = absurd cc
   none_after (t ∷ ts) us h e = absurd (omega arith)
 
-  pub list_stops : (l : Found_list) (w : Result Found_list SqlFault) (ts : Tokens) (f : SqlFault) → Lists reader l w → after_comma l.rest ≡ Some ts → reader ts ≡ Err f → w ≡ Err f
+  pub list_stops : (l : Found_list) (w : Result Found_list SqlFault) (ts : Tokens) (f : SqlFault) → Lists reader l w → after (is_sign signs.Comma) l.rest ≡ Some ts → reader ts ≡ Err f → w ≡ Err f
   unfolding list_more
   list_stops l w ts f g e h = go g.turns g.enough g.same
     where
@@ -147,7 +151,7 @@ module _ (reader : Reader) where
       go zero m s = absurd (none_after l.rest ts m e)
       go (suc n) m s = sym s ∙ rw (e, h) refl
 
-  pub list_goes_on : (l : Found_list) (w : Result Found_list SqlFault) (ts : Tokens) (a : Found) → Lists reader l w → after_comma l.rest ≡ Some ts → reader ts ≡ Ok a → length a.rest < length l.rest → Lists reader (record { trees = push l.trees a.tree; depth = max l.depth a.depth; rest = a.rest }) w
+  pub list_goes_on : (l : Found_list) (w : Result Found_list SqlFault) (ts : Tokens) (a : Found) → Lists reader l w → after (is_sign signs.Comma) l.rest ≡ Some ts → reader ts ≡ Ok a → length a.rest < length l.rest → Lists reader (record { trees = push l.trees a.tree; depth = max l.depth a.depth; rest = a.rest }) w
   unfolding list_more
   list_goes_on l w ts a g e h shorter = go g.turns g.enough g.same
     where
@@ -155,12 +159,12 @@ module _ (reader : Reader) where
       go zero m s = absurd (none_after l.rest ts m e)
       go (suc n) m s = record { turns = n; enough = omega arith; same = sym (rw (e, h) refl) ∙ s }
 
-  pub list_next : (es : List Expr) (d : ℕ) (us : List (At Tok)) (w : Result Found_list SqlFault) (ts : Tokens) (p : Parsed) (rest : List (At Tok)) → Lists reader (found_list es d us) w → after_comma (tok_views us) ≡ Some ts → reader ts ≡ Ok (found p rest) → length (tok_views rest) < length (tok_views us) → Lists reader (found_list (es ++ p.expr ∷ []) (max d p.depth) rest) w
+  pub list_next : (es : List Expr) (d : ℕ) (us : List (At Tok)) (w : Result Found_list SqlFault) (ts : Tokens) (p : Parsed) (rest : List (At Tok)) → Lists reader (found_list es d us) w → after (is_sign signs.Comma) (tok_views us) ≡ Some ts → reader ts ≡ Ok (found p rest) → length (tok_views rest) < length (tok_views us) → Lists reader (found_list (es ++ p.expr ∷ []) (max d p.depth) rest) w
   list_next es d us w ts p rest g e h shorter = rw (trees_push es p.expr) (list_goes_on (found_list es d us) w ts (found p rest) g e h shorter)
 
-pub comma_shortens : (us ts : Tokens) → after_comma us ≡ Some ts → length ts < length us
+pub comma_shortens : (us ts : Tokens) → after (is_sign signs.Comma) us ≡ Some ts → length ts < length us
 comma_shortens [] ts e = absurd cc
-comma_shortens (t ∷ us) ts e = of_test (is_comma t.tok) e
+comma_shortens (t ∷ us) ts e = of_test (is_sign signs.Comma t.tok) e
   where
     of_test : (b : Bool) → (if b then Some us else None) ≡ Some ts → length ts < length (t ∷ us)
     of_test true h = let same : us ≡ ts = cc in rw (sym same) (omega arith)

@@ -11,9 +11,13 @@ use Rattle.sql_trees.specs.declared.expr.Operator.{Operator}
 use Rattle.sql_trees.specs.declared.expr.Truth.{Truth}
 use Rattle.sql_trees.specs.Trees.{Tree, Trees, Column, Plus, Not, Binary, Is, In, Between, more, none}
 use Rattle.sql_expressions.specs.Build.{negated, push}
-use Rattle.sql_expressions.specs.Reading.{name_at, Found, Found_op, Found_list, Reader, leaf, deeper, join, next_op, found_op, comparison_op, expect, misplaced, is_open, is_close, is_and, is_not, is_is, truth_of, place_of, column_at, parens_at, prim_of, prim_at, sign_at, una_of, una_at, mul_at, add_at, cat_at, in_at, between_at, not_in_of, not_in_at, inn_of, inn_more, inn_at, cmp_more, cmp_at, is_node, is_of, is_tail, is_more, is_at, negation_at, not_at, and_at, or_at, at_level, inside, expr_at, list_at, list_more, after_comma, chain_more, ◌>>=◌}
-use Rattle.sql_expressions.specs.Reading as reading
+use Rattle.sql_expressions.specs.Results.{◌>>=◌}
+use Rattle.sql_expressions.specs.Readers.{expect, misplaced, is_sign, place_of, after}
+use Rattle.sql_expressions.specs.Reading.{Found, comparison_op, truth_of, expr_at}
+use Rattle.sql_expressions.specs.Inner.Pieces.{name_at, Found_op, Found_list, Reader, leaf, deeper, join, next_op, found_op, is_and, is_not, is_is, column_at, parens_at, prim_of, prim_at, sign_at, una_of, una_at, mul_at, add_at, cat_at, in_at, between_at, not_in_of, not_in_at, inn_of, inn_more, inn_at, cmp_more, cmp_at, is_node, is_of, is_tail, is_more, is_at, negation_at, not_at, and_at, or_at, at_level, inside, list_at, list_more, chain_more}
+use Rattle.sql_expressions.specs.Inner.Pieces as reading
 use Rattle.sql_expressions.specs.Grammar.{IsWord, Ends, goes_on, Level, OR, AND, NOT, IS, CMP, INN, CAT, ADD, MUL, UNA, PRIM, tighter, binary, Spells, SpellsIn, only, chain, negation, is, comparison, contained, between, minus, plus, parens, literal, Items, one, next, IsLeaf, number, text, column, yes, no, null, IsIn, IsBetween, IsIs}
+use Rattle.sql_expressions.proofs.Same.{expr_same}
 
 -- the words and signs that a level goes on with
 abbrev pub own : Level → Token → Bool
@@ -23,7 +27,7 @@ own INN (tok.word words.In s) = true
 own INN (tok.word words.Between s) = true
 own INN (tok.word words.Not s) = true
 own INN _ = false
-own PRIM t = is_open t
+own PRIM t = is_sign signs.Open t
 own l t = is_some (binary l t)
 
 abbrev pub continues : Level → Token → Bool
@@ -431,7 +435,7 @@ module _ (last : ℕ) where
       go place rest s zero g q = absurd (omega arith)
       go place rest s (suc m) g q = record { turns = m; enough = omega (arith, length-append bs rest); same = q ∙ rw (h, r rest s) refl }
 
-  list_end : (reader : Reader) (m : ℕ) (l : Found_list) → after_comma l.rest ≡ None → list_more reader m l ≡ Ok l
+  list_end : (reader : Reader) (m : ℕ) (l : Found_list) → after (is_sign signs.Comma) l.rest ≡ None → list_more reader m l ≡ Ok l
   unfolding list_more
   list_end reader zero l e = refl
   list_end reader (suc m) l e = rw e refl
@@ -496,4 +500,4 @@ module _ (last : ℕ) where
 
   -- the whole of the tokens, and so whatever is in the grammar
   pub expr_complete : {ts : Tokens} {e : Tree} {d : ℕ} → Spells 64 OR ts e d → (rest : Tokens) → Ends rest → expr_at last (ts ++ rest) ≡ Ok (made e d rest)
-  expr_complete {ts} {e} {d} p rest s = reads 64 OR ts e d (complete p) rest (ends_stops rest s)
+  expr_complete {ts} {e} {d} p rest s = expr_same last (ts ++ rest) ∙ reads 64 OR ts e d (complete p) rest (ends_stops rest s)

@@ -15,9 +15,13 @@ use Rattle.sql_trees.specs.Tokens as tok
 use Rattle.sql_trees.specs.Trees.{Tree, Trees, more, none, Plus}
 use Rattle.sql_trees.specs.Trees as tree
 use Rattle.sql_expressions.specs.Build.{negated}
-use Rattle.sql_expressions.specs.Reading.{Found, Found_op, Found_list, Reader, leaf, deeper, join, next_op, found_op, comparison_op, or_op, and_op, concat_op, sum_op, product_op, expect, misplaced, left_out, is_open, is_close, is_and, is_not, is_is, is_call, truth_of, place_of, column_at, name_at, parens_at, prim_of, prim_at, sign_at, una_of, una_at, mul_at, add_at, cat_at, in_at, between_at, not_in_of, not_in_at, inn_of, inn_more, inn_at, cmp_more, cmp_at, is_node, is_of, is_tail, is_from, is_more, is_at, negation_at, not_at, and_at, or_at, at_level, inside, expr_at, list_at, list_more, list_turn, after_comma, chain, chain_more, chain_end, chain_turn, ◌>>=◌}
+use Rattle.sql_expressions.specs.Results.{◌>>=◌}
+use Rattle.sql_expressions.specs.Readers.{expect, misplaced, left_out, is_sign, place_of, after}
+use Rattle.sql_expressions.specs.Reading.{Found, comparison_op, or_op, and_op, concat_op, sum_op, product_op, is_call, truth_of, expr_at}
+use Rattle.sql_expressions.specs.Inner.Pieces.{Found_op, Found_list, Reader, leaf, deeper, join, next_op, found_op, is_and, is_not, is_is, column_at, name_at, parens_at, prim_of, prim_at, sign_at, una_of, una_at, mul_at, add_at, cat_at, in_at, between_at, not_in_of, not_in_at, inn_of, inn_more, inn_at, cmp_more, cmp_at, is_node, is_of, is_tail, is_from, is_more, is_at, negation_at, not_at, and_at, or_at, at_level, inside, list_at, list_more, list_turn, chain, chain_more, chain_end, chain_turn}
 use Rattle.sql_expressions.specs.Grammar.{OR, AND, NOT, ADD, MUL, UNA, Spells, goes_on}
 use Rattle.sql_expressions.specs.Laws.{Makes}
+use Rattle.sql_expressions.proofs.Same.{expr_same}
 use Rattle.sql_expressions.proofs.Steps.{expect_ok, is_open_true, after_comma_ok}
 use Rattle.sql_expressions.proofs.Sound.{Took, Sound}
 use Rattle.sql_expressions.proofs.Levels.{Opens, opens_sound, una_sound, mul_sound, add_sound, cat_sound, inn_sound, cmp_sound, not_sound, and_sound}
@@ -170,7 +174,7 @@ module _ (last n : ℕ) (inside' : Opened → ℕ → Reader) (opens : Opens las
 
   column_tells : (M : ℕ → Type 0) (t : At Token) (name : List ℕ) (ts : Tokens) → Deep M (column_at last t name ts)
   column_tells M t name [] q h = absurd cc
-  column_tells M t name (u ∷ ts) q h = of_test (is_open u.tok) h
+  column_tells M t name (u ∷ ts) q h = of_test (is_sign signs.Open u.tok) h
     where
       of_test : (b : Bool) → (let r : Result Found SqlFault = if b then Err (LeftOut (if is_call t.tok then t.span.start else u.span.start)) else leaf (tree.Column name) (u ∷ ts) in r ≡ Err (TooDeep q)) → M q
       of_test true g = absurd cc
@@ -185,7 +189,7 @@ module _ (last n : ℕ) (inside' : Opened → ℕ → Reader) (opens : Opens las
   parens_tells t ts g =
       next_in _ (inside' Whole t.span.start ts) _ (up _ _ (inside' Whole t.span.start ts) (first_or t ts g) (deep Whole t.span.start ts)) (λ e is.
       next_in _ (deeper t.span.start e.depth) _ (tested _ t.span.start e.depth (here t ts g)) (λ d is'.
-      next_in _ (expect last is_close e.rest) _ (expected _ is_close e.rest) (λ rest is''. given _ _)))
+      next_in _ (expect last (is_sign signs.Close) e.rest) _ (expected _ (is_sign signs.Close) e.rest) (λ rest is''. given _ _)))
 
   prim_of_tells : (x : Token) (t : At Token) (ts : Tokens) → t.tok ≡ x → Deep (λ q. Makes q (t ∷ ts)) (prim_of last inside' x t ts)
   prim_of_tells (tok.number k) t ts h = given _ _
@@ -230,10 +234,10 @@ module _ (last n : ℕ) (inside' : Opened → ℕ → Reader) (opens : Opens las
   -- ---- lists
 
   module _ (reader : Reader) (P : Tokens → Tree → ℕ → Type 0) (sound : Sound P reader) (all : Tokens) (M : ℕ → Type 0) (tells : (ts : Tokens) → Ends_in all ts → Deep M (reader ts)) where
-    comma_ends : (ts us : Tokens) → Ends_in all ts → after_comma ts ≡ Some us → Ends_in all us
+    comma_ends : (ts us : Tokens) → Ends_in all ts → after (is_sign signs.Comma) ts ≡ Some us → Ends_in all us
     comma_ends ts us s h = let c = after_comma_ok ts us h in later all ts us s (c.0 ∷ [], c.1)
 
-    list_turn_tells : (m : ℕ) → ((l : Found_list) → Ends_in all l.rest → Deep M (list_more reader m l)) → (l : Found_list) → Ends_in all l.rest → (o : Option Tokens) → after_comma l.rest ≡ o → Deep M (list_turn reader (list_more reader m) o l)
+    list_turn_tells : (m : ℕ) → ((l : Found_list) → Ends_in all l.rest → Deep M (list_more reader m l)) → (l : Found_list) → Ends_in all l.rest → (o : Option Tokens) → after (is_sign signs.Comma) l.rest ≡ o → Deep M (list_turn reader (list_more reader m) o l)
     list_turn_tells m go l s None h = given _ _
     list_turn_tells m go l s (Some us) h =
         let w = comma_ends l.rest us s h in
@@ -242,7 +246,7 @@ module _ (last n : ℕ) (inside' : Opened → ℕ → Reader) (opens : Opens las
     list_more_tells : (m : ℕ) (l : Found_list) → Ends_in all l.rest → Deep M (list_more reader m l)
     unfolding list_more
     list_more_tells zero l s = given _ _
-    list_more_tells (suc m) l s = list_turn_tells m (list_more_tells m) l s (after_comma l.rest) refl
+    list_more_tells (suc m) l s = list_turn_tells m (list_more_tells m) l s (after (is_sign signs.Comma) l.rest) refl
 
     list_tells : (ts : Tokens) → Ends_in all ts → Deep M (list_at reader ts)
     unfolding list_at
@@ -253,12 +257,12 @@ module _ (last n : ℕ) (inside' : Opened → ℕ → Reader) (opens : Opens las
   abbrev At_or : ℕ → Tokens → ℕ → Type 0
   At_or place ts q = (q ≡ place) ⊎ Makes q ts
 
-  in_open_tells : (neg : Bool) (place : ℕ) (left : Tree) (d : ℕ) (t : At Token) (ts : Tokens) → t.tok ≡ tok.sign signs.Open → Deep {A = Found} (At_or place (t ∷ ts)) (list_at (inside' Whole t.span.start) ts >>= λ items. deeper place (max d items.depth) >>= λ x. expect last is_close items.rest >>= λ rest. Ok (record { tree = tree.In left neg items.trees; depth = x; rest = rest }))
+  in_open_tells : (neg : Bool) (place : ℕ) (left : Tree) (d : ℕ) (t : At Token) (ts : Tokens) → t.tok ≡ tok.sign signs.Open → Deep {A = Found} (At_or place (t ∷ ts)) (list_at (inside' Whole t.span.start) ts >>= λ items. deeper place (max d items.depth) >>= λ x. expect last (is_sign signs.Close) items.rest >>= λ rest. Ok (record { tree = tree.In left neg items.trees; depth = x; rest = rest }))
   in_open_tells neg place left d t ts g =
       next_in _ (list_at (inside' Whole t.span.start) ts) _ (list_tells (inside' Whole t.span.start) (λ us e c. (m : ℕ) × (n ≡ suc m) × Spells m OR us e c) (λ us f is. let k = opens Whole t.span.start us f is in record { front = k.2.front; whole = k.2.whole; some = k.2.some; spells = (k.0, k.1, k.2.spells) }) ts _
       (λ us s. up _ _ (inside' Whole t.span.start us) (λ q m. inr (first_or t ts (ap goes_on g) q (lifted us s q m))) (deep Whole t.span.start us)) ts ([], refl)) (λ items is.
       next_in _ (deeper place (max d items.depth)) _ (tested _ place (max d items.depth) (inl refl)) (λ x is'.
-      next_in _ (expect last is_close items.rest) _ (expected _ is_close items.rest) (λ rest is''. given _ _)))
+      next_in _ (expect last (is_sign signs.Close) items.rest) _ (expected _ (is_sign signs.Close) items.rest) (λ rest is''. given _ _)))
     where
       lifted : (us : Tokens) → Ends_in ts us → (q : ℕ) → (q ≡ t.span.start) ⊎ Makes q us → (q ≡ t.span.start) ⊎ Makes q ts
       lifted us s q (inl e) = inl e
@@ -268,9 +272,9 @@ module _ (last n : ℕ) (inside' : Opened → ℕ → Reader) (opens : Opens las
   unfolding in_at
   in_tells neg place left d ts =
       next_in _ (deeper place d) _ (tested _ place d (inl refl)) (λ x is.
-      next_in _ (expect last is_open ts) _ (expected _ is_open ts) (λ us is'.
-      let k = expect_ok last is_open ts us is' in
-      subst (λ (all : Tokens). Deep {A = Found} (At_or place all) (list_at (inside' Whole (place_of last all)) us >>= λ items. deeper place (max d items.depth) >>= λ y. expect last is_close items.rest >>= λ rest. Ok (record { tree = tree.In left neg items.trees; depth = y; rest = rest }))) (sym k.1) (in_open_tells neg place left d k.0 us (is_open_true k.0.tok k.2))))
+      next_in _ (expect last (is_sign signs.Open) ts) _ (expected _ (is_sign signs.Open) ts) (λ us is'.
+      let k = expect_ok last (is_sign signs.Open) ts us is' in
+      subst (λ (all : Tokens). Deep {A = Found} (At_or place all) (list_at (inside' Whole (place_of last all)) us >>= λ items. deeper place (max d items.depth) >>= λ y. expect last (is_sign signs.Close) items.rest >>= λ rest. Ok (record { tree = tree.In left neg items.trees; depth = y; rest = rest }))) (sym k.1) (in_open_tells neg place left d k.0 us (is_open_true k.0.tok k.2))))
 
   expect_end : (is_it : Token → Bool) (ts us : Tokens) → expect last is_it ts ≡ Ok us → Ends_in ts us
   expect_end is_it ts us e = let k = expect_ok last is_it ts us e in (k.0 ∷ [], k.1)
@@ -396,4 +400,4 @@ inside_tells last (suc n) level place ts = up _ _ (at_level last (inside last n)
 
 -- too deep is told at a token that makes a node
 pub expr_tells : (last place : ℕ) (ts : Tokens) → expr_at last ts ≡ Err (TooDeep place) → Makes place ts
-expr_tells last place ts e = or_tells last 64 (inside last 64) (opens_sound last 64) (inside_tells last 64) ts place e
+expr_tells last place ts e = or_tells last 64 (inside last 64) (opens_sound last 64) (inside_tells last 64) ts place (sym (expr_same last ts) ∙ e)

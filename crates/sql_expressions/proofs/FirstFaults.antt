@@ -5,7 +5,8 @@ use Rattle.sql_trees.specs.declared.fault.SqlFault.{SqlFault}
 use Rattle.sql_trees.specs.declared.fault.SqlFault.TheVariants.{Syntax, TooDeep}
 use Rattle.sql_trees.specs.Tokens.{Tokens}
 use Rattle.sql_trees.specs.Trees.{Tree}
-use Rattle.sql_expressions.specs.Reading.{Found, place_of, expr_at}
+use Rattle.sql_expressions.specs.Readers.{place_of}
+use Rattle.sql_expressions.specs.Reading.{Found, expr_at}
 use Rattle.sql_expressions.specs.Grammar.{OR}
 use Rattle.sql_expressions.specs.Laws.{head, Spelled, IsRefusal, Refuses, ended, misplaced, StopsFirst, FaultsAreFirst, first, DeepFirst, DeepIsFirst, TakesFront, FrontsAreTaken, ExpressionsAreRead}
 use Rattle.sql_expressions.proofs.Complete.{expr_complete}

@@ -13,9 +13,13 @@ use Rattle.sql_trees.specs.declared.word.Word.TheVariants as words
 use Rattle.sql_trees.specs.declared.expr.Truth.{Truth}
 use Rattle.sql_trees.specs.Trees.{Tree, Column, Plus, Not, Is, In, Between, more, none}
 use Rattle.sql_expressions.specs.Build.{negated}
-use Rattle.sql_expressions.specs.Reading.{is_call, name_at, Found, Found_op, Found_list, Reader, leaf, deeper, join, next_op, comparison_op, expect, is_open, is_close, is_and, is_not, is_is, truth_of, place_of, column_at, parens_at, prim_of, prim_at, sign_at, una_of, una_at, mul_at, add_at, cat_at, in_at, between_at, not_in_of, not_in_at, inn_of, inn_more, inn_at, cmp_more, cmp_at, is_node, is_of, is_tail, is_from, is_more, is_at, negation_at, not_at, and_at, or_at, at_level, inside, expr_at, list_at, list_more, ◌>>=◌}
+use Rattle.sql_expressions.specs.Results.{◌>>=◌}
+use Rattle.sql_expressions.specs.Readers.{expect, is_sign, place_of}
+use Rattle.sql_expressions.specs.Reading.{is_call, Found, comparison_op, truth_of, expr_at}
+use Rattle.sql_expressions.specs.Inner.Pieces.{name_at, Found_op, Found_list, Reader, leaf, deeper, join, next_op, is_and, is_not, is_is, column_at, parens_at, prim_of, prim_at, sign_at, una_of, una_at, mul_at, add_at, cat_at, in_at, between_at, not_in_of, not_in_at, inn_of, inn_more, inn_at, cmp_more, cmp_at, is_node, is_of, is_tail, is_from, is_more, is_at, negation_at, not_at, and_at, or_at, at_level, inside, list_at, list_more}
 use Rattle.sql_expressions.specs.Grammar.{Begins, IsWord, Level, OR, AND, NOT, IS, CMP, INN, CAT, ADD, MUL, UNA, PRIM, Spells, only, chain, negation, is, comparison, contained, between, minus, plus, parens, literal, Items, one, next, IsLeaf, number, text, column, yes, no, null, IsIn, IsBetween, IsIs}
 use Rattle.sql_expressions.proofs.Steps.{bind_ok, deeper_ok, expect_ok, is_close_true, is_open_true, is_and_true, is_not_true, is_is_true}
+use Rattle.sql_expressions.proofs.Same.{expr_same}
 use Rattle.sql_expressions.proofs.Sound.{Took, took_up, Sound, joined_as, chain_sound, list_sound}
 
 abbrev pub level_of : Opened → Level
@@ -53,7 +57,7 @@ module _ (last n : ℕ) (inside' : Opened → ℕ → Reader) where
   module _ (opens : Opens) where
     column_sound : (name : List ℕ) (t : At Token) (ts : Tokens) (f : Found) → named t.tok ≡ Some name → column_at last t name ts ≡ Ok f → Took (Spells n PRIM) (t ∷ ts) f
     column_sound name t [] f h e = single _ t [] (Column name) f e (literal t (Column name) (column t.tok name h))
-    column_sound name t (u ∷ ts) f h e = of_test (is_open u.tok) e
+    column_sound name t (u ∷ ts) f h e = of_test (is_sign signs.Open u.tok) e
       where
         of_test : (b : Bool) → (let r : Result Found SqlFault = if b then Err (LeftOut (if is_call t.tok then t.span.start else u.span.start)) else leaf (Column name) (u ∷ ts) in r ≡ Ok f) → Took (Spells n PRIM) (t ∷ u ∷ ts) f
         of_test true g = absurd cc
@@ -66,12 +70,12 @@ module _ (last n : ℕ) (inside' : Opened → ℕ → Reader) where
     parens_sound : (t : At Token) (ts : Tokens) (f : Found) → t.tok ≡ tok.sign signs.Open → parens_at last inside' t.span.start ts ≡ Ok f → Took (Spells n PRIM) (t ∷ ts) f
     unfolding parens_at
     parens_sound t ts f h e =
-        let s1 = bind_ok (inside' Whole t.span.start ts) (λ e. deeper t.span.start e.depth >>= λ d. expect last is_close e.rest >>= λ rest. Ok (record { tree = e.tree; depth = d; rest = rest })) f e in
-        let s2 = bind_ok (deeper t.span.start s1.0.depth) (λ d. expect last is_close s1.0.rest >>= λ rest. Ok (record { tree = s1.0.tree; depth = d; rest = rest })) f s1.2 in
-        let s3 = bind_ok (expect last is_close s1.0.rest) (λ rest. Ok (record { tree = s1.0.tree; depth = s2.0; rest = rest })) f s2.2 in
+        let s1 = bind_ok (inside' Whole t.span.start ts) (λ e. deeper t.span.start e.depth >>= λ d. expect last (is_sign signs.Close) e.rest >>= λ rest. Ok (record { tree = e.tree; depth = d; rest = rest })) f e in
+        let s2 = bind_ok (deeper t.span.start s1.0.depth) (λ d. expect last (is_sign signs.Close) s1.0.rest >>= λ rest. Ok (record { tree = s1.0.tree; depth = d; rest = rest })) f s1.2 in
+        let s3 = bind_ok (expect last (is_sign signs.Close) s1.0.rest) (λ rest. Ok (record { tree = s1.0.tree; depth = s2.0; rest = rest })) f s2.2 in
         let k = opens Whole t.span.start ts s1.0 s1.1 in
         let d = deeper_ok t.span.start s1.0.depth s2.0 s2.1 in
-        let c = expect_ok last is_close s1.0.rest s3.0 s3.1 in
+        let c = expect_ok last (is_sign signs.Close) s1.0.rest s3.0 s3.1 in
         let same : record { tree = s1.0.tree; depth = s1.0.depth + 1; rest = s3.0 } ≡ f = ap (λ x. record { tree = s1.0.tree; depth = x; rest = s3.0 }) (sym d.1) ∙ cc in
         subst (Took (Spells n PRIM) (t ∷ ts)) same (record {
           front = t ∷ (k.2.front ++ c.0 ∷ []);
@@ -138,13 +142,13 @@ module _ (last n : ℕ) (inside' : Opened → ℕ → Reader) where
     in_sound : (no' : Bool) (ws ts us : Tokens) (place : ℕ) (a f : Found) (k : Took (Spells n CAT) ts a) → a.rest ≡ ws ++ us → IsIn no' ws → in_at last inside' no' place a.tree a.depth us ≡ Ok f → Took (Spells n INN) ts f
     unfolding in_at
     in_sound no' ws ts us place a f k w i e =
-        let s1 = bind_ok (deeper place a.depth) (λ here. expect last is_open us >>= λ rest. list_at (inside' Whole (place_of last us)) rest >>= λ items. deeper place (max a.depth items.depth) >>= λ d. expect last is_close items.rest >>= λ after. Ok (record { tree = In a.tree no' items.trees; depth = d; rest = after })) f e in
-        let s2 = bind_ok (expect last is_open us) (λ rest. list_at (inside' Whole (place_of last us)) rest >>= λ items. deeper place (max a.depth items.depth) >>= λ d. expect last is_close items.rest >>= λ after. Ok (record { tree = In a.tree no' items.trees; depth = d; rest = after })) f s1.2 in
-        let s3 = bind_ok (list_at (inside' Whole (place_of last us)) s2.0) (λ items. deeper place (max a.depth items.depth) >>= λ d. expect last is_close items.rest >>= λ after. Ok (record { tree = In a.tree no' items.trees; depth = d; rest = after })) f s2.2 in
-        let s4 = bind_ok (deeper place (max a.depth s3.0.depth)) (λ d. expect last is_close s3.0.rest >>= λ after. Ok (record { tree = In a.tree no' s3.0.trees; depth = d; rest = after })) f s3.2 in
-        let s5 = bind_ok (expect last is_close s3.0.rest) (λ after. Ok (record { tree = In a.tree no' s3.0.trees; depth = s4.0; rest = after })) f s4.2 in
-        let o = expect_ok last is_open us s2.0 s2.1 in
-        let c = expect_ok last is_close s3.0.rest s5.0 s5.1 in
+        let s1 = bind_ok (deeper place a.depth) (λ here. expect last (is_sign signs.Open) us >>= λ rest. list_at (inside' Whole (place_of last us)) rest >>= λ items. deeper place (max a.depth items.depth) >>= λ d. expect last (is_sign signs.Close) items.rest >>= λ after. Ok (record { tree = In a.tree no' items.trees; depth = d; rest = after })) f e in
+        let s2 = bind_ok (expect last (is_sign signs.Open) us) (λ rest. list_at (inside' Whole (place_of last us)) rest >>= λ items. deeper place (max a.depth items.depth) >>= λ d. expect last (is_sign signs.Close) items.rest >>= λ after. Ok (record { tree = In a.tree no' items.trees; depth = d; rest = after })) f s1.2 in
+        let s3 = bind_ok (list_at (inside' Whole (place_of last us)) s2.0) (λ items. deeper place (max a.depth items.depth) >>= λ d. expect last (is_sign signs.Close) items.rest >>= λ after. Ok (record { tree = In a.tree no' items.trees; depth = d; rest = after })) f s2.2 in
+        let s4 = bind_ok (deeper place (max a.depth s3.0.depth)) (λ d. expect last (is_sign signs.Close) s3.0.rest >>= λ after. Ok (record { tree = In a.tree no' s3.0.trees; depth = d; rest = after })) f s3.2 in
+        let s5 = bind_ok (expect last (is_sign signs.Close) s3.0.rest) (λ after. Ok (record { tree = In a.tree no' s3.0.trees; depth = s4.0; rest = after })) f s4.2 in
+        let o = expect_ok last (is_sign signs.Open) us s2.0 s2.1 in
+        let c = expect_ok last (is_sign signs.Close) s3.0.rest s5.0 s5.1 in
         let d = deeper_ok place (max a.depth s3.0.depth) s4.0 s4.1 in
         let room = first_item s2.0 s3.0 (place_of last us) s3.1 in
         let q = list_sound (inside' Whole (place_of last us)) (Spells room.0 OR) (Items room.0) (λ ts f h. of_room room.0 room.1 (place_of last us) ts f h) (λ ts e d p. one ts e d p) (λ fs bs t es e c d p h q. next fs bs t es e c d p h q) s2.0 s3.0 s3.1 in
@@ -298,7 +302,7 @@ opens_sound last (suc n) level place ts f e = (n, refl, level_sound last n (insi
 
 -- an expression that is read is in the grammar
 pub expr_sound : (last : ℕ) → Sound (Spells 64 OR) (expr_at last)
-expr_sound last = or_sound last 64 (inside last 64) (opens_sound last 64)
+expr_sound last ts f e = or_sound last 64 (inside last 64) (opens_sound last 64) ts f (sym (expr_same last ts) ∙ e)
 
 pub expr_begins : (last : ℕ) (ts : Tokens) (f : Found) → expr_at last ts ≡ Ok f → Begins ts f
 expr_begins last ts f e = let k = expr_sound last ts f e in record { front = k.front; whole = k.whole; spells = k.spells }

@@ -1,5 +1,6 @@
 pub mod Chains
 pub mod Views
+pub mod Same
 pub mod Steps
 pub mod Sound
 pub mod Levels

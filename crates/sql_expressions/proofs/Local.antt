@@ -8,8 +8,11 @@ use Rattle.sql_trees.specs.declared.fault.SqlFault.TheVariants.{Syntax, LeftOut,
 use Rattle.iso_lexer.specs.declared.sql_token.SqlSign.TheVariants as signs
 use Rattle.sql_trees.specs.Tokens.{Token, Tokens, named}
 use Rattle.sql_trees.specs.Tokens as tok
-use Rattle.sql_expressions.specs.Reading.{left_out, is_call, deeper, expect, ◌>>=◌}
-use Rattle.sql_expressions.specs.Reading as reading
+use Rattle.sql_expressions.specs.Results.{◌>>=◌}
+use Rattle.sql_expressions.specs.Readers.{left_out, expect}
+use Rattle.sql_expressions.specs.Reading.{is_call}
+use Rattle.sql_expressions.specs.Inner.Pieces.{deeper}
+use Rattle.sql_expressions.specs.Readers as reading
 use Rattle.sql_expressions.specs.Laws.{head, IsRefusal, Refuses, ended, misplaced, excluded, called}
 
 some_same : (s t : At Token) → ◌≡◌ {A = Option (At Token)} (Some s) (Some t) → s ≡ t

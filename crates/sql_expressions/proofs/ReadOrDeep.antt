@@ -13,10 +13,14 @@ use Rattle.sql_trees.specs.Tokens.{Token, Tokens}
 use Rattle.sql_trees.specs.Tokens as tok
 use Rattle.sql_trees.specs.Trees.{Tree, Trees, more, none, Plus, Not, Binary, Is, In, Between}
 use Rattle.sql_expressions.specs.Build.{negated, push}
-use Rattle.sql_expressions.specs.Reading.{Found, Found_list, Reader, deeper, join, next_op, comparison_op, expect, is_open, is_close, is_and, truth_of, place_of, parens_at, prim_at, sign_at, una_at, mul_at, add_at, cat_at, in_at, between_at, inn_more, inn_at, cmp_more, cmp_at, is_more, is_at, negation_at, not_at, and_at, or_at, inside, expr_at, list_at, list_more, after_comma, chain_more, ◌>>=◌}
-use Rattle.sql_expressions.specs.Reading as reading
+use Rattle.sql_expressions.specs.Results.{◌>>=◌}
+use Rattle.sql_expressions.specs.Readers.{expect, is_sign, place_of, after}
+use Rattle.sql_expressions.specs.Reading.{Found, comparison_op, truth_of, expr_at}
+use Rattle.sql_expressions.specs.Inner.Pieces.{Found_list, Reader, deeper, join, next_op, is_and, parens_at, prim_at, sign_at, una_at, mul_at, add_at, cat_at, in_at, between_at, inn_more, inn_at, cmp_more, cmp_at, is_more, is_at, negation_at, not_at, and_at, or_at, inside, list_at, list_more, chain_more}
+use Rattle.sql_expressions.specs.Inner.Pieces as reading
 use Rattle.sql_expressions.specs.Grammar.{IsWord, Ends, Level, OR, AND, NOT, IS, CMP, INN, CAT, ADD, MUL, UNA, PRIM, tighter, binary, SpellsIn, ItemsIn, only, chain, negation, is, comparison, contained, between, minus, plus, parens, literal, one, next, IsLeaf, IsIn, IsBetween, IsIs}
 use Rattle.sql_expressions.specs.Laws.{Spelled}
+use Rattle.sql_expressions.proofs.Same.{expr_same}
 use Rattle.sql_expressions.proofs.Tails.{seen, listed}
 use Rattle.sql_expressions.proofs.Complete.{Stops, stops_below, op_stops, IsChain, chain_ends, Starts, spells_starts, read_of, not_first, una_first, is_end, inn_end, cmp_end, comparison_stops, truth_is_no_not, leaf_read, assoc_in, assoc_between, ends_stops}
 
@@ -232,7 +236,7 @@ module _ (last : ℕ) where
       (lists_on (inside last n Whole place) (fs ++ (t ∷ (bs ++ rest))) rest t (bs ++ rest) h (omega (arith, length-append bs rest)) (k n place (t ∷ (bs ++ rest)) (rw h refl)) (opened_whole n place bs rest r s))
 
   after_list : (n : ℕ) (neg : Bool) (place from : ℕ) (ts rest : Tokens) (u : At Token) (e : Tree) (c : ℕ) → u.tok ≡ tok.sign signs.Close → Lists (inside last n Whole from) ts (u ∷ rest) →
-      Fits rest (list_at (inside last n Whole from) ts >>= λ items. deeper place (max c items.depth) >>= λ d. expect last is_close items.rest >>= λ after. Ok (record { tree = In e neg items.trees; depth = d; rest = after }))
+      Fits rest (list_at (inside last n Whole from) ts >>= λ items. deeper place (max c items.depth) >>= λ d. expect last (is_sign signs.Close) items.rest >>= λ after. Ok (record { tree = In e neg items.trees; depth = d; rest = after }))
   unfolding list_more
   after_list n neg place from ts rest u e c g (stops q h) = deep q (rw h refl)
   after_list n neg place from ts rest u e c g (lists zero v le h) = rw (h, g) (fits_deeper rest place (max c v.1) _ (λ x. read (In e neg v.0, x) refl))
@@ -276,4 +280,4 @@ module _ (last : ℕ) where
 
   -- what is spelled at the front of the tokens, whatever its depth, is read, or is too deep
   pub read_or_deep : (ts rest : Tokens) → Spelled OR ts → Ends rest → ((e : Tree) × (d : ℕ) × (expr_at last (ts ++ rest) ≡ Ok (record { tree = e; depth = d; rest = rest }))) ⊎ ((place : ℕ) × (expr_at last (ts ++ rest) ≡ Err (TooDeep place)))
-  read_or_deep ts rest (m, r, e, d, p) s = sides rest (expr_at last (ts ++ rest)) (reads OR ts (beyond p) 64 rest (ends_stops last rest s))
+  read_or_deep ts rest (m, r, e, d, p) s = sides rest (expr_at last (ts ++ rest)) (subst (Fits rest) (sym (expr_same last (ts ++ rest))) (reads OR ts (beyond p) 64 rest (ends_stops last rest s)))

@@ -3,7 +3,8 @@ use Rattle.std.proofs.Common.{◌≡◌, ℕ, ◌<◌, length, ap, arith, length
 use Rattle.std.specs.Prelude.{Ok}
 use Rattle.sql_trees.specs.Tokens.{Tokens}
 use Rattle.sql_expressions.specs.declared.level.Opened.{Opened}
-use Rattle.sql_expressions.specs.Reading.{Found, inside, expr_at}
+use Rattle.sql_expressions.specs.Reading.{Found, expr_at}
+use Rattle.sql_expressions.specs.Inner.Pieces.{inside}
 use Rattle.sql_expressions.proofs.Levels.{opens_sound, expr_sound}
 
 pub shortens : (last room place : ℕ) (level : Opened) (ts : Tokens) (f : Found) → inside last room level place ts ≡ Ok f → length f.rest < length ts

@@ -8,7 +8,10 @@ use Rattle.iso_lexer.specs.declared.sql_token.SqlSign.TheVariants as signs
 use Rattle.sql_trees.specs.declared.expr.Operator.{Operator}
 use Rattle.sql_trees.specs.Trees.{Tree, Trees, Binary, more, none}
 use Rattle.sql_expressions.specs.Build.{push}
-use Rattle.sql_expressions.specs.Reading.{Found, Found_op, Found_list, Reader, deeper, join, next_op, after_comma, chain_more, chain_end, chain_turn, chain, list_more, list_turn, list_at, ◌>>=◌}
+use Rattle.sql_expressions.specs.Results.{◌>>=◌}
+use Rattle.sql_expressions.specs.Readers.{after, is_sign}
+use Rattle.sql_expressions.specs.Reading.{Found}
+use Rattle.sql_expressions.specs.Inner.Pieces.{Found_op, Found_list, Reader, deeper, join, next_op, chain_more, chain_end, chain_turn, chain, list_more, list_turn, list_at}
 use Rattle.sql_expressions.proofs.Steps.{bind_ok, deeper_ok, next_op_ok, after_comma_ok}
 
 abbrev pub Spelling : Type 1
@@ -82,9 +85,9 @@ module _ (reader : Reader) (P : Tokens → Tree → ℕ → Type 0) (Q : Tokens 
   items_sound : (n : ℕ) (ts : Tokens) (l f : Found_list) → Took_list Q ts l → list_more reader n l ≡ Ok f → Took_list Q ts f
   unfolding list_more
   items_sound zero ts l f k e = let same : l ≡ f = cc in subst (Took_list Q ts) same k
-  items_sound (suc n) ts l f k e = of_comma (items_sound n) (after_comma l.rest) refl e
+  items_sound (suc n) ts l f k e = of_comma (items_sound n) (after (is_sign signs.Comma) l.rest) refl e
     where
-      of_comma : ((us : Tokens) (b g : Found_list) → Took_list Q us b → list_more reader n b ≡ Ok g → Took_list Q us g) → (o : Option Tokens) → after_comma l.rest ≡ o → list_turn reader (list_more reader n) o l ≡ Ok f → Took_list Q ts f
+      of_comma : ((us : Tokens) (b g : Found_list) → Took_list Q us b → list_more reader n b ≡ Ok g → Took_list Q us g) → (o : Option Tokens) → after (is_sign signs.Comma) l.rest ≡ o → list_turn reader (list_more reader n) o l ≡ Ok f → Took_list Q ts f
       of_comma on None g h = let same : l ≡ f = cc in subst (Took_list Q ts) same k
       of_comma on (Some us) g h =
           let s = bind_ok (reader us) (λ e. list_more reader n (record { trees = push l.trees e.tree; depth = max l.depth e.depth; rest = e.rest })) f h in

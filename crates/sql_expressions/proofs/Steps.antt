@@ -10,7 +10,9 @@ use Rattle.sql_trees.specs.Tokens.{Token, Tokens, tok_views}
 use Rattle.sql_trees.specs.Tokens as tok
 use Rattle.sql_trees.specs.declared.expr.Operator.{Operator}
 use Rattle.sql_expressions.specs.Grammar.{IsWord}
-use Rattle.sql_expressions.specs.Reading.{Found_op, deeper, next_op, found_op, expect, misplaced, is_open, is_close, is_and, is_not, is_is, is_comma, after_comma, ◌>>=◌}
+use Rattle.sql_expressions.specs.Results.{◌>>=◌}
+use Rattle.sql_expressions.specs.Readers.{expect, misplaced, is_sign, after}
+use Rattle.sql_expressions.specs.Inner.Pieces.{Found_op, deeper, next_op, found_op, is_and, is_not, is_is}
 
 pub bind_ok : {A B : Type 0} (r : Result A SqlFault) (f : A → Result B SqlFault) (y : B) → (r >>= f) ≡ Ok y → (x : A) × (r ≡ Ok x) × (f x ≡ Ok y)
 bind_ok (Ok x) f y e = (x, refl, e)
@@ -39,15 +41,15 @@ next_op_ok op_of (t ∷ ts) o e = of_op (op_of t.tok) refl e
     of_op None h g = absurd cc
     of_op (Some p) h g = (t, cc, h ∙ cc)
 
-pub is_close_true : (x : Token) → is_close x ≡ true → x ≡ tok.sign signs.Close
+pub is_close_true : (x : Token) → is_sign signs.Close x ≡ true → x ≡ tok.sign signs.Close
 is_close_true (tok.sign signs.Close) e = refl
 is_close_true _ e = absurd cc
 
-pub is_open_true : (x : Token) → is_open x ≡ true → x ≡ tok.sign signs.Open
+pub is_open_true : (x : Token) → is_sign signs.Open x ≡ true → x ≡ tok.sign signs.Open
 is_open_true (tok.sign signs.Open) e = refl
 is_open_true _ e = absurd cc
 
-pub is_comma_true : (x : Token) → is_comma x ≡ true → x ≡ tok.sign signs.Comma
+pub is_comma_true : (x : Token) → is_sign signs.Comma x ≡ true → x ≡ tok.sign signs.Comma
 is_comma_true (tok.sign signs.Comma) e = refl
 is_comma_true _ e = absurd cc
 
@@ -63,10 +65,10 @@ pub is_is_true : (x : Token) → is_is x ≡ true → IsWord words.Is x
 is_is_true (tok.word words.Is s) e = (s, refl)
 is_is_true _ e = absurd cc
 
-pub after_comma_ok : (ts us : Tokens) → after_comma ts ≡ Some us → (t : At Token) × (ts ≡ t ∷ us) × (t.tok ≡ tok.sign signs.Comma)
+pub after_comma_ok : (ts us : Tokens) → after (is_sign signs.Comma) ts ≡ Some us → (t : At Token) × (ts ≡ t ∷ us) × (t.tok ≡ tok.sign signs.Comma)
 after_comma_ok [] us e = absurd cc
-after_comma_ok (t ∷ ts) us e = of_test (is_comma t.tok) refl e
+after_comma_ok (t ∷ ts) us e = of_test (is_sign signs.Comma t.tok) refl e
   where
-    of_test : (b : Bool) → is_comma t.tok ≡ b → (if b then Some ts else None) ≡ Some us → (u : At Token) × (t ∷ ts ≡ u ∷ us) × (u.tok ≡ tok.sign signs.Comma)
+    of_test : (b : Bool) → is_sign signs.Comma t.tok ≡ b → (if b then Some ts else None) ≡ Some us → (u : At Token) × (t ∷ ts ≡ u ∷ us) × (u.tok ≡ tok.sign signs.Comma)
     of_test true h g = (t, cc, is_comma_true t.tok h)
     of_test false h g = absurd cc

@@ -14,19 +14,23 @@ use Rattle.sql_trees.specs.Tokens.{Token, Tokens, named}
 use Rattle.sql_trees.specs.Tokens as tok
 use Rattle.sql_trees.specs.Trees.{Tree, Null, Flag, Number, Text, Column, Plus, Not, Binary, Is, In, Between, undoubled}
 use Rattle.sql_expressions.specs.Build.{negated}
-use Rattle.sql_expressions.specs.Reading.{Found, Found_list, Reader, leaf, deeper, join, next_op, comparison_op, expect, is_open, is_close, is_and, is_not, is_is, truth_of, place_of, column_at, name_at, parens_at, prim_of, prim_at, sign_at, una_of, una_at, mul_at, add_at, cat_at, in_at, between_at, not_in_of, not_in_at, inn_of, inn_more, inn_at, cmp_more, cmp_at, is_node, is_of, is_tail, is_more, is_at, negation_at, not_at, and_at, or_at, at_level, inside, expr_at, list_at, ◌>>=◌}
+use Rattle.sql_expressions.specs.Results.{◌>>=◌}
+use Rattle.sql_expressions.specs.Readers.{expect, is_sign, place_of}
+use Rattle.sql_expressions.specs.Reading.{Found, comparison_op, truth_of, expr_at}
+use Rattle.sql_expressions.specs.Inner.Pieces.{Found_list, Reader, leaf, deeper, join, next_op, is_and, is_not, is_is, column_at, name_at, parens_at, prim_of, prim_at, sign_at, una_of, una_at, mul_at, add_at, cat_at, in_at, between_at, not_in_of, not_in_at, inn_of, inn_more, inn_at, cmp_more, cmp_at, is_node, is_of, is_tail, is_more, is_at, negation_at, not_at, and_at, or_at, at_level, inside, list_at}
 use Rattle.sql_expressions.specs.Grammar.{IsWord, OR, AND, NOT, IS, CMP, INN, CAT, ADD, MUL, UNA, PRIM, IsLeaf, number, text, column, yes, no, null, IsIn, IsBetween, IsIs}
 use Rattle.sql_expressions.specs.Laws.{Spelled}
+use Rattle.sql_expressions.proofs.Same.{expr_same}
 use Rattle.sql_expressions.proofs.Steps.{is_open_true, is_close_true, is_and_true, is_not_true, is_is_true}
 use Rattle.sql_expressions.proofs.Levels.{level_of}
 use Rattle.sql_expressions.proofs.Shapes.{Listed, only_spelled, comparison_spelled, negation_spelled, minus_spelled, plus_spelled, parens_spelled, leaf_spelled, is_spelled, between_spelled, contained_spelled, some_token, a_number, prim_number, una_number, mul_number, add_number, cat_number, not_number, and_number, or_number}
-use Rattle.sql_expressions.proofs.Local.{Local, Nothing, One, Inhabited, at_end, at_token, called_at, stuck_end, stuck_at, behind, in_turn, gives, deeper_then, mapped, checked, deep_always, expect_local, switch_at, switch_end}
+use Rattle.sql_expressions.proofs.Local.{Local, Nothing, One, Inhabited, at_end, at_token, called_at, stuck_end, stuck_at, behind, in_turn, gives, deeper_then, mapped, checked, deep_always, expect_local, same_at, switch_at, switch_end}
 use Rattle.sql_expressions.proofs.Tails.{seen, Tail, no_tail, Reads, chain_local, list_local}
 use Rattle.sql_expressions.proofs.Shapes.{one_listed}
 use Rattle.sql_expressions.proofs.Shortens.{shortens}
 
 module _ (last : ℕ) where
-  a_close : Inhabited last (One last is_close)
+  a_close : Inhabited last (One last (is_sign signs.Close))
   a_close = (some_token (tok.sign signs.Close) ∷ [], (some_token (tok.sign signs.Close), refl, refl))
 
   an_and : Inhabited last (One last is_and)
@@ -87,9 +91,9 @@ module _ (last : ℕ) where
   -- a column, or a call behind its name
   column_token : (p : Reader) (t : At Token) (us : Tokens) (n : List ℕ) → IsLeaf t.tok (Column n) → named t.tok ≡ Some n → ((vs : Tokens) → p (t ∷ vs) ≡ column_at last t n vs) → Local last seen (Spelled PRIM) p (t ∷ us)
   column_token p t [] n is h same = behind last (Nothing last) (Spelled PRIM) (column_at last t n) p t [] (one_leaf t (Column n) is) same (at_end last seen (Nothing last) (column_at last t n) (Ok (Column n, 0)) refl refl)
-  column_token p t (u ∷ us) n is h same = of_test (is_open u.tok) refl
+  column_token p t (u ∷ us) n is h same = of_test (is_sign signs.Open u.tok) refl
     where
-      of_test : (b : Bool) → is_open u.tok ≡ b → Local last seen (Spelled PRIM) p (t ∷ u ∷ us)
+      of_test : (b : Bool) → is_sign signs.Open u.tok ≡ b → Local last seen (Spelled PRIM) p (t ∷ u ∷ us)
       of_test true o = called_at last seen (Spelled PRIM) p t u us n h (is_open_true u.tok o) (leaf_spelled t (Column n) is) (λ vs. same (u ∷ vs) ∙ rw o refl)
       of_test false o = behind last (Nothing last) (Spelled PRIM) (column_at last t n) p t (u ∷ us) (one_leaf t (Column n) is) same (at_token last seen (Nothing last) (column_at last t n) (Ok (Column n, 0)) u us (λ vs. rw o refl) refl)
 
@@ -105,10 +109,10 @@ module _ (last : ℕ) where
   module _ (inside' : Opened → ℕ → Reader) (opens : (level : Opened) (place : ℕ) → Reads last (level_of level) (inside' level place)) (shorter : (place : ℕ) (ts : Tokens) (f : Found) → inside' Whole place ts ≡ Ok f → length f.rest < length ts) where
     parens_local : (t : At Token) (ts : Tokens) → t.tok ≡ tok.sign signs.Open → Local last seen (λ xs. Spelled PRIM (t ∷ xs)) (parens_at last inside' t.span.start) ts
     unfolding parens_at
-    parens_local t ts h = in_turn last (Spelled OR) (One last is_close) (λ xs. Spelled PRIM (t ∷ xs)) (inside' Whole t.span.start) (λ e. deeper t.span.start e.depth >>= λ d. expect last is_close e.rest >>= λ rest. Ok (record { tree = e.tree; depth = d; rest = rest })) ts a_close
+    parens_local t ts h = in_turn last (Spelled OR) (One last (is_sign signs.Close)) (λ xs. Spelled PRIM (t ∷ xs)) (inside' Whole t.span.start) (λ e. deeper t.span.start e.depth >>= λ d. expect last (is_sign signs.Close) e.rest >>= λ rest. Ok (record { tree = e.tree; depth = d; rest = rest })) ts a_close
         (λ xs ys s c. rw c.1 (parens_spelled xs t c.0 h s (is_close_true c.0.tok c.2))) (opens Whole t.span.start ts)
-        (λ v is. deeper_then last seen (One last is_close) t.span.start v.1 (λ d r. expect last is_close r >>= λ rest. Ok (seen (v.0, d) rest)) _ _ (λ others. refl)
-        (mapped last seen (One last is_close) (expect last is_close) (λ rest. Ok (seen (v.0, v.1 + 1) rest)) (λ u. (v.0, v.1 + 1)) _ (λ u r. refl) (expect_local last is_close a_close _)))
+        (λ v is. deeper_then last seen (One last (is_sign signs.Close)) t.span.start v.1 (λ d r. expect last (is_sign signs.Close) r >>= λ rest. Ok (seen (v.0, d) rest)) _ _ (λ others. refl)
+        (mapped last seen (One last (is_sign signs.Close)) (expect last (is_sign signs.Close)) (λ rest. Ok (seen (v.0, v.1 + 1) rest)) (λ u. (v.0, v.1 + 1)) _ (λ u r. refl) (expect_local last (is_sign signs.Close) a_close _)))
 
     prim_token : (x : Token) (t : At Token) (us : Tokens) → t.tok ≡ x → Local last seen (Spelled PRIM) (prim_at last inside') (t ∷ us)
     prim_token (tok.number n) t us h = leaf_token (prim_at last inside') t us (Number false n) (subst (λ y. IsLeaf y (Number false n)) (sym h) (number n)) (λ vs. ap (λ y. prim_of last inside' y t vs) h)
@@ -163,28 +167,28 @@ module _ (last : ℕ) where
     in_list neg fs ws s i = contained_spelled fs ws a_number (some_token (tok.sign signs.Open)) (some_token (tok.sign signs.Close)) neg s i refl (one_listed a_number or_number) refl
 
     abbrev in_end : Bool → ℕ → Tree → ℕ → Found_list → Result Found SqlFault
-    in_end neg place e d items = deeper place (max d items.depth) >>= λ x. expect last is_close items.rest >>= λ rest. Ok (seen (In e neg items.trees, x) rest)
+    in_end neg place e d items = deeper place (max d items.depth) >>= λ x. expect last (is_sign signs.Close) items.rest >>= λ rest. Ok (seen (In e neg items.trees, x) rest)
 
     abbrev in_body : Bool → ℕ → Tree → ℕ → Tokens → Result Found SqlFault
-    in_body neg place e d ts = expect last is_open ts >>= λ behind. list_at (inside' Whole (place_of last ts)) behind >>= in_end neg place e d
+    in_body neg place e d ts = expect last (is_sign signs.Open) ts >>= λ behind. list_at (inside' Whole (place_of last ts)) behind >>= in_end neg place e d
 
     in_is : (neg : Bool) (place : ℕ) (e : Tree) (d : ℕ) (ts : Tokens) → in_at last inside' neg place e d ts ≡ (deeper place d >>= λ here. in_body neg place e d ts)
     unfolding in_at
     in_is neg place e d ts = refl
 
-    in_token : (neg : Bool) (place : ℕ) (e : Tree) (d : ℕ) (t : At Token) (us : Tokens) (b : Bool) → is_open t.tok ≡ b → Local last seen (AfterIn neg) (in_body neg place e d) (t ∷ us)
+    in_token : (neg : Bool) (place : ℕ) (e : Tree) (d : ℕ) (t : At Token) (us : Tokens) (b : Bool) → is_sign signs.Open t.tok ≡ b → Local last seen (AfterIn neg) (in_body neg place e d) (t ∷ us)
     in_token neg place e d t us false h = stuck_at last seen (AfterIn neg) (in_body neg place e d) t us (a_list, in_list neg) (λ vs. rw h refl)
     in_token neg place e d t us true h =
         behind last (λ xs. AfterIn neg (t ∷ xs)) (AfterIn neg) (λ vs. list_at (inside' Whole t.span.start) vs >>= in_end neg place e d) (in_body neg place e d) t us (λ xs m. m) (λ vs. rw h refl)
-        (in_turn last Listed (One last is_close) (λ xs. AfterIn neg (t ∷ xs)) (list_at (inside' Whole t.span.start)) (in_end neg place e d) us a_close
+        (in_turn last Listed (One last (is_sign signs.Close)) (λ xs. AfterIn neg (t ∷ xs)) (list_at (inside' Whole t.span.start)) (in_end neg place e d) us a_close
         (λ xs ys g c fs ws s i. rw c.1 (contained_spelled fs ws xs t c.0 neg s i (is_open_true t.tok h) g (is_close_true c.0.tok c.2)))
         (list_local last (inside' Whole t.span.start) (opens Whole t.span.start) (shorter t.span.start) us)
-        (λ v is. deeper_then last seen (One last is_close) place (max d v.1) (λ x r. expect last is_close r >>= λ rest. Ok (seen (In e neg v.0, x) rest)) _ _ (λ others. refl)
-        (mapped last seen (One last is_close) (expect last is_close) (λ rest. Ok (seen (In e neg v.0, max d v.1 + 1) rest)) (λ u. (In e neg v.0, max d v.1 + 1)) _ (λ u r. refl) (expect_local last is_close a_close _))))
+        (λ v is. deeper_then last seen (One last (is_sign signs.Close)) place (max d v.1) (λ x r. expect last (is_sign signs.Close) r >>= λ rest. Ok (seen (In e neg v.0, x) rest)) _ _ (λ others. refl)
+        (mapped last seen (One last (is_sign signs.Close)) (expect last (is_sign signs.Close)) (λ rest. Ok (seen (In e neg v.0, max d v.1 + 1) rest)) (λ u. (In e neg v.0, max d v.1 + 1)) _ (λ u r. refl) (expect_local last (is_sign signs.Close) a_close _))))
 
     in_body_local : (neg : Bool) (place : ℕ) (e : Tree) (d : ℕ) (ts : Tokens) → Local last seen (AfterIn neg) (in_body neg place e d) ts
     in_body_local neg place e d [] = stuck_end last seen (AfterIn neg) (in_body neg place e d) (a_list, in_list neg) refl
-    in_body_local neg place e d (t ∷ us) = in_token neg place e d t us (is_open t.tok) refl
+    in_body_local neg place e d (t ∷ us) = in_token neg place e d t us (is_sign signs.Open t.tok) refl
 
     in_local : (neg : Bool) (place : ℕ) (e : Tree) (d : ℕ) (ts : Tokens) → Local last seen (AfterIn neg) (in_at last inside' neg place e d) ts
     in_local neg place e d ts = deeper_then last seen (AfterIn neg) place d (λ x r. in_body neg place e d r) (in_at last inside' neg place e d) ts (in_is neg place e d) (in_body_local neg place e d ts)
@@ -323,4 +327,5 @@ inside_local last zero level place ts = deep_always last seen (Spelled (level_of
 inside_local last (suc n) level place ts = level_local last (inside last n) (λ l p us. inside_local last n l p us) (λ p us f e. shortens last n p Whole us f e) level ts
 
 pub expr_local : (last : ℕ) → Reads last OR (expr_at last)
-expr_local last ts = or_local last (inside last 64) (inside_local last 64) (λ p us f e. shortens last 64 p Whole us f e) ts
+expr_local last ts =
+    same_at last (Spelled OR) (Spelled OR) (or_at last (inside last 64)) (expr_at last) ts (λ xs g. g) (λ us h. expr_same last us) (or_local last (inside last 64) (inside_local last 64) (λ p us f e. shortens last 64 p Whole us f e) ts)

@@ -11,8 +11,11 @@ use Rattle.sql_trees.specs.Tokens.{Token, Tokens, named}
 use Rattle.sql_trees.specs.Tokens as tok
 use Rattle.sql_trees.specs.Trees.{Tree, Trees, more, none, Binary}
 use Rattle.sql_expressions.specs.Build.{push}
-use Rattle.sql_expressions.specs.Reading.{Found, Found_op, Found_list, Reader, leaf, deeper, join, next_op, comparison_op, expect, misplaced, is_open, is_close, is_comma, is_and, is_not, is_is, is_call, truth_of, place_of, column_at, name_at, parens_at, prim_of, prim_at, sign_at, una_of, una_at, mul_at, add_at, cat_at, in_at, between_at, not_in_of, not_in_at, inn_of, inn_more, inn_at, cmp_more, cmp_at, is_node, is_of, is_tail, is_more, is_at, negation_at, not_at, and_at, or_at, at_level, inside, expr_at, list_at, list_more, list_turn, after_comma, chain_more, chain_end, chain_turn, ◌>>=◌}
-use Rattle.sql_expressions.specs.Reading as reading
+use Rattle.sql_expressions.specs.Results.{◌>>=◌}
+use Rattle.sql_expressions.specs.Readers.{expect, misplaced, is_sign, place_of, after}
+use Rattle.sql_expressions.specs.Reading.{Found, comparison_op, is_call, truth_of, expr_at}
+use Rattle.sql_expressions.specs.Inner.Pieces.{Found_op, Found_list, Reader, leaf, deeper, join, next_op, is_and, is_not, is_is, column_at, name_at, parens_at, prim_of, prim_at, sign_at, una_of, una_at, mul_at, add_at, cat_at, in_at, between_at, not_in_of, not_in_at, inn_of, inn_more, inn_at, cmp_more, cmp_at, is_node, is_of, is_tail, is_more, is_at, negation_at, not_at, and_at, or_at, at_level, inside, list_at, list_more, list_turn, chain_more, chain_end, chain_turn}
+use Rattle.sql_expressions.specs.Inner.Pieces as reading
 use Rattle.sql_expressions.specs.Grammar.{Level, OR, tighter, binary}
 use Rattle.sql_expressions.specs.Laws.{Spelled}
 use Rattle.sql_expressions.proofs.Steps.{is_comma_true}
@@ -115,12 +118,12 @@ module _ (last : ℕ) where
     list_nothing zero v = refl
     list_nothing (suc n) v = refl
 
-    list_stop : (n : ℕ) (v : Trees × ℕ) (t : At Token) (vs : Tokens) → is_comma t.tok ≡ false → list_more reader n (listed v (t ∷ vs)) ≡ Ok (listed v (t ∷ vs))
+    list_stop : (n : ℕ) (v : Trees × ℕ) (t : At Token) (vs : Tokens) → is_sign signs.Comma t.tok ≡ false → list_more reader n (listed v (t ∷ vs)) ≡ Ok (listed v (t ∷ vs))
     unfolding list_more
     list_stop zero v t vs h = refl
     list_stop (suc n) v t vs h = rw h refl
 
-    list_go : (n : ℕ) (v : Trees × ℕ) (t : At Token) (vs : Tokens) → is_comma t.tok ≡ true → list_more reader (suc n) (listed v (t ∷ vs)) ≡ (reader vs >>= λ e. list_more reader n (put_in v e))
+    list_go : (n : ℕ) (v : Trees × ℕ) (t : At Token) (vs : Tokens) → is_sign signs.Comma t.tok ≡ true → list_more reader (suc n) (listed v (t ∷ vs)) ≡ (reader vs >>= λ e. list_more reader n (put_in v e))
     unfolding list_more
     list_go n v t vs h = rw h refl
 
@@ -129,9 +132,9 @@ module _ (last : ℕ) where
     enough m n v [] g h = list_nothing m v ∙ sym (list_nothing n v)
     enough zero n v (t ∷ ts) g h = absurd (omega arith)
     enough (suc m) zero v (t ∷ ts) g h = absurd (omega arith)
-    enough (suc m) (suc n) v (t ∷ ts) g h = of_test (is_comma t.tok) refl (λ w us a b. enough m n w us a b)
+    enough (suc m) (suc n) v (t ∷ ts) g h = of_test (is_sign signs.Comma t.tok) refl (λ w us a b. enough m n w us a b)
       where
-        of_test : (b : Bool) → is_comma t.tok ≡ b → ((w : Trees × ℕ) (us : Tokens) → length us ≤ m → length us ≤ n → list_more reader m (listed w us) ≡ list_more reader n (listed w us)) → list_more reader (suc m) (listed v (t ∷ ts)) ≡ list_more reader (suc n) (listed v (t ∷ ts))
+        of_test : (b : Bool) → is_sign signs.Comma t.tok ≡ b → ((w : Trees × ℕ) (us : Tokens) → length us ≤ m → length us ≤ n → list_more reader m (listed w us) ≡ list_more reader n (listed w us)) → list_more reader (suc m) (listed v (t ∷ ts)) ≡ list_more reader (suc n) (listed v (t ∷ ts))
         of_test false q ih = list_stop (suc m) v t ts q ∙ sym (list_stop (suc n) v t ts q)
         of_test true q ih =
             list_go m v t ts q ∙ bind_same (reader ts) (λ e. list_more reader m (put_in v e)) (λ e. list_more reader n (put_in v e)) (λ e is. let lt = shorter ts e is in ih (push v.0 e.tree, max v.1 e.depth) e.rest (omega arith) (omega arith)) ∙ sym (list_go n v t ts q)
@@ -146,10 +149,10 @@ module _ (last : ℕ) where
     more_join : (t : At Token) → t.tok ≡ tok.sign signs.Comma → (xs ys : Tokens) → Spelled OR xs → More ys → More (t ∷ (xs ++ ys))
     more_join t h xs ys s m = λ fs g. subst Listed (append_assoc fs (t ∷ xs) ys) (m (fs ++ t ∷ xs) (next_listed fs xs t g h s))
 
-    comma_turn : (v : Trees × ℕ) (t : At Token) (vs : Tokens) → is_comma t.tok ≡ true → list_all (listed v (t ∷ vs)) ≡ (reader vs >>= λ e. list_all (put_in v e))
+    comma_turn : (v : Trees × ℕ) (t : At Token) (vs : Tokens) → is_sign signs.Comma t.tok ≡ true → list_all (listed v (t ∷ vs)) ≡ (reader vs >>= λ e. list_all (put_in v e))
     comma_turn v t vs h = list_go (length vs) v t vs h ∙ bind_same (reader vs) (λ e. list_more reader (length vs) (put_in v e)) (λ e. list_all (put_in v e)) (λ e is. let lt = shorter vs e is in enough (length vs) (length e.rest) (push v.0 e.tree, max v.1 e.depth) e.rest (omega arith) (omega arith))
 
-    list_token : (v : Trees × ℕ) (t : At Token) (us : Tokens) (b : Bool) → is_comma t.tok ≡ b → ((w : Trees × ℕ) (ts : Tokens) → length ts ≤ length us → Local last listed More (λ r. list_all (listed w r)) ts) → Local last listed More (λ r. list_all (listed v r)) (t ∷ us)
+    list_token : (v : Trees × ℕ) (t : At Token) (us : Tokens) (b : Bool) → is_sign signs.Comma t.tok ≡ b → ((w : Trees × ℕ) (ts : Tokens) → length ts ≤ length us → Local last listed More (λ r. list_all (listed w r)) ts) → Local last listed More (λ r. list_all (listed v r)) (t ∷ us)
     list_token v t us false h ih = at_token last listed More (λ r. list_all (listed v r)) (Ok v) t us (λ vs. list_stop (length (t ∷ vs)) v t vs h) more_none
     list_token v t us true h ih =
         let l = read us in
@@ -159,7 +162,7 @@ module _ (last : ℕ) where
     list_tail : (m : ℕ) (v : Trees × ℕ) (ts : Tokens) → length ts ≤ m → Local last listed More (λ r. list_all (listed v r)) ts
     list_tail m v [] le = at_end last listed More (λ r. list_all (listed v r)) (Ok v) (list_nothing 0 v) more_none
     list_tail zero v (t ∷ us) le = absurd (omega arith)
-    list_tail (suc m) v (t ∷ us) le = list_token v t us (is_comma t.tok) refl (λ w ts h. list_tail m w ts (omega arith))
+    list_tail (suc m) v (t ∷ us) le = list_token v t us (is_sign signs.Comma t.tok) refl (λ w ts h. list_tail m w ts (omega arith))
 
     list_is : (ts : Tokens) → list_at reader ts ≡ (reader ts >>= λ e. list_all (listed (more e.tree none, e.depth) e.rest))
     unfolding list_at

@@ -7,7 +7,8 @@ use Rattle.sql_trees.specs.declared.fault.SqlFault.TheVariants.{Syntax, LeftOut,
 use Rattle.sql_trees.specs.Tokens.{Token, Tokens, named}
 use Rattle.sql_trees.specs.Tokens as tok
 use Rattle.sql_trees.specs.Trees.{Tree}
-use Rattle.sql_expressions.specs.Reading.{Found, left_out, is_call, expr_at}
+use Rattle.sql_expressions.specs.Readers.{left_out}
+use Rattle.sql_expressions.specs.Reading.{Found, is_call, expr_at}
 use Rattle.sql_expressions.specs.Grammar.{Level, OR, SpellsIn, Spells, Ends, goes_on}
 
 abbrev pub head : Tokens → Option (At Token)

@@ -1,41 +1,25 @@
 -- Reading an expression from left to right, with the first fault that is met.
-use Rattle.std.specs.Prelude.{◌≡◌, ℕ, zero, suc, ◌+◌, max, Bool, true, false, List, [], ◌∷◌, length, Option, Some, None, Result, Ok, Err, nat_lt, if◌then◌else◌}
+use Rattle.std.specs.Prelude.{ℕ, zero, suc, ◌+◌, max, Bool, true, false, List, Option, Some, None, Result, Ok, Err, is_some, nat_lt, if◌then◌else◌}
 use Rattle.iso_lexer.specs.declared.token.At.{At}
 use Rattle.iso_lexer.specs.declared.sql_token.SqlSign.TheVariants as signs
 use Rattle.sql_trees.specs.declared.fault.SqlFault.{SqlFault}
-use Rattle.sql_trees.specs.declared.fault.SqlFault.TheVariants.{Memory, Syntax, LeftOut, TooDeep}
-use Rattle.sql_trees.specs.declared.word.Word.{Word}
+use Rattle.sql_trees.specs.declared.fault.SqlFault.TheVariants.{LeftOut, TooDeep}
 use Rattle.sql_trees.specs.declared.word.Word.TheVariants as words
 use Rattle.sql_trees.specs.declared.token.Tok.{Tok}
-use Rattle.sql_trees.specs.declared.expr.Expr.{Expr}
 use Rattle.sql_trees.specs.declared.expr.Operator.{Operator}
 use Rattle.sql_trees.specs.declared.expr.Operator.TheVariants as op
 use Rattle.sql_trees.specs.declared.expr.Truth.{Truth}
 use Rattle.sql_trees.specs.declared.expr.Truth.TheVariants as truth
-use Rattle.sql_trees.specs.Words.{is_left_out, is_aggregate, same_word}
-use Rattle.sql_trees.specs.Tokens.{Token, Tokens, named, tok_views}
+use Rattle.sql_trees.specs.Words.{is_aggregate}
+use Rattle.sql_trees.specs.Tokens.{Token, Tokens, tok_views}
 use Rattle.sql_trees.specs.Tokens as tok
-use Rattle.sql_trees.specs.Trees.{Tree, Trees, none, more, Null, Flag, Number, Text, Column, Plus, Not, Binary, Is, In, Between, undoubled, tree_of, trees}
-use Rattle.sql_expressions.specs.declared.level.Chain.{Chain}
-use Rattle.sql_expressions.specs.declared.level.Chain.TheVariants as chain_of
+use Rattle.sql_trees.specs.Trees.{Tree, Trees, none, Null, Flag, Number, Text, Column, Plus, Not, Binary, Is, In, Between, undoubled, tree_of}
 use Rattle.sql_expressions.specs.declared.level.Opened.{Opened}
 use Rattle.sql_expressions.specs.declared.level.Opened.TheVariants.{Whole, Negation, Unary}
 use Rattle.sql_expressions.specs.declared.parsed.Parsed.{Parsed}
 use Rattle.sql_expressions.specs.Build.{negated, push}
-
-infixl 10 ◌>>=◌
-abbrev pub ◌>>=◌ : {A B : Type 0} → Result A SqlFault → (A → Result B SqlFault) → Result B SqlFault
-(Ok x) >>= f = f x
-(Err e) >>= f = Err e
-
--- What a function returned, seen by view, is what reading gives, unless a growth of memory was refused.
-abbrev pub Fails : {Y : Type 0} → SqlFault → Result Y SqlFault → Type 0
-Fails Memory read = Unit {0}
-Fails f read = read ≡ Err f
-
-abbrev pub Gives : {X Y : Type 0} → (X → Y) → Result X SqlFault → Result Y SqlFault → Type 0
-Gives view (Ok x) read = read ≡ Ok (view x)
-Gives view (Err e) read = Fails e read
+use Rattle.sql_expressions.specs.Results.{◌>>=◌ as and_then}
+use Rattle.sql_expressions.specs.Readers.{Reader, ◌>>=◌, ◌>>◌, gives, is_word, is_sign, after, either, by_first, one_at, items_at, place_of, misplaced, expect, keyword, closed, name_at}
 
 -- an expression, its depth as it was written, and the tokens after it
 pub record Found : Type 0 where
@@ -47,11 +31,7 @@ pub record Found : Type 0 where
 abbrev pub found : Parsed → List (At Tok) → Found
 found p ts = record { tree = tree_of p.expr; depth = p.depth; rest = tok_views ts }
 
-abbrev pub Reader : Type 0
-Reader = Tokens → Result Found SqlFault
-
-abbrev pub leaf : Tree → Reader
-leaf t ts = Ok (record { tree = t; depth = 0; rest = ts })
+-- ---- what a token says
 
 -- the operators of the five levels whose chains group to the left
 abbrev pub or_op : Token → Option Operator
@@ -77,13 +57,6 @@ product_op (tok.sign signs.Slash) = Some op.Divide
 product_op (tok.sign signs.Percent) = Some op.Remainder
 product_op _ = None
 
-abbrev pub chain_op : Chain → Token → Option Operator
-chain_op chain_of.Or = or_op
-chain_op chain_of.And = and_op
-chain_op chain_of.Concat = concat_op
-chain_op chain_of.Sum = sum_op
-chain_op chain_of.Product = product_op
-
 -- the operators that stand between two operands at most
 abbrev pub comparison_op : Token → Option Operator
 comparison_op (tok.sign signs.Equal) = Some op.Equal
@@ -94,47 +67,6 @@ comparison_op (tok.sign signs.Greater) = Some op.Greater
 comparison_op (tok.sign signs.AtLeast) = Some op.AtLeast
 comparison_op _ = None
 
--- a token that stands for a part that is left out
-abbrev pub left_out : Token → Bool
-left_out (tok.word w s) = is_left_out w
-left_out (tok.sign signs.Dot) = true
-left_out (tok.sign signs.Cast) = true
-left_out _ = false
-
--- the name of an aggregate
-abbrev pub is_call : Token → Bool
-is_call (tok.word w s) = is_aggregate w
-is_call _ = false
-
-abbrev pub is_open : Token → Bool
-is_open (tok.sign signs.Open) = true
-is_open _ = false
-
-abbrev pub is_close : Token → Bool
-is_close (tok.sign signs.Close) = true
-is_close _ = false
-
-abbrev pub is_comma : Token → Bool
-is_comma (tok.sign signs.Comma) = true
-is_comma _ = false
-
-abbrev pub is_and : Token → Bool
-is_and (tok.word words.And s) = true
-is_and _ = false
-
-abbrev pub is_not : Token → Bool
-is_not (tok.word words.Not s) = true
-is_not _ = false
-
-abbrev pub is_is : Token → Bool
-is_is (tok.word words.Is s) = true
-is_is _ = false
-
--- the token is this keyword, in whatever letters
-abbrev pub is_word : Word → Token → Bool
-is_word w (tok.word v s) = same_word v w
-is_word w _ = false
-
 abbrev pub truth_of : Token → Option Truth
 truth_of (tok.word words.Null s) = Some truth.Null
 truth_of (tok.word words.True s) = Some truth.True
@@ -142,293 +74,161 @@ truth_of (tok.word words.False s) = Some truth.False
 truth_of (tok.word words.Unknown s) = Some truth.Unknown
 truth_of _ = None
 
--- the depth of a node over this deepest part, which the token at this place makes
-abbrev pub deeper : ℕ → ℕ → Result ℕ SqlFault
-deeper place d = if nat_lt d 64 then Ok (d + 1) else Err (TooDeep place)
+abbrev pub literal_of : Token → Option Tree
+literal_of (tok.number n) = Some (Number false n)
+literal_of (tok.string s) = Some (Text (undoubled s))
+literal_of (tok.word words.True s) = Some (Flag true)
+literal_of (tok.word words.False s) = Some (Flag false)
+literal_of (tok.word words.Null s) = Some Null
+literal_of _ = None
 
--- an operator, where it stands, and the tokens after it
-pub record Found_op : Type 0 where
-  pub op : Operator
-  pub place : ℕ
-  pub rest : Tokens
+-- the name of an aggregate
+abbrev pub is_call : Token → Bool
+is_call (tok.word w s) = is_aggregate w
+is_call _ = false
 
-abbrev pub found_op : At Token → Tokens → Option Operator → Option Found_op
-found_op t ts None = None
-found_op t ts (Some o) = Some (record { op = o; place = t.span.start; rest = ts })
+-- ---- parts
 
-abbrev pub next_op : (Token → Option Operator) → Tokens → Option Found_op
-next_op op_of [] = None
-next_op op_of (t ∷ ts) = found_op t ts (op_of t.tok)
+-- a part of an expression, and its depth as it was written
+pub record Part : Type 0 where
+  pub tree : Tree
+  pub depth : ℕ
 
-abbrev pub join : Found_op → Found → Found → Result Found SqlFault
-join o a b = do
-  d ← deeper o.place (max a.depth b.depth)
-  Ok (record { tree = Binary o.op a.tree b.tree; depth = d; rest = b.rest })
-
--- the operators of a level, each with an operand behind it, of which there are at most this many
-abbrev pub chain_end : Option Found_op → Found → Result Found SqlFault
-chain_end None a = Ok a
-chain_end (Some o) a = Err (TooDeep o.place)
-
-abbrev pub chain_turn : Reader → (Found → Result Found SqlFault) → Option Found_op → Found → Result Found SqlFault
-chain_turn operand go None a = Ok a
-chain_turn operand go (Some o) a = do
-  here ← deeper o.place a.depth
-  b ← operand o.rest
-  c ← join o a b
-  go c
-
-unfoldable pub chain_more : Reader → (Token → Option Operator) → ℕ → Found → Result Found SqlFault
-chain_more operand op_of zero a = chain_end (next_op op_of a.rest) a
-chain_more operand op_of (suc n) a = chain_turn operand (chain_more operand op_of n) (next_op op_of a.rest) a
-
-unfoldable pub chain : Reader → (Token → Option Operator) → Reader
-chain operand op_of ts = do
-  a ← operand ts
-  chain_more operand op_of 64 a
-
--- trees in a list, the deepest one's depth, and the tokens after them
-pub record Found_list : Type 0 where
+-- the items of a list, and the depth of the deepest
+pub record Parts : Type 0 where
   pub trees : Trees
   pub depth : ℕ
-  pub rest : Tokens
 
-abbrev pub found_list : List Expr → ℕ → List (At Tok) → Found_list
-found_list es d ts = record { trees = trees es; depth = d; rest = tok_views ts }
+abbrev pub leaf : Tree → Reader Part
+leaf e = gives (record { tree = e; depth = 0 })
 
-abbrev pub after_comma : Tokens → Option Tokens
-after_comma [] = None
-after_comma (t ∷ ts) = if is_comma t.tok then Some ts else None
+-- the token at this place may make a node over a deepest part of this depth
+abbrev pub fits : ℕ → ℕ → Tokens → Result Tokens SqlFault
+fits place depth ts = if nat_lt depth 64 then Ok ts else Err (TooDeep place)
 
--- the tokens behind the next, if it is of this kind
-abbrev pub after : (Token → Bool) → Tokens → Option Tokens
-after is_it [] = None
-after is_it (t ∷ ts) = if is_it t.tok then Some ts else None
+-- the node that it makes
+abbrev pub node : ℕ → ℕ → Tree → Reader Part
+node place depth e = fits place depth >> gives (record { tree = e; depth = depth + 1 })
 
-abbrev pub list_turn : Reader → (Found_list → Result Found_list SqlFault) → Option Tokens → Found_list → Result Found_list SqlFault
-list_turn reader go None l = Ok l
-list_turn reader go (Some ts) l = do
-  e ← reader ts
-  go (record { trees = push l.trees e.tree; depth = max l.depth e.depth; rest = e.rest })
+-- an operator at this place behind its left operand, and the right one
+abbrev pub operation : Reader Part → ℕ → Part → Operator → Reader Part
+operation operand place a o = do
+  fits place a.depth
+  b ← operand
+  node place (max a.depth b.depth) (Binary o a.tree b.tree)
 
--- the items of a list behind its first one, as many as there are tokens at most
-unfoldable pub list_more : Reader → ℕ → Found_list → Result Found_list SqlFault
-list_more reader zero l = Ok l
-list_more reader (suc n) l = list_turn reader (list_more reader n) (after_comma l.rest) l
+-- one more item behind these
+abbrev pub item_add : Reader Part → Parts → Reader Parts
+item_add item l = item >>= λ e. gives (record { trees = push l.trees e.tree; depth = max l.depth e.depth })
 
-unfoldable pub list_at : Reader → Tokens → Result Found_list SqlFault
-list_at reader ts = do
-  e ← reader ts
-  list_more reader (length ts) (record { trees = more e.tree none; depth = e.depth; rest = e.rest })
+-- ---- with the text's length
 
--- last is the text's length
 module _ (last : ℕ) where
-  -- where the first token stands
-  abbrev pub place_of : Tokens → ℕ
-  place_of [] = last
-  place_of (t ∷ ts) = t.span.start
+  -- behind an operand, the operators of its level, each with an operand behind it, of which there are at most this many
+  unfoldable pub chain_more : Reader Part → (Token → Option Operator) → ℕ → Part → Reader Part
+  chain_more operand op_of zero a ts = by_first op_of (λ o us. Err (TooDeep (place_of last ts))) (gives a) ts
+  chain_more operand op_of (suc n) a ts = by_first op_of (λ o. operation operand (place_of last ts) a o >>= chain_more operand op_of n) (gives a) ts
 
-  -- the fault at the first token that no rule allows
-  abbrev pub misplaced : Tokens → SqlFault
-  misplaced [] = Syntax last
-  misplaced (t ∷ ts) = if left_out t.tok then LeftOut t.span.start else Syntax t.span.start
-
-  -- the tokens behind the next, which has to be of this kind
-  abbrev pub expect : (Token → Bool) → Tokens → Result Tokens SqlFault
-  expect is_it [] = Err (misplaced [])
-  expect is_it (t ∷ ts) = if is_it t.tok then Ok ts else Err (misplaced (t ∷ ts))
+  unfoldable pub chain : Reader Part → (Token → Option Operator) → Reader Part
+  chain operand op_of = operand >>= chain_more operand op_of 64
 
   -- a name, with no call behind it: the name of an aggregate is left out there, elsewhere the call
-  abbrev pub column_at : At Token → List ℕ → Reader
-  column_at t n [] = leaf (Column n) []
-  column_at t n (u ∷ us) = if is_open u.tok then Err (LeftOut (if is_call t.tok then t.span.start else u.span.start)) else leaf (Column n) (u ∷ us)
+  abbrev pub column_at : Reader Part
+  column_at ts = (name_at last >>= λ n us. either (is_sign signs.Open) (λ vs. Err (LeftOut (place_of last (if is_some (after is_call ts) then ts else us)))) (leaf (Column n)) us) ts
 
-  abbrev pub name_at : Option (List ℕ) → At Token → Reader
-  name_at None t ts = Err (misplaced (t ∷ ts))
-  name_at (Some n) t ts = column_at t n ts
+  -- what an IS, or an IS NOT, asks of this operand
+  abbrev pub truth_at : Bool → Part → Reader Part
+  truth_at negated a = one_at (misplaced last) truth_of >>= λ w. gives (record { tree = Is a.tree negated w; depth = a.depth + 1 })
 
-  -- the column that the first token names
-  abbrev pub column_first : Reader
-  column_first [] = Err (misplaced [])
-  column_first (t ∷ ts) = name_at (named t.tok) t ts
+  -- an IS behind this operand, if any, and what it asks
+  abbrev pub is_more : Part → Reader Part
+  is_more a ts = either (is_word words.Is) (fits (place_of last ts) a.depth >> either (is_word words.Not) (truth_at true a) (truth_at false a)) (gives a) ts
 
-  -- what an IS asks for, whose node has this depth
-  abbrev pub is_node : Option Truth → Bool → Tree → ℕ → At Token → Tokens → Result Found SqlFault
-  is_node None negated e depth t ts = Err (misplaced (t ∷ ts))
-  is_node (Some w) negated e depth t ts = Ok (record { tree = Is e negated w; depth = depth; rest = ts })
+  -- inside is what is read behind an opening, which stands at a place
+  module _ (inside : Opened → ℕ → Reader Part) where
+    -- what is made of what stands behind the opening at this place
+    abbrev pub opened : Opened → (Tree → Tree) → ℕ → Reader Part
+    opened level make place = inside level place >>= λ e. node place e.depth (make e.tree)
 
-  abbrev pub is_of : Bool → Tree → ℕ → Tokens → Result Found SqlFault
-  is_of negated e depth [] = Err (misplaced [])
-  is_of negated e depth (t ∷ ts) = is_node (truth_of t.tok) negated e depth t ts
+    -- an expression in parentheses, a literal, or a column
+    abbrev pub prim_at : Reader Part
+    prim_at ts = either (is_sign signs.Open) (closed last (λ e. e) (opened Whole (λ e. e) (place_of last ts))) (by_first literal_of leaf column_at) ts
 
-  abbrev pub is_tail : Tree → ℕ → Tokens → Result Found SqlFault
-  is_tail e depth [] = is_of false e depth []
-  is_tail e depth (t ∷ ts) = if is_not t.tok then is_of true e depth ts else is_of false e depth (t ∷ ts)
+    abbrev pub una_at : Reader Part
+    una_at ts = either (is_sign signs.Minus) (opened Unary negated (place_of last ts)) (either (is_sign signs.Plus) (opened Unary Plus (place_of last ts)) prim_at) ts
 
-  -- behind an IS at this place, which makes the node, whatever stands behind it
-  abbrev pub is_from : ℕ → Found → Tokens → Result Found SqlFault
-  is_from place a ts = do
-    d ← deeper place a.depth
-    is_tail a.tree d ts
-
-  abbrev pub is_more : Found → Tokens → Result Found SqlFault
-  is_more a [] = Ok a
-  is_more a (t ∷ ts) = if is_is t.tok then is_from t.span.start a ts else Ok a
-
-  module _ (inside : Opened → ℕ → Reader) where
-    unfoldable pub parens_at : ℕ → Reader
-    parens_at place ts = do
-      e ← inside Whole place ts
-      d ← deeper place e.depth
-      rest ← expect is_close e.rest
-      Ok (record { tree = e.tree; depth = d; rest = rest })
-
-    abbrev pub prim_of : Token → At Token → Reader
-    prim_of (tok.number n) t ts = leaf (Number false n) ts
-    prim_of (tok.string s) t ts = leaf (Text (undoubled s)) ts
-    prim_of (tok.word words.True s) t ts = leaf (Flag true) ts
-    prim_of (tok.word words.False s) t ts = leaf (Flag false) ts
-    prim_of (tok.word words.Null s) t ts = leaf Null ts
-    prim_of (tok.sign signs.Open) t ts = parens_at t.span.start ts
-    prim_of x t ts = name_at (named x) t ts
-
-    abbrev pub prim_at : Reader
-    prim_at [] = Err (misplaced [])
-    prim_at (t ∷ ts) = prim_of t.tok t ts
-
-    -- a sign, and what it makes of its operand
-    unfoldable pub sign_at : (Tree → Tree) → ℕ → Reader
-    sign_at make place ts = do
-      e ← inside Unary place ts
-      d ← deeper place e.depth
-      Ok (record { tree = make e.tree; depth = d; rest = e.rest })
-
-    abbrev pub una_of : Token → At Token → Reader
-    una_of (tok.sign signs.Minus) t ts = sign_at negated t.span.start ts
-    una_of (tok.sign signs.Plus) t ts = sign_at Plus t.span.start ts
-    una_of _ t ts = prim_at (t ∷ ts)
-
-    abbrev pub una_at : Reader
-    una_at [] = prim_at []
-    una_at (t ∷ ts) = una_of t.tok t ts
-
-    unfoldable pub mul_at : Reader
+    unfoldable pub mul_at : Reader Part
     mul_at = chain una_at product_op
 
-    unfoldable pub add_at : Reader
+    unfoldable pub add_at : Reader Part
     add_at = chain mul_at sum_op
 
-    unfoldable pub cat_at : Reader
+    unfoldable pub cat_at : Reader Part
     cat_at = chain add_at concat_op
 
-    unfoldable pub in_at : Bool → ℕ → Tree → ℕ → Tokens → Result Found SqlFault
-    in_at negated place left depth ts = do
-      here ← deeper place depth
-      behind ← expect is_open ts
-      items ← list_at (inside Whole (place_of ts)) behind
-      d ← deeper place (max depth items.depth)
-      rest ← expect is_close items.rest
-      Ok (record { tree = In left negated items.trees; depth = d; rest = rest })
+    -- the list of an IN
+    abbrev pub list_at : ℕ → Reader Parts
+    list_at place = items_at (item_add (inside Whole place)) (record { trees = none; depth = 0 })
 
-    unfoldable pub between_at : Bool → ℕ → Tree → ℕ → Tokens → Result Found SqlFault
-    between_at negated place left depth ts = do
-      here ← deeper place depth
-      low ← cat_at ts
-      there ← deeper place (max depth low.depth)
-      behind ← expect is_and low.rest
-      high ← cat_at behind
-      d ← deeper place (max depth (max low.depth high.depth))
-      Ok (record { tree = Between left negated low.tree high.tree; depth = d; rest = high.rest })
+    -- what stands behind IN, or NOT IN, which makes the node at this place
+    unfoldable pub in_at : Bool → ℕ → Part → Reader Part
+    in_at negated place a ts =
+        (fits place a.depth >> expect last (is_sign signs.Open) >> closed last (λ e. e) (list_at (place_of last ts) >>= λ l. node place (max a.depth l.depth) (In a.tree negated l.trees))) ts
 
-    -- IN or BETWEEN behind NOT
-    abbrev pub not_in_of : Token → ℕ → Found → At Token → Tokens → Result Found SqlFault
-    not_in_of (tok.word words.In s) place a t ts = in_at true place a.tree a.depth ts
-    not_in_of (tok.word words.Between s) place a t ts = between_at true place a.tree a.depth ts
-    not_in_of _ place a t ts = Err (misplaced (t ∷ ts))
+    -- what stands behind BETWEEN, or NOT BETWEEN
+    unfoldable pub between_at : Bool → ℕ → Part → Reader Part
+    between_at negated place a = do
+      fits place a.depth
+      low ← cat_at
+      fits place (max a.depth low.depth)
+      keyword last words.And
+      high ← cat_at
+      node place (max a.depth (max low.depth high.depth)) (Between a.tree negated low.tree high.tree)
 
-    abbrev pub not_in_at : ℕ → Found → Tokens → Result Found SqlFault
-    not_in_at place a [] = Err (misplaced [])
-    not_in_at place a (t ∷ ts) = not_in_of t.tok place a t ts
+    -- IN or BETWEEN, if one stands next, else what others read
+    abbrev pub in_or : Bool → ℕ → Part → Reader Part → Reader Part
+    in_or negated place a others = either (is_word words.In) (in_at negated place a) (either (is_word words.Between) (between_at negated place a) others)
 
-    -- behind a NOT at this place, which makes the node, whatever stands behind it
-    abbrev pub not_in_from : ℕ → Found → Tokens → Result Found SqlFault
-    not_in_from place a ts = do
-      here ← deeper place a.depth
-      not_in_at place a ts
+    -- behind a NOT at this place, which makes the node
+    abbrev pub not_in_at : ℕ → Part → Reader Part
+    not_in_at place a = fits place a.depth >> in_or true place a (λ ts. Err (misplaced last ts))
 
-    abbrev pub inn_of : Token → ℕ → Found → Tokens → Result Found SqlFault
-    inn_of (tok.word words.In s) place a ts = in_at false place a.tree a.depth ts
-    inn_of (tok.word words.Between s) place a ts = between_at false place a.tree a.depth ts
-    inn_of (tok.word words.Not s) place a ts = not_in_from place a ts
-    inn_of _ place a ts = Ok a
+    -- [NOT] IN or [NOT] BETWEEN behind this operand, if any
+    abbrev pub inn_more : Part → Reader Part
+    inn_more a ts = in_or false (place_of last ts) a (either (is_word words.Not) (not_in_at (place_of last ts) a) (gives a)) ts
 
-    abbrev pub inn_more : Found → Tokens → Result Found SqlFault
-    inn_more a [] = Ok a
-    inn_more a (t ∷ ts) = inn_of t.tok t.span.start a ts
+    unfoldable pub inn_at : Reader Part
+    inn_at = cat_at >>= inn_more
 
-    unfoldable pub inn_at : Reader
-    inn_at ts = do
-      a ← cat_at ts
-      inn_more a a.rest
+    -- a comparison behind this operand, if any
+    abbrev pub cmp_more : Part → Reader Part
+    cmp_more a ts = by_first comparison_op (operation inn_at (place_of last ts) a) (gives a) ts
 
-    abbrev pub cmp_more : Option Found_op → Found → Result Found SqlFault
-    cmp_more None a = Ok a
-    cmp_more (Some o) a = do
-      here ← deeper o.place a.depth
-      b ← inn_at o.rest
-      join o a b
+    unfoldable pub cmp_at : Reader Part
+    cmp_at = inn_at >>= cmp_more
 
-    unfoldable pub cmp_at : Reader
-    cmp_at ts = do
-      a ← inn_at ts
-      cmp_more (next_op comparison_op a.rest) a
+    unfoldable pub is_at : Reader Part
+    is_at = cmp_at >>= is_more
 
-    unfoldable pub is_at : Reader
-    is_at ts = do
-      a ← cmp_at ts
-      is_more a a.rest
+    abbrev pub not_at : Reader Part
+    not_at ts = either (is_word words.Not) (opened Negation Not (place_of last ts)) is_at ts
 
-    unfoldable pub negation_at : ℕ → Reader
-    negation_at place ts = do
-      e ← inside Negation place ts
-      d ← deeper place e.depth
-      Ok (record { tree = Not e.tree; depth = d; rest = e.rest })
-
-    abbrev pub not_at : Reader
-    not_at [] = is_at []
-    not_at (t ∷ ts) = if is_not t.tok then negation_at t.span.start ts else is_at (t ∷ ts)
-
-    unfoldable pub and_at : Reader
+    unfoldable pub and_at : Reader Part
     and_at = chain not_at and_op
 
-    unfoldable pub or_at : Reader
+    unfoldable pub or_at : Reader Part
     or_at = chain and_at or_op
 
-    -- a level whose chains group to the left, and its operands
-    abbrev pub chain_at : Chain → Reader
-    chain_at chain_of.Or = or_at
-    chain_at chain_of.And = and_at
-    chain_at chain_of.Concat = cat_at
-    chain_at chain_of.Sum = add_at
-    chain_at chain_of.Product = mul_at
-
-    abbrev pub operand_at : Chain → Reader
-    operand_at chain_of.Or = and_at
-    operand_at chain_of.And = not_at
-    operand_at chain_of.Concat = add_at
-    operand_at chain_of.Sum = mul_at
-    operand_at chain_of.Product = una_at
-
-    abbrev pub at_level : Opened → Reader
+    abbrev pub at_level : Opened → Reader Part
     at_level Whole = or_at
     at_level Negation = not_at
     at_level Unary = una_at
 
   -- what is read behind an opening at this place, of which so many may still be open
-  unfoldable pub inside : ℕ → Opened → ℕ → Reader
+  unfoldable pub inside : ℕ → Opened → ℕ → Reader Part
   inside zero level place ts = Err (TooDeep place)
   inside (suc n) level place ts = at_level (inside n) level ts
 
   -- an expression
-  abbrev pub expr_at : Reader
-  expr_at = or_at (inside 64)
+  abbrev pub expr_at : Tokens → Result Found SqlFault
+  expr_at ts = and_then (or_at (inside 64) ts) (λ x. Ok (record { tree = x.0.tree; depth = x.0.depth; rest = x.1 }))

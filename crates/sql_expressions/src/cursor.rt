@@ -1,12 +1,14 @@
 //! Where reading stands in the tokens.
 
 ghost use Rattle.std.specs.Prelude.{◌≡◌, option_map};
+ghost use Rattle.iso_lexer.specs.declared.sql_token.SqlSign.TheVariants as signs;
 ghost use Rattle.sql_trees.specs.Tokens.{tok_views};
-ghost use Rattle.sql_expressions.specs.Reading.{Gives, after_comma, expect, is_and, is_close, is_open, misplaced, place_of};
+ghost use Rattle.sql_expressions.specs.Results.{Gives};
+ghost use Rattle.sql_expressions.specs.Readers.{after, is_sign, expect, misplaced, place_of};
 
 use crate::operator::is_left_out;
 use iso_lexer::{At, SqlSign};
-use sql_trees::{SqlFault, Tok, Word};
+use sql_trees::{SqlFault, Tok};
 use std::alloc::Global;
 
 pub type Tokens<'t, 'a> = &'t [At<Tok<'a>>];
@@ -21,7 +23,7 @@ pub struct Parser {
 
 /// The tokens after a comma, if one stands next.
 pub fn after_comma<'t, 'a>(tokens: Tokens<'t, 'a>) -> Option<Tokens<'t, 'a>>
-    ensures { option_map (λ rest. tok_views rest.now) result ≡ after_comma (tok_views tokens.now) }
+    ensures { option_map (λ rest. tok_views rest.now) result ≡ after (is_sign signs.Comma) (tok_views tokens.now) }
 {
     match tokens {
         [
@@ -59,7 +61,7 @@ impl Parser {
 
     /// The tokens behind a `(`, which has to stand next.
     pub fn open<'t, 'a>(self, tokens: Tokens<'t, 'a>) -> Result<Tokens<'t, 'a>, SqlFault>
-        ensures { Gives (λ rest. tok_views rest.now) result (expect self.text_len is_open (tok_views tokens.now)) }
+        ensures { Gives (λ rest. tok_views rest.now) result (expect self.text_len (is_sign signs.Open) (tok_views tokens.now)) }
     {
         match tokens {
             [
@@ -75,28 +77,12 @@ impl Parser {
 
     /// The tokens behind a `)`, which has to stand next.
     pub fn close<'t, 'a>(self, tokens: Tokens<'t, 'a>) -> Result<Tokens<'t, 'a>, SqlFault>
-        ensures { Gives (λ rest. tok_views rest.now) result (expect self.text_len is_close (tok_views tokens.now)) }
+        ensures { Gives (λ rest. tok_views rest.now) result (expect self.text_len (is_sign signs.Close) (tok_views tokens.now)) }
     {
         match tokens {
             [
                 At {
                     tok: Tok::Sign(SqlSign::Close),
-                    ..
-                },
-                rest @ ..,
-            ] => Ok(rest),
-            _ => Err(self.misplaced(tokens)),
-        }
-    }
-
-    /// The tokens behind an `AND`, which has to stand next.
-    pub fn and<'t, 'a>(self, tokens: Tokens<'t, 'a>) -> Result<Tokens<'t, 'a>, SqlFault>
-        ensures { Gives (λ rest. tok_views rest.now) result (expect self.text_len is_and (tok_views tokens.now)) }
-    {
-        match tokens {
-            [
-                At {
-                    tok: Tok::Word(Word::And, _),
                     ..
                 },
                 rest @ ..,

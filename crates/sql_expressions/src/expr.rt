@@ -6,7 +6,10 @@ ghost use Rattle.sql_trees.specs.Tokens.{Tokens, tok_view, tok_views, tok_at};
 ghost use Rattle.sql_trees.specs.Trees.{Tree, tree_of};
 ghost use Rattle.sql_expressions.specs.Build.{negated};
 ghost use Rattle.sql_expressions.specs.Grammar.{Begins, Ends, Spells, OR};
-ghost use Rattle.sql_expressions.specs.Reading.{Gives, Found_op, Found_list, found, found_list, deeper, join, comparison_op, chain_op, next_op, column_first, prim_at, una_at, chain_at, operand_at, in_at, between_at, not_in_from, inn_at, cmp_at, is_of, is_tail, is_more, is_at, not_at, inside, list_at, expr_at};
+ghost use Rattle.sql_expressions.specs.Results.{Gives};
+ghost use Rattle.sql_expressions.specs.Readers.{expect};
+ghost use Rattle.sql_expressions.specs.Reading.{found, comparison_op, expr_at};
+ghost use Rattle.sql_expressions.specs.Inner.Pieces.{Found_op, Found_list, found_list, is_and, deeper, join, chain_op, next_op, column_first, prim_at, una_at, chain_at, operand_at, in_at, between_at, not_in_from, inn_at, cmp_at, is_of, is_tail, is_more, is_at, not_at, inside, list_at};
 
 use crate::cursor::{Parser, Tokens, after_comma};
 use crate::level::{Chain, Opened};
@@ -42,6 +45,22 @@ fn leaf<'t, 'a>(expr: Expr<'a>, rest: Tokens<'t, 'a>) -> (Parsed<'a>, Tokens<'t,
 }
 
 impl Parser {
+    // The tokens behind an `AND`, which has to stand next.
+    fn and<'t, 'a>(self, tokens: Tokens<'t, 'a>) -> Result<Tokens<'t, 'a>, SqlFault>
+        ensures { Gives (λ rest. tok_views rest.now) result (expect self.text_len is_and (tok_views tokens.now)) }
+    {
+        match tokens {
+            [
+                At {
+                    tok: Tok::Word(Word::And, _),
+                    ..
+                },
+                rest @ ..,
+            ] => Ok(rest),
+            _ => Err(self.misplaced(tokens)),
+        }
+    }
+
     // The column that the first token names, with no call behind it.
     fn column<'t, 'a>(self, tokens: Tokens<'t, 'a>) -> Read<'t, 'a>
         ensures { Gives (λ x. found x.0 x.1.now) result (column_first self.text_len (tok_views tokens.now)) }
@@ -197,7 +216,7 @@ impl Parser {
 
     // What stands behind an opening at this place, of which so many may still be made.
     #[cycle(levels)]
-    #[tactic(auto, unfolding(crate::specs::Reading::inside))]
+    #[tactic(auto, unfolding(crate::specs::Inner::Pieces::inside))]
     fn opened<'t, 'a>(
         self,
         level: Opened,
@@ -218,7 +237,7 @@ impl Parser {
     }
 
     #[cycle(levels)]
-    #[tactic(auto, unfolding(crate::specs::Reading::parens_at))]
+    #[tactic(auto, unfolding(crate::specs::Inner::Pieces::parens_at))]
     fn prim<'t, 'a>(self, room: usize, tokens: Tokens<'t, 'a>) -> Read<'t, 'a>
         ensures { Gives (λ x. found x.0 x.1.now) result (prim_at self.text_len (inside self.text_len room) (tok_views tokens.now)) }
     {
@@ -249,7 +268,7 @@ impl Parser {
     }
 
     #[cycle(levels)]
-    #[tactic(auto, unfolding(crate::specs::Reading::sign_at))]
+    #[tactic(auto, unfolding(crate::specs::Inner::Pieces::sign_at))]
     fn unary<'t, 'a>(self, room: usize, tokens: Tokens<'t, 'a>) -> Read<'t, 'a>
         ensures { Gives (λ x. found x.0 x.1.now) result (una_at self.text_len (inside self.text_len room) (tok_views tokens.now)) }
     {
@@ -283,7 +302,7 @@ impl Parser {
     }
 
     #[cycle(levels)]
-    #[tactic(auto, unfolding(crate::specs::Reading::negation_at))]
+    #[tactic(auto, unfolding(crate::specs::Inner::Pieces::negation_at))]
     fn not<'t, 'a>(self, room: usize, tokens: Tokens<'t, 'a>) -> Read<'t, 'a>
         ensures { Gives (λ x. found x.0 x.1.now) result (not_at self.text_len (inside self.text_len room) (tok_views tokens.now)) }
     {
@@ -305,7 +324,7 @@ impl Parser {
     }
 
     #[cycle(levels)]
-    #[tactic(auto, unfolding(crate::specs::Reading::is_at))]
+    #[tactic(auto, unfolding(crate::specs::Inner::Pieces::is_at))]
     fn is<'t, 'a>(self, room: usize, tokens: Tokens<'t, 'a>) -> Read<'t, 'a>
         ensures { Gives (λ x. found x.0 x.1.now) result (is_at self.text_len (inside self.text_len room) (tok_views tokens.now)) }
     {
@@ -314,7 +333,7 @@ impl Parser {
     }
 
     #[cycle(levels)]
-    #[tactic(auto, unfolding(crate::specs::Reading::cmp_at))]
+    #[tactic(auto, unfolding(crate::specs::Inner::Pieces::cmp_at))]
     fn comparison<'t, 'a>(self, room: usize, tokens: Tokens<'t, 'a>) -> Read<'t, 'a>
         ensures { Gives (λ x. found x.0 x.1.now) result (cmp_at self.text_len (inside self.text_len room) (tok_views tokens.now)) }
     {
@@ -329,7 +348,7 @@ impl Parser {
 
     // `IN` and `BETWEEN`.
     #[cycle(levels)]
-    #[tactic(auto, unfolding(crate::specs::Reading::inn_at))]
+    #[tactic(auto, unfolding(crate::specs::Inner::Pieces::inn_at))]
     fn membership<'t, 'a>(self, room: usize, tokens: Tokens<'t, 'a>) -> Read<'t, 'a>
         ensures { Gives (λ x. found x.0 x.1.now) result (inn_at self.text_len (inside self.text_len room) (tok_views tokens.now)) }
     {
@@ -370,7 +389,7 @@ impl Parser {
     }
 
     #[cycle(levels)]
-    #[tactic(auto, unfolding(crate::specs::Reading::between_at))]
+    #[tactic(auto, unfolding(crate::specs::Inner::Pieces::between_at))]
     fn between<'t, 'a>(
         self,
         negated: bool,
@@ -400,7 +419,7 @@ impl Parser {
     }
 
     #[cycle(levels)]
-    #[tactic(auto, unfolding(crate::specs::Reading::in_at))]
+    #[tactic(auto, unfolding(crate::specs::Inner::Pieces::in_at))]
     fn contained<'t, 'a>(
         self,
         negated: bool,

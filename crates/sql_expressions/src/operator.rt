@@ -2,7 +2,9 @@
 
 ghost use Rattle.std.specs.Prelude.{◌≡◌};
 ghost use Rattle.sql_trees.specs.Tokens.{tok_view};
-ghost use Rattle.sql_expressions.specs.Reading.{is_call, left_out, truth_of, comparison_op, chain_op};
+ghost use Rattle.sql_expressions.specs.Readers.{left_out};
+ghost use Rattle.sql_expressions.specs.Reading.{is_call, truth_of, comparison_op};
+ghost use Rattle.sql_expressions.specs.Inner.Pieces.{chain_op};
 
 use crate::level::Chain;
 use iso_lexer::SqlSign;

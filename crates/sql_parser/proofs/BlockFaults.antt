@@ -12,11 +12,13 @@ use Rattle.sql_trees.specs.Tokens.{Token, Tokens}
 use Rattle.sql_trees.specs.Tokens as tok
 use Rattle.iso_lexer.specs.declared.sql_token.SqlSign.TheVariants as signs
 use Rattle.sql_trees.specs.Trees.{Tree}
-use Rattle.sql_expressions.specs.Reading.{is_call, misplaced, place_of, ◌>>=◌}
+use Rattle.sql_expressions.specs.Results.{◌>>=◌}
+use Rattle.sql_expressions.specs.Readers.{is_sign, misplaced, place_of}
+use Rattle.sql_expressions.specs.Reading.{is_call}
 use Rattle.sql_expressions.specs.Laws.{head, Makes, first}
 use Rattle.sql_expressions.specs.Laws as expr
 use Rattle.sql_parser.specs.declared.block.Role.{Role}
-use Rattle.sql_parser.specs.Blocks.{is_semicolon, whole_at, piece_at, stmts_at}
+use Rattle.sql_parser.specs.Blocks.{whole_at, piece_at, stmts_at}
 use Rattle.sql_parser.specs.Kept.{is_kept_in}
 use Rattle.sql_parser.specs.Grammar.{Is, RowIs, is_row, Spells, PieceIs, no_stmt, a_stmt, BlockIs, last_piece, next_piece, EndedAre, no_pieces, ended_piece, Shallow, OfAnyDepth}
 use Rattle.sql_parser.specs.Stops.{Refuses, at_next, at_word, at_name, at_row, in_expression, too_deep, WantsWords, IsStop}
@@ -47,30 +49,30 @@ free_parts xs ys f = and_parts (list_all is_free xs) (list_all is_free ys) (sym 
 -- a list up to its first semicolon
 pub data Split : Tokens → Type 0 where
   whole : (ts : Tokens) → Free ts → Split ts
-  ended : (ts us : Tokens) (c : At Token) → Free ts → Is is_semicolon c → Split (ts ++ c ∷ us)
+  ended : (ts us : Tokens) (c : At Token) → Free ts → Is (is_sign signs.Semicolon) c → Split (ts ++ c ∷ us)
 
 pub split : (ts : Tokens) → Split ts
 split [] = whole [] refl
-split (t ∷ ts) = of_test (is_semicolon t.tok) refl (split ts)
+split (t ∷ ts) = of_test (is_sign signs.Semicolon t.tok) refl (split ts)
   where
-    of_split : (us : Tokens) → is_semicolon t.tok ≡ false → Split us → Split (t ∷ us)
+    of_split : (us : Tokens) → is_sign signs.Semicolon t.tok ≡ false → Split us → Split (t ∷ us)
     of_split _ h (whole us f) = whole (t ∷ us) (and_from (is_free t) (list_all is_free us) (ap not h) f)
     of_split _ h (ended us vs c f g) = ended (t ∷ us) vs c (and_from (is_free t) (list_all is_free us) (ap not h) f) g
 
-    of_test : (b : Bool) → is_semicolon t.tok ≡ b → Split ts → Split (t ∷ ts)
+    of_test : (b : Bool) → is_sign signs.Semicolon t.tok ≡ b → Split ts → Split (t ∷ ts)
     of_test true h s = ended [] ts t refl h
     of_test false h s = of_split ts h s
 
 -- a semicolon is refused as Syntax
-semicolon_next : (last : ℕ) (c : At Token) (us : Tokens) → Is is_semicolon c → misplaced last (c ∷ us) ≡ Syntax c.span.start
+semicolon_next : (last : ℕ) (c : At Token) (us : Tokens) → Is (is_sign signs.Semicolon) c → misplaced last (c ∷ us) ≡ Syntax c.span.start
 semicolon_next last c us h = of_tok c.tok refl h
   where
-    of_tok : (x : Token) → c.tok ≡ x → is_semicolon x ≡ true → misplaced last (c ∷ us) ≡ Syntax c.span.start
+    of_tok : (x : Token) → c.tok ≡ x → is_sign signs.Semicolon x ≡ true → misplaced last (c ∷ us) ≡ Syntax c.span.start
     of_tok (tok.sign signs.Semicolon) e g = rw e refl
     of_tok _ e g = absurd cc
 
 -- what is refused at a piece's end is refused where what is behind it begins
-module _ (last : ℕ) (behind : Tokens) (first_behind : (c : At Token) (us : Tokens) → behind ≡ c ∷ us → Is is_semicolon c) (W V : Type 0) (up : W → V) where
+module _ (last : ℕ) (behind : Tokens) (first_behind : (c : At Token) (us : Tokens) → behind ≡ c ∷ us → Is (is_sign signs.Semicolon) c) (W V : Type 0) (up : W → V) where
   of_rest : (us : Tokens) → place_of last (us ++ behind) ≡ place_of (place_of last behind) us
   of_rest [] = refl
   of_rest (u ∷ us) = refl
@@ -141,14 +143,14 @@ module _ (role : Role) (f : SqlFault) (stops : IsStop f) where
 
   -- ---- in a piece
 
-  some_free : (t : At Token) (xs ys : Tokens) → Free (xs ++ t ∷ ys) → is_semicolon t.tok ≡ true → ⊥
+  some_free : (t : At Token) (xs ys : Tokens) → Free (xs ++ t ∷ ys) → is_sign signs.Semicolon t.tok ≡ true → ⊥
   some_free t xs ys f h =
       let p = and_parts (is_free t) (list_all is_free ys) (free_parts xs (t ∷ ys) f).1 in
-      let e : not (is_semicolon t.tok) ≡ true = p.0 in
-      let g : not (is_semicolon t.tok) ≡ false = ap not h in
+      let e : not (is_sign signs.Semicolon t.tok) ≡ true = p.0 in
+      let g : not (is_sign signs.Semicolon t.tok) ≡ false = ap not h in
       cc
 
-  module _ (last : ℕ) (behind : Tokens) (first_behind : (c : At Token) (us : Tokens) → behind ≡ c ∷ us → Is is_semicolon c) where
+  module _ (last : ℕ) (behind : Tokens) (first_behind : (c : At Token) (us : Tokens) → behind ≡ c ∷ us → Is (is_sign signs.Semicolon) c) where
     -- a statement that is read goes on otherwise
     wrong : (piece front rest : Tokens) → 0 < length piece → piece ≡ front ++ rest → ((others : Tokens) (s : StmtTree) → head others ≡ head rest → Spells Shallow (front ++ others) s → is_kept_in role s ≡ true → ⊥)
         → (n : ℕ) (ss more : List StmtTree) (us : Tokens) → head us ≡ head rest → length (front ++ us) < 2 ^ 32 → piece_at n role ss (front ++ us) ≡ Ok more → ⊥
@@ -163,23 +165,23 @@ module _ (role : Role) (f : SqlFault) (stops : IsStop f) where
         longer (x ∷ xs) ys zs g l = omega arith
 
     -- the first token behind what is read is the fault's, or stands behind the piece
-    heads : (rest us : Tokens) → Free rest → Free us → (tail : Tokens) → ((c : At Token) (vs : Tokens) → tail ≡ c ∷ vs → Is is_semicolon c) → head (us ++ tail) ≡ head (rest ++ behind) → head us ≡ head rest
+    heads : (rest us : Tokens) → Free rest → Free us → (tail : Tokens) → ((c : At Token) (vs : Tokens) → tail ≡ c ∷ vs → Is (is_sign signs.Semicolon) c) → head (us ++ tail) ≡ head (rest ++ behind) → head us ≡ head rest
     heads [] [] f g tail k h = refl
     heads [] (u ∷ us) f g tail k h = of_behind behind first_behind h
       where
-        of_behind : (bs : Tokens) → ((c : At Token) (vs : Tokens) → bs ≡ c ∷ vs → Is is_semicolon c) → Some u ≡ head bs → head (u ∷ us) ≡ head []
+        of_behind : (bs : Tokens) → ((c : At Token) (vs : Tokens) → bs ≡ c ∷ vs → Is (is_sign signs.Semicolon) c) → Some u ≡ head bs → head (u ∷ us) ≡ head []
         of_behind [] j e = absurd cc
         of_behind (c ∷ vs) j e =
             let same : c ≡ u = some_same c u (sym e) in
-            absurd (some_free u [] us g (subst (λ (x : At Token). is_semicolon x.tok ≡ true) same (j c vs refl)))
+            absurd (some_free u [] us g (subst (λ (x : At Token). is_sign signs.Semicolon x.tok ≡ true) same (j c vs refl)))
     heads (r ∷ rs) (u ∷ us) f g tail k h = h
     heads (r ∷ rs) [] f g tail k h = of_tail tail k h
       where
-        of_tail : (bs : Tokens) → ((c : At Token) (vs : Tokens) → bs ≡ c ∷ vs → Is is_semicolon c) → head bs ≡ Some r → head [] ≡ head (r ∷ rs)
+        of_tail : (bs : Tokens) → ((c : At Token) (vs : Tokens) → bs ≡ c ∷ vs → Is (is_sign signs.Semicolon) c) → head bs ≡ Some r → head [] ≡ head (r ∷ rs)
         of_tail [] j e = absurd cc
         of_tail (c ∷ vs) j e =
             let same : c ≡ r = some_same c r e in
-            absurd (some_free r [] rs f (subst (λ (x : At Token). is_semicolon x.tok ≡ true) same (j c vs refl)))
+            absurd (some_free r [] rs f (subst (λ (x : At Token). is_sign signs.Semicolon x.tok ≡ true) same (j c vs refl)))
 
     not_read : (piece front rest : Tokens) → Free piece → piece ≡ front ++ rest → 0 < length piece → ((others : Tokens) (s : StmtTree) → head others ≡ head rest → Spells Shallow (front ++ others) s → is_kept_in role s ≡ true → ⊥)
         → (n : ℕ) (ss more : List StmtTree) (others : Tokens) → Split others → head others ≡ head (rest ++ behind) → length (front ++ others) < 2 ^ 32 → stmts_at n role ss [] (front ++ others) ≡ Ok more → ⊥
@@ -189,7 +191,7 @@ module _ (role : Role) (f : SqlFault) (stops : IsStop f) where
         wrong piece front rest some parts none n ss more us g less (sym (last_of n role ss [] (front ++ us) (list_all-append is_free front us ∙ and_from (list_all is_free front) (list_all is_free us) p.0 f)) ∙ e)
     not_read piece front rest free parts some none n ss more _ (ended us vs c f k) h less e =
         let p = free_parts front rest (subst Free parts free) in
-        let g = heads rest us p.1 f (c ∷ vs) (λ d ws same. subst (λ (x : At Token). is_semicolon x.tok ≡ true) (first_same c d vs ws same) k) h in
+        let g = heads rest us p.1 f (c ∷ vs) (λ d ws same. subst (λ (x : At Token). is_sign signs.Semicolon x.tok ≡ true) (first_same c d vs ws same) k) h in
         let all : Free (front ++ us) = list_all-append is_free front us ∙ and_from (list_all is_free front) (list_all is_free us) p.0 f in
         let read = bind_ok (piece_at c.span.start role ss (front ++ us)) (λ m. stmts_at n role m [] vs) more (sym (piece_of n role ss [] (front ++ us) vs c all k) ∙ (ap (stmts_at n role ss []) (append_assoc front us (c ∷ vs)) ∙ e)) in
         let fewer : length (front ++ us) < 2 ^ 32 = omega (arith, less, length-append front us, length-append front (us ++ c ∷ vs), length-append us (c ∷ vs)) in
@@ -208,7 +210,7 @@ module _ (role : Role) (f : SqlFault) (stops : IsStop f) where
 
   -- ---- behind a piece that is read
 
-  behind_piece : (last : ℕ) (piece us : Tokens) (c : At Token) (ps : List StmtTree) → Free piece → Is is_semicolon c → PieceIs OfAnyDepth piece ps → Ends last us → Ends last (piece ++ c ∷ us)
+  behind_piece : (last : ℕ) (piece us : Tokens) (c : At Token) (ps : List StmtTree) → Free piece → Is (is_sign signs.Semicolon) c → PieceIs OfAnyDepth piece ps → Ends last us → Ends last (piece ++ c ∷ us)
   behind_piece last piece us c ps free hc p (halts s) = halts (record {
     front = piece ++ c ∷ s.front;
     rest = s.rest;
@@ -251,7 +253,7 @@ module _ (role : Role) (f : SqlFault) (stops : IsStop f) where
       of_piece (Ok more) is h go = let p = piece_any c.span.start role ss more ts is in behind_piece last ts us c p.0 free hc p.1 (go more h)
       of_piece (Err g) is h go =
           let p = piece_fault c.span.start ss ts (is ∙ h) in
-          in_piece last (c ∷ us) (λ d vs k. subst (λ (x : At Token). is_semicolon x.tok ≡ true) (first_same c d us vs k) hc) ts free p.0 (faults_are_first c.span.start role ts f stops p.1)
+          in_piece last (c ∷ us) (λ d vs k. subst (λ (x : At Token). is_sign signs.Semicolon x.tok ≡ true) (first_same c d us vs k) hc) ts free p.0 (faults_are_first c.span.start role ts f stops p.1)
 
 pub block_faults_are_first : BlockFaultsAreFirst
 block_faults_are_first last role ts f stops e = of_ends (whole_block role f stops last (length ts) [] ts (omega arith) (split ts) e)

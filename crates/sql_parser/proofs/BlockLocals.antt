@@ -11,9 +11,10 @@ use Rattle.sql_trees.specs.Statements.{StmtTree, Commit, Rollback}
 use Rattle.sql_trees.specs.Tokens.{Token, Tokens, named}
 use Rattle.sql_trees.specs.Tokens as tok
 use Rattle.sql_trees.specs.Trees.{Tree}
-use Rattle.sql_expressions.specs.Reading.{expect, is_word, is_open, is_close, ◌>>=◌, misplaced}
+use Rattle.sql_expressions.specs.Results.{◌>>=◌}
+use Rattle.sql_expressions.specs.Readers.{expect, is_word, is_sign, misplaced, some_or, name_at, items_at, Reader}
 use Rattle.sql_parser.specs.declared.block.Role.{Role}
-use Rattle.sql_parser.specs.Readers.{some_or, past, name_at, tree_at, items_at, Reader}
+use Rattle.sql_parser.specs.Readers.{past, tree_at}
 use Rattle.sql_parser.specs.Transactions.{is_work, begin_at, start_at, set_at}
 use Rattle.sql_parser.specs.Tables.{TableRead, empty_table, table_add, keys_fault, column_names, finished, create_at, drop_at, created}
 use Rattle.sql_parser.specs.Changes.{insert_at, update_at, delete_at}
@@ -58,9 +59,9 @@ module _ (last : ℕ) (E : Tokens → Tree → Type 0) (W Any : Type 0) (an_expr
   -- ---- CREATE
 
   abbrev table_behind : List ℕ → Reader (Result StmtTree SqlFault)
-  table_behind name vs = items_at (table_add last) empty_table vs >>= λ t. expect last is_close t.1 >>= λ rest. Ok (finished name t.0, rest)
+  table_behind name vs = items_at (table_add last) empty_table vs >>= λ t. expect last (is_sign signs.Close) t.1 >>= λ rest. Ok (finished name t.0, rest)
 
-  whole_table : (c t n o z : At Token) (name : List ℕ) (ts : Tokens) (parts : TableRead) → Key words.Create c → Key words.Table t → Names name n → Is is_open o → Commas AddsPart empty_table ts parts → Is is_close z → Whole E (c ∷ t ∷ n ∷ o ∷ (ts ++ z ∷ [])) (finished name parts)
+  whole_table : (c t n o z : At Token) (name : List ℕ) (ts : Tokens) (parts : TableRead) → Key words.Create c → Key words.Table t → Names name n → Is (is_sign signs.Open) o → Commas AddsPart empty_table ts parts → Is (is_sign signs.Close) z → Whole E (c ∷ t ∷ n ∷ o ∷ (ts ++ z ∷ [])) (finished name parts)
   whole_table c t n o z name ts parts hc ht hn ho q hz = record {
     stmt = created name parts;
     spells = create c t n o z name ts parts hc ht hn ho q hz;
@@ -74,16 +75,16 @@ module _ (last : ℕ) (E : Tokens → Tree → Type 0) (W Any : Type 0) (an_expr
       let open' = a_sign signs.Open in
       let close' = a_sign signs.Close in
       let s = some_parts last E W Any w in
-      token_then last E W Any (λ xs r. Whole E (c ∷ xs) r) (is_word words.Table) (λ us. name_at last us >>= λ x. expect last is_open x.1 >>= table_behind x.0) ts
+      token_then last E W Any (λ xs r. Whole E (c ∷ xs) r) (is_word words.Table) (λ us. name_at last us >>= λ x. expect last (is_sign signs.Open) x.1 >>= table_behind x.0) ts
       (table ∷ a_name ∷ open' ∷ (s.0 ++ close' ∷ []), finished the_name s.1, whole_table c table a_name open' close' the_name s.0 s.1 hc (key_is words.Table []) refl refl s.2 refl) (λ t us ht.
-      name_then last E W Any (λ xs r. Whole E (c ∷ t ∷ xs) r) (λ n r. expect last is_open r >>= table_behind n) us
+      name_then last E W Any (λ xs r. Whole E (c ∷ t ∷ xs) r) (λ n r. expect last (is_sign signs.Open) r >>= table_behind n) us
       (a_name ∷ open' ∷ (s.0 ++ close' ∷ []), finished the_name s.1, whole_table c t a_name open' close' the_name s.0 s.1 hc ht refl refl s.2 refl) (λ n name vs hn.
-      token_then last E W Any (λ xs r. Whole E (c ∷ t ∷ n ∷ xs) r) is_open (table_behind name) vs
+      token_then last E W Any (λ xs r. Whole E (c ∷ t ∷ n ∷ xs) r) (is_sign signs.Open) (table_behind name) vs
       (open' ∷ (s.0 ++ close' ∷ []), finished name s.1, whole_table c t n open' close' name s.0 s.1 hc ht hn refl s.2 refl) (λ o ws ho.
-      in_turn last E W Any (Commas AddsPart empty_table) (λ xs r. Whole E (c ∷ t ∷ n ∷ o ∷ xs) r) (items_at (table_add last) empty_table) (λ parts r. expect last is_close r >>= λ rest. Ok (finished name parts, rest)) ws
+      in_turn last E W Any (Commas AddsPart empty_table) (λ xs r. Whole E (c ∷ t ∷ n ∷ o ∷ xs) r) (items_at (table_add last) empty_table) (λ parts r. expect last (is_sign signs.Close) r >>= λ rest. Ok (finished name parts, rest)) ws
       (λ xs parts q. (close' ∷ [], finished name parts, whole_table c t n o close' name xs parts hc ht hn ho q refl))
       (parts_local last E W Any w ws)
-      (λ parts xs rest split q. token_last last E W Any (λ ys r. Whole E (c ∷ t ∷ n ∷ o ∷ (xs ++ ys)) r) is_close (finished name parts) rest
+      (λ parts xs rest split q. token_last last E W Any (λ ys r. Whole E (c ∷ t ∷ n ∷ o ∷ (xs ++ ys)) r) (is_sign signs.Close) (finished name parts) rest
       (close' ∷ [], finished name parts, whole_table c t n o close' name xs parts hc ht hn ho q refl) (λ z hz. whole_table c t n o z name xs parts hc ht hn ho q hz)))))
 
   -- ---- statements

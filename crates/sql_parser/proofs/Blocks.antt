@@ -4,14 +4,16 @@ use Rattle.std.proofs.lemmas.Bool.{lt-ltb}
 use Rattle.std.proofs.lemmas.List.{length-map}
 use Rattle.std.specs.Prelude.{Result, Ok, Err, Bool, true, false, nat_lt, if◌then◌else◌}
 use Rattle.iso_lexer.specs.declared.token.At.{At}
+use Rattle.iso_lexer.specs.declared.sql_token.SqlSign.TheVariants as signs
 use Rattle.sql_trees.specs.declared.fault.SqlFault.{SqlFault}
 use Rattle.sql_trees.specs.declared.token.Tok.{Tok}
 use Rattle.sql_trees.specs.declared.stmt.Stmt.{Stmt}
 use Rattle.sql_trees.specs.Statements.{StmtTree, stmt_of}
 use Rattle.sql_trees.specs.Tokens.{Tokens, tok_at, tok_view, tok_views}
-use Rattle.sql_expressions.specs.Reading.{◌>>=◌}
+use Rattle.sql_expressions.specs.Readers.{is_sign}
+use Rattle.sql_expressions.specs.Results.{◌>>=◌}
 use Rattle.sql_parser.specs.declared.block.Role.{Role}
-use Rattle.sql_parser.specs.Blocks.{is_semicolon, whole_at, piece_at, stmts_at}
+use Rattle.sql_parser.specs.Blocks.{whole_at, piece_at, stmts_at}
 use Rattle.sql_parser.specs.Inner.Pieces.{piece_len, block_from, SplitsAs}
 
 module _ (last : ℕ) (role : Role) (ss : List StmtTree) where
@@ -19,9 +21,9 @@ module _ (last : ℕ) (role : Role) (ss : List StmtTree) where
   pub whole_from : (piece : Tokens) (xs : List (At Tok)) → drop (piece_len (tok_views xs)) xs ≡ [] → stmts_at last role ss piece (tok_views xs) ≡ piece_at last role ss (piece ++ tok_views xs)
   unfolding stmts_at
   whole_from piece [] e = ap (piece_at last role ss) (sym (append-nil piece))
-  whole_from piece (x ∷ xs) e = of_test (is_semicolon (tok_view x.tok)) refl (whole_from (piece ++ tok_at x ∷ []) xs) e
+  whole_from piece (x ∷ xs) e = of_test (is_sign signs.Semicolon (tok_view x.tok)) refl (whole_from (piece ++ tok_at x ∷ []) xs) e
     where
-      of_test : (b : Bool) → is_semicolon (tok_view x.tok) ≡ b → (drop (piece_len (tok_views xs)) xs ≡ [] → stmts_at last role ss (piece ++ tok_at x ∷ []) (tok_views xs) ≡ piece_at last role ss ((piece ++ tok_at x ∷ []) ++ tok_views xs)) → drop (if b then 0 else suc (piece_len (tok_views xs))) (x ∷ xs) ≡ [] → stmts_at last role ss piece (tok_at x ∷ tok_views xs) ≡ piece_at last role ss (piece ++ tok_at x ∷ tok_views xs)
+      of_test : (b : Bool) → is_sign signs.Semicolon (tok_view x.tok) ≡ b → (drop (piece_len (tok_views xs)) xs ≡ [] → stmts_at last role ss (piece ++ tok_at x ∷ []) (tok_views xs) ≡ piece_at last role ss ((piece ++ tok_at x ∷ []) ++ tok_views xs)) → drop (if b then 0 else suc (piece_len (tok_views xs))) (x ∷ xs) ≡ [] → stmts_at last role ss piece (tok_at x ∷ tok_views xs) ≡ piece_at last role ss (piece ++ tok_at x ∷ tok_views xs)
       of_test true h more d = absurd cc
       of_test false h more d = rw h (more d ∙ ap (piece_at last role ss) (append_assoc piece (tok_at x ∷ []) (tok_views xs)))
 
@@ -29,9 +31,9 @@ module _ (last : ℕ) (role : Role) (ss : List StmtTree) where
   pub piece_from : (piece : Tokens) (xs us : List (At Tok)) (t : At Tok) → drop (piece_len (tok_views xs)) xs ≡ t ∷ us → stmts_at last role ss piece (tok_views xs) ≡ (piece_at t.span.start role ss (piece ++ tok_views (take (piece_len (tok_views xs)) xs)) >>= λ more. block_from last role more (tok_views us))
   unfolding stmts_at
   piece_from piece [] us t e = absurd cc
-  piece_from piece (x ∷ xs) us t e = of_test (is_semicolon (tok_view x.tok)) refl (piece_from (piece ++ tok_at x ∷ []) xs us t) e
+  piece_from piece (x ∷ xs) us t e = of_test (is_sign signs.Semicolon (tok_view x.tok)) refl (piece_from (piece ++ tok_at x ∷ []) xs us t) e
     where
-      of_test : (b : Bool) → is_semicolon (tok_view x.tok) ≡ b → (drop (piece_len (tok_views xs)) xs ≡ t ∷ us → stmts_at last role ss (piece ++ tok_at x ∷ []) (tok_views xs) ≡ (piece_at t.span.start role ss ((piece ++ tok_at x ∷ []) ++ tok_views (take (piece_len (tok_views xs)) xs)) >>= λ more. block_from last role more (tok_views us))) → drop (if b then 0 else suc (piece_len (tok_views xs))) (x ∷ xs) ≡ t ∷ us → stmts_at last role ss piece (tok_at x ∷ tok_views xs) ≡ (piece_at t.span.start role ss (piece ++ tok_views (take (if b then 0 else suc (piece_len (tok_views xs))) (x ∷ xs))) >>= λ more. block_from last role more (tok_views us))
+      of_test : (b : Bool) → is_sign signs.Semicolon (tok_view x.tok) ≡ b → (drop (piece_len (tok_views xs)) xs ≡ t ∷ us → stmts_at last role ss (piece ++ tok_at x ∷ []) (tok_views xs) ≡ (piece_at t.span.start role ss ((piece ++ tok_at x ∷ []) ++ tok_views (take (piece_len (tok_views xs)) xs)) >>= λ more. block_from last role more (tok_views us))) → drop (if b then 0 else suc (piece_len (tok_views xs))) (x ∷ xs) ≡ t ∷ us → stmts_at last role ss piece (tok_at x ∷ tok_views xs) ≡ (piece_at t.span.start role ss (piece ++ tok_views (take (if b then 0 else suc (piece_len (tok_views xs))) (x ∷ xs))) >>= λ more. block_from last role more (tok_views us))
       of_test true h more d =
           let first : x ≡ t = cc in
           let behind : xs ≡ us = cc in

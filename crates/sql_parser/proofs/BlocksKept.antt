@@ -4,18 +4,20 @@ use Rattle.std.proofs.lemmas.Bool.{and_from, not_from_false}
 use Rattle.std.specs.List.{list_all}
 use Rattle.std.specs.Prelude.{Result, Ok, Err, Bool, true, false, not, ◌&&◌, nat_lt, if◌then◌else◌}
 use Rattle.iso_lexer.specs.declared.token.At.{At}
+use Rattle.iso_lexer.specs.declared.sql_token.SqlSign.TheVariants as signs
 use Rattle.sql_trees.specs.declared.fault.SqlFault.{SqlFault}
 use Rattle.sql_trees.specs.declared.fault.SqlFault.TheVariants.{TooMany, DdlInSession}
 use Rattle.sql_trees.specs.declared.word.Word.TheVariants as words
 use Rattle.sql_trees.specs.Statements.{StmtTree, Begin, Commit, Rollback, SetTransaction, SetDeadlockTimeout, DropTables}
 use Rattle.sql_trees.specs.Tokens.{Token, Tokens}
 use Rattle.sql_trees.specs.Tokens as tok
-use Rattle.sql_expressions.specs.Reading.{after, expect, is_word, ◌>>=◌}
+use Rattle.sql_expressions.specs.Results.{◌>>=◌}
+use Rattle.sql_expressions.specs.Readers.{is_sign, after, expect, is_word, items_at, keyword, some_or, name_at}
 use Rattle.sql_parser.specs.declared.block.Role.{Role}
-use Rattle.sql_parser.specs.Readers.{items_at, keyword, past, some_or, added, misplaced_word, name_at}
+use Rattle.sql_parser.specs.Readers.{past, added, misplaced_word}
 use Rattle.sql_parser.specs.Transactions.{is_work, is_scope, is_to, is_setting, level_at, begin_at, start_at, parameter_at, set_at}
 use Rattle.sql_parser.specs.Tables.{drop_of, drop_at, after_if}
-use Rattle.sql_parser.specs.Blocks.{is_ddl, is_session, is_semicolon, simple_of, begun_of, stmt_at, at_end, whole_at, piece_at, stmts_at, block_at}
+use Rattle.sql_parser.specs.Blocks.{is_ddl, is_session, simple_of, begun_of, stmt_at, at_end, whole_at, piece_at, stmts_at, block_at}
 use Rattle.sql_parser.specs.Inner.Pieces.{simple_at, begun_at}
 use Rattle.sql_parser.specs.Kept.{is_kept, is_kept_in, makes_or_drops}
 use Rattle.sql_parser.proofs.Keeping.{Fine, FineOrNot, insert_fine, update_fine, delete_fine, select_fine}
@@ -137,7 +139,7 @@ module _ (last : ℕ) where
 stmts_kept : (last : ℕ) (role : Role) (ss : List StmtTree) (piece ts : Tokens) (more : List StmtTree) → stmts_at last role ss piece ts ≡ Ok more → length piece + length ts < 2 ^ 32 → list_all (is_kept_in role) ss ≡ true → list_all (is_kept_in role) more ≡ true
 unfolding stmts_at
 stmts_kept last role ss piece [] more e less h = piece_kept last role ss piece more e (omega arith) h
-stmts_kept last role ss piece (t ∷ ts) more e less h = of_test (is_semicolon t.tok) (λ us ps. stmts_kept last role us ps ts more) e
+stmts_kept last role ss piece (t ∷ ts) more e less h = of_test (is_sign signs.Semicolon t.tok) (λ us ps. stmts_kept last role us ps ts more) e
   where
     of_test : (b : Bool) → ((us : List StmtTree) (ps : Tokens) → stmts_at last role us ps ts ≡ Ok more → length ps + length ts < 2 ^ 32 → list_all (is_kept_in role) us ≡ true → list_all (is_kept_in role) more ≡ true) → (if b then (piece_at t.span.start role ss piece >>= λ us. stmts_at last role us [] ts) else stmts_at last role ss (piece ++ t ∷ []) ts) ≡ Ok more → list_all (is_kept_in role) more ≡ true
     of_test true go k =

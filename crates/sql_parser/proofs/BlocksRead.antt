@@ -5,6 +5,7 @@ use Rattle.std.proofs.lemmas.List.Folds.{list_all-append}
 use Rattle.std.specs.List.{list_all}
 use Rattle.std.specs.Prelude.{Result, Ok, Err, not, ◌&&◌, nat_lt, option_map, if◌then◌else◌}
 use Rattle.iso_lexer.specs.declared.token.At.{At}
+use Rattle.iso_lexer.specs.declared.sql_token.SqlSign.TheVariants as signs
 use Rattle.sql_trees.specs.declared.fault.SqlFault.{SqlFault}
 use Rattle.sql_trees.specs.declared.fault.SqlFault.TheVariants.{TooMany, DdlInSession}
 use Rattle.sql_trees.specs.declared.word.Word.TheVariants as words
@@ -12,11 +13,12 @@ use Rattle.sql_trees.specs.Statements.{StmtTree, SetTree, OrderTree, DropTables,
 use Rattle.sql_trees.specs.Tokens.{Token, Tokens}
 use Rattle.sql_trees.specs.Tokens as tok
 use Rattle.sql_trees.specs.Trees.{Tree}
-use Rattle.sql_expressions.specs.Reading.{misplaced, ◌>>=◌}
+use Rattle.sql_expressions.specs.Results.{◌>>=◌}
+use Rattle.sql_expressions.specs.Readers.{is_sign, misplaced}
 use Rattle.sql_parser.specs.declared.block.Role.{Role}
 use Rattle.sql_parser.specs.Changes.{set_columns}
 use Rattle.sql_parser.specs.Queries.{is_allowed}
-use Rattle.sql_parser.specs.Blocks.{is_ddl, is_session, is_semicolon, begun_of, stmt_at, at_end, whole_at, piece_at, stmts_at, block_at}
+use Rattle.sql_parser.specs.Blocks.{is_ddl, is_session, begun_of, stmt_at, at_end, whole_at, piece_at, stmts_at, block_at}
 use Rattle.sql_parser.specs.Inner.Pieces.{begun_at}
 use Rattle.sql_parser.specs.Kept.{is_shallow, maybe_shallow, item_shallow, all_differ, columns_differ, rows_fit, is_kept, makes_or_drops, is_kept_in}
 use Rattle.sql_parser.specs.Grammar.{Is, Spells, begin, start, commit, end, rollback, abort, set_transaction, set_timeout, create, drop, drop_if, insert, update, delete, select, PieceIs, no_stmt, a_stmt, BlockIs, last_piece, next_piece, Shallow}
@@ -178,12 +180,12 @@ module _ (last : ℕ) where
       of_tokens [] e = absurd (no_both s (misplaced last []) (sym e ∙ no_tokens role))
       of_tokens (t ∷ us) e = rw (few, e) refl
 
-pub piece_of : (last : ℕ) (role : Role) (ss : List StmtTree) (piece ts us : Tokens) (c : At Token) → Free ts → Is is_semicolon c → stmts_at last role ss piece (ts ++ c ∷ us) ≡ (piece_at c.span.start role ss (piece ++ ts) >>= λ more. stmts_at last role more [] us)
+pub piece_of : (last : ℕ) (role : Role) (ss : List StmtTree) (piece ts us : Tokens) (c : At Token) → Free ts → Is (is_sign signs.Semicolon) c → stmts_at last role ss piece (ts ++ c ∷ us) ≡ (piece_at c.span.start role ss (piece ++ ts) >>= λ more. stmts_at last role more [] us)
 unfolding stmts_at
 piece_of last role ss piece [] us c f h = rw (h, append-nil piece) refl
 piece_of last role ss piece (t ∷ ts) us c f h =
     let p = and_parts (is_free t) (list_all is_free ts) f in
-    rw (not_not (is_semicolon t.tok) p.0) (piece_of last role ss (piece ++ t ∷ []) ts us c p.1 h ∙ rw append_assoc refl)
+    rw (not_not (is_sign signs.Semicolon t.tok) p.0) (piece_of last role ss (piece ++ t ∷ []) ts us c p.1 h ∙ rw append_assoc refl)
   where
     not_not : (b : Bool) → not b ≡ true → b ≡ false
     not_not true e = absurd cc
@@ -194,7 +196,7 @@ unfolding stmts_at
 last_of last role ss piece [] f = ap (piece_at last role ss) (sym (append-nil piece))
 last_of last role ss piece (t ∷ ts) f =
     let p = and_parts (is_free t) (list_all is_free ts) f in
-    rw (not_not (is_semicolon t.tok) p.0) (last_of last role ss (piece ++ t ∷ []) ts p.1 ∙ rw append_assoc refl)
+    rw (not_not (is_sign signs.Semicolon t.tok) p.0) (last_of last role ss (piece ++ t ∷ []) ts p.1 ∙ rw append_assoc refl)
   where
     not_not : (b : Bool) → not b ≡ true → b ≡ false
     not_not true e = absurd cc
@@ -217,9 +219,9 @@ unfolding stmts_at
 block_sound last role ss more piece [] e =
     let a = piece_sound last role ss more piece e in
     record { rest = a.rest; same = a.same; spells = subst (λ us. BlockIs Shallow us a.rest) (sym (append-nil piece)) (last_piece piece a.rest a.spells); few = a.few }
-block_sound last role ss more piece (t ∷ ts) e = of_test (is_semicolon t.tok) refl (λ us ps. block_sound last role us more ps ts) e
+block_sound last role ss more piece (t ∷ ts) e = of_test (is_sign signs.Semicolon t.tok) refl (λ us ps. block_sound last role us more ps ts) e
   where
-    of_test : (b : Bool) → is_semicolon t.tok ≡ b → ((us : List StmtTree) (ps : Tokens) → stmts_at last role us ps ts ≡ Ok more → Added last us more (ps ++ ts) (BlockIs Shallow)) → (if b then (piece_at t.span.start role ss piece >>= λ us. stmts_at last role us [] ts) else stmts_at last role ss (piece ++ t ∷ []) ts) ≡ Ok more → Added last ss more (piece ++ t ∷ ts) (BlockIs Shallow)
+    of_test : (b : Bool) → is_sign signs.Semicolon t.tok ≡ b → ((us : List StmtTree) (ps : Tokens) → stmts_at last role us ps ts ≡ Ok more → Added last us more (ps ++ ts) (BlockIs Shallow)) → (if b then (piece_at t.span.start role ss piece >>= λ us. stmts_at last role us [] ts) else stmts_at last role ss (piece ++ t ∷ []) ts) ≡ Ok more → Added last ss more (piece ++ t ∷ ts) (BlockIs Shallow)
     of_test true h go k =
         let p = bind_ok (piece_at t.span.start role ss piece) (λ us. stmts_at last role us [] ts) more k in
         let a = piece_sound t.span.start role ss p.0 piece p.1 in

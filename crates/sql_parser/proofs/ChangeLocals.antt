@@ -9,11 +9,12 @@ use Rattle.sql_trees.specs.declared.word.Word.TheVariants as words
 use Rattle.sql_trees.specs.Statements.{StmtTree, SetTree, Inserts, Updates, Deletes}
 use Rattle.sql_trees.specs.Tokens.{Token, Tokens}
 use Rattle.sql_trees.specs.Trees.{Tree}
-use Rattle.sql_expressions.specs.Reading.{place_of, expect, is_word, is_open, is_close, ◌>>=◌}
+use Rattle.sql_expressions.specs.Results.{◌>>=◌}
+use Rattle.sql_expressions.specs.Readers.{place_of, expect, is_word, is_sign, keyword, name_at, items_at, Reader}
 use Rattle.sql_expressions.specs.Laws.{head}
-use Rattle.sql_parser.specs.Readers.{keyword, name_at, tree_at, items_at, Reader, added}
+use Rattle.sql_parser.specs.Readers.{tree_at, added}
 use Rattle.sql_parser.specs.Tables.{is_among}
-use Rattle.sql_parser.specs.Changes.{Rows, fits, is_equal, set_columns, distinct_add, row_add, columns_at, insert_at, filter_at, set_value, set_add, update_at, delete_at}
+use Rattle.sql_parser.specs.Changes.{Rows, fits, set_columns, distinct_add, row_add, columns_at, insert_at, filter_at, set_value, set_add, update_at, delete_at}
 use Rattle.sql_parser.specs.Grammar.{Key, Names, Commas, AddsName, adds_name, AddsValue, adds_value, RowIs, is_row, with_row, no_rows, AddsRow, adds_row, ColumnsAre, unlisted, listed_columns, AddsSet, adds_set, WhereIs, unfiltered, filtered, Spells, insert, update, delete}
 use Rattle.sql_parser.specs.Stops.{at_row}
 use Rattle.sql_parser.proofs.Locals.{Inhabited, Local, took, stopped, gives, begun_as, in_turn, mapped, token_then, token_last, name_then, list_local, some_list, chosen}
@@ -30,7 +31,7 @@ module _ (last : ℕ) (E : Tokens → Tree → Type 0) (W Any : Type 0) (an_expr
   value_local es ts = mapped last E W Any E (AddsValue E es) (tree_at last) (λ e. es ++ e ∷ []) ts (λ xs e q. adds_value es xs e q) (exprs ts)
 
   abbrev row_at : Reader (List Tree)
-  row_at ts = expect last is_open ts >>= λ us. items_at (added (tree_at last)) [] us >>= λ x. expect last is_close x.1 >>= λ rest. Ok (x.0, rest)
+  row_at ts = expect last (is_sign signs.Open) ts >>= λ us. items_at (added (tree_at last)) [] us >>= λ x. expect last (is_sign signs.Close) x.1 >>= λ rest. Ok (x.0, rest)
 
   some_row : Inhabited (RowIs E)
   some_row =
@@ -38,11 +39,11 @@ module _ (last : ℕ) (E : Tokens → Tree → Type 0) (W Any : Type 0) (an_expr
       (a_sign signs.Open ∷ (s.0 ++ a_sign signs.Close ∷ []), s.1, is_row (a_sign signs.Open) (a_sign signs.Close) s.0 s.1 refl s.2 refl)
 
   row_local : (ts : Tokens) → Local last E W Any (RowIs E) row_at ts
-  row_local ts = token_then last E W Any (RowIs E) is_open (λ us. items_at (added (tree_at last)) [] us >>= λ x. expect last is_close x.1 >>= λ rest. Ok (x.0, rest)) ts some_row
-      (λ o us ho. in_turn last E W Any (Commas (AddsValue E) []) (λ xs w. RowIs E (o ∷ xs) w) (items_at (added (tree_at last)) []) (λ v r. expect last is_close r >>= λ rest. Ok (v, rest)) us
+  row_local ts = token_then last E W Any (RowIs E) (is_sign signs.Open) (λ us. items_at (added (tree_at last)) [] us >>= λ x. expect last (is_sign signs.Close) x.1 >>= λ rest. Ok (x.0, rest)) ts some_row
+      (λ o us ho. in_turn last E W Any (Commas (AddsValue E) []) (λ xs w. RowIs E (o ∷ xs) w) (items_at (added (tree_at last)) []) (λ v r. expect last (is_sign signs.Close) r >>= λ rest. Ok (v, rest)) us
       (λ xs es q. (a_sign signs.Close ∷ [], es, is_row o (a_sign signs.Close) xs es ho q refl))
       (list_local last E W Any (added (tree_at last)) (AddsValue E) adds_some_value value_local [] us)
-      (λ es xs rest split q. token_last last E W Any (λ ys w. RowIs E (o ∷ (xs ++ ys)) w) is_close es rest (a_sign signs.Close ∷ [], es, is_row o (a_sign signs.Close) xs es ho q refl) (λ c hc. is_row o c xs es ho q hc)))
+      (λ es xs rest split q. token_last last E W Any (λ ys w. RowIs E (o ∷ (xs ++ ys)) w) (is_sign signs.Close) es rest (a_sign signs.Close ∷ [], es, is_row o (a_sign signs.Close) xs es ho q refl) (λ c hc. is_row o c xs es ho q hc)))
 
   -- a row, which has to have as many values as those before it
   abbrev row_fits : Rows → ℕ → List Tree × Tokens → Result (Rows × Tokens) SqlFault
@@ -50,17 +51,17 @@ module _ (last : ℕ) (E : Tokens → Tree → Type 0) (W Any : Type 0) (an_expr
 
   add_is : (s : Rows) (ts : Tokens) → row_add last s ts ≡ (row_at ts >>= row_fits s (place_of last ts))
   unfolding row_add
-  add_is s ts = of_open (expect last is_open ts)
+  add_is s ts = of_open (expect last (is_sign signs.Open) ts)
     where
       of_close : (es : List Tree) (r : Result Tokens SqlFault) → (r >>= λ rest. row_fits s (place_of last ts) (es, rest)) ≡ ((r >>= λ rest. Ok (es, rest)) >>= row_fits s (place_of last ts))
       of_close es (Ok rest) = refl
       of_close es (Err e) = refl
 
-      of_items : (r : Result (List Tree × Tokens) SqlFault) → (r >>= λ x. expect last is_close x.1 >>= λ rest. row_fits s (place_of last ts) (x.0, rest)) ≡ ((r >>= λ x. expect last is_close x.1 >>= λ rest. Ok (x.0, rest)) >>= row_fits s (place_of last ts))
-      of_items (Ok x) = of_close x.0 (expect last is_close x.1)
+      of_items : (r : Result (List Tree × Tokens) SqlFault) → (r >>= λ x. expect last (is_sign signs.Close) x.1 >>= λ rest. row_fits s (place_of last ts) (x.0, rest)) ≡ ((r >>= λ x. expect last (is_sign signs.Close) x.1 >>= λ rest. Ok (x.0, rest)) >>= row_fits s (place_of last ts))
+      of_items (Ok x) = of_close x.0 (expect last (is_sign signs.Close) x.1)
       of_items (Err e) = refl
 
-      of_open : (r : Result Tokens SqlFault) → (r >>= λ us. items_at (added (tree_at last)) [] us >>= λ x. expect last is_close x.1 >>= λ rest. row_fits s (place_of last ts) (x.0, rest)) ≡ ((r >>= λ us. items_at (added (tree_at last)) [] us >>= λ x. expect last is_close x.1 >>= λ rest. Ok (x.0, rest)) >>= row_fits s (place_of last ts))
+      of_open : (r : Result Tokens SqlFault) → (r >>= λ us. items_at (added (tree_at last)) [] us >>= λ x. expect last (is_sign signs.Close) x.1 >>= λ rest. row_fits s (place_of last ts) (x.0, rest)) ≡ ((r >>= λ us. items_at (added (tree_at last)) [] us >>= λ x. expect last (is_sign signs.Close) x.1 >>= λ rest. Ok (x.0, rest)) >>= row_fits s (place_of last ts))
       of_open (Ok us) = of_items (items_at (added (tree_at last)) [] us)
       of_open (Err e) = refl
 
@@ -91,11 +92,11 @@ module _ (last : ℕ) (E : Tokens → Tree → Type 0) (W Any : Type 0) (an_expr
 
   columns_local : (ts : Tokens) → Local last E W Any ColumnsAre (columns_at last) ts
   unfolding columns_at
-  columns_local ts = chosen last E W Any ColumnsAre is_open (λ us. items_at (distinct_add last) [] us >>= λ x. expect last is_close x.1 >>= λ rest. Ok (Some x.0, rest)) (λ us. Ok (None, us)) ts
-      (λ o us ho. in_turn last E W Any (Commas AddsName []) (λ xs w. ColumnsAre (o ∷ xs) w) (items_at (distinct_add last) []) (λ v r. expect last is_close r >>= λ rest. Ok (Some v, rest)) us
+  columns_local ts = chosen last E W Any ColumnsAre (is_sign signs.Open) (λ us. items_at (distinct_add last) [] us >>= λ x. expect last (is_sign signs.Close) x.1 >>= λ rest. Ok (Some x.0, rest)) (λ us. Ok (None, us)) ts
+      (λ o us ho. in_turn last E W Any (Commas AddsName []) (λ xs w. ColumnsAre (o ∷ xs) w) (items_at (distinct_add last) []) (λ v r. expect last (is_sign signs.Close) r >>= λ rest. Ok (Some v, rest)) us
       (λ xs ns q. (a_sign signs.Close ∷ [], Some ns, listed_columns o (a_sign signs.Close) xs ns ho q refl))
       (list_local last E W Any (distinct_add last) AddsName adds_some_name distinct_add_local [] us)
-      (λ ns xs rest split q. token_last last E W Any (λ ys w. ColumnsAre (o ∷ (xs ++ ys)) w) is_close (Some ns) rest (a_sign signs.Close ∷ [], Some ns, listed_columns o (a_sign signs.Close) xs ns ho q refl) (λ c hc. listed_columns o c xs ns ho q hc)))
+      (λ ns xs rest split q. token_last last E W Any (λ ys w. ColumnsAre (o ∷ (xs ++ ys)) w) (is_sign signs.Close) (Some ns) rest (a_sign signs.Close ∷ [], Some ns, listed_columns o (a_sign signs.Close) xs ns ho q refl) (λ c hc. listed_columns o c xs ns ho q hc)))
       (gives last E W Any ColumnsAre None ts unlisted)
 
   abbrev inserted : List ℕ → Option (List (List ℕ)) → Rows → StmtTree
@@ -143,7 +144,7 @@ module _ (last : ℕ) (E : Tokens → Tree → Type 0) (W Any : Type 0) (an_expr
   set_add_local : (ss : List SetTree) (ts : Tokens) → Local last E W Any (AddsSet E ss) (set_add last ss) ts
   unfolding set_add
   set_add_local ss ts = distinct_local last E W Any (AddsSet E ss) (λ n. is_among n (set_columns ss)) (λ n p. set_value last n ss) ts (adds_some_set ss) (λ t n us ht.
-      token_then last E W Any (λ xs w. AddsSet E ss (t ∷ xs) w) is_equal (λ vs. tree_at last vs >>= λ e. Ok (ss ++ one_set n e.0 ∷ [], e.1)) us
+      token_then last E W Any (λ xs w. AddsSet E ss (t ∷ xs) w) (is_sign signs.Equal) (λ vs. tree_at last vs >>= λ e. Ok (ss ++ one_set n e.0 ∷ [], e.1)) us
       (a_sign signs.Equal ∷ an_expr.0, ss ++ one_set n an_expr.1 ∷ [], adds_set ss t (a_sign signs.Equal) n an_expr.0 an_expr.1 ht refl an_expr.2) (λ q vs hq.
       mapped last E W Any E (λ xs w. AddsSet E ss (t ∷ q ∷ xs) w) (tree_at last) (λ e. ss ++ one_set n e ∷ []) vs (λ xs e k. adds_set ss t q n xs e ht hq k) (exprs vs)))
 

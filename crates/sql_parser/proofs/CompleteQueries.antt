@@ -14,10 +14,13 @@ use Rattle.sql_trees.specs.Statements.{ItemTree, OrderTree, SelectTree, Selects,
 use Rattle.sql_trees.specs.Tokens.{Token, Tokens, named}
 use Rattle.sql_trees.specs.Tokens as tok
 use Rattle.sql_trees.specs.Trees.{Tree, AggTree}
-use Rattle.sql_expressions.specs.Reading.{Found, chain, expr_at, or_at, and_at, is_at, cmp_at, inn_at, cat_at, add_at, mul_at, misplaced, is_word, is_open, is_comma, after, after_comma}
+use Rattle.sql_expressions.specs.Readers.{misplaced, is_word, is_sign, after}
+use Rattle.sql_expressions.specs.Reading.{Found, expr_at}
+use Rattle.sql_expressions.specs.Inner.Pieces.{chain, or_at, and_at, is_at, cmp_at, inn_at, cat_at, add_at, mul_at}
 use Rattle.sql_expressions.specs.Grammar.{Ends, goes_on}
 use Rattle.sql_expressions.proofs.Complete.{expr_complete}
-use Rattle.sql_parser.specs.Queries.{is_star, agg_kind, call_at, rows_of, maybe_name, direction_at, alias_at, agg_at, item_at, from_at, nulls_at, order_add, order_at, lock_at, is_allowed, select_at}
+use Rattle.sql_expressions.proofs.Same.{expr_same}
+use Rattle.sql_parser.specs.Queries.{agg_kind, call_at, rows_of, maybe_name, direction_at, alias_at, agg_at, item_at, from_at, nulls_at, order_add, order_at, lock_at, is_allowed, select_at}
 use Rattle.sql_parser.specs.Grammar.{Is, Commas, AliasIs, no_alias, as_alias, bare_alias, AggIs, all_rows, of_values, AddsItem, a_star, a_value, an_aggregate, FromIs, no_table, from_table, DirectionIs, as_ever, ascending, descending, NullsAre, unsaid, nulls_first, nulls_last, AddsKey, adds_key, OrderIs, unordered, ordered, LockIs, no_lock, for_update, for_share, WhereIs, unfiltered, filtered, Shallow}
 use Rattle.sql_parser.specs.Readers.{added}
 use Rattle.sql_parser.proofs.StmtLocals.{word_is}
@@ -31,38 +34,38 @@ no_both : {A : Type 0} (x : A) (e : SqlFault) → ◌≡◌ {A = Result A SqlFau
 no_both x e h = cc
 
 module _ (last : ℕ) where
-  star_faults : (t : At Token) (ts : Tokens) (x : Token) → t.tok ≡ x → is_star x ≡ true → expr_at last (t ∷ ts) ≡ Err (misplaced last (t ∷ ts))
+  star_faults : (t : At Token) (ts : Tokens) (x : Token) → t.tok ≡ x → is_sign signs.Star x ≡ true → expr_at last (t ∷ ts) ≡ Err (misplaced last (t ∷ ts))
   unfolding chain or_at and_at is_at cmp_at inn_at cat_at add_at mul_at
-  star_faults t ts (tok.sign signs.Star) h e = rw h refl
+  star_faults t ts (tok.sign signs.Star) h e = expr_same last (t ∷ ts) ∙ rw h refl
   star_faults t ts _ h e = absurd cc
 
-  call_faults : (t o : At Token) (ts : Tokens) (k : AggKind) (x : Token) → t.tok ≡ x → agg_kind x ≡ Some k → is_open o.tok ≡ true → expr_at last (t ∷ o ∷ ts) ≡ Err (LeftOut t.span.start)
+  call_faults : (t o : At Token) (ts : Tokens) (k : AggKind) (x : Token) → t.tok ≡ x → agg_kind x ≡ Some k → is_sign signs.Open o.tok ≡ true → expr_at last (t ∷ o ∷ ts) ≡ Err (LeftOut t.span.start)
   unfolding chain or_at and_at is_at cmp_at inn_at cat_at add_at mul_at
-  call_faults t o ts k (tok.word words.Count s) h e g = rw (h, g) refl
-  call_faults t o ts k (tok.word words.Sum s) h e g = rw (h, g) refl
-  call_faults t o ts k (tok.word words.Min s) h e g = rw (h, g) refl
-  call_faults t o ts k (tok.word words.Max s) h e g = rw (h, g) refl
+  call_faults t o ts k (tok.word words.Count s) h e g = expr_same last (t ∷ o ∷ ts) ∙ rw (h, g) refl
+  call_faults t o ts k (tok.word words.Sum s) h e g = expr_same last (t ∷ o ∷ ts) ∙ rw (h, g) refl
+  call_faults t o ts k (tok.word words.Min s) h e g = expr_same last (t ∷ o ∷ ts) ∙ rw (h, g) refl
+  call_faults t o ts k (tok.word words.Max s) h e g = expr_same last (t ∷ o ∷ ts) ∙ rw (h, g) refl
   call_faults t o ts k _ h e g = absurd cc
 
-  no_star : (ts rest : Tokens) (e : Tree) → Shallow ts e → Ends rest → after is_star (ts ++ rest) ≡ None
+  no_star : (ts rest : Tokens) (e : Tree) → Shallow ts e → Ends rest → after (is_sign signs.Star) (ts ++ rest) ≡ None
   no_star ts rest e s g = of_first (ts ++ rest) (expr_complete last s.1 rest g)
     where
-      of_first : (us : Tokens) → {f : Found} → expr_at last us ≡ Ok f → after is_star us ≡ None
+      of_first : (us : Tokens) → {f : Found} → expr_at last us ≡ Ok f → after (is_sign signs.Star) us ≡ None
       of_first [] h = refl
-      of_first (t ∷ us) {f} h = of_test (is_star t.tok) refl
+      of_first (t ∷ us) {f} h = of_test (is_sign signs.Star t.tok) refl
         where
-          of_test : (b : Bool) → is_star t.tok ≡ b → (if b then Some us else None) ≡ None
+          of_test : (b : Bool) → is_sign signs.Star t.tok ≡ b → (if b then Some us else None) ≡ None
           of_test false k = refl
           of_test true k = absurd (no_both f (misplaced last (t ∷ us)) (sym h ∙ star_faults t us t.tok refl k))
 
   no_call : (ts rest : Tokens) (e : Tree) → Shallow ts e → Ends rest → call_at (ts ++ rest) ≡ None
   no_call ts rest e s g = of_first (ts ++ rest) (expr_complete last s.1 rest g)
     where
-      of_next : (t : At Token) (us : Tokens) (k : AggKind) → {f : Found} → agg_kind t.tok ≡ Some k → expr_at last (t ∷ us) ≡ Ok f → after is_open us ≡ None
+      of_next : (t : At Token) (us : Tokens) (k : AggKind) → {f : Found} → agg_kind t.tok ≡ Some k → expr_at last (t ∷ us) ≡ Ok f → after (is_sign signs.Open) us ≡ None
       of_next t [] k n h = refl
-      of_next t (o ∷ us) k {f} n h = of_test (is_open o.tok) refl
+      of_next t (o ∷ us) k {f} n h = of_test (is_sign signs.Open o.tok) refl
         where
-          of_test : (b : Bool) → is_open o.tok ≡ b → (if b then Some us else None) ≡ None
+          of_test : (b : Bool) → is_sign signs.Open o.tok ≡ b → (if b then Some us else None) ≡ None
           of_test false j = refl
           of_test true j = absurd (no_both f (LeftOut t.span.start) (sym h ∙ call_faults t o us k t.tok refl n j))
 
@@ -70,7 +73,7 @@ module _ (last : ℕ) where
       of_first [] h = refl
       of_first (t ∷ us) {f} h = of_kind (agg_kind t.tok) refl
         where
-          of_kind : (m : Option AggKind) → agg_kind t.tok ≡ m → call_of m (after is_open us) ≡ None
+          of_kind : (m : Option AggKind) → agg_kind t.tok ≡ m → call_of m (after (is_sign signs.Open) us) ≡ None
           of_kind None j = refl
           of_kind (Some k) j = rw (of_next t us k j h) refl
 
@@ -111,11 +114,11 @@ module _ (last : ℕ) where
   alias_ends _ rest _ (as_alias a t n ha hn) p = let k = word_is words.As a.tok ha in rw k.1 refl
   alias_ends _ rest _ (bare_alias t n hn) p = name_goes_on t.tok n hn
 
-  agg_no_star : (x : Token) (k : AggKind) → agg_kind x ≡ Some k → is_star x ≡ false
+  agg_no_star : (x : Token) (k : AggKind) → agg_kind x ≡ Some k → is_sign signs.Star x ≡ false
   agg_no_star (tok.word w s) k e = refl
   agg_no_star _ k e = absurd cc
 
-  no_rows_star : (k : AggKind) (ts : Tokens) → after is_star ts ≡ None → rows_of k ts ≡ None
+  no_rows_star : (k : AggKind) (ts : Tokens) → after (is_sign signs.Star) ts ≡ None → rows_of k ts ≡ None
   no_rows_star aggs.Count ts h = h
   no_rows_star aggs.Sum ts h = refl
   no_rows_star aggs.Min ts h = refl
@@ -125,7 +128,7 @@ module _ (last : ℕ) where
   record Called (ts rest : Tokens) (a : AggTree) : Type 0 where
     kind : AggKind
     behind : Tokens
-    no_all : after is_star (ts ++ rest) ≡ None
+    no_all : after (is_sign signs.Star) (ts ++ rest) ≡ None
     calls : call_at (ts ++ rest) ≡ Some (kind, behind)
     reads : agg_at last kind behind ≡ Ok (a, rest)
 
@@ -154,7 +157,7 @@ module _ (last : ℕ) where
   unfolding item_at
   value_reads ts us rest e n q g h = rw (no_star ts (us ++ rest) e q g, no_call ts (us ++ rest) e q g, tree_reads last ts (us ++ rest) e q g, h) refl
 
-  star_reads : (s : At Token) (rest : Tokens) → Is is_star s → item_at last (s ∷ rest) ≡ Ok (All, rest)
+  star_reads : (s : At Token) (rest : Tokens) → Is (is_sign signs.Star) s → item_at last (s ∷ rest) ≡ Ok (All, rest)
   unfolding item_at
   star_reads s rest h = rw h refl
 
@@ -226,11 +229,11 @@ module _ (last : ℕ) where
   parted [] c = tt
   parted (t ∷ ts) c = where_part t.tok c
 
-  where_commas : (x : Token) → is_where x ≡ true → is_comma x ≡ false
+  where_commas : (x : Token) → is_where x ≡ true → is_sign signs.Comma x ≡ false
   where_commas (tok.word w s) e = refl
   where_commas _ e = absurd cc
 
-  no_comma : (ts : Tokens) → Clause is_where ts → after_comma ts ≡ None
+  no_comma : (ts : Tokens) → Clause is_where ts → after (is_sign signs.Comma) ts ≡ None
   no_comma [] c = refl
   no_comma (t ∷ ts) c = rw (where_commas t.tok c) refl
 
@@ -251,7 +254,7 @@ module _ (last : ℕ) where
   from_part _ rest _ no_table c = parted rest c
   from_part _ rest _ (from_table f t n hf hn) c = let k = word_is words.From f.tok hf in rw k.1 refl
 
-  from_no_comma : (fs rest : Tokens) (t : Option (List ℕ)) → FromIs fs t → Clause is_where rest → after_comma (fs ++ rest) ≡ None
+  from_no_comma : (fs rest : Tokens) (t : Option (List ℕ)) → FromIs fs t → Clause is_where rest → after (is_sign signs.Comma) (fs ++ rest) ≡ None
   from_no_comma _ rest _ no_table c = no_comma rest c
   from_no_comma _ rest _ (from_table f t n hf hn) c = let k = word_is words.From f.tok hf in rw k.1 refl
 

@@ -14,9 +14,9 @@ use Rattle.sql_trees.specs.Statements.{SetTree, Begin, SetTransaction, SetDeadlo
 use Rattle.sql_trees.specs.Tokens.{Token, Tokens, named}
 use Rattle.sql_trees.specs.Tokens as tok
 use Rattle.sql_trees.specs.Trees.{Tree}
-use Rattle.sql_expressions.specs.Reading.{is_word, is_open, is_close, is_comma, after, after_comma}
+use Rattle.sql_expressions.specs.Readers.{is_word, is_sign, after, some_or, items_at, name_at}
 use Rattle.sql_expressions.specs.Grammar.{Ends}
-use Rattle.sql_parser.specs.Readers.{some_or, past, items_at, added, tree_at, name_at}
+use Rattle.sql_parser.specs.Readers.{past, added, tree_at}
 use Rattle.sql_parser.specs.Transactions.{is_work, is_scope, is_to, is_setting, level_at, begin_at, start_at, parameter_at, set_at}
 use Rattle.sql_parser.specs.Tables.{is_among, drop_at, after_if}
 use Rattle.sql_parser.specs.Changes.{Rows, fits, set_columns, distinct_add, row_add, columns_at, insert_at, filter_at, set_add, update_at, delete_at}
@@ -110,11 +110,11 @@ no_exists _ _ _ (last_item s v ts a) = of_name s v ts a
         of_test false = refl
 no_exists _ _ _ (next_item s t v ts us c a g k) = of_name s t ts a c us g
   where
-    comma_word : (x : Token) → is_comma x ≡ true → is_word words.Exists x ≡ false
+    comma_word : (x : Token) → is_sign signs.Comma x ≡ true → is_word words.Exists x ≡ false
     comma_word (tok.sign signs.Comma) e = refl
     comma_word _ e = absurd cc
 
-    of_name : (s v : List (List ℕ)) (ts : Tokens) → AddsName s ts v → (c : At Token) (us : Tokens) → Is is_comma c → after_if (ts ++ c ∷ us) ≡ None
+    of_name : (s v : List (List ℕ)) (ts : Tokens) → AddsName s ts v → (c : At Token) (us : Tokens) → Is (is_sign signs.Comma) c → after_if (ts ++ c ∷ us) ≡ None
     of_name _ _ _ (adds_name ns t n h) c us g = of_test (is_word words.If t.tok)
       where
         of_test : (b : Bool) → some_or (after (is_word words.Exists)) None (if b then Some (c ∷ us) else None) ≡ None
@@ -163,7 +163,7 @@ module _ (last : ℕ) where
   value_reads : (s t : List Tree) (ts rest : Tokens) → Unit {0} → AddsValue Shallow s ts t → Unit {0} → Ends rest → added (tree_at last) s (ts ++ rest) ≡ Ok (t, rest)
   value_reads _ _ _ rest b (adds_value es ts e h) f g = rw (tree_reads last ts rest e h g) refl
 
-  values_read : (ts : Tokens) (es : List Tree) (c : At Token) (rest : Tokens) → Commas (AddsValue Shallow) [] ts es → Is is_close c → items_at (added (tree_at last)) [] (ts ++ (c ∷ rest)) ≡ Ok (es, c ∷ rest)
+  values_read : (ts : Tokens) (es : List Tree) (c : At Token) (rest : Tokens) → Commas (AddsValue Shallow) [] ts es → Is (is_sign signs.Close) c → items_at (added (tree_at last)) [] (ts ++ (c ∷ rest)) ≡ Ok (es, c ∷ rest)
   values_read ts es c rest k h = list_reads (added (tree_at last)) (AddsValue Shallow) (λ s. Unit {0}) (λ s. Unit {0}) Ends (λ s t ts b a. tt) (λ s t ts a b. tt) value_reads (λ c us h. comma_ends c us h) k tt tt (c ∷ rest) (close_ends c rest h) (no_comma_at_close c rest h)
 
   row_reads : (s : Rows) (ts rest : Tokens) (es : List Tree) → RowIs Shallow ts es → fits s.width (length es) ≡ true → row_add last s (ts ++ rest) ≡ Ok (with_row s es, rest)
@@ -199,7 +199,7 @@ module _ (last : ℕ) where
   distinct_reads : (s t : List (List ℕ)) (ts rest : Tokens) → Unit {0} → AddsName s ts t → Differ t → Unit {0} → distinct_add last s (ts ++ rest) ≡ Ok (t, rest)
   distinct_reads _ _ _ rest b (adds_name ns t n h) f g = rw (h, (differ_pop ns n f).1) refl
 
-  key_opens : (x : Token) (w : Word) → is_word w x ≡ true → is_open x ≡ false
+  key_opens : (x : Token) (w : Word) → is_word w x ≡ true → is_sign signs.Open x ≡ false
   key_opens (tok.word v s) w e = refl
   key_opens _ w e = absurd cc
 
@@ -228,7 +228,7 @@ module _ (last : ℕ) where
   where_ends _ _ unfiltered = tt
   where_ends _ _ (filtered w ts x hw q) = let k = word_is words.Where w.tok hw in rw k.1 refl
 
-  where_commas : (ws : Tokens) (filter : Option Tree) → WhereIs Shallow ws filter → after_comma ws ≡ None
+  where_commas : (ws : Tokens) (filter : Option Tree) → WhereIs Shallow ws filter → after (is_sign signs.Comma) ws ≡ None
   where_commas _ _ unfiltered = refl
   where_commas _ _ (filtered w ts x hw q) = no_comma_at_key words.Where w ts hw
 

@@ -17,7 +17,7 @@ use Rattle.sql_trees.specs.declared.kind.Kind.{Kind}
 use Rattle.sql_trees.specs.Statements.{ColumnTree, KeyTree}
 use Rattle.sql_trees.specs.Tokens.{Token, Tokens, named}
 use Rattle.sql_trees.specs.Tokens as tok
-use Rattle.sql_expressions.specs.Reading.{is_word, is_open, is_close, is_comma}
+use Rattle.sql_expressions.specs.Readers.{is_word, is_sign}
 use Rattle.sql_parser.specs.Tables.{Placed, KeyRead, TableRead, Constraints, is_among, placed_names, column_names, empty_table, with_key, with_column, kind_of, key_add, key_at, constraints_at, column_at, table_add, made_name, first_lacking, keys_fault, completed, place_among, places_in, resolved, is_kept, resolved_keys, declared, finished, create_at, created}
 use Rattle.sql_parser.specs.Inner.OneConstraint.{is_constraint}
 use Rattle.sql_parser.specs.Kept.{all_differ, places_differ, key_fits, tree_name, table_kept}
@@ -224,11 +224,11 @@ abbrev Unconstrained : Tokens → Type 0
 Unconstrained [] = Unit {0}
 Unconstrained (t ∷ ts) = is_constraint t.tok ≡ false
 
-comma_free : (x : Token) → is_comma x ≡ true → is_constraint x ≡ false
+comma_free : (x : Token) → is_sign signs.Comma x ≡ true → is_constraint x ≡ false
 comma_free (tok.sign signs.Comma) e = refl
 comma_free _ e = absurd cc
 
-close_free : (x : Token) → is_close x ≡ true → is_constraint x ≡ false
+close_free : (x : Token) → is_sign signs.Close x ≡ true → is_constraint x ≡ false
 close_free (tok.sign signs.Close) e = refl
 close_free _ e = absurd cc
 
@@ -272,7 +272,7 @@ module _ (last : ℕ) where
   column_add : (s t : List Placed) (ts rest : Tokens) → Unit {0} → AddsColumn s ts t → PlacesDiffer t → Unit {0} → key_add last s (ts ++ rest) ≡ Ok (t, rest)
   column_add _ _ _ rest b (adds_column ns t n h) f g = rw (h, (placed_pop ns (placed n t) f).1) refl
 
-  key_reads : (primary : Bool) (t : TableRead) (o c : At Token) (ts rest : Tokens) (ns : List Placed) → Is is_open o → Commas AddsColumn [] ts ns → Is is_close c → PlacesDiffer ns → key_at last primary t (o ∷ ((ts ++ c ∷ []) ++ rest)) ≡ Ok (with_key primary ns t, rest)
+  key_reads : (primary : Bool) (t : TableRead) (o c : At Token) (ts rest : Tokens) (ns : List Placed) → Is (is_sign signs.Open) o → Commas AddsColumn [] ts ns → Is (is_sign signs.Close) c → PlacesDiffer ns → key_at last primary t (o ∷ ((ts ++ c ∷ []) ++ rest)) ≡ Ok (with_key primary ns t, rest)
   unfolding key_at
   key_reads primary t o c ts rest ns ho k hc d =
       let columns = list_reads (key_add last) AddsColumn (λ s. Unit {0}) PlacesDiffer (λ rest. Unit {0}) (λ s t ts b a. tt) columns_come column_add (λ c us h. tt) k tt d (c ∷ rest) tt (no_comma_at_close c rest hc) in
@@ -296,7 +296,7 @@ module _ (last : ℕ) where
   part_add _ _ _ rest b (a_primary t p k o c ts columns hp hk ho q hc) f g = rw (hp, hk) (key_reads true t o c ts rest columns ho q hc (key_pop t.keys (record { primary = true; columns = columns }) f.1).1)
   part_add _ _ _ rest b (a_unique t u o c ts columns hu ho q hc) f g = rw (not_key words.Unique words.Primary u hu (λ e. cc), hu) (key_reads false t o c ts rest columns ho q hc (key_pop t.keys (record { primary = false; columns = columns }) f.1).1)
 
-  pub create_reads : (t n o z : At Token) (name : List ℕ) (ts : Tokens) (parts : TableRead) → Key words.Table t → Names name n → Is is_open o → Commas AddsPart empty_table ts parts → Is is_close z → TableFits name parts → create_at last (t ∷ n ∷ o ∷ (ts ++ z ∷ [])) ≡ Ok (Ok (created name parts), [])
+  pub create_reads : (t n o z : At Token) (name : List ℕ) (ts : Tokens) (parts : TableRead) → Key words.Table t → Names name n → Is (is_sign signs.Open) o → Commas AddsPart empty_table ts parts → Is (is_sign signs.Close) z → TableFits name parts → create_at last (t ∷ n ∷ o ∷ (ts ++ z ∷ [])) ≡ Ok (Ok (created name parts), [])
   unfolding create_at finished
   create_reads t n o z name ts parts ht hn ho k hz f =
       let all = list_reads (table_add last) AddsPart (λ s. Unit {0}) Apart Unconstrained (λ s t ts b a. tt) parts_come part_add (λ c us h. comma_free c.tok h) k tt (f.differ, f.keys) (z ∷ []) (close_free z.tok hz) (no_comma_at_close z [] hz) in

@@ -8,10 +8,11 @@ use Rattle.sql_trees.specs.declared.word.Word.TheVariants as words
 use Rattle.sql_trees.specs.Tokens.{Token, Tokens, named}
 use Rattle.sql_trees.specs.Tokens as tok
 use Rattle.sql_trees.specs.Trees.{Tree}
-use Rattle.sql_expressions.specs.Reading.{expect, is_word, is_comma, is_close, after, after_comma, ◌>>=◌}
+use Rattle.sql_expressions.specs.Results.{◌>>=◌}
+use Rattle.sql_expressions.specs.Readers.{expect, is_word, is_sign, after, more_at, items_at, Reader}
 use Rattle.sql_expressions.specs.Grammar.{Ends, goes_on}
 use Rattle.sql_expressions.proofs.Complete.{expr_complete}
-use Rattle.sql_parser.specs.Readers.{past, tree_at, more_at, items_at, Reader}
+use Rattle.sql_parser.specs.Readers.{past, tree_at}
 use Rattle.sql_parser.specs.Grammar.{Is, Key, Perhaps, nothing, one_is, Commas, last_item, next_item, Shallow}
 use Rattle.sql_parser.proofs.StmtLocals.{word_is}
 
@@ -82,39 +83,39 @@ pub no_part_word : (w : Word) → (words.From ≡ w → ⊥) → (words.Where �
 no_part_word w f g h k [] p = refl
 no_part_word w f g h k (t ∷ ts) p = rw (part_word w f g h k t.tok p) refl
 
-comma_parts : (x : Token) → is_comma x ≡ true → ends_part x ≡ true
+comma_parts : (x : Token) → is_sign signs.Comma x ≡ true → ends_part x ≡ true
 comma_parts (tok.sign signs.Comma) e = refl
 comma_parts _ e = absurd cc
 
-pub comma_is_parted : (c : At Token) (us : Tokens) → Is is_comma c → Parted (c ∷ us)
+pub comma_is_parted : (c : At Token) (us : Tokens) → Is (is_sign signs.Comma) c → Parted (c ∷ us)
 comma_is_parted c us h = comma_parts c.tok h
 
-comma_goes_on : (x : Token) → is_comma x ≡ true → goes_on x ≡ false
+comma_goes_on : (x : Token) → is_sign signs.Comma x ≡ true → goes_on x ≡ false
 comma_goes_on (tok.sign signs.Comma) e = refl
 comma_goes_on _ e = absurd cc
 
-pub comma_ends : (c : At Token) (us : Tokens) → Is is_comma c → Ends (c ∷ us)
+pub comma_ends : (c : At Token) (us : Tokens) → Is (is_sign signs.Comma) c → Ends (c ∷ us)
 comma_ends c us h = comma_goes_on c.tok h
 
-close_goes_on : (x : Token) → is_close x ≡ true → goes_on x ≡ false
+close_goes_on : (x : Token) → is_sign signs.Close x ≡ true → goes_on x ≡ false
 close_goes_on (tok.sign signs.Close) e = refl
 close_goes_on _ e = absurd cc
 
-pub close_ends : (c : At Token) (us : Tokens) → Is is_close c → Ends (c ∷ us)
+pub close_ends : (c : At Token) (us : Tokens) → Is (is_sign signs.Close) c → Ends (c ∷ us)
 close_ends c us h = close_goes_on c.tok h
 
-close_commas : (x : Token) → is_close x ≡ true → is_comma x ≡ false
+close_commas : (x : Token) → is_sign signs.Close x ≡ true → is_sign signs.Comma x ≡ false
 close_commas (tok.sign signs.Close) e = refl
 close_commas _ e = absurd cc
 
-pub no_comma_at_close : (c : At Token) (us : Tokens) → Is is_close c → after_comma (c ∷ us) ≡ None
+pub no_comma_at_close : (c : At Token) (us : Tokens) → Is (is_sign signs.Close) c → after (is_sign signs.Comma) (c ∷ us) ≡ None
 no_comma_at_close c us h = rw (close_commas c.tok h) refl
 
-key_commas : (x : Token) (w : Word) → is_word w x ≡ true → is_comma x ≡ false
+key_commas : (x : Token) (w : Word) → is_word w x ≡ true → is_sign signs.Comma x ≡ false
 key_commas (tok.word v s) w e = refl
 key_commas _ w e = absurd cc
 
-pub no_comma_at_key : (w : Word) (t : At Token) (us : Tokens) → Key w t → after_comma (t ∷ us) ≡ None
+pub no_comma_at_key : (w : Word) (t : At Token) (us : Tokens) → Key w t → after (is_sign signs.Comma) (t ∷ us) ≡ None
 no_comma_at_key w t us h = rw (key_commas t.tok w h) refl
 
 -- ---- parts
@@ -135,28 +136,28 @@ module _ {S : Type 0} (add : S → Reader S) (Adds : S → Tokens → S → Type
     (goes : (s t : S) (ts : Tokens) → Before s → Adds s ts t → Before t)
     (comes : (s t : S) (ts : Tokens) → Adds s ts t → After t → After s)
     (reads : (s t : S) (ts rest : Tokens) → Before s → Adds s ts t → After t → Behind rest → add s (ts ++ rest) ≡ Ok (t, rest))
-    (commas : (c : At Token) (us : Tokens) → Is is_comma c → Behind (c ∷ us)) where
+    (commas : (c : At Token) (us : Tokens) → Is (is_sign signs.Comma) c → Behind (c ∷ us)) where
   back : {s v : S} {ts : Tokens} → Commas Adds s ts v → After v → After s
   back (last_item s t ts a) h = comes s t ts a h
   back (next_item s t v ts us c a g k) h = comes s t ts a (back k h)
 
-  more_end : (n : ℕ) (s : S) (rest : Tokens) → after_comma rest ≡ None → more_at add n s rest ≡ Ok (s, rest)
+  more_end : (n : ℕ) (s : S) (rest : Tokens) → after (is_sign signs.Comma) rest ≡ None → more_at add n s rest ≡ Ok (s, rest)
   unfolding more_at
   more_end zero s rest h = refl
   more_end (suc n) s rest h = rw h refl
 
-  more_on : (n : ℕ) (s v : S) (c : At Token) (us rest : Tokens) → Is is_comma c → length (c ∷ us) ≤ n → ((m : ℕ) → length us ≤ m → (add s us >>= λ x. more_at add m x.0 x.1) ≡ Ok (v, rest)) → more_at add n s (c ∷ us) ≡ Ok (v, rest)
+  more_on : (n : ℕ) (s v : S) (c : At Token) (us rest : Tokens) → Is (is_sign signs.Comma) c → length (c ∷ us) ≤ n → ((m : ℕ) → length us ≤ m → (add s us >>= λ x. more_at add m x.0 x.1) ≡ Ok (v, rest)) → more_at add n s (c ∷ us) ≡ Ok (v, rest)
   unfolding more_at
   more_on zero s v c us rest h le k = absurd (omega arith)
   more_on (suc n) s v c us rest h le k = rw h (k n (omega arith))
 
-  turns : {s v : S} {ts : Tokens} → Commas Adds s ts v → Before s → After v → (rest : Tokens) → Behind rest → after_comma rest ≡ None → (n : ℕ) → length (ts ++ rest) ≤ n → (add s (ts ++ rest) >>= λ x. more_at add n x.0 x.1) ≡ Ok (v, rest)
+  turns : {s v : S} {ts : Tokens} → Commas Adds s ts v → Before s → After v → (rest : Tokens) → Behind rest → after (is_sign signs.Comma) rest ≡ None → (n : ℕ) → length (ts ++ rest) ≤ n → (add s (ts ++ rest) >>= λ x. more_at add n x.0 x.1) ≡ Ok (v, rest)
   turns (last_item s t ts a) b f rest h e n le = rw (reads s t ts rest b a f h) (more_end n t rest e)
   turns (next_item s t v ts us c a g k) b f rest h e n le =
       let split : (ts ++ c ∷ us) ++ rest ≡ ts ++ (c ∷ (us ++ rest)) = append_assoc ts (c ∷ us) rest in
       let first : add s (ts ++ (c ∷ (us ++ rest))) ≡ Ok (t, c ∷ (us ++ rest)) = reads s t ts (c ∷ (us ++ rest)) b a (back k f) (commas c (us ++ rest) g) in
       rw (split, first) (more_on n t v c (us ++ rest) rest g (omega (arith, ap length split, length-append ts (c ∷ (us ++ rest)))) (λ m le'. turns k (goes s t ts b a) f rest h e m le'))
 
-  pub list_reads : {s v : S} {ts : Tokens} → Commas Adds s ts v → Before s → After v → (rest : Tokens) → Behind rest → after_comma rest ≡ None → items_at add s (ts ++ rest) ≡ Ok (v, rest)
+  pub list_reads : {s v : S} {ts : Tokens} → Commas Adds s ts v → Before s → After v → (rest : Tokens) → Behind rest → after (is_sign signs.Comma) rest ≡ None → items_at add s (ts ++ rest) ≡ Ok (v, rest)
   unfolding items_at
   list_reads {ts = ts} k b f rest h e = turns k b f rest h e (length (ts ++ rest)) (omega arith)

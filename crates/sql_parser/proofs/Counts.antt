@@ -2,6 +2,7 @@
 use Rattle.std.proofs.Common.{◌≡◌, ℕ, zero, suc, ◌+◌, ◌≤◌, List, [], length, Option, Some, None, subst, arith, length-append}
 use Rattle.std.proofs.lemmas.List.{length-map}
 use Rattle.std.specs.Prelude.{map, Result, Ok, Err, Bool, true, false, if◌then◌else◌}
+use Rattle.iso_lexer.specs.declared.sql_token.SqlSign.TheVariants as signs
 use Rattle.sql_trees.specs.declared.fault.SqlFault.{SqlFault}
 use Rattle.sql_trees.specs.declared.fault.SqlFault.TheVariants.{BadColumns}
 use Rattle.sql_trees.specs.declared.word.Word.TheVariants as words
@@ -10,8 +11,8 @@ use Rattle.sql_trees.specs.declared.stmt.Column.{Column}
 use Rattle.sql_trees.specs.declared.token.Tok.{Tok}
 use Rattle.sql_trees.specs.Statements.{ColumnTree, column_of}
 use Rattle.sql_trees.specs.Tokens.{Tokens, tok_at, tok_views}
-use Rattle.sql_expressions.specs.Reading.{after, after_comma, expect, is_close, is_open, is_word, place_of, ◌>>=◌}
-use Rattle.sql_parser.specs.Readers.{items_at, keyword, more_at, name_at, some_or}
+use Rattle.sql_expressions.specs.Results.{◌>>=◌}
+use Rattle.sql_expressions.specs.Readers.{after, is_sign, expect, is_word, place_of, items_at, keyword, more_at, name_at, some_or}
 use Rattle.sql_parser.proofs.Steps.{bind_ok, ok_same}
 use Rattle.sql_parser.specs.Tables.{Placed, KeyRead, TableRead, column_at, column_behind, column_names, empty_table, is_among, key_add, key_at, limits_at, table_add, with_column, with_key}
 
@@ -22,9 +23,9 @@ module _ (last : ℕ) where
   key_counts : (primary : Bool) (t : TableRead) (ts : Tokens) (x : TableRead × Tokens) → key_at last primary t ts ≡ Ok x → OneMore t x
   unfolding key_at
   key_counts primary t ts x e =
-      let a = bind_ok (expect last is_open ts) (λ us. items_at (key_add last) [] us >>= λ y. expect last is_close y.1 >>= λ rest. Ok (with_key primary y.0 t, rest)) x e in
-      let b = bind_ok (items_at (key_add last) [] a.0) (λ y. expect last is_close y.1 >>= λ rest. Ok (with_key primary y.0 t, rest)) x a.2 in
-      let c = bind_ok (expect last is_close b.0.1) (λ rest. Ok (with_key primary b.0.0 t, rest)) x b.2 in
+      let a = bind_ok (expect last (is_sign signs.Open) ts) (λ us. items_at (key_add last) [] us >>= λ y. expect last (is_sign signs.Close) y.1 >>= λ rest. Ok (with_key primary y.0 t, rest)) x e in
+      let b = bind_ok (items_at (key_add last) [] a.0) (λ y. expect last (is_sign signs.Close) y.1 >>= λ rest. Ok (with_key primary y.0 t, rest)) x a.2 in
+      let c = bind_ok (expect last (is_sign signs.Close) b.0.1) (λ rest. Ok (with_key primary b.0.0 t, rest)) x b.2 in
       subst (OneMore t) (ok_same (with_key primary b.0.0 t, c.0) x c.2) (omega arith)
 
   behind_counts : (c : Placed) (t : TableRead) (ts : Tokens) (x : TableRead × Tokens) → column_behind last c t ts ≡ Ok x → OneMore t x
@@ -64,7 +65,7 @@ module _ (last : ℕ) where
   unfolding more_at
   more_counts zero t ts x e =
       subst (λ (y : TableRead × Tokens). length y.0.columns ≤ length t.columns + 0) (ok_same (t, ts) x e) (omega arith)
-  more_counts (suc n) t ts x e = of_comma (more_counts n) (after_comma ts) e
+  more_counts (suc n) t ts x e = of_comma (more_counts n) (after (is_sign signs.Comma) ts) e
     where
       of_comma : ((u : TableRead) (us : Tokens) (y : TableRead × Tokens) → more_at (table_add last) n u us ≡ Ok y → length y.0.columns ≤ length u.columns + n) → (m : Option Tokens) → some_or (λ us. table_add last t us >>= λ y. more_at (table_add last) n y.0 y.1) (Ok (t, ts)) m ≡ Ok x → length x.0.columns ≤ length t.columns + suc n
       of_comma more None h =

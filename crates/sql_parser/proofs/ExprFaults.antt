@@ -1,5 +1,5 @@
 -- An expression that isn't read is refused as Syntax, LeftOut or TooDeep.
-use Rattle.std.proofs.Common.{◌≡◌, ℕ, zero, suc, ◌+◌, Bool, true, false, List, [], ◌∷◌, length, Option, Some, None, subst}
+use Rattle.std.proofs.Common.{◌≡◌, ℕ, zero, suc, ◌+◌, Bool, true, false, List, [], ◌∷◌, length, Option, Some, None, sym, ◌∙◌, subst}
 use Rattle.std.specs.Prelude.{Result, Ok, Err, max, nat_lt, if◌then◌else◌}
 use Rattle.iso_lexer.specs.declared.token.At.{At}
 use Rattle.iso_lexer.specs.declared.sql_token.SqlSign.TheVariants as signs
@@ -14,7 +14,11 @@ use Rattle.sql_trees.specs.Trees.{Tree, Plus, Column}
 use Rattle.sql_expressions.specs.declared.level.Opened.{Opened}
 use Rattle.sql_expressions.specs.declared.level.Opened.TheVariants.{Whole, Negation, Unary}
 use Rattle.sql_expressions.specs.Build.{negated}
-use Rattle.sql_expressions.specs.Reading.{Found, Found_op, Found_list, Reader, leaf, misplaced, place_of, left_out, is_call, is_open, is_close, is_and, is_not, is_is, truth_of, deeper, expect, next_op, join, chain_end, chain_turn, chain_more, chain, product_op, sum_op, concat_op, comparison_op, and_op, or_op, after_comma, list_turn, list_more, list_at, column_at, name_at, is_node, is_of, is_tail, is_from, is_more, parens_at, prim_of, prim_at, sign_at, una_of, una_at, mul_at, add_at, cat_at, in_at, between_at, not_in_of, not_in_at, not_in_from, inn_of, inn_more, inn_at, cmp_more, cmp_at, is_at, negation_at, not_at, and_at, or_at, at_level, inside, expr_at, ◌>>=◌}
+use Rattle.sql_expressions.specs.Results.{◌>>=◌}
+use Rattle.sql_expressions.specs.Readers.{misplaced, place_of, left_out, is_sign, expect, after}
+use Rattle.sql_expressions.specs.Reading.{Found, is_call, truth_of, product_op, sum_op, concat_op, comparison_op, and_op, or_op, expr_at}
+use Rattle.sql_expressions.specs.Inner.Pieces.{Found_op, Found_list, Reader, leaf, is_and, is_not, is_is, deeper, next_op, join, chain_end, chain_turn, chain_more, chain, list_turn, list_more, list_at, column_at, name_at, is_node, is_of, is_tail, is_from, is_more, parens_at, prim_of, prim_at, sign_at, una_of, una_at, mul_at, add_at, cat_at, in_at, between_at, not_in_of, not_in_at, not_in_from, inn_of, inn_more, inn_at, cmp_more, cmp_at, is_at, negation_at, not_at, and_at, or_at, at_level, inside}
+use Rattle.sql_expressions.proofs.Same.{expr_same}
 
 abbrev pub IsExprFault : SqlFault → Type 0
 IsExprFault (Syntax n) = Unit {0}
@@ -66,7 +70,7 @@ module _ (operand : Reader) (told : (ts : Tokens) → Told (operand ts)) where
   list_more_told : (n : ℕ) (l : Found_list) → Told (list_more operand n l)
   unfolding list_more
   list_more_told zero l = tt
-  list_more_told (suc n) l = list_turn_told (list_more operand n) (list_more_told n) (after_comma l.rest) l
+  list_more_told (suc n) l = list_turn_told (list_more operand n) (list_more_told n) (after (is_sign signs.Comma) l.rest) l
 
   list_told : (ts : Tokens) → Told (list_at operand ts)
   unfolding list_at
@@ -91,7 +95,7 @@ module _ (last : ℕ) where
 
   column_told : (t : At Token) (n : List ℕ) (ts : Tokens) → Told (column_at last t n ts)
   column_told t n [] = tt
-  column_told t n (u ∷ us) = of_test (is_open u.tok)
+  column_told t n (u ∷ us) = of_test (is_sign signs.Open u.tok)
     where
       of_test : (b : Bool) → Told (if b then Err (LeftOut (if is_call t.tok then t.span.start else u.span.start)) else leaf (Column n) (u ∷ us))
       of_test true = tt
@@ -131,7 +135,7 @@ module _ (last : ℕ) where
   module _ (within : Opened → ℕ → Reader) (told : (l : Opened) (place : ℕ) (ts : Tokens) → Told (within l place ts)) where
     parens_told : (place : ℕ) (ts : Tokens) → Told (parens_at last within place ts)
     unfolding parens_at
-    parens_told place ts = on _ _ (told Whole place ts) (λ e. on _ _ (deeper_told place e.depth) (λ d. on _ _ (expect_told is_close e.rest) (λ rest. tt)))
+    parens_told place ts = on _ _ (told Whole place ts) (λ e. on _ _ (deeper_told place e.depth) (λ d. on _ _ (expect_told (is_sign signs.Close) e.rest) (λ rest. tt)))
 
     prim_of_told : (x : Token) (t : At Token) (ts : Tokens) → Told (prim_of last within x t ts)
     prim_of_told (tok.number n) t ts = tt
@@ -173,7 +177,7 @@ module _ (last : ℕ) where
 
     in_told : (neg : Bool) (place : ℕ) (e : Tree) (d : ℕ) (ts : Tokens) → Told (in_at last within neg place e d ts)
     unfolding in_at
-    in_told neg place e d ts = on _ _ (deeper_told place d) (λ here. on _ _ (expect_told is_open ts) (λ us. on _ _ (list_told (within Whole (place_of last ts)) (told Whole (place_of last ts)) us) (λ l. on _ _ (deeper_told place (max d l.depth)) (λ x. on _ _ (expect_told is_close l.rest) (λ rest. tt)))))
+    in_told neg place e d ts = on _ _ (deeper_told place d) (λ here. on _ _ (expect_told (is_sign signs.Open) ts) (λ us. on _ _ (list_told (within Whole (place_of last ts)) (told Whole (place_of last ts)) us) (λ l. on _ _ (deeper_told place (max d l.depth)) (λ x. on _ _ (expect_told (is_sign signs.Close) l.rest) (λ rest. tt)))))
 
     between_told : (neg : Bool) (place : ℕ) (e : Tree) (d : ℕ) (ts : Tokens) → Told (between_at last within neg place e d ts)
     unfolding between_at
@@ -248,4 +252,4 @@ module _ (last : ℕ) where
   inside_told (suc n) l place ts = level_told (inside last n) (inside_told n) l ts
 
   pub expr_told : (ts : Tokens) (e : SqlFault) → expr_at last ts ≡ Err e → IsExprFault e
-  expr_told ts e h = subst Told h (or_told (inside last 64) (inside_told 64) ts)
+  expr_told ts e h = subst Told (sym (expr_same last ts) ∙ h) (or_told (inside last 64) (inside_told 64) ts)

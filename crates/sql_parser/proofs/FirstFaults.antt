@@ -6,7 +6,8 @@ use Rattle.sql_trees.specs.declared.fault.SqlFault.{SqlFault}
 use Rattle.sql_trees.specs.declared.fault.SqlFault.TheVariants.{BadColumns, LeftOut, DdlInSession}
 use Rattle.sql_trees.specs.Statements.{StmtTree}
 use Rattle.sql_trees.specs.Tokens.{Token, Tokens}
-use Rattle.sql_expressions.specs.Reading.{misplaced, ◌>>=◌}
+use Rattle.sql_expressions.specs.Results.{◌>>=◌}
+use Rattle.sql_expressions.specs.Readers.{misplaced}
 use Rattle.sql_expressions.specs.Laws.{head}
 use Rattle.sql_expressions.proofs.Local.{first_is}
 use Rattle.sql_parser.specs.declared.block.Role.{Role}

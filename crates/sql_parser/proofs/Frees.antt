@@ -20,18 +20,18 @@ use Rattle.sql_trees.specs.Statements.{StmtTree, SetTree, ItemTree, OrderTree}
 use Rattle.sql_trees.specs.Tokens.{Token, Tokens, named}
 use Rattle.sql_trees.specs.Tokens as tok
 use Rattle.sql_trees.specs.Trees.{Tree, Trees, AggTree}
-use Rattle.sql_expressions.specs.Reading.{is_word, is_open, is_close, is_comma, comparison_op, truth_of}
+use Rattle.sql_expressions.specs.Readers.{is_word, is_sign}
+use Rattle.sql_expressions.specs.Reading.{comparison_op, truth_of}
 use Rattle.sql_expressions.specs.Grammar.{IsWord, Level, OR, AND, CAT, ADD, MUL, binary, SpellsIn, ItemsIn, only, chain, negation, is, comparison, contained, between, minus, plus, parens, literal, one, next, IsLeaf, number, text, column, yes, no, null, IsIn, IsBetween, IsIs}
-use Rattle.sql_parser.specs.Blocks.{is_semicolon}
 use Rattle.sql_parser.specs.Transactions.{is_work, is_scope, is_to, is_setting}
 use Rattle.sql_parser.specs.Tables.{Placed, TableRead, Constraints, kind_of}
-use Rattle.sql_parser.specs.Changes.{Rows, is_equal}
-use Rattle.sql_parser.specs.Queries.{is_star, agg_kind}
+use Rattle.sql_parser.specs.Changes.{Rows}
+use Rattle.sql_parser.specs.Queries.{agg_kind}
 use Rattle.sql_parser.specs.Grammar as grammar
 use Rattle.sql_parser.specs.Grammar.{Is, Key, Names, Perhaps, nothing, one_is, Commas, last_item, next_item, AddsName, adds_name, IsolationIs, uncommitted, committed, repeatable, MaybeLevel, no_level, a_level, AddsColumn, adds_column, Says, no_more, not_null, primary_key, unique_key, AddsPart, a_column, a_primary, a_unique, AddsValue, adds_value, RowIs, is_row, AddsRow, adds_row, ColumnsAre, unlisted, listed_columns, AddsSet, adds_set, WhereIs, unfiltered, filtered, AliasIs, no_alias, as_alias, bare_alias, AggIs, all_rows, of_values, AddsItem, a_star, a_value, an_aggregate, FromIs, no_table, from_table, DirectionIs, as_ever, ascending, descending, NullsAre, unsaid, nulls_first, nulls_last, AddsKey, adds_key, OrderIs, unordered, ordered, LockIs, no_lock, for_update, for_share, Spells, begin, start, commit, end, rollback, abort, set_transaction, set_timeout, create, drop, drop_if, insert, update, delete, select, Shallow}
 
 abbrev pub is_free : At Token → Bool
-is_free t = not (is_semicolon t.tok)
+is_free t = not (is_sign signs.Semicolon t.tok)
 
 -- no semicolon stands there
 abbrev pub Free : Tokens → Type 0
@@ -45,68 +45,68 @@ both xs ys f g = list_all-append is_free xs ys ∙ and_from (list_all is_free xs
 
 -- ---- tokens
 
-key_free : (w : Word) (x : Token) → is_word w x ≡ true → not (is_semicolon x) ≡ true
+key_free : (w : Word) (x : Token) → is_word w x ≡ true → not (is_sign signs.Semicolon x) ≡ true
 key_free w (tok.word v s) e = refl
 key_free w _ e = absurd cc
 
 word_free : (w : Word) (t : At Token) → IsWord w t.tok → is_free t ≡ true
 word_free w t h = rw h.1 refl
 
-name_free : (x : Token) (n : List ℕ) → named x ≡ Some n → not (is_semicolon x) ≡ true
+name_free : (x : Token) (n : List ℕ) → named x ≡ Some n → not (is_sign signs.Semicolon x) ≡ true
 name_free (tok.word w s) n e = refl
 name_free (tok.quoted s) n e = refl
 name_free _ n e = absurd cc
 
-open_free : (x : Token) → is_open x ≡ true → not (is_semicolon x) ≡ true
+open_free : (x : Token) → is_sign signs.Open x ≡ true → not (is_sign signs.Semicolon x) ≡ true
 open_free (tok.sign signs.Open) e = refl
 open_free _ e = absurd cc
 
-close_free : (x : Token) → is_close x ≡ true → not (is_semicolon x) ≡ true
+close_free : (x : Token) → is_sign signs.Close x ≡ true → not (is_sign signs.Semicolon x) ≡ true
 close_free (tok.sign signs.Close) e = refl
 close_free _ e = absurd cc
 
-comma_free : (x : Token) → is_comma x ≡ true → not (is_semicolon x) ≡ true
+comma_free : (x : Token) → is_sign signs.Comma x ≡ true → not (is_sign signs.Semicolon x) ≡ true
 comma_free (tok.sign signs.Comma) e = refl
 comma_free _ e = absurd cc
 
-equal_free : (x : Token) → is_equal x ≡ true → not (is_semicolon x) ≡ true
+equal_free : (x : Token) → is_sign signs.Equal x ≡ true → not (is_sign signs.Semicolon x) ≡ true
 equal_free (tok.sign signs.Equal) e = refl
 equal_free _ e = absurd cc
 
-star_free : (x : Token) → is_star x ≡ true → not (is_semicolon x) ≡ true
+star_free : (x : Token) → is_sign signs.Star x ≡ true → not (is_sign signs.Semicolon x) ≡ true
 star_free (tok.sign signs.Star) e = refl
 star_free _ e = absurd cc
 
-work_free : (x : Token) → is_work x ≡ true → not (is_semicolon x) ≡ true
+work_free : (x : Token) → is_work x ≡ true → not (is_sign signs.Semicolon x) ≡ true
 work_free (tok.word w s) e = refl
 work_free _ e = absurd cc
 
-scope_free : (x : Token) → is_scope x ≡ true → not (is_semicolon x) ≡ true
+scope_free : (x : Token) → is_scope x ≡ true → not (is_sign signs.Semicolon x) ≡ true
 scope_free (tok.word w s) e = refl
 scope_free _ e = absurd cc
 
-to_free : (x : Token) → is_to x ≡ true → not (is_semicolon x) ≡ true
+to_free : (x : Token) → is_to x ≡ true → not (is_sign signs.Semicolon x) ≡ true
 to_free (tok.sign signs.Equal) e = refl
 to_free (tok.word w s) e = refl
 to_free _ e = absurd cc
 
-setting_free : (x : Token) → is_setting x ≡ true → not (is_semicolon x) ≡ true
+setting_free : (x : Token) → is_setting x ≡ true → not (is_sign signs.Semicolon x) ≡ true
 setting_free (tok.number n) e = refl
 setting_free (tok.string s) e = refl
 setting_free _ e = absurd cc
 
-kind_free : (x : Token) (k : Kind) → kind_of x ≡ Some k → not (is_semicolon x) ≡ true
+kind_free : (x : Token) (k : Kind) → kind_of x ≡ Some k → not (is_sign signs.Semicolon x) ≡ true
 kind_free (tok.word w s) k e = refl
 kind_free _ k e = absurd cc
 
-agg_free : (x : Token) (k : AggKind) → agg_kind x ≡ Some k → not (is_semicolon x) ≡ true
+agg_free : (x : Token) (k : AggKind) → agg_kind x ≡ Some k → not (is_sign signs.Semicolon x) ≡ true
 agg_free (tok.word w s) k e = refl
 agg_free _ k e = absurd cc
 
-sign_free : (t : At Token) (s : SqlSign) → t.tok ≡ tok.sign s → not (is_semicolon (tok.sign s)) ≡ true → is_free t ≡ true
-sign_free t s h e = ap (λ x. not (is_semicolon x)) h ∙ e
+sign_free : (t : At Token) (s : SqlSign) → t.tok ≡ tok.sign s → not (is_sign signs.Semicolon (tok.sign s)) ≡ true → is_free t ≡ true
+sign_free t s h e = ap (λ x. not (is_sign signs.Semicolon x)) h ∙ e
 
-binary_free : (l : Level) (x : Token) (o : Operator) → binary l x ≡ Some o → not (is_semicolon x) ≡ true
+binary_free : (l : Level) (x : Token) (o : Operator) → binary l x ≡ Some o → not (is_sign signs.Semicolon x) ≡ true
 binary_free OR (tok.word w s) o e = refl
 binary_free OR _ o e = absurd cc
 binary_free AND (tok.word w s) o e = refl
@@ -122,15 +122,15 @@ binary_free MUL (tok.sign signs.Percent) o e = refl
 binary_free MUL _ o e = absurd cc
 binary_free _ x o e = absurd cc
 
-comparison_free : (x : Token) (o : Operator) → comparison_op x ≡ Some o → not (is_semicolon x) ≡ true
+comparison_free : (x : Token) (o : Operator) → comparison_op x ≡ Some o → not (is_sign signs.Semicolon x) ≡ true
 comparison_free (tok.sign signs.Semicolon) o e = absurd cc
 comparison_free _ o e = refl
 
-truth_free : (x : Token) (w : Truth) → truth_of x ≡ Some w → not (is_semicolon x) ≡ true
+truth_free : (x : Token) (w : Truth) → truth_of x ≡ Some w → not (is_sign signs.Semicolon x) ≡ true
 truth_free (tok.word w s) v e = refl
 truth_free _ v e = absurd cc
 
-leaf_free : (x : Token) (e : Tree) → IsLeaf x e → not (is_semicolon x) ≡ true
+leaf_free : (x : Token) (e : Tree) → IsLeaf x e → not (is_sign signs.Semicolon x) ≡ true
 leaf_free _ _ (number n) = refl
 leaf_free _ _ (text s) = refl
 leaf_free _ _ (column t n h) = name_free t n h
@@ -175,7 +175,7 @@ shallow_free ts e s = expr_free s.1
 
 -- ---- parts of statements
 
-perhaps_free : (is_it : Token → Bool) → ((x : Token) → is_it x ≡ true → not (is_semicolon x) ≡ true) → (ws : Tokens) → Perhaps is_it ws → Free ws
+perhaps_free : (is_it : Token → Bool) → ((x : Token) → is_it x ≡ true → not (is_sign signs.Semicolon x) ≡ true) → (ws : Tokens) → Perhaps is_it ws → Free ws
 perhaps_free is_it f _ nothing = refl
 perhaps_free is_it f _ (one_is t h) = first t [] (f t.tok h) refl
 
@@ -199,7 +199,7 @@ level_free _ _ no_level = refl
 level_free _ _ (a_level ts level h) = isolation_free ts level h
 
 -- a list in parentheses
-in_parens : (o c : At Token) (ts : Tokens) → Is is_open o → Free ts → Is is_close c → Free (o ∷ (ts ++ c ∷ []))
+in_parens : (o c : At Token) (ts : Tokens) → Is (is_sign signs.Open) o → Free ts → Is (is_sign signs.Close) c → Free (o ∷ (ts ++ c ∷ []))
 in_parens o c ts ho f hc = first o (ts ++ c ∷ []) (open_free o.tok ho) (both ts (c ∷ []) f (first c [] (close_free c.tok hc) refl))
 
 adds_column_free : (s t : List Placed) (ts : Tokens) → AddsColumn s ts t → Free ts

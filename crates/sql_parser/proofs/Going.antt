@@ -6,8 +6,8 @@ use Rattle.sql_trees.specs.declared.word.Word.TheVariants as words
 use Rattle.sql_trees.specs.Words.{same_word}
 use Rattle.sql_trees.specs.Tokens.{Token, Tokens}
 use Rattle.sql_trees.specs.Tokens as tok
-use Rattle.sql_expressions.specs.Reading.{◌>>=◌}
-use Rattle.sql_parser.specs.Readers.{keyword}
+use Rattle.sql_expressions.specs.Results.{◌>>=◌}
+use Rattle.sql_expressions.specs.Readers.{keyword}
 use Rattle.sql_trees.specs.declared.kind.Kind.{Kind}
 use Rattle.sql_parser.specs.Tables.{Placed, KeyRead, Constraints, key_limit, constraints_at, kind_at, limits_at}
 use Rattle.sql_parser.specs.Inner.OneConstraint.{constraint_at, constrained}

@@ -5,6 +5,7 @@ use Rattle.std.proofs.lemmas.List.{map-append}
 use Rattle.std.proofs.lemmas.List.Folds.{list_any-append}
 use Rattle.std.specs.List.{list_any, list_all}
 use Rattle.std.specs.Prelude.{Result, Ok, Err, Bool, true, false, not, ◌&&◌, ◌||◌, bytes_eq, option_map, if◌then◌else◌}
+use Rattle.iso_lexer.specs.declared.sql_token.SqlSign.TheVariants as signs
 use Rattle.sql_trees.specs.declared.fault.SqlFault.{SqlFault}
 use Rattle.sql_trees.specs.declared.fault.SqlFault.TheVariants.{Syntax, BadColumns, LeftOut}
 use Rattle.sql_trees.specs.declared.word.Word.TheVariants as words
@@ -12,11 +13,12 @@ use Rattle.sql_trees.specs.declared.expr.AggKind.{AggKind}
 use Rattle.sql_trees.specs.Statements.{StmtTree, SetTree, ItemTree, OrderTree, SelectTree, Inserts, Updates, Deletes, Selects, All, Value, Aggregate}
 use Rattle.sql_trees.specs.Tokens.{Tokens}
 use Rattle.sql_trees.specs.Trees.{Tree, AggTree, CountRows, Of}
-use Rattle.sql_expressions.specs.Reading.{after, expect, is_close, is_open, is_word, place_of, ◌>>=◌}
-use Rattle.sql_parser.specs.Readers.{items_at, keyword, name_at, tree_at, some_or, closed, added}
+use Rattle.sql_expressions.specs.Results.{◌>>=◌}
+use Rattle.sql_expressions.specs.Readers.{after, expect, is_sign, is_word, place_of, items_at, keyword, name_at, some_or, closed}
+use Rattle.sql_parser.specs.Readers.{tree_at, added}
 use Rattle.sql_parser.specs.Tables.{is_among}
-use Rattle.sql_parser.specs.Changes.{Rows, fits, is_equal, set_columns, distinct_add, row_add, columns_at, insert_at, filter_at, set_value, set_add, update_at, delete_at}
-use Rattle.sql_parser.specs.Queries.{is_star, call_at, rows_of, direction_at, nulls_at, alias_at, agg_at, item_of, item_at, from_at, order_add, order_at, lock_at, is_allowed, query_of, select_at}
+use Rattle.sql_parser.specs.Changes.{Rows, fits, set_columns, distinct_add, row_add, columns_at, insert_at, filter_at, set_value, set_add, update_at, delete_at}
+use Rattle.sql_parser.specs.Queries.{call_at, rows_of, direction_at, nulls_at, alias_at, agg_at, item_of, item_at, from_at, order_add, order_at, lock_at, is_allowed, query_of, select_at}
 use Rattle.sql_parser.specs.Kept.{is_shallow, maybe_shallow, item_shallow, all_differ, columns_differ, rows_fit, is_kept, makes_or_drops}
 use Rattle.sql_parser.proofs.Depths.{read_shallow}
 use Rattle.sql_parser.proofs.Steps.{bind_ok, ok_same, unless_ok, when_ok, items_hold, push_all}
@@ -87,9 +89,9 @@ module _ (last : ℕ) where
   row_keeps : (w : Option ℕ) (s : Rows) (ts : Tokens) (x : Rows × Tokens) → RowsKept w s → row_add last s ts ≡ Ok x → RowsKept w x.0
   unfolding row_add
   row_keeps w s ts x k e =
-      let a = bind_ok (expect last is_open ts) (λ us. items_at (added (tree_at last)) [] us >>= λ v. expect last is_close v.1 >>= λ rest. row_end s ts v.0 rest) x e in
-      let b = bind_ok (items_at (added (tree_at last)) [] a.0) (λ v. expect last is_close v.1 >>= λ rest. row_end s ts v.0 rest) x a.2 in
-      let c = bind_ok (expect last is_close b.0.1) (λ rest. row_end s ts b.0.0 rest) x b.2 in
+      let a = bind_ok (expect last (is_sign signs.Open) ts) (λ us. items_at (added (tree_at last)) [] us >>= λ v. expect last (is_sign signs.Close) v.1 >>= λ rest. row_end s ts v.0 rest) x e in
+      let b = bind_ok (items_at (added (tree_at last)) [] a.0) (λ v. expect last (is_sign signs.Close) v.1 >>= λ rest. row_end s ts v.0 rest) x a.2 in
+      let c = bind_ok (expect last (is_sign signs.Close) b.0.1) (λ rest. row_end s ts b.0.0 rest) x b.2 in
       let d = when_ok (fits s.width (length b.0.0)) (Syntax (place_of last ts)) (Ok (OneRow s b.0.0, c.0)) x c.2 in
       subst (λ (y : Rows × Tokens). RowsKept w y.0) (ok_same (OneRow s b.0.0, c.0) x d.1) (record {
         width = sym (behind_push w s.rows b.0.0);
@@ -99,13 +101,13 @@ module _ (last : ℕ) where
 
   columns_keep : (ts : Tokens) (x : Option (List (List ℕ)) × Tokens) → columns_at last ts ≡ Ok x → columns_differ x.0 ≡ true
   unfolding columns_at
-  columns_keep ts x e = of_open (after is_open ts) e
+  columns_keep ts x e = of_open (after (is_sign signs.Open) ts) e
     where
       of_open : (o : Option Tokens) → some_or (closed last (λ ns. Some ns) (items_at (distinct_add last) [])) (Ok (None, ts)) o ≡ Ok x → columns_differ x.0 ≡ true
       of_open None h = subst (λ (y : Option (List (List ℕ)) × Tokens). columns_differ y.0 ≡ true) (ok_same (None, ts) x h) refl
       of_open (Some us) h =
-          let a = bind_ok (items_at (distinct_add last) [] us) (λ y. expect last is_close y.1 >>= λ rest. Ok (Some y.0, rest)) x h in
-          let b = bind_ok (expect last is_close a.0.1) (λ rest. Ok (Some a.0.0, rest)) x a.2 in
+          let a = bind_ok (items_at (distinct_add last) [] us) (λ y. expect last (is_sign signs.Close) y.1 >>= λ rest. Ok (Some y.0, rest)) x h in
+          let b = bind_ok (expect last (is_sign signs.Close) a.0.1) (λ rest. Ok (Some a.0.0, rest)) x a.2 in
           subst (λ (y : Option (List (List ℕ)) × Tokens). columns_differ y.0 ≡ true) (ok_same (Some a.0.0, b.0) x b.2) (items_hold (distinct_add last) (λ ns. all_differ ns ≡ true) distinct_keeps [] us a.0 refl a.1)
 
   abbrev insert_rows : List ℕ → Option (List (List ℕ)) → Tokens → Result (StmtTree × Tokens) SqlFault
@@ -148,7 +150,7 @@ module _ (last : ℕ) where
   set_keeps ss ts x k e =
       let a = bind_ok (name_at last ts) (λ y. if is_among y.0 (set_columns ss) then Err (BadColumns (place_of last ts)) else set_value last y.0 ss y.1) x e in
       let b = unless_ok (is_among a.0.0 (set_columns ss)) (BadColumns (place_of last ts)) (set_value last a.0.0 ss a.0.1) x a.2 in
-      let c = bind_ok (expect last is_equal a.0.1) (λ us. tree_at last us >>= λ v. Ok (ss ++ OneSet a.0.0 v.0 ∷ [], v.1)) x b.1 in
+      let c = bind_ok (expect last (is_sign signs.Equal) a.0.1) (λ us. tree_at last us >>= λ v. Ok (ss ++ OneSet a.0.0 v.0 ∷ [], v.1)) x b.1 in
       let v = bind_ok (tree_at last c.0) (λ v. Ok (ss ++ OneSet a.0.0 v.0 ∷ [], v.1)) x c.2 in
       subst (λ (y : List SetTree × Tokens). SetsKept y.0) (ok_same (ss ++ OneSet a.0.0 v.0.0 ∷ [], v.0.1) x v.2) (record {
         differ = ap all_differ (map-append (λ (s : SetTree). s.column) ss (OneSet a.0.0 v.0.0 ∷ [])) ∙ differ_push (set_columns ss) a.0.0 k.differ b.0;
@@ -186,13 +188,13 @@ module _ (last : ℕ) where
   unfolding agg_at
   agg_keeps k ts x e = of_rows (rows_of k ts) e
     where
-      of_rows : (o : Option Tokens) → some_or (λ us. expect last is_close us >>= λ rest. Ok (CountRows, rest)) (closed last (Of k) (tree_at last) ts) o ≡ Ok x → agg_shallow x.0 ≡ true
+      of_rows : (o : Option Tokens) → some_or (λ us. expect last (is_sign signs.Close) us >>= λ rest. Ok (CountRows, rest)) (closed last (Of k) (tree_at last) ts) o ≡ Ok x → agg_shallow x.0 ≡ true
       of_rows (Some us) h =
-          let a = bind_ok (expect last is_close us) (λ rest. Ok (CountRows, rest)) x h in
+          let a = bind_ok (expect last (is_sign signs.Close) us) (λ rest. Ok (CountRows, rest)) x h in
           subst (λ (y : AggTree × Tokens). agg_shallow y.0 ≡ true) (ok_same (CountRows, a.0) x a.2) refl
       of_rows None h =
-          let a = bind_ok (tree_at last ts) (λ y. expect last is_close y.1 >>= λ rest. Ok (Of k y.0, rest)) x h in
-          let b = bind_ok (expect last is_close a.0.1) (λ rest. Ok (Of k a.0.0, rest)) x a.2 in
+          let a = bind_ok (tree_at last ts) (λ y. expect last (is_sign signs.Close) y.1 >>= λ rest. Ok (Of k y.0, rest)) x h in
+          let b = bind_ok (expect last (is_sign signs.Close) a.0.1) (λ rest. Ok (Of k a.0.0, rest)) x a.2 in
           subst (λ (y : AggTree × Tokens). agg_shallow y.0 ≡ true) (ok_same (Of k a.0.0, b.0) x b.2) (read_shallow last ts a.0 a.1)
 
   named_agg : (a : AggTree) (alias : Option (List ℕ)) → agg_shallow a ≡ true → item_shallow (Aggregate a alias) ≡ true
@@ -201,7 +203,7 @@ module _ (last : ℕ) where
 
   item_keeps : (ts : Tokens) (x : ItemTree × Tokens) → item_at last ts ≡ Ok x → item_shallow x.0 ≡ true
   unfolding item_at
-  item_keeps ts x e = of_star (after is_star ts) e
+  item_keeps ts x e = of_star (after (is_sign signs.Star) ts) e
     where
       of_call : (o : Option (AggKind × Tokens)) → item_of last o ts ≡ Ok x → item_shallow x.0 ≡ true
       of_call (Some c) h =

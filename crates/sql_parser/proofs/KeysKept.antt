@@ -7,12 +7,13 @@ use Rattle.std.proofs.lemmas.List.Folds.{list_any-append, list_all-append}
 use Rattle.std.proofs.lemmas.Slice.Eq.{bytes_eq-Decides}
 use Rattle.std.specs.List.{list_any, list_all, filter}
 use Rattle.std.specs.Prelude.{Result, Ok, Err, Bool, true, false, not, ◌&&◌, ◌||◌, ◌==◌, nat_lt, bytes_eq, if◌then◌else◌}
+use Rattle.iso_lexer.specs.declared.sql_token.SqlSign.TheVariants as signs
 use Rattle.sql_trees.specs.declared.fault.SqlFault.{SqlFault}
 use Rattle.sql_trees.specs.declared.word.Word.TheVariants as words
 use Rattle.sql_trees.specs.Statements.{StmtTree, ColumnTree, KeyTree, key_name}
 use Rattle.sql_trees.specs.Tokens.{Tokens}
-use Rattle.sql_expressions.specs.Reading.{expect, is_close, is_open, is_word, ◌>>=◌}
-use Rattle.sql_parser.specs.Readers.{some_or, items_at, keyword, name_at}
+use Rattle.sql_expressions.specs.Results.{◌>>=◌}
+use Rattle.sql_expressions.specs.Readers.{expect, is_sign, is_word, some_or, items_at, keyword, name_at}
 use Rattle.sql_parser.specs.Tables.{Placed, KeyRead, TableRead, is_among, placed_names, column_names, empty_table, made_name, first_place, first_lacking, text_fault, keys_fault, completed, place_among, places_in, resolved, is_kept, resolved_keys, declared, finished, table_add, create_at, created}
 use Rattle.sql_parser.specs.Kept.{all_differ, places_differ, names_at, key_fits, tree_name, table_kept}
 use Rattle.sql_trees.specs.declared.fault.SqlFault.TheVariants.{BadColumns}
@@ -256,10 +257,10 @@ module _ (last : ℕ) where
   pub create_fine : (ts : Tokens) (x : Result StmtTree SqlFault × Tokens) → create_at last ts ≡ Ok x → length ts < 2 ^ 32 → FineOrNot true x.0
   unfolding create_at
   create_fine ts x e less =
-      let a = bind_ok (keyword last words.Table ts) (λ us. name_at last us >>= λ n. expect last is_open n.1 >>= λ vs. items_at (table_add last) empty_table vs >>= λ t. expect last is_close t.1 >>= λ rest. Ok (finished n.0 t.0, rest)) x e in
-      let n = bind_ok (name_at last a.0) (λ n. expect last is_open n.1 >>= λ vs. items_at (table_add last) empty_table vs >>= λ t. expect last is_close t.1 >>= λ rest. Ok (finished n.0 t.0, rest)) x a.2 in
-      let o = bind_ok (expect last is_open n.0.1) (λ vs. items_at (table_add last) empty_table vs >>= λ t. expect last is_close t.1 >>= λ rest. Ok (finished n.0.0 t.0, rest)) x n.2 in
-      let t = bind_ok (items_at (table_add last) empty_table o.0) (λ t. expect last is_close t.1 >>= λ rest. Ok (finished n.0.0 t.0, rest)) x o.2 in
-      let c = bind_ok (expect last is_close t.0.1) (λ rest. Ok (finished n.0.0 t.0.0, rest)) x t.2 in
-      let few : length o.0 < 2 ^ 32 = omega (arith, less, expect_shorter last (is_word words.Table) ts a.0 a.1, name_shorter last a.0 n.0 n.1, expect_shorter last is_open n.0.1 o.0 o.1) in
+      let a = bind_ok (keyword last words.Table ts) (λ us. name_at last us >>= λ n. expect last (is_sign signs.Open) n.1 >>= λ vs. items_at (table_add last) empty_table vs >>= λ t. expect last (is_sign signs.Close) t.1 >>= λ rest. Ok (finished n.0 t.0, rest)) x e in
+      let n = bind_ok (name_at last a.0) (λ n. expect last (is_sign signs.Open) n.1 >>= λ vs. items_at (table_add last) empty_table vs >>= λ t. expect last (is_sign signs.Close) t.1 >>= λ rest. Ok (finished n.0 t.0, rest)) x a.2 in
+      let o = bind_ok (expect last (is_sign signs.Open) n.0.1) (λ vs. items_at (table_add last) empty_table vs >>= λ t. expect last (is_sign signs.Close) t.1 >>= λ rest. Ok (finished n.0.0 t.0, rest)) x n.2 in
+      let t = bind_ok (items_at (table_add last) empty_table o.0) (λ t. expect last (is_sign signs.Close) t.1 >>= λ rest. Ok (finished n.0.0 t.0, rest)) x o.2 in
+      let c = bind_ok (expect last (is_sign signs.Close) t.0.1) (λ rest. Ok (finished n.0.0 t.0.0, rest)) x t.2 in
+      let few : length o.0 < 2 ^ 32 = omega (arith, less, expect_shorter last (is_word words.Table) ts a.0 a.1, name_shorter last a.0 n.0 n.1, expect_shorter last (is_sign signs.Open) n.0.1 o.0 o.1) in
       subst (λ (y : Result StmtTree SqlFault × Tokens). FineOrNot true y.0) (ok_same (finished n.0.0 t.0.0, c.0) x c.2) (finished_fine n.0.0 (length o.0) t.0.0 t.0.1 (table_within last o.0 t.0 t.1) few)

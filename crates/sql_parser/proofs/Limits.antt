@@ -5,14 +5,16 @@ use Rattle.std.proofs.lemmas.List.Folds.{list_all-append}
 use Rattle.std.specs.List.{list_all}
 use Rattle.std.specs.Prelude.{Result, Ok, Err, not, nat_lt, if◌then◌else◌}
 use Rattle.iso_lexer.specs.declared.token.At.{At}
+use Rattle.iso_lexer.specs.declared.sql_token.SqlSign.TheVariants as signs
 use Rattle.sql_trees.specs.declared.fault.SqlFault.{SqlFault}
 use Rattle.sql_trees.specs.declared.fault.SqlFault.TheVariants.{Syntax, LeftOut, TooDeep, TooMany, BadColumns, DdlInSession}
 use Rattle.sql_trees.specs.Statements.{StmtTree}
 use Rattle.sql_trees.specs.Tokens.{Token, Tokens}
-use Rattle.sql_expressions.specs.Reading.{misplaced, ◌>>=◌}
+use Rattle.sql_expressions.specs.Results.{◌>>=◌}
+use Rattle.sql_expressions.specs.Readers.{is_sign, misplaced}
 use Rattle.sql_expressions.specs.Laws as expr
 use Rattle.sql_parser.specs.declared.block.Role.{Role}
-use Rattle.sql_parser.specs.Blocks.{is_session, is_ddl, is_semicolon, stmt_at, at_end, whole_at, piece_at, stmts_at, block_at}
+use Rattle.sql_parser.specs.Blocks.{is_session, is_ddl, stmt_at, at_end, whole_at, piece_at, stmts_at, block_at}
 use Rattle.sql_parser.specs.Kept.{is_kept_in}
 use Rattle.sql_parser.specs.Grammar.{Is, PieceIs, no_stmt, a_stmt, EndedAre, no_pieces, ended_piece, Shallow, OfAnyDepth}
 use Rattle.sql_parser.specs.Stops.{Refuses, at_next, at_word, at_name, at_row, in_expression, too_deep}
@@ -146,17 +148,17 @@ below n h le = of_test (nat_lt n 256) refl
     of_test : (b : Bool) → nat_lt n 256 ≡ b → n ≡ 256
     of_test b g = let k = least h in omega (arith, le, k)
 
-full_stops : (last : ℕ) (role : Role) (ss : List StmtTree) (t : At Token) (us : Tokens) → length ss ≡ 256 → is_semicolon t.tok ≡ false → stmts_at last role ss [] (t ∷ us) ≡ Err (TooMany t.span.start)
+full_stops : (last : ℕ) (role : Role) (ss : List StmtTree) (t : At Token) (us : Tokens) → length ss ≡ 256 → is_sign signs.Semicolon t.tok ≡ false → stmts_at last role ss [] (t ∷ us) ≡ Err (TooMany t.span.start)
 full_stops last role ss t us full plain = of_split (t ∷ us) refl (split (t ∷ us))
   where
     of_split : (xs : Tokens) → xs ≡ t ∷ us → Split xs → stmts_at last role ss [] (t ∷ us) ≡ Err (TooMany t.span.start)
     of_split _ e (whole xs free) = ap (stmts_at last role ss []) (sym e) ∙ (last_of last role ss [] xs free ∙ (ap (piece_at last role ss) e ∙ piece_full last role ss t us (full_is (length ss) full)))
     of_split _ e (ended [] vs c free hc) = absurd (of_first c vs e hc)
       where
-        of_first : (d : At Token) (ws : Tokens) → d ∷ ws ≡ t ∷ us → Is is_semicolon d → ⊥
+        of_first : (d : At Token) (ws : Tokens) → d ∷ ws ≡ t ∷ us → Is (is_sign signs.Semicolon) d → ⊥
         of_first d ws g k =
             let same : d ≡ t = cc in
-            let marked : is_semicolon t.tok ≡ true = subst (λ (y : At Token). is_semicolon y.tok ≡ true) same k in
+            let marked : is_sign signs.Semicolon t.tok ≡ true = subst (λ (y : At Token). is_sign signs.Semicolon y.tok ≡ true) same k in
             cc
     of_split _ e (ended (x ∷ xs) vs c free hc) =
         let same : x ≡ t = cc in
@@ -169,7 +171,7 @@ record After (role : Role) (ss : List StmtTree) (ts : Tokens) (place : ℕ) : Ty
   rest : Tokens
   split : ts ≡ front ++ first ∷ rest
   here : place ≡ first.span.start
-  begins : is_semicolon first.tok ≡ false
+  begins : is_sign signs.Semicolon first.tok ≡ false
   stmts : List StmtTree
   spells : EndedAre Shallow front stmts
   full : length ss + length stmts ≡ 256
@@ -188,8 +190,8 @@ piece_many last role ss (t ∷ us) behind place free le e = of_test (nat_lt (len
     of_whole (Ok s) h = absurd (no_both (ss ++ s ∷ []) (TooMany place) h)
     of_whole (Err g) h = ap Err (err_same g (TooMany place) h)
 
-    no_mark : not (is_semicolon t.tok) ≡ true → is_semicolon t.tok ≡ false
-    no_mark h = of_bool (is_semicolon t.tok) h
+    no_mark : not (is_sign signs.Semicolon t.tok) ≡ true → is_sign signs.Semicolon t.tok ≡ false
+    no_mark h = of_bool (is_sign signs.Semicolon t.tok) h
       where
         of_bool : (b : Bool) → not b ≡ true → b ≡ false
         of_bool true g = absurd cc

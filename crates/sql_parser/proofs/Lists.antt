@@ -3,21 +3,22 @@ use Rattle.std.specs.List.{list_any, list_all}
 use Rattle.std.proofs.Common.{◌≡◌, ℕ, zero, suc, ◌<◌, ◌≤◌, List, [], ◌∷◌, length, map, Some, None, refl, sym, ap, ◌∙◌, subst, arith}
 use Rattle.std.proofs.lemmas.List.{length-map}
 use Rattle.std.specs.Prelude.{Result, Ok, Err, Bool, true, false, ◌||◌, ◌&&◌, if◌then◌else◌}
+use Rattle.iso_lexer.specs.declared.sql_token.SqlSign.TheVariants as signs
 use Rattle.sql_trees.specs.declared.fault.SqlFault.{SqlFault}
 use Rattle.iso_lexer.specs.declared.token.At.{At}
 use Rattle.sql_trees.specs.declared.token.Tok.{Tok}
 use Rattle.sql_trees.specs.Tokens.{Tokens, tok_at, tok_views}
 use Rattle.sql_trees.specs.declared.fault.SqlFault.TheVariants.{Memory}
 use Rattle.std.specs.Borrow.{Bor}
-use Rattle.sql_expressions.specs.Reading.{Gives, Fails, after_comma, is_comma, ◌>>=◌}
-use Rattle.sql_parser.specs.Readers.{more_at, items_at}
+use Rattle.sql_expressions.specs.Results.{Gives, Fails, ◌>>=◌}
+use Rattle.sql_expressions.specs.Readers.{after, is_sign, more_at, items_at}
 use Rattle.sql_parser.specs.Inner.Calls.{Listed, seen}
 use Rattle.sql_parser.specs.Inner.Calls as lists
 
 -- behind a comma there are fewer tokens
-pub comma_shortens : (ts us : Tokens) → after_comma ts ≡ Some us → length us < length ts
+pub comma_shortens : (ts us : Tokens) → after (is_sign signs.Comma) ts ≡ Some us → length us < length ts
 comma_shortens [] us e = absurd cc
-comma_shortens (t ∷ ts) us e = of_test (is_comma t.tok) e
+comma_shortens (t ∷ ts) us e = of_test (is_sign signs.Comma t.tok) e
   where
     of_test : (b : Bool) → (if b then Some ts else None) ≡ Some us → length us < length (t ∷ ts)
     of_test true h = let same : ts ≡ us = cc in subst (λ vs. length vs < length (t ∷ ts)) same (omega arith)
@@ -25,8 +26,8 @@ comma_shortens (t ∷ ts) us e = of_test (is_comma t.tok) e
 
 -- what was read of a list from s so far is t, and the rest is left
 pub record Onward {S : Type 0} (adds : S → Tokens → Result (S × Tokens) SqlFault → Type 0) (s : S) (ts : Tokens) (t : S) (rest : Tokens) : Type 0 where
-  pub ends : after_comma rest ≡ None → Listed adds s ts (Ok (t, rest))
-  pub goes_on : (us : Tokens) (answer : Result (S × Tokens) SqlFault) → after_comma rest ≡ Some us → Listed adds t us answer → Listed adds s ts answer
+  pub ends : after (is_sign signs.Comma) rest ≡ None → Listed adds s ts (Ok (t, rest))
+  pub goes_on : (us : Tokens) (answer : Result (S × Tokens) SqlFault) → after (is_sign signs.Comma) rest ≡ Some us → Listed adds t us answer → Listed adds s ts answer
 
 module _ {S : Type 0} (adds : S → Tokens → Result (S × Tokens) SqlFault → Type 0) where
   pub first_item : (s t : S) (ts rest : Tokens) → adds s ts (Ok (t, rest)) → length rest ≤ length ts → Onward adds s ts t rest
@@ -38,20 +39,20 @@ module _ {S : Type 0} (adds : S → Tokens → Result (S × Tokens) SqlFault →
   pub no_first : (s : S) (ts : Tokens) (f : SqlFault) → adds s ts (Err f) → Listed adds s ts (Err f)
   no_first s ts f a = lists.stops a refl
 
-  pub next_item : (s t v : S) (ts rest us more : Tokens) → Onward adds s ts t rest → after_comma rest ≡ Some us → adds t us (Ok (v, more)) → length more ≤ length us → Onward adds s ts v more
+  pub next_item : (s t v : S) (ts rest us more : Tokens) → Onward adds s ts t rest → after (is_sign signs.Comma) rest ≡ Some us → adds t us (Ok (v, more)) → length more ≤ length us → Onward adds s ts v more
   next_item s t v ts rest us more o c a h = record {
     ends = λ e. o.goes_on us (Ok (v, more)) c (lists.ends a e refl);
     goes_on = λ vs answer e l. o.goes_on us answer c (lists.goes_on a h e l);
   }
 
-  pub no_next : (s t : S) (ts rest us : Tokens) (f : SqlFault) → Onward adds s ts t rest → after_comma rest ≡ Some us → adds t us (Err f) → Listed adds s ts (Err f)
+  pub no_next : (s t : S) (ts rest us : Tokens) (f : SqlFault) → Onward adds s ts t rest → after (is_sign signs.Comma) rest ≡ Some us → adds t us (Err f) → Listed adds s ts (Err f)
   no_next s t ts rest us f o c a = o.goes_on us (Err f) c (lists.stops a refl)
 
 -- tokens are as many as they are without where they lie in memory
 pub views_shorter : (xs ys : List (At Tok)) → length xs ≤ length ys → length (tok_views xs) ≤ length (tok_views ys)
 views_shorter xs ys h = omega (arith, length-map xs tok_at, length-map ys tok_at)
 
-pub comma_shorter : (xs ys : List (At Tok)) → after_comma (tok_views xs) ≡ Some (tok_views ys) → length ys < length xs
+pub comma_shorter : (xs ys : List (At Tok)) → after (is_sign signs.Comma) (tok_views xs) ≡ Some (tok_views ys) → length ys < length xs
 comma_shorter xs ys e = omega (arith, length-map xs tok_at, length-map ys tok_at, comma_shortens (tok_views xs) (tok_views ys) e)
 
 -- where a part fails with each fault as the whole does, a fault of the part is one of the whole
@@ -67,12 +68,12 @@ module _ {S T : Type 0} (view : S → T) (add : T → Tokens → Result (T × To
   abbrev turn : ℕ → T → Tokens → Result (T × Tokens) SqlFault
   turn n s ts = add s ts >>= λ x. more_at add n x.0 x.1
 
-  no_more : (n : ℕ) (s : T) (rest : Tokens) → after_comma rest ≡ None → more_at add n s rest ≡ Ok (s, rest)
+  no_more : (n : ℕ) (s : T) (rest : Tokens) → after (is_sign signs.Comma) rest ≡ None → more_at add n s rest ≡ Ok (s, rest)
   unfolding more_at
   no_more zero s rest e = refl
   no_more (suc n) s rest e = rw e refl
 
-  one_more : (n : ℕ) (s : T) (rest us : Tokens) → after_comma rest ≡ Some us → more_at add (suc n) s rest ≡ turn n s us
+  one_more : (n : ℕ) (s : T) (rest us : Tokens) → after (is_sign signs.Comma) rest ≡ Some us → more_at add (suc n) s rest ≡ turn n s us
   unfolding more_at
   one_more n s rest us e = rw e refl
 

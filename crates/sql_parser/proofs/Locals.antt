@@ -2,14 +2,15 @@
 use Rattle.std.proofs.Common.{◌≡◌, ℕ, zero, suc, ◌≤◌, Bool, true, false, List, [], ◌∷◌, ◌++◌, length, Option, Some, None, refl, sym, ap, subst, ◌∙◌, append_assoc, append-nil, length-append, arith}
 use Rattle.std.specs.Prelude.{Result, Ok, Err}
 use Rattle.iso_lexer.specs.declared.token.At.{At}
+use Rattle.iso_lexer.specs.declared.sql_token.SqlSign.TheVariants as signs
 use Rattle.sql_trees.specs.declared.fault.SqlFault.{SqlFault}
 use Rattle.sql_trees.specs.declared.fault.SqlFault.TheVariants.{Syntax, TooDeep}
 use Rattle.sql_trees.specs.Tokens.{Token, Tokens, named}
 use Rattle.sql_trees.specs.Trees.{Tree}
-use Rattle.sql_expressions.specs.Reading.{misplaced, place_of, expect, is_comma, after, ◌>>=◌}
+use Rattle.sql_expressions.specs.Results.{◌>>=◌}
+use Rattle.sql_expressions.specs.Readers.{misplaced, place_of, expect, is_sign, after, Reader, some_or, name_at, more_at, items_at}
 use Rattle.sql_expressions.specs.Laws.{head}
 use Rattle.sql_expressions.proofs.Local.{first_is, nothing_is, head_after}
-use Rattle.sql_parser.specs.Readers.{Reader, some_or, name_at, more_at, items_at}
 use Rattle.sql_parser.specs.Grammar.{Is, Names, NameIs, is_name, Commas, last_item, next_item}
 use Rattle.sql_parser.specs.Stops.{Refuses, at_next, at_word, at_name, at_row, in_expression, too_deep}
 
@@ -172,7 +173,7 @@ module _ (last : ℕ) (E : Tokens → Tree → Type 0) (W Any : Type 0) where
     -- what stands behind the first item
     pub data Tail (s : S) : Tokens → S → Type 0 where
       done : Tail s [] s
-      comma : (c : At Token) (us : Tokens) (v : S) → Is is_comma c → Commas Adds s us v → Tail s (c ∷ us) v
+      comma : (c : At Token) (us : Tokens) (v : S) → Is (is_sign signs.Comma) c → Commas Adds s us v → Tail s (c ∷ us) v
 
     bind_same : {A B : Type 0} (r : Result A SqlFault) (f g : A → Result B SqlFault) → ((x : A) → r ≡ Ok x → f x ≡ g x) → (r >>= f) ≡ (r >>= g)
     bind_same (Ok x) f g h = h x refl
@@ -203,12 +204,12 @@ module _ (last : ℕ) (E : Tokens → Tree → Type 0) (W Any : Type 0) where
     more_nothing zero s = refl
     more_nothing (suc n) s = refl
 
-    more_stop : (n : ℕ) (s : S) (t : At Token) (vs : Tokens) → is_comma t.tok ≡ false → more_at add n s (t ∷ vs) ≡ Ok (s, t ∷ vs)
+    more_stop : (n : ℕ) (s : S) (t : At Token) (vs : Tokens) → is_sign signs.Comma t.tok ≡ false → more_at add n s (t ∷ vs) ≡ Ok (s, t ∷ vs)
     unfolding more_at
     more_stop zero s t vs h = refl
     more_stop (suc n) s t vs h = rw h refl
 
-    more_go : (n : ℕ) (s : S) (t : At Token) (vs : Tokens) → is_comma t.tok ≡ true → more_at add (suc n) s (t ∷ vs) ≡ (add s vs >>= λ x. more_at add n x.0 x.1)
+    more_go : (n : ℕ) (s : S) (t : At Token) (vs : Tokens) → is_sign signs.Comma t.tok ≡ true → more_at add (suc n) s (t ∷ vs) ≡ (add s vs >>= λ x. more_at add n x.0 x.1)
     unfolding more_at
     more_go n s t vs h = rw h refl
 
@@ -217,14 +218,14 @@ module _ (last : ℕ) (E : Tokens → Tree → Type 0) (W Any : Type 0) where
     enough m n s [] g h = more_nothing m s ∙ sym (more_nothing n s)
     enough zero n s (t ∷ ts) g h = absurd (omega arith)
     enough (suc m) zero s (t ∷ ts) g h = absurd (omega arith)
-    enough (suc m) (suc n) s (t ∷ ts) g h = of_test (is_comma t.tok) refl (λ v us a b. enough m n v us a b)
+    enough (suc m) (suc n) s (t ∷ ts) g h = of_test (is_sign signs.Comma t.tok) refl (λ v us a b. enough m n v us a b)
       where
-        of_test : (b : Bool) → is_comma t.tok ≡ b → ((v : S) (us : Tokens) → length us ≤ m → length us ≤ n → more_at add m v us ≡ more_at add n v us) → more_at add (suc m) s (t ∷ ts) ≡ more_at add (suc n) s (t ∷ ts)
+        of_test : (b : Bool) → is_sign signs.Comma t.tok ≡ b → ((v : S) (us : Tokens) → length us ≤ m → length us ≤ n → more_at add m v us ≡ more_at add n v us) → more_at add (suc m) s (t ∷ ts) ≡ more_at add (suc n) s (t ∷ ts)
         of_test false q ih = more_stop (suc m) s t ts q ∙ sym (more_stop (suc n) s t ts q)
         of_test true q ih =
             more_go m s t ts q ∙ bind_same (add s ts) (λ x. more_at add m x.0 x.1) (λ x. more_at add n x.0 x.1) (λ x is. let lt = shorter s ts x is in ih x.0 x.1 (omega arith) (omega arith)) ∙ sym (more_go n s t ts q)
 
-    comma_turn : (s : S) (t : At Token) (vs : Tokens) → is_comma t.tok ≡ true → left_of s (t ∷ vs) ≡ (add s vs >>= λ x. left_of x.0 x.1)
+    comma_turn : (s : S) (t : At Token) (vs : Tokens) → is_sign signs.Comma t.tok ≡ true → left_of s (t ∷ vs) ≡ (add s vs >>= λ x. left_of x.0 x.1)
     comma_turn s t vs h = more_go (length vs) s t vs h ∙ bind_same (add s vs) (λ x. more_at add (length vs) x.0 x.1) (λ x. left_of x.0 x.1) (λ x is. let lt = shorter s vs x is in enough (length vs) (length x.1) x.0 x.1 (omega arith) (omega arith))
 
     pub items_is : (s : S) (ts : Tokens) → items_at add s ts ≡ (add s ts >>= λ x. left_of x.0 x.1)
@@ -240,7 +241,7 @@ module _ (last : ℕ) (E : Tokens → Tree → Type 0) (W Any : Type 0) where
     turn_local m s ts le ih = in_turn (Adds s) (Commas Adds s) (add s) left_of ts (λ xs t a. ([], t, joined s t t xs [] a done)) (adds_local s ts) (λ t xs rest split a.
         same_at (Tail t) (λ ys w. Commas Adds s (xs ++ ys) w) (left_of t) (left_of t) rest (λ ys w k. joined s t w xs ys a k) (λ us h. refl) (ih t rest (omega (arith, ap length split, length-append xs rest))))
 
-    tail_token : (m : ℕ) (s : S) (t : At Token) (us : Tokens) (b : Bool) → is_comma t.tok ≡ b → length us ≤ m → ((v : S) (vs : Tokens) → length vs ≤ m → Local (Tail v) (left_of v) vs) → Local (Tail s) (left_of s) (t ∷ us)
+    tail_token : (m : ℕ) (s : S) (t : At Token) (us : Tokens) (b : Bool) → is_sign signs.Comma t.tok ≡ b → length us ≤ m → ((v : S) (vs : Tokens) → length vs ≤ m → Local (Tail v) (left_of v) vs) → Local (Tail s) (left_of s) (t ∷ us)
     tail_token m s t us false h le ih = gives_at (Tail s) (left_of s) s t us (λ vs. more_stop (length (t ∷ vs)) s t vs h) done
     tail_token m s t us true h le ih = behind (Tail s) (λ r. add s r >>= λ x. left_of x.0 x.1) (left_of s) t us (λ vs. comma_turn s t vs h)
         (same_at (Commas Adds s) (λ xs w. Tail s (t ∷ xs) w) (λ r. add s r >>= λ x. left_of x.0 x.1) (λ r. add s r >>= λ x. left_of x.0 x.1) us (λ xs w k. comma t xs w h k) (λ vs g. refl) (turn_local m s us le ih))
@@ -248,7 +249,7 @@ module _ (last : ℕ) (E : Tokens → Tree → Type 0) (W Any : Type 0) where
     pub tail_local : (m : ℕ) (s : S) (ts : Tokens) → length ts ≤ m → Local (Tail s) (left_of s) ts
     tail_local m s [] le = gives_end (Tail s) (left_of s) s (more_nothing 0 s) done
     tail_local zero s (t ∷ us) le = absurd (omega arith)
-    tail_local (suc m) s (t ∷ us) le = tail_token m s t us (is_comma t.tok) refl (omega arith) (λ v vs h. tail_local m v vs h)
+    tail_local (suc m) s (t ∷ us) le = tail_token m s t us (is_sign signs.Comma t.tok) refl (omega arith) (λ v vs h. tail_local m v vs h)
 
     pub list_local : (s : S) (ts : Tokens) → Local (Commas Adds s) (items_at add s) ts
     list_local s ts = same_at (Commas Adds s) (Commas Adds s) (λ r. add s r >>= λ x. left_of x.0 x.1) (items_at add s) ts (λ xs v k. k) (λ us h. items_is s us) (turn_local (length ts) s ts (omega arith) (λ t us h. tail_local (length ts) t us h))

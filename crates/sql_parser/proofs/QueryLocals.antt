@@ -15,13 +15,14 @@ use Rattle.sql_trees.specs.Statements.{StmtTree, ItemTree, OrderTree, SelectTree
 use Rattle.sql_trees.specs.Tokens.{Token, Tokens, named}
 use Rattle.sql_trees.specs.Tokens as tok
 use Rattle.sql_trees.specs.Trees.{Tree, AggTree, CountRows, Of}
-use Rattle.sql_expressions.specs.Reading.{expect, is_word, is_open, is_close, after, ◌>>=◌}
+use Rattle.sql_expressions.specs.Results.{◌>>=◌}
+use Rattle.sql_expressions.specs.Readers.{expect, is_word, is_sign, after, keyword, name_at, items_at, Reader, some_or}
 use Rattle.sql_expressions.specs.Laws.{head}
 use Rattle.sql_expressions.proofs.Local.{first_is, head_after}
-use Rattle.sql_parser.specs.Readers.{keyword, name_at, tree_at, items_at, Reader, some_or, added}
+use Rattle.sql_parser.specs.Readers.{tree_at, added}
 use Rattle.sql_parser.specs.Tables.{TableRead, keys_fault, column_names, created}
 use Rattle.sql_parser.specs.Changes.{filter_at}
-use Rattle.sql_parser.specs.Queries.{is_star, agg_kind, call_at, maybe_name, direction_at, alias_at, agg_at, item_of, item_at, from_at, nulls_at, order_add, order_at, lock_at, is_allowed, query_of, select_at}
+use Rattle.sql_parser.specs.Queries.{agg_kind, call_at, maybe_name, direction_at, alias_at, agg_at, item_of, item_at, from_at, nulls_at, order_add, order_at, lock_at, is_allowed, query_of, select_at}
 use Rattle.sql_parser.specs.Grammar.{Is, Key, Names, Commas, AliasIs, no_alias, as_alias, bare_alias, AggIs, all_rows, of_values, AddsItem, a_star, a_value, an_aggregate, FromIs, no_table, from_table, DirectionIs, as_ever, ascending, descending, NullsAre, unsaid, nulls_first, nulls_last, AddsKey, adds_key, OrderIs, unordered, ordered, LockIs, no_lock, for_update, for_share, WhereIs, unfiltered, Spells, select}
 use Rattle.sql_parser.proofs.Locals.{Inhabited, Local, Begun, took, stopped, gives, gives_at, gives_end, behind, same_at, switch_at, switch_end, in_turn, mapped, token_then, token_last, name_then, list_local, some_list, chosen}
 use Rattle.sql_parser.proofs.StmtLocals.{a_word, a_sign, a_name, the_name, key_is}
@@ -60,12 +61,12 @@ after_same is_it (x ∷ xs) ys h e =
 abbrev pub call_of : Option AggKind → Option Tokens → Option (AggKind × Tokens)
 call_of k o = some_or (λ j. option_map (λ us. (j, us)) o) None k
 
-call_none : (k : Option AggKind) (xs ys : Tokens) → head xs ≡ head ys → call_of k (after is_open xs) ≡ None → call_of k (after is_open ys) ≡ None
+call_none : (k : Option AggKind) (xs ys : Tokens) → head xs ≡ head ys → call_of k (after (is_sign signs.Open) xs) ≡ None → call_of k (after (is_sign signs.Open) ys) ≡ None
 call_none None xs ys h e = refl
-call_none (Some k) xs ys h e = of_after (after is_open xs) refl e
+call_none (Some k) xs ys h e = of_after (after (is_sign signs.Open) xs) refl e
   where
-    of_after : (o : Option Tokens) → after is_open xs ≡ o → call_of (Some k) o ≡ None → call_of (Some k) (after is_open ys) ≡ None
-    of_after None g f = ap (call_of (Some k)) (after_same is_open xs ys h g)
+    of_after : (o : Option Tokens) → after (is_sign signs.Open) xs ≡ o → call_of (Some k) o ≡ None → call_of (Some k) (after (is_sign signs.Open) ys) ≡ None
+    of_after None g f = ap (call_of (Some k)) (after_same (is_sign signs.Open) xs ys h g)
     of_after (Some us) g f = absurd cc
 
 module _ (last : ℕ) (E : Tokens → Tree → Type 0) (W Any : Type 0) (an_expr : Inhabited E) (exprs : (ts : Tokens) → Local last E W Any E (tree_at last) ts)
@@ -87,19 +88,19 @@ module _ (last : ℕ) (E : Tokens → Tree → Type 0) (W Any : Type 0) (an_expr
       (λ a us ha. name_then last E W Any (λ xs w. AliasIs (a ∷ xs) w) (λ n r. Ok (Some n, r)) us (a_name ∷ [], Some the_name, as_alias a a_name the_name ha refl) (λ t n vs hn. gives last E W Any (λ xs w. AliasIs (a ∷ t ∷ xs) w) (Some n) vs (as_alias a t n ha hn)))
       (maybe_local ts)
 
-  agg_some : (k o : At Token) (kind : AggKind) → agg_kind k.tok ≡ Some kind → Is is_open o → Inhabited (λ xs w. AggIs E (k ∷ o ∷ xs) w)
+  agg_some : (k o : At Token) (kind : AggKind) → agg_kind k.tok ≡ Some kind → Is (is_sign signs.Open) o → Inhabited (λ xs w. AggIs E (k ∷ o ∷ xs) w)
   agg_some k o kind hk ho = (an_expr.0 ++ a_sign signs.Close ∷ [], Of kind an_expr.1, of_values k o (a_sign signs.Close) kind an_expr.0 an_expr.1 hk ho an_expr.2 refl)
 
-  of_local : (k o : At Token) (kind : AggKind) → agg_kind k.tok ≡ Some kind → Is is_open o → (ts : Tokens) → Local last E W Any (λ xs w. AggIs E (k ∷ o ∷ xs) w) (λ r. tree_at last r >>= λ e. expect last is_close e.1 >>= λ rest. Ok (Of kind e.0, rest)) ts
-  of_local k o kind hk ho ts = in_turn last E W Any E (λ xs w. AggIs E (k ∷ o ∷ xs) w) (tree_at last) (λ e r. expect last is_close r >>= λ rest. Ok (Of kind e, rest)) ts
+  of_local : (k o : At Token) (kind : AggKind) → agg_kind k.tok ≡ Some kind → Is (is_sign signs.Open) o → (ts : Tokens) → Local last E W Any (λ xs w. AggIs E (k ∷ o ∷ xs) w) (λ r. tree_at last r >>= λ e. expect last (is_sign signs.Close) e.1 >>= λ rest. Ok (Of kind e.0, rest)) ts
+  of_local k o kind hk ho ts = in_turn last E W Any E (λ xs w. AggIs E (k ∷ o ∷ xs) w) (tree_at last) (λ e r. expect last (is_sign signs.Close) r >>= λ rest. Ok (Of kind e, rest)) ts
       (λ xs e q. (a_sign signs.Close ∷ [], Of kind e, of_values k o (a_sign signs.Close) kind xs e hk ho q refl))
       (exprs ts)
-      (λ e xs rest split q. token_last last E W Any (λ ys w. AggIs E (k ∷ o ∷ (xs ++ ys)) w) is_close (Of kind e) rest (a_sign signs.Close ∷ [], Of kind e, of_values k o (a_sign signs.Close) kind xs e hk ho q refl) (λ c hc. of_values k o c kind xs e hk ho q hc))
+      (λ e xs rest split q. token_last last E W Any (λ ys w. AggIs E (k ∷ o ∷ (xs ++ ys)) w) (is_sign signs.Close) (Of kind e) rest (a_sign signs.Close ∷ [], Of kind e, of_values k o (a_sign signs.Close) kind xs e hk ho q refl) (λ c hc. of_values k o c kind xs e hk ho q hc))
 
-  agg_local : (k o : At Token) (kind : AggKind) → agg_kind k.tok ≡ Some kind → Is is_open o → (ts : Tokens) → Local last E W Any (λ xs w. AggIs E (k ∷ o ∷ xs) w) (agg_at last kind) ts
+  agg_local : (k o : At Token) (kind : AggKind) → agg_kind k.tok ≡ Some kind → Is (is_sign signs.Open) o → (ts : Tokens) → Local last E W Any (λ xs w. AggIs E (k ∷ o ∷ xs) w) (agg_at last kind) ts
   unfolding agg_at
-  agg_local k o aggs.Count hk ho ts = chosen last E W Any (λ xs w. AggIs E (k ∷ o ∷ xs) w) is_star (λ us. expect last is_close us >>= λ rest. Ok (CountRows, rest)) (λ r. tree_at last r >>= λ e. expect last is_close e.1 >>= λ rest. Ok (Of aggs.Count e.0, rest)) ts
-      (λ s us hs. token_last last E W Any (λ xs w. AggIs E (k ∷ o ∷ s ∷ xs) w) is_close CountRows us (a_sign signs.Close ∷ [], CountRows, all_rows k o s (a_sign signs.Close) hk ho hs refl) (λ c hc. all_rows k o s c hk ho hs hc))
+  agg_local k o aggs.Count hk ho ts = chosen last E W Any (λ xs w. AggIs E (k ∷ o ∷ xs) w) (is_sign signs.Star) (λ us. expect last (is_sign signs.Close) us >>= λ rest. Ok (CountRows, rest)) (λ r. tree_at last r >>= λ e. expect last (is_sign signs.Close) e.1 >>= λ rest. Ok (Of aggs.Count e.0, rest)) ts
+      (λ s us hs. token_last last E W Any (λ xs w. AggIs E (k ∷ o ∷ s ∷ xs) w) (is_sign signs.Close) CountRows us (a_sign signs.Close ∷ [], CountRows, all_rows k o s (a_sign signs.Close) hk ho hs refl) (λ c hc. all_rows k o s c hk ho hs hc))
       (of_local k o aggs.Count hk ho ts)
   agg_local k o aggs.Sum hk ho ts = of_local k o aggs.Sum hk ho ts
   agg_local k o aggs.Min hk ho ts = of_local k o aggs.Min hk ho ts
@@ -133,7 +134,7 @@ module _ (last : ℕ) (E : Tokens → Tree → Type 0) (W Any : Type 0) (an_expr
   agg_none : (k o : At Token) (xs : Tokens) (a : AggTree) → AggIs E (k ∷ o ∷ xs) a → ItemIs (k ∷ o ∷ (xs ++ [])) (Aggregate a None)
   agg_none k o xs a q is = an_aggregate is (k ∷ o ∷ xs) [] a None q no_alias
 
-  call_item_local : (k o : At Token) (kind : AggKind) → agg_kind k.tok ≡ Some kind → Is is_open o → (ts : Tokens) → Local last E W Any (λ xs w. ItemIs (k ∷ o ∷ xs) w) (call_item kind) ts
+  call_item_local : (k o : At Token) (kind : AggKind) → agg_kind k.tok ≡ Some kind → Is (is_sign signs.Open) o → (ts : Tokens) → Local last E W Any (λ xs w. ItemIs (k ∷ o ∷ xs) w) (call_item kind) ts
   call_item_local k o kind hk ho ts = in_turn last E W Any (λ xs w. AggIs E (k ∷ o ∷ xs) w) (λ xs w. ItemIs (k ∷ o ∷ xs) w) (agg_at last kind) (λ a r. alias_at last r >>= λ n. Ok (Aggregate a n.0, n.1)) ts
       (λ xs a q. ([], Aggregate a None, agg_none k o xs a q))
       (agg_local k o kind hk ho ts)
@@ -188,14 +189,14 @@ module _ (last : ℕ) (E : Tokens → Tree → Type 0) (W Any : Type 0) (an_expr
 
   item_token_local : (t : At Token) (us : Tokens) (k : Option AggKind) → agg_kind t.tok ≡ k → Local last E W Any ItemIs item_of_call (t ∷ us)
   item_token_local t us None h = switch_at last E W Any ItemIs expr_item item_of_call t us (λ vs. rw h refl) (expr_item_local (t ∷ us))
-  item_token_local t us (Some k) h = let n = agg_named t.tok k h in of_next us (after is_open us) refl n.0 n.1
+  item_token_local t us (Some k) h = let n = agg_named t.tok k h in of_next us (after (is_sign signs.Open) us) refl n.0 n.1
     where
-      of_next : (ws : Tokens) (o : Option Tokens) → after is_open ws ≡ o → (n : List ℕ) → Names n t → Local last E W Any ItemIs item_of_call (t ∷ ws)
+      of_next : (ws : Tokens) (o : Option Tokens) → after (is_sign signs.Open) ws ≡ o → (n : List ℕ) → Names n t → Local last E W Any ItemIs item_of_call (t ∷ ws)
       of_next ws None g n hn = no_call_local t ws n hn (rw (h, g) refl)
       of_next [] (Some vs) g n hn = absurd cc
-      of_next (o ∷ ws) (Some vs) g n hn = of_open (is_open o.tok) refl g
+      of_next (o ∷ ws) (Some vs) g n hn = of_open (is_sign signs.Open o.tok) refl g
         where
-          of_open : (b : Bool) → is_open o.tok ≡ b → (if b then Some ws else None) ≡ Some vs → Local last E W Any ItemIs item_of_call (t ∷ o ∷ ws)
+          of_open : (b : Bool) → is_sign signs.Open o.tok ≡ b → (if b then Some ws else None) ≡ Some vs → Local last E W Any ItemIs item_of_call (t ∷ o ∷ ws)
           of_open true f j = behind last E W Any ItemIs (λ r. item_of_call (t ∷ r)) item_of_call t (o ∷ ws) (λ xs. refl) (behind last E W Any (λ xs w. ItemIs (t ∷ xs) w) (call_item k) (λ r. item_of_call (t ∷ r)) o ws (λ xs. rw (h, f) refl) (call_item_local t o k h f ws))
           of_open false f j = absurd cc
 
@@ -205,7 +206,7 @@ module _ (last : ℕ) (E : Tokens → Tree → Type 0) (W Any : Type 0) (an_expr
 
   item_local : (ts : Tokens) → Local last E W Any ItemIs (item_at last) ts
   unfolding item_at
-  item_local ts = chosen last E W Any ItemIs is_star (λ rest. Ok (All, rest)) item_of_call ts
+  item_local ts = chosen last E W Any ItemIs (is_sign signs.Star) (λ rest. Ok (All, rest)) item_of_call ts
       (λ s us hs. gives last E W Any (λ xs w. ItemIs (s ∷ xs) w) All us (λ is. a_star is s hs))
       (item_call_local ts)
 

@@ -4,10 +4,11 @@ use Rattle.std.proofs.lemmas.Bool.{and_from}
 use Rattle.std.proofs.lemmas.List.Folds.{list_all-append}
 use Rattle.std.specs.List.{list_all}
 use Rattle.std.specs.Prelude.{Result, Ok, Err, Bool, true, false, if◌then◌else◌}
+use Rattle.iso_lexer.specs.declared.sql_token.SqlSign.TheVariants as signs
 use Rattle.sql_trees.specs.declared.fault.SqlFault.{SqlFault}
 use Rattle.sql_trees.specs.Tokens.{Tokens}
-use Rattle.sql_expressions.specs.Reading.{after_comma, ◌>>=◌}
-use Rattle.sql_parser.specs.Readers.{items_at, more_at, some_or}
+use Rattle.sql_expressions.specs.Results.{◌>>=◌}
+use Rattle.sql_expressions.specs.Readers.{after, is_sign, items_at, more_at, some_or}
 
 -- what a reading in steps has met
 pub bind_ok : {A B : Type 0} (r : Result A SqlFault) (f : A → Result B SqlFault) (y : B) → (r >>= f) ≡ Ok y → (x : A) × (r ≡ Ok x) × (f x ≡ Ok y)
@@ -29,13 +30,13 @@ when_ok false f r y e = absurd cc
 -- what adding an item keeps, and passing a comma too, reading the items keeps
 module _ {S : Type 0} (add : S → Tokens → Result (S × Tokens) SqlFault) (P : S → Tokens → Type 0)
     (keeps : (s : S) (ts : Tokens) (x : S × Tokens) → P s ts → add s ts ≡ Ok x → P x.0 x.1)
-    (comma : (s : S) (ts us : Tokens) → P s ts → after_comma ts ≡ Some us → P s us) where
+    (comma : (s : S) (ts us : Tokens) → P s ts → after (is_sign signs.Comma) ts ≡ Some us → P s us) where
   more_keep : (n : ℕ) (s : S) (ts : Tokens) (x : S × Tokens) → P s ts → more_at add n s ts ≡ Ok x → P x.0 x.1
   unfolding more_at
   more_keep zero s ts x p e = subst (λ (y : S × Tokens). P y.0 y.1) (ok_same (s, ts) x e) p
-  more_keep (suc n) s ts x p e = of_comma (more_keep n) (after_comma ts) refl e
+  more_keep (suc n) s ts x p e = of_comma (more_keep n) (after (is_sign signs.Comma) ts) refl e
     where
-      of_comma : ((t : S) (us : Tokens) (y : S × Tokens) → P t us → more_at add n t us ≡ Ok y → P y.0 y.1) → (m : Option Tokens) → after_comma ts ≡ m → some_or (λ us. add s us >>= λ y. more_at add n y.0 y.1) (Ok (s, ts)) m ≡ Ok x → P x.0 x.1
+      of_comma : ((t : S) (us : Tokens) (y : S × Tokens) → P t us → more_at add n t us ≡ Ok y → P y.0 y.1) → (m : Option Tokens) → after (is_sign signs.Comma) ts ≡ m → some_or (λ us. add s us >>= λ y. more_at add n y.0 y.1) (Ok (s, ts)) m ≡ Ok x → P x.0 x.1
       of_comma go None h k = subst (λ (y : S × Tokens). P y.0 y.1) (ok_same (s, ts) x k) p
       of_comma go (Some us) h k =
           let a = bind_ok (add s us) (λ y. more_at add n y.0 y.1) x k in

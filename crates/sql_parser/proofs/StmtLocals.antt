@@ -16,9 +16,10 @@ use Rattle.sql_trees.specs.Statements.{StmtTree, Begin, SetTransaction, SetDeadl
 use Rattle.sql_trees.specs.Tokens.{Token, Tokens, named}
 use Rattle.sql_trees.specs.Tokens as tok
 use Rattle.sql_trees.specs.Trees.{Tree}
-use Rattle.sql_expressions.specs.Reading.{expect, is_word, after, ◌>>=◌}
+use Rattle.sql_expressions.specs.Results.{◌>>=◌}
+use Rattle.sql_expressions.specs.Readers.{expect, is_word, after, keyword, items_at, Reader, some_or, name_at}
 use Rattle.sql_expressions.proofs.Shapes.{some_token}
-use Rattle.sql_parser.specs.Readers.{is_unquoted, past, keyword, misplaced_word, items_at, Reader, some_or, added, name_at}
+use Rattle.sql_parser.specs.Readers.{is_unquoted, past, misplaced_word, added}
 use Rattle.sql_parser.specs.Transactions.{is_work, is_scope, is_to, is_setting, level_at, begin_at, start_at, parameter_at, set_at}
 use Rattle.sql_parser.specs.Tables.{drop_of, drop_at, after_if}
 use Rattle.sql_parser.specs.Grammar.{Key, Names, Perhaps, nothing, one_is, Commas, NameIs, is_name, AddsName, adds_name, IsolationIs, uncommitted, committed, repeatable, MaybeLevel, no_level, a_level, Spells, begin, start, set_transaction, set_timeout, drop, drop_if}

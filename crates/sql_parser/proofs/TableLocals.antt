@@ -12,8 +12,9 @@ use Rattle.sql_trees.specs.declared.kind.Kind.TheVariants as kinds
 use Rattle.sql_trees.specs.Tokens.{Token, Tokens, named}
 use Rattle.sql_trees.specs.Tokens as tok
 use Rattle.sql_trees.specs.Trees.{Tree}
-use Rattle.sql_expressions.specs.Reading.{place_of, expect, is_word, is_open, is_close, after, ◌>>=◌}
-use Rattle.sql_parser.specs.Readers.{keyword, misplaced_word, name_at, items_at, Reader, some_or}
+use Rattle.sql_expressions.specs.Results.{◌>>=◌}
+use Rattle.sql_expressions.specs.Readers.{place_of, expect, is_word, is_sign, after, keyword, name_at, items_at, Reader, some_or}
+use Rattle.sql_parser.specs.Readers.{misplaced_word}
 use Rattle.sql_parser.specs.Tables.{Placed, KeyRead, TableRead, Constraints, is_among, placed_names, column_names, empty_table, with_key, with_column, key_limit, kind_of, kind_at, key_add, key_at, constraints_at, limits_at, column_behind, column_at, table_add}
 use Rattle.sql_parser.specs.Inner.OneConstraint.{is_constraint, constraint_of, constraint_at}
 use Rattle.sql_parser.specs.Grammar.{Is, Key, Names, Commas, placed, AddsColumn, adds_column, Says, no_more, not_null, primary_key, unique_key, AddsPart, a_column, a_primary, a_unique}
@@ -50,16 +51,16 @@ module _ (last : ℕ) (E : Tokens → Tree → Type 0) (W Any : Type 0) where
   some_columns = some_list last E W Any (key_add last) AddsColumn adds_some_column column_add_local []
 
   -- a key's columns in parentheses
-  key_local : (K : Tokens → TableRead → Type 0) (p : Bool) (t : TableRead) (ts : Tokens) → ((o c : At Token) (xs : Tokens) (ns : List Placed) → Is is_open o → Commas AddsColumn [] xs ns → Is is_close c → K (o ∷ (xs ++ c ∷ [])) (with_key p ns t)) → Local last E W Any K (key_at last p t) ts
+  key_local : (K : Tokens → TableRead → Type 0) (p : Bool) (t : TableRead) (ts : Tokens) → ((o c : At Token) (xs : Tokens) (ns : List Placed) → Is (is_sign signs.Open) o → Commas AddsColumn [] xs ns → Is (is_sign signs.Close) c → K (o ∷ (xs ++ c ∷ [])) (with_key p ns t)) → Local last E W Any K (key_at last p t) ts
   unfolding key_at
   key_local K p t ts up =
       let s = some_columns in
-      token_then last E W Any K is_open (λ us. items_at (key_add last) [] us >>= λ x. expect last is_close x.1 >>= λ rest. Ok (with_key p x.0 t, rest)) ts
+      token_then last E W Any K (is_sign signs.Open) (λ us. items_at (key_add last) [] us >>= λ x. expect last (is_sign signs.Close) x.1 >>= λ rest. Ok (with_key p x.0 t, rest)) ts
       (a_sign signs.Open ∷ (s.0 ++ a_sign signs.Close ∷ []), with_key p s.1 t, up (a_sign signs.Open) (a_sign signs.Close) s.0 s.1 refl s.2 refl)
-      (λ o us ho. in_turn last E W Any (Commas AddsColumn []) (λ xs w. K (o ∷ xs) w) (items_at (key_add last) []) (λ v r. expect last is_close r >>= λ rest. Ok (with_key p v t, rest)) us
+      (λ o us ho. in_turn last E W Any (Commas AddsColumn []) (λ xs w. K (o ∷ xs) w) (items_at (key_add last) []) (λ v r. expect last (is_sign signs.Close) r >>= λ rest. Ok (with_key p v t, rest)) us
       (λ xs ns q. (a_sign signs.Close ∷ [], with_key p ns t, up o (a_sign signs.Close) xs ns ho q refl))
       (list_local last E W Any (key_add last) AddsColumn adds_some_column column_add_local [] us)
-      (λ ns xs rest split q. token_last last E W Any (λ ys w. K (o ∷ (xs ++ ys)) w) is_close (with_key p ns t) rest (a_sign signs.Close ∷ [], with_key p ns t, up o (a_sign signs.Close) xs ns ho q refl) (λ c hc. up o c xs ns ho q hc)))
+      (λ ns xs rest split q. token_last last E W Any (λ ys w. K (o ∷ (xs ++ ys)) w) (is_sign signs.Close) (with_key p ns t) rest (a_sign signs.Close ∷ [], with_key p ns t, up o (a_sign signs.Close) xs ns ho q refl) (λ c hc. up o c xs ns ho q hc)))
 
   -- ---- columns
 

@@ -3,6 +3,7 @@ use Rattle.std.proofs.Common.{◌≡◌, ℕ, zero, suc, ◌+◌, ◌<◌, ◌�
 use Rattle.std.proofs.lemmas.List.{map-append}
 use Rattle.std.specs.List.{list_all}
 use Rattle.std.specs.Prelude.{Result, Ok, Err, Bool, true, false, if◌then◌else◌}
+use Rattle.iso_lexer.specs.declared.sql_token.SqlSign.TheVariants as signs
 use Rattle.sql_trees.specs.declared.fault.SqlFault.{SqlFault}
 use Rattle.sql_trees.specs.declared.fault.SqlFault.TheVariants.{BadColumns}
 use Rattle.sql_trees.specs.declared.word.Word.TheVariants as words
@@ -10,8 +11,9 @@ use Rattle.sql_trees.specs.declared.kind.Kind.{Kind}
 use Rattle.sql_trees.specs.Statements.{ColumnTree}
 use Rattle.sql_trees.specs.Tokens.{Token, Tokens, named}
 use Rattle.sql_trees.specs.Tokens as tok
-use Rattle.sql_expressions.specs.Reading.{after, after_comma, expect, misplaced, is_close, is_open, is_word, place_of, ◌>>=◌}
-use Rattle.sql_parser.specs.Readers.{items_at, keyword, name_at, some_or, misplaced_word}
+use Rattle.sql_expressions.specs.Results.{◌>>=◌}
+use Rattle.sql_expressions.specs.Readers.{after, is_sign, expect, misplaced, is_word, place_of, items_at, keyword, name_at, some_or}
+use Rattle.sql_parser.specs.Readers.{misplaced_word}
 use Rattle.sql_parser.specs.Tables.{Placed, KeyRead, TableRead, Constraints, is_among, placed_names, column_names, empty_table, with_key, with_column, key_limit, kind_of, kind_at, key_add, key_at, constraints_at, limits_at, column_behind, column_at, table_add}
 use Rattle.sql_parser.specs.Inner.OneConstraint.{constraint_of, constraint_at, constrained}
 use Rattle.sql_parser.specs.Kept.{all_differ}
@@ -80,7 +82,7 @@ module _ (last : ℕ) where
         differ = ap all_differ (map-append (λ (n : Placed). n.name) ns (one_placed a.0.0 ts ∷ [])) ∙ differ_push (placed_names ns) a.0.0 k.differ b.0;
       })
 
-  columns_comma : (bound : ℕ) (ns : List Placed) (ts us : Tokens) → ColumnsWithin bound ns ts → after_comma ts ≡ Some us → ColumnsWithin bound ns us
+  columns_comma : (bound : ℕ) (ns : List Placed) (ts us : Tokens) → ColumnsWithin bound ns ts → after (is_sign signs.Comma) ts ≡ Some us → ColumnsWithin bound ns us
   columns_comma bound ns ts us k e = record { left = omega (arith, k.left, comma_shortens ts us e); differ = k.differ }
 
   -- one more key, for a token at least
@@ -94,11 +96,11 @@ module _ (last : ℕ) where
   key_keeps : (bound : ℕ) (primary : Bool) (t : TableRead) (ts : Tokens) (x : TableRead × Tokens) → TableWithin bound t ts → key_at last primary t ts ≡ Ok x → TableWithin bound x.0 x.1
   unfolding key_at
   key_keeps bound primary t ts x k e =
-      let a = bind_ok (expect last is_open ts) (λ us. items_at (key_add last) [] us >>= λ y. expect last is_close y.1 >>= λ rest. Ok (with_key primary y.0 t, rest)) x e in
-      let b = bind_ok (items_at (key_add last) [] a.0) (λ y. expect last is_close y.1 >>= λ rest. Ok (with_key primary y.0 t, rest)) x a.2 in
-      let c = bind_ok (expect last is_close b.0.1) (λ rest. Ok (with_key primary b.0.0 t, rest)) x b.2 in
+      let a = bind_ok (expect last (is_sign signs.Open) ts) (λ us. items_at (key_add last) [] us >>= λ y. expect last (is_sign signs.Close) y.1 >>= λ rest. Ok (with_key primary y.0 t, rest)) x e in
+      let b = bind_ok (items_at (key_add last) [] a.0) (λ y. expect last (is_sign signs.Close) y.1 >>= λ rest. Ok (with_key primary y.0 t, rest)) x a.2 in
+      let c = bind_ok (expect last (is_sign signs.Close) b.0.1) (λ rest. Ok (with_key primary b.0.0 t, rest)) x b.2 in
       let w = items_keep (key_add last) (ColumnsWithin (length a.0)) (key_add_keeps (length a.0)) (columns_comma (length a.0)) [] a.0 b.0 (record { left = omega arith; differ = refl }) b.1 in
-      let less : length c.0 < length ts = omega (arith, expect_shorter is_open ts a.0 a.1, w.left, expect_shorter is_close b.0.1 c.0 c.1) in
+      let less : length c.0 < length ts = omega (arith, expect_shorter (is_sign signs.Open) ts a.0 a.1, w.left, expect_shorter (is_sign signs.Close) b.0.1 c.0 c.1) in
       let m = more_keys bound (length ts) t.keys (record { primary = primary; columns = b.0.0 }) ts c.0 (record { few = k.keys; shorter = omega arith; differ = k.differ }) less w.differ in
       subst (λ (y : TableRead × Tokens). TableWithin bound y.0 y.1) (ok_same (with_key primary b.0.0 t, c.0) x c.2) (record {
         columns = omega (arith, k.columns, less);

@@ -16,7 +16,7 @@ use Rattle.sql_trees.specs.declared.fault.SqlFault.TheVariants.{Memory}
 use Rattle.sql_trees.specs.Statements.{StmtTree}
 use Rattle.sql_trees.specs.declared.token.Tok.{Tok}
 use Rattle.sql_trees.specs.Tokens.{classify_at, tok_at, tok_views}
-use Rattle.sql_expressions.specs.Reading.{Gives}
+use Rattle.sql_expressions.specs.Results.{Gives}
 use Rattle.sql_parser.specs.declared.block.Role.{Role}
 use Rattle.sql_parser.specs.Inner.Calls.{seen}
 use Rattle.sql_parser.specs.Blocks.{block_at}

@@ -8,10 +8,11 @@ use Rattle.sql_trees.specs.declared.word.Word.TheVariants as words
 use Rattle.sql_trees.specs.Statements.{StmtTree, Commit, Rollback}
 use Rattle.sql_trees.specs.Tokens.{Token, Tokens}
 use Rattle.sql_trees.specs.Tokens as tok
-use Rattle.sql_expressions.specs.Reading.{misplaced, ◌>>=◌}
+use Rattle.sql_expressions.specs.Results.{◌>>=◌}
+use Rattle.sql_expressions.specs.Readers.{is_sign, misplaced, Reader, made}
 use Rattle.sql_parser.specs.declared.block.Role.{Role}
 use Rattle.sql_parser.specs.declared.block.Role.TheVariants as roles
-use Rattle.sql_parser.specs.Readers.{Reader, made, past}
+use Rattle.sql_parser.specs.Readers.{past}
 use Rattle.sql_parser.specs.Transactions.{is_work, begin_at, start_at, set_at}
 use Rattle.sql_parser.specs.Tables.{create_at, drop_at}
 use Rattle.sql_parser.specs.Changes.{insert_at, update_at, delete_at}
@@ -25,10 +26,6 @@ is_ddl _ = false
 abbrev pub is_session : Role → Bool
 is_session roles.Session = true
 is_session roles.Main = false
-
-abbrev pub is_semicolon : Token → Bool
-is_semicolon (tok.sign signs.Semicolon) = true
-is_semicolon _ = false
 
 module _ (last : ℕ) where
   -- a statement of which nothing has to hold as a whole, by its first token
@@ -75,7 +72,7 @@ module _ (last : ℕ) where
 unfoldable pub stmts_at : ℕ → Role → List StmtTree → Tokens → Tokens → Result (List StmtTree) SqlFault
 stmts_at last role ss piece [] = piece_at last role ss piece
 stmts_at last role ss piece (t ∷ ts) =
-    if is_semicolon t.tok then (piece_at t.span.start role ss piece >>= λ more. stmts_at last role more [] ts) else stmts_at last role ss (piece ++ t ∷ []) ts
+    if is_sign signs.Semicolon t.tok then (piece_at t.span.start role ss piece >>= λ more. stmts_at last role more [] ts) else stmts_at last role ss (piece ++ t ∷ []) ts
 
 -- the statements of a block
 abbrev pub block_at : ℕ → Role → Tokens → Result (List StmtTree) SqlFault

@@ -7,8 +7,8 @@ use Rattle.sql_trees.specs.Statements.{StmtTree, SetTree, Inserts, Updates, Dele
 use Rattle.sql_trees.specs.Tokens.{Token, Tokens}
 use Rattle.sql_trees.specs.Tokens as tok
 use Rattle.sql_trees.specs.Trees.{Tree}
-use Rattle.sql_expressions.specs.Reading.{place_of, expect, is_open, is_close, is_word}
-use Rattle.sql_parser.specs.Readers.{Reader, gives, made, either, maybe, keyword, closed, name_at, tree_at, items_at, added, ◌>>=◌, ◌>>◌}
+use Rattle.sql_expressions.specs.Readers.{place_of, expect, is_sign, is_word, Reader, gives, made, either, keyword, closed, name_at, items_at, ◌>>=◌, ◌>>◌}
+use Rattle.sql_parser.specs.Readers.{maybe, tree_at, added}
 use Rattle.sql_parser.specs.Tables.{new_name}
 
 -- the rows of VALUES so far, and how many values each has to have
@@ -20,10 +20,6 @@ abbrev pub fits : Option ℕ → ℕ → Bool
 fits None n = true
 fits (Some m) n = m == n
 
-abbrev pub is_equal : Token → Bool
-is_equal (tok.sign signs.Equal) = true
-is_equal _ = false
-
 abbrev pub set_columns : List SetTree → List (List ℕ)
 set_columns ss = map (λ s. s.column) ss
 
@@ -34,14 +30,14 @@ module _ (last : ℕ) where
 
   -- one more row, which has to have as many values as those before it
   unfoldable pub row_add : Rows → Reader Rows
-  row_add s ts = (expect last is_open >> (do
+  row_add s ts = (expect last (is_sign signs.Open) >> (do
     values ← items_at (added (tree_at last)) []
-    expect last is_close
+    expect last (is_sign signs.Close)
     λ rest. if fits s.width (length values) then Ok (record { rows = s.rows ++ values ∷ []; width = Some (length values) }, rest) else Err (Syntax (place_of last ts)))) ts
 
   -- the columns in parentheses, if any
   unfoldable pub columns_at : Reader (Option (List (List ℕ)))
-  columns_at = either is_open (closed last (λ ns. Some ns) (items_at distinct_add [])) (gives None)
+  columns_at = either (is_sign signs.Open) (closed last (λ ns. Some ns) (items_at distinct_add [])) (gives None)
 
   -- what stands behind INSERT
   unfoldable pub insert_at : Reader StmtTree
@@ -59,7 +55,7 @@ module _ (last : ℕ) where
 
   -- the new value of a column of this name
   abbrev pub set_value : List ℕ → List SetTree → Reader (List SetTree)
-  set_value n ss = expect last is_equal >> made (λ e. ss ++ (record { column = n; value = e }) ∷ []) (tree_at last)
+  set_value n ss = expect last (is_sign signs.Equal) >> made (λ e. ss ++ (record { column = n; value = e }) ∷ []) (tree_at last)
 
   -- one more column with its new value; the column may not stand there twice
   unfoldable pub set_add : List SetTree → Reader (List SetTree)

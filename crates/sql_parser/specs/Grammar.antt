@@ -2,6 +2,8 @@
 -- PostgreSQL 17's manual; numbers are sections of it. E says which tokens spell an expression.
 use Rattle.std.specs.Prelude.{◌≡◌, ℕ, Bool, true, false, List, [], ◌∷◌, ◌++◌, length, Option, Some, None, option_map}
 use Rattle.iso_lexer.specs.declared.token.At.{At}
+use Rattle.iso_lexer.specs.declared.sql_token.SqlSign.{SqlSign}
+use Rattle.iso_lexer.specs.declared.sql_token.SqlSign.TheVariants as signs
 use Rattle.sql_trees.specs.declared.word.Word.{Word}
 use Rattle.sql_trees.specs.declared.word.Word.TheVariants as words
 use Rattle.sql_trees.specs.declared.kind.Kind.{Kind}
@@ -15,13 +17,12 @@ use Rattle.sql_trees.specs.Statements.{StmtTree, Begin, Commit, Rollback, SetTra
 use Rattle.sql_trees.specs.Statements.{SetTree, ItemTree, OrderTree, All, Value, Aggregate}
 use Rattle.sql_trees.specs.Tokens.{Token, Tokens, named}
 use Rattle.sql_trees.specs.Trees.{Tree, AggTree, CountRows, Of}
-use Rattle.sql_expressions.specs.Reading.{is_word, is_open, is_close, is_comma}
+use Rattle.sql_expressions.specs.Readers.{is_word, is_sign}
 use Rattle.sql_expressions.specs.Grammar.{OR, SpellsIn}
 use Rattle.sql_parser.specs.Transactions.{is_work, is_scope, is_to, is_setting}
 use Rattle.sql_parser.specs.Tables.{Placed, TableRead, Constraints, empty_table, with_key, with_column, key_limit, kind_of, created}
-use Rattle.sql_parser.specs.Changes.{Rows, is_equal}
-use Rattle.sql_parser.specs.Queries.{is_star, agg_kind}
-use Rattle.sql_parser.specs.Blocks.{is_semicolon}
+use Rattle.sql_parser.specs.Changes.{Rows}
+use Rattle.sql_parser.specs.Queries.{agg_kind}
 
 -- ---- tokens
 
@@ -32,6 +33,10 @@ Is is_it token = is_it token.tok ≡ true
 -- the token is this keyword, in whatever letters
 abbrev pub Key : Word → At Token → Type 0
 Key w token = is_word w token.tok ≡ true
+
+-- the token is this sign
+abbrev pub Sign : SqlSign → At Token → Type 0
+Sign s token = is_sign s token.tok ≡ true
 
 -- the token is this name
 abbrev pub Names : List ℕ → At Token → Type 0
@@ -46,7 +51,7 @@ pub data Perhaps (is_it : Token → Bool) : Tokens → Type 0 where
 pub data Commas {S : Type 0} (Adds : S → Tokens → S → Type 0) : S → Tokens → S → Type 0 where
   last_item : (old new : S) (item : Tokens) → Adds old item new → Commas Adds old item new
   next_item : (old new all : S) (item others : Tokens) (comma : At Token) →
-      Adds old item new → Is is_comma comma → Commas Adds new others all →
+      Adds old item new → Sign signs.Comma comma → Commas Adds new others all →
       Commas Adds old (item ++ comma ∷ others) all
 
 -- a name
@@ -104,10 +109,10 @@ pub data AddsPart : TableRead → Tokens → TableRead → Type 0 where
       Names name column → kind_of data_type.tok ≡ Some kind → Says (placed name column) (record { not_null = false; keys = table.keys }) constraints said →
       AddsPart table (column ∷ data_type ∷ constraints) (with_column (placed name column) kind said table)
   a_primary : (table : TableRead) (primary key opening closing : At Token) (list : Tokens) (columns : List Placed) →
-      Key words.Primary primary → Key words.Key key → Is is_open opening → Commas AddsColumn [] list columns → Is is_close closing →
+      Key words.Primary primary → Key words.Key key → Sign signs.Open opening → Commas AddsColumn [] list columns → Sign signs.Close closing →
       AddsPart table (primary ∷ key ∷ opening ∷ (list ++ closing ∷ [])) (with_key true columns table)
   a_unique : (table : TableRead) (unique opening closing : At Token) (list : Tokens) (columns : List Placed) →
-      Key words.Unique unique → Is is_open opening → Commas AddsColumn [] list columns → Is is_close closing →
+      Key words.Unique unique → Sign signs.Open opening → Commas AddsColumn [] list columns → Sign signs.Close closing →
       AddsPart table (unique ∷ opening ∷ (list ++ closing ∷ [])) (with_key false columns table)
 
 -- ---- INSERT, UPDATE and DELETE
@@ -118,7 +123,7 @@ pub data AddsValue (E : Tokens → Tree → Type 0) : List Tree → Tokens → L
 -- "(" expression {"," expression} ")"
 pub data RowIs (E : Tokens → Tree → Type 0) : Tokens → List Tree → Type 0 where
   is_row : (opening closing : At Token) (list : Tokens) (values : List Tree) →
-      Is is_open opening → Commas (AddsValue E) [] list values → Is is_close closing →
+      Sign signs.Open opening → Commas (AddsValue E) [] list values → Sign signs.Close closing →
       RowIs E (opening ∷ (list ++ closing ∷ [])) values
 
 abbrev pub with_row : Rows → List Tree → Rows
@@ -135,13 +140,13 @@ pub data AddsRow (E : Tokens → Tree → Type 0) : Rows → Tokens → Rows →
 pub data ColumnsAre : Tokens → Option (List (List ℕ)) → Type 0 where
   unlisted : ColumnsAre [] None
   listed_columns : (opening closing : At Token) (list : Tokens) (names : List (List ℕ)) →
-      Is is_open opening → Commas AddsName [] list names → Is is_close closing →
+      Sign signs.Open opening → Commas AddsName [] list names → Sign signs.Close closing →
       ColumnsAre (opening ∷ (list ++ closing ∷ [])) (Some names)
 
 -- column_name "=" expression
 pub data AddsSet (E : Tokens → Tree → Type 0) : List SetTree → Tokens → List SetTree → Type 0 where
   adds_set : (sets : List SetTree) (column equals : At Token) (name : List ℕ) (expression : Tokens) (value : Tree) →
-      Names name column → Is is_equal equals → E expression value →
+      Names name column → Sign signs.Equal equals → E expression value →
       AddsSet E sets (column ∷ equals ∷ expression) (sets ++ (record { column = name; value = value }) ∷ [])
 
 -- [WHERE condition]
@@ -162,15 +167,15 @@ pub data AliasIs : Tokens → Option (List ℕ) → Type 0 where
 -- COUNT "(" "*" ")" | (COUNT | SUM | MIN | MAX) "(" expression ")" (4.2.7)
 pub data AggIs (E : Tokens → Tree → Type 0) : Tokens → AggTree → Type 0 where
   all_rows : (count opening star closing : At Token) →
-      agg_kind count.tok ≡ Some aggs.Count → Is is_open opening → Is is_star star → Is is_close closing →
+      agg_kind count.tok ≡ Some aggs.Count → Sign signs.Open opening → Sign signs.Star star → Sign signs.Close closing →
       AggIs E (count ∷ opening ∷ star ∷ closing ∷ []) CountRows
   of_values : (aggregate opening closing : At Token) (kind : AggKind) (expression : Tokens) (value : Tree) →
-      agg_kind aggregate.tok ≡ Some kind → Is is_open opening → E expression value → Is is_close closing →
+      agg_kind aggregate.tok ≡ Some kind → Sign signs.Open opening → E expression value → Sign signs.Close closing →
       AggIs E (aggregate ∷ opening ∷ (expression ++ closing ∷ [])) (Of kind value)
 
 -- "*" | (expression | aggregate) [[AS] output_name]
 pub data AddsItem (E : Tokens → Tree → Type 0) : List ItemTree → Tokens → List ItemTree → Type 0 where
-  a_star : (items : List ItemTree) (star : At Token) → Is is_star star → AddsItem E items (star ∷ []) (items ++ All ∷ [])
+  a_star : (items : List ItemTree) (star : At Token) → Sign signs.Star star → AddsItem E items (star ∷ []) (items ++ All ∷ [])
   a_value : (items : List ItemTree) (expression alias : Tokens) (value : Tree) (name : Option (List ℕ)) →
       E expression value → AliasIs alias name →
       AddsItem E items (expression ++ alias) (items ++ Value value name ∷ [])
@@ -241,7 +246,7 @@ pub data Spells (E : Tokens → Tree → Type 0) : Tokens → StmtTree → Type 
       Spells E (set_word ∷ (scope ++ timeout ∷ to ∷ setting ∷ [])) SetDeadlockTimeout
   -- CREATE TABLE table_name "(" part {"," part} ")"
   create : (create_word table token opening closing : At Token) (name : List ℕ) (list : Tokens) (parts : TableRead) →
-      Key words.Create create_word → Key words.Table table → Names name token → Is is_open opening → Commas AddsPart empty_table list parts → Is is_close closing →
+      Key words.Create create_word → Key words.Table table → Names name token → Sign signs.Open opening → Commas AddsPart empty_table list parts → Sign signs.Close closing →
       Spells E (create_word ∷ table ∷ token ∷ opening ∷ (list ++ closing ∷ [])) (created name parts)
   -- DROP TABLE [IF EXISTS] name {"," name}
   drop : (drop_word table : At Token) (list : Tokens) (names : List (List ℕ)) →
@@ -282,14 +287,14 @@ pub data PieceIs (E : Tokens → Tree → Type 0) : Tokens → List StmtTree →
 pub data BlockIs (E : Tokens → Tree → Type 0) : Tokens → List StmtTree → Type 0 where
   last_piece : (piece : Tokens) (statements : List StmtTree) → PieceIs E piece statements → BlockIs E piece statements
   next_piece : (piece behind : Tokens) (statements others : List StmtTree) (semicolon : At Token) →
-      PieceIs E piece statements → Is is_semicolon semicolon → BlockIs E behind others →
+      PieceIs E piece statements → Sign signs.Semicolon semicolon → BlockIs E behind others →
       BlockIs E (piece ++ semicolon ∷ behind) (statements ++ others)
 
 -- {[statement] ";"}: statements with a semicolon behind each
 pub data EndedAre (E : Tokens → Tree → Type 0) : Tokens → List StmtTree → Type 0 where
   no_pieces : EndedAre E [] []
   ended_piece : (piece behind : Tokens) (statements others : List StmtTree) (semicolon : At Token) →
-      PieceIs E piece statements → Is is_semicolon semicolon → EndedAre E behind others →
+      PieceIs E piece statements → Sign signs.Semicolon semicolon → EndedAre E behind others →
       EndedAre E (piece ++ semicolon ∷ behind) (statements ++ others)
 
 -- ---- expressions

@@ -2,14 +2,15 @@
 use Rattle.std.specs.Prelude.{◌≡◌, ◌↔◌, ◌<◌, ◌≤◌, ◌^◌, [], ◌∷◌, ◌++◌, ℕ, true, false, List, length, Some, Ok, Err}
 use Rattle.iso_lexer.specs.declared.token.At.{At}
 use Rattle.std.specs.List.{list_all}
+use Rattle.iso_lexer.specs.declared.sql_token.SqlSign.TheVariants as signs
 use Rattle.sql_trees.specs.declared.fault.SqlFault.{SqlFault}
 use Rattle.sql_trees.specs.declared.fault.SqlFault.TheVariants.{LeftOut, TooMany, BadColumns, DdlInSession}
 use Rattle.sql_trees.specs.Statements.{StmtTree, SelectTree, Selects}
 use Rattle.sql_trees.specs.Tokens.{Token, Tokens}
-use Rattle.sql_expressions.specs.Reading.{place_of}
+use Rattle.sql_expressions.specs.Readers.{is_sign, place_of}
 use Rattle.sql_expressions.specs.Laws.{head}
 use Rattle.sql_parser.specs.declared.block.Role.{Role}
-use Rattle.sql_parser.specs.Blocks.{is_session, is_ddl, is_semicolon, block_at, whole_at}
+use Rattle.sql_parser.specs.Blocks.{is_session, is_ddl, block_at, whole_at}
 use Rattle.sql_parser.specs.Tables.{TableRead, keys_fault, column_names, created}
 use Rattle.sql_parser.specs.Grammar.{BlockIs, EndedAre, Spells, Shallow, OfAnyDepth}
 use Rattle.sql_parser.specs.Kept.{is_kept_in}
@@ -92,7 +93,7 @@ pub record BeginsOneMore (role : Role) (ts : Tokens) (place : ℕ) : Type 0 wher
   pub rest : Tokens
   pub split : ts ≡ front ++ first ∷ rest
   pub here : place ≡ first.span.start
-  pub begins : is_semicolon first.tok ≡ false
+  pub begins : is_sign signs.Semicolon first.tok ≡ false
   pub stmts : List StmtTree
   pub spells : EndedAre Shallow front stmts
   pub full : length stmts ≡ 256

@@ -13,13 +13,9 @@ use Rattle.sql_trees.specs.Statements.{StmtTree, ItemTree, All, Value, Aggregate
 use Rattle.sql_trees.specs.Tokens.{Token, Tokens, named}
 use Rattle.sql_trees.specs.Tokens as tok
 use Rattle.sql_trees.specs.Trees.{AggTree, CountRows, Of}
-use Rattle.sql_expressions.specs.Reading.{after, expect, is_open, is_close, is_word}
-use Rattle.sql_parser.specs.Readers.{Reader, gives, made, some_or, either, maybe, keyword, closed, name_at, tree_at, items_at, added, ◌>>=◌, ◌>>◌}
+use Rattle.sql_expressions.specs.Readers.{after, expect, is_sign, is_word, Reader, gives, made, some_or, either, keyword, closed, name_at, items_at, ◌>>=◌, ◌>>◌}
+use Rattle.sql_parser.specs.Readers.{maybe, tree_at, added}
 use Rattle.sql_parser.specs.Changes.{filter_at}
-
-abbrev pub is_star : Token → Bool
-is_star (tok.sign signs.Star) = true
-is_star _ = false
 
 -- the aggregate that a word names
 abbrev pub agg_kind : Token → Option AggKind
@@ -32,11 +28,11 @@ agg_kind _ = None
 -- an aggregate's name with an open parenthesis behind it, and the tokens behind that
 abbrev pub call_at : Tokens → Option (AggKind × Tokens)
 call_at [] = None
-call_at (t ∷ ts) = some_or (λ k. option_map (λ us. (k, us)) (after is_open ts)) None (agg_kind t.tok)
+call_at (t ∷ ts) = some_or (λ k. option_map (λ us. (k, us)) (after (is_sign signs.Open) ts)) None (agg_kind t.tok)
 
 -- the star of count(*)
 abbrev pub rows_of : AggKind → Tokens → Option Tokens
-rows_of aggs.Count ts = after is_star ts
+rows_of aggs.Count ts = after (is_sign signs.Star) ts
 rows_of _ ts = None
 
 -- the name that stands next, if one does
@@ -55,7 +51,7 @@ module _ (last : ℕ) where
 
   -- an aggregate behind its open parenthesis
   unfoldable pub agg_at : AggKind → Reader AggTree
-  agg_at k ts = some_or (expect last is_close >> gives CountRows) (closed last (Of k) (tree_at last) ts) (rows_of k ts)
+  agg_at k ts = some_or (expect last (is_sign signs.Close) >> gives CountRows) (closed last (Of k) (tree_at last) ts) (rows_of k ts)
 
   -- an aggregate or an expression, and the name given to it
   abbrev pub item_of : Option (AggKind × Tokens) → Reader ItemTree
@@ -64,7 +60,7 @@ module _ (last : ℕ) where
 
   -- an item of a SELECT
   unfoldable pub item_at : Reader ItemTree
-  item_at = either is_star (gives All) (λ ts. item_of (call_at ts) ts)
+  item_at = either (is_sign signs.Star) (gives All) (λ ts. item_of (call_at ts) ts)
 
   -- FROM and its table, if any
   unfoldable pub from_at : Reader (Option (List ℕ))

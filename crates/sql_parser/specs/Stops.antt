@@ -6,7 +6,7 @@ use Rattle.sql_trees.specs.declared.fault.SqlFault.TheVariants.{Syntax, LeftOut,
 use Rattle.sql_trees.specs.declared.word.Word.TheVariants as words
 use Rattle.sql_trees.specs.Tokens.{Token, Tokens}
 use Rattle.sql_trees.specs.Trees.{Tree}
-use Rattle.sql_expressions.specs.Reading.{misplaced, place_of, is_word}
+use Rattle.sql_expressions.specs.Readers.{misplaced, place_of, is_word}
 use Rattle.sql_expressions.specs.Laws.{Makes, first}
 use Rattle.sql_expressions.specs.Laws as expr
 use Rattle.sql_parser.specs.Readers.{is_unquoted}

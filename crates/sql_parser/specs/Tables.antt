@@ -2,6 +2,7 @@
 use Rattle.std.specs.Prelude.{ℕ, zero, suc, Bool, true, false, not, ◌||◌, ◌&&◌, List, [], ◌∷◌, ◌++◌, length, map, filter, bytes_eq}
 use Rattle.std.specs.Prelude.{Option, Some, None, Result, Ok, Err, if◌then◌else◌}
 use Rattle.std.specs.List.{list_any}
+use Rattle.iso_lexer.specs.declared.sql_token.SqlSign.TheVariants as signs
 use Rattle.sql_trees.specs.declared.fault.SqlFault.{SqlFault}
 use Rattle.sql_trees.specs.declared.fault.SqlFault.TheVariants.{BadColumns}
 use Rattle.sql_trees.specs.declared.word.Word.TheVariants as words
@@ -10,8 +11,9 @@ use Rattle.sql_trees.specs.declared.kind.Kind.TheVariants as kinds
 use Rattle.sql_trees.specs.Statements.{StmtTree, ColumnTree, KeyTree, Create, DropTables, key_name}
 use Rattle.sql_trees.specs.Tokens.{Token, Tokens}
 use Rattle.sql_trees.specs.Tokens as tok
-use Rattle.sql_expressions.specs.Reading.{after, place_of, expect, is_open, is_word, ◌>>=◌ as and_then}
-use Rattle.sql_parser.specs.Readers.{Reader, gives, made, some_or, either, one_at, keyword, closed, misplaced_word, name_at, items_at, added, ◌>>=◌, ◌>>◌}
+use Rattle.sql_expressions.specs.Results.{◌>>=◌ as and_then}
+use Rattle.sql_expressions.specs.Readers.{after, place_of, expect, is_sign, is_word, Reader, gives, made, some_or, either, one_at, keyword, closed, name_at, items_at, ◌>>=◌, ◌>>◌}
+use Rattle.sql_parser.specs.Readers.{misplaced_word, added}
 
 -- the name is one of these
 abbrev pub is_among : List ℕ → List (List ℕ) → Bool
@@ -86,7 +88,7 @@ module _ (last : ℕ) where
 
   -- the columns of a key in parentheses
   unfoldable pub key_at : Bool → TableRead → Reader TableRead
-  key_at primary t = expect last is_open >> closed last (λ ns. with_key primary ns t) (items_at key_add [])
+  key_at primary t = expect last (is_sign signs.Open) >> closed last (λ ns. with_key primary ns t) (items_at key_add [])
 
   -- NOT NULL, PRIMARY KEY and UNIQUE behind a column, so many times at most
   unfoldable pub constraints_at : Placed → ℕ → Constraints → Reader Constraints
@@ -188,7 +190,7 @@ module _ (last : ℕ) where
   create_at = do
     keyword last words.Table
     name ← name_at last
-    expect last is_open
+    expect last (is_sign signs.Open)
     closed last (finished name) (items_at (table_add last) empty_table)
 
   abbrev pub drop_of : Bool → Reader StmtTree

@@ -7,8 +7,8 @@ use Rattle.sql_trees.specs.declared.stmt.Level.TheVariants.{ReadCommitted, Repea
 use Rattle.sql_trees.specs.Statements.{StmtTree, Begin, SetTransaction, SetDeadlockTimeout}
 use Rattle.sql_trees.specs.Tokens.{Token, Tokens}
 use Rattle.sql_trees.specs.Tokens as tok
-use Rattle.sql_expressions.specs.Reading.{expect, is_word}
-use Rattle.sql_parser.specs.Readers.{Reader, gives, made, either, past, keyword, misplaced_word, ◌>>◌}
+use Rattle.sql_expressions.specs.Readers.{expect, is_word, Reader, gives, made, either, keyword, ◌>>◌}
+use Rattle.sql_parser.specs.Readers.{past, misplaced_word}
 
 abbrev pub is_work : Token → Bool
 is_work t = is_word words.Work t || is_word words.Transaction t

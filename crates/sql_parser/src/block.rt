@@ -2,12 +2,14 @@
 
 ghost use Rattle.std.specs.List.{list_all};
 ghost use Rattle.std.specs.Prelude.{◌≡◌, ◌↔◌, true, ◌<◌, ◌≤◌, ◌^◌, [], IfOk, IsTrue, length, map, IfSome, vec_len, option_map};
+ghost use Rattle.iso_lexer.specs.declared.sql_token.SqlSign.TheVariants as signs;
 ghost use Rattle.sql_trees.specs.Statements.{stmt_of};
 ghost use Rattle.sql_trees.specs.Tokens.{tok_view, tok_views};
-ghost use Rattle.sql_expressions.specs.Reading.{Gives};
+ghost use Rattle.sql_expressions.specs.Readers.{is_sign};
+ghost use Rattle.sql_expressions.specs.Results.{Gives};
 ghost use Rattle.sql_parser.specs.Inner.Calls.{seen};
 ghost use Rattle.sql_parser.specs.Texts.{Parses};
-ghost use Rattle.sql_parser.specs.Blocks.{is_semicolon, whole_at, piece_at, block_at};
+ghost use Rattle.sql_parser.specs.Blocks.{whole_at, piece_at, block_at};
 ghost use Rattle.sql_parser.specs.Inner.Pieces.{piece_len, SplitsAs};
 ghost use Rattle.sql_parser.specs.Kept.{is_kept_in};
 
@@ -83,7 +85,7 @@ impl<'a> Block<'a> {
 }
 
 fn is_semicolon(tok: Tok) -> bool
-    ensures { result ≡ is_semicolon (tok_view tok.entry) }
+    ensures { result ≡ is_sign signs.Semicolon (tok_view tok.entry) }
 {
     matches!(tok, Tok::Sign(SqlSign::Semicolon))
 }

@@ -1,13 +1,14 @@
 //! INSERT, UPDATE and DELETE.
 
 ghost use Rattle.std.specs.Prelude.{◌≡◌, ◌≤◌, [], IfOk, length, map, option_map};
+ghost use Rattle.iso_lexer.specs.declared.sql_token.SqlSign.TheVariants as signs;
 ghost use Rattle.sql_trees.specs.Statements.{name_of, names_of, set_of, stmt_of};
 ghost use Rattle.sql_trees.specs.Tokens.{tok_view, tok_views};
 ghost use Rattle.sql_trees.specs.Trees.{tree_of};
-ghost use Rattle.sql_expressions.specs.Reading.{Gives, expect};
-ghost use Rattle.sql_parser.specs.Readers.{items_at};
+ghost use Rattle.sql_expressions.specs.Results.{Gives};
+ghost use Rattle.sql_expressions.specs.Readers.{is_sign, expect, items_at};
 ghost use Rattle.sql_parser.specs.Tables.{is_among};
-ghost use Rattle.sql_parser.specs.Changes.{is_equal, set_columns, set_value, set_add, columns_at, filter_at, insert_at, update_at, delete_at};
+ghost use Rattle.sql_parser.specs.Changes.{set_columns, set_value, set_add, columns_at, filter_at, insert_at, update_at, delete_at};
 
 use crate::list::{List, items};
 use crate::names::{DistinctNames, RowList, distinct_names, rows};
@@ -30,14 +31,14 @@ fn is_set(name: &Name, sets: &[(Name, Expr)]) -> bool
 }
 
 fn is_equal(tok: Tok) -> bool
-    ensures { result ≡ is_equal (tok_view tok.entry) }
+    ensures { result ≡ is_sign signs.Equal (tok_view tok.entry) }
 {
     matches!(tok, Tok::Sign(SqlSign::Equal))
 }
 
 // The tokens behind a `=`, which has to stand next.
 fn equal<'t, 'a>(parser: Parser, tokens: Tokens<'t, 'a>) -> Result<Tokens<'t, 'a>, SqlFault>
-    ensures exact { Gives (λ rest. tok_views rest.now) result (expect parser.text_len is_equal (tok_views tokens.now)) }
+    ensures exact { Gives (λ rest. tok_views rest.now) result (expect parser.text_len (is_sign signs.Equal) (tok_views tokens.now)) }
     ensures shorter { IfOk result (λ rest. length rest.now ≤ length tokens.now) }
 {
     match tokens {

@@ -3,8 +3,9 @@
 ghost use Rattle.std.specs.Prelude.{◌≡◌, ◌≤◌, [], IfOk, length, map};
 ghost use Rattle.sql_trees.specs.Statements.{name_of, exprs_of};
 ghost use Rattle.sql_trees.specs.Tokens.{tok_views};
-ghost use Rattle.sql_expressions.specs.Reading.{Gives};
-ghost use Rattle.sql_parser.specs.Readers.{items_at, added, tree_at, name_at};
+ghost use Rattle.sql_expressions.specs.Results.{Gives};
+ghost use Rattle.sql_expressions.specs.Readers.{items_at, name_at};
+ghost use Rattle.sql_parser.specs.Readers.{added, tree_at};
 ghost use Rattle.sql_parser.specs.Changes.{distinct_add, row_add};
 ghost use Rattle.sql_parser.specs.Views.{rows_of};
 

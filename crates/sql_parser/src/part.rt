@@ -1,13 +1,14 @@
 //! Parts that several kinds of statement have.
 
 ghost use Rattle.std.specs.Prelude.{◌≡◌, ◌<◌, ◌≤◌, IfOk, IfSome, length, map, option_map};
+ghost use Rattle.iso_lexer.specs.declared.sql_token.SqlSign.TheVariants as signs;
 ghost use Rattle.sql_trees.specs.Tokens.{tok_view, tok_views};
 ghost use Rattle.sql_trees.specs.Trees.{tree_of};
 ghost use Rattle.sql_trees.specs.Statements.{name_of};
-ghost use Rattle.sql_expressions.specs.Reading.{Gives, expect, is_open, is_close};
+ghost use Rattle.sql_expressions.specs.Results.{Gives};
+ghost use Rattle.sql_expressions.specs.Readers.{expect, is_sign, after, is_word, keyword, name_at};
 ghost use Rattle.sql_parser.specs.Tables.{is_among};
-ghost use Rattle.sql_expressions.specs.Reading.{after, is_word};
-ghost use Rattle.sql_parser.specs.Readers.{keyword, misplaced_word, name_at, tree_at};
+ghost use Rattle.sql_parser.specs.Readers.{misplaced_word, tree_at};
 
 use iso_lexer::{At, Name, SqlSign, same_name};
 use sql_expressions::{Parser, Tokens, parse_expr};
@@ -100,7 +101,7 @@ pub fn is_among(name: &Name, names: &[Name]) -> bool
 
 /// The tokens behind a `(`, if it stands next.
 pub fn after_open<'t, 'a>(tokens: Tokens<'t, 'a>) -> Option<Tokens<'t, 'a>>
-    ensures exact { option_map (λ rest. tok_views rest.now) result ≡ after is_open (tok_views tokens.now) }
+    ensures exact { option_map (λ rest. tok_views rest.now) result ≡ after (is_sign signs.Open) (tok_views tokens.now) }
     ensures shorter { IfSome result (λ rest. length rest.now < length tokens.now) }
 {
     match tokens {
@@ -117,7 +118,7 @@ pub fn after_open<'t, 'a>(tokens: Tokens<'t, 'a>) -> Option<Tokens<'t, 'a>>
 
 /// The tokens behind a `(`, which has to stand next.
 pub fn open<'t, 'a>(parser: Parser, tokens: Tokens<'t, 'a>) -> Result<Tokens<'t, 'a>, SqlFault>
-    ensures exact { Gives (λ rest. tok_views rest.now) result (expect parser.text_len is_open (tok_views tokens.now)) }
+    ensures exact { Gives (λ rest. tok_views rest.now) result (expect parser.text_len (is_sign signs.Open) (tok_views tokens.now)) }
     ensures shorter { IfOk result (λ rest. length rest.now < length tokens.now) }
 {
     match tokens {
@@ -134,7 +135,7 @@ pub fn open<'t, 'a>(parser: Parser, tokens: Tokens<'t, 'a>) -> Result<Tokens<'t,
 
 /// The tokens behind a `)`, which has to stand next.
 pub fn close<'t, 'a>(parser: Parser, tokens: Tokens<'t, 'a>) -> Result<Tokens<'t, 'a>, SqlFault>
-    ensures exact { Gives (λ rest. tok_views rest.now) result (expect parser.text_len is_close (tok_views tokens.now)) }
+    ensures exact { Gives (λ rest. tok_views rest.now) result (expect parser.text_len (is_sign signs.Close) (tok_views tokens.now)) }
     ensures shorter { IfOk result (λ rest. length rest.now < length tokens.now) }
 {
     match tokens {

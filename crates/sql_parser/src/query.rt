@@ -2,14 +2,15 @@
 
 ghost use Rattle.std.specs.Prelude.{◌≡◌, ◌<◌, ◌≤◌, [], IfOk, IfSome, length, map, option_map};
 ghost use Rattle.std.specs.List.{list_any, list_all};
+ghost use Rattle.iso_lexer.specs.declared.sql_token.SqlSign.TheVariants as signs;
 ghost use Rattle.sql_trees.specs.Statements.{name_of, stmt_of, item_of, order_of, select_of};
 ghost use Rattle.sql_trees.specs.Tokens.{tok_view, tok_views};
 ghost use Rattle.sql_trees.specs.Trees.{agg_of};
-ghost use Rattle.sql_expressions.specs.Reading.{Gives};
-ghost use Rattle.sql_expressions.specs.Reading.{after};
-ghost use Rattle.sql_parser.specs.Readers.{items_at, added};
+ghost use Rattle.sql_expressions.specs.Results.{Gives};
+ghost use Rattle.sql_expressions.specs.Readers.{is_sign, after, items_at};
+ghost use Rattle.sql_parser.specs.Readers.{added};
 ghost use Rattle.sql_parser.specs.Inner.Calls.{seen};
-ghost use Rattle.sql_parser.specs.Queries.{is_star, agg_kind, call_at, rows_of, maybe_name, direction_at, alias_at, agg_at, item_at, from_at, nulls_at, order_add, order_at, lock_at, is_aggregate, is_all, is_sorted, is_allowed, select_at};
+ghost use Rattle.sql_parser.specs.Queries.{agg_kind, call_at, rows_of, maybe_name, direction_at, alias_at, agg_at, item_at, from_at, nulls_at, order_add, order_at, lock_at, is_aggregate, is_all, is_sorted, is_allowed, select_at};
 
 use crate::change::filter;
 use crate::list::{List, items};
@@ -44,7 +45,7 @@ fn agg_kind(tok: Tok) -> Option<AggKind>
 
 // The tokens behind a `*`, if it stands next.
 fn after_star<'t, 'a>(tokens: Tokens<'t, 'a>) -> Option<Tokens<'t, 'a>>
-    ensures exact { option_map (λ rest. tok_views rest.now) result ≡ after is_star (tok_views tokens.now) }
+    ensures exact { option_map (λ rest. tok_views rest.now) result ≡ after (is_sign signs.Star) (tok_views tokens.now) }
     ensures shorter { IfSome result (λ rest. length rest.now < length tokens.now) }
 {
     match tokens {

@@ -3,8 +3,7 @@ use Rattle.std.specs.Prelude.{ℕ, Bool, true, false, [], ◌∷◌, Err}
 use Rattle.sql_trees.specs.declared.word.Word.TheVariants as words
 use Rattle.sql_trees.specs.Tokens.{Token, Tokens}
 use Rattle.sql_trees.specs.Tokens as tok
-use Rattle.sql_expressions.specs.Reading.{misplaced}
-use Rattle.sql_parser.specs.Readers.{Reader, gives, keyword, ◌>>◌}
+use Rattle.sql_expressions.specs.Readers.{misplaced, Reader, gives, keyword, ◌>>◌}
 use Rattle.sql_parser.specs.Tables.{Placed, Constraints, key_limit}
 
 abbrev pub is_constraint : Token → Bool

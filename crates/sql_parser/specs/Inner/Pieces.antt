@@ -1,12 +1,13 @@
 -- Statements and blocks as the code reads them, piece by piece.
 use Rattle.std.specs.Prelude.{◌≡◌, ℕ, suc, List, [], ◌∷◌, Option, Some, None, Result, Err, if◌then◌else◌}
+use Rattle.iso_lexer.specs.declared.sql_token.SqlSign.TheVariants as signs
 use Rattle.sql_trees.specs.declared.fault.SqlFault.{SqlFault}
 use Rattle.sql_trees.specs.Statements.{StmtTree}
 use Rattle.sql_trees.specs.Tokens.{Tokens}
-use Rattle.sql_expressions.specs.Reading.{misplaced, ◌>>=◌}
+use Rattle.sql_expressions.specs.Results.{◌>>=◌}
+use Rattle.sql_expressions.specs.Readers.{is_sign, misplaced, Reader}
 use Rattle.sql_parser.specs.declared.block.Role.{Role}
-use Rattle.sql_parser.specs.Readers.{Reader}
-use Rattle.sql_parser.specs.Blocks.{is_semicolon, simple_of, begun_of, piece_at, stmts_at}
+use Rattle.sql_parser.specs.Blocks.{simple_of, begun_of, piece_at, stmts_at}
 
 module _ (last : ℕ) where
   abbrev pub simple_at : Reader StmtTree
@@ -24,7 +25,7 @@ block_from last role ss ts = stmts_at last role ss [] ts
 -- how many tokens stand before the first semicolon
 abbrev pub piece_len : Tokens → ℕ
 piece_len [] = 0
-piece_len (t ∷ ts) = if is_semicolon t.tok then 0 else suc (piece_len ts)
+piece_len (t ∷ ts) = if is_sign signs.Semicolon t.tok then 0 else suc (piece_len ts)
 
 -- the tokens before the first semicolon, its place and the tokens behind it, so far as a block is concerned
 abbrev pub SplitsAs : Tokens → Option (Tokens × ℕ × Tokens) → Type 0

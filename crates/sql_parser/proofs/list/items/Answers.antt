@@ -22,5 +22,5 @@ returns-in_err-list-2-clause-exact g c =
 pub loop-after-preserved : goal.loop-after-preserved
 loop-after-preserved g c = record {
   onward = next_item _ _ _ _ _ _ _ _ c.loop-after.invariant.onward (sym c.in-Some.ensures) c.in_ok-list-2.ensures.exact (views_shorter _ _ c.in_ok-list-2.ensures.shorter);
-  shorter = omega (arith, c.in_ok-list-2.ensures.shorter, comma_shorter _ _ (sym c.in-Some.ensures), c.loop-after.invariant.shorter);
+  shorter = omega (arith, c.in_ok-list-2.ensures.shorter, comma_shorter c.loop-after.rest.now _ (sym c.in-Some.ensures), c.loop-after.invariant.shorter);
 }

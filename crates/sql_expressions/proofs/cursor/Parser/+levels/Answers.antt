@@ -1,7 +1,7 @@
 use Rattle.std.proofs.Common.{refl, arith, rules, sym}
 use Rattle.std.proofs.lemmas.Result.{err_from_is_err_and}
 use Rattle.sql_trees.specs.Tokens.{tok_views}
-use Rattle.sql_expressions.specs.Reading.{in_at}
+use Rattle.sql_expressions.specs.Inner.Pieces.{in_at}
 use Rattle.sql_expressions.proofs.Views.{in_tree}
 use Rattle.sql_expressions.proofs.Shortens.{shortens}
 use Rattle.sql_expressions.proofs.Chains.{passed_on, starts, starts_not, ends, no_room, no_operand, no_node, goes_on, list_starts, list_starts_not, list_ends, list_stops, list_next, comma_shortens, chain_at_is, opens}
@@ -65,11 +65,11 @@ list-returns-in_err-next t c =
 
 pub list-loop-after-smaller : goal.list-loop-after-smaller
 list-loop-after-smaller t c =
-    omega (arith, shortens _ _ _ _ _ _ c.in_ok-next.ensures, comma_shortens _ _ (sym c.in-Some.ensures))
+    omega (arith, shortens _ _ _ _ _ _ c.in_ok-next.ensures, comma_shortens (tok_views c.loop-after.rest.now) _ (sym c.in-Some.ensures))
 
 pub list-loop-after-preserved : goal.list-loop-after-preserved
 list-loop-after-preserved t c =
-    rw (c.in_ok-push-2.ensures.items, c.max-depth.ensures) (list_next _ c.loop-after.items.items c.loop-after.depth c.loop-after.rest.now _ _ c.in_ok-next.next c.in_ok-next.after.now c.loop-after.invariant (sym c.in-Some.ensures) c.in_ok-next.ensures (omega (arith, shortens _ _ _ _ _ _ c.in_ok-next.ensures, comma_shortens _ _ (sym c.in-Some.ensures))))
+    rw (c.in_ok-push-2.ensures.items, c.max-depth.ensures) (list_next _ c.loop-after.items.items c.loop-after.depth c.loop-after.rest.now _ _ c.in_ok-next.next c.in_ok-next.after.now c.loop-after.invariant (sym c.in-Some.ensures) c.in_ok-next.ensures (omega (arith, shortens _ _ _ _ _ _ c.in_ok-next.ensures, comma_shortens (tok_views c.loop-after.rest.now) _ (sym c.in-Some.ensures))))
 
 pub list-returns : goal.list-returns
 list-returns t c = list_ends _ _ _ c.loop-after.invariant (sym c.in_default.ensures)

@@ -1,0 +1,119 @@
+-- Reading from left to right with the first fault that is met: words of reading, for expressions and for statements.
+use Rattle.std.specs.Prelude.{ℕ, zero, suc, Bool, true, false, List, [], ◌∷◌, length, Option, Some, None, Result, Ok, Err, if◌then◌else◌}
+use denote.Enum.Bare.{sameb}
+use Rattle.iso_lexer.specs.declared.sql_token.SqlSign.{SqlSign}
+use Rattle.iso_lexer.specs.declared.sql_token.SqlSign.TheVariants as signs
+use Rattle.iso_lexer.specs.contracts.sql_token.SqlSign.{the_type}
+use Rattle.sql_trees.specs.declared.fault.SqlFault.{SqlFault}
+use Rattle.sql_trees.specs.declared.fault.SqlFault.TheVariants.{Syntax, LeftOut}
+use Rattle.sql_trees.specs.declared.word.Word.{Word}
+use Rattle.sql_trees.specs.Words.{is_left_out, same_word}
+use Rattle.sql_trees.specs.Tokens.{Token, Tokens, named}
+use Rattle.sql_trees.specs.Tokens as tok
+use Rattle.sql_expressions.specs.Results.{◌>>=◌ as and_then}
+
+infixr 10 ◌>>=◌
+infixr 10 ◌>>◌
+-- what reads a value: it answers the value and the tokens behind it, or the first fault
+abbrev pub Reader : Type 0 → Type 0
+Reader X = Tokens → Result (X × Tokens) SqlFault
+
+-- One reader, and behind it the one that its value chooses. A do block has a line for each; there (← r) is the value that r reads, behind those before it.
+abbrev pub ◌>>=◌ : {X Y : Type 0} → Reader X → (X → Reader Y) → Reader Y
+◌>>=◌ first next ts = and_then (first ts) (λ x. next x.0 x.1)
+
+-- what has to stand next, and a reader behind it
+abbrev pub ◌>>◌ : {X : Type 0} → (Tokens → Result Tokens SqlFault) → Reader X → Reader X
+◌>>◌ pass reader ts = and_then (pass ts) reader
+
+-- this value, for which nothing is read
+abbrev pub gives : {X : Type 0} → X → Reader X
+gives x ts = Ok (x, ts)
+
+-- what is made of the value that is read
+abbrev pub made : {X Y : Type 0} → (X → Y) → Reader X → Reader Y
+made make reader ts = and_then (reader ts) (λ x. Ok (make x.0, x.1))
+
+-- what is made of a value, or this, where there is none
+abbrev pub some_or : {X R : Type 0} → (X → R) → R → Option X → R
+some_or make none (Some x) = make x
+some_or make none None = none
+
+-- ---- the first token
+
+-- the token is this keyword, in whatever letters
+abbrev pub is_word : Word → Token → Bool
+is_word w (tok.word v s) = same_word v w
+is_word w _ = false
+
+-- the token is this sign
+abbrev pub is_sign : SqlSign → Token → Bool
+is_sign s (tok.sign r) = sameb the_type r s
+is_sign s _ = false
+
+-- a token that stands for a part that is left out
+abbrev pub left_out : Token → Bool
+left_out (tok.word w s) = is_left_out w
+left_out (tok.sign signs.Dot) = true
+left_out (tok.sign signs.Cast) = true
+left_out _ = false
+
+-- the tokens behind the next, if it is of this kind
+abbrev pub after : (Token → Bool) → Tokens → Option Tokens
+after is_it [] = None
+after is_it (t ∷ ts) = if is_it t.tok then Some ts else None
+
+-- where the first token is of this kind, what is read behind it, else what others read
+abbrev pub either : {R : Type 0} → (Token → Bool) → (Tokens → R) → (Tokens → R) → Tokens → R
+either is_it behind others ts = some_or behind (others ts) (after is_it ts)
+
+-- where the first token says something, what that lets be read behind it, else what others read
+abbrev pub by_first : {X R : Type 0} → (Token → Option X) → (X → Tokens → R) → (Tokens → R) → Tokens → R
+by_first says behind others [] = others []
+by_first says behind others (t ∷ ts) = some_or (λ x. behind x ts) (others (t ∷ ts)) (says t.tok)
+
+-- what the first token says, or a fault of the tokens
+abbrev pub one_at : {X : Type 0} → (Tokens → SqlFault) → (Token → Option X) → Reader X
+one_at fault says [] = Err (fault [])
+one_at fault says (t ∷ ts) = some_or (λ x. Ok (x, ts)) (Err (fault (t ∷ ts))) (says t.tok)
+
+-- ---- lists
+
+-- one more item behind each comma, as many as there are tokens at most
+unfoldable pub more_at : {S : Type 0} → (S → Reader S) → ℕ → S → Reader S
+more_at add zero s ts = Ok (s, ts)
+more_at add (suc n) s ts = either (is_sign signs.Comma) (add s >>= more_at add n) (gives s) ts
+
+-- items with commas between them, each added to what was read before it
+unfoldable pub items_at : {S : Type 0} → (S → Reader S) → S → Reader S
+items_at add s ts = (add s >>= more_at add (length ts)) ts
+
+-- ---- with the text's length
+
+module _ (last : ℕ) where
+  -- where the first token stands
+  abbrev pub place_of : Tokens → ℕ
+  place_of [] = last
+  place_of (t ∷ ts) = t.span.start
+
+  -- the fault at the first token that no rule allows
+  abbrev pub misplaced : Tokens → SqlFault
+  misplaced [] = Syntax last
+  misplaced (t ∷ ts) = if left_out t.tok then LeftOut t.span.start else Syntax t.span.start
+
+  -- the tokens behind the next, which has to be of this kind
+  abbrev pub expect : (Token → Bool) → Tokens → Result Tokens SqlFault
+  expect is_it [] = Err (misplaced [])
+  expect is_it (t ∷ ts) = if is_it t.tok then Ok ts else Err (misplaced (t ∷ ts))
+
+  -- the tokens behind this keyword, which has to stand next
+  abbrev pub keyword : Word → Tokens → Result Tokens SqlFault
+  keyword w = expect (is_word w)
+
+  -- what is made of what stands before a closing parenthesis
+  abbrev pub closed : {X Y : Type 0} → (X → Y) → Reader X → Reader Y
+  closed make reader ts = and_then (reader ts) (λ x. and_then (expect (is_sign signs.Close) x.1) (λ rest. Ok (make x.0, rest)))
+
+  -- a name
+  abbrev pub name_at : Reader (List ℕ)
+  name_at = one_at misplaced named
