@@ -1,6 +1,7 @@
 -- As long as all goes well the next of the orders is due.
 use Rattle.std.proofs.Common.{◌≡◌, ◌≢◌, ℕ, zero, suc, ◌+◌, ◌-◌, ◌<◌, ◌≤◌, ◌⊎◌, Bool, true, false, nat_lt, List, [], ◌∷◌, ◌++◌, length, map, refl, sym, ap, subst, ◌∙◌, arith, inl, inr}
-use Rattle.std.specs.Prelude.{nat_le, Option, Some, None, slice_get, if◌then◌else◌}
+use Rattle.std.specs.Prelude.{nat_le, Option, Some, None, unwrap_or, slice_get, if◌then◌else◌}
+use Rattle.std.specs.Option.{option_map_or}
 use Rattle.std.proofs.lemmas.Bool.{cases_lt, ltb-true, ltb-false, lt-ltb, le-ltb}
 use Rattle.session_machine.specs.declared.event.Order.{Order}
 use Rattle.session_machine.specs.declared.event.Order.TheVariants.{Leave, Stop}
@@ -11,11 +12,11 @@ use Rattle.report_lines.specs.declared.history.PlannedLaunch.{PlannedLaunch}
 use Rattle.report_lines.specs.declared.history.TeardownsSoFar.{TeardownsSoFar}
 use Rattle.report_lines.specs.declared.history.RunState.{RunState}
 use Rattle.report_lines.specs.declared.history.RunState.TheVariants.{Due, Whole, Invalid}
-use Rattle.report_lines.specs.History.{PermutationRun}
-use Rattle.report_lines.specs.Report.{Report, before, active, poll, is_busy, is_empty, made_way, launched, report_from, report}
-use Rattle.report_lines.specs.Due.{Planned, or_else, orders, went_well, is_over, due_setup, teardowns_so_far, entry_order, due_last, due_entry, due}
-use Rattle.permutation_plans.specs.Launches.{planned, launch_of_entry}
-use Rattle.permutation_plans.specs.Whole.{launch, leaves, order_at, AreWell, AreOver, GoesWell, NextIsDue}
+use Rattle.report_lines.specs.History.{PermutationRun, is_empty}
+use Rattle.report_lines.specs.Report.{Report, before, active, poll, is_busy, made_way, launched, report_from, report}
+use Rattle.report_lines.specs.Due.{Launches, Planned, orders, went_well, is_over, launch, due_setup, teardowns_so_far, due_last, due_entry, due}
+use Rattle.permutation_plans.specs.Launches.{launch_of_entry}
+use Rattle.permutation_plans.specs.Whole.{planned, leaves, order_at, AreWell, AreOver, GoesWell, NextIsDue}
 
 first : {A : Type 0} (b w : Bool) (a x c : A) → b ≡ true → (if b then a else (if w then x else c)) ≡ a
 first true w a x c h = refl
@@ -28,16 +29,16 @@ second false false a x c h k = cc
 
 -- ---- one list of orders behind another
 
-else_same : (o : Option Order) (x y : Order) → (o ≡ None → x ≡ y) → or_else o x ≡ or_else o y
+else_same : (o : Option Order) (x y : Order) → (o ≡ None → x ≡ y) → unwrap_or o x ≡ unwrap_or o y
 else_same None x y h = h refl
 else_same (Some o) x y h = refl
 
-at_append : (xs ys : List Order) (j : ℕ) → order_at (xs ++ ys) j ≡ or_else (slice_get xs j) (order_at ys (j - length xs))
+at_append : (xs ys : List Order) (j : ℕ) → order_at (xs ++ ys) j ≡ unwrap_or (slice_get xs j) (order_at ys (j - length xs))
 at_append [] ys j = let e : j ≡ j - 0 = omega arith in ap (order_at ys) e
 at_append (x ∷ xs) ys zero = refl
 at_append (x ∷ xs) ys (suc j) =
     let e : j - length xs ≡ suc j - suc (length xs) = omega arith in
-    at_append xs ys j ∙ ap (λ n. or_else (slice_get xs j) (order_at ys n)) e
+    at_append xs ys j ∙ ap (λ n. unwrap_or (slice_get xs j) (order_at ys n)) e
 
 length_launches : (ts : List PlannedLaunch) → length (map launch ts) ≡ length ts
 length_launches [] = refl
@@ -53,7 +54,7 @@ past [] j h = refl
 past (t ∷ ts) zero h = absurd (omega arith)
 past (t ∷ ts) (suc j) h = past ts j (omega arith)
 
-launch_at : (ts : List PlannedLaunch) (j : ℕ) (more : Order) → j < length ts → entry_order ts j ≡ or_else (slice_get (map launch ts) j) more
+launch_at : (ts : List PlannedLaunch) (j : ℕ) (more : Order) → j < length ts → option_map_or launch (slice_get ts j) Stop ≡ unwrap_or (slice_get (map launch ts) j) more
 launch_at [] j more h = absurd (omega arith)
 launch_at (t ∷ ts) zero more h = refl
 launch_at (t ∷ ts) (suc j) more h = launch_at ts j more (omega arith)
@@ -128,41 +129,41 @@ length_leaves a (suc n) = ap suc (length_leaves (a + 1) n)
 -- ---- the leaves and the last teardown
 
 last_case : (items : List HistItem) (count k sessions : ℕ) (last : List PlannedLaunch) → k ≤ count → AreOver items count (k + sessions) last → (count < k + sessions) ⊎ (k + sessions ≤ count)
-    → (if nat_lt count (k + sessions) then Leave (count - k + 1) else or_else (teardowns_so_far items count (k + sessions) last).due Stop) ≡ order_at (leaves 1 sessions ++ map launch last) (count - k)
+    → (if nat_lt count (k + sessions) then Leave (count - k + 1) else unwrap_or (teardowns_so_far items count (k + sessions) last).due Stop) ≡ order_at (leaves 1 sessions ++ map launch last) (count - k)
 last_case items count k sessions last le over (inl lt) =
     let reaches : nat_lt count (k + sessions) ≡ true = lt-ltb count (k + sessions) lt in
     let found : slice_get (leaves 1 sessions) (count - k) ≡ Some (Leave (1 + (count - k))) = leaves_in 1 sessions (count - k) (omega arith) in
     let same : count - k + 1 ≡ 1 + (count - k) = omega arith in
-    ap (λ b. if b then Leave (count - k + 1) else or_else (teardowns_so_far items count (k + sessions) last).due Stop) reaches
+    ap (λ b. if b then Leave (count - k + 1) else unwrap_or (teardowns_so_far items count (k + sessions) last).due Stop) reaches
     ∙ ap (λ n. Leave n) same
-    ∙ sym (at_append (leaves 1 sessions) (map launch last) (count - k) ∙ ap (λ o. or_else o (order_at (map launch last) (count - k - length (leaves 1 sessions)))) found)
+    ∙ sym (at_append (leaves 1 sessions) (map launch last) (count - k) ∙ ap (λ o. unwrap_or o (order_at (map launch last) (count - k - length (leaves 1 sessions)))) found)
 last_case items count k sessions last le over (inr ge) =
     let behind_it : nat_lt count (k + sessions) ≡ false = le-ltb count (k + sessions) ge in
     let gone : slice_get (leaves 1 sessions) (count - k) ≡ None = leaves_past 1 sessions (count - k) (omega arith) in
     let place : count - (k + sessions) ≡ count - k - length (leaves 1 sessions) = omega (arith, length_leaves 1 sessions) in
-    ap (λ b. if b then Leave (count - k + 1) else or_else (teardowns_so_far items count (k + sessions) last).due Stop) behind_it
-    ∙ ap (λ o. or_else o Stop) (teardowns_due items count (k + sessions) last ge over)
+    ap (λ b. if b then Leave (count - k + 1) else unwrap_or (teardowns_so_far items count (k + sessions) last).due Stop) behind_it
+    ∙ ap (λ o. unwrap_or o Stop) (teardowns_due items count (k + sessions) last ge over)
     ∙ ap (order_at (map launch last)) place
-    ∙ sym (at_append (leaves 1 sessions) (map launch last) (count - k) ∙ ap (λ o. or_else o (order_at (map launch last) (count - k - length (leaves 1 sessions)))) gone)
+    ∙ sym (at_append (leaves 1 sessions) (map launch last) (count - k) ∙ ap (λ o. unwrap_or o (order_at (map launch last) (count - k - length (leaves 1 sessions)))) gone)
 
 -- ---- the teardowns, the leaves and the last teardown
 
-behind_case : (p : Planned) (items : List HistItem) (count k : ℕ) → k ≤ count → AreOver items count k p.teardowns → AreOver items count (k + length p.teardowns + p.sessions) p.last
-    → due_last p items count (teardowns_so_far items count k p.teardowns) ≡ order_at (map launch p.teardowns ++ (leaves 1 p.sessions ++ map launch p.last)) (count - k)
-behind_case p items count k le over last =
-    let after = teardowns_so_far items count k p.teardowns in
-    let rest = leaves 1 p.sessions ++ map launch p.last in
-    let last_order : ℕ → Order = λ n. if nat_lt count (n + p.sessions) then Leave (count - n + 1) else or_else (teardowns_so_far items count (n + p.sessions) p.last).due Stop in
-    let place : count - (k + length p.teardowns) ≡ count - k - length (map launch p.teardowns) = omega (arith, length_launches p.teardowns) in
-    ap (λ o. or_else o (last_order after.orders)) (teardowns_due items count k p.teardowns le over)
-    ∙ else_same (slice_get (map launch p.teardowns) (count - k)) (last_order after.orders) (order_at rest (count - k - length (map launch p.teardowns)))
+behind_case : (l : Launches) (items : List HistItem) (count k : ℕ) → k ≤ count → AreOver items count k l.teardowns → AreOver items count (k + length l.teardowns + l.sessions) l.last
+    → due_last l items count (teardowns_so_far items count k l.teardowns) ≡ order_at (map launch l.teardowns ++ (leaves 1 l.sessions ++ map launch l.last)) (count - k)
+behind_case l items count k le over last =
+    let after = teardowns_so_far items count k l.teardowns in
+    let rest = leaves 1 l.sessions ++ map launch l.last in
+    let last_order : ℕ → Order = λ n. if nat_lt count (n + l.sessions) then Leave (count - n + 1) else unwrap_or (teardowns_so_far items count (n + l.sessions) l.last).due Stop in
+    let place : count - (k + length l.teardowns) ≡ count - k - length (map launch l.teardowns) = omega (arith, length_launches l.teardowns) in
+    ap (λ o. unwrap_or o (last_order after.orders)) (teardowns_due items count k l.teardowns le over)
+    ∙ else_same (slice_get (map launch l.teardowns) (count - k)) (last_order after.orders) (order_at rest (count - k - length (map launch l.teardowns)))
     (λ none.
-    let many = beyond p.teardowns (count - k) none in
-    let there_all : k + length p.teardowns ≤ count = omega arith in
-    ap last_order (teardown_orders items count k p.teardowns there_all over)
-    ∙ last_case items count (k + length p.teardowns) p.sessions p.last there_all last (cases_lt count (k + length p.teardowns + p.sessions))
+    let many = beyond l.teardowns (count - k) none in
+    let there_all : k + length l.teardowns ≤ count = omega arith in
+    ap last_order (teardown_orders items count k l.teardowns there_all over)
+    ∙ last_case items count (k + length l.teardowns) l.sessions l.last there_all last (cases_lt count (k + length l.teardowns + l.sessions))
     ∙ ap (order_at rest) place)
-    ∙ sym (at_append (map launch p.teardowns) rest (count - k))
+    ∙ sym (at_append (map launch l.teardowns) rest (count - k))
 
 -- ---- where the report stands
 
@@ -200,41 +201,42 @@ state_at c count h = state_from c count (length c.entries) (length c.entries) 0 
 
 -- ---- the entries, and what comes behind them
 
-entry_due : (p : Planned) (items : List HistItem) (count k : ℕ) (state : RunState) → k ≡ length p.setups → k ≤ count → IsStateAt state (count - k) (length p.steps)
-    → AreOver items count (length p.setups + length p.steps) p.teardowns → AreOver items count (length p.setups + length p.steps + length p.teardowns + p.sessions) p.last
-    → due_entry p items count state ≡ order_at (map launch p.steps ++ (map launch p.teardowns ++ (leaves 1 p.sessions ++ map launch p.last))) (count - k)
-entry_due p items count k state counted le (inl at) over last =
-    let rest = map launch p.teardowns ++ (leaves 1 p.sessions ++ map launch p.last) in
-    ap (due_entry p items count) at.1
-    ∙ launch_at p.steps (count - k) (order_at rest (count - k - length (map launch p.steps))) at.0
-    ∙ sym (at_append (map launch p.steps) rest (count - k))
-entry_due p items count k state counted le (inr at) over last =
-    let rest = map launch p.teardowns ++ (leaves 1 p.sessions ++ map launch p.last) in
+entry_due : (l : Launches) (items : List HistItem) (count k : ℕ) (state : RunState) → k ≡ length l.setups → k ≤ count → IsStateAt state (count - k) (length l.steps)
+    → AreOver items count (length l.setups + length l.steps) l.teardowns → AreOver items count (length l.setups + length l.steps + length l.teardowns + l.sessions) l.last
+    → due_entry l items count state ≡ order_at (map launch l.steps ++ (map launch l.teardowns ++ (leaves 1 l.sessions ++ map launch l.last))) (count - k)
+entry_due l items count k state counted le (inl at) over last =
+    let rest = map launch l.teardowns ++ (leaves 1 l.sessions ++ map launch l.last) in
+    ap (due_entry l items count) at.1
+    ∙ launch_at l.steps (count - k) (order_at rest (count - k - length (map launch l.steps))) at.0
+    ∙ sym (at_append (map launch l.steps) rest (count - k))
+entry_due l items count k state counted le (inr at) over last =
+    let rest = map launch l.teardowns ++ (leaves 1 l.sessions ++ map launch l.last) in
     let many = at.0 in
-    let all : length p.setups + length p.steps ≤ count = omega arith in
-    let place : count - (length p.setups + length p.steps) ≡ count - k - length (map launch p.steps) = omega (arith, length_launches p.steps) in
-    ap (due_entry p items count) at.1
-    ∙ behind_case p items count (length p.setups + length p.steps) all over last
+    let all : length l.setups + length l.steps ≤ count = omega arith in
+    let place : count - (length l.setups + length l.steps) ≡ count - k - length (map launch l.steps) = omega (arith, length_launches l.steps) in
+    ap (due_entry l items count) at.1
+    ∙ behind_case l items count (length l.setups + length l.steps) all over last
     ∙ ap (order_at rest) place
-    ∙ ap (λ o. or_else o (order_at rest (count - k - length (map launch p.steps)))) (sym (past p.steps (count - k) many))
-    ∙ sym (at_append (map launch p.steps) rest (count - k))
+    ∙ ap (λ o. unwrap_or o (order_at rest (count - k - length (map launch l.steps)))) (sym (past l.steps (count - k) many))
+    ∙ sym (at_append (map launch l.steps) rest (count - k))
 
-whole_due : (p : Planned) → length p.steps ≡ length p.run.entries → GoesWell p
-    → due p ≡ order_at (map launch p.setups ++ (map launch p.steps ++ (map launch p.teardowns ++ (leaves 1 p.sessions ++ map launch p.last)))) (orders p.run.items)
+whole_due : (p : Planned) → length p.launches.steps ≡ length p.run.entries → GoesWell p
+    → due p ≡ order_at (map launch p.launches.setups ++ (map launch p.launches.steps ++ (map launch p.launches.teardowns ++ (leaves 1 p.launches.sessions ++ map launch p.launches.last)))) (orders p.run.items)
 whole_due p same well =
+    let l = p.launches in
     let items = p.run.items in
     let count = orders items in
-    let state = (report p.run (count - length p.setups)).state in
-    let rest = map launch p.steps ++ (map launch p.teardowns ++ (leaves 1 p.sessions ++ map launch p.last)) in
+    let state = (report p.run (count - length l.setups)).state in
+    let rest = map launch l.steps ++ (map launch l.teardowns ++ (leaves 1 l.sessions ++ map launch l.last)) in
     let zero_place : count - 0 ≡ count = omega arith in
-    let place : count - length p.setups ≡ count - length (map launch p.setups) = omega (arith, length_launches p.setups) in
-    ap (λ o. or_else o (due_entry p items count state)) (setups_due items count 0 p.setups (omega arith) well.setups ∙ ap (slice_get (map launch p.setups)) zero_place)
-    ∙ else_same (slice_get (map launch p.setups) count) (due_entry p items count state) (order_at rest (count - length (map launch p.setups)))
+    let place : count - length l.setups ≡ count - length (map launch l.setups) = omega (arith, length_launches l.setups) in
+    ap (λ o. unwrap_or o (due_entry l items count state)) (setups_due items count 0 l.setups (omega arith) well.setups ∙ ap (slice_get (map launch l.setups)) zero_place)
+    ∙ else_same (slice_get (map launch l.setups) count) (due_entry l items count state) (order_at rest (count - length (map launch l.setups)))
     (λ none.
-    let many = beyond p.setups count none in
-    entry_due p items count (length p.setups) state refl many (subst (IsStateAt state (count - length p.setups)) (sym same) (state_at p.run (count - length p.setups) well.entries)) well.teardowns well.last
+    let many = beyond l.setups count none in
+    entry_due l items count (length l.setups) state refl many (subst (IsStateAt state (count - length l.setups)) (sym same) (state_at p.run (count - length l.setups) well.entries)) well.teardowns well.last
     ∙ ap (order_at rest) place)
-    ∙ sym (at_append (map launch p.setups) rest count)
+    ∙ sym (at_append (map launch l.setups) rest count)
 
 length_tasks : (spec : SpecTree) (entries : List EntryTree) → length (map (launch_of_entry spec) entries) ≡ length entries
 length_tasks spec [] = refl

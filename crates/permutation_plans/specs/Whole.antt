@@ -1,18 +1,15 @@
 -- The orders of a permutation in which no block fails or waits, and that the next of them is due.
-use Rattle.std.specs.Prelude.{◌≡◌, ◌≢◌, ℕ, zero, suc, ◌+◌, ◌-◌, ◌<◌, true, List, [], ◌∷◌, ◌++◌, length, map, slice_get}
+use Rattle.std.specs.Prelude.{◌≡◌, ◌≢◌, ℕ, zero, suc, ◌+◌, ◌-◌, ◌<◌, true, List, [], ◌∷◌, ◌++◌, length, map, unwrap_or, slice_get}
 use Rattle.session_machine.specs.declared.event.Order.{Order}
-use Rattle.session_machine.specs.declared.event.Order.TheVariants.{Launch, Leave, Stop}
+use Rattle.session_machine.specs.declared.event.Order.TheVariants.{Leave, Stop}
 use Rattle.session_machine.specs.declared.reply.HistItem.{HistItem}
 use Rattle.spec_parser.specs.Trees.{EntryTree, SpecTree}
 use Rattle.report_lines.specs.declared.history.PlannedLaunch.{PlannedLaunch}
 use Rattle.report_lines.specs.declared.history.RunState.TheVariants.{Invalid}
 use Rattle.report_lines.specs.Report.{report}
-use Rattle.report_lines.specs.Due.{Planned, or_else, orders, went_well, is_over}
-use Rattle.permutation_plans.specs.Launches.{Launches, launches, planned, due_in}
+use Rattle.report_lines.specs.Due.{Launches, Planned, orders, went_well, is_over, launch}
+use Rattle.permutation_plans.specs.Launches.{launches, plan_of, due_in}
 use Rattle.permutation_plans.specs.Worked.{worked_spec, worked_entries, worked_items}
-
-abbrev pub launch : PlannedLaunch → Order
-launch t = Launch t.session t.block
 
 -- so many sessions leave, from this one on
 abbrev pub leaves : ℕ → ℕ → List Order
@@ -25,7 +22,7 @@ whole_orders l = map launch l.setups ++ (map launch l.steps ++ (map launch l.tea
 
 -- the order of this number, from 0; behind the last one a Stop
 abbrev pub order_at : List Order → ℕ → Order
-order_at os k = or_else (slice_get os k) Stop
+order_at os k = unwrap_or (slice_get os k) Stop
 
 -- of these setups, the first of which has this number, each that is there ended, and nothing in it failed
 abbrev pub AreWell : List HistItem → ℕ → ℕ → List PlannedLaunch → Type 0
@@ -39,10 +36,14 @@ AreOver items count k (t ∷ ts) = (k < count → is_over items k t.session ≡ 
 
 -- so far no setup failed or waits, no teardown waits, and the permutation is not invalid
 pub record GoesWell (p : Planned) : Type 0 where
-  pub setups : AreWell p.run.items (orders p.run.items) 0 p.setups
-  pub entries : (report p.run (orders p.run.items - length p.setups)).state ≢ Invalid
-  pub teardowns : AreOver p.run.items (orders p.run.items) (length p.setups + length p.steps) p.teardowns
-  pub last : AreOver p.run.items (orders p.run.items) (length p.setups + length p.steps + length p.teardowns + p.sessions) p.last
+  pub setups : AreWell p.run.items (orders p.run.items) 0 p.launches.setups
+  pub entries : (report p.run (orders p.run.items - length p.launches.setups)).state ≢ Invalid
+  pub teardowns : AreOver p.run.items (orders p.run.items) (length p.launches.setups + length p.launches.steps) p.launches.teardowns
+  pub last : AreOver p.run.items (orders p.run.items) (length p.launches.setups + length p.launches.steps + length p.launches.teardowns + p.launches.sessions) p.launches.last
+
+-- the permutation of a spec that has these entries, with a history of its
+abbrev pub planned : SpecTree → List EntryTree → List HistItem → Planned
+planned spec entries items = plan_of (launches spec entries) entries items
 
 -- as long as all goes well, what is due after a history is the next of those orders
 abbrev pub NextIsDue : Type 0

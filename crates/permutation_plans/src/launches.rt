@@ -1,8 +1,9 @@
 //! What a permutation launches, in its order.
-ghost use Rattle.std.specs.Prelude.{◌≡◌, ◌+◌, ◌<◌, ◌^◌, ◌++◌, length, map, option_map, IfOk, OnOk};
-ghost use Rattle.spec_parser.specs.Trees.{part_view, session_view, spec_view, entry_view};
+ghost use Rattle.std.specs.Prelude.{◌≡◌, ◌+◌, ◌<◌, ◌^◌, ◌++◌, length, map, option_map, option_to_list, IfOk, OnOk};
+ghost use Rattle.std.specs.Option.{option_map_or};
+ghost use Rattle.spec_parser.specs.Trees.{StepTree, part_view, session_view, spec_view, entry_view};
 ghost use Rattle.spec_parser.specs.Numbered.{step_of_entry};
-ghost use Rattle.permutation_plans.specs.Launches.{launch_in, launch_if, own_launches, block_of_step, launch_of_entry, launches, plan_of, due_after};
+ghost use Rattle.permutation_plans.specs.Launches.{launch_in, own_launches, launch_of_entry, launches, plan_of, due_after};
 ghost use Rattle.report_lines.specs.Progress.{Follows};
 
 use report_lines::{Plan, PlannedLaunch, Progress, Schedule};
@@ -22,7 +23,7 @@ pub struct Launches {
 }
 
 impl Model for Launches {
-    ghost use Rattle.permutation_plans.specs.Launches.{Launches as Listed};
+    ghost use Rattle.report_lines.specs.Due.{Launches as Listed};
 
     ghost Value = { Listed };
 
@@ -35,7 +36,7 @@ fn push_part(
     session: u32,
     part: Option<Part<'_>>,
 ) -> Result<(), AllocError>
-    ensures { OnOk result (launches.new.items ≡ launches.old.items ++ launch_if session (option_map part_view part.entry)) }
+    ensures { OnOk result (launches.new.items ≡ launches.old.items ++ map (launch_in session) (option_to_list (option_map part_view part.entry))) }
 {
     if let Some(part) = part {
         launches.push(PlannedLaunch {
@@ -89,7 +90,7 @@ pub fn setups(alloc: Global, spec: &Spec<'_>) -> Result<Vec<PlannedLaunch>, Allo
 
 /// The number of the block of an entry's step.
 fn block_of(spec: &Spec<'_>, entry: &Entry) -> u32
-    ensures { result ≡ block_of_step (step_of_entry (spec_view spec.now) (entry_view entry.now)) }
+    ensures { result ≡ option_map_or (λ (s : StepTree). s.part.block) (step_of_entry (spec_view spec.now) (entry_view entry.now)) 0 }
 {
     match spec.step_of(entry) {
         None => 0,

@@ -7,7 +7,8 @@ use Rattle.session_machine.specs.declared.event.Order.TheVariants.{Stop}
 use Rattle.session_machine.specs.declared.reply.HistItem.{HistItem}
 use Rattle.session_threads.specs.Orders.{Orders, IsOrder, OrderedAfter, IsDriven}
 use Rattle.spec_parser.specs.Trees.{EntryTree, SpecTree}
-use Rattle.permutation_plans.specs.Launches.{Launches, launches, due_after}
+use Rattle.report_lines.specs.Due.{Launches}
+use Rattle.permutation_plans.specs.Launches.{launches, due_after}
 use Rattle.permutation_plans.specs.Regular.{IsOrdered, FitsAfter, Fits}
 use Rattle.permutations.specs.Plans.{Planning, order_after}
 

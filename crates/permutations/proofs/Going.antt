@@ -22,7 +22,8 @@ use Rattle.session_threads.specs.Inner.Shared.{IsOrderly}
 use Rattle.session_threads.specs.Seats.{SeatOf}
 use Rattle.session_threads.proofs.Ordering as threads
 use Rattle.spec_parser.specs.Trees.{EntryTree, SpecTree}
-use Rattle.permutation_plans.specs.Launches.{Launches, launches, due_after, due_in}
+use Rattle.report_lines.specs.Due.{Launches}
+use Rattle.permutation_plans.specs.Launches.{launches, due_after, due_in}
 use Rattle.permutations.specs.Alone.{next_event, IsOfAlone, RefusesNext}
 use Rattle.permutations.specs.Faults.{thread_fault}
 use Rattle.permutations.specs.Inner.Resting.{IsNext}

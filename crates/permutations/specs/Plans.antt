@@ -5,7 +5,8 @@ use Rattle.session_machine.specs.declared.reply.HistItem.{HistItem}
 use Rattle.report_lines.specs.declared.progress.Progress.{Progress}
 use Rattle.report_lines.specs.Progress.{Follows}
 use Rattle.spec_parser.specs.Trees.{EntryTree}
-use Rattle.permutation_plans.specs.Launches.{Launches, plan_of, due_after}
+use Rattle.report_lines.specs.Due.{Launches}
+use Rattle.permutation_plans.specs.Launches.{plan_of, due_after}
 
 -- what is launched, the entries, and what is kept between two orders
 pub record Planning : Type 0 where

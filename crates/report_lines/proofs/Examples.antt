@@ -95,12 +95,8 @@ launch session block = record { session = session; block = block }
 -- a setup of block 0; session 2 has a teardown of block 9, which waits; block 8 is the main teardown
 abbrev plan : List HistItem → Planned
 plan items = record {
-  setups = launch 0 0 ∷ [];
+  launches = record { setups = launch 0 0 ∷ []; steps = launch 1 3 ∷ launch 2 4 ∷ []; teardowns = launch 2 9 ∷ []; sessions = 2; last = launch 0 8 ∷ [] };
   run = record { entries = entry 1 0 [] ∷ entry 2 0 [] ∷ []; items = items; setups = 1 };
-  steps = launch 1 3 ∷ launch 2 4 ∷ [];
-  teardowns = launch 2 9 ∷ [];
-  sessions = 2;
-  last = launch 0 8 ∷ [];
 }
 
 abbrev leaves : ℕ → HistItem
@@ -163,12 +159,8 @@ late_failure_due = refl
 -- setups of the file and of session 1, and one step
 abbrev two_setups : List HistItem → Planned
 two_setups items = record {
-  setups = launch 0 0 ∷ launch 1 1 ∷ [];
+  launches = record { setups = launch 0 0 ∷ launch 1 1 ∷ []; steps = launch 1 3 ∷ []; teardowns = []; sessions = 1; last = [] };
   run = record { entries = entry 1 0 [] ∷ []; items = items; setups = 2 };
-  steps = launch 1 3 ∷ [];
-  teardowns = [];
-  sessions = 1;
-  last = [];
 }
 
 second_setup_due : due (two_setups (begins 0 ∷ does 0 Done false ∷ does 0 Done true ∷ [])) ≡ LaunchOf 1 1

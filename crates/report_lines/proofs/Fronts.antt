@@ -10,16 +10,18 @@ use Rattle.report_lines.specs.declared.history.Line.TheVariants.{AtOnce, Waiting
 use Rattle.report_lines.specs.declared.history.Moment.{Moment}
 use Rattle.report_lines.specs.declared.history.RunState.TheVariants.{Whole, Invalid, Due}
 use Rattle.report_lines.specs.Starts.{start, is_order, ends_in}
-use Rattle.report_lines.specs.Due.{Planned, orders, segment, fails, is_over, went_well, due_setup, teardowns_so_far, or_else, due_last, due_entry, due_at, due}
-use Rattle.report_lines.specs.History.{PermutationRun, session_at, seen_before, has_ended, is_named, is_starred}
-use Rattle.report_lines.specs.Report.{Report, is_reported, active, instances, before, after, may_report, first_try, retry, pass, goes_on, polled, poll, is_of, is_busy, own_retry, made_way, launched, is_empty, report_from, report}
+use Rattle.report_lines.specs.Due.{Launches, Planned, orders, segment, fails, is_over, went_well, launch, due_setup, teardowns_so_far, due_last, due_entry, due_at, due}
+use Rattle.report_lines.specs.History.{PermutationRun, session_at, seen_before, has_ended, is_named, is_starred, is_empty}
+use Rattle.report_lines.specs.Report.{Report, is_reported, active, instances, before, after, may_report, first_try, retry, pass, goes_on, polled, poll, is_of, is_busy, made_way, launched, report_from, report}
 use Rattle.report_lines.specs.Fronts.{longer, longer_plan}
 use Rattle.report_lines.specs.declared.history.PlannedLaunch.{PlannedLaunch}
 use Rattle.report_lines.specs.declared.history.TeardownsSoFar.{TeardownsSoFar}
 use Rattle.report_lines.specs.declared.history.RunState.{RunState}
 use Rattle.session_machine.specs.declared.event.Order.{Order}
-use Rattle.session_machine.specs.declared.event.Order.TheVariants.{Launch, Leave, Stop}
-use Rattle.std.specs.Prelude.{nat_le, Option, Some}
+use Rattle.session_machine.specs.declared.event.Order.TheVariants.{Leave, Stop}
+use Rattle.std.specs.Prelude.{nat_le, Option, Some, unwrap_or}
+use Rattle.report_lines.specs.Inner.Trying.{own_retry}
+use Rattle.report_lines.proofs.Polls.{own_filter}
 use Rattle.report_lines.proofs.Found.{start_within}
 
 -- ---- where the orders stand
@@ -99,6 +101,13 @@ fold_same f g (suc n) lines same =
     ∙ ap (λ w. g w n) (fold_same f g n lines (λ w i less. same w i (omega (arith, less))))
     ∙ sym (fold-append g lines (instances n) (n ∷ []))
 
+own_steps_same : (c : PermutationRun) (more : List HistItem) (count : ℕ) (m : Moment) (session n : ℕ) (lines : List Line) → EndAlike c more count m → n ≤ count
+    → fold (retry (longer c more) m) lines (filter (is_of c session) (instances n)) ≡ fold (retry c m) lines (filter (is_of c session) (instances n))
+own_steps_same c more count m session n lines same le =
+    sym (own_filter (longer c more) m session (instances n) lines)
+    ∙ fold_same (own_retry (longer c more) m session) (own_retry c m session) n lines (λ w i less. own_same c more count m session w i same (omega (arith, less, le)))
+    ∙ own_filter c m session (instances n) lines
+
 pass_same : (c : PermutationRun) (more : List HistItem) (count : ℕ) (m : Moment) (lines : List Line) → EndAlike c more count m → m.joined ≤ count → pass (longer c more) m lines ≡ pass c m lines
 pass_same c more count m lines same le = fold_same (retry (longer c more) m) (retry c m) m.joined lines (λ w i less. retry_same c more count m w i same (omega (arith, less)))
 
@@ -130,10 +139,10 @@ before_poll c more count e lines stays le =
 way_same : (c : PermutationRun) (more : List HistItem) (count e : ℕ) (lines : List Line) → Stays c more count → e ≤ count → made_way (longer c more) lines e ≡ made_way c lines e
 way_same c more count e lines stays le =
     let same : EndAlike c more count (before c e) = λ i low. stays.ended e i le low in
-    ap (λ (m : Moment). if is_busy c lines e then poll (longer c more) m (fold (own_retry (longer c more) m (session_at c e)) lines (instances e)) else lines) (before_same c more count e stays le)
+    ap (λ (m : Moment). if is_busy c lines e then poll (longer c more) m (fold (retry (longer c more) m) lines (filter (is_of c (session_at c e)) (instances e))) else lines) (before_same c more count e stays le)
     ∙ ap (λ (w : List Line). if is_busy c lines e then w else lines)
-    (poll_same c more count (before c e) (fold (own_retry (longer c more) (before c e) (session_at c e)) lines (instances e)) same le
-    ∙ ap (poll c (before c e)) (fold_same (own_retry (longer c more) (before c e) (session_at c e)) (own_retry c (before c e) (session_at c e)) e lines (λ w i less. own_same c more count (before c e) (session_at c e) w i same (omega (arith, less, le)))))
+    (poll_same c more count (before c e) (fold (retry (longer c more) (before c e)) lines (filter (is_of c (session_at c e)) (instances e))) same le
+    ∙ ap (poll c (before c e)) (own_steps_same c more count (before c e) (session_at c e) e lines same le))
 
 launched_same : (c : PermutationRun) (more : List HistItem) (count e : ℕ) (lines : List Line) → Stays c more count → e + 1 ≤ count → launched (longer c more) lines e ≡ launched c lines e
 launched_same c more count e lines stays le =
@@ -201,7 +210,7 @@ setup_stays front item more k (t ∷ ts) ordered =
     unless_same (nat_le (orders front) k)
     (if went_well (front ++ item ∷ more) k t.session then due_setup (front ++ item ∷ more) (orders front) (k + 1) ts else Some Stop)
     (if went_well front k t.session then due_setup front (orders front) (k + 1) ts else Some Stop)
-    (Some (Launch t.session t.block))
+    (Some (launch t))
     (λ some. let less : k < orders front = grind arith in
     ap (λ (w : List HistItem). if list_any (ends_in t.session) w && not (list_any fails w) then due_setup (front ++ item ∷ more) (orders front) (k + 1) ts else Some Stop) (segment_stays front item more k ordered less)
     ∙ ap (λ (o : Option Order). if went_well front k t.session then o else Some Stop) (setup_stays front item more (k + 1) ts ordered))
@@ -214,49 +223,51 @@ teardowns_stay front item more k (t ∷ ts) ordered =
     unless_same (nat_le count k)
     (if is_over d k t.session then teardowns_so_far d count (k + 1) ts else (if nat_le count (k + 1) then record { orders = k; due = Some (Leave t.session) } else teardowns_so_far d count (k + 2) ts))
     (if is_over front k t.session then teardowns_so_far front count (k + 1) ts else (if nat_le count (k + 1) then record { orders = k; due = Some (Leave t.session) } else teardowns_so_far front count (k + 2) ts))
-    (record { orders = k; due = Some (Launch t.session t.block) })
+    (record { orders = k; due = Some (launch t) })
     (λ some. let less : k < orders front = grind arith in
     ap (λ (w : List HistItem). if list_any (ends_in t.session) w then teardowns_so_far d count (k + 1) ts else (if nat_le count (k + 1) then record { orders = k; due = Some (Leave t.session) } else teardowns_so_far d count (k + 2) ts)) (segment_stays front item more k ordered less)
     ∙ ap (λ (x : TeardownsSoFar). if is_over front k t.session then x else (if nat_le count (k + 1) then record { orders = k; due = Some (Leave t.session) } else teardowns_so_far d count (k + 2) ts)) (teardowns_stay front item more (k + 1) ts ordered)
     ∙ ap (λ (x : TeardownsSoFar). if is_over front k t.session then teardowns_so_far front count (k + 1) ts else (if nat_le count (k + 1) then record { orders = k; due = Some (Leave t.session) } else x)) (teardowns_stay front item more (k + 2) ts ordered))
 
-last_stays : (p : Planned) (item : HistItem) (more : List HistItem) (w : TeardownsSoFar) → is_order item.event ≡ true → due_last (longer_plan p (item ∷ more)) (p.run.items ++ item ∷ more) (orders p.run.items) w ≡ due_last p p.run.items (orders p.run.items) w
-last_stays p item more w ordered =
-    let count = orders p.run.items in
-    ap (λ (x : TeardownsSoFar). or_else w.due (if nat_lt count (w.orders + p.sessions) then Leave (count - w.orders + 1) else or_else x.due Stop))
-    (teardowns_stay p.run.items item more (w.orders + p.sessions) p.last ordered)
+last_stays : (l : Launches) (front : List HistItem) (item : HistItem) (more : List HistItem) (w : TeardownsSoFar) → is_order item.event ≡ true → due_last l (front ++ item ∷ more) (orders front) w ≡ due_last l front (orders front) w
+last_stays l front item more w ordered =
+    let count = orders front in
+    ap (λ (x : TeardownsSoFar). unwrap_or w.due (if nat_lt count (w.orders + l.sessions) then Leave (count - w.orders + 1) else unwrap_or x.due Stop))
+    (teardowns_stay front item more (w.orders + l.sessions) l.last ordered)
 
-entry_stays : (p : Planned) (item : HistItem) (more : List HistItem) (state : RunState) → is_order item.event ≡ true → due_entry (longer_plan p (item ∷ more)) (p.run.items ++ item ∷ more) (orders p.run.items) state ≡ due_entry p p.run.items (orders p.run.items) state
-entry_stays p item more (Due e) ordered = refl
-entry_stays p item more Invalid ordered = refl
-entry_stays p item more Whole ordered =
-    ap (due_last (longer_plan p (item ∷ more)) (p.run.items ++ item ∷ more) (orders p.run.items)) (teardowns_stay p.run.items item more (length p.setups + length p.steps) p.teardowns ordered)
-    ∙ last_stays p item more (teardowns_so_far p.run.items (orders p.run.items) (length p.setups + length p.steps) p.teardowns) ordered
+entry_stays : (l : Launches) (front : List HistItem) (item : HistItem) (more : List HistItem) (state : RunState) → is_order item.event ≡ true → due_entry l (front ++ item ∷ more) (orders front) state ≡ due_entry l front (orders front) state
+entry_stays l front item more (Due e) ordered = refl
+entry_stays l front item more Invalid ordered = refl
+entry_stays l front item more Whole ordered =
+    ap (due_last l (front ++ item ∷ more) (orders front)) (teardowns_stay front item more (length l.setups + length l.steps) l.teardowns ordered)
+    ∙ last_stays l front item more (teardowns_so_far front (orders front) (length l.setups + length l.steps) l.teardowns) ordered
 
 -- where setups are still due, nothing else is
-case_first : (b g : Bool) (x y : Order) (some stop : Order) (rest : Option Order) → (false ≡ b → or_else rest x ≡ or_else rest y) → or_else (if b then Some some else (if g then rest else Some stop)) x ≡ or_else (if b then Some some else (if g then rest else Some stop)) y
+case_first : (b g : Bool) (x y : Order) (some stop : Order) (rest : Option Order) → (false ≡ b → unwrap_or rest x ≡ unwrap_or rest y) → unwrap_or (if b then Some some else (if g then rest else Some stop)) x ≡ unwrap_or (if b then Some some else (if g then rest else Some stop)) y
 case_first true g x y some stop rest same = refl
 case_first false true x y some stop rest same = same refl
 case_first false false x y some stop rest same = refl
 
-setups_first : (items : List HistItem) (count k : ℕ) (ts : List PlannedLaunch) (x y : Order) → count < k + length ts → k ≤ count → or_else (due_setup items count k ts) x ≡ or_else (due_setup items count k ts) y
+setups_first : (items : List HistItem) (count k : ℕ) (ts : List PlannedLaunch) (x y : Order) → count < k + length ts → k ≤ count → unwrap_or (due_setup items count k ts) x ≡ unwrap_or (due_setup items count k ts) y
 setups_first items count k [] x y less le = absurd (omega (arith, less, le))
 setups_first items count k (t ∷ ts) x y less le =
-    case_first (nat_le count k) (went_well items k t.session) x y (Launch t.session t.block) Stop (due_setup items count (k + 1) ts)
+    case_first (nat_le count k) (went_well items k t.session) x y (launch t) Stop (due_setup items count (k + 1) ts)
     (λ past. let next : k + 1 ≤ count = grind arith in setups_first items count (k + 1) ts x y (omega (arith, less)) next)
 
-due_case : (p : Planned) (item : HistItem) (more : List HistItem) → is_order item.event ≡ true → p.run.setups ≡ length p.setups → (orders p.run.items < length p.setups) ⊎ (length p.setups ≤ orders p.run.items) → due_at (longer_plan p (item ∷ more)) (orders p.run.items) ≡ due p
+due_case : (p : Planned) (item : HistItem) (more : List HistItem) → is_order item.event ≡ true → p.run.setups ≡ length p.launches.setups → (orders p.run.items < length p.launches.setups) ⊎ (length p.launches.setups ≤ orders p.run.items) → due_at (longer_plan p (item ∷ more)) (orders p.run.items) ≡ due p
 due_case p item more ordered setups (inr le) =
+    let l = p.launches in
     let count = orders p.run.items in
-    let split : count ≡ p.run.setups + (count - length p.setups) = omega (arith, le, setups) in
-    ap (λ (o : Option Order). or_else o (due_entry (longer_plan p (item ∷ more)) (p.run.items ++ item ∷ more) count (report (longer p.run (item ∷ more)) (count - length p.setups)).state)) (setup_stays p.run.items item more 0 p.setups ordered)
-    ∙ ap (λ (r : Report). or_else (due_setup p.run.items count 0 p.setups) (due_entry (longer_plan p (item ∷ more)) (p.run.items ++ item ∷ more) count r.state)) (front_stays p.run item more (count - length p.setups) ordered split)
-    ∙ ap (or_else (due_setup p.run.items count 0 p.setups)) (entry_stays p item more (report p.run (count - length p.setups)).state ordered)
+    let split : count ≡ p.run.setups + (count - length l.setups) = omega (arith, le, setups) in
+    ap (λ (o : Option Order). unwrap_or o (due_entry l (p.run.items ++ item ∷ more) count (report (longer p.run (item ∷ more)) (count - length l.setups)).state)) (setup_stays p.run.items item more 0 l.setups ordered)
+    ∙ ap (λ (r : Report). unwrap_or (due_setup p.run.items count 0 l.setups) (due_entry l (p.run.items ++ item ∷ more) count r.state)) (front_stays p.run item more (count - length l.setups) ordered split)
+    ∙ ap (unwrap_or (due_setup p.run.items count 0 l.setups)) (entry_stays l p.run.items item more (report p.run (count - length l.setups)).state ordered)
 due_case p item more ordered setups (inl less) =
+    let l = p.launches in
     let count = orders p.run.items in
-    let other = due_entry (longer_plan p (item ∷ more)) (p.run.items ++ item ∷ more) count (report (longer p.run (item ∷ more)) (count - length p.setups)).state in
-    ap (λ (o : Option Order). or_else o other) (setup_stays p.run.items item more 0 p.setups ordered)
-    ∙ setups_first p.run.items count 0 p.setups other (due_entry p p.run.items count (report p.run (count - length p.setups)).state) (omega (arith, less)) (omega arith)
+    let other = due_entry l (p.run.items ++ item ∷ more) count (report (longer p.run (item ∷ more)) (count - length l.setups)).state in
+    ap (λ (o : Option Order). unwrap_or o other) (setup_stays p.run.items item more 0 l.setups ordered)
+    ∙ setups_first p.run.items count 0 l.setups other (due_entry l p.run.items count (report p.run (count - length l.setups)).state) (omega (arith, less)) (omega arith)
 
-pub due_stays : (p : Planned) (item : HistItem) (more : List HistItem) → is_order item.event ≡ true → p.run.setups ≡ length p.setups → due_at (longer_plan p (item ∷ more)) (orders p.run.items) ≡ due p
-due_stays p item more ordered setups = due_case p item more ordered setups (cases_lt (orders p.run.items) (length p.setups))
+pub due_stays : (p : Planned) (item : HistItem) (more : List HistItem) → is_order item.event ≡ true → p.run.setups ≡ length p.launches.setups → due_at (longer_plan p (item ∷ more)) (orders p.run.items) ≡ due p
+due_stays p item more ordered setups = due_case p item more ordered setups (cases_lt (orders p.run.items) (length p.launches.setups))

@@ -6,7 +6,8 @@ use Rattle.report_lines.specs.declared.history.Line.{Line}
 use Rattle.report_lines.specs.declared.history.Line.TheVariants.{Completed}
 use Rattle.report_lines.specs.declared.history.Moment.{Moment}
 use Rattle.report_lines.specs.History.{PermutationRun}
-use Rattle.report_lines.specs.Report.{is_reported, active, instances, may_report, retry, own_retry, pass, goes_on, polled, poll, is_of}
+use Rattle.report_lines.specs.Report.{is_reported, active, instances, may_report, retry, pass, goes_on, polled, poll, is_of}
+use Rattle.report_lines.specs.Inner.Trying.{own_retry}
 use Rattle.report_lines.proofs.Waits.{active_leave, reported_push, any_is}
 use Rattle.report_lines.proofs.Rising.{Between, between_instances, between_filter, between_length}
 use Rattle.report_lines.proofs.Passes.{skip_reported}
@@ -112,7 +113,7 @@ own_case : (c : PermutationRun) (m : Moment) (s : ℕ) (lines : List Line) (x : 
 own_case c m s lines x xs true rest = rest (retry c m lines x)
 own_case c m s lines x xs false rest = rest lines
 
-own_filter : (c : PermutationRun) (m : Moment) (s : ℕ) (xs : List ℕ) (lines : List Line) → fold (own_retry c m s) lines xs ≡ fold (retry c m) lines (filter (is_of c s) xs)
+pub own_filter : (c : PermutationRun) (m : Moment) (s : ℕ) (xs : List ℕ) (lines : List Line) → fold (own_retry c m s) lines xs ≡ fold (retry c m) lines (filter (is_of c s) xs)
 own_filter c m s [] lines = refl
 own_filter c m s (x ∷ xs) lines = own_case c m s lines x xs (is_of c s x) (own_filter c m s xs)
 
@@ -125,8 +126,8 @@ own_keeps c m s lines j i h =
     elim (is_of c s j) as (λ b. is_reported (if b then retry c m lines j else lines) i ≡ true) [ true ↦ kept | false ↦ h ]
 
 -- the session's own tries are those of its active instances
-pub own_waiting : (c : PermutationRun) (m : Moment) (s n : ℕ) (lines : List Line) → fold (own_retry c m s) lines (instances n) ≡ fold (retry c m) lines (filter (is_of c s) (active lines n))
-own_waiting c m s n lines = skip_reported (own_retry c m s) (own_over c m s) (own_keeps c m s) lines n ∙ own_filter c m s (active lines n) lines
+pub own_waiting : (c : PermutationRun) (m : Moment) (s n : ℕ) (lines : List Line) → fold (retry c m) lines (filter (is_of c s) (instances n)) ≡ fold (retry c m) lines (filter (is_of c s) (active lines n))
+own_waiting c m s n lines = sym (own_filter c m s (instances n) lines) ∙ skip_reported (own_retry c m s) (own_over c m s) (own_keeps c m s) lines n ∙ own_filter c m s (active lines n) lines
 
 shorter_case : (e x : ℕ) (ys : List ℕ) (b : Bool) → length (filter (λ j. not (j == e)) ys) ≤ length ys → (list_any (λ j. j == e) ys ≡ true → length (filter (λ j. not (j == e)) ys) + 1 ≤ length ys) → (b || list_any (λ j. j == e) ys) ≡ true → length (cond (not b) (x ∷ filter (λ j. not (j == e)) ys) (filter (λ j. not (j == e)) ys)) + 1 ≤ suc (length ys)
 shorter_case e x ys true few rest h = omega arith

@@ -3,8 +3,8 @@ use Rattle.std.proofs.Common.{◌≡◌, ℕ, zero, suc, ◌+◌, ◌-◌, ◌<�
 use Rattle.report_lines.specs.declared.history.Line.{Line}
 use Rattle.report_lines.specs.declared.history.RunState.{RunState}
 use Rattle.report_lines.specs.declared.history.RunState.TheVariants.{Due, Whole, Invalid}
-use Rattle.report_lines.specs.History.{PermutationRun}
-use Rattle.report_lines.specs.Report.{Report, report, report_from, made_way, launched, poll, before, is_busy, is_empty, active}
+use Rattle.report_lines.specs.History.{PermutationRun, is_empty}
+use Rattle.report_lines.specs.Report.{Report, report, report_from, made_way, launched, poll, before, is_busy, active}
 
 -- where the entries come to an end
 pub report_end : (c : PermutationRun) (n e count : ℕ) (lines : List Line) → n ≤ e → report_from c e (n - e) count lines ≡ (let all = poll c (before c e) lines in record { lines = all; state = if is_empty (active all e) then Whole else Invalid })

@@ -11,7 +11,7 @@ use Rattle.report_lines.specs.declared.history.Line.TheVariants.{AtOnce, Waiting
 use Rattle.report_lines.specs.declared.history.Moment.{Moment}
 use Rattle.report_lines.specs.declared.history.RunState.TheVariants.{Due, Invalid}
 use Rattle.report_lines.specs.History.{PermutationRun, session_at, has_ended, is_named, is_starred, is_marked}
-use Rattle.report_lines.specs.Report.{reports, is_reported, instances, active, before, after, first_try, retry, own_retry, pass, goes_on, polled, poll, is_of, is_busy, made_way, launched, report_from, report}
+use Rattle.report_lines.specs.Report.{reports, is_reported, instances, active, before, after, first_try, retry, pass, goes_on, polled, poll, is_of, is_busy, made_way, launched, report_from, report}
 use Rattle.report_lines.specs.Tries.{Try, is_try_of, is_untried, was_reported, still_active, is_met, says, said, try_each, gone_through, wants_another, passes, all_passes, has_active, tries_before, tries_after, tries_from, tries}
 use Rattle.report_lines.proofs.Waits.{same_filter}
 use Rattle.report_lines.proofs.Rising.{Between, between_instances, between_filter, between_length}
@@ -165,7 +165,7 @@ follows_polled c m n (suc k) lines ts le few f =
 pub follows_busy : (c : PermutationRun) (e : ℕ) (lines : List Line) (ts : List Try) → Follows c e lines ts → is_busy c lines e ≡ has_active c ts e
 follows_busy c e lines ts f = ap (list_any (is_of c (session_at c e))) (follows_active c e lines ts e f)
 
-follows_own : (c : PermutationRun) (m : Moment) (s e : ℕ) (lines : List Line) (ts : List Try) → Follows c e lines ts → Follows c e (fold (own_retry c m s) lines (instances e)) (try_each m ts (filter (is_of c s) (still_active c ts e)))
+follows_own : (c : PermutationRun) (m : Moment) (s e : ℕ) (lines : List Line) (ts : List Try) → Follows c e lines ts → Follows c e (fold (retry c m) lines (filter (is_of c s) (instances e))) (try_each m ts (filter (is_of c s) (still_active c ts e)))
 follows_own c m s e lines ts f =
     rw (own_waiting c m s e lines, follows_active c e lines ts e f)
     (follows_each c m e 0 e (filter (is_of c s) (still_active c ts e)) lines ts (between_filter (is_of c s) 0 e (still_active c ts e) (rises c ts e)) (omega arith) f)
@@ -178,8 +178,8 @@ pub follows_way : (c : PermutationRun) (e : ℕ) (lines : List Line) (ts : List 
 follows_way c e lines ts f =
     let m = before c e in
     let s = session_at c e in
-    way_case c e lines (poll c m (fold (own_retry c m s) lines (instances e))) ts (all_passes c m (try_each m ts (filter (is_of c s) (still_active c ts e)))) (is_busy c lines e) (has_active c ts e) (follows_busy c e lines ts f)
-    (follows_polled c m e (m.joined + 1) (fold (own_retry c m s) lines (instances e)) (try_each m ts (filter (is_of c s) (still_active c ts e))) (omega arith) (omega arith) (follows_own c m s e lines ts f))
+    way_case c e lines (poll c m (fold (retry c m) lines (filter (is_of c s) (instances e)))) ts (all_passes c m (try_each m ts (filter (is_of c s) (still_active c ts e)))) (is_busy c lines e) (has_active c ts e) (follows_busy c e lines ts f)
+    (follows_polled c m e (m.joined + 1) (fold (retry c m) lines (filter (is_of c s) (instances e))) (try_each m ts (filter (is_of c s) (still_active c ts e))) (omega arith) (omega arith) (follows_own c m s e lines ts f))
     f
 
 not_same : (j e : ℕ) → (j ≡ e → ⊥) → e ≤ j → (j ≡ e) ⊎ (j ≡ e → ⊥) → e + 1 ≤ j

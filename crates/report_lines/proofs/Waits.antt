@@ -1,6 +1,7 @@
 -- The list of waiting entries over the lines.
 use Rattle.std.proofs.Common.{◌≡◌, ℕ, zero, suc, ◌+◌, ◌<◌, ◌≤◌, List, [], ◌∷◌, ◌++◌, refl, ap, sym, ◌∙◌, arith, true, false, Bool, not, cond, ◌==◌, ◌||◌, ◌&&◌, add-one, ◌⊎◌, inl, inr, ◌-◌, Option, Some, None, slice_get}
 use Rattle.std.specs.List.{list_any, filter, fold}
+use Rattle.std.specs.Option.{option_map_or}
 use Rattle.std.proofs.lemmas.List.Folds.{list_any-append}
 use Rattle.std.proofs.lemmas.List.Elements.{filter-append}
 use Rattle.std.proofs.lemmas.List.Sums.{fold-append}
@@ -11,7 +12,7 @@ use Rattle.report_lines.specs.declared.history.Line.TheVariants.{AtOnce, Waiting
 use Rattle.report_lines.specs.declared.history.Moment.{Moment}
 use Rattle.spec_parser.specs.Trees.{EntryTree}
 use Rattle.spec_parser.specs.declared.tree.Marker.{Marker}
-use Rattle.report_lines.specs.History.{PermutationRun, is_among, is_named, is_marked, is_some_marker, markers_of}
+use Rattle.report_lines.specs.History.{PermutationRun, names, is_named, is_empty, is_marked, markers_at}
 use Rattle.report_lines.specs.Report.{reports, is_reported, active, instances, pass, polled, goes_on}
 use Rattle.report_lines.specs.Inner.Waiting.{IsKept}
 
@@ -119,12 +120,12 @@ polled_off c m n t old new b h is says fails =
 pub fold_more : (f : List Line → ℕ → List Line) (a : List Line) (n : ℕ) → fold f a (instances (n + 1)) ≡ f (fold f a (instances n)) n
 fold_more f a n = rw add-one (fold-append f a (instances n) (n ∷ []))
 
-unnamed : (o : Option EntryTree) (ms : List Marker) → is_some_marker ms ≡ false → is_among o ms ≡ false
+unnamed : (o : Option EntryTree) (ms : List Marker) → not (is_empty ms) ≡ false → option_map_or (λ (e : EntryTree). list_any (names e) ms) o false ≡ false
 unnamed None ms h = refl
 unnamed (Some e) [] h = refl
-unnamed (Some e) (m ∷ ms) h = cc
+unnamed (Some e) (m ∷ ms) h = let some : is_empty (m ∷ ms) ≡ false = grind arith in let no : true ≡ false = ap not (sym some) ∙ h in cc
 
 -- an entry without markers names no step
 pub unmarked : (c : PermutationRun) (i : ℕ) (xs : List ℕ) → is_marked c i ≡ false → list_any (is_named c i) xs ≡ false
 unmarked c i [] h = refl
-unmarked c i (x ∷ xs) h = rw (unnamed (slice_get c.entries x) (markers_of (slice_get c.entries i)) h, unmarked c i xs h) refl
+unmarked c i (x ∷ xs) h = rw (unnamed (slice_get c.entries x) (markers_at c i) h, unmarked c i xs h) refl

@@ -10,4 +10,4 @@ longer c more = record { entries = c.entries; items = c.items ++ more; setups = 
 
 -- the same plan with more items behind those of its history
 abbrev pub longer_plan : Planned → List HistItem → Planned
-longer_plan p more = record { setups = p.setups; run = longer p.run more; steps = p.steps; teardowns = p.teardowns; sessions = p.sessions; last = p.last }
+longer_plan p more = record p { run = longer p.run more }

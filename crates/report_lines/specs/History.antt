@@ -1,6 +1,7 @@
 -- Segments of a history, and what they show of a step.
-use Rattle.std.specs.Prelude.{ℕ, ◌+◌, ◌==◌, Bool, true, false, ◌&&◌, List, [], ◌∷◌, Option, Some, None, slice_get, slice_range}
+use Rattle.std.specs.Prelude.{ℕ, ◌+◌, ◌==◌, Bool, true, false, not, ◌&&◌, List, [], length, slice_get, slice_range}
 use Rattle.std.specs.List.{list_any}
+use Rattle.std.specs.Option.{option_map_or}
 use Rattle.report_lines.specs.Starts.{start, ends_in}
 use Rattle.session_machine.specs.declared.reply.HistItem.{HistItem}
 use Rattle.spec_parser.specs.Trees.{EntryTree}
@@ -13,12 +14,9 @@ pub record PermutationRun : Type 0 where
   pub items : List HistItem
   pub setups : ℕ
 
-abbrev pub session_or_zero : Option EntryTree → ℕ
-session_or_zero None = 0
-session_or_zero (Some e) = e.session
-
+-- the session of an instance, which is an entry by its number from 0
 abbrev pub session_at : PermutationRun → ℕ → ℕ
-session_at c i = session_or_zero (slice_get c.entries i)
+session_at c i = option_map_or (λ (e : EntryTree). e.session) (slice_get c.entries i) 0
 
 -- how many items there are before the segment of an entry, and with it
 abbrev pub seen_before : PermutationRun → ℕ → ℕ
@@ -36,24 +34,18 @@ abbrev pub is_star : Marker → Bool
 is_star Star = true
 is_star (Named session step) = false
 
-abbrev pub markers_of : Option EntryTree → List Marker
-markers_of None = []
-markers_of (Some e) = e.markers
-
-abbrev pub is_among : Option EntryTree → List Marker → Bool
-is_among None markers = false
-is_among (Some e) markers = list_any (names e) markers
+abbrev pub markers_at : PermutationRun → ℕ → List Marker
+markers_at c i = option_map_or (λ (e : EntryTree). e.markers) (slice_get c.entries i) []
 
 -- the step of the second instance is named by a marker of the first
 abbrev pub is_named : PermutationRun → ℕ → ℕ → Bool
-is_named c i j = is_among (slice_get c.entries j) (markers_of (slice_get c.entries i))
+is_named c i j = option_map_or (λ (e : EntryTree). list_any (names e) (markers_at c i)) (slice_get c.entries j) false
 
 abbrev pub is_starred : PermutationRun → ℕ → Bool
-is_starred c i = list_any is_star (markers_of (slice_get c.entries i))
+is_starred c i = list_any is_star (markers_at c i)
 
-abbrev pub is_some_marker : List Marker → Bool
-is_some_marker [] = false
-is_some_marker (m ∷ ms) = true
+abbrev pub is_empty : {A : Type 0} → List A → Bool
+is_empty xs = length xs == 0
 
 abbrev pub is_marked : PermutationRun → ℕ → Bool
-is_marked c i = is_some_marker (markers_of (slice_get c.entries i))
+is_marked c i = not (is_empty (markers_at c i))

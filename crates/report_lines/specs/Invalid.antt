@@ -1,7 +1,7 @@
 -- Where a permutation is invalid, in the words of its tries.
 use Rattle.std.specs.Prelude.{◌≡◌, ℕ, zero, suc, ◌<◌, ◌≤◌, ◌⊎◌, true, false, List, [], length}
-use Rattle.report_lines.specs.History.{PermutationRun}
-use Rattle.report_lines.specs.Report.{before, is_empty}
+use Rattle.report_lines.specs.History.{PermutationRun, is_empty}
+use Rattle.report_lines.specs.Report.{before}
 use Rattle.report_lines.specs.Tries.{Try, still_active, all_passes, has_active, tries_before, tries_after}
 
 -- the tries by the time that so many entries are launched, each after the tries before its Launch

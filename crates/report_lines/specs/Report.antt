@@ -6,7 +6,7 @@ use Rattle.report_lines.specs.declared.history.Line.TheVariants.{AtOnce, Waiting
 use Rattle.report_lines.specs.declared.history.Moment.{Moment}
 use Rattle.report_lines.specs.declared.history.RunState.{RunState}
 use Rattle.report_lines.specs.declared.history.RunState.TheVariants.{Due, Whole, Invalid}
-use Rattle.report_lines.specs.History.{PermutationRun, session_at, seen_before, has_ended, is_named, is_starred, is_marked}
+use Rattle.report_lines.specs.History.{PermutationRun, session_at, seen_before, has_ended, is_named, is_starred, is_empty, is_marked}
 
 -- the line reports the instance
 abbrev pub reports : ℕ → Line → Bool
@@ -37,13 +37,11 @@ may_report c m lines i = has_ended c m.seen i && not (list_any (is_named c i) (a
 
 -- the first try of an instance
 abbrev pub first_try : PermutationRun → Moment → List Line → ℕ → List Line
-first_try c m lines i =
-    lines ++ (if may_report c m lines i && not (is_starred c i) then AtOnce i m.seen else Waiting i) ∷ []
+first_try c m lines i = lines ++ (if may_report c m lines i && not (is_starred c i) then AtOnce i m.seen else Waiting i) ∷ []
 
 -- a later one
 abbrev pub retry : PermutationRun → Moment → List Line → ℕ → List Line
-retry c m lines i =
-    if not (is_reported lines i) && may_report c m lines i then lines ++ Completed i m.seen ∷ [] else lines
+retry c m lines i = if not (is_reported lines i) && may_report c m lines i then lines ++ Completed i m.seen ∷ [] else lines
 
 -- the waiting list is gone through once
 abbrev pub pass : PermutationRun → Moment → List Line → List Line
@@ -56,8 +54,7 @@ goes_on c m old new = nat_lt (length old) (length new) && list_any (λ j. nat_lt
 -- so many passes at most
 abbrev pub polled : PermutationRun → Moment → ℕ → List Line → List Line
 polled c m zero lines = lines
-polled c m (suc more) lines =
-    let new = pass c m lines in if goes_on c m lines new then polled c m more new else new
+polled c m (suc more) lines = let new = pass c m lines in if goes_on c m lines new then polled c m more new else new
 
 abbrev pub poll : PermutationRun → Moment → List Line → List Line
 poll c m lines = polled c m (m.joined + 1) lines
@@ -69,16 +66,10 @@ is_of c session i = session_at c i == session
 abbrev pub is_busy : PermutationRun → List Line → ℕ → Bool
 is_busy c lines e = list_any (is_of c (session_at c e)) (active lines e)
 
--- a later try of a step of this session
-abbrev pub own_retry : PermutationRun → Moment → ℕ → List Line → ℕ → List Line
-own_retry c m session lines i = if is_of c session i then retry c m lines i else lines
-
--- the tries before an entry's Launch
+-- the tries before an entry's Launch: where its session has an active step, the session's steps first
 abbrev pub made_way : PermutationRun → List Line → ℕ → List Line
 made_way c lines e =
-    if is_busy c lines e
-    then poll c (before c e) (fold (own_retry c (before c e) (session_at c e)) lines (instances e))
-    else lines
+    if is_busy c lines e then poll c (before c e) (fold (retry c (before c e)) lines (filter (is_of c (session_at c e)) (instances e))) else lines
 
 -- the tries after it
 abbrev pub launched : PermutationRun → List Line → ℕ → List Line
@@ -88,19 +79,14 @@ pub record Report : Type 0 where
   pub lines : List Line
   pub state : RunState
 
-abbrev pub is_empty : List ℕ → Bool
-is_empty [] = true
-is_empty (x ∷ xs) = false
-
 -- the report of the entries from one on, of whose segments so many are there
 abbrev pub report_from : PermutationRun → ℕ → ℕ → ℕ → List Line → Report
 report_from c e zero count lines =
-    let all = poll c (before c e) lines in
-    record { lines = all; state = if is_empty (active all e) then Whole else Invalid }
+    let all = poll c (before c e) lines in record { lines = all; state = if is_empty (active all e) then Whole else Invalid }
 report_from c e (suc rest) count lines =
     let way = made_way c lines e in
     if is_busy c way e then record { lines = way; state = Invalid }
-    else (if nat_lt e count then report_from c (e + 1) rest count (launched c way e) else record { lines = way; state = Due e })
+    else if nat_lt e count then report_from c (e + 1) rest count (launched c way e) else record { lines = way; state = Due e }
 
 abbrev pub report : PermutationRun → ℕ → Report
 report c count = report_from c 0 (length c.entries) count []

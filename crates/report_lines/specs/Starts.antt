@@ -1,14 +1,13 @@
 -- The places of orders in a history.
 use Rattle.std.specs.Prelude.{ℕ, zero, suc, ◌+◌, ◌==◌, Bool, true, false, ◌&&◌, List, [], ◌∷◌, if◌then◌else◌}
 use Rattle.session_machine.specs.declared.event.Event.{Event}
-use Rattle.session_machine.specs.declared.event.Event.TheVariants.{Launch, Step, Leave}
+use Rattle.session_machine.specs.declared.event.Event.TheVariants.{Step}
 use Rattle.session_machine.specs.declared.reply.HistItem.{HistItem}
 use Rattle.session_machine.specs.Machine.{session_of}
 
 abbrev pub is_order : Event → Bool
-is_order (Launch session block) = true
 is_order (Step session) = false
-is_order (Leave session) = true
+is_order _ = true
 
 -- how many items come before the order of this number, from 0; all where there are fewer orders
 abbrev pub start : List HistItem → ℕ → ℕ

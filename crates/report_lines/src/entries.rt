@@ -1,8 +1,9 @@
 //! Entries of a permutation, and items of a history.
-ghost use Rattle.std.specs.Prelude.{◌≡◌, map, slice_get};
+ghost use Rattle.std.specs.Prelude.{◌≡◌, not, map, slice_get};
 ghost use Rattle.std.specs.List.{list_any};
-ghost use Rattle.spec_parser.specs.Trees.{entry_view};
-ghost use Rattle.report_lines.specs.History.{session_or_zero, names, is_star, is_some_marker};
+ghost use Rattle.std.specs.Option.{option_map_or};
+ghost use Rattle.spec_parser.specs.Trees.{EntryTree, entry_view};
+ghost use Rattle.report_lines.specs.History.{names, is_star, is_empty};
 ghost use Rattle.session_machine.specs.Machine.{session_of};
 ghost use Rattle.report_lines.specs.Starts.{is_order, ends_in};
 
@@ -27,7 +28,7 @@ fn is_step(entry: &Entry, marker: &Marker) -> bool
 
 /// The session of the entry at this place; 0 where there is none.
 pub fn session_at(entries: &[Entry], place: usize) -> u32
-    ensures { result ≡ session_or_zero (slice_get (map entry_view entries.now) place) }
+    ensures { result ≡ option_map_or (λ (e : EntryTree). e.session) (slice_get (map entry_view entries.now) place) 0 }
 {
     match entries.get(place) {
         None => 0,
@@ -49,7 +50,7 @@ pub fn is_starred(entry: &Entry) -> bool
 }
 
 pub fn is_marked(entry: &Entry) -> bool
-    ensures { result ≡ is_some_marker entry.now.markers.items }
+    ensures { result ≡ not (is_empty entry.now.markers.items) }
 {
     !entry.markers.is_empty()
 }

@@ -47,6 +47,6 @@ pub fn what_was_reported_stays()
 
 /// What was due before an order can be told from the whole history.
 pub fn what_was_due_stays()
-    ensures { (p : Planned) (item : HistItem) (more : List HistItem) → is_order item.event ≡ true → p.run.setups ≡ length p.setups →
+    ensures { (p : Planned) (item : HistItem) (more : List HistItem) → is_order item.event ≡ true → p.run.setups ≡ length p.launches.setups →
         due_at (longer_plan p (item ∷ more)) (orders p.run.items) ≡ due p }
 {}

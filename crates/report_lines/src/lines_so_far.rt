@@ -5,10 +5,10 @@ ghost use Rattle.std.specs.List.{list_any, filter, fold};
 ghost use Rattle.report_lines.specs.SoFar.{LinesSoFar, IsAt, IsReportSoFar};
 ghost use Rattle.report_lines.specs.Inner.Waiting.{IsKept};
 ghost use Rattle.report_lines.specs.Due.{orders};
-ghost use Rattle.report_lines.specs.History.{session_at, is_named, is_marked, has_ended, seen_before};
+ghost use Rattle.report_lines.specs.History.{session_at, is_named, is_empty, is_marked, has_ended, seen_before};
 ghost use Rattle.report_lines.specs.Inner.Trying.{is_chosen, chosen_retry, retried_from};
-ghost use Rattle.report_lines.specs.Report.{is_reported, active, may_report, first_try, retry, own_retry, pass, goes_on, polled, poll, is_busy, is_of};
-ghost use Rattle.report_lines.specs.Report.{made_way, launched, before, after, report, report_from, instances, is_empty};
+ghost use Rattle.report_lines.specs.Report.{is_reported, active, may_report, first_try, retry, pass, goes_on, polled, poll, is_busy, is_of};
+ghost use Rattle.report_lines.specs.Report.{made_way, launched, before, after, report, report_from, instances};
 
 use crate::history::{Line, Moment, RunState};
 use crate::run_so_far::RunSoFar;
@@ -309,7 +309,7 @@ impl LinesSoFar {
         requires entries { self.old.launched ≤ length run.now.entries }
         requires seen { m.seen ≡ length run.now.items }
         requires launched { m.launched ≡ self.old.launched }
-        ensures { OnOk result (self.new ≡ record self.old { lines = fold (own_retry run.now m session) self.old.lines (instances self.old.launched) }) }
+        ensures { OnOk result (self.new ≡ record self.old { lines = fold (retry run.now m) self.old.lines (filter (is_of run.now session) (instances self.old.launched)) }) }
     {
         self.go_through(run, m, Chosen::Own(session))?;
         Ok(())

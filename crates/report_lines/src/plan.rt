@@ -1,7 +1,8 @@
 //! The next order of a permutation, from its history alone.
-ghost use Rattle.std.specs.Prelude.{◌≡◌, ◌+◌, ◌-◌, ◌<◌, ◌≤◌, ◌^◌, ℕ, not, ◌&&◌, length, map, IfOk, OnOk, drop, Option, Some, None};
+ghost use Rattle.std.specs.Prelude.{◌≡◌, ◌+◌, ◌-◌, ◌<◌, ◌≤◌, ◌^◌, ℕ, not, ◌&&◌, length, map, slice_get, unwrap_or, IfOk, OnOk, drop, Option, Some, None};
+ghost use Rattle.std.specs.Option.{option_map_or};
 ghost use Rattle.spec_parser.specs.Trees.{entry_view};
-ghost use Rattle.report_lines.specs.Due.{is_over, went_well, orders, due_setup, teardowns_so_far, entry_order, due_last, due_entry, due, or_else};
+ghost use Rattle.report_lines.specs.Due.{is_over, went_well, orders, launch, due_setup, teardowns_so_far, due_last, due_entry, due};
 ghost use Rattle.report_lines.specs.Progress.{Follows};
 ghost use Rattle.report_lines.specs.Inner.Progress.{IsSettled};
 
@@ -101,12 +102,8 @@ impl<'a> Model for Plan<'a> {
     ghost Value = { Planned };
 
     ghost view = { λ p. record {
-      setups = p.setups.now;
+      launches = record { setups = p.setups.now; steps = p.steps.now; teardowns = p.teardowns.now; sessions = p.sessions; last = p.last.now };
       run = record { entries = map entry_view p.entries.now; items = p.items.now; setups = length p.setups.now };
-      steps = p.steps.now;
-      teardowns = p.teardowns.now;
-      sessions = p.sessions;
-      last = p.last.now;
     } };
 
     ghost invariant = { λ p. length p.setups.now + length p.entries.now + 1 < 2 ^ 64 };
@@ -119,12 +116,14 @@ impl<'a> Plan<'a> {
     pub fn new(entries: &'a [Entry], items: &'a [HistItem<'a>], schedule: &Schedule<'a>) -> Plan<'a>
         requires { length schedule.now.setups.now + length entries.now + 1 < 2 ^ 64 }
         ensures { result ≡ record {
-          setups = schedule.now.setups.now;
+          launches = record {
+            setups = schedule.now.setups.now;
+            steps = schedule.now.steps.now;
+            teardowns = schedule.now.teardowns.now;
+            sessions = schedule.now.sessions;
+            last = schedule.now.last.now;
+          };
           run = record { entries = map entry_view entries.now; items = items.now; setups = length schedule.now.setups.now };
-          steps = schedule.now.steps.now;
-          teardowns = schedule.now.teardowns.now;
-          sessions = schedule.now.sessions;
-          last = schedule.now.last.now;
         } }
     {
         Plan {
@@ -140,7 +139,7 @@ impl<'a> Plan<'a> {
 
     /// What is due after the teardowns of sessions.
     fn due_last(&self, segments: &Segments<'_>, count: usize, after: TeardownsSoFar) -> Order
-        ensures { result ≡ due_last self.now segments.now count after }
+        ensures { result ≡ due_last self.now.launches segments.now count after }
     {
         if let Some(order) = after.due {
             return order;
@@ -162,7 +161,7 @@ impl<'a> Plan<'a> {
 
     /// What is due once the setups are there.
     fn due_entry(&self, segments: &Segments<'_>, count: usize, state: RunState) -> Order
-        ensures { result ≡ due_entry self.now segments.now count state }
+        ensures { result ≡ due_entry self.now.launches segments.now count state }
     {
         match state {
             RunState::Due(entry) => entry_order(self.steps, entry),
@@ -214,7 +213,7 @@ fn due_by<'a>(plan: &'a Plan<'a>, progress: &'a Progress) -> Order
 }
 
 fn entry_order(steps: &[PlannedLaunch], entry: usize) -> Order
-    ensures { result ≡ entry_order steps.now entry }
+    ensures { result ≡ option_map_or launch (slice_get steps.now entry) Order.Stop }
 {
     match steps.get(entry) {
         Some(step) => Order::Launch {

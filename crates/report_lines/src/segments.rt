@@ -2,7 +2,8 @@
 ghost use Rattle.std.specs.Prelude.{◌≡◌, ◌+◌, ◌<◌, ◌≤◌, ◌^◌, ◌++◌, length, IfOk, slice_range};
 ghost use Rattle.std.specs.List.{list_any};
 ghost use Rattle.report_lines.specs.Starts.{start, ends_in};
-ghost use Rattle.report_lines.specs.Due.{segment, is_failed, fails, is_over, went_well, orders};
+ghost use Rattle.session_machine.specs.Machine.{is_failed};
+ghost use Rattle.report_lines.specs.Due.{segment, fails, is_over, went_well, orders};
 ghost use Rattle.report_lines.specs.Places.{starts_from};
 
 use crate::entries::{self, is_order};

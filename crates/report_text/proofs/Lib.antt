@@ -1,5 +1,5 @@
 pub mod Pushing
 pub mod Saying
-pub mod TeardownsGone
+pub mod InTurn
 pub mod Counting
 pub mod FreeSaying

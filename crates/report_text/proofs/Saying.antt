@@ -2,11 +2,15 @@
 use Rattle.std.proofs.Common.{◌≡◌, ℕ, ◌≤◌, ◌++◌, List, [], ◌∷◌, Bool, true, false, Result, Ok, Err, OnOk, refl, sym, ap, ◌∙◌, arith, append-nil, append_assoc}
 use Rattle.std.specs.Prelude.{◌+◌, nat_le, IfOk, if◌then◌else◌}
 use Rattle.session_machine.specs.declared.reply.HistItem.{HistItem}
-use Rattle.spec_parser.specs.Trees.{EntryTree}
+use Rattle.spec_parser.specs.Trees.{EntryTree, SpecTree}
 use Rattle.report_lines.specs.History.{PermutationRun}
 use Rattle.report_lines.specs.Due.{went_well}
+use Rattle.report_lines.specs.Report.{report}
+use Rattle.report_lines.specs.declared.history.RunState.{RunState}
+use Rattle.report_lines.specs.declared.history.RunState.TheVariants.{Due, Whole, Invalid}
 use Rattle.report_text.specs.Said.{Ending, whole, Said, says, is_whole, ◌>>◌}
 use Rattle.report_text.specs.Setups.{setups_say}
+use Rattle.report_text.specs.Permutation.{state_says, entries_say}
 use Rattle.report_text.specs.Answers.{ending_of}
 use Rattle.report_text.specs.declared.fault.Ending.{Ending as Found}
 use Rattle.report_text.specs.declared.fault.Ending.TheVariants as found
@@ -40,6 +44,21 @@ gone_text page left old all e h = sym (append-nil page) ∙ ap (λ l. page ++ l)
 pub text_after : (a b : Said) (old mid new : List ℕ) → a.ending ≡ whole → mid ≡ old ++ a.text → new ≡ mid ++ b.text → new ≡ old ++ (a >> b).text
 text_after a b old mid new w e h =
     h ∙ ap (λ l. l ++ b.text) e ∙ append_assoc old a.text b.text ∙ ap (λ (t : Said). old ++ t.text) (sym (after_whole a b w))
+
+pub notes_after : (a b : Said) (old new : List ℕ) → a.ending ≡ whole → a.notes ≡ [] → new ≡ old ++ b.notes → new ≡ old ++ (a >> b).notes
+notes_after a b old new w none h = h ∙ ap (λ l. old ++ (l ++ b.notes)) (sym none) ∙ ap (λ (t : Said). old ++ t.notes) (sym (after_whole a b w))
+
+pub ending_after : (a b : Said) → a.ending ≡ whole → b.ending ≡ whole → whole ≡ (a >> b).ending
+ending_after a b w e = sym e ∙ ap (λ (t : Said). t.ending) (sym (after_whole a b w))
+
+state_notes : (s : RunState) → (state_says s).notes ≡ []
+state_notes (Due e) = refl
+state_notes Whole = refl
+state_notes Invalid = refl
+
+-- the entries say nothing on the notes
+pub entries_notes : (spec : SpecTree) (c : PermutationRun) (count : ℕ) → (entries_say spec c count).notes ≡ []
+entries_notes spec c count = state_notes (report c count).state
 
 -- ---- something, then what may end the report, then the rest
 

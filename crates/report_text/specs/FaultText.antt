@@ -1,5 +1,5 @@
 -- What a statement that fails prints, as PostgreSQL does.
-use Rattle.std.specs.Prelude.{ℕ, ℤ, List, ◌++◌, codes}
+use Rattle.std.specs.Prelude.{ℕ, List, ◌++◌, codes}
 use Rattle.std.specs.Fmt.{signed_decimal}
 use Rattle.sql_values.specs.declared.fault.ValueFault.{ValueFault}
 use Rattle.sql_values.specs.declared.fault.ValueFault.TheVariants as values
@@ -15,9 +15,6 @@ the_column name = codes "column " ++ in_quotes name
 abbrev pub the_relation : List ℕ → List ℕ
 the_relation name = codes "relation " ++ in_quotes name
 
-abbrev pub the_table : List ℕ → List ℕ
-the_table name = codes "table " ++ in_quotes name
-
 abbrev pub column_of : List ℕ → List ℕ → List ℕ
 column_of column table = the_column column ++ codes " of " ++ the_relation table
 
@@ -30,22 +27,16 @@ value_fault_text values.TypeMismatch = codes "type mismatch"
 value_fault_text (values.NoColumn name) = the_column name ++ codes " does not exist"
 value_fault_text values.Memory = codes "out of memory"
 
-abbrev pub key_fault_text : List ℕ → List ℕ
-key_fault_text name = codes "duplicate key value violates unique constraint " ++ in_quotes name
-
-abbrev pub position_fault_text : ℤ → List ℕ
-position_fault_text n = codes "ORDER BY position " ++ signed_decimal n ++ codes " is not in select list"
-
 unfoldable pub fault_text : StmtFault → List ℕ
 fault_text (faults.Value fault) = value_fault_text fault
 fault_text (faults.NoColumnOf column table) = column_of column table ++ codes " does not exist"
 fault_text (faults.NoTable name) = the_relation name ++ codes " does not exist"
-fault_text (faults.NoTableToDrop name) = the_table name ++ codes " does not exist"
+fault_text (faults.NoTableToDrop name) = codes "table " ++ in_quotes name ++ codes " does not exist"
 fault_text (faults.TableExists name) = the_relation name ++ codes " already exists"
 fault_text (faults.NullValue column table) = codes "null value in " ++ column_of column table ++ codes " violates not-null constraint"
-fault_text (faults.KeyTaken name) = key_fault_text name
+fault_text (faults.KeyTaken name) = codes "duplicate key value violates unique constraint " ++ in_quotes name
 fault_text faults.TooManyValues = codes "INSERT has more expressions than target columns"
-fault_text (faults.NoPosition n) = position_fault_text n
+fault_text (faults.NoPosition n) = codes "ORDER BY position " ++ signed_decimal n ++ codes " is not in select list"
 fault_text faults.NotSerializable = codes "could not serialize access due to concurrent update"
 fault_text faults.Deadlock = codes "deadlock detected"
 fault_text faults.Aborted = codes "current transaction is aborted, commands ignored until end of transaction block"

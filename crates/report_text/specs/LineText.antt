@@ -19,21 +19,12 @@ step_name s = codes "step " ++ decoded s.name ++ codes ": "
 abbrev pub step_sql : StepTree → List ℕ
 step_sql s = step_name s ++ s.part.sql
 
-abbrev pub at_once : PermutationRun → ℕ → ℕ → StepTree → List ℕ
-at_once c i seen s = step_sql s ++ codes "\n" ++ entry_replies c i seen
-
-abbrev pub waiting : StepTree → List ℕ
-waiting s = step_sql s ++ codes " <waiting ...>\n"
-
-abbrev pub completed : PermutationRun → ℕ → ℕ → StepTree → List ℕ
-completed c i seen s = step_name s ++ codes "<... completed>\n" ++ entry_replies c i seen
-
 -- the step that the entry of this number names
 abbrev pub step_at : SpecTree → PermutationRun → ℕ → Option StepTree
 step_at spec c i = option_and_then (step_of_entry spec) (slice_get c.entries i)
 
 -- an entry that names no step says nothing
 abbrev pub line_text : SpecTree → PermutationRun → Line → List ℕ
-line_text spec c (AtOnce i seen) = option_map_or (at_once c i seen) (step_at spec c i) []
-line_text spec c (Waiting i) = option_map_or waiting (step_at spec c i) []
-line_text spec c (Completed i seen) = option_map_or (completed c i seen) (step_at spec c i) []
+line_text spec c (AtOnce i seen) = option_map_or (λ (s : StepTree). step_sql s ++ codes "\n" ++ entry_replies c i seen) (step_at spec c i) []
+line_text spec c (Waiting i) = option_map_or (λ (s : StepTree). step_sql s ++ codes " <waiting ...>\n") (step_at spec c i) []
+line_text spec c (Completed i seen) = option_map_or (λ (s : StepTree). step_name s ++ codes "<... completed>\n" ++ entry_replies c i seen) (step_at spec c i) []

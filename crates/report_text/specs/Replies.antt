@@ -5,32 +5,20 @@ use Rattle.result_tables.specs.Results.{table_of}
 use Rattle.result_tables.specs.TableText.{table_text}
 use Rattle.session_machine.specs.declared.reply.HistItem.{HistItem}
 use Rattle.session_machine.specs.declared.reply.Outcome.{Outcome}
-use Rattle.session_machine.specs.declared.reply.Outcome.TheVariants.{Launched, Done, Rows, Waits, Failed, Left}
-use Rattle.session_machine.specs.declared.fault.StmtFault.{StmtFault}
+use Rattle.session_machine.specs.declared.reply.Outcome.TheVariants.{Launched, Rows, Failed}
 use Rattle.session_machine.specs.Machine.{session_of}
 use Rattle.report_lines.specs.Starts.{ends_in}
 use Rattle.report_text.specs.FaultText.{fault_text}
 
 -- a result set prints its table
 abbrev pub rows_text : Outcome → List ℕ
-rows_text Launched = []
-rows_text Done = []
 rows_text (Rows set) = table_text (table_of set)
-rows_text Waits = []
-rows_text (Failed fault) = []
-rows_text Left = []
-
-abbrev pub error_line : StmtFault → List ℕ
-error_line fault = codes "ERROR:  " ++ fault_text fault ++ codes "\n"
+rows_text _ = []
 
 -- a statement prints the table of its result set, or why it failed
 abbrev pub outcome_text : Outcome → List ℕ
-outcome_text Launched = []
-outcome_text Done = []
-outcome_text (Rows set) = table_text (table_of set)
-outcome_text Waits = []
-outcome_text (Failed fault) = error_line fault
-outcome_text Left = []
+outcome_text (Failed fault) = codes "ERROR:  " ++ fault_text fault ++ codes "\n"
+outcome_text outcome = rows_text outcome
 
 -- a reply to another session prints nothing
 abbrev pub reply_text : ℕ → HistItem → List ℕ
@@ -41,9 +29,6 @@ abbrev pub replies_text : ℕ → List HistItem → List ℕ
 replies_text session [] = []
 replies_text session (item ∷ items) = reply_text session item ++ (if ends_in session item then [] else replies_text session items)
 
-abbrev pub outcome_of : HistItem → Outcome
-outcome_of item = item.reply.outcome
-
 -- what came last
 abbrev pub last_outcome : List HistItem → Outcome
-last_outcome items = option_map_or outcome_of (slice_get items (length items - 1)) Launched
+last_outcome items = option_map_or (λ (item : HistItem). item.reply.outcome) (slice_get items (length items - 1)) Launched

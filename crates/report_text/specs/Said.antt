@@ -17,14 +17,9 @@ pub record Said : Type 0 where
 abbrev pub says : List ℕ → Said
 says text = record { text = text; notes = []; ending = whole }
 
-abbrev pub ends : Ending → Said
-ends ending = record { text = []; notes = []; ending = ending }
-
 abbrev pub is_whole : Ending → Bool
 is_whole whole = true
-is_whole invalid = false
-is_whole (setup_failed text) = false
-is_whole setup_waits = false
+is_whole _ = false
 
 -- one thing and then another, unless the first ends the report
 infixr 10 ◌>>◌

@@ -1,16 +1,13 @@
 -- The line with which a permutation starts.
-use Rattle.std.specs.Prelude.{ℕ, List, [], ◌∷◌, ◌++◌, flat_map, codes}
+use Rattle.std.specs.Prelude.{ℕ, List, [], ◌++◌, flat_map, codes}
 use Rattle.std.specs.Option.{option_map_or}
 use Rattle.iso_lexer.specs.Names.{decoded}
 use Rattle.spec_parser.specs.Trees.{StepTree, EntryTree, SpecTree}
 use Rattle.spec_parser.specs.Numbered.{step_of_entry}
 
--- a blank and a step's name
-abbrev pub name_text : StepTree → List ℕ
-name_text s = 32 ∷ decoded s.name
-
+-- a blank and the name of the entry's step
 abbrev pub entry_name : SpecTree → EntryTree → List ℕ
-entry_name spec e = option_map_or name_text (step_of_entry spec e) []
+entry_name spec e = option_map_or (λ (s : StepTree). codes " " ++ decoded s.name) (step_of_entry spec e) []
 
 -- an empty line, and the names of the steps
 unfoldable pub starting_text : SpecTree → List EntryTree → List ℕ

@@ -1,10 +1,10 @@
 //! What a statement that fails prints.
 
-ghost use Rattle.std.specs.Prelude.{◌≡◌, ◌++◌, OnOk};
+ghost use Rattle.std.specs.Prelude.{◌≡◌, ◌++◌, codes, OnOk};
 ghost use Rattle.std.specs.Fmt.{signed_decimal};
 ghost use Rattle.iso_lexer.specs.Devices.{page_text};
 ghost use Rattle.iso_lexer.specs.Names.{name_view, decoded};
-ghost use Rattle.report_text.specs.FaultText.{in_quotes, the_column, the_relation, the_table, column_of, key_fault_text, position_fault_text, value_fault_text, fault_text};
+ghost use Rattle.report_text.specs.FaultText.{in_quotes, the_column, the_relation, column_of, value_fault_text, fault_text};
 
 use crate::names::push_name;
 use iso_lexer::{Ident, Name, Page};
@@ -61,14 +61,14 @@ fn push_column_of(page: &mut Page, column: &Ident<'_>, table: &Ident<'_>) -> Res
 }
 
 fn push_table(page: &mut Page, name: &Ident<'_>) -> Result<(), AllocError>
-    ensures { OnOk result (page_text page.new ≡ page_text page.old ++ the_table name.now) }
+    ensures { OnOk result (page_text page.new ≡ page_text page.old ++ (codes "table " ++ in_quotes name.now)) }
 {
     page.push(b"table ")?;
     push_quoted(page, &name.name())
 }
 
 fn push_key_fault(page: &mut Page, name: &KeyName) -> Result<(), AllocError>
-    ensures { OnOk result (page_text page.new ≡ page_text page.old ++ key_fault_text name.now) }
+    ensures { OnOk result (page_text page.new ≡ page_text page.old ++ (codes "duplicate key value violates unique constraint " ++ in_quotes name.now)) }
 {
     page.push(b"duplicate key value violates unique constraint \"")?;
     page.push(name.text())?;
@@ -83,7 +83,7 @@ fn push_number(page: &mut Page, number: &i128) -> Result<(), AllocError>
 }
 
 fn push_position_fault(page: &mut Page, position: &i128) -> Result<(), AllocError>
-    ensures { OnOk result (page_text page.new ≡ page_text page.old ++ position_fault_text position.now) }
+    ensures { OnOk result (page_text page.new ≡ page_text page.old ++ (codes "ORDER BY position " ++ signed_decimal position.now ++ codes " is not in select list")) }
 {
     page.push(b"ORDER BY position ")?;
     push_number(page, position)?;

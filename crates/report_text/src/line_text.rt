@@ -1,9 +1,9 @@
 //! The lines that are said of a permutation's steps.
 
-ghost use Rattle.std.specs.Prelude.{◌≡◌, ◌++◌, ◌<◌, ◌≤◌, length, option_map, slice_range, OnOk, OnSome};
+ghost use Rattle.std.specs.Prelude.{◌≡◌, ◌++◌, ◌<◌, ◌≤◌, length, codes, option_map, slice_range, OnOk, OnSome};
 ghost use Rattle.iso_lexer.specs.Devices.{page_text};
 ghost use Rattle.spec_parser.specs.Trees.{step_view, spec_view};
-ghost use Rattle.report_text.specs.LineText.{entry_replies, step_name, step_sql, at_once, waiting, completed, step_at, line_text};
+ghost use Rattle.report_text.specs.LineText.{entry_replies, step_name, step_sql, step_at, line_text};
 
 use crate::names::push_name;
 use crate::replies::push_replies;
@@ -61,7 +61,7 @@ fn push_at_once(
     seen: usize,
 ) -> Result<(), AllocError>
     requires { entry < length run.now.entries }
-    ensures { OnOk result (page_text page.new ≡ page_text page.old ++ at_once run.now entry seen (step_view step.now)) }
+    ensures { OnOk result (page_text page.new ≡ page_text page.old ++ (step_sql (step_view step.now) ++ codes "\n" ++ entry_replies run.now entry seen)) }
 {
     push_step_sql(page, step)?;
     page.push(b"\n")?;
@@ -69,7 +69,7 @@ fn push_at_once(
 }
 
 fn push_waiting(page: &mut Page, step: &StepPart<'_>) -> Result<(), AllocError>
-    ensures { OnOk result (page_text page.new ≡ page_text page.old ++ waiting (step_view step.now)) }
+    ensures { OnOk result (page_text page.new ≡ page_text page.old ++ (step_sql (step_view step.now) ++ codes " <waiting ...>\n")) }
 {
     push_step_sql(page, step)?;
     page.push(b" <waiting ...>\n")
@@ -83,7 +83,7 @@ fn push_completed(
     seen: usize,
 ) -> Result<(), AllocError>
     requires { entry < length run.now.entries }
-    ensures { OnOk result (page_text page.new ≡ page_text page.old ++ completed run.now entry seen (step_view step.now)) }
+    ensures { OnOk result (page_text page.new ≡ page_text page.old ++ (step_name (step_view step.now) ++ codes "<... completed>\n" ++ entry_replies run.now entry seen)) }
 {
     push_step_name(page, step)?;
     page.push(b"<... completed>\n")?;

@@ -7,7 +7,7 @@ ghost use Rattle.spec_parser.specs.Trees.{session_view};
 ghost use Rattle.spec_parser.specs.Numbered.{session_numbered};
 ghost use Rattle.report_text.specs.Replies.{last_outcome};
 ghost use Rattle.report_text.specs.FaultText.{fault_text};
-ghost use Rattle.report_text.specs.Teardowns.{name_of, note_front, note, failure_note};
+ghost use Rattle.report_text.specs.Teardowns.{of_session, note, failure_note};
 
 use crate::fault_text::push_fault;
 use crate::names::push_name;
@@ -22,7 +22,7 @@ fn push_whose(
     sessions: &[SessionPart<'_>],
     session: usize,
 ) -> Result<(), AllocError>
-    ensures { OnOk result (page_text page.new ≡ page_text page.old ++ option_map_or name_of (session_numbered (map session_view sessions.now) session) []) }
+    ensures { OnOk result (page_text page.new ≡ page_text page.old ++ option_map_or of_session (session_numbered (map session_view sessions.now) session) []) }
 {
     match session_numbered(sessions, session) {
         Some(session) => {
@@ -38,7 +38,8 @@ fn push_front(
     sessions: &[SessionPart<'_>],
     session: usize,
 ) -> Result<(), AllocError>
-    ensures { OnOk result (page_text page.new ≡ page_text page.old ++ note_front (map session_view sessions.now) session) }
+    ensures { OnOk result (page_text page.new ≡ page_text page.old
+        ++ (codes "isolationtester: teardown" ++ option_map_or of_session (session_numbered (map session_view sessions.now) session) [] ++ codes " failed: ")) }
 {
     page.push(b"isolationtester: teardown")?;
     push_whose(page, sessions, session)?;

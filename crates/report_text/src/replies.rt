@@ -1,8 +1,9 @@
 //! What replies print.
 
-ghost use Rattle.std.specs.Prelude.{◌≡◌, ◌++◌, OnOk};
+ghost use Rattle.std.specs.Prelude.{◌≡◌, ◌++◌, codes, OnOk};
+ghost use Rattle.report_text.specs.FaultText.{fault_text};
 ghost use Rattle.iso_lexer.specs.Devices.{page_text};
-ghost use Rattle.report_text.specs.Replies.{rows_text, outcome_text, reply_text, replies_text, last_outcome, error_line};
+ghost use Rattle.report_text.specs.Replies.{rows_text, outcome_text, reply_text, replies_text, last_outcome};
 ghost use Rattle.result_tables.specs.Results.{table_of};
 ghost use Rattle.result_tables.specs.TableText.{table_text};
 
@@ -20,7 +21,7 @@ fn push_table(page: &mut Page, set: &ResultSet<'_>) -> Result<(), AllocError>
 }
 
 fn push_error(page: &mut Page, fault: &StmtFault<'_>) -> Result<(), AllocError>
-    ensures { OnOk result (page_text page.new ≡ page_text page.old ++ error_line fault.now) }
+    ensures { OnOk result (page_text page.new ≡ page_text page.old ++ (codes "ERROR:  " ++ fault_text fault.now ++ codes "\n")) }
 {
     page.push(b"ERROR:  ")?;
     push_fault(page, fault)?;

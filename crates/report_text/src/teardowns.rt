@@ -4,7 +4,8 @@ ghost use Rattle.std.specs.Prelude.{◌≡◌, ◌++◌, ◌+◌, ◌<◌, ◌^�
 ghost use Rattle.iso_lexer.specs.Devices.{page_text};
 ghost use Rattle.spec_parser.specs.Trees.{session_view, spec_view};
 ghost use Rattle.report_text.specs.Replies.{rows_text, last_outcome};
-ghost use Rattle.report_text.specs.Teardowns.{note, failure_note, teardown_text, teardown_note, behind, teardowns_from, last_teardown_of, teardowns_say};
+ghost use Rattle.report_text.specs.Teardowns.{note, failure_note, teardown_says};
+ghost use Rattle.report_text.specs.Inner.Teardowns.{last_teardown_of, behind, teardowns_from, teardowns_in_turn};
 
 use crate::notes::{push_last_note, push_would_wait};
 use crate::numbers::teardowns_of;
@@ -70,8 +71,8 @@ fn push_teardown(
     session: usize,
 ) -> Result<usize, AllocError>
     requires { number + 2 < 2 ^ 64 }
-    ensures text { OnOk result (page_text pages.new.text ≡ page_text pages.old.text ++ teardown_text segments.now number session) }
-    ensures notes { OnOk result (page_text pages.new.notes ≡ page_text pages.old.notes ++ teardown_note (map session_view sessions.now) segments.now number session) }
+    ensures text { OnOk result (page_text pages.new.text ≡ page_text pages.old.text ++ (teardown_says (map session_view sessions.now) segments.now number session).text) }
+    ensures notes { OnOk result (page_text pages.new.notes ≡ page_text pages.old.notes ++ (teardown_says (map session_view sessions.now) segments.now number session).notes) }
     ensures next { IfOk result (λ next. next ≡ behind segments.now number session) }
 {
     let segment = segments.segment(number);
@@ -137,8 +138,8 @@ pub fn push_teardowns(
     first: usize,
 ) -> Result<(), AllocError>
     requires { count + 2 < 2 ^ 64 }
-    ensures text { OnOk result (page_text pages.new.text ≡ page_text pages.old.text ++ (teardowns_say (spec_view spec.now) segments.now count first).text) }
-    ensures notes { OnOk result (page_text pages.new.notes ≡ page_text pages.old.notes ++ (teardowns_say (spec_view spec.now) segments.now count first).notes) }
+    ensures text { OnOk result (page_text pages.new.text ≡ page_text pages.old.text ++ (teardowns_in_turn (spec_view spec.now) segments.now count first).text) }
+    ensures notes { OnOk result (page_text pages.new.notes ≡ page_text pages.old.notes ++ (teardowns_in_turn (spec_view spec.now) segments.now count first).notes) }
 {
     let teardowns = teardowns_of(pages.text.alloc(), spec)?;
     let next = push_teardowns_from(pages, &spec.sessions, segments, count, first, &teardowns)?;

@@ -12,6 +12,10 @@ abbrev pub is_chosen : PermutationRun → Moment → Chosen → ℕ → Bool
 is_chosen c m Joined i = nat_lt i m.joined
 is_chosen c m (Own session) i = is_of c session i
 
+-- a later try of a step, if it is of this session
+abbrev pub own_retry : PermutationRun → Moment → ℕ → List Line → ℕ → List Line
+own_retry c m session lines i = if is_of c session i then retry c m lines i else lines
+
 -- a later try of a step, if it is chosen
 abbrev pub chosen_retry : PermutationRun → Moment → Chosen → List Line → ℕ → List Line
 chosen_retry c m chosen lines i = if is_chosen c m chosen i then retry c m lines i else lines

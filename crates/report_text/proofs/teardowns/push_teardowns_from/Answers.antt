@@ -2,9 +2,9 @@ use Rattle.std.proofs.Common.{◌≤◌, sym, ap, ◌∙◌, arith, drop}
 use Rattle.std.specs.Prelude.{map}
 use Rattle.iso_lexer.specs.Devices.{page_text}
 use Rattle.spec_parser.specs.Trees.{session_view}
-use Rattle.report_text.specs.Teardowns.{TeardownsSaid, teardowns_from}
+use Rattle.report_text.specs.Inner.Teardowns.{TeardownsSaid, teardowns_from}
 use Rattle.report_text.proofs.Saying.{gone_text}
-use Rattle.report_text.proofs.TeardownsGone.{teardowns_gone}
+use Rattle.report_text.proofs.InTurn.{teardowns_gone}
 use Rattle.report_text.proofs.teardowns.push_teardowns_from.Goals as goal
 
 pub returns-then-count-number-clause-text : goal.returns-then-count-number-clause-text

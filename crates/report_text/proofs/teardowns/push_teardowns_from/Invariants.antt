@@ -2,7 +2,7 @@ use Rattle.std.proofs.Common.{◌≡◌, ◌++◌, drop}
 use Rattle.std.specs.Prelude.{map}
 use Rattle.iso_lexer.specs.Devices.{page_text}
 use Rattle.spec_parser.specs.Trees.{session_view}
-use Rattle.report_text.specs.Teardowns.{teardowns_from}
+use Rattle.report_text.specs.Inner.Teardowns.{teardowns_from}
 use Rattle.report_text.proofs.teardowns.push_teardowns_from.Given as goal
 
 abbrev pub invariant-loop-session : goal.invariant-loop-session

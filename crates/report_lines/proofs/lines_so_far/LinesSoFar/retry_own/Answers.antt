@@ -1,0 +1,11 @@
+use Rattle.std.proofs.Common.{◌∙◌, ap, List}
+use Rattle.report_lines.specs.SoFar.{LinesSoFar}
+use Rattle.report_lines.specs.declared.history.Line.{Line}
+use Rattle.report_lines.specs.Report.{instances}
+use Rattle.report_lines.proofs.Polls.{own_filter}
+use Rattle.report_lines.proofs.lines_so_far.LinesSoFar.retry_own.Goals as goal
+
+pub returns : goal.returns
+returns c =
+    let so_far : List Line → LinesSoFar = λ lines. record { lines = lines; launched = c.args.self.now.launched } in
+    c.in_ok-go_through.ensures ∙ ap so_far (own_filter c.args.run.now c.args.m c.args.session (instances c.args.self.now.launched) c.args.self.now.lines)

@@ -1,0 +1,38 @@
+-- Teardowns as the code goes through them: first those of the sessions, then that of the whole file. Inner clauses alone have them.
+use Rattle.std.specs.Prelude.{ℕ, ◌+◌, nat_le, List, [], ◌∷◌, ◌++◌, length, is_some, if◌then◌else◌}
+use Rattle.session_machine.specs.declared.reply.HistItem.{HistItem}
+use Rattle.spec_parser.specs.Trees.{SessionTree, SpecTree}
+use Rattle.report_lines.specs.Due.{is_over}
+use Rattle.report_text.specs.Said.{whole, Said}
+use Rattle.report_text.specs.Setups.{numbers_of}
+use Rattle.report_text.specs.Teardowns.{teardown_says}
+
+abbrev pub last_teardown_of : SpecTree → List ℕ
+last_teardown_of spec = if is_some spec.teardown then 0 ∷ [] else []
+
+-- the segment behind a teardown's own
+abbrev pub behind : List HistItem → ℕ → ℕ → ℕ
+behind items k session = if is_over items k session then k + 1 else k + 2
+
+-- what teardowns say, and the segment behind theirs
+pub record TeardownsSaid : Type 0 where
+  pub text : List ℕ
+  pub notes : List ℕ
+  pub next : ℕ
+
+abbrev pub teardown_first : Said → TeardownsSaid → TeardownsSaid
+teardown_first said t = record t { text = said.text ++ t.text; notes = said.notes ++ t.notes }
+
+-- the teardowns from a segment on, of which so many segments are there
+abbrev pub teardowns_from : List SessionTree → List HistItem → ℕ → ℕ → List ℕ → TeardownsSaid
+teardowns_from sessions items count k [] = record { text = []; notes = []; next = k }
+teardowns_from sessions items count k (t ∷ ts) =
+    if nat_le count k then record { text = []; notes = []; next = k }
+    else teardown_first (teardown_says sessions items k t) (teardowns_from sessions items count (behind items k t) ts)
+
+-- the sessions' teardowns, and behind the sessions' leaves that of the whole file
+abbrev pub teardowns_in_turn : SpecTree → List HistItem → ℕ → ℕ → Said
+teardowns_in_turn spec items count k =
+    let first = teardowns_from spec.sessions items count k (numbers_of (λ s. s.teardown) 1 spec.sessions) in
+    let last = teardowns_from spec.sessions items count (first.next + length spec.sessions) (last_teardown_of spec) in
+    record { text = first.text ++ last.text; notes = first.notes ++ last.notes; ending = whole }
