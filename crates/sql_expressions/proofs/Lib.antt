@@ -6,6 +6,7 @@ pub mod Sound
 pub mod Levels
 pub mod Shortens
 pub mod Complete
+pub mod Ranges
 pub mod Shapes
 pub mod Local
 pub mod Tails

@@ -9,7 +9,7 @@ ghost use Rattle.sql_expressions.specs.Grammar.{Begins, Ends, Spells, OR};
 ghost use Rattle.sql_expressions.specs.Results.{Gives};
 ghost use Rattle.sql_expressions.specs.Readers.{expect};
 ghost use Rattle.sql_expressions.specs.Reading.{found, comparison_op, expr_at};
-ghost use Rattle.sql_expressions.specs.Inner.Pieces.{Found_op, Found_list, found_list, is_and, deeper, join, chain_op, next_op, column_first, prim_at, una_at, chain_at, operand_at, in_at, between_at, not_in_from, inn_at, cmp_at, is_of, is_tail, is_more, is_at, not_at, inside, list_at};
+ghost use Rattle.sql_expressions.specs.Inner.Pieces.{Found_op, Found_list, found_list, found_bounds, range_node, listed_at, bounds_at, is_and, deeper, join, chain_op, next_op, column_first, prim_at, una_at, chain_at, operand_at, in_at, between_at, not_in_from, inn_at, cmp_at, is_of, is_tail, is_more, is_at, not_at, inside, list_at};
 
 use crate::cursor::{Parser, Tokens, after_comma};
 use crate::level::{Chain, Opened};
@@ -110,6 +110,27 @@ impl Parser {
             },
             rest,
         ))
+    }
+
+    // The node of a `BETWEEN` at this place.
+    fn range<'a>(
+        self,
+        negated: bool,
+        place: usize,
+        left: Parsed<'a>,
+        low: Parsed<'a>,
+        high: Parsed<'a>,
+    ) -> Result<Parsed<'a>, SqlFault>
+        ensures { Gives (λ x. (tree_of x.expr, x.depth)) result (range_node negated place (tree_of left.entry.expr, left.entry.depth) (tree_of low.entry.expr, low.entry.depth) (tree_of high.entry.expr, high.entry.depth)) }
+    {
+        let depth = deeper(place, left.depth.max(low.depth.max(high.depth)))?;
+        let left = Box::new(self.alloc, left.expr)?;
+        let low = Box::new(self.alloc, low.expr)?;
+        let high = Box::new(self.alloc, high.expr)?;
+        Ok(Parsed {
+            expr: Expr::Between(left, negated, low, high),
+            depth,
+        })
     }
 
     // The operator that stands next, its place, and the tokens after it.
@@ -388,8 +409,27 @@ impl Parser {
         }
     }
 
+    // `low AND high` of a `BETWEEN` at this place, behind an operand of this depth.
     #[cycle(levels)]
-    #[tactic(auto, unfolding(crate::specs::Inner::Pieces::between_at))]
+    #[tactic(auto, unfolding(crate::specs::Inner::Pieces::bounds_at))]
+    fn bounds<'t, 'a>(
+        self,
+        place: usize,
+        depth: usize,
+        room: usize,
+        tokens: Tokens<'t, 'a>,
+    ) -> Result<(Parsed<'a>, Parsed<'a>, Tokens<'t, 'a>), SqlFault>
+        ensures { Gives (λ x. found_bounds x.0 x.1 x.2.now) result (bounds_at self.text_len (inside self.text_len room) place depth (tok_views tokens.now)) }
+    {
+        deeper(place, depth)?;
+        let (low, rest) = self.chain(Chain::Concat, room, tokens)?;
+        deeper(place, depth.max(low.depth))?;
+        let rest = self.and(rest)?;
+        let (high, rest) = self.chain(Chain::Concat, room, rest)?;
+        Ok((low, high, rest))
+    }
+
+    #[cycle(levels)]
     fn between<'t, 'a>(
         self,
         negated: bool,
@@ -400,26 +440,33 @@ impl Parser {
     ) -> Read<'t, 'a>
         ensures { Gives (λ x. found x.0 x.1.now) result (between_at self.text_len (inside self.text_len room) negated place (tree_of left.entry.expr) left.entry.depth (tok_views tokens.now)) }
     {
-        deeper(place, left.depth)?;
-        let (low, rest) = self.chain(Chain::Concat, room, tokens)?;
-        deeper(place, left.depth.max(low.depth))?;
-        let rest = self.and(rest)?;
-        let (high, rest) = self.chain(Chain::Concat, room, rest)?;
-        let depth = deeper(place, left.depth.max(low.depth.max(high.depth)))?;
-        let left = Box::new(self.alloc, left.expr)?;
-        let low = Box::new(self.alloc, low.expr)?;
-        let high = Box::new(self.alloc, high.expr)?;
-        Ok((
-            Parsed {
-                expr: Expr::Between(left, negated, low, high),
-                depth,
-            },
-            rest,
-        ))
+        let (low, high, rest) = self.bounds(place, left.depth, room, tokens)?;
+        let range = self.range(negated, place, left, low, high)?;
+        Ok((range, rest))
+    }
+
+    // The list of an `IN` at this place, behind an operand of this depth, and the depth of its node.
+    #[cycle(levels)]
+    #[tactic(auto, unfolding(crate::specs::Inner::Pieces::listed_at))]
+    fn listed<'t, 'a>(
+        self,
+        place: usize,
+        depth: usize,
+        room: usize,
+        tokens: Tokens<'t, 'a>,
+    ) -> Result<(Vec<Expr<'a>>, usize, Tokens<'t, 'a>), SqlFault>
+        ensures { Gives (λ x. found_list x.0.items x.1 x.2.now) result (listed_at self.text_len (inside self.text_len room) place depth (tok_views tokens.now)) }
+    {
+        deeper(place, depth)?;
+        let paren = self.place_of(tokens);
+        let rest = self.open(tokens)?;
+        let (items, deepest, rest) = self.list(room, paren, rest)?;
+        let depth = deeper(place, depth.max(deepest))?;
+        let rest = self.close(rest)?;
+        Ok((items, depth, rest))
     }
 
     #[cycle(levels)]
-    #[tactic(auto, unfolding(crate::specs::Inner::Pieces::in_at))]
     fn contained<'t, 'a>(
         self,
         negated: bool,
@@ -430,12 +477,7 @@ impl Parser {
     ) -> Read<'t, 'a>
         ensures { Gives (λ x. found x.0 x.1.now) result (in_at self.text_len (inside self.text_len room) negated place (tree_of left.entry.expr) left.entry.depth (tok_views tokens.now)) }
     {
-        deeper(place, left.depth)?;
-        let paren = self.place_of(tokens);
-        let rest = self.open(tokens)?;
-        let (items, deepest, rest) = self.list(room, paren, rest)?;
-        let depth = deeper(place, left.depth.max(deepest))?;
-        let rest = self.close(rest)?;
+        let (items, depth, rest) = self.listed(place, left.depth, room, tokens)?;
         let left = Box::new(self.alloc, left.expr)?;
         Ok((
             Parsed {

@@ -11,7 +11,8 @@ use Rattle.sql_trees.specs.declared.expr.Operator.{Operator}
 use Rattle.sql_trees.specs.declared.expr.Truth.{Truth}
 use Rattle.sql_trees.specs.Tokens.{Token, Tokens, named, tok_views}
 use Rattle.sql_trees.specs.Tokens as tok
-use Rattle.sql_trees.specs.Trees.{Tree, Trees, none, more, Null, Flag, Number, Text, Column, Plus, Not, Binary, Is, In, Between, undoubled, trees}
+use Rattle.sql_trees.specs.Trees.{Tree, Trees, none, more, Null, Flag, Number, Text, Column, Plus, Not, Binary, Is, In, Between, undoubled, tree_of, trees}
+use Rattle.sql_expressions.specs.declared.parsed.Parsed.{Parsed}
 use Rattle.sql_expressions.specs.declared.level.Chain.{Chain}
 use Rattle.sql_expressions.specs.declared.level.Chain.TheVariants as chain_of
 use Rattle.sql_expressions.specs.declared.level.Opened.{Opened}
@@ -116,6 +117,21 @@ list_at reader ts = do
   e ← reader ts
   list_more reader (length ts) (record { trees = more e.tree none; depth = e.depth; rest = e.rest })
 
+-- the bounds of a BETWEEN, each a tree and its depth, and the tokens after them
+pub record Found_bounds : Type 0 where
+  pub low : Tree × ℕ
+  pub high : Tree × ℕ
+  pub rest : Tokens
+
+abbrev pub found_bounds : Parsed → Parsed → List (At Tok) → Found_bounds
+found_bounds low high ts = record { low = (tree_of low.expr, low.depth); high = (tree_of high.expr, high.depth); rest = tok_views ts }
+
+-- the node of a BETWEEN at this place
+abbrev pub range_node : Bool → ℕ → Tree × ℕ → Tree × ℕ → Tree × ℕ → Result (Tree × ℕ) SqlFault
+range_node negated place a low high = do
+  d ← deeper place (max a.1 (max low.1 high.1))
+  Ok (Between a.0 negated low.0 high.0, d)
+
 -- last is the text's length
 module _ (last : ℕ) where
   -- a name, with no call behind it: the name of an aggregate is left out there, elsewhere the call
@@ -200,6 +216,26 @@ module _ (last : ℕ) where
 
     unfoldable pub cat_at : Reader
     cat_at = chain add_at concat_op
+
+    -- the list of an IN at this place, behind an operand of this depth, and the depth of its node
+    unfoldable pub listed_at : ℕ → ℕ → Tokens → Result Found_list SqlFault
+    listed_at place depth ts = do
+      here ← deeper place depth
+      behind ← expect last (is_sign signs.Open) ts
+      items ← list_at (inside Whole (place_of last ts)) behind
+      d ← deeper place (max depth items.depth)
+      rest ← expect last (is_sign signs.Close) items.rest
+      Ok (record { trees = items.trees; depth = d; rest = rest })
+
+    -- low AND high of a BETWEEN at this place, behind an operand of this depth
+    unfoldable pub bounds_at : ℕ → ℕ → Tokens → Result Found_bounds SqlFault
+    bounds_at place depth ts = do
+      here ← deeper place depth
+      low ← cat_at ts
+      there ← deeper place (max depth low.depth)
+      behind ← expect last is_and low.rest
+      high ← cat_at behind
+      Ok (record { low = (low.tree, low.depth); high = (high.tree, high.depth); rest = high.rest })
 
     unfoldable pub in_at : Bool → ℕ → Tree → ℕ → Tokens → Result Found SqlFault
     in_at negated place left depth ts = do

@@ -1,10 +1,11 @@
 use Rattle.std.proofs.Common.{refl, arith, rules, sym}
 use Rattle.std.proofs.lemmas.Result.{err_from_is_err_and}
 use Rattle.sql_trees.specs.Tokens.{tok_views}
-use Rattle.sql_expressions.specs.Inner.Pieces.{in_at}
+use Rattle.sql_trees.specs.Trees.{tree_of}
 use Rattle.sql_expressions.proofs.Views.{in_tree}
 use Rattle.sql_expressions.proofs.Shortens.{shortens}
 use Rattle.sql_expressions.proofs.Chains.{passed_on, starts, starts_not, ends, no_room, no_operand, no_node, goes_on, list_starts, list_starts_not, list_ends, list_stops, list_next, comma_shortens, chain_at_is, opens}
+use Rattle.sql_expressions.proofs.Ranges.{between_stops, between_no_node, between_made, in_stops, in_made}
 use Rattle.sql_expressions.proofs.cursor.Parser.+levels.Goals as goal
 
 pub chain-returns-in_err-left : goal.chain-returns-in_err-left
@@ -45,9 +46,28 @@ opened-returns-in-Unary t c = rw (opens c.args.self.text_len c.args.room c.args.
 pub opened-returns-in-Negation : goal.opened-returns-in-Negation
 opened-returns-in-Negation t c = rw (opens c.args.self.text_len c.args.room c.args.level c.args.place (tok_views c.args.tokens.now) c.if-room-eq0.false, c.in-Negation.is) c.not.ensures
 
+pub between-returns-in_err-low : goal.between-returns-in_err-low
+between-returns-in_err-low t c =
+    let p = err_from_is_err_and c.from_residual.result c.from_residual.ensures.1 in
+    rw (p.1, p.2) (passed_on _ _ _ c.in_err-low.ensures (between_stops _ _ _ _ _ _ _))
+
+pub between-returns-in_err-range : goal.between-returns-in_err-range
+between-returns-in_err-range t c =
+    let p = err_from_is_err_and c.from_residual-in_err-range.result c.from_residual-in_err-range.ensures.1 in
+    rw (p.1, p.2) (passed_on _ _ _ c.in_err-range.ensures (λ f. between_no_node _ _ _ _ _ _ _ _ f c.in_ok-low.ensures))
+
+pub between-returns : goal.between-returns
+between-returns t c = between_made _ _ _ _ _ _ _ _ _ c.in_ok-low.ensures c.in_ok-range.ensures
+
+pub contained-returns-in_err-items : goal.contained-returns-in_err-items
+contained-returns-in_err-items t c =
+    let p = err_from_is_err_and c.from_residual.result c.from_residual.ensures.1 in
+    rw (p.1, p.2) (passed_on _ _ _ c.in_err-items.ensures (in_stops _ _ _ _ _ _ _))
+
 pub contained-returns : goal.contained-returns
-unfolding in_at
-contained-returns t c = rw in_tree (search rules)
+contained-returns t c =
+    let made = in_made _ _ c.args.negated _ (tree_of c.args.left.expr) _ _ _ c.in_ok-items.ensures in
+    rw in_tree (search rules)
 
 pub list-returns-in_err-first : goal.list-returns-in_err-first
 list-returns-in_err-first t c =

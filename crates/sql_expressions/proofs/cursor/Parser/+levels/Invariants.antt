@@ -58,3 +58,9 @@ decreases-list-loop-after l = length (tok_views l.rest)
 
 abbrev pub decreases-not_in : goal.decreases-not_in
 decreases-not_in l = l.room * 32 + 11
+
+abbrev pub decreases-bounds : goal.decreases-bounds
+decreases-bounds l = l.room * 32 + 9
+
+abbrev pub decreases-listed : goal.decreases-listed
+decreases-listed l = l.room * 32 + 9
