@@ -11,8 +11,7 @@ use Rattle.sql_trees.specs.declared.expr.Operator.{Operator}
 use Rattle.sql_trees.specs.declared.expr.Truth.{Truth}
 use Rattle.sql_trees.specs.Trees.{Tree, Trees, Column, Plus, Not, Binary, Is, In, Between, more, none}
 use Rattle.sql_expressions.specs.Build.{negated, push}
-use Rattle.sql_expressions.specs.Results.{◌>>=◌}
-use Rattle.sql_expressions.specs.Readers.{expect, misplaced, is_sign, place_of, after}
+use Rattle.sql_expressions.specs.Readers.{is_sign, after}
 use Rattle.sql_expressions.specs.Reading.{Found, comparison_op, truth_of, expr_at}
 use Rattle.sql_expressions.specs.Inner.Pieces.{name_at, Found_op, Found_list, Reader, leaf, deeper, join, next_op, found_op, is_and, is_not, is_is, column_at, parens_at, prim_of, prim_at, sign_at, una_of, una_at, mul_at, add_at, cat_at, in_at, between_at, not_in_of, not_in_at, inn_of, inn_more, inn_at, cmp_more, cmp_at, is_node, is_of, is_tail, is_more, is_at, negation_at, not_at, and_at, or_at, at_level, inside, list_at, list_more, chain_more}
 use Rattle.sql_expressions.specs.Inner.Pieces as reading

@@ -14,7 +14,7 @@ use Rattle.sql_trees.specs.Tokens as tok
 use Rattle.sql_trees.specs.Trees.{Tree, Trees, more, none, Plus, Not, Binary, Is, In, Between}
 use Rattle.sql_expressions.specs.Build.{negated, push}
 use Rattle.sql_expressions.specs.Results.{◌>>=◌}
-use Rattle.sql_expressions.specs.Readers.{expect, is_sign, place_of, after}
+use Rattle.sql_expressions.specs.Readers.{expect, is_sign}
 use Rattle.sql_expressions.specs.Reading.{Found, comparison_op, truth_of, expr_at}
 use Rattle.sql_expressions.specs.Inner.Pieces.{Found_list, Reader, deeper, join, next_op, is_and, parens_at, prim_at, sign_at, una_at, mul_at, add_at, cat_at, in_at, between_at, inn_more, inn_at, cmp_more, cmp_at, is_more, is_at, negation_at, not_at, and_at, or_at, inside, list_at, list_more, chain_more}
 use Rattle.sql_expressions.specs.Inner.Pieces as reading

@@ -19,7 +19,7 @@ use Rattle.sql_expressions.specs.Results.{◌>>=◌}
 use Rattle.sql_expressions.specs.Readers.{Reader, some_or, is_word, is_sign, after, either, more_at, items_at, place_of, misplaced, expect, keyword, closed}
 use Rattle.sql_expressions.specs.Reading.{Found, Part, Parts, fits, node, operation, item_add, literal_of, truth_of, comparison_op, product_op, sum_op, concat_op, and_op, or_op, is_call, truth_at, opened, expr_at}
 use Rattle.sql_expressions.specs.Reading as reading
-use Rattle.sql_expressions.specs.Inner.Pieces.{Found_op, Found_list, leaf, is_and, is_not, is_is, deeper, join, found_op, next_op, chain_end, chain_turn, chain_more, chain, list_turn, list_more, list_at, column_at, name_at, is_node, is_of, is_tail, is_more, parens_at, prim_of, prim_at, sign_at, una_of, una_at, mul_at, add_at, cat_at, in_at, between_at, not_in_of, not_in_at, not_in_from, inn_of, inn_more, inn_at, cmp_more, cmp_at, is_at, negation_at, not_at, and_at, or_at, at_level, inside}
+use Rattle.sql_expressions.specs.Inner.Pieces.{Found_list, leaf, is_and, is_not, is_is, deeper, join, found_op, next_op, chain_end, chain_turn, chain_more, chain, list_turn, list_more, list_at, column_at, name_at, is_node, is_of, is_tail, is_more, parens_at, prim_of, prim_at, sign_at, una_of, una_at, mul_at, add_at, cat_at, in_at, between_at, not_in_of, not_in_at, not_in_from, inn_of, inn_more, inn_at, cmp_more, cmp_at, is_at, negation_at, not_at, and_at, or_at, at_level, inside}
 
 -- ---- what a part that was read is to the code
 

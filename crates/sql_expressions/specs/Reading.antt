@@ -99,18 +99,19 @@ pub record Parts : Type 0 where
   pub trees : Trees
   pub depth : ℕ
 
+-- a part that is no node
 abbrev pub leaf : Tree → Reader Part
 leaf e = gives (record { tree = e; depth = 0 })
 
--- the token at this place may make a node over a deepest part of this depth
+-- a token at this place may make a node over parts of which the deepest has this depth
 abbrev pub fits : ℕ → ℕ → Tokens → Result Tokens SqlFault
 fits place depth ts = if nat_lt depth 64 then Ok ts else Err (TooDeep place)
 
--- the node that it makes
+-- the node that it makes of them
 abbrev pub node : ℕ → ℕ → Tree → Reader Part
 node place depth e = fits place depth >> gives (record { tree = e; depth = depth + 1 })
 
--- an operator at this place behind its left operand, and the right one
+-- behind an operator at this place, whose left operand has been read: the right one, and the node of both
 abbrev pub operation : Reader Part → ℕ → Part → Operator → Reader Part
 operation operand place a o = do
   fits place a.depth
@@ -124,7 +125,7 @@ item_add item l = item >>= λ e. gives (record { trees = push l.trees e.tree; de
 -- ---- with the text's length
 
 module _ (last : ℕ) where
-  -- behind an operand, the operators of its level, each with an operand behind it, of which there are at most this many
+  -- behind an operand: the operators of its level, each with an operand behind it, of which there are at most this many
   unfoldable pub chain_more : Reader Part → (Token → Option Operator) → ℕ → Part → Reader Part
   chain_more operand op_of zero a ts = by_first op_of (λ o us. Err (TooDeep (place_of last ts))) (gives a) ts
   chain_more operand op_of (suc n) a ts = by_first op_of (λ o. operation operand (place_of last ts) a o >>= chain_more operand op_of n) (gives a) ts
@@ -140,13 +141,13 @@ module _ (last : ℕ) where
   abbrev pub truth_at : Bool → Part → Reader Part
   truth_at negated a = one_at (misplaced last) truth_of >>= λ w. gives (record { tree = Is a.tree negated w; depth = a.depth + 1 })
 
-  -- an IS behind this operand, if any, and what it asks
+  -- behind this operand: an IS and what it asks, if one stands there
   abbrev pub is_more : Part → Reader Part
   is_more a ts = either (is_word words.Is) (fits (place_of last ts) a.depth >> either (is_word words.Not) (truth_at true a) (truth_at false a)) (gives a) ts
 
-  -- inside is what is read behind an opening, which stands at a place
+  -- inside is what is read behind an opening at a place
   module _ (inside : Opened → ℕ → Reader Part) where
-    -- what is made of what stands behind the opening at this place
+    -- what stands behind an opening at this place, and the node that is made of it
     abbrev pub opened : Opened → (Tree → Tree) → ℕ → Reader Part
     opened level make place = inside level place >>= λ e. node place e.depth (make e.tree)
 
@@ -170,12 +171,12 @@ module _ (last : ℕ) where
     abbrev pub list_at : ℕ → Reader Parts
     list_at place = items_at (item_add (inside Whole place)) (record { trees = none; depth = 0 })
 
-    -- what stands behind IN, or NOT IN, which makes the node at this place
+    -- what stands behind IN or NOT IN, at this place, behind this operand
     unfoldable pub in_at : Bool → ℕ → Part → Reader Part
     in_at negated place a ts =
         (fits place a.depth >> expect last (is_sign signs.Open) >> closed last (λ e. e) (list_at (place_of last ts) >>= λ l. node place (max a.depth l.depth) (In a.tree negated l.trees))) ts
 
-    -- what stands behind BETWEEN, or NOT BETWEEN
+    -- what stands behind BETWEEN or NOT BETWEEN
     unfoldable pub between_at : Bool → ℕ → Part → Reader Part
     between_at negated place a = do
       fits place a.depth
@@ -185,22 +186,22 @@ module _ (last : ℕ) where
       high ← cat_at
       node place (max a.depth (max low.depth high.depth)) (Between a.tree negated low.tree high.tree)
 
-    -- IN or BETWEEN, if one stands next, else what others read
+    -- IN or BETWEEN and what stands behind it, else what others read
     abbrev pub in_or : Bool → ℕ → Part → Reader Part → Reader Part
     in_or negated place a others = either (is_word words.In) (in_at negated place a) (either (is_word words.Between) (between_at negated place a) others)
 
-    -- behind a NOT at this place, which makes the node
+    -- what stands behind a NOT at this place, which makes the node, whatever stands there
     abbrev pub not_in_at : ℕ → Part → Reader Part
     not_in_at place a = fits place a.depth >> in_or true place a (λ ts. Err (misplaced last ts))
 
-    -- [NOT] IN or [NOT] BETWEEN behind this operand, if any
+    -- behind this operand: [NOT] IN or [NOT] BETWEEN, if one stands there
     abbrev pub inn_more : Part → Reader Part
     inn_more a ts = in_or false (place_of last ts) a (either (is_word words.Not) (not_in_at (place_of last ts) a) (gives a)) ts
 
     unfoldable pub inn_at : Reader Part
     inn_at = cat_at >>= inn_more
 
-    -- a comparison behind this operand, if any
+    -- behind this operand: a comparison, if one stands there
     abbrev pub cmp_more : Part → Reader Part
     cmp_more a ts = by_first comparison_op (operation inn_at (place_of last ts) a) (gives a) ts
 
