@@ -165,13 +165,16 @@ fn interleaving(
     met: &mut Met,
 ) -> Result<(), AllocError> {
     let mut engine = engine_of(alloc, blocks, 3, Mode::Directed)?;
-    stands(rt, alloc, &mut engine, blocks, dice)?;
+    let stood = stands(rt, alloc, &mut engine, blocks, dice);
     met.note_all(engine.history());
-    Ok(())
+    stood
 }
 
-fn all_once(rt: &impl Abort, alloc: Global) -> Result<(), AllocError> {
-    let blocks = blocks(alloc, &BLOCKS)?;
+fn interleavings(
+    rt: &impl Abort,
+    alloc: Global,
+    blocks: &[Block<'static>],
+) -> Result<(), AllocError> {
     let mut dice = Dice { state: 15 };
     let mut met = Met {
         waits: false,
@@ -179,12 +182,17 @@ fn all_once(rt: &impl Abort, alloc: Global) -> Result<(), AllocError> {
         deadlocks: false,
     };
     for _ in 0..INTERLEAVINGS {
-        interleaving(rt, alloc, &blocks, &mut dice, &mut met)?;
+        interleaving(rt, alloc, blocks, &mut dice, &mut met)?;
     }
     holds(rt, met.waits, "waits");
     holds(rt, met.taken, "taken");
     holds(rt, met.deadlocks, "deadlocks");
     Ok(())
+}
+
+fn all_once(rt: &impl Abort, alloc: Global) -> Result<(), AllocError> {
+    let blocks = blocks(alloc, &BLOCKS)?;
+    interleavings(rt, alloc, &blocks)
 }
 
 #[test]

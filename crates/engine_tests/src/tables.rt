@@ -89,14 +89,26 @@ fn is_refused(answer: Result<Reply<'static>, EngineFault>) -> bool {
     matches!(answer, Err(EngineFault::Spent))
 }
 
-/// Whether the engine does nothing more.
-fn is_spent(engine: &mut Engine<'_>) -> bool {
-    matches!(engine.turn(), Turn::Spent)
+fn does_nothing(engine: &mut Engine<'_>) -> bool {
+    is_refused(engine.launch(1, 3)) && is_refused(engine.step(1)) && is_refused(engine.leave(1))
+}
+
+fn shows_nothing(engine: &Engine<'_>) -> bool {
+    matches!(engine.visible(0, "t"), Err(EngineFault::Spent))
+        && matches!(engine.turn(), Turn::Spent)
         && !engine.quiet()
-        && is_refused(engine.launch(1, 3))
-        && is_refused(engine.step(1))
-        && is_refused(engine.leave(1))
-        && matches!(engine.visible(0, "t"), Err(EngineFault::Spent))
+}
+
+/// Whether the engine is spent since so many events, which are legal.
+fn is_spent(
+    alloc: Global,
+    engine: &mut Engine<'_>,
+    blocks: &[Block<'static>],
+    events: usize,
+) -> Result<bool, AllocError> {
+    let is_spent = does_nothing(engine) && shows_nothing(engine);
+    let is_legal = is_legal(alloc, engine, blocks)?;
+    Ok(is_spent && is_legal && engine.history().len() == events)
 }
 
 /// The calls have their answers, up to one that is refused memory. Then the engine is spent, and its history, which is legal, is the one before that call.
@@ -110,9 +122,7 @@ fn have_answers(
     for call in calls {
         let before = engine.history().len();
         if has_answer(rt, engine, call).is_err() {
-            holds(rt, is_spent(engine), "spent");
-            holds(rt, engine.history().len() == before, "history");
-            holds(rt, is_legal(alloc, engine, blocks)?, "replays");
+            holds(rt, is_spent(alloc, engine, blocks, before)?, "spent");
             return Err(AllocError);
         }
     }
@@ -172,53 +182,45 @@ fn is_changed_legal(
     replays(alloc, blocks, 2, Mode::Directed, &changed)
 }
 
-/// The history replays over these blocks and in either mode, and neither with another session count nor with a reply changed.
+/// Whether the history replays over these blocks and in either mode, and neither with another session count nor with a reply changed.
 fn replays_alone(
-    rt: &impl Abort,
     alloc: Global,
     blocks: &[Block<'static>],
     history: &[HistItem<'static>],
-) -> Result<(), AllocError> {
+) -> Result<bool, AllocError> {
     let directed = replays(alloc, blocks, 2, Mode::Directed, history)?;
-    holds(rt, directed, "directed");
     let free = replays(alloc, blocks, 2, Mode::Free, history)?;
-    holds(rt, free, "free");
     let by_one = replays(alloc, blocks, 1, Mode::Directed, history)?;
-    holds(rt, !by_one, "one session");
-    holds(rt, !is_changed_legal(alloc, blocks, history)?, "changed");
-    Ok(())
+    let changed = is_changed_legal(alloc, blocks, history)?;
+    Ok(directed && free && !by_one && !changed)
 }
 
 fn is_of(engine: &Engine<'_>, blocks: &[Block<'static>], sessions: u32, mode: Mode) -> bool {
     engine.is_of(blocks, sessions, mode)
 }
 
-/// The engine is of these blocks in any spelling, and of none else, two sessions and the free mode.
-fn is_of_these(
-    rt: &impl Abort,
-    engine: &Engine<'_>,
-    blocks: &[Block<'static>],
-    respelt: &[Block<'static>],
-) {
-    holds(rt, is_of(engine, blocks, 2, Mode::Free), "itself");
-    holds(rt, is_of(engine, respelt, 2, Mode::Free), "respelt");
-    holds(rt, !is_of(engine, blocks, 1, Mode::Free), "one session");
-    holds(rt, !is_of(engine, blocks, 2, Mode::Directed), "directed");
-    if let [_, fewer @ ..] = blocks {
-        holds(rt, !is_of(engine, fewer, 2, Mode::Free), "fewer blocks");
+fn is_of_fewer(engine: &Engine<'_>, blocks: &[Block<'static>]) -> bool {
+    match blocks {
+        [_, fewer @ ..] => is_of(engine, fewer, 2, Mode::Free),
+        [] => true,
     }
 }
 
+/// Whether the engine is of these blocks in any spelling, and of none else, two sessions and the free mode.
 fn is_of_its_blocks(
-    rt: &impl Abort,
     alloc: Global,
     engine: &Engine<'_>,
     its: &[Block<'static>],
     respelt: &[Line],
-) -> Result<(), AllocError> {
+) -> Result<bool, AllocError> {
     let respelt = blocks(alloc, respelt)?;
-    is_of_these(rt, engine, its, &respelt);
-    Ok(())
+    Ok(
+        is_of(engine, its, 2, Mode::Free)
+            && is_of(engine, &respelt, 2, Mode::Free)
+            && !is_of(engine, its, 1, Mode::Free)
+            && !is_of(engine, its, 2, Mode::Directed)
+            && !is_of_fewer(engine, its),
+    )
 }
 
 /// What is tried with an engine.
@@ -252,14 +254,16 @@ fn is_tried(
     run: &Run<'_>,
     of: Try,
 ) -> Result<(), AllocError> {
-    match of {
-        Try::Lines => all_said(rt, engine, run.lines),
-        Try::Calls(calls) => have_answers(rt, alloc, engine, blocks, calls),
-        Try::Sights(sights) => all_see(rt, engine, sights),
-        Try::Rests(events) => Ok(holds(rt, rests(engine, events), "nothing goes on")),
-        Try::Replays => replays_alone(rt, alloc, blocks, engine.history()),
-        Try::IsOf(respelt) => is_of_its_blocks(rt, alloc, engine, blocks, respelt),
-    }
+    let so = match of {
+        Try::Lines => return all_said(rt, engine, run.lines),
+        Try::Calls(calls) => return have_answers(rt, alloc, engine, blocks, calls),
+        Try::Sights(sights) => return all_see(rt, engine, sights),
+        Try::Rests(events) => rests(engine, events),
+        Try::Replays => replays_alone(alloc, blocks, engine.history())?,
+        Try::IsOf(respelt) => is_of_its_blocks(alloc, engine, blocks, respelt)?,
+    };
+    holds(rt, so, "what is tried with the engine");
+    Ok(())
 }
 
 fn goes_over(
