@@ -2,14 +2,13 @@
 ghost use Rattle.std.specs.Prelude.{◌==◌, length, if◌then◌else◌};
 ghost use Rattle.session_machine.specs.declared.event.Order.TheVariants.{Launch, Stop};
 
-use crate::trial::{Engine, Wrong, at_last, engine_of, holds};
+use crate::trial::{Engine, at_last, engine_of, holds};
 use row_versions::Versions;
 use session_core::EngineState;
 use session_machine::{Mode, Order};
 use session_threads::Driver;
 use std::alloc::{AllocError, Global};
 use std::process::Abort;
-use std::test::Fail;
 
 /// Gives session 1 the first block, and then stops.
 #[derive(Drop)]
@@ -55,20 +54,20 @@ fn is_asked<V: Versions, D: Driver<V>>(
     ))
 }
 
-fn asks(rt: &impl Abort, alloc: Global, engine: &Engine<'_, '_>) -> Result<(), AllocError> {
+fn asks(rt: &impl Abort, alloc: Global, engine: &Engine<'_>) -> Result<(), AllocError> {
     let mut once = Once;
-    holds(rt, "itself", is_asked(alloc, &mut once, engine)?);
+    holds(rt, is_asked(alloc, &mut once, engine)?, "itself");
     let mut lent = &mut once;
-    holds(rt, "lent", is_asked(alloc, &mut lent, engine)?);
+    holds(rt, is_asked(alloc, &mut lent, engine)?, "lent");
     Ok(())
 }
 
-fn asked_once(rt: &impl Abort, alloc: Global) -> Result<(), Wrong> {
-    let engine: Engine<'_, '_> = engine_of(alloc, &[], 1, Mode::Directed)?;
-    Ok(asks(rt, alloc, &engine)?)
+fn asked_once(rt: &impl Abort, alloc: Global) -> Result<(), AllocError> {
+    let engine = engine_of(alloc, &[], 1, Mode::Directed)?;
+    asks(rt, alloc, &engine)
 }
 
 #[test]
-fn a_driver_is_asked_and_lent(rt: HostRuntime) -> Result<(), Fail> {
-    at_last!(asked_once(&rt, rt.alloc()))
+fn a_driver_is_asked_and_lent(rt: HostRuntime) {
+    at_last!(&rt, asked_once(&rt, rt.alloc()));
 }

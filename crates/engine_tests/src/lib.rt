@@ -1,8 +1,12 @@
-//! Tests of the engine, over public calls alone.
+//! Tests of the engine, and of what queries answer and statements change at given rows, over public calls alone.
 #![tactic(auto)]
 
 #[cfg(test)]
+mod at_rows;
+#[cfg(test)]
 mod calls;
+#[cfg(test)]
+mod changes;
 #[cfg(test)]
 mod counts;
 #[cfg(test)]
@@ -11,6 +15,8 @@ mod driven;
 mod inserts;
 #[cfg(test)]
 mod keys;
+#[cfg(test)]
+mod orders;
 #[cfg(test)]
 mod random_keys;
 #[cfg(test)]

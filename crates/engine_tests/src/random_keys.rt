@@ -1,16 +1,14 @@
 //! Interleavings at random of statements that write keys. After each no two rows of the table have one key,
 //! and its history replays. The generator is fixed, so they are the same ones in each run.
 
-use crate::trial::{Engine, Line, Wrong, at_last, blocks, engine_of, holds};
-use session_core::replays;
-use session_machine::{EngineFault, Mode, Outcome, StmtFault, Turn};
+use crate::trial::{Engine, Line, at_last, blocks, engine_of, holds, is_legal, run};
+use session_machine::{EngineFault, HistItem, Mode, Outcome, StmtFault};
 use sql_parser::Block;
 use sql_values::{Row, Value};
-use std::alloc::Global;
+use std::alloc::{AllocError, Global};
 use std::process::Abort;
-use std::test::Fail;
 
-const BLOCKS: [Line<'static>; 14] = [
+const BLOCKS: [Line; 14] = [
     (
         0,
         "CREATE TABLE t (k int PRIMARY KEY, v int UNIQUE); INSERT INTO t VALUES (1, 1), (2, 2), (3, NULL)",
@@ -55,119 +53,149 @@ impl Dice {
     }
 }
 
-/// How many statements waited, found a key taken, or closed a cycle.
+/// Whether a statement waited, found a key taken, closed a cycle.
 #[derive(Drop)]
 struct Met {
-    waits: u32,
-    taken: u32,
-    deadlocks: u32,
+    waits: bool,
+    taken: bool,
+    deadlocks: bool,
 }
 
 impl Met {
-    fn note(&mut self, outcome: &Outcome<'_>) {
+    fn note(&mut self, outcome: &Outcome<'static>) {
         match outcome {
-            Outcome::Waits => self.waits = self.waits.wrapping_add(1),
-            Outcome::Failed(StmtFault::KeyTaken(_)) => self.taken = self.taken.wrapping_add(1),
-            Outcome::Failed(StmtFault::Deadlock) => self.deadlocks = self.deadlocks.wrapping_add(1),
+            Outcome::Waits => self.waits = true,
+            Outcome::Failed(StmtFault::KeyTaken(_)) => self.taken = true,
+            Outcome::Failed(StmtFault::Deadlock) => self.deadlocks = true,
             _ => {}
+        }
+    }
+
+    fn note_all(&mut self, items: &[HistItem<'static>]) {
+        for item in items {
+            self.note(&item.reply.outcome);
         }
     }
 }
 
-/// Steps until nothing goes on by itself.
-fn rest(engine: &mut Engine<'_, '_>, met: &mut Met) -> Result<(), Wrong> {
-    for _ in 0..64 {
-        let Turn::Session(k) = engine.turn() else {
-            return Ok(());
-        };
-        let reply = engine.step(k)?;
-        met.note(&reply.outcome);
-    }
-    Err(Wrong::Written("no rest"))
-}
-
 /// A session that isn't in its block is given one.
-fn turn(engine: &mut Engine<'_, '_>, dice: &mut Dice, met: &mut Met) -> Result<(), Wrong> {
+fn turn(engine: &mut Engine<'_>, dice: &mut Dice) -> Result<(), EngineFault> {
     let session = dice.roll(1, 3);
     let block = dice.roll(1, 13);
-    match engine.launch(session, block) {
+    match run(engine, session, block) {
         Err(EngineFault::Busy) => Ok(()),
-        Err(fault) => Err(Wrong::from(fault)),
-        Ok(_) => rest(engine, met),
+        done => done,
     }
-}
-
-fn are_equal(one: &Row, other: &Row, column: usize) -> bool {
-    match (one.values().get(column), other.values().get(column)) {
-        (Some(Value::Int(a)), Some(Value::Int(b))) => a == b,
-        _ => false,
-    }
-}
-
-/// A row that isn't NULL there is equal to itself, and to no other.
-fn is_unique(rows: &[Row], column: usize) -> bool {
-    rows.iter().all(|row| {
-        let same = rows.iter().filter(|other| are_equal(row, other, column));
-        same.count() < 2
-    })
-}
-
-/// What is committed has each key once, and the history is legal.
-fn stands(
-    rt: &impl Abort,
-    alloc: Global,
-    engine: &Engine<'_, '_>,
-    blocks: &[Block<'_>],
-) -> Result<(), Wrong> {
-    if let Some(rows) = engine.visible(0, "t")? {
-        holds(rt, "k", is_unique(&rows, 0));
-        holds(rt, "v", is_unique(&rows, 1));
-    }
-    let legal = replays(alloc, blocks, 3, Mode::Directed, engine.history())?;
-    holds(rt, "replays", legal);
-    Ok(())
 }
 
 /// The table is made, and each session that isn't in its block is given one, 24 times.
-fn turns(engine: &mut Engine<'_, '_>, dice: &mut Dice, met: &mut Met) -> Result<(), Wrong> {
-    engine.launch(0, 0)?;
-    rest(engine, met)?;
+fn turns(engine: &mut Engine<'_>, dice: &mut Dice) -> Result<(), EngineFault> {
+    run(engine, 0, 0)?;
     for _ in 0..24 {
-        turn(engine, dice, met)?;
+        turn(engine, dice)?;
     }
+    Ok(())
+}
+
+/// The key of a row; none where it is NULL.
+fn key_of(row: &Row, column: usize) -> Option<i32> {
+    match row.values().get(column) {
+        Some(Value::Int(key)) => Some(*key),
+        _ => None,
+    }
+}
+
+/// Whether one row at most has the key.
+fn is_alone(rows: &[Row], column: usize, key: i32) -> bool {
+    let mut is_met = false;
+    for row in rows {
+        if key_of(row, column) == Some(key) {
+            if is_met {
+                return false;
+            }
+            is_met = true;
+        }
+    }
+    true
+}
+
+fn is_unique(rows: &[Row], column: usize) -> bool {
+    for row in rows {
+        if let Some(key) = key_of(row, column) {
+            if !is_alone(rows, column, key) {
+                return false;
+            }
+        }
+    }
+    true
+}
+
+/// Whether what is committed has each key once.
+fn are_unique(engine: &Engine<'_>) -> Result<bool, EngineFault> {
+    match engine.visible(0, "t")? {
+        Some(rows) => Ok(is_unique(&rows, 0) && is_unique(&rows, 1)),
+        None => Ok(false),
+    }
+}
+
+/// An interleaving leaves each key once, and its history is legal.
+fn stands(
+    rt: &impl Abort,
+    alloc: Global,
+    engine: &mut Engine<'_>,
+    blocks: &[Block<'static>],
+    dice: &mut Dice,
+) -> Result<(), AllocError> {
+    if turns(engine, dice).is_err() {
+        return Err(AllocError);
+    }
+    match are_unique(engine) {
+        Ok(so) => holds(rt, so, "keys"),
+        Err(_) => return Err(AllocError),
+    }
+    holds(rt, is_legal(alloc, engine, blocks)?, "replays");
     Ok(())
 }
 
 fn interleaving(
     rt: &impl Abort,
     alloc: Global,
-    blocks: &[Block<'_>],
+    blocks: &[Block<'static>],
     dice: &mut Dice,
     met: &mut Met,
-) -> Result<(), Wrong> {
+) -> Result<(), AllocError> {
     let mut engine = engine_of(alloc, blocks, 3, Mode::Directed)?;
-    turns(&mut engine, dice, met)?;
-    stands(rt, alloc, &engine, blocks)
+    let stood = stands(rt, alloc, &mut engine, blocks, dice);
+    met.note_all(engine.history());
+    stood
 }
 
-fn all_once(rt: &impl Abort, alloc: Global) -> Result<(), Wrong> {
-    let blocks = blocks(alloc, &BLOCKS)?;
+fn interleavings(
+    rt: &impl Abort,
+    alloc: Global,
+    blocks: &[Block<'static>],
+) -> Result<(), AllocError> {
     let mut dice = Dice { state: 15 };
     let mut met = Met {
-        waits: 0,
-        taken: 0,
-        deadlocks: 0,
+        waits: false,
+        taken: false,
+        deadlocks: false,
     };
     for _ in 0..INTERLEAVINGS {
-        interleaving(rt, alloc, &blocks, &mut dice, &mut met)?;
+        interleaving(rt, alloc, blocks, &mut dice, &mut met)?;
     }
-    holds(rt, "waits", met.waits > 0);
-    holds(rt, "taken", met.taken > 0);
-    holds(rt, "deadlocks", met.deadlocks > 0);
+    holds(rt, met.waits, "waits");
+    holds(rt, met.taken, "taken");
+    holds(rt, met.deadlocks, "deadlocks");
     Ok(())
 }
 
+fn all_once(rt: &impl Abort, alloc: Global) -> Result<(), AllocError> {
+    let blocks = blocks(alloc, &BLOCKS)?;
+    interleavings(rt, alloc, &blocks)
+}
+
 #[test]
-fn interleavings_keep_keys_unique(rt: HostRuntime) -> Result<(), Fail> {
-    at_last!(all_once(&rt, rt.alloc()))
+fn interleavings_keep_keys_unique(rt: HostRuntime) {
+    at_last!(&rt, all_once(&rt, rt.alloc()));
 }

@@ -1,16 +1,11 @@
 //! Statements that wait for rows that others hold, and what becomes of them (PostgreSQL manual, 13.2 and 13.3).
 
-use crate::calls::Given::{Launch, Step};
-use crate::calls::{Call, all_see, has_answer};
-use crate::tables::check;
-use crate::trial::{Line, Wrong, at_last, blocks, engine_of};
+use crate::tables::Given::{Launch, Step};
+use crate::tables::{Call, Run, Sight, Try, check, goes};
+use crate::trial::Line;
 use session_machine::Mode;
-use sql_parser::Block;
-use std::alloc::Global;
-use std::process::Abort;
-use std::test::Fail;
 
-pub const ACCT: Line<'static> = (
+pub const ACCT: Line = (
     0,
     "CREATE TABLE acct (id int, bal int); INSERT INTO acct VALUES (1, 100), (2, 200)",
     "",
@@ -26,136 +21,128 @@ pub const SHARE: &str = "BEGIN; SELECT id FROM acct WHERE id = 1 FOR SHARE";
 
 const ALL: &str = "COMMIT; SELECT * FROM acct ORDER BY id";
 
-#[test]
-fn an_update_waits_and_goes_on(rt: HostRuntime) -> Result<(), Fail> {
-    check(
-        &rt,
-        rt.alloc(),
-        &[
-            ACCT,
-            (1, ADD, ""),
-            (2, ADD, " waits"),
-            (1, "COMMIT", ""),
-            (2, ALL, " id bal | 1 300 | 2 200"),
-            (1, ADD, ""),
-            (2, ADD_REPEATABLE, " waits"),
-            (1, "COMMIT", " not serializable"),
-            (2, "SELECT * FROM acct", " aborted"),
-            (2, ALL, " id bal | 1 400 | 2 200"),
-            (1, ADD, ""),
-            (2, ADD_REPEATABLE, " waits"),
-            (1, "ROLLBACK", ""),
-            (2, ALL, " id bal | 1 500 | 2 200"),
-            (
-                1,
-                "BEGIN; SELECT * FROM acct WHERE id = 1 FOR UPDATE",
-                " id bal | 1 500",
-            ),
-            (2, ADD_REPEATABLE, " waits"),
-            (1, "COMMIT", ""),
-            (2, ALL, " id bal | 1 600 | 2 200"),
-        ],
-    )
-}
+const UPDATES: [Line; 18] = [
+    ACCT,
+    (1, ADD, ""),
+    (2, ADD, " waits"),
+    (1, "COMMIT", ""),
+    (2, ALL, " id bal | 1 300 | 2 200"),
+    (1, ADD, ""),
+    (2, ADD_REPEATABLE, " waits"),
+    (1, "COMMIT", " not serializable"),
+    (2, "SELECT * FROM acct", " aborted"),
+    (2, ALL, " id bal | 1 400 | 2 200"),
+    (1, ADD, ""),
+    (2, ADD_REPEATABLE, " waits"),
+    (1, "ROLLBACK", ""),
+    (2, ALL, " id bal | 1 500 | 2 200"),
+    (
+        1,
+        "BEGIN; SELECT * FROM acct WHERE id = 1 FOR UPDATE",
+        " id bal | 1 500",
+    ),
+    (2, ADD_REPEATABLE, " waits"),
+    (1, "COMMIT", ""),
+    (2, ALL, " id bal | 1 600 | 2 200"),
+];
 
 #[test]
-fn conditions_are_asked_again(rt: HostRuntime) -> Result<(), Fail> {
-    check(
-        &rt,
-        rt.alloc(),
-        &[
-            (
-                0,
-                "CREATE TABLE website (hits int); INSERT INTO website VALUES (9), (10)",
-                "",
-            ),
-            (1, "BEGIN; UPDATE website SET hits = hits + 1", ""),
-            (2, "DELETE FROM website WHERE hits = 10", " waits"),
-            (1, "COMMIT", ""),
-            (
-                2,
-                "SELECT hits FROM website ORDER BY hits",
-                " hits | 10 | 11",
-            ),
-            (
-                0,
-                "CREATE TABLE q (id int, st int); INSERT INTO q VALUES (1, 0)",
-                "",
-            ),
-            (1, "BEGIN; UPDATE q SET st = 1", ""),
-            (2, "BEGIN; UPDATE q SET st = st + 4", " waits"),
-            (3, "UPDATE q SET id = 9 WHERE st = 0 OR st = 5", " waits"),
-            (1, "COMMIT", ""),
-            (2, "COMMIT", ""),
-            (3, "SELECT * FROM q", " id st | 9 5"),
-        ],
-    )
+fn an_update_waits_and_goes_on(rt: HostRuntime) {
+    check(&rt, rt.alloc(), &UPDATES);
 }
 
-#[test]
-fn cycles_of_waits_are_refused(rt: HostRuntime) -> Result<(), Fail> {
-    check(
-        &rt,
-        rt.alloc(),
-        &[
-            ACCT,
-            (1, "BEGIN; UPDATE acct SET bal = 1 WHERE id = 1", ""),
-            (2, "BEGIN; UPDATE acct SET bal = 2 WHERE id = 2", ""),
-            (1, "UPDATE acct SET bal = 1 WHERE id = 2", " waits"),
-            (2, "UPDATE acct SET bal = 2 WHERE id = 1", " deadlock"),
-            (2, "COMMIT", ""),
-            (1, ALL, " id bal | 1 1 | 2 1"),
-            (1, SHARE, " id | 1"),
-            (2, SHARE, " id | 1"),
-            (3, "BEGIN; UPDATE acct SET bal = 0 WHERE id = 2", ""),
-            (3, "UPDATE acct SET bal = 0 WHERE id = 1", " waits"),
-            (4, SHARE, " id | 1"),
-            (4, "UPDATE acct SET bal = 5 WHERE id = 2", " deadlock"),
-            (1, "COMMIT", ""),
-            (2, "COMMIT", ""),
-            (3, ALL, " id bal | 1 0 | 2 0"),
-        ],
-    )
-}
+const CONDITIONS: [Line; 12] = [
+    (
+        0,
+        "CREATE TABLE website (hits int); INSERT INTO website VALUES (9), (10)",
+        "",
+    ),
+    (1, "BEGIN; UPDATE website SET hits = hits + 1", ""),
+    (2, "DELETE FROM website WHERE hits = 10", " waits"),
+    (1, "COMMIT", ""),
+    (
+        2,
+        "SELECT hits FROM website ORDER BY hits",
+        " hits | 10 | 11",
+    ),
+    (
+        0,
+        "CREATE TABLE q (id int, st int); INSERT INTO q VALUES (1, 0)",
+        "",
+    ),
+    (1, "BEGIN; UPDATE q SET st = 1", ""),
+    (2, "BEGIN; UPDATE q SET st = st + 4", " waits"),
+    (3, "UPDATE q SET id = 9 WHERE st = 0 OR st = 5", " waits"),
+    (1, "COMMIT", ""),
+    (2, "COMMIT", ""),
+    (3, "SELECT * FROM q", " id st | 9 5"),
+];
 
 #[test]
-fn locks_are_shared_and_let_go(rt: HostRuntime) -> Result<(), Fail> {
-    check(
-        &rt,
-        rt.alloc(),
-        &[
-            ACCT,
-            (1, ADD, ""),
-            (1, "SELECT 1/0", " division by zero"),
-            (2, ADD, ""),
-            (1, "COMMIT", ""),
-            (2, ALL, " id bal | 1 200 | 2 200"),
-            (1, "BEGIN; UPDATE acct SET bal = 300 WHERE id = 1", ""),
-            (
-                2,
-                "BEGIN; SELECT * FROM acct ORDER BY bal, id FOR UPDATE",
-                " waits",
-            ),
-            (1, "COMMIT", " id bal | 1 300 | 2 200"),
-            (2, "COMMIT", ""),
-            (1, "BEGIN; UPDATE acct SET bal = 7 WHERE id = 1", ""),
-            (
-                3,
-                "SELECT 3 AS s, bal FROM acct WHERE id = 1 FOR SHARE",
-                " waits",
-            ),
-            (
-                2,
-                "SELECT 2 AS s, bal FROM acct WHERE id = 1 FOR SHARE",
-                " waits",
-            ),
-            (1, "COMMIT", " s bal | 3 7 s bal | 2 7"),
-        ],
-    )
+fn conditions_are_asked_again(rt: HostRuntime) {
+    check(&rt, rt.alloc(), &CONDITIONS);
+}
+
+const CYCLES: [Line; 16] = [
+    ACCT,
+    (1, "BEGIN; UPDATE acct SET bal = 1 WHERE id = 1", ""),
+    (2, "BEGIN; UPDATE acct SET bal = 2 WHERE id = 2", ""),
+    (1, "UPDATE acct SET bal = 1 WHERE id = 2", " waits"),
+    (2, "UPDATE acct SET bal = 2 WHERE id = 1", " deadlock"),
+    (2, "COMMIT", ""),
+    (1, ALL, " id bal | 1 1 | 2 1"),
+    (1, SHARE, " id | 1"),
+    (2, SHARE, " id | 1"),
+    (3, "BEGIN; UPDATE acct SET bal = 0 WHERE id = 2", ""),
+    (3, "UPDATE acct SET bal = 0 WHERE id = 1", " waits"),
+    (4, SHARE, " id | 1"),
+    (4, "UPDATE acct SET bal = 5 WHERE id = 2", " deadlock"),
+    (1, "COMMIT", ""),
+    (2, "COMMIT", ""),
+    (3, ALL, " id bal | 1 0 | 2 0"),
+];
+
+#[test]
+fn cycles_of_waits_are_refused(rt: HostRuntime) {
+    check(&rt, rt.alloc(), &CYCLES);
+}
+
+const LOCKS: [Line; 14] = [
+    ACCT,
+    (1, ADD, ""),
+    (1, "SELECT 1/0", " division by zero"),
+    (2, ADD, ""),
+    (1, "COMMIT", ""),
+    (2, ALL, " id bal | 1 200 | 2 200"),
+    (1, "BEGIN; UPDATE acct SET bal = 300 WHERE id = 1", ""),
+    (
+        2,
+        "BEGIN; SELECT * FROM acct ORDER BY bal, id FOR UPDATE",
+        " waits",
+    ),
+    (1, "COMMIT", " id bal | 1 300 | 2 200"),
+    (2, "COMMIT", ""),
+    (1, "BEGIN; UPDATE acct SET bal = 7 WHERE id = 1", ""),
+    (
+        3,
+        "SELECT 3 AS s, bal FROM acct WHERE id = 1 FOR SHARE",
+        " waits",
+    ),
+    (
+        2,
+        "SELECT 2 AS s, bal FROM acct WHERE id = 1 FOR SHARE",
+        " waits",
+    ),
+    (1, "COMMIT", " s bal | 3 7 s bal | 2 7"),
+];
+
+#[test]
+fn locks_are_shared_and_let_go(rt: HostRuntime) {
+    check(&rt, rt.alloc(), &LOCKS);
 }
 
 /// Session 1 holds the second row, at which session 2 waits once it has written the first.
-const HELD: [Line<'static>; 3] = [
+const HELD: [Line; 3] = [
     ACCT,
     (1, "BEGIN; UPDATE acct SET bal = 0 WHERE id = 2", ""),
     (2, "UPDATE acct SET bal = bal + 1", ""),
@@ -165,45 +152,45 @@ const HELD: [Line<'static>; 3] = [
 const UNTIL_IT_WAITS: [Call; 8] = [
     (Launch(0, 0), "answered"),
     (Step(0), "answered"),
-    (Step(0), "answered, ended"),
+    (Step(0), "answered and ended"),
     (Launch(1, 1), "answered"),
     (Step(1), "answered"),
-    (Step(1), "answered, ended"),
+    (Step(1), "answered and ended"),
     (Launch(2, 2), "answered"),
     (Step(2), "answered waits"),
 ];
 
-fn is_refused(
-    rt: &impl Abort,
-    alloc: Global,
-    blocks: &[Block<'_>],
-    mode: Mode,
-    refusal: &'static str,
-) -> Result<(), Wrong> {
-    let mut engine = engine_of(alloc, blocks, 2, mode)?;
-    for call in &UNTIL_IT_WAITS {
-        has_answer(rt, alloc, &mut engine, call)?;
-    }
-    has_answer(rt, alloc, &mut engine, &(Step(2), refusal))?;
-    all_see(
-        rt,
-        alloc,
-        &engine,
-        &[
-            (0, "acct", " | 1 100 | 2 200"),
-            (1, "acct", " | 1 100 | 2 0"),
-            (2, "acct", " | 2 200 | 1 101"),
-        ],
-    )
-}
+const SIGHTS: [Sight; 3] = [
+    (0, "acct", " | 1 100 | 2 200"),
+    (1, "acct", " | 1 100 | 2 0"),
+    (2, "acct", " | 2 200 | 1 101"),
+];
 
-fn refused_twice(rt: &impl Abort, alloc: Global) -> Result<(), Wrong> {
-    let blocks = blocks(alloc, &HELD)?;
-    is_refused(rt, alloc, &blocks, Mode::Directed, "NotYourTurn")?;
-    is_refused(rt, alloc, &blocks, Mode::Free, "StillBlocked")
-}
+/// The answer to session 2 while it waits.
+const DIRECTED: Run<'static> = Run {
+    lines: &HELD,
+    sessions: 2,
+    mode: Mode::Directed,
+    tries: &[
+        Try::Calls(&UNTIL_IT_WAITS),
+        Try::Calls(&[(Step(2), "NotYourTurn")]),
+        Try::Sights(&SIGHTS),
+    ],
+};
+
+const FREE: Run<'static> = Run {
+    lines: &HELD,
+    sessions: 2,
+    mode: Mode::Free,
+    tries: &[
+        Try::Calls(&UNTIL_IT_WAITS),
+        Try::Calls(&[(Step(2), "StillBlocked")]),
+        Try::Sights(&SIGHTS),
+    ],
+};
 
 #[test]
-fn a_session_that_waits_is_not_stepped(rt: HostRuntime) -> Result<(), Fail> {
-    at_last!(refused_twice(&rt, rt.alloc()))
+fn a_session_that_waits_is_not_stepped(rt: HostRuntime) {
+    goes(&rt, rt.alloc(), &DIRECTED);
+    goes(&rt, rt.alloc(), &FREE);
 }

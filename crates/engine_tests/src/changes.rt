@@ -1,10 +1,10 @@
 //! What UPDATE and DELETE make of rows (PostgreSQL manual, UPDATE and DELETE).
 
-use crate::tables::{Line, check};
+use crate::at_rows::{Said, check};
 
 const ROWS: &str = "INSERT INTO t VALUES (1, 3, 'x', TRUE), (2, NULL, 'y', FALSE)";
 
-const UPDATES: [Line; 9] = [
+const UPDATES: [Said; 9] = [
     (
         "UPDATE t SET a = id, id = a",
         " | 3 1 x true | null 2 y false",
@@ -28,7 +28,7 @@ const UPDATES: [Line; 9] = [
     ("UPDATE t SET a = 1 WHERE z", " no column z"),
 ];
 
-const DELETES: [Line; 4] = [
+const DELETES: [Said; 4] = [
     ("DELETE FROM t", " 0 1"),
     ("DELETE FROM t WHERE a IS NULL", " 1"),
     ("DELETE FROM t WHERE b", " type mismatch"),

@@ -1,11 +1,17 @@
 //! In which order a SELECT shows its rows, and the first fault that it meets (PostgreSQL manual, 7.5 and SELECT).
 
-use crate::tables::{Line, check};
+use crate::at_rows::{Said, all_said, check};
+use crate::trial::at_last;
+use iso_lexer::Name;
+use sql_trees::{Column, Kind};
+use sql_values::{Row, Value};
+use std::alloc::{AllocError, Global};
+use std::process::Abort;
 
 const ROWS: &str =
     "INSERT INTO t VALUES (1, 3, 'x', TRUE), (2, NULL, 'y', FALSE), (3, 1, NULL, NULL), (4, 3, 'a', TRUE), (5, 1, 'B', FALSE)";
 
-const DIRECTIONS: [Line; 14] = [
+const DIRECTIONS: [Said; 14] = [
     ("SELECT id FROM t", " | 1 | 2 | 3 | 4 | 5"),
     ("SELECT id FROM t ORDER BY a", " | 3 | 5 | 1 | 4 | 2"),
     ("SELECT id FROM t ORDER BY a DESC", " | 2 | 1 | 4 | 3 | 5"),
@@ -43,7 +49,7 @@ const DIRECTIONS: [Line; 14] = [
     ),
 ];
 
-const KEYS: [Line; 22] = [
+const KEYS: [Said; 22] = [
     ("SELECT id FROM t ORDER BY 1 DESC", " | 5 | 4 | 3 | 2 | 1"),
     ("SELECT id FROM t ORDER BY (1) DESC", " | 5 | 4 | 3 | 2 | 1"),
     (
@@ -95,7 +101,7 @@ const KEYS: [Line; 22] = [
     ("SELECT id FROM t WHERE 1 / 0 = 1 ORDER BY 2", " position 2"),
 ];
 
-const FAULTS: [Line; 10] = [
+const FAULTS: [Said; 10] = [
     ("SELECT id FROM t ORDER BY 6 / (a - 1)", " division by zero"),
     (
         "SELECT id FROM t WHERE a > 1 OR a IS NULL ORDER BY 6 / (a - 1)",
@@ -142,4 +148,43 @@ fn what_keys_mean(rt: HostRuntime) {
 #[test]
 fn first_fault_of_a_select(rt: HostRuntime) {
     check(&rt, rt.alloc(), ROWS, &FAULTS);
+}
+
+const COLUMN: [Column<'static>; 1] = [Column {
+    name: Name::Plain("a"),
+    kind: Kind::Int,
+    not_null: false,
+}];
+
+fn push(alloc: Global, rows: &mut Vec<Row>, value: Value) -> Result<(), AllocError> {
+    let mut values = Vec::new(alloc);
+    values.push(value)?;
+    rows.push(Row::from_vec(values))?;
+    Ok(())
+}
+
+/// A number and a truth value. No table has them in one column, so the rows are made here.
+fn mixed_rows(alloc: Global) -> Result<Vec<Row>, AllocError> {
+    let mut rows = Vec::new(alloc);
+    push(alloc, &mut rows, Value::Int(1))?;
+    push(alloc, &mut rows, Value::Bool(true))?;
+    Ok(rows)
+}
+
+const MIXED: [Said; 2] = [
+    ("SELECT a FROM t ORDER BY a", " type mismatch"),
+    (
+        "SELECT 1 / 0 FROM t ORDER BY 1 + 1, a DESC",
+        " type mismatch",
+    ),
+];
+
+fn mixed_once(rt: &impl Abort, alloc: Global) -> Result<(), AllocError> {
+    let rows = mixed_rows(alloc)?;
+    all_said(rt, alloc, &COLUMN, &rows, &MIXED)
+}
+
+#[test]
+fn keys_that_do_not_compare(rt: HostRuntime) {
+    at_last!(&rt, mixed_once(&rt, rt.alloc()));
 }
