@@ -1,4 +1,5 @@
 pub mod Among
+pub mod Assigning
 pub mod ColumnLists
 pub mod Ends
 pub mod Even
@@ -7,5 +8,6 @@ pub mod Fronts
 pub mod Selecting
 pub mod Counting
 pub mod Insertion
+pub mod Parts
 pub mod Picking
 pub mod Placing

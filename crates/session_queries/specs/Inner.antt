@@ -1,3 +1,5 @@
 -- Definitions that only the inner functions' clauses and the proofs need: no clause of a public function has them.
 pub mod Answers
+pub mod Assigned
 pub mod Fronts
+pub mod Parts

@@ -13,8 +13,7 @@ rows_at rows places = map (keys_at rows) places
 -- a place among sorted ones: behind those whose rows stand before its row by their keys, and before all others
 abbrev pub put_in : List Dir → List (List Value) → ℕ → List ℕ → List ℕ
 put_in by keys p [] = p ∷ []
-put_in by keys p (q ∷ qs) =
-    if is_gt (row_order 0 by (keys_at keys p) (keys_at keys q)) then q ∷ put_in by keys p qs else p ∷ q ∷ qs
+put_in by keys p (q ∷ qs) = if is_gt (row_order 0 by (keys_at keys p) (keys_at keys q)) then q ∷ put_in by keys p qs else p ∷ q ∷ qs
 
 -- each place is put in among those that stood behind it, so that rows with equal keys stay in their order
 abbrev pub put_in_order : List Dir → List (List Value) → List ℕ → List ℕ

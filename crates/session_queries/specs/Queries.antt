@@ -1,10 +1,9 @@
 -- What a query answers at the rows of its table, and what an INSERT makes of its values (PostgreSQL manual, SELECT and INSERT).
-use Rattle.std.specs.Prelude.{ℕ, ◌+◌, ◌-◌, ◌==◌, ℤ, pos, Bool, true, false, ◌&&◌, List, [], ◌∷◌, ◌++◌, length, map, replicate, Option, Some, None, is_some, unwrap_or}
-use Rattle.std.specs.Prelude.{position, bytes_eq, slice_set, slice_index_or, nat_le, nat_lt, Result, Ok, Err, if◌then◌else◌}
-use Rattle.std.specs.List.{list_any}
-use Rattle.std.specs.Option.{option_or}
+use Rattle.std.specs.Prelude.{ℕ, ◌+◌, ◌-◌, ◌==◌, ℤ, Bool, not, ◌&&◌, ◌||◌, List, [], ◌∷◌, ◌++◌, length, map, flat_map, replicate, Option, Some, None, is_none, is_some, option_map, unwrap_or}
+use Rattle.std.specs.Prelude.{find, filter_map, position, bytes_eq, slice_set, slice_index_or, nat_le, nat_lt, Result, Ok, Err, if◌then◌else◌}
+use Rattle.std.specs.List.{enumerate_from, list_any}
+use Rattle.std.specs.Option.{option_or, option_map_or}
 use Rattle.sql_trees.specs.declared.kind.Kind.{Kind}
-use Rattle.sql_trees.specs.declared.expr.AggKind.{AggKind}
 use Rattle.sql_trees.specs.declared.expr.AggKind.TheVariants as agg_kind
 use Rattle.sql_trees.specs.Trees.{Tree, Trees, AggTree}
 use Rattle.sql_trees.specs.Trees as tree
@@ -46,12 +45,8 @@ abbrev pub has_column : Cols → List ℕ → Bool
 has_column cols name = is_some (position (λ c. bytes_eq name c.0) cols)
 
 abbrev mutual
-  -- the first column that an expression names and that isn't there, in the order of the text
+  -- the first column that an expression names and that isn't there, in the order of the text; a literal names none
   pub lacking : Cols → Tree → Option (List ℕ)
-  lacking cols tree.Null = None
-  lacking cols (tree.Flag b) = None
-  lacking cols (tree.Number negative n) = None
-  lacking cols (tree.Text s) = None
   lacking cols (tree.Column name) = if has_column cols name then None else Some name
   lacking cols (tree.Plus a) = lacking cols a
   lacking cols (tree.Minus a) = lacking cols a
@@ -60,23 +55,22 @@ abbrev mutual
   lacking cols (tree.Is a negated truth) = lacking cols a
   lacking cols (tree.In a negated items) = option_or (lacking cols a) (lacking_among cols items)
   lacking cols (tree.Between a negated low high) = option_or (lacking cols a) (option_or (lacking cols low) (lacking cols high))
+  lacking cols literal = None
 
   pub lacking_among : Cols → Trees → Option (List ℕ)
   lacking_among cols tree.none = None
   lacking_among cols (tree.more e rest) = option_or (lacking cols e) (lacking_among cols rest)
 
+-- the same of WHERE, which may be left out
 abbrev pub lacking_if : Cols → Option Tree → Option (List ℕ)
 lacking_if cols None = None
 lacking_if cols (Some e) = lacking cols e
 
-abbrev pub lacking_agg : Cols → AggTree → Option (List ℕ)
-lacking_agg cols tree.CountRows = None
-lacking_agg cols (tree.Of k e) = lacking cols e
-
+-- the same of an item; `*` and count(*) name none
 abbrev pub lacking_item : Cols → ItemTree → Option (List ℕ)
-lacking_item cols stmt.All = None
 lacking_item cols (stmt.Value e alias) = lacking cols e
-lacking_item cols (stmt.Aggregate a alias) = lacking_agg cols a
+lacking_item cols (stmt.Aggregate (tree.Of k e) alias) = lacking cols e
+lacking_item cols i = None
 
 -- the expression of the first item that has this alias
 abbrev pub aliased : List ItemTree → List ℕ → Option Tree
@@ -92,19 +86,16 @@ lacking_key cols is e = lacking cols e
 -- the first column that a SELECT names and its table lacks: of its items, then of WHERE, then of ORDER BY
 abbrev pub lacking_select : Cols → SelectTree → Option (List ℕ)
 lacking_select cols s =
-    option_or (first_of (lacking_item cols) s.items)
-    (option_or (lacking_if cols s.filter) (first_of (λ (k : OrderTree). lacking_key cols s.items k.expr) s.order))
+    option_or (first_of (lacking_item cols) s.items) (option_or (lacking_if cols s.filter) (first_of (λ (k : OrderTree). lacking_key cols s.items k.expr) s.order))
 
 -- a column that isn't there is a fault before any row is looked at
 abbrev pub unless_lacking : {A : Type 0} → Option (List ℕ) → Result A ValueFault → Result A ValueFault
-unless_lacking None answer = answer
-unless_lacking (Some name) answer = Err (NoColumn name)
+unless_lacking lacks answer = option_map_or (λ name. Err (NoColumn name)) lacks answer
 
 -- the places, counted from k, of the rows that pass WHERE
 abbrev pub passing : Cols → Option Tree → ℕ → List (List Value) → Result (List ℕ) ValueFault
 passing cols filter k [] = Ok []
-passing cols filter k (row ∷ rows) =
-    if_ok (passes filter cols row) (λ p. if_ok (passing cols filter (k + 1) rows) (λ rest. Ok (if p then k ∷ rest else rest)))
+passing cols filter k (row ∷ rows) = if_ok (passes filter cols row) (λ p. if_ok (passing cols filter (k + 1) rows) (λ rest. Ok (if p then k ∷ rest else rest)))
 
 -- what an item answers at a row
 abbrev pub item_values : Cols → List Value → ItemTree → Result (List Value) ValueFault
@@ -121,23 +112,18 @@ abbrev pub title_of : Tree → Title
 title_of (tree.Column name) = Named name
 title_of e = Unnamed
 
-abbrev pub title_or : Tree → Option (List ℕ) → Title
-title_or e None = title_of e
-title_or e (Some alias) = Named alias
-
+-- the titles of what an item shows: of an expression its alias, where it has one
 abbrev pub item_titles : List ColumnTree → ItemTree → List Title
 item_titles columns stmt.All = map (λ (c : ColumnTree). Named c.name) columns
-item_titles columns (stmt.Value e alias) = title_or e alias ∷ []
+item_titles columns (stmt.Value e alias) = option_map_or Named alias (title_of e) ∷ []
 item_titles columns (stmt.Aggregate a alias) = []
 
 abbrev pub titles_of : List ColumnTree → List ItemTree → List Title
-titles_of columns [] = []
-titles_of columns (i ∷ is) = item_titles columns i ++ titles_of columns is
+titles_of columns is = flat_map (item_titles columns) is
 
 -- the number is none of the result's columns, which are counted from 1
 abbrev pub unlisted : ℕ → Tree → Option ℤ
-unlisted width (tree.Number true n) = Some (signed true n)
-unlisted width (tree.Number false n) = if nat_lt 0 n && nat_le n width then None else Some (pos n)
+unlisted width (tree.Number negative n) = if not negative && nat_lt 0 n && nat_le n width then None else Some (signed negative n)
 unlisted width e = None
 
 -- the first key of ORDER BY that is a number and no position in the select list
@@ -153,8 +139,7 @@ shown_at cols (stmt.Aggregate a alias ∷ is) row k = shown_at cols is row k
 
 -- the value of a key of ORDER BY at a row: a number literal means that column of the result, and a bare name the item with that alias, if there is one
 abbrev pub key_value : Cols → List ItemTree → List Value → Tree → Answer
-key_value cols is row (tree.Number true n) = Ok Null
-key_value cols is row (tree.Number false n) = if n == 0 then Ok Null else shown_at cols is row (n - 1)
+key_value cols is row (tree.Number negative n) = if negative || n == 0 then Ok Null else shown_at cols is row (n - 1)
 key_value cols is row (tree.Column name) = value (unwrap_or (aliased is name) (tree.Column name)) cols row
 key_value cols is row e = value e cols row
 
@@ -169,8 +154,7 @@ by_keys by places keys = if can_sort 0 by keys then Ok (map (λ i. slice_index_o
 -- the places as ORDER BY sorts them: the keys of all their rows are evaluated, row by row, before any are compared
 abbrev pub ordered : Cols → List ItemTree → List OrderTree → List (List Value) → List ℕ → Result (List ℕ) ValueFault
 ordered cols is [] rows places = Ok places
-ordered cols is (k ∷ ks) rows places =
-    if_ok (each (keys_of cols is (k ∷ ks)) (rows_at rows places)) (by_keys (map (λ (k : OrderTree). k.dir) (k ∷ ks)) places)
+ordered cols is order rows places = if_ok (each (keys_of cols is order) (rows_at rows places)) (by_keys (map (λ (k : OrderTree). k.dir) order) places)
 
 -- the places of the rows that pass WHERE, as ORDER BY sorts them
 abbrev pub taken : SelectTree → List ColumnTree → List (List Value) → Result (List ℕ) ValueFault
@@ -184,40 +168,25 @@ pub record Counted : Type 0 where
 -- the aggregates among the items: a SELECT that has any has nothing else
 abbrev pub counted : List ItemTree → List Counted
 counted [] = []
-counted (stmt.All ∷ is) = counted is
-counted (stmt.Value e alias ∷ is) = counted is
 counted (stmt.Aggregate a alias ∷ is) = record { agg = a; alias = alias } ∷ counted is
+counted (i ∷ is) = counted is
 
--- an aggregate without an alias has its own title (9.21)
-abbrev pub kind_title : AggKind → Title
-kind_title agg_kind.Count = Count
-kind_title agg_kind.Sum = Sum
-kind_title agg_kind.Min = Min
-kind_title agg_kind.Max = Max
-
+-- the title of an aggregate by what it counts, sums or compares (9.21)
 abbrev pub own_title : AggTree → Title
-own_title tree.CountRows = Count
-own_title (tree.Of k e) = kind_title k
+own_title (tree.Of agg_kind.Sum e) = Sum
+own_title (tree.Of agg_kind.Min e) = Min
+own_title (tree.Of agg_kind.Max e) = Max
+own_title a = Count
 
-abbrev pub agg_title : AggTree → Option (List ℕ) → Title
-agg_title a None = own_title a
-agg_title a (Some alias) = Named alias
+-- its alias, or where it has none its own title
+abbrev pub agg_title : Counted → Title
+agg_title a = option_map_or Named a.alias (own_title a.agg)
 
--- the items at each of the rows, under their titles
-abbrev pub row_results : List ColumnTree → List ItemTree → List (List Value) → Result Results ValueFault
-row_results columns is taken =
-    if_ok (each (row_values (cols_of columns) is) taken) (λ shown. Ok (record { titles = titles_of columns is; rows = shown }))
-
--- the aggregates over all of the rows, one after the other, as one row
-abbrev pub agg_results : List ColumnTree → List Counted → List (List Value) → Result Results ValueFault
-agg_results columns aggs taken =
-    if_ok (each (λ (a : Counted). aggregate a.agg (cols_of columns) taken) aggs)
-    (λ row. Ok (record { titles = map (λ (a : Counted). agg_title a.agg a.alias) aggs; rows = row ∷ [] }))
-
--- what the items answer at the rows that are taken
+-- what is answered from the rows that are taken: without aggregates the items at each of them, else one row, of the aggregates over all of them
 abbrev pub results_by : List ColumnTree → List ItemTree → List Counted → List (List Value) → Result Results ValueFault
-results_by columns is [] taken = row_results columns is taken
-results_by columns is (a ∷ more) taken = agg_results columns (a ∷ more) taken
+results_by columns is [] taken = if_ok (each (row_values (cols_of columns) is) taken) (λ shown. Ok (record { titles = titles_of columns is; rows = shown }))
+results_by columns is aggs taken =
+    if_ok (each (λ (a : Counted). aggregate a.agg (cols_of columns) taken) aggs) (λ row. Ok (record { titles = map agg_title aggs; rows = row ∷ [] }))
 
 -- the result of a SELECT whose table has these columns and shows these rows: WHERE is tested at all of them, then they are sorted,
 -- and then the items are evaluated
@@ -230,54 +199,36 @@ pub record AssignedColumn : Type 0 where
   pub place : ℕ
   pub kind : Kind
 
--- all columns, from the place on
-abbrev pub assigned_in_order : ℕ → List ColumnTree → List AssignedColumn
-assigned_in_order k [] = []
-assigned_in_order k (c ∷ cs) = record { place = k; kind = c.kind } ∷ assigned_in_order (k + 1) cs
+-- a column with its place, as a value is assigned to it
+abbrev pub at_place : ℕ × ColumnTree → AssignedColumn
+at_place c = record { place = c.0; kind = c.1.kind }
 
--- the column of that name, from the place on
-abbrev pub assigned_from : ℕ → List ColumnTree → List ℕ → Option AssignedColumn
-assigned_from k [] name = None
-assigned_from k (c ∷ cs) name = if bytes_eq c.name name then Some (record { place = k; kind = c.kind }) else assigned_from (k + 1) cs name
+-- the first column of that name
+abbrev pub assigned_named : List ColumnTree → List ℕ → Option AssignedColumn
+assigned_named columns name = option_map at_place (find (λ (c : ℕ × ColumnTree). bytes_eq c.1.name name) (enumerate_from 0 columns))
 
-abbrev pub assigned_or : List ℕ → Option AssignedColumn → Result (List AssignedColumn) (List ℕ) → Result (List AssignedColumn) (List ℕ)
-assigned_or name None rest = Err name
-assigned_or name (Some t) (Err lacks) = Err lacks
-assigned_or name (Some t) (Ok ts) = Ok (t ∷ ts)
-
--- the columns of these names, or the first name that is none
+-- the columns of these names, or the first name that no column has
 abbrev pub assigned_by_name : List ColumnTree → List (List ℕ) → Result (List AssignedColumn) (List ℕ)
-assigned_by_name columns [] = Ok []
-assigned_by_name columns (name ∷ names) = assigned_or name (assigned_from 0 columns name) (assigned_by_name columns names)
+assigned_by_name columns names = option_map_or Err (find (λ name. is_none (assigned_named columns name)) names) (Ok (filter_map (assigned_named columns) names))
 
 -- without a list of columns the values go to the first ones
 abbrev pub columns_assigned : List ColumnTree → Option (List (List ℕ)) → Result (List AssignedColumn) (List ℕ)
-columns_assigned columns None = Ok (assigned_in_order 0 columns)
+columns_assigned columns None = Ok (map at_place (enumerate_from 0 columns))
 columns_assigned columns (Some names) = assigned_by_name columns names
 
--- the values as their columns take them
-abbrev pub assigned : List AssignedColumn → List Value → Result (List Value) ValueFault
-assigned (t ∷ ts) (v ∷ vs) = if_ok (assign v t.kind) (λ a. if_ok (assigned ts vs) (λ rest. Ok (a ∷ rest)))
-assigned [] vs = Ok []
-assigned (t ∷ ts) [] = Ok []
-
--- each value at its column's place
-abbrev pub placed : List AssignedColumn → List Value → List Value → List Value
-placed (t ∷ ts) (v ∷ vs) row = placed ts vs (slice_set row t.place v)
-placed [] vs row = row
-placed (t ∷ ts) [] row = row
+-- the row with each value at its column's place, as the column takes it
+abbrev pub filled : List AssignedColumn → List Value → List Value → Result (List Value) ValueFault
+filled (t ∷ ts) (v ∷ vs) row = if_ok (assign v t.kind) (λ taken. filled ts vs (slice_set row t.place taken))
+filled ts vs row = Ok row
 
 -- a new row: NULL where it has no value
 abbrev pub new_values : ℕ → List AssignedColumn → List Tree → Result (List Value) ValueFault
-new_values width to row =
-    if_ok (each (λ e. value e [] []) row) (λ values.
-    if_ok (assigned to values) (λ vs. Ok (placed to vs (replicate width Null))))
+new_values width to row = if_ok (each (λ e. value e [] []) row) (λ values. filled to values (replicate width Null))
 
 -- the first column that is NULL and must not be
 abbrev pub null_in : List ColumnTree → List Value → Option (List ℕ)
 null_in (c ∷ cs) (v ∷ vs) = if c.not_null && is_null v then Some c.name else null_in cs vs
-null_in [] vs = None
-null_in (c ∷ cs) [] = None
+null_in cs vs = None
 
 -- some row has more values than there are columns for them
 abbrev pub some_too_long : ℕ → List (List Tree) → Bool

@@ -1,12 +1,12 @@
 -- What an UPDATE makes of a row (PostgreSQL manual, UPDATE).
-use Rattle.std.specs.Prelude.{ℕ, List, map, Option, Result, Ok}
+use Rattle.std.specs.Prelude.{ℕ, List, map, Option, Result}
 use Rattle.std.specs.Option.{option_or}
 use Rattle.sql_trees.specs.Statements.{ColumnTree, SetTree, UpdateTree}
 use Rattle.sql_values.specs.declared.value.Value.{Value}
 use Rattle.sql_values.specs.declared.fault.ValueFault.{ValueFault}
 use Rattle.sql_values.specs.Values.{if_ok}
 use Rattle.sql_values.specs.Expressions.{Cols, value}
-use Rattle.session_queries.specs.Queries.{AssignedColumn, assigned, each, first_of, lacking, lacking_if, assigned_by_name, placed}
+use Rattle.session_queries.specs.Queries.{AssignedColumn, assigned_by_name, each, filled, first_of, lacking, lacking_if}
 
 -- the first column that an UPDATE names and its table lacks: of the new values, then of WHERE; what it assigns to is looked at before
 abbrev pub lacking_update : Cols → UpdateTree → Option (List ℕ)
@@ -18,6 +18,4 @@ columns_set columns sets = assigned_by_name columns (map (λ (s : SetTree). s.co
 
 -- the row as an UPDATE leaves it: all new values are evaluated on the old row, from the left, then all are taken as their columns do
 abbrev pub updated : Cols → List AssignedColumn → List SetTree → List Value → Result (List Value) ValueFault
-updated cols to sets row =
-    if_ok (each (λ (s : SetTree). value s.value cols row) sets) (λ values.
-    if_ok (assigned to values) (λ vs. Ok (placed to vs row)))
+updated cols to sets row = if_ok (each (λ (s : SetTree). value s.value cols row) sets) (λ values. filled to values row)

@@ -4,10 +4,9 @@ ghost use Rattle.std.specs.Prelude.{◌≡◌, ◌≢◌, ◌∷◌, ◌++◌, A
 ghost use Rattle.sql_trees.specs.Statements.{column_of, item_of, select_of};
 ghost use Rattle.sql_values.specs.Values.{Answers};
 ghost use Rattle.sql_values.specs.Aggregates.{aggregate};
-ghost use Rattle.session_queries.specs.Queries.{Counted, agg_results, cols_of, counted, each, item_values, lacking_select, result_of, row_results, row_values, titles_of};
+ghost use Rattle.session_queries.specs.Queries.{Counted, cols_of, counted, each, item_values, lacking_select, result_of, row_values, titles_of};
 ghost use Rattle.session_queries.specs.Fronts.{AnswersList};
-ghost use Rattle.session_queries.specs.Inner.Answers.{has_none};
-ghost use Rattle.session_queries.specs.Inner.Answers.{answered, selected};
+ghost use Rattle.session_queries.specs.Inner.Answers.{agg_results, answered, has_none, row_results, selected};
 ghost use Rattle.session_queries.specs.Inner.Fronts.{in_front};
 
 use crate::known::known;

@@ -2,7 +2,8 @@
 
 ghost use Rattle.std.specs.Prelude.{◌≡◌, ℕ, List, [], IfOk, length, map, option_map};
 ghost use Rattle.sql_trees.specs.Statements.{SetTree, column_of, name_of, names_of, set_of};
-ghost use Rattle.session_queries.specs.Queries.{assigned_in_order, assigned_by_name, assigned_from, columns_assigned};
+ghost use Rattle.session_queries.specs.Queries.{columns_assigned};
+ghost use Rattle.session_queries.specs.Inner.Assigned.{assigned_each, assigned_from, assigned_in_order};
 ghost use Rattle.session_queries.specs.Updates.{columns_set};
 
 use iso_lexer::{Ident, Name, same_name};
@@ -115,7 +116,7 @@ fn assigned_by_name<'a>(
     columns: &[Column<'_>],
     names: &[Name<'a>],
 ) -> Result<Result<AssignedColumns, Ident<'a>>, AllocError>
-    ensures { IfOk result (λ found. found ≡ assigned_by_name (map column_of columns.now) (map name_of names.now)) }
+    ensures { IfOk result (λ found. found ≡ assigned_each (map column_of columns.now) (map name_of names.now)) }
 {
     let mut to = Vec::new(alloc);
     for name in names {
@@ -128,6 +129,7 @@ fn assigned_by_name<'a>(
 }
 
 /// The columns that an INSERT with this list of names gives values to, or the first name that no column has. Without a list the values go to the first columns.
+#[tactic(auto, using(crate::proofs::Assigning::all_in_order, crate::proofs::Assigning::each_by_name))]
 pub fn columns_assigned<'a>(
     alloc: Global,
     columns: &[Column<'_>],
@@ -155,6 +157,7 @@ fn assigned_names<'a>(
 }
 
 /// The columns that an UPDATE assigns to, or the first name that no column has.
+#[tactic(auto, using(crate::proofs::Assigning::each_by_name))]
 pub fn columns_set<'a>(
     alloc: Global,
     columns: &[Column<'_>],

@@ -3,7 +3,8 @@
 ghost use Rattle.std.specs.Prelude.{◌≡◌, [], map, option_map};
 ghost use Rattle.sql_trees.specs.Trees.{agg_of, tree_of, trees, Column as NamedColumn};
 ghost use Rattle.sql_trees.specs.Statements.{OrderTree, SetTree, column_of, exprs_of, item_of, name_of, order_of, select_of, set_of, update_of};
-ghost use Rattle.session_queries.specs.Queries.{cols_of, first_of, lacking, lacking_agg, lacking_among, lacking_if, lacking_item, lacking_key, lacking_rows, lacking_select};
+ghost use Rattle.session_queries.specs.Queries.{cols_of, first_of, lacking, lacking_among, lacking_if, lacking_item, lacking_key, lacking_rows, lacking_select};
+ghost use Rattle.session_queries.specs.Inner.Parts.{lacking_agg};
 ghost use Rattle.session_queries.specs.Updates.{lacking_update};
 
 use crate::keys::aliased;
@@ -100,6 +101,7 @@ fn lacking_agg<'a>(columns: &Columns<'_>, agg: &Agg<'a>) -> Option<Ident<'a>>
     }
 }
 
+#[tactic(auto, using(crate::proofs::Parts::item_lacks))]
 fn lacking_item<'a>(columns: &Columns<'_>, item: &Item<'a>) -> Option<Ident<'a>>
     ensures { result ≡ lacking_item columns.now (item_of item.now) }
 {

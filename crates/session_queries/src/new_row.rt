@@ -1,11 +1,11 @@
 //! The row that an INSERT makes of its values.
 
-ghost use Rattle.std.specs.Prelude.{◌≡◌, IfOk, Ok, [], length, map, replicate, slice_set};
+ghost use Rattle.std.specs.Prelude.{◌≡◌, IfOk, [], length, map, replicate, slice_set};
 ghost use Rattle.sql_trees.specs.Trees.{tree_of};
 ghost use Rattle.sql_values.specs.declared.value.Value.TheVariants.{Null as SqlNull};
-ghost use Rattle.sql_values.specs.Values.{Answers, if_ok};
+ghost use Rattle.sql_values.specs.Values.{Answers};
 ghost use Rattle.sql_values.specs.Expressions.{value};
-ghost use Rattle.session_queries.specs.Queries.{each, assigned, placed, new_values};
+ghost use Rattle.session_queries.specs.Queries.{each, filled, new_values};
 
 use crate::assigned::{AssignedColumn, AssignedColumns};
 use sql_trees::Expr;
@@ -58,7 +58,7 @@ pub fn filled<'a>(
     values: &[Value],
     row: Vec<Value>,
 ) -> Result<Row, ValueFault<'a>>
-    ensures values { Answers result (if_ok (assigned to.now values.now) (λ vs. Ok (placed to.now vs row.items))) }
+    ensures values { Answers result (filled to.now values.now row.items) }
     ensures long { IfOk result (λ filled. length filled ≡ length row.items) }
 {
     let mut row = row;

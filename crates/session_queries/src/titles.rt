@@ -3,7 +3,8 @@
 ghost use Rattle.std.specs.Prelude.{◌≡◌, ◌++◌, IfOk, OnOk, length, map, option_map};
 ghost use Rattle.sql_trees.specs.Trees.{agg_of, tree_of};
 ghost use Rattle.sql_trees.specs.Statements.{All, column_of, item_of, name_of};
-ghost use Rattle.session_queries.specs.Queries.{Counted, agg_title, counted, item_titles, kind_title, own_title, title_of, title_or, titles_of};
+ghost use Rattle.session_queries.specs.Queries.{agg_title, counted, item_titles, own_title, title_of, titles_of};
+ghost use Rattle.session_queries.specs.Inner.Parts.{kind_title, title_or};
 
 use iso_lexer::{Ident, Name};
 use result_tables::Title;
@@ -80,6 +81,7 @@ fn kind_title<'a>(kind: AggKind) -> Title<'a>
     }
 }
 
+#[tactic(auto, using(crate::proofs::Parts::titled_by_kind))]
 fn own_title<'a>(agg: &Agg<'_>) -> Title<'a>
     ensures { result ≡ own_title (agg_of agg.now) }
 {
@@ -91,7 +93,7 @@ fn own_title<'a>(agg: &Agg<'_>) -> Title<'a>
 
 /// An aggregate without an alias has its own title.
 fn agg_title<'a>(agg: &Agg<'a>, alias: Option<Name<'a>>) -> Title<'a>
-    ensures { result ≡ agg_title (agg_of agg.now) (option_map name_of alias.entry) }
+    ensures { result ≡ agg_title (record { agg = agg_of agg.now; alias = option_map name_of alias.entry }) }
 {
     match alias {
         Some(given) => Title::Column(Ident::new(given)),
@@ -101,7 +103,7 @@ fn agg_title<'a>(agg: &Agg<'a>, alias: Option<Name<'a>>) -> Title<'a>
 
 /// The titles of the aggregates among the items.
 pub fn agg_titles<'a>(alloc: Global, items: &[Item<'a>]) -> Result<Vec<Title<'a>>, AllocError>
-    ensures titles { IfOk result (λ titles. titles.items ≡ map (λ (a : Counted). agg_title a.agg a.alias) (counted (map item_of items.now))) }
+    ensures titles { IfOk result (λ titles. titles.items ≡ map agg_title (counted (map item_of items.now))) }
     ensures long { IfOk result (λ titles. length titles.items ≡ length (counted (map item_of items.now))) }
 {
     let mut titles = Vec::new(alloc);

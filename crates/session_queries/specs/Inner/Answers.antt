@@ -1,12 +1,22 @@
 -- What a query answers at the rows that it takes.
-use Rattle.std.specs.Prelude.{Bool, true, false, List, [], ◌∷◌, Result}
+use Rattle.std.specs.Prelude.{Bool, true, false, List, [], ◌∷◌, map, Result, Ok}
 use Rattle.sql_trees.specs.Statements.{ColumnTree, ItemTree, SelectTree}
 use Rattle.sql_values.specs.declared.value.Value.{Value}
 use Rattle.sql_values.specs.declared.fault.ValueFault.{ValueFault}
 use Rattle.sql_values.specs.Values.{if_ok}
+use Rattle.sql_values.specs.Aggregates.{aggregate}
 use Rattle.result_tables.specs.Results.{Results}
 use Rattle.session_queries.specs.Ordering.{rows_at}
-use Rattle.session_queries.specs.Queries.{counted, results_by, taken}
+use Rattle.session_queries.specs.Queries.{Counted, agg_title, cols_of, counted, each, results_by, taken}
+
+-- the items at each of the rows, under their titles
+abbrev pub row_results : List ColumnTree → List ItemTree → List (List Value) → Result Results ValueFault
+row_results columns is taken = results_by columns is [] taken
+
+-- the aggregates over all of the rows, one after the other, as one row
+abbrev pub agg_results : List ColumnTree → List Counted → List (List Value) → Result Results ValueFault
+agg_results columns aggs taken =
+    if_ok (each (λ (a : Counted). aggregate a.agg (cols_of columns) taken) aggs) (λ row. Ok (record { titles = map agg_title aggs; rows = row ∷ [] }))
 
 -- the items at each of the rows, or the aggregates over all of them, under their titles
 abbrev pub answered : List ColumnTree → List ItemTree → List (List Value) → Result Results ValueFault

@@ -1,10 +1,10 @@
 use Rattle.std.proofs.Common.{◌≡◌, drop, map}
 use Rattle.sql_trees.specs.Statements.{column_of, name_of}
-use Rattle.session_queries.specs.Queries.{assigned_by_name}
+use Rattle.session_queries.specs.Inner.Assigned.{assigned_each}
 use Rattle.session_queries.specs.Inner.Fronts.{in_front}
 use Rattle.session_queries.proofs.assigned.assigned_by_name.Given as goal
 
 abbrev pub invariant-loop-name : goal.invariant-loop-name
 invariant-loop-name l =
     let columns = map column_of l.columns in
-    assigned_by_name columns (map name_of l.names) ≡ in_front l.to.items (assigned_by_name columns (map name_of (drop l.name-index l.names)))
+    assigned_each columns (map name_of l.names) ≡ in_front l.to.items (assigned_each columns (map name_of (drop l.name-index l.names)))

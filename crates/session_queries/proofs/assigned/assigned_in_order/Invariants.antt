@@ -1,6 +1,6 @@
 use Rattle.std.proofs.Common.{◌≡◌, ◌++◌, drop, map}
 use Rattle.sql_trees.specs.Statements.{column_of}
-use Rattle.session_queries.specs.Queries.{assigned_in_order}
+use Rattle.session_queries.specs.Inner.Assigned.{assigned_in_order}
 use Rattle.session_queries.proofs.assigned.assigned_in_order.Given as goal
 
 abbrev pub invariant-loop-place : goal.invariant-loop-place

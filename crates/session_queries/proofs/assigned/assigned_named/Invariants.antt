@@ -1,6 +1,6 @@
 use Rattle.std.proofs.Common.{◌≡◌, drop, map}
 use Rattle.sql_trees.specs.Statements.{column_of, name_of}
-use Rattle.session_queries.specs.Queries.{assigned_from}
+use Rattle.session_queries.specs.Inner.Assigned.{assigned_from}
 use Rattle.session_queries.proofs.assigned.assigned_named.Given as goal
 
 abbrev pub invariant-loop-place : goal.invariant-loop-place

@@ -1,12 +1,12 @@
 use Rattle.std.proofs.Common.{◌≡◌, ◌+◌, ◌++◌, length, map, drop}
 use Rattle.sql_trees.specs.Statements.{item_of}
-use Rattle.session_queries.specs.Queries.{Counted, agg_title, counted}
+use Rattle.session_queries.specs.Queries.{agg_title, counted}
 use Rattle.session_queries.proofs.titles.agg_titles.Given as goal
 
 abbrev pub invariant-loop-item : goal.invariant-loop-item
 invariant-loop-item l =
     let rest = counted (map item_of (drop l.item-index l.items)) in
     record {
-      so_far : map (λ (a : Counted). agg_title a.agg a.alias) (counted (map item_of l.items)) ≡ l.titles.items ++ map (λ (a : Counted). agg_title a.agg a.alias) rest;
+      so_far : map agg_title (counted (map item_of l.items)) ≡ l.titles.items ++ map agg_title rest;
       long : length (counted (map item_of l.items)) ≡ length l.titles.items + length rest;
     }

@@ -1,0 +1,21 @@
+-- An aggregate lacks what its expression lacks, whatever it is called, and is titled by its kind.
+use Rattle.std.proofs.Common.{◌≡◌, ℕ, List, refl}
+use Rattle.std.specs.Prelude.{Option}
+use Rattle.sql_trees.specs.declared.expr.AggKind.{AggKind}
+use Rattle.sql_trees.specs.declared.expr.AggKind.TheVariants as agg_kind
+use Rattle.sql_trees.specs.Trees.{Tree, AggTree}
+use Rattle.sql_trees.specs.Trees as tree
+use Rattle.sql_trees.specs.Statements as stmt
+use Rattle.sql_values.specs.Expressions.{Cols}
+use Rattle.session_queries.specs.Queries.{lacking_item, own_title}
+use Rattle.session_queries.specs.Inner.Parts.{kind_title, lacking_agg}
+
+pub item_lacks : (cols : Cols) (a : AggTree) (alias : Option (List ℕ)) → lacking_item cols (stmt.Aggregate a alias) ≡ lacking_agg cols a
+item_lacks cols tree.CountRows alias = refl
+item_lacks cols (tree.Of k e) alias = refl
+
+pub titled_by_kind : (k : AggKind) (e : Tree) → own_title (tree.Of k e) ≡ kind_title k
+titled_by_kind agg_kind.Count e = refl
+titled_by_kind agg_kind.Sum e = refl
+titled_by_kind agg_kind.Min e = refl
+titled_by_kind agg_kind.Max e = refl

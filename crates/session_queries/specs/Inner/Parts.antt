@@ -1,0 +1,23 @@
+-- What the parts of an item lack, and how they are titled.
+use Rattle.std.specs.Prelude.{List, ℕ, None, Option}
+use Rattle.std.specs.Option.{option_map_or}
+use Rattle.sql_trees.specs.declared.expr.AggKind.{AggKind}
+use Rattle.sql_trees.specs.Trees.{Tree, AggTree}
+use Rattle.sql_trees.specs.Trees as tree
+use Rattle.sql_trees.specs.Statements as stmt
+use Rattle.sql_values.specs.Expressions.{Cols}
+use Rattle.result_tables.specs.declared.title.Title.{Title}
+use Rattle.result_tables.specs.declared.title.Title.TheVariants.{Column as Named}
+use Rattle.session_queries.specs.Queries.{lacking_item, own_title, title_of}
+
+-- the first column that an aggregate names and that isn't there
+abbrev pub lacking_agg : Cols → AggTree → Option (List ℕ)
+lacking_agg cols a = lacking_item cols (stmt.Aggregate a None)
+
+-- the title of an expression with this alias
+abbrev pub title_or : Tree → Option (List ℕ) → Title
+title_or e alias = option_map_or Named alias (title_of e)
+
+-- the title of an aggregate of this kind
+abbrev pub kind_title : AggKind → Title
+kind_title k = own_title (tree.Of k tree.Null)
