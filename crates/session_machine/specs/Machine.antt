@@ -1,7 +1,7 @@
 -- The machine of all sessions: what an event makes of it and answers, or why it is refused.
-use Rattle.std.specs.Prelude.{ℕ, ◌+◌, ◌==◌, nat_lt, Bool, true, false, not, ◌&&◌, ◌||◌, List, [], ◌∷◌, length, replicate, Option, Some, None, option_map, is_some, is_none, slice_get, slice_set, if◌then◌else◌, Result, Ok, Err}
+use Rattle.std.specs.Prelude.{ℕ, ◌+◌, ◌==◌, nat_lt, Bool, true, false, not, ◌&&◌, ◌||◌, List, [], ◌∷◌, length, replicate, Option, Some, None, option_map, is_some, is_none, unwrap_or, slice_get, slice_set, if◌then◌else◌, Result, Ok, Err}
 use Rattle.std.specs.List.{list_any}
-use Rattle.std.specs.Option.{option_or}
+use Rattle.std.specs.Option.{option_map_or, option_or}
 use Rattle.sql_trees.specs.Statements.{StmtTree}
 use Rattle.sql_values.specs.declared.value.Value.{Value}
 use Rattle.row_versions.specs.Log.{empty_content}
@@ -15,7 +15,7 @@ use Rattle.session_machine.specs.declared.event.Event.TheVariants.{Launch, Step,
 use Rattle.session_machine.specs.declared.event.Mode.{Mode}
 use Rattle.session_machine.specs.declared.event.Mode.TheVariants.{Directed, Free}
 use Rattle.session_machine.specs.declared.reply.Outcome.{Outcome}
-use Rattle.session_machine.specs.declared.reply.Outcome.TheVariants.{Launched, Failed, Waits, Left}
+use Rattle.session_machine.specs.declared.reply.Outcome.TheVariants.{Launched, Failed, Left}
 use Rattle.session_machine.specs.declared.reply.Reply.{Reply}
 use Rattle.session_machine.specs.declared.fault.Refusal.{Refusal}
 use Rattle.session_machine.specs.declared.fault.Refusal.TheVariants.{Busy, NotYourTurn, StillBlocked, Idle, NoSession, BlockNotAllowed}
@@ -46,15 +46,11 @@ abbrev pub opening : ℕ → Machine
 opening count = record { db = empty_database; sessions = replicate (count + 1) at_rest; events = 0 }
 
 abbrev pub stmts_at : Blocks → ℕ → List StmtTree
-stmts_at blocks k = stmts_of (slice_get blocks k) where
-  stmts_of : Option (List StmtTree) → List StmtTree
-  stmts_of None = []
-  stmts_of (Some stmts) = stmts
+stmts_at blocks k = unwrap_or (slice_get blocks k) []
 
 -- the session may be given the block: it is there, and tables are made and dropped by the control session alone
 abbrev pub is_allowed : Blocks → ℕ → ℕ → Bool
-is_allowed blocks session k =
-    nat_lt k (length blocks) && ((session == 0) || not (list_any is_definition (stmts_at blocks k)))
+is_allowed blocks session k = nat_lt k (length blocks) && ((session == 0) || not (list_any is_definition (stmts_at blocks k)))
 
 -- the session is in its block
 abbrev pub is_busy : Session → Bool
@@ -105,8 +101,7 @@ abbrev pub is_quiet : Machine → Bool
 is_quiet m = is_none (turn_in m)
 
 abbrev pub is_turn : Option ℕ → ℕ → Bool
-is_turn None session = false
-is_turn (Some k) session = k == session
+is_turn turn session = option_map_or (λ k. k == session) turn false
 
 abbrev pub is_directed : Mode → Bool
 is_directed Directed = true
@@ -119,16 +114,17 @@ pub record Next : Type 0 where
 abbrev pub with_session : Machine → Database → ℕ → Session → Machine
 with_session m db k s = record { db = db; sessions = slice_set m.sessions k s; events = m.events + 1 }
 
+-- an event is done: the database, what the session is now, and what came of it; a block is over for a session that isn't in it any more
+abbrev pub comes_out : Machine → Database → ℕ → Session → Outcome → Next
+comes_out m db session s outcome = record { machine = with_session m db session s; reply = record { outcome = outcome; ended = is_none s.place } }
+
 -- where a session stands that is given these statements: a block without statements ends at once
 abbrev pub first_place : ℕ → List StmtTree → Option Place
 first_place block [] = None
 first_place block (stmt ∷ stmts) = Some (record { block = block; next = 0 })
 
 abbrev pub launched : Machine → ℕ → Session → Option Place → Next
-launched m session s place = record {
-  machine = with_session m m.db session (record { place = place; transaction = s.transaction; statement = None });
-  reply = record { outcome = Launched; ended = is_none place };
-}
+launched m session s place = comes_out m m.db session (record { place = place; transaction = s.transaction; statement = None }) Launched
 
 abbrev pub launch_of : Blocks → Mode → Machine → ℕ → ℕ → Option Session → Result Next Refusal
 launch_of blocks mode m session block None = Err NoSession
@@ -144,22 +140,15 @@ is_failed outcome = false
 
 -- an implicit transaction is committed with the block's last statement
 abbrev pub closed_at_end : Effect → Transaction → Effect
-closed_at_end effect (Open t) =
-    if t.explicit then effect else record { db = committed effect.db t.tx; transaction = Closed; statement = None; outcome = effect.outcome }
+closed_at_end effect (Open t) = if t.explicit then effect else record { db = committed effect.db t.tx; transaction = Closed; statement = None; outcome = effect.outcome }
 closed_at_end effect transaction = effect
 
 abbrev pub finished : Machine → ℕ → Effect → Option Place → Next
-finished m session effect place = record {
-  machine = with_session m effect.db session (record { place = place; transaction = effect.transaction; statement = None });
-  reply = record { outcome = effect.outcome; ended = is_none place };
-}
+finished m session effect place = comes_out m effect.db session (record { place = place; transaction = effect.transaction; statement = None }) effect.outcome
 
 -- a session that waits stays at its statement
 abbrev pub waits_there : Machine → ℕ → Place → Effect → Next
-waits_there m session place effect = record {
-  machine = with_session m effect.db session (record { place = Some place; transaction = effect.transaction; statement = effect.statement });
-  reply = record { outcome = effect.outcome; ended = false };
-}
+waits_there m session place effect = comes_out m effect.db session (record { place = Some place; transaction = effect.transaction; statement = effect.statement }) effect.outcome
 
 -- after a statement that is over the rest of the block is dropped if it failed; else the session ends its block, or goes on
 abbrev pub after_end : Machine → ℕ → Place → ℕ → Effect → Next
@@ -184,8 +173,7 @@ step_stmt mode m session s place count (Some stmt) =
 
 abbrev pub step_at : Blocks → Mode → Machine → ℕ → Session → Option Place → Result Next Refusal
 step_at blocks mode m session s None = Err Idle
-step_at blocks mode m session s (Some place) =
-    step_stmt mode m session s place (length (stmts_at blocks place.block)) (slice_get (stmts_at blocks place.block) place.next)
+step_at blocks mode m session s (Some place) = step_stmt mode m session s place (length (stmts_at blocks place.block)) (slice_get (stmts_at blocks place.block) place.next)
 
 abbrev pub step_of : Blocks → Mode → Machine → ℕ → Option Session → Result Next Refusal
 step_of blocks mode m session None = Err NoSession
@@ -199,11 +187,7 @@ left_behind db transaction = db
 abbrev pub leave_of : Mode → Machine → ℕ → Option Session → Result Next Refusal
 leave_of mode m session None = Err NoSession
 leave_of mode m session (Some s) =
-    if is_directed mode && not (is_quiet m) then Err NotYourTurn
-    else Ok (record {
-      machine = with_session m (left_behind m.db s.transaction) session at_rest;
-      reply = record { outcome = Left; ended = true };
-    })
+    if is_directed mode && not (is_quiet m) then Err NotYourTurn else Ok (comes_out m (left_behind m.db s.transaction) session at_rest Left)
 
 -- the session that does an event
 abbrev pub session_of : Event → ℕ
