@@ -123,17 +123,6 @@ abbrev pub first_place : ℕ → List StmtTree → Option Place
 first_place block [] = None
 first_place block (stmt ∷ stmts) = Some (record { block = block; next = 0 })
 
-abbrev pub launched : Machine → ℕ → Session → Option Place → Next
-launched m session s place = comes_out m m.db session (record { place = place; transaction = s.transaction; statement = None }) Launched
-
-abbrev pub launch_of : Blocks → Mode → Machine → ℕ → ℕ → Option Session → Result Next Refusal
-launch_of blocks mode m session block None = Err NoSession
-launch_of blocks mode m session block (Some s) =
-    if not (is_allowed blocks session block) then Err BlockNotAllowed
-    else if is_busy s then Err Busy
-    else if is_directed mode && not (is_quiet m) then Err NotYourTurn
-    else Ok (launched m session s (first_place block (stmts_at blocks block)))
-
 abbrev pub is_failed : Outcome → Bool
 is_failed (Failed fault) = true
 is_failed outcome = false
@@ -164,29 +153,31 @@ after_stmt m session place count effect = if is_some effect.statement then waits
 abbrev pub around : Machine → ℕ → Session → Surroundings
 around m session s = record { sessions = slice_set m.sessions session (record s { statement = None }); number = m.events }
 
-abbrev pub step_stmt : Mode → Machine → ℕ → Session → Place → ℕ → Option StmtTree → Result Next Refusal
-step_stmt mode m session s place count None = Err Idle
-step_stmt mode m session s place count (Some stmt) =
+-- a session does the statement at its place, of so many in its block
+abbrev pub step_with : Mode → Machine → ℕ → Session → Place → ℕ → StmtTree → Result Next Refusal
+step_with mode m session s place count stmt =
     if is_directed mode && not (is_turn (turn_in m) session) then Err NotYourTurn
     else if is_still_blocked m.db s then Err StillBlocked
     else Ok (after_stmt m session place count (run_stmt m.db s.transaction s.statement (around m session s) stmt))
 
-abbrev pub step_at : Blocks → Mode → Machine → ℕ → Session → Option Place → Result Next Refusal
-step_at blocks mode m session s None = Err Idle
-step_at blocks mode m session s (Some place) = step_stmt mode m session s place (length (stmts_at blocks place.block)) (slice_get (stmts_at blocks place.block) place.next)
-
-abbrev pub step_of : Blocks → Mode → Machine → ℕ → Option Session → Result Next Refusal
-step_of blocks mode m session None = Err NoSession
-step_of blocks mode m session (Some s) = step_at blocks mode m session s s.place
+abbrev pub step_from : Blocks → Mode → Machine → ℕ → Session → Place → Result Next Refusal
+step_from blocks mode m session s place =
+    option_map_or (step_with mode m session s place (length (stmts_at blocks place.block))) (slice_get (stmts_at blocks place.block) place.next) (Err Idle)
 
 -- a session that leaves rolls its open transaction back
 abbrev pub left_behind : Database → Transaction → Database
 left_behind db (Open t) = rolled_back db t.tx
 left_behind db transaction = db
 
-abbrev pub leave_of : Mode → Machine → ℕ → Option Session → Result Next Refusal
-leave_of mode m session None = Err NoSession
-leave_of mode m session (Some s) =
+-- what the event makes of the machine where this session does it, or why it is refused
+abbrev pub next_for : Blocks → Mode → Machine → Session → Event → Result Next Refusal
+next_for blocks mode m s (Launch session block) =
+    if not (is_allowed blocks session block) then Err BlockNotAllowed
+    else if is_busy s then Err Busy
+    else if is_directed mode && not (is_quiet m) then Err NotYourTurn
+    else Ok (comes_out m m.db session (record { place = first_place block (stmts_at blocks block); transaction = s.transaction; statement = None }) Launched)
+next_for blocks mode m s (Step session) = option_map_or (step_from blocks mode m session s) s.place (Err Idle)
+next_for blocks mode m s (Leave session) =
     if is_directed mode && not (is_quiet m) then Err NotYourTurn else Ok (comes_out m (left_behind m.db s.transaction) session at_rest Left)
 
 -- the session that does an event
@@ -197,9 +188,7 @@ session_of (Leave session) = session
 
 -- what an event makes of the machine, with the reply to it, or why it is refused
 abbrev pub next : Blocks → Mode → Machine → Event → Result Next Refusal
-next blocks mode m (Launch session block) = launch_of blocks mode m session block (slice_get m.sessions session)
-next blocks mode m (Step session) = step_of blocks mode m session (slice_get m.sessions session)
-next blocks mode m (Leave session) = leave_of mode m session (slice_get m.sessions session)
+next blocks mode m event = option_map_or (λ s. next_for blocks mode m s event) (slice_get m.sessions (session_of event)) (Err NoSession)
 
 -- what a SELECT that begins now would show of the table: none where there is no such table
 abbrev pub visible_to : Database → Session → List ℕ → Option (List (List Value))

@@ -16,7 +16,6 @@ use Rattle.session_machine.specs.declared.session.Transaction.{Transaction}
 use Rattle.session_machine.specs.declared.session.Transaction.TheVariants.{Closed, Open, Aborted as AbortedOne}
 use Rattle.session_machine.specs.declared.session.Progress.{Progress}
 use Rattle.session_machine.specs.declared.session.Request.{Request}
-use Rattle.session_machine.specs.declared.session.Waiting.{Waiting}
 use Rattle.session_machine.specs.declared.fault.StmtFault.{StmtFault}
 use Rattle.session_machine.specs.declared.fault.StmtFault.TheVariants.{Value as OfValue, NoColumnOf, NoPosition, NoTable, TooManyValues}
 use Rattle.session_machine.specs.declared.reply.Outcome.{Outcome}
@@ -39,7 +38,7 @@ going_on t around p = record { t = t; table = p.table.0; view = p.view; around =
 -- where a statement stands that waits for this: its table and view, its place among its targets, and the rows so far
 abbrev pub standing : Work → Walk → Request → Progress
 standing w walk request =
-    let wait : Waiting = record { number = w.around.number; request = request } in record { table = record { 0 = w.table }; view = w.view; place = walk.place; rows = walk.rows; wait = wait }
+    record { table = record { 0 = w.table }; view = w.view; place = walk.place; rows = walk.rows; wait = record { number = w.around.number; request = request } }
 
 -- the statement waits: its transaction's snapshot is taken, and it stands where it has come to
 abbrev pub pauses : Content → Work → Walk → Request → Effect

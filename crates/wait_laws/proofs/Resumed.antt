@@ -28,7 +28,8 @@ use Rattle.session_machine.specs.Statements.{Surroundings, Effect, create, dropp
 use Rattle.session_machine.specs.Rows.{Work, columns_in, cols_in}
 use Rattle.session_machine.specs.Running.{answered, beginning, run_on, run_stmt, select, select_rows, unless_wrong}
 use Rattle.session_machine.specs.Inner.Pieces.{drop_ended, lock_again, select_at}
-use Rattle.session_machine.specs.Machine.{Machine, Blocks, Next, next, stmts_at, around, at_rest, first_place, launch_of, step_of, leave_of, session_of}
+use Rattle.session_machine.specs.Machine.{Machine, Blocks, Next, next, stmts_at, around, at_rest, first_place, session_of}
+use Rattle.session_machine.specs.Inner.Steps.{launch_of, step_of, leave_of}
 use Rattle.session_machine.specs.Sound.{command_in}
 use Rattle.wait_laws.specs.Laws.{GoesOnInItsView, IsAtWork, IsInViewOf, RunAtWork, StatementsStayAsBegun, transaction_at, view_at}
 use Rattle.wait_laws.proofs.ByKind.{on_kind}
