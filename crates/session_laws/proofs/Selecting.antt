@@ -34,7 +34,8 @@ use Rattle.session_machine.specs.Views.{rows_shown}
 use Rattle.session_machine.specs.declared.session.Progress.{Progress}
 use Rattle.session_machine.specs.declared.session.Session.{Session}
 use Rattle.session_machine.specs.Statements.{Surroundings, Effect, columns_at}
-use Rattle.session_machine.specs.Running.{answered, select_at, run_stmt}
+use Rattle.session_machine.specs.Running.{answered, run_stmt}
+use Rattle.session_machine.specs.Inner.Pieces.{select_at}
 use Rattle.session_machine.specs.Machine.{Next, next, around, visible_to, visible_for}
 use Rattle.session_laws.specs.Laws.{VisibleIsSelected, select_all, shown_by}
 use Rattle.session_laws.proofs.Staying.{hides-begin, shown_stays}

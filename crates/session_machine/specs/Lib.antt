@@ -10,3 +10,4 @@ pub mod Running
 pub mod Machine
 pub mod Engine
 pub mod Sound
+pub mod Inner

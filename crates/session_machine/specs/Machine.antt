@@ -1,7 +1,7 @@
 -- The machine of all sessions: what an event makes of it and answers, or why it is refused.
-use Rattle.std.specs.Prelude.{ℕ, ◌+◌, ◌==◌, nat_lt, Bool, true, false, not, ◌&&◌, ◌||◌, List, [], ◌∷◌, length, replicate, Option, Some, None, option_map, is_some, is_none, slice_get, slice_set, if◌then◌else◌, Result, Ok, Err}
+use Rattle.std.specs.Prelude.{ℕ, ◌+◌, ◌==◌, nat_lt, Bool, true, false, not, ◌&&◌, ◌||◌, List, [], ◌∷◌, length, replicate, Option, Some, None, option_map, is_some, is_none, unwrap_or, slice_get, slice_set, if◌then◌else◌, Result, Ok, Err}
 use Rattle.std.specs.List.{list_any}
-use Rattle.std.specs.Option.{option_or}
+use Rattle.std.specs.Option.{option_map_or, option_or}
 use Rattle.sql_trees.specs.Statements.{StmtTree}
 use Rattle.sql_values.specs.declared.value.Value.{Value}
 use Rattle.row_versions.specs.Log.{empty_content}
@@ -15,7 +15,7 @@ use Rattle.session_machine.specs.declared.event.Event.TheVariants.{Launch, Step,
 use Rattle.session_machine.specs.declared.event.Mode.{Mode}
 use Rattle.session_machine.specs.declared.event.Mode.TheVariants.{Directed, Free}
 use Rattle.session_machine.specs.declared.reply.Outcome.{Outcome}
-use Rattle.session_machine.specs.declared.reply.Outcome.TheVariants.{Launched, Failed, Waits, Left}
+use Rattle.session_machine.specs.declared.reply.Outcome.TheVariants.{Launched, Failed, Left}
 use Rattle.session_machine.specs.declared.reply.Reply.{Reply}
 use Rattle.session_machine.specs.declared.fault.Refusal.{Refusal}
 use Rattle.session_machine.specs.declared.fault.Refusal.TheVariants.{Busy, NotYourTurn, StillBlocked, Idle, NoSession, BlockNotAllowed}
@@ -46,15 +46,11 @@ abbrev pub opening : ℕ → Machine
 opening count = record { db = empty_database; sessions = replicate (count + 1) at_rest; events = 0 }
 
 abbrev pub stmts_at : Blocks → ℕ → List StmtTree
-stmts_at blocks k = stmts_of (slice_get blocks k) where
-  stmts_of : Option (List StmtTree) → List StmtTree
-  stmts_of None = []
-  stmts_of (Some stmts) = stmts
+stmts_at blocks k = unwrap_or (slice_get blocks k) []
 
 -- the session may be given the block: it is there, and tables are made and dropped by the control session alone
 abbrev pub is_allowed : Blocks → ℕ → ℕ → Bool
-is_allowed blocks session k =
-    nat_lt k (length blocks) && ((session == 0) || not (list_any is_definition (stmts_at blocks k)))
+is_allowed blocks session k = nat_lt k (length blocks) && ((session == 0) || not (list_any is_definition (stmts_at blocks k)))
 
 -- the session is in its block
 abbrev pub is_busy : Session → Bool
@@ -105,8 +101,7 @@ abbrev pub is_quiet : Machine → Bool
 is_quiet m = is_none (turn_in m)
 
 abbrev pub is_turn : Option ℕ → ℕ → Bool
-is_turn None session = false
-is_turn (Some k) session = k == session
+is_turn turn session = option_map_or (λ k. k == session) turn false
 
 abbrev pub is_directed : Mode → Bool
 is_directed Directed = true
@@ -119,24 +114,14 @@ pub record Next : Type 0 where
 abbrev pub with_session : Machine → Database → ℕ → Session → Machine
 with_session m db k s = record { db = db; sessions = slice_set m.sessions k s; events = m.events + 1 }
 
+-- an event is done: the database, what the session is now, and what came of it; a block is over for a session that isn't in it any more
+abbrev pub comes_out : Machine → Database → ℕ → Session → Outcome → Next
+comes_out m db session s outcome = record { machine = with_session m db session s; reply = record { outcome = outcome; ended = is_none s.place } }
+
 -- where a session stands that is given these statements: a block without statements ends at once
 abbrev pub first_place : ℕ → List StmtTree → Option Place
 first_place block [] = None
 first_place block (stmt ∷ stmts) = Some (record { block = block; next = 0 })
-
-abbrev pub launched : Machine → ℕ → Session → Option Place → Next
-launched m session s place = record {
-  machine = with_session m m.db session (record { place = place; transaction = s.transaction; statement = None });
-  reply = record { outcome = Launched; ended = is_none place };
-}
-
-abbrev pub launch_of : Blocks → Mode → Machine → ℕ → ℕ → Option Session → Result Next Refusal
-launch_of blocks mode m session block None = Err NoSession
-launch_of blocks mode m session block (Some s) =
-    if not (is_allowed blocks session block) then Err BlockNotAllowed
-    else if is_busy s then Err Busy
-    else if is_directed mode && not (is_quiet m) then Err NotYourTurn
-    else Ok (launched m session s (first_place block (stmts_at blocks block)))
 
 abbrev pub is_failed : Outcome → Bool
 is_failed (Failed fault) = true
@@ -144,22 +129,15 @@ is_failed outcome = false
 
 -- an implicit transaction is committed with the block's last statement
 abbrev pub closed_at_end : Effect → Transaction → Effect
-closed_at_end effect (Open t) =
-    if t.explicit then effect else record { db = committed effect.db t.tx; transaction = Closed; statement = None; outcome = effect.outcome }
+closed_at_end effect (Open t) = if t.explicit then effect else record { db = committed effect.db t.tx; transaction = Closed; statement = None; outcome = effect.outcome }
 closed_at_end effect transaction = effect
 
 abbrev pub finished : Machine → ℕ → Effect → Option Place → Next
-finished m session effect place = record {
-  machine = with_session m effect.db session (record { place = place; transaction = effect.transaction; statement = None });
-  reply = record { outcome = effect.outcome; ended = is_none place };
-}
+finished m session effect place = comes_out m effect.db session (record { place = place; transaction = effect.transaction; statement = None }) effect.outcome
 
 -- a session that waits stays at its statement
 abbrev pub waits_there : Machine → ℕ → Place → Effect → Next
-waits_there m session place effect = record {
-  machine = with_session m effect.db session (record { place = Some place; transaction = effect.transaction; statement = effect.statement });
-  reply = record { outcome = effect.outcome; ended = false };
-}
+waits_there m session place effect = comes_out m effect.db session (record { place = Some place; transaction = effect.transaction; statement = effect.statement }) effect.outcome
 
 -- after a statement that is over the rest of the block is dropped if it failed; else the session ends its block, or goes on
 abbrev pub after_end : Machine → ℕ → Place → ℕ → Effect → Next
@@ -175,35 +153,32 @@ after_stmt m session place count effect = if is_some effect.statement then waits
 abbrev pub around : Machine → ℕ → Session → Surroundings
 around m session s = record { sessions = slice_set m.sessions session (record s { statement = None }); number = m.events }
 
-abbrev pub step_stmt : Mode → Machine → ℕ → Session → Place → ℕ → Option StmtTree → Result Next Refusal
-step_stmt mode m session s place count None = Err Idle
-step_stmt mode m session s place count (Some stmt) =
+-- a session does the statement at its place, of so many in its block
+abbrev pub step_with : Mode → Machine → ℕ → Session → Place → ℕ → StmtTree → Result Next Refusal
+step_with mode m session s place count stmt =
     if is_directed mode && not (is_turn (turn_in m) session) then Err NotYourTurn
     else if is_still_blocked m.db s then Err StillBlocked
     else Ok (after_stmt m session place count (run_stmt m.db s.transaction s.statement (around m session s) stmt))
 
-abbrev pub step_at : Blocks → Mode → Machine → ℕ → Session → Option Place → Result Next Refusal
-step_at blocks mode m session s None = Err Idle
-step_at blocks mode m session s (Some place) =
-    step_stmt mode m session s place (length (stmts_at blocks place.block)) (slice_get (stmts_at blocks place.block) place.next)
-
-abbrev pub step_of : Blocks → Mode → Machine → ℕ → Option Session → Result Next Refusal
-step_of blocks mode m session None = Err NoSession
-step_of blocks mode m session (Some s) = step_at blocks mode m session s s.place
+abbrev pub step_from : Blocks → Mode → Machine → ℕ → Session → Place → Result Next Refusal
+step_from blocks mode m session s place =
+    option_map_or (step_with mode m session s place (length (stmts_at blocks place.block))) (slice_get (stmts_at blocks place.block) place.next) (Err Idle)
 
 -- a session that leaves rolls its open transaction back
 abbrev pub left_behind : Database → Transaction → Database
 left_behind db (Open t) = rolled_back db t.tx
 left_behind db transaction = db
 
-abbrev pub leave_of : Mode → Machine → ℕ → Option Session → Result Next Refusal
-leave_of mode m session None = Err NoSession
-leave_of mode m session (Some s) =
-    if is_directed mode && not (is_quiet m) then Err NotYourTurn
-    else Ok (record {
-      machine = with_session m (left_behind m.db s.transaction) session at_rest;
-      reply = record { outcome = Left; ended = true };
-    })
+-- what the event makes of the machine where this session does it, or why it is refused
+abbrev pub next_for : Blocks → Mode → Machine → Session → Event → Result Next Refusal
+next_for blocks mode m s (Launch session block) =
+    if not (is_allowed blocks session block) then Err BlockNotAllowed
+    else if is_busy s then Err Busy
+    else if is_directed mode && not (is_quiet m) then Err NotYourTurn
+    else Ok (comes_out m m.db session (record { place = first_place block (stmts_at blocks block); transaction = s.transaction; statement = None }) Launched)
+next_for blocks mode m s (Step session) = option_map_or (step_from blocks mode m session s) s.place (Err Idle)
+next_for blocks mode m s (Leave session) =
+    if is_directed mode && not (is_quiet m) then Err NotYourTurn else Ok (comes_out m (left_behind m.db s.transaction) session at_rest Left)
 
 -- the session that does an event
 abbrev pub session_of : Event → ℕ
@@ -213,9 +188,7 @@ session_of (Leave session) = session
 
 -- what an event makes of the machine, with the reply to it, or why it is refused
 abbrev pub next : Blocks → Mode → Machine → Event → Result Next Refusal
-next blocks mode m (Launch session block) = launch_of blocks mode m session block (slice_get m.sessions session)
-next blocks mode m (Step session) = step_of blocks mode m session (slice_get m.sessions session)
-next blocks mode m (Leave session) = leave_of mode m session (slice_get m.sessions session)
+next blocks mode m event = option_map_or (λ s. next_for blocks mode m s event) (slice_get m.sessions (session_of event)) (Err NoSession)
 
 -- what a SELECT that begins now would show of the table: none where there is no such table
 abbrev pub visible_to : Database → Session → List ℕ → Option (List (List Value))

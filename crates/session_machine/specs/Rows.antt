@@ -1,11 +1,11 @@
 -- What a statement does with rows: SELECT, INSERT, and UPDATE, DELETE and a locking SELECT at each of their targets
 -- (PostgreSQL manual, 13.2.1 and 13.3.2, and the pages of the statements).
-use Rattle.std.specs.Prelude.{ℕ, Bool, true, false, List, [], ◌∷◌, length, map, Option, Some, None, option_map, unwrap_or, slice_get, filter_map, Result, Ok, Err, if◌then◌else◌}
-use Rattle.std.specs.Option.{option_or}
+use Rattle.std.specs.Prelude.{ℕ, List, [], ◌∷◌, length, map, Option, Some, None, option_map, unwrap_or, slice_get, filter_map, Result, Ok, Err, if◌then◌else◌}
+use Rattle.std.specs.Option.{option_map_or, option_or}
 use Rattle.sql_trees.specs.declared.stmt.Lock.{Lock}
 use Rattle.sql_trees.specs.declared.stmt.Lock.TheVariants as lock
 use Rattle.sql_trees.specs.Trees.{Tree}
-use Rattle.sql_trees.specs.Statements.{ColumnTree, KeyTree, InsertTree, UpdateTree, DeleteTree, SelectTree, key_name}
+use Rattle.sql_trees.specs.Statements.{ColumnTree, KeyTree, UpdateTree, DeleteTree, SelectTree, key_name}
 use Rattle.sql_values.specs.declared.value.Value.{Value}
 use Rattle.sql_values.specs.declared.fault.ValueFault.{ValueFault}
 use Rattle.sql_values.specs.Expressions.{Cols}
@@ -18,7 +18,6 @@ use Rattle.row_versions.specs.Log.{values_at, new_row, after_write}
 use Rattle.row_versions.specs.Rows.{rows_of}
 use Rattle.row_locks.specs.declared.held.Strength.{Strength}
 use Rattle.row_locks.specs.declared.held.Strength.TheVariants.{Share, Exclusive}
-use Rattle.row_locks.specs.declared.held.Held.{Held}
 use Rattle.row_locks.specs.Held.{with_lock}
 use Rattle.row_locks.specs.Cycles.{closes}
 use Rattle.unique_keys.specs.Checks.{KeyFound, KeyIsFree, KeyIsTaken, KeyIsHeld, key_found}
@@ -34,7 +33,7 @@ use Rattle.session_machine.specs.Views.{rows_shown}
 use Rattle.session_machine.specs.AskedKeys.{AskedKey}
 use Rattle.session_machine.specs.Waits.{blockers, waits_in}
 use Rattle.session_machine.specs.Statements.{Surroundings, columns_at, keys_at}
-use Rattle.session_machine.specs.Walks.{Stop, Visit, Walk, Blocked, Fails, stops, goes_on}
+use Rattle.session_machine.specs.Walks.{Stop, Visit, Blocked, Fails, stops, goes_on}
 
 -- a statement at work: in this transaction, at the table of this place, with this view, and what it finds around it
 pub record Work : Type 0 where
@@ -55,15 +54,11 @@ cols_in db w = cols_of (columns_in db w)
 
 -- a write of a row of the table; without values it deletes the row
 abbrev pub written : Database → Work → RowId → Option (List Value) → Database
-written db w row values = record db {
-  content = after_write db.content (record { tx = w.t.tx; command = w.t.command; table = record { 0 = w.table }; row = row; values = values });
-}
+written db w row values = record db { content = after_write db.content (record { tx = w.t.tx; command = w.t.command; table = record { 0 = w.table }; row = row; values = values }) }
 
 -- a new row is written, and its transaction holds it alone
 abbrev pub inserted : Database → Work → List Value → Database
-inserted db w values = record (written db w (new_row db.content) (Some values)) {
-  held = with_lock db.held (record { row = new_row db.content; tx = w.t.tx; strength = Exclusive });
-}
+inserted db w values = record (written db w (new_row db.content) (Some values)) { held = with_lock db.held (record { row = new_row db.content; tx = w.t.tx; strength = Exclusive }) }
 
 -- the names of the columns at these places
 abbrev pub names_at : List ColumnTree → List ℕ → List (List ℕ)
@@ -75,8 +70,7 @@ asked_key w values key = record { table = record { 0 = w.table }; columns = key.
 
 -- others hold the key: the statement waits for them, or fails where that wait would close a cycle
 abbrev pub held_by_others : Database → Work → AskedKey → Stop
-held_by_others db w asked =
-    if closes (waits_in db w.around.sessions) w.t.tx (blockers db (Key asked) w.t.tx) then Fails Deadlock else Blocked (Key asked)
+held_by_others db w asked = if closes (waits_in db w.around.sessions) w.t.tx (blockers db (Key asked) w.t.tx) then Fails Deadlock else Blocked (Key asked)
 
 -- what stops a statement at a key of which this is found: another row of the table has it, or others hold it
 abbrev pub stop_by : Database → Work → List ℕ → List Value → KeyTree → KeyFound → Option Stop
@@ -93,38 +87,24 @@ abbrev pub stop_at_keys : Database → Work → List ℕ → List Value → Opti
 stop_at_keys db w name values except [] = None
 stop_at_keys db w name values except (key ∷ keys) = option_or (stop_at_key db w name values except key) (stop_at_keys db w name values except keys)
 
--- the row is written where nothing stops the statement
-abbrev pub unless_stopped_by : Database → Database → Option Stop → Visit
-unless_stopped_by db after (Some stop) = stops db stop
-unless_stopped_by db after None = goes_on after []
+-- what is written is checked: it may have no NULL in a column where none may be, and its keys have to be free; `after` is the database with it
+abbrev pub checked : Work → List ℕ → Database → Option RowId → List Value → Database → Visit
+checked w name db except values after =
+    option_map_or (λ column. stops db (Fails (NullValue column name))) (null_in (columns_in db w) values)
+    (option_map_or (stops db) (stop_at_keys db w name values except (keys_in db w)) (goes_on after []))
 
--- the row isn't written where it has NULL in a column that may not be
-abbrev pub unless_null : List ℕ → Database → Visit → Option (List ℕ) → Visit
-unless_null name db due (Some column) = stops db (Fails (NullValue column name))
-unless_null name db due None = due
-
--- INSERT at a row of its VALUES, with these values
-abbrev pub insert_made : Work → List ℕ → Database → Result (List Value) ValueFault → Visit
-insert_made w name db (Err fault) = stops db (Fails (OfValue fault))
-insert_made w name db (Ok values) =
-    unless_null name db (unless_stopped_by db (inserted db w values) (stop_at_keys db w name values None (keys_in db w)))
-    (null_in (columns_in db w) values)
+-- the values of a row are evaluated, and then this is done with them
+abbrev pub with_values : Database → Result (List Value) ValueFault → (List Value → Visit) → Visit
+with_values db (Err fault) visit = stops db (Fails (OfValue fault))
+with_values db (Ok values) visit = visit values
 
 -- INSERT at a row of its VALUES: it is evaluated and assigned, its NULLs and then its keys are checked, and it is written
 abbrev pub insert_at : Work → List ℕ → List AssignedColumn → Database → List Tree → Visit
-insert_at w name to db row = insert_made w name db (new_values (length (columns_in db w)) to row)
+insert_at w name to db row = with_values db (new_values (length (columns_in db w)) to row) (λ values. checked w name db None values (inserted db w values))
 
 -- one target, as it is asked for
 abbrev pub ask : Database → Work → Strength → Option Tree → Seen → Asked
-ask db w strength filter seen = record {
-  tx = w.t.tx;
-  level = w.t.level;
-  view = w.view;
-  seen = seen;
-  strength = strength;
-  condition = filter;
-  cols = cols_in db w;
-}
+ask db w strength filter seen = record { tx = w.t.tx; level = w.t.level; view = w.view; seen = seen; strength = strength; condition = filter; cols = cols_in db w }
 
 -- the locks once the target is settled
 abbrev pub settled : Database → Work → Asked → Database
@@ -148,14 +128,9 @@ abbrev pub values_of : Database → Seen → List Value
 values_of db seen = unwrap_or (values_at db.content seen.place) []
 
 -- UPDATE with the version that it takes
-abbrev pub update_made : Work → List ℕ → Database → RowId → Result (List Value) ValueFault → Visit
-update_made w name db row (Err fault) = stops db (Fails (OfValue fault))
-update_made w name db row (Ok values) =
-    unless_null name db (unless_stopped_by db (written db w row (Some values)) (stop_at_keys db w name values (Some row) (keys_in db w)))
-    (null_in (columns_in db w) values)
-
 abbrev pub update_with : Work → UpdateTree → List AssignedColumn → Database → Seen → Visit
-update_with w u to db seen = update_made w u.table db seen.row (updated (cols_in db w) to u.sets (values_of db seen))
+update_with w u to db seen =
+    with_values db (updated (cols_in db w) to u.sets (values_of db seen)) (λ values. checked w u.table db (Some seen.row) values (written db w seen.row (Some values)))
 
 abbrev pub update_at : Work → UpdateTree → List AssignedColumn → Database → Seen → Visit
 update_at w u to db seen = at_target (update_with w u to) db w (ask db w Exclusive u.filter seen)
@@ -168,12 +143,8 @@ abbrev pub delete_at : Work → DeleteTree → Database → Seen → Visit
 delete_at w d db seen = at_target (delete_with w) db w (ask db w Exclusive d.filter seen)
 
 -- a locking SELECT with the version that it takes
-abbrev pub lock_made : Database → Result (List Value) ValueFault → Visit
-lock_made db (Err fault) = stops db (Fails (OfValue fault))
-lock_made db (Ok row) = goes_on db (row ∷ [])
-
 abbrev pub lock_with : Work → SelectTree → Database → Seen → Visit
-lock_with w s db seen = lock_made db (row_values (cols_in db w) s.items (values_of db seen))
+lock_with w s db seen = with_values db (row_values (cols_in db w) s.items (values_of db seen)) (λ row. goes_on db (row ∷ []))
 
 -- FOR SHARE shares the row; FOR UPDATE holds it alone
 abbrev pub strength_of : Lock → Strength

@@ -1,5 +1,6 @@
 -- A statement is run: it begins, or goes on where it waits, by what its session's transaction is (PostgreSQL manual, the pages of the statements, and 13.2).
-use Rattle.std.specs.Prelude.{ℕ, ℤ, Bool, true, false, not, ◌&&◌, List, [], ◌∷◌, length, drop, Option, Some, None, is_none, unwrap_or, Result, Ok, Err, if◌then◌else◌}
+use Rattle.std.specs.Prelude.{ℕ, ℤ, Bool, true, false, List, [], ◌∷◌, length, drop, Option, Some, None, unwrap_or, Result, Ok, Err, if◌then◌else◌}
+use Rattle.std.specs.Option.{option_map_or}
 use Rattle.sql_trees.specs.declared.stmt.Level.TheVariants.{ReadCommitted}
 use Rattle.sql_trees.specs.declared.stmt.Lock.{Lock}
 use Rattle.sql_trees.specs.Statements.{StmtTree, InsertTree, UpdateTree, DeleteTree, SelectTree, Begin, Commit, Rollback, SetTransaction, SetDeadlockTimeout, Create, DropTables, Inserts, Updates, Deletes, Selects}
@@ -7,9 +8,8 @@ use Rattle.sql_values.specs.declared.value.Value.{Value}
 use Rattle.sql_values.specs.declared.fault.ValueFault.{ValueFault}
 use Rattle.sql_values.specs.declared.fault.ValueFault.TheVariants.{NoColumn}
 use Rattle.result_tables.specs.Results.{Results}
-use Rattle.session_queries.specs.Queries.{AssignedColumn, cols_of, lacking_if, lacking_rows, lacking_select, result_of, some_too_long, columns_assigned, titles_of, wrong_position}
+use Rattle.session_queries.specs.Queries.{AssignedColumn, lacking_if, lacking_rows, lacking_select, result_of, some_too_long, columns_assigned, titles_of, wrong_position}
 use Rattle.session_queries.specs.Updates.{lacking_update, columns_set}
-use Rattle.row_versions.specs.declared.write.Seen.{Seen}
 use Rattle.row_versions.specs.Log.{Content}
 use Rattle.session_machine.specs.declared.session.OpenTransaction.{OpenTransaction}
 use Rattle.session_machine.specs.declared.session.Transaction.{Transaction}
@@ -23,9 +23,9 @@ use Rattle.session_machine.specs.declared.reply.Outcome.TheVariants.{Done, Rows,
 use Rattle.session_machine.specs.Tables.{Database, find_table}
 use Rattle.session_machine.specs.Transactions.{fresh, begun, committed, rolled_back, view_of, started}
 use Rattle.session_machine.specs.Views.{rows_shown}
-use Rattle.session_machine.specs.Statements.{Surroundings, Effect, fails, answers, turns, columns_at, create, drop_tables, level_set, begin_in, run_aborted}
+use Rattle.session_machine.specs.Statements.{Surroundings, Effect, fails, answers, turns, create, drop_tables, level_set, begin_in, run_aborted}
 use Rattle.session_machine.specs.Walks.{Stop, Walk, Blocked, Fails, walked, walked_from}
-use Rattle.session_machine.specs.Rows.{Work, columns_in, insert_at, update_at, delete_at, lock_at, passing_targets, taken_targets}
+use Rattle.session_machine.specs.Rows.{Work, columns_in, cols_in, insert_at, update_at, delete_at, lock_at, passing_targets, taken_targets}
 
 -- what a statement finds that begins: its view is taken now
 abbrev pub beginning : Database → OpenTransaction → Surroundings → ℕ → Work
@@ -35,20 +35,14 @@ beginning db t around k = record { t = t; table = k; view = view_of db.content t
 abbrev pub going_on : OpenTransaction → Surroundings → Progress → Work
 going_on t around p = record { t = t; table = p.table.0; view = p.view; around = around }
 
+-- where a statement stands that waits for this: its table and view, its place among its targets, and the rows so far
+abbrev pub standing : Work → Walk → Request → Progress
+standing w walk request =
+    record { table = record { 0 = w.table }; view = w.view; place = walk.place; rows = walk.rows; wait = record { number = w.around.number; request = request } }
+
 -- the statement waits: its transaction's snapshot is taken, and it stands where it has come to
 abbrev pub pauses : Content → Work → Walk → Request → Effect
-pauses before w walk request = record {
-  db = walk.db;
-  transaction = Open (started before w.t);
-  statement = Some (record {
-    table = record { 0 = w.table };
-    view = w.view;
-    place = walk.place;
-    rows = walk.rows;
-    wait = record { number = w.around.number; request = request };
-  });
-  outcome = Waits;
-}
+pauses before w walk request = record { db = walk.db; transaction = Open (started before w.t); statement = Some (standing w walk request); outcome = Waits }
 
 -- what a statement comes to that has gone so far: it is done, waits, or fails
 abbrev pub comes_to : Content → Work → (List (List Value) → Outcome) → Walk → Option Stop → Effect
@@ -67,59 +61,49 @@ abbrev pub assigned_to : Result (List AssignedColumn) (List ℕ) → List Assign
 assigned_to (Ok to) = to
 assigned_to (Err column) = []
 
+-- a statement begins at the table that its name means; where it means none, it fails
+abbrev pub at_table : Database → OpenTransaction → Surroundings → List ℕ → Option ℕ → (Work → Effect) → Effect
+at_table db t around name found runs = option_map_or (λ k. runs (beginning db t around k)) found (fails db t (NoTable name))
+
+-- it goes on with the columns that it assigns; where one isn't there, it fails
+abbrev pub assigning : Database → OpenTransaction → List ℕ → Result (List AssignedColumn) (List ℕ) → (List AssignedColumn → Effect) → Effect
+assigning db t table (Err column) runs = fails db t (NoColumnOf column table)
+assigning db t table (Ok to) runs = runs to
+
+-- it fails where its expressions name a column that isn't there; else this is due
+abbrev pub unless_lacking : Database → OpenTransaction → Option (List ℕ) → Effect → Effect
+unless_lacking db t lacking due = option_map_or (λ name. fails db t (OfValue (NoColumn name))) lacking due
+
 -- INSERT, from this place among the rows of its VALUES on
 abbrev pub insert_from : Database → Work → InsertTree → ℕ → List (List Value) → Effect
-insert_from db w i place rows =
-    ended db.content w done (walked (insert_at w i.table (assigned_to (columns_assigned (columns_in db w) i.columns))) db place rows (drop place i.rows))
+insert_from db w i place rows = ended db.content w done (walked (insert_at w i.table (assigned_to (columns_assigned (columns_in db w) i.columns))) db place rows (drop place i.rows))
 
--- the VALUES name no column, and no row has more of them than there are columns
-abbrev pub insert_fitting : Database → Work → InsertTree → List AssignedColumn → Option (List ℕ) → Effect
-insert_fitting db w i to (Some name) = fails db w.t (OfValue (NoColumn name))
-insert_fitting db w i to None =
-    if some_too_long (length to) i.rows then fails db w.t TooManyValues else insert_from db w i 0 []
-
-abbrev pub insert_to : Database → Work → InsertTree → Result (List AssignedColumn) (List ℕ) → Effect
-insert_to db w i (Err column) = fails db w.t (NoColumnOf column i.table)
-insert_to db w i (Ok to) = insert_fitting db w i to (lacking_rows i.rows)
-
+-- INSERT at the table that is found: no row of its VALUES may have more of them than there are columns
 abbrev pub insert : Database → OpenTransaction → Surroundings → InsertTree → Option ℕ → Effect
-insert db t around i None = fails db t (NoTable i.table)
-insert db t around i (Some k) = insert_to db (beginning db t around k) i (columns_assigned (columns_at db.catalog k) i.columns)
+insert db t around i found = at_table db t around i.table found (λ w. assigning db t i.table (columns_assigned (columns_in db w) i.columns) (λ to.
+    unless_lacking db t (lacking_rows i.rows) (if some_too_long (length to) i.rows then fails db t TooManyValues else insert_from db w i 0 [])))
 
 -- UPDATE, from this place among its targets on
 abbrev pub update_from : Database → Work → UpdateTree → ℕ → List (List Value) → Effect
-update_from db w u place rows =
-    ended db.content w done (walked_from (update_at w u (assigned_to (columns_set (columns_in db w) u.sets))) db place rows (passing_targets db w u.filter))
+update_from db w u place rows = ended db.content w done (walked_from (update_at w u (assigned_to (columns_set (columns_in db w) u.sets))) db place rows (passing_targets db w u.filter))
 
-abbrev pub update_fitting : Database → Work → UpdateTree → Option (List ℕ) → Effect
-update_fitting db w u (Some name) = fails db w.t (OfValue (NoColumn name))
-update_fitting db w u None = update_from db w u 0 []
-
-abbrev pub update_to : Database → Work → UpdateTree → Result (List AssignedColumn) (List ℕ) → Effect
-update_to db w u (Err column) = fails db w.t (NoColumnOf column u.table)
-update_to db w u (Ok to) = update_fitting db w u (lacking_update (cols_of (columns_in db w)) u)
-
+-- UPDATE at the table that is found
 abbrev pub update : Database → OpenTransaction → Surroundings → UpdateTree → Option ℕ → Effect
-update db t around u None = fails db t (NoTable u.table)
-update db t around u (Some k) = update_to db (beginning db t around k) u (columns_set (columns_at db.catalog k) u.sets)
+update db t around u found = at_table db t around u.table found (λ w. assigning db t u.table (columns_set (columns_in db w) u.sets) (λ to.
+    unless_lacking db t (lacking_update (cols_in db w) u) (update_from db w u 0 [])))
 
 -- DELETE, from this place among its targets on
 abbrev pub delete_from : Database → Work → DeleteTree → ℕ → List (List Value) → Effect
 delete_from db w d place rows = ended db.content w done (walked_from (delete_at w d) db place rows (passing_targets db w d.filter))
 
-abbrev pub delete_fitting : Database → Work → DeleteTree → Option (List ℕ) → Effect
-delete_fitting db w d (Some name) = fails db w.t (OfValue (NoColumn name))
-delete_fitting db w d None = delete_from db w d 0 []
-
+-- DELETE at the table that is found
 abbrev pub delete : Database → OpenTransaction → Surroundings → DeleteTree → Option ℕ → Effect
-delete db t around d None = fails db t (NoTable d.table)
-delete db t around d (Some k) = delete_fitting db (beginning db t around k) d (lacking_if (cols_of (columns_at db.catalog k)) d.filter)
+delete db t around d found = at_table db t around d.table found (λ w. unless_lacking db t (lacking_if (cols_in db w) d.filter) (delete_from db w d 0 []))
 
 -- a locking SELECT, from this place among its targets on
 abbrev pub lock_from : Database → Work → SelectTree → Lock → ℕ → List (List Value) → Effect
 lock_from db w s l place rows =
-    ended db.content w (λ shown. Rows (record { titles = titles_of (columns_in db w) s.items; rows = shown }))
-    (walked_from (lock_at w s l) db place rows (taken_targets db w s))
+    ended db.content w (λ shown. Rows (record { titles = titles_of (columns_in db w) s.items; rows = shown })) (walked_from (lock_at w s l) db place rows (taken_targets db w s))
 
 -- a SELECT has this result
 abbrev pub answered : Database → OpenTransaction → Result Results ValueFault → Effect
@@ -130,24 +114,15 @@ abbrev pub select_rows : Database → Work → SelectTree → Option Lock → Ef
 select_rows db w s None = answered db w.t (result_of s (columns_in db w) (rows_shown db.content w.view w.table))
 select_rows db w s (Some l) = lock_from db w s l 0 []
 
--- it names no column that isn't there, and then no position
+-- it fails where it names a column that isn't there, and then where it names such a position
 abbrev pub unless_wrong : Database → OpenTransaction → Option (List ℕ) → Option ℤ → Effect → Effect
-unless_wrong db t (Some name) position due = fails db t (OfValue (NoColumn name))
-unless_wrong db t None (Some n) due = fails db t (NoPosition n)
-unless_wrong db t None None due = due
-
-abbrev pub select_in : Database → Work → SelectTree → Effect
-select_in db w s =
-    unless_wrong db w.t (lacking_select (cols_of (columns_in db w)) s) (wrong_position (columns_in db w) s) (select_rows db w s s.lock)
-
-abbrev pub select_at : Database → OpenTransaction → Surroundings → SelectTree → List ℕ → Option ℕ → Effect
-select_at db t around s name None = fails db t (NoTable name)
-select_at db t around s name (Some k) = select_in db (beginning db t around k) s
+unless_wrong db t lacking position due = unless_lacking db t lacking (option_map_or (λ n. fails db t (NoPosition n)) position due)
 
 -- without FROM there is one row, without columns
 abbrev pub select : Database → OpenTransaction → Surroundings → SelectTree → Option (List ℕ) → Effect
 select db t around s None = unless_wrong db t (lacking_select [] s) (wrong_position [] s) (answered db t (result_of s [] ([] ∷ [])))
-select db t around s (Some name) = select_at db t around s name (find_table db (Some t.tx) name)
+select db t around s (Some name) = at_table db t around name (find_table db (Some t.tx) name) (λ w.
+    unless_wrong db t (lacking_select (cols_in db w) s) (wrong_position (columns_in db w) s) (select_rows db w s s.lock))
 
 -- a statement that begins in an open transaction
 abbrev pub run_open : Database → OpenTransaction → Surroundings → StmtTree → Effect
@@ -163,34 +138,21 @@ run_open db t around (Updates u) = update db t around u (find_table db (Some t.t
 run_open db t around (Deletes d) = delete db t around d (find_table db (Some t.tx) d.table)
 run_open db t around (Selects s) = select db t around s s.table
 
--- an implicit transaction begins, at Read Committed, and the statement is its first
-abbrev pub run_first : Database → Surroundings → StmtTree → Effect
-run_first db around stmt = run_open (begun db) (fresh db.content ReadCommitted false) around stmt
-
--- a statement where no transaction is open
+-- a statement where no transaction is open: of one that works an implicit transaction begins, at Read Committed
 abbrev pub run_closed : Database → Surroundings → StmtTree → Effect
 run_closed db around (Begin level) = turns (begun db) (Open (fresh db.content (unwrap_or level ReadCommitted) true))
 run_closed db around Commit = turns db Closed
 run_closed db around Rollback = turns db Closed
 run_closed db around (SetTransaction level) = turns (begun db) (Open (fresh db.content level false))
 run_closed db around SetDeadlockTimeout = turns db Closed
-run_closed db around (Create c) = run_first db around (Create c)
-run_closed db around (DropTables d) = run_first db around (DropTables d)
-run_closed db around (Inserts i) = run_first db around (Inserts i)
-run_closed db around (Updates u) = run_first db around (Updates u)
-run_closed db around (Deletes d) = run_first db around (Deletes d)
-run_closed db around (Selects s) = run_first db around (Selects s)
+run_closed db around stmt = run_open (begun db) (fresh db.content ReadCommitted false) around stmt
 
 -- a statement that goes on: at its place among its targets, in its view; of the others none is ever in the middle of its targets
-abbrev pub lock_again : Database → OpenTransaction → Surroundings → SelectTree → Progress → Option Lock → Effect
-lock_again db t around s p None = run_open db t around (Selects s)
-lock_again db t around s p (Some l) = lock_from db (going_on t around p) s l p.place p.rows
-
 abbrev pub run_on : Database → OpenTransaction → Surroundings → Progress → StmtTree → Effect
 run_on db t around p (Inserts i) = insert_from db (going_on t around p) i p.place p.rows
 run_on db t around p (Updates u) = update_from db (going_on t around p) u p.place p.rows
 run_on db t around p (Deletes d) = delete_from db (going_on t around p) d p.place p.rows
-run_on db t around p (Selects s) = lock_again db t around s p s.lock
+run_on db t around p (Selects s) = option_map_or (λ l. lock_from db (going_on t around p) s l p.place p.rows) s.lock (select db t around s s.table)
 run_on db t around p stmt = run_open db t around stmt
 
 -- a statement, by what its session's transaction is, and by whether it is in the middle of its targets

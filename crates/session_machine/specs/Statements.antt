@@ -1,6 +1,7 @@
 -- What a statement leaves and answers that is no query of rows: how transactions begin and end, how tables are made and dropped
 -- (PostgreSQL manual, the pages of the statements, and 13.2).
 use Rattle.std.specs.Prelude.{ℕ, Bool, true, false, not, ◌&&◌, List, [], ◌∷◌, ◌++◌, Option, Some, None, option_map, is_some, unwrap_or, slice_get, if◌then◌else◌}
+use Rattle.std.specs.Option.{option_map_or}
 use Rattle.sql_trees.specs.declared.stmt.Level.{Level}
 use Rattle.sql_trees.specs.declared.stmt.Level.TheVariants.{ReadCommitted, RepeatableRead}
 use Rattle.sql_trees.specs.Statements.{StmtTree, ColumnTree, KeyTree, CreateTree, DropTree, Commit, Rollback}
@@ -16,7 +17,7 @@ use Rattle.session_machine.specs.declared.fault.StmtFault.TheVariants.{NoTableTo
 use Rattle.session_machine.specs.declared.reply.Outcome.{Outcome}
 use Rattle.session_machine.specs.declared.reply.Outcome.TheVariants.{Done, Failed}
 use Rattle.session_machine.specs.Tables.{Database, Catalog, Table, find_table}
-use Rattle.session_machine.specs.Transactions.{committed, rolled_back, moved_on, after_failure}
+use Rattle.session_machine.specs.Transactions.{rolled_back, moved_on, after_failure}
 
 -- what a statement leaves of the database and of its session's transaction, where it is in the middle of its targets, and what came of it
 pub record Effect : Type 0 where
@@ -73,12 +74,8 @@ abbrev pub dropped : Database → OpenTransaction → Bool → List (List ℕ) �
 dropped db t if_exists [] = record { db = db; missing = None }
 dropped db t if_exists (name ∷ names) = dropped_at db t if_exists name (λ d. dropped d t if_exists names) (find_table db (Some t.tx) name)
 
-abbrev pub drop_ended : Content → OpenTransaction → Database → Option (List ℕ) → Effect
-drop_ended before t db None = answers before db t Done
-drop_ended before t db (Some name) = fails db t (NoTableToDrop name)
-
 abbrev pub drop_tables : Database → OpenTransaction → DropTree → Effect
-drop_tables db t d = let e = dropped db t d.if_exists d.names in drop_ended db.content t e.db e.missing
+drop_tables db t d = let e = dropped db t d.if_exists d.names in option_map_or (λ name. fails e.db t (NoTableToDrop name)) e.missing (answers db.content e.db t Done)
 
 -- the levels are the same
 abbrev pub is_level : Level → Level → Bool
@@ -89,9 +86,7 @@ is_level a b = false
 -- the level is set before the transaction's first query, or stays
 abbrev pub level_set : Database → OpenTransaction → Bool → Level → Effect
 level_set db t explicit level =
-    if is_some t.snapshot && not (is_level t.level level)
-    then fails db t LevelTooLate
-    else turns db (Open (record t { explicit = explicit; level = level }))
+    if is_some t.snapshot && not (is_level t.level level) then fails db t LevelTooLate else turns db (Open (record t { explicit = explicit; level = level }))
 
 -- BEGIN makes an implicit transaction explicit; in an explicit one it has no effect
 abbrev pub begin_in : Database → OpenTransaction → Option Level → Effect

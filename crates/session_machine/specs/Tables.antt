@@ -1,6 +1,7 @@
 -- Tables, and which of them a name means: what was made or dropped counts once committed, and for its own transaction at once (PostgreSQL manual, 13.2).
 use Rattle.std.specs.Prelude.{ℕ, ◌+◌, ◌==◌, Bool, false, not, ◌&&◌, ◌||◌, List, [], ◌∷◌, Option, Some, None, bytes_eq, if◌then◌else◌}
 use Rattle.std.specs.List.{list_any}
+use Rattle.std.specs.Option.{option_map_or}
 use Rattle.sql_trees.specs.Statements.{CreateTree}
 use Rattle.row_versions.specs.declared.names.TxId.{TxId}
 use Rattle.row_versions.specs.Log.{Content, has_committed}
@@ -28,8 +29,7 @@ pub record Database : Type 0 where
   pub held : List Held
 
 abbrev pub is_own : Option TxId → TxId → Bool
-is_own None tx = false
-is_own (Some own) tx = own.0 == tx.0
+is_own own tx = option_map_or (λ (o : TxId). o.0 == tx.0) own false
 
 -- what the transaction did counts: it is committed, or one's own
 abbrev pub counts : Content → Option TxId → TxId → Bool

@@ -1,5 +1,6 @@
 -- How a statement goes from one of its targets to the next, up to the one at which it stops.
 use Rattle.std.specs.Prelude.{ℕ, ◌+◌, List, [], ◌∷◌, ◌++◌, drop, Option, Some, None, Result, Ok, Err}
+use Rattle.std.specs.Option.{option_map_or}
 use Rattle.sql_values.specs.declared.value.Value.{Value}
 use Rattle.sql_values.specs.declared.fault.ValueFault.{ValueFault}
 use Rattle.session_machine.specs.declared.session.Request.{Request}
@@ -31,17 +32,12 @@ stops db stop = record { db = db; rows = []; stop = Some stop }
 abbrev pub goes_on : Database → List (List Value) → Visit
 goes_on db rows = record { db = db; rows = rows; stop = None }
 
--- at the target of this place the statement stops, or it goes on behind it
-abbrev pub unless_stopped : Visit → ℕ → List (List Value) → Option Stop → Walk → Walk
-unless_stopped v place rows (Some stop) behind = record { db = v.db; place = place; rows = rows; stop = Some stop }
-unless_stopped v place rows None behind = behind
-
--- one target after the other is visited, from this place on
+-- one target after the other is visited, from this place on, up to the one at which the statement stops
 abbrev pub walked : {A : Type 0} → (Database → A → Visit) → Database → ℕ → List (List Value) → List A → Walk
 walked visit db place rows [] = record { db = db; place = place; rows = rows; stop = None }
 walked visit db place rows (x ∷ xs) =
     let v = visit db x in
-    unless_stopped v place rows v.stop (walked visit v.db (place + 1) (rows ++ v.rows) xs)
+    option_map_or (λ stop. record { db = v.db; place = place; rows = rows; stop = Some stop }) v.stop (walked visit v.db (place + 1) (rows ++ v.rows) xs)
 
 -- a statement goes on from its place among these targets; where they couldn't be found, it fails
 abbrev pub walked_from : {A : Type 0} → (Database → A → Visit) → Database → ℕ → List (List Value) → Result (List A) ValueFault → Walk

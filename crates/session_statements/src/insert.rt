@@ -9,8 +9,9 @@ ghost use Rattle.row_versions.specs.Log.{Content, IsOpen};
 ghost use Rattle.session_queries.specs.Queries.{lacking_rows, columns_assigned};
 ghost use Rattle.session_machine.specs.Tables.{find_table};
 ghost use Rattle.session_machine.specs.Walks.{walked};
-ghost use Rattle.session_machine.specs.Rows.{insert_at, insert_made};
-ghost use Rattle.session_machine.specs.Running.{assigned_to, done, ended, insert, insert_fitting, insert_from};
+ghost use Rattle.session_machine.specs.Rows.{insert_at};
+ghost use Rattle.session_machine.specs.Running.{assigned_to, done, ended, insert, insert_from};
+ghost use Rattle.session_machine.specs.Inner.Pieces.{insert_made, insert_fitting};
 ghost use Rattle.session_statements.specs.Inner.Acting.{halted, stop_of};
 ghost use Rattle.session_statements.specs.Inner.Left.{left};
 

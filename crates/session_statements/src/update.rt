@@ -7,8 +7,9 @@ ghost use Rattle.session_queries.specs.Updates.{lacking_update, columns_set, upd
 ghost use Rattle.sql_values.specs.Values.{Answers};
 ghost use Rattle.session_queries.specs.Queries.{cols_of};
 ghost use Rattle.session_machine.specs.Tables.{find_table};
-ghost use Rattle.session_machine.specs.Rows.{cols_in, columns_in, update_made, update_with, values_of};
-ghost use Rattle.session_machine.specs.Running.{assigned_to, update, update_fitting, update_from};
+ghost use Rattle.session_machine.specs.Rows.{cols_in, columns_in, update_with, values_of};
+ghost use Rattle.session_machine.specs.Running.{assigned_to, update, update_from};
+ghost use Rattle.session_machine.specs.Inner.Pieces.{update_made, update_fitting};
 ghost use Rattle.session_statements.specs.Inner.Acting.{visit_of};
 ghost use Rattle.session_statements.specs.Inner.Keeping.{IsOrderly};
 ghost use Rattle.session_statements.specs.Inner.Left.{left};

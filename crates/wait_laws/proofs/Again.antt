@@ -12,9 +12,10 @@ use Rattle.session_machine.specs.declared.reply.Outcome.{Outcome}
 use Rattle.session_machine.specs.declared.reply.Outcome.TheVariants.{Rows}
 use Rattle.session_machine.specs.Tables.{Database}
 use Rattle.session_machine.specs.Statements.{Surroundings}
-use Rattle.session_machine.specs.Walks.{Stop, Visit, Walk, Blocked, Fails, unless_stopped, walked, walked_from}
+use Rattle.session_machine.specs.Walks.{Stop, Visit, Walk, Blocked, Fails, walked, walked_from}
 use Rattle.session_machine.specs.Rows.{columns_in, insert_at, update_at, delete_at, lock_at, passing_targets, taken_targets}
-use Rattle.session_machine.specs.Running.{going_on, comes_to, ended, done, assigned_to, lock_again}
+use Rattle.session_machine.specs.Running.{going_on, comes_to, ended, done, assigned_to}
+use Rattle.session_machine.specs.Inner.Pieces.{unless_stopped, lock_again}
 use Rattle.wait_laws.specs.Laws.{IsInViewOf, StatementsGoOnInTheirView}
 
 no_progress : (p : Progress) → None ≡ Some p → ⊥

@@ -29,7 +29,8 @@ use Rattle.session_machine.specs.Transactions.{begun, commits_seen, view_of}
 use Rattle.session_machine.specs.Statements.{columns_at}
 use Rattle.session_machine.specs.Rows.{at_places}
 use Rattle.session_machine.specs.Running.{run_stmt}
-use Rattle.session_machine.specs.Machine.{Machine, Blocks, Next, next, opening, stmts_at, around, at_rest, first_place, launch_of, step_of, leave_of, with_session, session_of}
+use Rattle.session_machine.specs.Machine.{Machine, Blocks, Next, next, opening, stmts_at, around, at_rest, first_place, with_session, session_of}
+use Rattle.session_machine.specs.Inner.Steps.{launch_of, step_of, leave_of}
 use Rattle.session_machine.specs.Sound.{command_in, tx_in, tx_of}
 use Rattle.wait_laws.specs.Laws.{Reaches, FindsTheSame, WaitsGoOnAsBegun}
 use Rattle.session_laws.proofs.Lists.{slice_get-set_same, slice_get-set_other}

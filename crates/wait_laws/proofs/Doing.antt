@@ -46,11 +46,12 @@ use Rattle.session_machine.specs.Tables.{Database, find_table}
 use Rattle.session_machine.specs.Transactions.{begun, committed, fresh, rolled_back, view_of}
 use Rattle.session_machine.specs.Waits.{blockers, is_blocked, waits_in}
 use Rattle.session_machine.specs.Sound.{command_in}
-use Rattle.session_machine.specs.Statements.{Surroundings, Effect, DroppedUpTo, fails, turns, create, dropped, dropped_at, drop_ended, level_set, with_table, with_drop, is_end}
-use Rattle.session_machine.specs.Walks.{Stop, Visit, Walk, Blocked, Fails, goes_on, unless_stopped, walked, walked_from}
+use Rattle.session_machine.specs.Statements.{Surroundings, Effect, DroppedUpTo, fails, turns, create, dropped, dropped_at, level_set, with_table, with_drop, is_end}
+use Rattle.session_machine.specs.Walks.{Stop, Visit, Walk, Blocked, Fails, goes_on, walked, walked_from}
 use Rattle.session_machine.specs.AskedKeys.{AskedKey}
-use Rattle.session_machine.specs.Rows.{Work, columns_in, keys_in, cols_in, asked_key, stop_by, stop_at_key, stop_at_keys, unless_stopped_by, inserted, written, unless_null, insert_made, insert_at, ask, at_outcome, at_target, values_of, update_made, update_with, update_at, delete_with, delete_at, lock_made, lock_with, lock_at, strength_of, passing_targets, taken_targets}
-use Rattle.session_machine.specs.Running.{beginning, going_on, comes_to, ended, done, insert_from, insert_fitting, insert_to, insert, assigned_to, update_from, update_fitting, update_to, update, delete_from, delete_fitting, delete, lock_from, answered, select_rows, unless_wrong, select_in, select_at, select, run_open, run_first, run_closed, run_on, run_stmt}
+use Rattle.session_machine.specs.Rows.{Work, columns_in, keys_in, cols_in, asked_key, stop_by, stop_at_key, stop_at_keys, inserted, written, insert_at, ask, at_outcome, at_target, values_of, update_with, update_at, delete_with, delete_at, lock_with, lock_at, strength_of, passing_targets, taken_targets}
+use Rattle.session_machine.specs.Running.{beginning, going_on, comes_to, ended, done, insert_from, insert, assigned_to, update_from, update, delete_from, delete, lock_from, answered, select_rows, unless_wrong, select, run_open, run_closed, run_on, run_stmt}
+use Rattle.session_machine.specs.Inner.Pieces.{drop_ended, unless_stopped, unless_stopped_by, unless_null, insert_made, update_made, lock_made, insert_fitting, insert_to, update_fitting, update_to, delete_fitting, select_in, select_at, run_first}
 use Rattle.wait_laws.proofs.ByKind.{AtOnce, FromStart, FromPlace, by_kind, on_kind}
 use Rattle.wait_laws.proofs.Lists.{holds_last}
 

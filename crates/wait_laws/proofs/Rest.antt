@@ -36,7 +36,8 @@ use Rattle.session_machine.specs.Transactions.{begun}
 use Rattle.session_machine.specs.Waits.{is_blocked, wait_of}
 use Rattle.session_machine.specs.Statements.{Effect, with_table, with_drop}
 use Rattle.session_machine.specs.Running.{run_stmt}
-use Rattle.session_machine.specs.Machine.{Machine, Blocks, Next, next, stmts_at, is_busy, is_failed, is_stopped, is_still_blocked, finished, closed_at_end, waits_there, after_end, after_stmt, around, step_of, session_of}
+use Rattle.session_machine.specs.Machine.{Machine, Blocks, Next, next, stmts_at, is_busy, is_failed, is_stopped, is_still_blocked, finished, closed_at_end, waits_there, after_end, after_stmt, around, session_of}
+use Rattle.session_machine.specs.Inner.Steps.{step_of}
 use Rattle.session_machine.specs.Engine.{Run}
 use Rattle.session_machine.specs.Sound.{command_in, tx_in, tx_of}
 use Rattle.wait_laws.specs.Laws.{left_from, left_of, statements_left, can_step, able, IsNearerRest, AreSteps, RestIsReached}

@@ -8,6 +8,7 @@ use Rattle.sql_trees.specs.declared.stmt.Lock.{Lock}
 use Rattle.sql_trees.specs.Statements.{StmtTree, CreateTree, SelectTree}
 use Rattle.sql_values.specs.declared.fault.ValueFault.{ValueFault}
 use Rattle.result_tables.specs.Results.{Results}
+use Rattle.session_queries.specs.Queries.{lacking_select, result_of, wrong_position}
 use Rattle.row_versions.specs.declared.names.TxId.{TxId}
 use Rattle.row_versions.specs.declared.write.View.{View}
 use Rattle.row_versions.specs.Log.{Content}
@@ -23,10 +24,12 @@ use Rattle.session_machine.specs.declared.reply.HistItem.{HistItem}
 use Rattle.session_machine.specs.declared.fault.Refusal.TheVariants.{Busy, NotYourTurn, BlockNotAllowed}
 use Rattle.session_machine.specs.Tables.{Database, find_table}
 use Rattle.session_machine.specs.Transactions.{view_of}
-use Rattle.session_machine.specs.Statements.{Surroundings, Effect, create, drop_ended, dropped, level_set}
-use Rattle.session_machine.specs.Rows.{Work}
-use Rattle.session_machine.specs.Running.{answered, beginning, lock_again, run_on, run_stmt, select, select_at, select_rows, unless_wrong}
-use Rattle.session_machine.specs.Machine.{Machine, Blocks, Next, next, stmts_at, around, at_rest, first_place, launch_of, step_of, leave_of, session_of}
+use Rattle.session_machine.specs.Statements.{Surroundings, Effect, create, dropped, level_set}
+use Rattle.session_machine.specs.Rows.{Work, columns_in, cols_in}
+use Rattle.session_machine.specs.Running.{answered, beginning, run_on, run_stmt, select, select_rows, unless_wrong}
+use Rattle.session_machine.specs.Inner.Pieces.{drop_ended, lock_again, select_at}
+use Rattle.session_machine.specs.Machine.{Machine, Blocks, Next, next, stmts_at, around, at_rest, first_place, session_of}
+use Rattle.session_machine.specs.Inner.Steps.{launch_of, step_of, leave_of}
 use Rattle.session_machine.specs.Sound.{command_in}
 use Rattle.wait_laws.specs.Laws.{GoesOnInItsView, IsAtWork, IsInViewOf, RunAtWork, StatementsStayAsBegun, transaction_at, view_at}
 use Rattle.wait_laws.proofs.ByKind.{on_kind}
@@ -74,10 +77,13 @@ over_select : (db : Database) (t : OpenTransaction) (around : Surroundings) (s :
 over_select db t around s h = from s.table where
   at : (name : List ℕ) (o : Option ℕ) → (select_at db t around s name o).statement ≡ None
   at name None = refl
-  at name (Some k) = over_unless_wrong db t _ _ _ (over_rows db (beginning db t around k) s s.lock h)
+  at name (Some k) =
+      let w = beginning db t around k in
+      over_unless_wrong db t (lacking_select (cols_in db w) s) (wrong_position (columns_in db w) s) (select_rows db w s s.lock) (over_rows db w s s.lock h)
 
   from : (o : Option (List ℕ)) → (select db t around s o).statement ≡ None
-  from None = over_unless_wrong db t _ _ _ (over_answered db t _)
+  from None =
+      let r = result_of s [] ([] ∷ []) in over_unless_wrong db t (lacking_select [] s) (wrong_position [] s) (answered db t r) (over_answered db t r)
   from (Some name) = at name (find_table db (Some t.tx) name)
 
 over_create : (db : Database) (t : OpenTransaction) (c : CreateTree) (o : Option ℕ) → (create db t c o).statement ≡ None

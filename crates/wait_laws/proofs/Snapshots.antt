@@ -21,10 +21,11 @@ use Rattle.session_machine.specs.declared.reply.Outcome.{Outcome}
 use Rattle.session_machine.specs.declared.reply.Outcome.TheVariants.{Failed, Rows}
 use Rattle.session_machine.specs.Tables.{Database, find_table}
 use Rattle.session_machine.specs.Transactions.{begun, fresh, moved_on, started}
-use Rattle.session_machine.specs.Statements.{Surroundings, Effect, fails, turns, create, drop_ended, dropped, level_set, is_end}
+use Rattle.session_machine.specs.Statements.{Surroundings, Effect, fails, turns, create, dropped, level_set, is_end}
 use Rattle.session_machine.specs.Walks.{Stop, Walk, Blocked, Fails, walked, walked_from}
 use Rattle.session_machine.specs.Rows.{Work, columns_in, insert_at, update_at, delete_at, lock_at, passing_targets, taken_targets}
-use Rattle.session_machine.specs.Running.{beginning, going_on, comes_to, ended, done, insert_from, update_from, delete_from, lock_from, assigned_to, insert_fitting, insert_to, insert, update_fitting, update_to, update, delete_fitting, delete, answered, select_rows, unless_wrong, select_at, select, run_open, run_first, run_closed, run_on, run_stmt}
+use Rattle.session_machine.specs.Running.{beginning, going_on, comes_to, ended, done, insert_from, update_from, delete_from, lock_from, assigned_to, insert, update, delete, answered, select_rows, unless_wrong, select, run_open, run_closed, run_on, run_stmt}
+use Rattle.session_machine.specs.Inner.Pieces.{drop_ended, insert_fitting, insert_to, update_fitting, update_to, delete_fitting, select_at, run_first}
 use Rattle.wait_laws.proofs.ByKind.{AtOnce, FromStart, FromPlace, by_kind, on_kind}
 use Rattle.session_laws.proofs.Staying.{count-begin}
 

@@ -22,7 +22,8 @@ use Rattle.session_machine.specs.Tables.{Database}
 use Rattle.session_machine.specs.Waits.{wait_of}
 use Rattle.session_machine.specs.Statements.{Effect}
 use Rattle.session_machine.specs.Running.{run_stmt}
-use Rattle.session_machine.specs.Machine.{Machine, Blocks, Next, next, opening, at_rest, stmts_at, is_busy, is_ready, first_ready, is_stopped, is_still_blocked, free_wait, FreeWait, sooner, earliest_free, turn_in, is_turn, is_directed, is_failed, first_place, finished, closed_at_end, waits_there, after_end, after_stmt, around, launch_of, step_stmt, step_at, step_of, leave_of, session_of}
+use Rattle.session_machine.specs.Machine.{Machine, Blocks, Next, next, opening, at_rest, stmts_at, is_busy, is_ready, first_ready, is_stopped, is_still_blocked, free_wait, FreeWait, sooner, earliest_free, turn_in, is_turn, is_directed, is_failed, first_place, finished, closed_at_end, waits_there, after_end, after_stmt, around, session_of}
+use Rattle.session_machine.specs.Inner.Steps.{launch_of, step_stmt, step_at, step_of, leave_of}
 use Rattle.wait_laws.specs.Laws.{Reaches}
 use Rattle.session_laws.proofs.Lists.{slice_get-set_same, slice_get-set_other}
 use Rattle.wait_laws.proofs.Events.{session_there, ok_is, ok_else, stepped, always}

@@ -4,7 +4,7 @@ use Rattle.sql_trees.specs.Statements.{name_of, select_of}
 use Rattle.session_machine.specs.Tables.{find_table}
 use Rattle.session_machine.specs.Rows.{Work}
 use Rattle.session_machine.specs.Statements.{Effect}
-use Rattle.session_machine.specs.Running.{select_at, select_in}
+use Rattle.session_machine.specs.Inner.Pieces.{select_at, select_in}
 use Rattle.session_statements.specs.Inner.Left.{left}
 use Rattle.session_statements.proofs.database.Database.select_at.Goals as goal
 
