@@ -34,12 +34,9 @@ abbrev pub each : {A B : Type 0} → (A → Result B ValueFault) → List A → 
 each f [] = Ok []
 each f (x ∷ xs) = if_ok (f x) (λ y. if_ok (each f xs) (λ ys. Ok (y ∷ ys)))
 
--- a column as expressions know it
-abbrev pub known : ColumnTree → List ℕ × Kind
-known c = (c.name, c.kind)
-
+-- columns as expressions know them
 abbrev pub cols_of : List ColumnTree → Cols
-cols_of columns = map known columns
+cols_of columns = map (λ (c : ColumnTree). (c.name, c.kind)) columns
 
 abbrev pub has_column : Cols → List ℕ → Bool
 has_column cols name = is_some (position (λ c. bytes_eq name c.0) cols)

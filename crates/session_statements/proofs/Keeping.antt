@@ -20,7 +20,6 @@ use Rattle.row_versions.proofs.Last.{newest_is_the_last}
 use Rattle.session_machine.specs.Tables.{Database, Catalog, Table}
 use Rattle.session_machine.specs.Statements.{columns_at}
 use Rattle.session_machine.specs.Sound.{RowsFit, RowsStay}
-use Rattle.session_queries.specs.Queries.{known}
 use Rattle.session_machine.specs.Rows.{cols_in}
 use Rattle.session_machine.specs.Rows.{Work, columns_in}
 use Rattle.session_statements.specs.Inner.Keeping.{RowIn, RowsIn, IsOrderly}
@@ -85,4 +84,4 @@ newest_fits db w row tx orderly its m values is has =
     let h : IsNewest db.content row tx m = ((newest_is_the_last db.content row tx).0 m).0 is in
     as_many db.content db.catalog w.table m.place h.write values orderly.0 h.there (sym (its_values db.content m.place h.write h.there) ∙ has)
     (in_table db.content w.table row m.place h.write orderly.1 its h.there h.its_row)
-    ∙ sym (length-map (columns_in db w) known)
+    ∙ sym (length-map (columns_in db w) _)

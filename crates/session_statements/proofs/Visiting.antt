@@ -22,7 +22,7 @@ use Rattle.row_versions.proofs.Last.{newest_is_the_last}
 use Rattle.row_versions.proofs.Gets.{get-append_left, get-append_last}
 use Rattle.row_locks.specs.declared.held.Held.{Held}
 use Rattle.row_locks.specs.Waiting.{Waiting}
-use Rattle.session_queries.specs.Queries.{AssignedColumn, each, known, null_in}
+use Rattle.session_queries.specs.Queries.{AssignedColumn, each, null_in}
 use Rattle.session_queries.specs.Updates.{updated}
 use Rattle.session_queries.proofs.Placing.{length-updated}
 use Rattle.update_recheck.specs.Asked.{Asked}
@@ -107,7 +107,7 @@ outcome_fits db w act seen waits orderly its =
       long m values e has =
           ap (λ (o : Option (List Value)). length (unwrap_or o [])) has
           ∙ newest_fits db w seen.row w.t.tx orderly its m values e has
-          ∙ length-map (columns_in db w) known
+          ∙ length-map (columns_in db w) _
 
       row_of : (m : Seen) → newest_of db.content seen.row w.t.tx ≡ Some m → m.row ≡ seen.row
       row_of m e = let h : IsNewest db.content seen.row w.t.tx m = ((newest_is_the_last db.content seen.row w.t.tx).0 m).0 e in h.named
