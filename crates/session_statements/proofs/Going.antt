@@ -1,14 +1,18 @@
 -- A statement goes over the targets that were found, or over what it selects.
 use Rattle.std.proofs.Common.{◌≡◌, ◌∙◌, sym, ap, ℕ, ℤ, List, drop}
-use Rattle.std.specs.Prelude.{Option, None, Result, Ok}
+use Rattle.std.specs.Prelude.{Option, Some, None, Result, Ok, Err}
+use Rattle.sql_trees.specs.Statements.{UpdateTree}
 use Rattle.sql_values.specs.declared.value.Value.{Value}
 use Rattle.sql_values.specs.declared.fault.ValueFault.{ValueFault}
 use Rattle.row_versions.specs.declared.write.Seen.{Seen}
+use Rattle.session_queries.specs.Updates.{columns_set}
 use Rattle.session_machine.specs.declared.session.OpenTransaction.{OpenTransaction}
+use Rattle.session_machine.specs.declared.fault.StmtFault.TheVariants.{NoColumnOf}
 use Rattle.session_machine.specs.Tables.{Database}
-use Rattle.session_machine.specs.Statements.{Effect}
+use Rattle.session_machine.specs.Statements.{Effect, Surroundings, columns_at, fails}
 use Rattle.session_machine.specs.Walks.{Visit, walked, walked_from}
-use Rattle.session_machine.specs.Running.{unless_wrong}
+use Rattle.session_machine.specs.Running.{beginning, unless_wrong, update}
+use Rattle.session_machine.specs.Inner.Pieces.{update_to}
 
 -- targets that were found are gone over from the place on
 pub found_targets : (at : Database → Seen → Visit) (db : Database) (place : ℕ) (rows : List (List Value)) (r : Result (List Seen) ValueFault) (targets got : List Seen)
@@ -18,3 +22,8 @@ found_targets at db place rows r targets got is same = ap (walked_from at db pla
 -- a SELECT that names nothing wrong comes to what is due
 pub not_wrong : (db : Database) (t : OpenTransaction) (lacking : Option (List ℕ)) (position : Option ℤ) (due : Effect) → lacking ≡ None → position ≡ None → unless_wrong db t lacking position due ≡ due
 not_wrong db t lacking position due a b = ap (λ (x : Option (List ℕ)). unless_wrong db t x position due) a ∙ ap (λ (y : Option ℤ). unless_wrong db t None y due) b
+
+-- an UPDATE that assigns to a column that isn't there fails
+pub no_such_column : (db : Database) (t : OpenTransaction) (around : Surroundings) (u : UpdateTree) (found : Option ℕ) (k : ℕ) (column : List ℕ) → found ≡ Some k
+    → columns_set (columns_at db.catalog k) u.sets ≡ Err column → update db t around u found ≡ fails db t (NoColumnOf column u.table)
+no_such_column db t around u found k column a b = ap (update db t around u) a ∙ ap (update_to db (beginning db t around k) u) b
