@@ -1,27 +1,46 @@
 //! The run of one permutation, with a thread for each session.
 
-ghost use Rattle.std.specs.Prelude.{◌≡◌, ◌≢◌, ◌||◌, length, true, Err, map, IsTrue, IfOk, IfErr, IsErrOf};
+ghost use Rattle.std.specs.Prelude.{◌≡◌, ◌≢◌, ◌↔◌, ◌||◌, length, true, Err, map, IsTrue, IfOk, IfErr, IsErrOf};
 ghost use Rattle.session_core.specs.Blocks.{blocks_of};
 ghost use Rattle.session_core.specs.Engines.{is_quiet_in};
 ghost use Rattle.spec_parser.specs.Trees.{entry_view, spec_view};
 ghost use Rattle.spec_parser.specs.Stands.{Stands};
 ghost use Rattle.permutation_plans.specs.Regular.{Fits, IsRegular};
 ghost use Rattle.permutations.specs.Begun.{Begun, OneSays};
+ghost use Rattle.permutations.specs.Inner.Resting.{IsAtRest};
 ghost use Rattle.permutations.specs.Runs.{is_of_one, is_of_run, has_broken, has_ended, IsOneTold};
+ghost use Rattle.permutations.specs.Written.{IsWritten};
 
 use crate::fault::RunFault;
 use crate::plan::Plan;
 use crate::report::write_permutation;
 use iso_lexer::Sink;
 use permutation_plans::launches_fit;
+use report_text::Ended;
 use row_versions::ListStore;
 use session_machine::Mode;
 use session_threads::{Closed, Gate, run_directed};
 use spec_parser::{Entry, Spec};
 use sql_parser::Block;
-use std::alloc::Global;
+use std::alloc::{AllocError, Global};
 use std::sync::Wait;
 use std::thread::Threads;
+
+/// Whether the launches of a closed run are the permutation's. It came to rest.
+fn fits(
+    alloc: Global,
+    spec: &Spec<'_>,
+    entries: &[Entry],
+    closed: &Closed<'_, '_, ListStore>,
+) -> Result<bool, AllocError>
+    requires stands { Stands (spec_view spec.now) }
+    requires quiet { is_quiet_in closed.now.state.machine ≡ true }
+    ensures fit { IfOk result (λ fit. IsTrue fit ↔ Fits (spec_view spec.now) (map entry_view entries.now) closed.now.state.history) }
+    ensures rests { IsAtRest closed.now.state }
+{
+    let engine = closed.state();
+    launches_fit(alloc, spec, entries, engine.history())
+}
 
 /// The same closed run, or `ScheduleBroken` exactly where its launches are not the permutation's.
 fn fitting_run<'a, 't>(
@@ -39,8 +58,7 @@ fn fitting_run<'a, 't>(
     ensures broken { IsErrOf result RunFault.ScheduleBroken → ¬ (Fits (spec_view spec.now) (map entry_view entries.now) closed.entry.state.history) }
     ensures faults { IfErr result (λ e. is_of_run e ≡ true) }
 {
-    let engine = closed.state();
-    if launches_fit(alloc, spec, entries, engine.history())? {
+    if fits(alloc, spec, entries, &closed)? {
         Ok(closed)
     } else {
         Err(RunFault::ScheduleBroken)
@@ -68,6 +86,23 @@ pub fn run_of<'a, 't, G: Gate, R: Threads + Wait + Sync>(
     fitting_run(alloc, spec, entries, closed)
 }
 
+/// Writes the report of a closed run.
+fn write_run<W: Sink, N: Sink>(
+    alloc: Global,
+    spec: &Spec<'_>,
+    entries: &[Entry],
+    closed: &Closed<'_, '_, ListStore>,
+    out: &mut W,
+    notes: &mut N,
+) -> Result<Ended, RunFault>
+    ensures { IsWritten (spec_view spec.now) (map entry_view entries.now) closed.now.state.history
+        (W.put_so_far out.old) (W.put_so_far out.new) (N.put_so_far notes.old) (N.put_so_far notes.new)
+        (W.failed out.old) (W.failed out.new) (N.failed notes.old) (N.failed notes.new) result }
+{
+    let engine = closed.state();
+    write_permutation(alloc, spec, entries, engine.history(), out, notes)
+}
+
 /// Runs a permutation on a new engine, with a thread for each session, and writes its report once the run is closed.
 pub fn run_permutation<W: Sink, N: Sink, G: Gate, R: Threads + Wait + Sync>(
     rt: &R,
@@ -90,7 +125,6 @@ pub fn run_permutation<W: Sink, N: Sink, G: Gate, R: Threads + Wait + Sync>(
     ensures kinds { IfErr result (λ e. is_of_one e ≡ true) }
 {
     let closed = run_of(rt, alloc, spec, blocks, entries, gate)?;
-    let engine = closed.state();
-    write_permutation(alloc, spec, entries, engine.history(), out, notes)?;
+    write_run(alloc, spec, entries, &closed, out, notes)?;
     Ok(())
 }

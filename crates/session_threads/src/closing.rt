@@ -1,5 +1,5 @@
 //! The end of a run: the engine's state beside the seats.
-ghost use Rattle.std.specs.Prelude.{◌≡◌, ◌≢◌, ◌<◌, ◌↔◌, ℕ, [], true, Err, None, IsTrue, IfOk, IfErr, IfSome, MatchOption};
+ghost use Rattle.std.specs.Prelude.{◌≡◌, ◌≢◌, ◌<◌, ◌↔◌, ℕ, [], true, Err, None, Some, IsTrue, IfOk, IfErr, IfNone, IfSome, MatchOption};
 ghost use Rattle.session_core.specs.Blocks.{blocks_of};
 ghost use Rattle.session_core.specs.Engines.{IsOf};
 ghost use Rattle.session_threads.specs.Seats.{items_of, seats_of, seat_if, AllFit, IsMisfit};
@@ -62,35 +62,81 @@ pub fn close<'a, 't, V: Versions>(
     ensures ok { IfOk result (λ c. (c.state ≡ state.entry) × (c.seats ≡ seats.entry.items) × AllFit state.entry seats.entry.items) }
     ensures err { IfErr result (λ e. (s : ℕ) × (e ≡ ThreadFault.SeatMismatch s) × IsMisfit state.entry seats.entry.items s) }
 {
-    match first_misfit(&state, &seats) {
+    let refused = seat_fault(&state, &seats);
+    closed_unless(refused, state, seats)
+}
+
+/// The seats beside the state, unless something is against it.
+fn closed_unless<'a, 't, V: Versions>(
+    refused: Option<ThreadFault>,
+    state: EngineState<'a, 't, V>,
+    seats: Vec<Seat<'t>>,
+) -> Result<Closed<'a, 't, V>, ThreadFault>
+    requires { refused ≡ None → AllFit state seats.items }
+    ensures refused { IfSome refused (λ fault. result ≡ Err fault) }
+    ensures closed { refused ≡ None → IfOk result (λ c. c ≡ record { state = state.entry; seats = seats.entry.items }) }
+    ensures err { IfErr result (λ fault. refused ≡ Some fault) }
+{
+    match refused {
+        Some(fault) => Err(fault),
         None => Ok(Closed { state, seats }),
-        Some(session) => Err(ThreadFault::SeatMismatch { session }),
+    }
+}
+
+/// What the seats have against the run's being closed.
+fn seat_fault<V: Versions>(
+    state: &EngineState<'_, '_, V>,
+    seats: &[Seat<'_>],
+) -> Option<ThreadFault>
+    ensures fit { IfNone result (AllFit state.now seats.now) }
+    ensures misfit { IfSome result (λ e. (s : ℕ) × (e ≡ ThreadFault.SeatMismatch s) × IsMisfit state.now seats.now s) }
+{
+    match first_misfit(state, seats) {
+        Some(session) => Some(ThreadFault::SeatMismatch { session }),
+        None => None,
     }
 }
 
 /// The end of a run: the seats beside an engine that was opened over these blocks and sessions and in this mode. A fault that
-/// was met late comes after another run, and before the seats.
+/// was met comes first, then another run, then the seats.
 pub fn end_of<'a, 't, V: Versions>(
     engine: EngineState<'a, 't, V>,
     blocks: &[Block<'_>],
     sessions: u32,
     mode: Mode,
-    late: Option<ThreadFault>,
+    met: Option<ThreadFault>,
     seats: Vec<Seat<'t>>,
 ) -> Result<Closed<'a, 't, V>, ThreadFault>
-    ensures other_run { ¬ (IsOf engine.entry (blocks_of blocks.now) sessions mode) → result ≡ Err ThreadFault.OtherRun }
-    ensures late { IsOf engine.entry (blocks_of blocks.now) sessions mode → IfSome late (λ fault. result ≡ Err fault) }
-    ensures seats { IsOf engine.entry (blocks_of blocks.now) sessions mode → late ≡ None
+    ensures met { IfSome met (λ fault. result ≡ Err fault) }
+    ensures other_run { met ≡ None → ¬ (IsOf engine.entry (blocks_of blocks.now) sessions mode) → result ≡ Err ThreadFault.OtherRun }
+    ensures seats { met ≡ None → IsOf engine.entry (blocks_of blocks.now) sessions mode
         → IfErr result (λ e. (s : ℕ) × (e ≡ ThreadFault.SeatMismatch s) × IsMisfit engine.entry seats.entry.items s) }
-    ensures ok { IfOk result (λ c. IsOf engine.entry (blocks_of blocks.now) sessions mode × (late ≡ None)
+    ensures ok { IfOk result (λ c. IsOf engine.entry (blocks_of blocks.now) sessions mode × (met ≡ None)
         × (c ≡ record { state = engine.entry; seats = seats.entry.items })) }
 {
-    if !engine.is_of(blocks, sessions, mode) {
-        return Err(ThreadFault::OtherRun);
-    }
-    match late {
-        Some(fault) => Err(fault),
-        None => close(engine, seats),
+    let refused = end_fault(&engine, blocks, sessions, mode, met, &seats);
+    closed_unless(refused, engine, seats)
+}
+
+/// What is against closing a run, in the order in which it is told.
+fn end_fault<V: Versions>(
+    engine: &EngineState<'_, '_, V>,
+    blocks: &[Block<'_>],
+    sessions: u32,
+    mode: Mode,
+    met: Option<ThreadFault>,
+    seats: &[Seat<'_>],
+) -> Option<ThreadFault>
+    ensures met { IfSome met (λ fault. result ≡ Some fault) }
+    ensures other_run { met ≡ None → ¬ (IsOf engine.now (blocks_of blocks.now) sessions mode) → result ≡ Some ThreadFault.OtherRun }
+    ensures seats { met ≡ None → IsOf engine.now (blocks_of blocks.now) sessions mode
+        → IfSome result (λ e. (s : ℕ) × (e ≡ ThreadFault.SeatMismatch s) × IsMisfit engine.now seats.now s) }
+    ensures fit { IfNone result (IsOf engine.now (blocks_of blocks.now) sessions mode × (met ≡ None) × AllFit engine.now seats.now) }
+{
+    match met {
+        Some(fault) => Some(fault),
+        None if engine.is_of(blocks, sessions, mode) => seat_fault(engine, seats),
+        None => Some(ThreadFault::OtherRun),
     }
 }
 

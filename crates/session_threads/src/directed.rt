@@ -125,15 +125,12 @@ fn closed_of<'a, 't, V: Versions, O: Ordering, D: Driver<V> + Drop>(
         → is_quiet_in shared.entry.engine.machine ≡ false → result ≡ Err (ThreadFault.Engine EngineFault.NotYourTurn) }
 {
     let (engine, stop, fault) = shared.into_parts();
-    if let Some(fault) = fault {
-        return Err(fault);
-    }
-    let busy = if stop && engine.quiet() {
-        None
-    } else {
-        Some(ThreadFault::Engine(EngineFault::NotYourTurn))
+    let met = match fault {
+        Some(_) => fault,
+        None if stop && engine.quiet() => None,
+        None => Some(ThreadFault::Engine(EngineFault::NotYourTurn)),
     };
-    end_of(engine, blocks, sessions, Mode::Directed, busy, seats)
+    end_of(engine, blocks, sessions, Mode::Directed, met, seats)
 }
 
 /// Runs what the driver orders, where the type says which orders these are.

@@ -247,7 +247,7 @@ fn serve_scripts<'a, 't, V: Versions + Send, G: Gate, R: Threads + Wait + Sync>(
 }
 
 /// The sessions' part: the control session leaves, each session's thread runs its script, and the control session's last
-/// blocks run. Answers a fault that was met before these.
+/// blocks run. After a fault nothing is done any more.
 fn run_sessions<'a, 't, V: Versions + Send, G: Gate, R: Threads + Wait + Sync>(
     rt: &R,
     alloc: Global,
@@ -256,32 +256,30 @@ fn run_sessions<'a, 't, V: Versions + Send, G: Gate, R: Threads + Wait + Sync>(
     gate: &G,
     seats: &mut [Seat<'t>],
     plan: &FreePlan,
-) -> Option<ThreadFault> {
+) {
     if leave_control(rt, shared, bell, seats) {
         serve_scripts(rt, alloc, shared, bell, gate, seats, &plan.scripts);
-    }
-    let early = shared.lock(rt).fault();
-    if early.is_none() {
         run_after(rt, shared, bell, seats, &plan.after);
     }
-    early
 }
 
-/// The whole run. Answers a fault that was met before the control session's last blocks.
-fn run_plan<'a, 't, V: Versions + Send, G: Gate, R: Threads + Wait + Sync>(
+/// A seat for each session, with the events of the whole run that are its own.
+fn filled_seats<'a, 't, V: Versions + Send, G: Gate, R: Threads + Wait + Sync>(
     rt: &R,
     alloc: Global,
     shared: &Mutex<FreeShared<'a, 't, V>>,
-    bell: &Condvar,
-    gate: &G,
-    seats: &mut [Seat<'t>],
+    sessions: u32,
     plan: &FreePlan,
-) -> Option<ThreadFault> {
-    if run_before(rt, shared, bell, seats, &plan.before) {
-        run_sessions(rt, alloc, shared, bell, gate, seats, plan)
-    } else {
-        shared.lock(rt).fault()
+    gate: &G,
+) -> Result<Vec<Seat<'t>>, ThreadFault>
+    requires few { sessions ≤ 64 }
+{
+    let mut seats = empty_seats(alloc, sessions)?;
+    let bell = Condvar::new();
+    if run_before(rt, shared, &bell, &mut seats, &plan.before) {
+        run_sessions(rt, alloc, shared, &bell, gate, &mut seats, plan);
     }
+    Ok(seats)
 }
 
 /// Runs the blocks that come before, one after the other in the calling thread; after one that fails or waits the run is
@@ -301,16 +299,11 @@ pub fn run_free<'a, 't, V: Versions + Send, G: Gate, R: Threads + Wait + Sync>(
     ensures { IfOk result (λ c. IsOf c.state (blocks_of blocks.now) (vec_len plan.now.scripts) Mode.Free) }
 {
     let sessions = plan.scripts.len() as u32;
-    let mut seats = empty_seats(alloc, sessions)?;
     let Ok(engine) = EngineState::new(alloc, blocks, sessions, Mode::Free, store) else {
         return Err(ThreadFault::Memory);
     };
     let lock = Mutex::new(FreeShared::new(engine));
-    let bell = Condvar::new();
-    let early = run_plan(rt, alloc, &lock, &bell, gate, &mut seats, plan);
-    let (engine, late) = lock.into_inner().into_parts();
-    if let Some(fault) = early {
-        return Err(fault);
-    }
-    end_of(engine, blocks, sessions, Mode::Free, late, seats)
+    let seats = filled_seats(rt, alloc, &lock, sessions, plan, gate)?;
+    let (engine, met) = lock.into_inner().into_parts();
+    end_of(engine, blocks, sessions, Mode::Free, met, seats)
 }

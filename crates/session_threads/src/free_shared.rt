@@ -40,11 +40,6 @@ impl<'a, 't, V: Versions> FreeShared<'a, 't, V> {
         self.fault.is_some()
     }
 
-    /// The fault that was met first.
-    pub fn fault(&self) -> Option<ThreadFault> {
-        self.fault
-    }
-
     /// How many events there were.
     fn events(&self) -> usize {
         self.engine.history().len()

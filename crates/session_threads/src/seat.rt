@@ -84,7 +84,8 @@ fn asked<'t, V: Versions>(
     engine: &mut EngineState<'_, 't, V>,
     event: Event,
 ) -> Result<Reply<'t>, EngineFault>
-    ensures memory { IsErrOf result EngineFault.Memory → (engine.new ≡ spent_engine engine.old) × IsDue engine.old event }
+    ensures memory { IsErrOf result EngineFault.Memory → engine.new ≡ spent_engine engine.old }
+    ensures due { IsErrOf result EngineFault.Memory → IsDue engine.old event }
     ensures answer { result ≢ Err EngineFault.Memory → engine_after engine.old event ≡ record { engine = engine.new; answer = result } }
 {
     match event {
