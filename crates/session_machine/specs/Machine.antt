@@ -160,6 +160,7 @@ step_with mode m session s place count stmt =
     else if is_still_blocked m.db s then Err StillBlocked
     else Ok (after_stmt m session place count (run_stmt m.db s.transaction s.statement (around m session s) stmt))
 
+-- it does the statement at this place, where its block has one there
 abbrev pub step_from : Blocks → Mode → Machine → ℕ → Session → Place → Result Next Refusal
 step_from blocks mode m session s place =
     option_map_or (step_with mode m session s place (length (stmts_at blocks place.block))) (slice_get (stmts_at blocks place.block) place.next) (Err Idle)

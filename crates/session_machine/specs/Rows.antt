@@ -87,7 +87,7 @@ abbrev pub stop_at_keys : Database → Work → List ℕ → List Value → Opti
 stop_at_keys db w name values except [] = None
 stop_at_keys db w name values except (key ∷ keys) = option_or (stop_at_key db w name values except key) (stop_at_keys db w name values except keys)
 
--- what is written is checked: it may have no NULL in a column where none may be, and its keys have to be free; `after` is the database with it
+-- a row with these values is about to be written, which makes this database: a NULL where none may be stops the statement, and then the first key that isn't free
 abbrev pub checked : Work → List ℕ → Database → Option RowId → List Value → Database → Visit
 checked w name db except values after =
     option_map_or (λ column. stops db (Fails (NullValue column name))) (null_in (columns_in db w) values)

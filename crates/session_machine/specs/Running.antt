@@ -16,7 +16,6 @@ use Rattle.session_machine.specs.declared.session.Transaction.{Transaction}
 use Rattle.session_machine.specs.declared.session.Transaction.TheVariants.{Closed, Open, Aborted as AbortedOne}
 use Rattle.session_machine.specs.declared.session.Progress.{Progress}
 use Rattle.session_machine.specs.declared.session.Request.{Request}
-use Rattle.session_machine.specs.declared.fault.StmtFault.{StmtFault}
 use Rattle.session_machine.specs.declared.fault.StmtFault.TheVariants.{Value as OfValue, NoColumnOf, NoPosition, NoTable, TooManyValues}
 use Rattle.session_machine.specs.declared.reply.Outcome.{Outcome}
 use Rattle.session_machine.specs.declared.reply.Outcome.TheVariants.{Done, Rows, Waits}
@@ -78,7 +77,7 @@ unless_lacking db t lacking due = option_map_or (λ name. fails db t (OfValue (N
 abbrev pub insert_from : Database → Work → InsertTree → ℕ → List (List Value) → Effect
 insert_from db w i place rows = ended db.content w done (walked (insert_at w i.table (assigned_to (columns_assigned (columns_in db w) i.columns))) db place rows (drop place i.rows))
 
--- INSERT at the table that is found: no row of its VALUES may have more of them than there are columns
+-- INSERT at the table that is found; no row of its VALUES may have more of them than there are columns to assign
 abbrev pub insert : Database → OpenTransaction → Surroundings → InsertTree → Option ℕ → Effect
 insert db t around i found = at_table db t around i.table found (λ w. assigning db t i.table (columns_assigned (columns_in db w) i.columns) (λ to.
     unless_lacking db t (lacking_rows i.rows) (if some_too_long (length to) i.rows then fails db t TooManyValues else insert_from db w i 0 [])))
@@ -114,7 +113,7 @@ abbrev pub select_rows : Database → Work → SelectTree → Option Lock → Ef
 select_rows db w s None = answered db w.t (result_of s (columns_in db w) (rows_shown db.content w.view w.table))
 select_rows db w s (Some l) = lock_from db w s l 0 []
 
--- it fails where it names a column that isn't there, and then where it names such a position
+-- it fails where it names a column that isn't there, and then where it sorts by a position that isn't there
 abbrev pub unless_wrong : Database → OpenTransaction → Option (List ℕ) → Option ℤ → Effect → Effect
 unless_wrong db t lacking position due = unless_lacking db t lacking (option_map_or (λ n. fails db t (NoPosition n)) position due)
 
