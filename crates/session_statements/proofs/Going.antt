@@ -5,14 +5,16 @@ use Rattle.sql_trees.specs.Statements.{UpdateTree}
 use Rattle.sql_values.specs.declared.value.Value.{Value}
 use Rattle.sql_values.specs.declared.fault.ValueFault.{ValueFault}
 use Rattle.row_versions.specs.declared.write.Seen.{Seen}
-use Rattle.session_queries.specs.Updates.{columns_set}
+use Rattle.session_queries.specs.Queries.{AssignedColumn}
+use Rattle.session_queries.specs.Updates.{lacking_update, columns_set}
 use Rattle.session_machine.specs.declared.session.OpenTransaction.{OpenTransaction}
 use Rattle.session_machine.specs.declared.fault.StmtFault.TheVariants.{NoColumnOf}
 use Rattle.session_machine.specs.Tables.{Database}
 use Rattle.session_machine.specs.Statements.{Effect, Surroundings, columns_at, fails}
 use Rattle.session_machine.specs.Walks.{Visit, walked, walked_from}
+use Rattle.session_machine.specs.Rows.{cols_in}
 use Rattle.session_machine.specs.Running.{beginning, unless_wrong, update}
-use Rattle.session_machine.specs.Inner.Pieces.{update_to}
+use Rattle.session_machine.specs.Inner.Pieces.{update_fitting, update_to}
 
 -- targets that were found are gone over from the place on
 pub found_targets : (at : Database → Seen → Visit) (db : Database) (place : ℕ) (rows : List (List Value)) (r : Result (List Seen) ValueFault) (targets got : List Seen)
@@ -27,3 +29,8 @@ not_wrong db t lacking position due a b = ap (λ (x : Option (List ℕ)). unless
 pub no_such_column : (db : Database) (t : OpenTransaction) (around : Surroundings) (u : UpdateTree) (found : Option ℕ) (k : ℕ) (column : List ℕ) → found ≡ Some k
     → columns_set (columns_at db.catalog k) u.sets ≡ Err column → update db t around u found ≡ fails db t (NoColumnOf column u.table)
 no_such_column db t around u found k column a b = ap (update db t around u) a ∙ ap (update_to db (beginning db t around k) u) b
+
+-- one whose columns are all there goes on with them
+pub such_columns : (db : Database) (t : OpenTransaction) (around : Surroundings) (u : UpdateTree) (found : Option ℕ) (k : ℕ) (to : List AssignedColumn) → found ≡ Some k
+    → columns_set (columns_at db.catalog k) u.sets ≡ Ok to → update db t around u found ≡ update_fitting db (beginning db t around k) u (lacking_update (cols_in db (beginning db t around k)) u)
+such_columns db t around u found k to a b = ap (update db t around u) a ∙ ap (update_to db (beginning db t around k) u) b
