@@ -29,5 +29,5 @@ returns-clause-did g c =
     let k = c.in-Some.place in
     let is : columns_set (columns_at db.catalog k) u.sets ≡ Ok c.in_default-2.field-0 = search rules in
     let goes_on = such_columns db t c.args.around.now u (find_table db (Some t.tx) (name_of c.args.stmt.now.table)) k c.in_default-2.field-0 (search rules) is
-        ∙ ap (λ (w : Work). update_fitting db w u (lacking_update (cols_in db w) u)) (sym c.work-work.ensures) in
+    ∙ ap (λ (w : Work). update_fitting db w u (lacking_update (cols_in db w) u)) (sym c.work-work.ensures) in
     rw goes_on c.update_fitting.ensures
