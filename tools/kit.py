@@ -17,8 +17,6 @@ TRIED = f"{TOP}/wrong_bodies.txt"
 ROOMS = ("must-fail", "wrong_bodies", "wrong_bodies/due", "wrong_bodies/by_tests")
 # The crate whose tests tell them, and how many seconds its tests may take on a wrong body.
 TELLS, PATIENCE = "thread_tests", 600
-# From so many lines on a crate is proved by two jobs at least.
-LONG = 1500
 
 
 def load():
@@ -81,44 +79,6 @@ def quietly(crate, call):
             crate.out.seek(0)
             print(f"== {crate.name}\n{crate.out.read()}", end="", flush=True)
     return not status
-
-
-def waited_for(among):
-    """Returns the names of the crates that the others wait for: each chain of crates on which one of them stands is, by its lines, nearly as long as the longest."""
-    lines, under, above = {it.name: it.count(rb"\n") for it in among}, {}, {it.name: 0 for it in among}
-    for crate in among:
-        below = [it.name for it in crate.below() if it.name in lines]
-        under[crate.name] = lines[crate.name] + max((under[it] for it in below), default=0)
-    for crate in reversed(among):
-        for it in (it.name for it in crate.below() if it.name in lines):
-            above[it] = max(above[it], above[crate.name] + lines[crate.name])
-    longest = max(under.values(), default=0)
-    return {it for it in lines if under[it] + above[it] > 0.95 * longest}
-
-
-def build_all(libraries, told=lambda done, of, crate, well: None):
-    """Proves and builds these libraries, which stand on each other alone, several side by side. What is built already isn't looked at. Returns whether all are built; of
-    each that was tried, told learns which in turn it is, of how many, and whether it went well.
-
-    A check by one job takes least processor time, by four some six tenths more: so a crate has as many as there are processors that no other wants, and else two where the
-    others wait for it, or where it is long."""
-    lacking = [it for it in libraries if not all(each.is_built() for each in [it, *it.below()])]
-    first, tasks, done = waited_for(lacking), {}, []
-    for crate in lacking:
-        below = [(it.name, "proof") for it in crate.below() if it in lacking]
-
-        def made(given, spare, crate=crate, below=below):
-            if not all(given[it] for it in below):
-                return False
-            jobs = ["--jobs", str(max(spare, min(2, rt.processors()) if crate.name in first or crate.count(rb"\n") > LONG else 1))]
-            well = quietly(crate, lambda it: it.build_rlib(jobs, anew=False))
-            done.append(crate.name)
-            told(len(done), len(lacking), crate, well)
-            return well
-
-        # (in_lanes takes a task for a proof by the second part of its key. A check that keeps its work takes half of the memory that it reckons with)
-        tasks[crate.name, "proof"] = (below, crate.count(rb"\n"), rt.need(crate) / 2, made)
-    return all(rt.in_lanes(tasks).values())
 
 
 def named(words, among):

@@ -35,7 +35,7 @@ Exit status:
   3  memory, a thread, a read or a write failed";
 
 /// What the command line asks for.
-#[derive(Clone, Copy, Debug, PartialEq, Eq)]
+#[derive(Clone, Copy)]
 pub struct Options {
     /// The permutations are listed, and none runs.
     pub list: bool,

@@ -155,7 +155,7 @@ fn perms_are(rt: &impl Abort, perms: &[Vec<Entry>]) {
     let [star, of_b, of_d] = a.markers.as_slice() else {
         return holds(rt, false, "three markers");
     };
-    holds(rt, *star == Marker::Star, "*");
+    holds(rt, matches!(star, Marker::Star), "*");
     holds(
         rt,
         is_step_of(of_b, 1, 1) && is_step_of(of_d, 2, 0),

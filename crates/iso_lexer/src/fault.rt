@@ -29,7 +29,7 @@ pub enum FaultKind {
 }
 
 /// The first fault of a text, and the byte at which it stands.
-#[derive(Clone, Copy, Debug, PartialEq, Eq)]
+#[derive(Clone, Copy, Debug)]
 pub struct Fault {
     pub kind: FaultKind,
     pub at: usize,

@@ -8,7 +8,7 @@ use crate::same::same_name;
 use std::marker::Model;
 
 /// A name, which contracts see as the bytes that it stands for.
-#[derive(Debug, Drop)]
+#[derive(Drop)]
 pub struct Ident<'a> {
     written: Name<'a>,
 }

@@ -3,7 +3,7 @@
 use crate::fault::FaultKind;
 
 /// What stands at the front of a text, and what follows it.
-#[derive(Clone, Copy)]
+#[derive(Drop)]
 pub enum Piece<'a, T> {
     /// Nothing that counts.
     Gap(&'a str),

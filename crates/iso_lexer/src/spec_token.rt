@@ -2,7 +2,7 @@
 
 use crate::name::Name;
 
-#[derive(Clone, Copy, Debug, PartialEq, Eq)]
+#[derive(Clone, Copy, PartialEq, Eq)]
 pub enum Keyword {
     Permutation,
     Session,
@@ -12,7 +12,7 @@ pub enum Keyword {
     Notices,
 }
 
-#[derive(Clone, Copy, Debug, PartialEq, Eq)]
+#[derive(Clone, Copy, PartialEq, Eq)]
 pub enum Sign {
     Open,
     Close,
@@ -21,7 +21,7 @@ pub enum Sign {
 }
 
 /// A token of a spec file, over slices of the file.
-#[derive(Clone, Copy, Debug)]
+#[derive(Clone, Copy)]
 pub enum SpecTok<'a> {
     Keyword(Keyword),
     Name(Name<'a>),

@@ -1,6 +1,6 @@
 //! Tokens of SQL text.
 
-#[derive(Clone, Copy, Debug, PartialEq, Eq)]
+#[derive(Clone, Copy, PartialEq, Eq)]
 pub enum SqlSign {
     /// `<>` or `!=`
     NotEqual,
@@ -28,7 +28,7 @@ pub enum SqlSign {
 }
 
 /// A token of SQL text, over slices of the text.
-#[derive(Clone, Copy, Debug)]
+#[derive(Clone, Copy)]
 pub enum SqlTok<'a> {
     /// An unquoted word: a keyword in any case, or a name.
     Word(&'a str),

@@ -17,7 +17,7 @@ use std::alloc::{AllocError, AllocFailed};
 use std::fmt;
 
 /// The fault of a block, with its byte in the block, and the byte of the file at which the block begins.
-#[derive(Clone, Copy, Debug, PartialEq, Eq)]
+#[derive(Clone, Copy, Debug)]
 pub struct BlockFault {
     pub block: usize,
     pub fault: SqlFault,

@@ -3,7 +3,7 @@
 use session_machine::Order;
 
 /// What is said of an instance at a try; `seen` is how many items of the history had come.
-#[derive(Clone, Copy, Debug, PartialEq, Eq)]
+#[derive(Clone, Copy, PartialEq, Eq)]
 pub enum Line {
     AtOnce { entry: usize, seen: usize },
     Waiting { entry: usize },
@@ -19,7 +19,7 @@ pub struct Moment {
 }
 
 /// How far a run has come: to an entry that is due, or to the end, or to where the permutation is found invalid.
-#[derive(Clone, Copy, Debug, PartialEq, Eq)]
+#[derive(Clone, Copy, PartialEq, Eq)]
 pub enum RunState {
     Due(usize),
     Whole,

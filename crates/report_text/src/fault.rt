@@ -8,7 +8,7 @@ use iso_lexer::DeviceFault;
 use std::alloc::AllocError;
 
 /// How a permutation ended.
-#[derive(Clone, Copy, Debug, PartialEq, Eq)]
+#[derive(Clone, Copy, PartialEq, Eq)]
 pub enum Ended {
     /// All that its history has is reported.
     Whole,

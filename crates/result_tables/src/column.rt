@@ -13,7 +13,7 @@ use sql_values::{Row, Value};
 use std::alloc::{AllocError, Global};
 
 /// A column's width in bytes, and whether it is aligned to the left.
-#[derive(Clone, Copy, Debug, PartialEq, Eq)]
+#[derive(Clone, Copy)]
 pub struct ColumnLayout {
     pub width: usize,
     pub left: bool,

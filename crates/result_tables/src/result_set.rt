@@ -9,7 +9,7 @@ use std::alloc::{AllocError, Global};
 use std::marker::Model;
 
 /// The titles of a query's columns, and its rows, each as long as the titles.
-#[derive(Debug, Drop)]
+#[derive(Drop)]
 pub struct ResultSet<'a> {
     titles: Vec<Title<'a>>,
     rows: Vec<Row>,

@@ -5,7 +5,7 @@ ghost use Rattle.std.specs.Prelude.{◌≡◌, ◌↔◌, IsTrue};
 use iso_lexer::Ident;
 
 /// A column's title.
-#[derive(Debug, Drop)]
+#[derive(Drop)]
 pub enum Title<'a> {
     /// An alias, or the name of the column that alone makes the item.
     Column(Ident<'a>),

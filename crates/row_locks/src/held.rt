@@ -5,14 +5,14 @@ ghost use Rattle.row_locks.specs.Held.{conflicts, is_against};
 use row_versions::{RowId, TxId};
 
 /// How strongly a row is held: FOR SHARE shares it; FOR UPDATE, UPDATE and DELETE want it alone.
-#[derive(Clone, Copy, Debug, PartialEq, Eq)]
+#[derive(Clone, Copy, PartialEq, Eq)]
 pub enum Strength {
     Share,
     Exclusive,
 }
 
 /// A lock: the transaction holds the row.
-#[derive(Clone, Copy, Debug, PartialEq, Eq)]
+#[derive(Clone, Copy)]
 pub struct Held {
     pub row: RowId,
     pub tx: TxId,

@@ -14,7 +14,7 @@ use std::alloc::{AllocError, Global};
 use std::marker::Model;
 
 /// The plain store: a list of all writes, searched anew at each question, and how many transactions have committed.
-#[derive(Debug, Drop)]
+#[derive(Drop)]
 pub struct ListStore {
     log: Vec<Write>,
     fates: Vec<Fate>,

@@ -3,7 +3,7 @@ use crate::names::{RowId, TableId, TxId};
 use sql_values::Row;
 
 /// One write: an INSERT's, an UPDATE's or, without values, a DELETE's of one row.
-#[derive(Debug, Drop)]
+#[derive(Drop)]
 pub struct Write {
     pub tx: TxId,
     /// The number of the statement in its transaction, from 0.
@@ -15,7 +15,7 @@ pub struct Write {
 }
 
 /// What has become of a transaction.
-#[derive(Clone, Copy, Debug, PartialEq, Eq)]
+#[derive(Clone, Copy)]
 pub enum Fate {
     Open,
     RolledBack,
@@ -25,7 +25,7 @@ pub enum Fate {
 
 /// What a statement sees: the first `commits` commits, and what its own transaction `tx` wrote in commands
 /// below `command`. Without `tx` it sees the first alone.
-#[derive(Clone, Copy, Debug, PartialEq, Eq)]
+#[derive(Clone, Copy)]
 pub struct View {
     pub tx: Option<TxId>,
     pub commits: u64,
@@ -33,7 +33,7 @@ pub struct View {
 }
 
 /// A version of a row: the write at `place` in the log.
-#[derive(Clone, Copy, Debug, PartialEq, Eq)]
+#[derive(Clone, Copy)]
 pub struct Seen {
     pub row: RowId,
     pub place: u64,

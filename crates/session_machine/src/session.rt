@@ -10,14 +10,14 @@ use sql_values::Row;
 use std::marker::Model;
 
 /// Where a session stands: at a statement of a block.
-#[derive(Clone, Copy, PartialEq, Eq)]
+#[derive(Clone, Copy)]
 pub struct Place {
     pub block: u32,
     pub next: usize,
 }
 
 /// An open transaction.
-#[derive(Clone, Copy, PartialEq, Eq)]
+#[derive(Clone, Copy)]
 pub struct OpenTransaction {
     pub tx: TxId,
     /// Begun by BEGIN; one that isn't ends with its block.
@@ -30,7 +30,7 @@ pub struct OpenTransaction {
 }
 
 /// A session's transaction.
-#[derive(Clone, Copy, PartialEq, Eq)]
+#[derive(Clone, Copy)]
 pub enum Transaction {
     Closed,
     Open(OpenTransaction),

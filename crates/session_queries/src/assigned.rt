@@ -12,7 +12,7 @@ use std::alloc::{AllocError, Global};
 use std::marker::Model;
 
 /// Where a value goes: a column's place in its table, from 0, and the column's kind.
-#[derive(Debug, Drop)]
+#[derive(Drop)]
 pub struct AssignedColumn {
     place: usize,
     kind: Kind,
@@ -48,7 +48,7 @@ impl AssignedColumn {
 }
 
 /// Where the values go, one after the other. Contracts see the list of the columns.
-#[derive(Debug, Drop)]
+#[derive(Drop)]
 pub struct AssignedColumns {
     to: Vec<AssignedColumn>,
 }

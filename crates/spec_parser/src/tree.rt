@@ -3,20 +3,20 @@
 use iso_lexer::Name;
 
 /// A block of SQL: its text, the byte of the file at which that begins, and its number, from 0 in file order.
-#[derive(Clone, Copy, Debug)]
+#[derive(Clone, Copy)]
 pub struct Part<'a> {
     pub sql: &'a str,
     pub at: usize,
     pub block: u32,
 }
 
-#[derive(Clone, Copy, Debug)]
+#[derive(Clone, Copy)]
 pub struct StepPart<'a> {
     pub name: Name<'a>,
     pub part: Part<'a>,
 }
 
-#[derive(Debug, Drop)]
+#[derive(Drop)]
 pub struct SessionPart<'a> {
     pub name: Name<'a>,
     pub setup: Option<Part<'a>>,
@@ -25,21 +25,21 @@ pub struct SessionPart<'a> {
 }
 
 /// What holds back the report of a step: `*`, or another step.
-#[derive(Clone, Copy, Debug, PartialEq, Eq)]
+#[derive(Clone, Copy)]
 pub enum Marker {
     Star,
     Step { session: u32, step: u32 },
 }
 
 /// A step of a permutation. Sessions are numbered from 1, steps from 0 within their session.
-#[derive(Debug, Drop)]
+#[derive(Drop)]
 pub struct Entry {
     pub session: u32,
     pub step: u32,
     pub markers: Vec<Marker>,
 }
 
-#[derive(Debug, Drop)]
+#[derive(Drop)]
 pub struct Spec<'a> {
     pub setups: Vec<Part<'a>>,
     pub teardown: Option<Part<'a>>,

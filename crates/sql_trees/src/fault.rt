@@ -11,7 +11,7 @@ use std::error::Error;
 use std::fmt;
 
 /// The first fault of a block, with the byte at which it stands.
-#[derive(Clone, Copy, Debug, PartialEq, Eq)]
+#[derive(Clone, Copy, Debug)]
 pub enum SqlFault {
     Memory,
     /// The text has no tokens.

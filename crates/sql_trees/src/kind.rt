@@ -1,7 +1,7 @@
 //! Kinds of values, and directions of sorting.
 
 /// The kind of a column.
-#[derive(Clone, Copy, Debug, PartialEq, Eq)]
+#[derive(Clone, Copy, PartialEq, Eq)]
 pub enum Kind {
     /// integer, of 32 bits
     Int,

@@ -5,14 +5,14 @@ use crate::kind::{Dir, Kind};
 use iso_lexer::Name;
 
 /// An isolation level. Read Uncommitted is Read Committed.
-#[derive(Clone, Copy, Debug, PartialEq, Eq)]
+#[derive(Clone, Copy, PartialEq, Eq)]
 pub enum Level {
     ReadCommitted,
     RepeatableRead,
 }
 
 /// A column of CREATE TABLE. PRIMARY KEY, on the column or over it, makes it NOT NULL.
-#[derive(Clone, Copy, Debug)]
+#[derive(Clone, Copy)]
 pub struct Column<'a> {
     pub name: Name<'a>,
     pub kind: Kind,

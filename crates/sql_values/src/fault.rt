@@ -7,7 +7,7 @@ use iso_lexer::Ident;
 use std::alloc::{AllocError, AllocFailed};
 
 /// Why an expression has no value. The names V1 to V5 are those of the faults that the program reports.
-#[derive(Debug, Drop)]
+#[derive(Drop)]
 pub enum ValueFault<'a> {
     /// V1
     DivisionByZero,

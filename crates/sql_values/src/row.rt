@@ -7,7 +7,7 @@ use std::alloc::{AllocError, Global};
 use std::marker::Model;
 
 /// The values of a row.
-#[derive(Debug, Drop)]
+#[derive(Drop)]
 pub struct Row {
     values: Vec<Value>,
 }

@@ -5,7 +5,7 @@ use spec_parser::{SessionPart, Spec};
 use std::alloc::{AllocError, Global};
 
 /// A session: its name, and those of its steps.
-#[derive(Debug, Drop)]
+#[derive(Drop)]
 pub struct Column {
     pub name: String,
     pub steps: Vec<String>,

@@ -30,7 +30,7 @@ text.error { fill: #c0392b; font-weight: bold }
 ";
 
 /// A session's column in the picture, and since when it waits.
-#[derive(Debug, Drop)]
+#[derive(Drop)]
 struct Lane {
     left: usize,
     width: usize,

@@ -7,7 +7,7 @@ use std::alloc::{AllocError, Global};
 const WIDEST: usize = 46;
 
 /// What the line of a step says of it.
-#[derive(Clone, Copy, Debug, PartialEq, Eq)]
+#[derive(Clone, Copy)]
 pub enum StepStatus {
     Done,
     Waits,
@@ -15,7 +15,7 @@ pub enum StepStatus {
 }
 
 /// What is printed of a step, in the column of its session.
-#[derive(Debug, Drop)]
+#[derive(Drop)]
 pub struct StepReport {
     pub column: usize,
     pub status: StepStatus,
@@ -33,7 +33,7 @@ impl StepReport {
 }
 
 /// What is printed of a permutation.
-#[derive(Debug, Drop)]
+#[derive(Drop)]
 pub struct PermutationReport {
     pub title: String,
     pub steps: Vec<StepReport>,
