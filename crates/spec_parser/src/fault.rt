@@ -56,16 +56,19 @@ impl fmt::Display for SpecFault {
     ghost output = { λ fault. Some (spec_fault_text fault) };
 
     fn fmt<W: fmt::Write>(&self, f: &mut fmt::Formatter<W>) -> fmt::Result {
-        match self {
-            SpecFault::Memory => write!(f, "Memory"),
-            SpecFault::Lex(fault) => write!(f, "{fault}"),
-            SpecFault::Expected { what, at } => write!(f, "S1 Expected {what} at byte {at}"),
-            SpecFault::DuplicateStep { at } => write!(f, "S2 DuplicateStep at byte {at}"),
-            SpecFault::UndefinedStep { at } => write!(f, "S3 UndefinedStep at byte {at}"),
-            SpecFault::UndefinedMarker { at } => write!(f, "S4 UndefinedMarker at byte {at}"),
-            SpecFault::NoticesLeftOut { at } => write!(f, "S5 NoticesLeftOut at byte {at}"),
-            SpecFault::Limit { at } => write!(f, "S6 Limit at byte {at}"),
-        }
+        let (name, at) = match self {
+            SpecFault::Memory => return f.write_str("Memory"),
+            SpecFault::Lex(fault) => return fault.fmt(f),
+            SpecFault::Expected { what, at } => {
+                return write!(f, "S1 Expected {what} at byte {at}");
+            }
+            SpecFault::DuplicateStep { at } => ("S2 DuplicateStep", at),
+            SpecFault::UndefinedStep { at } => ("S3 UndefinedStep", at),
+            SpecFault::UndefinedMarker { at } => ("S4 UndefinedMarker", at),
+            SpecFault::NoticesLeftOut { at } => ("S5 NoticesLeftOut", at),
+            SpecFault::Limit { at } => ("S6 Limit", at),
+        };
+        write!(f, "{name} at byte {at}")
     }
 }
 

@@ -34,16 +34,17 @@ impl fmt::Display for SqlFault {
     ghost output = { λ fault. Some (sql_fault_text fault) };
 
     fn fmt<W: fmt::Write>(&self, f: &mut fmt::Formatter<W>) -> fmt::Result {
-        match self {
-            SqlFault::Memory => f.write_str("Memory"),
-            SqlFault::Lex(fault) => write!(f, "{fault}"),
-            SqlFault::Syntax(at) => write!(f, "Q1 Syntax at byte {at}"),
-            SqlFault::LeftOut(at) => write!(f, "Q2 LeftOut at byte {at}"),
-            SqlFault::TooDeep(at) => write!(f, "Q3 TooDeep at byte {at}"),
-            SqlFault::TooMany(at) => write!(f, "Q4 TooMany at byte {at}"),
-            SqlFault::DdlInSession(at) => write!(f, "Q5 DdlInSession at byte {at}"),
-            SqlFault::BadColumns(at) => write!(f, "Q6 BadColumns at byte {at}"),
-        }
+        let (name, at) = match self {
+            SqlFault::Memory => return f.write_str("Memory"),
+            SqlFault::Lex(fault) => return fault.fmt(f),
+            SqlFault::Syntax(at) => ("Q1 Syntax", at),
+            SqlFault::LeftOut(at) => ("Q2 LeftOut", at),
+            SqlFault::TooDeep(at) => ("Q3 TooDeep", at),
+            SqlFault::TooMany(at) => ("Q4 TooMany", at),
+            SqlFault::DdlInSession(at) => ("Q5 DdlInSession", at),
+            SqlFault::BadColumns(at) => ("Q6 BadColumns", at),
+        };
+        write!(f, "{name} at byte {at}")
     }
 }
 

@@ -12,7 +12,7 @@ use crate::arithmetic::{minus, number, plus};
 use crate::columns::Columns;
 use crate::fault::ValueFault;
 use crate::literal::literal;
-use crate::logic::{and, boolean, is_test, not_if, or, truth};
+use crate::logic::{and, boolean, condition, is_test, or, truth};
 use crate::operation::operate;
 use crate::row::Row;
 use crate::value::Value;
@@ -55,28 +55,21 @@ pub fn eval<'a>(
         Expr::Column(name) => column(alloc, name, cols, row),
         Expr::Plus(a) => plus(eval(alloc, a, cols, row)?),
         Expr::Minus(a) => minus(eval(alloc, a, cols, row)?),
-        Expr::Not(a) => {
-            let a = eval(alloc, a, cols, row)?;
-            Ok(boolean(not_if(true, truth(&a)?)))
-        }
+        Expr::Not(a) => condition(true, truth(&eval(alloc, a, cols, row)?)),
         Expr::Binary(operator, a, b) => {
-            let a = eval(alloc, a, cols, row)?;
-            binary(alloc, *operator, &a, b, cols, row)
+            binary(alloc, *operator, &eval(alloc, a, cols, row)?, b, cols, row)
         }
         Expr::Is(a, negated, asked) => {
-            let a = eval(alloc, a, cols, row)?;
-            Ok(boolean(not_if(*negated, is_test(*asked, &a)?)))
+            condition(*negated, is_test(*asked, &eval(alloc, a, cols, row)?))
         }
         Expr::In(a, negated, items) => {
             let a = eval(alloc, a, cols, row)?;
-            let among = is_among(alloc, &a, items, cols, row)?;
-            Ok(boolean(not_if(*negated, among)))
+            condition(*negated, is_among(alloc, &a, items, cols, row))
         }
         Expr::Between(a, negated, low, high) => {
             let a = eval(alloc, a, cols, row)?;
             let above = compares(alloc, Operator::AtLeast, &a, low, cols, row)?;
-            let between = is_at_most_too(alloc, above, &a, high, cols, row)?;
-            Ok(boolean(not_if(*negated, between)))
+            condition(*negated, is_at_most_too(alloc, above, &a, high, cols, row))
         }
     }
 }

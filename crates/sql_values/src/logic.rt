@@ -49,12 +49,25 @@ pub fn and(a: Option<bool>, b: Option<bool>) -> Option<bool>
 }
 
 /// The negation where the flag says so.
-pub fn not_if(negated: bool, known: Option<bool>) -> Option<bool>
+fn not_if(negated: bool, known: Option<bool>) -> Option<bool>
     ensures { not_if negated (Ok known) ≡ Ok result }
 {
     match known {
         Some(b) => Some(b != negated),
         None => None,
+    }
+}
+
+/// The value of a condition, or of its negation where the flag says so.
+pub fn condition<'a>(
+    negated: bool,
+    known: Result<Option<bool>, ValueFault<'a>>,
+) -> Result<Value, ValueFault<'a>>
+    ensures { result ≡ condition (not_if negated known.entry) }
+{
+    match known {
+        Ok(known) => Ok(boolean(not_if(negated, known))),
+        Err(fault) => Err(fault),
     }
 }
 
