@@ -2,6 +2,7 @@
 use Rattle.std.proofs.Common.{◌≡◌, ℕ, suc, List, [], ◌∷◌, ◌++◌, ◌<◌, length, take, drop, map, Some, None, refl, sym, ap, ◌∙◌, append_assoc, append-nil, arith}
 use Rattle.std.proofs.lemmas.Bool.{lt-ltb}
 use Rattle.std.proofs.lemmas.List.{length-map}
+use Rattle.std.specs.Result.{result_and}
 use Rattle.std.specs.Prelude.{Result, Ok, Err, Bool, true, false, nat_lt, if◌then◌else◌}
 use Rattle.iso_lexer.specs.declared.token.At.{At}
 use Rattle.iso_lexer.specs.declared.sql_token.SqlSign.TheVariants as signs
@@ -10,11 +11,13 @@ use Rattle.sql_trees.specs.declared.token.Tok.{Tok}
 use Rattle.sql_trees.specs.declared.stmt.Stmt.{Stmt}
 use Rattle.sql_trees.specs.Statements.{StmtTree, stmt_of}
 use Rattle.sql_trees.specs.Tokens.{Tokens, tok_at, tok_view, tok_views}
-use Rattle.sql_expressions.specs.Readers.{is_sign}
-use Rattle.sql_expressions.specs.Results.{◌>>=◌}
+use Rattle.sql_expressions.specs.Readers.{is_sign, misplaced}
+use Rattle.sql_expressions.specs.Results.{Gives, ◌>>=◌}
 use Rattle.sql_parser.specs.declared.block.Role.{Role}
-use Rattle.sql_parser.specs.Blocks.{whole_at, piece_at, stmts_at}
+use Rattle.sql_parser.specs.Blocks.{at_end, stmt_at, whole_at, piece_at, stmts_at}
+use Rattle.sql_parser.specs.Inner.Calls.{seen}
 use Rattle.sql_parser.specs.Inner.Pieces.{piece_len, block_from, SplitsAs}
+use Rattle.sql_parser.proofs.Lists.{gives_seen}
 
 module _ (last : ℕ) (role : Role) (ss : List StmtTree) where
   -- without a semicolon the rest is one piece
@@ -68,3 +71,9 @@ piece_stopped last role stmts [] f h less e = absurd (omega arith)
 piece_stopped last role stmts (x ∷ xs) f h less e =
     let few : nat_lt (length (map stmt_of stmts)) 256 ≡ true = lt-ltb (length (map stmt_of stmts)) 256 (omega (arith, length-map stmts stmt_of)) in
     rw (few, e) refl
+
+-- a statement's answer, where all tokens have been read, is that of the whole
+pub whole_gives : {U : Type 0} (last : ℕ) (role : Role) (ts rest : Tokens) (u : U) (end : Result U SqlFault) (answer whole : Result Stmt SqlFault) → stmt_at last role ts ≡ Ok (seen stmt_of answer, rest) → end ≡ at_end last (Ok u) rest → whole ≡ result_and end answer → Gives stmt_of whole (whole_at last role ts)
+unfolding whole_at
+whole_gives last role ts [] u end answer whole s e w = rw (s, w, e) (gives_seen stmt_of answer)
+whole_gives last role ts (t ∷ us) u end answer whole s e w = rw (s, w, e) (gives_seen stmt_of (Err (misplaced last (t ∷ us))))

@@ -5,9 +5,8 @@ use Rattle.sql_parser.specs.declared.names.RowList.{RowList}
 use Rattle.sql_parser.specs.declared.table.PlacedName.{PlacedName}
 use Rattle.sql_parser.specs.declared.table.KeyText.{KeyText}
 use Rattle.sql_parser.specs.declared.table.TableText.{TableText}
-use Rattle.sql_parser.specs.declared.table.Limits.{Limits}
 use Rattle.sql_parser.specs.Changes.{Rows}
-use Rattle.sql_parser.specs.Tables.{Placed, KeyRead, TableRead, Constraints}
+use Rattle.sql_parser.specs.Tables.{Placed, KeyRead, TableRead}
 
 abbrev pub rows_of : RowList → Rows
 rows_of r = record { rows = map exprs_of r.rows.items; width = r.width }
@@ -20,6 +19,3 @@ key_text_of k = record { primary = k.primary; columns = map placed_of k.columns.
 
 abbrev pub table_text_of : TableText → TableRead
 table_text_of t = record { columns = map column_of t.columns.items; keys = map key_text_of t.keys.items }
-
-abbrev pub limits_of : Limits → Constraints
-limits_of s = record { not_null = s.not_null; keys = map key_text_of s.keys.items }

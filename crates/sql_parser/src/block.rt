@@ -1,7 +1,7 @@
 //! Blocks of statements.
 
 ghost use Rattle.std.specs.List.{list_all};
-ghost use Rattle.std.specs.Prelude.{◌≡◌, ◌↔◌, true, ◌<◌, ◌≤◌, ◌^◌, [], IfOk, IsTrue, length, map, IfSome, vec_len, option_map};
+ghost use Rattle.std.specs.Prelude.{◌≡◌, ◌↔◌, true, ◌<◌, ◌≤◌, ◌^◌, [], Ok, IfOk, IsTrue, length, map, IfSome, vec_len, option_map};
 ghost use Rattle.iso_lexer.specs.declared.sql_token.SqlSign.TheVariants as signs;
 ghost use Rattle.sql_trees.specs.Statements.{stmt_of};
 ghost use Rattle.sql_trees.specs.Tokens.{tok_view, tok_views};
@@ -9,7 +9,7 @@ ghost use Rattle.sql_expressions.specs.Readers.{is_sign};
 ghost use Rattle.sql_expressions.specs.Results.{Gives};
 ghost use Rattle.sql_parser.specs.Inner.Calls.{seen};
 ghost use Rattle.sql_parser.specs.Texts.{Parses};
-ghost use Rattle.sql_parser.specs.Blocks.{whole_at, piece_at, block_at};
+ghost use Rattle.sql_parser.specs.Blocks.{at_end, whole_at, piece_at, block_at};
 ghost use Rattle.sql_parser.specs.Inner.Pieces.{piece_len, SplitsAs};
 ghost use Rattle.sql_parser.specs.Kept.{is_kept_in};
 
@@ -119,6 +119,17 @@ fn next_piece<'t, 'a>(tokens: Tokens<'t, 'a>) -> Option<(Tokens<'t, 'a>, usize, 
     Some((piece, mark.span.start, behind))
 }
 
+// Nothing, or the fault at the first token where one is left.
+fn all_read(parser: Parser, tokens: Tokens) -> Result<(), SqlFault>
+    ensures { result ≡ at_end parser.text_len (Ok tt) (tok_views tokens.now) }
+{
+    if tokens.is_empty() {
+        Ok(())
+    } else {
+        Err(parser.misplaced(tokens))
+    }
+}
+
 // A statement behind which nothing stands, and of which all holds that has to hold of the whole.
 #[tactic(auto, unfolding(crate::specs::Blocks::whole_at))]
 fn whole_stmt<'a>(parser: Parser, role: Role, piece: Tokens<'_, 'a>) -> Result<Stmt<'a>, SqlFault>
@@ -126,11 +137,7 @@ fn whole_stmt<'a>(parser: Parser, role: Role, piece: Tokens<'_, 'a>) -> Result<S
     ensures { Gives stmt_of result (whole_at parser.text_len role (tok_views piece.now)) }
 {
     let (answer, rest) = stmt(parser, role, piece)?;
-    if rest.is_empty() {
-        answer
-    } else {
-        Err(parser.misplaced(rest))
-    }
+    all_read(parser, rest).and(answer)
 }
 
 // The statements with the one of this piece, if it has one.

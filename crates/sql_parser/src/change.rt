@@ -48,19 +48,19 @@ fn equal<'t, 'a>(parser: Parser, tokens: Tokens<'t, 'a>) -> Result<Tokens<'t, 'a
 }
 
 impl<'a> SetList<'a> {
-    // With a column whose name has been read.
-    fn with_named<'t>(
-        mut self,
+    // Adds a column whose name has been read.
+    fn add_named<'t>(
+        &mut self,
         parser: Parser,
         column: Name<'a>,
         tokens: Tokens<'t, 'a>,
-    ) -> Result<(Self, Tokens<'t, 'a>), SqlFault>
-        ensures exact { Gives (λ x. (map set_of x.0.sets.items, tok_views x.1.now)) result (set_value parser.text_len (name_of column.entry) (map set_of self.entry.sets.items) (tok_views tokens.now)) }
-        ensures shorter { IfOk result (λ x. length x.1.now ≤ length tokens.now) }
+    ) -> Result<Tokens<'t, 'a>, SqlFault>
+        ensures exact { Gives (λ rest. (map set_of self.new.sets.items, tok_views rest.now)) result (set_value parser.text_len (name_of column.entry) (map set_of self.old.sets.items) (tok_views tokens.now)) }
+        ensures shorter { IfOk result (λ rest. length rest.now ≤ length tokens.now) }
     {
         let (value, rest) = expr(parser, equal(parser, tokens)?)?;
         self.sets.push((column, value))?;
-        Ok((self, rest))
+        Ok(rest)
     }
 }
 
@@ -69,16 +69,16 @@ impl<'a> List<'a> for SetList<'a> {
 
     #[tactic(auto, unfolding(crate::specs::Changes::set_add))]
     fn add<'t>(
-        self,
+        &mut self,
         parser: Parser,
         tokens: Tokens<'t, 'a>,
-    ) -> Result<(Self, Tokens<'t, 'a>), SqlFault> {
+    ) -> Result<Tokens<'t, 'a>, SqlFault> {
         let place = parser.place_of(tokens);
         let (column, rest) = name(parser, tokens)?;
         if is_set(&column, &self.sets) {
             return Err(SqlFault::BadColumns(place));
         }
-        self.with_named(parser, column, rest)
+        self.add_named(parser, column, rest)
     }
 }
 

@@ -25,13 +25,13 @@ impl<'a> List<'a> for NameList<'a> {
     ghost adds = { λ last s ts r. Gives (λ x. (map name_of x.0.names.items, x.1)) r (added (name_at last) (map name_of s.names.items) ts) };
 
     fn add<'t>(
-        mut self,
+        &mut self,
         parser: Parser,
         tokens: Tokens<'t, 'a>,
-    ) -> Result<(Self, Tokens<'t, 'a>), SqlFault> {
+    ) -> Result<Tokens<'t, 'a>, SqlFault> {
         let (name, rest) = name(parser, tokens)?;
         self.names.push(name)?;
-        Ok((self, rest))
+        Ok(rest)
     }
 }
 
@@ -45,16 +45,16 @@ impl<'a> List<'a> for DistinctNames<'a> {
     ghost adds = { λ last s ts r. Gives (λ x. (map name_of x.0.names.items, x.1)) r (distinct_add last (map name_of s.names.items) ts) };
 
     fn add<'t>(
-        mut self,
+        &mut self,
         parser: Parser,
         tokens: Tokens<'t, 'a>,
-    ) -> Result<(Self, Tokens<'t, 'a>), SqlFault> {
+    ) -> Result<Tokens<'t, 'a>, SqlFault> {
         let (name, rest) = name(parser, tokens)?;
         if is_among(&name, &self.names) {
             return Err(SqlFault::BadColumns(parser.place_of(tokens)));
         }
         self.names.push(name)?;
-        Ok((self, rest))
+        Ok(rest)
     }
 }
 
@@ -68,13 +68,13 @@ impl<'a> List<'a> for ValueList<'a> {
     ghost adds = { λ last s ts r. Gives (λ x. (exprs_of x.0.values, x.1)) r (added (tree_at last) (exprs_of s.values) ts) };
 
     fn add<'t>(
-        mut self,
+        &mut self,
         parser: Parser,
         tokens: Tokens<'t, 'a>,
-    ) -> Result<(Self, Tokens<'t, 'a>), SqlFault> {
+    ) -> Result<Tokens<'t, 'a>, SqlFault> {
         let (value, rest) = expr(parser, tokens)?;
         self.values.push(value)?;
-        Ok((self, rest))
+        Ok(rest)
     }
 }
 
@@ -90,10 +90,10 @@ impl<'a> List<'a> for RowList<'a> {
 
     #[tactic(auto, unfolding(crate::specs::Changes::row_add))]
     fn add<'t>(
-        mut self,
+        &mut self,
         parser: Parser,
         tokens: Tokens<'t, 'a>,
-    ) -> Result<(Self, Tokens<'t, 'a>), SqlFault> {
+    ) -> Result<Tokens<'t, 'a>, SqlFault> {
         let place = parser.place_of(tokens);
         let (ValueList { values }, rest) = values(parser, open(parser, tokens)?)?;
         let rest = close(parser, rest)?;
@@ -105,7 +105,7 @@ impl<'a> List<'a> for RowList<'a> {
         }
         self.rows.push(values)?;
         self.width = Some(width);
-        Ok((self, rest))
+        Ok(rest)
     }
 }
 

@@ -159,13 +159,13 @@ impl<'a> List<'a> for ItemList<'a> {
     ghost adds = { λ last s ts r. Gives (λ x. (map item_of x.0.items.items, x.1)) r (added (item_at last) (map item_of s.items.items) ts) };
 
     fn add<'t>(
-        mut self,
+        &mut self,
         parser: Parser,
         tokens: Tokens<'t, 'a>,
-    ) -> Result<(Self, Tokens<'t, 'a>), SqlFault> {
+    ) -> Result<Tokens<'t, 'a>, SqlFault> {
         let (item, rest) = item(parser, tokens)?;
         self.items.push(item)?;
-        Ok((self, rest))
+        Ok(rest)
     }
 }
 
@@ -238,16 +238,16 @@ impl<'a> List<'a> for OrderList<'a> {
 
     #[tactic(auto, unfolding(crate::specs::Queries::order_add))]
     fn add<'t>(
-        mut self,
+        &mut self,
         parser: Parser,
         tokens: Tokens<'t, 'a>,
-    ) -> Result<(Self, Tokens<'t, 'a>), SqlFault> {
+    ) -> Result<Tokens<'t, 'a>, SqlFault> {
         let (expr, rest) = expr(parser, tokens)?;
         let (desc, rest) = direction(rest);
         let (nulls_first, rest) = nulls(parser, desc, rest)?;
         let dir = Dir { desc, nulls_first };
         self.keys.push(OrderKey { expr, dir })?;
-        Ok((self, rest))
+        Ok(rest)
     }
 }
 

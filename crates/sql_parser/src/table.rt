@@ -1,13 +1,13 @@
 //! CREATE TABLE and DROP TABLE, as they are written.
 
-ghost use Rattle.std.specs.Prelude.{◌≡◌, ◌<◌, ◌≤◌, [], Ok, IfOk, length, map, option_map};
+ghost use Rattle.std.specs.Prelude.{◌≡◌, ◌<◌, ◌≤◌, ◌++◌, ◌∷◌, [], IfOk, length, map, option_map};
 ghost use Rattle.sql_trees.specs.Statements.{name_of, stmt_of, column_of};
 ghost use Rattle.sql_trees.specs.Tokens.{tok_view, tok_views};
 ghost use Rattle.sql_expressions.specs.Results.{Gives};
 ghost use Rattle.sql_expressions.specs.Readers.{items_at};
-ghost use Rattle.sql_parser.specs.Tables.{is_among, placed_names, column_names, empty_table, kind_of, kind_at, key_limit, key_add, key_at, limits_at, column_behind, column_at, table_add, after_if, drop_at};
+ghost use Rattle.sql_parser.specs.Tables.{is_among, placed_names, column_names, empty_table, kind_of, kind_at, key_add, key_at, limits_at, column_behind, column_at, table_add, after_if, drop_at};
 ghost use Rattle.sql_parser.specs.Inner.OneConstraint.{is_constraint, constraint_at, constrained};
-ghost use Rattle.sql_parser.specs.Views.{placed_of, key_text_of, table_text_of, limits_of};
+ghost use Rattle.sql_parser.specs.Views.{placed_of, key_text_of, table_text_of};
 
 use crate::list::{List, items};
 use crate::names::{NameList, names};
@@ -16,6 +16,7 @@ use crate::transaction::ReadStmt;
 use iso_lexer::{Name, same_name};
 use sql_expressions::{Parser, Tokens};
 use sql_trees::{Column, DropTable, Kind, SqlFault, Stmt, Tok, Word};
+use std::alloc::{AllocError, Global};
 
 /// A name, and the byte at which it stands.
 #[derive(Clone, Copy)]
@@ -35,13 +36,6 @@ pub struct KeyText<'a> {
 #[derive(Drop)]
 pub struct TableText<'a> {
     pub columns: Vec<Column<'a>>,
-    pub keys: Vec<KeyText<'a>>,
-}
-
-/// What is said of one column, behind the keys before it.
-#[derive(Drop)]
-pub struct Limits<'a> {
-    pub not_null: bool,
     pub keys: Vec<KeyText<'a>>,
 }
 
@@ -69,17 +63,17 @@ impl<'a> List<'a> for KeyColumns<'a> {
     ghost adds = { λ last s ts r. Gives (λ x. (map placed_of x.0.columns.items, x.1)) r (key_add last (map placed_of s.columns.items) ts) };
 
     fn add<'t>(
-        mut self,
+        &mut self,
         parser: Parser,
         tokens: Tokens<'t, 'a>,
-    ) -> Result<(Self, Tokens<'t, 'a>), SqlFault> {
+    ) -> Result<Tokens<'t, 'a>, SqlFault> {
         let place = parser.place_of(tokens);
         let (name, rest) = name(parser, tokens)?;
         if is_placed(&name, &self.columns) {
             return Err(SqlFault::BadColumns(place));
         }
         self.columns.push(PlacedName { name, place })?;
-        Ok((self, rest))
+        Ok(rest)
     }
 }
 
@@ -139,135 +133,127 @@ fn constrained(tokens: Tokens) -> bool
     }
 }
 
-impl<'a> Limits<'a> {
-    // With a key of this column alone.
-    fn with_key(
-        mut self,
-        parser: Parser,
-        primary: bool,
-        column: PlacedName<'a>,
-    ) -> Result<Self, SqlFault>
-        ensures { Gives (λ x. limits_of x) result (Ok (key_limit primary (placed_of column.entry) (limits_of self.entry))) }
-    {
-        let mut columns = Vec::new(parser.alloc);
-        columns.push(column)?;
-        self.keys.push(KeyText { primary, columns })?;
-        Ok(self)
-    }
+// Adds a key of this column alone.
+fn push_key<'a>(
+    alloc: Global,
+    keys: &mut Vec<KeyText<'a>>,
+    primary: bool,
+    column: PlacedName<'a>,
+) -> Result<(), AllocError>
+    ensures { IfOk result (λ done. map key_text_of keys.new.items ≡ map key_text_of keys.old.items ++ (record { primary = primary; columns = placed_of column.entry ∷ [] }) ∷ []) }
+{
+    let mut columns = Vec::new(alloc);
+    columns.push(column)?;
+    keys.push(KeyText { primary, columns })?;
+    Ok(())
+}
 
-    // With the constraint that stands next.
-    fn with_next<'t>(
-        self,
-        parser: Parser,
-        column: PlacedName<'a>,
-        tokens: Tokens<'t, 'a>,
-    ) -> Result<(Self, Tokens<'t, 'a>), SqlFault>
-        ensures exact { Gives (λ x. (limits_of x.0, tok_views x.1.now)) result (constraint_at parser.text_len (placed_of column.entry) (limits_of self.entry) (tok_views tokens.now)) }
-        ensures shorter { IfOk result (λ x. length x.1.now < length tokens.now) }
-    {
-        let [token, rest @ ..] = tokens else {
-            return Err(parser.misplaced(tokens));
-        };
-        match token.tok {
-            Tok::Word(Word::Not, _) => {
-                let rest = keyword(parser, Word::Null, rest)?;
-                let keys = self.keys;
-                Ok((
-                    Limits {
-                        not_null: true,
-                        keys,
-                    },
-                    rest,
-                ))
-            }
-            Tok::Word(Word::Primary, _) => {
-                let rest = keyword(parser, Word::Key, rest)?;
-                Ok((self.with_key(parser, true, column)?, rest))
-            }
-            Tok::Word(Word::Unique, _) => Ok((self.with_key(parser, false, column)?, rest)),
-            _ => Err(parser.misplaced(tokens)),
+// Reads the constraint that stands next: whether the column is NOT NULL with it.
+fn read_limit<'t, 'a>(
+    parser: Parser,
+    column: PlacedName<'a>,
+    not_null: bool,
+    keys: &mut Vec<KeyText<'a>>,
+    tokens: Tokens<'t, 'a>,
+) -> Result<(bool, Tokens<'t, 'a>), SqlFault>
+    ensures exact { Gives (λ x. (record { not_null = x.0; keys = map key_text_of keys.new.items }, tok_views x.1.now)) result (constraint_at parser.text_len (placed_of column.entry) (record { not_null = not_null; keys = map key_text_of keys.old.items }) (tok_views tokens.now)) }
+    ensures shorter { IfOk result (λ x. length x.1.now < length tokens.now) }
+{
+    let [token, rest @ ..] = tokens else {
+        return Err(parser.misplaced(tokens));
+    };
+    match token.tok {
+        Tok::Word(Word::Not, _) => {
+            let rest = keyword(parser, Word::Null, rest)?;
+            Ok((true, rest))
         }
+        Tok::Word(Word::Primary, _) => {
+            let rest = keyword(parser, Word::Key, rest)?;
+            push_key(parser.alloc, keys, true, column)?;
+            Ok((not_null, rest))
+        }
+        Tok::Word(Word::Unique, _) => {
+            push_key(parser.alloc, keys, false, column)?;
+            Ok((not_null, rest))
+        }
+        _ => Err(parser.misplaced(tokens)),
     }
 }
 
-// A column's kind and all that is said of it, behind the keys before it.
+// Reads a column's kind and all that is said of it, its keys behind these: the kind, and whether it is NOT NULL.
 #[tactic(auto, unfolding(crate::specs::Tables::limits_at))]
 fn read_limits<'t, 'a>(
     parser: Parser,
     column: PlacedName<'a>,
-    keys: Vec<KeyText<'a>>,
+    keys: &mut Vec<KeyText<'a>>,
     tokens: Tokens<'t, 'a>,
-) -> Result<(Kind, Limits<'a>, Tokens<'t, 'a>), SqlFault>
-    ensures exact { Gives (λ x. ((x.0, limits_of x.1), tok_views x.2.now)) result (limits_at parser.text_len (placed_of column.entry) (map key_text_of keys.entry.items) (tok_views tokens.now)) }
+) -> Result<(Kind, bool, Tokens<'t, 'a>), SqlFault>
+    ensures exact { Gives (λ x. ((x.0, record { not_null = x.1; keys = map key_text_of keys.new.items }), tok_views x.2.now)) result (limits_at parser.text_len (placed_of column.entry) (map key_text_of keys.old.items) (tok_views tokens.now)) }
     ensures shorter { IfOk result (λ x. length x.2.now ≤ length tokens.now) }
 {
     let (kind, mut rest) = kind(parser, tokens)?;
-    let mut limits = Limits {
-        not_null: false,
-        keys,
-    };
+    let mut not_null = false;
     while constrained(rest) {
-        (limits, rest) = limits.with_next(parser, column, rest)?;
+        (not_null, rest) = read_limit(parser, column, not_null, keys, rest)?;
     }
-    Ok((kind, limits, rest))
+    Ok((kind, not_null, rest))
 }
 
 impl<'a> TableText<'a> {
-    // With a key over the columns in parentheses.
+    // Adds a key over the columns in parentheses.
     #[tactic(auto, unfolding(crate::specs::Tables::key_at))]
-    fn with_key<'t>(
-        mut self,
+    fn add_key<'t>(
+        &mut self,
         parser: Parser,
         primary: bool,
         tokens: Tokens<'t, 'a>,
-    ) -> Result<(Self, Tokens<'t, 'a>), SqlFault>
-        ensures exact { Gives (λ x. (table_text_of x.0, tok_views x.1.now)) result (key_at parser.text_len primary (table_text_of self.entry) (tok_views tokens.now)) }
-        ensures shorter { IfOk result (λ x. length x.1.now ≤ length tokens.now) }
+    ) -> Result<Tokens<'t, 'a>, SqlFault>
+        ensures exact { Gives (λ rest. (table_text_of self.new, tok_views rest.now)) result (key_at parser.text_len primary (table_text_of self.old) (tok_views tokens.now)) }
+        ensures shorter { IfOk result (λ rest. length rest.now ≤ length tokens.now) }
     {
         let (KeyColumns { columns }, rest) = key_columns(parser, open(parser, tokens)?)?;
         let rest = close(parser, rest)?;
         self.keys.push(KeyText { primary, columns })?;
-        Ok((self, rest))
+        Ok(rest)
     }
 
-    // With a column whose name has been read.
+    // Adds a column whose name has been read.
     #[tactic(auto, unfolding(crate::specs::Tables::column_behind))]
-    fn with_named<'t>(
-        self,
+    fn add_named<'t>(
+        &mut self,
         parser: Parser,
         column: PlacedName<'a>,
         tokens: Tokens<'t, 'a>,
-    ) -> Result<(Self, Tokens<'t, 'a>), SqlFault>
-        ensures exact { Gives (λ x. (table_text_of x.0, tok_views x.1.now)) result (column_behind parser.text_len (placed_of column.entry) (table_text_of self.entry) (tok_views tokens.now)) }
-        ensures shorter { IfOk result (λ x. length x.1.now ≤ length tokens.now) }
+    ) -> Result<Tokens<'t, 'a>, SqlFault>
+        ensures exact { Gives (λ rest. (table_text_of self.new, tok_views rest.now)) result (column_behind parser.text_len (placed_of column.entry) (table_text_of self.old) (tok_views tokens.now)) }
+        ensures shorter { IfOk result (λ rest. length rest.now ≤ length tokens.now) }
     {
-        let TableText { mut columns, keys } = self;
-        let (kind, Limits { not_null, keys }, rest) = read_limits(parser, column, keys, tokens)?;
+        let (kind, not_null, rest) = read_limits(parser, column, &mut self.keys, tokens)?;
         let name = column.name;
-        columns.push(Column {
+        self.columns.push(Column {
             name,
             kind,
             not_null,
         })?;
-        Ok((TableText { columns, keys }, rest))
+        Ok(rest)
     }
 
-    // With the column that stands next.
+    // Adds the column that stands next.
     #[tactic(auto, unfolding(crate::specs::Tables::column_at))]
-    fn with_column<'t>(
-        self,
+    fn add_column<'t>(
+        &mut self,
         parser: Parser,
         tokens: Tokens<'t, 'a>,
-    ) -> Result<(Self, Tokens<'t, 'a>), SqlFault>
-        ensures exact { Gives (λ x. (table_text_of x.0, tok_views x.1.now)) result (column_at parser.text_len (table_text_of self.entry) (tok_views tokens.now)) }
-        ensures shorter { IfOk result (λ x. length x.1.now ≤ length tokens.now) }
+    ) -> Result<Tokens<'t, 'a>, SqlFault>
+        ensures exact { Gives (λ rest. (table_text_of self.new, tok_views rest.now)) result (column_at parser.text_len (table_text_of self.old) (tok_views tokens.now)) }
+        ensures shorter { IfOk result (λ rest. length rest.now ≤ length tokens.now) }
     {
         let place = parser.place_of(tokens);
         let (name, rest) = name(parser, tokens)?;
         if is_column(&name, &self.columns) {
             return Err(SqlFault::BadColumns(place));
         }
-        self.with_named(parser, PlacedName { name, place }, rest)
+        self.add_named(parser, PlacedName { name, place }, rest)
     }
 }
 
@@ -276,18 +262,18 @@ impl<'a> List<'a> for TableText<'a> {
 
     #[tactic(auto, unfolding(crate::specs::Tables::table_add))]
     fn add<'t>(
-        self,
+        &mut self,
         parser: Parser,
         tokens: Tokens<'t, 'a>,
-    ) -> Result<(Self, Tokens<'t, 'a>), SqlFault> {
+    ) -> Result<Tokens<'t, 'a>, SqlFault> {
         if let Some(rest) = after_word(Word::Primary, tokens) {
             let rest = keyword(parser, Word::Key, rest)?;
-            return self.with_key(parser, true, rest);
+            return self.add_key(parser, true, rest);
         }
         if let Some(rest) = after_word(Word::Unique, tokens) {
-            return self.with_key(parser, false, rest);
+            return self.add_key(parser, false, rest);
         }
-        self.with_column(parser, tokens)
+        self.add_column(parser, tokens)
     }
 }
 
