@@ -12,6 +12,23 @@ use session_machine::{Event, HistItem, Order};
 use spec_parser::{Entry, Spec};
 use std::alloc::{AllocError, Global};
 
+/// Whether this order is due after these items.
+fn is_due(
+    alloc: Global,
+    launches: &Launches,
+    entries: &[Entry],
+    items: &[HistItem<'_>],
+    order: Order,
+    progress: &mut Progress,
+) -> Result<bool, AllocError>
+    requires follows { Follows (plan_of launches.now (map entry_view entries.now) items.now).run progress.old }
+    ensures due { IfOk result (λ due. IsTrue due ↔ (due_after launches.now (map entry_view entries.now) items.now ≡ order)) }
+    ensures follows { OnOk result (Follows (plan_of launches.now (map entry_view entries.now) items.now).run progress.new) }
+{
+    let due = launches.go_on(alloc, entries, items, progress)?;
+    Ok(due == order)
+}
+
 /// Whether a Launch or a Leave is due after these items. A Step is none of the permutation's orders.
 fn is_ordered(
     alloc: Global,
@@ -28,30 +45,15 @@ fn is_ordered(
 {
     match event {
         Event::Launch { session, block } => {
-            let order = launches.go_on(alloc, entries, before, progress)?;
-            Ok(order == Order::Launch { session, block })
+            let order = Order::Launch { session, block };
+            is_due(alloc, launches, entries, before, order, progress)
         }
         Event::Step { .. } => Ok(true),
         Event::Leave { session } => {
-            let order = launches.go_on(alloc, entries, before, progress)?;
-            Ok(order == Order::Leave { session })
+            let order = Order::Leave { session };
+            is_due(alloc, launches, entries, before, order, progress)
         }
     }
-}
-
-/// Whether nothing is due after these items.
-fn is_over(
-    alloc: Global,
-    launches: &Launches,
-    entries: &[Entry],
-    items: &[HistItem<'_>],
-    progress: &mut Progress,
-) -> Result<bool, AllocError>
-    requires { Follows (plan_of launches.now (map entry_view entries.now) items.now).run progress.old }
-    ensures { IfOk result (λ over. IsTrue over ↔ (due_after launches.now (map entry_view entries.now) items.now ≡ Order.Stop)) }
-{
-    let order = launches.go_on(alloc, entries, items, progress)?;
-    Ok(order == Order::Stop)
 }
 
 /// Whether each Launch and Leave of the items is due after those before it, and none is due at the end.
@@ -76,7 +78,7 @@ fn fits(
             return Ok(false);
         }
     }
-    is_over(alloc, launches, entries, items, &mut progress)
+    is_due(alloc, launches, entries, items, Order::Stop, &mut progress)
 }
 
 /// Whether a history launches what the permutation of these entries launches, all of it and in its order.

@@ -17,7 +17,7 @@ use Rattle.report_lines.specs.History.{PermutationRun}
 use Rattle.report_lines.specs.Report.{report, report_from, launched}
 use Rattle.report_lines.specs.SoFar.{LinesSoFar, IsAt, IsReportSoFar}
 use Rattle.report_lines.specs.Places.{starts_from, last_end, IsTimed, IsSeen}
-use Rattle.report_lines.specs.Inner.Places.{IsZeros, ended_behind, ends_after, starts_after}
+use Rattle.report_lines.specs.Inner.Places.{ended_behind, ends_after, starts_after}
 use Rattle.report_lines.specs.Progress.{Keeps, Follows, front}
 use Rattle.report_lines.specs.Inner.Progress.{Lags, IsSettled, IsNoted}
 use Rattle.report_lines.specs.Fronts.{longer}
@@ -225,15 +225,6 @@ seen_step c item p q kept next step n =
 
 pub step_waits : (c : PermutationRun) (item : HistItem) (p q : Progress) → (is_order item.event ≡ true) ⊎ Lags c p → is_order item.event ≡ false → IsNoted item p q → Lags (longer c (item ∷ [])) q
 step_waits c item p q next step n = n.segments_done_is ∙ step_lags c item p.segments_done step (in_segment c item p step next)
-
-zeros_case : (xs : List ℕ) (k : ℕ) → get_or xs k 0 ≡ 0 → get_or (xs ++ 0 ∷ []) k 0 ≡ 0
-zeros_case [] zero h = refl
-zeros_case [] (suc k) h = refl
-zeros_case (x ∷ xs) zero h = h
-zeros_case (x ∷ xs) (suc k) h = zeros_case xs k h
-
-pub zeros_more : (xs ys : List ℕ) → IsZeros xs → ys ≡ xs ++ 0 ∷ [] → IsZeros ys
-zeros_more xs ys zeros is = λ k. ap (λ (w : List ℕ). get_or w k 0) is ∙ zeros_case xs k (zeros k)
 
 -- ---- the lines of the next segment
 

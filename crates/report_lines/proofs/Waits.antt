@@ -1,5 +1,5 @@
 -- The list of waiting entries over the lines.
-use Rattle.std.proofs.Common.{◌≡◌, ℕ, zero, suc, ◌+◌, ◌<◌, ◌≤◌, List, [], ◌∷◌, ◌++◌, refl, ap, sym, ◌∙◌, arith, true, false, Bool, not, cond, ◌==◌, ◌||◌, ◌&&◌, add-one, ◌⊎◌, inl, inr, ◌-◌, Option, Some, None, slice_get}
+use Rattle.std.proofs.Common.{◌≡◌, ℕ, zero, suc, ◌+◌, ◌<◌, ◌≤◌, List, [], ◌∷◌, ◌++◌, refl, ap, sym, ◌∙◌, arith, true, false, Bool, not, cond, ◌==◌, ◌||◌, ◌&&◌, add-one, ◌⊎◌, inl, inr, ◌-◌, append-nil, Option, Some, None, slice_get}
 use Rattle.std.specs.List.{list_any, filter, fold}
 use Rattle.std.specs.Option.{option_map_or}
 use Rattle.std.proofs.lemmas.List.Folds.{list_any-append}
@@ -37,11 +37,6 @@ active_leave lines e s n =
     filter_and (λ j. not (is_reported lines j)) (λ j. not (j == e)) (λ j. not (is_reported (lines ++ Completed e s ∷ []) j))
     (λ x. ap not (reported_push lines (Completed e s) x) ∙ not_or (is_reported lines x) (x == e)) (instances n)
 
-pub active_leave_first : (lines : List Line) (e s n : ℕ) → active (lines ++ AtOnce e s ∷ []) n ≡ filter (λ j. not (j == e)) (active lines n)
-active_leave_first lines e s n =
-    filter_and (λ j. not (is_reported lines j)) (λ j. not (j == e)) (λ j. not (is_reported (lines ++ AtOnce e s ∷ []) j))
-    (λ x. ap not (reported_push lines (AtOnce e s) x) ∙ not_or (is_reported lines x) (x == e)) (instances n)
-
 pub same_filter : (p q : ℕ → Bool) → ((x : ℕ) → p x ≡ q x) → (xs : List ℕ) → filter p xs ≡ filter q xs
 same_filter p q h [] = refl
 same_filter p q h (x ∷ xs) = rw (h x, same_filter p q h xs) refl
@@ -53,6 +48,30 @@ active_wait lines e n =
 
 pub active_more : (lines : List Line) (n : ℕ) → is_reported lines n ≡ false → active lines (n + 1) ≡ active lines n ++ n ∷ []
 active_more lines n h = rw add-one (filter-append (λ j. not (is_reported lines j)) (instances n) (n ∷ []) ∙ rw h refl)
+
+active_below : (lines : List Line) (e s n : ℕ) → n ≤ e → active (lines ++ AtOnce e s ∷ []) n ≡ active lines n
+active_below lines e s zero h = refl
+active_below lines e s (suc n) h =
+    let told : List Line = lines ++ AtOnce e s ∷ [] in
+    let before : active told n ≡ active lines n = active_below lines e s n (omega arith) in
+    let differs : (n == e) ≡ false = grind arith in
+    let same : is_reported told n ≡ is_reported lines n = reported_push lines (AtOnce e s) n ∙ rw differs (or-false (is_reported lines n)) in
+    filter-append (λ j. not (is_reported told j)) (instances n) (n ∷ [])
+    ∙ ap (λ (w : List ℕ). w ++ filter (λ j. not (is_reported told j)) (n ∷ [])) before
+    ∙ ap (λ (b : Bool). active lines n ++ cond (not b) (n ∷ []) []) same
+    ∙ sym (filter-append (λ j. not (is_reported lines j)) (instances n) (n ∷ []))
+
+or-true : (b : Bool) → (b || true) ≡ true
+or-true true = refl
+or-true false = refl
+
+pub active_at_once : (lines : List Line) (n s : ℕ) → active (lines ++ AtOnce n s ∷ []) (n + 1) ≡ active lines n
+active_at_once lines n s =
+    let told : List Line = lines ++ AtOnce n s ∷ [] in
+    let same : (n == n) ≡ true = grind arith in
+    let reported : is_reported told n ≡ true = reported_push lines (AtOnce n s) n ∙ rw same (or-true (is_reported lines n)) in
+    rw add-one (filter-append (λ j. not (is_reported told j)) (instances n) (n ∷ [])
+    ∙ ap (λ (b : Bool). active told n ++ cond (not b) (n ∷ []) []) reported ∙ append-nil (active told n) ∙ active_below lines n s n (omega arith))
 
 none_later : (p : ℕ → Bool) (e n : ℕ) → n ≤ e → list_any (λ j. j == e) (filter p (instances n)) ≡ false
 none_later p e zero h = refl
@@ -86,10 +105,9 @@ kept_leave lines n e s xs ys k h is = record {
   fresh = λ i le. let differs : (i == e) ≡ false = grind arith in reported_push lines (Completed e s) i ∙ rw (k.fresh i le, differs) refl;
 }
 
-pub kept_first : (lines : List Line) (n s : ℕ) (xs ys : List ℕ) → IsKept lines n xs → ys ≡ filter (λ j. not (j == n)) (xs ++ n ∷ []) → IsKept (lines ++ AtOnce n s ∷ []) (n + 1) ys
-kept_first lines n s xs ys k is = record {
-  waits = is ∙ ap (λ (w : List ℕ). filter (λ j. not (j == n)) (w ++ n ∷ [])) k.waits
-      ∙ ap (filter (λ j. not (j == n))) (sym (active_more lines n (k.fresh n (omega arith)))) ∙ sym (active_leave_first lines n s (n + 1));
+pub kept_first : (lines : List Line) (n s : ℕ) (xs : List ℕ) → IsKept lines n xs → IsKept (lines ++ AtOnce n s ∷ []) (n + 1) xs
+kept_first lines n s xs k = record {
+  waits = k.waits ∙ sym (active_at_once lines n s);
   fresh = λ i le. let differs : (i == n) ≡ false = grind arith in let ge : n ≤ i = omega arith in reported_push lines (AtOnce n s) i ∙ rw (k.fresh i ge, differs) refl;
 }
 

@@ -40,13 +40,23 @@ pub fn session_at(entries: &[Entry], place: usize) -> u32
 pub fn waits_for(entry: &Entry, other: &Entry) -> bool
     ensures { result ≡ list_any (names (entry_view other.now)) entry.now.markers.items }
 {
-    entry.markers.iter().any(|marker| is_step(other, marker))
+    for marker in &entry.markers {
+        if is_step(other, marker) {
+            return true;
+        }
+    }
+    false
 }
 
 pub fn is_starred(entry: &Entry) -> bool
     ensures { result ≡ list_any is_star entry.now.markers.items }
 {
-    entry.markers.iter().any(|marker| is_star(marker))
+    for marker in &entry.markers {
+        if is_star(marker) {
+            return true;
+        }
+    }
+    false
 }
 
 pub fn is_marked(entry: &Entry) -> bool

@@ -5,10 +5,10 @@ ghost use Rattle.std.specs.List.{list_any, filter, fold};
 ghost use Rattle.report_lines.specs.SoFar.{LinesSoFar, IsAt, IsReportSoFar};
 ghost use Rattle.report_lines.specs.Inner.Waiting.{IsKept};
 ghost use Rattle.report_lines.specs.Due.{orders};
-ghost use Rattle.report_lines.specs.History.{session_at, is_named, is_empty, is_marked, has_ended, seen_before};
+ghost use Rattle.report_lines.specs.History.{session_at, is_named, is_marked, has_ended, seen_before};
 ghost use Rattle.report_lines.specs.Inner.Trying.{is_chosen, chosen_retry, retried_from};
 ghost use Rattle.report_lines.specs.Report.{is_reported, active, may_report, first_try, retry, pass, goes_on, polled, poll, is_busy, is_of};
-ghost use Rattle.report_lines.specs.Report.{made_way, launched, before, after, report, report_from, instances};
+ghost use Rattle.report_lines.specs.Report.{made_way, launched, after, report, report_from, instances};
 
 use crate::history::{Line, Moment, RunState};
 use crate::run_so_far::RunSoFar;
@@ -100,7 +100,12 @@ impl LinesSoFar {
         if !run.is_marked(entry) {
             return false;
         }
-        self.waiting.iter().any(|j| run.is_named(entry, *j))
+        for waiting in &self.waiting {
+            if run.is_named(entry, *waiting) {
+                return true;
+            }
+        }
+        false
     }
 
     /// Whether a launched entry can be reported.
@@ -188,17 +193,19 @@ impl LinesSoFar {
         requires launched { m.launched ≡ self.old.launched }
         ensures { OnOk result (self.new ≡ record self.old { lines = pass run.now m self.old.lines }) }
     {
-        self.go_through(run, m, Chosen::Joined)?;
-        Ok(())
+        self.go_through(run, m, Chosen::Joined)
     }
 
     /// Whether a step that remains on the waiting list has a marker.
     fn has_marked(&self, run: &RunSoFar<'_>, joined: usize) -> bool
         ensures { result ≡ list_any (λ j. nat_lt j joined && is_marked run.now j) (active self.now.lines self.now.launched) }
     {
-        self.waiting
-            .iter()
-            .any(|j| *j < joined && run.is_marked(*j))
+        for waiting in &self.waiting {
+            if *waiting < joined && run.is_marked(*waiting) {
+                return true;
+            }
+        }
+        false
     }
 
     /// Goes through the waiting list once, and says whether to go through it again.
@@ -249,10 +256,7 @@ impl LinesSoFar {
         ensures { OnOk result (self.new ≡ record { lines = self.old.lines ++ Line.AtOnce self.old.launched seen ∷ []; launched = self.old.launched + 1 }) }
     {
         let entry = self.launched;
-        self.waiting.try_reserve(1)?;
         self.lines.push(Line::AtOnce { entry, seen })?;
-        join(&mut self.waiting, entry);
-        leave(&mut self.waiting, entry);
         self.launched += 1;
         Ok(())
     }
@@ -301,7 +305,12 @@ impl LinesSoFar {
     fn has_of(&self, run: &RunSoFar<'_>, session: u32) -> bool
         ensures { result ≡ list_any (is_of run.now session) (active self.now.lines self.now.launched) }
     {
-        self.waiting.iter().any(|j| run.session_at(*j) == session)
+        for waiting in &self.waiting {
+            if run.session_at(*waiting) == session {
+                return true;
+            }
+        }
+        false
     }
 
     /// Tries the session's steps again.
@@ -311,8 +320,7 @@ impl LinesSoFar {
         requires launched { m.launched ≡ self.old.launched }
         ensures { OnOk result (self.new ≡ record self.old { lines = fold (retry run.now m) self.old.lines (filter (is_of run.now session) (instances self.old.launched)) }) }
     {
-        self.go_through(run, m, Chosen::Own(session))?;
-        Ok(())
+        self.go_through(run, m, Chosen::Own(session))
     }
 
     /// The tries before an entry's Launch.
@@ -322,12 +330,12 @@ impl LinesSoFar {
         requires now { orders run.now.items ≤ run.now.setups + entry }
         ensures { OnOk result (self.new ≡ record self.old { lines = made_way run.now self.old.lines entry }) }
     {
-        if self.is_busy(run, entry) {
-            let m = run.before(entry);
-            self.retry_own(run, m, run.session_at(entry))?;
-            self.poll(run, m)?;
+        if !self.is_busy(run, entry) {
+            return Ok(());
         }
-        Ok(())
+        let m = run.before(entry);
+        self.retry_own(run, m, run.session_at(entry))?;
+        self.poll(run, m)
     }
 
     /// The next entry's Launch and the tries after it.
@@ -341,16 +349,20 @@ impl LinesSoFar {
         self.poll(run, m)
     }
 
-    /// The tries after the last entry; says whether no step is left.
-    fn finish(&mut self, run: &RunSoFar<'_>) -> Result<bool, AllocError>
+    /// The tries after the last entry; says how the entries end.
+    fn finish(&mut self, run: &RunSoFar<'_>) -> Result<RunState, AllocError>
         requires all { self.old.launched ≡ length run.now.entries }
         requires now { orders run.now.items ≤ run.now.setups + self.old.launched }
-        ensures lines { OnOk result (self.new ≡ record self.old { lines = poll run.now (before run.now self.old.launched) self.old.lines }) }
-        ensures done { IfOk result (λ done. done ≡ is_empty (active self.new.lines self.new.launched)) }
+        ensures report { IfOk result (λ state. report_from run.now self.old.launched 0 self.old.launched self.old.lines ≡ record { lines = self.new.lines; state = state }) }
+        ensures at { IfOk result (λ state. IsAt run.now self.old.launched self.new.launched state) }
     {
         let m = run.before(self.launched);
         self.poll(run, m)?;
-        Ok(self.waiting.is_empty())
+        Ok(if self.waiting.is_empty() {
+            RunState::Whole
+        } else {
+            RunState::Invalid
+        })
     }
 
     /// The tries before an entry's Launch, or after the last entry; says how far the entries have come.
@@ -362,12 +374,7 @@ impl LinesSoFar {
         ensures at { IfOk result (λ state. IsAt run.now entry self.new.launched state) }
     {
         if entry == run.len() {
-            let done = self.finish(run)?;
-            return Ok(if done {
-                RunState::Whole
-            } else {
-                RunState::Invalid
-            });
+            return self.finish(run);
         }
         self.make_way(run, entry)?;
         if self.is_busy(run, entry) {

@@ -39,11 +39,7 @@ fn no_ends(alloc: Global, entries: &[Entry]) -> Result<Vec<usize>, AllocError>
     for entry in entries {
         sessions = sessions.max(entry.session as usize + 1);
     }
-    let mut last = Vec::with_capacity(alloc, sessions)?;
-    for _ in 0..sessions {
-        last.push(0)?;
-    }
-    Ok(last)
+    vec![in alloc; 0; sessions]
 }
 
 /// A block of the session ended behind this item.
@@ -80,6 +76,8 @@ impl Progress {
         requires { setups + length entries.now + 1 < 2 ^ 64 }
         ensures { IfOk result (λ p. Keeps (permutation_run entries.now [] setups) p) }
     {
+        let last = no_ends(alloc, entries)?;
+        let so_far = LinesSoFar::new(alloc, entries.len())?;
         let state = if entries.is_empty() {
             RunState::Whole
         } else {
@@ -87,8 +85,8 @@ impl Progress {
         };
         Ok(Progress {
             starts: Vec::new(alloc),
-            last: no_ends(alloc, entries)?,
-            so_far: LinesSoFar::new(alloc, entries.len())?,
+            last,
+            so_far,
             state,
             seen: 0,
             segments_done: 0,

@@ -109,14 +109,24 @@ impl<'a> Segments<'a> {
 pub fn any_ends(items: &[HistItem<'_>], session: u32) -> bool
     ensures { result ≡ list_any (ends_in session) items.now }
 {
-    items.iter().any(|item| entries::ends_in(session, item))
+    for item in items {
+        if entries::ends_in(session, item) {
+            return true;
+        }
+    }
+    false
 }
 
 /// Whether a reply of these is a failure.
 pub fn any_fails(items: &[HistItem<'_>]) -> bool
     ensures { result ≡ list_any fails items.now }
 {
-    items.iter().any(|item| is_failed(&item.reply.outcome))
+    for item in items {
+        if is_failed(&item.reply.outcome) {
+            return true;
+        }
+    }
+    false
 }
 
 fn is_failed(outcome: &Outcome<'_>) -> bool

@@ -18,7 +18,12 @@ fn ends_in(session: usize, item: &HistItem<'_>) -> bool
 pub fn is_over(segment: &[HistItem<'_>], session: usize) -> bool
     ensures { result ≡ list_any (ends_in session) segment.now }
 {
-    segment.iter().any(|item| ends_in(session, item))
+    for item in segment {
+        if ends_in(session, item) {
+            return true;
+        }
+    }
+    false
 }
 
 /// Whether it is, and no statement failed.

@@ -13,5 +13,5 @@ pub returns : goal.returns
 returns c =
     let due : List HistItem → Order = due_after c.args.launches.now (map entry_view c.args.entries.now) in
     let over : length c.args.items.now ≤ c.loop-place.place = grind arith in
-    IfOk-weaker c.is_over.result (λ b. IsTrue b ↔ (due c.args.items.now ≡ Stop)) (λ b. IsTrue b ↔ FitsAfter due [] c.args.items.now)
-    (λ b h. at_the_end due c.args.items.now c.loop-place.place b over c.loop-place.invariant.fit h) c.is_over.ensures
+    IfOk-weaker c.is_due.result (λ b. IsTrue b ↔ (due c.args.items.now ≡ Stop)) (λ b. IsTrue b ↔ FitsAfter due [] c.args.items.now)
+    (λ b h. at_the_end due c.args.items.now c.loop-place.place b over c.loop-place.invariant.fit h) c.is_due.ensures.due

@@ -1,5 +1,4 @@
-use Rattle.std.proofs.Common.{◌≡◌, ◌++◌, ◌∷◌, [], ap, ◌∙◌, List, ℕ, not, ◌==◌}
-use Rattle.std.specs.List.{filter}
+use Rattle.std.proofs.Common.{◌≡◌, ◌++◌, ◌∷◌, []}
 use Rattle.report_lines.specs.declared.history.Line.TheVariants.{AtOnce}
 use Rattle.report_lines.proofs.Waits.{kept_first}
 use Rattle.report_lines.proofs.lines_so_far.LinesSoFar.launch_reported.Goals as goal
@@ -7,6 +6,4 @@ use Rattle.report_lines.proofs.lines_so_far.LinesSoFar.launch_reported.Goals as 
 pub invariant_of-self-2 : goal.invariant_of-self-2
 invariant_of-self-2 c =
     let is : c.push.new.self.items ≡ c.self.inside.lines.items ++ AtOnce c.self.inside.launched c.args.seen ∷ [] = c.in_ok-push.ensures.items in
-    let joined = c.join.ensures ∙ ap (λ (w : List ℕ). w ++ c.self.inside.launched ∷ []) c.in_ok-try_reserve.ensures.items in
-    rw is (kept_first c.self.inside.lines.items c.self.inside.launched c.args.seen c.self.inside.waiting.items _ c.self.invariant
-    (c.leave.ensures ∙ ap (filter (λ j. not (j == c.self.inside.launched))) joined))
+    rw is (kept_first c.self.inside.lines.items c.self.inside.launched c.args.seen c.self.inside.waiting.items c.self.invariant)
