@@ -2,6 +2,5 @@ pub mod Going
 pub mod Lists
 pub mod Lent
 pub mod Keeping
-pub mod Placing
 pub mod Visiting
 pub mod Inserting

@@ -10,7 +10,6 @@ use Rattle.sql_trees.specs.declared.stmt.Level.TheVariants.{ReadCommitted, Repea
 use Rattle.sql_values.specs.declared.value.Value.{Value}
 use Rattle.sql_values.specs.declared.row.Row.{Row}
 use Rattle.sql_values.specs.declared.fault.ValueFault.{ValueFault}
-use Rattle.sql_values.specs.Expressions.{value}
 use Rattle.row_versions.specs.declared.names.RowId.{RowId}
 use Rattle.row_versions.specs.declared.names.TableId.{TableId}
 use Rattle.row_versions.specs.declared.write.Write.{Write}
@@ -22,7 +21,7 @@ use Rattle.row_versions.proofs.Last.{newest_is_the_last}
 use Rattle.row_versions.proofs.Gets.{get-append_left, get-append_last}
 use Rattle.row_locks.specs.declared.held.Held.{Held}
 use Rattle.row_locks.specs.Waiting.{Waiting}
-use Rattle.session_queries.specs.Queries.{AssignedColumn, each, null_in}
+use Rattle.session_queries.specs.Queries.{AssignedColumn, null_in}
 use Rattle.session_queries.specs.Updates.{updated}
 use Rattle.session_queries.proofs.Placing.{length-updated}
 use Rattle.update_recheck.specs.Asked.{Asked}

@@ -38,9 +38,12 @@ pub struct Database<'a, 't, V: Versions> {
     pub(crate) keys: KeyIndex,
     catalog: Catalog<'a, 't>,
     pub(crate) locks: LockTable,
+    /// Has no values: it is lent where a version has none.
+    empty: Row,
 }
 
 impl<'a, 't, V: Versions> Model for Database<'a, 't, V> {
+    ghost use Rattle.std.specs.Prelude.{◌≡◌, []};
     ghost use Rattle.session_machine.specs.Tables.{Database as DatabaseFacts};
     ghost use Rattle.unique_keys.specs.Laws.{KeepsUp};
 
@@ -48,7 +51,7 @@ impl<'a, 't, V: Versions> Model for Database<'a, 't, V> {
 
     ghost view = { λ d. record { content = V.content d.store; catalog = d.catalog; held = d.locks } };
 
-    ghost invariant = { λ d. KeepsUp d.keys (V.content d.store) };
+    ghost invariant = { λ d. KeepsUp d.keys (V.content d.store) × (d.empty ≡ []) };
 }
 
 impl<'a, 't, V: Versions> Database<'a, 't, V> {
@@ -64,6 +67,7 @@ impl<'a, 't, V: Versions> Database<'a, 't, V> {
             keys: KeyIndex::new(alloc),
             catalog: Catalog::new(alloc),
             locks: LockTable::new(alloc),
+            empty: Row::from_vec(Vec::new(alloc)),
         }
     }
 
@@ -317,12 +321,11 @@ impl<'a, 't, V: Versions> Database<'a, 't, V> {
         self.seen(&work.view, work.place)
     }
 
-    /// The values of the version. `empty` is a row without values.
-    pub(crate) fn row_of<'s>(&'s self, version: &Seen, empty: &'s Row) -> &'s Row
-        requires { empty.now ≡ [] }
+    /// The values of the version.
+    pub(crate) fn row_of(&self, version: &Seen) -> &Row
         ensures { result.now ≡ values_of self.now version.now }
     {
-        self.store.values(version).unwrap_or(empty)
+        self.store.values(version).unwrap_or(&self.empty)
     }
 
     /// What a statement finds that begins at the table of this place: its view is taken now.
@@ -342,18 +345,13 @@ impl<'a, 't, V: Versions> Database<'a, 't, V> {
         }
     }
 
-    /// The values of these versions. `empty` is a row without values.
-    pub(crate) fn values_of<'s>(
-        &'s self,
-        seen: &[Seen],
-        empty: &'s Row,
-    ) -> Result<Vec<&'s Row>, AllocError>
-        requires { empty.now ≡ [] }
+    /// The values of these versions.
+    pub(crate) fn values_of(&self, seen: &[Seen]) -> Result<Vec<&Row>, AllocError>
         ensures { IfOk result (λ rows. map (λ row. row.now) rows.items ≡ map (λ (s : SeenFacts). unwrap_or (values_at self.now.content s.place) []) seen.now) }
     {
         let mut rows = Vec::new(self.alloc);
         for one in seen {
-            rows.push(self.row_of(one, empty))?;
+            rows.push(self.row_of(one))?;
         }
         Ok(rows)
     }
@@ -370,9 +368,8 @@ impl<'a, 't, V: Versions> Database<'a, 't, V> {
         let Some(place) = self.find_table(own_of(&session.transaction), name) else {
             return Ok(None);
         };
-        let empty = Row::from_vec(Vec::new(self.alloc));
         let seen = self.seen(&self.view_now(session), place)?;
-        let rows = self.values_of(&seen, &empty)?;
+        let rows = self.values_of(&seen)?;
         Ok(Some(copied_rows(self.alloc, rows.as_slice())?))
     }
 }

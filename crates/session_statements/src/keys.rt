@@ -145,8 +145,7 @@ impl<'a, 't, V: Versions> Database<'a, 't, V> {
         cycle_test_is_exact();
         cycles_by_who_blocks();
         let waits = self.waits_now(work.around)?;
-        let yes = waits.closes(work.by.tx, by)?;
-        Ok(yes)
+        waits.closes(work.by.tx, by)
     }
 
     /// Others hold the key, which the statement waits for unless that would close a cycle.

@@ -68,9 +68,10 @@ impl<'a, 't, V: Versions> Database<'a, 't, V> {
         requires even { length (values_of self.old version.now) ≡ length (columns_in self.old work.now) }
         ensures { IfOk result (λ v. lock_with work.now (select_of stmt.now) self.old version.now ≡ visit_of self.new v) }
     {
-        let empty = Row::from_vec(Vec::new(self.alloc));
-        let row = self.row_of(version, &empty);
-        match row_values(self.alloc, &stmt.items, self.columns_in(work), row) {
+        let alloc = self.alloc;
+        let columns = self.columns_in(work);
+        let row = self.row_of(version);
+        match row_values(alloc, &stmt.items, columns, row) {
             Ok(shown) => Ok(Visited::Shows(shown)),
             Err(fault) => {
                 let fault = fault_of(fault)?;

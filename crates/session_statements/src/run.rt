@@ -20,7 +20,15 @@ use crate::transactions::run_aborted;
 use row_versions::Versions;
 use session_machine::{OpenTransaction, Progress, Transaction};
 use sql_trees::{Level, Stmt};
+use sql_values::Row;
 use std::alloc::AllocError;
+
+/// What a statement that waits has answered so far.
+fn rows_so_far(progress: Progress) -> Vec<Row>
+    ensures { result.items ≡ progress.rows }
+{
+    progress.rows.into_rows()
+}
 
 impl<'a, 't, V: Versions> Database<'a, 't, V> {
     /// A statement of an open transaction.
@@ -128,7 +136,7 @@ impl<'a, 't, V: Versions> Database<'a, 't, V> {
             view: progress.view,
             around,
         };
-        let rows = progress.rows.into_rows();
+        let rows = rows_so_far(progress);
         match stmt {
             Stmt::Insert(insert) => self.insert_from(&work, insert, place, rows),
             Stmt::Update(update) => self.update_from(&work, update, place, rows),

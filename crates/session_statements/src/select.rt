@@ -46,9 +46,8 @@ impl<'a, 't, V: Versions> Database<'a, 't, V> {
         requires fit { RowsFit self.now.content self.now.catalog }
         ensures { Answers result (result_of (select_of stmt.now) (columns_in self.now work.now) (rows_shown self.now.content work.now.view work.now.table)) }
     {
-        let empty = Row::from_vec(Vec::new(self.alloc));
         let seen = self.seen_by(work)?;
-        let rows = self.values_of(&seen, &empty)?;
+        let rows = self.values_of(&seen)?;
         result_of(self.alloc, stmt, self.columns_in(work), rows.as_slice())
     }
 

@@ -68,9 +68,8 @@ impl<'a, 't, V: Versions> Database<'a, 't, V> {
             filter: act.filter(),
             cols: &columns,
         };
-        let settled = self.settle_ask(&waits, &ask)?;
         outcomes_by_what_is_held();
-        Ok(settled)
+        self.settle_ask(&waits, &ask)
     }
 
     /// What is done at a target that came to this.

@@ -1,10 +1,11 @@
 //! The targets of a statement: the versions that its view shows and that it is about.
 
-ghost use Rattle.std.specs.Prelude.{◌≡◌, ◌<◌, [], ◌∷◌, List, length, map, filter_map, slice_get, option_map, IfOk};
+ghost use Rattle.std.specs.Prelude.{◌≡◌, ℕ, ◌<◌, [], ◌∷◌, List, Result, length, filter_map, slice_get, option_map, IfOk};
 ghost use Rattle.sql_trees.specs.Trees.{tree_of};
 ghost use Rattle.sql_trees.specs.Statements.{select_of};
-ghost use Rattle.row_versions.specs.Log.{IsOpen};
-ghost use Rattle.session_machine.specs.Rows.{at_places, passing_targets, seen_by, shown_to, taken_targets};
+ghost use Rattle.sql_values.specs.declared.fault.ValueFault.{ValueFault as ValueFaultFacts};
+ghost use Rattle.row_versions.specs.Log.{Content};
+ghost use Rattle.session_machine.specs.Rows.{at_places, passing_targets, taken_targets};
 ghost use Rattle.session_machine.specs.Running.{assigned_to};
 ghost use Rattle.session_queries.specs.Fronts.{AnswersList};
 ghost use Rattle.session_statements.specs.Inner.Keeping.{IsOrderly, RowsIn};
@@ -15,7 +16,7 @@ use iso_lexer::Ident;
 use row_versions::{Seen, Versions};
 use session_queries::{AssignedColumns, passing_places, taken_places};
 use sql_trees::{Expr, Select};
-use sql_values::{Row, ValueFault};
+use sql_values::ValueFault;
 use std::alloc::{AllocError, Global};
 
 /// The columns that values go to; none where one isn't there.
@@ -42,7 +43,7 @@ fn one_at(seen: &[Seen], place: usize) -> &[Seen]
 }
 
 /// The versions at these places.
-fn at_places(alloc: Global, seen: &[Seen], places: &[usize]) -> Result<Vec<Seen>, AllocError>
+fn picked(alloc: Global, seen: &[Seen], places: &[usize]) -> Result<Vec<Seen>, AllocError>
     ensures { IfOk result (λ picked. picked.items ≡ filter_map (slice_get seen.now) places.now) }
 {
     let mut picked = Vec::new(alloc);
@@ -50,6 +51,19 @@ fn at_places(alloc: Global, seen: &[Seen], places: &[usize]) -> Result<Vec<Seen>
         picked.extend_from_slice(one_at(seen, *place))?;
     }
     Ok(picked)
+}
+
+/// The versions at the places that a query picks, or its fault.
+fn at_places<'t>(
+    alloc: Global,
+    seen: &[Seen],
+    places: Result<Vec<usize>, ValueFault<'t>>,
+) -> Result<Vec<Seen>, ValueFault<'t>>
+    ensures targets { (answer : Result (List ℕ) ValueFaultFacts) → AnswersList places.entry answer → AnswersList result (at_places seen.now answer) }
+    ensures its { (c : Content) (table : ℕ) → RowsIn c table seen.now → IfOk result (λ targets. RowsIn c table targets.items) }
+{
+    let places = places?;
+    Ok(picked(alloc, seen, &places)?)
 }
 
 impl<'a, 't, V: Versions> Database<'a, 't, V> {
@@ -64,11 +78,10 @@ impl<'a, 't, V: Versions> Database<'a, 't, V> {
         ensures targets { AnswersList result (passing_targets self.now work.now (option_map tree_of filter.now)) }
         ensures its { IfOk result (λ targets. RowsIn self.now.content work.now.table targets.items) }
     {
-        let empty = Row::from_vec(Vec::new(self.alloc));
         let seen = self.seen_by(work)?;
-        let rows = self.values_of(&seen, &empty)?;
-        let places = passing_places(self.alloc, filter, self.columns_in(work), &rows)?;
-        Ok(at_places(self.alloc, &seen, &places)?)
+        let rows = self.values_of(&seen)?;
+        let places = passing_places(self.alloc, filter, self.columns_in(work), &rows);
+        at_places(self.alloc, &seen, places)
     }
 
     /// The targets of a locking SELECT, as ORDER BY sorts them.
@@ -82,10 +95,9 @@ impl<'a, 't, V: Versions> Database<'a, 't, V> {
         ensures targets { AnswersList result (taken_targets self.now work.now (select_of stmt.now)) }
         ensures its { IfOk result (λ targets. RowsIn self.now.content work.now.table targets.items) }
     {
-        let empty = Row::from_vec(Vec::new(self.alloc));
         let seen = self.seen_by(work)?;
-        let rows = self.values_of(&seen, &empty)?;
-        let places = taken_places(self.alloc, stmt, self.columns_in(work), &rows)?;
-        Ok(at_places(self.alloc, &seen, &places)?)
+        let rows = self.values_of(&seen)?;
+        let places = taken_places(self.alloc, stmt, self.columns_in(work), &rows);
+        at_places(self.alloc, &seen, places)
     }
 }

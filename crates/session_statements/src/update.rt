@@ -52,8 +52,7 @@ impl<'a, 't, V: Versions> Database<'a, 't, V> {
         requires even { length (values_of self.now version.now) ≡ length (columns_in self.now work.now) }
         ensures { Answers result (updated (cols_in self.now work.now) to.now (map set_of stmt.now.sets.items) (values_of self.now version.now)) }
     {
-        let empty = Row::from_vec(Vec::new(self.alloc));
-        let row = self.row_of(version, &empty);
+        let row = self.row_of(version);
         updated_values(self.alloc, self.columns_in(work), to, &stmt.sets, row)
     }
 

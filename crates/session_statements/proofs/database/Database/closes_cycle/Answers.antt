@@ -1,4 +1,5 @@
 use Rattle.std.proofs.Common.{◌≡◌, ◌∙◌, ◌↔◌, refl, sym, ap, subst, Bool, true, false}
+use Rattle.std.proofs.lemmas.Result.{IfOk-weaker}
 use Rattle.row_locks.specs.Laws.{SamePairs}
 use Rattle.row_locks.specs.Cycles.{closes}
 use Rattle.session_machine.specs.Waits.{waits_in}
@@ -12,12 +13,13 @@ same_test P false true h k = h.1 (k.0 refl)
 same_test P false false h k = refl
 
 pub returns : goal.returns
-returns g c = λ others each.
+returns g c =
     let w = c.args.work.now in
     let waits = c.in_ok-waits.waits in
     let now = waits_in c.args.self.now w.around.sessions in
     let tx = c.work.inside.by.tx in
     let by = c.args.by.now in
     let pairs : SamePairs waits now = subst (λ (x : Work). SamePairs waits (waits_in c.args.self.now x.around.sessions)) c.work.view_is c.in_ok-waits.ensures in
-    let here : c.in_ok-yes.yes ≡ closes waits tx by = same_test _ c.in_ok-yes.yes (closes waits tx by) c.in_ok-yes.ensures (c.cycle_test_is_exact.ensures waits tx by) in
-    here ∙ c.cycles_by_who_blocks.ensures waits now pairs tx by others each ∙ ap (λ t. closes now t others) (ap (λ (x : Work). x.t.tx) c.work.view_is)
+    IfOk-weaker c.closes.result _ _ (λ yes h others each.
+    same_test _ yes (closes waits tx by) h (c.cycle_test_is_exact.ensures waits tx by)
+    ∙ c.cycles_by_who_blocks.ensures waits now pairs tx by others each ∙ ap (λ t. closes now t others) (ap (λ (x : Work). x.t.tx) c.work.view_is)) c.closes.ensures

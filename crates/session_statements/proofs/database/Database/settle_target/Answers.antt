@@ -1,9 +1,10 @@
 use Rattle.std.proofs.Common.{rules, ◌≡◌, ◌∙◌, refl, ap, subst}
-use Rattle.std.specs.Prelude.{option_map}
+use Rattle.std.specs.Prelude.{option_map, IfOk}
 use Rattle.sql_trees.specs.Trees.{tree_of}
 use Rattle.row_locks.specs.Laws.{SamePairs}
 use Rattle.update_recheck.specs.Asked.{Asked}
-use Rattle.update_recheck.specs.Outcome.{target_outcome}
+use Rattle.update_recheck.specs.Outcome.{Outcome, target_outcome}
+use Rattle.update_recheck.specs.Settling.{outcome_of}
 use Rattle.session_machine.specs.Waits.{waits_in}
 use Rattle.session_machine.specs.Rows.{Work}
 use Rattle.session_statements.specs.Inner.Acting.{asks}
@@ -26,4 +27,4 @@ returns-clause-outcome g c =
       cols = c.known-columns.result;
     } in
     let same : had ≡ asks db w c.args.act.now c.args.seen.now = search rules in
-    c.in_ok-settled.ensures.outcome ∙ ap (target_outcome db.content db.held waits) same ∙ law.0
+    subst (λ (o : Outcome). IfOk c.settle_ask.result (λ s. outcome_of s ≡ o)) (ap (target_outcome db.content db.held waits) same ∙ law.0) c.settle_ask.ensures.outcome

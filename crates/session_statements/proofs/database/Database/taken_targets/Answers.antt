@@ -1,63 +1,46 @@
-use Rattle.std.proofs.Common.{◌≡◌, [], ℕ, ◌∙◌, sym, ap, subst, length, map, Bor, List}
-use Rattle.std.specs.Prelude.{unwrap_or, Ok, filter_map, slice_get}
+use Rattle.std.proofs.Common.{◌≡◌, [], ◌∙◌, sym, ap, subst, length, map, Bor}
+use Rattle.std.specs.Prelude.{unwrap_or}
 use Rattle.std.proofs.lemmas.List.{length-map}
-use Rattle.std.proofs.lemmas.Result.{err_from_is_err_and}
-use Rattle.sql_trees.specs.Statements.{column_of}
+use Rattle.sql_trees.specs.Statements.{column_of, select_of}
 use Rattle.sql_values.specs.declared.row.Row.{Row}
 use Rattle.row_versions.specs.declared.write.Seen.{Seen}
-use Rattle.row_versions.specs.Rows.{rows_of}
-use Rattle.session_machine.specs.Views.{rows_shown}
-use Rattle.session_machine.specs.Statements.{columns_at}
 use Rattle.row_versions.specs.Log.{values_at}
-use Rattle.session_statements.specs.Inner.Keeping.{RowIn, RowsIn}
-use Rattle.sql_trees.specs.Statements.{select_of}
+use Rattle.session_queries.specs.Fronts.{AnswersList}
 use Rattle.session_queries.specs.Queries.{taken}
-use Rattle.session_machine.specs.Rows.{seen_by, columns_in, shown_to}
-use Rattle.session_statements.proofs.Placing.{placed_err, placed_ok}
+use Rattle.session_machine.specs.Rows.{at_places, columns_in, shown_to}
+use Rattle.session_machine.specs.Statements.{columns_at}
+use Rattle.session_statements.specs.Inner.Keeping.{RowsIn}
 use Rattle.session_statements.proofs.Lent.{lent_fit}
-use Rattle.session_statements.proofs.Keeping.{picked_hold, shown_in}
+use Rattle.session_statements.proofs.Keeping.{shown_in}
 use Rattle.session_statements.proofs.database.Database.taken_targets.Goals as goal
 
-pub taken_places-requires : goal.taken_places-requires
-taken_places-requires g c k d h =
+pub taken_places-places-requires : goal.taken_places-places-requires
+taken_places-places-requires g c k d h =
     let db = c.args.self.now in
     let w = c.args.work.now in
     let now = λ (r : Bor Row). r.now in
-    let same : map now c.deref-2.result.now ≡ rows_shown db.content w.view w.table =
+    let same : map now c.deref-2.result.now ≡ shown_to db w =
     ap (map now) c.deref-2.ensures.value ∙ c.in_ok-rows.ensures ∙ ap (map (λ (s : Seen). unwrap_or (values_at db.content s.place) [])) (c.deref.ensures.value ∙ c.in_ok-seen.ensures) in
     let long : length (columns_at db.catalog w.table) ≡ length c.columns_in.result.now =
     sym (ap length c.columns_in.ensures) ∙ length-map c.columns_in.result.now column_of in
     lent_fit now c.deref-2.result.now db.content db.catalog w.view w.table c.requires.orderly.0 c.requires.within same k d h ∙ long
-
-pub returns-clause-its : goal.returns-clause-its
-returns-clause-its g c =
-    let db = c.args.self.now in
-    let w = c.args.work.now in
-    let seen : List Seen = rows_of db.content w.view (record { 0 = w.table }) in
-    let same : c.in_ok-at_places.field-0.items ≡ filter_map (slice_get seen) c.deref-4.result.now =
-    c.in_ok-at_places.ensures ∙ ap (λ (xs : List Seen). filter_map (slice_get xs) c.deref-4.result.now) (c.deref-3.ensures.value ∙ c.in_ok-seen.ensures) in
-    subst (RowsIn db.content w.table) (sym same)
-    (picked_hold (λ (s : Seen). RowIn db.content w.table s.row) seen c.deref-4.result.now (shown_in db.content w.view w.table c.requires.orderly.1))
 
 pub returns-clause-targets : goal.returns-clause-targets
 returns-clause-targets g c =
     let db = c.args.self.now in
     let w = c.args.work.now in
     let now = λ (r : Bor Row). r.now in
-    let same : map now c.deref-2.result.now ≡ rows_shown db.content w.view w.table =
+    let s = select_of c.args.stmt.now in
+    let same : map now c.deref-2.result.now ≡ shown_to db w =
     ap (map now) c.deref-2.ensures.value ∙ c.in_ok-rows.ensures ∙ ap (map (λ (s : Seen). unwrap_or (values_at db.content s.place) [])) (c.deref.ensures.value ∙ c.in_ok-seen.ensures) in
-    placed_ok (taken (select_of c.args.stmt.now)) (seen_by db w) c.deref-3.result.now c.in_ok-at_places.field-0.items
-    (map column_of c.columns_in.result.now) (columns_in db w) (map now c.deref-2.result.now) (shown_to db w) c.deref-4.result.now
-    c.columns_in.ensures same (c.deref-3.ensures.value ∙ c.in_ok-seen.ensures)
-    (c.in_ok-places.ensures.places ∙ ap (λ (xs : List ℕ). Ok xs) (sym c.deref-4.ensures.value)) c.in_ok-at_places.ensures
+    let due = taken s (columns_in db w) (shown_to db w) in
+    subst (λ seen. AnswersList c.at_places.result (at_places seen due)) (c.deref-3.ensures.value ∙ c.in_ok-seen.ensures) (c.at_places.ensures.targets due
+    (subst (λ cols. AnswersList c.taken_places-places.result (taken s cols (shown_to db w))) c.columns_in.ensures
+    (subst (λ rows. AnswersList c.taken_places-places.result (taken s (map column_of c.columns_in.result.now) rows)) same c.taken_places-places.ensures.places)))
 
-pub returns-in_err-places-clause-targets : goal.returns-in_err-places-clause-targets
-returns-in_err-places-clause-targets g c =
+pub returns-clause-its : goal.returns-clause-its
+returns-clause-its g c =
     let db = c.args.self.now in
     let w = c.args.work.now in
-    let now = λ (r : Bor Row). r.now in
-    let same : map now c.deref-2.result.now ≡ rows_shown db.content w.view w.table =
-    ap (map now) c.deref-2.ensures.value ∙ c.in_ok-rows.ensures ∙ ap (map (λ (s : Seen). unwrap_or (values_at db.content s.place) [])) (c.deref.ensures.value ∙ c.in_ok-seen.ensures) in
-    let p = err_from_is_err_and c.from_residual-in_err-places.result c.from_residual-in_err-places.ensures.1 in
-    rw (p.1, p.2) (λ differs. placed_err (taken (select_of c.args.stmt.now)) (seen_by db w) (map column_of c.columns_in.result.now) (columns_in db w)
-    (map now c.deref-2.result.now) (shown_to db w) c.in_err-places.field-0.0 c.columns_in.ensures same (c.in_err-places.ensures.places differs))
+    c.at_places.ensures.its db.content w.table
+    (subst (RowsIn db.content w.table) (sym (c.deref-3.ensures.value ∙ c.in_ok-seen.ensures)) (shown_in db.content w.view w.table c.requires.orderly.1))

@@ -11,4 +11,4 @@ invariant_of-self-in-Err g c =
     let content : Content = g.V.Versions.content c.self.inside.store in
     let w : Write = record { tx = by.tx; command = by.command; table = record { 0 = c.work.inside.place }; row = c.in-Ok.made; values = c.args.values } in
     let is_open : IsOpen content by.tx = rw (ap (λ (d : Database). d.content) c.self.view_is, ap (λ (x : Work). x.t.tx) c.work.view_is) c.requires.opened in
-    rw (c.forget.ensures, c.in-Err.ensures.err, c.roll_back.ensures, c.in-Ok.ensures.ok) ((c.index_keeps_up.ensures.goes_on.1 c.self.inside.keys content c.self.invariant).takes_back w is_open)
+    rw (c.forget.ensures, c.in-Err.ensures.err, c.roll_back.ensures, c.in-Ok.ensures.ok) ((c.index_keeps_up.ensures.goes_on.1 c.self.inside.keys content c.self.invariant.0).takes_back w is_open, c.self.invariant.1)
