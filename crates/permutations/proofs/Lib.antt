@@ -4,7 +4,6 @@ pub mod Listing
 pub mod OneFile
 pub mod Running
 pub mod Driven
-pub mod Going
 pub mod Telling
 pub mod Printing
 pub mod Beginning

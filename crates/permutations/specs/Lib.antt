@@ -13,7 +13,6 @@ pub mod Written
 pub mod Broken
 pub mod Runs
 pub mod FreeRuns
-pub mod Alone
 pub mod Begun
 pub mod Laws
 pub mod Inner

@@ -1,14 +1,10 @@
 //! What threads print, beside what the loop on one thread prints.
 
-ghost use Rattle.spec_parser.specs.Trees.{spec_view};
-ghost use Rattle.spec_parser.specs.Stands.{Stands};
-
 use crate::asking::holds;
-use iso_lexer::{FromStd, Sink};
-use permutation_lists::Permutations;
-use permutations::{RunFault, SpecFile, read_file, run_alone, run_spec, write_permutation};
+use iso_lexer::FromStd;
+use permutations::{RunFault, run_spec};
+use plain_runs::print_alone;
 use session_threads::OpenGate;
-use spec_parser::Entry;
 use std::alloc::Global;
 use std::process::Abort;
 use std::sync::Wait;
@@ -58,49 +54,13 @@ fn by_threads<R: Threads + Wait + Sync>(
     Ok(Printed { text, notes })
 }
 
-/// Writes the report of a permutation, whose run is on this thread alone.
-fn write_alone<R: Wait, W: Sink, N: Sink>(
-    rt: &R,
-    alloc: Global,
-    file: &SpecFile<'_>,
-    entries: &[Entry],
-    out: &mut W,
-    notes: &mut N,
-) -> Result<(), RunFault>
-    requires { Stands (spec_view file.now.spec) }
-{
-    let engine = run_alone(rt, alloc, &file.spec, &file.blocks, entries)?;
-    write_permutation(alloc, &file.spec, entries, engine.history(), out, notes)?;
-    Ok(())
-}
-
-fn write_all<R: Wait, W: Sink, N: Sink>(
-    rt: &R,
-    alloc: Global,
-    file: &SpecFile<'_>,
-    out: &mut W,
-    notes: &mut N,
-) -> Result<(), RunFault>
-    requires { Stands (spec_view file.now.spec) }
-{
-    let mut permutations = Permutations::of(alloc, &file.spec)?;
-    for _ in 0..MOST {
-        if !permutations.advance(alloc)? {
-            break;
-        }
-        write_alone(rt, alloc, file, permutations.entries(), out, notes)?;
-    }
-    Ok(())
-}
-
 /// The reports of all permutations, without the line that comes before them.
 fn by_one_thread<R: Wait>(rt: &R, alloc: Global, spec: &str) -> Result<Printed, RunFault> {
     let mut text = Vec::new(alloc);
     let mut notes = Vec::new(alloc);
     let mut out = FromStd::new(&mut text);
     let mut told = FromStd::new(&mut notes);
-    let file = read_file(alloc, spec.as_bytes())?;
-    write_all(rt, alloc, &file, &mut out, &mut told)?;
+    print_alone(rt, alloc, spec.as_bytes(), &mut out, &mut told, MOST)?;
     Ok(Printed { text, notes })
 }
 

@@ -1,19 +1,9 @@
--- An engine between two events of a run on one thread, and one that a run led to a quiet state.
-use Rattle.std.specs.Prelude.{◌≡◌, Option, Some, IsTrue}
-use Rattle.session_machine.specs.declared.event.Event.{Event}
-use Rattle.session_machine.specs.declared.event.Order.{Order}
-use Rattle.session_machine.specs.Machine.{Machine, opening, is_quiet, turn_in}
+-- An engine that a run led to a quiet state.
+use Rattle.std.specs.Prelude.{◌≡◌, IsTrue}
+use Rattle.session_machine.specs.Machine.{Machine, opening, is_quiet}
 use Rattle.session_machine.specs.Engine.{Engine, Run}
-use Rattle.permutations.specs.Alone.{next_event}
 
 pub record IsAtRest (e : Engine) : Type 0 where
   pub state : Machine
   pub run : Run e.blocks e.mode (opening e.count) e.history state
   pub quiet : IsTrue (is_quiet state)
-
--- the event is next in the engine, by this order; there may be none
-pub record IsNext (e : Engine) (order : Order) (event : Option Event) : Type 0 where
-  pub state : Machine
-  pub live : e.machine ≡ Some state
-  pub run : Run e.blocks e.mode (opening e.count) e.history state
-  pub is : event ≡ next_event (turn_in state) order

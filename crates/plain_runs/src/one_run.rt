@@ -8,12 +8,12 @@ ghost use Rattle.spec_parser.specs.Trees.{entry_view, spec_view};
 ghost use Rattle.spec_parser.specs.Stands.{Stands};
 ghost use Rattle.permutation_plans.specs.Launches.{due_in};
 ghost use Rattle.permutation_plans.specs.Regular.{IsRegular};
-ghost use Rattle.permutations.specs.Alone.{IsOfAlone, RefusesNext};
+ghost use Rattle.permutations.specs.Inner.Resting.{IsAtRest};
 ghost use Rattle.permutations.specs.Plans.{order_after, IsFollowing};
-ghost use Rattle.permutations.specs.Inner.Resting.{IsAtRest, IsNext};
+ghost use Rattle.plain_runs.specs.Alone.{IsOfAlone, RefusesNext};
+ghost use Rattle.plain_runs.specs.Inner.Next.{IsNext};
 
-use crate::fault::RunFault;
-use crate::plan::Plan;
+use permutations::{Plan, RunFault};
 use row_versions::ListStore;
 use session_core::EngineState;
 use session_machine::{EngineFault, Event, Mode, Turn};

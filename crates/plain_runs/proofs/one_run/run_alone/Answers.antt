@@ -4,12 +4,12 @@ use Rattle.session_core.specs.Blocks.{blocks_of}
 use Rattle.spec_parser.specs.Trees.{entry_view, session_view, spec_view}
 use Rattle.session_threads.specs.declared.seat.ThreadFault.TheVariants.{Engine}
 use Rattle.permutation_plans.specs.Launches.{due_in}
-use Rattle.permutations.specs.Alone.{IsOfAlone}
+use Rattle.plain_runs.specs.Alone.{IsOfAlone}
 use Rattle.permutations.specs.Faults.{thread_fault}
 use Rattle.permutations.proofs.Driven.{plan_fits}
-use Rattle.permutations.proofs.Going.{told_alone}
+use Rattle.plain_runs.proofs.Going.{told_alone}
 use Rattle.permutations.proofs.Running.{regular}
-use Rattle.permutations.proofs.one_run.run_alone.Goals as goal
+use Rattle.plain_runs.proofs.one_run.run_alone.Goals as goal
 
 pub returns-clause-regular : goal.returns-clause-regular
 returns-clause-regular g c =

@@ -2,10 +2,10 @@ use Rattle.std.proofs.Common.{◌≢◌, Some, rules}
 use Rattle.session_machine.specs.declared.fault.EngineFault.TheVariants.{Memory}
 use Rattle.session_threads.specs.Orders.{IsOrder}
 use Rattle.permutations.specs.Plans.{order_after}
-use Rattle.permutations.specs.Inner.Resting.{IsNext}
-use Rattle.permutations.specs.Alone.{RefusesNext}
-use Rattle.permutations.proofs.Going.{goes_on, is_order, refuses_next}
-use Rattle.permutations.proofs.one_run.run_to_end.Goals as goal
+use Rattle.plain_runs.specs.Inner.Next.{IsNext}
+use Rattle.plain_runs.specs.Alone.{RefusesNext}
+use Rattle.plain_runs.proofs.Going.{goes_on, is_order, refuses_next}
+use Rattle.plain_runs.proofs.one_run.run_to_end.Goals as goal
 
 pub loop-preserved : goal.loop-preserved
 loop-preserved g c =

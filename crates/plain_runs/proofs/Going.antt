@@ -24,9 +24,9 @@ use Rattle.session_threads.proofs.Ordering as threads
 use Rattle.spec_parser.specs.Trees.{EntryTree, SpecTree}
 use Rattle.report_lines.specs.Due.{Launches}
 use Rattle.permutation_plans.specs.Launches.{launches, due_after, due_in}
-use Rattle.permutations.specs.Alone.{next_event, IsOfAlone, RefusesNext}
+use Rattle.plain_runs.specs.Alone.{next_event, IsOfAlone, RefusesNext}
 use Rattle.permutations.specs.Faults.{thread_fault}
-use Rattle.permutations.specs.Inner.Resting.{IsNext}
+use Rattle.plain_runs.specs.Inner.Next.{IsNext}
 use Rattle.permutations.specs.Plans.{Planning, order_after, IsFollowing}
 use Rattle.permutations.specs.Following.{follows_longer}
 

@@ -1,0 +1,14 @@
+use Rattle.std.proofs.Common.{length}
+use Rattle.session_core.specs.Blocks.{blocks_of}
+use Rattle.spec_parser.specs.Trees.{spec_view}
+use Rattle.permutation_lists.specs.Permutations.{permutations_of}
+use Rattle.permutations.proofs.Printing.{SoFar}
+use Rattle.plain_runs.proofs.print.print_all.Given as goal
+
+abbrev pub invariant-loop-permutations : goal.invariant-loop-permutations
+invariant-loop-permutations g l =
+    SoFar (spec_view l.spec) (blocks_of l.blocks) (g.W.Sink.put_so_far l.fn.out) (g.W.Sink.put_so_far l.out) (g.N.Sink.put_so_far l.fn.notes) (g.N.Sink.put_so_far l.notes)
+    l.limit (permutations_of (spec_view l.spec)) l.left l.permutations.more
+
+abbrev pub decreases-loop-permutations : goal.decreases-loop-permutations
+decreases-loop-permutations g l = length l.permutations.more

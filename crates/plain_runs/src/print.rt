@@ -1,0 +1,85 @@
+//! Prints the permutations of a file, each run on the calling thread alone.
+
+ghost use Rattle.std.specs.Prelude.{Ok, map, IsTrue};
+ghost use Rattle.session_core.specs.Blocks.{blocks_of};
+ghost use Rattle.spec_parser.specs.Trees.{entry_view, spec_view};
+ghost use Rattle.spec_parser.specs.Stands.{Stands};
+ghost use Rattle.permutation_lists.specs.Permutations.{permutations_of};
+ghost use Rattle.permutations.specs.Files.{File, FileIs};
+ghost use Rattle.permutations.specs.Prints.{Prints};
+ghost use Rattle.permutations.specs.Runs.{has_ended, IsOneTold, IsTold};
+ghost use Rattle.permutations.specs.Said.{Said};
+
+use crate::one_run::run_alone;
+use iso_lexer::Sink;
+use permutation_lists::Permutations;
+use permutations::{RunFault, read_file, write_permutation};
+use spec_parser::{Entry, Spec};
+use sql_parser::Block;
+use std::alloc::Global;
+use std::sync::Wait;
+
+/// Runs a permutation, and writes its report.
+fn print_one<W: Sink, N: Sink, R: Wait>(
+    rt: &R,
+    alloc: Global,
+    spec: &Spec<'_>,
+    blocks: &[Block<'_>],
+    entries: &[Entry],
+    out: &mut W,
+    notes: &mut N,
+) -> Result<(), RunFault>
+    requires { Stands (spec_view spec.now) }
+    ensures { IsTrue (has_ended result) → IsOneTold (spec_view spec.now) (blocks_of blocks.now) (map entry_view entries.now)
+        (W.put_so_far out.old) (W.put_so_far out.new) (N.put_so_far notes.old) (N.put_so_far notes.new) result }
+{
+    let engine = run_alone(rt, alloc, spec, blocks, entries)?;
+    write_permutation(alloc, spec, entries, engine.history(), out, notes)?;
+    Ok(())
+}
+
+/// Runs the permutations of a spec, up to so many, and writes their reports.
+fn print_all<W: Sink, N: Sink, R: Wait>(
+    rt: &R,
+    alloc: Global,
+    spec: &Spec<'_>,
+    blocks: &[Block<'_>],
+    out: &mut W,
+    notes: &mut N,
+    limit: u64,
+) -> Result<(), RunFault>
+    requires { Stands (spec_view spec.now) }
+    ensures { IsTrue (has_ended result) →
+        ((said : Said) × Prints (spec_view spec.now) (blocks_of blocks.now) limit (permutations_of (spec_view spec.now)) said
+        × IsTold (W.put_so_far out.old) (W.put_so_far out.new) (N.put_so_far notes.old) (N.put_so_far notes.new) result said) }
+{
+    let mut permutations = Permutations::of(alloc, spec)?;
+    let mut left = limit;
+    while permutations.advance(alloc)? {
+        if left == 0 {
+            return Err(RunFault::TooManyPermutations);
+        }
+        left -= 1;
+        print_one(rt, alloc, spec, blocks, permutations.entries(), out, notes)?;
+    }
+    Ok(())
+}
+
+/// Runs the permutations of the spec file that these bytes are, up to so many, one after the other on the calling thread, and
+/// writes their reports: what `run_spec` prints behind the first line. After `limit` permutations, with one more there, the run
+/// ends; so it does after a setup that fails or waits.
+pub fn print_alone<W: Sink, N: Sink, R: Wait>(
+    rt: &R,
+    alloc: Global,
+    bytes: &[u8],
+    out: &mut W,
+    notes: &mut N,
+    limit: u64,
+) -> Result<(), RunFault>
+    ensures { IsTrue (has_ended result) →
+        ((file : File) × (said : Said) × FileIs bytes.now (Ok file) × Prints file.spec file.blocks limit (permutations_of file.spec) said
+        × IsTold (W.put_so_far out.old) (W.put_so_far out.new) (N.put_so_far notes.old) (N.put_so_far notes.new) result said) }
+{
+    let file = read_file(alloc, bytes)?;
+    print_all(rt, alloc, &file.spec, &file.blocks, out, notes, limit)
+}
