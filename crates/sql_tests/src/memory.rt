@@ -17,7 +17,7 @@ const ALL_KINDS: &str = "BEGIN ISOLATION LEVEL REPEATABLE READ; SET deadlock_tim
 #[test]
 fn want_of_memory_for_a_block(rt: HostRuntime) {
     if let Err(fault) = block_of(rt.alloc(), Role::Main, ALL_KINDS) {
-        holds(&rt, fault == SqlFault::Memory, ALL_KINDS);
+        holds(&rt, matches!(fault, SqlFault::Memory), ALL_KINDS);
         let again = block_of(rt.alloc(), Role::Main, ALL_KINDS).is_ok();
         holds(&rt, again, ALL_KINDS);
     }
@@ -30,7 +30,7 @@ fn want_of_memory_for_an_expression(rt: HostRuntime) {
         return;
     };
     if let Err(fault) = parse_expr(rt.alloc(), text.len(), &tokens) {
-        holds(&rt, fault == SqlFault::Memory, text);
+        holds(&rt, matches!(fault, SqlFault::Memory), text);
         let again = parse_expr(rt.alloc(), text.len(), &tokens).is_ok();
         holds(&rt, again, text);
     }
