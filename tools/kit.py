@@ -251,14 +251,27 @@ def files_below(folder):
     return sorted(f"{at}/{it}" for at, _, names in os.walk(folder) for it in names)
 
 
+def said_in(file):
+    """Returns the lines of a file but for blank ones and those of comments alone, on which no refusal rests."""
+    comment = {".antt": b"--", ".rt": b"//"}.get(os.path.splitext(file)[1])
+    with open(file, "rb") as it:
+        lines = it.read().split(b"\n")
+    return [it for it in lines if it.strip() and not (comment and it.strip().startswith(comment))]
+
+
+def definitions_below(crate, own):
+    """Returns the files of the definitions of the crates below, where own are the crate's files: of those that only inner clauses use, what the crate itself names."""
+    named = set(re.findall(rb"Rattle\.(\w+)\.specs\.Inner", b"\n".join(line for file in own for line in said_in(file))))
+    found = [(low, file) for low in sorted(crate.below(), key=lambda it: it.name) for file in files_below(f"{low.folder}/specs")]
+    return [file for low, file in found if low.name.encode() in named or not file.startswith(f"{low.folder}/specs/Inner")]
+
+
 def state_of(crate):
     """Returns a sum of all that a wrong body's refusal rests on: the crate's text, its wrong bodies but for those that only tests tell, and the definitions of the crates below it."""
-    rooms = [f"{crate.folder}/{it}" for it in ("src", "specs", "proofs", "wrong_bodies")]
-    rooms += [f"{it.folder}/specs" for it in sorted(crate.below(), key=lambda it: it.name)]
+    own = [it for room in ("src", "specs", "proofs", "wrong_bodies") for it in files_below(f"{crate.folder}/{room}") if "/by_tests/" not in it]
     state = hashlib.sha256()
-    for file in (it for room in rooms for it in files_below(room) if "/by_tests/" not in it):
-        with open(file, "rb") as it:
-            state.update(repr((os.path.relpath(file, TOP), it.read())).encode())
+    for file in [*own, *definitions_below(crate, own)]:
+        state.update(repr((os.path.relpath(file, TOP), said_in(file))).encode())
     return state.hexdigest()[:16]
 
 
