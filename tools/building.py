@@ -8,9 +8,9 @@ import time
 from kit import TOP, quietly, rt, rtlib
 
 # A crate gives way by one step of niceness for so many seconds that others are waited for longer than it is.
-STEP = 15
+STEP = 30
 # The seconds from which on a crate has two jobs, or one, in place of as many as all processors but one.
-SOME, MUCH = 30, 150
+SOME, MUCH = 60, 300
 
 
 def seconds():
