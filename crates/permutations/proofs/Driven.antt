@@ -10,7 +10,7 @@ use Rattle.spec_parser.specs.Trees.{EntryTree, SpecTree}
 use Rattle.report_lines.specs.Due.{Launches}
 use Rattle.permutation_plans.specs.Launches.{launches, due_after}
 use Rattle.permutation_plans.specs.Regular.{IsOrdered, FitsAfter, Fits}
-use Rattle.permutations.specs.Plans.{Planning, order_after}
+use Rattle.spec_files.specs.Plans.{Planning, order_after}
 
 is_ordered : (event : Event) (order : Order) → IsOrder event order → IsOrdered event order
 is_ordered (Launch session block) order is = is

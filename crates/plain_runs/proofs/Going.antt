@@ -25,10 +25,10 @@ use Rattle.spec_parser.specs.Trees.{EntryTree, SpecTree}
 use Rattle.report_lines.specs.Due.{Launches}
 use Rattle.permutation_plans.specs.Launches.{launches, due_after, due_in}
 use Rattle.plain_runs.specs.Alone.{next_event, IsOfAlone, RefusesNext}
-use Rattle.permutations.specs.Faults.{thread_fault}
+use Rattle.spec_files.specs.Faults.{thread_fault}
 use Rattle.plain_runs.specs.Inner.Next.{IsNext}
-use Rattle.permutations.specs.Plans.{Planning, order_after, IsFollowing}
-use Rattle.permutations.specs.Following.{follows_longer}
+use Rattle.spec_files.specs.Plans.{Planning, order_after, IsFollowing}
+use Rattle.spec_files.specs.Following.{follows_longer}
 
 -- what the engine did since it was opened is what the plan ordered at first, and orders now
 pub record IsUnderWay (first plan : Planning) (opened e : Engine) : Type 0 where

@@ -13,8 +13,8 @@ use Rattle.session_machine.specs.Machine.{Machine, Blocks, opening, next, turn_i
 use Rattle.session_machine.specs.Engine.{Run, fault_of}
 use Rattle.session_threads.specs.declared.seat.ThreadFault.TheVariants as thread_faults
 use Rattle.session_threads.specs.Orders.{Orders, OrderedAfter}
-use Rattle.permutations.specs.declared.fault.RunFault.{RunFault}
-use Rattle.permutations.specs.declared.fault.RunFault.TheVariants as faults
+use Rattle.spec_files.specs.declared.fault.RunFault.{RunFault}
+use Rattle.spec_files.specs.declared.fault.RunFault.TheVariants as faults
 
 -- the event that is next: the Step of the session whose turn it is, or else what is ordered
 abbrev pub next_event : Option ℕ → Order → Option Event

@@ -5,7 +5,7 @@ use Rattle.spec_parser.specs.Trees.{entry_view, session_view, spec_view}
 use Rattle.session_threads.specs.declared.seat.ThreadFault.TheVariants.{Engine}
 use Rattle.permutation_plans.specs.Launches.{due_in}
 use Rattle.plain_runs.specs.Alone.{IsOfAlone}
-use Rattle.permutations.specs.Faults.{thread_fault}
+use Rattle.spec_files.specs.Faults.{thread_fault}
 use Rattle.permutations.proofs.Driven.{plan_fits}
 use Rattle.plain_runs.proofs.Going.{told_alone}
 use Rattle.permutations.proofs.Running.{regular}
