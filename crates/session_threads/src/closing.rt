@@ -1,6 +1,6 @@
 //! The end of a run: the engine's state beside the seats.
 ghost use Rattle.std.specs.Prelude.{◌≡◌, ℕ, Err, None, Some, IfOk, IfErr, IfNone, IfSome};
-ghost use Rattle.session_core.specs.Blocks.{blocks_of};
+ghost use Rattle.sql_blocks.specs.Blocks.{blocks_of};
 ghost use Rattle.session_core.specs.Engines.{IsOf};
 ghost use Rattle.session_threads.specs.Seats.{AllFit, IsMisfit};
 
@@ -8,7 +8,7 @@ use row_versions::Versions;
 use session_core::EngineState;
 use session_machine::Mode;
 use session_seats::{Seat, ThreadFault, first_misfit};
-use sql_parser::Block;
+use sql_blocks::Block;
 use std::marker::Model;
 
 /// A run that is over: the engine's state, and a seat for each session, whose items are the history's items of that

@@ -1,7 +1,7 @@
 //! A run in which each session's thread runs the session's script, with no order between sessions.
 ghost use Rattle.std.specs.Prelude.{◌≡◌, ◌≤◌, IfOk, vec_len};
 ghost use Rattle.row_versions.specs.Log.{empty_content};
-ghost use Rattle.session_core.specs.Blocks.{blocks_of};
+ghost use Rattle.sql_blocks.specs.Blocks.{blocks_of};
 ghost use Rattle.session_core.specs.Engines.{IsOf};
 
 use crate::closing::{Closed, end_of};
@@ -13,7 +13,7 @@ use session_seats::{
     BlockState, FreePlan, Gate, OpenGate, Runner, Seat, ThreadFault, block_state, empty_seats,
     script_of, start_thread,
 };
-use sql_parser::Block;
+use sql_blocks::Block;
 use std::alloc::Global;
 use std::sync::{Condvar, Mutex, Wait};
 use std::thread;
