@@ -6,8 +6,8 @@ use Rattle.spec_parser.specs.declared.fault.SpecFault.TheVariants as spec_faults
 use Rattle.report_text.specs.declared.fault.ReportFault.{ReportFault}
 use Rattle.report_text.specs.declared.fault.ReportFault.TheVariants as report_faults
 use Rattle.session_machine.specs.declared.fault.EngineFault.TheVariants as engine_faults
-use Rattle.session_threads.specs.declared.seat.ThreadFault.{ThreadFault}
-use Rattle.session_threads.specs.declared.seat.ThreadFault.TheVariants as thread_faults
+use Rattle.session_seats.specs.declared.fault.ThreadFault.{ThreadFault}
+use Rattle.session_seats.specs.declared.fault.ThreadFault.TheVariants as thread_faults
 use Rattle.permutations.specs.declared.fault.RunFault.{RunFault}
 use Rattle.permutations.specs.declared.fault.RunFault.TheVariants as faults
 

@@ -11,9 +11,7 @@ use crate::shared::{Shared, give_up, work};
 use row_versions::Versions;
 use session_core::EngineState;
 use session_machine::{EngineFault, Mode};
-use session_seats::{
-    Bells, Gate, Ordering, Post, Seat, ThreadFault, empty_seats, start_thread,
-};
+use session_seats::{Bells, Gate, Ordering, Post, Seat, ThreadFault, empty_seats, start_thread};
 use sql_blocks::Block;
 use std::alloc::Global;
 use std::marker::Brand;

@@ -9,9 +9,7 @@ use crate::driver::Driver;
 use row_versions::Versions;
 use session_core::EngineState;
 use session_machine::{EngineFault, Event, Order, Turn};
-use session_seats::{
-    Bells, Gate, Instruction, Ordering, Post, Seat, ThreadFault, admitted, tell,
-};
+use session_seats::{Bells, Gate, Instruction, Ordering, Post, Seat, ThreadFault, admitted, tell};
 use std::alloc::Global;
 use std::marker::{Model, PhantomData};
 use std::sync::{Mutex, MutexGuard, Wait};
