@@ -1,7 +1,7 @@
 -- A run on one thread that met a fault has come to no end, and nothing of it is written.
 use Rattle.std.proofs.Common.{◌≡◌, ℕ, false, refl}
 use Rattle.session_machine.specs.Machine.{Blocks}
-use Rattle.session_threads.specs.Orders.{Orders}
+use Rattle.session_seats.specs.Orders.{Orders}
 use Rattle.spec_files.specs.declared.fault.RunFault.{RunFault}
 use Rattle.spec_files.specs.declared.fault.RunFault.TheVariants as faults
 use Rattle.spec_files.specs.Runs.{is_early_end}

@@ -15,11 +15,11 @@ use Rattle.session_machine.specs.declared.reply.HistItem.{HistItem}
 use Rattle.session_machine.specs.Machine.{Machine, Blocks, Next, next, opening, turn_in}
 use Rattle.session_machine.specs.Engine.{Engine, EngineAnswered, Run, engine_after, engine_answered, engine_step, fault_of, opened}
 use Rattle.session_core.specs.Engines.{IsOf}
-use Rattle.session_threads.specs.declared.seat.ThreadFault.TheVariants.{Engine as Engine_fault}
-use Rattle.session_threads.specs.Acts.{Acted, with_item}
-use Rattle.session_threads.specs.Orders.{Orders, IsOrder}
+use Rattle.session_seats.specs.declared.fault.ThreadFault.TheVariants.{Engine as Engine_fault}
+use Rattle.session_threads.specs.Acts.{Acted}
+use Rattle.session_seats.specs.Orders.{Orders, IsOrder}
 use Rattle.session_threads.specs.Inner.Shared.{IsOrderly}
-use Rattle.session_threads.specs.Seats.{SeatOf}
+use Rattle.session_seats.specs.Seats.{SeatOf, with_item}
 use Rattle.session_threads.proofs.Ordering as threads
 use Rattle.spec_parser.specs.Trees.{EntryTree, SpecTree}
 use Rattle.report_lines.specs.Due.{Launches}

@@ -3,7 +3,7 @@
 ghost use Rattle.std.specs.Prelude.{◌≡◌, ◌≢◌, [], length, Err, map, IfOk, IfErr, OnOk};
 ghost use Rattle.sql_blocks.specs.Blocks.{blocks_of};
 ghost use Rattle.session_core.specs.Engines.{IsOf};
-ghost use Rattle.session_threads.specs.Orders.{IsDriven};
+ghost use Rattle.session_seats.specs.Orders.{IsDriven};
 ghost use Rattle.spec_parser.specs.Trees.{entry_view, spec_view};
 ghost use Rattle.spec_parser.specs.Stands.{Stands};
 ghost use Rattle.permutation_plans.specs.Launches.{due_in};

@@ -11,11 +11,11 @@ use Rattle.session_machine.proofs.reply.HistItem.TheSendSync.{the_send as item_s
 use Rattle.session_core.proofs.live.Live.TheSendSync.{the_send as live_send}
 use Rattle.session_core.specs.contracts.engine.EngineState as EngineState
 use Rattle.session_core.specs.contracts.engine.EngineState.TheInside as EngineInside
-use Rattle.session_threads.specs.declared.driver.Ordering as Ordering
+use Rattle.session_seats.specs.declared.ordering.Ordering as Ordering
 use Rattle.session_threads.specs.declared.driver.Driver as Driver
 use Rattle.session_threads.specs.contracts.shared.Shared as Shared
 use Rattle.session_threads.specs.contracts.shared.Shared.TheInside as SharedInside
-use Rattle.session_threads.proofs.seat.ThreadFault.TheSendSync.{the_send as fault_send}
+use Rattle.session_seats.proofs.fault.ThreadFault.TheSendSync.{the_send as fault_send}
 
 -- what is inside of an engine, and then the engine
 inside_send : (κ λ' : NamedLft) (V : RattleType) (v : Versions.Ghosts V.Denot) → IsSend V → IsSend (EngineInside.the_row κ λ' V v)

@@ -1,6 +1,7 @@
 pub mod Reading
 pub mod FileLemmas
 pub mod Listing
+pub mod Driven
 pub mod OneFile
 pub mod Telling
 pub mod Printing

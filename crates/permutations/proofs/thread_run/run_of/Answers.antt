@@ -4,7 +4,7 @@ use Rattle.session_machine.specs.declared.event.Mode.TheVariants.{Directed}
 use Rattle.session_machine.specs.Engine.{opened}
 use Rattle.sql_blocks.specs.Blocks.{blocks_of}
 use Rattle.spec_parser.specs.Trees.{entry_view, session_view, spec_view}
-use Rattle.permutations.proofs.Driven.{plan_fits}
+use Rattle.spec_files.proofs.Driven.{plan_fits}
 use Rattle.permutations.proofs.Running.{regular}
 use Rattle.permutations.proofs.thread_run.run_of.Goals as goal
 

@@ -1,8 +1,8 @@
 use Rattle.std.proofs.Common.{◌≡◌, ◌≢◌, ◌↔◌, ◌<◌, ℕ, [], true, drop}
 use Rattle.std.specs.Prelude.{IfSome}
-use Rattle.session_threads.specs.Seats.{seats_of}
-use Rattle.session_threads.specs.Inner.Seats.{is_less}
-use Rattle.session_threads.proofs.closing.least_over.Given as goal
+use Rattle.session_seats.specs.Seats.{seats_of}
+use Rattle.session_seats.specs.Inner.Least.{is_less}
+use Rattle.session_seats.proofs.fitting.least_over.Given as goal
 
 abbrev pub invariant-loop-seat : goal.invariant-loop-seat
 invariant-loop-seat l = record {

@@ -5,7 +5,7 @@ use Rattle.session_machine.specs.declared.event.Event.TheVariants.{Launch, Step,
 use Rattle.session_machine.specs.declared.event.Order.{Order}
 use Rattle.session_machine.specs.declared.event.Order.TheVariants.{Stop}
 use Rattle.session_machine.specs.declared.reply.HistItem.{HistItem}
-use Rattle.session_threads.specs.Orders.{Orders, IsOrder, OrderedAfter, IsDriven}
+use Rattle.session_seats.specs.Orders.{Orders, IsOrder, OrderedAfter, IsDriven}
 use Rattle.spec_parser.specs.Trees.{EntryTree, SpecTree}
 use Rattle.report_lines.specs.Due.{Launches}
 use Rattle.permutation_plans.specs.Launches.{launches, due_after}

@@ -1,5 +1,5 @@
 //! The threads of a run, each of which is joined.
-use crate::seat::ThreadFault;
+use crate::fault::ThreadFault;
 use std::thread::{Builder, JoinHandle, Scope};
 
 /// The stack of a session's thread, in bytes. The deepest expression takes a third of it; with the eight megabytes that a

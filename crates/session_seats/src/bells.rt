@@ -1,7 +1,7 @@
 //! Who is woken.
 ghost use Rattle.std.specs.Prelude.{◌≤◌};
 
-use crate::seat::ThreadFault;
+use crate::fault::ThreadFault;
 use std::alloc::Global;
 use std::sync::Condvar;
 
