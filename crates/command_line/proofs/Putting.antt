@@ -4,7 +4,7 @@ use Rattle.std.specs.Prelude.{OnOk}
 use Rattle.std.specs.Bool.{OnFalse}
 use Rattle.iso_lexer.specs.declared.whole.ReadFault.{ReadFault}
 use Rattle.iso_lexer.specs.declared.whole.ReadFault.TheVariants.{Memory, Device}
-use Rattle.permutations.specs.Faults.{read_fault}
+use Rattle.spec_files.specs.Faults.{read_fault}
 use Rattle.command_line.specs.Terminal.{FailsFirst}
 
 pub took : {T E : Type 0} (failed : Bool) (A : Type 0) (r : Result T E) → failed ≡ is_err r → OnOk r A → OnFalse failed A

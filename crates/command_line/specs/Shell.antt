@@ -6,17 +6,17 @@ use Rattle.clap.specs.Words.{IsAmong, Text, fault_of}
 use Rattle.clap.specs.declared.error.kind.ErrorKind.{ErrorKind}
 use Rattle.clap.specs.declared.error.kind.ErrorKind.TheVariants.{DisplayHelp, DisplayVersion, OutOfMemory}
 use Rattle.iso_lexer.specs.Devices.{PutsFront}
-use Rattle.permutations.specs.Begun.{Begun, FileMaySay, FileSaysFreely, ListBegun}
-use Rattle.permutations.specs.Broken.{FileBroken}
-use Rattle.permutations.specs.FaultText.{fault_line}
-use Rattle.permutations.specs.Files.{FileIs}
-use Rattle.permutations.specs.FreeRuns.{FileFreeTold}
-use Rattle.permutations.specs.Lists.{FileLists}
-use Rattle.permutations.specs.Prints.{FileSays}
-use Rattle.permutations.specs.Runs.{is_refusal, is_of_listing, has_broken, has_ended, status_of as fault_status, IsListed, IsTold}
-use Rattle.permutations.specs.Said.{Said}
-use Rattle.permutations.specs.declared.fault.RunFault.{RunFault}
-use Rattle.permutations.specs.declared.fault.RunFault.TheVariants as faults
+use Rattle.spec_files.specs.Begun.{Begun, FileMaySay, FileSaysFreely, ListBegun}
+use Rattle.spec_files.specs.Broken.{FileBroken}
+use Rattle.spec_files.specs.FaultText.{fault_line}
+use Rattle.spec_files.specs.Files.{FileIs}
+use Rattle.spec_files.specs.FreeRuns.{FileFreeTold}
+use Rattle.spec_files.specs.Lists.{FileLists}
+use Rattle.spec_files.specs.Prints.{FileSays}
+use Rattle.spec_files.specs.Runs.{is_refusal, is_of_listing, has_broken, has_ended, status_of as fault_status, IsListed, IsTold}
+use Rattle.spec_files.specs.Said.{Said}
+use Rattle.spec_files.specs.declared.fault.RunFault.{RunFault}
+use Rattle.spec_files.specs.declared.fault.RunFault.TheVariants as faults
 use Rattle.command_line.specs.declared.options.Options.{Options}
 use Rattle.command_line.specs.Options.{Gives, program, status_of}
 

@@ -7,9 +7,9 @@ use Rattle.clap.specs.declared.error.kind.ErrorKind.{ErrorKind}
 use Rattle.spec_parser.specs.declared.fault.SpecFault.{SpecFault}
 use Rattle.spec_parser.specs.declared.fault.SpecFault.TheVariants as spec_faults
 use Rattle.sql_trees.specs.Faults.{place}
-use Rattle.permutations.specs.FaultText.{shift_of}
-use Rattle.permutations.specs.declared.fault.RunFault.{RunFault}
-use Rattle.permutations.specs.declared.fault.RunFault.TheVariants as faults
+use Rattle.spec_files.specs.FaultText.{shift_of}
+use Rattle.spec_files.specs.declared.fault.RunFault.{RunFault}
+use Rattle.spec_files.specs.declared.fault.RunFault.TheVariants as faults
 use Rattle.command_line.specs.declared.options.Options.{Options}
 use Rattle.command_line.specs.Options.{Gives, program, status_of}
 use Rattle.command_line.specs.Quote.{quoted}
