@@ -3,8 +3,8 @@ use Rattle.std.proofs.Common.{◌≡◌, ◌≢◌, ℕ, suc, ◌≤◌, true, L
 use Rattle.std.specs.Prelude.{option_to_list}
 use Rattle.std.specs.Global.{Vec}
 use Rattle.std.specs.List.{All, AllByRecursion}
-use Rattle.sql_parser.specs.declared.block.Block.{Block}
-use Rattle.session_core.specs.Blocks.{blocks_of}
+use Rattle.sql_blocks.specs.declared.block.Block.{Block}
+use Rattle.sql_blocks.specs.Blocks.{blocks_of}
 use Rattle.spec_parser.specs.declared.fault.SpecFault.{SpecFault}
 use Rattle.spec_parser.specs.declared.fault.SpecFault.TheVariants as faults
 use Rattle.spec_parser.specs.Trees.{PartTree, SpecTree}

@@ -8,7 +8,7 @@ use Rattle.sql_trees.specs.declared.fault.SqlFault.{SqlFault}
 use Rattle.sql_trees.specs.declared.fault.SqlFault.TheVariants.{Memory, Lex, Syntax, LeftOut, TooDeep, TooMany, DdlInSession, BadColumns}
 use Rattle.sql_trees.specs.Statements.{StmtTree}
 use Rattle.sql_trees.specs.Tokens.{classify_at}
-use Rattle.sql_parser.specs.declared.block.Role.{Role}
+use Rattle.sql_blocks.specs.declared.block.Role.{Role}
 use Rattle.sql_parser.specs.Blocks.{block_at}
 use Rattle.sql_parser.specs.Texts.{ReadsAs, LexFails}
 use Rattle.session_machine.specs.Machine.{Blocks}

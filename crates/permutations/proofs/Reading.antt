@@ -7,11 +7,11 @@ use Rattle.std.proofs.Math.ListN.{get_or-map}
 use Rattle.sql_trees.specs.declared.fault.SqlFault.{SqlFault}
 use Rattle.sql_trees.specs.declared.fault.SqlFault.TheVariants.{Memory, Lex, Syntax, LeftOut, TooDeep, TooMany, DdlInSession, BadColumns}
 use Rattle.sql_trees.specs.Statements.{StmtTree}
-use Rattle.sql_parser.specs.declared.block.Role.TheVariants.{Main}
-use Rattle.sql_parser.specs.declared.block.Block.{Block}
+use Rattle.sql_blocks.specs.declared.block.Role.TheVariants.{Main}
+use Rattle.sql_blocks.specs.declared.block.Block.{Block}
 use Rattle.sql_parser.specs.Texts.{Parses}
 use Rattle.session_machine.specs.Machine.{Blocks}
-use Rattle.session_core.specs.Blocks.{block_of, blocks_of}
+use Rattle.sql_blocks.specs.Blocks.{block_of, blocks_of}
 use Rattle.permutations.specs.declared.blocks.PlacedPart.{PlacedPart}
 use Rattle.permutations.specs.declared.fault.BlockFault.{BlockFault}
 use Rattle.permutations.specs.declared.fault.RunFault.{RunFault}

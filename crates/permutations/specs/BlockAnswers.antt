@@ -4,8 +4,8 @@ use Rattle.std.specs.Global.{Vec}
 use Rattle.sql_trees.specs.declared.fault.SqlFault.{SqlFault}
 use Rattle.sql_trees.specs.declared.fault.SqlFault.TheVariants.{Memory}
 use Rattle.sql_parser.specs.Texts.{Parses}
-use Rattle.sql_parser.specs.declared.block.Block.{Block}
-use Rattle.session_core.specs.Blocks.{block_of, blocks_of}
+use Rattle.sql_blocks.specs.declared.block.Block.{Block}
+use Rattle.sql_blocks.specs.Blocks.{block_of, blocks_of}
 use Rattle.spec_parser.specs.Trees.{PartTree, StepTree, part_view, spec_view}
 use Rattle.permutations.specs.declared.blocks.PlacedPart.{PlacedPart}
 use Rattle.permutations.specs.declared.fault.RunFault.{RunFault}

@@ -3,8 +3,8 @@ use Rattle.std.specs.Prelude.{◌≡◌, List, [], ◌∷◌, ◌++◌, map, fla
 use Rattle.sql_trees.specs.declared.fault.SqlFault.{SqlFault}
 use Rattle.sql_trees.specs.declared.fault.SqlFault.TheVariants.{Memory}
 use Rattle.sql_trees.specs.Statements.{StmtTree}
-use Rattle.sql_parser.specs.declared.block.Role.{Role}
-use Rattle.sql_parser.specs.declared.block.Role.TheVariants.{Main, Session}
+use Rattle.sql_blocks.specs.declared.block.Role.{Role}
+use Rattle.sql_blocks.specs.declared.block.Role.TheVariants.{Main, Session}
 use Rattle.sql_parser.specs.Texts.{Parses}
 use Rattle.session_machine.specs.Machine.{Blocks}
 use Rattle.spec_parser.specs.Trees.{PartTree, SpecTree}

@@ -1,7 +1,7 @@
 //! The free run of a spec, with a thread for each session.
 
 ghost use Rattle.std.specs.Prelude.{◌≡◌, ◌<◌, ◌^◌, true, length, map, vec_len, IfOk, IfErr, IsErrOf};
-ghost use Rattle.session_core.specs.Blocks.{blocks_of};
+ghost use Rattle.sql_blocks.specs.Blocks.{blocks_of};
 ghost use Rattle.session_core.specs.Engines.{IsOf};
 ghost use Rattle.session_machine.specs.declared.event.Mode.TheVariants.{Free};
 ghost use Rattle.spec_parser.specs.Trees.{spec_view};

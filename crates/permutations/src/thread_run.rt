@@ -1,7 +1,7 @@
 //! The run of one permutation, with a thread for each session.
 
 ghost use Rattle.std.specs.Prelude.{◌≡◌, ◌≢◌, ◌↔◌, ◌||◌, length, true, Err, map, IsTrue, IfOk, IfErr, IsErrOf};
-ghost use Rattle.session_core.specs.Blocks.{blocks_of};
+ghost use Rattle.sql_blocks.specs.Blocks.{blocks_of};
 ghost use Rattle.session_core.specs.Engines.{is_quiet_in};
 ghost use Rattle.spec_parser.specs.Trees.{entry_view, spec_view};
 ghost use Rattle.spec_parser.specs.Stands.{Stands};

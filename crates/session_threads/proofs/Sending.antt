@@ -17,7 +17,7 @@ use Rattle.sql_trees.specs.contracts.stmt.Select as Select
 use Rattle.sql_trees.specs.contracts.stmt.Insert as Insert
 use Rattle.sql_trees.specs.contracts.stmt.Update as Update
 use Rattle.sql_trees.specs.contracts.stmt.Delete as Delete
-use Rattle.sql_parser.specs.contracts.block.Block as Block
+use Rattle.sql_blocks.specs.contracts.block.Block as Block
 use Rattle.row_versions.specs.declared.versions.Versions as Versions
 use Rattle.session_machine.proofs.event.Event.TheSendSync.{the_send as event_send}
 use Rattle.session_machine.proofs.reply.HistItem.TheSendSync.{the_send as item_send}

@@ -1,6 +1,6 @@
 //! The end of a run: the engine's state beside the seats.
 ghost use Rattle.std.specs.Prelude.{◌≡◌, ◌≢◌, ◌<◌, ◌↔◌, ℕ, [], true, Err, None, Some, IsTrue, IfOk, IfErr, IfNone, IfSome, MatchOption};
-ghost use Rattle.session_core.specs.Blocks.{blocks_of};
+ghost use Rattle.sql_blocks.specs.Blocks.{blocks_of};
 ghost use Rattle.session_core.specs.Engines.{IsOf};
 ghost use Rattle.session_threads.specs.Seats.{items_of, seats_of, seat_if, AllFit, IsMisfit};
 ghost use Rattle.session_machine.specs.Machine.{session_of};
@@ -10,7 +10,7 @@ use crate::seat::{Seat, ThreadFault};
 use row_versions::Versions;
 use session_core::EngineState;
 use session_machine::{Event, HistItem, Mode};
-use sql_parser::Block;
+use sql_blocks::Block;
 use std::marker::Model;
 
 /// A run that is over: the engine's state, and a seat for each session, whose items are the history's items of that

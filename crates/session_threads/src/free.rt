@@ -1,7 +1,7 @@
 //! A run in which each session's thread runs the session's script, with no order between sessions.
 ghost use Rattle.std.specs.Prelude.{◌≡◌, ◌≤◌, IfOk, vec_len};
 ghost use Rattle.row_versions.specs.Log.{empty_content};
-ghost use Rattle.session_core.specs.Blocks.{blocks_of};
+ghost use Rattle.sql_blocks.specs.Blocks.{blocks_of};
 ghost use Rattle.session_core.specs.Engines.{IsOf};
 
 use crate::closing::{Closed, end_of};
@@ -12,7 +12,7 @@ use crate::seat::{Seat, ThreadFault, empty_seats};
 use row_versions::Versions;
 use session_core::EngineState;
 use session_machine::{EngineFault, Event, Mode, Outcome};
-use sql_parser::Block;
+use sql_blocks::Block;
 use std::alloc::Global;
 use std::sync::{Condvar, Mutex, Wait};
 use std::thread;

@@ -1,7 +1,7 @@
 use Rattle.std.proofs.lemmas.Result.{err_from_is_err_and}
 use Rattle.std.proofs.Common.{sym, subst}
 use Rattle.std.specs.Prelude.{map}
-use Rattle.session_core.specs.Blocks.{blocks_of}
+use Rattle.sql_blocks.specs.Blocks.{blocks_of}
 use Rattle.permutations.specs.BlockAnswers.{placed_view}
 use Rattle.permutations.proofs.Reading.{SoFar, starts, block_there, fault_there, end_there, short_there}
 use Rattle.permutations.proofs.blocks.read_blocks.Goals as goal

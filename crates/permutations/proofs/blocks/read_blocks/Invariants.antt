@@ -1,5 +1,5 @@
 use Rattle.std.specs.Prelude.{map}
-use Rattle.session_core.specs.Blocks.{blocks_of}
+use Rattle.sql_blocks.specs.Blocks.{blocks_of}
 use Rattle.permutations.specs.BlockAnswers.{placed_view}
 use Rattle.permutations.proofs.Reading.{SoFar}
 use Rattle.permutations.proofs.blocks.read_blocks.Given as goal

@@ -1,7 +1,7 @@
 use Rattle.std.proofs.lemmas.Result.{err_from_is_err_and}
 use Rattle.std.proofs.Common.{ap, subst}
 use Rattle.session_machine.specs.Machine.{Blocks}
-use Rattle.session_core.specs.Blocks.{blocks_of}
+use Rattle.sql_blocks.specs.Blocks.{blocks_of}
 use Rattle.spec_parser.specs.Trees.{spec_view}
 use Rattle.permutations.specs.BlockAnswers.{file_view}
 use Rattle.permutations.specs.Begun.{Begun, FreeSays}

@@ -1,6 +1,6 @@
 use Rattle.std.proofs.lemmas.Result.{err_from_is_err_and}
 use Rattle.std.proofs.Common.{◌≡◌, ◌≢◌, ◌∷◌, ◌<◌, [], List, subst, rules, arith, refl, ap}
-use Rattle.session_core.specs.Blocks.{blocks_of}
+use Rattle.sql_blocks.specs.Blocks.{blocks_of}
 use Rattle.spec_parser.specs.Trees.{EntryTree, spec_view}
 use Rattle.permutation_lists.specs.Permutations.{permutations_of}
 use Rattle.permutations.specs.Inner.Drafts.{IsDraft, entries_of, to_come}

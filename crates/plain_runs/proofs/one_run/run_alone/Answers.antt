@@ -1,6 +1,6 @@
 use Rattle.std.proofs.Common.{map, length, arith, rules}
 use Rattle.std.proofs.lemmas.List.{length-map}
-use Rattle.session_core.specs.Blocks.{blocks_of}
+use Rattle.sql_blocks.specs.Blocks.{blocks_of}
 use Rattle.spec_parser.specs.Trees.{entry_view, session_view, spec_view}
 use Rattle.session_threads.specs.declared.seat.ThreadFault.TheVariants.{Engine}
 use Rattle.permutation_plans.specs.Launches.{due_in}

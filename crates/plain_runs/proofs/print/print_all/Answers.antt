@@ -1,6 +1,6 @@
 use Rattle.std.proofs.Common.{◌≡◌, ◌∷◌, ◌<◌, [], List, Err, subst, rules, arith, refl, sym}
 use Rattle.std.proofs.lemmas.Result.{err_from_is_err_and}
-use Rattle.session_core.specs.Blocks.{blocks_of}
+use Rattle.sql_blocks.specs.Blocks.{blocks_of}
 use Rattle.spec_parser.specs.Trees.{EntryTree, spec_view}
 use Rattle.permutation_lists.specs.Permutations.{Coming, permutations_of}
 use Rattle.permutations.specs.Runs.{IsOneTold}

@@ -1,5 +1,5 @@
 use Rattle.std.proofs.Common.{length}
-use Rattle.session_core.specs.Blocks.{blocks_of}
+use Rattle.sql_blocks.specs.Blocks.{blocks_of}
 use Rattle.spec_parser.specs.Trees.{spec_view}
 use Rattle.permutation_lists.specs.Permutations.{permutations_of}
 use Rattle.permutations.proofs.Printing.{SoFar}

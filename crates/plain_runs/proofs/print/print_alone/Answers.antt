@@ -1,6 +1,6 @@
 use Rattle.std.proofs.Common.{ap, subst}
 use Rattle.session_machine.specs.Machine.{Blocks}
-use Rattle.session_core.specs.Blocks.{blocks_of}
+use Rattle.sql_blocks.specs.Blocks.{blocks_of}
 use Rattle.permutation_lists.specs.Permutations.{permutations_of}
 use Rattle.permutations.specs.BlockAnswers.{file_view}
 use Rattle.permutations.specs.Prints.{Prints}

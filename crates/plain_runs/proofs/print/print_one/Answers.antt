@@ -1,6 +1,6 @@
 use Rattle.std.proofs.Common.{List, map, subst, sym, true≢false, ◌∙◌}
 use Rattle.std.proofs.lemmas.Result.{err_from_is_err_and}
-use Rattle.session_core.specs.Blocks.{blocks_of}
+use Rattle.sql_blocks.specs.Blocks.{blocks_of}
 use Rattle.session_machine.specs.declared.reply.HistItem.{HistItem}
 use Rattle.spec_parser.specs.Trees.{entry_view, spec_view}
 use Rattle.permutation_plans.specs.Regular.{IsRegular}

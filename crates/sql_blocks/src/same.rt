@@ -1,9 +1,9 @@
 //! Whether two lists of blocks are one.
 ghost use Rattle.std.specs.Prelude.{◌≡◌, ◌↔◌, IsTrue};
-ghost use Rattle.session_core.specs.Blocks.{blocks_of};
+ghost use Rattle.sql_blocks.specs.Blocks.{blocks_of};
 
+use crate::block::Block;
 use sql_equality::same_stmts;
-use sql_parser::Block;
 
 /// Whether two lists of blocks are one: the same statements in the same order, block for block.
 pub fn same_blocks(blocks: &[Block<'_>], others: &[Block<'_>]) -> bool

@@ -4,11 +4,8 @@ use Rattle.std.specs.List.{list_any, list_all}
 use Rattle.sql_trees.specs.Trees.{Tree, Trees, none, more, Plus, Minus, Not, Binary, Is, In, Between, CountRows, Of}
 use Rattle.sql_trees.specs.Statements.{StmtTree, Create, DropTables, Inserts, Updates, Deletes, Selects, CreateTree, InsertTree, UpdateTree, SelectTree}
 use Rattle.sql_trees.specs.Statements.{KeyTree, ItemTree, All, Value, Aggregate, key_name}
-use Rattle.sql_parser.specs.declared.block.Role.{Role}
-use Rattle.sql_parser.specs.Blocks.{is_session}
-use Rattle.sql_parser.specs.Tables.{column_names}
-use Rattle.sql_parser.specs.Changes.{fits, set_columns}
-use Rattle.sql_parser.specs.Queries.{is_allowed}
+use Rattle.sql_blocks.specs.declared.block.Role.{Role}
+use Rattle.sql_blocks.specs.Parts.{is_session, column_names, fits, set_columns, is_allowed}
 
 -- ---- expressions
 

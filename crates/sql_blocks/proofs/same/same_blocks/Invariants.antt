@@ -1,6 +1,6 @@
 use Rattle.std.proofs.Common.{◌≡◌, ◌↔◌, drop}
-use Rattle.session_core.specs.Blocks.{blocks_of}
-use Rattle.session_core.proofs.same_blocks.same_blocks.Given as goal
+use Rattle.sql_blocks.specs.Blocks.{blocks_of}
+use Rattle.sql_blocks.proofs.same.same_blocks.Given as goal
 
 -- the lists are one exactly if what is left of them is
 abbrev pub invariant-loop-block : goal.invariant-loop-block
