@@ -159,8 +159,8 @@ module _ (reader : Reader) where
       go zero m s = absurd (none_after l.rest ts m e)
       go (suc n) m s = record { turns = n; enough = omega arith; same = sym (rw (e, h) refl) ∙ s }
 
-  pub list_next : (es : List Expr) (d : ℕ) (us : List (At Tok)) (w : Result Found_list SqlFault) (ts : Tokens) (p : Parsed) (rest : List (At Tok)) → Lists reader (found_list es d us) w → after (is_sign signs.Comma) (tok_views us) ≡ Some ts → reader ts ≡ Ok (found p rest) → length (tok_views rest) < length (tok_views us) → Lists reader (found_list (es ++ p.expr ∷ []) (max d p.depth) rest) w
-  list_next es d us w ts p rest g e h shorter = rw (trees_push es p.expr) (list_goes_on (found_list es d us) w ts (found p rest) g e h shorter)
+  pub list_next : (es : List Expr) (d : ℕ) (us : List (At Tok)) (w : Result Found_list SqlFault) (ts : Tokens) (p : Parsed) (rest : List (At Tok)) → Lists reader (found_list es d us) w → after (is_sign signs.Comma) (tok_views us) ≡ Some ts → reader ts ≡ Ok (found p rest) → length (tok_views rest) < length (tok_views us) → Lists reader (found_list (es ++ p.expr.value ∷ []) (max d p.depth) rest) w
+  list_next es d us w ts p rest g e h shorter = rw (trees_push es p.expr.value) (list_goes_on (found_list es d us) w ts (found p rest) g e h shorter)
 
 pub comma_shortens : (us ts : Tokens) → after (is_sign signs.Comma) us ≡ Some ts → length ts < length us
 comma_shortens [] ts e = absurd cc

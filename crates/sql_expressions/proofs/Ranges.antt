@@ -18,30 +18,20 @@ into (Ok x) f g h e = e x
 into (Err x) f g h e = refl
 
 module _ (last : ℕ) (inside : Opened → ℕ → Reader) (negated : Bool) (place : ℕ) (left : Tree) (depth : ℕ) (ts : Tokens) where
-  -- the node behind its bounds
-  ranged : Found_bounds → Result Found SqlFault
-  ranged b = range_node negated place (left, depth) b.low b.high >>= λ n. Ok (record { tree = n.0; depth = n.1; rest = b.rest })
-
-  between_is : between_at last inside negated place left depth ts ≡ (bounds_at last inside place depth ts >>= ranged)
-  unfolding between_at bounds_at ranged
+  pub between_is : between_at last inside negated place left depth ts ≡ (bounds_at last inside place depth ts >>= range_node negated place left depth)
+  unfolding between_at bounds_at
   between_is =
       into (deeper place depth) _ _ _ (λ here.
       into (cat_at last inside ts) _ _ _ (λ low.
       into (deeper place (max depth low.depth)) _ _ _ (λ there.
       into (expect last is_and low.rest) _ _ _ (λ behind.
-      into (cat_at last inside behind) _ _ _ (λ high.
-      into (deeper place (max depth (max low.depth high.depth))) _ _ _ (λ d. refl))))))
+      into (cat_at last inside behind) _ _ _ (λ high. refl)))))
 
   pub between_stops : (f : SqlFault) → bounds_at last inside place depth ts ≡ Err f → between_at last inside negated place left depth ts ≡ Err f
   between_stops f e = rw (between_is, e) refl
 
-  pub between_no_node : (b : Found_bounds) (f : SqlFault) → bounds_at last inside place depth ts ≡ Ok b → range_node negated place (left, depth) b.low b.high ≡ Err f → between_at last inside negated place left depth ts ≡ Err f
-  unfolding ranged
-  between_no_node b f e n = rw (between_is, e, n) refl
-
-  pub between_made : (b : Found_bounds) (n : Tree × ℕ) → bounds_at last inside place depth ts ≡ Ok b → range_node negated place (left, depth) b.low b.high ≡ Ok n → between_at last inside negated place left depth ts ≡ Ok (record { tree = n.0; depth = n.1; rest = b.rest })
-  unfolding ranged
-  between_made b n e m = rw (between_is, e, m) refl
+  pub between_made : (b : Found_bounds) → bounds_at last inside place depth ts ≡ Ok b → between_at last inside negated place left depth ts ≡ range_node negated place left depth b
+  between_made b e = rw (between_is, e) refl
 
   -- the node behind its list
   in_list : Found_list → Result Found SqlFault

@@ -29,7 +29,7 @@ pub record Found : Type 0 where
 
 -- what the code has found
 abbrev pub found : Parsed → List (At Tok) → Found
-found p ts = record { tree = tree_of p.expr; depth = p.depth; rest = tok_views ts }
+found p ts = record { tree = tree_of p.expr.value; depth = p.depth; rest = tok_views ts }
 
 -- ---- what a token says
 

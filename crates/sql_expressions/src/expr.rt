@@ -1,6 +1,6 @@
 //! Expressions, read from left to right by a function for each level.
 
-ghost use Rattle.std.specs.Prelude.{ℕ, ◌≡◌, [], ◌<◌, ◌++◌, IfOk, option_map, length};
+ghost use Rattle.std.specs.Prelude.{ℕ, ◌≡◌, ◌+◌, [], ◌<◌, ◌++◌, IfOk, option_map, length};
 ghost use Rattle.sql_expressions.specs.declared.level.Opened.TheVariants.{Whole};
 ghost use Rattle.sql_trees.specs.Tokens.{Tokens, tok_view, tok_views, tok_at};
 ghost use Rattle.sql_trees.specs.Trees.{Tree, tree_of};
@@ -9,7 +9,7 @@ ghost use Rattle.sql_expressions.specs.Grammar.{Begins, Ends, Spells, OR};
 ghost use Rattle.sql_expressions.specs.Results.{Gives};
 ghost use Rattle.sql_expressions.specs.Readers.{expect};
 ghost use Rattle.sql_expressions.specs.Reading.{found, comparison_op, expr_at};
-ghost use Rattle.sql_expressions.specs.Inner.Pieces.{Found_op, Found_list, found_list, found_bounds, range_node, listed_at, bounds_at, is_and, deeper, join, chain_op, next_op, column_first, prim_at, una_at, chain_at, operand_at, in_at, between_at, not_in_from, inn_at, cmp_at, is_of, is_tail, is_more, is_at, not_at, inside, list_at};
+ghost use Rattle.sql_expressions.specs.Inner.Pieces.{Found_op, Found_list, found_list, found_bounds, range_node, made, node, listed_at, bounds_at, is_and, deeper, join, chain_op, next_op, column_first, prim_at, una_at, chain_at, operand_at, in_at, between_at, not_in_from, inn_at, cmp_at, is_of, is_tail, is_more, is_at, not_at, inside, list_at};
 
 use crate::cursor::{Parser, Tokens, after_comma};
 use crate::level::{Chain, Opened};
@@ -36,15 +36,30 @@ fn deeper(place: usize, depth: usize) -> Result<usize, SqlFault>
     }
 }
 
-fn leaf<'t, 'a>(expr: Expr<'a>, rest: Tokens<'t, 'a>) -> (Parsed<'a>, Tokens<'t, 'a>)
-    ensures expr { result.0.expr ≡ expr.entry }
-    ensures depth { result.0.depth ≡ 0 }
-    ensures rest { result.1.now ≡ rest.now }
-{
-    (Parsed { expr, depth: 0 }, rest)
-}
-
 impl Parser {
+    // An expression of this depth.
+    fn made<'t, 'a>(self, depth: usize, expr: Expr<'a>, rest: Tokens<'t, 'a>) -> Read<'t, 'a>
+        ensures { Gives (λ x. found x.0 x.1.now) result (made depth (tree_of expr.entry) (tok_views rest.now)) }
+    {
+        let expr = Box::new(self.alloc, expr)?;
+        Ok((Parsed { expr, depth }, rest))
+    }
+
+    // The node that the token at this place makes, over parts of which the deepest has this depth.
+    fn node<'t, 'a>(
+        self,
+        place: usize,
+        depth: usize,
+        expr: Expr<'a>,
+        rest: Tokens<'t, 'a>,
+    ) -> Read<'t, 'a>
+        ensures exact { Gives (λ x. found x.0 x.1.now) result (node place depth (tree_of expr.entry) (tok_views rest.now)) }
+        ensures deeper { IfOk result (λ x. x.0.depth ≡ depth + 1) }
+    {
+        let depth = deeper(place, depth)?;
+        self.made(depth, expr, rest)
+    }
+
     // The tokens behind an `AND`, which has to stand next.
     fn and<'t, 'a>(self, tokens: Tokens<'t, 'a>) -> Result<Tokens<'t, 'a>, SqlFault>
         ensures { Gives (λ rest. tok_views rest.now) result (expect self.text_len is_and (tok_views tokens.now)) }
@@ -83,7 +98,7 @@ impl Parser {
             } else {
                 span.start
             })),
-            _ => Ok(leaf(Expr::Column(name), rest)),
+            _ => self.made(0, Expr::Column(name), rest),
         }
     }
 
@@ -100,37 +115,38 @@ impl Parser {
             (join (record { op = operator; place = place; rest = tok_views rest.now }) (found left.entry rest.now) (found right.entry rest.now)) }
         ensures deeper { IfOk result (λ x. left.entry.depth < x.0.depth) }
     {
-        let depth = deeper(place, left.depth.max(right.depth))?;
-        let left = Box::new(self.alloc, left.expr)?;
-        let right = Box::new(self.alloc, right.expr)?;
-        Ok((
-            Parsed {
-                expr: Expr::Binary(operator, left, right),
-                depth,
-            },
-            rest,
-        ))
+        let Parsed { expr: left, depth } = left;
+        let Parsed {
+            expr: right,
+            depth: behind,
+        } = right;
+        let expr = Expr::Binary(operator, left, right);
+        self.node(place, depth.max(behind), expr, rest)
     }
 
     // The node of a `BETWEEN` at this place.
-    fn range<'a>(
+    fn range<'t, 'a>(
         self,
         negated: bool,
         place: usize,
-        left: Parsed<'a>,
+        left: Box<Expr<'a>>,
+        depth: usize,
         low: Parsed<'a>,
         high: Parsed<'a>,
-    ) -> Result<Parsed<'a>, SqlFault>
-        ensures { Gives (λ x. (tree_of x.expr, x.depth)) result (range_node negated place (tree_of left.entry.expr, left.entry.depth) (tree_of low.entry.expr, low.entry.depth) (tree_of high.entry.expr, high.entry.depth)) }
+        rest: Tokens<'t, 'a>,
+    ) -> Read<'t, 'a>
+        ensures { Gives (λ x. found x.0 x.1.now) result (range_node negated place (tree_of left.entry.value) depth (found_bounds low.entry high.entry rest.now)) }
     {
-        let depth = deeper(place, left.depth.max(low.depth.max(high.depth)))?;
-        let left = Box::new(self.alloc, left.expr)?;
-        let low = Box::new(self.alloc, low.expr)?;
-        let high = Box::new(self.alloc, high.expr)?;
-        Ok(Parsed {
-            expr: Expr::Between(left, negated, low, high),
-            depth,
-        })
+        let Parsed {
+            expr: low,
+            depth: from,
+        } = low;
+        let Parsed {
+            expr: high,
+            depth: to,
+        } = high;
+        let expr = Expr::Between(left, negated, low, high);
+        self.node(place, depth.max(from.max(to)), expr, rest)
     }
 
     // The operator that stands next, its place, and the tokens after it.
@@ -162,28 +178,35 @@ impl Parser {
         Some((operator, token.span.start, rest))
     }
 
-    // A minus before an expression: of a literal it makes one literal.
-    fn negated<'a>(self, operand: Expr<'a>) -> Result<Expr<'a>, SqlFault>
-        ensures { Gives (λ e. tree_of e) result (Ok (negated (tree_of operand.entry))) }
+    // A minus at this place before an expression: of a literal it makes one literal.
+    fn negated<'t, 'a>(
+        self,
+        place: usize,
+        operand: Parsed<'a>,
+        rest: Tokens<'t, 'a>,
+    ) -> Read<'t, 'a>
+        ensures { Gives (λ x. found x.0 x.1.now) result (node place operand.entry.depth (negated (tree_of operand.entry.expr.value)) (tok_views rest.now)) }
     {
-        match operand {
-            Expr::Number { negative, digits } => Ok(Expr::Number {
-                negative: !negative,
-                digits,
-            }),
-            operand => Ok(Expr::Minus(Box::new(self.alloc, operand)?)),
-        }
+        let Parsed { expr, depth } = operand;
+        let expr = match &*expr {
+            Expr::Number { negative, digits } => Expr::Number {
+                negative: !*negative,
+                digits: *digits,
+            },
+            _ => Expr::Minus(expr),
+        };
+        self.node(place, depth, expr, rest)
     }
 
     // What an `IS` asks for, whose node has this depth.
     fn is_test<'t, 'a>(
         self,
         negated: bool,
-        operand: Expr<'a>,
+        operand: Box<Expr<'a>>,
         depth: usize,
         tokens: Tokens<'t, 'a>,
     ) -> Read<'t, 'a>
-        ensures { Gives (λ x. found x.0 x.1.now) result (is_of self.text_len negated (tree_of operand.entry) depth (tok_views tokens.now)) }
+        ensures { Gives (λ x. found x.0 x.1.now) result (is_of self.text_len negated (tree_of operand.entry.value) depth (tok_views tokens.now)) }
     {
         let [token, rest @ ..] = tokens else {
             return Err(self.misplaced(tokens));
@@ -191,18 +214,17 @@ impl Parser {
         let Some(truth) = truth_of(token.tok) else {
             return Err(self.misplaced(tokens));
         };
-        let expr = Expr::Is(Box::new(self.alloc, operand)?, negated, truth);
-        Ok((Parsed { expr, depth }, rest))
+        self.made(depth, Expr::Is(operand, negated, truth), rest)
     }
 
     // What an `IS` or `IS NOT` asks for, whose node has this depth.
     fn is_tail<'t, 'a>(
         self,
-        operand: Expr<'a>,
+        operand: Box<Expr<'a>>,
         depth: usize,
         tokens: Tokens<'t, 'a>,
     ) -> Read<'t, 'a>
-        ensures { Gives (λ x. found x.0 x.1.now) result (is_tail self.text_len (tree_of operand.entry) depth (tok_views tokens.now)) }
+        ensures { Gives (λ x. found x.0 x.1.now) result (is_tail self.text_len (tree_of operand.entry.value) depth (tok_views tokens.now)) }
     {
         match tokens {
             [
@@ -228,8 +250,9 @@ impl Parser {
                 },
                 rest @ ..,
             ] => {
-                let depth = deeper(span.start, left.depth)?;
-                self.is_tail(left.expr, depth, rest)
+                let Parsed { expr, depth } = left;
+                let depth = deeper(span.start, depth)?;
+                self.is_tail(expr, depth, rest)
             }
             _ => Ok((left, tokens)),
         }
@@ -266,17 +289,18 @@ impl Parser {
             return Err(self.misplaced(tokens));
         };
         match token.tok {
-            Tok::Number(digits) => Ok(leaf(
+            Tok::Number(digits) => self.made(
+                0,
                 Expr::Number {
                     negative: false,
                     digits,
                 },
                 rest,
-            )),
-            Tok::Text(text) => Ok(leaf(Expr::Text(text), rest)),
-            Tok::Word(Word::True, _) => Ok(leaf(Expr::Bool(true), rest)),
-            Tok::Word(Word::False, _) => Ok(leaf(Expr::Bool(false), rest)),
-            Tok::Word(Word::Null, _) => Ok(leaf(Expr::Null, rest)),
+            ),
+            Tok::Text(text) => self.made(0, Expr::Text(text), rest),
+            Tok::Word(Word::True, _) => self.made(0, Expr::Bool(true), rest),
+            Tok::Word(Word::False, _) => self.made(0, Expr::Bool(false), rest),
+            Tok::Word(Word::Null, _) => self.made(0, Expr::Null, rest),
             Tok::Sign(SqlSign::Open) => {
                 let place = token.span.start;
                 let (Parsed { expr, depth }, rest) = self.opened(Opened::Whole, room, place, rest)?;
@@ -302,9 +326,7 @@ impl Parser {
                 rest @ ..,
             ] => {
                 let (operand, rest) = self.opened(Opened::Unary, room, span.start, rest)?;
-                let depth = deeper(span.start, operand.depth)?;
-                let expr = self.negated(operand.expr)?;
-                Ok((Parsed { expr, depth }, rest))
+                self.negated(span.start, operand, rest)
             }
             [
                 At {
@@ -313,10 +335,13 @@ impl Parser {
                 },
                 rest @ ..,
             ] => {
-                let (operand, rest) = self.opened(Opened::Unary, room, span.start, rest)?;
-                let depth = deeper(span.start, operand.depth)?;
-                let expr = Expr::Plus(Box::new(self.alloc, operand.expr)?);
-                Ok((Parsed { expr, depth }, rest))
+                let (Parsed { expr, depth }, rest) = self.opened(
+                    Opened::Unary,
+                    room,
+                    span.start,
+                    rest,
+                )?;
+                self.node(span.start, depth, Expr::Plus(expr), rest)
             }
             _ => self.prim(room, tokens),
         }
@@ -335,10 +360,13 @@ impl Parser {
                 },
                 rest @ ..,
             ] => {
-                let (operand, rest) = self.opened(Opened::Negation, room, span.start, rest)?;
-                let depth = deeper(span.start, operand.depth)?;
-                let expr = Expr::Not(Box::new(self.alloc, operand.expr)?);
-                Ok((Parsed { expr, depth }, rest))
+                let (Parsed { expr, depth }, rest) = self.opened(
+                    Opened::Negation,
+                    room,
+                    span.start,
+                    rest,
+                )?;
+                self.node(span.start, depth, Expr::Not(expr), rest)
             }
             _ => self.is(room, tokens),
         }
@@ -362,9 +390,10 @@ impl Parser {
         let Some((operator, place, after)) = self.next_comparison(rest) else {
             return Ok((left, rest));
         };
-        deeper(place, left.depth)?;
+        let Parsed { expr, depth } = left;
+        deeper(place, depth)?;
         let (right, rest) = self.membership(room, after)?;
-        self.join(operator, place, left, right, rest)
+        self.join(operator, place, Parsed { expr, depth }, right, rest)
     }
 
     // `IN` and `BETWEEN`.
@@ -377,12 +406,17 @@ impl Parser {
         let [token, after @ ..] = rest else {
             return Ok((left, rest));
         };
+        let place = token.span.start;
         match token.tok {
             Tok::Word(Word::Between, _) => {
-                self.between(false, token.span.start, left, room, after)
+                let Parsed { expr, depth } = left;
+                self.between(false, place, expr, depth, room, after)
             }
-            Tok::Word(Word::In, _) => self.contained(false, token.span.start, left, room, after),
-            Tok::Word(Word::Not, _) => self.not_in(token.span.start, left, room, after),
+            Tok::Word(Word::In, _) => {
+                let Parsed { expr, depth } = left;
+                self.contained(false, place, expr, depth, room, after)
+            }
+            Tok::Word(Word::Not, _) => self.not_in(place, left, room, after),
             _ => Ok((left, rest)),
         }
     }
@@ -398,13 +432,14 @@ impl Parser {
     ) -> Read<'t, 'a>
         ensures { Gives (λ x. found x.0 x.1.now) result (not_in_from self.text_len (inside self.text_len room) place (found left.entry tokens.now) (tok_views tokens.now)) }
     {
-        deeper(place, left.depth)?;
+        let Parsed { expr, depth } = left;
+        deeper(place, depth)?;
         let [token, after @ ..] = tokens else {
             return Err(self.misplaced(tokens));
         };
         match token.tok {
-            Tok::Word(Word::Between, _) => self.between(true, place, left, room, after),
-            Tok::Word(Word::In, _) => self.contained(true, place, left, room, after),
+            Tok::Word(Word::Between, _) => self.between(true, place, expr, depth, room, after),
+            Tok::Word(Word::In, _) => self.contained(true, place, expr, depth, room, after),
             _ => Err(self.misplaced(tokens)),
         }
     }
@@ -422,11 +457,11 @@ impl Parser {
         ensures { Gives (λ x. found_bounds x.0 x.1 x.2.now) result (bounds_at self.text_len (inside self.text_len room) place depth (tok_views tokens.now)) }
     {
         deeper(place, depth)?;
-        let (low, rest) = self.chain(Chain::Concat, room, tokens)?;
-        deeper(place, depth.max(low.depth))?;
+        let (Parsed { expr, depth: from }, rest) = self.chain(Chain::Concat, room, tokens)?;
+        deeper(place, depth.max(from))?;
         let rest = self.and(rest)?;
         let (high, rest) = self.chain(Chain::Concat, room, rest)?;
-        Ok((low, high, rest))
+        Ok((Parsed { expr, depth: from }, high, rest))
     }
 
     #[cycle(levels)]
@@ -434,15 +469,15 @@ impl Parser {
         self,
         negated: bool,
         place: usize,
-        left: Parsed<'a>,
+        left: Box<Expr<'a>>,
+        depth: usize,
         room: usize,
         tokens: Tokens<'t, 'a>,
     ) -> Read<'t, 'a>
-        ensures { Gives (λ x. found x.0 x.1.now) result (between_at self.text_len (inside self.text_len room) negated place (tree_of left.entry.expr) left.entry.depth (tok_views tokens.now)) }
+        ensures { Gives (λ x. found x.0 x.1.now) result (between_at self.text_len (inside self.text_len room) negated place (tree_of left.entry.value) depth (tok_views tokens.now)) }
     {
-        let (low, high, rest) = self.bounds(place, left.depth, room, tokens)?;
-        let range = self.range(negated, place, left, low, high)?;
-        Ok((range, rest))
+        let (low, high, rest) = self.bounds(place, depth, room, tokens)?;
+        self.range(negated, place, left, depth, low, high, rest)
     }
 
     // The list of an `IN` at this place, behind an operand of this depth, and the depth of its node.
@@ -471,21 +506,15 @@ impl Parser {
         self,
         negated: bool,
         place: usize,
-        left: Parsed<'a>,
+        left: Box<Expr<'a>>,
+        depth: usize,
         room: usize,
         tokens: Tokens<'t, 'a>,
     ) -> Read<'t, 'a>
-        ensures { Gives (λ x. found x.0 x.1.now) result (in_at self.text_len (inside self.text_len room) negated place (tree_of left.entry.expr) left.entry.depth (tok_views tokens.now)) }
+        ensures { Gives (λ x. found x.0 x.1.now) result (in_at self.text_len (inside self.text_len room) negated place (tree_of left.entry.value) depth (tok_views tokens.now)) }
     {
-        let (items, depth, rest) = self.listed(place, left.depth, room, tokens)?;
-        let left = Box::new(self.alloc, left.expr)?;
-        Ok((
-            Parsed {
-                expr: Expr::In(left, negated, items),
-                depth,
-            },
-            rest,
-        ))
+        let (items, depth, rest) = self.listed(place, depth, room, tokens)?;
+        self.made(depth, Expr::In(left, negated, items), rest)
     }
 
     // The items of a list, and the depth of the deepest.
@@ -498,14 +527,23 @@ impl Parser {
     ) -> Result<(Vec<Expr<'a>>, usize, Tokens<'t, 'a>), SqlFault>
         ensures { Gives (λ x. found_list x.0.items x.1 x.2.now) result (list_at (inside self.text_len room Whole place) (tok_views tokens.now)) }
     {
-        let (first, mut rest) = self.opened(Opened::Whole, room, place, tokens)?;
+        let (Parsed { expr, mut depth }, mut rest) = self.opened(
+            Opened::Whole,
+            room,
+            place,
+            tokens,
+        )?;
         let mut items = Vec::new(self.alloc);
-        items.push(first.expr)?;
-        let mut depth = first.depth;
+        items.push(Box::into_inner(expr))?;
         while let Some(after) = after_comma(rest) {
-            let (next, after) = self.opened(Opened::Whole, room, place, after)?;
-            items.push(next.expr)?;
-            depth = depth.max(next.depth);
+            let (Parsed { expr, depth: next }, after) = self.opened(
+                Opened::Whole,
+                room,
+                place,
+                after,
+            )?;
+            items.push(Box::into_inner(expr))?;
+            depth = depth.max(next);
             rest = after;
         }
         Ok((items, depth, rest))
@@ -530,9 +568,10 @@ impl Parser {
     {
         let (mut left, mut rest) = self.operand(level, room, tokens)?;
         while let Some((operator, place, after)) = self.next_operator(level, rest) {
-            deeper(place, left.depth)?;
+            let Parsed { expr, depth } = left;
+            deeper(place, depth)?;
             let (right, after) = self.operand(level, room, after)?;
-            (left, rest) = self.join(operator, place, left, right, after)?;
+            (left, rest) = self.join(operator, place, Parsed { expr, depth }, right, after)?;
         }
         Ok((left, rest))
     }

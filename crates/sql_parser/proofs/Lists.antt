@@ -1,8 +1,7 @@
 -- Lists of items with commas between them.
-use Rattle.std.specs.List.{list_any, list_all}
 use Rattle.std.proofs.Common.{◌≡◌, ℕ, zero, suc, ◌<◌, ◌≤◌, List, [], ◌∷◌, length, map, Some, None, refl, sym, ap, ◌∙◌, subst, arith}
 use Rattle.std.proofs.lemmas.List.{length-map}
-use Rattle.std.specs.Prelude.{Result, Ok, Err, Bool, true, false, ◌||◌, ◌&&◌, if◌then◌else◌}
+use Rattle.std.specs.Prelude.{Result, Ok, Err, Bool, true, false, if◌then◌else◌}
 use Rattle.iso_lexer.specs.declared.sql_token.SqlSign.TheVariants as signs
 use Rattle.sql_trees.specs.declared.fault.SqlFault.{SqlFault}
 use Rattle.iso_lexer.specs.declared.token.At.{At}
@@ -100,15 +99,6 @@ module _ {S T : Type 0} (view : S → T) (add : T → Tokens → Result (T × To
   unfolding items_at
   items_give s ts (Ok x) l = turns_give l (length ts) (omega arith)
   items_give s ts (Err f) l = turns_give l (length ts) (omega arith)
-
--- a test of what elements are seen as
-pub any_view : {A B : Type 0} (p : B → Bool) (view : A → B) (xs : List A) → list_any p (map view xs) ≡ list_any (λ x. p (view x)) xs
-any_view p view [] = refl
-any_view p view (x ∷ xs) = ap (λ b. p (view x) || b) (any_view p view xs)
-
-pub all_view : {A B : Type 0} (p : B → Bool) (view : A → B) (xs : List A) → list_all p (map view xs) ≡ list_all (λ x. p (view x)) xs
-all_view p view [] = refl
-all_view p view (x ∷ xs) = ap (λ b. p (view x) && b) (all_view p view xs)
 
 pub views_twice : {A B C : Type 0} (f : B → C) (g : A → B) (xs : List A) → map f (map g xs) ≡ map (λ x. f (g x)) xs
 views_twice f g [] = refl

@@ -25,10 +25,16 @@ pub struct SetList<'a> {
     pub sets: Vec<(Name<'a>, Expr<'a>)>,
 }
 
-fn is_set(name: &Name, sets: &[(Name, Expr)]) -> bool
-    ensures { result ≡ is_among (name_of name.now) (set_columns (map set_of sets.now)) }
+fn is_set(name: &Name, mut sets: &[(Name, Expr)]) -> bool
+    ensures { result ≡ is_among (name_of name.now) (set_columns (map set_of sets.entry.now)) }
 {
-    sets.iter().any(|set| same_name(&set.0, name))
+    while let [set, rest @ ..] = sets {
+        if same_name(&set.0, name) {
+            return true;
+        }
+        sets = rest;
+    }
+    false
 }
 
 fn is_equal(tok: Tok) -> bool
@@ -60,7 +66,7 @@ impl<'a> SetList<'a> {
         ensures shorter { IfOk result (λ rest. length rest.now ≤ length tokens.now) }
     {
         let (value, rest) = expr(parser, equal(parser, tokens)?)?;
-        self.sets.push((column, value))?;
+        self.sets.push((column, Box::into_inner(value)))?;
         Ok(rest)
     }
 }
@@ -125,7 +131,7 @@ pub fn filter<'t, 'a>(
         return Ok((None, tokens));
     };
     let (condition, rest) = expr(parser, tokens)?;
-    Ok((Some(condition), rest))
+    Ok((Some(Box::into_inner(condition)), rest))
 }
 
 /// What stands behind INSERT.

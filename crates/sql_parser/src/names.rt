@@ -73,7 +73,7 @@ impl<'a> List<'a> for ValueList<'a> {
         tokens: Tokens<'t, 'a>,
     ) -> Result<Tokens<'t, 'a>, SqlFault> {
         let (value, rest) = expr(parser, tokens)?;
-        self.values.push(value)?;
+        self.values.push(Box::into_inner(value))?;
         Ok(rest)
     }
 }

@@ -11,7 +11,7 @@ ghost use Rattle.sql_parser.specs.Tables.{is_among};
 ghost use Rattle.sql_parser.specs.Readers.{misplaced_word, tree_at};
 
 use iso_lexer::{At, Name, SqlSign, same_name};
-use sql_expressions::{Parser, Tokens, parse_expr};
+use sql_expressions::{Parsed, Parser, Tokens, parse_expr};
 use sql_trees::{Expr, SqlFault, Tok, Word};
 
 /// Whether the token is that keyword.
@@ -84,19 +84,25 @@ pub fn name<'t, 'a>(
 pub fn expr<'t, 'a>(
     parser: Parser,
     tokens: Tokens<'t, 'a>,
-) -> Result<(Expr<'a>, Tokens<'t, 'a>), SqlFault>
-    ensures exact { Gives (λ x. (tree_of x.0, tok_views x.1.now)) result (tree_at parser.text_len (tok_views tokens.now)) }
+) -> Result<(Box<Expr<'a>>, Tokens<'t, 'a>), SqlFault>
+    ensures exact { Gives (λ x. (tree_of x.0.value, tok_views x.1.now)) result (tree_at parser.text_len (tok_views tokens.now)) }
     ensures shorter { IfOk result (λ x. length x.1.now ≤ length tokens.now) }
 {
-    let (parsed, rest) = parse_expr(parser.alloc, parser.text_len, tokens)?;
-    Ok((parsed.expr, rest))
+    let (Parsed { expr, .. }, rest) = parse_expr(parser.alloc, parser.text_len, tokens)?;
+    Ok((expr, rest))
 }
 
 /// Whether one of the names is this one.
-pub fn is_among(name: &Name, names: &[Name]) -> bool
-    ensures { result ≡ is_among (name_of name.now) (map name_of names.now) }
+pub fn is_among(name: &Name, mut names: &[Name]) -> bool
+    ensures { result ≡ is_among (name_of name.now) (map name_of names.entry.now) }
 {
-    names.iter().any(|other| same_name(other, name))
+    while let [other, rest @ ..] = names {
+        if same_name(other, name) {
+            return true;
+        }
+        names = rest;
+    }
+    false
 }
 
 /// The tokens behind a `(`, if it stands next.

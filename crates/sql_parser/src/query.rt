@@ -5,13 +5,13 @@ ghost use Rattle.std.specs.List.{list_any, list_all};
 ghost use Rattle.iso_lexer.specs.declared.sql_token.SqlSign.TheVariants as signs;
 ghost use Rattle.sql_trees.specs.Statements.{name_of, stmt_of, item_of, order_of, select_of};
 ghost use Rattle.sql_trees.specs.Tokens.{tok_view, tok_views};
-ghost use Rattle.sql_trees.specs.Trees.{agg_of};
 ghost use Rattle.sql_expressions.specs.Results.{Gives};
 ghost use Rattle.sql_expressions.specs.Readers.{is_sign, after, items_at};
 ghost use Rattle.sql_blocks.specs.Parts.{is_aggregate, is_all, is_sorted, is_allowed};
 ghost use Rattle.sql_parser.specs.Readers.{added};
 ghost use Rattle.sql_parser.specs.Inner.Calls.{seen};
-ghost use Rattle.sql_parser.specs.Queries.{agg_kind, call_at, rows_of, maybe_name, direction_at, alias_at, agg_at, item_at, from_at, nulls_at, order_add, order_at, lock_at, select_at};
+ghost use Rattle.sql_parser.specs.Inner.Pieces.{agg_item_at};
+ghost use Rattle.sql_parser.specs.Queries.{agg_kind, call_at, rows_of, maybe_name, direction_at, alias_at, item_at, from_at, nulls_at, order_add, order_at, lock_at, select_at};
 
 use crate::change::filter;
 use crate::list::{List, items};
@@ -85,25 +85,6 @@ fn after_rows<'t, 'a>(kind: AggKind, tokens: Tokens<'t, 'a>) -> Option<Tokens<'t
     }
 }
 
-// An aggregate behind its `(`.
-#[tactic(auto, unfolding(crate::specs::Queries::agg_at))]
-fn agg<'t, 'a>(
-    parser: Parser,
-    kind: AggKind,
-    tokens: Tokens<'t, 'a>,
-) -> Result<(Agg<'a>, Tokens<'t, 'a>), SqlFault>
-    ensures exact { Gives (λ x. (agg_of x.0, tok_views x.1.now)) result (agg_at parser.text_len kind (tok_views tokens.now)) }
-    ensures shorter { IfOk result (λ x. length x.1.now ≤ length tokens.now) }
-{
-    if let Some(rest) = after_rows(kind, tokens) {
-        let rest = close(parser, rest)?;
-        return Ok((Agg::CountRows, rest));
-    }
-    let (argument, rest) = expr(parser, tokens)?;
-    let rest = close(parser, rest)?;
-    Ok((Agg::Of(kind, argument), rest))
-}
-
 // The name that stands next, if one does.
 fn maybe_name<'t, 'a>(tokens: Tokens<'t, 'a>) -> (Option<Name<'a>>, Tokens<'t, 'a>)
     ensures exact { maybe_name (tok_views tokens.now) ≡ Ok (option_map name_of result.0, tok_views result.1.now) }
@@ -134,6 +115,28 @@ fn alias<'t, 'a>(
     Ok((Some(name), rest))
 }
 
+// The item of an aggregate, behind its `(`.
+#[tactic(auto, unfolding(crate::specs::Queries::agg_at))]
+fn agg_item<'t, 'a>(
+    parser: Parser,
+    kind: AggKind,
+    tokens: Tokens<'t, 'a>,
+) -> Result<(Item<'a>, Tokens<'t, 'a>), SqlFault>
+    ensures exact { Gives (λ x. (item_of x.0, tok_views x.1.now)) result (agg_item_at parser.text_len kind (tok_views tokens.now)) }
+    ensures shorter { IfOk result (λ x. length x.1.now ≤ length tokens.now) }
+{
+    if let Some(rest) = after_rows(kind, tokens) {
+        let rest = close(parser, rest)?;
+        let (alias, rest) = alias(parser, rest)?;
+        return Ok((Item::Agg(Agg::CountRows, alias), rest));
+    }
+    let (argument, rest) = expr(parser, tokens)?;
+    let rest = close(parser, rest)?;
+    let (alias, rest) = alias(parser, rest)?;
+    let agg = Agg::Of(kind, Box::into_inner(argument));
+    Ok((Item::Agg(agg, alias), rest))
+}
+
 // An item of a SELECT.
 #[tactic(auto, unfolding(crate::specs::Queries::item_at))]
 fn item<'t, 'a>(
@@ -147,13 +150,11 @@ fn item<'t, 'a>(
         return Ok((Item::All, rest));
     }
     if let Some((kind, opened)) = call(tokens) {
-        let (agg, rest) = agg(parser, kind, opened)?;
-        let (alias, rest) = alias(parser, rest)?;
-        return Ok((Item::Agg(agg, alias), rest));
+        return agg_item(parser, kind, opened);
     }
     let (value, rest) = expr(parser, tokens)?;
     let (alias, rest) = alias(parser, rest)?;
-    Ok((Item::Expr(value, alias), rest))
+    Ok((Item::Expr(Box::into_inner(value), alias), rest))
 }
 
 impl<'a> List<'a> for ItemList<'a> {
@@ -247,6 +248,7 @@ impl<'a> List<'a> for OrderList<'a> {
         let (desc, rest) = direction(rest);
         let (nulls_first, rest) = nulls(parser, desc, rest)?;
         let dir = Dir { desc, nulls_first };
+        let expr = Box::into_inner(expr);
         self.keys.push(OrderKey { expr, dir })?;
         Ok(rest)
     }
@@ -312,22 +314,40 @@ fn is_all(item: &Item) -> bool
     matches!(item, Item::All)
 }
 
-fn some_aggregate(items: &[Item]) -> bool
-    ensures { result ≡ list_any is_aggregate (map item_of items.now) }
+fn some_aggregate(mut items: &[Item]) -> bool
+    ensures { result ≡ list_any is_aggregate (map item_of items.entry.now) }
 {
-    items.iter().any(|item| is_aggregate(item))
+    while let [item, rest @ ..] = items {
+        if is_aggregate(item) {
+            return true;
+        }
+        items = rest;
+    }
+    false
 }
 
-fn all_aggregates(items: &[Item]) -> bool
-    ensures { result ≡ list_all is_aggregate (map item_of items.now) }
+fn all_aggregates(mut items: &[Item]) -> bool
+    ensures { result ≡ list_all is_aggregate (map item_of items.entry.now) }
 {
-    items.iter().all(|item| is_aggregate(item))
+    while let [item, rest @ ..] = items {
+        if !is_aggregate(item) {
+            return false;
+        }
+        items = rest;
+    }
+    true
 }
 
-fn some_star(items: &[Item]) -> bool
-    ensures { result ≡ list_any is_all (map item_of items.now) }
+fn some_star(mut items: &[Item]) -> bool
+    ensures { result ≡ list_any is_all (map item_of items.entry.now) }
 {
-    items.iter().any(|item| is_all(item))
+    while let [item, rest @ ..] = items {
+        if is_all(item) {
+            return true;
+        }
+        items = rest;
+    }
+    false
 }
 
 fn is_sorted(keys: &[OrderKey]) -> bool

@@ -47,17 +47,29 @@ pub struct KeyColumns<'a> {
 }
 
 /// Whether one of the names is this one.
-pub fn is_placed(name: &Name, names: &[PlacedName]) -> bool
-    ensures { result ≡ is_among (name_of name.now) (placed_names (map placed_of names.now)) }
+pub fn is_placed(name: &Name, mut names: &[PlacedName]) -> bool
+    ensures { result ≡ is_among (name_of name.now) (placed_names (map placed_of names.entry.now)) }
 {
-    names.iter().any(|other| same_name(&other.name, name))
+    while let [other, rest @ ..] = names {
+        if same_name(&other.name, name) {
+            return true;
+        }
+        names = rest;
+    }
+    false
 }
 
 /// Whether one of the columns has this name.
-pub fn is_column(name: &Name, columns: &[Column]) -> bool
-    ensures { result ≡ is_among (name_of name.now) (column_names (map column_of columns.now)) }
+pub fn is_column(name: &Name, mut columns: &[Column]) -> bool
+    ensures { result ≡ is_among (name_of name.now) (column_names (map column_of columns.entry.now)) }
 {
-    columns.iter().any(|other| same_name(&other.name, name))
+    while let [other, rest @ ..] = columns {
+        if same_name(&other.name, name) {
+            return true;
+        }
+        columns = rest;
+    }
+    false
 }
 
 impl<'a> List<'a> for KeyColumns<'a> {

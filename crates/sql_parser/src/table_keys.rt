@@ -48,10 +48,16 @@ fn made_name(alloc: Global, table: &Name, key: &KeyText) -> Result<Vec<u8>, Allo
 }
 
 // Whether one of the texts is this one.
-fn is_text(text: &[u8], texts: &[Vec<u8>]) -> bool
-    ensures { result ≡ is_among text.now (map (λ v. v.items) texts.now) }
+fn is_text(text: &[u8], mut texts: &[Vec<u8>]) -> bool
+    ensures { result ≡ is_among text.now (map (λ v. v.items) texts.entry.now) }
 {
-    texts.iter().any(|other| other.as_slice() == text)
+    while let [other, rest @ ..] = texts {
+        if other.as_slice() == text {
+            return true;
+        }
+        texts = rest;
+    }
+    false
 }
 
 // Where the first column stands that the table lacks.
@@ -109,11 +115,16 @@ fn keys_fault(
     Ok(None)
 }
 
-fn in_primary(keys: &[KeyText], name: &Name) -> bool
-    ensures { result ≡ in_primary (map key_text_of keys.now) (name_of name.now) }
+fn in_primary(mut keys: &[KeyText], name: &Name) -> bool
+    ensures { result ≡ in_primary (map key_text_of keys.entry.now) (name_of name.now) }
 {
-    keys.iter()
-        .any(|key| key.primary && is_placed(name, &key.columns))
+    while let [key, rest @ ..] = keys {
+        if key.primary && is_placed(name, &key.columns) {
+            return true;
+        }
+        keys = rest;
+    }
+    false
 }
 
 // The columns, those of a primary key NOT NULL.

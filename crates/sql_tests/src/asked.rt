@@ -2,7 +2,7 @@
 
 use iso_lexer::{At, sql_tokens};
 use sql_equality::same_expr;
-use sql_expressions::parse_expr;
+use sql_expressions::{Parsed, parse_expr};
 use sql_parser::{Block, Role, parse_block};
 use sql_trees::{SqlFault, Tok, classified};
 use std::alloc::Global;
@@ -57,12 +57,12 @@ pub fn is_read_as(alloc: Global, (text, depth, left): (&str, usize, usize), othe
     let (Some(tokens), Some(others)) = (tokens_of(alloc, text), tokens_of(alloc, other)) else {
         return false;
     };
-    let Ok((read, rest)) = parse_expr(alloc, text.len(), &tokens) else {
+    let Ok((Parsed { expr, depth: read }, rest)) = parse_expr(alloc, text.len(), &tokens) else {
         return false;
     };
     match parse_expr(alloc, other.len(), &others) {
-        Ok((same, [])) => {
-            read.depth == depth && rest.len() == left && same_expr(&read.expr, &same.expr)
+        Ok((Parsed { expr: same, .. }, [])) => {
+            read == depth && rest.len() == left && same_expr(&expr, &same)
         }
         _ => false,
     }

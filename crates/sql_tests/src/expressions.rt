@@ -1,7 +1,7 @@
 //! Expressions at the front of a text, and what they are read as.
 
 use crate::asked::{holds, is_no_expression, is_read_as, tokens_of};
-use sql_expressions::parse_expr;
+use sql_expressions::{Parsed, parse_expr};
 use sql_trees::{Expr, Operator, Truth};
 use std::alloc::Global;
 
@@ -159,7 +159,7 @@ fn is_at_top(alloc: Global, text: &str, told: &str) -> bool {
         return false;
     };
     match parse_expr(alloc, text.len(), &tokens) {
-        Ok((read, [])) => top(&read.expr) == told,
+        Ok((Parsed { expr, .. }, [])) => top(&expr) == told,
         _ => false,
     }
 }

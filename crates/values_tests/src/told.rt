@@ -1,7 +1,7 @@
 //! Expressions as they are written, and answers in words.
 
 use iso_lexer::{At, Ident, LexFault, Name, SqlTok, same_name, sql_tokens};
-use sql_expressions::parse_expr;
+use sql_expressions::{Parsed, parse_expr};
 use sql_trees::{Expr, SqlFault, classified};
 use sql_values::{Columns, Row, Value, ValueFault, eval};
 use std::alloc::{AllocError, Global};
@@ -31,7 +31,7 @@ fn parsed<'a>(
 ) -> Result<Option<Expr<'a>>, AllocError> {
     let tokens = classified(alloc, tokens)?;
     match parse_expr(alloc, len, &tokens) {
-        Ok((parsed, _)) => Ok(Some(parsed.expr)),
+        Ok((Parsed { expr, .. }, _)) => Ok(Some(Box::into_inner(expr))),
         Err(SqlFault::Memory) => Err(AllocError),
         Err(_) => Ok(None),
     }

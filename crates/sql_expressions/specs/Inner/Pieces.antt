@@ -65,6 +65,16 @@ abbrev pub next_op : (Token → Option Operator) → Tokens → Option Found_op
 next_op op_of [] = None
 next_op op_of (t ∷ ts) = found_op t ts (op_of t.tok)
 
+-- an expression of this depth
+abbrev pub made : ℕ → Tree → Reader
+made d t ts = Ok (record { tree = t; depth = d; rest = ts })
+
+-- the node that the token at this place makes, over parts of which the deepest has this depth
+abbrev pub node : ℕ → ℕ → Tree → Reader
+node place d t ts = do
+  x ← deeper place d
+  made x t ts
+
 abbrev pub join : Found_op → Found → Found → Result Found SqlFault
 join o a b = do
   d ← deeper o.place (max a.depth b.depth)
@@ -124,13 +134,11 @@ pub record Found_bounds : Type 0 where
   pub rest : Tokens
 
 abbrev pub found_bounds : Parsed → Parsed → List (At Tok) → Found_bounds
-found_bounds low high ts = record { low = (tree_of low.expr, low.depth); high = (tree_of high.expr, high.depth); rest = tok_views ts }
+found_bounds low high ts = record { low = (tree_of low.expr.value, low.depth); high = (tree_of high.expr.value, high.depth); rest = tok_views ts }
 
--- the node of a BETWEEN at this place
-abbrev pub range_node : Bool → ℕ → Tree × ℕ → Tree × ℕ → Tree × ℕ → Result (Tree × ℕ) SqlFault
-range_node negated place a low high = do
-  d ← deeper place (max a.1 (max low.1 high.1))
-  Ok (Between a.0 negated low.0 high.0, d)
+-- the node of a BETWEEN at this place, behind an operand of this depth
+abbrev pub range_node : Bool → ℕ → Tree → ℕ → Found_bounds → Result Found SqlFault
+range_node negated place left depth b = node place (max depth (max b.low.1 b.high.1)) (Between left negated b.low.0 b.high.0) b.rest
 
 -- last is the text's length
 module _ (last : ℕ) where

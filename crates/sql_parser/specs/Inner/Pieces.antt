@@ -2,14 +2,20 @@
 use Rattle.std.specs.Prelude.{◌≡◌, ℕ, suc, List, [], ◌∷◌, Option, Some, None, Result, Err, if◌then◌else◌}
 use Rattle.iso_lexer.specs.declared.sql_token.SqlSign.TheVariants as signs
 use Rattle.sql_trees.specs.declared.fault.SqlFault.{SqlFault}
-use Rattle.sql_trees.specs.Statements.{StmtTree}
+use Rattle.sql_trees.specs.declared.expr.AggKind.{AggKind}
+use Rattle.sql_trees.specs.Statements.{StmtTree, ItemTree}
 use Rattle.sql_trees.specs.Tokens.{Tokens}
 use Rattle.sql_expressions.specs.Results.{◌>>=◌}
 use Rattle.sql_expressions.specs.Readers.{is_sign, misplaced, Reader}
 use Rattle.sql_blocks.specs.declared.block.Role.{Role}
 use Rattle.sql_parser.specs.Blocks.{simple_of, begun_of, piece_at, stmts_at}
+use Rattle.sql_parser.specs.Queries.{item_of}
 
 module _ (last : ℕ) where
+  -- an item behind the open parenthesis of its aggregate
+  abbrev pub agg_item_at : AggKind → Reader ItemTree
+  agg_item_at k ts = item_of last (Some (k, ts)) ts
+
   abbrev pub simple_at : Reader StmtTree
   simple_at [] = Err (misplaced last [])
   simple_at (t ∷ ts) = simple_of last t.tok t ts

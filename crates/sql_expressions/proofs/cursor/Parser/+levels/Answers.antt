@@ -5,7 +5,7 @@ use Rattle.sql_trees.specs.Trees.{tree_of}
 use Rattle.sql_expressions.proofs.Views.{in_tree}
 use Rattle.sql_expressions.proofs.Shortens.{shortens}
 use Rattle.sql_expressions.proofs.Chains.{passed_on, starts, starts_not, ends, no_room, no_operand, no_node, goes_on, list_starts, list_starts_not, list_ends, list_stops, list_next, comma_shortens, chain_at_is, opens}
-use Rattle.sql_expressions.proofs.Ranges.{between_stops, between_no_node, between_made, in_stops, in_made}
+use Rattle.sql_expressions.proofs.Ranges.{between_stops, between_made, in_stops, in_made}
 use Rattle.sql_expressions.proofs.cursor.Parser.+levels.Goals as goal
 
 pub chain-returns-in_err-left : goal.chain-returns-in_err-left
@@ -51,13 +51,8 @@ between-returns-in_err-low t c =
     let p = err_from_is_err_and c.from_residual.result c.from_residual.ensures.1 in
     rw (p.1, p.2) (passed_on _ _ _ c.in_err-low.ensures (between_stops _ _ _ _ _ _ _))
 
-pub between-returns-in_err-range : goal.between-returns-in_err-range
-between-returns-in_err-range t c =
-    let p = err_from_is_err_and c.from_residual-in_err-range.result c.from_residual-in_err-range.ensures.1 in
-    rw (p.1, p.2) (passed_on _ _ _ c.in_err-range.ensures (λ f. between_no_node _ _ _ _ _ _ _ _ f c.in_ok-low.ensures))
-
 pub between-returns : goal.between-returns
-between-returns t c = between_made _ _ _ _ _ _ _ _ _ c.in_ok-low.ensures c.in_ok-range.ensures
+between-returns t c = rw (between_made _ _ _ _ _ _ _ _ c.in_ok-low.ensures) c.range.ensures
 
 pub contained-returns-in_err-items : goal.contained-returns-in_err-items
 contained-returns-in_err-items t c =
@@ -66,30 +61,30 @@ contained-returns-in_err-items t c =
 
 pub contained-returns : goal.contained-returns
 contained-returns t c =
-    let made = in_made _ _ c.args.negated _ (tree_of c.args.left.expr) _ _ _ c.in_ok-items.ensures in
-    rw in_tree (search rules)
+    let is = in_made _ _ c.args.negated _ (tree_of c.args.left.value) _ _ _ c.in_ok-items.ensures in
+    rw (is, ← in_tree) c.made.ensures
 
-pub list-returns-in_err-first : goal.list-returns-in_err-first
-list-returns-in_err-first t c =
+pub list-returns-in_err-expr : goal.list-returns-in_err-expr
+list-returns-in_err-expr t c =
     let p = err_from_is_err_and c.from_residual.result c.from_residual.ensures.1 in
-    rw (p.1, p.2) (passed_on _ _ _ c.in_err-first.ensures (list_starts_not _ _))
+    rw (p.1, p.2) (passed_on _ _ _ c.in_err-expr.ensures (list_starts_not _ _))
 
 pub list-loop-after-init : goal.list-loop-after-init
 list-loop-after-init t c =
-    rw (c.in_ok-push.ensures.items, c.new-items.ensures.items) (list_starts _ _ _ _ c.in_ok-first.ensures refl (omega (arith, shortens _ _ _ _ _ _ c.in_ok-first.ensures)))
+    rw (c.in_ok-push.ensures.items, c.new-items.ensures.items, c.into_inner.ensures) (list_starts _ _ _ _ c.in_ok-expr.ensures refl (omega (arith, shortens _ _ _ _ _ _ c.in_ok-expr.ensures)))
 
-pub list-returns-in_err-next : goal.list-returns-in_err-next
-list-returns-in_err-next t c =
-    let p = err_from_is_err_and c.from_residual-in_err-next.result c.from_residual-in_err-next.ensures.1 in
-    rw (p.1, p.2) (passed_on _ _ _ c.in_err-next.ensures (λ f. list_stops _ _ _ _ f c.loop-after.invariant (sym c.in-Some.ensures)))
+pub list-returns-in_err-expr-2 : goal.list-returns-in_err-expr-2
+list-returns-in_err-expr-2 t c =
+    let p = err_from_is_err_and c.from_residual-in_err-expr-2.result c.from_residual-in_err-expr-2.ensures.1 in
+    rw (p.1, p.2) (passed_on _ _ _ c.in_err-expr-2.ensures (λ f. list_stops _ _ _ _ f c.loop-after.invariant (sym c.in-Some.ensures)))
 
 pub list-loop-after-smaller : goal.list-loop-after-smaller
 list-loop-after-smaller t c =
-    omega (arith, shortens _ _ _ _ _ _ c.in_ok-next.ensures, comma_shortens (tok_views c.loop-after.rest.now) _ (sym c.in-Some.ensures))
+    omega (arith, shortens _ _ _ _ _ _ c.in_ok-expr-2.ensures, comma_shortens (tok_views c.loop-after.rest.now) _ (sym c.in-Some.ensures))
 
 pub list-loop-after-preserved : goal.list-loop-after-preserved
 list-loop-after-preserved t c =
-    rw (c.in_ok-push-2.ensures.items, c.max-depth.ensures) (list_next _ c.loop-after.items.items c.loop-after.depth c.loop-after.rest.now _ _ c.in_ok-next.next c.in_ok-next.after.now c.loop-after.invariant (sym c.in-Some.ensures) c.in_ok-next.ensures (omega (arith, shortens _ _ _ _ _ _ c.in_ok-next.ensures, comma_shortens (tok_views c.loop-after.rest.now) _ (sym c.in-Some.ensures))))
+    rw (c.in_ok-push-2.ensures.items, c.into_inner-in-Some.ensures, c.max-depth.ensures) (list_next _ c.loop-after.items.items c.loop-after.depth c.loop-after.rest.now _ _ c.in_ok-expr-2.field-0-0 c.in_ok-expr-2.after.now c.loop-after.invariant (sym c.in-Some.ensures) c.in_ok-expr-2.ensures (omega (arith, shortens _ _ _ _ _ _ c.in_ok-expr-2.ensures, comma_shortens (tok_views c.loop-after.rest.now) _ (sym c.in-Some.ensures))))
 
 pub list-returns : goal.list-returns
 list-returns t c = list_ends _ _ _ c.loop-after.invariant (sym c.in_default.ensures)
