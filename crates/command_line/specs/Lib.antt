@@ -1,4 +1,2 @@
-pub mod Options
-pub mod Quote
 pub mod Shell
 pub mod Terminal

@@ -1,52 +1,18 @@
 //! Runs the program over its devices.
 
-ghost use Rattle.std.specs.Prelude.{◌≡◌, ◌≢◌, [], map, string_bytes, true};
-ghost use Rattle.clap.specs.Words.{fault_of, kind_of};
-ghost use Rattle.command_line.specs.Options.{program};
-ghost use Rattle.command_line.specs.Shell.{IsServed, IsShown, Runs, Took, TookLine, TellsFault, exit_status, is_request};
+ghost use Rattle.std.specs.Prelude.{◌≡◌, ◌≢◌, [], map, string_bytes};
+ghost use Rattle.clap.specs.Words.{fault_of};
+ghost use Rattle.program_words.specs.Options.{program};
+ghost use Rattle.command_line.specs.Shell.{IsServed, Runs};
 
-use crate::options::{Options, options_of, status_of};
 use iso_lexer::{Sink, Source};
-use permutations::{RunFault, free_spec, list_spec, run_spec};
-use session_threads::OpenGate;
+use permutations::{free_spec, run_spec};
+use program_words::{Options, end, options_of, put_error, status_of};
+use session_seats::OpenGate;
+use spec_files::{RunFault, list_spec};
 use std::alloc::Global;
 use std::sync::Wait;
 use std::thread::Threads;
-
-/// Puts a text; of a sink that fails there is no one to tell.
-pub(crate) fn put_text<N: Sink>(sink: &mut N, text: &[u8])
-    ensures puts { Took (N.failed sink.new) (N.put_so_far sink.old) (N.put_so_far sink.new) text.now }
-    ensures stays { N.failed sink.old ≡ true → N.failed sink.new ≡ true }
-{
-    let _ = sink.put(text);
-}
-
-/// Puts a fault's line. Where memory for it is refused the line says so.
-pub(crate) fn put_fault<N: Sink>(alloc: Global, err: &mut N, fault: &RunFault)
-    ensures { TookLine fault.now (N.failed err.new) (N.put_so_far err.old) (N.put_so_far err.new) }
-{
-    match format!(in alloc; "isolationtester: {fault}\n") {
-        Ok(line) => put_text(err, line.as_bytes()),
-        Err(_) => put_text(err, b"isolationtester: Memory\n"),
-    }
-}
-
-/// Puts what clap says of words that give no options: help goes to the output, a mistake to the errors.
-pub(crate) fn put_error<W: Sink, N: Sink>(
-    alloc: Global,
-    out: &mut W,
-    err: &mut N,
-    error: &clap::Error,
-)
-    ensures { IsShown (is_request (kind_of error.now)) (W.failed out.new) (W.put_so_far out.old) (W.put_so_far out.new)
-        (N.failed err.new) (N.put_so_far err.old) (N.put_so_far err.new) }
-{
-    match format!(in alloc; "{error}") {
-        Ok(text) if error.use_stderr() => put_text(err, text.as_bytes()),
-        Ok(text) => put_text(out, text.as_bytes()),
-        Err(_) => put_text(err, b"isolationtester: Memory\n"),
-    }
-}
 
 pub(crate) fn run<S: Source, W: Sink, N: Sink, R: Threads + Wait + Sync>(
     rt: &R,
@@ -64,20 +30,6 @@ pub(crate) fn run<S: Source, W: Sink, N: Sink, R: Threads + Wait + Sync>(
         free_spec(rt, alloc, input, out, err, &OpenGate)
     } else {
         run_spec(rt, alloc, input, out, err, options.limit, &OpenGate)
-    }
-}
-
-/// The exit status of a run, whose fault is told.
-pub(crate) fn end<N: Sink>(alloc: Global, answer: Result<(), RunFault>, err: &mut N) -> u8
-    ensures status { result ≡ exit_status answer }
-    ensures told { TellsFault answer (N.failed err.new) (N.put_so_far err.old) (N.put_so_far err.new) }
-{
-    match answer {
-        Ok(()) => 0,
-        Err(fault) => {
-            put_fault(alloc, err, &fault);
-            fault.status()
-        }
     }
 }
 
