@@ -1,12 +1,12 @@
 //! The options of the program.
 
 ghost use Rattle.std.specs.Prelude.{◌≡◌, map, IfOk, string_bytes, unwrap_or};
-ghost use Rattle.clap.specs.Words.{FailsBy, fault_of, kind_of};
+ghost use Rattle.clap.specs.Words.{FailsBy, app_of, fault_of, kind_of};
 ghost use Rattle.program_words.specs.Options.{program, Gives, status_of};
 
 use clap::error::ErrorKind;
 use clap::{Arg, ArgAction, Command, Error, value_parser};
-use std::alloc::Global;
+use std::alloc::{AllocError, Global};
 
 /// So many permutations run at most, unless the command line says otherwise.
 pub const DEFAULT_LIMIT: u64 = 1_000_000;
@@ -54,33 +54,42 @@ fn limit_of(given: Option<u32>) -> u64
     }
 }
 
+/// The program as clap reads its words.
+fn command_of<'a>(alloc: Global) -> Result<Command<'a>, AllocError>
+    ensures { IfOk result (λ command. app_of command ≡ program) }
+{
+    Command::new(alloc, "isolationtester")
+        .about("Runs the permutations of the spec file that comes on standard input")
+        .override_usage(USAGE)
+        .after_help(EXAMPLE)
+        .arg(
+            Arg::new(alloc, "list")
+                .long("list")
+                .action(ArgAction::SetTrue)
+                .help("List the permutations, and run none"),
+        )?
+        .arg(
+            Arg::new(alloc, "free")
+                .long("free")
+                .action(ArgAction::SetTrue)
+                .help("Run each session in a thread of its own, with no order between them"),
+        )?
+        .arg(
+            Arg::new(alloc, "limit")
+                .long("limit")
+                .value_name("N")
+                .value_parser(value_parser!(u32))
+                .help("Stop after N permutations, 1000000 if N is not given"),
+        )
+}
+
 /// The options among the words of a command line, of which the first is the program's name. Want of memory may stand in the
 /// place of any answer.
 pub fn options_of(alloc: Global, words: &[String]) -> Result<Options, Error>
     ensures gives { IfOk result (λ options. Gives (map string_bytes words.now) options) }
     ensures refused { FailsBy (fault_of program (map string_bytes words.now)) result }
 {
-    let list = Arg::new(alloc, "list")
-        .long("list")
-        .action(ArgAction::SetTrue)
-        .help("List the permutations, and run none");
-    let free = Arg::new(alloc, "free")
-        .long("free")
-        .action(ArgAction::SetTrue)
-        .help("Run each session in a thread of its own, with no order between them");
-    let limit = Arg::new(alloc, "limit")
-        .long("limit")
-        .value_name("N")
-        .value_parser(value_parser!(u32))
-        .help("Stop after N permutations, 1000000 if N is not given");
-    let command = Command::new(alloc, "isolationtester")
-        .about("Runs the permutations of the spec file that comes on standard input")
-        .override_usage(USAGE)
-        .after_help(EXAMPLE)
-        .arg(list)?
-        .arg(free)?
-        .arg(limit)?;
-    let matches = command.try_get_matches_from(words)?;
+    let matches = command_of(alloc)?.try_get_matches_from(words)?;
     Ok(Options {
         list: matches.get_flag("list"),
         free: matches.get_flag("free"),

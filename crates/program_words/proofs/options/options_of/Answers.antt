@@ -1,13 +1,10 @@
-use Rattle.std.proofs.Common.{rules, ap, ap₂, refl, [], codes, true, map, string_bytes, ◌≡◌, ◌∙◌, Option, Some, ℕ, subst}
-use Rattle.std.specs.Prelude.{pos, unwrap_or}
+use Rattle.std.proofs.Common.{ap, refl, [], codes, true, map, string_bytes, ◌≡◌, ◌∙◌, Option, ℕ, subst}
+use Rattle.std.specs.Prelude.{unwrap_or}
 use Rattle.std.specs.Str.Parse.{ParsesUnsigned, ExplainsUnsignedError, HasUnsignedDigitsIfOk}
 use Rattle.std.proofs.lemmas.Result.{err_from_is_err_and}
-use Rattle.clap.specs.Words.{App, HasKind, app_of, fault_of, found_of, is_simple, is_simple_and_free, matches_of, rows_of, rule_of, with_rule}
-use Rattle.clap.specs.Simple.{app_of_fields}
-use Rattle.clap.specs.declared.builder.value_parser.ValueParser.{ValueParser}
-use Rattle.clap.specs.declared.builder.value_parser.ValueParser.TheVariants.{Signed}
+use Rattle.clap.specs.Words.{App, HasKind, app_of, fault_of, found_of, is_simple, is_simple_and_free, matches_of, rows_of}
 use Rattle.clap.proofs.OnLiterals.{clap_on_literals}
-use Rattle.program_words.specs.Options.{program, list_rule, free_rule, limit_rule}
+use Rattle.program_words.specs.Options.{program}
 use Rattle.program_words.proofs.Words.{reads, number}
 use Rattle.program_words.proofs.options.options_of.Goals as goal
 
@@ -21,47 +18,23 @@ is_simple_one = refl
 
 pub returns-in_err-matches-clause-refused : goal.returns-in_err-matches-clause-refused
 returns-in_err-matches-clause-refused c =
-    let given = c.value_parser-2.ensures.given in
-    let parser : c.value_parser-2.result.value_parser ≡ Some (Signed (pos 0) (pos 4294967295)) = given.1 ∙ ap (λ (q : ValueParser). Some q) (given.2 ∙ c.value_parser.ensures) in
-    let list_is : rule_of c.help-list.result ≡ list_rule = search (c.help-list.ensures, c.action.ensures, c.long.ensures, c.new.ensures.rule, rules) in
-    let free_is : rule_of c.help-free.result ≡ free_rule = search (c.help-free.ensures, c.action-2.ensures, c.long-2.ensures, c.new-2.ensures.rule, rules) in
-    let limit_is : rule_of c.help-limit.result ≡ limit_rule = search (c.help-limit.ensures, c.value_parser-2.ensures.others, c.value_name.ensures, c.long-3.ensures, c.new-3.ensures.rule, rules, parser) in
-    let about_is : app_of c.after_help.result ≡ app_of c.new-4.result = ap app_of_fields c.after_help.ensures ∙ ap app_of_fields c.override_usage.ensures ∙ ap app_of_fields c.about.ensures in
-    let app_is : app_of c.in_ok-command.command ≡ program = c.in_ok-command.ensures.shape (search (c.help-limit.ensures, c.value_parser-2.ensures.others, c.value_name.ensures, c.long-3.ensures, c.new-3.ensures.optional, rules))
-    ∙ ap₂ with_rule (c.in_ok-arg-2.ensures.shape (search (c.help-free.ensures, c.action-2.ensures, c.long-2.ensures, c.new-2.ensures.optional, rules))
-    ∙ ap₂ with_rule (c.in_ok-arg.ensures.shape (search (c.help-list.ensures, c.action.ensures, c.long.ensures, c.new.ensures.optional, rules)) ∙ ap₂ with_rule (about_is ∙ c.new-4.ensures.app) list_is) free_is) limit_is in
     let words = map string_bytes c.args.words.now in
-    let kinds : HasKind (fault_of (app_of c.in_ok-command.command) words) c.in_err-matches.field-0.0 = c.in_err-matches.ensures.kinds (ap is_simple_and_free app_is ∙ is_plain) in
+    let app_is : app_of c.in_ok-command_of.field-0 ≡ program = c.in_ok-command_of.ensures in
+    let kinds : HasKind (fault_of (app_of c.in_ok-command_of.field-0) words) c.in_err-matches.field-0.0 = c.in_err-matches.ensures.kinds (ap is_simple_and_free app_is ∙ is_plain) in
     let p = err_from_is_err_and c.from_residual-in_err-matches.result c.from_residual-in_err-matches.ensures.1 in
     let same : HasKind (fault_of program words) c.in_err-matches.field-0.0 = subst (λ (a : App). HasKind (fault_of a words) c.in_err-matches.field-0.0) app_is kinds in
     rw (p.1, p.2) same
 
 pub returns-clause-refused : goal.returns-clause-refused
 returns-clause-refused c =
-    let given = c.value_parser-2.ensures.given in
-    let parser : c.value_parser-2.result.value_parser ≡ Some (Signed (pos 0) (pos 4294967295)) = given.1 ∙ ap (λ (q : ValueParser). Some q) (given.2 ∙ c.value_parser.ensures) in
-    let list_is : rule_of c.help-list.result ≡ list_rule = search (c.help-list.ensures, c.action.ensures, c.long.ensures, c.new.ensures.rule, rules) in
-    let free_is : rule_of c.help-free.result ≡ free_rule = search (c.help-free.ensures, c.action-2.ensures, c.long-2.ensures, c.new-2.ensures.rule, rules) in
-    let limit_is : rule_of c.help-limit.result ≡ limit_rule = search (c.help-limit.ensures, c.value_parser-2.ensures.others, c.value_name.ensures, c.long-3.ensures, c.new-3.ensures.rule, rules, parser) in
-    let about_is : app_of c.after_help.result ≡ app_of c.new-4.result = ap app_of_fields c.after_help.ensures ∙ ap app_of_fields c.override_usage.ensures ∙ ap app_of_fields c.about.ensures in
-    let app_is : app_of c.in_ok-command.command ≡ program = c.in_ok-command.ensures.shape (search (c.help-limit.ensures, c.value_parser-2.ensures.others, c.value_name.ensures, c.long-3.ensures, c.new-3.ensures.optional, rules))
-    ∙ ap₂ with_rule (c.in_ok-arg-2.ensures.shape (search (c.help-free.ensures, c.action-2.ensures, c.long-2.ensures, c.new-2.ensures.optional, rules))
-    ∙ ap₂ with_rule (c.in_ok-arg.ensures.shape (search (c.help-list.ensures, c.action.ensures, c.long.ensures, c.new.ensures.optional, rules)) ∙ ap₂ with_rule (about_is ∙ c.new-4.ensures.app) list_is) free_is) limit_is in
     let words = map string_bytes c.args.words.now in
+    let app_is : app_of c.in_ok-command_of.field-0 ≡ program = c.in_ok-command_of.ensures in
     subst (λ (a : App). fault_of a words ≡ []) app_is (c.in_ok-matches.ensures.kinds (ap is_simple_and_free app_is ∙ is_plain))
 
 pub returns-clause-gives : goal.returns-clause-gives
 returns-clause-gives c =
-    let given = c.value_parser-2.ensures.given in
-    let parser : c.value_parser-2.result.value_parser ≡ Some (Signed (pos 0) (pos 4294967295)) = given.1 ∙ ap (λ (q : ValueParser). Some q) (given.2 ∙ c.value_parser.ensures) in
-    let list_is : rule_of c.help-list.result ≡ list_rule = search (c.help-list.ensures, c.action.ensures, c.long.ensures, c.new.ensures.rule, rules) in
-    let free_is : rule_of c.help-free.result ≡ free_rule = search (c.help-free.ensures, c.action-2.ensures, c.long-2.ensures, c.new-2.ensures.rule, rules) in
-    let limit_is : rule_of c.help-limit.result ≡ limit_rule = search (c.help-limit.ensures, c.value_parser-2.ensures.others, c.value_name.ensures, c.long-3.ensures, c.new-3.ensures.rule, rules, parser) in
-    let about_is : app_of c.after_help.result ≡ app_of c.new-4.result = ap app_of_fields c.after_help.ensures ∙ ap app_of_fields c.override_usage.ensures ∙ ap app_of_fields c.about.ensures in
-    let app_is : app_of c.in_ok-command.command ≡ program = c.in_ok-command.ensures.shape (search (c.help-limit.ensures, c.value_parser-2.ensures.others, c.value_name.ensures, c.long-3.ensures, c.new-3.ensures.optional, rules))
-    ∙ ap₂ with_rule (c.in_ok-arg-2.ensures.shape (search (c.help-free.ensures, c.action-2.ensures, c.long-2.ensures, c.new-2.ensures.optional, rules))
-    ∙ ap₂ with_rule (c.in_ok-arg.ensures.shape (search (c.help-list.ensures, c.action.ensures, c.long.ensures, c.new.ensures.optional, rules)) ∙ ap₂ with_rule (about_is ∙ c.new-4.ensures.app) list_is) free_is) limit_is in
     let words = map string_bytes c.args.words.now in
+    let app_is : app_of c.in_ok-command_of.field-0 ≡ program = c.in_ok-command_of.ensures in
     let m = c.in_ok-matches.matches in
     let rows : rows_of (found_of m) ≡ matches_of program words = (c.in_ok-matches.ensures.matches (ap is_simple app_is ∙ is_simple_one)).0 ∙ ap (λ (a : App). matches_of a words) app_is in
     record {
