@@ -5,6 +5,5 @@ mod program;
 mod terminal;
 
 pub use program::serve;
-pub use program_words::laws;
-pub use program_words::{DEFAULT_LIMIT, Options, options_of, status_of};
+pub use program_words::{DEFAULT_LIMIT, Options, laws, options_of, status_of};
 pub use terminal::serve_at_terminal;

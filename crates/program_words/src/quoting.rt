@@ -76,7 +76,12 @@ fn put_quote<N: Sink>(alloc: Global, err: &mut N, file: &[u8], at: Option<usize>
 }
 
 /// The exit status of a run of a file, whose fault is told and the line of it quoted.
-pub fn end_there<N: Sink>(alloc: Global, answer: Result<(), RunFault>, file: &[u8], err: &mut N) -> u8
+pub fn end_there<N: Sink>(
+    alloc: Global,
+    answer: Result<(), RunFault>,
+    file: &[u8],
+    err: &mut N,
+) -> u8
     ensures status { result ≡ exit_status answer }
     ensures told { TellsQuoted file.now answer (N.failed err.new) (N.put_so_far err.old) (N.put_so_far err.new) }
 {

@@ -27,12 +27,7 @@ pub(crate) fn put_fault<N: Sink>(alloc: Global, err: &mut N, fault: &RunFault)
 }
 
 /// Puts what clap says of words that give no options: help goes to the output, a mistake to the errors.
-pub fn put_error<W: Sink, N: Sink>(
-    alloc: Global,
-    out: &mut W,
-    err: &mut N,
-    error: &clap::Error,
-)
+pub fn put_error<W: Sink, N: Sink>(alloc: Global, out: &mut W, err: &mut N, error: &clap::Error)
     ensures { IsShown (is_request (kind_of error.now)) (W.failed out.new) (W.put_so_far out.old) (W.put_so_far out.new)
         (N.failed err.new) (N.put_so_far err.old) (N.put_so_far err.new) }
 {
