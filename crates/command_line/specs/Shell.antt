@@ -2,9 +2,9 @@
 use Rattle.std.specs.Prelude.{◌≡◌, ℕ, Bool, true, false, IsTrue, List, [], take, Option, Result, Ok, Err, IfSome, IfErr}
 use Rattle.clap.specs.Words.{Text, fault_of}
 use Rattle.clap.specs.declared.error.kind.ErrorKind.{ErrorKind}
-use Rattle.permutations.specs.Begun.{Begun, FileMaySay, FileSaysFreely, ListBegun}
-use Rattle.permutations.specs.Broken.{FileBroken}
-use Rattle.permutations.specs.FreeRuns.{FileFreeTold}
+use Rattle.spec_files.specs.Begun.{Begun, FileMaySay, FileSaysFreely, ListBegun}
+use Rattle.spec_files.specs.Broken.{FileBroken}
+use Rattle.spec_files.specs.FreeRuns.{FileFreeTold}
 use Rattle.spec_files.specs.Files.{FileIs}
 use Rattle.spec_files.specs.Lists.{FileLists}
 use Rattle.spec_files.specs.Prints.{FileSays}

@@ -1,16 +1,2 @@
-pub mod Reading
-pub mod FileLemmas
-pub mod Listing
-pub mod OneFile
 pub mod Running
-pub mod Driven
-pub mod Telling
-pub mod Printing
-pub mod Beginning
 pub mod FreeRunning
-pub mod FreeTelling
-pub mod OneText
-pub mod Whole
-pub mod Drafting
-pub mod Joining
-pub mod Turns

@@ -8,7 +8,7 @@ use Rattle.session_machine.specs.Engine.{Engine, Run, opened}
 use Rattle.session_core.specs.Engines.{IsOf, is_quiet_in}
 use Rattle.spec_parser.specs.Trees.{EntryTree, SpecTree}
 use Rattle.permutation_plans.specs.Regular.{Fits, IsRegular}
-use Rattle.permutations.specs.Inner.Resting.{IsAtRest}
+use Rattle.spec_files.specs.Inner.Resting.{IsAtRest}
 
 rests_in : (e : Engine) (machine : Option Machine) → is_quiet_in machine ≡ true → IfSome machine (λ m. Run e.blocks e.mode (opening e.count) e.history m) → IsAtRest e
 rests_in e None quiet leads = absurd cc

@@ -3,7 +3,7 @@
 ghost use Rattle.std.specs.Prelude.{◌≡◌, ◌<◌, ◌^◌, length, map, IfOk, OnOk};
 ghost use Rattle.spec_parser.specs.Trees.{entry_view, spec_view};
 ghost use Rattle.permutation_plans.specs.Launches.{launches};
-ghost use Rattle.permutations.specs.Plans.{order_after, IsFollowing};
+ghost use Rattle.spec_files.specs.Plans.{order_after, IsFollowing};
 
 use permutation_plans::Launches;
 use report_lines::Progress;
@@ -26,7 +26,7 @@ pub struct Plan<'s> {
 impl<'s> Model for Plan<'s> {
     ghost use Rattle.std.specs.Prelude.{map};
     ghost use Rattle.spec_parser.specs.Trees.{entry_view};
-    ghost use Rattle.permutations.specs.Plans.{Planning};
+    ghost use Rattle.spec_files.specs.Plans.{Planning};
 
     ghost Value = { Planning };
 
@@ -36,7 +36,7 @@ impl<'s> Model for Plan<'s> {
 impl<'s> Plan<'s> {
     ghost use Rattle.std.specs.Prelude.{List};
     ghost use Rattle.session_machine.specs.declared.reply.HistItem.{HistItem};
-    ghost use Rattle.permutations.specs.Plans.{order_after, IsFollowing};
+    ghost use Rattle.spec_files.specs.Plans.{order_after, IsFollowing};
 
     /// The plan of the spec's permutation that has these entries.
     pub fn new(alloc: Global, spec: &Spec<'_>, entries: &'s [Entry]) -> Result<Plan<'s>, AllocError>
@@ -78,7 +78,7 @@ impl<'s, V: Versions> Driver<V> for Plan<'s> {
         self.go_on(alloc, engine.history())
     }
 
-    ghost use Rattle.permutations.specs.Following.{follows_longer};
+    ghost use Rattle.spec_files.specs.Following.{follows_longer};
 
     ghost goes_on = { λ plan items more follows. follows_longer _ more plan.progress follows };
 }

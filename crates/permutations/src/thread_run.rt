@@ -1,68 +1,34 @@
 //! The run of one permutation, with a thread for each session.
 
-ghost use Rattle.std.specs.Prelude.{◌≡◌, ◌≢◌, ◌↔◌, ◌||◌, length, true, Err, map, IsTrue, IfOk, IfErr, IsErrOf};
-ghost use Rattle.session_core.specs.Blocks.{blocks_of};
+ghost use Rattle.std.specs.Prelude.{◌≡◌, ◌≢◌, ◌||◌, true, Err, map, IsTrue, IfOk, IfErr, IsErrOf};
+ghost use Rattle.sql_blocks.specs.Blocks.{blocks_of};
 ghost use Rattle.session_core.specs.Engines.{is_quiet_in};
 ghost use Rattle.spec_parser.specs.Trees.{entry_view, spec_view};
 ghost use Rattle.spec_parser.specs.Stands.{Stands};
-ghost use Rattle.permutation_plans.specs.Regular.{Fits, IsRegular};
-ghost use Rattle.permutations.specs.Begun.{Begun, OneSays};
-ghost use Rattle.permutations.specs.Inner.Resting.{IsAtRest};
-ghost use Rattle.permutations.specs.Runs.{is_of_one, is_of_run, has_broken, has_ended, IsOneTold};
-ghost use Rattle.permutations.specs.Written.{IsWritten};
+ghost use Rattle.permutation_plans.specs.Regular.{IsRegular};
+ghost use Rattle.spec_files.specs.Begun.{Begun, OneSays};
+ghost use Rattle.spec_files.specs.Inner.Resting.{IsAtRest};
+ghost use Rattle.spec_files.specs.Runs.{is_of_one, is_of_run, has_broken, has_ended, IsOneTold};
+ghost use Rattle.spec_files.specs.Written.{IsWritten};
 
-use crate::fault::RunFault;
 use crate::plan::Plan;
-use crate::report::write_permutation;
 use iso_lexer::Sink;
-use permutation_plans::launches_fit;
-use report_text::Ended;
 use row_versions::ListStore;
-use session_machine::Mode;
 use session_threads::{Closed, Gate, run_directed};
+use spec_files::{Ended, RunFault, write_permutation};
 use spec_parser::{Entry, Spec};
-use sql_parser::Block;
-use std::alloc::{AllocError, Global};
+use sql_blocks::Block;
+use std::alloc::Global;
 use std::sync::Wait;
 use std::thread::Threads;
 
-/// Whether the launches of a closed run are the permutation's. It came to rest.
-fn fits(
-    alloc: Global,
-    spec: &Spec<'_>,
-    entries: &[Entry],
-    closed: &Closed<'_, '_, ListStore>,
-) -> Result<bool, AllocError>
-    requires stands { Stands (spec_view spec.now) }
-    requires quiet { is_quiet_in closed.now.state.machine ≡ true }
-    ensures fit { IfOk result (λ fit. IsTrue fit ↔ Fits (spec_view spec.now) (map entry_view entries.now) closed.now.state.history) }
-    ensures rests { IsAtRest closed.now.state }
+/// A closed run that is quiet came to rest: what its history leads to is its state.
+fn rests(closed: &Closed<'_, '_, ListStore>)
+    requires { is_quiet_in closed.now.state.machine ≡ true }
+    ensures { IsAtRest closed.now.state }
 {
     let engine = closed.state();
-    launches_fit(alloc, spec, entries, engine.history())
-}
-
-/// The same closed run, or `ScheduleBroken` exactly where its launches are not the permutation's.
-fn fitting_run<'a, 't>(
-    alloc: Global,
-    spec: &Spec<'_>,
-    entries: &[Entry],
-    closed: Closed<'a, 't, ListStore>,
-) -> Result<Closed<'a, 't, ListStore>, RunFault>
-    requires stands { Stands (spec_view spec.now) }
-    requires sessions { closed.state.count ≡ length (spec_view spec.now).sessions }
-    requires directed { closed.state.mode ≡ Mode.Directed }
-    requires quiet { is_quiet_in closed.state.machine ≡ true }
-    ensures regular { IfOk result (λ c. IsRegular (spec_view spec.now) closed.entry.state.blocks (map entry_view entries.now) c.state.history) }
-    ensures same { IfOk result (λ c. c ≡ closed.entry) }
-    ensures broken { IsErrOf result RunFault.ScheduleBroken → ¬ (Fits (spec_view spec.now) (map entry_view entries.now) closed.entry.state.history) }
-    ensures faults { IfErr result (λ e. is_of_run e ≡ true) }
-{
-    if fits(alloc, spec, entries, &closed)? {
-        Ok(closed)
-    } else {
-        Err(RunFault::ScheduleBroken)
-    }
+    engine.history();
 }
 
 /// The closed run of a permutation. Its launches are the permutation's: what the plan doesn't give is never launched.
@@ -83,7 +49,8 @@ pub fn run_of<'a, 't, G: Gate, R: Threads + Wait + Sync>(
     let plan = Plan::new(alloc, spec, entries)?;
     let store = ListStore::new(alloc);
     let closed = run_directed(rt, alloc, blocks, sessions, store, plan, gate)?;
-    fitting_run(alloc, spec, entries, closed)
+    rests(&closed);
+    Ok(closed)
 }
 
 /// Writes the report of a closed run.

@@ -1,10 +1,10 @@
 -- A run on one thread that met a fault has come to no end, and nothing of it is written.
 use Rattle.std.proofs.Common.{◌≡◌, ℕ, false, refl}
 use Rattle.session_machine.specs.Machine.{Blocks}
-use Rattle.session_threads.specs.Orders.{Orders}
-use Rattle.permutations.specs.declared.fault.RunFault.{RunFault}
-use Rattle.permutations.specs.declared.fault.RunFault.TheVariants as faults
-use Rattle.permutations.specs.Runs.{is_early_end}
+use Rattle.session_seats.specs.Orders.{Orders}
+use Rattle.spec_files.specs.declared.fault.RunFault.{RunFault}
+use Rattle.spec_files.specs.declared.fault.RunFault.TheVariants as faults
+use Rattle.spec_files.specs.Runs.{is_early_end}
 use Rattle.plain_runs.specs.Alone.{IsOfAlone}
 
 pub no_end : (orders : Orders) (blocks : Blocks) (count : ℕ) (e : RunFault) → IsOfAlone orders blocks count e → is_early_end e ≡ false

@@ -15,20 +15,20 @@ use Rattle.session_machine.specs.declared.reply.HistItem.{HistItem}
 use Rattle.session_machine.specs.Machine.{Machine, Blocks, Next, next, opening, turn_in}
 use Rattle.session_machine.specs.Engine.{Engine, EngineAnswered, Run, engine_after, engine_answered, engine_step, fault_of, opened}
 use Rattle.session_core.specs.Engines.{IsOf}
-use Rattle.session_threads.specs.declared.seat.ThreadFault.TheVariants.{Engine as Engine_fault}
-use Rattle.session_threads.specs.Acts.{Acted, with_item}
-use Rattle.session_threads.specs.Orders.{Orders, IsOrder}
+use Rattle.session_seats.specs.declared.fault.ThreadFault.TheVariants.{Engine as Engine_fault}
+use Rattle.session_threads.specs.Acts.{Acted}
+use Rattle.session_seats.specs.Orders.{Orders, IsOrder}
 use Rattle.session_threads.specs.Inner.Shared.{IsOrderly}
-use Rattle.session_threads.specs.Seats.{SeatOf}
+use Rattle.session_seats.specs.Seats.{SeatOf, with_item}
 use Rattle.session_threads.proofs.Ordering as threads
 use Rattle.spec_parser.specs.Trees.{EntryTree, SpecTree}
 use Rattle.report_lines.specs.Due.{Launches}
 use Rattle.permutation_plans.specs.Launches.{launches, due_after, due_in}
 use Rattle.plain_runs.specs.Alone.{next_event, IsOfAlone, RefusesNext}
-use Rattle.permutations.specs.Faults.{thread_fault}
+use Rattle.spec_files.specs.Faults.{thread_fault}
 use Rattle.plain_runs.specs.Inner.Next.{IsNext}
-use Rattle.permutations.specs.Plans.{Planning, order_after, IsFollowing}
-use Rattle.permutations.specs.Following.{follows_longer}
+use Rattle.spec_files.specs.Plans.{Planning, order_after, IsFollowing}
+use Rattle.spec_files.specs.Following.{follows_longer}
 
 -- what the engine did since it was opened is what the plan ordered at first, and orders now
 pub record IsUnderWay (first plan : Planning) (opened e : Engine) : Type 0 where

@@ -11,10 +11,10 @@ use Rattle.session_machine.specs.declared.fault.EngineFault.{EngineFault}
 use Rattle.session_machine.specs.declared.reply.HistItem.{HistItem}
 use Rattle.session_machine.specs.Machine.{Machine, Blocks, opening, next, turn_in}
 use Rattle.session_machine.specs.Engine.{Run, fault_of}
-use Rattle.session_threads.specs.declared.seat.ThreadFault.TheVariants as thread_faults
-use Rattle.session_threads.specs.Orders.{Orders, OrderedAfter}
-use Rattle.permutations.specs.declared.fault.RunFault.{RunFault}
-use Rattle.permutations.specs.declared.fault.RunFault.TheVariants as faults
+use Rattle.session_seats.specs.declared.fault.ThreadFault.TheVariants as thread_faults
+use Rattle.session_seats.specs.Orders.{Orders, OrderedAfter}
+use Rattle.spec_files.specs.declared.fault.RunFault.{RunFault}
+use Rattle.spec_files.specs.declared.fault.RunFault.TheVariants as faults
 
 -- the event that is next: the Step of the session whose turn it is, or else what is ordered
 abbrev pub next_event : Option ℕ → Order → Option Event

@@ -1,15 +1,15 @@
 //! The run of one permutation, on one thread.
 
 ghost use Rattle.std.specs.Prelude.{◌≡◌, ◌≢◌, [], length, Err, map, IfOk, IfErr, OnOk};
-ghost use Rattle.session_core.specs.Blocks.{blocks_of};
+ghost use Rattle.sql_blocks.specs.Blocks.{blocks_of};
 ghost use Rattle.session_core.specs.Engines.{IsOf};
-ghost use Rattle.session_threads.specs.Orders.{IsDriven};
+ghost use Rattle.session_seats.specs.Orders.{IsDriven};
 ghost use Rattle.spec_parser.specs.Trees.{entry_view, spec_view};
 ghost use Rattle.spec_parser.specs.Stands.{Stands};
 ghost use Rattle.permutation_plans.specs.Launches.{due_in};
 ghost use Rattle.permutation_plans.specs.Regular.{IsRegular};
-ghost use Rattle.permutations.specs.Inner.Resting.{IsAtRest};
-ghost use Rattle.permutations.specs.Plans.{order_after, IsFollowing};
+ghost use Rattle.spec_files.specs.Inner.Resting.{IsAtRest};
+ghost use Rattle.spec_files.specs.Plans.{order_after, IsFollowing};
 ghost use Rattle.plain_runs.specs.Alone.{IsOfAlone, RefusesNext};
 ghost use Rattle.plain_runs.specs.Inner.Next.{IsNext};
 
@@ -19,7 +19,7 @@ use session_core::EngineState;
 use session_machine::{EngineFault, Event, Mode, Turn};
 use session_threads::{Order, ThreadFault};
 use spec_parser::{Entry, Spec};
-use sql_parser::Block;
+use sql_blocks::Block;
 use std::alloc::{AllocError, Global};
 use std::sync::Wait;
 

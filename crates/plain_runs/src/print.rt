@@ -1,21 +1,21 @@
 //! Prints the permutations of a file, each run on the calling thread alone.
 
 ghost use Rattle.std.specs.Prelude.{Ok, map, IsTrue};
-ghost use Rattle.session_core.specs.Blocks.{blocks_of};
+ghost use Rattle.sql_blocks.specs.Blocks.{blocks_of};
 ghost use Rattle.spec_parser.specs.Trees.{entry_view, spec_view};
 ghost use Rattle.spec_parser.specs.Stands.{Stands};
 ghost use Rattle.permutation_lists.specs.Permutations.{permutations_of};
-ghost use Rattle.permutations.specs.Files.{File, FileIs};
-ghost use Rattle.permutations.specs.Prints.{Prints};
-ghost use Rattle.permutations.specs.Runs.{has_ended, IsOneTold, IsTold};
-ghost use Rattle.permutations.specs.Said.{Said};
+ghost use Rattle.spec_files.specs.Files.{File, FileIs};
+ghost use Rattle.spec_files.specs.Prints.{Prints};
+ghost use Rattle.spec_files.specs.Runs.{has_ended, IsOneTold, IsTold};
+ghost use Rattle.spec_files.specs.Said.{Said};
 
 use crate::one_run::run_alone;
 use iso_lexer::Sink;
 use permutation_lists::Permutations;
 use permutations::{RunFault, read_file, write_permutation};
 use spec_parser::{Entry, Spec};
-use sql_parser::Block;
+use sql_blocks::Block;
 use std::alloc::Global;
 use std::sync::Wait;
 

@@ -1,7 +1,7 @@
 //! A plan as a driver.
 
 ghost use Rattle.std.specs.Prelude.{[]};
-ghost use Rattle.permutations.specs.Plans.{IsFollowing};
+ghost use Rattle.spec_files.specs.Plans.{IsFollowing};
 
 use crate::asking::holds;
 use permutations::Plan;

@@ -3,9 +3,9 @@ use Rattle.std.proofs.Common.{◌≡◌, ℕ, List, map, [], refl}
 use Rattle.std.specs.Prelude.{Some, None, slice_get}
 use Rattle.std.proofs.lemmas.Option.{slice_get-map}
 use Rattle.sql_trees.specs.Statements.{stmt_of}
+use Rattle.sql_blocks.specs.declared.block.Block.{Block}
+use Rattle.sql_blocks.specs.Blocks.{block_of, blocks_of}
 use Rattle.session_machine.specs.Machine.{stmts_at}
-use Rattle.sql_parser.specs.declared.block.Block.{Block}
-use Rattle.session_core.specs.Blocks.{block_of, blocks_of}
 
 -- the statements of a block that is there
 pub stmts_are : (bs : List Block) (k : ℕ) (b : Block) → slice_get bs k ≡ Some b → stmts_at (blocks_of bs) k ≡ map stmt_of b.stmts

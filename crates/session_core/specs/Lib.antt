@@ -1,3 +1,2 @@
-pub mod Blocks
 pub mod Engines
 pub mod Inner

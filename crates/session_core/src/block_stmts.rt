@@ -1,11 +1,11 @@
 //! The statements of the blocks that an engine is opened over.
 ghost use Rattle.std.specs.Prelude.{◌≡◌, ◌≤◌, ◌<◌, MatchOption, None, Some, length, map, slice_get};
 ghost use Rattle.sql_trees.specs.Statements.{stmt_of};
+ghost use Rattle.sql_blocks.specs.Blocks.{blocks_of};
 ghost use Rattle.session_machine.specs.Machine.{stmts_at};
-ghost use Rattle.session_core.specs.Blocks.{blocks_of};
 
 use session_machine::Place;
-use sql_parser::Block;
+use sql_blocks::Block;
 use sql_trees::Stmt;
 
 /// The statements of the block of that number, if it is there.

@@ -1,20 +1,19 @@
 //! The engine: the machine over a store, with its history.
 ghost use Rattle.std.specs.Prelude.{◌≡◌, ◌≢◌, ◌↔◌, IsTrue, ◌+◌, ◌<◌, ◌≤◌, ◌^◌, ℕ, List, [], ◌∷◌, ◌++◌, Option, Some, None, IfOk, IfErr, IfSome, OnOk, OnErr, IsErrOf, Result, Ok, Err, length, option_map, slice_get};
 ghost use Rattle.std.specs.Global.{Vec as VecFacts};
+ghost use Rattle.sql_blocks.specs.Blocks.{blocks_of};
 ghost use Rattle.sql_values.specs.declared.value.Value.{Value as SqlValue};
 ghost use Rattle.row_versions.specs.Log.{empty_content};
 ghost use Rattle.session_machine.specs.declared.reply.Reply.{Reply as ReplyFacts};
 ghost use Rattle.session_machine.specs.Machine.{opening};
 ghost use Rattle.session_machine.specs.Engine.{EngineAnswered, IsLegal, Run, engine_after, fault_of, opened, spent_engine, turn_of, visible_in};
-ghost use Rattle.session_core.specs.Blocks.{blocks_of};
 ghost use Rattle.session_core.specs.Engines.{IsDue, IsOf, is_quiet_in};
 
 use crate::live::Live;
-use crate::same_blocks::same_blocks;
 use row_versions::Versions;
 use session_laws::laws::stays_sound;
 use session_machine::{EngineFault, Event, HistItem, Mode, Refusal, Reply, Turn};
-use sql_parser::Block;
+use sql_blocks::{Block, same_blocks};
 use sql_values::Row;
 use std::alloc::{AllocError, Global};
 use std::marker::Model;
@@ -34,10 +33,10 @@ pub struct EngineState<'a, 't, V: Versions> {
 
 impl<'a, 't, V: Versions> Model for EngineState<'a, 't, V> {
     ghost use Rattle.std.specs.Prelude.{◌≡◌, false, length, Some, None, if◌then◌else◌};
+    ghost use Rattle.sql_blocks.specs.Blocks.{blocks_of};
     ghost use Rattle.session_machine.specs.Machine.{opening};
     ghost use Rattle.session_machine.specs.Engine.{Engine, IsLegal, Run};
     ghost use Rattle.session_machine.specs.Sound.{IsSoundMachine};
-    ghost use Rattle.session_core.specs.Blocks.{blocks_of};
     ghost use Rattle.session_core.specs.Inner.TreeCodes.{tree_code};
     ghost use Rattle.std.specs.Coded.{codes};
 

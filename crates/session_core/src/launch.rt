@@ -2,10 +2,10 @@
 ghost use Rattle.std.specs.Prelude.{◌≡◌, ◌≤◌, ◌<◌, ◌+◌, ◌^◌, ◌==◌, true, false, not, ◌||◌, IfOk, IfErr, MatchOption, Option, Some, None, Ok, Err, is_none, length, map, slice_get};
 ghost use Rattle.std.specs.List.{list_any};
 ghost use Rattle.sql_trees.specs.Statements.{stmt_of};
+ghost use Rattle.sql_blocks.specs.Blocks.{blocks_of};
 ghost use Rattle.session_machine.specs.Running.{is_definition};
 ghost use Rattle.session_machine.specs.Machine.{first_place, is_allowed, next, stmts_at, with_session};
 ghost use Rattle.session_core.specs.Inner.Answers.{answered};
-ghost use Rattle.session_core.specs.Blocks.{blocks_of};
 
 use crate::block_stmts::block_stmts;
 use crate::live::Live;
@@ -13,7 +13,7 @@ use row_versions::Versions;
 use session_machine::{
     Event, Mode, Outcome, Place, Refusal, Reply, Session, Transaction, is_definition,
 };
-use sql_parser::Block;
+use sql_blocks::Block;
 use sql_trees::Stmt;
 
 fn has_definition(stmts: &[Stmt<'_>]) -> bool

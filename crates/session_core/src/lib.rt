@@ -8,7 +8,6 @@ mod laws;
 mod leave;
 mod live;
 mod replay;
-mod same_blocks;
 mod step;
 mod turns;
 mod waits;

@@ -1,19 +1,19 @@
 //! The machine over a store.
 ghost use Rattle.std.specs.Prelude.{◌≡◌, ◌+◌, ◌<◌, ◌≤◌, ◌^◌, List, IfOk, IfErr, OnErr, Option, Ok, Err, option_map, length, slice_get};
 ghost use Rattle.std.specs.Global.{Vec as VecFacts};
+ghost use Rattle.sql_blocks.specs.Blocks.{blocks_of};
 ghost use Rattle.sql_values.specs.declared.value.Value.{Value as SqlValue};
 ghost use Rattle.row_versions.specs.Log.{empty_content};
 ghost use Rattle.session_machine.specs.Sound.{IsSoundMachine};
 ghost use Rattle.session_machine.specs.Machine.{next, opening, visible, with_session};
 ghost use Rattle.session_core.specs.Inner.Answers.{answered};
-ghost use Rattle.session_core.specs.Blocks.{blocks_of};
 ghost use Rattle.session_core.specs.Engines.{Goes};
 
 use iso_lexer::Name;
 use row_versions::Versions;
 use session_machine::{Event, Mode, Refusal, Reply, Session};
 use session_statements::Database;
-use sql_parser::Block;
+use sql_blocks::Block;
 use sql_values::Row;
 use std::alloc::{AllocError, Global};
 use std::marker::Model;

@@ -1,15 +1,15 @@
 //! Whether a history is one of the machine's.
 ghost use Rattle.std.specs.Prelude.{◌≡◌, ◌↔◌, ◌+◌, ◌<◌, ◌≤◌, ◌^◌, ℕ, IsTrue, IfOk, true, false, length};
+ghost use Rattle.sql_blocks.specs.Blocks.{blocks_of};
 ghost use Rattle.session_machine.specs.Sound.{IsSoundMachine};
 ghost use Rattle.session_machine.specs.Machine.{Machine, opening};
 ghost use Rattle.session_machine.specs.Engine.{Follows, IsLegal, Run};
-ghost use Rattle.session_core.specs.Blocks.{blocks_of};
 
 use crate::live::Live;
 use row_versions::{ListStore, Versions};
 use session_laws::laws::stays_sound;
 use session_machine::{HistItem, Mode};
-use sql_parser::Block;
+use sql_blocks::Block;
 use std::alloc::{AllocError, Global};
 
 /// Does an item's event, and says whether it was answered as the item says.

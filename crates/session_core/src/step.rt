@@ -1,5 +1,6 @@
 //! A session's statement begins, or goes on where it waits.
 ghost use Rattle.std.specs.Prelude.{◌≡◌, ◌+◌, ◌<◌, ◌^◌, ℕ, false, IfOk, IfErr, IfSome, OnErr, Some, None, Ok, Err, is_none, length, slice_get, slice_set};
+ghost use Rattle.sql_blocks.specs.Blocks.{blocks_of};
 ghost use Rattle.row_versions.specs.Log.{IsOpen};
 ghost use Rattle.sql_trees.specs.Statements.{stmt_of};
 ghost use Rattle.session_machine.specs.declared.session.OpenTransaction.{OpenTransaction};
@@ -8,7 +9,6 @@ ghost use Rattle.session_machine.specs.Running.{run_stmt};
 ghost use Rattle.session_machine.specs.Sound.{IsSoundMachine};
 ghost use Rattle.session_core.specs.Inner.Answers.{answered};
 ghost use Rattle.session_machine.specs.Machine.{Machine, after_end, after_stmt, around, finished, closed_at_end, is_failed, is_still_blocked, next, with_session};
-ghost use Rattle.session_core.specs.Blocks.{blocks_of};
 ghost use Rattle.session_core.specs.Engines.{Goes};
 
 use crate::block_stmts::{StmtAt, stmt_at};
@@ -18,7 +18,7 @@ use row_versions::Versions;
 use session_laws::laws::stays_sound;
 use session_machine::{Event, Mode, Outcome, Place, Refusal, Reply, Session, Transaction};
 use session_statements::{Database, Effect, Surroundings};
-use sql_parser::Block;
+use sql_blocks::Block;
 use std::alloc::AllocError;
 
 /// The statement of a session's next step, and its place.

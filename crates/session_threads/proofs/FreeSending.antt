@@ -6,7 +6,7 @@ use denote.Struct.Declared.{shape as struct_shape}
 use Rattle.std.proofs.Crossing.{crosses}
 use Rattle.row_versions.specs.declared.versions.Versions as Versions
 use Rattle.session_threads.specs.contracts.free_shared.FreeShared as FreeShared
-use Rattle.session_threads.proofs.seat.ThreadFault.TheSendSync.{the_send as fault_send}
+use Rattle.session_seats.proofs.fault.ThreadFault.TheSendSync.{the_send as fault_send}
 use Rattle.session_threads.proofs.Sending.{engine_send}
 
 pub free_shared_send : (κ λ' : NamedLft) (V : RattleType) (v : Versions.Ghosts V.Denot) → IsSend V → IsSend (FreeShared.the_row κ λ' V v)

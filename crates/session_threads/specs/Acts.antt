@@ -1,18 +1,14 @@
 -- What doing one event leaves, of the engine and of the session's seat.
-use Rattle.std.specs.Prelude.{◌≡◌, ◌++◌, ◌∷◌, [], Ok, Err}
+use Rattle.std.specs.Prelude.{◌≡◌, Ok, Err}
 use Rattle.session_machine.specs.declared.event.Event.{Event}
 use Rattle.session_machine.specs.declared.reply.Reply.{Reply}
 use Rattle.session_machine.specs.declared.fault.EngineFault.{EngineFault}
 use Rattle.session_machine.specs.declared.fault.EngineFault.TheVariants as engine_faults
 use Rattle.session_machine.specs.Engine.{Engine, engine_after, spent_engine}
 use Rattle.session_core.specs.Engines.{IsDue}
-use Rattle.session_threads.specs.declared.seat.ThreadFault.{ThreadFault}
-use Rattle.session_threads.specs.declared.seat.ThreadFault.TheVariants.{Engine as EngineRefused, Memory}
-use Rattle.session_threads.specs.Seats.{SeatOf}
-
--- the item stands last in the seat
-abbrev pub with_item : SeatOf → Event → Reply → SeatOf
-with_item seat event reply = record seat { items = seat.items ++ record { event = event; reply = reply } ∷ [] }
+use Rattle.session_seats.specs.declared.fault.ThreadFault.{ThreadFault}
+use Rattle.session_seats.specs.declared.fault.ThreadFault.TheVariants.{Engine as EngineRefused, Memory}
+use Rattle.session_seats.specs.Seats.{SeatOf, with_item}
 
 -- the engine answered the event as the machine does, and the seat has it
 pub record Acted (event : Event) (before after : Engine) (held kept : SeatOf) : Type 0 where

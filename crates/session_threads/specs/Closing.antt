@@ -1,7 +1,7 @@
 -- A run that is over.
 use Rattle.std.specs.Prelude.{List}
 use Rattle.session_machine.specs.Engine.{Engine}
-use Rattle.session_threads.specs.Seats.{SeatOf}
+use Rattle.session_seats.specs.Seats.{SeatOf}
 
 -- the engine as it stood at the end, and the seats
 pub record ClosedOf : Type 0 where

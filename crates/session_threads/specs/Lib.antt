@@ -1,5 +1,4 @@
 pub mod Seats
 pub mod Acts
 pub mod Closing
-pub mod Orders
 pub mod Inner

@@ -1,16 +1,14 @@
 //! The end of a run: the engine's state beside the seats.
-ghost use Rattle.std.specs.Prelude.{◌≡◌, ◌≢◌, ◌<◌, ◌↔◌, ℕ, [], true, Err, None, Some, IsTrue, IfOk, IfErr, IfNone, IfSome, MatchOption};
-ghost use Rattle.session_core.specs.Blocks.{blocks_of};
+ghost use Rattle.std.specs.Prelude.{◌≡◌, ℕ, Err, None, Some, IfOk, IfErr, IfNone, IfSome};
+ghost use Rattle.sql_blocks.specs.Blocks.{blocks_of};
 ghost use Rattle.session_core.specs.Engines.{IsOf};
-ghost use Rattle.session_threads.specs.Seats.{items_of, seats_of, seat_if, AllFit, IsMisfit};
-ghost use Rattle.session_machine.specs.Machine.{session_of};
-ghost use Rattle.session_threads.specs.Inner.Seats.{is_less};
+ghost use Rattle.session_threads.specs.Seats.{AllFit, IsMisfit};
 
-use crate::seat::{Seat, ThreadFault};
 use row_versions::Versions;
 use session_core::EngineState;
-use session_machine::{Event, HistItem, Mode};
-use sql_parser::Block;
+use session_machine::Mode;
+use session_seats::{Seat, ThreadFault, first_misfit};
+use sql_blocks::Block;
 use std::marker::Model;
 
 /// A run that is over: the engine's state, and a seat for each session, whose items are the history's items of that
@@ -91,7 +89,7 @@ fn seat_fault<V: Versions>(
     ensures fit { IfNone result (AllFit state.now seats.now) }
     ensures misfit { IfSome result (λ e. (s : ℕ) × (e ≡ ThreadFault.SeatMismatch s) × IsMisfit state.now seats.now s) }
 {
-    match first_misfit(state, seats) {
+    match first_misfit(state.history(), state.sessions(), seats) {
         Some(session) => Some(ThreadFault::SeatMismatch { session }),
         None => None,
     }
@@ -137,96 +135,5 @@ fn end_fault<V: Versions>(
         Some(fault) => Some(fault),
         None if engine.is_of(blocks, sessions, mode) => seat_fault(engine, seats),
         None => Some(ThreadFault::OtherRun),
-    }
-}
-
-fn first_misfit<V: Versions>(state: &EngineState<'_, '_, V>, seats: &[Seat<'_>]) -> Option<u32>
-    ensures { MatchOption result (AllFit state.now seats.now) (λ s. IsMisfit state.now seats.now s) }
-{
-    let last = state.sessions();
-    for session in 0..last {
-        if !fits(state.history(), seats, session) {
-            return Some(session);
-        }
-    }
-    if !fits(state.history(), seats, last) {
-        return Some(last);
-    }
-    least_over(seats, last)
-}
-
-/// Whether the session has one seat, which holds its items.
-fn fits(history: &[HistItem<'_>], seats: &[Seat<'_>], session: u32) -> bool
-    ensures { IsTrue result ↔ (seats_of session seats.now ≡ seat_if true session history.now) }
-{
-    let mut wanted = true;
-    for seat in seats {
-        if seat.session() == session {
-            if !wanted || !same_items(history, seat.items(), session) {
-                return false;
-            }
-            wanted = false;
-        }
-    }
-    !wanted
-}
-
-/// Whether the items are the history's items of the session.
-fn same_items(history: &[HistItem<'_>], items: &[HistItem<'_>], session: u32) -> bool
-    ensures { IsTrue result ↔ (items.now ≡ items_of session history.now) }
-{
-    let mut rest = items;
-    for item in history {
-        if number_of(item.event) == session {
-            let [own, others @ ..] = rest else {
-                return false;
-            };
-            if !is_same(own, item) {
-                return false;
-            }
-            rest = others;
-        }
-    }
-    rest.is_empty()
-}
-
-fn is_same(a: &HistItem<'_>, b: &HistItem<'_>) -> bool
-    ensures { IsTrue result ↔ (a.now ≡ b.now) }
-{
-    a.event == b.event && a.reply.same(&b.reply)
-}
-
-/// The session of an event.
-pub fn number_of(event: Event) -> u32
-    ensures { result ≡ session_of event }
-{
-    match event {
-        Event::Launch { session, .. } | Event::Step { session } | Event::Leave { session } => {
-            session
-        }
-    }
-}
-
-/// The least session over `last` that has a seat.
-fn least_over(seats: &[Seat<'_>], last: u32) -> Option<u32>
-    ensures { MatchOption result ((s : ℕ) → last < s → seats_of s seats.now ≡ []) (λ t. (last < t) × (seats_of t seats.now ≢ []) × ((s : ℕ) → last < s → s < t → seats_of s seats.now ≡ [])) }
-{
-    let mut least = None;
-    for seat in seats {
-        let own = seat.session();
-        if own > last && is_less(own, least) {
-            least = Some(own);
-        }
-    }
-    least
-}
-
-/// Whether the number is less than the other, if there is one.
-fn is_less(own: u32, other: Option<u32>) -> bool
-    ensures { result ≡ is_less own other }
-{
-    match other {
-        Some(least) => own < least,
-        None => true,
     }
 }

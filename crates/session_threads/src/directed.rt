@@ -1,21 +1,18 @@
 //! A run with a thread for each session, in which a driver says what is given to whom.
 ghost use Rattle.std.specs.Prelude.{◌≡◌, ◌≤◌, [], true, false, Err, None, IfOk, IfSome};
 ghost use Rattle.row_versions.specs.Log.{empty_content};
-ghost use Rattle.session_core.specs.Blocks.{blocks_of};
+ghost use Rattle.sql_blocks.specs.Blocks.{blocks_of};
 ghost use Rattle.session_core.specs.Engines.{IsOf, is_quiet_in};
-ghost use Rattle.session_threads.specs.Orders.{IsDriven};
+ghost use Rattle.session_seats.specs.Orders.{IsDriven};
 
-use crate::bells::Bells;
 use crate::closing::{Closed, end_of};
-use crate::crew::start_thread;
-use crate::driver::{Driver, Ordering};
-use crate::gate::Gate;
-use crate::seat::{Seat, ThreadFault, empty_seats};
-use crate::shared::{Post, Shared, give_up, work};
+use crate::driver::Driver;
+use crate::shared::{Shared, give_up, work};
 use row_versions::Versions;
 use session_core::EngineState;
 use session_machine::{EngineFault, Mode};
-use sql_parser::Block;
+use session_seats::{Bells, Gate, Ordering, Post, Seat, ThreadFault, empty_seats, start_thread};
+use sql_blocks::Block;
 use std::alloc::Global;
 use std::marker::Brand;
 use std::sync::{Mutex, Wait};

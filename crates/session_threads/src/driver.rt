@@ -7,7 +7,6 @@ use row_versions::Versions;
 use session_core::EngineState;
 use session_machine::Order;
 use std::alloc::{AllocError, Global};
-use std::marker::Brand;
 
 /// Says what is to be done next whenever an engine is quiet, by what the engine has answered so far.
 pub trait Driver<V: Versions> {
@@ -44,15 +43,4 @@ impl<V: Versions, D: Driver<V>> Driver<V> for &mut D {
     }
 
     ghost goes_on = { λ d items more. D.goes_on d.now items more };
-}
-
-/// The orders that a run is given. Each run picks those of its driver, and its threads hold on to them by the type.
-pub trait Ordering {
-    ghost orders: { List Item → Given };
-}
-
-impl Ordering for Brand {
-    ghost use Rattle.session_machine.specs.declared.event.Order.TheVariants.{Stop};
-
-    ghost orders = { λ items. Stop };
 }

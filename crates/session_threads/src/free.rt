@@ -1,56 +1,23 @@
 //! A run in which each session's thread runs the session's script, with no order between sessions.
 ghost use Rattle.std.specs.Prelude.{◌≡◌, ◌≤◌, IfOk, vec_len};
 ghost use Rattle.row_versions.specs.Log.{empty_content};
-ghost use Rattle.session_core.specs.Blocks.{blocks_of};
+ghost use Rattle.sql_blocks.specs.Blocks.{blocks_of};
 ghost use Rattle.session_core.specs.Engines.{IsOf};
 
 use crate::closing::{Closed, end_of};
-use crate::crew::start_thread;
 use crate::free_shared::{FreeShared, free_event, stop};
-use crate::gate::{Gate, OpenGate};
-use crate::seat::{Seat, ThreadFault, empty_seats};
 use row_versions::Versions;
 use session_core::EngineState;
-use session_machine::{EngineFault, Event, Mode, Outcome};
-use sql_parser::Block;
+use session_machine::{EngineFault, Event, Mode};
+use session_seats::{
+    BlockState, FreePlan, Gate, OpenGate, Runner, Seat, ThreadFault, block_state, empty_seats,
+    script_of, start_thread,
+};
+use sql_blocks::Block;
 use std::alloc::Global;
 use std::sync::{Condvar, Mutex, Wait};
 use std::thread;
 use std::thread::{JoinHandle, Scope, Threads};
-
-/// The blocks of a free run, by their numbers.
-#[derive(Drop)]
-pub struct FreePlan {
-    /// A session and a block for it, one after the other, before the threads start.
-    pub before: Vec<(u32, u32)>,
-    /// The blocks of each session, which its thread runs; the first is session 1.
-    pub scripts: Vec<Vec<u32>>,
-    /// The control session's blocks after the threads.
-    pub after: Vec<u32>,
-}
-
-/// How far the block has come that a session was given last.
-#[derive(Clone, Copy)]
-enum BlockState {
-    /// It has statements left, or waits.
-    GoesOn { waits: bool },
-    Ended { failed: bool },
-}
-
-fn block_state(seat: &Seat<'_>) -> BlockState {
-    let Some(item) = seat.items().last() else {
-        return BlockState::Ended { failed: false };
-    };
-    if item.reply.ended {
-        BlockState::Ended {
-            failed: matches!(item.reply.outcome, Outcome::Failed(_)),
-        }
-    } else {
-        BlockState::GoesOn {
-            waits: matches!(item.reply.outcome, Outcome::Waits),
-        }
-    }
-}
 
 /// Launches a block in a session, and steps until it has ended, or waits where it may not. Says how far it has come; `None`
 /// where the run is over.
@@ -81,13 +48,6 @@ fn run_block<'a, 't, V: Versions, G: Gate, R: Wait>(
         }
     }
     None
-}
-
-/// A session's seat, and the blocks that its thread runs.
-#[derive(Drop)]
-struct Runner<'s, 't> {
-    seat: &'s mut Seat<'t>,
-    script: &'s [u32],
 }
 
 /// Runs the session's blocks, and leaves.
@@ -176,17 +136,6 @@ fn run_after<'a, 't, V: Versions, R: Wait>(
     };
     for block in after {
         run_setup(rt, shared, bell, seat, *block);
-    }
-}
-
-/// The script of a session; the control session has none.
-fn script_of(scripts: &[Vec<u32>], session: u32) -> Option<&[u32]> {
-    match session {
-        0 => None,
-        number => match scripts.get(number as usize - 1) {
-            Some(script) => Some(script.as_slice()),
-            None => None,
-        },
     }
 }
 

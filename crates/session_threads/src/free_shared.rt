@@ -2,12 +2,11 @@
 ghost use Rattle.std.specs.Prelude.{◌≡◌};
 ghost use Rattle.session_machine.specs.Machine.{session_of};
 
-use crate::gate::Gate;
-use crate::seat::{Seat, ThreadFault, act};
-use crate::shared::{admitted, tell};
+use crate::act::act;
 use row_versions::Versions;
 use session_core::EngineState;
-use session_machine::{EngineFault, Event, Outcome};
+use session_machine::{EngineFault, Event};
+use session_seats::{Gate, Seat, ThreadFault, Tried, admitted, may_release, tell};
 use std::sync::{Condvar, Mutex, Wait};
 
 /// The engine, and a fault that was met.
@@ -15,16 +14,6 @@ use std::sync::{Condvar, Mutex, Wait};
 pub struct FreeShared<'a, 't, V: Versions> {
     engine: EngineState<'a, 't, V>,
     fault: Option<ThreadFault>,
-}
-
-/// What came of trying an event.
-#[derive(Clone, Copy)]
-pub enum Tried {
-    Done,
-    /// What the session waits for still stood in its way when there were so many events.
-    Blocked { events: usize },
-    /// The run is over: a fault was met.
-    Over,
 }
 
 impl<'a, 't, V: Versions> FreeShared<'a, 't, V> {
@@ -87,14 +76,6 @@ pub fn stop<'a, 't, V: Versions, R: Wait>(
 ) {
     shared.lock(rt).note(fault);
     bell.notify_all();
-}
-
-/// Whether the seat's last event may have released something: all but a Launch and a wait may.
-fn may_release(seat: &Seat<'_>) -> bool {
-    match seat.items().last() {
-        Some(item) => !matches!(item.reply.outcome, Outcome::Launched | Outcome::Waits),
-        None => false,
-    }
 }
 
 /// Tries an event under the lock. Wakes those who sleep where something may have been released, or the run is over.

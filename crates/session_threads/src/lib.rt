@@ -1,23 +1,19 @@
-//! A thread for each session, and one engine behind one lock: who says what the sessions are given, who admits it, and
-//! what each session's thread has done.
+//! A thread for each session, and one engine behind one lock: who says what the sessions are given, and what each session's
+//! thread does.
 #![tactic(auto)]
 
-mod bells;
+mod act;
 mod closing;
-mod crew;
 mod directed;
 mod driver;
 mod free;
 mod free_shared;
-mod gate;
-mod seat;
 mod shared;
 
+pub use act::act;
 pub use closing::{Closed, close};
-pub use crew::THREAD_STACK;
 pub use directed::run_directed;
 pub use driver::Driver;
-pub use free::{FreePlan, run_free};
-pub use gate::{Gate, OpenGate};
-pub use seat::{Seat, ThreadFault, act};
+pub use free::run_free;
 pub use session_machine::Order;
+pub use session_seats::{FreePlan, Gate, OpenGate, Seat, THREAD_STACK, ThreadFault};

@@ -2,19 +2,17 @@
 ghost use Rattle.std.specs.Prelude.{◌≡◌, ◌||◌, true, false, [], None, Some, IfSome, is_some};
 ghost use Rattle.session_machine.specs.Machine.{session_of};
 ghost use Rattle.session_threads.specs.Inner.Seats.{IsFor};
-ghost use Rattle.session_threads.specs.Orders.{IsDriven, IsOrder};
+ghost use Rattle.session_seats.specs.Orders.{IsDriven, IsOrder};
 
-use crate::bells::Bells;
-use crate::driver::{Driver, Ordering};
-use crate::gate::Gate;
-use crate::seat::{Seat, ThreadFault, act};
+use crate::act::act;
+use crate::driver::Driver;
 use row_versions::Versions;
 use session_core::EngineState;
 use session_machine::{EngineFault, Event, Order, Turn};
+use session_seats::{Bells, Gate, Instruction, Ordering, Post, Seat, ThreadFault, admitted, tell};
 use std::alloc::Global;
 use std::marker::{Model, PhantomData};
 use std::sync::{Mutex, MutexGuard, Wait};
-use std::thread::yield_now;
 
 /// The engine, the driver, the order that was given and is not yet done, whether the driver said Stop, and a fault that was
 /// met. Each Launch and Leave of the history is what the driver orders after the history before it, nothing follows a Stop,
@@ -190,26 +188,6 @@ impl<'a, 't, V: Versions, O: Ordering, D: Driver<V> + Drop> Shared<'a, 't, V, O,
     }
 }
 
-/// What a thread is to do.
-#[derive(Clone, Copy)]
-pub enum Instruction {
-    /// This event.
-    Do(Event),
-    /// Nothing any more.
-    End,
-}
-
-/// Whether the gate admits the event, as often as it may be asked.
-pub fn admitted<G: Gate>(gate: &G, event: Event) -> bool {
-    for _ in 0..gate.tries().max(1) {
-        if gate.admits(event) {
-            return true;
-        }
-        yield_now();
-    }
-    false
-}
-
 /// Keeps a fault, and wakes everyone.
 pub fn give_up<'a, 't, V: Versions, O: Ordering, D: Driver<V>, R: Wait>(
     rt: &R,
@@ -278,20 +256,6 @@ pub fn one_event<'a, 't, V: Versions, O: Ordering, D: Driver<V>, G: Gate, R: Wai
         tell(gate, seat);
     }
     done
-}
-
-/// Tells the gate the seat's last event and its reply.
-pub fn tell<G: Gate>(gate: &G, seat: &Seat<'_>) {
-    if let Some(item) = seat.items().last() {
-        gate.answered(item.event, &item.reply);
-    }
-}
-
-/// A session's seat, and the bells that its thread sleeps at and rings.
-#[derive(Drop)]
-pub struct Post<'s, 't> {
-    pub bells: &'s Bells,
-    pub seat: &'s mut Seat<'t>,
 }
 
 /// Does the session's events until the run is over.

@@ -17,9 +17,9 @@ use Rattle.sql_expressions.specs.Readers.{is_sign, misplaced, place_of}
 use Rattle.sql_expressions.specs.Reading.{is_call}
 use Rattle.sql_expressions.specs.Laws.{head, Makes, first}
 use Rattle.sql_expressions.specs.Laws as expr
-use Rattle.sql_parser.specs.declared.block.Role.{Role}
+use Rattle.sql_blocks.specs.declared.block.Role.{Role}
+use Rattle.sql_blocks.specs.Kept.{is_kept_in}
 use Rattle.sql_parser.specs.Blocks.{whole_at, piece_at, stmts_at}
-use Rattle.sql_parser.specs.Kept.{is_kept_in}
 use Rattle.sql_parser.specs.Grammar.{Is, RowIs, is_row, Spells, PieceIs, no_stmt, a_stmt, BlockIs, last_piece, next_piece, EndedAre, no_pieces, ended_piece, Shallow, OfAnyDepth}
 use Rattle.sql_parser.specs.Stops.{Refuses, at_next, at_word, at_name, at_row, in_expression, too_deep, WantsWords, IsStop}
 use Rattle.sql_parser.specs.Laws.{BeginsStatement, Excepted, Stops, BlockStops, at_block_token, in_a_statement, BlockFaultsAreFirst, at_token, elsewhere}

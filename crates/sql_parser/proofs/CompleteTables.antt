@@ -18,9 +18,10 @@ use Rattle.sql_trees.specs.Statements.{ColumnTree, KeyTree}
 use Rattle.sql_trees.specs.Tokens.{Token, Tokens, named}
 use Rattle.sql_trees.specs.Tokens as tok
 use Rattle.sql_expressions.specs.Readers.{is_word, is_sign}
-use Rattle.sql_parser.specs.Tables.{Placed, KeyRead, TableRead, Constraints, is_among, placed_names, column_names, empty_table, with_key, with_column, kind_of, key_add, key_at, constraints_at, column_at, table_add, made_name, first_lacking, keys_fault, completed, place_among, places_in, resolved, is_kept, resolved_keys, declared, finished, create_at, created}
+use Rattle.sql_blocks.specs.Parts.{column_names}
+use Rattle.sql_blocks.specs.Kept.{all_differ, places_differ, key_fits, tree_name, table_kept}
+use Rattle.sql_parser.specs.Tables.{Placed, KeyRead, TableRead, Constraints, is_among, placed_names, empty_table, with_key, with_column, kind_of, key_add, key_at, constraints_at, column_at, table_add, made_name, first_lacking, keys_fault, completed, place_among, places_in, resolved, is_kept, resolved_keys, declared, finished, create_at, created}
 use Rattle.sql_parser.specs.Inner.OneConstraint.{is_constraint}
-use Rattle.sql_parser.specs.Kept.{all_differ, places_differ, key_fits, tree_name, table_kept}
 use Rattle.sql_parser.specs.Grammar.{Is, Key, Names, Commas, placed, AddsColumn, adds_column, Says, no_more, not_null, primary_key, unique_key, AddsPart, a_column, a_primary, a_unique, Shallow}
 use Rattle.sql_parser.proofs.Keeping.{or_none}
 use Rattle.sql_parser.proofs.KeysKept.{key_among, names_kept, made, names_stay}

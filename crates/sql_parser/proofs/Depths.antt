@@ -8,8 +8,8 @@ use Rattle.sql_expressions.specs.Build.{negated, push}
 use Rattle.sql_expressions.specs.Reading.{expr_at}
 use Rattle.sql_expressions.specs.Grammar.{Level, Spells, only, chain, negation, is, comparison, contained, between, minus, plus, parens, literal, Items, one, next, IsLeaf, number, text, column, yes, no, null}
 use Rattle.sql_expressions.proofs.Levels.{expr_begins}
+use Rattle.sql_blocks.specs.Kept.{tree_depth, trees_depth, is_shallow}
 use Rattle.sql_parser.specs.Readers.{tree_at}
-use Rattle.sql_parser.specs.Kept.{tree_depth, trees_depth, is_shallow}
 use Rattle.sql_parser.proofs.Steps.{bind_ok, ok_same}
 
 negated_depth : (e : Tree) → tree_depth (negated e) ≤ suc (tree_depth e)

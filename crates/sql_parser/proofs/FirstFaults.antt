@@ -10,7 +10,7 @@ use Rattle.sql_expressions.specs.Results.{◌>>=◌}
 use Rattle.sql_expressions.specs.Readers.{misplaced}
 use Rattle.sql_expressions.specs.Laws.{head}
 use Rattle.sql_expressions.proofs.Local.{first_is}
-use Rattle.sql_parser.specs.declared.block.Role.{Role}
+use Rattle.sql_blocks.specs.declared.block.Role.{Role}
 use Rattle.sql_parser.specs.Blocks.{stmt_at, at_end, whole_at}
 use Rattle.sql_parser.specs.Grammar.{Spells, OfAnyDepth}
 use Rattle.sql_parser.specs.Stops.{Refuses, at_next, WantsWords, IsStop}

@@ -14,8 +14,9 @@ use Rattle.sql_trees.specs.Statements.{StmtTree, ColumnTree, KeyTree, key_name}
 use Rattle.sql_trees.specs.Tokens.{Tokens}
 use Rattle.sql_expressions.specs.Results.{◌>>=◌}
 use Rattle.sql_expressions.specs.Readers.{expect, is_sign, is_word, some_or, items_at, keyword, name_at}
-use Rattle.sql_parser.specs.Tables.{Placed, KeyRead, TableRead, is_among, placed_names, column_names, empty_table, made_name, first_place, first_lacking, text_fault, keys_fault, completed, place_among, places_in, resolved, is_kept, resolved_keys, declared, finished, table_add, create_at, created}
-use Rattle.sql_parser.specs.Kept.{all_differ, places_differ, names_at, key_fits, tree_name, table_kept}
+use Rattle.sql_blocks.specs.Parts.{column_names}
+use Rattle.sql_blocks.specs.Kept.{all_differ, places_differ, names_at, key_fits, tree_name, table_kept}
+use Rattle.sql_parser.specs.Tables.{Placed, KeyRead, TableRead, is_among, placed_names, empty_table, made_name, first_place, first_lacking, text_fault, keys_fault, completed, place_among, places_in, resolved, is_kept, resolved_keys, declared, finished, table_add, create_at, created}
 use Rattle.sql_trees.specs.declared.fault.SqlFault.TheVariants.{BadColumns}
 use Rattle.sql_parser.proofs.Keeping.{FineOrNot, differ_push, or_none}
 use Rattle.sql_parser.proofs.Steps.{bind_ok, ok_same}

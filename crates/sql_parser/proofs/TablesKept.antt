@@ -13,10 +13,11 @@ use Rattle.sql_trees.specs.Tokens.{Token, Tokens, named}
 use Rattle.sql_trees.specs.Tokens as tok
 use Rattle.sql_expressions.specs.Results.{◌>>=◌}
 use Rattle.sql_expressions.specs.Readers.{after, is_sign, expect, misplaced, is_word, place_of, items_at, keyword, name_at, some_or}
+use Rattle.sql_blocks.specs.Parts.{column_names}
+use Rattle.sql_blocks.specs.Kept.{all_differ}
 use Rattle.sql_parser.specs.Readers.{misplaced_word}
-use Rattle.sql_parser.specs.Tables.{Placed, KeyRead, TableRead, Constraints, is_among, placed_names, column_names, empty_table, with_key, with_column, key_limit, kind_of, kind_at, key_add, key_at, constraints_at, limits_at, column_behind, column_at, table_add}
+use Rattle.sql_parser.specs.Tables.{Placed, KeyRead, TableRead, Constraints, is_among, placed_names, empty_table, with_key, with_column, key_limit, kind_of, kind_at, key_add, key_at, constraints_at, limits_at, column_behind, column_at, table_add}
 use Rattle.sql_parser.specs.Inner.OneConstraint.{constraint_of, constraint_at, constrained}
-use Rattle.sql_parser.specs.Kept.{all_differ}
 use Rattle.sql_parser.proofs.Keeping.{differ_push}
 use Rattle.sql_parser.proofs.Going.{turn_is}
 use Rattle.sql_parser.proofs.Lists.{comma_shortens}

@@ -17,7 +17,7 @@ use Rattle.sql_trees.specs.Statements.{StmtTree}
 use Rattle.sql_trees.specs.declared.token.Tok.{Tok}
 use Rattle.sql_trees.specs.Tokens.{classify_at, tok_at, tok_views}
 use Rattle.sql_expressions.specs.Results.{Gives}
-use Rattle.sql_parser.specs.declared.block.Role.{Role}
+use Rattle.sql_blocks.specs.declared.block.Role.{Role}
 use Rattle.sql_parser.specs.Inner.Calls.{seen}
 use Rattle.sql_parser.specs.Blocks.{block_at}
 use Rattle.sql_parser.specs.Texts.{Parses}

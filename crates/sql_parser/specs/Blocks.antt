@@ -10,8 +10,8 @@ use Rattle.sql_trees.specs.Tokens.{Token, Tokens}
 use Rattle.sql_trees.specs.Tokens as tok
 use Rattle.sql_expressions.specs.Results.{◌>>=◌}
 use Rattle.sql_expressions.specs.Readers.{is_sign, misplaced, Reader, made}
-use Rattle.sql_parser.specs.declared.block.Role.{Role}
-use Rattle.sql_parser.specs.declared.block.Role.TheVariants as roles
+use Rattle.sql_blocks.specs.declared.block.Role.{Role}
+use Rattle.sql_blocks.specs.Parts.{is_session}
 use Rattle.sql_parser.specs.Readers.{past}
 use Rattle.sql_parser.specs.Transactions.{is_work, begin_at, start_at, set_at}
 use Rattle.sql_parser.specs.Tables.{create_at, drop_at}
@@ -22,10 +22,6 @@ abbrev pub is_ddl : Token → Bool
 is_ddl (tok.word words.Create s) = true
 is_ddl (tok.word words.Drop s) = true
 is_ddl _ = false
-
-abbrev pub is_session : Role → Bool
-is_session roles.Session = true
-is_session roles.Main = false
 
 module _ (last : ℕ) where
   -- a statement of which nothing has to hold as a whole, by its first token

@@ -1,5 +1,5 @@
 -- INSERT, UPDATE and DELETE (PostgreSQL manual: INSERT, UPDATE, DELETE).
-use Rattle.std.specs.Prelude.{ℕ, Bool, true, false, ◌==◌, List, [], ◌∷◌, ◌++◌, length, map, Option, Some, None, option_map, Ok, Err, if◌then◌else◌}
+use Rattle.std.specs.Prelude.{ℕ, List, [], ◌∷◌, ◌++◌, length, Option, Some, None, option_map, Ok, Err, if◌then◌else◌}
 use Rattle.iso_lexer.specs.declared.sql_token.SqlSign.TheVariants as signs
 use Rattle.sql_trees.specs.declared.fault.SqlFault.TheVariants.{Syntax}
 use Rattle.sql_trees.specs.declared.word.Word.TheVariants as words
@@ -8,6 +8,7 @@ use Rattle.sql_trees.specs.Tokens.{Token, Tokens}
 use Rattle.sql_trees.specs.Tokens as tok
 use Rattle.sql_trees.specs.Trees.{Tree}
 use Rattle.sql_expressions.specs.Readers.{place_of, expect, is_sign, is_word, Reader, gives, made, either, keyword, closed, name_at, items_at, ◌>>=◌, ◌>>◌}
+use Rattle.sql_blocks.specs.Parts.{fits, set_columns}
 use Rattle.sql_parser.specs.Readers.{maybe, tree_at, added}
 use Rattle.sql_parser.specs.Tables.{new_name}
 
@@ -15,13 +16,6 @@ use Rattle.sql_parser.specs.Tables.{new_name}
 pub record Rows : Type 0 where
   pub rows : List (List Tree)
   pub width : Option ℕ
-
-abbrev pub fits : Option ℕ → ℕ → Bool
-fits None n = true
-fits (Some m) n = m == n
-
-abbrev pub set_columns : List SetTree → List (List ℕ)
-set_columns ss = map (λ s. s.column) ss
 
 module _ (last : ℕ) where
   -- one more name, which may not stand there twice

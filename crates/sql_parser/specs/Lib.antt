@@ -4,10 +4,8 @@ pub mod Tables
 pub mod Changes
 pub mod Queries
 pub mod Blocks
-pub mod BlockViews
 pub mod Views
 pub mod Texts
-pub mod Kept
 pub mod Grammar
 pub mod Stops
 pub mod Laws

@@ -1,6 +1,5 @@
 -- SELECT (PostgreSQL manual: SELECT).
-use Rattle.std.specs.Prelude.{ℕ, Bool, true, false, not, ◌||◌, ◌&&◌, List, [], ◌∷◌, ◌++◌, Option, Some, None, Result, Ok, Err, is_some, option_map, if◌then◌else◌}
-use Rattle.std.specs.List.{list_any, list_all}
+use Rattle.std.specs.Prelude.{ℕ, Bool, true, false, List, [], ◌∷◌, ◌++◌, Option, Some, None, Result, Ok, Err, option_map, if◌then◌else◌}
 use Rattle.iso_lexer.specs.declared.sql_token.SqlSign.TheVariants as signs
 use Rattle.sql_trees.specs.declared.fault.SqlFault.{SqlFault}
 use Rattle.sql_trees.specs.declared.fault.SqlFault.TheVariants.{LeftOut}
@@ -14,6 +13,7 @@ use Rattle.sql_trees.specs.Tokens.{Token, Tokens, named}
 use Rattle.sql_trees.specs.Tokens as tok
 use Rattle.sql_trees.specs.Trees.{AggTree, CountRows, Of}
 use Rattle.sql_expressions.specs.Readers.{after, expect, is_sign, is_word, Reader, gives, made, some_or, either, keyword, closed, name_at, items_at, ◌>>=◌, ◌>>◌}
+use Rattle.sql_blocks.specs.Parts.{is_allowed}
 use Rattle.sql_parser.specs.Readers.{maybe, tree_at, added}
 use Rattle.sql_parser.specs.Changes.{filter_at}
 
@@ -86,24 +86,6 @@ module _ (last : ℕ) where
   lock_at = either (is_word words.For) (either (is_word words.Update) (gives (Some locks.Update)) (keyword last words.Share >> gives (Some locks.Share))) (gives None)
 
 -- ---- what has to hold of the whole
-
-abbrev pub is_aggregate : ItemTree → Bool
-is_aggregate (Aggregate a n) = true
-is_aggregate _ = false
-
-abbrev pub is_all : ItemTree → Bool
-is_all All = true
-is_all _ = false
-
-abbrev pub is_sorted : List OrderTree → Bool
-is_sorted [] = false
-is_sorted _ = true
-
--- aggregates stand alone and go with no ORDER BY and no lock; a star and a lock go with a table
-abbrev pub is_allowed : SelectTree → Bool
-is_allowed s =
-    (not (list_any is_aggregate s.items) || (list_all is_aggregate s.items && not (is_sorted s.order || is_some s.lock)))
-    && (is_some s.table || not (list_any is_all s.items || is_some s.lock))
 
 abbrev pub query_of : ℕ → SelectTree → Result StmtTree SqlFault
 query_of place s = if is_allowed s then Ok (Selects s) else Err (LeftOut place)

@@ -13,6 +13,7 @@ use Rattle.sql_trees.specs.Tokens.{Token, Tokens}
 use Rattle.sql_trees.specs.Tokens as tok
 use Rattle.sql_expressions.specs.Results.{◌>>=◌ as and_then}
 use Rattle.sql_expressions.specs.Readers.{after, place_of, expect, is_sign, is_word, Reader, gives, made, some_or, either, one_at, keyword, closed, name_at, items_at, ◌>>=◌, ◌>>◌}
+use Rattle.sql_blocks.specs.Parts.{column_names}
 use Rattle.sql_parser.specs.Readers.{misplaced_word, added}
 
 -- the name is one of these
@@ -40,9 +41,6 @@ pub record TableRead : Type 0 where
 pub record Constraints : Type 0 where
   pub not_null : Bool
   pub keys : List KeyRead
-
-abbrev pub column_names : List ColumnTree → List (List ℕ)
-column_names cs = map (λ c. c.name) cs
 
 abbrev pub placed_names : List Placed → List (List ℕ)
 placed_names ns = map (λ n. n.name) ns

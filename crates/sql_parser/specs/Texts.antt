@@ -8,7 +8,7 @@ use Rattle.sql_trees.specs.declared.fault.SqlFault.{SqlFault}
 use Rattle.sql_trees.specs.declared.fault.SqlFault.TheVariants.{Memory, Lex}
 use Rattle.sql_trees.specs.Statements.{StmtTree}
 use Rattle.sql_trees.specs.Tokens.{classify_at}
-use Rattle.sql_parser.specs.declared.block.Role.{Role}
+use Rattle.sql_blocks.specs.declared.block.Role.{Role}
 use Rattle.sql_parser.specs.Blocks.{block_at}
 
 -- the text has tokens, and its block reads so

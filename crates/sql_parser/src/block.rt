@@ -1,7 +1,6 @@
 //! Blocks of statements.
 
-ghost use Rattle.std.specs.List.{list_all};
-ghost use Rattle.std.specs.Prelude.{◌≡◌, ◌↔◌, true, ◌<◌, ◌≤◌, ◌^◌, [], Ok, IfOk, IsTrue, length, map, IfSome, vec_len, option_map};
+ghost use Rattle.std.specs.Prelude.{◌≡◌, ◌<◌, ◌≤◌, ◌^◌, [], Ok, IfOk, length, map, IfSome, vec_len, option_map};
 ghost use Rattle.iso_lexer.specs.declared.sql_token.SqlSign.TheVariants as signs;
 ghost use Rattle.sql_trees.specs.Statements.{stmt_of};
 ghost use Rattle.sql_trees.specs.Tokens.{tok_view, tok_views};
@@ -11,78 +10,13 @@ ghost use Rattle.sql_parser.specs.Inner.Calls.{seen};
 ghost use Rattle.sql_parser.specs.Texts.{Parses};
 ghost use Rattle.sql_parser.specs.Blocks.{at_end, whole_at, piece_at, block_at};
 ghost use Rattle.sql_parser.specs.Inner.Pieces.{piece_len, SplitsAs};
-ghost use Rattle.sql_parser.specs.Kept.{is_kept_in};
 
 use crate::statement::stmt;
 use iso_lexer::{LexFault, SqlSign, sql_tokens};
-use sql_equality::same_stmts;
+use sql_blocks::{Block, MAX_STMTS, Role};
 use sql_expressions::{Parser, Tokens};
 use sql_trees::{SqlFault, Stmt, Tok, classified};
 use std::alloc::Global;
-use std::marker::Model;
-
-/// Where a block stands: in the setup or teardown of a whole spec, or in a session.
-#[derive(Clone, Copy, PartialEq, Eq)]
-pub enum Role {
-    Main,
-    /// Makes and drops no table.
-    Session,
-}
-
-/// The greatest number of statements of a block.
-pub const MAX_STMTS: usize = 256;
-
-/// The statements of a block of SQL text. Only `parse_block` makes one.
-#[derive(Drop)]
-pub struct Block<'a> {
-    role: Role,
-    stmts: Vec<Stmt<'a>>,
-}
-
-impl<'a> Model for Block<'a> {
-    ghost use Rattle.std.specs.Coded.{codes};
-    ghost use Rattle.std.specs.List.{list_all};
-    ghost use Rattle.std.specs.Prelude.{◌≡◌, ◌≤◌, true, [], map, vec_len};
-    ghost use mir.Syntax.{named};
-    ghost use Rattle.sql_trees.specs.contracts.expr.Expr as expr;
-    ghost use Rattle.sql_trees.specs.Statements.{stmt_of};
-    ghost use Rattle.sql_parser.specs.BlockViews.{BlockView};
-    ghost use Rattle.sql_parser.specs.Kept.{is_kept_in};
-
-    ghost Value = { BlockView };
-
-    ghost coded = { Prim.hlevel (codes, (expr.the_row (record { mir = named 0; lft = [] })).coded) };
-
-    ghost view = { λ b. record { role = b.role; stmts = b.stmts.items } };
-
-    ghost invariant = { λ b. (vec_len b.stmts ≤ 256) × (list_all (is_kept_in b.role) (map stmt_of b.stmts.items) ≡ true) };
-}
-
-impl<'a> Block<'a> {
-    /// Where the block stands.
-    pub fn role(&self) -> Role
-        ensures { result ≡ self.now.role }
-    {
-        self.role
-    }
-
-    /// The statements.
-    pub fn stmts(&self) -> &[Stmt<'a>]
-        ensures lends { result.now ≡ self.now.stmts }
-        ensures few { length result.now ≤ 256 }
-        ensures kept { list_all (is_kept_in self.now.role) (map stmt_of result.now) ≡ true }
-    {
-        &self.stmts
-    }
-
-    /// Whether two blocks are one: they stand in the same place, and have the same statements in the same order. Names and strings are
-    /// compared by the bytes that they stand for, all else as it stands.
-    pub fn same(&self, other: &Block<'_>) -> bool
-        ensures { IsTrue result ↔ ((self.now.role ≡ other.now.role) × (map stmt_of self.now.stmts ≡ map stmt_of other.now.stmts)) }
-    {
-        other.role == self.role && same_stmts(self.stmts(), other.stmts())
-    }
-}
 
 fn is_semicolon(tok: Tok) -> bool
     ensures { result ≡ is_sign signs.Semicolon (tok_view tok.entry) }
@@ -202,7 +136,7 @@ fn parse_tokens<'a>(
     ensures role { IfOk result (λ b. b.role ≡ role) }
 {
     let stmts = read_stmts(parser, role, tokens)?;
-    Ok(Block { role, stmts })
+    Ok(Block::new(role, stmts))
 }
 
 /// The block that this text is, or its first fault: faults of the text's tokens come before all others.

@@ -7,8 +7,9 @@ ghost use Rattle.sql_trees.specs.Tokens.{tok_view, tok_views};
 ghost use Rattle.sql_trees.specs.Trees.{tree_of};
 ghost use Rattle.sql_expressions.specs.Results.{Gives};
 ghost use Rattle.sql_expressions.specs.Readers.{is_sign, expect, items_at};
+ghost use Rattle.sql_blocks.specs.Parts.{set_columns};
 ghost use Rattle.sql_parser.specs.Tables.{is_among};
-ghost use Rattle.sql_parser.specs.Changes.{set_columns, set_value, set_add, columns_at, filter_at, insert_at, update_at, delete_at};
+ghost use Rattle.sql_parser.specs.Changes.{set_value, set_add, columns_at, filter_at, insert_at, update_at, delete_at};
 
 use crate::list::{List, items};
 use crate::names::{DistinctNames, RowList, distinct_names, rows};

@@ -13,7 +13,8 @@ mod table;
 mod table_keys;
 mod transaction;
 
-pub use block::{Block, MAX_STMTS, Role, parse_block};
+pub use block::parse_block;
 pub use laws::{
     block_faults_are_first, blocks_are_read, ddl_is_refused, faults_are_first, too_many_is_refused,
 };
+pub use sql_blocks::{Block, MAX_STMTS, Role};

@@ -8,12 +8,12 @@ ghost use Rattle.sql_parser.specs.Inner.Calls.{seen};
 ghost use Rattle.sql_parser.specs.Blocks.{is_ddl, stmt_at};
 ghost use Rattle.sql_parser.specs.Inner.Pieces.{simple_at, begun_at};
 
-use crate::block::Role;
 use crate::change::{delete, insert, update};
 use crate::query::select;
 use crate::table::drop_table;
 use crate::table_keys::create_table;
 use crate::transaction::{ReadStmt, begin, past_work, set, start};
+use sql_blocks::Role;
 use sql_expressions::{Parser, Tokens};
 use sql_trees::{SqlFault, Stmt, Tok, Word};
 

@@ -5,7 +5,8 @@ ghost use Rattle.sql_trees.specs.Statements.{name_of, stmt_of, column_of};
 ghost use Rattle.sql_trees.specs.Tokens.{tok_view, tok_views};
 ghost use Rattle.sql_expressions.specs.Results.{Gives};
 ghost use Rattle.sql_expressions.specs.Readers.{items_at};
-ghost use Rattle.sql_parser.specs.Tables.{is_among, placed_names, column_names, empty_table, kind_of, kind_at, key_add, key_at, limits_at, column_behind, column_at, table_add, after_if, drop_at};
+ghost use Rattle.sql_blocks.specs.Parts.{column_names};
+ghost use Rattle.sql_parser.specs.Tables.{is_among, placed_names, empty_table, kind_of, kind_at, key_add, key_at, limits_at, column_behind, column_at, table_add, after_if, drop_at};
 ghost use Rattle.sql_parser.specs.Inner.OneConstraint.{is_constraint, constraint_at, constrained};
 ghost use Rattle.sql_parser.specs.Views.{placed_of, key_text_of, table_text_of};
 

@@ -4,8 +4,9 @@ ghost use Rattle.std.specs.Prelude.{bytes_eq, ◌≡◌, ◌<◌, ◌≤◌, ◌
 ghost use Rattle.sql_trees.specs.Statements.{underscored, name_of, stmt_of, column_of, key_of};
 ghost use Rattle.sql_trees.specs.Tokens.{tok_views};
 ghost use Rattle.sql_expressions.specs.Results.{Gives};
+ghost use Rattle.sql_blocks.specs.Parts.{column_names};
 ghost use Rattle.sql_parser.specs.Inner.Calls.{seen};
-ghost use Rattle.sql_parser.specs.Tables.{is_among, made_name, first_place, first_lacking, text_fault, keys_fault, place_among, places_in, in_primary, is_kept, completed, resolved, resolved_keys, column_names, placed_names, finished, create_at};
+ghost use Rattle.sql_parser.specs.Tables.{is_among, made_name, first_place, first_lacking, text_fault, keys_fault, place_among, places_in, in_primary, is_kept, completed, resolved, resolved_keys, placed_names, finished, create_at};
 ghost use Rattle.sql_parser.specs.Views.{placed_of, key_text_of, table_text_of};
 
 use crate::part::{close, keyword, name, open};

@@ -1,7 +1,7 @@
 //! What the gate of a directed run is told, beside the seats.
 
 ghost use Rattle.std.specs.Prelude.{[]};
-ghost use Rattle.permutations.specs.Plans.{IsFollowing};
+ghost use Rattle.spec_files.specs.Plans.{IsFollowing};
 
 use crate::asking::holds;
 use crate::gates::Telling;

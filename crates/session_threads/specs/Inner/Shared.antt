@@ -5,8 +5,8 @@ use Rattle.session_machine.specs.declared.event.Order.{Order}
 use Rattle.session_machine.specs.declared.event.Order.TheVariants.{Stop}
 use Rattle.session_machine.specs.declared.reply.HistItem.{HistItem}
 use Rattle.session_machine.specs.Engine.{Engine}
-use Rattle.session_threads.specs.declared.seat.ThreadFault.{ThreadFault}
-use Rattle.session_threads.specs.Orders.{Orders, IsOrder, OrderedAfter}
+use Rattle.session_seats.specs.declared.fault.ThreadFault.{ThreadFault}
+use Rattle.session_seats.specs.Orders.{Orders, IsOrder, OrderedAfter}
 
 -- what stands behind the lock of a run: the engine, the order that was given and is not yet done, whether the driver said Stop, and a fault that was met
 pub record SharedOf : Type 0 where

@@ -6,7 +6,7 @@ use Rattle.sql_trees.specs.Statements.{StmtTree}
 use Rattle.sql_trees.specs.Tokens.{Tokens}
 use Rattle.sql_expressions.specs.Results.{◌>>=◌}
 use Rattle.sql_expressions.specs.Readers.{is_sign, misplaced, Reader}
-use Rattle.sql_parser.specs.declared.block.Role.{Role}
+use Rattle.sql_blocks.specs.declared.block.Role.{Role}
 use Rattle.sql_parser.specs.Blocks.{simple_of, begun_of, piece_at, stmts_at}
 
 module _ (last : ℕ) where

@@ -1,7 +1,7 @@
 use Rattle.std.proofs.Common.{List, sym, subst, refl, rules}
 use Rattle.session_machine.specs.declared.reply.HistItem.{HistItem}
 use Rattle.session_machine.specs.Engine.{Engine, IsLegal}
-use Rattle.session_core.specs.Blocks.{blocks_of}
+use Rattle.sql_blocks.specs.Blocks.{blocks_of}
 use Rattle.spec_parser.specs.Trees.{spec_view}
 use Rattle.permutation_plans.specs.FreeLaunches.{free_launches}
 use Rattle.permutation_plans.specs.FreeRegular.{FreeFits}

@@ -1,11 +1,11 @@
 use Rattle.std.proofs.Common.{List, sym, subst, ap, ◌∙◌, true≢false}
 use Rattle.session_machine.specs.declared.reply.HistItem.{HistItem}
 use Rattle.session_machine.specs.Engine.{Engine}
-use Rattle.session_core.specs.Blocks.{blocks_of}
+use Rattle.sql_blocks.specs.Blocks.{blocks_of}
 use Rattle.spec_parser.specs.Trees.{spec_view}
 use Rattle.permutation_plans.specs.FreeRegular.{IsFreeRegular}
-use Rattle.permutations.proofs.FreeTelling.{free_is_told, free_kind, free_unbroken, free_fails}
-use Rattle.permutations.proofs.Beginning.{free_begun}
+use Rattle.spec_files.proofs.FreeTelling.{free_is_told, free_kind, free_unbroken, free_fails}
+use Rattle.spec_files.proofs.Beginning.{free_begun}
 use Rattle.permutations.proofs.freely.run_freely.Goals as goal
 
 pub returns-clause-told : goal.returns-clause-told

@@ -1,27 +1,22 @@
-use Rattle.std.proofs.Common.{[], map, subst, arith}
+use Rattle.std.proofs.Common.{[], map, refl, arith}
 use Rattle.std.proofs.lemmas.List.{length-map}
-use Rattle.std.proofs.lemmas.Result.{IfOk-weaker}
-use Rattle.session_machine.specs.Machine.{Blocks}
+use Rattle.session_machine.specs.declared.event.Mode.TheVariants.{Directed}
+use Rattle.session_machine.specs.Engine.{opened}
+use Rattle.sql_blocks.specs.Blocks.{blocks_of}
 use Rattle.spec_parser.specs.Trees.{entry_view, session_view, spec_view}
-use Rattle.permutation_plans.specs.Regular.{IsRegular}
-use Rattle.permutations.proofs.Driven.{plan_fits}
+use Rattle.spec_files.proofs.Driven.{plan_fits}
+use Rattle.permutations.proofs.Running.{regular}
 use Rattle.permutations.proofs.thread_run.run_of.Goals as goal
-
-pub fitting_run-requires-clause-sessions : goal.fitting_run-requires-clause-sessions
-fitting_run-requires-clause-sessions g c =
-    omega (arith, c.in_ok-closed.ensures.of.1, c.len-sessions.ensures, c.args.spec.now.sessions.ok.0, length-map c.args.spec.now.sessions.items session_view)
 
 pub returns-clause-regular : goal.returns-clause-regular
 returns-clause-regular g c =
-    IfOk-weaker c.fitting_run.result _ _
-    (λ x is. subst (λ (b : Blocks). IsRegular (spec_view c.args.spec.now) b (map entry_view c.args.entries.now) x.state.history) c.in_ok-closed.ensures.of.0 is)
-    c.fitting_run.ensures.regular
-
-pub returns-clause-unbroken : goal.returns-clause-unbroken
-returns-clause-unbroken g c is =
-    c.fitting_run.ensures.broken is
-    (plan_fits (spec_view c.args.spec.now) (map entry_view c.args.entries.now) c.in_ok-plan.plan c.in_ok-closed.closed.state.history
-    c.in_ok-plan.ensures.plan.0 c.in_ok-plan.ensures.plan.1 c.in_ok-closed.ensures.driven)
+    let spec = spec_view c.args.spec.now in
+    let blocks = blocks_of c.args.blocks.now in
+    let entries = map entry_view c.args.entries.now in
+    let state = c.in_ok-closed.closed.state in
+    let fits = plan_fits spec entries c.in_ok-plan.plan state.history c.in_ok-plan.ensures.plan.0 c.in_ok-plan.ensures.plan.1 c.in_ok-closed.ensures.driven in
+    regular spec blocks entries state.count (opened blocks state.count Directed) state refl (c.in_ok-closed.ensures.of.0, refl, c.in_ok-closed.ensures.of.2)
+    (omega (arith, c.in_ok-closed.ensures.of.1, c.len-sessions.ensures, c.args.spec.now.sessions.ok.0, length-map c.args.spec.now.sessions.items session_view)) c.rests.ensures fits
 
 pub run_directed-requires-clause-follows : goal.run_directed-requires-clause-follows
 run_directed-requires-clause-follows g c κs within = c.in_ok-plan.ensures.follows []

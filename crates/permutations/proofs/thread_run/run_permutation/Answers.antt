@@ -1,7 +1,7 @@
 use Rattle.std.proofs.Common.{map}
-use Rattle.session_core.specs.Blocks.{blocks_of}
+use Rattle.sql_blocks.specs.Blocks.{blocks_of}
 use Rattle.spec_parser.specs.Trees.{entry_view, spec_view}
-use Rattle.permutations.proofs.Beginning.{one_begun}
+use Rattle.spec_files.proofs.Beginning.{one_begun}
 use Rattle.permutations.proofs.thread_run.run_permutation.Goals as goal
 
 pub returns-in_err-write_run-clause-begun : goal.returns-in_err-write_run-clause-begun

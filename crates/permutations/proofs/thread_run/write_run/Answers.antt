@@ -2,7 +2,7 @@ use Rattle.std.proofs.Common.{◌∙◌, List, ap, map, subst}
 use Rattle.session_machine.specs.declared.reply.HistItem.{HistItem}
 use Rattle.session_machine.specs.Engine.{Engine}
 use Rattle.spec_parser.specs.Trees.{entry_view, spec_view}
-use Rattle.permutations.specs.Written.{IsWritten}
+use Rattle.spec_files.specs.Written.{IsWritten}
 use Rattle.permutations.proofs.thread_run.write_run.Goals as goal
 
 pub returns : goal.returns

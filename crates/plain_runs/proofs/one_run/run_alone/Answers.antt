@@ -1,12 +1,12 @@
 use Rattle.std.proofs.Common.{map, length, arith, rules}
 use Rattle.std.proofs.lemmas.List.{length-map}
-use Rattle.session_core.specs.Blocks.{blocks_of}
+use Rattle.sql_blocks.specs.Blocks.{blocks_of}
 use Rattle.spec_parser.specs.Trees.{entry_view, session_view, spec_view}
-use Rattle.session_threads.specs.declared.seat.ThreadFault.TheVariants.{Engine}
+use Rattle.session_seats.specs.declared.fault.ThreadFault.TheVariants.{Engine}
 use Rattle.permutation_plans.specs.Launches.{due_in}
 use Rattle.plain_runs.specs.Alone.{IsOfAlone}
-use Rattle.permutations.specs.Faults.{thread_fault}
-use Rattle.permutations.proofs.Driven.{plan_fits}
+use Rattle.spec_files.specs.Faults.{thread_fault}
+use Rattle.spec_files.proofs.Driven.{plan_fits}
 use Rattle.plain_runs.proofs.Going.{told_alone}
 use Rattle.permutations.proofs.Running.{regular}
 use Rattle.plain_runs.proofs.one_run.run_alone.Goals as goal

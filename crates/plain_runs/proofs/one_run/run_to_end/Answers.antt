@@ -1,7 +1,7 @@
 use Rattle.std.proofs.Common.{◌≢◌, Some, rules}
 use Rattle.session_machine.specs.declared.fault.EngineFault.TheVariants.{Memory}
-use Rattle.session_threads.specs.Orders.{IsOrder}
-use Rattle.permutations.specs.Plans.{order_after}
+use Rattle.session_seats.specs.Orders.{IsOrder}
+use Rattle.spec_files.specs.Plans.{order_after}
 use Rattle.plain_runs.specs.Inner.Next.{IsNext}
 use Rattle.plain_runs.specs.Alone.{RefusesNext}
 use Rattle.plain_runs.proofs.Going.{goes_on, is_order, refuses_next}

@@ -1,10 +1,10 @@
 use Rattle.std.proofs.Common.{◌≡◌, ◌∷◌, ◌<◌, [], List, Err, subst, rules, arith, refl, sym}
 use Rattle.std.proofs.lemmas.Result.{err_from_is_err_and}
-use Rattle.session_core.specs.Blocks.{blocks_of}
+use Rattle.sql_blocks.specs.Blocks.{blocks_of}
 use Rattle.spec_parser.specs.Trees.{EntryTree, spec_view}
 use Rattle.permutation_lists.specs.Permutations.{Coming, permutations_of}
-use Rattle.permutations.specs.Runs.{IsOneTold}
-use Rattle.permutations.proofs.Printing.{SoFar, starts, goes_on, all_ran, one_too_many, run_stops}
+use Rattle.spec_files.specs.Runs.{IsOneTold}
+use Rattle.spec_files.proofs.Printing.{SoFar, starts, goes_on, all_ran, one_too_many, run_stops}
 use Rattle.plain_runs.proofs.print.print_all.Goals as goal
 
 pub loop-permutations-init : goal.loop-permutations-init

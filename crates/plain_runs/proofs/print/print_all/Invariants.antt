@@ -1,8 +1,8 @@
 use Rattle.std.proofs.Common.{length}
-use Rattle.session_core.specs.Blocks.{blocks_of}
+use Rattle.sql_blocks.specs.Blocks.{blocks_of}
 use Rattle.spec_parser.specs.Trees.{spec_view}
 use Rattle.permutation_lists.specs.Permutations.{permutations_of}
-use Rattle.permutations.proofs.Printing.{SoFar}
+use Rattle.spec_files.proofs.Printing.{SoFar}
 use Rattle.plain_runs.proofs.print.print_all.Given as goal
 
 abbrev pub invariant-loop-permutations : goal.invariant-loop-permutations

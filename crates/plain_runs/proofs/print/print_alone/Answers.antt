@@ -1,9 +1,9 @@
 use Rattle.std.proofs.Common.{ap, subst}
 use Rattle.session_machine.specs.Machine.{Blocks}
-use Rattle.session_core.specs.Blocks.{blocks_of}
+use Rattle.sql_blocks.specs.Blocks.{blocks_of}
 use Rattle.permutation_lists.specs.Permutations.{permutations_of}
-use Rattle.permutations.specs.BlockAnswers.{file_view}
-use Rattle.permutations.specs.Prints.{Prints}
+use Rattle.spec_files.specs.BlockAnswers.{file_view}
+use Rattle.spec_files.specs.Prints.{Prints}
 use Rattle.plain_runs.proofs.print.print_alone.Goals as goal
 
 pub returns : goal.returns

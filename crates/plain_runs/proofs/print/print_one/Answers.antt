@@ -1,10 +1,10 @@
 use Rattle.std.proofs.Common.{List, map, subst, sym, true≢false, ◌∙◌}
 use Rattle.std.proofs.lemmas.Result.{err_from_is_err_and}
-use Rattle.session_core.specs.Blocks.{blocks_of}
+use Rattle.sql_blocks.specs.Blocks.{blocks_of}
 use Rattle.session_machine.specs.declared.reply.HistItem.{HistItem}
 use Rattle.spec_parser.specs.Trees.{entry_view, spec_view}
 use Rattle.permutation_plans.specs.Regular.{IsRegular}
-use Rattle.permutations.proofs.Telling.{told_ok, told_err}
+use Rattle.spec_files.proofs.Telling.{told_ok, told_err}
 use Rattle.plain_runs.proofs.Ending.{no_end}
 use Rattle.plain_runs.proofs.print.print_one.Goals as goal
 

@@ -1,8 +1,8 @@
 use Rattle.std.proofs.Common.{◌≡◌, ◌↔◌, ◌+◌, [], refl, ap, ◌∙◌, subst, drop}
 use Rattle.std.proofs.lemmas.List.{drop_all}
+use Rattle.sql_blocks.specs.Blocks.{blocks_of}
 use Rattle.session_machine.specs.Machine.{opening}
 use Rattle.session_core.proofs.Replaying.{LeadsOn, legal_step, legal_not, from_place}
-use Rattle.session_core.specs.Blocks.{blocks_of}
 use Rattle.session_core.proofs.replay.replays.Goals as goal
 
 pub loop-item-init : goal.loop-item-init

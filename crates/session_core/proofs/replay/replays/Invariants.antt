@@ -1,7 +1,7 @@
 use Rattle.std.proofs.Common.{◌≡◌, ◌↔◌, drop}
+use Rattle.sql_blocks.specs.Blocks.{blocks_of}
 use Rattle.session_machine.specs.Machine.{opening}
 use Rattle.session_machine.specs.Sound.{IsSoundMachine}
-use Rattle.session_core.specs.Blocks.{blocks_of}
 use Rattle.session_core.proofs.Replaying.{LeadsOn}
 use Rattle.session_core.proofs.replay.replays.Given as goal
 

@@ -1,7 +1,7 @@
 use denote.Param.Send.{sendable}
 use Rattle.std.proofs.sync.Mutex.TheSendSync.{the_sync as mutex_sync}
 use Rattle.session_threads.proofs.Sending.{shared_send}
-use Rattle.session_threads.proofs.shared.Post.TheSendSync.{the_send as post_send}
+use Rattle.session_seats.proofs.post.Post.TheSendSync.{the_send as post_send}
 use Rattle.session_threads.proofs.directed.start.Goals as goal
 
 -- what a thread is lent may cross to it

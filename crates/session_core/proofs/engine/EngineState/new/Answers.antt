@@ -1,4 +1,4 @@
-use Rattle.session_core.specs.Blocks.{blocks_of}
+use Rattle.sql_blocks.specs.Blocks.{blocks_of}
 use Rattle.session_core.proofs.Opening.{opens}
 use Rattle.session_core.proofs.engine.EngineState.new.Goals as goal
 

@@ -1,4 +1,4 @@
-use Rattle.session_core.specs.Blocks.{blocks_of}
+use Rattle.sql_blocks.specs.Blocks.{blocks_of}
 use Rattle.session_core.proofs.Going.{due, goes, left, noted}
 use Rattle.session_core.proofs.engine.EngineState.perform.Goals as goal
 

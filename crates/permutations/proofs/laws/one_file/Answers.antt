@@ -1,5 +1,0 @@
-use Rattle.permutations.proofs.OneFile.{one_file}
-use Rattle.permutations.proofs.laws.one_file.Goals as goal
-
-pub returns : goal.returns
-returns c = one_file c.one_answer.ensures c.one_sql_reading.ensures

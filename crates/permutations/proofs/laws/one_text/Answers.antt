@@ -1,5 +1,0 @@
-use Rattle.permutations.proofs.OneText.{one_text}
-use Rattle.permutations.proofs.laws.one_text.Goals as goal
-
-pub returns : goal.returns
-returns c = one_text c.each_has_one_history.ensures c.one_file.ensures

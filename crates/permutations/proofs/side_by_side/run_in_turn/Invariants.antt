@@ -1,5 +1,0 @@
-use Rattle.permutations.specs.Inner.Coming.{RanEach}
-use Rattle.permutations.proofs.side_by_side.run_in_turn.Given as goal
-
-abbrev pub invariant-loop-entries : goal.invariant-loop-entries
-invariant-loop-entries g l = RanEach (λ entries draft. g.F.Fn.post l.run (entries, tt) draft) l.yielded l.drafts.items

@@ -1,0 +1,77 @@
+//! What the sessions of a free run are given, and how far they have come with it.
+
+use crate::seat::Seat;
+use session_machine::Outcome;
+
+/// The blocks of a free run, by their numbers.
+#[derive(Drop)]
+pub struct FreePlan {
+    /// A session and a block for it, one after the other, before the threads start.
+    pub before: Vec<(u32, u32)>,
+    /// The blocks of each session, which its thread runs; the first is session 1.
+    pub scripts: Vec<Vec<u32>>,
+    /// The control session's blocks after the threads.
+    pub after: Vec<u32>,
+}
+
+/// How far the block has come that a session was given last.
+#[derive(Clone, Copy)]
+pub enum BlockState {
+    /// It has statements left, or waits.
+    GoesOn { waits: bool },
+    /// Its last statement is over, or it failed.
+    Ended { failed: bool },
+}
+
+/// How far the block has come that the seat's session was given last; it has ended where there was none.
+pub fn block_state(seat: &Seat<'_>) -> BlockState {
+    let Some(item) = seat.items().last() else {
+        return BlockState::Ended { failed: false };
+    };
+    if item.reply.ended {
+        BlockState::Ended {
+            failed: matches!(item.reply.outcome, Outcome::Failed(_)),
+        }
+    } else {
+        BlockState::GoesOn {
+            waits: matches!(item.reply.outcome, Outcome::Waits),
+        }
+    }
+}
+
+/// A session's seat, and the blocks that its thread runs.
+#[derive(Drop)]
+pub struct Runner<'s, 't> {
+    pub seat: &'s mut Seat<'t>,
+    pub script: &'s [u32],
+}
+
+/// The script of a session; the control session has none.
+pub fn script_of(scripts: &[Vec<u32>], session: u32) -> Option<&[u32]> {
+    match session {
+        0 => None,
+        number => match scripts.get(number as usize - 1) {
+            Some(script) => Some(script.as_slice()),
+            None => None,
+        },
+    }
+}
+
+/// What came of trying an event.
+#[derive(Clone, Copy)]
+pub enum Tried {
+    /// It was done.
+    Done,
+    /// What the session waits for still stood in its way when there were so many events.
+    Blocked { events: usize },
+    /// The run is over: a fault was met.
+    Over,
+}
+
+/// Whether the seat's last event may have released something: all but a Launch and a wait may.
+pub fn may_release(seat: &Seat<'_>) -> bool {
+    match seat.items().last() {
+        Some(item) => !matches!(item.reply.outcome, Outcome::Launched | Outcome::Waits),
+        None => false,
+    }
+}

@@ -1,0 +1,50 @@
+//! Who admits the events.
+use crate::seat::Seat;
+use session_machine::{Event, Reply};
+use std::thread::yield_now;
+
+/// Is asked before each event and told each reply, by the thread that does the event and without the lock.
+pub trait Gate: Sync {
+    /// How often it is asked for one event before the run ends; 0 counts as 1.
+    fn tries(&self) -> u64;
+
+    /// Whether the event may begin now.
+    fn admits(&self, event: Event) -> bool;
+
+    /// Is told what came of an event.
+    fn answered(&self, event: Event, reply: &Reply<'_>);
+}
+
+/// Admits every event.
+#[derive(Clone, Copy)]
+pub struct OpenGate;
+
+impl Gate for OpenGate {
+    fn tries(&self) -> u64 {
+        1
+    }
+
+    fn admits(&self, _event: Event) -> bool {
+        true
+    }
+
+    fn answered(&self, _event: Event, _reply: &Reply<'_>) {}
+}
+
+/// Whether the gate admits the event, as often as it may be asked.
+pub fn admitted<G: Gate>(gate: &G, event: Event) -> bool {
+    for _ in 0..gate.tries().max(1) {
+        if gate.admits(event) {
+            return true;
+        }
+        yield_now();
+    }
+    false
+}
+
+/// Tells the gate the seat's last event and its reply.
+pub fn tell<G: Gate>(gate: &G, seat: &Seat<'_>) {
+    if let Some(item) = seat.items().last() {
+        gate.answered(item.event, &item.reply);
+    }
+}

@@ -1,0 +1,23 @@
+//! What the threads of a run have in common: their seats and whether these fit a history, the gate that they ask, the bells
+//! that they sleep at, and how each is started.
+#![tactic(auto)]
+
+mod bells;
+mod crew;
+mod fault;
+mod fitting;
+mod free;
+mod gate;
+mod ordering;
+mod post;
+mod seat;
+
+pub use bells::Bells;
+pub use crew::{THREAD_STACK, start_thread};
+pub use fault::ThreadFault;
+pub use fitting::{first_misfit, number_of};
+pub use free::{BlockState, FreePlan, Runner, Tried, block_state, may_release, script_of};
+pub use gate::{Gate, OpenGate, admitted, tell};
+pub use ordering::Ordering;
+pub use post::{Instruction, Post};
+pub use seat::{Seat, empty_seats};

@@ -1,0 +1,136 @@
+-- What went out of a run that ended early.
+use Rattle.std.proofs.Common.{◌≡◌, ℕ, ◌+◌, ◌<◌, List, [], ◌∷◌, ◌++◌, Bool, Option, Result, Ok, Err, refl, sym, subst, arith}
+use Rattle.std.proofs.lemmas.List.{append-nil}
+use Rattle.std.specs.Io.KnownBytes.{Appends}
+use Rattle.iso_lexer.specs.Devices.{PutsFront}
+use Rattle.session_machine.specs.declared.reply.HistItem.{HistItem}
+use Rattle.session_machine.specs.Machine.{Blocks}
+use Rattle.spec_parser.specs.Trees.{EntryTree, SpecTree}
+use Rattle.permutation_lists.specs.Permutations.{permutations_of}
+use Rattle.permutation_plans.specs.Regular.{IsRegular}
+use Rattle.permutation_plans.specs.FreeRegular.{IsFreeRegular}
+use Rattle.report_text.specs.declared.fault.ReportFault.{ReportFault}
+use Rattle.report_text.specs.declared.fault.ReportFault.TheVariants as writes
+use Rattle.report_text.specs.Said as report
+use Rattle.report_text.specs.Answers.{Puts}
+use Rattle.report_text.specs.FreeText.{free_says}
+use Rattle.report_text.specs.Permutation.{permutation_says}
+use Rattle.spec_files.specs.declared.fault.RunFault.{RunFault}
+use Rattle.spec_files.specs.Said.{Said, Ending, ended, behind, whole, setup_failed, setup_waits, too_many}
+use Rattle.spec_files.specs.FirstLine.{first_line}
+use Rattle.spec_files.specs.Files.{File, FileIs}
+use Rattle.spec_files.specs.Prints.{GoesOn, Prints, says}
+use Rattle.spec_files.specs.FreeRuns.{free_text, IsFreeWritten}
+use Rattle.spec_files.specs.Written.{IsWritten}
+use Rattle.report_text.specs.declared.fault.Ended.{Ended}
+use Rattle.spec_files.specs.Begun.{Begun, none, fronts, OneSays, report as of_one, RunSays, run, FileMaySay, file as of_file, FreeSays, free, FileSaysFreely, freely}
+use Rattle.spec_files.proofs.Listing.{front_behind, front_of_piece, nothing_put}
+use Rattle.spec_files.proofs.Printing.{SoFar, one_more}
+
+-- ---- fronts
+
+-- a text is a front of itself, with something behind it
+put_with : (a b : Option (List ℕ)) (text rest : List ℕ) → Appends a b text → PutsFront a b (text ++ rest)
+put_with a b text rest put = record { front = text; rest = rest; begins = refl; went_out = put }
+
+put_whole : (a b : Option (List ℕ)) (text : List ℕ) → Appends a b text → PutsFront a b text
+put_whole a b text put = subst (PutsFront a b) (append-nil text) (put_with a b text [] put)
+
+-- what a report or a free text put, whatever was answered
+puts_front : (told : Result Ended ReportFault) (a b : Option (List ℕ)) (text : List ℕ) → Puts a b text told → PutsFront a b text
+puts_front (Ok e) a b text put = put_whole a b text put
+puts_front (Err (writes.SetupFailed why)) a b text put = put_whole a b text put
+puts_front (Err writes.SetupWaits) a b text put = put_whole a b text put
+puts_front (Err writes.Write) a b text put = put
+puts_front (Err writes.Memory) a b text put = put
+
+-- a text went out, and nothing more
+put_still : (a b c : Option (List ℕ)) (text : List ℕ) → Appends a b text → c ≡ b → PutsFront a c (text ++ [])
+put_still a b c text put same = subst (λ (d : Option (List ℕ)). PutsFront a d (text ++ [])) (sym same) (put_with a b text [] put)
+
+-- ---- one permutation, and one free run
+
+module _ (fo fn go gn : Bool) (wo wn eo en : Option (List ℕ)) where
+  pub one_begun : (spec : SpecTree) (blocks : Blocks) (entries : List EntryTree) (items : List HistItem) (result : Result Ended RunFault)
+      → IsRegular spec blocks entries items → IsWritten spec entries items wo wn eo en fo fn go gn result → Begun (OneSays spec blocks entries) wo wn eo en
+  one_begun spec blocks entries items result regular w =
+      fronts _ _ (of_one items regular) (puts_front w.told wo wn (permutation_says spec entries items).text w.text) (puts_front w.told eo en (permutation_says spec entries items).notes w.notes)
+
+  pub free_begun : (spec : SpecTree) (blocks : Blocks) (items : List HistItem) (result : Result (Unit {0}) RunFault)
+      → IsFreeRegular spec blocks items → IsFreeWritten spec items wo wn eo en fo fn go gn result → Begun (FreeSays spec blocks) wo wn eo en
+  free_begun spec blocks items result regular w =
+      fronts _ _ (free items regular) (puts_front w.told wo wn (free_text spec items) w.text) (puts_front w.told eo en (free_says spec items).notes w.notes)
+
+pub freely_begun : (bytes : List ℕ) (f : File) (wo wn eo en : Option (List ℕ)) → FileIs bytes (Ok f)
+    → Begun (FreeSays f.spec f.blocks) wo wn eo en → Begun (FileSaysFreely bytes) wo wn eo en
+freely_begun bytes f wo wn eo en is (none t n) = none t n
+freely_begun bytes f wo wn eo en is (fronts text notes so t n) = fronts text notes (freely f is so) t n
+
+-- ---- the permutations of a spec
+
+-- how it ends where none of these may run
+record Stays (spec : SpecTree) (blocks : Blocks) (more : List (List EntryTree)) : Type 0 where
+  how : Ending
+  prints : Prints spec blocks 0 more (ended how)
+
+stays : (spec : SpecTree) (blocks : Blocks) (more : List (List EntryTree)) → Stays spec blocks more
+unfolding Prints
+stays spec blocks [] = record { how = whole; prints = refl }
+stays spec blocks (p ∷ ps) = record { how = too_many; prints = refl }
+
+-- how it ends behind a report that ended so, where none of these may run
+record Follows (ending : report.Ending) (Others : Said → Type 0) : Type 0 where
+  how : Ending
+  goes : GoesOn ending Others (ended how)
+
+follows : (ending : report.Ending) (Others : Said → Type 0) (how : Ending) → Others (ended how) → Follows ending Others
+follows report.whole Others how so = record { how = how; goes = so }
+follows report.invalid Others how so = record { how = how; goes = so }
+follows (report.setup_failed text) Others how so = record { how = setup_failed text; goes = refl }
+follows report.setup_waits Others how so = record { how = setup_waits; goes = refl }
+
+module _ (spec : SpecTree) (blocks : Blocks) (limit : ℕ) (all : List (List EntryTree)) where
+  -- whole reports alone went out
+  pub whole_begun : (wo wn eo en : Option (List ℕ)) (left : ℕ) (more : List (List EntryTree))
+      → SoFar spec blocks wo wn eo en limit all left more → Begun (RunSays spec blocks limit all) wo wn eo en
+  whole_begun wo wn eo en left more so =
+      let end = stays spec blocks more in
+      fronts _ _ (run (so.done + 0) (behind so.text so.notes (ended end.how)) (omega (arith, so.split)) (so.told 0 (ended end.how) end.prints))
+      (put_with wo wn so.text [] so.out) (put_with eo en so.notes [] so.noted)
+
+  -- and a front of one more
+  pub next_begun : (wo wm wn eo em en : Option (List ℕ)) (left : ℕ) (more : List (List EntryTree)) (p : List EntryTree) (ps : List (List EntryTree))
+      → SoFar spec blocks wo wm eo em limit all left more → more ≡ p ∷ ps → 0 < left → Begun (OneSays spec blocks p) wm wn em en → Begun (RunSays spec blocks limit all) wo wn eo en
+  next_begun wo wm wn eo em en left more p ps so is lt (none t n) =
+      let end = stays spec blocks more in
+      fronts _ _ (run (so.done + 0) (behind so.text so.notes (ended end.how)) (omega (arith, so.split)) (so.told 0 (ended end.how) end.prints))
+      (put_still wo wm wn so.text so.out t) (put_still eo em en so.notes so.noted n)
+  next_begun wo wm wn eo em en left more p ps so is lt (fronts _ _ (of_one items regular) t n) =
+      let one = permutation_says spec p items in
+      let end = stays spec blocks ps in
+      let after = follows one.ending (Prints spec blocks 0 ps) end.how end.prints in
+      let said = behind one.text one.notes (ended after.how) in
+      let here : Prints spec blocks 1 more said = subst (λ (ms : List (List EntryTree)). Prints spec blocks 1 ms said) (sym is) (one_more spec blocks 0 p ps items (ended after.how) regular after.goes) in
+      fronts _ _ (run (so.done + 1) (behind so.text so.notes said) (omega (arith, so.split, lt)) (so.told 1 said here))
+      (front_behind wo wm wn so.text (one.text ++ []) so.out (front_of_piece wm wn one.text [] t)) (front_behind eo em en so.notes (one.notes ++ []) so.noted (front_of_piece em en one.notes [] n))
+
+-- ---- a file
+
+-- its first line went out, or a front of it, and none of its permutations ran
+line_begun : (bytes : List ℕ) (limit : ℕ) (f : File) (wo wn eo en : Option (List ℕ)) → FileIs bytes (Ok f) → PutsFront wo wn (first_line f.spec) → en ≡ eo → Begun (FileMaySay bytes limit) wo wn eo en
+line_begun bytes limit f wo wn eo en is put same =
+    let end = stays f.spec f.blocks (permutations_of f.spec) in
+    fronts _ _ (of_file 0 (behind (first_line f.spec) [] (ended end.how)) (omega arith) (says f (ended end.how) is end.prints))
+    (front_of_piece wo wn (first_line f.spec) [] put) (subst (λ (e : Option (List ℕ)). PutsFront eo e []) (sym same) (nothing_put eo []))
+
+pub no_line_begun : (bytes : List ℕ) (limit : ℕ) (f : File) (wo wn eo : Option (List ℕ)) (line : List ℕ) → FileIs bytes (Ok f) → line ≡ first_line f.spec → PutsFront wo wn line → Begun (FileMaySay bytes limit) wo wn eo eo
+no_line_begun bytes limit f wo wn eo line is same put = line_begun bytes limit f wo wn eo eo is (subst (PutsFront wo wn) same put) refl
+
+-- its first line went out, and what was begun of its permutations
+pub file_begun : (bytes : List ℕ) (limit : ℕ) (f : File) (wo wm wn eo en : Option (List ℕ)) (line : List ℕ)
+    → FileIs bytes (Ok f) → line ≡ first_line f.spec → Appends wo wm line
+    → Begun (RunSays f.spec f.blocks limit (permutations_of f.spec)) wm wn eo en → Begun (FileMaySay bytes limit) wo wn eo en
+file_begun bytes limit f wo wm wn eo en line is same put (none t n) =
+    line_begun bytes limit f wo wn eo en is (subst (λ (w : Option (List ℕ)). PutsFront wo w (first_line f.spec)) (sym t) (put_whole wo wm (first_line f.spec) (subst (Appends wo wm) same put))) n
+file_begun bytes limit f wo wm wn eo en line is same put (fronts _ _ (run done said within prints) t n) =
+    fronts _ _ (of_file done (behind (first_line f.spec) [] said) within (says f said is prints)) (front_behind wo wm wn (first_line f.spec) said.text (subst (Appends wo wm) same put) t) n

@@ -1,0 +1,41 @@
+-- The drafts of permutations that were taken together.
+use Rattle.std.proofs.Common.{◌≡◌, ◌≢◌, ◌<◌, Bool, true, false, ◌+◌, List, [], ◌∷◌, ◌++◌, length, map, refl, sym, ap, ◌∙◌, arith}
+use Rattle.std.specs.Prelude.{Option, Some, None, IfSome, IfNone, IsSome, ◌↔◌}
+use Rattle.std.specs.Option.{option_to_list}
+use Rattle.std.specs.Bool.{OnFalse}
+use Rattle.std.specs.Global.{Vec}
+use Rattle.spec_parser.specs.declared.tree.Entry.{Entry}
+use Rattle.spec_parser.specs.Trees.{EntryTree}
+use Rattle.spec_files.specs.declared.draft.Draft.{Draft}
+use Rattle.spec_files.specs.Inner.Drafts.{entries_of, listed, lists_of, to_come}
+
+pub same_lists : (drafts : List Draft) → map entries_of drafts ≡ lists_of (map listed drafts)
+same_lists [] = refl
+same_lists (d ∷ ds) = ap (λ (rest : List (List EntryTree)). entries_of d ∷ rest) (same_lists ds)
+
+-- no draft is left, and these run next
+pub filled : (old drafts : List Draft) (before behind : List (List EntryTree)) (taken : List (Vec Entry)) → length old ≡ 0 → before ≡ lists_of taken ++ behind
+    → map listed drafts ≡ taken → to_come old before ≡ to_come drafts behind
+filled (d ∷ ds) drafts before behind taken none next same = absurd (omega (arith, none))
+filled [] drafts before behind taken none next same = next ∙ ap (λ (lists : List (List EntryTree)). lists ++ behind) (sym (same_lists drafts ∙ ap lists_of same))
+
+-- the first draft is that of the first permutation that is to come
+pub first_comes : (drafts rest : List Draft) (behind : List (List EntryTree)) (next : Option Draft) → drafts ≡ option_to_list next ++ rest
+    → IfSome next (λ draft. to_come drafts behind ≡ entries_of draft ∷ to_come rest behind)
+first_comes drafts rest behind None is = tt
+first_comes drafts rest behind (Some draft) is = ap (λ (ds : List Draft). to_come ds behind) is
+
+pub none_comes : (drafts rest : List Draft) (behind : List (List EntryTree)) (next : Option Draft) → drafts ≡ option_to_list next ++ rest
+    → length rest + length (option_to_list next) ≡ length drafts → IsSome next ↔ (0 < length drafts) → (drafts ≡ [] → behind ≡ []) → IfNone next (to_come drafts behind ≡ [])
+none_comes [] rest behind None is long some over = over refl
+none_comes (d ∷ ds) rest behind None is long some over = absurd (let it : false ≡ true = some.1 (omega arith) in cc)
+none_comes drafts rest behind (Some draft) is long some over = tt
+
+-- a draft is left, or a permutation behind them
+pub draft_left : (drafts : List Draft) (behind : List (List EntryTree)) → 0 < length drafts → to_come drafts behind ≢ []
+draft_left [] behind some = absurd (omega (arith, some))
+draft_left (d ∷ ds) behind some = λ same. cc
+
+pub on_false : (b : Bool) (P : Type 0) → P → OnFalse b P
+on_false true P p = tt
+on_false false P p = p

@@ -1,0 +1,14 @@
+pub mod Reading
+pub mod FileLemmas
+pub mod Listing
+pub mod Driven
+pub mod OneFile
+pub mod Telling
+pub mod Printing
+pub mod Beginning
+pub mod FreeTelling
+pub mod OneText
+pub mod Whole
+pub mod Drafting
+pub mod Joining
+pub mod Turns

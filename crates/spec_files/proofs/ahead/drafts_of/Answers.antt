@@ -1,0 +1,25 @@
+use mir.Syntax.{named}
+use denote.Exit.{no}
+use denote.RattleType.{RattleType}
+use denote.Param.Send.{AllSync, sendable, param_sync, arg_sync, recorded_sync, struct_sync}
+use denote.Struct.Tuple.{type_at}
+use denote.Struct.Declared.{shape}
+use Rattle.std.specs.Prelude.{List}
+use Rattle.std.proofs.Crossing.{crosses}
+use Rattle.sql_blocks.proofs.Sending.{block_sync}
+use Rattle.spec_files.proofs.ahead.drafts_of.Lts as Lts
+use Rattle.spec_files.proofs.ahead.drafts_of.Goals as goal
+
+pub side_by_side-requires-sync-F : goal.side_by_side-requires-sync-F
+side_by_side-requires-sync-F g c κs within =
+    let F = Lts.arg-0-1 g.row.G g.row.R g.G.laws g.R.laws g.G.Gate-dict g.R.Threads-dict g.R.Wait-dict κs in
+    let fields : List RattleType = Lts.of-10 g.row.G g.row.R g.G.laws g.R.laws g.G.Gate-dict g.R.Threads-dict g.R.Wait-dict
+    (record { mir = named 9; lft = κs.1.1.1.1.1.1.1.1.1.0 }) (record { mir = named 10; lft = κs.1.1.1.1.1.1.1.1.1.1.0 }) (record { mir = named 11; lft = κs.1.1.1.1.1.1.1.1.1.1.1.0 })
+    (record { mir = named 12; lft = κs.1.1.1.1.1.1.1.1.1.1.1.1.0 }) (record { mir = named 13; lft = κs.1.1.1.1.1.1.1.1.1.1.1.1.1.0 }) (record { mir = named 14; lft = κs.1.1.1.1.1.1.1.1.1.1.1.1.1.1.0 })
+    (record { mir = named 15; lft = κs.1.1.1.1.1.1.1.1.1.1.1.1.1.1.1.0 }) in
+    let all : AllSync fields = (
+      search (sendable, crosses) depth 60,
+      (search (sendable, crosses) depth 60, (search (sendable, crosses) depth 60, (search (sendable, crosses, block_sync) depth 60, (search (sendable, crosses) depth 60, tt)))),
+    ) in
+    let T = type_at (Lts.name-8 g.row.G g.row.R g.G.laws g.R.laws g.G.Gate-dict g.R.Threads-dict g.R.Wait-dict) fields in
+    param_sync 1 F (arg_sync _ no _ (recorded_sync _ _ _ T.to_one (struct_sync (shape T) all)))

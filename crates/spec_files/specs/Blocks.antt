@@ -1,0 +1,46 @@
+-- The blocks of a file, and the statements that they are.
+use Rattle.std.specs.Prelude.{◌≡◌, List, [], ◌∷◌, ◌++◌, map, flat_map, option_to_list, Result, Ok, Err}
+use Rattle.sql_trees.specs.declared.fault.SqlFault.{SqlFault}
+use Rattle.sql_trees.specs.declared.fault.SqlFault.TheVariants.{Memory}
+use Rattle.sql_trees.specs.Statements.{StmtTree}
+use Rattle.sql_blocks.specs.declared.block.Role.{Role}
+use Rattle.sql_blocks.specs.declared.block.Role.TheVariants.{Main, Session}
+use Rattle.sql_parser.specs.Texts.{Parses}
+use Rattle.session_machine.specs.Machine.{Blocks}
+use Rattle.spec_parser.specs.Trees.{PartTree, SpecTree}
+use Rattle.spec_parser.specs.Stands.{session_parts}
+use Rattle.spec_files.specs.declared.fault.BlockFault.{BlockFault}
+
+-- ---- the blocks in the order of the file
+
+-- a block of the file, and where it stands
+pub record Placed : Type 0 where
+  pub role : Role
+  pub part : PartTree
+
+abbrev pub main_block : PartTree → Placed
+main_block part = record { role = Main; part = part }
+
+abbrev pub session_block : PartTree → Placed
+session_block part = record { role = Session; part = part }
+
+-- the setups and the teardown of the file, and then the blocks of its sessions
+abbrev pub blocks_in : SpecTree → List Placed
+blocks_in spec = map main_block (spec.setups ++ option_to_list spec.teardown) ++ map session_block (flat_map session_parts spec.sessions)
+
+-- ---- what they read as
+
+abbrev pub behind_block : List StmtTree → Result Blocks BlockFault → Result Blocks BlockFault
+behind_block stmts (Ok blocks) = Ok (stmts ∷ blocks)
+behind_block stmts (Err f) = Err f
+
+-- this is the fault of the block's text
+abbrev pub HasFault : Placed → SqlFault → Type 0
+HasFault p Memory = ⊥
+HasFault p f = Parses p.part.sql p.role (Err f)
+
+-- the blocks read as these statements, or the first of them that is no SQL has this fault
+pub data BlocksRead : List Placed → Result Blocks BlockFault → Type 0 where
+  none : {answer : Result Blocks BlockFault} → answer ≡ Ok [] → BlocksRead [] answer
+  fault : {p : Placed} {ps : List Placed} {answer : Result Blocks BlockFault} (f : SqlFault) → HasFault p f → answer ≡ Err (record { block = p.part.at; fault = f }) → BlocksRead (p ∷ ps) answer
+  block : {p : Placed} {ps : List Placed} {answer : Result Blocks BlockFault} (stmts : List StmtTree) (others : Result Blocks BlockFault) → Parses p.part.sql p.role (Ok stmts) → BlocksRead ps others → answer ≡ behind_block stmts others → BlocksRead (p ∷ ps) answer

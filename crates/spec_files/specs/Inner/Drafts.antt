@@ -1,0 +1,33 @@
+-- A permutation's report in memory, before its turn comes.
+use Rattle.std.specs.Prelude.{◌≡◌, ◌≢◌, true, List, [], ◌++◌, map, Some, Err, IfErr, IsTrue}
+use Rattle.std.specs.Global.{Vec}
+use Rattle.iso_lexer.specs.Devices.{page_text}
+use Rattle.session_machine.specs.Machine.{Blocks}
+use Rattle.spec_parser.specs.declared.tree.Entry.{Entry}
+use Rattle.spec_parser.specs.Trees.{EntryTree, SpecTree, perm_view}
+use Rattle.spec_files.specs.declared.draft.Draft.{Draft}
+use Rattle.spec_files.specs.declared.fault.RunFault.TheVariants as faults
+use Rattle.spec_files.specs.Runs.{is_of_one, has_ended, IsOneTold}
+
+abbrev pub entries_of : Draft → List EntryTree
+entries_of draft = perm_view draft.entries
+
+-- the permutation's run was written to pages that held nothing; where memory was refused to a page the answer says so
+pub record IsDraft (spec : SpecTree) (blocks : Blocks) (draft : Draft) : Type 0 where
+  pub told : IsTrue (has_ended draft.result)
+      → IsOneTold spec blocks (entries_of draft) (Some []) (Some (page_text draft.text)) (Some []) (Some (page_text draft.notes)) draft.result
+  pub unbroken : draft.result ≢ Err faults.ScheduleBroken
+  pub unwritten : draft.result ≢ Err faults.Write
+  pub kinds : IfErr draft.result (λ e. is_of_one e ≡ true)
+
+-- the permutations with these entries
+abbrev pub lists_of : List (Vec Entry) → List (List EntryTree)
+lists_of taken = map perm_view taken
+
+-- the entries of a draft, as they were read
+abbrev pub listed : Draft → Vec Entry
+listed draft = draft.entries
+
+-- the permutations that are still to be written: those that were drafted, and those behind them
+abbrev pub to_come : List Draft → List (List EntryTree) → List (List EntryTree)
+to_come drafts behind = map entries_of drafts ++ behind

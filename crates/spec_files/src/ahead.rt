@@ -1,0 +1,197 @@
+//! The permutations of a spec, run ahead of their turn, several side by side.
+
+ghost use Rattle.std.specs.Prelude.{◌≡◌, ◌<◌, ◌≤◌, ◌≢◌, [], ◌∷◌, ◌++◌, All, map, OnOk, IfOk, IfSome, IfNone};
+ghost use Rattle.std.specs.Bool.{OnTrue, OnFalse};
+ghost use Rattle.sql_blocks.specs.Blocks.{blocks_of};
+ghost use Rattle.spec_parser.specs.Trees.{entry_view, spec_view};
+ghost use Rattle.spec_parser.specs.Stands.{Stands};
+ghost use Rattle.permutation_lists.specs.Permutations.{permutations_of};
+ghost use Rattle.spec_files.specs.Inner.Coming.{AreDrafts};
+ghost use Rattle.spec_files.specs.Inner.Drafts.{IsDraft, entries_of, lists_of, to_come};
+
+use crate::draft::Draft;
+use crate::side_by_side::{Lent, side_by_side};
+use crate::spec_runner::SpecRunner;
+use permutation_lists::Permutations;
+use spec_parser::{Entry, Spec};
+use sql_blocks::Block;
+use std::alloc::{AllocError, Global};
+use std::collections::VecDeque;
+use std::sync::Wait;
+use std::thread::Threads;
+
+/// How many permutations run at a time, at most, and how many threads they have together, where it is more than one: so
+/// many stacks of ended threads stay with the process.
+const MOST_AT_A_TIME: usize = 8;
+
+const MOST_THREADS: usize = 40;
+
+/// How many one thread runs, one after the other, at most: each thread that is started takes time.
+const MOST_IN_TURN: u64 = 4;
+
+/// How many permutations of so many sessions run at a time; each has a thread for each session, and the one it runs in.
+fn at_a_time(sessions: usize) -> usize
+    ensures { (0 < result) × (result ≤ 8) }
+{
+    (MOST_THREADS / sessions.saturating_add(1)).clamp(1, MOST_AT_A_TIME)
+}
+
+/// How many permutations of so many sessions run ahead of their turn, at most.
+pub fn most_ahead(sessions: usize) -> u64
+    ensures { 0 < result }
+{
+    at_a_time(sessions) as u64 * MOST_IN_TURN
+}
+
+/// How many of so many permutations one thread runs, one after the other: they are dealt out evenly.
+fn in_turn(permutations: usize, sessions: usize) -> usize
+    ensures { 0 < result }
+{
+    permutations.div_ceil(at_a_time(sessions)).max(1)
+}
+
+/// The drafts of the permutations whose turn comes next, and the permutations behind them.
+#[derive(Drop)]
+pub struct Ahead<'s> {
+    pub drafts: VecDeque<Draft>,
+    pub behind: Permutations<'s>,
+}
+
+fn copy_entry(alloc: Global, entry: &Entry) -> Result<Entry, AllocError>
+    ensures { IfOk result (λ copy. entry_view copy ≡ entry_view entry.now) }
+{
+    Ok(Entry {
+        session: entry.session,
+        step: entry.step,
+        markers: Vec::from_slice(alloc, &entry.markers)?,
+    })
+}
+
+fn copy_of(alloc: Global, entries: &[Entry]) -> Result<Vec<Entry>, AllocError>
+    ensures { IfOk result (λ copy. map entry_view copy.items ≡ map entry_view entries.now) }
+{
+    let mut copy = Vec::with_capacity(alloc, entries.len())?;
+    for entry in entries {
+        copy.push(copy_entry(alloc, entry)?)?;
+    }
+    Ok(copy)
+}
+
+/// The entries of the next permutations, of at most so many.
+fn take_next(
+    alloc: Global,
+    permutations: &mut Permutations<'_>,
+    most: u64,
+) -> Result<Vec<Vec<Entry>>, AllocError>
+    requires { 0 < most }
+    ensures next { IfOk result (λ taken. permutations.old.more ≡ lists_of taken.items ++ permutations.new.more) }
+    ensures over { IfOk result (λ taken. taken.items ≡ [] → permutations.new.more ≡ []) }
+{
+    let mut taken = Vec::new(alloc);
+    while (taken.len() as u64) < most && permutations.advance(alloc)? {
+        taken.push(copy_of(alloc, permutations.entries())?)?;
+    }
+    Ok(taken)
+}
+
+/// What the permutations of a file are lent.
+#[derive(Drop)]
+pub struct FileLent<'r, 't, 'b> {
+    pub spec: &'r Spec<'t>,
+    pub blocks: &'r [Block<'b>],
+}
+
+impl<'r, 't, 'b> Lent for FileLent<'r, 't, 'b> {
+    ghost gives = { λ lent draft. IsDraft (spec_view lent.spec.now) (blocks_of lent.blocks.now) draft };
+}
+
+/// The drafts of these permutations, which run side by side, so many in turn in each thread.
+fn drafts_of<P: SpecRunner, R: Threads + Wait>(
+    runner: &P,
+    rt: &R,
+    alloc: Global,
+    spec: &Spec<'_>,
+    blocks: &[Block<'_>],
+    taken: Vec<Vec<Entry>>,
+    in_turn: usize,
+) -> Result<Vec<Draft>, AllocError>
+    requires stands { Stands (spec_view spec.now) }
+    requires some { 0 < in_turn }
+    ensures { IfOk result (AreDrafts (IsDraft (spec_view spec.now) (blocks_of blocks.now)) taken.items) }
+{
+    let run = |entries: Vec<Entry>|
+        requires { Stands (spec_view spec.now) }
+    { Draft::of(runner, alloc, spec, blocks, entries) };
+    side_by_side(rt, alloc, &FileLent { spec, blocks }, &run, taken, in_turn)
+}
+
+impl<'s> Ahead<'s> {
+    /// The permutations of the spec, of which none has run.
+    pub fn of(alloc: Global, spec: &'s Spec<'_>) -> Result<Ahead<'s>, AllocError>
+        requires { Stands (spec_view spec.now) }
+        ensures drafts { IfOk result (λ ahead. ahead.drafts.items ≡ []) }
+        ensures behind { IfOk result (λ ahead. ahead.behind.more ≡ permutations_of (spec_view spec.now)) }
+    {
+        Ok(Ahead {
+            drafts: VecDeque::new(alloc),
+            behind: Permutations::of(alloc, spec)?,
+        })
+    }
+
+    /// Runs the next permutations, of at most so many, where no draft is left.
+    fn fill<P: SpecRunner, R: Threads + Wait>(
+        &mut self,
+        runner: &P,
+        rt: &R,
+        alloc: Global,
+        spec: &Spec<'_>,
+        blocks: &[Block<'_>],
+        most: u64,
+    ) -> Result<(), AllocError>
+        requires stands { Stands (spec_view spec.now) }
+        requires some { 0 < most }
+        requires drafts { All (IsDraft (spec_view spec.now) (blocks_of blocks.now)) self.old.drafts.items }
+        ensures drafts { OnOk result (All (IsDraft (spec_view spec.now) (blocks_of blocks.now)) self.new.drafts.items) }
+        ensures same { OnOk result (to_come self.old.drafts.items self.old.behind.more ≡ to_come self.new.drafts.items self.new.behind.more) }
+        ensures over { OnOk result (self.new.drafts.items ≡ [] → self.new.behind.more ≡ []) }
+    {
+        if !self.drafts.is_empty() {
+            return Ok(());
+        }
+        let taken = take_next(alloc, &mut self.behind, most)?;
+        let in_turn = in_turn(taken.len(), spec.sessions.len());
+        self.drafts = drafts_of(runner, rt, alloc, spec, blocks, taken, in_turn)?.into();
+        Ok(())
+    }
+
+    /// Takes the draft of the permutation whose turn it is. Where none was run ahead, the next ones run, of at most so many.
+    pub fn next<P: SpecRunner, R: Threads + Wait>(
+        &mut self,
+        runner: &P,
+        rt: &R,
+        alloc: Global,
+        spec: &Spec<'_>,
+        blocks: &[Block<'_>],
+        most: u64,
+    ) -> Result<Option<Draft>, AllocError>
+        requires stands { Stands (spec_view spec.now) }
+        requires some { 0 < most }
+        requires drafts { All (IsDraft (spec_view spec.now) (blocks_of blocks.now)) self.old.drafts.items }
+        ensures drafts { OnOk result (All (IsDraft (spec_view spec.now) (blocks_of blocks.now)) self.new.drafts.items) }
+        ensures is { IfOk result (λ next. IfSome next (IsDraft (spec_view spec.now) (blocks_of blocks.now))) }
+        ensures next { IfOk result (λ next. IfSome next (λ draft.
+            to_come self.old.drafts.items self.old.behind.more ≡ entries_of draft ∷ to_come self.new.drafts.items self.new.behind.more)) }
+        ensures over { IfOk result (λ next. IfNone next (to_come self.old.drafts.items self.old.behind.more ≡ [])) }
+    {
+        self.fill(runner, rt, alloc, spec, blocks, most)?;
+        Ok(self.drafts.pop_front())
+    }
+
+    /// Whether no permutation is left.
+    pub fn is_over(&mut self, alloc: Global) -> Result<bool, AllocError>
+        ensures over { IfOk result (λ over. OnTrue over (to_come self.old.drafts.items self.old.behind.more ≡ [])) }
+        ensures more { IfOk result (λ over. OnFalse over (to_come self.old.drafts.items self.old.behind.more ≢ [])) }
+    {
+        Ok(self.drafts.is_empty() && !self.behind.advance(alloc)?)
+    }
+}

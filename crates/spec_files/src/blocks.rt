@@ -1,0 +1,150 @@
+//! The blocks of a file, in its order.
+
+ghost use Rattle.std.specs.Prelude.{◌≡◌, ◌++◌, ◌∷◌, [], map, option_map, option_to_list, flat_map, IfOk, OnOk};
+ghost use Rattle.std.specs.List.{AllByRecursion};
+ghost use Rattle.spec_parser.specs.Trees.{part_view, step_view, session_view, spec_view};
+ghost use Rattle.spec_parser.specs.Stands.{session_parts};
+ghost use Rattle.spec_files.specs.Blocks.{blocks_in, main_block, session_block};
+ghost use Rattle.spec_files.specs.BlockAnswers.{placed_view, step_part, block_fault, Says, SayAll, HasShortText};
+
+use crate::fault::{BlockFault, RunFault};
+use spec_parser::{Part, SessionPart, Spec, StepPart};
+use sql_blocks::{Block, Role};
+use sql_parser::parse_block;
+use sql_trees::SqlFault;
+use std::alloc::{AllocError, AllocFailed, Global};
+
+/// A block of the file, and where it stands.
+#[derive(Clone, Copy)]
+pub struct PlacedPart<'a> {
+    pub role: Role,
+    pub part: Part<'a>,
+}
+
+fn add_main<'a>(parts: &mut Vec<PlacedPart<'a>>, part: &Part<'a>) -> Result<(), AllocError>
+    ensures { OnOk result (map placed_view parts.new.items ≡ map placed_view parts.old.items ++ main_block (part_view part.now) ∷ []) }
+{
+    parts.push(PlacedPart {
+        role: Role::Main,
+        part: *part,
+    })?;
+    Ok(())
+}
+
+fn add_mains<'a>(parts: &mut Vec<PlacedPart<'a>>, mains: &[Part<'a>]) -> Result<(), AllocError>
+    ensures { OnOk result (map placed_view parts.new.items ≡ map placed_view parts.old.items ++ map main_block (map part_view mains.now)) }
+{
+    for part in mains {
+        add_main(parts, part)?;
+    }
+    Ok(())
+}
+
+fn add_main_if<'a>(
+    parts: &mut Vec<PlacedPart<'a>>,
+    part: &Option<Part<'a>>,
+) -> Result<(), AllocError>
+    ensures { OnOk result (map placed_view parts.new.items ≡ map placed_view parts.old.items ++ map main_block (option_to_list (option_map part_view part.now))) }
+{
+    match part {
+        Some(part) => add_main(parts, part),
+        None => Ok(()),
+    }
+}
+
+fn add_own<'a>(parts: &mut Vec<PlacedPart<'a>>, part: &Part<'a>) -> Result<(), AllocError>
+    ensures { OnOk result (map placed_view parts.new.items ≡ map placed_view parts.old.items ++ session_block (part_view part.now) ∷ []) }
+{
+    parts.push(PlacedPart {
+        role: Role::Session,
+        part: *part,
+    })?;
+    Ok(())
+}
+
+fn add_own_if<'a>(
+    parts: &mut Vec<PlacedPart<'a>>,
+    part: &Option<Part<'a>>,
+) -> Result<(), AllocError>
+    ensures { OnOk result (map placed_view parts.new.items ≡ map placed_view parts.old.items ++ map session_block (option_to_list (option_map part_view part.now))) }
+{
+    match part {
+        Some(part) => add_own(parts, part),
+        None => Ok(()),
+    }
+}
+
+fn add_steps<'a>(parts: &mut Vec<PlacedPart<'a>>, steps: &[StepPart<'a>]) -> Result<(), AllocError>
+    ensures { OnOk result (map placed_view parts.new.items ≡ map placed_view parts.old.items ++ map session_block (map step_part (map step_view steps.now))) }
+{
+    for step in steps {
+        add_own(parts, &step.part)?;
+    }
+    Ok(())
+}
+
+fn add_session<'a>(
+    parts: &mut Vec<PlacedPart<'a>>,
+    session: &SessionPart<'a>,
+) -> Result<(), AllocError>
+    ensures { OnOk result (map placed_view parts.new.items ≡ map placed_view parts.old.items ++ map session_block (session_parts (session_view session.now))) }
+{
+    add_own_if(parts, &session.setup)?;
+    add_steps(parts, &session.steps)?;
+    add_own_if(parts, &session.teardown)
+}
+
+fn add_sessions<'a>(
+    parts: &mut Vec<PlacedPart<'a>>,
+    sessions: &[SessionPart<'a>],
+) -> Result<(), AllocError>
+    ensures { OnOk result (map placed_view parts.new.items ≡ map placed_view parts.old.items ++ map session_block (flat_map session_parts (map session_view sessions.now))) }
+{
+    for session in sessions {
+        add_session(parts, session)?;
+    }
+    Ok(())
+}
+
+/// The blocks in the order of the file.
+pub fn blocks_in<'a>(alloc: Global, spec: &Spec<'a>) -> Result<Vec<PlacedPart<'a>>, AllocError>
+    ensures { IfOk result (λ parts. map placed_view parts.items ≡ blocks_in (spec_view spec.now)) }
+{
+    let mut parts = Vec::new(alloc);
+    add_mains(&mut parts, &spec.setups)?;
+    add_main_if(&mut parts, &spec.teardown)?;
+    add_sessions(&mut parts, &spec.sessions)?;
+    Ok(parts)
+}
+
+fn as_run_fault(block: usize, fault: SqlFault) -> RunFault
+    ensures { result ≡ block_fault block fault }
+{
+    match fault {
+        SqlFault::Memory => RunFault::Memory,
+        fault => RunFault::Sql(BlockFault { block, fault }),
+    }
+}
+
+fn read_block<'a>(alloc: Global, placed: &PlacedPart<'a>) -> Result<Block<'a>, RunFault>
+    requires { HasShortText (placed_view placed.now) }
+    ensures { Says (placed_view placed.now) result }
+{
+    match parse_block(alloc, placed.part.sql, placed.role) {
+        Ok(block) => Ok(block),
+        Err(fault) => Err(as_run_fault(placed.part.at, fault)),
+    }
+}
+
+/// The blocks as statements, or the first fault of them.
+pub fn read_blocks<'a>(alloc: Global, parts: &[PlacedPart<'a>]) -> Result<Vec<Block<'a>>, RunFault>
+    requires { AllByRecursion HasShortText (map placed_view parts.now) }
+    ensures { SayAll (map placed_view parts.now) result }
+{
+    let mut blocks = Vec::new(alloc);
+    for placed in parts {
+        let block = read_block(alloc, placed)?;
+        blocks.push(block)?;
+    }
+    Ok(blocks)
+}

@@ -1,0 +1,166 @@
+//! Permutations that run side by side, in threads that run some of them one after the other.
+
+ghost use Rattle.std.specs.Prelude.{◌≡◌, ◌<◌, All, IfOk};
+ghost use Rattle.std.specs.Global.{Vec as VecFacts};
+ghost use Rattle.spec_parser.specs.declared.tree.Entry.{Entry as EntryFacts};
+ghost use Rattle.spec_files.specs.Inner.Coming.{all_entries, coming_entries, AreDrafts, IsComing, RanEach, RunsAny};
+
+use crate::draft::Draft;
+use core::thread::Stack;
+use session_seats::THREAD_STACK;
+use spec_parser::Entry;
+use std::alloc::{AllocError, Global};
+use std::snapshot::Snapshot;
+use std::sync::Wait;
+use std::thread;
+use std::thread::{Promise, PromisedHandle, Scope, Threads};
+
+/// What the permutations that run side by side are lent.
+pub trait Lent {
+    ghost use Rattle.spec_files.specs.declared.draft.Draft.{Draft};
+
+    /// Whether a draft may be one of its permutations'.
+    ghost gives: { Self → Draft → Type 0 };
+}
+
+/// That the drafts are those of the permutations that were taken, in the same order.
+#[derive(Drop)]
+pub struct DraftsOf<L> {
+    pub lent: Snapshot<L>,
+    pub taken: Snapshot<Vec<Vec<Entry>>>,
+}
+
+impl<L: Lent> Promise<Result<Vec<Draft>, AllocError>> for DraftsOf<L> {
+    ghost use Rattle.std.specs.Prelude.{IfOk};
+    ghost use Rattle.spec_files.specs.Inner.Coming.{AreDrafts};
+
+    ghost kept_by = { λ promise result. IfOk result (AreDrafts (L.gives promise.lent.value) promise.taken.value.items) };
+}
+
+/// The drafts of permutations that have run, or the thread that runs them.
+#[derive(Drop)]
+pub enum Coming<L: Lent> {
+    There(Vec<Draft>),
+    Running(PromisedHandle<Result<Vec<Draft>, AllocError>, DraftsOf<L>>),
+}
+
+impl<L: Lent> Coming<L> {
+    /// The drafts, once they are there.
+    fn drafts<R: Threads>(self, rt: &R) -> Result<Vec<Draft>, AllocError>
+        ensures { (lent : L) → IsComing L.gives lent self → IfOk result (AreDrafts (L.gives lent) (coming_entries self)) }
+    {
+        match self {
+            Coming::There(drafts) => Ok(drafts),
+            Coming::Running(thread) => thread.join(rt),
+        }
+    }
+}
+
+/// Runs these permutations, one after the other.
+fn run_in_turn<F: Fn(Vec<Entry>) -> Draft>(
+    alloc: Global,
+    run: &F,
+    taken: Vec<Vec<Entry>>,
+) -> Result<Vec<Draft>, AllocError>
+    requires { (entries : VecFacts EntryFacts) → F.pre run.now entries }
+    ensures { IfOk result (λ drafts. RanEach (F.post run.now) taken.items drafts.items) }
+{
+    let mut drafts = Vec::with_capacity(alloc, taken.len())?;
+    for entries in taken {
+        drafts.push(run(entries))?;
+    }
+    Ok(drafts)
+}
+
+/// Runs permutations in a thread, one after the other; where none can be started, in the calling one. It does what is the
+/// control session's, so its stack is as a session's thread has it.
+fn begin<'s, 'e: 's, L: Lent + 's, F: Fn(Vec<Entry>) -> Draft + Sync + 's>(
+    scope: &Scope<'s, &'e ()>,
+    alloc: Global,
+    lent: &'s L,
+    run: &'s F,
+    taken: Vec<Vec<Entry>>,
+) -> Result<Coming<L>, AllocError>
+    requires runs { RunsAny (F.pre run.now) (F.post run.now) (L.gives lent.now) }
+    ensures { IfOk result (λ coming. IsComing L.gives lent.now coming × (coming_entries coming ≡ taken.items)) }
+{
+    let promise = DraftsOf {
+        lent: Snapshot::of(lent),
+        taken: Snapshot::of(&taken),
+    };
+    let call = move || -> Result<Vec<Draft>, AllocError>
+        requires { (entries : VecFacts EntryFacts) → F.pre run.now entries }
+        ensures { IfOk result (λ drafts. RanEach (F.post run.entry.now) taken.items drafts.items) }
+    { run_in_turn(alloc, run, taken) };
+    let stack = Stack::new().stack_size(THREAD_STACK);
+    Ok(match stack.spawn_scoped_with(scope, promise, call) {
+        Ok(thread) => Coming::Running(thread),
+        Err(refused) => Coming::There((refused.value)()?),
+    })
+}
+
+/// Runs these permutations, so many in turn in each thread, the last ones in the calling thread.
+fn begin_each<'s, 'e: 's, L: Lent + 's, F: Fn(Vec<Entry>) -> Draft + Sync + 's>(
+    scope: &Scope<'s, &'e ()>,
+    alloc: Global,
+    lent: &'s L,
+    run: &'s F,
+    mut taken: Vec<Vec<Entry>>,
+    in_turn: usize,
+) -> Result<Vec<Coming<L>>, AllocError>
+    requires some { 0 < in_turn }
+    requires runs { RunsAny (F.pre run.now) (F.post run.now) (L.gives lent.now) }
+    ensures drafts { IfOk result (λ coming. All (IsComing L.gives lent.now) coming.items) }
+    ensures entries { IfOk result (λ coming. all_entries coming.items ≡ taken.items) }
+{
+    let mut coming = Vec::new(alloc);
+    while taken.len() > in_turn {
+        let behind = taken.split_off(in_turn)?;
+        coming.push(begin(scope, alloc, lent, run, taken)?)?;
+        taken = behind;
+    }
+    coming.push(Coming::There(run_in_turn(alloc, run, taken)?))?;
+    Ok(coming)
+}
+
+/// The drafts of all these, in the same order, once they are there.
+fn drafts_of_each<L: Lent, R: Threads>(
+    rt: &R,
+    alloc: Global,
+    all: Vec<Coming<L>>,
+) -> Result<Vec<Draft>, AllocError>
+    ensures { IfOk result (λ drafts. (lent : L) → All (IsComing L.gives lent) all.items → AreDrafts (L.gives lent) (all_entries all.items) drafts) }
+{
+    let mut drafts = Vec::new(alloc);
+    for coming in all {
+        let mut more = coming.drafts(rt)?;
+        drafts.append(&mut more)?;
+    }
+    Ok(drafts)
+}
+
+/// Runs these permutations, so many in turn in each thread, and answers their drafts in the same order.
+pub fn side_by_side<L: Lent, F: Fn(Vec<Entry>) -> Draft + Sync, R: Threads + Wait>(
+    rt: &R,
+    alloc: Global,
+    lent: &L,
+    run: &F,
+    taken: Vec<Vec<Entry>>,
+    in_turn: usize,
+) -> Result<Vec<Draft>, AllocError>
+    requires some { 0 < in_turn }
+    requires runs { RunsAny (F.pre run.now) (F.post run.now) (L.gives lent.now) }
+    ensures drafts { IfOk result (AreDrafts (L.gives lent.now) taken.items) }
+{
+    thread::scope(
+        thread::scope_env(),
+        rt,
+        move |scope| -> Result<Vec<Draft>, AllocError>
+            requires { (0 < in_turn) × RunsAny (F.pre run.now) (F.post run.now) (L.gives lent.now) }
+            ensures { IfOk result (AreDrafts (L.gives lent.entry.now) taken.items) }
+        {
+            let all = begin_each(scope, alloc, lent, run, taken, in_turn)?;
+            drafts_of_each(rt, alloc, all)
+        },
+    )
+}

@@ -1,0 +1,40 @@
+-- What the conditions of a block on its statements are said by; reading goes by the same.
+use Rattle.std.specs.Prelude.{ℕ, Bool, true, false, not, ◌||◌, ◌&&◌, ◌==◌, List, [], map, Option, Some, None, is_some}
+use Rattle.std.specs.List.{list_any, list_all}
+use Rattle.sql_trees.specs.Statements.{ColumnTree, SetTree, ItemTree, All, Aggregate, OrderTree, SelectTree}
+use Rattle.sql_blocks.specs.declared.block.Role.{Role}
+use Rattle.sql_blocks.specs.declared.block.Role.TheVariants as roles
+
+abbrev pub is_session : Role → Bool
+is_session roles.Session = true
+is_session roles.Main = false
+
+abbrev pub column_names : List ColumnTree → List (List ℕ)
+column_names cs = map (λ c. c.name) cs
+
+abbrev pub fits : Option ℕ → ℕ → Bool
+fits None n = true
+fits (Some m) n = m == n
+
+abbrev pub set_columns : List SetTree → List (List ℕ)
+set_columns ss = map (λ s. s.column) ss
+
+-- ---- what has to hold of a whole query
+
+abbrev pub is_aggregate : ItemTree → Bool
+is_aggregate (Aggregate a n) = true
+is_aggregate _ = false
+
+abbrev pub is_all : ItemTree → Bool
+is_all All = true
+is_all _ = false
+
+abbrev pub is_sorted : List OrderTree → Bool
+is_sorted [] = false
+is_sorted _ = true
+
+-- aggregates stand alone and go with no ORDER BY and no lock; a star and a lock go with a table
+abbrev pub is_allowed : SelectTree → Bool
+is_allowed s =
+    (not (list_any is_aggregate s.items) || (list_all is_aggregate s.items && not (is_sorted s.order || is_some s.lock)))
+    && (is_some s.table || not (list_any is_all s.items || is_some s.lock))
