@@ -1,14 +1,19 @@
--- What is said where the errors go to a terminal: how to give a file, and the line of a file that is refused.
-use Rattle.std.specs.Prelude.{◌≡◌, ℕ, ◌+◌, ◌⊎◌, Bool, true, false, List, [], Option, Some, None, Result, Ok, Err, codes, ⊤}
+-- What the program does where its errors go to a terminal: it also says where it reads from, and quotes the line of a file that is refused.
+use Rattle.std.specs.Prelude.{◌≡◌, ◌⊎◌, ℕ, ◌+◌, Bool, true, false, List, [], take, Option, Some, None, Result, Ok, Err, IfSome, codes, ⊤}
 use Rattle.std.specs.Io.KnownBytes.{Appends}
+use Rattle.iso_lexer.specs.Devices.{PutsFront}
+use Rattle.clap.specs.Words.{Text, fault_of}
+use Rattle.clap.specs.declared.error.kind.ErrorKind.{ErrorKind}
 use Rattle.spec_parser.specs.declared.fault.SpecFault.{SpecFault}
 use Rattle.spec_parser.specs.declared.fault.SpecFault.TheVariants as spec_faults
 use Rattle.sql_trees.specs.Faults.{place}
 use Rattle.spec_files.specs.FaultText.{shift_of}
 use Rattle.spec_files.specs.declared.fault.RunFault.{RunFault}
 use Rattle.spec_files.specs.declared.fault.RunFault.TheVariants as faults
+use Rattle.program_words.specs.declared.options.Options.{Options}
+use Rattle.program_words.specs.Options.{Gives, program, status_of}
 use Rattle.program_words.specs.Quote.{quoted}
-use Rattle.program_words.specs.Shell.{Took, TookLine}
+use Rattle.program_words.specs.Shell.{IsShown, MayRefuse, Runs, TellsFault, Took, TookLine, exit_status, is_request}
 
 -- ---- before the file is read
 
@@ -58,3 +63,28 @@ TellsQuoted file (Ok x) failed noted new = new ≡ noted
 TellsQuoted file (Err e) failed noted new =
     (told : Option (List ℕ)) × (failed_there : Bool) × TookLine e failed_there noted told × (failed_there ≡ true → failed ≡ true)
     × (Took failed told new (quoted_at file (place_of e)) ⊎ (new ≡ told))
+
+-- ---- all of it
+
+-- the file runs: first its text and notes go out, and then the line of its fault, with the line of the file
+pub record RunsFile (options : Options) (file : List ℕ) (out_old out_new : Option (List ℕ)) (err_failed : Bool) (err_old err_new : Option (List ℕ)) (status : ℕ) : Type 0 where
+  pub answer : Result (Unit {0}) RunFault
+  pub noted : Option (List ℕ)
+  pub runs : Runs options (Some file) out_old out_new err_old noted answer
+  pub told : TellsQuoted file answer err_failed noted err_new
+  pub ends : status ≡ exit_status answer
+
+-- it is said how to give a file, the file is read, and it runs; where the errors fail to take the first of these, nothing else is done
+pub data ReadsAndRuns (options : Options) (left : Option (List ℕ)) (in_failed typed : Bool) (out_old out_new : Option (List ℕ)) (err_failed : Bool) (err_old err_new : Option (List ℕ)) (status : ℕ) : Type 0 where
+  mute : typed ≡ true → err_failed ≡ true → PutsFront err_old err_new hint → out_new ≡ out_old → status ≡ 3 → ReadsAndRuns options left in_failed typed out_old out_new err_failed err_old err_new status
+  unread : (hinted : Option (List ℕ)) → Hints typed err_old hinted → (e : RunFault) → FailsFirst in_failed e → out_new ≡ out_old
+      → TellsFault (Err e) err_failed hinted err_new → status ≡ exit_status (Err e) → ReadsAndRuns options left in_failed typed out_old out_new err_failed err_old err_new status
+  reads : (hinted : Option (List ℕ)) → Hints typed err_old hinted → (file : List ℕ) → IfSome left (λ bytes. file ≡ take 1048577 bytes)
+      → RunsFile options file out_old out_new err_failed hinted err_new status → ReadsAndRuns options left in_failed typed out_old out_new err_failed err_old err_new status
+
+-- the words are refused, or give options that run
+pub data IsServedThere (words : List Text) (left : Option (List ℕ)) (in_failed typed : Bool) (out_failed : Bool) (out_old out_new : Option (List ℕ)) (err_failed : Bool) (err_old err_new : Option (List ℕ)) (status : ℕ) : Type 0 where
+  refuses : (kind : ErrorKind) → MayRefuse words kind → status ≡ status_of kind → IsShown (is_request kind) out_failed out_old out_new err_failed err_old err_new
+      → IsServedThere words left in_failed typed out_failed out_old out_new err_failed err_old err_new status
+  serves : (options : Options) → fault_of program words ≡ [] → Gives words options → ReadsAndRuns options left in_failed typed out_old out_new err_failed err_old err_new status
+      → IsServedThere words left in_failed typed out_failed out_old out_new err_failed err_old err_new status

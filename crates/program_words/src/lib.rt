@@ -1,13 +1,13 @@
-//! The words of the command line, and what the program says beside what it runs: of words that are refused, of faults, and to someone
-//! who reads at a terminal.
+//! The program by a runner of permutations: what the words of the command line ask for, what then runs, what is said of words that
+//! are refused and of faults, and the exit status.
 #![tactic(auto)]
 
 pub mod laws;
 mod options;
+mod program;
 mod quote;
-mod quoting;
-mod telling;
+mod terminal;
 
 pub use options::{DEFAULT_LIMIT, Options, options_of, status_of};
-pub use quoting::{end_there, put_hint};
-pub use telling::{end, put_error};
+pub use program::serve_by;
+pub use terminal::serve_at_terminal_by;

@@ -1,6 +1,6 @@
 use Rattle.clap.specs.Words.{kind_of}
-use Rattle.command_line.specs.Shell.{refuses, serves}
-use Rattle.command_line.proofs.program.serve.Goals as goal
+use Rattle.program_words.specs.Shell.{refuses, serves}
+use Rattle.program_words.proofs.program.serve_by.Goals as goal
 
 pub returns-in-Ok-clause-serves : goal.returns-in-Ok-clause-serves
 returns-in-Ok-clause-serves g c = serves c.in-Ok.options c.in-Ok.ensures.refused c.in-Ok.ensures.gives c.run-answer.result (g.N.Sink.put_so_far c.run-answer.new.err) c.run-answer.ensures c.end.ensures.told c.end.ensures.status

@@ -1,5 +1,5 @@
 use Rattle.std.proofs.Common.{inr}
-use Rattle.program_words.proofs.telling.put_fault.Goals as goal
+use Rattle.program_words.proofs.program.put_fault.Goals as goal
 
 -- where memory is refused the line says so
 pub returns-in-Err : goal.returns-in-Err

@@ -1,6 +1,6 @@
 use Rattle.clap.specs.Words.{kind_of}
-use Rattle.command_line.specs.Terminal.{refuses, serves}
-use Rattle.command_line.proofs.terminal.serve_at_terminal.Goals as goal
+use Rattle.program_words.specs.Terminal.{refuses, serves}
+use Rattle.program_words.proofs.terminal.serve_at_terminal_by.Goals as goal
 
 pub returns-in-Ok-clause-serves : goal.returns-in-Ok-clause-serves
 returns-in-Ok-clause-serves g c = serves c.in-Ok.options c.in-Ok.ensures.refused c.in-Ok.ensures.gives c.read_and_run.ensures

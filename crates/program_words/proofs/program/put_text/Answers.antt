@@ -1,6 +1,6 @@
 use Rattle.std.specs.Io.KnownBytes.{Appends}
 use Rattle.program_words.proofs.Putting.{took}
-use Rattle.program_words.proofs.telling.put_text.Goals as goal
+use Rattle.program_words.proofs.program.put_text.Goals as goal
 
 pub returns-clause-puts : goal.returns-clause-puts
 returns-clause-puts g c = record {

@@ -1,10 +1,9 @@
 use Rattle.std.proofs.Common.{◌≡◌, ◌∙◌, ℕ, List, IfSome, take, refl, sym, subst, ap, Err}
 use Rattle.iso_lexer.specs.declared.whole.ReadFault.{ReadFault}
 use Rattle.spec_files.specs.declared.fault.RunFault.{RunFault}
-use Rattle.program_words.specs.Terminal.{FailsFirst, Hints}
 use Rattle.program_words.proofs.Putting.{fails_first, on_ok}
-use Rattle.command_line.specs.Terminal.{reads, unread}
-use Rattle.command_line.proofs.terminal.read_and_run.Goals as goal
+use Rattle.program_words.specs.Terminal.{FailsFirst, Hints, reads, unread}
+use Rattle.program_words.proofs.terminal.read_and_run.Goals as goal
 
 pub returns-in-Ok : goal.returns-in-Ok
 returns-in-Ok g c =
