@@ -2,7 +2,7 @@
 ghost use Rattle.std.specs.Prelude.{◌≡◌};
 ghost use Rattle.session_machine.specs.Machine.{session_of};
 
-use crate::act::act;
+use crate::acting::act;
 use row_versions::Versions;
 use session_core::EngineState;
 use session_machine::{EngineFault, Event};

@@ -2,7 +2,7 @@
 //! thread does.
 #![tactic(auto)]
 
-mod act;
+mod acting;
 mod closing;
 mod directed;
 mod driver;
@@ -10,7 +10,7 @@ mod free;
 mod free_shared;
 mod shared;
 
-pub use act::act;
+pub use acting::act;
 pub use closing::{Closed, close};
 pub use directed::run_directed;
 pub use driver::Driver;

@@ -4,7 +4,7 @@ ghost use Rattle.session_machine.specs.Machine.{session_of};
 ghost use Rattle.session_threads.specs.Inner.Seats.{IsFor};
 ghost use Rattle.session_seats.specs.Orders.{IsDriven, IsOrder};
 
-use crate::act::act;
+use crate::acting::act;
 use crate::driver::Driver;
 use row_versions::Versions;
 use session_core::EngineState;

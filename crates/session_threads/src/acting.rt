@@ -38,5 +38,13 @@ pub fn act<'t, V: Versions>(
     ensures seat { OnErr result (seat.new ≡ seat.old) }
     ensures err { IfErr result (λ e. NotActed event engine.old e engine.new) }
 {
-    seat.put_asked(event, engine, |engine| asked(engine, event))
+    seat.put_asked(
+        event,
+        engine,
+        |engine|
+            ensures memory { IsErrOf result EngineFault.Memory → engine.new ≡ spent_engine engine.old }
+            ensures due { IsErrOf result EngineFault.Memory → IsDue engine.old event }
+            ensures answer { result ≢ Err EngineFault.Memory → engine_after engine.old event ≡ record { engine = engine.new; answer = result } }
+        { asked(engine, event) },
+    )
 }
