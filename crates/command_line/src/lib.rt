@@ -2,6 +2,8 @@
 #![tactic(auto)]
 
 mod program;
+mod terminal;
 
-pub use program::{serve, serve_at_terminal};
+pub use program::serve;
 pub use program_words::{DEFAULT_LIMIT, Options, laws, options_of, status_of};
+pub use terminal::serve_at_terminal;

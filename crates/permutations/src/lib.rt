@@ -9,7 +9,6 @@ mod run;
 mod thread_run;
 
 pub use freely::free_spec;
-pub use on_threads::OnThreads;
 pub use permutation_plans::launches_fit;
 pub use plan::Plan;
 pub use run::run_spec;

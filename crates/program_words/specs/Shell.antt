@@ -51,6 +51,13 @@ is_request DisplayHelp = true
 is_request DisplayVersion = true
 is_request _ = false
 
+-- the words give no options: it is said why, and the exit status is this
+pub record IsRefused (words : List Text) (out_failed : Bool) (out_old out_new : Option (List ℕ)) (err_failed : Bool) (err_old err_new : Option (List ℕ)) (status : ℕ) : Type 0 where
+  pub kind : ErrorKind
+  pub may : MayRefuse words kind
+  pub ends : status ≡ status_of kind
+  pub shown : IsShown (is_request kind) out_failed out_old out_new err_failed err_old err_new
+
 -- ---- words that give options
 
 -- the permutations were listed: their lines go to the output, wherever that ends a front of them, and nothing to the errors

@@ -32,6 +32,12 @@ FailsFirst in_failed faults.Read = in_failed ≡ true
 FailsFirst in_failed faults.Memory = ⊤
 FailsFirst in_failed _ = ⊥
 
+-- no file is there: the errors fail to take how to give one, or the fault is told; and the exit status is this
+pub data IsUnread (in_failed typed : Bool) (err_failed : Bool) (err_old err_new : Option (List ℕ)) (status : ℕ) : Type 0 where
+  unhinted : typed ≡ true → err_failed ≡ true → PutsFront err_old err_new hint → status ≡ 3 → IsUnread in_failed typed err_failed err_old err_new status
+  faulted : (hinted : Option (List ℕ)) → Hints typed err_old hinted → (e : RunFault) → FailsFirst in_failed e
+      → TellsFault (Err e) err_failed hinted err_new → status ≡ exit_status (Err e) → IsUnread in_failed typed err_failed err_old err_new status
+
 -- ---- the line that is refused
 
 abbrev pub spec_place : SpecFault → Option ℕ

@@ -1,5 +1,5 @@
-//! The program by a runner of permutations: what the words of the command line ask for, what then runs, what is said of words that
-//! are refused and of faults, and the exit status.
+//! The words of the command line, and what the program says beside what it runs: of words that are refused, of faults, and to someone
+//! who reads at a terminal.
 #![tactic(auto)]
 
 pub mod laws;
@@ -9,5 +9,5 @@ mod quote;
 mod terminal;
 
 pub use options::{DEFAULT_LIMIT, Options, options_of, status_of};
-pub use program::serve_by;
-pub use terminal::serve_at_terminal_by;
+pub use program::{end, take_words};
+pub use terminal::{end_there, read_there};
