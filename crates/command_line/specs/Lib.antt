@@ -1,4 +1,0 @@
-pub mod Options
-pub mod Quote
-pub mod Shell
-pub mod Terminal

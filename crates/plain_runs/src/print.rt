@@ -1,14 +1,15 @@
 //! Prints the permutations of a file, each run on the calling thread alone.
 
-ghost use Rattle.std.specs.Prelude.{Ok, map, IsTrue};
+ghost use Rattle.std.specs.Prelude.{◌≡◌, ◌||◌, [], ◌∷◌, Ok, map, true, IfErr, IsTrue};
 ghost use Rattle.sql_blocks.specs.Blocks.{blocks_of};
 ghost use Rattle.spec_parser.specs.Trees.{entry_view, spec_view};
 ghost use Rattle.spec_parser.specs.Stands.{Stands};
 ghost use Rattle.permutation_lists.specs.Permutations.{permutations_of};
 ghost use Rattle.spec_files.specs.Files.{File, FileIs};
 ghost use Rattle.spec_files.specs.Prints.{Prints};
-ghost use Rattle.spec_files.specs.Runs.{has_ended, IsOneTold, IsTold};
+ghost use Rattle.spec_files.specs.Runs.{has_ended, is_refusal, IsOneTold, IsTold};
 ghost use Rattle.spec_files.specs.Said.{Said};
+ghost use Rattle.plain_runs.specs.Alone.{IsOfFile, IsOfPrint};
 
 use crate::one_run::run_alone;
 use iso_lexer::Sink;
@@ -30,8 +31,9 @@ fn print_one<W: Sink, N: Sink, R: Wait>(
     notes: &mut N,
 ) -> Result<(), RunFault>
     requires { Stands (spec_view spec.now) }
-    ensures { IsTrue (has_ended result) → IsOneTold (spec_view spec.now) (blocks_of blocks.now) (map entry_view entries.now)
+    ensures told { IsTrue (has_ended result) → IsOneTold (spec_view spec.now) (blocks_of blocks.now) (map entry_view entries.now)
         (W.put_so_far out.old) (W.put_so_far out.new) (N.put_so_far notes.old) (N.put_so_far notes.new) result }
+    ensures faults { IfErr result (IsOfPrint (spec_view spec.now) (blocks_of blocks.now) (map entry_view entries.now ∷ []) (W.failed out.new || N.failed notes.new)) }
 {
     let engine = run_alone(rt, alloc, spec, blocks, entries)?;
     write_permutation(alloc, spec, entries, engine.history(), out, notes)?;
@@ -49,9 +51,10 @@ fn print_all<W: Sink, N: Sink, R: Wait>(
     limit: u64,
 ) -> Result<(), RunFault>
     requires { Stands (spec_view spec.now) }
-    ensures { IsTrue (has_ended result) →
+    ensures told { IsTrue (has_ended result) →
         ((said : Said) × Prints (spec_view spec.now) (blocks_of blocks.now) limit (permutations_of (spec_view spec.now)) said
         × IsTold (W.put_so_far out.old) (W.put_so_far out.new) (N.put_so_far notes.old) (N.put_so_far notes.new) result said) }
+    ensures faults { IfErr result (IsOfPrint (spec_view spec.now) (blocks_of blocks.now) (permutations_of (spec_view spec.now)) (W.failed out.new || N.failed notes.new)) }
 {
     let mut permutations = Permutations::of(alloc, spec)?;
     let mut left = limit;
@@ -76,9 +79,11 @@ pub fn print_alone<W: Sink, N: Sink, R: Wait>(
     notes: &mut N,
     limit: u64,
 ) -> Result<(), RunFault>
-    ensures { IsTrue (has_ended result) →
+    ensures told { IsTrue (has_ended result) →
         ((file : File) × (said : Said) × FileIs bytes.now (Ok file) × Prints file.spec file.blocks limit (permutations_of file.spec) said
         × IsTold (W.put_so_far out.old) (W.put_so_far out.new) (N.put_so_far notes.old) (N.put_so_far notes.new) result said) }
+    ensures faults { IfErr result (IsOfFile bytes.now (W.failed out.new || N.failed notes.new)) }
+    ensures untouched { IfErr result (λ e. is_refusal e ≡ true → (out.new ≡ out.old) × (notes.new ≡ notes.old)) }
 {
     let file = read_file(alloc, bytes)?;
     print_all(rt, alloc, &file.spec, &file.blocks, out, notes, limit)

@@ -1,10 +1,14 @@
-use Rattle.std.proofs.Common.{◌≡◌, ◌∷◌, ◌<◌, [], List, Err, subst, rules, arith, refl, sym}
+use Rattle.std.proofs.Common.{◌≡◌, ◌∷◌, ◌<◌, ◌||◌, [], List, Err, subst, rules, arith, refl, sym}
+use Rattle.std.specs.Prelude.{Contains}
+use Rattle.std.proofs.lemmas.List.{Contains-append_left, Contains-append_right}
 use Rattle.std.proofs.lemmas.Result.{err_from_is_err_and}
 use Rattle.sql_blocks.specs.Blocks.{blocks_of}
 use Rattle.spec_parser.specs.Trees.{EntryTree, spec_view}
 use Rattle.permutation_lists.specs.Permutations.{Coming, permutations_of}
 use Rattle.spec_files.specs.Runs.{IsOneTold}
 use Rattle.spec_files.proofs.Printing.{SoFar, starts, goes_on, all_ran, one_too_many, run_stops}
+use Rattle.plain_runs.specs.Alone.{IsOfPrint}
+use Rattle.plain_runs.proofs.Ending.{of_more}
 use Rattle.plain_runs.proofs.print.print_all.Goals as goal
 
 pub loop-permutations-init : goal.loop-permutations-init
@@ -13,8 +17,8 @@ loop-permutations-init g c =
     let blocks = blocks_of c.args.blocks.now in
     let out = g.W.Sink.put_so_far c.args.out.now in
     let notes = g.N.Sink.put_so_far c.args.notes.now in
-    subst (λ (coming : Coming). SoFar spec blocks out out notes notes c.args.limit (permutations_of spec) c.args.limit coming.more) (sym c.in_ok-permutations.ensures)
-    (starts spec blocks out notes c.args.limit (permutations_of spec))
+    subst (λ (coming : Coming). SoFar spec blocks out out notes notes c.args.limit (permutations_of spec) c.args.limit coming.more × ((p : List EntryTree) → Contains coming.more p → Contains (permutations_of spec) p))
+    (sym c.in_ok-permutations.ensures) (starts spec blocks out notes c.args.limit (permutations_of spec), λ p is. is)
 
 pub loop-permutations-preserved : goal.loop-permutations-preserved
 loop-permutations-preserved g c =
@@ -25,13 +29,15 @@ loop-permutations-preserved g c =
     let em = g.N.Sink.put_so_far c.loop-permutations.notes in
     let en = g.N.Sink.put_so_far c.print_one.new.notes in
     let more : c.loop-permutations.permutations.more ≡ c.advance.new.self.here ∷ c.advance.new.self.more = search rules in
-    let one = subst (λ (p : List EntryTree). IsOneTold spec blocks p wm wn em en _) c.entries.ensures (c.in_ok-print_one.ensures refl) in
-    goes_on spec blocks (g.W.Sink.put_so_far c.args.out.now) wm wn (g.N.Sink.put_so_far c.args.notes.now) em en
-    c.args.limit (permutations_of spec) c.loop-permutations.left c.loop-permutations.permutations.more c.advance.new.self.here c.advance.new.self.more
-    c.loop-permutations.invariant more (omega (arith, c.if-left-eq0.false)) one
+    let one = subst (λ (p : List EntryTree). IsOneTold spec blocks p wm wn em en _) c.entries.ensures (c.in_ok-print_one.ensures.told refl) in (
+      goes_on spec blocks (g.W.Sink.put_so_far c.args.out.now) wm wn (g.N.Sink.put_so_far c.args.notes.now) em en
+          c.args.limit (permutations_of spec) c.loop-permutations.left c.loop-permutations.permutations.more c.advance.new.self.here c.advance.new.self.more
+          c.loop-permutations.invariant.0 more (omega (arith, c.if-left-eq0.false)) one,
+      λ p is. c.loop-permutations.invariant.1 p (subst (λ (ps : List (List EntryTree)). Contains ps p) (sym more) (Contains-append_right (c.advance.new.self.here ∷ []) c.advance.new.self.more p is)),
+    )
 
-pub returns-in_err-print_one : goal.returns-in_err-print_one
-returns-in_err-print_one g c =
+pub returns-in_err-print_one-clause-told : goal.returns-in_err-print_one-clause-told
+returns-in_err-print_one-clause-told g c =
     let spec = spec_view c.args.spec.now in
     let blocks = blocks_of c.args.blocks.now in
     let wm = g.W.Sink.put_so_far c.loop-permutations.out in
@@ -42,24 +48,36 @@ returns-in_err-print_one g c =
     let some : 0 < c.loop-permutations.left = omega (arith, c.if-left-eq0.false) in
     let p = err_from_is_err_and c.from_residual-in_err-print_one.result c.from_residual-in_err-print_one.ensures.1 in
     rw (p.1, p.2) (λ early.
-    let one = subst (λ (p : List EntryTree). IsOneTold spec blocks p wm wn em en (Err c.in_err-print_one.field-0.0)) c.entries.ensures (c.in_err-print_one.ensures early) in
+    let one = subst (λ (p : List EntryTree). IsOneTold spec blocks p wm wn em en (Err c.in_err-print_one.field-0.0)) c.entries.ensures (c.in_err-print_one.ensures.told early) in
     let end = run_stops spec blocks (g.W.Sink.put_so_far c.args.out.now) wm wn (g.N.Sink.put_so_far c.args.notes.now) em en
     c.args.limit (permutations_of spec) c.loop-permutations.left c.loop-permutations.permutations.more c.advance.new.self.here c.advance.new.self.more
-    c.in_err-print_one.field-0.0 c.loop-permutations.invariant more some one in
+    c.in_err-print_one.field-0.0 c.loop-permutations.invariant.0 more some one in
     (end.said, end.prints, end.told))
 
-pub returns-then-left-eq0 : goal.returns-then-left-eq0
-returns-then-left-eq0 g c =
+pub returns-in_err-print_one-clause-faults : goal.returns-in_err-print_one-clause-faults
+returns-in_err-print_one-clause-faults g c =
+    let here = c.advance.new.self.here in
+    let more : c.loop-permutations.permutations.more ≡ here ∷ c.advance.new.self.more = search rules in
+    let within : (p : List EntryTree) → Contains (here ∷ []) p → Contains (permutations_of (spec_view c.args.spec.now)) p =
+    λ p is. c.loop-permutations.invariant.1 p (subst (λ (ps : List (List EntryTree)). Contains ps p) (sym more) (Contains-append_left (here ∷ []) c.advance.new.self.more p is)) in
+    let e = c.in_err-print_one.field-0.0 in
+    let failed = g.W.Sink.failed c.print_one.new.out || g.N.Sink.failed c.print_one.new.notes in
+    let met = subst (λ (p : List EntryTree). IsOfPrint (spec_view c.args.spec.now) (blocks_of c.args.blocks.now) (p ∷ []) failed e) c.entries.ensures c.in_err-print_one.ensures.faults in
+    let p = err_from_is_err_and c.from_residual-in_err-print_one.result c.from_residual-in_err-print_one.ensures.1 in
+    rw (p.1, p.2) (of_more (spec_view c.args.spec.now) (blocks_of c.args.blocks.now) (here ∷ []) (permutations_of (spec_view c.args.spec.now)) failed e within met)
+
+pub returns-then-left-eq0-clause-told : goal.returns-then-left-eq0-clause-told
+returns-then-left-eq0-clause-told g c =
     let more : c.loop-permutations.permutations.more ≡ c.advance.new.self.here ∷ c.advance.new.self.more = search rules in
     let end = one_too_many (spec_view c.args.spec.now) (blocks_of c.args.blocks.now) (g.W.Sink.put_so_far c.args.out.now) (g.W.Sink.put_so_far c.loop-permutations.out)
     (g.N.Sink.put_so_far c.args.notes.now) (g.N.Sink.put_so_far c.loop-permutations.notes) c.args.limit (permutations_of (spec_view c.args.spec.now))
-    c.loop-permutations.left c.loop-permutations.permutations.more c.advance.new.self.here c.advance.new.self.more c.loop-permutations.invariant more c.if-left-eq0.true in
+    c.loop-permutations.left c.loop-permutations.permutations.more c.advance.new.self.here c.advance.new.self.more c.loop-permutations.invariant.0 more c.if-left-eq0.true in
     λ _. (end.said, end.prints, end.told)
 
-pub returns : goal.returns
-returns g c =
+pub returns-clause-told : goal.returns-clause-told
+returns-clause-told g c =
     let none : c.loop-permutations.permutations.more ≡ [] = search rules in
     let end = all_ran (spec_view c.args.spec.now) (blocks_of c.args.blocks.now) (g.W.Sink.put_so_far c.args.out.now) (g.W.Sink.put_so_far c.loop-permutations.out)
     (g.N.Sink.put_so_far c.args.notes.now) (g.N.Sink.put_so_far c.loop-permutations.notes) c.args.limit (permutations_of (spec_view c.args.spec.now))
-    c.loop-permutations.left c.loop-permutations.permutations.more c.loop-permutations.invariant none in
+    c.loop-permutations.left c.loop-permutations.permutations.more c.loop-permutations.invariant.0 none in
     λ _. (end.said, end.prints, end.told)

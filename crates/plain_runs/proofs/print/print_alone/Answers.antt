@@ -1,15 +1,41 @@
-use Rattle.std.proofs.Common.{ap, subst}
+use Rattle.std.proofs.Common.{◌||◌, ap, subst}
+use Rattle.std.specs.Prelude.{IfErr}
+use Rattle.std.proofs.lemmas.Result.{err_from_is_err_and, IfErr-weaker}
 use Rattle.session_machine.specs.Machine.{Blocks}
 use Rattle.sql_blocks.specs.Blocks.{blocks_of}
 use Rattle.permutation_lists.specs.Permutations.{permutations_of}
 use Rattle.spec_files.specs.BlockAnswers.{file_view}
 use Rattle.spec_files.specs.Prints.{Prints}
+use Rattle.spec_parser.specs.Trees.{spec_view}
+use Rattle.plain_runs.specs.Alone.{IsOfFile, IsOfPrint, prints}
+use Rattle.plain_runs.proofs.Ending.{no_refusal, of_reading}
 use Rattle.plain_runs.proofs.print.print_alone.Goals as goal
 
-pub returns : goal.returns
-returns g c =
+pub returns-clause-told : goal.returns-clause-told
+returns-clause-told g c =
     let file = file_view c.in_ok-file.file in
     let blocks = ap blocks_of c.deref.ensures.value in
     λ ended.
-    let one = c.print_all.ensures ended in
+    let one = c.print_all.ensures.told ended in
     (file, one.0, c.in_ok-file.ensures.ok, subst (λ (bs : Blocks). Prints file.spec bs c.args.limit (permutations_of file.spec) one.0) blocks one.1, one.2)
+
+pub returns-in_err-file-clause-faults : goal.returns-in_err-file-clause-faults
+returns-in_err-file-clause-faults g c =
+    let p = err_from_is_err_and c.from_residual.result c.from_residual.ensures.1 in
+    rw (p.1, p.2) (of_reading c.args.bytes.now _ c.in_err-file.field-0.0 c.in_err-file.ensures.err)
+
+pub returns-clause-faults : goal.returns-clause-faults
+returns-clause-faults g c =
+    let file = file_view c.in_ok-file.file in
+    let blocks = ap blocks_of c.deref.ensures.value in
+    let failed = g.W.Sink.failed c.print_all.new.out || g.N.Sink.failed c.print_all.new.notes in
+    let met : IfErr c.print_all.result (IsOfPrint file.spec file.blocks (permutations_of file.spec) failed) =
+    subst (λ (bs : Blocks). IfErr c.print_all.result (IsOfPrint file.spec bs (permutations_of file.spec) failed)) blocks c.print_all.ensures.faults in
+    IfErr-weaker c.print_all.result (IsOfPrint file.spec file.blocks (permutations_of file.spec) failed) (IsOfFile c.args.bytes.now failed)
+    (λ e is. prints file c.in_ok-file.ensures.ok is) met
+
+pub returns-clause-untouched : goal.returns-clause-untouched
+returns-clause-untouched g c =
+    let failed = g.W.Sink.failed c.print_all.new.out || g.N.Sink.failed c.print_all.new.notes in
+    IfErr-weaker c.print_all.result (IsOfPrint (spec_view c.in_ok-file.file.spec) (blocks_of c.deref.result.now) (permutations_of (spec_view c.in_ok-file.file.spec)) failed) _
+    (λ e is refusal. absurd (no_refusal _ _ _ failed e is refusal)) c.print_all.ensures.faults

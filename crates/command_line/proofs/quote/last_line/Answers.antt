@@ -1,7 +1,0 @@
-use Rattle.std.proofs.Common.{not}
-use Rattle.std.proofs.lemmas.List.Sums.{suffix_len-le-length}
-use Rattle.command_line.specs.Quote.{is_newline}
-use Rattle.command_line.proofs.quote.last_line.Goals as goal
-
-pub overflow_sub-text : goal.overflow_sub-text
-overflow_sub-text c = rw c.last_len.ensures (suffix_len-le-length (λ b. not (is_newline b)) c.args.text.now)

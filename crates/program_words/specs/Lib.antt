@@ -1,0 +1,4 @@
+pub mod Options
+pub mod Quote
+pub mod Shell
+pub mod Terminal
