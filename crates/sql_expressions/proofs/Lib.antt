@@ -7,6 +7,7 @@ pub mod Levels
 pub mod Shortens
 pub mod Complete
 pub mod Ranges
+pub mod Tests
 pub mod Shapes
 pub mod Local
 pub mod Tails

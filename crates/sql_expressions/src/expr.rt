@@ -3,17 +3,17 @@
 ghost use Rattle.std.specs.Prelude.{ℕ, ◌≡◌, ◌+◌, [], ◌<◌, ◌++◌, IfOk, option_map, length};
 ghost use Rattle.sql_expressions.specs.declared.level.Opened.TheVariants.{Whole};
 ghost use Rattle.sql_trees.specs.Tokens.{Tokens, tok_view, tok_views, tok_at};
-ghost use Rattle.sql_trees.specs.Trees.{Tree, tree_of};
+ghost use Rattle.sql_trees.specs.Trees.{Tree, tree_of, trees};
 ghost use Rattle.sql_expressions.specs.Build.{negated};
 ghost use Rattle.sql_expressions.specs.Grammar.{Begins, Ends, Spells, OR};
 ghost use Rattle.sql_expressions.specs.Results.{Gives};
 ghost use Rattle.sql_expressions.specs.Readers.{expect};
 ghost use Rattle.sql_expressions.specs.Reading.{found, comparison_op, expr_at};
-ghost use Rattle.sql_expressions.specs.Inner.Pieces.{Found_op, Found_list, found_list, found_bounds, range_node, made, node, listed_at, bounds_at, is_and, deeper, join, chain_op, next_op, column_first, prim_at, una_at, chain_at, operand_at, in_at, between_at, not_in_from, inn_at, cmp_at, is_of, is_tail, is_more, is_at, not_at, inside, list_at};
+ghost use Rattle.sql_expressions.specs.Inner.Pieces.{Found_op, Found_list, found_list, found_bounds, range_node, made, node, membership_of, atom_at, closed_at, prefixed_at, list_open_at, contains_at, upper_at, not_among_at, among_at, compared_at, is_and, deeper, join, chain_op, next_op, column_first, una_at, chain_at, operand_at, in_at, between_at, inn_at, is_of, is_tail, is_more, is_at, not_at, inside, list_at};
 
 use crate::cursor::{Parser, Tokens, after_comma};
-use crate::level::{Chain, Opened};
-use crate::operator::{comparison, is_call, truth_of};
+use crate::level::{Chain, Membership, Opened, Prefix};
+use crate::operator::{comparison, is_call, prefix, truth_of};
 use crate::parsed::Parsed;
 use iso_lexer::{At, SqlSign};
 use sql_trees::{Expr, Operator, SqlFault, Tok, Truth, Word};
@@ -102,6 +102,65 @@ impl Parser {
         }
     }
 
+    // A literal, or a column.
+    fn atom<'t, 'a>(self, tokens: Tokens<'t, 'a>) -> Read<'t, 'a>
+        ensures { Gives (λ x. found x.0 x.1.now) result (atom_at self.text_len (tok_views tokens.now)) }
+    {
+        let [token, rest @ ..] = tokens else {
+            return Err(self.misplaced(tokens));
+        };
+        match token.tok {
+            Tok::Number(digits) => self.made(
+                0,
+                Expr::Number {
+                    negative: false,
+                    digits,
+                },
+                rest,
+            ),
+            Tok::Text(text) => self.made(0, Expr::Text(text), rest),
+            Tok::Word(Word::True, _) => self.made(0, Expr::Bool(true), rest),
+            Tok::Word(Word::False, _) => self.made(0, Expr::Bool(false), rest),
+            Tok::Word(Word::Null, _) => self.made(0, Expr::Null, rest),
+            _ => self.column(tokens),
+        }
+    }
+
+    // What a parenthesis at this place makes of the expression behind it, which has to be closed.
+    fn closed<'t, 'a>(
+        self,
+        place: usize,
+        operand: Parsed<'a>,
+        tokens: Tokens<'t, 'a>,
+    ) -> Read<'t, 'a>
+        ensures { Gives (λ x. found x.0 x.1.now) result (closed_at self.text_len place (found operand.entry tokens.now)) }
+    {
+        let Parsed { expr, depth } = operand;
+        let depth = deeper(place, depth)?;
+        let rest = self.close(tokens)?;
+        Ok((Parsed { expr, depth }, rest))
+    }
+
+    // What a parenthesis or a sign at this place makes of the expression behind it.
+    fn prefixed<'t, 'a>(
+        self,
+        prefix: Prefix,
+        place: usize,
+        operand: Parsed<'a>,
+        tokens: Tokens<'t, 'a>,
+    ) -> Read<'t, 'a>
+        ensures { Gives (λ x. found x.0 x.1.now) result (prefixed_at self.text_len prefix place (found operand.entry tokens.now)) }
+    {
+        match prefix {
+            Prefix::Paren => self.closed(place, operand, tokens),
+            Prefix::Minus => self.negated(place, operand, tokens),
+            Prefix::Plus => {
+                let Parsed { expr, depth } = operand;
+                self.node(place, depth, Expr::Plus(expr), tokens)
+            }
+        }
+    }
+
     // An operator's node.
     fn join<'t, 'a>(
         self,
@@ -124,19 +183,18 @@ impl Parser {
         self.node(place, depth.max(behind), expr, rest)
     }
 
-    // The node of a `BETWEEN` at this place.
+    // The node of a `BETWEEN` at this place, behind an operand of this depth.
     fn range<'t, 'a>(
         self,
-        negated: bool,
-        place: usize,
-        left: Box<Expr<'a>>,
-        depth: usize,
+        test: Membership<'t, 'a>,
+        left: Parsed<'a>,
         low: Parsed<'a>,
         high: Parsed<'a>,
         rest: Tokens<'t, 'a>,
     ) -> Read<'t, 'a>
-        ensures { Gives (λ x. found x.0 x.1.now) result (range_node negated place (tree_of left.entry.value) depth (found_bounds low.entry high.entry rest.now)) }
+        ensures { Gives (λ x. found x.0 x.1.now) result (range_node test.entry.negated test.entry.place (tree_of left.entry.expr.value) left.entry.depth (found_bounds low.entry high.entry rest.now)) }
     {
+        let Parsed { expr: left, depth } = left;
         let Parsed {
             expr: low,
             depth: from,
@@ -145,8 +203,103 @@ impl Parser {
             expr: high,
             depth: to,
         } = high;
-        let expr = Expr::Between(left, negated, low, high);
-        self.node(place, depth.max(from.max(to)), expr, rest)
+        let expr = Expr::Between(left, test.negated, low, high);
+        self.node(test.place, depth.max(from.max(to)), expr, rest)
+    }
+
+    // The node of an `IN`, whose list has to be closed, over parts of which the deepest has this depth.
+    fn contains<'t, 'a>(
+        self,
+        test: Membership<'t, 'a>,
+        depth: usize,
+        left: Box<Expr<'a>>,
+        items: Vec<Expr<'a>>,
+        tokens: Tokens<'t, 'a>,
+    ) -> Read<'t, 'a>
+        ensures { Gives (λ x. found x.0 x.1.now) result (contains_at self.text_len test.entry.negated test.entry.place depth (tree_of left.entry.value) (trees items.entry.items) (tok_views tokens.now)) }
+    {
+        let depth = deeper(test.place, depth)?;
+        let rest = self.close(tokens)?;
+        self.made(depth, Expr::In(left, test.negated, items), rest)
+    }
+
+    // Where the list of an `IN` stands, behind an operand of this depth, and the tokens behind its `(`.
+    fn list_open<'t, 'a>(
+        self,
+        test: Membership<'t, 'a>,
+        depth: usize,
+    ) -> Result<(usize, Tokens<'t, 'a>), SqlFault>
+        ensures { Gives (λ x. (x.0, tok_views x.1.now)) result (list_open_at self.text_len test.entry.place depth (tok_views test.entry.rest.now)) }
+    {
+        deeper(test.place, depth)?;
+        let paren = self.place_of(test.rest);
+        let rest = self.open(test.rest)?;
+        Ok((paren, rest))
+    }
+
+    // The tokens behind the `AND` of a `BETWEEN` at this place, whose operand and lower end have this depth at most.
+    fn upper<'t, 'a>(
+        self,
+        place: usize,
+        depth: usize,
+        tokens: Tokens<'t, 'a>,
+    ) -> Result<Tokens<'t, 'a>, SqlFault>
+        ensures { Gives (λ rest. tok_views rest.now) result (upper_at self.text_len place depth (tok_views tokens.now)) }
+    {
+        deeper(place, depth)?;
+        self.and(tokens)
+    }
+
+    // `IN` or `BETWEEN` behind a `NOT` at this place.
+    fn not_among<'t, 'a>(
+        self,
+        place: usize,
+        depth: usize,
+        tokens: Tokens<'t, 'a>,
+    ) -> Result<Membership<'t, 'a>, SqlFault>
+        ensures { Gives (λ x. membership_of x) result (not_among_at self.text_len place depth (tok_views tokens.now)) }
+    {
+        deeper(place, depth)?;
+        let [token, rest @ ..] = tokens else {
+            return Err(self.misplaced(tokens));
+        };
+        let ranged = match token.tok {
+            Tok::Word(Word::Between, _) => true,
+            Tok::Word(Word::In, _) => false,
+            _ => return Err(self.misplaced(tokens)),
+        };
+        Ok(Membership {
+            ranged,
+            negated: true,
+            place,
+            rest,
+        })
+    }
+
+    // `IN` or `BETWEEN` with or without a `NOT`, behind an operand of this depth, if one stands next.
+    fn among<'t, 'a>(
+        self,
+        depth: usize,
+        tokens: Tokens<'t, 'a>,
+    ) -> Result<Option<Membership<'t, 'a>>, SqlFault>
+        ensures { Gives (λ x. option_map membership_of x) result (among_at self.text_len depth (tok_views tokens.now)) }
+    {
+        let [token, rest @ ..] = tokens else {
+            return Ok(None);
+        };
+        let place = token.span.start;
+        let ranged = match token.tok {
+            Tok::Word(Word::Between, _) => true,
+            Tok::Word(Word::In, _) => false,
+            Tok::Word(Word::Not, _) => return Ok(Some(self.not_among(place, depth, rest)?)),
+            _ => return Ok(None),
+        };
+        Ok(Some(Membership {
+            ranged,
+            negated: false,
+            place,
+            rest,
+        }))
     }
 
     // The operator that stands next, its place, and the tokens after it.
@@ -258,6 +411,21 @@ impl Parser {
         }
     }
 
+    // A comparison's node, and `IS` behind it.
+    fn compared<'t, 'a>(
+        self,
+        operator: Operator,
+        place: usize,
+        left: Parsed<'a>,
+        right: Parsed<'a>,
+        rest: Tokens<'t, 'a>,
+    ) -> Read<'t, 'a>
+        ensures { Gives (λ x. found x.0 x.1.now) result (compared_at self.text_len (record { op = operator; place = place; rest = tok_views rest.now }) (found left.entry rest.now) (found right.entry rest.now)) }
+    {
+        let (both, rest) = self.join(operator, place, left, right, rest)?;
+        self.is_more(both, rest)
+    }
+
     // What stands behind an opening at this place, of which so many may still be made.
     #[cycle(levels)]
     #[tactic(auto, unfolding(crate::specs::Inner::Pieces::inside))]
@@ -281,70 +449,14 @@ impl Parser {
     }
 
     #[cycle(levels)]
-    #[tactic(auto, unfolding(crate::specs::Inner::Pieces::parens_at))]
-    fn prim<'t, 'a>(self, room: usize, tokens: Tokens<'t, 'a>) -> Read<'t, 'a>
-        ensures { Gives (λ x. found x.0 x.1.now) result (prim_at self.text_len (inside self.text_len room) (tok_views tokens.now)) }
-    {
-        let [token, rest @ ..] = tokens else {
-            return Err(self.misplaced(tokens));
-        };
-        match token.tok {
-            Tok::Number(digits) => self.made(
-                0,
-                Expr::Number {
-                    negative: false,
-                    digits,
-                },
-                rest,
-            ),
-            Tok::Text(text) => self.made(0, Expr::Text(text), rest),
-            Tok::Word(Word::True, _) => self.made(0, Expr::Bool(true), rest),
-            Tok::Word(Word::False, _) => self.made(0, Expr::Bool(false), rest),
-            Tok::Word(Word::Null, _) => self.made(0, Expr::Null, rest),
-            Tok::Sign(SqlSign::Open) => {
-                let place = token.span.start;
-                let (Parsed { expr, depth }, rest) = self.opened(Opened::Whole, room, place, rest)?;
-                let depth = deeper(place, depth)?;
-                let rest = self.close(rest)?;
-                Ok((Parsed { expr, depth }, rest))
-            }
-            _ => self.column(tokens),
-        }
-    }
-
-    #[cycle(levels)]
-    #[tactic(auto, unfolding(crate::specs::Inner::Pieces::sign_at))]
     fn unary<'t, 'a>(self, room: usize, tokens: Tokens<'t, 'a>) -> Read<'t, 'a>
         ensures { Gives (λ x. found x.0 x.1.now) result (una_at self.text_len (inside self.text_len room) (tok_views tokens.now)) }
     {
-        match tokens {
-            [
-                At {
-                    tok: Tok::Sign(SqlSign::Minus),
-                    span,
-                },
-                rest @ ..,
-            ] => {
-                let (operand, rest) = self.opened(Opened::Unary, room, span.start, rest)?;
-                self.negated(span.start, operand, rest)
-            }
-            [
-                At {
-                    tok: Tok::Sign(SqlSign::Plus),
-                    span,
-                },
-                rest @ ..,
-            ] => {
-                let (Parsed { expr, depth }, rest) = self.opened(
-                    Opened::Unary,
-                    room,
-                    span.start,
-                    rest,
-                )?;
-                self.node(span.start, depth, Expr::Plus(expr), rest)
-            }
-            _ => self.prim(room, tokens),
-        }
+        let Some((prefix, place, behind)) = prefix(tokens) else {
+            return self.atom(tokens);
+        };
+        let (operand, rest) = self.opened(prefix.opens(), room, place, behind)?;
+        self.prefixed(prefix, place, operand, rest)
     }
 
     #[cycle(levels)]
@@ -372,149 +484,77 @@ impl Parser {
         }
     }
 
+    // A comparison at most, and `IS` behind it.
     #[cycle(levels)]
-    #[tactic(auto, unfolding(crate::specs::Inner::Pieces::is_at))]
     fn is<'t, 'a>(self, room: usize, tokens: Tokens<'t, 'a>) -> Read<'t, 'a>
         ensures { Gives (λ x. found x.0 x.1.now) result (is_at self.text_len (inside self.text_len room) (tok_views tokens.now)) }
     {
-        let (left, rest) = self.comparison(room, tokens)?;
-        self.is_more(left, rest)
-    }
-
-    #[cycle(levels)]
-    #[tactic(auto, unfolding(crate::specs::Inner::Pieces::cmp_at))]
-    fn comparison<'t, 'a>(self, room: usize, tokens: Tokens<'t, 'a>) -> Read<'t, 'a>
-        ensures { Gives (λ x. found x.0 x.1.now) result (cmp_at self.text_len (inside self.text_len room) (tok_views tokens.now)) }
-    {
         let (left, rest) = self.membership(room, tokens)?;
         let Some((operator, place, after)) = self.next_comparison(rest) else {
-            return Ok((left, rest));
+            return self.is_more(left, rest);
         };
         let Parsed { expr, depth } = left;
         deeper(place, depth)?;
         let (right, rest) = self.membership(room, after)?;
-        self.join(operator, place, Parsed { expr, depth }, right, rest)
+        self.compared(operator, place, Parsed { expr, depth }, right, rest)
     }
 
     // `IN` and `BETWEEN`.
     #[cycle(levels)]
-    #[tactic(auto, unfolding(crate::specs::Inner::Pieces::inn_at))]
     fn membership<'t, 'a>(self, room: usize, tokens: Tokens<'t, 'a>) -> Read<'t, 'a>
         ensures { Gives (λ x. found x.0 x.1.now) result (inn_at self.text_len (inside self.text_len room) (tok_views tokens.now)) }
     {
         let (left, rest) = self.chain(Chain::Concat, room, tokens)?;
-        let [token, after @ ..] = rest else {
-            return Ok((left, rest));
-        };
-        let place = token.span.start;
-        match token.tok {
-            Tok::Word(Word::Between, _) => {
-                let Parsed { expr, depth } = left;
-                self.between(false, place, expr, depth, room, after)
-            }
-            Tok::Word(Word::In, _) => {
-                let Parsed { expr, depth } = left;
-                self.contained(false, place, expr, depth, room, after)
-            }
-            Tok::Word(Word::Not, _) => self.not_in(place, left, room, after),
-            _ => Ok((left, rest)),
-        }
-    }
-
-    // `IN` and `BETWEEN` behind `NOT`.
-    #[cycle(levels)]
-    fn not_in<'t, 'a>(
-        self,
-        place: usize,
-        left: Parsed<'a>,
-        room: usize,
-        tokens: Tokens<'t, 'a>,
-    ) -> Read<'t, 'a>
-        ensures { Gives (λ x. found x.0 x.1.now) result (not_in_from self.text_len (inside self.text_len room) place (found left.entry tokens.now) (tok_views tokens.now)) }
-    {
         let Parsed { expr, depth } = left;
-        deeper(place, depth)?;
-        let [token, after @ ..] = tokens else {
-            return Err(self.misplaced(tokens));
+        let Some(test) = self.among(depth, rest)? else {
+            return Ok((Parsed { expr, depth }, rest));
         };
-        match token.tok {
-            Tok::Word(Word::Between, _) => self.between(true, place, expr, depth, room, after),
-            Tok::Word(Word::In, _) => self.contained(true, place, expr, depth, room, after),
-            _ => Err(self.misplaced(tokens)),
+        if test.ranged {
+            self.between(test, Parsed { expr, depth }, room)
+        } else {
+            self.contained(test, Parsed { expr, depth }, room)
         }
-    }
-
-    // `low AND high` of a `BETWEEN` at this place, behind an operand of this depth.
-    #[cycle(levels)]
-    #[tactic(auto, unfolding(crate::specs::Inner::Pieces::bounds_at))]
-    fn bounds<'t, 'a>(
-        self,
-        place: usize,
-        depth: usize,
-        room: usize,
-        tokens: Tokens<'t, 'a>,
-    ) -> Result<(Parsed<'a>, Parsed<'a>, Tokens<'t, 'a>), SqlFault>
-        ensures { Gives (λ x. found_bounds x.0 x.1 x.2.now) result (bounds_at self.text_len (inside self.text_len room) place depth (tok_views tokens.now)) }
-    {
-        deeper(place, depth)?;
-        let (Parsed { expr, depth: from }, rest) = self.chain(Chain::Concat, room, tokens)?;
-        deeper(place, depth.max(from))?;
-        let rest = self.and(rest)?;
-        let (high, rest) = self.chain(Chain::Concat, room, rest)?;
-        Ok((Parsed { expr, depth: from }, high, rest))
     }
 
     #[cycle(levels)]
     fn between<'t, 'a>(
         self,
-        negated: bool,
-        place: usize,
-        left: Box<Expr<'a>>,
-        depth: usize,
+        test: Membership<'t, 'a>,
+        left: Parsed<'a>,
         room: usize,
-        tokens: Tokens<'t, 'a>,
     ) -> Read<'t, 'a>
-        ensures { Gives (λ x. found x.0 x.1.now) result (between_at self.text_len (inside self.text_len room) negated place (tree_of left.entry.value) depth (tok_views tokens.now)) }
+        ensures { Gives (λ x. found x.0 x.1.now) result (between_at self.text_len (inside self.text_len room) test.entry.negated test.entry.place (tree_of left.entry.expr.value) left.entry.depth (tok_views test.entry.rest.now)) }
     {
-        let (low, high, rest) = self.bounds(place, depth, room, tokens)?;
-        self.range(negated, place, left, depth, low, high, rest)
-    }
-
-    // The list of an `IN` at this place, behind an operand of this depth, and the depth of its node.
-    #[cycle(levels)]
-    #[tactic(auto, unfolding(crate::specs::Inner::Pieces::listed_at))]
-    fn listed<'t, 'a>(
-        self,
-        place: usize,
-        depth: usize,
-        room: usize,
-        tokens: Tokens<'t, 'a>,
-    ) -> Result<(Vec<Expr<'a>>, usize, Tokens<'t, 'a>), SqlFault>
-        ensures { Gives (λ x. found_list x.0.items x.1 x.2.now) result (listed_at self.text_len (inside self.text_len room) place depth (tok_views tokens.now)) }
-    {
-        deeper(place, depth)?;
-        let paren = self.place_of(tokens);
-        let rest = self.open(tokens)?;
-        let (items, deepest, rest) = self.list(room, paren, rest)?;
-        let depth = deeper(place, depth.max(deepest))?;
-        let rest = self.close(rest)?;
-        Ok((items, depth, rest))
+        let Parsed { expr, depth } = left;
+        deeper(test.place, depth)?;
+        let (low, rest) = self.chain(Chain::Concat, room, test.rest)?;
+        let Parsed {
+            expr: least,
+            depth: from,
+        } = low;
+        let rest = self.upper(test.place, depth.max(from), rest)?;
+        let (high, rest) = self.chain(Chain::Concat, room, rest)?;
+        let left = Parsed { expr, depth };
+        let low = Parsed {
+            expr: least,
+            depth: from,
+        };
+        self.range(test, left, low, high, rest)
     }
 
     #[cycle(levels)]
     fn contained<'t, 'a>(
         self,
-        negated: bool,
-        place: usize,
-        left: Box<Expr<'a>>,
-        depth: usize,
+        test: Membership<'t, 'a>,
+        left: Parsed<'a>,
         room: usize,
-        tokens: Tokens<'t, 'a>,
     ) -> Read<'t, 'a>
-        ensures { Gives (λ x. found x.0 x.1.now) result (in_at self.text_len (inside self.text_len room) negated place (tree_of left.entry.value) depth (tok_views tokens.now)) }
+        ensures { Gives (λ x. found x.0 x.1.now) result (in_at self.text_len (inside self.text_len room) test.entry.negated test.entry.place (tree_of left.entry.expr.value) left.entry.depth (tok_views test.entry.rest.now)) }
     {
-        let (items, depth, rest) = self.listed(place, depth, room, tokens)?;
-        self.made(depth, Expr::In(left, negated, items), rest)
+        let Parsed { expr, depth } = left;
+        let (paren, rest) = self.list_open(test, depth)?;
+        let (items, deepest, rest) = self.list(room, paren, rest)?;
+        self.contains(test, depth.max(deepest), expr, items, rest)
     }
 
     // The items of a list, and the depth of the deepest.

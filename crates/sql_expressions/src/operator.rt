@@ -1,12 +1,13 @@
 //! The tokens that an expression goes on with.
 
-ghost use Rattle.std.specs.Prelude.{◌≡◌};
-ghost use Rattle.sql_trees.specs.Tokens.{tok_view};
+ghost use Rattle.std.specs.Prelude.{◌≡◌, option_map};
+ghost use Rattle.sql_trees.specs.Tokens.{tok_view, tok_views};
 ghost use Rattle.sql_expressions.specs.Readers.{left_out};
 ghost use Rattle.sql_expressions.specs.Reading.{is_call, truth_of, comparison_op};
-ghost use Rattle.sql_expressions.specs.Inner.Pieces.{chain_op};
+ghost use Rattle.sql_expressions.specs.Inner.Pieces.{chain_op, prefix_at, prefix_of};
 
-use crate::level::Chain;
+use crate::cursor::Tokens;
+use crate::level::{Chain, Prefix};
 use iso_lexer::SqlSign;
 use sql_trees::{Operator, Tok, Truth, Word};
 
@@ -57,6 +58,28 @@ pub fn comparison(tok: Tok) -> Option<Operator>
         Tok::Sign(SqlSign::AtLeast) => Some(Operator::AtLeast),
         _ => None,
     }
+}
+
+fn prefix_of(tok: Tok) -> Option<Prefix>
+    ensures { result ≡ prefix_of (tok_view tok.entry) }
+{
+    match tok {
+        Tok::Sign(SqlSign::Open) => Some(Prefix::Paren),
+        Tok::Sign(SqlSign::Minus) => Some(Prefix::Minus),
+        Tok::Sign(SqlSign::Plus) => Some(Prefix::Plus),
+        _ => None,
+    }
+}
+
+/// The parenthesis or sign that stands next, its place, and the tokens after it.
+pub fn prefix<'t, 'a>(tokens: Tokens<'t, 'a>) -> Option<(Prefix, usize, Tokens<'t, 'a>)>
+    ensures { option_map (λ x. (x.0, x.1, tok_views x.2.now)) result ≡ prefix_at (tok_views tokens.now) }
+{
+    let [token, rest @ ..] = tokens else {
+        return None
+    };
+    let prefix = prefix_of(token.tok)?;
+    Some((prefix, token.span.start, rest))
 }
 
 impl Chain {

@@ -124,14 +124,24 @@ fn columns<'t, 'a>(
 pub fn filter<'t, 'a>(
     parser: Parser,
     tokens: Tokens<'t, 'a>,
-) -> Result<(Option<Expr<'a>>, Tokens<'t, 'a>), SqlFault>
-    ensures { Gives (λ x. (option_map tree_of x.0, tok_views x.1.now)) result (filter_at parser.text_len (tok_views tokens.now)) }
+) -> Result<(Option<Box<Expr<'a>>>, Tokens<'t, 'a>), SqlFault>
+    ensures { Gives (λ x. (option_map (λ e. tree_of e.value) x.0, tok_views x.1.now)) result (filter_at parser.text_len (tok_views tokens.now)) }
 {
     let Some(tokens) = after_word(Word::Where, tokens) else {
         return Ok((None, tokens));
     };
     let (condition, rest) = expr(parser, tokens)?;
-    Ok((Some(Box::into_inner(condition)), rest))
+    Ok((Some(condition), rest))
+}
+
+/// The condition without its box.
+pub fn unboxed<'a>(condition: Option<Box<Expr<'a>>>) -> Option<Expr<'a>>
+    ensures { option_map tree_of result ≡ option_map (λ e. tree_of e.value) condition.entry }
+{
+    match condition {
+        Some(condition) => Some(Box::into_inner(condition)),
+        None => None,
+    }
 }
 
 /// What stands behind INSERT.
@@ -174,6 +184,7 @@ pub fn update<'t, 'a>(parser: Parser, tokens: Tokens<'t, 'a>) -> ReadStmt<'t, 'a
     let rest = keyword(parser, Word::Set, rest)?;
     let (SetList { sets }, rest) = sets(parser, rest)?;
     let (filter, rest) = filter(parser, rest)?;
+    let filter = unboxed(filter);
     Ok((
         Stmt::Update(Update {
             table,
@@ -192,5 +203,6 @@ pub fn delete<'t, 'a>(parser: Parser, tokens: Tokens<'t, 'a>) -> ReadStmt<'t, 'a
     let tokens = keyword(parser, Word::From, tokens)?;
     let (table, rest) = name(parser, tokens)?;
     let (filter, rest) = filter(parser, rest)?;
+    let filter = unboxed(filter);
     Ok((Stmt::Delete(Delete { table, filter }), rest))
 }

@@ -13,7 +13,7 @@ ghost use Rattle.sql_parser.specs.Inner.Calls.{seen};
 ghost use Rattle.sql_parser.specs.Inner.Pieces.{agg_item_at};
 ghost use Rattle.sql_parser.specs.Queries.{agg_kind, call_at, rows_of, maybe_name, direction_at, alias_at, item_at, from_at, nulls_at, order_add, order_at, lock_at, select_at};
 
-use crate::change::filter;
+use crate::change::{filter, unboxed};
 use crate::list::{List, items};
 use crate::part::{after_open, after_word, close, expr, keyword, name};
 use iso_lexer::{At, Name, SqlSign};
@@ -381,6 +381,7 @@ pub fn select<'t, 'a>(
     let (filter, rest) = filter(parser, rest)?;
     let (order, rest) = order(parser, rest)?;
     let (lock, rest) = lock(parser, rest)?;
+    let filter = unboxed(filter);
     let select = Select {
         items,
         table,

@@ -223,18 +223,17 @@ fn push_keys(
 fn finished<'a>(
     alloc: Global,
     name: Name<'a>,
-    table: TableText<'a>,
+    table: &TableText<'a>,
 ) -> Result<Result<Stmt<'a>, SqlFault>, AllocError>
-    requires { length table.columns.items < 2 ^ 32 }
-    ensures { IfOk result (λ r. seen stmt_of r ≡ finished (name_of name.entry) (table_text_of table.entry)) }
+    requires { length table.now.columns.items < 2 ^ 32 }
+    ensures { IfOk result (λ r. seen stmt_of r ≡ finished (name_of name.entry) (table_text_of table.now)) }
 {
-    let TableText { columns, keys } = table;
-    if let Some(place) = keys_fault(alloc, &name, &columns, &keys)? {
+    if let Some(place) = keys_fault(alloc, &name, &table.columns, &table.keys)? {
         return Ok(Err(SqlFault::BadColumns(place)));
     }
-    let all = push_keys(alloc, &columns, &keys, true, Vec::new(alloc))?;
-    let all = push_keys(alloc, &columns, &keys, false, all)?;
-    let columns = completed(alloc, &keys, &columns)?;
+    let all = push_keys(alloc, &table.columns, &table.keys, true, Vec::new(alloc))?;
+    let all = push_keys(alloc, &table.columns, &table.keys, false, all)?;
+    let columns = completed(alloc, &table.keys, &table.columns)?;
     Ok(Ok(Stmt::CreateTable(CreateTable {
         name,
         columns,
@@ -252,5 +251,5 @@ pub fn create_table<'t, 'a>(parser: Parser, tokens: Tokens<'t, 'a>) -> ReadWhole
     let (name, rest) = name(parser, tokens)?;
     let (table, rest) = table_items(parser, open(parser, rest)?)?;
     let rest = close(parser, rest)?;
-    Ok((finished(parser.alloc, name, table)?, rest))
+    Ok((finished(parser.alloc, name, &table)?, rest))
 }

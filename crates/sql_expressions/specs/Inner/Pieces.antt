@@ -15,6 +15,9 @@ use Rattle.sql_trees.specs.Trees.{Tree, Trees, none, more, Null, Flag, Number, T
 use Rattle.sql_expressions.specs.declared.parsed.Parsed.{Parsed}
 use Rattle.sql_expressions.specs.declared.level.Chain.{Chain}
 use Rattle.sql_expressions.specs.declared.level.Chain.TheVariants as chain_of
+use Rattle.sql_expressions.specs.declared.level.Membership.{Membership}
+use Rattle.sql_expressions.specs.declared.level.Prefix.{Prefix}
+use Rattle.sql_expressions.specs.declared.level.Prefix.TheVariants as prefixes
 use Rattle.sql_expressions.specs.declared.level.Opened.{Opened}
 use Rattle.sql_expressions.specs.declared.level.Opened.TheVariants.{Whole, Negation, Unary}
 use Rattle.sql_expressions.specs.Build.{negated, push}
@@ -34,6 +37,26 @@ chain_op chain_of.And = and_op
 chain_op chain_of.Concat = concat_op
 chain_op chain_of.Sum = sum_op
 chain_op chain_of.Product = product_op
+
+-- a parenthesis or a sign, behind which an expression stands
+abbrev pub prefix_of : Token → Option Prefix
+prefix_of (tok.sign signs.Open) = Some prefixes.Paren
+prefix_of (tok.sign signs.Minus) = Some prefixes.Minus
+prefix_of (tok.sign signs.Plus) = Some prefixes.Plus
+prefix_of _ = None
+
+-- the one that stands next, its place, and the tokens after it
+abbrev pub placed_prefix : At Token → Tokens → Option Prefix → Option (Prefix × ℕ × Tokens)
+placed_prefix t ts None = None
+placed_prefix t ts (Some p) = Some (p, t.span.start, ts)
+
+abbrev pub prefix_at : Tokens → Option (Prefix × ℕ × Tokens)
+prefix_at [] = None
+prefix_at (t ∷ ts) = placed_prefix t ts (prefix_of t.tok)
+
+abbrev pub opened_of : Prefix → Opened
+opened_of prefixes.Paren = Whole
+opened_of _ = Unary
 
 abbrev pub is_and : Token → Bool
 is_and (tok.word words.And s) = true
@@ -140,6 +163,16 @@ found_bounds low high ts = record { low = (tree_of low.expr.value, low.depth); h
 abbrev pub range_node : Bool → ℕ → Tree → ℕ → Found_bounds → Result Found SqlFault
 range_node negated place left depth b = node place (max depth (max b.low.1 b.high.1)) (Between left negated b.low.0 b.high.0) b.rest
 
+-- IN or BETWEEN behind an operand: whether it is BETWEEN, whether NOT stands before it, the place of the first token, and the tokens behind it
+pub record Among : Type 0 where
+  pub ranged : Bool
+  pub negated : Bool
+  pub place : ℕ
+  pub rest : Tokens
+
+abbrev pub membership_of : Membership → Among
+membership_of m = record { ranged = m.ranged; negated = m.negated; place = m.place; rest = tok_views m.rest.now }
+
 -- last is the text's length
 module _ (last : ℕ) where
   -- a name, with no call behind it: the name of an aggregate is left out there, elsewhere the call
@@ -155,6 +188,80 @@ module _ (last : ℕ) where
   abbrev pub column_first : Reader
   column_first [] = Err (misplaced last [])
   column_first (t ∷ ts) = name_at (named t.tok) t ts
+
+  -- a literal, or a column
+  abbrev pub atom_of : Token → At Token → Reader
+  atom_of (tok.number n) t ts = leaf (Number false n) ts
+  atom_of (tok.string s) t ts = leaf (Text (undoubled s)) ts
+  atom_of (tok.word words.True s) t ts = leaf (Flag true) ts
+  atom_of (tok.word words.False s) t ts = leaf (Flag false) ts
+  atom_of (tok.word words.Null s) t ts = leaf Null ts
+  atom_of x t ts = name_at (named x) t ts
+
+  abbrev pub atom_at : Reader
+  atom_at [] = Err (misplaced last [])
+  atom_at (t ∷ ts) = atom_of t.tok t ts
+
+  -- what a parenthesis at this place makes of the expression behind it
+  abbrev pub closed_at : ℕ → Found → Result Found SqlFault
+  closed_at place e = do
+    d ← deeper place e.depth
+    rest ← expect last (is_sign signs.Close) e.rest
+    Ok (record { tree = e.tree; depth = d; rest = rest })
+
+  -- the same of a parenthesis or a sign
+  abbrev pub prefixed_at : Prefix → ℕ → Found → Result Found SqlFault
+  prefixed_at prefixes.Paren place e = closed_at place e
+  prefixed_at prefixes.Minus place e = node place e.depth (negated e.tree) e.rest
+  prefixed_at prefixes.Plus place e = node place e.depth (Plus e.tree) e.rest
+
+  -- where the list of an IN stands, behind an operand of this depth, and the tokens behind its parenthesis
+  abbrev pub list_open_at : ℕ → ℕ → Tokens → Result (ℕ × Tokens) SqlFault
+  list_open_at place depth ts = do
+    here ← deeper place depth
+    behind ← expect last (is_sign signs.Open) ts
+    Ok (place_of last ts, behind)
+
+  -- the node of an IN behind its list, over parts of which the deepest has this depth
+  abbrev pub contains_at : Bool → ℕ → ℕ → Tree → Trees → Tokens → Result Found SqlFault
+  contains_at negated place depth left items ts = do
+    d ← deeper place depth
+    rest ← expect last (is_sign signs.Close) ts
+    Ok (record { tree = In left negated items; depth = d; rest = rest })
+
+  -- the tokens behind the AND of a BETWEEN
+  abbrev pub upper_at : ℕ → ℕ → Tokens → Result Tokens SqlFault
+  upper_at place depth ts = do
+    there ← deeper place depth
+    expect last is_and ts
+
+  -- IN or BETWEEN behind a NOT at this place
+  abbrev pub not_among_of : Token → ℕ → At Token → Tokens → Result Among SqlFault
+  not_among_of (tok.word words.In s) place t ts = Ok (record { ranged = false; negated = true; place = place; rest = ts })
+  not_among_of (tok.word words.Between s) place t ts = Ok (record { ranged = true; negated = true; place = place; rest = ts })
+  not_among_of _ place t ts = Err (misplaced last (t ∷ ts))
+
+  abbrev pub not_among_in : ℕ → Tokens → Result Among SqlFault
+  not_among_in place [] = Err (misplaced last [])
+  not_among_in place (t ∷ ts) = not_among_of t.tok place t ts
+
+  abbrev pub not_among_at : ℕ → ℕ → Tokens → Result Among SqlFault
+  not_among_at place depth ts = do
+    here ← deeper place depth
+    not_among_in place ts
+
+  -- IN or BETWEEN with or without a NOT, behind an operand of this depth, if one stands next
+  abbrev pub among_of : Token → ℕ → ℕ → Tokens → Result (Option Among) SqlFault
+  among_of (tok.word words.In s) place depth ts = Ok (Some (record { ranged = false; negated = false; place = place; rest = ts }))
+  among_of (tok.word words.Between s) place depth ts = Ok (Some (record { ranged = true; negated = false; place = place; rest = ts }))
+  among_of (tok.word words.Not s) place depth ts = do
+    a ← not_among_at place depth ts
+    Ok (Some a)
+  among_of _ place depth ts = Ok None
+
+  abbrev pub among_at : ℕ → Tokens → Result (Option Among) SqlFault
+  among_at depth [] = Ok None
+  among_at depth (t ∷ ts) = among_of t.tok t.span.start depth ts
 
   -- what an IS asks for, whose node has this depth
   abbrev pub is_node : Option Truth → Bool → Tree → ℕ → At Token → Tokens → Result Found SqlFault
@@ -178,6 +285,12 @@ module _ (last : ℕ) where
   abbrev pub is_more : Found → Tokens → Result Found SqlFault
   is_more a [] = Ok a
   is_more a (t ∷ ts) = if is_is t.tok then is_from t.span.start a ts else Ok a
+
+  -- a comparison's node, and IS behind it
+  abbrev pub compared_at : Found_op → Found → Found → Result Found SqlFault
+  compared_at o a b = do
+    c ← join o a b
+    is_more c c.rest
 
   module _ (inside : Opened → ℕ → Reader) where
     unfoldable pub parens_at : ℕ → Reader
@@ -224,26 +337,6 @@ module _ (last : ℕ) where
 
     unfoldable pub cat_at : Reader
     cat_at = chain add_at concat_op
-
-    -- the list of an IN at this place, behind an operand of this depth, and the depth of its node
-    unfoldable pub listed_at : ℕ → ℕ → Tokens → Result Found_list SqlFault
-    listed_at place depth ts = do
-      here ← deeper place depth
-      behind ← expect last (is_sign signs.Open) ts
-      items ← list_at (inside Whole (place_of last ts)) behind
-      d ← deeper place (max depth items.depth)
-      rest ← expect last (is_sign signs.Close) items.rest
-      Ok (record { trees = items.trees; depth = d; rest = rest })
-
-    -- low AND high of a BETWEEN at this place, behind an operand of this depth
-    unfoldable pub bounds_at : ℕ → ℕ → Tokens → Result Found_bounds SqlFault
-    bounds_at place depth ts = do
-      here ← deeper place depth
-      low ← cat_at ts
-      there ← deeper place (max depth low.depth)
-      behind ← expect last is_and low.rest
-      high ← cat_at behind
-      Ok (record { low = (low.tree, low.depth); high = (high.tree, high.depth); rest = high.rest })
 
     unfoldable pub in_at : Bool → ℕ → Tree → ℕ → Tokens → Result Found SqlFault
     in_at negated place left depth ts = do

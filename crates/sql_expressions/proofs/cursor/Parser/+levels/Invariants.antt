@@ -18,9 +18,6 @@ decreases-opened l = l.room * 32
 abbrev pub decreases-operand : goal.decreases-operand
 decreases-operand l = l.room * 32 + rank_of l.level - 1
 
-abbrev pub decreases-prim : goal.decreases-prim
-decreases-prim l = l.room * 32 + 1
-
 abbrev pub decreases-unary : goal.decreases-unary
 decreases-unary l = l.room * 32 + 2
 
@@ -33,9 +30,6 @@ decreases-chain-loop-operator l = 65 - l.left.depth
 
 abbrev pub decreases-is : goal.decreases-is
 decreases-is l = l.room * 32 + 16
-
-abbrev pub decreases-comparison : goal.decreases-comparison
-decreases-comparison l = l.room * 32 + 14
 
 abbrev pub decreases-membership : goal.decreases-membership
 decreases-membership l = l.room * 32 + 12
@@ -55,12 +49,3 @@ invariant-list-loop-after l =
 
 abbrev pub decreases-list-loop-after : goal.decreases-list-loop-after
 decreases-list-loop-after l = length (tok_views l.rest)
-
-abbrev pub decreases-not_in : goal.decreases-not_in
-decreases-not_in l = l.room * 32 + 11
-
-abbrev pub decreases-bounds : goal.decreases-bounds
-decreases-bounds l = l.room * 32 + 9
-
-abbrev pub decreases-listed : goal.decreases-listed
-decreases-listed l = l.room * 32 + 9
