@@ -8,7 +8,7 @@ import time
 from kit import TOP, quietly, rt, rtlib
 
 # A crate gives way by one step of niceness for so many seconds that others are waited for longer than it is.
-STEP = 30
+STEP = 50
 # The seconds from which on a crate has two jobs, or one, in place of as many as all processors but one.
 SOME, MUCH = 60, 300
 # So many crates more than there are processors are at work, so that those that give way don't keep one from its start that others wait for.
