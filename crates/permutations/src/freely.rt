@@ -8,13 +8,13 @@ ghost use Rattle.spec_parser.specs.Stands.{Stands};
 ghost use Rattle.spec_files.specs.Begun.{Begun, FreeSays, FileSaysFreely};
 ghost use Rattle.spec_files.specs.Files.{FileIs};
 ghost use Rattle.spec_files.specs.FreeRuns.{IsFreeTold, FileFreeTold};
+ghost use Rattle.spec_files.specs.Runners.{RanFreely};
 ghost use Rattle.spec_files.specs.Runs.{is_refusal, is_of_one, has_broken, has_ended, has_read};
 
 use crate::free_run::free_run_of;
-use crate::on_threads::OnThreads;
 use iso_lexer::{Sink, Source};
 use session_threads::Gate;
-use spec_files::{RunFault, free_spec_by, write_free};
+use spec_files::{RunFault, SpecFile, free_spec_by, write_free};
 use spec_parser::Spec;
 use sql_blocks::Block;
 use std::alloc::Global;
@@ -69,5 +69,9 @@ pub fn free_spec<S: Source, W: Sink, N: Sink, G: Gate, R: Threads + Wait + Sync>
     ensures write { IsErrOf result RunFault.Write → (W.failed out.new || N.failed notes.new) ≡ true }
     ensures taken { IsTrue (has_read result) → ((bytes : List ℕ) × IsFront 1048577 (S.left input.old) (S.left input.new) bytes) }
 {
-    free_spec_by(&OnThreads { rt, gate }, alloc, input, out, notes)
+    let run = |file: &SpecFile<'_>, out: &mut W, notes: &mut N| -> Result<(), RunFault>
+        requires { Stands (spec_view file.now.spec) }
+        ensures { RanFreely W.put_so_far N.put_so_far W.failed N.failed file.now out.old out.new notes.old notes.new result }
+    { run_freely(rt, alloc, &file.spec, &file.blocks, out, notes, gate) };
+    free_spec_by(alloc, input, out, notes, run)
 }

@@ -1,9 +1,9 @@
 //! Runs the permutations of a spec file, or its sessions freely, with a thread for each session, and prints the text.
 #![tactic(auto)]
 
+mod draft;
 mod free_run;
 mod freely;
-mod on_threads;
 mod plan;
 mod run;
 mod thread_run;

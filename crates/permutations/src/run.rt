@@ -2,16 +2,21 @@
 
 ghost use Rattle.std.specs.Prelude.{◌≡◌, ◌≢◌, ◌↔◌, ◌||◌, List, ℕ, Ok, Err, take, true, IsTrue, IfErr, IfSome, IsErrOf};
 ghost use Rattle.iso_lexer.specs.Devices.{IsFront};
+ghost use Rattle.sql_blocks.specs.Blocks.{blocks_of};
+ghost use Rattle.spec_parser.specs.Trees.{spec_view};
+ghost use Rattle.spec_parser.specs.Stands.{Stands};
 ghost use Rattle.spec_files.specs.Begun.{Begun, FileMaySay};
 ghost use Rattle.spec_files.specs.Broken.{FileBroken};
+ghost use Rattle.spec_files.specs.Drafts.{IsDraft};
 ghost use Rattle.spec_files.specs.Prints.{FileSays};
 ghost use Rattle.spec_files.specs.Runs.{is_refusal, has_broken, has_ended, has_read, IsTold};
 ghost use Rattle.spec_files.specs.Said.{Said};
 
-use crate::on_threads::OnThreads;
+use crate::draft::draft_of;
 use iso_lexer::{Sink, Source};
 use session_threads::Gate;
-use spec_files::{RunFault, run_spec_by};
+use spec_files::{Draft, RunFault, SpecFile, run_spec_by};
+use spec_parser::Entry;
 use std::alloc::Global;
 use std::sync::Wait;
 use std::thread::Threads;
@@ -47,5 +52,9 @@ pub fn run_spec<S: Source, W: Sink, N: Sink, G: Gate, R: Threads + Wait + Sync>(
     ensures write { IsErrOf result RunFault.Write → (W.failed out.new || N.failed notes.new) ≡ true }
     ensures taken { IsTrue (has_read result) → ((bytes : List ℕ) × IsFront 1048577 (S.left input.old) (S.left input.new) bytes) }
 {
-    run_spec_by(&OnThreads { rt, gate }, rt, alloc, input, out, notes, limit)
+    let run = |file: &SpecFile<'_>, entries: Vec<Entry>| -> Draft
+        requires { Stands (spec_view file.now.spec) }
+        ensures { IsDraft (spec_view file.now.spec) (blocks_of file.now.blocks.items) result × (result.entries ≡ entries) }
+    { draft_of(rt, alloc, &file.spec, &file.blocks, entries, gate) };
+    run_spec_by(rt, alloc, input, out, notes, limit, &run)
 }

@@ -12,3 +12,4 @@ pub mod Whole
 pub mod Drafting
 pub mod Joining
 pub mod Turns
+pub mod Sending

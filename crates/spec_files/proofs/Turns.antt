@@ -10,7 +10,8 @@ use Rattle.spec_files.specs.declared.draft.Draft.{Draft}
 use Rattle.spec_files.specs.declared.fault.RunFault.{RunFault}
 use Rattle.spec_files.specs.declared.fault.RunFault.TheVariants as faults
 use Rattle.spec_files.specs.Begun.{Begun, none, fronts, OneSays, report}
-use Rattle.spec_files.specs.Inner.Drafts.{IsDraft, entries_of, to_come}
+use Rattle.spec_files.specs.Drafts.{IsDraft, entries_of}
+use Rattle.spec_files.specs.Inner.Drafts.{to_come}
 use Rattle.spec_files.specs.Runs.{has_ended, has_broken, is_of_one, IsOneTold}
 
 -- it answers as the run did, or that a device failed

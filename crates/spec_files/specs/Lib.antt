@@ -14,5 +14,7 @@ pub mod Broken
 pub mod Runs
 pub mod FreeRuns
 pub mod Begun
+pub mod Drafts
+pub mod Runners
 pub mod Laws
 pub mod Inner

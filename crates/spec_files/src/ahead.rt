@@ -7,14 +7,15 @@ ghost use Rattle.spec_parser.specs.Trees.{entry_view, spec_view};
 ghost use Rattle.spec_parser.specs.Stands.{Stands};
 ghost use Rattle.permutation_lists.specs.Permutations.{permutations_of};
 ghost use Rattle.spec_files.specs.Inner.Coming.{AreDrafts};
-ghost use Rattle.spec_files.specs.Inner.Drafts.{IsDraft, entries_of, lists_of, to_come};
+ghost use Rattle.spec_files.specs.Drafts.{IsDraft, entries_of};
+ghost use Rattle.spec_files.specs.Runners.{RunsEach};
+ghost use Rattle.spec_files.specs.Inner.Drafts.{lists_of, to_come};
 
 use crate::draft::Draft;
+use crate::file::SpecFile;
 use crate::side_by_side::{Lent, side_by_side};
-use crate::spec_runner::SpecRunner;
 use permutation_lists::Permutations;
 use spec_parser::{Entry, Spec};
-use sql_blocks::Block;
 use std::alloc::{AllocError, Global};
 use std::collections::VecDeque;
 use std::sync::Wait;
@@ -96,33 +97,33 @@ fn take_next(
 
 /// What the permutations of a file are lent.
 #[derive(Drop)]
-pub struct FileLent<'r, 't, 'b> {
-    pub spec: &'r Spec<'t>,
-    pub blocks: &'r [Block<'b>],
+pub struct FileLent<'r, 't> {
+    pub file: &'r SpecFile<'t>,
 }
 
-impl<'r, 't, 'b> Lent for FileLent<'r, 't, 'b> {
-    ghost gives = { λ lent draft. IsDraft (spec_view lent.spec.now) (blocks_of lent.blocks.now) draft };
+impl<'r, 't> Lent for FileLent<'r, 't> {
+    ghost gives = { λ lent draft. IsDraft (spec_view lent.file.now.spec) (blocks_of lent.file.now.blocks.items) draft };
 }
 
 /// The drafts of these permutations, which run side by side, so many in turn in each thread.
-fn drafts_of<P: SpecRunner, R: Threads + Wait>(
-    runner: &P,
+fn drafts_of<F: Fn(&SpecFile<'_>, Vec<Entry>) -> Draft + Sync, R: Threads + Wait>(
     rt: &R,
     alloc: Global,
-    spec: &Spec<'_>,
-    blocks: &[Block<'_>],
+    file: &SpecFile<'_>,
+    run: &F,
     taken: Vec<Vec<Entry>>,
     in_turn: usize,
 ) -> Result<Vec<Draft>, AllocError>
-    requires stands { Stands (spec_view spec.now) }
+    requires runs { RunsEach (F.pre run.now) (F.post run.now) }
+    requires stands { Stands (spec_view file.now.spec) }
     requires some { 0 < in_turn }
-    ensures { IfOk result (AreDrafts (IsDraft (spec_view spec.now) (blocks_of blocks.now)) taken.items) }
+    ensures { IfOk result (AreDrafts (IsDraft (spec_view file.now.spec) (blocks_of file.now.blocks.items)) taken.items) }
 {
-    let run = |entries: Vec<Entry>|
-        requires { Stands (spec_view spec.now) }
-    { Draft::of(runner, alloc, spec, blocks, entries) };
-    side_by_side(rt, alloc, &FileLent { spec, blocks }, &run, taken, in_turn)
+    let run_one = |entries: Vec<Entry>| -> Draft
+        requires { RunsEach (F.pre run.now) (F.post run.now) × Stands (spec_view file.now.spec) }
+        ensures { IsDraft (spec_view file.entry.now.spec) (blocks_of file.entry.now.blocks.items) result × (result.entries ≡ entries) }
+    { run(file, entries) };
+    side_by_side(rt, alloc, &FileLent { file }, &run_one, taken, in_turn)
 }
 
 impl<'s> Ahead<'s> {
@@ -139,19 +140,19 @@ impl<'s> Ahead<'s> {
     }
 
     /// Runs the next permutations, of at most so many, where no draft is left.
-    fn fill<P: SpecRunner, R: Threads + Wait>(
+    fn fill<F: Fn(&SpecFile<'_>, Vec<Entry>) -> Draft + Sync, R: Threads + Wait>(
         &mut self,
-        runner: &P,
         rt: &R,
         alloc: Global,
-        spec: &Spec<'_>,
-        blocks: &[Block<'_>],
+        file: &SpecFile<'_>,
+        run: &F,
         most: u64,
     ) -> Result<(), AllocError>
-        requires stands { Stands (spec_view spec.now) }
+        requires runs { RunsEach (F.pre run.now) (F.post run.now) }
+        requires stands { Stands (spec_view file.now.spec) }
         requires some { 0 < most }
-        requires drafts { All (IsDraft (spec_view spec.now) (blocks_of blocks.now)) self.old.drafts.items }
-        ensures drafts { OnOk result (All (IsDraft (spec_view spec.now) (blocks_of blocks.now)) self.new.drafts.items) }
+        requires drafts { All (IsDraft (spec_view file.now.spec) (blocks_of file.now.blocks.items)) self.old.drafts.items }
+        ensures drafts { OnOk result (All (IsDraft (spec_view file.now.spec) (blocks_of file.now.blocks.items)) self.new.drafts.items) }
         ensures same { OnOk result (to_come self.old.drafts.items self.old.behind.more ≡ to_come self.new.drafts.items self.new.behind.more) }
         ensures over { OnOk result (self.new.drafts.items ≡ [] → self.new.behind.more ≡ []) }
     {
@@ -159,31 +160,31 @@ impl<'s> Ahead<'s> {
             return Ok(());
         }
         let taken = take_next(alloc, &mut self.behind, most)?;
-        let in_turn = in_turn(taken.len(), spec.sessions.len());
-        self.drafts = drafts_of(runner, rt, alloc, spec, blocks, taken, in_turn)?.into();
+        let in_turn = in_turn(taken.len(), file.spec.sessions.len());
+        self.drafts = drafts_of(rt, alloc, file, run, taken, in_turn)?.into();
         Ok(())
     }
 
     /// Takes the draft of the permutation whose turn it is. Where none was run ahead, the next ones run, of at most so many.
-    pub fn next<P: SpecRunner, R: Threads + Wait>(
+    pub fn next<F: Fn(&SpecFile<'_>, Vec<Entry>) -> Draft + Sync, R: Threads + Wait>(
         &mut self,
-        runner: &P,
         rt: &R,
         alloc: Global,
-        spec: &Spec<'_>,
-        blocks: &[Block<'_>],
+        file: &SpecFile<'_>,
+        run: &F,
         most: u64,
     ) -> Result<Option<Draft>, AllocError>
-        requires stands { Stands (spec_view spec.now) }
+        requires runs { RunsEach (F.pre run.now) (F.post run.now) }
+        requires stands { Stands (spec_view file.now.spec) }
         requires some { 0 < most }
-        requires drafts { All (IsDraft (spec_view spec.now) (blocks_of blocks.now)) self.old.drafts.items }
-        ensures drafts { OnOk result (All (IsDraft (spec_view spec.now) (blocks_of blocks.now)) self.new.drafts.items) }
-        ensures is { IfOk result (λ next. IfSome next (IsDraft (spec_view spec.now) (blocks_of blocks.now))) }
+        requires drafts { All (IsDraft (spec_view file.now.spec) (blocks_of file.now.blocks.items)) self.old.drafts.items }
+        ensures drafts { OnOk result (All (IsDraft (spec_view file.now.spec) (blocks_of file.now.blocks.items)) self.new.drafts.items) }
+        ensures is { IfOk result (λ next. IfSome next (IsDraft (spec_view file.now.spec) (blocks_of file.now.blocks.items))) }
         ensures next { IfOk result (λ next. IfSome next (λ draft.
             to_come self.old.drafts.items self.old.behind.more ≡ entries_of draft ∷ to_come self.new.drafts.items self.new.behind.more)) }
         ensures over { IfOk result (λ next. IfNone next (to_come self.old.drafts.items self.old.behind.more ≡ [])) }
     {
-        self.fill(runner, rt, alloc, spec, blocks, most)?;
+        self.fill(rt, alloc, file, run, most)?;
         Ok(self.drafts.pop_front())
     }
 

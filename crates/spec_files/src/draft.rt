@@ -1,20 +1,13 @@
 //! A permutation's report in memory, before its turn comes.
 
-ghost use Rattle.std.specs.Prelude.{◌≡◌, ◌≢◌, ◌||◌, ◌⊎◌, true, false, Err, map, IsTrue, IsErrOf};
+ghost use Rattle.std.specs.Prelude.{◌≡◌, ◌≢◌, ◌||◌, ◌⊎◌, true, false, Err, IsTrue, IsErrOf};
 ghost use Rattle.std.specs.Io.KnownBytes.{Appends};
 ghost use Rattle.iso_lexer.specs.Devices.{page_text, PutsFront};
-ghost use Rattle.sql_blocks.specs.Blocks.{blocks_of};
-ghost use Rattle.spec_parser.specs.Trees.{entry_view, spec_view};
-ghost use Rattle.spec_parser.specs.Stands.{Stands};
-ghost use Rattle.spec_files.specs.Inner.Drafts.{IsDraft};
 ghost use Rattle.spec_files.specs.Runs.{has_ended};
 
 use crate::fault::RunFault;
-use crate::spec_runner::SpecRunner;
 use iso_lexer::{Page, Sink};
-use spec_parser::{Entry, Spec};
-use sql_blocks::Block;
-use std::alloc::Global;
+use spec_parser::Entry;
 
 /// The report and the notes of a permutation, and what its run came to.
 #[derive(Drop)]
@@ -39,34 +32,6 @@ fn has_ended(answer: &Result<(), RunFault>) -> bool
 }
 
 impl Draft {
-    /// Runs a permutation and writes its report in memory, where a page fails as memory is refused.
-    pub fn of<R: SpecRunner>(
-        runner: &R,
-        alloc: Global,
-        spec: &Spec<'_>,
-        blocks: &[Block<'_>],
-        entries: Vec<Entry>,
-    ) -> Draft
-        requires { Stands (spec_view spec.now) }
-        ensures draft { IsDraft (spec_view spec.now) (blocks_of blocks.now) result }
-        ensures entries { result.entries ≡ entries }
-    {
-        let mut text = Page::new(alloc);
-        let mut notes = Page::new(alloc);
-        let result = match runner.run_permutation(
-            alloc, spec, blocks, &entries, &mut text, &mut notes,
-        ) {
-            Err(RunFault::Write) => Err(RunFault::Memory),
-            result => result,
-        };
-        Draft {
-            entries,
-            text,
-            notes,
-            result,
-        }
-    }
-
     /// Writes the report of a run that came to an end, nothing of another, and answers as the run did.
     pub fn put<W: Sink, N: Sink>(self, out: &mut W, notes: &mut N) -> Result<(), RunFault>
         ensures whole { IsTrue (has_ended result) → Appends (W.put_so_far out.old) (W.put_so_far out.new) (page_text self.text)

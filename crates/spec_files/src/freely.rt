@@ -1,26 +1,25 @@
-//! Runs a spec file freely by a runner: each session's steps in their order, with no order between sessions.
+//! Runs a spec file freely, by what runs a spec: each session's steps in their order, with no order between sessions.
 
 ghost use Rattle.std.specs.Prelude.{◌≡◌, ◌≢◌, ◌↔◌, ◌||◌, List, ℕ, Ok, Err, take, true, false, IsTrue, IfErr, IfSome, IsErrOf};
 ghost use Rattle.iso_lexer.specs.Devices.{IsFront};
 ghost use Rattle.spec_files.specs.Begun.{Begun, FileSaysFreely};
 ghost use Rattle.spec_files.specs.Files.{FileIs};
 ghost use Rattle.spec_files.specs.FreeRuns.{FileFreeTold};
+ghost use Rattle.spec_files.specs.Runners.{RunsFreely};
 ghost use Rattle.spec_files.specs.Runs.{is_refusal, has_broken, has_ended, has_read};
 
 use crate::fault::RunFault;
-use crate::file::read_file;
-use crate::spec_runner::SpecRunner;
+use crate::file::{SpecFile, read_file};
 use iso_lexer::{LONGEST_FILE, Sink, Source, read_all};
 use std::alloc::Global;
 
 /// Runs the spec file freely that these bytes are.
-fn run_file_freely<W: Sink, N: Sink, P: SpecRunner>(
-    runner: &P,
-    alloc: Global,
-    bytes: &[u8],
-    out: &mut W,
-    notes: &mut N,
-) -> Result<(), RunFault>
+fn run_file_freely<
+    W: Sink,
+    N: Sink,
+    F: FnOnce(&SpecFile<'_>, &mut W, &mut N) -> Result<(), RunFault>,
+>(alloc: Global, bytes: &[u8], out: &mut W, notes: &mut N, run: F) -> Result<(), RunFault>
+    requires { RunsFreely W.put_so_far N.put_so_far W.failed N.failed (F.pre run) (F.post run) }
     ensures told { IsTrue (has_ended result) → FileFreeTold bytes.now
         (W.put_so_far out.old) (W.put_so_far out.new) (N.put_so_far notes.old) (N.put_so_far notes.new) result }
     ensures refused { IfErr result (λ e. is_refusal e ≡ true → FileIs bytes.now (Err e)) }
@@ -32,19 +31,19 @@ fn run_file_freely<W: Sink, N: Sink, P: SpecRunner>(
     ensures read { result ≢ Err RunFault.Read }
 {
     let file = read_file(alloc, bytes)?;
-    runner.run_freely(alloc, &file.spec, &file.blocks, out, notes)
+    run(&file, out, notes)
 }
 
-/// Reads a spec file and has it run freely by the runner. Then the text of what happened is written, which another run of
+/// Reads a spec file and has it run freely by what is given to that end. Then the text of what happened is written, which another run of
 /// the same file may not repeat; permutation lines count for nothing. The file is refused as by `run_spec_by`. Nothing is
 /// written before the run is closed; a setup that fails or waits ends it.
-pub fn free_spec_by<S: Source, W: Sink, N: Sink, P: SpecRunner>(
-    runner: &P,
-    alloc: Global,
-    input: &mut S,
-    out: &mut W,
-    notes: &mut N,
-) -> Result<(), RunFault>
+pub fn free_spec_by<
+    S: Source,
+    W: Sink,
+    N: Sink,
+    F: FnOnce(&SpecFile<'_>, &mut W, &mut N) -> Result<(), RunFault>,
+>(alloc: Global, input: &mut S, out: &mut W, notes: &mut N, run: F) -> Result<(), RunFault>
+    requires { RunsFreely W.put_so_far N.put_so_far W.failed N.failed (F.pre run) (F.post run) }
     ensures told { IfSome (S.left input.old) (λ bytes. IsTrue (has_ended result) → FileFreeTold (take 1048577 bytes)
         (W.put_so_far out.old) (W.put_so_far out.new) (N.put_so_far notes.old) (N.put_so_far notes.new) result) }
     ensures refused { IfSome (S.left input.old) (λ bytes. IfErr result (λ e. is_refusal e ≡ true → FileIs (take 1048577 bytes) (Err e))) }
@@ -58,5 +57,5 @@ pub fn free_spec_by<S: Source, W: Sink, N: Sink, P: SpecRunner>(
     ensures taken { IsTrue (has_read result) → ((bytes : List ℕ) × IsFront 1048577 (S.left input.old) (S.left input.new) bytes) }
 {
     let bytes = read_all(alloc, input, LONGEST_FILE + 1)?;
-    run_file_freely(runner, alloc, &bytes, out, notes)
+    run_file_freely(alloc, &bytes, out, notes, run)
 }

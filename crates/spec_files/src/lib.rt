@@ -1,5 +1,5 @@
-//! A spec file with the statements of its blocks, or why it is refused; its permutations listed; and, by a runner of one
-//! permutation, all of them run, several side by side, and their text printed.
+//! A spec file with the statements of its blocks, or why it is refused; its permutations listed; and, by what runs one of
+//! them, all of them run, several side by side, and their text printed.
 #![tactic(auto)]
 
 mod ahead;
@@ -16,8 +16,8 @@ mod list;
 mod report;
 mod run;
 mod side_by_side;
-mod spec_runner;
 
+pub use draft::Draft;
 pub use fault::{BlockFault, RunFault};
 pub use file::{SpecFile, read_file};
 pub use free_plan::free_plan_of;
@@ -28,4 +28,3 @@ pub use permutation_lists::Interleavings;
 pub use report::write_permutation;
 pub use report_text::Ended;
 pub use run::run_spec_by;
-pub use spec_runner::SpecRunner;

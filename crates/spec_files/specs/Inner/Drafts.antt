@@ -1,24 +1,10 @@
--- A permutation's report in memory, before its turn comes.
-use Rattle.std.specs.Prelude.{◌≡◌, ◌≢◌, true, List, [], ◌++◌, map, Some, Err, IfErr, IsTrue}
+-- The permutations that were drafted, and those behind them.
+use Rattle.std.specs.Prelude.{List, ◌++◌, map}
 use Rattle.std.specs.Global.{Vec}
-use Rattle.iso_lexer.specs.Devices.{page_text}
-use Rattle.session_machine.specs.Machine.{Blocks}
 use Rattle.spec_parser.specs.declared.tree.Entry.{Entry}
-use Rattle.spec_parser.specs.Trees.{EntryTree, SpecTree, perm_view}
+use Rattle.spec_parser.specs.Trees.{EntryTree, perm_view}
 use Rattle.spec_files.specs.declared.draft.Draft.{Draft}
-use Rattle.spec_files.specs.declared.fault.RunFault.TheVariants as faults
-use Rattle.spec_files.specs.Runs.{is_of_one, has_ended, IsOneTold}
-
-abbrev pub entries_of : Draft → List EntryTree
-entries_of draft = perm_view draft.entries
-
--- the permutation's run was written to pages that held nothing; where memory was refused to a page the answer says so
-pub record IsDraft (spec : SpecTree) (blocks : Blocks) (draft : Draft) : Type 0 where
-  pub told : IsTrue (has_ended draft.result)
-      → IsOneTold spec blocks (entries_of draft) (Some []) (Some (page_text draft.text)) (Some []) (Some (page_text draft.notes)) draft.result
-  pub unbroken : draft.result ≢ Err faults.ScheduleBroken
-  pub unwritten : draft.result ≢ Err faults.Write
-  pub kinds : IfErr draft.result (λ e. is_of_one e ≡ true)
+use Rattle.spec_files.specs.Drafts.{entries_of}
 
 -- the permutations with these entries
 abbrev pub lists_of : List (Vec Entry) → List (List EntryTree)

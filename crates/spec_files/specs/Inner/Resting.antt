@@ -1,5 +1,5 @@
 -- An engine that a run led to a quiet state.
-use Rattle.std.specs.Prelude.{◌≡◌, IsTrue}
+use Rattle.std.specs.Prelude.{IsTrue}
 use Rattle.session_machine.specs.Machine.{Machine, opening, is_quiet}
 use Rattle.session_machine.specs.Engine.{Engine, Run}
 
