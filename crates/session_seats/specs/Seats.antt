@@ -2,12 +2,9 @@
 use Rattle.std.specs.Prelude.{◌≡◌, ℕ, ◌+◌, ◌<◌, nat_eq, nat_lt, Bool, true, false, List, [], ◌∷◌, ◌++◌}
 use Rattle.std.specs.List.{filter}
 use Rattle.session_machine.specs.declared.event.Event.{Event}
-use Rattle.session_machine.specs.declared.fault.EngineFault.{EngineFault}
 use Rattle.session_machine.specs.declared.reply.Reply.{Reply}
 use Rattle.session_machine.specs.declared.reply.HistItem.{HistItem}
 use Rattle.session_machine.specs.Machine.{session_of}
-use Rattle.session_seats.specs.declared.fault.ThreadFault.{ThreadFault}
-use Rattle.session_seats.specs.declared.fault.ThreadFault.TheVariants.{Engine as EngineRefused, Memory}
 
 -- a session's number, and its events with their replies
 pub record SeatOf : Type 0 where
@@ -42,9 +39,3 @@ IsMisfitIn history count seats session = ¬ (FitsIn history count seats session)
 -- the item stands last in the seat
 abbrev pub with_item : SeatOf → Event → Reply → SeatOf
 with_item seat event reply = record seat { items = seat.items ++ record { event = event; reply = reply } ∷ [] }
-
--- no item was put into a seat: the engine refused the event, or memory was refused before it was asked
-abbrev pub NotPut : Type 0 → (EngineFault → Type 0) → ThreadFault → Type 0
-NotPut untouched refuses (EngineRefused fault) = refuses fault
-NotPut untouched refuses Memory = untouched
-NotPut untouched refuses _ = ⊥

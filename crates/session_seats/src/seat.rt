@@ -1,11 +1,8 @@
 //! A session's seat: its own events and their replies.
-ghost use Rattle.std.specs.Prelude.{◌≡◌, ◌≤◌, [], Ok, Err, OnOk, OnErr, IfErr};
-ghost use Rattle.std.specs.Fn.{FnOnceReturnsAtMut};
-ghost use Rattle.session_machine.specs.declared.reply.Reply.{Reply as ReplyFacts};
-ghost use Rattle.session_seats.specs.Seats.{with_item, NotPut};
+ghost use Rattle.std.specs.Prelude.{◌≡◌, ◌≤◌, []};
 
 use crate::fault::ThreadFault;
-use session_machine::{EngineFault, Event, HistItem, Reply};
+use session_machine::HistItem;
 use std::alloc::Global;
 use std::marker::Model;
 
@@ -13,7 +10,8 @@ use std::marker::Model;
 #[derive(Drop)]
 pub struct Seat<'t> {
     session: u32,
-    items: Vec<HistItem<'t>>,
+    /// The events with their replies. One who puts another behind them makes room for it first.
+    pub items: Vec<HistItem<'t>>,
 }
 
 impl<'t> Model for Seat<'t> {
@@ -47,31 +45,6 @@ impl<'t> Seat<'t> {
         ensures { result.now ≡ self.now.items }
     {
         self.items.as_slice()
-    }
-
-    /// Asks an engine for the reply to an event, and puts both last in the seat. Their place is made first, so that what was
-    /// answered is never lost.
-    pub fn put_asked<E, F: FnOnce(&mut E) -> Result<Reply<'t>, EngineFault> + Drop>(
-        &mut self,
-        event: Event,
-        engine: &mut E,
-        ask: F,
-    ) -> Result<(), ThreadFault>
-        requires { F.IsAlwaysCallable ask }
-        ensures ok { OnOk result ((reply : ReplyFacts) × FnOnceReturnsAtMut F.FnOnce ask engine.old (Ok reply) engine.new × (self.new ≡ with_item self.old event reply)) }
-        ensures seat { OnErr result (self.new ≡ self.old) }
-        ensures err { IfErr result (λ e. NotPut (engine.new ≡ engine.old) (λ fault. FnOnceReturnsAtMut F.FnOnce ask engine.old (Err fault) engine.new) e) }
-    {
-        if self.items.try_reserve(1).is_err() {
-            return Err(ThreadFault::Memory);
-        }
-        match ask(engine) {
-            Ok(reply) => {
-                self.items.push(HistItem { event, reply }).unwrap();
-                Ok(())
-            }
-            Err(fault) => Err(ThreadFault::Engine(fault)),
-        }
     }
 }
 

@@ -7,7 +7,7 @@ ghost use Rattle.session_threads.specs.Acts.{Acted, NotActed};
 
 use row_versions::Versions;
 use session_core::EngineState;
-use session_machine::{EngineFault, Event, Reply};
+use session_machine::{EngineFault, Event, HistItem, Reply};
 use session_seats::{Seat, ThreadFault};
 
 /// Asks the engine for the event.
@@ -38,13 +38,14 @@ pub fn act<'t, V: Versions>(
     ensures seat { OnErr result (seat.new ≡ seat.old) }
     ensures err { IfErr result (λ e. NotActed event engine.old e engine.new) }
 {
-    seat.put_asked(
-        event,
-        engine,
-        |engine|
-            ensures memory { IsErrOf result EngineFault.Memory → engine.new ≡ spent_engine engine.old }
-            ensures due { IsErrOf result EngineFault.Memory → IsDue engine.old event }
-            ensures answer { result ≢ Err EngineFault.Memory → engine_after engine.old event ≡ record { engine = engine.new; answer = result } }
-        { asked(engine, event) },
-    )
+    if seat.items.try_reserve(1).is_err() {
+        return Err(ThreadFault::Memory);
+    }
+    match asked(engine, event) {
+        Ok(reply) => {
+            seat.items.push(HistItem { event, reply }).unwrap();
+            Ok(())
+        }
+        Err(fault) => Err(ThreadFault::Engine(fault)),
+    }
 }
