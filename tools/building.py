@@ -8,11 +8,9 @@ import time
 from kit import TOP, quietly, rt, rtlib
 
 # A crate gives way by one step of niceness for so many seconds that others are waited for longer than it is.
-STEP = 50
+STEP = 30
 # The seconds from which on a crate has two jobs, or one, in place of as many as all processors but one.
-SOME, MUCH = 60, 300
-# So many crates more than there are processors are at work, so that those that give way don't keep one from its start that others wait for.
-MORE = 2
+SOME, MUCH = 30, 300
 
 
 def seconds():
@@ -55,7 +53,7 @@ def build_all(libraries, told=lambda done, of, crate, well: None):
     """Proves and builds these libraries, which stand on each other alone. What is built already isn't looked at. Returns whether all are built; of each that was tried, told
     learns which in turn it is, of how many, and whether it went well.
 
-    A few crates more than there are processors are at work, first those that the others wait for longest; the others have what time these leave."""
+    As many crates as there are processors are at work, first those that the others wait for longest; the others have the processors that these leave."""
     lacking = [it for it in libraries if not all(each.is_built() for each in [it, *it.below()])]
     waits, memory = waits_for(lacking), 0.85 * rt.free()
     left, running, well, ended = sorted(lacking, key=lambda it: -waits[it.name]), {}, {}, queue.SimpleQueue()
@@ -65,7 +63,7 @@ def build_all(libraries, told=lambda done, of, crate, well: None):
         for crate in ready:
             # (a check that keeps its work takes half of the memory that the gate reckons with, and its second job some six tenths more)
             takes = 0.8 * rt.need(crate)
-            if not running or len(running) < rt.processors() + MORE and sum(it for it, _ in running.values()) + takes <= memory:
+            if not running or len(running) < rt.processors() and sum(it for it, _ in running.values()) + takes <= memory:
                 left.remove(crate)
                 spare = longest - waits[crate.name]
                 build_beside(crate, jobs_of(spare, len(ready) == 1 and not running), int(spare / STEP), ended)
