@@ -1,7 +1,7 @@
 -- A run on one thread that met a fault has come to no end, and nothing of it is written; and the faults of printing such runs.
 use Rattle.std.proofs.Common.{◌≡◌, ◌∷◌, ◌∙◌, ℕ, Bool, List, [], length, true, false, true≢false, refl, sym}
 use Rattle.std.specs.Prelude.{Contains, Err}
-use Rattle.std.proofs.lemmas.List.{Contains-push}
+use Rattle.std.proofs.lemmas.List.Elements.{Contains-push}
 use Rattle.session_machine.specs.Machine.{Blocks}
 use Rattle.session_seats.specs.Orders.{Orders}
 use Rattle.spec_files.specs.Files.{FileIs}

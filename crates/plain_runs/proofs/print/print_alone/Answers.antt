@@ -36,6 +36,8 @@ returns-clause-faults g c =
 
 pub returns-clause-untouched : goal.returns-clause-untouched
 returns-clause-untouched g c =
+    let spec = spec_view c.in_ok-file.file.spec in
+    let blocks = blocks_of c.deref.result.now in
+    let all = permutations_of spec in
     let failed = g.W.Sink.failed c.print_all.new.out || g.N.Sink.failed c.print_all.new.notes in
-    IfErr-weaker c.print_all.result (IsOfPrint (spec_view c.in_ok-file.file.spec) (blocks_of c.deref.result.now) (permutations_of (spec_view c.in_ok-file.file.spec)) failed) _
-    (λ e is refusal. absurd (no_refusal _ _ _ failed e is refusal)) c.print_all.ensures.faults
+    IfErr-weaker c.print_all.result (IsOfPrint spec blocks all failed) _ (λ e is refusal. absurd (no_refusal spec blocks all failed e is refusal)) c.print_all.ensures.faults
