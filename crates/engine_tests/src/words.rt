@@ -2,7 +2,7 @@
 //! behind one part of an answer is asked for the next; nothing is left where they say something else.
 
 use iso_lexer::{Ident, Name};
-use result_tables::{ResultSet, Title};
+use query_results::{ResultSet, Title};
 use session_machine::{EngineFault, KeyName, Outcome, StmtFault};
 use sql_values::{Row, Value, ValueFault};
 

@@ -1,12 +1,12 @@
 //! Reports byte for byte, of histories made by hand, and what a failing sink answers.
 
 ghost use Rattle.std.specs.Bool.{OnTrue};
-ghost use Rattle.result_tables.specs.Results.{IsEven};
+ghost use Rattle.query_results.specs.Results.{IsEven};
 
 use crate::histories::{done, holds, item, last, launch, leave, waits};
 use iso_lexer::{Ident, Name};
+use query_results::{ResultSet, Title};
 use report_text::{Ended, ReportFault, write_permutation};
-use result_tables::{ResultSet, Title};
 use session_machine::{Event, HistItem, Outcome, StmtFault};
 use spec_parser::{Entry, Spec, parse_spec};
 use sql_values::{Row, Value};

@@ -1,8 +1,7 @@
 -- What replies print.
 use Rattle.std.specs.Prelude.{ℕ, ◌-◌, ◌==◌, List, [], ◌∷◌, ◌++◌, length, codes, slice_get, if◌then◌else◌}
 use Rattle.std.specs.Option.{option_map_or}
-use Rattle.result_tables.specs.Results.{table_of}
-use Rattle.result_tables.specs.TableText.{table_text}
+use Rattle.result_tables.specs.TableText.{table_of, table_text}
 use Rattle.session_machine.specs.declared.reply.HistItem.{HistItem}
 use Rattle.session_machine.specs.declared.reply.Outcome.{Outcome}
 use Rattle.session_machine.specs.declared.reply.Outcome.TheVariants.{Launched, Rows, Failed}

@@ -4,13 +4,13 @@ ghost use Rattle.std.specs.Prelude.{◌≡◌, ◌++◌, codes, OnOk};
 ghost use Rattle.report_text.specs.FaultText.{fault_text};
 ghost use Rattle.iso_lexer.specs.Devices.{page_text};
 ghost use Rattle.report_text.specs.Replies.{rows_text, outcome_text, reply_text, replies_text, last_outcome};
-ghost use Rattle.result_tables.specs.Results.{table_of};
-ghost use Rattle.result_tables.specs.TableText.{table_text};
+ghost use Rattle.result_tables.specs.TableText.{table_of, table_text};
 
 use crate::fault_text::push_fault;
 use iso_lexer::Page;
+use query_results::ResultSet;
 use report_lines::{ends_in, session_of};
-use result_tables::{ResultSet, write_table};
+use result_tables::write_table;
 use session_machine::{HistItem, Outcome, StmtFault};
 use std::alloc::AllocError;
 

@@ -3,11 +3,11 @@ use Rattle.std.proofs.Common.{◌≡◌, ℕ, ◌+◌, ◌<◌, [], ◌∷◌, �
 use Rattle.std.proofs.lemmas.List.{take_more, get_or-map, length-map}
 use Rattle.std.proofs.lemmas.List.FromFn.{length-map-range_with_len, get_or-map-range_with_len}
 use Rattle.result_tables.specs.declared.column.ColumnLayout.{ColumnLayout}
-use Rattle.result_tables.specs.declared.title.Title.{Title}
+use Rattle.query_results.specs.declared.title.Title.{Title}
 use Rattle.result_tables.specs.Printed.{printed}
 use Rattle.result_tables.specs.Titles.{title_text}
-use Rattle.result_tables.specs.TableText.{Table, cells, column_of, columns_of}
-use Rattle.result_tables.specs.Results.{Results, table_of}
+use Rattle.result_tables.specs.TableText.{Table, cells, column_of, columns_of, table_of}
+use Rattle.query_results.specs.Results.{Results}
 
 -- as many columns as titles
 pub length-columns_of : (t : Table) → length (columns_of t) ≡ length t.titles

@@ -2,6 +2,5 @@ pub mod Printed
 pub mod Titles
 pub mod Numeric
 pub mod TableText
-pub mod Results
 pub mod Faults
 pub mod Inner

@@ -1,13 +1,20 @@
 -- The text of a table, in the manner of libpq's PQprint with the separator `|`.
 use Rattle.std.specs.Prelude.{ℕ, ◌-◌, ◌==◌, ◌&&◌, Bool, not, List, [], ◌∷◌, ◌++◌, length, map, fold, max, replicate, decimal, codes, flat_map, nat_lt, if◌then◌else◌}
 use Rattle.std.specs.List.{list_any, zip, range_with_len, slice_index_or, join_with_byte}
+use Rattle.query_results.specs.Results.{Results}
 use Rattle.result_tables.specs.declared.column.ColumnLayout.{ColumnLayout}
 use Rattle.result_tables.specs.Numeric.{is_numeric}
+use Rattle.result_tables.specs.Printed.{printed}
+use Rattle.result_tables.specs.Titles.{title_text}
 
 -- the titles, and the printed values row by row
 pub record Table : Type 0 where
   pub titles : List (List ℕ)
   pub rows : List (List (List ℕ))
+
+-- what the table of a result shows
+abbrev pub table_of : Results → Table
+table_of set = record { titles = map title_text set.titles; rows = map (map printed) set.rows }
 
 -- the printed values of a column, from the top
 abbrev pub cells : List (List (List ℕ)) → ℕ → List (List ℕ)

@@ -1,7 +1,7 @@
 -- What titles print.
 use Rattle.std.specs.Prelude.{ℕ, List, codes}
-use Rattle.result_tables.specs.declared.title.Title.{Title}
-use Rattle.result_tables.specs.declared.title.Title.TheVariants.{Column, Unnamed, Count, Sum, Min, Max}
+use Rattle.query_results.specs.declared.title.Title.{Title}
+use Rattle.query_results.specs.declared.title.Title.TheVariants.{Column, Unnamed, Count, Sum, Min, Max}
 
 -- an alias or a column's name, and else a fixed text
 abbrev pub title_text : Title → List ℕ

@@ -3,12 +3,10 @@
 ghost use Rattle.std.specs.Prelude.{◌≡◌, ◌<◌, ◌||◌, length, map, max, All, IfOk};
 ghost use Rattle.result_tables.specs.Printed.{printed};
 ghost use Rattle.result_tables.specs.Titles.{title_text};
-ghost use Rattle.result_tables.specs.TableText.{is_word, cells, column_of, columns_of};
-ghost use Rattle.result_tables.specs.Results.{table_of};
+ghost use Rattle.result_tables.specs.TableText.{is_word, cells, column_of, columns_of, table_of};
 
-use crate::result_set::ResultSet;
 use crate::shown::{Shown, shows_word};
-use crate::title::Title;
+use query_results::{ResultSet, Title};
 use sql_values::{Row, Value};
 use std::alloc::{AllocError, Global};
 

@@ -8,8 +8,8 @@ ghost use Rattle.result_tables.specs.TableText.{is_word};
 
 use crate::name_bytes::{append_name, name_len};
 use crate::numeric::is_numeric;
-use crate::title::Title;
 use itoa::Buffer;
+use query_results::Title;
 use sql_values::Value;
 use std::alloc::AllocError;
 

@@ -4,16 +4,14 @@ ghost use Rattle.std.specs.Prelude.{◌≡◌, ◌++◌, false, length, map, fla
 ghost use Rattle.std.specs.Io.KnownBytes.{Appends};
 ghost use Rattle.result_tables.specs.Printed.{printed};
 ghost use Rattle.result_tables.specs.Titles.{title_text};
-ghost use Rattle.result_tables.specs.TableText.{table_line, rule_line, foot, table_text};
-ghost use Rattle.result_tables.specs.Results.{table_of};
+ghost use Rattle.result_tables.specs.TableText.{table_line, rule_line, foot, table_text, table_of};
 ghost use Rattle.result_tables.specs.Faults.{TellsFailure};
 
 use crate::column::{ColumnLayout, measured_columns};
 use crate::fault::TableFault;
-use crate::result_set::ResultSet;
 use crate::table_lines::{append_foot, append_line, append_rule};
-use crate::title::Title;
 use iso_lexer::Sink;
+use query_results::{ResultSet, Title};
 use sql_values::Row;
 use std::alloc::Global;
 

@@ -9,7 +9,7 @@ use Rattle.sql_values.specs.declared.value.Value.{Value}
 use Rattle.sql_values.specs.declared.fault.ValueFault.{ValueFault}
 use Rattle.sql_values.specs.Values.{if_ok}
 use Rattle.sql_values.specs.Expressions.{Cols}
-use Rattle.result_tables.specs.Results.{Results}
+use Rattle.query_results.specs.Results.{Results}
 use Rattle.row_versions.specs.declared.names.TxId.{TxId}
 use Rattle.row_versions.specs.declared.names.TableId.{TableId}
 use Rattle.row_versions.specs.declared.write.Write.{Write}
@@ -27,8 +27,8 @@ use Rattle.session_machine.specs.declared.session.Transaction.TheVariants.{Close
 use Rattle.session_machine.specs.declared.fault.Refusal.{Refusal}
 use Rattle.session_machine.specs.Tables.{Database, Table, Dropped, counts, is_dropped, is_meant, find_from, find_table}
 use Rattle.session_machine.specs.Transactions.{begun, fresh, own_of, view_of, view_now}
-use Rattle.session_queries.specs.Queries.{each, passing, row_values, titles_of, result_of, cols_of}
-use Rattle.session_queries.specs.Ordering.{rows_at}
+use Rattle.query_results.specs.Queries.{each, passing, row_values, titles_of, result_of, cols_of}
+use Rattle.query_results.specs.Ordering.{rows_at}
 use Rattle.sql_values.specs.Sorting.{keys_at}
 use Rattle.session_machine.specs.Views.{rows_shown}
 use Rattle.session_machine.specs.declared.session.Progress.{Progress}

@@ -8,8 +8,8 @@ use Rattle.sql_trees.specs.Trees.{Tree}
 use Rattle.sql_trees.specs.Statements.{CreateTree, UpdateTree, DeleteTree, SelectTree}
 use Rattle.sql_values.specs.declared.value.Value.{Value}
 use Rattle.sql_values.specs.declared.fault.ValueFault.{ValueFault}
-use Rattle.session_queries.specs.Queries.{AssignedColumn, new_values, null_in, row_values}
-use Rattle.session_queries.specs.Updates.{updated}
+use Rattle.query_results.specs.Queries.{AssignedColumn, new_values, null_in, row_values}
+use Rattle.query_results.specs.Updates.{updated}
 use Rattle.row_versions.specs.declared.names.RowId.{RowId}
 use Rattle.row_versions.specs.declared.names.TableId.{TableId}
 use Rattle.row_versions.specs.declared.write.Write.{Write}
@@ -36,7 +36,7 @@ use Rattle.session_machine.specs.Inner.Pieces.{unless_stopped, unless_stopped_by
 use Rattle.session_machine.specs.Sound.{RowsFit, RowsStay}
 use Rattle.session_laws.proofs.Lists.{slice_get-append_left}
 use Rattle.session_laws.proofs.Fitting.{IsRowOf, fits_at, its_values, fit_written, stay_written, columns_are}
-use Rattle.session_queries.proofs.Placing.{length-new_values, length-updated}
+use Rattle.query_results.proofs.Placing.{length-new_values, length-updated}
 use Rattle.session_laws.proofs.Taking.{IsVersion, takes_version}
 
 -- a write of a transaction

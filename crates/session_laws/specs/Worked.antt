@@ -9,7 +9,7 @@ use Rattle.sql_values.specs.declared.value.Value.{Value}
 use Rattle.sql_values.specs.declared.value.Value.TheVariants.{Int}
 use Rattle.row_versions.specs.declared.write.Write.{Write}
 use Rattle.row_versions.specs.Log.{has_committed}
-use Rattle.result_tables.specs.declared.title.Title.TheVariants.{Column as Named}
+use Rattle.query_results.specs.declared.title.Title.TheVariants.{Column as Named}
 use Rattle.session_machine.specs.declared.event.Event.{Event}
 use Rattle.session_machine.specs.declared.event.Event.TheVariants.{Launch, Step, Leave}
 use Rattle.session_machine.specs.declared.event.Mode.TheVariants.{Directed}

@@ -9,8 +9,8 @@ use Rattle.sql_trees.specs.Statements.{ColumnTree, KeyTree, UpdateTree, DeleteTr
 use Rattle.sql_values.specs.declared.value.Value.{Value}
 use Rattle.sql_values.specs.declared.fault.ValueFault.{ValueFault}
 use Rattle.sql_values.specs.Expressions.{Cols}
-use Rattle.session_queries.specs.Queries.{AssignedColumn, cols_of, new_values, null_in, row_values, passing, taken}
-use Rattle.session_queries.specs.Updates.{updated}
+use Rattle.query_results.specs.Queries.{AssignedColumn, cols_of, new_values, null_in, row_values, passing, taken}
+use Rattle.query_results.specs.Updates.{updated}
 use Rattle.row_versions.specs.declared.names.RowId.{RowId}
 use Rattle.row_versions.specs.declared.write.View.{View}
 use Rattle.row_versions.specs.declared.write.Seen.{Seen}

@@ -7,9 +7,9 @@ use Rattle.sql_trees.specs.Statements.{StmtTree, InsertTree, UpdateTree, DeleteT
 use Rattle.sql_values.specs.declared.value.Value.{Value}
 use Rattle.sql_values.specs.declared.fault.ValueFault.{ValueFault}
 use Rattle.sql_values.specs.declared.fault.ValueFault.TheVariants.{NoColumn}
-use Rattle.result_tables.specs.Results.{Results}
-use Rattle.session_queries.specs.Queries.{AssignedColumn, lacking_if, lacking_rows, lacking_select, result_of, some_too_long, columns_assigned, titles_of, wrong_position}
-use Rattle.session_queries.specs.Updates.{lacking_update, columns_set}
+use Rattle.query_results.specs.Results.{Results}
+use Rattle.query_results.specs.Queries.{AssignedColumn, lacking_if, lacking_rows, lacking_select, result_of, some_too_long, columns_assigned, titles_of, wrong_position}
+use Rattle.query_results.specs.Updates.{lacking_update, columns_set}
 use Rattle.row_versions.specs.Log.{Content}
 use Rattle.session_machine.specs.declared.session.OpenTransaction.{OpenTransaction}
 use Rattle.session_machine.specs.declared.session.Transaction.{Transaction}

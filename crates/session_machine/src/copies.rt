@@ -4,7 +4,7 @@ ghost use Rattle.std.specs.Prelude.{◌≡◌, IfOk};
 
 use crate::fault::StmtFault;
 use crate::reply::{HistItem, Outcome, Reply};
-use result_tables::ResultSet;
+use query_results::ResultSet;
 use sql_values::ValueFault;
 use std::alloc::{AllocError, Global};
 

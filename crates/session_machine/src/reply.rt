@@ -2,7 +2,7 @@
 
 use crate::event::Event;
 use crate::fault::StmtFault;
-use result_tables::ResultSet;
+use query_results::ResultSet;
 
 /// What came of an event.
 #[derive(Drop)]

@@ -4,7 +4,7 @@ use Rattle.std.proofs.lemmas.List.{length-map}
 use Rattle.sql_trees.specs.declared.stmt.Column.{Column}
 use Rattle.sql_trees.specs.Statements.{column_of}
 use Rattle.sql_values.specs.Columns as values
-use Rattle.session_queries.specs.Queries.{cols_of}
+use Rattle.query_results.specs.Queries.{cols_of}
 
 pub known_columns : (cs : List Column) → cols_of (map column_of cs) ≡ values.columns_of cs
 known_columns [] = refl

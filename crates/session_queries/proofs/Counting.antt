@@ -4,7 +4,7 @@ use Rattle.std.proofs.lemmas.List.Elements.{All-nil, All-cons}
 use Rattle.std.specs.Prelude.{All}
 use Rattle.sql_trees.specs.Statements.{ColumnTree, ItemTree}
 use Rattle.sql_values.specs.declared.value.Value.{Value}
-use Rattle.session_queries.specs.Queries.{Counted, results_by}
+use Rattle.query_results.specs.Queries.{Counted, results_by}
 use Rattle.session_queries.specs.Inner.Answers.{agg_results, has_none, row_results}
 
 pub by_rows : (columns : List ColumnTree) (is : List ItemTree) (aggs : List Counted) (taken : List (List Value)) → not (has_none aggs) ≡ false → results_by columns is aggs taken ≡ row_results columns is taken

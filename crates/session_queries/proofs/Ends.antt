@@ -2,7 +2,7 @@
 use Rattle.std.proofs.Common.{◌≡◌, ◌<◌, List, [], ◌∷◌, length, None, refl, arith}
 use Rattle.sql_trees.specs.Statements.{ColumnTree}
 use Rattle.sql_values.specs.declared.value.Value.{Value}
-use Rattle.session_queries.specs.Queries.{null_in}
+use Rattle.query_results.specs.Queries.{null_in}
 
 pub null_in_none : (cs : List ColumnTree) (vs : List Value) → length vs < 1 → null_in cs vs ≡ None
 null_in_none [] vs h = refl

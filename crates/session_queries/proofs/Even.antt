@@ -10,8 +10,8 @@ use Rattle.sql_values.specs.declared.value.Value.{Value}
 use Rattle.sql_values.specs.declared.fault.ValueFault.{ValueFault}
 use Rattle.sql_values.specs.Values.{Answers, if_ok}
 use Rattle.sql_values.specs.Expressions.{Cols, value}
-use Rattle.result_tables.specs.declared.title.Title.{Title}
-use Rattle.session_queries.specs.Queries.{cols_of, each, item_titles, item_values, row_values, titles_of}
+use Rattle.query_results.specs.declared.title.Title.{Title}
+use Rattle.query_results.specs.Queries.{cols_of, each, item_titles, item_values, row_values, titles_of}
 
 one : (a : Result Value ValueFault) (vs : List Value) → if_ok a (λ v. Ok (v ∷ [])) ≡ Ok vs → length vs ≡ 1
 one (Ok v) vs h =

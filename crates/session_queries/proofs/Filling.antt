@@ -3,7 +3,7 @@ use Rattle.std.proofs.Common.{◌≡◌, ◌<◌, List, [], ◌∷◌, length, O
 use Rattle.std.specs.Prelude.{slice_set}
 use Rattle.sql_values.specs.declared.value.Value.{Value}
 use Rattle.sql_values.specs.Values.{if_ok, assign}
-use Rattle.session_queries.specs.Queries.{AssignedColumn, filled}
+use Rattle.query_results.specs.Queries.{AssignedColumn, filled}
 
 pub filled_step : (t : AssignedColumn) (ts : List AssignedColumn) (v : Value) (vs row : List Value) → filled (t ∷ ts) (v ∷ vs) row ≡ if_ok (assign v t.kind) (λ x. filled ts vs (slice_set row t.place x))
 filled_step t ts v vs row = refl

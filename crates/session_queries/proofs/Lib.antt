@@ -7,7 +7,5 @@ pub mod Filling
 pub mod Fronts
 pub mod Selecting
 pub mod Counting
-pub mod Insertion
 pub mod Parts
 pub mod Picking
-pub mod Placing

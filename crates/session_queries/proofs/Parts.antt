@@ -7,7 +7,7 @@ use Rattle.sql_trees.specs.Trees.{Tree, AggTree}
 use Rattle.sql_trees.specs.Trees as tree
 use Rattle.sql_trees.specs.Statements as stmt
 use Rattle.sql_values.specs.Expressions.{Cols}
-use Rattle.session_queries.specs.Queries.{lacking_item, own_title}
+use Rattle.query_results.specs.Queries.{lacking_item, own_title}
 use Rattle.session_queries.specs.Inner.Parts.{kind_title, lacking_agg}
 
 pub item_lacks : (cols : Cols) (a : AggTree) (alias : Option (List ℕ)) → lacking_item cols (stmt.Aggregate a alias) ≡ lacking_agg cols a

@@ -10,9 +10,9 @@ use Rattle.sql_values.specs.declared.fault.ValueFault.{ValueFault}
 use Rattle.sql_values.specs.declared.fault.ValueFault.TheVariants.{TypeMismatch}
 use Rattle.sql_values.specs.Sorting.{can_sort, key, keys_at}
 use Rattle.session_queries.specs.Fronts.{AnswersList}
-use Rattle.session_queries.specs.Ordering.{rows_at, sorted_places}
-use Rattle.session_queries.specs.Queries.{by_keys}
-use Rattle.session_queries.proofs.Insertion.{places_within}
+use Rattle.query_results.specs.Ordering.{rows_at, sorted_places}
+use Rattle.query_results.specs.Queries.{by_keys}
+use Rattle.query_results.proofs.Insertion.{places_within}
 
 -- the value at a place of a row is its key of that number
 pub key_read : (k : ℕ) (row : List Value) (x : Value) → k < length row → x ≡ slice_index_or row k x → key k row ≡ x

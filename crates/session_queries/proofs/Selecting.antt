@@ -5,9 +5,9 @@ use Rattle.sql_trees.specs.Statements.{ColumnTree, SelectTree}
 use Rattle.sql_values.specs.declared.value.Value.{Value}
 use Rattle.sql_values.specs.declared.fault.ValueFault.{ValueFault}
 use Rattle.sql_values.specs.Values.{Answers, if_ok}
-use Rattle.result_tables.specs.Results.{Results}
-use Rattle.session_queries.specs.Ordering.{rows_at}
-use Rattle.session_queries.specs.Queries.{taken}
+use Rattle.query_results.specs.Results.{Results}
+use Rattle.query_results.specs.Ordering.{rows_at}
+use Rattle.query_results.specs.Queries.{taken}
 use Rattle.session_queries.specs.Inner.Answers.{answered, selected}
 
 pub selected_from : (s : SelectTree) (columns : List ColumnTree) (rows shown : List (List Value)) (places : List ℕ) (result : Result Results ValueFault) → taken s columns rows ≡ Ok places → shown ≡ rows_at rows places → Answers result (answered columns s.items shown) → Answers result (selected s columns rows)

@@ -1,5 +1,2 @@
-pub mod Ordering
-pub mod Queries
-pub mod Updates
 pub mod Fronts
 pub mod Inner

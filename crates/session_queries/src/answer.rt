@@ -4,7 +4,7 @@ ghost use Rattle.std.specs.Prelude.{◌≡◌, ◌≢◌, ◌∷◌, ◌++◌, A
 ghost use Rattle.sql_trees.specs.Statements.{column_of, item_of, select_of};
 ghost use Rattle.sql_values.specs.Values.{Answers};
 ghost use Rattle.sql_values.specs.Aggregates.{aggregate};
-ghost use Rattle.session_queries.specs.Queries.{Counted, cols_of, counted, each, item_values, lacking_select, result_of, row_values, titles_of};
+ghost use Rattle.query_results.specs.Queries.{Counted, cols_of, counted, each, item_values, lacking_select, result_of, row_values, titles_of};
 ghost use Rattle.session_queries.specs.Fronts.{AnswersList};
 ghost use Rattle.session_queries.specs.Inner.Answers.{agg_results, answered, has_none, row_results, selected};
 ghost use Rattle.session_queries.specs.Inner.Fronts.{in_front};
@@ -13,7 +13,7 @@ use crate::known::known;
 use crate::lacking::lacking_select;
 use crate::ordering::{rows_at, taken_places};
 use crate::titles::{agg_titles, titles_of};
-use result_tables::ResultSet;
+use query_results::ResultSet;
 use sql_trees::{Column, Item, Select};
 use sql_values::{Columns, Row, Value, ValueFault, aggregate, eval};
 use std::alloc::{AllocError, Global};

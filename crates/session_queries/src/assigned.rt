@@ -2,9 +2,9 @@
 
 ghost use Rattle.std.specs.Prelude.{◌≡◌, ℕ, List, [], IfOk, length, map, option_map};
 ghost use Rattle.sql_trees.specs.Statements.{SetTree, column_of, name_of, names_of, set_of};
-ghost use Rattle.session_queries.specs.Queries.{columns_assigned};
+ghost use Rattle.query_results.specs.Queries.{columns_assigned};
 ghost use Rattle.session_queries.specs.Inner.Assigned.{assigned_each, assigned_from, assigned_in_order};
-ghost use Rattle.session_queries.specs.Updates.{columns_set};
+ghost use Rattle.query_results.specs.Updates.{columns_set};
 
 use iso_lexer::{Ident, Name, same_name};
 use sql_trees::{Column, Expr, Kind};
@@ -19,7 +19,7 @@ pub struct AssignedColumn {
 }
 
 impl Model for AssignedColumn {
-    ghost use Rattle.session_queries.specs.Queries as query;
+    ghost use Rattle.query_results.specs.Queries as query;
 
     ghost Value = { query.AssignedColumn };
 
@@ -55,7 +55,7 @@ pub struct AssignedColumns {
 
 impl Model for AssignedColumns {
     ghost use Rattle.std.specs.Prelude.{List};
-    ghost use Rattle.session_queries.specs.Queries as query;
+    ghost use Rattle.query_results.specs.Queries as query;
 
     ghost Value = { List query.AssignedColumn };
 

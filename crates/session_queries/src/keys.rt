@@ -6,8 +6,8 @@ ghost use Rattle.sql_trees.specs.Statements.{item_of, name_of, order_of};
 ghost use Rattle.sql_trees.specs.Trees.{tree_of};
 ghost use Rattle.sql_values.specs.Values.{Answers};
 ghost use Rattle.session_queries.specs.Fronts.{AnswersList};
-ghost use Rattle.session_queries.specs.Ordering.{rows_at};
-ghost use Rattle.session_queries.specs.Queries.{aliased, each, key_value, keys_of, shown_at};
+ghost use Rattle.query_results.specs.Ordering.{rows_at};
+ghost use Rattle.query_results.specs.Queries.{aliased, each, key_value, keys_of, shown_at};
 
 use iso_lexer::{Name, same_name};
 use sql_trees::{Expr, Item, OrderKey};

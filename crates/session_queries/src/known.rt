@@ -2,7 +2,7 @@
 
 ghost use Rattle.std.specs.Prelude.{◌≡◌, length, map};
 ghost use Rattle.sql_trees.specs.Statements.{column_of};
-ghost use Rattle.session_queries.specs.Queries.{cols_of};
+ghost use Rattle.query_results.specs.Queries.{cols_of};
 
 use sql_trees::Column;
 use sql_values::Columns;

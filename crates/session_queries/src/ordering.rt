@@ -4,13 +4,13 @@ ghost use Rattle.std.specs.Prelude.{◌≡◌, ◌<◌, All, IfOk, length, map, 
 ghost use Rattle.sql_trees.specs.Statements.{column_of, item_of, order_of, select_of};
 ghost use Rattle.sql_trees.specs.Statements.{OrderTree};
 ghost use Rattle.session_queries.specs.Fronts.{AnswersList};
-ghost use Rattle.session_queries.specs.Ordering.{rows_at};
-ghost use Rattle.session_queries.specs.Queries.{by_keys, cols_of, ordered, taken};
+ghost use Rattle.query_results.specs.Ordering.{rows_at};
+ghost use Rattle.query_results.specs.Queries.{by_keys, cols_of, ordered, taken};
 
 use crate::keys::keys_at;
 use crate::known::known;
-use crate::laws::one_order_by_insertion;
 use crate::passing::passing;
+use query_results::laws::one_order_by_insertion;
 use sql_trees::{Column, Item, OrderKey, Select};
 use sql_values::{Columns, Dir, Row, ValueFault, order};
 use std::alloc::{AllocError, Global};

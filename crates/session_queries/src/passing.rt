@@ -6,7 +6,7 @@ ghost use Rattle.sql_trees.specs.Trees.{tree_of};
 ghost use Rattle.sql_values.specs.Expressions.{passes};
 ghost use Rattle.sql_values.specs.Values.{Answers};
 ghost use Rattle.session_queries.specs.Fronts.{AnswersList};
-ghost use Rattle.session_queries.specs.Queries.{cols_of, passing};
+ghost use Rattle.query_results.specs.Queries.{cols_of, passing};
 
 use crate::known::known;
 use sql_trees::{Column, Expr};

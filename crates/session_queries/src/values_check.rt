@@ -3,7 +3,7 @@
 ghost use Rattle.std.specs.Prelude.{◌≡◌, ◌&&◌, map};
 ghost use Rattle.sql_trees.specs.Statements.{column_of, exprs_of};
 ghost use Rattle.sql_values.specs.Values.{is_null};
-ghost use Rattle.session_queries.specs.Queries.{null_in, some_too_long};
+ghost use Rattle.query_results.specs.Queries.{null_in, some_too_long};
 
 use iso_lexer::Ident;
 use sql_trees::{Column, Expr};

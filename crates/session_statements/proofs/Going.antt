@@ -5,8 +5,8 @@ use Rattle.sql_trees.specs.Statements.{UpdateTree}
 use Rattle.sql_values.specs.declared.value.Value.{Value}
 use Rattle.sql_values.specs.declared.fault.ValueFault.{ValueFault}
 use Rattle.row_versions.specs.declared.write.Seen.{Seen}
-use Rattle.session_queries.specs.Queries.{AssignedColumn}
-use Rattle.session_queries.specs.Updates.{lacking_update, columns_set}
+use Rattle.query_results.specs.Queries.{AssignedColumn}
+use Rattle.query_results.specs.Updates.{lacking_update, columns_set}
 use Rattle.session_machine.specs.declared.session.OpenTransaction.{OpenTransaction}
 use Rattle.session_machine.specs.declared.fault.StmtFault.TheVariants.{NoColumnOf}
 use Rattle.session_machine.specs.Tables.{Database}

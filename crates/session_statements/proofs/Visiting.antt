@@ -21,9 +21,9 @@ use Rattle.row_versions.proofs.Last.{newest_is_the_last}
 use Rattle.row_versions.proofs.Gets.{get-append_left, get-append_last}
 use Rattle.row_locks.specs.declared.held.Held.{Held}
 use Rattle.row_locks.specs.Waiting.{Waiting}
-use Rattle.session_queries.specs.Queries.{AssignedColumn, null_in}
-use Rattle.session_queries.specs.Updates.{updated}
-use Rattle.session_queries.proofs.Placing.{length-updated}
+use Rattle.query_results.specs.Queries.{AssignedColumn, null_in}
+use Rattle.query_results.specs.Updates.{updated}
+use Rattle.query_results.proofs.Placing.{length-updated}
 use Rattle.update_recheck.specs.Asked.{Asked}
 use Rattle.update_recheck.specs.Outcome.{Holders, Version, Outcome, rechecked, outcome, holders, version_at, version_of, newest_version, target_outcome}
 use Rattle.update_recheck.specs.Outcome.Holders.{Nobody, Others, OthersInACycle}

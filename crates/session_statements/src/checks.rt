@@ -3,7 +3,7 @@
 ghost use Rattle.std.specs.Prelude.{◌≡◌, ◌<◌, length, option_map, IfOk};
 ghost use Rattle.sql_trees.specs.Statements.{name_of};
 ghost use Rattle.row_versions.specs.Log.{IsOpen};
-ghost use Rattle.session_queries.specs.Queries.{null_in};
+ghost use Rattle.query_results.specs.Queries.{null_in};
 ghost use Rattle.session_machine.specs.Tables.{Database as DatabaseFacts};
 ghost use Rattle.session_machine.specs.Rows.{columns_in, keys_in, stop_at_keys};
 ghost use Rattle.session_machine.specs.Inner.Pieces.{unless_null, unless_stopped_by};

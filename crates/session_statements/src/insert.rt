@@ -6,7 +6,7 @@ ghost use Rattle.sql_trees.specs.Statements.{column_of, exprs_of, insert_of, nam
 ghost use Rattle.sql_values.specs.declared.fault.ValueFault.TheVariants.{Memory};
 ghost use Rattle.sql_values.specs.declared.value.Value.{Value as SqlValue};
 ghost use Rattle.row_versions.specs.Log.{Content, IsOpen};
-ghost use Rattle.session_queries.specs.Queries.{lacking_rows, columns_assigned};
+ghost use Rattle.query_results.specs.Queries.{lacking_rows, columns_assigned};
 ghost use Rattle.session_machine.specs.Tables.{find_table};
 ghost use Rattle.session_machine.specs.Walks.{walked};
 ghost use Rattle.session_machine.specs.Rows.{insert_at};

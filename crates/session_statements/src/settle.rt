@@ -2,7 +2,7 @@
 
 ghost use Rattle.std.specs.Prelude.{◌≡◌, ◌<◌, length, map, IfOk, OnOk};
 ghost use Rattle.sql_trees.specs.Statements.{column_of};
-ghost use Rattle.session_queries.specs.Queries.{cols_of};
+ghost use Rattle.query_results.specs.Queries.{cols_of};
 ghost use Rattle.row_versions.specs.Log.{IsOpen};
 ghost use Rattle.update_recheck.specs.Asked.{Fits, asked};
 ghost use Rattle.update_recheck.specs.Outcome.{is_target_locked, target_outcome};

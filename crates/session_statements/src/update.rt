@@ -3,9 +3,9 @@
 ghost use Rattle.std.specs.Prelude.{◌≡◌, ◌+◌, ◌<◌, ◌^◌, Some, None, Ok, length, map, IfOk, OnErr, IsSome};
 ghost use Rattle.sql_trees.specs.Statements.{column_of, name_of, set_of, update_of};
 ghost use Rattle.row_versions.specs.Log.{IsOpen};
-ghost use Rattle.session_queries.specs.Updates.{lacking_update, columns_set, updated};
+ghost use Rattle.query_results.specs.Updates.{lacking_update, columns_set, updated};
 ghost use Rattle.sql_values.specs.Values.{Answers};
-ghost use Rattle.session_queries.specs.Queries.{cols_of};
+ghost use Rattle.query_results.specs.Queries.{cols_of};
 ghost use Rattle.session_machine.specs.Tables.{find_table};
 ghost use Rattle.session_machine.specs.Rows.{cols_in, columns_in, update_with, values_of};
 ghost use Rattle.session_machine.specs.Running.{assigned_to, update, update_from};

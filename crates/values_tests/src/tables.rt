@@ -1,11 +1,12 @@
 //! Tables byte for byte, and what a failing sink or a want of memory leaves. The files `alignment`, `literals` and `values` of the examples have more.
 
 ghost use Rattle.std.specs.Bool.{OnTrue};
-ghost use Rattle.result_tables.specs.Results.{IsEven};
+ghost use Rattle.query_results.specs.Results.{IsEven};
 
 use crate::told::{at_last, holds};
 use iso_lexer::{Ident, Name};
-use result_tables::{ResultSet, TableFault, Title, is_numeric, write_table};
+use query_results::{ResultSet, Title};
+use result_tables::{TableFault, is_numeric, write_table};
 use sql_values::{Row, Text, Value};
 use std::alloc::{AllocError, Global};
 use test_devices::Takes;

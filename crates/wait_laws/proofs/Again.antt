@@ -3,8 +3,8 @@ use Rattle.std.proofs.Common.{◌≡◌, refl, subst, ℕ, ◌+◌, ◌≤◌, L
 use Rattle.std.specs.Prelude.{Option, Some, None, drop, Result, Ok, Err}
 use Rattle.sql_values.specs.declared.value.Value.{Value}
 use Rattle.sql_values.specs.declared.fault.ValueFault.{ValueFault}
-use Rattle.session_queries.specs.Queries.{columns_assigned, titles_of}
-use Rattle.session_queries.specs.Updates.{columns_set}
+use Rattle.query_results.specs.Queries.{columns_assigned, titles_of}
+use Rattle.query_results.specs.Updates.{columns_set}
 use Rattle.row_versions.specs.Log.{Content}
 use Rattle.session_machine.specs.declared.session.OpenTransaction.{OpenTransaction}
 use Rattle.session_machine.specs.declared.session.Progress.{Progress}

@@ -10,9 +10,9 @@ use Rattle.sql_trees.specs.Trees.{Tree}
 use Rattle.sql_trees.specs.Statements.{StmtTree, KeyTree, CreateTree, InsertTree, UpdateTree, DeleteTree, SelectTree, Begin, Commit, Rollback, SetTransaction, SetDeadlockTimeout}
 use Rattle.sql_values.specs.declared.value.Value.{Value}
 use Rattle.sql_values.specs.declared.fault.ValueFault.{ValueFault}
-use Rattle.result_tables.specs.Results.{Results}
-use Rattle.session_queries.specs.Queries.{AssignedColumn, cols_of, lacking_rows, new_values, row_values, columns_assigned, titles_of}
-use Rattle.session_queries.specs.Updates.{lacking_update, columns_set, updated}
+use Rattle.query_results.specs.Results.{Results}
+use Rattle.query_results.specs.Queries.{AssignedColumn, cols_of, lacking_rows, new_values, row_values, columns_assigned, titles_of}
+use Rattle.query_results.specs.Updates.{lacking_update, columns_set, updated}
 use Rattle.row_versions.specs.declared.names.TxId.{TxId}
 use Rattle.row_versions.specs.declared.names.RowId.{RowId}
 use Rattle.row_versions.specs.declared.write.Write.{Write}

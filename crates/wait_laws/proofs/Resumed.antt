@@ -7,8 +7,8 @@ use Rattle.sql_trees.specs.declared.stmt.Level.{Level}
 use Rattle.sql_trees.specs.declared.stmt.Lock.{Lock}
 use Rattle.sql_trees.specs.Statements.{StmtTree, CreateTree, SelectTree}
 use Rattle.sql_values.specs.declared.fault.ValueFault.{ValueFault}
-use Rattle.result_tables.specs.Results.{Results}
-use Rattle.session_queries.specs.Queries.{lacking_select, result_of, wrong_position}
+use Rattle.query_results.specs.Results.{Results}
+use Rattle.query_results.specs.Queries.{lacking_select, result_of, wrong_position}
 use Rattle.row_versions.specs.declared.names.TxId.{TxId}
 use Rattle.row_versions.specs.declared.write.View.{View}
 use Rattle.row_versions.specs.Log.{Content}

@@ -7,9 +7,9 @@ use Rattle.sql_trees.specs.declared.stmt.Lock.{Lock}
 use Rattle.sql_trees.specs.Statements.{StmtTree, CreateTree, InsertTree, UpdateTree, DeleteTree, SelectTree, Begin, Commit, Rollback, SetTransaction, SetDeadlockTimeout}
 use Rattle.sql_values.specs.declared.value.Value.{Value}
 use Rattle.sql_values.specs.declared.fault.ValueFault.{ValueFault}
-use Rattle.result_tables.specs.Results.{Results}
-use Rattle.session_queries.specs.Queries.{AssignedColumn, cols_of, lacking_rows, columns_assigned, titles_of}
-use Rattle.session_queries.specs.Updates.{lacking_update, columns_set}
+use Rattle.query_results.specs.Results.{Results}
+use Rattle.query_results.specs.Queries.{AssignedColumn, cols_of, lacking_rows, columns_assigned, titles_of}
+use Rattle.query_results.specs.Updates.{lacking_update, columns_set}
 use Rattle.row_versions.specs.Log.{Content, commit_count}
 use Rattle.session_machine.specs.declared.session.OpenTransaction.{OpenTransaction}
 use Rattle.session_machine.specs.declared.session.Transaction.{Transaction}

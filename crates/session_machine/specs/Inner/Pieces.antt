@@ -6,8 +6,8 @@ use Rattle.sql_trees.specs.declared.stmt.Lock.{Lock}
 use Rattle.sql_trees.specs.Statements.{StmtTree, InsertTree, UpdateTree, DeleteTree, SelectTree, Selects}
 use Rattle.sql_values.specs.declared.value.Value.{Value}
 use Rattle.sql_values.specs.declared.fault.ValueFault.{ValueFault}
-use Rattle.session_queries.specs.Queries.{AssignedColumn, lacking_rows, lacking_select, some_too_long, wrong_position}
-use Rattle.session_queries.specs.Updates.{lacking_update}
+use Rattle.query_results.specs.Queries.{AssignedColumn, lacking_rows, lacking_select, some_too_long, wrong_position}
+use Rattle.query_results.specs.Updates.{lacking_update}
 use Rattle.row_versions.specs.declared.names.RowId.{RowId}
 use Rattle.row_versions.specs.Log.{Content}
 use Rattle.session_machine.specs.declared.session.OpenTransaction.{OpenTransaction}

@@ -5,9 +5,9 @@ use Rattle.sql_values.specs.declared.value.Value.{Value}
 use Rattle.sql_values.specs.declared.fault.ValueFault.{ValueFault}
 use Rattle.sql_values.specs.Values.{if_ok}
 use Rattle.sql_values.specs.Aggregates.{aggregate}
-use Rattle.result_tables.specs.Results.{Results}
-use Rattle.session_queries.specs.Ordering.{rows_at}
-use Rattle.session_queries.specs.Queries.{Counted, agg_title, cols_of, counted, each, results_by, taken}
+use Rattle.query_results.specs.Results.{Results}
+use Rattle.query_results.specs.Ordering.{rows_at}
+use Rattle.query_results.specs.Queries.{Counted, agg_title, cols_of, counted, each, results_by, taken}
 
 -- the items at each of the rows, under their titles
 abbrev pub row_results : List ColumnTree → List ItemTree → List (List Value) → Result Results ValueFault

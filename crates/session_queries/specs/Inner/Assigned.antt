@@ -1,7 +1,7 @@
 -- Columns that values are assigned to, as they are found one after the other.
 use Rattle.std.specs.Prelude.{ℕ, ◌+◌, List, [], ◌∷◌, Option, Some, None, bytes_eq, Result, Ok, Err, if◌then◌else◌}
 use Rattle.sql_trees.specs.Statements.{ColumnTree}
-use Rattle.session_queries.specs.Queries.{AssignedColumn}
+use Rattle.query_results.specs.Queries.{AssignedColumn}
 
 -- all columns, from the place on
 abbrev pub assigned_in_order : ℕ → List ColumnTree → List AssignedColumn

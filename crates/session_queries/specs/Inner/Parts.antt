@@ -6,9 +6,9 @@ use Rattle.sql_trees.specs.Trees.{Tree, AggTree}
 use Rattle.sql_trees.specs.Trees as tree
 use Rattle.sql_trees.specs.Statements as stmt
 use Rattle.sql_values.specs.Expressions.{Cols}
-use Rattle.result_tables.specs.declared.title.Title.{Title}
-use Rattle.result_tables.specs.declared.title.Title.TheVariants.{Column as Named}
-use Rattle.session_queries.specs.Queries.{lacking_item, own_title, title_of}
+use Rattle.query_results.specs.declared.title.Title.{Title}
+use Rattle.query_results.specs.declared.title.Title.TheVariants.{Column as Named}
+use Rattle.query_results.specs.Queries.{lacking_item, own_title, title_of}
 
 -- the first column that an aggregate names and that isn't there
 abbrev pub lacking_agg : Cols → AggTree → Option (List ℕ)

@@ -1,6 +1,5 @@
 use Rattle.std.proofs.Common.{◌≡◌, take}
-use Rattle.result_tables.specs.TableText.{columns_of}
-use Rattle.result_tables.specs.Results.{table_of}
+use Rattle.result_tables.specs.TableText.{columns_of, table_of}
 use Rattle.result_tables.proofs.column.measured_columns.Given as goal
 
 abbrev pub invariant-loop-k : goal.invariant-loop-k

@@ -1,7 +1,7 @@
 use Rattle.std.proofs.Common.{◌≡◌, ◌+◌, drop, length, map}
 use Rattle.sql_trees.specs.Statements.{item_of}
 use Rattle.sql_values.specs.Aggregates.{aggregate}
-use Rattle.session_queries.specs.Queries.{Counted, counted, each}
+use Rattle.query_results.specs.Queries.{Counted, counted, each}
 use Rattle.session_queries.specs.Inner.Fronts.{in_front}
 use Rattle.session_queries.proofs.answer.agg_values.Given as goal
 

@@ -1,6 +1,6 @@
 use Rattle.std.proofs.Common.{◌≡◌, map, length, ap, ◌∙◌}
 use Rattle.sql_trees.specs.Statements.{column_of, select_of}
-use Rattle.session_queries.specs.Ordering.{rows_at}
+use Rattle.query_results.specs.Ordering.{rows_at}
 use Rattle.session_queries.proofs.Picking.{taken_long}
 use Rattle.session_queries.proofs.Selecting.{selected_from}
 use Rattle.session_queries.proofs.answer.selected.Goals as goal

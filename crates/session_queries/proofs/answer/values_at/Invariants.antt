@@ -1,6 +1,6 @@
 use Rattle.std.proofs.Common.{◌≡◌, drop, map}
 use Rattle.sql_trees.specs.Statements.{item_of}
-use Rattle.session_queries.specs.Queries.{row_values}
+use Rattle.query_results.specs.Queries.{row_values}
 use Rattle.session_queries.specs.Inner.Fronts.{in_front}
 use Rattle.session_queries.proofs.answer.values_at.Given as goal
 

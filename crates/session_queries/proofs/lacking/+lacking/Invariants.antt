@@ -1,6 +1,6 @@
 use Rattle.std.proofs.Common.{◌≡◌, drop}
 use Rattle.sql_trees.specs.Trees.{trees}
-use Rattle.session_queries.specs.Queries.{lacking_among}
+use Rattle.query_results.specs.Queries.{lacking_among}
 use Rattle.session_queries.proofs.lacking.+lacking.Given as goal
 
 abbrev pub invariant-lacking_among-loop-item : goal.invariant-lacking_among-loop-item

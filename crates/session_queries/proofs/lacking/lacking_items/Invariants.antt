@@ -1,6 +1,6 @@
 use Rattle.std.proofs.Common.{◌≡◌, drop, map}
 use Rattle.sql_trees.specs.Statements.{item_of}
-use Rattle.session_queries.specs.Queries.{first_of, lacking_item}
+use Rattle.query_results.specs.Queries.{first_of, lacking_item}
 use Rattle.session_queries.proofs.lacking.lacking_items.Given as goal
 
 abbrev pub invariant-loop-item : goal.invariant-loop-item

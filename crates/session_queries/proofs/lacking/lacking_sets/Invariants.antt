@@ -1,6 +1,6 @@
 use Rattle.std.proofs.Common.{◌≡◌, drop, map}
 use Rattle.sql_trees.specs.Statements.{SetTree, set_of}
-use Rattle.session_queries.specs.Queries.{first_of, lacking}
+use Rattle.query_results.specs.Queries.{first_of, lacking}
 use Rattle.session_queries.proofs.lacking.lacking_sets.Given as goal
 
 abbrev pub invariant-loop-expr : goal.invariant-loop-expr

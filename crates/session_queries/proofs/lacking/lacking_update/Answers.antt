@@ -1,8 +1,8 @@
 use Rattle.std.proofs.Common.{◌≡◌, ◌∙◌, ap, sym, map, None}
 use Rattle.std.specs.Option.{option_or}
 use Rattle.sql_trees.specs.Statements.{SetTree, column_of, set_of, update_of}
-use Rattle.session_queries.specs.Queries.{cols_of, first_of, lacking, lacking_if}
-use Rattle.session_queries.specs.Updates.{lacking_update}
+use Rattle.query_results.specs.Queries.{cols_of, first_of, lacking, lacking_if}
+use Rattle.query_results.specs.Updates.{lacking_update}
 use Rattle.session_queries.proofs.ColumnLists.{known_columns}
 use Rattle.session_queries.proofs.lacking.lacking_update.Goals as goal
 

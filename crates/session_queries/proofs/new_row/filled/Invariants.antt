@@ -1,5 +1,5 @@
 use Rattle.std.proofs.Common.{◌≡◌, drop, length}
-use Rattle.session_queries.specs.Queries.{filled}
+use Rattle.query_results.specs.Queries.{filled}
 use Rattle.session_queries.proofs.new_row.filled.Given as goal
 
 abbrev pub invariant-loop-column : goal.invariant-loop-column

@@ -1,5 +1,5 @@
 use Rattle.std.proofs.Common.{◌≡◌, length}
-use Rattle.session_queries.proofs.Insertion.{order_within}
+use Rattle.query_results.proofs.Insertion.{order_within}
 use Rattle.session_queries.proofs.Picking.{picked_in_order}
 use Rattle.session_queries.proofs.ordering.by_keys.Goals as goal
 

@@ -1,5 +1,5 @@
 use Rattle.std.proofs.Common.{◌≡◌, map, take}
-use Rattle.session_queries.specs.Ordering.{rows_at}
+use Rattle.query_results.specs.Ordering.{rows_at}
 use Rattle.session_queries.proofs.ordering.rows_at.Given as goal
 
 abbrev pub invariant-loop-place : goal.invariant-loop-place

@@ -1,7 +1,7 @@
 use Rattle.std.proofs.Common.{◌≡◌, ◌<◌, drop, length, map}
 use Rattle.std.specs.Prelude.{All, option_map}
 use Rattle.sql_trees.specs.Trees.{tree_of}
-use Rattle.session_queries.specs.Queries.{passing}
+use Rattle.query_results.specs.Queries.{passing}
 use Rattle.session_queries.specs.Inner.Fronts.{in_front}
 use Rattle.session_queries.proofs.passing.passing.Given as goal
 

@@ -1,7 +1,7 @@
 use Rattle.std.proofs.Common.{◌≡◌, drop, length, map}
 use Rattle.std.specs.Prelude.{nat_lt}
 use Rattle.sql_trees.specs.Statements.{column_of, item_of}
-use Rattle.session_queries.specs.Queries.{titles_of}
+use Rattle.query_results.specs.Queries.{titles_of}
 use Rattle.session_queries.proofs.positions.is_shown.Given as goal
 
 abbrev pub invariant-loop-item : goal.invariant-loop-item

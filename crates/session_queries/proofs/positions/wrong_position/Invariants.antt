@@ -1,6 +1,6 @@
 use Rattle.std.proofs.Common.{◌≡◌, drop, length, map}
 use Rattle.sql_trees.specs.Statements.{OrderTree, column_of, order_of, select_of}
-use Rattle.session_queries.specs.Queries.{first_of, titles_of, unlisted, wrong_position}
+use Rattle.query_results.specs.Queries.{first_of, titles_of, unlisted, wrong_position}
 use Rattle.session_queries.proofs.positions.wrong_position.Given as goal
 
 abbrev pub invariant-loop-key : goal.invariant-loop-key

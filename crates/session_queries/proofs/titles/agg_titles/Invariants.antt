@@ -1,6 +1,6 @@
 use Rattle.std.proofs.Common.{◌≡◌, ◌+◌, ◌++◌, length, map, drop}
 use Rattle.sql_trees.specs.Statements.{item_of}
-use Rattle.session_queries.specs.Queries.{agg_title, counted}
+use Rattle.query_results.specs.Queries.{agg_title, counted}
 use Rattle.session_queries.proofs.titles.agg_titles.Given as goal
 
 abbrev pub invariant-loop-item : goal.invariant-loop-item

@@ -1,6 +1,6 @@
 use Rattle.std.proofs.Common.{◌≡◌, ◌++◌, map, take}
 use Rattle.sql_trees.specs.Statements.{All, column_of}
-use Rattle.session_queries.specs.Queries.{item_titles}
+use Rattle.query_results.specs.Queries.{item_titles}
 use Rattle.session_queries.proofs.titles.append_columns.Given as goal
 
 abbrev pub invariant-loop-column : goal.invariant-loop-column

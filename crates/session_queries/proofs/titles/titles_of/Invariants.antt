@@ -1,6 +1,6 @@
 use Rattle.std.proofs.Common.{◌≡◌, ◌++◌, map, drop}
 use Rattle.sql_trees.specs.Statements.{column_of, item_of}
-use Rattle.session_queries.specs.Queries.{titles_of}
+use Rattle.query_results.specs.Queries.{titles_of}
 use Rattle.session_queries.proofs.titles.titles_of.Given as goal
 
 abbrev pub invariant-loop-item : goal.invariant-loop-item

@@ -1,6 +1,6 @@
 use Rattle.std.proofs.Common.{◌≡◌, drop, map}
 use Rattle.sql_trees.specs.Statements.{column_of}
-use Rattle.session_queries.specs.Queries.{null_in}
+use Rattle.query_results.specs.Queries.{null_in}
 use Rattle.session_queries.proofs.values_check.null_in.Given as goal
 
 abbrev pub invariant-loop-column : goal.invariant-loop-column

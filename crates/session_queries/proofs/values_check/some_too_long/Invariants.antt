@@ -1,6 +1,6 @@
 use Rattle.std.proofs.Common.{◌≡◌, drop, map}
 use Rattle.sql_trees.specs.Statements.{exprs_of}
-use Rattle.session_queries.specs.Queries.{some_too_long}
+use Rattle.query_results.specs.Queries.{some_too_long}
 use Rattle.session_queries.proofs.values_check.some_too_long.Given as goal
 
 abbrev pub invariant-loop-row : goal.invariant-loop-row

@@ -1,6 +1,6 @@
 use Rattle.std.proofs.Common.{◌≡◌, ◌∙◌, ap, drop, List, rules}
 use Rattle.sql_trees.specs.Statements.{insert_of}
-use Rattle.session_queries.specs.Queries.{AssignedColumn, columns_assigned}
+use Rattle.query_results.specs.Queries.{AssignedColumn, columns_assigned}
 use Rattle.session_machine.specs.Rows.{columns_in, insert_at}
 use Rattle.session_machine.specs.Running.{assigned_to, done, ended}
 use Rattle.session_machine.specs.Walks.{walked}

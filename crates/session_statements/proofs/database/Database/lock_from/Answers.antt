@@ -4,7 +4,7 @@ use Rattle.sql_trees.specs.Statements.{select_of}
 use Rattle.sql_values.specs.declared.value.Value.{Value}
 use Rattle.row_versions.specs.declared.write.Seen.{Seen}
 use Rattle.row_locks.specs.declared.held.Strength.{Strength}
-use Rattle.session_queries.specs.Queries.{titles_of}
+use Rattle.query_results.specs.Queries.{titles_of}
 use Rattle.session_machine.specs.declared.reply.Outcome.{Outcome}
 use Rattle.session_machine.specs.declared.reply.Outcome.TheVariants.{Rows}
 use Rattle.session_machine.specs.Tables.{Database}

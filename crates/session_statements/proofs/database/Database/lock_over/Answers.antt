@@ -1,7 +1,7 @@
 use Rattle.std.proofs.Common.{rules, ◌∙◌, ap, map, List}
 use Rattle.sql_trees.specs.Statements.{item_of}
 use Rattle.sql_values.specs.declared.value.Value.{Value}
-use Rattle.session_queries.specs.Queries.{titles_of}
+use Rattle.query_results.specs.Queries.{titles_of}
 use Rattle.session_machine.specs.declared.reply.Outcome.{Outcome}
 use Rattle.session_machine.specs.declared.reply.Outcome.TheVariants.{Rows}
 use Rattle.session_machine.specs.Rows.{columns_in}

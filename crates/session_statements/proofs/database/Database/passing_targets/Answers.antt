@@ -7,7 +7,7 @@ use Rattle.sql_values.specs.declared.row.Row.{Row}
 use Rattle.row_versions.specs.declared.write.Seen.{Seen}
 use Rattle.row_versions.specs.Log.{values_at}
 use Rattle.session_queries.specs.Fronts.{AnswersList}
-use Rattle.session_queries.specs.Queries.{cols_of, passing}
+use Rattle.query_results.specs.Queries.{cols_of, passing}
 use Rattle.session_machine.specs.Rows.{at_places, cols_in, shown_to}
 use Rattle.session_machine.specs.Statements.{columns_at}
 use Rattle.session_statements.specs.Inner.Keeping.{RowsIn}

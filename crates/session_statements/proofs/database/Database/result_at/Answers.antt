@@ -6,7 +6,7 @@ use Rattle.sql_values.specs.declared.row.Row.{Row}
 use Rattle.sql_values.specs.Values.{Answers}
 use Rattle.row_versions.specs.declared.write.Seen.{Seen}
 use Rattle.row_versions.specs.Log.{values_at}
-use Rattle.session_queries.specs.Queries.{result_of}
+use Rattle.query_results.specs.Queries.{result_of}
 use Rattle.session_machine.specs.Views.{rows_shown}
 use Rattle.session_machine.specs.Statements.{columns_at}
 use Rattle.session_statements.proofs.Lent.{lent_fit}

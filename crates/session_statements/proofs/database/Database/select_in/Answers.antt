@@ -1,7 +1,7 @@
 use Rattle.std.proofs.Common.{◌≡◌, ◌∙◌, sym, ap, subst}
 use Rattle.std.specs.Prelude.{IfOk, None}
 use Rattle.sql_trees.specs.Statements.{select_of}
-use Rattle.session_queries.specs.Queries.{cols_of, lacking_select, wrong_position}
+use Rattle.query_results.specs.Queries.{cols_of, lacking_select, wrong_position}
 use Rattle.session_machine.specs.Rows.{columns_in}
 use Rattle.session_machine.specs.Statements.{Effect}
 use Rattle.session_machine.specs.Running.{select_rows}

@@ -1,7 +1,7 @@
 use Rattle.std.proofs.Common.{rules, ◌≡◌, ◌∙◌, ap, sym}
 use Rattle.std.specs.Prelude.{Some, Ok, Err}
 use Rattle.sql_trees.specs.Statements.{name_of, update_of}
-use Rattle.session_queries.specs.Updates.{columns_set, lacking_update}
+use Rattle.query_results.specs.Updates.{columns_set, lacking_update}
 use Rattle.session_machine.specs.Tables.{find_table}
 use Rattle.session_machine.specs.Rows.{Work, cols_in}
 use Rattle.session_machine.specs.Inner.Pieces.{update_fitting}

@@ -1,8 +1,8 @@
 use Rattle.std.proofs.Common.{◌≡◌, ◌∙◌, ap, subst, map, List}
 use Rattle.std.specs.Prelude.{IfOk}
 use Rattle.sql_trees.specs.Statements.{set_of, update_of}
-use Rattle.session_queries.specs.Queries.{AssignedColumn}
-use Rattle.session_queries.specs.Updates.{columns_set}
+use Rattle.query_results.specs.Queries.{AssignedColumn}
+use Rattle.query_results.specs.Updates.{columns_set}
 use Rattle.session_machine.specs.Rows.{columns_in, passing_targets, update_at}
 use Rattle.session_machine.specs.Running.{assigned_to, done, ended}
 use Rattle.session_machine.specs.Walks.{walked_from}

@@ -11,7 +11,7 @@ use Rattle.std.proofs.lemmas.List.Sorted.{IsPermutation-refl, IsPermutation-cons
 use Rattle.sql_trees.specs.declared.kind.Dir.{Dir}
 use Rattle.sql_values.specs.declared.value.Value.{Value}
 use Rattle.sql_values.specs.Sorting.{keys_at, row_order, MayPrecede, IsSortedOrder}
-use Rattle.session_queries.specs.Ordering.{put_in, put_in_order, sorted_places}
+use Rattle.query_results.specs.Ordering.{put_in, put_in_order, sorted_places}
 
 -- two rows stand the other way round where they are exchanged
 abbrev pub Turns : Type 0

@@ -19,10 +19,10 @@ use Rattle.sql_values.specs.Arithmetic.{signed}
 use Rattle.sql_values.specs.Sorting.{can_sort, key}
 use Rattle.sql_values.specs.Expressions.{Cols, value, passes}
 use Rattle.sql_values.specs.Aggregates.{aggregate}
-use Rattle.result_tables.specs.declared.title.Title.{Title}
-use Rattle.result_tables.specs.declared.title.Title.TheVariants.{Column as Named, Unnamed, Count, Sum, Min, Max}
-use Rattle.result_tables.specs.Results.{Results}
-use Rattle.session_queries.specs.Ordering.{rows_at, sorted_places}
+use Rattle.query_results.specs.declared.title.Title.{Title}
+use Rattle.query_results.specs.declared.title.Title.TheVariants.{Column as Named, Unnamed, Count, Sum, Min, Max}
+use Rattle.query_results.specs.Results.{Results}
+use Rattle.query_results.specs.Ordering.{rows_at, sorted_places}
 
 -- the first answer that is one
 abbrev pub first_of : {A B : Type 0} → (A → Option B) → List A → Option B

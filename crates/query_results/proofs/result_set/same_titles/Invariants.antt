@@ -1,5 +1,5 @@
 use Rattle.std.proofs.Common.{◌≡◌, take, length}
-use Rattle.result_tables.proofs.result_set.same_titles.Given as goal
+use Rattle.query_results.proofs.result_set.same_titles.Given as goal
 
 abbrev pub invariant-loop-i : goal.invariant-loop-i
 invariant-loop-i l = record { long : length l.a ≡ length l.b; same : take l.i l.a ≡ take l.i l.b }

@@ -1,5 +1,5 @@
 use Rattle.std.proofs.Common.{◌≡◌, take}
-use Rattle.result_tables.proofs.result_set.copied_titles.Given as goal
+use Rattle.query_results.proofs.result_set.copied_titles.Given as goal
 
 abbrev pub invariant-loop-title : goal.invariant-loop-title
 invariant-loop-title l = l.copies.items ≡ take l.title-index l.titles

@@ -9,8 +9,8 @@ use Rattle.sql_values.specs.declared.value.Value.TheVariants.{Null}
 use Rattle.sql_values.specs.declared.fault.ValueFault.{ValueFault}
 use Rattle.sql_values.specs.Values.{assign, if_ok}
 use Rattle.sql_values.specs.Expressions.{Cols, value}
-use Rattle.session_queries.specs.Queries.{AssignedColumn, each, filled, new_values}
-use Rattle.session_queries.specs.Updates.{updated}
+use Rattle.query_results.specs.Queries.{AssignedColumn, each, filled, new_values}
+use Rattle.query_results.specs.Updates.{updated}
 
 same_Ok : {A : Type 0} {a b : A} → (let x : Result A ValueFault = Ok a in let y : Result A ValueFault = Ok b in x ≡ y) → a ≡ b
 same_Ok h = cc

@@ -1,5 +1,5 @@
 use Rattle.std.proofs.Common.{◌≡◌, take}
-use Rattle.result_tables.proofs.result_set.copied_rows.Given as goal
+use Rattle.query_results.proofs.result_set.copied_rows.Given as goal
 
 abbrev pub invariant-loop-row : goal.invariant-loop-row
 invariant-loop-row l = l.copies.items ≡ take l.row-index l.rows

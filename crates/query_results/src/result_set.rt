@@ -1,7 +1,7 @@
 //! Results of queries.
 
 ghost use Rattle.std.specs.Prelude.{◌≡◌, ◌↔◌, ◌≤◌, length, take, All, IfOk, IsTrue};
-ghost use Rattle.result_tables.specs.Results.{IsEven};
+ghost use Rattle.query_results.specs.Results.{IsEven};
 
 use crate::title::Title;
 use sql_values::Row;
@@ -16,7 +16,7 @@ pub struct ResultSet<'a> {
 }
 
 impl<'a> Model for ResultSet<'a> {
-    ghost use Rattle.result_tables.specs.Results.{Results, IsEven};
+    ghost use Rattle.query_results.specs.Results.{Results, IsEven};
 
     ghost Value = { Results };
 

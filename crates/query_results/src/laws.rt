@@ -4,7 +4,7 @@ ghost use Rattle.std.specs.Prelude.{◌≡◌, ℕ, List};
 ghost use Rattle.sql_trees.specs.declared.kind.Dir.{Dir};
 ghost use Rattle.sql_values.specs.declared.value.Value.{Value};
 ghost use Rattle.sql_values.specs.Sorting.{IsSortedOrder};
-ghost use Rattle.session_queries.specs.Ordering.{sorted_places};
+ghost use Rattle.query_results.specs.Ordering.{sorted_places};
 
 use sql_values::{one_sorted_order, rows_turned};
 

@@ -1,0 +1,4 @@
+pub mod Results
+pub mod Ordering
+pub mod Queries
+pub mod Updates
