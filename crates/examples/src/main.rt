@@ -5,8 +5,8 @@
 #![tactic(auto)]
 
 use anyhow::Result;
-use command_line::serve;
 use iso_lexer::FromStd;
+use permutations::serve;
 use std::alloc::Global;
 use std::fs;
 use std::process::ExitCode;

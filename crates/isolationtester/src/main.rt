@@ -1,8 +1,8 @@
 //! Runs the spec file that comes on standard input, and prints the report of each of its permutations.
 #![tactic(auto)]
 
-use command_line::{serve, serve_at_terminal};
 use iso_lexer::FromStd;
+use permutations::{serve, serve_at_terminal};
 use std::env;
 use std::io::{self, BufWriter, ErrorKind, IsTerminal, Stderr, Write};
 use std::process::ExitCode;

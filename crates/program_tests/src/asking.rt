@@ -1,7 +1,7 @@
 //! What the tests ask, and of what.
 
-use command_line::{serve, serve_at_terminal};
 use iso_lexer::Source;
+use permutations::{serve, serve_at_terminal};
 use std::alloc::{AllocError, Global};
 use std::process::Abort;
 use std::sync::Wait;

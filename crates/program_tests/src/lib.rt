@@ -1,4 +1,4 @@
-//! The tests of `permutations` and `command_line`, over their public calls alone: the words of a command line, devices that fail,
+//! The tests of `permutations` and `program_words`, over their public calls alone: the words of a command line, devices that fail,
 //! the longest file, what a terminal shows besides, and the printed line of each fault. What an example file shows has no test.
 #![tactic(auto)]
 

@@ -1,7 +1,7 @@
 //! The options that words give, and those that are refused.
 
 use crate::asking::{ENDLESS, holds, served, words_of};
-use command_line::options_of;
+use program_words::options_of;
 use std::alloc::AllocError;
 use std::test::Fail;
 use test_devices::Gives;

@@ -5,8 +5,9 @@ ghost use Rattle.clap.specs.Words.{fault_of};
 ghost use Rattle.program_words.specs.Options.{program};
 ghost use Rattle.program_words.specs.Shell.{IsServed, Runs};
 
+use crate::freely::free_spec;
+use crate::run::run_spec;
 use iso_lexer::{Sink, Source};
-use permutations::{free_spec, run_spec};
 use program_words::{Options, end, take_words};
 use session_seats::OpenGate;
 use spec_files::{RunFault, list_spec};

@@ -1,6 +1,6 @@
 use Rattle.std.proofs.Common.{◌≡◌, List, Option, ap, subst, ℕ}
 use Rattle.program_words.specs.Terminal.{ReadsAndRuns, refuses, serves}
-use Rattle.command_line.proofs.terminal.serve_at_terminal.Goals as goal
+use Rattle.permutations.proofs.terminal.serve_at_terminal.Goals as goal
 
 pub returns-in-Ok-clause-serves : goal.returns-in-Ok-clause-serves
 returns-in-Ok-clause-serves g c =

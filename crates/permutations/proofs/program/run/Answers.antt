@@ -1,5 +1,5 @@
 use Rattle.std.proofs.Common.{refl}
-use Rattle.command_line.proofs.program.run.Goals as goal
+use Rattle.permutations.proofs.program.run.Goals as goal
 
 pub returns-then-options : goal.returns-then-options
 returns-then-options g c = (

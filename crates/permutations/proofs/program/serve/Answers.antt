@@ -1,6 +1,6 @@
 use Rattle.std.proofs.Common.{◌≡◌, List, Option, ap, subst, ℕ}
 use Rattle.program_words.specs.Shell.{Runs, refuses, serves}
-use Rattle.command_line.proofs.program.serve.Goals as goal
+use Rattle.permutations.proofs.program.serve.Goals as goal
 
 pub returns-in-Ok-clause-serves : goal.returns-in-Ok-clause-serves
 returns-in-Ok-clause-serves g c =

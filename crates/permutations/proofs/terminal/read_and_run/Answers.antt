@@ -1,7 +1,7 @@
 use Rattle.std.proofs.Common.{List, IfSome, ◌≡◌, ℕ, subst, sym, take}
 use Rattle.program_words.specs.Terminal.{reads}
 use Rattle.program_words.proofs.Putting.{not_read}
-use Rattle.command_line.proofs.terminal.read_and_run.Goals as goal
+use Rattle.permutations.proofs.terminal.read_and_run.Goals as goal
 
 pub returns-in-Ok : goal.returns-in-Ok
 returns-in-Ok g c =
