@@ -1,15 +1,10 @@
 //! Runs a spec file freely: each session's steps in their order, with no order between sessions.
 
-ghost use Rattle.std.specs.Prelude.{◌≡◌, ◌≢◌, ◌↔◌, ◌||◌, List, ℕ, Err, take, true, IsTrue, IfErr, IfSome, IsErrOf};
-ghost use Rattle.iso_lexer.specs.Devices.{IsFront};
 ghost use Rattle.sql_blocks.specs.Blocks.{blocks_of};
 ghost use Rattle.spec_parser.specs.Trees.{spec_view};
 ghost use Rattle.spec_parser.specs.Stands.{Stands};
-ghost use Rattle.spec_files.specs.Begun.{Begun, FreeSays, FileSaysFreely};
-ghost use Rattle.spec_files.specs.Files.{FileIs};
-ghost use Rattle.spec_files.specs.FreeRuns.{IsFreeTold, FileFreeTold};
+ghost use Rattle.spec_files.specs.Promises.{SpecIsRunFreely};
 ghost use Rattle.spec_files.specs.Runners.{RanFreely};
-ghost use Rattle.spec_files.specs.Runs.{is_refusal, is_of_one, has_broken, has_ended, has_read};
 
 use crate::free_run::free_run_of;
 use iso_lexer::{Sink, Source};
@@ -32,13 +27,7 @@ pub fn run_freely<W: Sink, N: Sink, G: Gate, R: Threads + Wait + Sync>(
     gate: &G,
 ) -> Result<(), RunFault>
     requires { Stands (spec_view spec.now) }
-    ensures told { IsTrue (has_ended result) → IsFreeTold (spec_view spec.now) (blocks_of blocks.now)
-        (W.put_so_far out.old) (W.put_so_far out.new) (N.put_so_far notes.old) (N.put_so_far notes.new) result }
-    ensures begun { Begun (FreeSays (spec_view spec.now) (blocks_of blocks.now))
-        (W.put_so_far out.old) (W.put_so_far out.new) (N.put_so_far notes.old) (N.put_so_far notes.new) }
-    ensures broken { IsTrue (has_broken result) → (out.new ≡ out.old) × (notes.new ≡ notes.old) }
-    ensures write { IsErrOf result RunFault.Write → (W.failed out.new || N.failed notes.new) ≡ true }
-    ensures kinds { IfErr result (λ e. is_of_one e ≡ true) }
+    ensures { RanFreely W.Sink N.Sink (spec_view spec.now) (blocks_of blocks.now) out.old out.new notes.old notes.new result }
 {
     let closed = free_run_of(rt, alloc, spec, blocks, gate)?;
     let engine = closed.state();
@@ -57,21 +46,11 @@ pub fn free_spec<S: Source, W: Sink, N: Sink, G: Gate, R: Threads + Wait + Sync>
     notes: &mut N,
     gate: &G,
 ) -> Result<(), RunFault>
-    ensures told { IfSome (S.left input.old) (λ bytes. IsTrue (has_ended result) → FileFreeTold (take 1048577 bytes)
-        (W.put_so_far out.old) (W.put_so_far out.new) (N.put_so_far notes.old) (N.put_so_far notes.new) result) }
-    ensures refused { IfSome (S.left input.old) (λ bytes. IfErr result (λ e. is_refusal e ≡ true → FileIs (take 1048577 bytes) (Err e))) }
-    ensures untouched { IfErr result (λ e. is_refusal e ≡ true → (out.new ≡ out.old) × (notes.new ≡ notes.old)) }
-    ensures begun { IfSome (S.left input.old) (λ bytes. Begun (FileSaysFreely (take 1048577 bytes))
-        (W.put_so_far out.old) (W.put_so_far out.new) (N.put_so_far notes.old) (N.put_so_far notes.new)) }
-    ensures broken { IsTrue (has_broken result) → (out.new ≡ out.old) × (notes.new ≡ notes.old) }
-    ensures read { IsErrOf result RunFault.Read ↔ (S.failed input.new ≡ true) }
-    ensures unread { IsErrOf result RunFault.Read → (out.new ≡ out.old) × (notes.new ≡ notes.old) }
-    ensures write { IsErrOf result RunFault.Write → (W.failed out.new || N.failed notes.new) ≡ true }
-    ensures taken { IsTrue (has_read result) → ((bytes : List ℕ) × IsFront 1048577 (S.left input.old) (S.left input.new) bytes) }
+    ensures { SpecIsRunFreely S.Source W.Sink N.Sink input.old input.new out.old out.new notes.old notes.new result }
 {
     let run = |file: &SpecFile<'_>, out: &mut W, notes: &mut N| -> Result<(), RunFault>
         requires { Stands (spec_view file.now.spec) }
-        ensures { RanFreely W.put_so_far N.put_so_far W.failed N.failed file.now out.old out.new notes.old notes.new result }
+        ensures { RanFreely W.Sink N.Sink (spec_view file.now.spec) (blocks_of file.now.blocks.items) out.old out.new notes.old notes.new result }
     { run_freely(rt, alloc, &file.spec, &file.blocks, out, notes, gate) };
     free_spec_by(alloc, input, out, notes, run)
 }

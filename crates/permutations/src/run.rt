@@ -1,16 +1,11 @@
 //! Runs a spec file, each permutation with a thread for each session.
 
-ghost use Rattle.std.specs.Prelude.{◌≡◌, ◌≢◌, ◌↔◌, ◌||◌, List, ℕ, Ok, Err, take, true, IsTrue, IfErr, IfSome, IsErrOf};
-ghost use Rattle.iso_lexer.specs.Devices.{IsFront};
+ghost use Rattle.std.specs.Prelude.{◌≡◌};
 ghost use Rattle.sql_blocks.specs.Blocks.{blocks_of};
 ghost use Rattle.spec_parser.specs.Trees.{spec_view};
 ghost use Rattle.spec_parser.specs.Stands.{Stands};
-ghost use Rattle.spec_files.specs.Begun.{Begun, FileMaySay};
-ghost use Rattle.spec_files.specs.Broken.{FileBroken};
 ghost use Rattle.spec_files.specs.Drafts.{IsDraft};
-ghost use Rattle.spec_files.specs.Prints.{FileSays};
-ghost use Rattle.spec_files.specs.Runs.{is_refusal, has_broken, has_ended, has_read, IsTold};
-ghost use Rattle.spec_files.specs.Said.{Said};
+ghost use Rattle.spec_files.specs.Promises.{SpecIsRun};
 
 use crate::draft::draft_of;
 use iso_lexer::{Sink, Source};
@@ -37,20 +32,7 @@ pub fn run_spec<S: Source, W: Sink, N: Sink, G: Gate, R: Threads + Wait + Sync>(
     limit: u64,
     gate: &G,
 ) -> Result<(), RunFault>
-    ensures told { IfSome (S.left input.old) (λ bytes. IsTrue (has_ended result) →
-        ((said : Said) × FileSays (take 1048577 bytes) limit (Ok said)
-        × IsTold (W.put_so_far out.old) (W.put_so_far out.new) (N.put_so_far notes.old) (N.put_so_far notes.new) result said)) }
-    ensures begun { IfSome (S.left input.old) (λ bytes. Begun (FileMaySay (take 1048577 bytes) limit)
-        (W.put_so_far out.old) (W.put_so_far out.new) (N.put_so_far notes.old) (N.put_so_far notes.new)) }
-    ensures broken { IfSome (S.left input.old) (λ bytes. IsTrue (has_broken result) → FileBroken (take 1048577 bytes) limit
-        (W.put_so_far out.old) (W.put_so_far out.new) (N.put_so_far notes.old) (N.put_so_far notes.new)) }
-    ensures refused { IfSome (S.left input.old) (λ bytes. IfErr result (λ e. is_refusal e ≡ true → FileSays (take 1048577 bytes) limit (Err e))) }
-    ensures untouched { IfErr result (λ e. is_refusal e ≡ true → (out.new ≡ out.old) × (notes.new ≡ notes.old)) }
-    ensures read { IsErrOf result RunFault.Read ↔ (S.failed input.new ≡ true) }
-    ensures unread { IsErrOf result RunFault.Read → (out.new ≡ out.old) × (notes.new ≡ notes.old) }
-    ensures unbroken { result ≢ Err RunFault.ScheduleBroken }
-    ensures write { IsErrOf result RunFault.Write → (W.failed out.new || N.failed notes.new) ≡ true }
-    ensures taken { IsTrue (has_read result) → ((bytes : List ℕ) × IsFront 1048577 (S.left input.old) (S.left input.new) bytes) }
+    ensures { SpecIsRun S.Source W.Sink N.Sink input.old input.new out.old out.new notes.old notes.new limit result }
 {
     let run = |file: &SpecFile<'_>, entries: Vec<Entry>| -> Draft
         requires { Stands (spec_view file.now.spec) }

@@ -14,6 +14,10 @@ use Rattle.spec_files.specs.Lists.{FileLists}
 use Rattle.spec_files.specs.Prints.{Prints, FileSays}
 use Rattle.spec_files.specs.FreeRuns.{free_text}
 
+-- nothing was put to either sink
+abbrev pub Untouched : {W N : Type 0} → W → W → N → N → Type 0
+Untouched out_old out_new notes_old notes_new = (out_new ≡ out_old) × (notes_new ≡ notes_old)
+
 -- nothing went out, or a front of what the file lists
 pub data ListBegun (bytes : List ℕ) (limit : ℕ) (old new : Option (List ℕ)) : Type 0 where
   nothing : new ≡ old → ListBegun bytes limit old new

@@ -16,5 +16,6 @@ pub mod FreeRuns
 pub mod Begun
 pub mod Drafts
 pub mod Runners
+pub mod Promises
 pub mod Laws
 pub mod Inner

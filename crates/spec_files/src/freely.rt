@@ -1,12 +1,12 @@
 //! Runs a spec file freely, by what runs a spec: each session's steps in their order, with no order between sessions.
 
-ghost use Rattle.std.specs.Prelude.{◌≡◌, ◌≢◌, ◌↔◌, ◌||◌, List, ℕ, Ok, Err, take, true, false, IsTrue, IfErr, IfSome, IsErrOf};
-ghost use Rattle.iso_lexer.specs.Devices.{IsFront};
+ghost use Rattle.std.specs.Prelude.{◌≡◌, ◌≢◌, ◌||◌, Err, true, IsTrue, IfErr, IsErrOf};
 ghost use Rattle.spec_files.specs.Begun.{Begun, FileSaysFreely};
 ghost use Rattle.spec_files.specs.Files.{FileIs};
 ghost use Rattle.spec_files.specs.FreeRuns.{FileFreeTold};
+ghost use Rattle.spec_files.specs.Promises.{SpecIsRunFreely};
 ghost use Rattle.spec_files.specs.Runners.{RunsFreely};
-ghost use Rattle.spec_files.specs.Runs.{is_refusal, has_broken, has_ended, has_read};
+ghost use Rattle.spec_files.specs.Runs.{is_refusal, has_broken, has_ended};
 
 use crate::fault::RunFault;
 use crate::file::{SpecFile, read_file};
@@ -19,7 +19,7 @@ fn run_file_freely<
     N: Sink,
     F: FnOnce(&SpecFile<'_>, &mut W, &mut N) -> Result<(), RunFault>,
 >(alloc: Global, bytes: &[u8], out: &mut W, notes: &mut N, run: F) -> Result<(), RunFault>
-    requires { RunsFreely W.put_so_far N.put_so_far W.failed N.failed (F.pre run) (F.post run) }
+    requires { RunsFreely W.Sink N.Sink (F.pre run) (F.post run) }
     ensures told { IsTrue (has_ended result) → FileFreeTold bytes.now
         (W.put_so_far out.old) (W.put_so_far out.new) (N.put_so_far notes.old) (N.put_so_far notes.new) result }
     ensures refused { IfErr result (λ e. is_refusal e ≡ true → FileIs bytes.now (Err e)) }
@@ -43,18 +43,8 @@ pub fn free_spec_by<
     N: Sink,
     F: FnOnce(&SpecFile<'_>, &mut W, &mut N) -> Result<(), RunFault>,
 >(alloc: Global, input: &mut S, out: &mut W, notes: &mut N, run: F) -> Result<(), RunFault>
-    requires { RunsFreely W.put_so_far N.put_so_far W.failed N.failed (F.pre run) (F.post run) }
-    ensures told { IfSome (S.left input.old) (λ bytes. IsTrue (has_ended result) → FileFreeTold (take 1048577 bytes)
-        (W.put_so_far out.old) (W.put_so_far out.new) (N.put_so_far notes.old) (N.put_so_far notes.new) result) }
-    ensures refused { IfSome (S.left input.old) (λ bytes. IfErr result (λ e. is_refusal e ≡ true → FileIs (take 1048577 bytes) (Err e))) }
-    ensures untouched { IfErr result (λ e. is_refusal e ≡ true → (out.new ≡ out.old) × (notes.new ≡ notes.old)) }
-    ensures begun { IfSome (S.left input.old) (λ bytes. Begun (FileSaysFreely (take 1048577 bytes))
-        (W.put_so_far out.old) (W.put_so_far out.new) (N.put_so_far notes.old) (N.put_so_far notes.new)) }
-    ensures broken { IsTrue (has_broken result) → (out.new ≡ out.old) × (notes.new ≡ notes.old) }
-    ensures read { IsErrOf result RunFault.Read ↔ (S.failed input.new ≡ true) }
-    ensures unread { IsErrOf result RunFault.Read → (out.new ≡ out.old) × (notes.new ≡ notes.old) }
-    ensures write { IsErrOf result RunFault.Write → (W.failed out.new || N.failed notes.new) ≡ true }
-    ensures taken { IsTrue (has_read result) → ((bytes : List ℕ) × IsFront 1048577 (S.left input.old) (S.left input.new) bytes) }
+    requires { RunsFreely W.Sink N.Sink (F.pre run) (F.post run) }
+    ensures { SpecIsRunFreely S.Source W.Sink N.Sink input.old input.new out.old out.new notes.old notes.new result }
 {
     let bytes = read_all(alloc, input, LONGEST_FILE + 1)?;
     run_file_freely(alloc, &bytes, out, notes, run)

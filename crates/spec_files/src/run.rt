@@ -1,7 +1,6 @@
 //! Runs the permutations of a spec file, by what runs one of them.
 
-ghost use Rattle.std.specs.Prelude.{◌≡◌, ◌≢◌, ◌↔◌, ◌||◌, List, ℕ, Ok, Err, take, true, false, IsTrue, IfErr, IfSome, IsErrOf};
-ghost use Rattle.iso_lexer.specs.Devices.{IsFront};
+ghost use Rattle.std.specs.Prelude.{◌≡◌, ◌≢◌, ◌||◌, Ok, Err, true, false, IsTrue, IfErr, IsErrOf};
 ghost use Rattle.sql_blocks.specs.Blocks.{blocks_of};
 ghost use Rattle.spec_parser.specs.Trees.{spec_view};
 ghost use Rattle.spec_parser.specs.Stands.{Stands};
@@ -10,7 +9,8 @@ ghost use Rattle.spec_files.specs.Begun.{Begun, RunSays, FileMaySay};
 ghost use Rattle.spec_files.specs.Runners.{RunsEach};
 ghost use Rattle.spec_files.specs.Broken.{RunBroken, FileBroken};
 ghost use Rattle.spec_files.specs.Prints.{Prints, FileSays};
-ghost use Rattle.spec_files.specs.Runs.{is_refusal, has_broken, has_ended, has_read, IsTold};
+ghost use Rattle.spec_files.specs.Promises.{SpecIsRun};
+ghost use Rattle.spec_files.specs.Runs.{is_refusal, has_broken, has_ended, IsTold};
 ghost use Rattle.spec_files.specs.Said.{Said};
 
 use crate::ahead::{Ahead, most_ahead};
@@ -123,20 +123,7 @@ pub fn run_spec_by<
     run: &F,
 ) -> Result<(), RunFault>
     requires { RunsEach (F.pre run.now) (F.post run.now) }
-    ensures told { IfSome (S.left input.old) (λ bytes. IsTrue (has_ended result) →
-        ((said : Said) × FileSays (take 1048577 bytes) limit (Ok said)
-        × IsTold (W.put_so_far out.old) (W.put_so_far out.new) (N.put_so_far notes.old) (N.put_so_far notes.new) result said)) }
-    ensures begun { IfSome (S.left input.old) (λ bytes. Begun (FileMaySay (take 1048577 bytes) limit)
-        (W.put_so_far out.old) (W.put_so_far out.new) (N.put_so_far notes.old) (N.put_so_far notes.new)) }
-    ensures broken { IfSome (S.left input.old) (λ bytes. IsTrue (has_broken result) → FileBroken (take 1048577 bytes) limit
-        (W.put_so_far out.old) (W.put_so_far out.new) (N.put_so_far notes.old) (N.put_so_far notes.new)) }
-    ensures refused { IfSome (S.left input.old) (λ bytes. IfErr result (λ e. is_refusal e ≡ true → FileSays (take 1048577 bytes) limit (Err e))) }
-    ensures untouched { IfErr result (λ e. is_refusal e ≡ true → (out.new ≡ out.old) × (notes.new ≡ notes.old)) }
-    ensures read { IsErrOf result RunFault.Read ↔ (S.failed input.new ≡ true) }
-    ensures unread { IsErrOf result RunFault.Read → (out.new ≡ out.old) × (notes.new ≡ notes.old) }
-    ensures unbroken { result ≢ Err RunFault.ScheduleBroken }
-    ensures write { IsErrOf result RunFault.Write → (W.failed out.new || N.failed notes.new) ≡ true }
-    ensures taken { IsTrue (has_read result) → ((bytes : List ℕ) × IsFront 1048577 (S.left input.old) (S.left input.new) bytes) }
+    ensures { SpecIsRun S.Source W.Sink N.Sink input.old input.new out.old out.new notes.old notes.new limit result }
 {
     let bytes = read_all(alloc, input, LONGEST_FILE + 1)?;
     run_file(rt, alloc, &bytes, out, notes, limit, run)

@@ -8,43 +8,27 @@ use Rattle.spec_files.proofs.FreeTelling.{free_is_told, free_kind, free_unbroken
 use Rattle.spec_files.proofs.Beginning.{free_begun}
 use Rattle.permutations.proofs.freely.run_freely.Goals as goal
 
-pub returns-clause-told : goal.returns-clause-told
-returns-clause-told g c =
+pub returns : goal.returns
+returns g c =
     let spec = spec_view c.args.spec.now in
     let blocks = blocks_of c.args.blocks.now in
+    let items = c.history.result.now in
     let same = c.history.ensures.lends ∙ ap (λ (e : Engine). e.history) c.state-engine.ensures in
     let regular = subst (λ (items : List HistItem). IsFreeRegular spec blocks items) (sym same) c.in_ok-closed.ensures.regular in
-    λ ended. free_is_told spec c.history.result.now
-    (g.W.Sink.put_so_far c.args.out.now) (g.W.Sink.put_so_far c.write_free.new.out) (g.N.Sink.put_so_far c.args.notes.now) (g.N.Sink.put_so_far c.write_free.new.notes)
-    (g.W.Sink.failed c.args.out.now) (g.W.Sink.failed c.write_free.new.out) (g.N.Sink.failed c.args.notes.now) (g.N.Sink.failed c.write_free.new.notes)
-    c.write_free.result blocks regular c.write_free.ensures ended
-
-pub returns-clause-write : goal.returns-clause-write
-returns-clause-write g c =
-    free_fails (spec_view c.args.spec.now) c.history.result.now
-    (g.W.Sink.put_so_far c.args.out.now) (g.W.Sink.put_so_far c.write_free.new.out) (g.N.Sink.put_so_far c.args.notes.now) (g.N.Sink.put_so_far c.write_free.new.notes)
-    (g.W.Sink.failed c.args.out.now) (g.W.Sink.failed c.write_free.new.out) (g.N.Sink.failed c.args.notes.now) (g.N.Sink.failed c.write_free.new.notes)
-    c.write_free.result c.write_free.ensures
-
-pub returns-clause-kinds : goal.returns-clause-kinds
-returns-clause-kinds g c =
-    free_kind (spec_view c.args.spec.now) c.history.result.now
-    (g.W.Sink.put_so_far c.args.out.now) (g.W.Sink.put_so_far c.write_free.new.out) (g.N.Sink.put_so_far c.args.notes.now) (g.N.Sink.put_so_far c.write_free.new.notes)
-    (g.W.Sink.failed c.args.out.now) (g.W.Sink.failed c.write_free.new.out) (g.N.Sink.failed c.args.notes.now) (g.N.Sink.failed c.write_free.new.notes)
-    c.write_free.result c.write_free.ensures
-
-pub returns-clause-broken : goal.returns-clause-broken
-returns-clause-broken g c = λ broken. absurd (true≢false (sym broken ∙ free_unbroken (spec_view c.args.spec.now) c.history.result.now
-    (g.W.Sink.put_so_far c.args.out.now) (g.W.Sink.put_so_far c.write_free.new.out) (g.N.Sink.put_so_far c.args.notes.now) (g.N.Sink.put_so_far c.write_free.new.notes)
-    (g.W.Sink.failed c.args.out.now) (g.W.Sink.failed c.write_free.new.out) (g.N.Sink.failed c.args.notes.now) (g.N.Sink.failed c.write_free.new.notes)
-    c.write_free.result c.write_free.ensures))
-
-pub returns-clause-begun : goal.returns-clause-begun
-returns-clause-begun g c =
-    let spec = spec_view c.args.spec.now in
-    let blocks = blocks_of c.args.blocks.now in
-    let same = c.history.ensures.lends ∙ ap (λ (e : Engine). e.history) c.state-engine.ensures in
-    let regular = subst (λ (items : List HistItem). IsFreeRegular spec blocks items) (sym same) c.in_ok-closed.ensures.regular in
-    free_begun (g.W.Sink.failed c.args.out.now) (g.W.Sink.failed c.write_free.new.out) (g.N.Sink.failed c.args.notes.now) (g.N.Sink.failed c.write_free.new.notes)
-    (g.W.Sink.put_so_far c.args.out.now) (g.W.Sink.put_so_far c.write_free.new.out) (g.N.Sink.put_so_far c.args.notes.now) (g.N.Sink.put_so_far c.write_free.new.notes)
-    spec blocks c.history.result.now c.write_free.result regular c.write_free.ensures
+    let wo = g.W.Sink.put_so_far c.args.out.now in
+    let wn = g.W.Sink.put_so_far c.write_free.new.out in
+    let eo = g.N.Sink.put_so_far c.args.notes.now in
+    let en = g.N.Sink.put_so_far c.write_free.new.notes in
+    let wfo = g.W.Sink.failed c.args.out.now in
+    let wfn = g.W.Sink.failed c.write_free.new.out in
+    let efo = g.N.Sink.failed c.args.notes.now in
+    let efn = g.N.Sink.failed c.write_free.new.notes in
+    let answer = c.write_free.result in
+    let written = c.write_free.ensures in
+    record {
+      told = λ ended. free_is_told spec items wo wn eo en wfo wfn efo efn answer blocks regular written ended;
+      begun = free_begun wfo wfn efo efn wo wn eo en spec blocks items answer regular written;
+      broken = λ broken. absurd (true≢false (sym broken ∙ free_unbroken spec items wo wn eo en wfo wfn efo efn answer written));
+      write = free_fails spec items wo wn eo en wfo wfn efo efn answer written;
+      kinds = free_kind spec items wo wn eo en wfo wfn efo efn answer written;
+    }
