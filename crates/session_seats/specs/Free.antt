@@ -3,9 +3,10 @@ use Rattle.std.specs.Prelude.{ℕ, ◌-◌, ◌==◌, Bool, true, false, List, O
 use Rattle.std.specs.Option.{option_map_or}
 use Rattle.std.specs.Global.{Vec}
 use Rattle.session_machine.specs.declared.reply.Outcome.{Outcome}
-use Rattle.session_machine.specs.declared.reply.Outcome.TheVariants.{Launched, Waits, Failed}
+use Rattle.session_machine.specs.declared.reply.Outcome.TheVariants.{Launched, Waits}
 use Rattle.session_machine.specs.declared.reply.Reply.{Reply}
 use Rattle.session_machine.specs.declared.reply.HistItem.{HistItem}
+use Rattle.session_machine.specs.Machine.{is_failed}
 use Rattle.session_seats.specs.declared.free.BlockState.{BlockState}
 use Rattle.session_seats.specs.declared.free.BlockState.TheVariants.{GoesOn, Ended}
 use Rattle.session_seats.specs.Seats.{SeatOf}
@@ -13,11 +14,6 @@ use Rattle.session_seats.specs.Seats.{SeatOf}
 -- what came last in the seat, if anything did
 abbrev pub last_item : SeatOf → Option HistItem
 last_item seat = slice_get seat.items (length seat.items - 1)
-
--- the statement failed
-abbrev pub is_failed : Outcome → Bool
-is_failed (Failed fault) = true
-is_failed _ = false
 
 -- the statement waits
 abbrev pub is_wait : Outcome → Bool
