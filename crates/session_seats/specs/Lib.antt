@@ -1,3 +1,4 @@
 pub mod Seats
+pub mod Free
 pub mod Orders
 pub mod Inner

@@ -1,6 +1,6 @@
--- A session's own items, and that they are the history's.
-use Rattle.std.specs.Prelude.{◌≡◌, ℕ, ◌+◌, ◌<◌, nat_eq, nat_lt, Bool, true, false, List, [], ◌∷◌, ◌++◌}
-use Rattle.std.specs.List.{filter}
+-- A session's seat, which holds its own items, and that these are the history's.
+use Rattle.std.specs.Prelude.{◌≡◌, ℕ, ◌+◌, ◌<◌, nat_eq, nat_lt, Bool, true, false, List, [], ◌∷◌, ◌++◌, map}
+use Rattle.std.specs.List.{filter, range_with_len}
 use Rattle.session_machine.specs.declared.event.Event.{Event}
 use Rattle.session_machine.specs.declared.reply.Reply.{Reply}
 use Rattle.session_machine.specs.declared.reply.HistItem.{HistItem}
@@ -10,6 +10,14 @@ use Rattle.session_machine.specs.Machine.{session_of}
 pub record SeatOf : Type 0 where
   pub session : ℕ
   pub items : List HistItem
+
+-- the session's seat in which nothing stands
+abbrev pub empty_seat : ℕ → SeatOf
+empty_seat session = record { session = session; items = [] }
+
+-- an empty seat for the control session, which is session 0, and for each of so many sessions beside it, in the order of their numbers
+abbrev pub empty_seats : ℕ → List SeatOf
+empty_seats count = map empty_seat (range_with_len 0 (count + 1))
 
 -- the items of one session, in order
 abbrev pub items_of : ℕ → List HistItem → List HistItem

@@ -30,7 +30,7 @@ fn fits(history: &[HistItem<'_>], seats: &[Seat<'_>], session: u32) -> bool
     let mut wanted = true;
     for seat in seats {
         if seat.session() == session {
-            if !wanted || !same_items(history, seat.items(), session) {
+            if !wanted || !same_items(history, &seat.items, session) {
                 return false;
             }
             wanted = false;

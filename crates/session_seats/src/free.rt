@@ -1,4 +1,7 @@
 //! What the sessions of a free run are given, and how far they have come with it.
+ghost use Rattle.std.specs.Prelude.{◌≡◌};
+ghost use Rattle.std.specs.Option.{option_copied};
+ghost use Rattle.session_seats.specs.Free.{block_state, may_release, scripts_in, script_of};
 
 use crate::seat::Seat;
 use session_machine::Outcome;
@@ -24,8 +27,10 @@ pub enum BlockState {
 }
 
 /// How far the block has come that the seat's session was given last; it has ended where there was none.
-pub fn block_state(seat: &Seat<'_>) -> BlockState {
-    let Some(item) = seat.items().last() else {
+pub fn block_state(seat: &Seat<'_>) -> BlockState
+    ensures { result ≡ block_state seat.now }
+{
+    let Some(item) = seat.items.last() else {
         return BlockState::Ended { failed: false };
     };
     if item.reply.ended {
@@ -47,7 +52,9 @@ pub struct Runner<'s, 't> {
 }
 
 /// The script of a session; the control session has none.
-pub fn script_of(scripts: &[Vec<u32>], session: u32) -> Option<&[u32]> {
+pub fn script_of(scripts: &[Vec<u32>], session: u32) -> Option<&[u32]>
+    ensures { option_copied result ≡ script_of (scripts_in scripts.now) session }
+{
     match session {
         0 => None,
         number => match scripts.get(number as usize - 1) {
@@ -69,8 +76,10 @@ pub enum Tried {
 }
 
 /// Whether the seat's last event may have released something: all but a Launch and a wait may.
-pub fn may_release(seat: &Seat<'_>) -> bool {
-    match seat.items().last() {
+pub fn may_release(seat: &Seat<'_>) -> bool
+    ensures { result ≡ may_release seat.now }
+{
+    match seat.items.last() {
         Some(item) => !matches!(item.reply.outcome, Outcome::Launched | Outcome::Waits),
         None => false,
     }

@@ -44,7 +44,7 @@ pub fn admitted<G: Gate>(gate: &G, event: Event) -> bool {
 
 /// Tells the gate the seat's last event and its reply.
 pub fn tell<G: Gate>(gate: &G, seat: &Seat<'_>) {
-    if let Some(item) = seat.items().last() {
+    if let Some(item) = seat.items.last() {
         gate.answered(item.event, &item.reply);
     }
 }

@@ -1,5 +1,6 @@
 //! A session's seat: its own events and their replies.
-ghost use Rattle.std.specs.Prelude.{◌≡◌, ◌≤◌, []};
+ghost use Rattle.std.specs.Prelude.{◌≡◌, ◌≤◌, IfOk, IfErr};
+ghost use Rattle.session_seats.specs.Seats.{empty_seat, empty_seats};
 
 use crate::fault::ThreadFault;
 use session_machine::HistItem;
@@ -25,7 +26,7 @@ impl<'t> Model for Seat<'t> {
 impl<'t> Seat<'t> {
     /// The session's seat in which nothing stands. It takes no memory.
     pub fn new(alloc: Global, session: u32) -> Self
-        ensures { result ≡ record { session = session; items = [] } }
+        ensures { result ≡ empty_seat session }
     {
         Seat {
             session,
@@ -39,18 +40,13 @@ impl<'t> Seat<'t> {
     {
         self.session
     }
-
-    /// The session's events with their replies.
-    pub fn items(&self) -> &[HistItem<'t>]
-        ensures { result.now ≡ self.now.items }
-    {
-        self.items.as_slice()
-    }
 }
 
 /// A seat for the control session, which is session 0, and for each of so many sessions beside it.
 pub fn empty_seats<'t>(alloc: Global, sessions: u32) -> Result<Vec<Seat<'t>>, ThreadFault>
     requires { sessions ≤ 64 }
+    ensures ok { IfOk result (λ seats. seats.items ≡ empty_seats sessions) }
+    ensures err { IfErr result (λ fault. fault ≡ ThreadFault.Memory) }
 {
     let mut seats = Vec::new(alloc);
     for session in 0..sessions + 1 {

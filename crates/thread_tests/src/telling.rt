@@ -43,7 +43,7 @@ pub fn was_told(gate: &Telling, seats: &[Seat<'_>]) -> bool {
         return false;
     };
     let told = [&gate.first, &gate.second].map(|sign| sign.load(Ordering::SeqCst));
-    told == [sign_of_all(first.items()), sign_of_all(second.items())] && told[0] != told[1]
+    told == [sign_of_all(&first.items), sign_of_all(&second.items)] && told[0] != told[1]
 }
 
 fn tells<R: Threads + Wait + Sync>(

@@ -1,0 +1,47 @@
+-- How far the sessions of a free run have come, and what each is given.
+use Rattle.std.specs.Prelude.{ℕ, ◌-◌, ◌==◌, Bool, true, false, List, Option, None, length, map, slice_get, if◌then◌else◌}
+use Rattle.std.specs.Option.{option_map_or}
+use Rattle.std.specs.Global.{Vec}
+use Rattle.session_machine.specs.declared.reply.Outcome.{Outcome}
+use Rattle.session_machine.specs.declared.reply.Outcome.TheVariants.{Launched, Waits}
+use Rattle.session_machine.specs.declared.reply.Reply.{Reply}
+use Rattle.session_machine.specs.declared.reply.HistItem.{HistItem}
+use Rattle.session_machine.specs.Machine.{is_failed}
+use Rattle.session_seats.specs.declared.free.BlockState.{BlockState}
+use Rattle.session_seats.specs.declared.free.BlockState.TheVariants.{GoesOn, Ended}
+use Rattle.session_seats.specs.Seats.{SeatOf}
+
+-- what came last in the seat, if anything did
+abbrev pub last_item : SeatOf → Option HistItem
+last_item seat = slice_get seat.items (length seat.items - 1)
+
+-- the statement waits
+abbrev pub is_wait : Outcome → Bool
+is_wait Waits = true
+is_wait _ = false
+
+-- how far the block has come with this reply: it has ended, and failed or not, or it goes on, and waits or not
+abbrev pub state_at : Reply → BlockState
+state_at reply = if reply.ended then Ended (is_failed reply.outcome) else GoesOn (is_wait reply.outcome)
+
+-- how far the block has come that the session was given last; where nothing was done yet there is none, and it has ended
+abbrev pub block_state : SeatOf → BlockState
+block_state seat = option_map_or (λ (item : HistItem). state_at item.reply) (last_item seat) (Ended false)
+
+-- something may have been released with this outcome: any but that of a Launch or a wait
+abbrev pub releases : Outcome → Bool
+releases Launched = false
+releases Waits = false
+releases _ = true
+
+-- what came last in the seat may have released something
+abbrev pub may_release : SeatOf → Bool
+may_release seat = option_map_or (λ (item : HistItem). releases item.reply.outcome) (last_item seat) false
+
+-- the blocks of each script
+abbrev pub scripts_in : List (Vec ℕ) → List (List ℕ)
+scripts_in scripts = map (λ (script : Vec ℕ). script.items) scripts
+
+-- the script of a session: the first is that of session 1, and the control session, which is session 0, has none
+abbrev pub script_of : List (List ℕ) → ℕ → Option (List ℕ)
+script_of scripts session = if session == 0 then None else slice_get scripts (session - 1)
