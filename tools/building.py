@@ -53,21 +53,23 @@ def build_all(libraries, told=lambda done, of, crate, well: None):
     """Proves and builds these libraries, which stand on each other alone. What is built already isn't looked at. Returns whether all are built; of each that was tried, told
     learns which in turn it is, of how many, and whether it went well.
 
-    As many crates as there are processors are at work, first those that the others wait for longest; the others have the processors that these leave."""
+    First those that the others wait for longest. A crate waits for a place only where as many as there are processors are at work that are waited for as long as it is, or longer:
+    those that give way to it hold no place against it, and have the processors that it leaves."""
     lacking = [it for it in libraries if not all(each.is_built() for each in [it, *it.below()])]
     waits, memory = waits_for(lacking), 0.85 * rt.free()
     left, running, well, ended = sorted(lacking, key=lambda it: -waits[it.name]), {}, {}, queue.SimpleQueue()
     while left or running:
         ready = [it for it in left if all(well.get(low.name, low not in lacking) for low in it.below())]
-        longest = max([waits[it.name] for it in ready] + [until - time.monotonic() for _, until in running.values()], default=0)
+        longest = max([waits[it.name] for it in ready] + [until - time.monotonic() for _, until, _ in running.values()], default=0)
         for crate in ready:
             # (a check that keeps its work takes half of the memory that the gate reckons with, and its second job some six tenths more)
-            takes = 0.8 * rt.need(crate)
-            if not running or len(running) < rt.processors() and sum(it for it, _ in running.values()) + takes <= memory:
+            takes, spare = 0.8 * rt.need(crate), longest - waits[crate.name]
+            niceness = int(spare / STEP)
+            as_urgent = [it for _, _, it in running.values() if it <= niceness]
+            if not running or len(as_urgent) < rt.processors() and sum(it for it, _, _ in running.values()) + takes <= memory:
                 left.remove(crate)
-                spare = longest - waits[crate.name]
-                build_beside(crate, jobs_of(spare, len(ready) == 1 and not running), int(spare / STEP), ended)
-                running[crate.name] = takes, time.monotonic() + waits[crate.name]
+                build_beside(crate, jobs_of(spare, len(ready) == 1 and not running), niceness, ended)
+                running[crate.name] = takes, time.monotonic() + waits[crate.name], niceness
         if not running:
             # (what is left stands on a crate that isn't proved)
             return False
