@@ -4,13 +4,14 @@ import queue
 import re
 import threading
 import time
+from collections import namedtuple
 
 from kit import TOP, quietly, rt, rtlib
 
 # A crate gives way by one step of niceness for so many seconds that others are waited for longer than it is.
-STEP = 30
-# The seconds from which on a crate has two jobs, or one, in place of as many as all processors but one.
-SOME, MUCH = 30, 300
+STEP = 20
+# A crate has two jobs where no more seconds than these are to spare for it. A second job takes a quarter more processor time than one does, a third half as much again: each loads anew what is below.
+URGENT = 40
 
 
 def seconds():
@@ -20,9 +21,9 @@ def seconds():
 
 
 def waits_for(libraries):
-    """Returns for how many seconds each of these crates is waited for, by two jobs each: its own, and those of the longest chain of crates above it."""
+    """Returns for how many seconds each of these crates is waited for: its own, by one job or two, and those of the longest chain of crates above it."""
     known = seconds()
-    own = {it.name: known.get(it.name, it.count(rb"\n") / 5) / 2 for it in libraries}
+    own = {it.name: known.get(it.name, it.count(rb"\n") / 5) / 1.5 for it in libraries}
     behind = dict.fromkeys(own, 0)
     for crate in reversed(libraries):
         for low in (it.name for it in crate.below() if it.name in own):
@@ -34,42 +35,39 @@ def build_beside(crate, jobs, niceness, ended):
     """Builds a library in a thread of its own, which gives way to others by its niceness, as what it starts does."""
 
     def build():
-        os.setpriority(os.PRIO_PROCESS, threading.get_native_id(), min(niceness, 19))
+        os.setpriority(os.PRIO_PROCESS, threading.get_native_id(), niceness)
         ended.put((crate, quietly(crate, lambda it: it.build_rlib(["--jobs", str(jobs)], anew=False))))
 
     threading.Thread(target=build, daemon=True).start()
 
 
-def jobs_of(spare, is_alone):
-    """Returns how many jobs a crate has that may end so many seconds later than the one that is waited for longest: each one more loads anew what is below, and is worth it
-    where others wait."""
-    lanes = rt.processors()
-    if is_alone:
-        return lanes
-    return max(2, lanes - 1) if spare < SOME else 2 if spare < MUCH else 1
+# A crate at work: the memory that it takes, when all that waits for it may have ended, how far it gives way, and its jobs.
+Work = namedtuple("Work", "takes until niceness jobs")
 
 
 def build_all(libraries, told=lambda done, of, crate, well: None):
     """Proves and builds these libraries, which stand on each other alone. What is built already isn't looked at. Returns whether all are built; of each that was tried, told
     learns which in turn it is, of how many, and whether it went well.
 
-    First those that the others wait for longest. A crate waits for a place only where as many as there are processors are at work that are waited for as long as it is, or longer:
-    those that give way to it hold no place against it, and have the processors that it leaves."""
+    First those that the others wait for longest. One begins where fewer jobs than there are processors, and one more, are at work that are waited for as long as it is, or longer: those
+    that give way to it hold no place against it, and have the processors that it leaves."""
     lacking = [it for it in libraries if not all(each.is_built() for each in [it, *it.below()])]
     waits, memory = waits_for(lacking), 0.85 * rt.free()
     left, running, well, ended = sorted(lacking, key=lambda it: -waits[it.name]), {}, {}, queue.SimpleQueue()
     while left or running:
         ready = [it for it in left if all(well.get(low.name, low not in lacking) for low in it.below())]
-        longest = max([waits[it.name] for it in ready] + [until - time.monotonic() for _, until, _ in running.values()], default=0)
+        longest = max([waits[it.name] for it in ready] + [it.until - time.monotonic() for it in running.values()], default=0)
         for crate in ready:
             # (a check that keeps its work takes half of the memory that the gate reckons with, and its second job some six tenths more)
             takes, spare = 0.8 * rt.need(crate), longest - waits[crate.name]
-            niceness = int(spare / STEP)
-            as_urgent = [it for _, _, it in running.values() if it <= niceness]
-            if not running or len(as_urgent) < rt.processors() and sum(it for it, _, _ in running.values()) + takes <= memory:
+            niceness = min(int(spare / STEP), 19)
+            places = rt.processors() + 1 - sum(it.jobs for it in running.values() if it.niceness <= niceness)
+            if not running or places > 0 and sum(it.takes for it in running.values()) + takes <= memory:
                 left.remove(crate)
-                build_beside(crate, jobs_of(spare, len(ready) == 1 and not running), niceness, ended)
-                running[crate.name] = takes, time.monotonic() + waits[crate.name], niceness
+                is_alone = len(ready) == 1 and not running
+                jobs = rt.processors() if is_alone else min(places, 2) if spare < URGENT else 1
+                build_beside(crate, jobs, niceness, ended)
+                running[crate.name] = Work(takes, time.monotonic() + waits[crate.name], niceness, jobs)
         if not running:
             # (what is left stands on a crate that isn't proved)
             return False
