@@ -9,7 +9,7 @@ from collections import namedtuple
 from kit import TOP, quietly, rt, rtlib
 
 # A crate gives way by one step of niceness for so many seconds that others are waited for longer than it is.
-STEP = 20
+STEP = 45
 # A crate has two jobs where no more seconds than these are to spare for it. A second job takes a quarter more processor time than one does, a third half as much again: each loads anew what is below.
 URGENT = 40
 
