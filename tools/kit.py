@@ -281,9 +281,9 @@ def line_of(crate):
 
 
 def lines_tried():
-    """Returns the lines of wrong_bodies.txt, by crate."""
-    text = rtlib.text_of(TRIED) or ""
-    return {it.partition(":")[0]: it for it in text.splitlines() if it and not it.startswith("#")}
+    """Returns the lines of wrong_bodies.txt, by crate: of crates that are there."""
+    lines = {it.partition(":")[0]: it for it in (rtlib.text_of(TRIED) or "").splitlines()}
+    return {name: it for name, it in lines.items() if os.path.isdir(f"{TOP}/crates/{name}/wrong_bodies")}
 
 
 def untried(among):
