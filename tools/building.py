@@ -6,10 +6,10 @@ import threading
 import time
 from collections import namedtuple
 
-from kit import TOP, quietly, rt, rtlib
+from kit import TOP, Stated, quietly, rt, rtlib
 
 # A crate gives way by one step of niceness for so many seconds that others are waited for longer than it is.
-STEP = 45
+STEP = 60
 # A crate has two jobs where no more seconds than these are to spare for it. A second job takes a quarter more processor time than one does, a third half as much again: each loads anew what is below.
 URGENT = 40
 
@@ -59,7 +59,7 @@ def build_all(libraries, told=lambda done, of, crate, well: None):
         longest = max([waits[it.name] for it in ready] + [it.until - time.monotonic() for it in running.values()], default=0)
         for crate in ready:
             # (a check that keeps its work takes half of the memory that the gate reckons with, and its second job some six tenths more)
-            takes, spare = 0.8 * rt.need(crate), longest - waits[crate.name]
+            takes, spare = (1 if isinstance(crate, Stated) else 0.8) * rt.need(crate), longest - waits[crate.name]
             niceness = min(int(spare / STEP), 19)
             places = rt.processors() + 1 - sum(it.jobs for it in running.values() if it.niceness <= niceness)
             if not running or places > 0 and sum(it.takes for it in running.values()) + takes <= memory:

@@ -57,8 +57,20 @@ class Kept(rt.Crate):
         return self.ci(["--jobs", str(jobs)], tests=True)
 
 
+class Stated(rt.Crate):
+    """A crate whose library holds what others may cite of it, and not how that is proved, so that what stands on it loads less; what its check worked out isn't kept for
+    the next one. By more jobs than two a check is sooner that keeps its work, and the library then holds all."""
+
+    def words(self, flags, tests=False, keeps=True, as_source=False):
+        several = "--jobs" in flags and int(flags[flags.index("--jobs") + 1]) > 2
+        more = [] if self.is_program else rtlib.KEPT if several else ["--statements"]
+        return [*super().words(flags, tests, keeps, as_source), *more]
+
+
 def crates(kind=rt.Crate):
     """Returns all crates, lowest first."""
+    if kind is Stated:
+        rtlib.libraries_keep = lambda: False
     if kind is Kept:
         # (the gate refuses the word that a check over kept work ends its last line with)
         rtlib.VERDICT = re.compile(rtlib.VERDICT.pattern.replace("statements=trusted", "statements=trusted( incremental=trusted)?"), re.M)

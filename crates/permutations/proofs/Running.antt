@@ -4,8 +4,8 @@ use Rattle.std.specs.Prelude.{IfSome}
 use Rattle.session_machine.specs.declared.event.Mode.{Mode}
 use Rattle.session_machine.specs.declared.event.Mode.TheVariants.{Directed}
 use Rattle.session_machine.specs.Machine.{Machine, Blocks, opening}
-use Rattle.session_machine.specs.Engine.{Engine, Run, opened}
-use Rattle.session_core.specs.Engines.{IsOf, is_quiet_in}
+use Rattle.session_machine.specs.Engine.{Engine, Run, is_quiet_in, opened}
+use Rattle.session_core.specs.Engines.{IsOf}
 use Rattle.spec_parser.specs.Trees.{EntryTree, SpecTree}
 use Rattle.permutation_plans.specs.Regular.{Fits, IsRegular}
 use Rattle.spec_files.specs.Inner.Resting.{IsAtRest}

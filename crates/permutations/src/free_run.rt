@@ -33,11 +33,13 @@ fn regular_run<'a, 't>(
     ensures faults { IfErr result (λ e. is_of_run e ≡ true) }
 {
     let engine = closed.state();
-    if free_fits(alloc, spec, engine.history())? {
-        Ok(closed)
-    } else {
-        Err(RunFault::ScheduleBroken)
-    }
+    let refused = match free_fits(alloc, spec, engine.history()) {
+        Ok(true) => return Ok(closed),
+        Ok(false) => RunFault::ScheduleBroken,
+        Err(fault) => RunFault::from(fault),
+    };
+    closed.end();
+    Err(refused)
 }
 
 /// The closed free run of a spec, or `ScheduleBroken` where its history is none of a free run of the spec.

@@ -31,7 +31,9 @@ pub fn run_freely<W: Sink, N: Sink, G: Gate, R: Threads + Wait + Sync>(
 {
     let closed = free_run_of(rt, alloc, spec, blocks, gate)?;
     let engine = closed.state();
-    write_free(alloc, spec, engine.history(), out, notes)
+    let written = write_free(alloc, spec, engine.history(), out, notes);
+    closed.end();
+    written
 }
 
 /// Reads a spec file and runs it freely: the setups one after the other in the calling thread, then each session's steps and

@@ -2,7 +2,7 @@
 
 ghost use Rattle.std.specs.Prelude.{◌≡◌, ◌≢◌, ◌||◌, true, Err, map, IsTrue, IfOk, IfErr, IsErrOf};
 ghost use Rattle.sql_blocks.specs.Blocks.{blocks_of};
-ghost use Rattle.session_core.specs.Engines.{is_quiet_in};
+ghost use Rattle.session_machine.specs.Engine.{is_quiet_in};
 ghost use Rattle.spec_parser.specs.Trees.{entry_view, spec_view};
 ghost use Rattle.spec_parser.specs.Stands.{Stands};
 ghost use Rattle.permutation_plans.specs.Regular.{IsRegular};
@@ -92,6 +92,8 @@ pub fn run_permutation<W: Sink, N: Sink, G: Gate, R: Threads + Wait + Sync>(
     ensures kinds { IfErr result (λ e. is_of_one e ≡ true) }
 {
     let closed = run_of(rt, alloc, spec, blocks, entries, gate)?;
-    write_run(alloc, spec, entries, &closed, out, notes)?;
+    let written = write_run(alloc, spec, entries, &closed, out, notes);
+    closed.end();
+    written?;
     Ok(())
 }

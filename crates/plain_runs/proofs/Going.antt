@@ -16,11 +16,11 @@ use Rattle.session_machine.specs.Machine.{Machine, Blocks, Next, next, opening, 
 use Rattle.session_machine.specs.Engine.{Engine, EngineAnswered, Run, engine_after, engine_answered, engine_step, fault_of, opened}
 use Rattle.session_core.specs.Engines.{IsOf}
 use Rattle.session_seats.specs.declared.fault.ThreadFault.TheVariants.{Engine as Engine_fault}
-use Rattle.session_threads.specs.Acts.{Acted}
+use Rattle.session_seats.specs.Acts.{Acted}
 use Rattle.session_seats.specs.Orders.{Orders, IsOrder}
-use Rattle.session_threads.specs.Inner.Shared.{IsOrderly}
+use Rattle.session_crews.specs.Inner.Shared.{IsOrderly}
 use Rattle.session_seats.specs.Seats.{SeatOf, with_item}
-use Rattle.session_threads.proofs.Ordering as threads
+use Rattle.session_crews.proofs.Ordering as threads
 use Rattle.spec_parser.specs.Trees.{EntryTree, SpecTree}
 use Rattle.report_lines.specs.Due.{Launches}
 use Rattle.permutation_plans.specs.Launches.{launches, due_after, due_in}

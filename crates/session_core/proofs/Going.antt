@@ -9,11 +9,10 @@ use Rattle.session_machine.specs.declared.reply.Reply.{Reply}
 use Rattle.session_machine.specs.declared.reply.HistItem.{HistItem}
 use Rattle.session_machine.specs.declared.fault.Refusal.{Refusal}
 use Rattle.session_machine.specs.Machine.{Machine, Blocks, Next, next, opening, visible, visible_for, visible_to}
-use Rattle.session_machine.specs.Engine.{Engine, IsLegal, Run}
+use Rattle.session_machine.specs.Engine.{Engine, Goes, IsDue, IsLegal, Run}
 use Rattle.session_core.specs.Inner.Answers.{answered}
 use Rattle.session_machine.specs.Sound.{IsSoundMachine, StaysSound}
 use Rattle.session_core.proofs.Replaying.{answered_ok, answered_err, goes_on}
-use Rattle.session_core.specs.Engines.{Goes, IsDue}
 
 -- what is known of a machine and a history that leads to it
 abbrev pub Keeps : Blocks → ℕ → Mode → List HistItem → Machine → Type 0

@@ -6,13 +6,13 @@ ghost use Rattle.sql_values.specs.declared.value.Value.{Value as SqlValue};
 ghost use Rattle.row_versions.specs.Log.{empty_content};
 ghost use Rattle.session_machine.specs.declared.reply.Reply.{Reply as ReplyFacts};
 ghost use Rattle.session_machine.specs.Machine.{opening};
-ghost use Rattle.session_machine.specs.Engine.{EngineAnswered, IsLegal, Run, engine_after, fault_of, opened, spent_engine, turn_of, visible_in};
-ghost use Rattle.session_core.specs.Engines.{IsDue, IsOf, is_quiet_in};
+ghost use Rattle.session_machine.specs.Engine.{EngineAnswered, IsDue, IsLegal, Run, engine_after, fault_of, is_quiet_in, opened, spent_engine, turn_of, visible_in};
+ghost use Rattle.session_core.specs.Engines.{IsOf};
 
 use crate::live::Live;
 use row_versions::Versions;
 use session_laws::laws::stays_sound;
-use session_machine::{EngineFault, Event, HistItem, Mode, Refusal, Reply, Turn};
+use session_machine::{Answers, Engine, EngineFault, Event, HistItem, Mode, Refusal, Reply, Turn};
 use sql_blocks::{Block, same_blocks};
 use sql_values::Row;
 use std::alloc::{AllocError, Global};
@@ -37,7 +37,7 @@ impl<'a, 't, V: Versions> Model for EngineState<'a, 't, V> {
     ghost use Rattle.session_machine.specs.Machine.{opening};
     ghost use Rattle.session_machine.specs.Engine.{Engine, IsLegal, Run};
     ghost use Rattle.session_machine.specs.Sound.{IsSoundMachine};
-    ghost use Rattle.session_core.specs.Inner.TreeCodes.{tree_code};
+    ghost use Rattle.session_machine.specs.Inner.TreeCodes.{tree_code};
     ghost use Rattle.std.specs.Coded.{codes};
 
     ghost Value = { Engine };
@@ -243,6 +243,9 @@ impl<'a, 't, V: Versions> EngineState<'a, 't, V> {
         !self.spent && self.live.turn().is_none()
     }
 
+    /// Lets the engine go, as a drop does. A crate that drops one proves anew how each of its parts is dropped.
+    pub fn end(self) {}
+
     /// What a SELECT of the session that begins now would show of the table: in the middle of a statement also what
     /// that has written so far; for a session without a transaction, or with one that has failed, what is committed.
     /// `None` stands for no such table.
@@ -259,5 +262,31 @@ impl<'a, 't, V: Versions> EngineState<'a, 't, V> {
             Ok(Err(refusal)) => Err(as_fault(refusal)),
             Err(_) => Err(EngineFault::Memory),
         }
+    }
+}
+
+impl<'a, 't, V: Versions> Engine for EngineState<'a, 't, V> {
+    ghost engine = { λ e. e };
+
+    fn events(&self) -> usize {
+        self.history.len()
+    }
+
+    fn sessions(&self) -> u32 {
+        self.count
+    }
+
+    fn turn(&self) -> Turn {
+        EngineState::turn(self)
+    }
+
+    fn quiet(&self) -> bool {
+        EngineState::quiet(self)
+    }
+}
+
+impl<'a, 't, V: Versions> Answers<'t> for EngineState<'a, 't, V> {
+    fn ask(&mut self, event: Event) -> Result<Reply<'t>, EngineFault> {
+        self.act(event)
     }
 }

@@ -7,7 +7,7 @@ ghost use Rattle.row_versions.specs.Log.{empty_content};
 ghost use Rattle.session_machine.specs.Sound.{IsSoundMachine};
 ghost use Rattle.session_machine.specs.Machine.{next, opening, visible, with_session};
 ghost use Rattle.session_core.specs.Inner.Answers.{answered};
-ghost use Rattle.session_core.specs.Engines.{Goes};
+ghost use Rattle.session_machine.specs.Engine.{Goes};
 
 use iso_lexer::Name;
 use row_versions::Versions;

@@ -9,7 +9,7 @@ ghost use Rattle.session_machine.specs.Running.{run_stmt};
 ghost use Rattle.session_machine.specs.Sound.{IsSoundMachine};
 ghost use Rattle.session_core.specs.Inner.Answers.{answered};
 ghost use Rattle.session_machine.specs.Machine.{Machine, after_end, after_stmt, around, finished, closed_at_end, is_failed, is_still_blocked, next, with_session};
-ghost use Rattle.session_core.specs.Engines.{Goes};
+ghost use Rattle.session_machine.specs.Engine.{Goes};
 
 use crate::block_stmts::{StmtAt, stmt_at};
 use crate::live::Live;

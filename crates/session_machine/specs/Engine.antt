@@ -1,5 +1,5 @@
 -- Histories of the machine, and an engine that keeps one.
-use Rattle.std.specs.Prelude.{◌≡◌, ℕ, List, [], ◌∷◌, ◌++◌, Option, Some, None, Result, Ok, Err}
+use Rattle.std.specs.Prelude.{◌≡◌, ℕ, Bool, false, List, [], ◌∷◌, ◌++◌, Option, Some, None, Result, Ok, Err}
 use Rattle.sql_values.specs.declared.value.Value.{Value}
 use Rattle.session_machine.specs.declared.event.Event.{Event}
 use Rattle.session_machine.specs.declared.event.Mode.{Mode}
@@ -11,7 +11,7 @@ use Rattle.session_machine.specs.declared.fault.Refusal.{Refusal}
 use Rattle.session_machine.specs.declared.fault.Refusal.TheVariants.{Busy, NotYourTurn, StillBlocked, Idle, NoSession, BlockNotAllowed}
 use Rattle.session_machine.specs.declared.fault.EngineFault.{EngineFault}
 use Rattle.session_machine.specs.declared.fault.EngineFault.TheVariants.{Busy as BusyFault, NotYourTurn as TurnFault, StillBlocked as BlockedFault, Idle as IdleFault, Spent as SpentFault, NoSession as SessionFault, BlockNotAllowed as BlockFault}
-use Rattle.session_machine.specs.Machine.{Machine, Blocks, Next, next, opening, turn_in, visible}
+use Rattle.session_machine.specs.Machine.{Machine, Blocks, Next, is_quiet, next, opening, turn_in, visible}
 
 -- the item is the machine's next one, and leads on to the state
 abbrev pub Follows : Blocks → Mode → Machine → HistItem → Machine → Type 0
@@ -83,3 +83,16 @@ visible_in (Some m) session name = shown (visible m session name) where
   shown : Result (Option (List (List Value))) Refusal → Result (Option (List (List Value))) EngineFault
   shown (Ok rows) = Ok rows
   shown (Err refusal) = Err (fault_of refusal)
+
+-- the machine refuses the event nowhere
+abbrev pub Goes : Blocks → Mode → Machine → Event → Type 0
+Goes blocks mode m event = (after : Next) × (next blocks mode m event ≡ Ok after)
+
+-- the engine isn't spent, and its machine doesn't refuse the event
+abbrev pub IsDue : Engine → Event → Type 0
+IsDue e event = (m : Machine) × (e.machine ≡ Some m) × Goes e.blocks e.mode m event
+
+-- nothing goes on by itself; of an engine that is spent that isn't said
+abbrev pub is_quiet_in : Option Machine → Bool
+is_quiet_in None = false
+is_quiet_in (Some m) = is_quiet m

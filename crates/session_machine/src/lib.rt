@@ -2,6 +2,7 @@
 #![tactic(auto)]
 
 mod copies;
+mod engine;
 mod event;
 mod fault;
 mod reply;
@@ -9,6 +10,7 @@ mod running;
 mod same;
 mod session;
 
+pub use engine::{Answers, Engine};
 pub use event::{Event, Mode, Order, Turn};
 pub use fault::{EngineFault, KeyName, Refusal, StmtFault};
 pub use reply::{HistItem, Outcome, Reply};

@@ -24,9 +24,9 @@ is_wait _ = false
 abbrev pub state_at : Reply → BlockState
 state_at reply = if reply.ended then Ended (is_failed reply.outcome) else GoesOn (is_wait reply.outcome)
 
--- how far the block has come that the session was given last; where nothing was done yet there is none, and it has ended
-abbrev pub block_state : SeatOf → BlockState
-block_state seat = option_map_or (λ (item : HistItem). state_at item.reply) (last_item seat) (Ended false)
+-- how far the block has come that a session was given last, by what came last in its seat; where nothing was done yet there is none, and it has ended
+abbrev pub block_state : Option HistItem → BlockState
+block_state last = option_map_or (λ (item : HistItem). state_at item.reply) last (Ended false)
 
 -- something may have been released with this outcome: any but that of a Launch or a wait
 abbrev pub releases : Outcome → Bool
@@ -34,9 +34,9 @@ releases Launched = false
 releases Waits = false
 releases _ = true
 
--- what came last in the seat may have released something
-abbrev pub may_release : SeatOf → Bool
-may_release seat = option_map_or (λ (item : HistItem). releases item.reply.outcome) (last_item seat) false
+-- what came last in a seat may have released something
+abbrev pub may_release : Option HistItem → Bool
+may_release last = option_map_or (λ (item : HistItem). releases item.reply.outcome) last false
 
 -- the blocks of each script
 abbrev pub scripts_in : List (Vec ℕ) → List (List ℕ)

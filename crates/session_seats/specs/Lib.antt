@@ -1,4 +1,5 @@
 pub mod Seats
+pub mod Acts
 pub mod Free
 pub mod Orders
 pub mod Inner

@@ -3,8 +3,7 @@ ghost use Rattle.std.specs.Prelude.{◌≡◌};
 ghost use Rattle.std.specs.Option.{option_copied};
 ghost use Rattle.session_seats.specs.Free.{block_state, may_release, scripts_in, script_of};
 
-use crate::seat::Seat;
-use session_machine::Outcome;
+use session_machine::{HistItem, Outcome};
 
 /// The blocks of a free run, by their numbers.
 #[derive(Drop)]
@@ -26,11 +25,11 @@ pub enum BlockState {
     Ended { failed: bool },
 }
 
-/// How far the block has come that the seat's session was given last; it has ended where there was none.
-pub fn block_state(seat: &Seat<'_>) -> BlockState
-    ensures { result ≡ block_state seat.now }
+/// How far the block has come that a session was given last, by what came last in its seat; it has ended where there was none.
+pub fn block_state(last: Option<&HistItem<'_>>) -> BlockState
+    ensures { result ≡ block_state (option_copied last.entry) }
 {
-    let Some(item) = seat.items.last() else {
+    let Some(item) = last else {
         return BlockState::Ended { failed: false };
     };
     if item.reply.ended {
@@ -46,8 +45,8 @@ pub fn block_state(seat: &Seat<'_>) -> BlockState
 
 /// A session's seat, and the blocks that its thread runs.
 #[derive(Drop)]
-pub struct Runner<'s, 't> {
-    pub seat: &'s mut Seat<'t>,
+pub struct Runner<'s, S> {
+    pub seat: &'s mut S,
     pub script: &'s [u32],
 }
 
@@ -75,11 +74,11 @@ pub enum Tried {
     Over,
 }
 
-/// Whether the seat's last event may have released something: all but a Launch and a wait may.
-pub fn may_release(seat: &Seat<'_>) -> bool
-    ensures { result ≡ may_release seat.now }
+/// Whether what came last in a seat may have released something: all but a Launch and a wait may.
+pub fn may_release(last: Option<&HistItem<'_>>) -> bool
+    ensures { result ≡ may_release (option_copied last.entry) }
 {
-    match seat.items.last() {
+    match last {
         Some(item) => !matches!(item.reply.outcome, Outcome::Launched | Outcome::Waits),
         None => false,
     }

@@ -1,6 +1,5 @@
 //! Who admits the events.
-use crate::seat::Seat;
-use session_machine::{Event, Reply};
+use session_machine::{Event, HistItem, Reply};
 use std::thread::yield_now;
 
 /// Is asked before each event and told each reply, by the thread that does the event and without the lock.
@@ -42,9 +41,9 @@ pub fn admitted<G: Gate>(gate: &G, event: Event) -> bool {
     false
 }
 
-/// Tells the gate the seat's last event and its reply.
-pub fn tell<G: Gate>(gate: &G, seat: &Seat<'_>) {
-    if let Some(item) = seat.items.last() {
+/// Tells the gate the event that came last in a seat, and its reply.
+pub fn tell<G: Gate>(gate: &G, last: Option<&HistItem<'_>>) {
+    if let Some(item) = last {
         gate.answered(item.event, &item.reply);
     }
 }

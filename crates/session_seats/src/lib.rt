@@ -11,6 +11,7 @@ mod gate;
 mod ordering;
 mod post;
 mod seat;
+mod seat_at;
 
 pub use bells::Bells;
 pub use crew::{THREAD_STACK, start_thread};
@@ -20,4 +21,5 @@ pub use free::{BlockState, FreePlan, Runner, Tried, block_state, may_release, sc
 pub use gate::{Gate, OpenGate, admitted, tell};
 pub use ordering::Ordering;
 pub use post::{Instruction, Post};
-pub use seat::{Seat, empty_seats};
+pub use seat::{Seat, empty_seats, leave_seats};
+pub use seat_at::SeatAt;

@@ -1,7 +1,6 @@
 //! Where a session's thread is, and what it is to do.
 
 use crate::bells::Bells;
-use crate::seat::Seat;
 use session_machine::Event;
 
 /// What a thread is to do.
@@ -15,7 +14,7 @@ pub enum Instruction {
 
 /// A session's seat, and the bells that its thread sleeps at and rings.
 #[derive(Drop)]
-pub struct Post<'s, 't> {
+pub struct Post<'s, S> {
     pub bells: &'s Bells,
-    pub seat: &'s mut Seat<'t>,
+    pub seat: &'s mut S,
 }

@@ -1,3 +1,1 @@
-pub mod Ordering
 pub mod Sending
-pub mod FreeSending

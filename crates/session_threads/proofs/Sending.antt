@@ -1,4 +1,4 @@
--- What stands behind the lock of a run may cross threads, where its store may.
+-- An engine may cross threads, where its store may.
 use denote.Ref.{NamedLft}
 use denote.RattleType.{RattleType}
 use denote.Param.Send.{IsSend, AllSend, recorded_send, struct_send, view_send, sendable}
@@ -6,18 +6,12 @@ use denote.Struct.Declared.{shape as struct_shape}
 use Rattle.std.proofs.Crossing.{crosses}
 use Rattle.sql_blocks.proofs.Sending.{block_sync}
 use Rattle.row_versions.specs.declared.versions.Versions as Versions
-use Rattle.session_machine.proofs.event.Event.TheSendSync.{the_send as event_send}
 use Rattle.session_machine.proofs.reply.HistItem.TheSendSync.{the_send as item_send}
 use Rattle.session_core.proofs.live.Live.TheSendSync.{the_send as live_send}
 use Rattle.session_core.specs.contracts.engine.EngineState as EngineState
 use Rattle.session_core.specs.contracts.engine.EngineState.TheInside as EngineInside
-use Rattle.session_seats.specs.declared.ordering.Ordering as Ordering
-use Rattle.session_threads.specs.declared.driver.Driver as Driver
-use Rattle.session_threads.specs.contracts.shared.Shared as Shared
-use Rattle.session_threads.specs.contracts.shared.Shared.TheInside as SharedInside
-use Rattle.session_seats.proofs.fault.ThreadFault.TheSendSync.{the_send as fault_send}
 
--- what is inside of an engine, and then the engine
+-- what is inside, and then as contracts see it
 inside_send : (κ λ' : NamedLft) (V : RattleType) (v : Versions.Ghosts V.Denot) → IsSend V → IsSend (EngineInside.the_row κ λ' V v)
 inside_send κ λ' V v s =
     let T = EngineInside.the_type κ λ' V v in
@@ -29,24 +23,3 @@ inside_send κ λ' V v s =
 
 pub engine_send : (κ λ' : NamedLft) (V : RattleType) (v : Versions.Ghosts V.Denot) → IsSend V → IsSend (EngineState.the_row κ λ' V v)
 engine_send κ λ' V v s = view_send _ _ _ _ _ (inside_send κ λ' V v s)
-
--- what stands behind the lock
-shared_inside_send : (κ λ' : NamedLft) (V O D : RattleType) (v : Versions.Ghosts V.Denot) (o : Ordering.Ghosts O.Denot) (d : Driver.Ghosts D.Denot V.Denot)
-    → IsSend V → IsSend O → IsSend D → IsSend (SharedInside.the_row κ λ' V O D v o d)
-shared_inside_send κ λ' V O D v o d s t u =
-    let T = SharedInside.the_type κ λ' V O D v o d in
-    let all : AllSend (struct_shape T).fields = (
-      search (sendable, crosses, engine_send) depth 60,
-      (
-        u,
-        (
-          search (sendable, crosses) depth 60,
-          (search (sendable, crosses, event_send) depth 60, (search sendable depth 60, (search (sendable, crosses, fault_send) depth 60, (search (sendable, crosses) depth 60, tt)))),
-        ),
-      ),
-    ) in
-    recorded_send _ _ _ T.to_one (struct_send (struct_shape T) all)
-
-pub shared_send : (κ λ' : NamedLft) (V O D : RattleType) (v : Versions.Ghosts V.Denot) (o : Ordering.Ghosts O.Denot) (d : Driver.Ghosts D.Denot V.Denot)
-    → IsSend V → IsSend O → IsSend D → IsSend (Shared.the_row κ λ' V O D v o d)
-shared_send κ λ' V O D v o d s t u = view_send _ _ _ _ _ (shared_inside_send κ λ' V O D v o d s t u)

@@ -1,4 +1,2 @@
 pub mod Seats
-pub mod Acts
 pub mod Closing
-pub mod Inner

@@ -7,7 +7,7 @@ ghost use Rattle.session_threads.specs.Seats.{AllFit, IsMisfit};
 use row_versions::Versions;
 use session_core::EngineState;
 use session_machine::Mode;
-use session_seats::{Seat, ThreadFault, first_misfit};
+use session_seats::{Seat, ThreadFault, first_misfit, leave_seats};
 use sql_blocks::Block;
 use std::marker::Model;
 
@@ -22,7 +22,7 @@ pub struct Closed<'a, 't, V: Versions> {
 impl<'a, 't, V: Versions> Model for Closed<'a, 't, V> {
     ghost use Rattle.session_threads.specs.Closing.{ClosedOf};
     ghost use Rattle.session_threads.specs.Seats.{AllFit};
-    ghost use Rattle.session_core.specs.Inner.TreeCodes.{tree_code};
+    ghost use Rattle.session_machine.specs.Inner.TreeCodes.{tree_code};
     ghost use Rattle.std.specs.Coded.{codes};
 
     ghost Value = { ClosedOf };
@@ -50,6 +50,12 @@ impl<'a, 't, V: Versions> Closed<'a, 't, V> {
         let _ = &self.state;
         self.seats.as_slice()
     }
+
+    /// Lets the run go, as a drop does. A crate that drops one proves anew how each of its parts is dropped.
+    pub fn end(self) {
+        self.state.end();
+        leave_seats(self.seats);
+    }
 }
 
 /// Puts the state and the seats together, where there is one seat for each session, and its items are the history's.
@@ -76,7 +82,11 @@ fn closed_unless<'a, 't, V: Versions>(
     ensures err { IfErr result (λ fault. refused ≡ Some fault) }
 {
     match refused {
-        Some(fault) => Err(fault),
+        Some(fault) => {
+            state.end();
+            leave_seats(seats);
+            Err(fault)
+        }
         None => Ok(Closed { state, seats }),
     }
 }

@@ -5,8 +5,10 @@ ghost use Rattle.session_machine.specs.declared.event.Order.{Order as Given};
 
 use row_versions::Versions;
 use session_core::EngineState;
+use session_crews::Drives;
 use session_machine::Order;
 use std::alloc::{AllocError, Global};
+use std::marker::PhantomData;
 
 /// Says what is to be done next whenever an engine is quiet, by what the engine has answered so far.
 pub trait Driver<V: Versions> {
@@ -43,4 +45,38 @@ impl<V: Versions, D: Driver<V>> Driver<V> for &mut D {
     }
 
     ghost goes_on = { λ d items more. D.goes_on d.now items more };
+}
+
+/// A driver of engines over such a store, as one of any of these engines.
+#[derive(Drop)]
+pub struct ByDriver<V: Versions, D: Driver<V>> {
+    driver: D,
+    store: PhantomData<V>,
+}
+
+impl<V: Versions, D: Driver<V>> ByDriver<V, D> {
+    pub fn new(driver: D) -> Self
+        ensures { result.driver ≡ driver }
+    {
+        ByDriver {
+            driver,
+            store: PhantomData,
+        }
+    }
+}
+
+impl<'a, 't, V: Versions, D: Driver<V>> Drives<EngineState<'a, 't, V>> for ByDriver<V, D> {
+    ghost order_after = { λ d items. D.order_after d.driver items };
+
+    ghost follows = { λ d items. D.follows d.driver items };
+
+    fn next(
+        &mut self,
+        alloc: Global,
+        engine: &EngineState<'a, 't, V>,
+    ) -> Result<Order, AllocError> {
+        self.driver.next(alloc, engine)
+    }
+
+    ghost goes_on = { λ d items more. D.goes_on d.driver items more };
 }

@@ -7,8 +7,6 @@ mod closing;
 mod directed;
 mod driver;
 mod free;
-mod free_shared;
-mod shared;
 
 pub use acting::act;
 pub use closing::{Closed, close};

@@ -8,8 +8,8 @@ use Rattle.permutation_plans.specs.FreeRegular.{FreeFits}
 use Rattle.permutations.proofs.FreeRunning.{free_regular}
 use Rattle.permutations.proofs.free_run.regular_run.Goals as goal
 
-pub returns-then-branch-clause-ok : goal.returns-then-branch-clause-ok
-returns-then-branch-clause-ok c =
+pub returns-in-Ok-true-clause-ok : goal.returns-in-Ok-true-clause-ok
+returns-in-Ok-true-clause-ok c =
     let spec = spec_view c.args.spec.now in
     let same = c.state-engine.ensures in
     let fits : FreeFits (free_launches spec) c.history.result.now = search rules in (

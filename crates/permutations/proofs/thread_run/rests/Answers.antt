@@ -1,6 +1,6 @@
 use Rattle.std.proofs.Common.{◌≡◌, subst, sym, true}
 use Rattle.session_machine.specs.Engine.{Engine}
-use Rattle.session_core.specs.Engines.{is_quiet_in}
+use Rattle.session_machine.specs.Engine.{is_quiet_in}
 use Rattle.spec_files.specs.Inner.Resting.{IsAtRest}
 use Rattle.permutations.proofs.Running.{rests}
 use Rattle.permutations.proofs.thread_run.rests.Goals as goal

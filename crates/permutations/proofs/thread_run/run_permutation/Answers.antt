@@ -4,20 +4,20 @@ use Rattle.spec_parser.specs.Trees.{entry_view, spec_view}
 use Rattle.spec_files.proofs.Beginning.{one_begun}
 use Rattle.permutations.proofs.thread_run.run_permutation.Goals as goal
 
-pub returns-in_err-write_run-clause-begun : goal.returns-in_err-write_run-clause-begun
-returns-in_err-write_run-clause-begun g c =
+pub returns-in_err-written-clause-begun : goal.returns-in_err-written-clause-begun
+returns-in_err-written-clause-begun g c =
     let spec = spec_view c.args.spec.now in
     let blocks = blocks_of c.args.blocks.now in
     let entries = map entry_view c.args.entries.now in
-    one_begun (g.W.Sink.failed c.args.out.now) (g.W.Sink.failed c.write_run.new.out) (g.N.Sink.failed c.args.notes.now) (g.N.Sink.failed c.write_run.new.notes)
-    (g.W.Sink.put_so_far c.args.out.now) (g.W.Sink.put_so_far c.write_run.new.out) (g.N.Sink.put_so_far c.args.notes.now) (g.N.Sink.put_so_far c.write_run.new.notes)
-    spec blocks entries c.in_ok-closed.closed.state.history c.write_run.result c.in_ok-closed.ensures.regular c.write_run.ensures
+    one_begun (g.W.Sink.failed c.args.out.now) (g.W.Sink.failed c.write_run-written.new.out) (g.N.Sink.failed c.args.notes.now) (g.N.Sink.failed c.write_run-written.new.notes)
+    (g.W.Sink.put_so_far c.args.out.now) (g.W.Sink.put_so_far c.write_run-written.new.out) (g.N.Sink.put_so_far c.args.notes.now) (g.N.Sink.put_so_far c.write_run-written.new.notes)
+    spec blocks entries c.in_ok-closed.closed.state.history c.write_run-written.result c.in_ok-closed.ensures.regular c.write_run-written.ensures
 
 pub returns-clause-begun : goal.returns-clause-begun
 returns-clause-begun g c =
     let spec = spec_view c.args.spec.now in
     let blocks = blocks_of c.args.blocks.now in
     let entries = map entry_view c.args.entries.now in
-    one_begun (g.W.Sink.failed c.args.out.now) (g.W.Sink.failed c.write_run.new.out) (g.N.Sink.failed c.args.notes.now) (g.N.Sink.failed c.write_run.new.notes)
-    (g.W.Sink.put_so_far c.args.out.now) (g.W.Sink.put_so_far c.write_run.new.out) (g.N.Sink.put_so_far c.args.notes.now) (g.N.Sink.put_so_far c.write_run.new.notes)
-    spec blocks entries c.in_ok-closed.closed.state.history c.write_run.result c.in_ok-closed.ensures.regular c.write_run.ensures
+    one_begun (g.W.Sink.failed c.args.out.now) (g.W.Sink.failed c.write_run-written.new.out) (g.N.Sink.failed c.args.notes.now) (g.N.Sink.failed c.write_run-written.new.notes)
+    (g.W.Sink.put_so_far c.args.out.now) (g.W.Sink.put_so_far c.write_run-written.new.out) (g.N.Sink.put_so_far c.args.notes.now) (g.N.Sink.put_so_far c.write_run-written.new.notes)
+    spec blocks entries c.in_ok-closed.closed.state.history c.write_run-written.result c.in_ok-closed.ensures.regular c.write_run-written.ensures

@@ -4,8 +4,7 @@ use Rattle.session_machine.specs.declared.event.Event.{Event}
 use Rattle.session_machine.specs.declared.reply.Reply.{Reply}
 use Rattle.session_machine.specs.declared.fault.EngineFault.{EngineFault}
 use Rattle.session_machine.specs.declared.fault.EngineFault.TheVariants as engine_faults
-use Rattle.session_machine.specs.Engine.{Engine, engine_after, spent_engine}
-use Rattle.session_core.specs.Engines.{IsDue}
+use Rattle.session_machine.specs.Engine.{Engine, IsDue, engine_after, spent_engine}
 use Rattle.session_seats.specs.declared.fault.ThreadFault.{ThreadFault}
 use Rattle.session_seats.specs.declared.fault.ThreadFault.TheVariants.{Engine as EngineRefused, Memory}
 use Rattle.session_seats.specs.Seats.{SeatOf, with_item}

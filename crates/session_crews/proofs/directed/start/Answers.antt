@@ -1,8 +1,8 @@
 use denote.Param.Send.{sendable}
 use Rattle.std.proofs.sync.Mutex.TheSendSync.{the_sync as mutex_sync}
-use Rattle.session_threads.proofs.Sending.{shared_send}
+use Rattle.session_crews.proofs.Sending.{shared_send}
 use Rattle.session_seats.proofs.post.Post.TheSendSync.{the_send as post_send}
-use Rattle.session_threads.proofs.directed.start.Goals as goal
+use Rattle.session_crews.proofs.directed.start.Goals as goal
 
 -- what a thread is lent may cross to it
 pub start_thread-requires-send-F : goal.start_thread-requires-send-F

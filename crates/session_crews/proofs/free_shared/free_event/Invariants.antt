@@ -1,11 +1,11 @@
 use Rattle.std.proofs.Common.{◌≡◌}
 use Rattle.session_machine.specs.Machine.{session_of}
-use Rattle.session_threads.proofs.free_shared.free_event.Given as goal
+use Rattle.session_crews.proofs.free_shared.free_event.Given as goal
 
 abbrev pub invariant-loop : goal.invariant-loop
 invariant-loop g l = record {
   can : (goal.iterator-loop g).can_next l.iterator';
   finite : (goal.iterator-loop g).is_finite l.iterator';
-  event : session_of l.event ≡ l.seat.session;
-  seat : l.seat.session ≡ l.initial.seat.session;
+  event : session_of l.event ≡ (g.S.SeatAt.seat l.seat).session;
+  seat : (g.S.SeatAt.seat l.seat).session ≡ (g.S.SeatAt.seat l.initial.seat).session;
 }

@@ -1,15 +1,14 @@
 //! What stands behind the lock of a directed run, and what a session's thread does with it.
 ghost use Rattle.std.specs.Prelude.{◌≡◌, ◌||◌, true, false, [], None, Some, IfSome, is_some};
 ghost use Rattle.session_machine.specs.Machine.{session_of};
-ghost use Rattle.session_threads.specs.Inner.Seats.{IsFor};
+ghost use Rattle.session_crews.specs.Inner.Seats.{IsFor};
 ghost use Rattle.session_seats.specs.Orders.{IsDriven, IsOrder};
 
-use crate::acting::act;
-use crate::driver::Driver;
-use row_versions::Versions;
-use session_core::EngineState;
-use session_machine::{EngineFault, Event, Order, Turn};
-use session_seats::{Bells, Gate, Instruction, Ordering, Post, Seat, ThreadFault, admitted, tell};
+use crate::driven::Drives;
+use session_machine::{Engine, EngineFault, Event, Order, Turn};
+use session_seats::{
+    Bells, Gate, Instruction, Ordering, Post, SeatAt, ThreadFault, admitted, tell,
+};
 use std::alloc::Global;
 use std::marker::{Model, PhantomData};
 use std::sync::{Mutex, MutexGuard, Wait};
@@ -18,8 +17,8 @@ use std::sync::{Mutex, MutexGuard, Wait};
 /// met. Each Launch and Leave of the history is what the driver orders after the history before it, nothing follows a Stop,
 /// and what the driver keeps fits the history.
 #[derive(Drop)]
-pub struct Shared<'a, 't, V: Versions, O: Ordering, D: Driver<V>> {
-    engine: EngineState<'a, 't, V>,
+pub struct Shared<E: Engine, O: Ordering, D: Drives<E>> {
+    engine: E,
     driver: D,
     alloc: Global,
     order: Option<Event>,
@@ -28,28 +27,28 @@ pub struct Shared<'a, 't, V: Versions, O: Ordering, D: Driver<V>> {
     orders: PhantomData<O>,
 }
 
-impl<'a, 't, V: Versions, O: Ordering, D: Driver<V>> Model for Shared<'a, 't, V, O, D> {
-    ghost use Rattle.session_threads.specs.Inner.Shared.{SharedOf, IsOrderly, IsLed};
-    ghost use Rattle.session_core.specs.Inner.TreeCodes.{tree_code};
+impl<E: Engine, O: Ordering, D: Drives<E>> Model for Shared<E, O, D> {
+    ghost use Rattle.session_crews.specs.Inner.Shared.{SharedOf, IsOrderly, IsLed};
+    ghost use Rattle.session_machine.specs.Inner.TreeCodes.{tree_code};
     ghost use Rattle.std.specs.Coded.{codes};
 
     ghost Value = { SharedOf };
 
     ghost coded = { Prim.hlevel (codes, tree_code) };
 
-    ghost view = { λ s. record { engine = s.engine; order = s.order; stop = s.stop; fault = s.fault } };
+    ghost view = { λ s. record { engine = E.engine s.engine; order = s.order; stop = s.stop; fault = s.fault } };
 
-    ghost invariant = { λ s. IsOrderly O.orders s.engine.history s.order s.stop
-        × IsLed O.orders (D.order_after s.driver) (D.follows s.driver) s.engine.history s.fault };
+    ghost invariant = { λ s. IsOrderly O.orders (E.engine s.engine).history s.order s.stop
+        × IsLed O.orders (D.order_after s.driver) (D.follows s.driver) (E.engine s.engine).history s.fault };
 }
 
-impl<'a, 't, V: Versions, O: Ordering, D: Driver<V>> Shared<'a, 't, V, O, D> {
+impl<E: Engine, O: Ordering, D: Drives<E>> Shared<E, O, D> {
     /// Of an engine in which nothing has happened.
-    pub fn new(alloc: Global, engine: EngineState<'a, 't, V>, driver: D) -> Self
-        requires empty { engine.history ≡ [] }
+    pub fn new(alloc: Global, engine: E, driver: D) -> Self
+        requires empty { (E.engine engine).history ≡ [] }
         requires orders { D.order_after driver ≡ O.orders }
         requires follows { D.follows driver [] }
-        ensures { result ≡ record { engine = engine.entry; order = None; stop = false; fault = None } }
+        ensures { result ≡ record { engine = E.engine engine; order = None; stop = false; fault = None } }
     {
         Shared {
             engine,
@@ -133,9 +132,9 @@ impl<'a, 't, V: Versions, O: Ordering, D: Driver<V>> Shared<'a, 't, V, O, D> {
     }
 
     /// Does the event, unless the run is over. Says whether it was done.
-    fn perform(&mut self, seat: &mut Seat<'t>, event: Event) -> bool
-        requires { session_of event ≡ seat.old.session }
-        ensures { seat.new.session ≡ seat.old.session }
+    fn perform<S: SeatAt<E>>(&mut self, seat: &mut S, event: Event) -> bool
+        requires { session_of event ≡ (S.seat seat.old).session }
+        ensures { (S.seat seat.new).session ≡ (S.seat seat.old).session }
     {
         if self.over() {
             return false;
@@ -144,7 +143,7 @@ impl<'a, 't, V: Versions, O: Ordering, D: Driver<V>> Shared<'a, 't, V, O, D> {
             self.note(ThreadFault::Engine(EngineFault::NotYourTurn));
             return false;
         }
-        match act(&mut self.engine, seat, event) {
+        match seat.act(&mut self.engine, event) {
             Ok(()) => {
                 self.order = None;
                 true
@@ -179,19 +178,19 @@ impl<'a, 't, V: Versions, O: Ordering, D: Driver<V>> Shared<'a, 't, V, O, D> {
     }
 }
 
-impl<'a, 't, V: Versions, O: Ordering, D: Driver<V> + Drop> Shared<'a, 't, V, O, D> {
+impl<E: Engine, O: Ordering, D: Drives<E> + Drop> Shared<E, O, D> {
     /// The engine, whether the driver said Stop, and the fault that was met.
-    pub fn into_parts(self) -> (EngineState<'a, 't, V>, bool, Option<ThreadFault>)
-        ensures { (result.0 ≡ self.entry.engine) × (result.1 ≡ self.entry.stop) × (result.2 ≡ self.entry.fault) × (result.1 ≡ true → IsDriven O.orders result.0.history) }
+    pub fn into_parts(self) -> (E, bool, Option<ThreadFault>)
+        ensures { (E.engine result.0 ≡ self.engine) × (result.1 ≡ self.stop) × (result.2 ≡ self.fault) × (result.1 ≡ true → IsDriven O.orders (E.engine result.0).history) }
     {
         (self.engine, self.stop, self.fault)
     }
 }
 
 /// Keeps a fault, and wakes everyone.
-pub fn give_up<'a, 't, V: Versions, O: Ordering, D: Driver<V>, R: Wait>(
+pub fn give_up<E: Engine, O: Ordering, D: Drives<E>, R: Wait>(
     rt: &R,
-    shared: &Mutex<Shared<'a, 't, V, O, D>>,
+    shared: &Mutex<Shared<E, O, D>>,
     bells: &Bells,
     fault: ThreadFault,
 ) {
@@ -200,8 +199,8 @@ pub fn give_up<'a, 't, V: Versions, O: Ordering, D: Driver<V>, R: Wait>(
 }
 
 /// Lets the lock go, and wakes the thread that has something to do, unless it is this session's.
-fn pass_on<'a, 't, V: Versions, O: Ordering, D: Driver<V>>(
-    guard: MutexGuard<'_, Shared<'a, 't, V, O, D>>,
+fn pass_on<E: Engine, O: Ordering, D: Drives<E>>(
+    guard: MutexGuard<'_, Shared<E, O, D>>,
     bells: &Bells,
     session: u32,
 ) {
@@ -216,9 +215,9 @@ fn pass_on<'a, 't, V: Versions, O: Ordering, D: Driver<V>>(
 }
 
 /// What the session's thread is to do next. Sleeps until there is something.
-pub fn next_task<'a, 't, V: Versions, O: Ordering, D: Driver<V>, R: Wait>(
+pub fn next_task<E: Engine, O: Ordering, D: Drives<E>, R: Wait>(
     rt: &R,
-    shared: &Mutex<Shared<'a, 't, V, O, D>>,
+    shared: &Mutex<Shared<E, O, D>>,
     bells: &Bells,
     session: u32,
 ) -> Instruction
@@ -233,16 +232,16 @@ pub fn next_task<'a, 't, V: Versions, O: Ordering, D: Driver<V>, R: Wait>(
 }
 
 /// Does one event: asks the gate, does the event under the lock, and tells the gate. Says whether it was done.
-pub fn one_event<'a, 't, V: Versions, O: Ordering, D: Driver<V>, G: Gate, R: Wait>(
+pub fn one_event<E: Engine, S: SeatAt<E>, O: Ordering, D: Drives<E>, G: Gate, R: Wait>(
     rt: &R,
-    shared: &Mutex<Shared<'a, 't, V, O, D>>,
+    shared: &Mutex<Shared<E, O, D>>,
     bells: &Bells,
     gate: &G,
-    seat: &mut Seat<'t>,
+    seat: &mut S,
     event: Event,
 ) -> bool
-    requires { session_of event ≡ seat.old.session }
-    ensures { seat.new.session ≡ seat.old.session }
+    requires { session_of event ≡ (S.seat seat.old).session }
+    ensures { (S.seat seat.new).session ≡ (S.seat seat.old).session }
 {
     if !admitted(gate, event) {
         give_up(rt, shared, bells, ThreadFault::Gate);
@@ -253,17 +252,17 @@ pub fn one_event<'a, 't, V: Versions, O: Ordering, D: Driver<V>, G: Gate, R: Wai
     guard.ask();
     pass_on(guard, bells, seat.session());
     if done {
-        tell(gate, seat);
+        tell(gate, seat.last());
     }
     done
 }
 
 /// Does the session's events until the run is over.
-pub fn work<'a, 't, V: Versions, O: Ordering, D: Driver<V>, G: Gate, R: Wait>(
+pub fn work<E: Engine, S: SeatAt<E>, O: Ordering, D: Drives<E>, G: Gate, R: Wait>(
     rt: &R,
-    shared: &Mutex<Shared<'a, 't, V, O, D>>,
+    shared: &Mutex<Shared<E, O, D>>,
     gate: &G,
-    post: Post<'_, 't>,
+    post: Post<'_, S>,
 ) {
     let Post { bells, seat } = post;
     for _ in rt.forever() {

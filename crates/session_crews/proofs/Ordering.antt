@@ -11,10 +11,10 @@ use Rattle.session_machine.specs.Machine.{Machine, Next, next}
 use Rattle.session_machine.specs.Engine.{Engine, EngineAnswered, engine_after, engine_step, engine_answered}
 use Rattle.session_seats.specs.declared.fault.ThreadFault.{ThreadFault}
 use Rattle.session_seats.specs.declared.fault.ThreadFault.TheVariants as thread_faults
-use Rattle.session_threads.specs.Acts.{Acted, NotActed, Refuses}
+use Rattle.session_seats.specs.Acts.{Acted, NotActed, Refuses}
 use Rattle.session_seats.specs.Seats.{SeatOf}
 use Rattle.session_seats.specs.Orders.{Orders, IsOrder, OrderedAfter}
-use Rattle.session_threads.specs.Inner.Shared.{IsOrderly, IsLed}
+use Rattle.session_crews.specs.Inner.Shared.{IsOrderly, IsLed}
 
 -- the items go on by one that is ordered
 ordered_on : (orders : Orders) (before items : List HistItem) (item : HistItem) → OrderedAfter orders before items → IsOrder item.event (orders (before ++ items)) → OrderedAfter orders before (items ++ item ∷ [])

@@ -2,22 +2,19 @@
 ghost use Rattle.std.specs.Prelude.{◌≡◌};
 ghost use Rattle.session_machine.specs.Machine.{session_of};
 
-use crate::acting::act;
-use row_versions::Versions;
-use session_core::EngineState;
-use session_machine::{EngineFault, Event};
-use session_seats::{Gate, Seat, ThreadFault, Tried, admitted, may_release, tell};
+use session_machine::{Engine, EngineFault, Event};
+use session_seats::{Gate, SeatAt, ThreadFault, Tried, admitted, may_release, tell};
 use std::sync::{Condvar, Mutex, Wait};
 
 /// The engine, and a fault that was met.
 #[derive(Drop)]
-pub struct FreeShared<'a, 't, V: Versions> {
-    engine: EngineState<'a, 't, V>,
+pub struct FreeShared<E: Engine> {
+    engine: E,
     fault: Option<ThreadFault>,
 }
 
-impl<'a, 't, V: Versions> FreeShared<'a, 't, V> {
-    pub fn new(engine: EngineState<'a, 't, V>) -> Self {
+impl<E: Engine> FreeShared<E> {
+    pub fn new(engine: E) -> Self {
         FreeShared {
             engine,
             fault: None,
@@ -31,7 +28,7 @@ impl<'a, 't, V: Versions> FreeShared<'a, 't, V> {
 
     /// How many events there were.
     fn events(&self) -> usize {
-        self.engine.history().len()
+        self.engine.events()
     }
 
     /// Keeps a fault, where none was met before.
@@ -42,14 +39,14 @@ impl<'a, 't, V: Versions> FreeShared<'a, 't, V> {
     }
 
     /// Does the event, unless the run is over or something stands in its way.
-    fn perform(&mut self, seat: &mut Seat<'t>, event: Event) -> Tried
-        requires { session_of event ≡ seat.old.session }
-        ensures { seat.new.session ≡ seat.old.session }
+    fn perform<S: SeatAt<E>>(&mut self, seat: &mut S, event: Event) -> Tried
+        requires { session_of event ≡ (S.seat seat.old).session }
+        ensures { (S.seat seat.new).session ≡ (S.seat seat.old).session }
     {
         if self.over() {
             return Tried::Over;
         }
-        match act(&mut self.engine, seat, event) {
+        match seat.act(&mut self.engine, event) {
             Ok(()) => Tried::Done,
             Err(ThreadFault::Engine(EngineFault::StillBlocked)) => Tried::Blocked {
                 events: self.events(),
@@ -62,15 +59,15 @@ impl<'a, 't, V: Versions> FreeShared<'a, 't, V> {
     }
 
     /// The engine, and the fault that was met.
-    pub fn into_parts(self) -> (EngineState<'a, 't, V>, Option<ThreadFault>) {
+    pub fn into_parts(self) -> (E, Option<ThreadFault>) {
         (self.engine, self.fault)
     }
 }
 
 /// Keeps a fault, and wakes everyone.
-pub fn stop<'a, 't, V: Versions, R: Wait>(
+pub fn stop<E: Engine, R: Wait>(
     rt: &R,
-    shared: &Mutex<FreeShared<'a, 't, V>>,
+    shared: &Mutex<FreeShared<E>>,
     bell: &Condvar,
     fault: ThreadFault,
 ) {
@@ -79,21 +76,21 @@ pub fn stop<'a, 't, V: Versions, R: Wait>(
 }
 
 /// Tries an event under the lock. Wakes those who sleep where something may have been released, or the run is over.
-fn try_event<'a, 't, V: Versions, R: Wait>(
+fn try_event<E: Engine, S: SeatAt<E>, R: Wait>(
     rt: &R,
-    shared: &Mutex<FreeShared<'a, 't, V>>,
+    shared: &Mutex<FreeShared<E>>,
     bell: &Condvar,
-    seat: &mut Seat<'t>,
+    seat: &mut S,
     event: Event,
 ) -> Tried
-    requires { session_of event ≡ seat.old.session }
-    ensures { seat.new.session ≡ seat.old.session }
+    requires { session_of event ≡ (S.seat seat.old).session }
+    ensures { (S.seat seat.new).session ≡ (S.seat seat.old).session }
 {
     let mut guard = shared.lock(rt);
     let tried = guard.perform(seat, event);
     drop(guard);
     let wakes = match tried {
-        Tried::Done => may_release(seat),
+        Tried::Done => may_release(seat.last()),
         Tried::Blocked { .. } => false,
         Tried::Over => true,
     };
@@ -104,28 +101,23 @@ fn try_event<'a, 't, V: Versions, R: Wait>(
 }
 
 /// Sleeps until there were more events than so many, or the run is over.
-fn sleep<'a, 't, V: Versions, R: Wait>(
-    rt: &R,
-    shared: &Mutex<FreeShared<'a, 't, V>>,
-    bell: &Condvar,
-    events: usize,
-) {
+fn sleep<E: Engine, R: Wait>(rt: &R, shared: &Mutex<FreeShared<E>>, bell: &Condvar, events: usize) {
     let guard = bell.wait_while(rt, shared.lock(rt), |s| !s.over() && s.events() == events);
     drop(guard);
 }
 
 /// Does one event as soon as nothing stands in its way: asks the gate, does the event under the lock, and tells the gate.
 /// Says whether it was done; it wasn't where the run is over.
-pub fn free_event<'a, 't, V: Versions, G: Gate, R: Wait>(
+pub fn free_event<E: Engine, S: SeatAt<E>, G: Gate, R: Wait>(
     rt: &R,
-    shared: &Mutex<FreeShared<'a, 't, V>>,
+    shared: &Mutex<FreeShared<E>>,
     bell: &Condvar,
     gate: &G,
-    seat: &mut Seat<'t>,
+    seat: &mut S,
     event: Event,
 ) -> bool
-    requires { session_of event ≡ seat.old.session }
-    ensures { seat.new.session ≡ seat.old.session }
+    requires { session_of event ≡ (S.seat seat.old).session }
+    ensures { (S.seat seat.new).session ≡ (S.seat seat.old).session }
 {
     if !admitted(gate, event) {
         stop(rt, shared, bell, ThreadFault::Gate);
@@ -134,7 +126,7 @@ pub fn free_event<'a, 't, V: Versions, G: Gate, R: Wait>(
     for _ in rt.forever() {
         match try_event(rt, shared, bell, seat, event) {
             Tried::Done => {
-                tell(gate, seat);
+                tell(gate, seat.last());
                 return true;
             }
             Tried::Blocked { events } => sleep(rt, shared, bell, events),

@@ -1,9 +1,9 @@
 use denote.Param.Send.{sendable}
 use Rattle.std.proofs.sync.Mutex.TheSendSync.{the_sync as mutex_sync}
 use Rattle.std.proofs.sync.Condvar.TheSendSync.{the_sync as condvar_sync}
-use Rattle.session_threads.proofs.FreeSending.{free_shared_send}
+use Rattle.session_crews.proofs.FreeSending.{free_shared_send}
 use Rattle.session_seats.proofs.free.Runner.TheSendSync.{the_send as runner_send}
-use Rattle.session_threads.proofs.free.start_scripts.Goals as goal
+use Rattle.session_crews.proofs.free.start_scripts.Goals as goal
 
 -- what a thread is lent may cross to it
 pub start_thread-requires-send-F : goal.start_thread-requires-send-F

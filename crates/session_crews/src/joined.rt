@@ -1,0 +1,13 @@
+//! What is left of a run when its threads are joined.
+
+use session_machine::Engine;
+use session_seats::ThreadFault;
+
+/// A run whose threads are joined: the engine that stood behind the lock, the seats that were handed in, and the fault that
+/// ended the run, if one did.
+#[derive(Drop)]
+pub struct Joined<E: Engine, S> {
+    pub engine: E,
+    pub seats: Vec<S>,
+    pub met: Option<ThreadFault>,
+}
