@@ -35,7 +35,8 @@ pub record Gives (words : List Text) (o : Options) : Type 0 where
   pub runs_freely : found (codes "free") words ≡ Some (codes "true") → o.free ≡ true
   pub runs_in_order : found (codes "free") words ≡ Some (codes "false") → o.free ≡ false
   pub default : found (codes "limit") words ≡ None → o.limit ≡ 1000000
-  pub limits : (text : Text) → found (codes "limit") words ≡ Some text → IsNumeral 10 (without_leading_plus text) → digits_value 10 (without_leading_plus text) < 2 ^ 32 → o.limit ≡ digits_value 10 (without_leading_plus text)
+  pub limits : (text : Text) → found (codes "limit") words ≡ Some text → IsNumeral 10 (without_leading_plus text)
+      → digits_value 10 (without_leading_plus text) < 2 ^ 32 → o.limit ≡ digits_value 10 (without_leading_plus text)
 
 -- the exit status where the words give no options
 abbrev pub status_of : ErrorKind → ℕ
@@ -47,7 +48,8 @@ status_of _ = 2
 -- what these come to, by examples
 abbrev pub WorkedWords : Type 0
 WorkedWords = (name : Text) →
-    (fault_of program (name ∷ []) ≡ []) × (found (codes "list") (name ∷ []) ≡ Some (codes "false")) × (found (codes "free") (name ∷ []) ≡ Some (codes "false")) × (found (codes "limit") (name ∷ []) ≡ None)
+    (fault_of program (name ∷ []) ≡ []) × (found (codes "list") (name ∷ []) ≡ Some (codes "false"))
+    × (found (codes "free") (name ∷ []) ≡ Some (codes "false")) × (found (codes "limit") (name ∷ []) ≡ None)
     × (fault_of program (name ∷ codes "--list" ∷ []) ≡ []) × (found (codes "list") (name ∷ codes "--list" ∷ []) ≡ Some (codes "true"))
     × (fault_of program (name ∷ codes "--free" ∷ []) ≡ []) × (found (codes "free") (name ∷ codes "--free" ∷ []) ≡ Some (codes "true"))
     × (found (codes "list") (name ∷ codes "--free" ∷ codes "--list" ∷ []) ≡ Some (codes "true")) × (found (codes "free") (name ∷ codes "--free" ∷ codes "--list" ∷ []) ≡ Some (codes "true"))

@@ -107,7 +107,8 @@ exit_status (Err e) = fault_status e
 -- ---- both
 
 -- the words are refused, or give options, which run over the bytes that are left to read: first their text and notes go out, and then the line of their fault
-pub data IsServed (words : List Text) (left : Option (List ℕ)) (out_failed : Bool) (out_old out_new : Option (List ℕ)) (err_failed : Bool) (err_old err_new : Option (List ℕ)) (status : ℕ) : Type 0 where
+pub data IsServed (words : List Text) (left : Option (List ℕ)) (out_failed : Bool) (out_old out_new : Option (List ℕ))
+    (err_failed : Bool) (err_old err_new : Option (List ℕ)) (status : ℕ) : Type 0 where
   refuses : (kind : ErrorKind) → MayRefuse words kind → status ≡ status_of kind → IsShown (is_request kind) out_failed out_old out_new err_failed err_old err_new
       → IsServed words left out_failed out_old out_new err_failed err_old err_new status
   serves : (options : Options) → fault_of program words ≡ [] → Gives words options → (answer : Result (Unit {0}) RunFault) → (noted : Option (List ℕ))
