@@ -1,8 +1,8 @@
 -- How the lists behind a prefix change with its last session.
 use Rattle.std.proofs.Common.{◌≡◌, ℕ, ◌+◌, ◌<◌, ◌≤◌, List, [], ◌∷◌, ◌++◌, length, map, drop, refl, ap, sym, ◌∙◌, arith, length-append, get_or, drop-cons, add-one}
 use Rattle.std.proofs.lemmas.List.{drop_all}
-use Rattle.permutation_lists.specs.Interleavings.{without, each_first, of_length}
-use Rattle.permutation_lists.specs.Inner.Prefixes.{from_session, behind, left_after, later}
+use Rattle.permutation_lists.specs.Interleavings.{without, of_length}
+use Rattle.permutation_lists.specs.Inner.Prefixes.{each_first, from_session, behind, left_after, later}
 
 -- what is left after one more session
 pub left_push : (c p : List ℕ) (x : ℕ) → left_after c (p ++ x ∷ []) ≡ without (left_after c p) x

@@ -1,21 +1,53 @@
 -- Entries of turns, and how long the lists of turns are.
-use Rattle.std.proofs.Common.{◌≡◌, ℕ, zero, suc, ◌+◌, ◌<◌, ◌≤◌, ◌^◌, List, [], ◌∷◌, ◌++◌, map, flat_map, sum, length, true, false, take, get_or, refl, sym, ap, ◌∙◌, arith, append_assoc}
-use Rattle.std.specs.Prelude.{◌==◌}
-use Rattle.std.proofs.lemmas.Bool.{eqb-true}
-use Rattle.std.proofs.lemmas.List.{take_more, map-append, get_or-map, length-map}
+use Rattle.std.proofs.Common.{◌≡◌, ℕ, zero, suc, ◌+◌, ◌<◌, ◌≤◌, ◌^◌, Bool, List, [], ◌∷◌, ◌++◌, map, flat_map, sum, length, true, false, take, get_or, refl, sym, ap, subst, ◌∙◌, arith, append_assoc}
+use Rattle.std.specs.Prelude.{◌==◌, if◌then◌else◌, count_by}
+use Rattle.std.proofs.lemmas.List.{take_more, take_all, take-append-le, length-append, map-append, get_or-map, length-map}
 use Rattle.std.proofs.lemmas.List.Folds.{length-flat_map-take}
 use Rattle.std.proofs.lemmas.List.Sums.{sum-map}
-use Rattle.std.specs.List.{AllByRecursion}
+use Rattle.std.specs.List.{AllByRecursion, enumerate_from}
 use Rattle.std.proofs.lemmas.List.{append-nil}
 use Rattle.std.proofs.lemmas.List.Concat.{length-flat_map}
-use Rattle.permutation_lists.specs.Interleavings.{each_first, of_length, without, interleavings}
+use Rattle.permutation_lists.specs.Inner.Prefixes.{each_first}
+use Rattle.permutation_lists.specs.Interleavings.{of_length, without, interleavings}
 use Rattle.std.specs.Global.{Vec}
 use Rattle.spec_parser.specs.declared.tree.Entry.{Entry}
 use Rattle.spec_parser.specs.declared.tree.Spec.{Spec}
 use Rattle.spec_parser.specs.declared.tree.SessionPart.{SessionPart}
 use Rattle.spec_parser.specs.Trees.{EntryTree, SessionTree, entry_view, perm_view, step_view, session_view, spec_view}
-use Rattle.permutation_lists.specs.Permutations.{entry_after, entries_after, entries_of, step_count, lines_or_all, permutations_of}
+use Rattle.permutation_lists.specs.Permutations.{entries_of, permutations_of}
+use Rattle.permutation_lists.proofs.First.{with_turn}
 use Rattle.permutation_lists.specs.Inner.Ways.{AreShort}
+
+-- how many steps a session has
+abbrev pub step_count : SessionTree → ℕ
+step_count s = length s.steps
+
+-- the entry of a session's turn, after the turns before it
+abbrev pub entry_after : List ℕ → ℕ → EntryTree
+entry_after before session = record { session = session; step = count_by (λ x. x == session) before; markers = [] }
+
+-- the entries of turns, behind those before them
+abbrev entries_after : List ℕ → List ℕ → List EntryTree
+entries_after before [] = []
+entries_after before (session ∷ turns) = entry_after before session ∷ entries_after (before ++ session ∷ []) turns
+
+-- the entry of a turn by its place
+abbrev at_place : List ℕ → ℕ × ℕ → EntryTree
+at_place all p = entry_after (take p.0 all) p.1
+
+-- a front of turns
+front_is : (before turns : List ℕ) → take (length before) (before ++ turns) ≡ before
+front_is before turns = take-append-le (length before) before turns (omega arith) ∙ take_all (length before) before (omega arith)
+
+by_place : (before turns : List ℕ) → entries_after before turns ≡ map (at_place (before ++ turns)) (enumerate_from (length before) turns)
+by_place before [] = refl
+by_place before (session ∷ turns) =
+    let next : length (before ++ session ∷ []) ≡ length before + 1 = length-append before (session ∷ []) in
+    ap (λ (b : List ℕ). entry_after b session ∷ entries_after (before ++ session ∷ []) turns) (sym (front_is before (session ∷ turns)))
+    ∙ ap (λ (es : List EntryTree). entry_after (take (length before) (before ++ session ∷ turns)) session ∷ es)
+    (by_place (before ++ session ∷ []) turns
+    ∙ ap (λ (all : List ℕ). map (at_place all) (enumerate_from (length (before ++ session ∷ [])) turns)) (append_assoc before (session ∷ []) turns)
+    ∙ ap (λ (n : ℕ). map (at_place (before ++ session ∷ turns)) (enumerate_from n turns)) next)
 
 -- one more turn is one more entry
 entries_push : (before turns : List ℕ) (session : ℕ) → entries_after before (turns ++ session ∷ []) ≡ entries_after before turns ++ entry_after (before ++ turns) session ∷ []
@@ -25,7 +57,9 @@ entries_push before (turn ∷ turns) session =
     (entries_push (before ++ turn ∷ []) turns session ∙ ap (λ (b : List ℕ). entries_after (before ++ turn ∷ []) turns ++ entry_after b session ∷ []) (append_assoc before (turn ∷ []) turns))
 
 pub one_more : (turns : List ℕ) (session : ℕ) → entries_of (turns ++ session ∷ []) ≡ entries_of turns ++ entry_after turns session ∷ []
-one_more turns session = entries_push [] turns session
+one_more turns session =
+    sym (by_place [] (turns ++ session ∷ [])) ∙ entries_push [] turns session
+    ∙ ap (λ (es : List EntryTree). es ++ entry_after turns session ∷ []) (by_place [] turns)
 
 -- ---- lengths
 
@@ -44,7 +78,8 @@ all_first : (n : ℕ) (rest : List ℕ → List (List ℕ)) → ((counts : List 
 all_first n rest h counts session [] = tt
 all_first n rest h counts session (zero ∷ more) = all_first n rest h counts (session + 1) more
 all_first n rest h counts session (suc c ∷ more) =
-    all_append (HasLength (suc n)) _ _ (all_behind n session (rest (without counts session)) (h (without counts session))) (all_first n rest h counts (session + 1) more)
+    subst (AllByRecursion (HasLength (suc n))) (sym (with_turn rest counts session c more))
+    (all_append (HasLength (suc n)) _ _ (all_behind n session (rest (without counts session)) (h (without counts session))) (all_first n rest h counts (session + 1) more))
 
 have_length : (n : ℕ) (counts : List ℕ) → AllByRecursion (HasLength n) (of_length n counts)
 have_length zero counts = (refl, tt)
@@ -85,25 +120,18 @@ few_turns ss few = short_interleavings (map step_count ss) (omega (arith, all_st
 
 -- ---- lines, or all
 
-by_lines : (lines : List (Vec Entry)) (counts : List ℕ) → false ≡ (length lines == 0) → lines_or_all (map perm_view lines) counts ≡ map perm_view lines
-by_lines [] counts some = absurd cc
-by_lines (line ∷ lines) counts some = refl
-
-suc_zero : (n : ℕ) → suc n ≡ 0 → ⊥
-suc_zero n e = omega (arith, e)
-
-by_all : (lines : List (Vec Entry)) (counts : List ℕ) → true ≡ (length lines == 0) → lines_or_all (map perm_view lines) counts ≡ map entries_of (interleavings counts)
-by_all [] counts none = refl
-by_all (line ∷ lines) counts none = absurd (suc_zero (length lines) (eqb-true (suc (length lines)) 0 (sym none)))
+-- as many lines as the spec has permutations
+none_there : (spec : Spec) (lines : List (Vec Entry)) → lines ≡ spec.perms.items → (length lines == 0) ≡ (length (map perm_view spec.perms.items) == 0)
+none_there spec lines same = ap (λ (ls : List (Vec Entry)). length ls == 0) same ∙ ap (λ (n : ℕ). n == 0) (sym (length-map spec.perms.items perm_view))
 
 pub lines_there : (spec : Spec) (lines : List (Vec Entry)) → lines ≡ spec.perms.items → false ≡ (length lines == 0) → map perm_view lines ≡ permutations_of (spec_view spec)
 unfolding permutations_of
 lines_there spec lines same some =
-    let counts = map step_count (spec_view spec).sessions in
-    sym (by_lines lines counts some) ∙ ap (λ (ls : List (Vec Entry)). lines_or_all (map perm_view ls) counts) same
+    let all = map entries_of (interleavings (map step_count (spec_view spec).sessions)) in
+    ap (map perm_view) same ∙ ap (λ (none : Bool). if none then all else map perm_view spec.perms.items) (some ∙ none_there spec lines same)
 
 pub no_lines : (spec : Spec) (lines : List (Vec Entry)) → lines ≡ spec.perms.items → true ≡ (length lines == 0) → map entries_of (interleavings (map step_count (spec_view spec).sessions)) ≡ permutations_of (spec_view spec)
 unfolding permutations_of
 no_lines spec lines same none =
-    let counts = map step_count (spec_view spec).sessions in
-    sym (by_all lines counts none) ∙ ap (λ (ls : List (Vec Entry)). lines_or_all (map perm_view ls) counts) same
+    let all = map entries_of (interleavings (map step_count (spec_view spec).sessions)) in
+    ap (λ (none : Bool). if none then all else map perm_view spec.perms.items) (none ∙ none_there spec lines same)

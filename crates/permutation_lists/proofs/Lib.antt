@@ -1,3 +1,4 @@
+pub mod First
 pub mod Behind
 pub mod Places
 pub mod Rising

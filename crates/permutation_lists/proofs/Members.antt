@@ -3,7 +3,9 @@ use Rattle.std.proofs.Common.{◌≡◌, ◌≢◌, ◌⊎◌, ℕ, zero, suc, �
 use Rattle.std.specs.Prelude.{◌↔◌, ◌==◌, Contains, count_by, slice_index_or}
 use Rattle.std.proofs.lemmas.List.Sums.{sum_by-cons}
 use Rattle.std.proofs.lemmas.Bool.Decides.{eqb_tells}
-use Rattle.permutation_lists.specs.Interleavings.{without, each_first, of_length, interleavings, IsInterleaving}
+use Rattle.permutation_lists.specs.Inner.Prefixes.{each_first}
+use Rattle.permutation_lists.proofs.First.{with_turn}
+use Rattle.permutation_lists.specs.Interleavings.{without, of_length, interleavings, IsInterleaving}
 use Rattle.permutation_lists.proofs.Places.{sum_cons, sum_less}
 
 -- a list is one of some, by recursion
@@ -69,7 +71,7 @@ splits : (rest : List ℕ → List (List ℕ)) (counts : List ℕ) (i : ℕ) (cs
 splits rest counts i [] l h = absurd h
 splits rest counts i (zero ∷ cs) l h = further rest counts i zero cs l (splits rest counts (i + 1) cs l h)
 splits rest counts i (suc c ∷ cs) l h =
-    elim (begins i (rest (without counts i)) (each_first rest counts (i + 1) cs) l h) [
+    elim (begins i (rest (without counts i)) (each_first rest counts (i + 1) cs) l (subst (λ lists. Has lists l) (with_turn rest counts i c cs) h)) [
       | inl b ↦ let e : i ≡ i + 0 = omega arith in record {
         far = 0;
         some = omega arith;
@@ -88,10 +90,12 @@ joins rest counts i x zero (zero ∷ cs) l e some h = absurd (omega arith)
 joins rest counts i x (suc k) (zero ∷ cs) l e some h = joins rest counts (i + 1) x k cs l (omega arith) some h
 joins rest counts i x zero (suc c ∷ cs) l e some h =
     let same : i ≡ x = omega arith in
-    subst (λ (j : ℕ). Has (map (λ (xs : List ℕ). j ∷ xs) (rest (without counts j)) ++ each_first rest counts (i + 1) cs) (x ∷ l)) (sym same)
-    (has_first x (rest (without counts x)) (each_first rest counts (i + 1) cs) l h)
+    subst (λ lists. Has lists (x ∷ l)) (sym (with_turn rest counts i c cs))
+    (subst (λ (j : ℕ). Has (map (λ (xs : List ℕ). j ∷ xs) (rest (without counts j)) ++ each_first rest counts (i + 1) cs) (x ∷ l)) (sym same)
+    (has_first x (rest (without counts x)) (each_first rest counts (i + 1) cs) l h))
 joins rest counts i x (suc k) (suc c ∷ cs) l e some h =
-    has_later i (rest (without counts i)) (each_first rest counts (i + 1) cs) (x ∷ l) (joins rest counts (i + 1) x k cs l (omega arith) some h)
+    subst (λ lists. Has lists (x ∷ l)) (sym (with_turn rest counts i c cs))
+    (has_later i (rest (without counts i)) (each_first rest counts (i + 1) cs) (x ∷ l) (joins rest counts (i + 1) x k cs l (omega arith) some h))
 
 -- how often a number occurs in a list
 abbrev times : ℕ → List ℕ → ℕ

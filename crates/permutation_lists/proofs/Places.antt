@@ -1,8 +1,9 @@
 -- One place of the list.
 use Rattle.std.proofs.Common.{add-one, ◌≡◌, ℕ, zero, suc, ◌+◌, ◌-◌, ◌<◌, ◌≤◌, List, [], ◌∷◌, ◌++◌, length, map, take, set, sum, refl, ap, sym, ◌∙◌, subst, arith, get_or, get_or-set_same, get_or-set_other, ◌≢◌, ◌⊎◌, inl, inr, fold, length-set}
 use Rattle.std.proofs.lemmas.List.{take_more, set-get_or}
-use Rattle.permutation_lists.specs.Interleavings.{without, each_first, of_length}
-use Rattle.permutation_lists.specs.Inner.Prefixes.{from_session, behind, left_after, IsPath, IsLeast, IsNoneLeft, IsUsedUp, IsAt}
+use Rattle.permutation_lists.specs.Interleavings.{without, of_length}
+use Rattle.permutation_lists.specs.Inner.Prefixes.{each_first, from_session, behind, left_after, IsPath, IsLeast, IsNoneLeft, IsUsedUp, IsAt}
+use Rattle.permutation_lists.proofs.First.{with_turn}
 use Rattle.permutation_lists.proofs.Behind.{skip, none_from, left_push, fill, pop_none, pop_found}
 
 -- a fold of + may begin at a sum
@@ -38,7 +39,7 @@ none_each : (c : List ℕ) (i : ℕ) (cs : List ℕ) → each_first nothing c i 
 unfolding nothing
 none_each c i [] h = refl
 none_each c i (zero ∷ cs) h = omega (arith, none_each c (i + 1) cs h)
-none_each c i (suc x ∷ cs) h = absurd (cons_nil h)
+none_each c i (suc x ∷ cs) h = absurd (cons_nil (sym (with_turn nothing c i x cs) ∙ h))
 
 -- where no session has a turn left the sum is 0
 pub none_sum : (left : List ℕ) → IsNoneLeft left 0 → sum left ≡ 0

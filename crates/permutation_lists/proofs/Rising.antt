@@ -1,6 +1,8 @@
 -- The interleavings rise strictly.
-use Rattle.std.proofs.Common.{ℕ, zero, suc, ◌+◌, ◌<◌, ◌≤◌, List, [], ◌∷◌, ◌++◌, map, sum, length, refl, subst, arith, inl, inr}
-use Rattle.permutation_lists.specs.Interleavings.{without, each_first, of_length, interleavings}
+use Rattle.std.proofs.Common.{ℕ, zero, suc, ◌+◌, ◌<◌, ◌≤◌, List, [], ◌∷◌, ◌++◌, map, sum, length, refl, sym, subst, arith, inl, inr}
+use Rattle.permutation_lists.specs.Inner.Prefixes.{each_first}
+use Rattle.permutation_lists.proofs.First.{with_turn}
+use Rattle.permutation_lists.specs.Interleavings.{without, of_length, interleavings}
 use Rattle.std.specs.Prelude.{◌≢◌, AllPairs, slice_index_or}
 use Rattle.permutation_lists.specs.Order.{IsBelow}
 
@@ -53,13 +55,15 @@ begin_append j i (a ∷ front) bs h k = (h, begin_append j i front bs h k)
 begin_each : (rest : List ℕ → List (List ℕ)) (c : List ℕ) (j i : ℕ) (cs : List ℕ) → j ≤ i → AllBegin j (each_first rest c i cs)
 begin_each rest c j i [] h = tt
 begin_each rest c j i (zero ∷ cs) h = begin_each rest c j (i + 1) cs (omega arith)
-begin_each rest c j i (suc x ∷ cs) h = begin_append j i (rest (without c i)) (each_first rest c (i + 1) cs) h (begin_each rest c j (i + 1) cs (omega arith))
+begin_each rest c j i (suc x ∷ cs) h =
+    subst (AllBegin j) (sym (with_turn rest c i x cs)) (begin_append j i (rest (without c i)) (each_first rest c (i + 1) cs) h (begin_each rest c j (i + 1) cs (omega arith)))
 
 rising_each : (rest : List ℕ → List (List ℕ)) → ((c : List ℕ) → IsRising (rest c)) → (c : List ℕ) (i : ℕ) (cs : List ℕ) → IsRising (each_first rest c i cs)
 rising_each rest h c i [] = tt
 rising_each rest h c i (zero ∷ cs) = rising_each rest h c (i + 1) cs
 rising_each rest h c i (suc x ∷ cs) =
-    rising_append i (rest (without c i)) (each_first rest c (i + 1) cs) (h (without c i)) (rising_each rest h c (i + 1) cs) (begin_each rest c (i + 1) (i + 1) cs (omega arith))
+    subst IsRising (sym (with_turn rest c i x cs))
+    (rising_append i (rest (without c i)) (each_first rest c (i + 1) cs) (h (without c i)) (rising_each rest h c (i + 1) cs) (begin_each rest c (i + 1) (i + 1) cs (omega arith)))
 
 -- the lists of a length rise
 pub rising : (n : ℕ) (c : List ℕ) → IsRising (of_length n c)

@@ -5,7 +5,7 @@ ghost use Rattle.std.specs.Bool.{OnTrue, OnFalse};
 ghost use Rattle.permutation_lists.specs.Interleavings.{interleavings};
 ghost use Rattle.spec_parser.specs.Trees.{entry_view, spec_view};
 ghost use Rattle.spec_parser.specs.Stands.{Stands};
-ghost use Rattle.permutation_lists.specs.Permutations.{entries_of, step_count, permutations_of};
+ghost use Rattle.permutation_lists.specs.Permutations.{entries_of, permutations_of};
 
 use crate::interleavings::Interleavings;
 use crate::turns::{entries_of, step_counts};
@@ -57,7 +57,7 @@ impl<'s> Permutations<'s> {
     /// All interleavings of the spec's steps, before the first.
     fn all(alloc: Global, spec: &Spec<'_>) -> Result<Permutations<'s>, AllocError>
         requires { Stands (spec_view spec.now) }
-        ensures { IfOk result (λ p. p ≡ record { here = []; more = map entries_of (interleavings (map step_count (spec_view spec.now).sessions)) }) }
+        ensures { IfOk result (λ p. p ≡ record { here = []; more = map entries_of (interleavings (map (λ s. length s.steps) (spec_view spec.now).sessions)) }) }
     {
         let counts = step_counts(alloc, &spec.sessions)?;
         let lists = Interleavings::new(alloc, &counts)?;

@@ -1,8 +1,8 @@
 //! The entries of turns.
 
-ghost use Rattle.std.specs.Prelude.{◌≡◌, ◌≤◌, ◌<◌, ◌^◌, ◌==◌, length, map, flat_map, count_by, IfOk};
+ghost use Rattle.std.specs.Prelude.{◌≡◌, ◌≤◌, ◌<◌, ◌^◌, ◌==◌, [], length, map, flat_map, count_by, IfOk};
 ghost use Rattle.spec_parser.specs.Trees.{entry_view, session_view};
-ghost use Rattle.permutation_lists.specs.Permutations.{entry_after, entries_of, step_count};
+ghost use Rattle.permutation_lists.specs.Permutations.{entries_of};
 
 use spec_parser::{Entry, SessionPart};
 use std::alloc::{AllocError, Global};
@@ -10,7 +10,7 @@ use std::alloc::{AllocError, Global};
 /// The entry of a session's turn, after the turns before it.
 fn entry_after(alloc: Global, before: &[u32], session: u32) -> Entry
     requires { length before.now < 2 ^ 32 }
-    ensures { entry_view result ≡ entry_after before.now session }
+    ensures { entry_view result ≡ record { session = session; step = count_by (λ x. x == session) before.now; markers = [] } }
 {
     let step = before.iter().filter(|turn| **turn == session).count();
     Entry {
@@ -35,7 +35,7 @@ pub fn entries_of(alloc: Global, turns: &[u32]) -> Result<Vec<Entry>, AllocError
 /// How many steps each session has.
 pub fn step_counts(alloc: Global, sessions: &[SessionPart<'_>]) -> Result<Vec<u32>, AllocError>
     requires { length (flat_map (λ s. s.steps) (map session_view sessions.now)) < 2 ^ 32 }
-    ensures { IfOk result (λ counts. counts.items ≡ map step_count (map session_view sessions.now)) }
+    ensures { IfOk result (λ counts. counts.items ≡ map (λ s. length s.steps) (map session_view sessions.now)) }
 {
     let mut counts = Vec::with_capacity(alloc, sessions.len())?;
     for session in sessions {

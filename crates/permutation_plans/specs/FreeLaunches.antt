@@ -30,7 +30,7 @@ script s = map step_block s.steps ++ map block (option_to_list s.teardown)
 -- the main setups in the control session and each session's setup; each session's script; the main teardown
 abbrev pub free_launches : SpecTree → FreeLaunches
 free_launches spec = record {
-  before = map (launch_in 0) spec.setups ++ own_launches (λ s. s.setup) 1 spec.sessions;
+  before = map (launch_in 0) spec.setups ++ own_launches (λ s. s.setup) spec.sessions;
   scripts = map script spec.sessions;
   after = map block (option_to_list spec.teardown);
 }

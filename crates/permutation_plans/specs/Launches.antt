@@ -1,5 +1,6 @@
 -- What a permutation of a spec launches, and in which order.
-use Rattle.std.specs.Prelude.{ℕ, ◌+◌, List, [], ◌∷◌, ◌++◌, length, map, Option, option_to_list}
+use Rattle.std.specs.Prelude.{ℕ, List, ◌++◌, length, map, flat_map, Option, option_to_list}
+use Rattle.std.specs.List.{enumerate_from}
 use Rattle.std.specs.Option.{option_map_or}
 use Rattle.session_machine.specs.declared.event.Order.{Order}
 use Rattle.session_machine.specs.declared.reply.HistItem.{HistItem}
@@ -11,10 +12,9 @@ use Rattle.report_lines.specs.Due.{Launches, Planned, due}
 abbrev pub launch_in : ℕ → PartTree → PlannedLaunch
 launch_in session part = record { session = session; block = part.block }
 
--- each session's part of one kind, if it has one, in its session, in file order; the first session has this number
-abbrev pub own_launches : (SessionTree → Option PartTree) → ℕ → List SessionTree → List PlannedLaunch
-own_launches part k [] = []
-own_launches part k (s ∷ ss) = map (launch_in k) (option_to_list (part s)) ++ own_launches part (k + 1) ss
+-- each session's part of one kind, if it has one, in its session, in file order
+abbrev pub own_launches : (SessionTree → Option PartTree) → List SessionTree → List PlannedLaunch
+own_launches part sessions = flat_map (λ (p : ℕ × SessionTree). map (launch_in p.0) (option_to_list (part p.1))) (enumerate_from 1 sessions)
 
 -- the block of an entry's step, in its session; a spec that was read has a step for each entry
 abbrev pub launch_of_entry : SpecTree → EntryTree → PlannedLaunch
@@ -23,9 +23,9 @@ launch_of_entry spec e = record { session = e.session; block = option_map_or (λ
 -- the main setups in the control session, each session's setup, the steps, each session's teardown, the main teardown in the control session
 abbrev pub launches : SpecTree → List EntryTree → Launches
 launches spec entries = record {
-  setups = map (launch_in 0) spec.setups ++ own_launches (λ s. s.setup) 1 spec.sessions;
+  setups = map (launch_in 0) spec.setups ++ own_launches (λ s. s.setup) spec.sessions;
   steps = map (launch_of_entry spec) entries;
-  teardowns = own_launches (λ s. s.teardown) 1 spec.sessions;
+  teardowns = own_launches (λ s. s.teardown) spec.sessions;
   sessions = length spec.sessions;
   last = map (launch_in 0) (option_to_list spec.teardown);
 }

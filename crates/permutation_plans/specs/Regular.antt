@@ -22,16 +22,12 @@ abbrev pub FitsAfter : (List HistItem → Order) → List HistItem → List Hist
 FitsAfter due before [] = due before ≡ Stop
 FitsAfter due before (item ∷ items) = IsOrdered item.event (due before) × FitsAfter due (before ++ item ∷ []) items
 
--- a history launches what the permutation launches, all of it and in its order
-abbrev pub Fits : SpecTree → List EntryTree → List HistItem → Type 0
-Fits spec entries items = FitsAfter (due_in spec entries) [] items
-
--- a history of the permutation: a run of the machine that leads to a quiet state and launches what the permutation launches
+-- a history of the permutation: a run of the machine that leads to a quiet state and launches what the permutation launches, all of it and in its order
 pub record IsRegular (spec : SpecTree) (blocks : Blocks) (entries : List EntryTree) (items : List HistItem) : Type 0 where
   pub state : Machine
   pub run : Run blocks Directed (opening (length spec.sessions)) items state
   pub quiet : IsTrue (is_quiet state)
-  pub fits : Fits spec entries items
+  pub fits : FitsAfter (due_in spec entries) [] items
 
 -- a permutation has at most one regular history, whatever its blocks are
 abbrev pub HasOneHistory : SpecTree → List EntryTree → Type 0

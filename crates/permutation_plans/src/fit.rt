@@ -3,8 +3,8 @@ ghost use Rattle.std.specs.Prelude.{◌≡◌, ◌↔◌, ◌<◌, ◌^◌, [], 
 ghost use Rattle.spec_parser.specs.Trees.{spec_view, entry_view};
 ghost use Rattle.report_lines.specs.Progress.{Follows};
 ghost use Rattle.report_lines.specs.Starts.{is_order};
-ghost use Rattle.permutation_plans.specs.Launches.{plan_of, due_after};
-ghost use Rattle.permutation_plans.specs.Regular.{IsOrdered, FitsAfter, Fits};
+ghost use Rattle.permutation_plans.specs.Launches.{plan_of, due_after, due_in};
+ghost use Rattle.permutation_plans.specs.Regular.{IsOrdered, FitsAfter};
 
 use crate::launches::Launches;
 use report_lines::Progress;
@@ -89,7 +89,7 @@ pub fn launches_fit(
     items: &[HistItem<'_>],
 ) -> Result<bool, AllocError>
     requires { length spec.now.sessions.items < 2 ^ 32 }
-    ensures { IfOk result (λ fit. IsTrue fit ↔ Fits (spec_view spec.now) (map entry_view entries.now) items.now) }
+    ensures { IfOk result (λ fit. IsTrue fit ↔ FitsAfter (due_in (spec_view spec.now) (map entry_view entries.now)) [] items.now) }
 {
     let launches = Launches::of(alloc, spec, entries)?;
     fits(alloc, &launches, entries, items)

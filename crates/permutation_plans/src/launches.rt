@@ -53,7 +53,7 @@ fn push_setups(
     sessions: &[SessionPart<'_>],
 ) -> Result<(), AllocError>
     requires { length sessions.now < 2 ^ 32 }
-    ensures { OnOk result (setups.new.items ≡ setups.old.items ++ own_launches (λ s. s.setup) 1 (map session_view sessions.now)) }
+    ensures { OnOk result (setups.new.items ≡ setups.old.items ++ own_launches (λ s. s.setup) (map session_view sessions.now)) }
 {
     for (place, session) in sessions.iter().enumerate() {
         push_part(setups, place as u32 + 1, session.setup)?;
@@ -67,7 +67,7 @@ fn push_teardowns(
     sessions: &[SessionPart<'_>],
 ) -> Result<(), AllocError>
     requires { length sessions.now < 2 ^ 32 }
-    ensures { OnOk result (teardowns.new.items ≡ teardowns.old.items ++ own_launches (λ s. s.teardown) 1 (map session_view sessions.now)) }
+    ensures { OnOk result (teardowns.new.items ≡ teardowns.old.items ++ own_launches (λ s. s.teardown) (map session_view sessions.now)) }
 {
     for (place, session) in sessions.iter().enumerate() {
         push_part(teardowns, place as u32 + 1, session.teardown)?;
@@ -78,7 +78,7 @@ fn push_teardowns(
 /// The setups of the file, then those of the sessions.
 pub fn setups(alloc: Global, spec: &Spec<'_>) -> Result<Vec<PlannedLaunch>, AllocError>
     requires { length spec.now.sessions.items < 2 ^ 32 }
-    ensures { IfOk result (λ setups. setups.items ≡ map (launch_in 0) (spec_view spec.now).setups ++ own_launches (λ s. s.setup) 1 (spec_view spec.now).sessions) }
+    ensures { IfOk result (λ setups. setups.items ≡ map (launch_in 0) (spec_view spec.now).setups ++ own_launches (λ s. s.setup) (spec_view spec.now).sessions) }
 {
     let mut setups = Vec::new(alloc);
     for part in &spec.setups {

@@ -1,5 +1,5 @@
 -- A run that came to its end.
-use Rattle.std.proofs.Common.{◌≡◌, ℕ, length, List, Option, Some, None, true, ap, subst, ◌∙◌}
+use Rattle.std.proofs.Common.{◌≡◌, ℕ, length, List, [], Option, Some, None, true, ap, subst, ◌∙◌}
 use Rattle.std.specs.Prelude.{IfSome}
 use Rattle.session_machine.specs.declared.event.Mode.{Mode}
 use Rattle.session_machine.specs.declared.event.Mode.TheVariants.{Directed}
@@ -7,7 +7,8 @@ use Rattle.session_machine.specs.Machine.{Machine, Blocks, opening}
 use Rattle.session_machine.specs.Engine.{Engine, Run, is_quiet_in, opened}
 use Rattle.session_core.specs.Engines.{IsOf}
 use Rattle.spec_parser.specs.Trees.{EntryTree, SpecTree}
-use Rattle.permutation_plans.specs.Regular.{Fits, IsRegular}
+use Rattle.permutation_plans.specs.Launches.{due_in}
+use Rattle.permutation_plans.specs.Regular.{FitsAfter, IsRegular}
 use Rattle.spec_files.specs.Inner.Resting.{IsAtRest}
 
 rests_in : (e : Engine) (machine : Option Machine) → is_quiet_in machine ≡ true → IfSome machine (λ m. Run e.blocks e.mode (opening e.count) e.history m) → IsAtRest e
@@ -20,7 +21,7 @@ rests e quiet leads = rests_in e e.machine quiet leads
 -- what was opened over the blocks and came to rest has a regular history, if it fits
 pub regular : (spec : SpecTree) (blocks : Blocks) (entries : List EntryTree) (count : ℕ) (old new : Engine)
     → old ≡ opened blocks count Directed → IsOf new old.blocks old.count old.mode → count ≡ length spec.sessions → IsAtRest new
-    → Fits spec entries new.history → IsRegular spec blocks entries new.history
+    → FitsAfter (due_in spec entries) [] new.history → IsRegular spec blocks entries new.history
 regular spec blocks entries count old new is same long r fits =
     let bs : new.blocks ≡ blocks = same.0 ∙ ap (λ (e : Engine). e.blocks) is in
     let mode : new.mode ≡ Directed = same.2 ∙ ap (λ (e : Engine). e.mode) is in

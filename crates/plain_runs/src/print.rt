@@ -8,7 +8,7 @@ ghost use Rattle.permutation_lists.specs.Permutations.{permutations_of};
 ghost use Rattle.spec_files.specs.Files.{File, FileIs};
 ghost use Rattle.spec_files.specs.Prints.{Prints};
 ghost use Rattle.spec_files.specs.Runs.{has_ended, is_refusal, IsOneTold, IsTold};
-ghost use Rattle.spec_files.specs.Said.{Said};
+ghost use Rattle.report_text.specs.Said.{Said};
 ghost use Rattle.plain_runs.specs.Alone.{IsOfFile, IsOfPrint};
 
 use crate::one_run::run_alone;

@@ -14,7 +14,7 @@ use Rattle.spec_files.specs.FreeRuns.{FileFreeTold}
 use Rattle.spec_files.specs.Lists.{FileLists}
 use Rattle.spec_files.specs.Prints.{FileSays}
 use Rattle.spec_files.specs.Runs.{is_refusal, is_of_listing, has_broken, has_ended, status_of as fault_status, IsListed, IsTold}
-use Rattle.spec_files.specs.Said.{Said}
+use Rattle.report_text.specs.Said.{Said}
 use Rattle.spec_files.specs.declared.fault.RunFault.{RunFault}
 use Rattle.spec_files.specs.declared.fault.RunFault.TheVariants as faults
 use Rattle.program_words.specs.declared.options.Options.{Options}

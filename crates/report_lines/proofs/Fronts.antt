@@ -10,7 +10,8 @@ use Rattle.report_lines.specs.declared.history.Line.TheVariants.{AtOnce, Waiting
 use Rattle.report_lines.specs.declared.history.Moment.{Moment}
 use Rattle.report_lines.specs.declared.history.RunState.TheVariants.{Whole, Invalid, Due}
 use Rattle.report_lines.specs.Starts.{start, is_order, ends_in}
-use Rattle.report_lines.specs.Due.{Launches, Planned, orders, segment, fails, is_over, went_well, launch, due_setup, teardowns_so_far, due_last, due_entry, due_at, due}
+use Rattle.session_machine.specs.Machine.{is_failed}
+use Rattle.report_lines.specs.Due.{Launches, Planned, orders, segment, is_over, went_well, launch, due_setup, teardowns_so_far, due_last, due_entry, due_at, due}
 use Rattle.report_lines.specs.History.{PermutationRun, session_at, seen_before, has_ended, is_named, is_starred, is_empty}
 use Rattle.report_lines.specs.Report.{Report, is_reported, active, instances, before, after, may_report, first_try, retry, pass, goes_on, polled, poll, is_of, is_busy, made_way, launched, report_from, report}
 use Rattle.report_lines.specs.Fronts.{longer, longer_plan}
@@ -212,7 +213,7 @@ setup_stays front item more k (t ∷ ts) ordered =
     (if went_well front k t.session then due_setup front (orders front) (k + 1) ts else Some Stop)
     (Some (launch t))
     (λ some. let less : k < orders front = grind arith in
-    ap (λ (w : List HistItem). if list_any (ends_in t.session) w && not (list_any fails w) then due_setup (front ++ item ∷ more) (orders front) (k + 1) ts else Some Stop) (segment_stays front item more k ordered less)
+    ap (λ (w : List HistItem). if list_any (ends_in t.session) w && not (list_any (λ (i : HistItem). is_failed i.reply.outcome) w) then due_setup (front ++ item ∷ more) (orders front) (k + 1) ts else Some Stop) (segment_stays front item more k ordered less)
     ∙ ap (λ (o : Option Order). if went_well front k t.session then o else Some Stop) (setup_stays front item more (k + 1) ts ordered))
 
 teardowns_stay : (front : List HistItem) (item : HistItem) (more : List HistItem) (k : ℕ) (ts : List PlannedLaunch) → is_order item.event ≡ true → teardowns_so_far (front ++ item ∷ more) (orders front) k ts ≡ teardowns_so_far front (orders front) k ts

@@ -31,16 +31,13 @@ pub record Planned : Type 0 where
 abbrev pub segment : List HistItem → ℕ → List HistItem
 segment items k = slice_range items (start items k) (start items (k + 1))
 
-abbrev pub fails : HistItem → Bool
-fails item = is_failed item.reply.outcome
-
 -- the segment's block ended
 abbrev pub is_over : List HistItem → ℕ → ℕ → Bool
 is_over items k session = list_any (ends_in session) (segment items k)
 
 -- it ended, and nothing in the segment failed
 abbrev pub went_well : List HistItem → ℕ → ℕ → Bool
-went_well items k session = is_over items k session && not (list_any fails (segment items k))
+went_well items k session = is_over items k session && not (list_any (λ item. is_failed item.reply.outcome) (segment items k))
 
 -- how many orders a history has
 abbrev pub orders : List HistItem → ℕ

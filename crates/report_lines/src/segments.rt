@@ -3,7 +3,7 @@ ghost use Rattle.std.specs.Prelude.{◌≡◌, ◌+◌, ◌<◌, ◌≤◌, ◌^
 ghost use Rattle.std.specs.List.{list_any};
 ghost use Rattle.report_lines.specs.Starts.{start, ends_in};
 ghost use Rattle.session_machine.specs.Machine.{is_failed};
-ghost use Rattle.report_lines.specs.Due.{segment, fails, is_over, went_well, orders};
+ghost use Rattle.report_lines.specs.Due.{segment, is_over, went_well, orders};
 ghost use Rattle.report_lines.specs.Places.{starts_from};
 
 use crate::entries::{self, is_order};
@@ -119,7 +119,7 @@ pub fn any_ends(items: &[HistItem<'_>], session: u32) -> bool
 
 /// Whether a reply of these is a failure.
 pub fn any_fails(items: &[HistItem<'_>]) -> bool
-    ensures { result ≡ list_any fails items.now }
+    ensures { result ≡ list_any (λ item. is_failed item.reply.outcome) items.now }
 {
     for item in items {
         if is_failed(&item.reply.outcome) {

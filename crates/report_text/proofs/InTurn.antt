@@ -77,7 +77,7 @@ last false sessions items count k = refl
 
 pub told : (spec : SpecTree) (items : List HistItem) (count k : ℕ) → teardowns_say spec.sessions items count k (teardowns_of spec) ≡ teardowns_in_turn spec items count k
 told spec items count k =
-    let numbers = numbers_of (λ s. s.teardown) 1 spec.sessions in
+    let numbers = numbers_of (λ s. s.teardown) spec.sessions in
     let first = teardowns_from spec.sessions items count k numbers in
     let leave : List (Option ℕ) = replicate (length spec.sessions) None in
     let main : List (Option ℕ) = if is_some spec.teardown then Some 0 ∷ [] else [] in

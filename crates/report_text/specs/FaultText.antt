@@ -1,7 +1,6 @@
 -- What a statement that fails prints, as PostgreSQL does.
 use Rattle.std.specs.Prelude.{ℕ, List, ◌++◌, codes}
 use Rattle.std.specs.Fmt.{signed_decimal}
-use Rattle.sql_values.specs.declared.fault.ValueFault.{ValueFault}
 use Rattle.sql_values.specs.declared.fault.ValueFault.TheVariants as values
 use Rattle.session_machine.specs.declared.fault.StmtFault.{StmtFault}
 use Rattle.session_machine.specs.declared.fault.StmtFault.TheVariants as faults
@@ -9,30 +8,21 @@ use Rattle.session_machine.specs.declared.fault.StmtFault.TheVariants as faults
 abbrev pub in_quotes : List ℕ → List ℕ
 in_quotes name = codes "\"" ++ name ++ codes "\""
 
-abbrev pub the_column : List ℕ → List ℕ
-the_column name = codes "column " ++ in_quotes name
-
-abbrev pub the_relation : List ℕ → List ℕ
-the_relation name = codes "relation " ++ in_quotes name
-
 abbrev pub column_of : List ℕ → List ℕ → List ℕ
-column_of column table = the_column column ++ codes " of " ++ the_relation table
+column_of column table = codes "column " ++ in_quotes column ++ codes " of relation " ++ in_quotes table
 
--- the last one is in no reply
-abbrev pub value_fault_text : ValueFault → List ℕ
-value_fault_text values.DivisionByZero = codes "division by zero"
-value_fault_text values.IntegerRange = codes "integer out of range"
-value_fault_text values.BigintRange = codes "bigint out of range"
-value_fault_text values.TypeMismatch = codes "type mismatch"
-value_fault_text (values.NoColumn name) = the_column name ++ codes " does not exist"
-value_fault_text values.Memory = codes "out of memory"
-
+-- want of memory is in no reply
 unfoldable pub fault_text : StmtFault → List ℕ
-fault_text (faults.Value fault) = value_fault_text fault
+fault_text (faults.Value values.DivisionByZero) = codes "division by zero"
+fault_text (faults.Value values.IntegerRange) = codes "integer out of range"
+fault_text (faults.Value values.BigintRange) = codes "bigint out of range"
+fault_text (faults.Value values.TypeMismatch) = codes "type mismatch"
+fault_text (faults.Value (values.NoColumn name)) = codes "column " ++ in_quotes name ++ codes " does not exist"
+fault_text (faults.Value values.Memory) = codes "out of memory"
 fault_text (faults.NoColumnOf column table) = column_of column table ++ codes " does not exist"
-fault_text (faults.NoTable name) = the_relation name ++ codes " does not exist"
+fault_text (faults.NoTable name) = codes "relation " ++ in_quotes name ++ codes " does not exist"
 fault_text (faults.NoTableToDrop name) = codes "table " ++ in_quotes name ++ codes " does not exist"
-fault_text (faults.TableExists name) = the_relation name ++ codes " already exists"
+fault_text (faults.TableExists name) = codes "relation " ++ in_quotes name ++ codes " already exists"
 fault_text (faults.NullValue column table) = codes "null value in " ++ column_of column table ++ codes " violates not-null constraint"
 fault_text (faults.KeyTaken name) = codes "duplicate key value violates unique constraint " ++ in_quotes name
 fault_text faults.TooManyValues = codes "INSERT has more expressions than target columns"

@@ -1,7 +1,7 @@
 -- What replies print.
 use Rattle.std.specs.Prelude.{ℕ, ◌-◌, ◌==◌, List, [], ◌∷◌, ◌++◌, length, codes, slice_get, if◌then◌else◌}
 use Rattle.std.specs.Option.{option_map_or}
-use Rattle.result_tables.specs.TableText.{table_of, table_text}
+use Rattle.result_tables.specs.TableText.{table_text}
 use Rattle.session_machine.specs.declared.reply.HistItem.{HistItem}
 use Rattle.session_machine.specs.declared.reply.Outcome.{Outcome}
 use Rattle.session_machine.specs.declared.reply.Outcome.TheVariants.{Launched, Rows, Failed}
@@ -11,7 +11,7 @@ use Rattle.report_text.specs.FaultText.{fault_text}
 
 -- a result set prints its table
 abbrev pub rows_text : Outcome → List ℕ
-rows_text (Rows set) = table_text (table_of set)
+rows_text (Rows set) = table_text set
 rows_text _ = []
 
 -- a statement prints the table of its result set, or why it failed
@@ -19,14 +19,11 @@ abbrev pub outcome_text : Outcome → List ℕ
 outcome_text (Failed fault) = codes "ERROR:  " ++ fault_text fault ++ codes "\n"
 outcome_text outcome = rows_text outcome
 
--- a reply to another session prints nothing
-abbrev pub reply_text : ℕ → HistItem → List ℕ
-reply_text session item = if session_of item.event == session then outcome_text item.reply.outcome else []
-
--- what the session's statements print, up to the one with which its block is over
+-- what the session's statements print, up to the one with which its block is over; a reply to another session prints nothing
 abbrev pub replies_text : ℕ → List HistItem → List ℕ
 replies_text session [] = []
-replies_text session (item ∷ items) = reply_text session item ++ (if ends_in session item then [] else replies_text session items)
+replies_text session (item ∷ items) =
+    (if session_of item.event == session then outcome_text item.reply.outcome else []) ++ (if ends_in session item then [] else replies_text session items)
 
 -- what came last
 abbrev pub last_outcome : List HistItem → Outcome

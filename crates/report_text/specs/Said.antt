@@ -1,18 +1,24 @@
--- What a permutation's report says, piece by piece.
+-- What a permutation's report says, piece by piece, and the run of a file's permutations.
 use Rattle.std.specs.Prelude.{ℕ, Bool, true, false, List, [], ◌++◌, if◌then◌else◌}
 
--- how the report ends: after the teardowns; where the permutation is found invalid; at a setup that fails, with its text; at one that waits
+-- how a report or a run ends: after all that it has to say; where the permutation is found invalid; at a setup that fails, with its text; at one that waits; where one more
+-- permutation is there than may run
 pub data Ending : Type 0 where
   whole : Ending
   invalid : Ending
   setup_failed : List ℕ → Ending
   setup_waits : Ending
+  too_many : Ending
 
 -- what goes to the output, what goes to the notes, and how it ends
 pub record Said : Type 0 where
   pub text : List ℕ
   pub notes : List ℕ
   pub ending : Ending
+
+-- nothing is said, and so it ends
+abbrev pub ended : Ending → Said
+ended ending = record { text = []; notes = []; ending = ending }
 
 abbrev pub says : List ℕ → Said
 says text = record { text = text; notes = []; ending = whole }

@@ -4,7 +4,8 @@ ghost use Rattle.std.specs.Prelude.{◌≡◌, ◌++◌, codes, OnOk};
 ghost use Rattle.std.specs.Fmt.{signed_decimal};
 ghost use Rattle.iso_lexer.specs.Devices.{page_text};
 ghost use Rattle.iso_lexer.specs.Names.{name_view, decoded};
-ghost use Rattle.report_text.specs.FaultText.{in_quotes, the_column, the_relation, column_of, value_fault_text, fault_text};
+ghost use Rattle.report_text.specs.FaultText.{in_quotes, column_of, fault_text};
+ghost use Rattle.session_machine.specs.declared.fault.StmtFault.TheVariants.{Value};
 
 use crate::names::push_name;
 use iso_lexer::{Ident, Name, Page};
@@ -22,21 +23,22 @@ fn push_quoted(page: &mut Page, name: &Name<'_>) -> Result<(), AllocError>
 }
 
 fn push_column(page: &mut Page, name: &Name<'_>) -> Result<(), AllocError>
-    ensures { OnOk result (page_text page.new ≡ page_text page.old ++ the_column (decoded (name_view name.now))) }
+    ensures { OnOk result (page_text page.new ≡ page_text page.old ++ (codes "column " ++ in_quotes (decoded (name_view name.now)))) }
 {
     page.push(b"column ")?;
     push_quoted(page, name)
 }
 
 fn push_relation(page: &mut Page, name: &Ident<'_>) -> Result<(), AllocError>
-    ensures { OnOk result (page_text page.new ≡ page_text page.old ++ the_relation name.now) }
+    ensures { OnOk result (page_text page.new ≡ page_text page.old ++ (codes "relation " ++ in_quotes name.now)) }
 {
     page.push(b"relation ")?;
     push_quoted(page, &name.name())
 }
 
+#[tactic(auto, unfolding(crate::specs::FaultText::fault_text))]
 fn push_value_fault(page: &mut Page, fault: &ValueFault<'_>) -> Result<(), AllocError>
-    ensures { OnOk result (page_text page.new ≡ page_text page.old ++ value_fault_text fault.now) }
+    ensures { OnOk result (page_text page.new ≡ page_text page.old ++ fault_text (Value fault.now)) }
 {
     match fault {
         ValueFault::DivisionByZero => page.push(b"division by zero"),

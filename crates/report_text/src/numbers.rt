@@ -17,7 +17,7 @@ fn add_if(numbers: &mut Vec<usize>, has: bool, number: usize) -> Result<(), Allo
 }
 
 fn add_setups(numbers: &mut Vec<usize>, sessions: &[SessionPart<'_>]) -> Result<(), AllocError>
-    ensures { OnOk result (numbers.new.items ≡ numbers.old.items ++ numbers_of (λ s. s.setup) 1 (map session_view sessions.now)) }
+    ensures { OnOk result (numbers.new.items ≡ numbers.old.items ++ numbers_of (λ s. s.setup) (map session_view sessions.now)) }
 {
     for (index, session) in sessions.iter().enumerate() {
         add_if(numbers, session.setup.is_some(), index + 1)?;
@@ -26,7 +26,7 @@ fn add_setups(numbers: &mut Vec<usize>, sessions: &[SessionPart<'_>]) -> Result<
 }
 
 fn add_teardowns(numbers: &mut Vec<usize>, sessions: &[SessionPart<'_>]) -> Result<(), AllocError>
-    ensures { OnOk result (numbers.new.items ≡ numbers.old.items ++ numbers_of (λ s. s.teardown) 1 (map session_view sessions.now)) }
+    ensures { OnOk result (numbers.new.items ≡ numbers.old.items ++ numbers_of (λ s. s.teardown) (map session_view sessions.now)) }
 {
     for (index, session) in sessions.iter().enumerate() {
         add_if(numbers, session.teardown.is_some(), index + 1)?;
@@ -46,7 +46,7 @@ pub fn setups_of(alloc: Global, spec: &Spec<'_>) -> Result<Vec<usize>, AllocErro
 
 /// The sessions that have a teardown, in their order.
 pub fn teardowns_of(alloc: Global, spec: &Spec<'_>) -> Result<Vec<usize>, AllocError>
-    ensures { IfOk result (λ numbers. numbers.items ≡ numbers_of (λ s. s.teardown) 1 (spec_view spec.now).sessions) }
+    ensures { IfOk result (λ numbers. numbers.items ≡ numbers_of (λ s. s.teardown) (spec_view spec.now).sessions) }
 {
     let mut numbers = Vec::new(alloc);
     add_teardowns(&mut numbers, &spec.sessions)?;

@@ -1,10 +1,11 @@
 //! What replies print.
 
-ghost use Rattle.std.specs.Prelude.{◌≡◌, ◌++◌, codes, OnOk};
+ghost use Rattle.std.specs.Prelude.{◌≡◌, ◌++◌, ◌==◌, [], codes, OnOk, if◌then◌else◌};
+ghost use Rattle.session_machine.specs.Machine.{session_of};
 ghost use Rattle.report_text.specs.FaultText.{fault_text};
 ghost use Rattle.iso_lexer.specs.Devices.{page_text};
-ghost use Rattle.report_text.specs.Replies.{rows_text, outcome_text, reply_text, replies_text, last_outcome};
-ghost use Rattle.result_tables.specs.TableText.{table_of, table_text};
+ghost use Rattle.report_text.specs.Replies.{rows_text, outcome_text, replies_text, last_outcome};
+ghost use Rattle.result_tables.specs.TableText.{table_text};
 
 use crate::fault_text::push_fault;
 use iso_lexer::Page;
@@ -15,7 +16,7 @@ use session_machine::{HistItem, Outcome, StmtFault};
 use std::alloc::AllocError;
 
 fn push_table(page: &mut Page, set: &ResultSet<'_>) -> Result<(), AllocError>
-    ensures { OnOk result (page_text page.new ≡ page_text page.old ++ table_text (table_of set.now)) }
+    ensures { OnOk result (page_text page.new ≡ page_text page.old ++ table_text set.now) }
 {
     write_table(page.alloc(), page, set).map_err(|_| AllocError)
 }
@@ -50,7 +51,7 @@ pub fn push_outcome(page: &mut Page, outcome: &Outcome<'_>) -> Result<(), AllocE
 }
 
 fn push_reply(page: &mut Page, session: u32, item: &HistItem<'_>) -> Result<(), AllocError>
-    ensures { OnOk result (page_text page.new ≡ page_text page.old ++ reply_text session item.now) }
+    ensures { OnOk result (page_text page.new ≡ page_text page.old ++ (if session_of item.now.event == session then outcome_text item.now.reply.outcome else [])) }
 {
     if session_of(&item.event) == session {
         push_outcome(page, &item.reply.outcome)

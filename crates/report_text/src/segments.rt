@@ -3,7 +3,7 @@
 ghost use Rattle.std.specs.Prelude.{◌≡◌, ◌&&◌, not};
 ghost use Rattle.std.specs.List.{list_any};
 ghost use Rattle.report_lines.specs.Starts.{ends_in};
-ghost use Rattle.report_lines.specs.Due.{fails};
+ghost use Rattle.session_machine.specs.Machine.{is_failed};
 
 use report_lines::{any_fails, session_of};
 use session_machine::HistItem;
@@ -28,7 +28,7 @@ pub fn is_over(segment: &[HistItem<'_>], session: usize) -> bool
 
 /// Whether it is, and no statement failed.
 pub fn went_well(segment: &[HistItem<'_>], session: usize) -> bool
-    ensures { result ≡ (list_any (ends_in session) segment.now && not (list_any fails segment.now)) }
+    ensures { result ≡ (list_any (ends_in session) segment.now && not (list_any (λ item. is_failed item.reply.outcome) segment.now)) }
 {
     let over = is_over(segment, session);
     let failed = any_fails(segment);

@@ -10,7 +10,7 @@ use Rattle.std.proofs.lemmas.Bool.Decides.{nat_tests}
 use Rattle.std.proofs.lemmas.List.Folds.{list_all-append}
 use lib.IntN.{ℤ, pos, negsuc}
 use lib.Signed.{mag}
-use Rattle.result_tables.specs.Numeric.{is_numeric, is_numeric_byte, is_exponent, starts_with_exponent}
+use Rattle.result_tables.specs.Numeric.{is_numeric, is_numeric_byte, is_exponent}
 use Rattle.result_tables.specs.TableText.{is_word}
 
 -- some digits, and nothing else
@@ -64,7 +64,7 @@ digits_are_numeric : (ds : List ℕ) → list_all is_ascii_digit ds ≡ true →
 digits_are_numeric [] h = refl
 digits_are_numeric (d ∷ ds) h = both_true _ _ (digit_is_numeric d (left_true _ _ h)) (digits_are_numeric ds (right_true _ _ h))
 
-starts_with_digit : (ds : List ℕ) → AreDigits ds → not (starts_with_exponent ds) ≡ true
+starts_with_digit : (ds : List ℕ) → AreDigits ds → not (option_map_or is_exponent (slice_get ds 0) false) ≡ true
 starts_with_digit [] h = refl
 starts_with_digit (d ∷ ds) h = digit_is_no_exponent d (left_true _ _ h.all)
 

@@ -5,7 +5,7 @@ use Rattle.std.proofs.lemmas.List.{get_or-map, length-map, take_all}
 use Rattle.std.proofs.lemmas.Slice.Zip.{get_or-zip, length-zip}
 use Rattle.result_tables.specs.declared.column.ColumnLayout.{ColumnLayout}
 use Rattle.result_tables.specs.Inner.Lines.{separator}
-use Rattle.result_tables.specs.TableText.{padded, padded_cells}
+use Rattle.result_tables.specs.TableText.{padded}
 
 shifted : (p j s g : List ℕ) (c : ℕ) → p ++ (c ∷ ((j ++ s) ++ g)) ≡ ((p ++ (c ∷ j)) ++ s) ++ g
 shifted p j s g c = simp append_assoc
@@ -35,6 +35,10 @@ joined_more c old pieces k piece before between after h here e f g =
     let j = join_with_byte c (take k pieces) in
     g ∙ ap (λ l. l ++ piece) (f ∙ ap (λ l. l ++ separator c k) e)
     ∙ regrouped old j (separator c k) piece ∙ ap (λ l. old ++ ((j ++ separator c k) ++ l)) (sym here) ∙ ap (λ l. old ++ l) (sym (join_more c pieces k h))
+
+-- each text in its column
+abbrev pub padded_cells : List ColumnLayout → List (List ℕ) → List (List ℕ)
+padded_cells columns texts = map (λ p. padded p.0 p.1) (zip columns texts)
 
 -- as many cells as columns
 pub length-padded_cells : (columns : List ColumnLayout) (texts : List (List ℕ)) → length texts ≡ length columns → length (padded_cells columns texts) ≡ length columns

@@ -12,14 +12,6 @@ is_exponent b = b == 69 || b == 101
 abbrev pub is_numeric_byte : ℕ → Bool
 is_numeric_byte b = is_ascii_digit b || b == 46 || is_exponent b || b == 32 || b == 45
 
--- the first byte is `E` or `e`
-abbrev pub starts_with_exponent : List ℕ → Bool
-starts_with_exponent text = option_map_or is_exponent (slice_get text 0) false
-
--- the last byte is a digit
-abbrev pub ends_in_digit : List ℕ → Bool
-ends_in_digit text = option_map_or is_ascii_digit (slice_get text (length text - 1)) false
-
 -- all bytes may stand in a number, the first one is no `E` or `e`, and the last one is a digit
 abbrev pub is_numeric : List ℕ → Bool
-is_numeric text = list_all is_numeric_byte text && not (starts_with_exponent text) && ends_in_digit text
+is_numeric text = list_all is_numeric_byte text && not (option_map_or is_exponent (slice_get text 0) false) && option_map_or is_ascii_digit (slice_get text (length text - 1)) false

@@ -7,42 +7,29 @@ use Rattle.result_tables.specs.Numeric.{is_numeric}
 use Rattle.result_tables.specs.Printed.{printed}
 use Rattle.result_tables.specs.Titles.{title_text}
 
--- the titles, and the printed values row by row
-pub record Table : Type 0 where
-  pub titles : List (List ℕ)
-  pub rows : List (List (List ℕ))
-
--- what the table of a result shows
-abbrev pub table_of : Results → Table
-table_of set = record { titles = map title_text set.titles; rows = map (map printed) set.rows }
+-- some text, and not a number
+abbrev pub is_word : List ℕ → Bool
+is_word text = nat_lt 0 (length text) && not (is_numeric text)
 
 -- the printed values of a column, from the top
 abbrev pub cells : List (List (List ℕ)) → ℕ → List (List ℕ)
 cells rows k = map (λ row. slice_index_or row k []) rows
-
--- some text, and not a number
-abbrev pub is_word : List ℕ → Bool
-is_word text = nat_lt 0 (length text) && not (is_numeric text)
 
 -- as wide as the longest of the title and the values; aligned to the left where some value is a word
 abbrev pub column_of : List ℕ → List (List ℕ) → ColumnLayout
 column_of title values = record { width = fold max 0 (map length (title ∷ values)); left = list_any is_word values }
 
 -- a column for each title
-abbrev pub columns_of : Table → List ColumnLayout
-columns_of t = map (λ k. column_of (slice_index_or t.titles k []) (cells t.rows k)) (range_with_len 0 (length t.titles))
+abbrev pub columns_of : List (List ℕ) → List (List (List ℕ)) → List ColumnLayout
+columns_of titles rows = map (λ k. column_of (slice_index_or titles k []) (cells rows k)) (range_with_len 0 (length titles))
 
 -- a cell, filled up with blanks to the column's width
 abbrev pub padded : ColumnLayout → List ℕ → List ℕ
 padded c text = let blanks = replicate (c.width - length text) 32 in if c.left then text ++ blanks else blanks ++ text
 
--- each text in its column
-abbrev pub padded_cells : List ColumnLayout → List (List ℕ) → List (List ℕ)
-padded_cells columns texts = map (λ p. padded p.0 p.1) (zip columns texts)
-
--- the cells of a line, with `|` between them
+-- each text in its column, with `|` between them
 abbrev pub table_line : List ColumnLayout → List (List ℕ) → List ℕ
-table_line columns texts = join_with_byte 124 (padded_cells columns texts) ++ 10 ∷ []
+table_line columns texts = join_with_byte 124 (map (λ p. padded p.0 p.1) (zip columns texts)) ++ 10 ∷ []
 
 -- the rule below the titles: `-` as wide as each column, with `+` between them
 abbrev pub rule_line : List ColumnLayout → List ℕ
@@ -52,8 +39,10 @@ rule_line columns = join_with_byte 43 (map (λ c. replicate c.width 45) columns)
 abbrev pub foot : ℕ → List ℕ
 foot n = codes "(" ++ decimal n ++ (if n == 1 then codes " row)\n\n" else codes " rows)\n\n")
 
--- the titles, the rule, the rows, and how many there are
-abbrev pub table_text : Table → List ℕ
-table_text t =
-    let columns = columns_of t in
-    table_line columns t.titles ++ rule_line columns ++ flat_map (table_line columns) t.rows ++ foot (length t.rows)
+-- the table of a result: the titles, the rule, the printed values row by row, and how many rows there are
+abbrev pub table_text : Results → List ℕ
+table_text set =
+    let titles = map title_text set.titles in
+    let rows = map (map printed) set.rows in
+    let columns = columns_of titles rows in
+    table_line columns titles ++ rule_line columns ++ flat_map (table_line columns) rows ++ foot (length rows)

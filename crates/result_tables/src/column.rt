@@ -3,7 +3,7 @@
 ghost use Rattle.std.specs.Prelude.{◌≡◌, ◌<◌, ◌||◌, length, map, max, All, IfOk};
 ghost use Rattle.result_tables.specs.Printed.{printed};
 ghost use Rattle.result_tables.specs.Titles.{title_text};
-ghost use Rattle.result_tables.specs.TableText.{is_word, cells, column_of, columns_of, table_of};
+ghost use Rattle.result_tables.specs.TableText.{is_word, cells, column_of, columns_of};
 
 use crate::shown::{Shown, shows_word};
 use query_results::{ResultSet, Title};
@@ -46,7 +46,7 @@ fn measured(title: &Title<'_>, rows: &[Row], k: usize) -> ColumnLayout
 
 /// The columns of a result's table.
 pub fn measured_columns(alloc: Global, set: &ResultSet<'_>) -> Result<Vec<ColumnLayout>, AllocError>
-    ensures { IfOk result (λ columns. columns.items ≡ columns_of (table_of set.now)) }
+    ensures { IfOk result (λ columns. columns.items ≡ columns_of (map title_text set.now.titles) (map (map printed) set.now.rows)) }
 {
     let titles = set.titles();
     let rows = set.rows();

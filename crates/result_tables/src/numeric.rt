@@ -1,8 +1,10 @@
 //! Texts that look like numbers.
 
-ghost use Rattle.std.specs.Prelude.{◌≡◌};
-ghost use Rattle.std.specs.List.{list_all};
-ghost use Rattle.result_tables.specs.Numeric.{is_exponent, is_numeric_byte, starts_with_exponent, ends_in_digit, is_numeric};
+ghost use Rattle.std.specs.Prelude.{◌≡◌, ◌-◌, false, length};
+ghost use Rattle.std.specs.List.{list_all, slice_get};
+ghost use Rattle.std.specs.Option.{option_map_or};
+ghost use Rattle.std.specs.Char.{is_ascii_digit};
+ghost use Rattle.result_tables.specs.Numeric.{is_exponent, is_numeric_byte, is_numeric};
 
 fn is_exponent(byte: u8) -> bool
     ensures { result ≡ is_exponent byte }
@@ -17,7 +19,7 @@ fn is_numeric_byte(byte: u8) -> bool
 }
 
 fn starts_with_exponent(text: &[u8]) -> bool
-    ensures { result ≡ starts_with_exponent text.now }
+    ensures { result ≡ option_map_or is_exponent (slice_get text.now 0) false }
 {
     match text.first() {
         Some(byte) => is_exponent(*byte),
@@ -26,7 +28,7 @@ fn starts_with_exponent(text: &[u8]) -> bool
 }
 
 fn ends_in_digit(text: &[u8]) -> bool
-    ensures { result ≡ ends_in_digit text.now }
+    ensures { result ≡ option_map_or is_ascii_digit (slice_get text.now (length text.now - 1)) false }
 {
     match text.last() {
         Some(byte) => byte.is_ascii_digit(),

@@ -4,7 +4,7 @@ ghost use Rattle.std.specs.Prelude.{◌≡◌, ◌++◌, false, length, map, fla
 ghost use Rattle.std.specs.Io.KnownBytes.{Appends};
 ghost use Rattle.result_tables.specs.Printed.{printed};
 ghost use Rattle.result_tables.specs.Titles.{title_text};
-ghost use Rattle.result_tables.specs.TableText.{table_line, rule_line, foot, table_text, table_of};
+ghost use Rattle.result_tables.specs.TableText.{table_line, rule_line, foot, table_text};
 ghost use Rattle.result_tables.specs.Faults.{TellsFailure};
 
 use crate::column::{ColumnLayout, measured_columns};
@@ -90,7 +90,7 @@ pub fn write_table<W: Sink>(
     set: &ResultSet<'_>,
 ) -> Result<(), TableFault>
     ensures bytes { OnOk result
-        (Appends (W.put_so_far out.old) (W.put_so_far out.new) (table_text (table_of set.now))) }
+        (Appends (W.put_so_far out.old) (W.put_so_far out.new) (table_text set.now)) }
     ensures fails { TellsFailure (W.failed out.old) (W.failed out.new) result }
     ensures works { OnOk result (W.failed out.new ≡ false) }
 {

@@ -11,20 +11,19 @@ use Rattle.permutation_plans.specs.Regular.{IsRegular}
 use Rattle.permutation_plans.specs.FreeRegular.{IsFreeRegular}
 use Rattle.report_text.specs.declared.fault.ReportFault.{ReportFault}
 use Rattle.report_text.specs.declared.fault.ReportFault.TheVariants as writes
-use Rattle.report_text.specs.Said as report
+use Rattle.report_text.specs.Said.{Said, Ending, ended, whole, invalid, setup_failed, setup_waits, too_many}
 use Rattle.report_text.specs.Answers.{Puts}
 use Rattle.report_text.specs.FreeText.{free_says}
 use Rattle.report_text.specs.Permutation.{permutation_says}
 use Rattle.spec_files.specs.declared.fault.RunFault.{RunFault}
-use Rattle.spec_files.specs.Said.{Said, Ending, ended, behind, whole, setup_failed, setup_waits, too_many}
 use Rattle.spec_files.specs.FirstLine.{first_line}
 use Rattle.spec_files.specs.Files.{File, FileIs}
-use Rattle.spec_files.specs.Prints.{GoesOn, Prints, says}
+use Rattle.spec_files.specs.Prints.{GoesOn, Prints, runs}
 use Rattle.spec_files.specs.FreeRuns.{free_text, IsFreeWritten}
 use Rattle.spec_files.specs.Written.{IsWritten}
 use Rattle.report_text.specs.declared.fault.Ended.{Ended}
 use Rattle.spec_files.specs.Begun.{Begun, none, fronts, OneSays, report as of_one, RunSays, run, FileMaySay, file as of_file, FreeSays, free, FileSaysFreely, freely}
-use Rattle.spec_files.proofs.Listing.{front_behind, front_of_piece, nothing_put}
+use Rattle.spec_files.proofs.Listing.{behind, front_behind, front_of_piece, nothing_put}
 use Rattle.spec_files.proofs.Printing.{SoFar, one_more}
 
 -- ---- fronts
@@ -79,15 +78,16 @@ stays spec blocks [] = record { how = whole; prints = refl }
 stays spec blocks (p ∷ ps) = record { how = too_many; prints = refl }
 
 -- how it ends behind a report that ended so, where none of these may run
-record Follows (ending : report.Ending) (Others : Said → Type 0) : Type 0 where
+record Follows (ending : Ending) (Others : Said → Type 0) : Type 0 where
   how : Ending
   goes : GoesOn ending Others (ended how)
 
-follows : (ending : report.Ending) (Others : Said → Type 0) (how : Ending) → Others (ended how) → Follows ending Others
-follows report.whole Others how so = record { how = how; goes = so }
-follows report.invalid Others how so = record { how = how; goes = so }
-follows (report.setup_failed text) Others how so = record { how = setup_failed text; goes = refl }
-follows report.setup_waits Others how so = record { how = setup_waits; goes = refl }
+follows : (ending : Ending) (Others : Said → Type 0) (how : Ending) → Others (ended how) → Follows ending Others
+follows whole Others how so = record { how = how; goes = so }
+follows invalid Others how so = record { how = how; goes = so }
+follows (setup_failed text) Others how so = record { how = setup_failed text; goes = refl }
+follows setup_waits Others how so = record { how = setup_waits; goes = refl }
+follows too_many Others how so = record { how = too_many; goes = refl }
 
 module _ (spec : SpecTree) (blocks : Blocks) (limit : ℕ) (all : List (List EntryTree)) where
   -- whole reports alone went out
@@ -120,7 +120,7 @@ module _ (spec : SpecTree) (blocks : Blocks) (limit : ℕ) (all : List (List Ent
 line_begun : (bytes : List ℕ) (limit : ℕ) (f : File) (wo wn eo en : Option (List ℕ)) → FileIs bytes (Ok f) → PutsFront wo wn (first_line f.spec) → en ≡ eo → Begun (FileMaySay bytes limit) wo wn eo en
 line_begun bytes limit f wo wn eo en is put same =
     let end = stays f.spec f.blocks (permutations_of f.spec) in
-    fronts _ _ (of_file 0 (behind (first_line f.spec) [] (ended end.how)) (omega arith) (says f (ended end.how) is end.prints))
+    fronts _ _ (of_file 0 (behind (first_line f.spec) [] (ended end.how)) (omega arith) (runs f (ended end.how) is end.prints))
     (front_of_piece wo wn (first_line f.spec) [] put) (subst (λ (e : Option (List ℕ)). PutsFront eo e []) (sym same) (nothing_put eo []))
 
 pub no_line_begun : (bytes : List ℕ) (limit : ℕ) (f : File) (wo wn eo : Option (List ℕ)) (line : List ℕ) → FileIs bytes (Ok f) → line ≡ first_line f.spec → PutsFront wo wn line → Begun (FileMaySay bytes limit) wo wn eo eo
@@ -133,4 +133,4 @@ pub file_begun : (bytes : List ℕ) (limit : ℕ) (f : File) (wo wm wn eo en : O
 file_begun bytes limit f wo wm wn eo en line is same put (none t n) =
     line_begun bytes limit f wo wn eo en is (subst (λ (w : Option (List ℕ)). PutsFront wo w (first_line f.spec)) (sym t) (put_whole wo wm (first_line f.spec) (subst (Appends wo wm) same put))) n
 file_begun bytes limit f wo wm wn eo en line is same put (fronts _ _ (run done said within prints) t n) =
-    fronts _ _ (of_file done (behind (first_line f.spec) [] said) within (says f said is prints)) (front_behind wo wm wn (first_line f.spec) said.text (subst (Appends wo wm) same put) t) n
+    fronts _ _ (of_file done (behind (first_line f.spec) [] said) within (runs f said is prints)) (front_behind wo wm wn (first_line f.spec) said.text (subst (Appends wo wm) same put) t) n

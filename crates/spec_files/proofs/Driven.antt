@@ -8,8 +8,8 @@ use Rattle.session_machine.specs.declared.reply.HistItem.{HistItem}
 use Rattle.session_seats.specs.Orders.{Orders, IsOrder, OrderedAfter, IsDriven}
 use Rattle.spec_parser.specs.Trees.{EntryTree, SpecTree}
 use Rattle.report_lines.specs.Due.{Launches}
-use Rattle.permutation_plans.specs.Launches.{launches, due_after}
-use Rattle.permutation_plans.specs.Regular.{IsOrdered, FitsAfter, Fits}
+use Rattle.permutation_plans.specs.Launches.{launches, due_after, due_in}
+use Rattle.permutation_plans.specs.Regular.{IsOrdered, FitsAfter}
 use Rattle.spec_files.specs.Plans.{Planning, order_after}
 
 is_ordered : (event : Event) (order : Order) → IsOrder event order → IsOrdered event order
@@ -26,7 +26,7 @@ driven_fits : (due : Orders) (items : List HistItem) → IsDriven due items → 
 driven_fits due items driven = fits_after due [] items driven.ordered driven.stops
 
 pub plan_fits : (spec : SpecTree) (entries : List EntryTree) (plan : Planning) (items : List HistItem)
-    → plan.launches ≡ launches spec entries → plan.entries ≡ entries → IsDriven (order_after plan) items → Fits spec entries items
+    → plan.launches ≡ launches spec entries → plan.entries ≡ entries → IsDriven (order_after plan) items → FitsAfter (due_in spec entries) [] items
 plan_fits spec entries plan items its own driven =
     let of = subst (λ (l : Launches). IsDriven (due_after l plan.entries) items) its driven in
     driven_fits (due_after (launches spec entries) entries) items (subst (λ (es : List EntryTree). IsDriven (due_after (launches spec entries) es) items) own of)

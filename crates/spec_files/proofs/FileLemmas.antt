@@ -14,7 +14,9 @@ use Rattle.spec_files.specs.declared.fault.RunFault.{RunFault}
 use Rattle.spec_files.specs.declared.fault.RunFault.TheVariants as told
 use Rattle.spec_files.specs.Faults.{spec_fault}
 use Rattle.spec_files.specs.Runs.{is_of_reading}
-use Rattle.spec_files.specs.Blocks.{Placed, main_block, session_block, blocks_in, BlocksRead}
+use Rattle.sql_blocks.specs.declared.block.Role.{Role}
+use Rattle.sql_blocks.specs.declared.block.Role.TheVariants.{Main, Session}
+use Rattle.spec_files.specs.Blocks.{Placed, block_as, blocks_in, BlocksRead}
 use Rattle.spec_files.specs.BlockAnswers.{SayAll, HasShortText}
 use Rattle.spec_files.specs.Files.{FileIs, no_spec, no_sql, is_spec}
 
@@ -106,13 +108,9 @@ all_back : {A : Type 0} (P : A → Type 0) (xs ys : List A) → AllByRecursion P
 all_back P [] ys a = a
 all_back P (x ∷ xs) ys a = all_back P xs ys a.1
 
-main_short : (text : List ℕ) → length text ≤ 1048576 → (ps : List PartTree) → AllByRecursion (PartLies text) ps → AllByRecursion HasShortText (map main_block ps)
-main_short text short [] all = tt
-main_short text short (p ∷ ps) all = (let within = all.0.within in omega arith, main_short text short ps all.1)
-
-own_short : (text : List ℕ) → length text ≤ 1048576 → (ps : List PartTree) → AllByRecursion (PartLies text) ps → AllByRecursion HasShortText (map session_block ps)
-own_short text short [] all = tt
-own_short text short (p ∷ ps) all = (let within = all.0.within in omega arith, own_short text short ps all.1)
+own_short : (text : List ℕ) (role : Role) → length text ≤ 1048576 → (ps : List PartTree) → AllByRecursion (PartLies text) ps → AllByRecursion HasShortText (map (block_as role) ps)
+own_short text role short [] all = tt
+own_short text role short (p ∷ ps) all = (let within = all.0.within in omega arith, own_short text role short ps all.1)
 
 all_short : (text : List ℕ) (spec : SpecTree) → length text ≤ 1048576 → LiesIn text spec → AllByRecursion HasShortText (blocks_in spec)
 all_short text spec short lies =
@@ -120,7 +118,7 @@ all_short text spec short lies =
     let mains = spec.setups ++ option_to_list spec.teardown in
     let owns = flat_map session_parts spec.sessions in
     let split : AllByRecursion (PartLies text) (mains ++ owns) = subst (AllByRecursion (PartLies text)) (sym (append_assoc spec.setups (option_to_list spec.teardown) owns)) all in
-    all_append HasShortText (map main_block mains) (map session_block owns) (main_short text short mains (all_front (PartLies text) mains owns split)) (own_short text short owns (all_back (PartLies text) mains owns split))
+    all_append HasShortText (map (block_as Main) mains) (map (block_as Session) owns) (own_short text Main short mains (all_front (PartLies text) mains owns split)) (own_short text Session short owns (all_back (PartLies text) mains owns split))
 
 pub parts_short : (bytes : List ℕ) (spec : SpecTree) (parts : List Placed) → IsSpecFile bytes spec parts → LiesIn bytes spec → AllByRecursion HasShortText parts
 parts_short bytes spec parts file lies = subst (AllByRecursion HasShortText) (sym file.same) (all_short bytes spec file.short lies)

@@ -6,7 +6,7 @@ use Rattle.std.specs.Io.KnownBytes.{Appends}
 use Rattle.iso_lexer.specs.Devices.{PutsFront}
 use Rattle.spec_parser.specs.Trees.{EntryTree, SpecTree}
 use Rattle.permutation_lists.specs.Lines.{line_text}
-use Rattle.spec_files.specs.Said.{Said, Ending, ended, behind, whole, too_many}
+use Rattle.report_text.specs.Said.{Said, Ending, ended, whole, too_many}
 use Rattle.spec_files.specs.Runs.{is_refusal, is_of_reading, is_of_listing, Answers, IsListed}
 use Rattle.spec_files.specs.Begun.{ListBegun, begun}
 use Rattle.spec_files.specs.declared.fault.RunFault.{RunFault}
@@ -18,6 +18,10 @@ use Rattle.spec_files.specs.Faults.{read_fault}
 use Rattle.spec_files.specs.Lists.{listed, FileLists, refused, lists}
 use Rattle.permutation_lists.specs.Permutations.{permutations_of}
 use Rattle.spec_files.specs.Files.{File, FileIs}
+
+-- the same behind other text and notes
+abbrev pub behind : List ℕ → List ℕ → Said → Said
+behind text notes said = record { text = text ++ said.text; notes = notes ++ said.notes; ending = said.ending }
 
 -- what went out so far, with the rest behind it, is the whole
 pub record SoFar (old new : Option (List ℕ)) (all rest : Said) : Type 0 where

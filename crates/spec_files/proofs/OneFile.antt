@@ -22,7 +22,7 @@ use Rattle.spec_files.specs.declared.fault.RunFault.TheVariants as faults
 use Rattle.spec_files.specs.Faults.{spec_fault}
 use Rattle.spec_files.specs.Blocks.{Placed, HasFault, BlocksRead, none, fault, block, behind_block, blocks_in}
 use Rattle.permutation_lists.specs.Permutations.{permutations_of}
-use Rattle.spec_files.specs.Said.{Said}
+use Rattle.report_text.specs.Said.{Said}
 use Rattle.spec_files.specs.Lists.{listed, FileLists, refused, lists}
 use Rattle.spec_files.specs.Laws.{FilesAreOneThing}
 use Rattle.spec_files.specs.Files.{File, FileIs, longer, no_text, no_spec, no_sql, is_spec}

@@ -6,15 +6,14 @@ use Rattle.session_machine.specs.declared.reply.HistItem.{HistItem}
 use Rattle.session_machine.specs.Machine.{Blocks}
 use Rattle.spec_parser.specs.Trees.{EntryTree, SpecTree}
 use Rattle.permutation_plans.specs.Regular.{IsRegular}
-use Rattle.report_text.specs.Said as report
+use Rattle.report_text.specs.Said.{Said, Ending, ended, whole, invalid, setup_failed, setup_waits, too_many}
 use Rattle.report_text.specs.Permutation.{permutation_says}
 use Rattle.spec_files.specs.declared.fault.RunFault.{RunFault}
 use Rattle.spec_files.specs.declared.fault.RunFault.TheVariants as faults
-use Rattle.spec_files.specs.Said.{Said, Ending, ended, behind, whole, setup_failed, setup_waits, too_many}
 use Rattle.spec_files.specs.Prints.{GoesOn, Prints}
-use Rattle.spec_files.specs.Runs.{Answers, AnswersOne, IsTold, IsOneTold}
+use Rattle.spec_files.specs.Runs.{Answers, IsTold, IsOneTold}
 use Rattle.spec_files.specs.Broken.{RunBroken}
-use Rattle.spec_files.proofs.Listing.{appends_nothing, appends_more}
+use Rattle.spec_files.proofs.Listing.{behind, appends_nothing, appends_more}
 
 -- whatever is said of the permutations from here on completes what went out; so many are done
 pub record SoFar (spec : SpecTree) (blocks : Blocks) (out_old out_new notes_old notes_new : Option (List ℕ)) (limit : ℕ) (all : List (List EntryTree)) (left : ℕ) (more : List (List EntryTree)) : Type 0 where
@@ -46,13 +45,17 @@ behind_behind a b c d said =
     ∙ ap (λ (t : List ℕ). record { text = (a ++ b) ++ said.text; notes = t; ending = said.ending }) (sym (append_assoc c d said.notes))
 
 -- a report that ended by itself is followed by what the others say
-others_follow : (ending : report.Ending) (Others : Said → Type 0) (rest : Said) → AnswersOne ending (Ok tt) → Others rest → GoesOn ending Others rest
-others_follow report.whole Others rest a h = h
-others_follow report.invalid Others rest a h = h
-others_follow (report.setup_failed text) Others rest a h = absurd a
-others_follow report.setup_waits Others rest a h = absurd (ok_err a)
+others_follow : (ending : Ending) (Others : Said → Type 0) (rest : Said) → Answers ending (Ok tt) → Others rest → GoesOn ending Others rest
+others_follow whole Others rest a h = h
+others_follow invalid Others rest a h = h
+others_follow (setup_failed text) Others rest a h = absurd a
+others_follow setup_waits Others rest a h = absurd (ok_err a)
   where
     ok_err : ◌≡◌ {A = Result (Unit {0}) RunFault} (Ok tt) (Err faults.SetupWaits) → ⊥
+    ok_err e = cc
+others_follow too_many Others rest a h = absurd (ok_err a)
+  where
+    ok_err : ◌≡◌ {A = Result (Unit {0}) RunFault} (Ok tt) (Err faults.TooManyPermutations) → ⊥
     ok_err e = cc
 
 pub one_more : (spec : SpecTree) (blocks : Blocks) (extra : ℕ) (p : List EntryTree) (ps : List (List EntryTree)) (items : List HistItem) (rest : Said)
@@ -123,22 +126,23 @@ pub one_too_many : (spec : SpecTree) (blocks : Blocks) (wo wn eo en : Option (Li
 one_too_many spec blocks wo wn eo en limit all left more p ps so is none = ends spec blocks wo wn eo en limit all left more (Err faults.TooManyPermutations) too_many so (prints_too_many spec blocks left more p ps is none) refl
 
 -- a setup failed or waits
-record Stops (ending : report.Ending) (Others : Said → Type 0) (result : Result (Unit {0}) RunFault) : Type 0 where
+record Stops (ending : Ending) (Others : Said → Type 0) (result : Result (Unit {0}) RunFault) : Type 0 where
   how : Ending
   goes : GoesOn ending Others (ended how)
   answers : Answers how result
 
-stops : (ending : report.Ending) (Others : Said → Type 0) (e : RunFault) → AnswersOne ending (Err e) → Stops ending Others (Err e)
-stops report.whole Others e a = absurd (err_ok e a)
+stops : (ending : Ending) (Others : Said → Type 0) (e : RunFault) → Answers ending (Err e) → Stops ending Others (Err e)
+stops whole Others e a = absurd (err_ok e a)
   where
     err_ok : (e : RunFault) → ◌≡◌ {A = Result (Unit {0}) RunFault} (Err e) (Ok tt) → ⊥
     err_ok e same = cc
-stops report.invalid Others e a = absurd (err_ok e a)
+stops invalid Others e a = absurd (err_ok e a)
   where
     err_ok : (e : RunFault) → ◌≡◌ {A = Result (Unit {0}) RunFault} (Err e) (Ok tt) → ⊥
     err_ok e same = cc
-stops (report.setup_failed text) Others e a = record { how = setup_failed text; goes = refl; answers = a }
-stops report.setup_waits Others e a = record { how = setup_waits; goes = refl; answers = a }
+stops (setup_failed text) Others e a = record { how = setup_failed text; goes = refl; answers = a }
+stops setup_waits Others e a = record { how = setup_waits; goes = refl; answers = a }
+stops too_many Others e a = record { how = too_many; goes = refl; answers = a }
 
 pub run_stops : (spec : SpecTree) (blocks : Blocks) (wo wm wn eo em en : Option (List ℕ)) (limit : ℕ) (all : List (List EntryTree)) (left : ℕ) (more : List (List EntryTree)) (p : List EntryTree) (ps : List (List EntryTree)) (e : RunFault)
     → SoFar spec blocks wo wm eo em limit all left more → more ≡ p ∷ ps → 0 < left → IsOneTold spec blocks p wm wn em en (Err e) → IsPrinted spec blocks limit all wo wn eo en (Err e)

@@ -9,26 +9,26 @@ use Rattle.report_text.specs.declared.fault.ReportFault.{ReportFault}
 use Rattle.report_text.specs.declared.fault.ReportFault.TheVariants as writes
 use Rattle.report_text.specs.declared.fault.Ended.{Ended}
 use Rattle.report_text.specs.declared.fault.Ended.TheVariants as ends
-use Rattle.report_text.specs.Said as report
+use Rattle.report_text.specs.Said.{Ending, whole, invalid, setup_failed, setup_waits}
 use Rattle.report_text.specs.Answers.{EndsAs, Puts, TellsFailure}
 use Rattle.report_text.specs.Permutation.{permutation_says}
 use Rattle.spec_files.specs.declared.fault.RunFault.{RunFault}
 use Rattle.spec_files.specs.declared.fault.RunFault.TheVariants as faults
 use Rattle.spec_files.specs.Faults.{report_fault}
-use Rattle.spec_files.specs.Runs.{AnswersOne, IsOneTold, is_early_end, is_of_one, is_broken}
+use Rattle.spec_files.specs.Runs.{Answers, IsOneTold, is_early_end, is_of_one, is_broken}
 use Rattle.spec_files.specs.Written.{told_as, IsWritten}
 
-pub answers_ok : (ending : report.Ending) (e : Ended) → EndsAs ending (Ok e) → AnswersOne ending (Ok tt)
-answers_ok ending ends.Whole is = let here : AnswersOne report.whole (Ok tt) = refl in subst (λ (x : report.Ending). AnswersOne x (Ok tt)) is here
-answers_ok ending ends.Invalid is = let here : AnswersOne report.invalid (Ok tt) = refl in subst (λ (x : report.Ending). AnswersOne x (Ok tt)) is here
+pub answers_ok : (ending : Ending) (e : Ended) → EndsAs ending (Ok e) → Answers ending (Ok tt)
+answers_ok ending ends.Whole is = let here : Answers whole (Ok tt) = refl in subst (λ (x : Ending). Answers x (Ok tt)) is here
+answers_ok ending ends.Invalid is = let here : Answers invalid (Ok tt) = refl in subst (λ (x : Ending). Answers x (Ok tt)) is here
 
-pub answers_err : (ending : report.Ending) (f : ReportFault) → EndsAs ending (Err f) → IsTrue (is_early_end (report_fault f)) → AnswersOne ending (Err (report_fault f))
+pub answers_err : (ending : Ending) (f : ReportFault) → EndsAs ending (Err f) → IsTrue (is_early_end (report_fault f)) → Answers ending (Err (report_fault f))
 answers_err ending writes.Write is early = absurd cc
 answers_err ending writes.Memory is early = absurd cc
 answers_err ending (writes.SetupFailed why) is early =
-    let here : AnswersOne (report.setup_failed (string_bytes why)) (Err (faults.SetupFailed why)) = refl in
-    subst (λ (x : report.Ending). AnswersOne x (Err (faults.SetupFailed why))) is here
-answers_err ending writes.SetupWaits is early = let here : AnswersOne report.setup_waits (Err faults.SetupWaits) = refl in subst (λ (x : report.Ending). AnswersOne x (Err faults.SetupWaits)) is here
+    let here : Answers (setup_failed (string_bytes why)) (Err (faults.SetupFailed why)) = refl in
+    subst (λ (x : Ending). Answers x (Err (faults.SetupFailed why))) is here
+answers_err ending writes.SetupWaits is early = let here : Answers setup_waits (Err faults.SetupWaits) = refl in subst (λ (x : Ending). Answers x (Err faults.SetupWaits)) is here
 
 of_ok : (spec : SpecTree) (blocks : Blocks) (entries : List EntryTree) (items : List HistItem) (wo wn eo en : Option (List ℕ)) (e : Ended) (told : Result Ended ReportFault) → IsRegular spec blocks entries items
     → ◌≡◌ {A = Result Ended RunFault} (Ok e) (told_as told) → EndsAs (permutation_says spec entries items).ending told → Puts wo wn (permutation_says spec entries items).text told → Puts eo en (permutation_says spec entries items).notes told

@@ -4,10 +4,11 @@ use Rattle.std.specs.Io.KnownBytes.{Appends}
 use Rattle.permutation_lists.specs.Permutations.{permutations_of}
 use Rattle.spec_files.specs.declared.fault.RunFault.{RunFault}
 use Rattle.spec_files.specs.declared.fault.RunFault.TheVariants as faults
-use Rattle.spec_files.specs.Said.{Said, behind}
+use Rattle.report_text.specs.Said.{Said}
+use Rattle.spec_files.proofs.Listing.{behind}
 use Rattle.spec_files.specs.FirstLine.{first_line}
 use Rattle.spec_files.specs.Files.{File, FileIs}
-use Rattle.spec_files.specs.Prints.{Prints, FileSays, refused, says}
+use Rattle.spec_files.specs.Prints.{Prints, FileSays, refused, runs}
 use Rattle.spec_files.specs.Runs.{is_refusal, IsTold}
 use Rattle.spec_files.specs.Broken.{RunBroken, FileBroken}
 use Rattle.spec_files.proofs.Listing.{appends_more, differs}
@@ -26,7 +27,7 @@ pub ran : (bytes : List ℕ) (limit : ℕ) (file : File) (wo wm wn eo en : Optio
     → Prints file.spec file.blocks limit (permutations_of file.spec) said → IsTold wm wn eo en result said → Ran bytes limit wo wn eo en result
 ran bytes limit file wo wm wn eo en result line said is same put prints told = record {
   said = behind (first_line file.spec) [] said;
-  says_so = says file said is prints;
+  says_so = runs file said is prints;
   told = record {
     answer = told.answer;
     text = appends_more wo wm wn (first_line file.spec) said.text (subst (Appends wo wm) same put) told.text;
@@ -41,7 +42,7 @@ broke bytes limit file wo wm wn eo en line is same put b = record {
   done = b.done;
   said = behind (first_line file.spec) [] b.said;
   fewer = b.fewer;
-  says_so = says file b.said is b.prints;
+  says_so = runs file b.said is b.prints;
   one_more = b.one_more;
   text = appends_more wo wm wn (first_line file.spec) b.said.text (subst (Appends wo wm) same put) b.text;
   notes = b.notes;

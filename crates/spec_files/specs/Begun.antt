@@ -8,7 +8,7 @@ use Rattle.permutation_plans.specs.Regular.{IsRegular}
 use Rattle.permutation_plans.specs.FreeRegular.{IsFreeRegular}
 use Rattle.report_text.specs.Permutation.{permutation_says}
 use Rattle.report_text.specs.FreeText.{free_says}
-use Rattle.spec_files.specs.Said.{Said}
+use Rattle.report_text.specs.Said.{Said}
 use Rattle.spec_files.specs.Files.{File, FileIs}
 use Rattle.spec_files.specs.Lists.{FileLists}
 use Rattle.spec_files.specs.Prints.{Prints, FileSays}

@@ -13,20 +13,17 @@ use Rattle.spec_files.specs.declared.fault.BlockFault.{BlockFault}
 
 -- ---- the blocks in the order of the file
 
--- a block of the file, and where it stands
+-- a block of the file, what it may say, and where it stands
 pub record Placed : Type 0 where
   pub role : Role
   pub part : PartTree
 
-abbrev pub main_block : PartTree → Placed
-main_block part = record { role = Main; part = part }
-
-abbrev pub session_block : PartTree → Placed
-session_block part = record { role = Session; part = part }
+abbrev pub block_as : Role → PartTree → Placed
+block_as role part = record { role = role; part = part }
 
 -- the setups and the teardown of the file, and then the blocks of its sessions
 abbrev pub blocks_in : SpecTree → List Placed
-blocks_in spec = map main_block (spec.setups ++ option_to_list spec.teardown) ++ map session_block (flat_map session_parts spec.sessions)
+blocks_in spec = map (block_as Main) (spec.setups ++ option_to_list spec.teardown) ++ map (block_as Session) (flat_map session_parts spec.sessions)
 
 -- ---- what they read as
 

@@ -3,7 +3,7 @@ use Rattle.std.specs.Prelude.{◌≡◌, ℕ, ◌<◌, List, Option, Ok}
 use Rattle.std.specs.Io.KnownBytes.{Appends}
 use Rattle.session_machine.specs.Machine.{Blocks}
 use Rattle.spec_parser.specs.Trees.{EntryTree, SpecTree}
-use Rattle.spec_files.specs.Said.{Said, too_many}
+use Rattle.report_text.specs.Said.{Said, too_many}
 use Rattle.spec_files.specs.Prints.{Prints, FileSays}
 
 -- of a file

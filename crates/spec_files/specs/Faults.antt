@@ -19,12 +19,7 @@ read_fault read_faults.Device = faults.Read
 abbrev pub spec_fault : SpecFault → RunFault
 spec_fault spec_faults.Memory = faults.Memory
 spec_fault (spec_faults.Lex f) = faults.Lex f
-spec_fault (spec_faults.Expected what at) = faults.Spec (spec_faults.Expected what at)
-spec_fault (spec_faults.DuplicateStep at) = faults.Spec (spec_faults.DuplicateStep at)
-spec_fault (spec_faults.UndefinedStep at) = faults.Spec (spec_faults.UndefinedStep at)
-spec_fault (spec_faults.UndefinedMarker at) = faults.Spec (spec_faults.UndefinedMarker at)
-spec_fault (spec_faults.NoticesLeftOut at) = faults.Spec (spec_faults.NoticesLeftOut at)
-spec_fault (spec_faults.Limit at) = faults.Spec (spec_faults.Limit at)
+spec_fault f = faults.Spec f
 
 abbrev pub report_fault : ReportFault → RunFault
 report_fault report_faults.Write = faults.Write

@@ -12,16 +12,13 @@ use Rattle.spec_files.specs.declared.fault.RunFault.TheVariants as faults
 use Rattle.spec_files.specs.Faults.{spec_fault}
 use Rattle.spec_files.specs.Blocks.{blocks_in, BlocksRead}
 
-abbrev pub too_long : RunFault
-too_long = faults.Lex (record { kind = FileTooLong; at = 1048576 })
-
 pub record File : Type 0 where
   pub spec : SpecTree
   pub blocks : Blocks
 
 -- A file that is too long, that is no UTF-8, that is no spec, or of which a block is no SQL, in this order; or it is this spec.
 pub data FileIs (bytes : List ℕ) : Result File RunFault → Type 0 where
-  longer : 1048576 < length bytes → FileIs bytes (Err too_long)
+  longer : 1048576 < length bytes → FileIs bytes (Err (faults.Lex (record { kind = FileTooLong; at = 1048576 })))
   no_text : length bytes ≤ 1048576 → (IsUtf8 bytes → ⊥) → FileIs bytes (Err (faults.NotUtf8 (utf8_valid_len bytes)))
   no_spec : (f : SpecFault) → length bytes ≤ 1048576 → IsUtf8 bytes → SpecReads bytes (Err f) → FileIs bytes (Err (spec_fault f))
   no_sql : (spec : SpecTree) (f : BlockFault) → length bytes ≤ 1048576 → IsUtf8 bytes → SpecReads bytes (Ok spec) → BlocksRead (blocks_in spec) (Err f) → FileIs bytes (Err (faults.Sql f))

@@ -1,7 +1,7 @@
 -- What is so of every file.
 use Rattle.std.specs.Prelude.{◌≡◌, ℕ, List, Result}
 use Rattle.spec_files.specs.declared.fault.RunFault.{RunFault}
-use Rattle.spec_files.specs.Said.{Said}
+use Rattle.report_text.specs.Said.{Said}
 use Rattle.spec_files.specs.Files.{File, FileIs}
 use Rattle.spec_files.specs.Lists.{FileLists}
 use Rattle.spec_files.specs.Prints.{FileSays}

@@ -3,7 +3,6 @@ pub mod FaultText
 pub mod Blocks
 pub mod BlockAnswers
 pub mod Files
-pub mod Said
 pub mod Lists
 pub mod FirstLine
 pub mod Prints

@@ -5,19 +5,17 @@ use Rattle.session_machine.specs.Machine.{Blocks}
 use Rattle.spec_parser.specs.Trees.{EntryTree, SpecTree}
 use Rattle.permutation_lists.specs.Permutations.{permutations_of}
 use Rattle.permutation_plans.specs.Regular.{IsRegular}
-use Rattle.report_text.specs.Said as report
+use Rattle.report_text.specs.Said.{Said, Ending, ended, says, whole, invalid, too_many, ◌>>◌}
 use Rattle.report_text.specs.Permutation.{permutation_says}
 use Rattle.spec_files.specs.declared.fault.RunFault.{RunFault}
-use Rattle.spec_files.specs.Said.{Said, ended, behind, whole, setup_failed, setup_waits, too_many}
 use Rattle.spec_files.specs.FirstLine.{first_line}
 use Rattle.spec_files.specs.Files.{File, FileIs}
 
 -- a permutation's report with what is said after it; a setup that failed or waits ends the run
-abbrev pub GoesOn : report.Ending → (Said → Type 0) → Said → Type 0
-GoesOn report.whole Others said = Others said
-GoesOn report.invalid Others said = Others said
-GoesOn (report.setup_failed text) Others said = said ≡ ended (setup_failed text)
-GoesOn report.setup_waits Others said = said ≡ ended setup_waits
+abbrev pub GoesOn : Ending → (Said → Type 0) → Said → Type 0
+GoesOn whole Others said = Others said
+GoesOn invalid Others said = Others said
+GoesOn ending Others said = said ≡ ended ending
 
 -- what is said of these permutations, each with its regular history, of which so many run at most
 unfoldable pub Prints : SpecTree → Blocks → ℕ → List (List EntryTree) → Said → Type 0
@@ -27,9 +25,9 @@ Prints spec blocks (suc left) (p ∷ ps) said =
     (items : List HistItem) × (rest : Said)
     × IsRegular spec blocks p items
     × GoesOn (permutation_says spec p items).ending (Prints spec blocks left ps) rest
-    × (said ≡ behind (permutation_says spec p items).text (permutation_says spec p items).notes rest)
+    × (said ≡ (record (permutation_says spec p items) { ending = whole } >> rest))
 
 -- A file is refused, or prints this, where so many of its permutations run at most.
 pub data FileSays (bytes : List ℕ) (limit : ℕ) : Result Said RunFault → Type 0 where
   refused : (e : RunFault) → FileIs bytes (Err e) → FileSays bytes limit (Err e)
-  says : (file : File) (said : Said) → FileIs bytes (Ok file) → Prints file.spec file.blocks limit (permutations_of file.spec) said → FileSays bytes limit (Ok (behind (first_line file.spec) [] said))
+  runs : (file : File) (said : Said) → FileIs bytes (Ok file) → Prints file.spec file.blocks limit (permutations_of file.spec) said → FileSays bytes limit (Ok (says (first_line file.spec) >> said))

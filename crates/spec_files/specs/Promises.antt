@@ -11,7 +11,7 @@ use Rattle.spec_files.specs.Files.{FileIs}
 use Rattle.spec_files.specs.FreeRuns.{FileFreeTold}
 use Rattle.spec_files.specs.Prints.{FileSays}
 use Rattle.spec_files.specs.Runs.{is_refusal, has_broken, has_ended, has_read, IsTold}
-use Rattle.spec_files.specs.Said.{Said}
+use Rattle.report_text.specs.Said.{Said}
 
 -- it holds of the file that is left to read, where the source tells its bytes: no more is read than one byte over the longest file
 abbrev pub IfFile : Option (List ℕ) → (List ℕ → Type 0) → Type 0

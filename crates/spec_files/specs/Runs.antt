@@ -8,9 +8,8 @@ use Rattle.session_machine.specs.declared.reply.HistItem.{HistItem}
 use Rattle.session_machine.specs.Machine.{Blocks}
 use Rattle.spec_parser.specs.Trees.{EntryTree, SpecTree}
 use Rattle.permutation_plans.specs.Regular.{IsRegular}
-use Rattle.report_text.specs.Said as report
+use Rattle.report_text.specs.Said.{Said, Ending, whole, invalid, setup_failed, setup_waits, too_many}
 use Rattle.report_text.specs.Permutation.{permutation_says}
-use Rattle.spec_files.specs.Said.{Said, Ending, whole, setup_failed, setup_waits, too_many}
 
 -- the file itself is refused, before anything is written
 abbrev pub is_refusal : RunFault → Bool
@@ -85,12 +84,12 @@ abbrev pub has_read : Result (Unit {0}) RunFault → Bool
 has_read (Ok x) = true
 has_read (Err e) = is_read_by e
 
--- the answer to a run that ended so
+-- the answer to a run, of all permutations or of one, that ended so
 abbrev pub Answers : Ending → Result (Unit {0}) RunFault → Type 0
 Answers whole result = result ≡ Ok tt
-Answers (setup_failed text) (Ok x) = ⊥
+Answers invalid result = result ≡ Ok tt
 Answers (setup_failed text) (Err (faults.SetupFailed told)) = string_bytes told ≡ text
-Answers (setup_failed text) (Err _) = ⊥
+Answers (setup_failed text) _ = ⊥
 Answers setup_waits result = result ≡ Err faults.SetupWaits
 Answers too_many result = result ≡ Err faults.TooManyPermutations
 
@@ -109,17 +108,10 @@ pub record IsTold (out_old out_new notes_old notes_new : Option (List ℕ)) (res
   pub text : Appends out_old out_new said.text
   pub notes : Appends notes_old notes_new said.notes
 
--- the answer to the run of one permutation whose report ended so
-abbrev pub AnswersOne : report.Ending → Result (Unit {0}) RunFault → Type 0
-AnswersOne report.whole result = result ≡ Ok tt
-AnswersOne report.invalid result = result ≡ Ok tt
-AnswersOne (report.setup_failed text) result = Answers (setup_failed text) result
-AnswersOne report.setup_waits result = result ≡ Err faults.SetupWaits
-
 -- the permutation has a regular history, whose report went out
 pub record IsOneTold (spec : SpecTree) (blocks : Blocks) (entries : List EntryTree) (out_old out_new notes_old notes_new : Option (List ℕ)) (result : Result (Unit {0}) RunFault) : Type 0 where
   pub items : List HistItem
   pub regular : IsRegular spec blocks entries items
-  pub answer : AnswersOne (permutation_says spec entries items).ending result
+  pub answer : Answers (permutation_says spec entries items).ending result
   pub text : Appends out_old out_new (permutation_says spec entries items).text
   pub notes : Appends notes_old notes_new (permutation_says spec entries items).notes

@@ -4,7 +4,8 @@ ghost use Rattle.std.specs.Prelude.{◌≡◌, ◌++◌, ◌∷◌, [], map, opt
 ghost use Rattle.std.specs.List.{AllByRecursion};
 ghost use Rattle.spec_parser.specs.Trees.{part_view, step_view, session_view, spec_view};
 ghost use Rattle.spec_parser.specs.Stands.{session_parts};
-ghost use Rattle.spec_files.specs.Blocks.{blocks_in, main_block, session_block};
+ghost use Rattle.sql_blocks.specs.declared.block.Role.TheVariants.{Main, Session};
+ghost use Rattle.spec_files.specs.Blocks.{blocks_in, block_as};
 ghost use Rattle.spec_files.specs.BlockAnswers.{placed_view, step_part, block_fault, Says, SayAll, HasShortText};
 
 use crate::fault::{BlockFault, RunFault};
@@ -22,7 +23,7 @@ pub struct PlacedPart<'a> {
 }
 
 fn add_main<'a>(parts: &mut Vec<PlacedPart<'a>>, part: &Part<'a>) -> Result<(), AllocError>
-    ensures { OnOk result (map placed_view parts.new.items ≡ map placed_view parts.old.items ++ main_block (part_view part.now) ∷ []) }
+    ensures { OnOk result (map placed_view parts.new.items ≡ map placed_view parts.old.items ++ block_as Main (part_view part.now) ∷ []) }
 {
     parts.push(PlacedPart {
         role: Role::Main,
@@ -32,7 +33,7 @@ fn add_main<'a>(parts: &mut Vec<PlacedPart<'a>>, part: &Part<'a>) -> Result<(), 
 }
 
 fn add_mains<'a>(parts: &mut Vec<PlacedPart<'a>>, mains: &[Part<'a>]) -> Result<(), AllocError>
-    ensures { OnOk result (map placed_view parts.new.items ≡ map placed_view parts.old.items ++ map main_block (map part_view mains.now)) }
+    ensures { OnOk result (map placed_view parts.new.items ≡ map placed_view parts.old.items ++ map (block_as Main) (map part_view mains.now)) }
 {
     for part in mains {
         add_main(parts, part)?;
@@ -44,7 +45,7 @@ fn add_main_if<'a>(
     parts: &mut Vec<PlacedPart<'a>>,
     part: &Option<Part<'a>>,
 ) -> Result<(), AllocError>
-    ensures { OnOk result (map placed_view parts.new.items ≡ map placed_view parts.old.items ++ map main_block (option_to_list (option_map part_view part.now))) }
+    ensures { OnOk result (map placed_view parts.new.items ≡ map placed_view parts.old.items ++ map (block_as Main) (option_to_list (option_map part_view part.now))) }
 {
     match part {
         Some(part) => add_main(parts, part),
@@ -53,7 +54,7 @@ fn add_main_if<'a>(
 }
 
 fn add_own<'a>(parts: &mut Vec<PlacedPart<'a>>, part: &Part<'a>) -> Result<(), AllocError>
-    ensures { OnOk result (map placed_view parts.new.items ≡ map placed_view parts.old.items ++ session_block (part_view part.now) ∷ []) }
+    ensures { OnOk result (map placed_view parts.new.items ≡ map placed_view parts.old.items ++ block_as Session (part_view part.now) ∷ []) }
 {
     parts.push(PlacedPart {
         role: Role::Session,
@@ -66,7 +67,7 @@ fn add_own_if<'a>(
     parts: &mut Vec<PlacedPart<'a>>,
     part: &Option<Part<'a>>,
 ) -> Result<(), AllocError>
-    ensures { OnOk result (map placed_view parts.new.items ≡ map placed_view parts.old.items ++ map session_block (option_to_list (option_map part_view part.now))) }
+    ensures { OnOk result (map placed_view parts.new.items ≡ map placed_view parts.old.items ++ map (block_as Session) (option_to_list (option_map part_view part.now))) }
 {
     match part {
         Some(part) => add_own(parts, part),
@@ -75,7 +76,7 @@ fn add_own_if<'a>(
 }
 
 fn add_steps<'a>(parts: &mut Vec<PlacedPart<'a>>, steps: &[StepPart<'a>]) -> Result<(), AllocError>
-    ensures { OnOk result (map placed_view parts.new.items ≡ map placed_view parts.old.items ++ map session_block (map step_part (map step_view steps.now))) }
+    ensures { OnOk result (map placed_view parts.new.items ≡ map placed_view parts.old.items ++ map (block_as Session) (map step_part (map step_view steps.now))) }
 {
     for step in steps {
         add_own(parts, &step.part)?;
@@ -87,7 +88,7 @@ fn add_session<'a>(
     parts: &mut Vec<PlacedPart<'a>>,
     session: &SessionPart<'a>,
 ) -> Result<(), AllocError>
-    ensures { OnOk result (map placed_view parts.new.items ≡ map placed_view parts.old.items ++ map session_block (session_parts (session_view session.now))) }
+    ensures { OnOk result (map placed_view parts.new.items ≡ map placed_view parts.old.items ++ map (block_as Session) (session_parts (session_view session.now))) }
 {
     add_own_if(parts, &session.setup)?;
     add_steps(parts, &session.steps)?;
@@ -98,7 +99,7 @@ fn add_sessions<'a>(
     parts: &mut Vec<PlacedPart<'a>>,
     sessions: &[SessionPart<'a>],
 ) -> Result<(), AllocError>
-    ensures { OnOk result (map placed_view parts.new.items ≡ map placed_view parts.old.items ++ map session_block (flat_map session_parts (map session_view sessions.now))) }
+    ensures { OnOk result (map placed_view parts.new.items ≡ map placed_view parts.old.items ++ map (block_as Session) (flat_map session_parts (map session_view sessions.now))) }
 {
     for session in sessions {
         add_session(parts, session)?;

@@ -9,7 +9,7 @@ ghost use Rattle.permutation_lists.specs.Permutations.{permutations_of};
 ghost use Rattle.spec_files.specs.Lists.{listed, FileLists};
 ghost use Rattle.spec_files.specs.Runs.{is_refusal, is_of_listing, has_ended, has_read, IsListed};
 ghost use Rattle.spec_files.specs.Begun.{ListBegun};
-ghost use Rattle.spec_files.specs.Said.{Said};
+ghost use Rattle.report_text.specs.Said.{Said};
 
 use crate::fault::RunFault;
 use crate::file::read_file;

@@ -11,7 +11,7 @@ ghost use Rattle.spec_files.specs.Broken.{RunBroken, FileBroken};
 ghost use Rattle.spec_files.specs.Prints.{Prints, FileSays};
 ghost use Rattle.spec_files.specs.Promises.{SpecIsRun};
 ghost use Rattle.spec_files.specs.Runs.{is_refusal, has_broken, has_ended, IsTold};
-ghost use Rattle.spec_files.specs.Said.{Said};
+ghost use Rattle.report_text.specs.Said.{Said};
 
 use crate::ahead::{Ahead, most_ahead};
 use crate::draft::Draft;

@@ -1,6 +1,12 @@
 -- How one list steps to the next.
-use Rattle.std.specs.Prelude.{◌≡◌, ℕ, ◌+◌, ◌<◌, ◌≤◌, List, [], ◌∷◌, ◌++◌, length, map, slice_index, drop}
-use Rattle.permutation_lists.specs.Interleavings.{without, each_first, of_length}
+use Rattle.std.specs.Prelude.{◌≡◌, ℕ, ◌+◌, ◌<◌, ◌≤◌, ◌==◌, List, [], ◌∷◌, ◌++◌, length, map, flat_map, slice_index, drop, if◌then◌else◌}
+use Rattle.std.specs.List.{enumerate_from}
+use Rattle.permutation_lists.specs.Interleavings.{without, of_length}
+
+-- for each session that has a turn left, from this one on: it, and then each list of the turns that are left; the last argument is the counts from that session on
+abbrev pub each_first : (List ℕ → List (List ℕ)) → List ℕ → ℕ → List ℕ → List (List ℕ)
+each_first rest counts session more =
+    flat_map (λ p. if p.1 == 0 then [] else map (λ (list : List ℕ). p.0 ∷ list) (rest (without counts p.0))) (enumerate_from session more)
 
 -- the lists that begin with this session or a later one
 abbrev pub from_session : (List ℕ → List (List ℕ)) → List ℕ → ℕ → List (List ℕ)

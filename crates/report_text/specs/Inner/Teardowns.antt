@@ -33,6 +33,6 @@ teardowns_from sessions items count k (t ∷ ts) =
 -- the sessions' teardowns, and behind the sessions' leaves that of the whole file
 abbrev pub teardowns_in_turn : SpecTree → List HistItem → ℕ → ℕ → Said
 teardowns_in_turn spec items count k =
-    let first = teardowns_from spec.sessions items count k (numbers_of (λ s. s.teardown) 1 spec.sessions) in
+    let first = teardowns_from spec.sessions items count k (numbers_of (λ s. s.teardown) spec.sessions) in
     let last = teardowns_from spec.sessions items count (first.next + length spec.sessions) (last_teardown_of spec) in
     record { text = first.text ++ last.text; notes = first.notes ++ last.notes; ending = whole }

@@ -1,7 +1,6 @@
 use Rattle.std.proofs.Common.{◌≡◌, take, get_or, refl}
 use Rattle.spec_parser.specs.Trees.{entry_view}
-use Rattle.permutation_lists.specs.Permutations.{entry_after}
-use Rattle.permutation_lists.proofs.EntriesOf.{entries_more}
+use Rattle.permutation_lists.proofs.EntriesOf.{entry_after, entries_more}
 use Rattle.permutation_lists.proofs.turns.entries_of.Goals as goal
 
 pub loop-place-preserved : goal.loop-place-preserved

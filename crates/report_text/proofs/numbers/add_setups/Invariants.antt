@@ -1,8 +1,11 @@
-use Rattle.std.proofs.Common.{◌≡◌, ◌+◌, ◌++◌, drop}
-use Rattle.std.specs.Prelude.{map}
-use Rattle.spec_parser.specs.Trees.{session_view}
+use Rattle.std.proofs.Common.{◌≡◌, ℕ, [], ◌∷◌, ◌+◌, ◌++◌, drop, flat_map}
+use Rattle.std.specs.Prelude.{map, is_some, if◌then◌else◌}
+use Rattle.std.specs.List.{enumerate_from}
+use Rattle.spec_parser.specs.Trees.{SessionTree, session_view}
 use Rattle.report_text.specs.Setups.{numbers_of}
 use Rattle.report_text.proofs.numbers.add_setups.Given as goal
 
 abbrev pub invariant-loop-index : goal.invariant-loop-index
-invariant-loop-index l = l.numbers.items ++ numbers_of (λ s. s.setup) (l.index + 1) (map session_view (drop l.index l.sessions)) ≡ l.fn.numbers.items ++ numbers_of (λ s. s.setup) 1 (map session_view l.sessions)
+invariant-loop-index l =
+    l.numbers.items ++ flat_map (λ (p : ℕ × SessionTree). if is_some p.1.setup then p.0 ∷ [] else []) (enumerate_from (l.index + 1) (map session_view (drop l.index l.sessions)))
+    ≡ l.fn.numbers.items ++ numbers_of (λ s. s.setup) (map session_view l.sessions)

@@ -1,8 +1,7 @@
 use Rattle.std.proofs.Common.{arith, false, ◌≡◌, ◌∙◌, length, map, slice_index_or}
 use Rattle.std.proofs.lemmas.List.{length-map, get_or_default}
 use Rattle.result_tables.specs.declared.column.ColumnLayout.{ColumnLayout}
-use Rattle.result_tables.specs.TableText.{padded_cells}
-use Rattle.result_tables.proofs.Joins.{joined_more, padded_cells_at, length-padded_cells, joined_all}
+use Rattle.result_tables.proofs.Joins.{joined_more, padded_cells, padded_cells_at, length-padded_cells, joined_all}
 use Rattle.result_tables.proofs.table_lines.append_line.Goals as goal
 
 pub loop-k-preserved : goal.loop-k-preserved

@@ -1,6 +1,6 @@
 use Rattle.std.proofs.Common.{◌≡◌, ◌++◌, map, take}
 use Rattle.std.specs.List.{join_with_byte}
-use Rattle.result_tables.specs.TableText.{padded_cells}
+use Rattle.result_tables.proofs.Joins.{padded_cells}
 use Rattle.result_tables.proofs.table_lines.append_line.Given as goal
 
 abbrev pub invariant-loop-k : goal.invariant-loop-k

@@ -4,7 +4,7 @@ use Rattle.spec_files.specs.Broken.{FileBroken}
 use Rattle.spec_files.specs.Prints.{FileSays}
 use Rattle.spec_files.specs.Promises.{IfFile}
 use Rattle.spec_files.specs.Runs.{has_broken, has_ended, IsTold}
-use Rattle.spec_files.specs.Said.{Said}
+use Rattle.report_text.specs.Said.{Said}
 use Rattle.spec_files.proofs.Listing.{of_bytes}
 use Rattle.spec_files.proofs.run.run_spec_by.Goals as goal
 

@@ -2,9 +2,8 @@ use Rattle.std.proofs.Common.{◌∙◌, List, sym, ap, subst, map}
 use Rattle.permutation_lists.specs.Interleavings.{interleavings}
 use Rattle.spec_parser.specs.declared.tree.SessionPart.{SessionPart}
 use Rattle.spec_parser.specs.Trees.{session_view}
-use Rattle.permutation_lists.specs.Permutations.{step_count}
 use Rattle.permutation_lists.specs.Inner.Ways.{AreShort}
-use Rattle.permutation_lists.proofs.EntriesOf.{few_turns}
+use Rattle.permutation_lists.proofs.EntriesOf.{step_count, few_turns}
 use Rattle.permutation_lists.proofs.permutations.Permutations.all.Goals as goal
 
 pub invariant_of-result : goal.invariant_of-result
