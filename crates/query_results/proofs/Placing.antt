@@ -7,9 +7,9 @@ use Rattle.sql_trees.specs.Statements.{SetTree}
 use Rattle.sql_values.specs.declared.value.Value.{Value}
 use Rattle.sql_values.specs.declared.value.Value.TheVariants.{Null}
 use Rattle.sql_values.specs.declared.fault.ValueFault.{ValueFault}
-use Rattle.sql_values.specs.Values.{assign, if_ok}
+use Rattle.sql_values.specs.Values.{assign, if_ok, each}
 use Rattle.sql_values.specs.Expressions.{Cols, value}
-use Rattle.query_results.specs.Queries.{AssignedColumn, each, filled, new_values}
+use Rattle.query_results.specs.Queries.{AssignedColumn, filled, new_values}
 use Rattle.query_results.specs.Updates.{updated}
 
 same_Ok : {A : Type 0} {a b : A} → (let x : Result A ValueFault = Ok a in let y : Result A ValueFault = Ok b in x ≡ y) → a ≡ b

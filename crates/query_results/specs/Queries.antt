@@ -1,6 +1,6 @@
 -- What a query answers at the rows of its table, and what an INSERT makes of its values (PostgreSQL manual, SELECT and INSERT).
-use Rattle.std.specs.Prelude.{ℕ, ◌+◌, ◌-◌, ◌==◌, ℤ, Bool, not, ◌&&◌, ◌||◌, List, [], ◌∷◌, ◌++◌, length, map, flat_map, replicate, Option, Some, None, is_none, is_some, option_map, unwrap_or}
-use Rattle.std.specs.Prelude.{find, filter_map, position, bytes_eq, slice_set, slice_index_or, nat_le, nat_lt, Result, Ok, Err, if◌then◌else◌}
+use Rattle.std.specs.Prelude.{ℕ, ◌+◌, ◌-◌, ◌==◌, ℤ, Bool, not, ◌&&◌, ◌||◌, List, [], ◌∷◌, length, map, flat_map, replicate}
+use Rattle.std.specs.Prelude.{Option, Some, None, is_none, is_some, option_map, unwrap_or, find, filter_map, position, zip, bytes_eq, slice_set, slice_index_or, nat_le, nat_lt, Result, Ok, Err, if◌then◌else◌}
 use Rattle.std.specs.List.{enumerate_from, list_any}
 use Rattle.std.specs.Option.{option_or, option_map_or}
 use Rattle.sql_trees.specs.declared.kind.Kind.{Kind}
@@ -14,9 +14,9 @@ use Rattle.sql_values.specs.declared.value.Value.{Value}
 use Rattle.sql_values.specs.declared.value.Value.TheVariants.{Null}
 use Rattle.sql_values.specs.declared.fault.ValueFault.{ValueFault}
 use Rattle.sql_values.specs.declared.fault.ValueFault.TheVariants.{NoColumn, TypeMismatch}
-use Rattle.sql_values.specs.Values.{Answer, is_null, if_ok, assign}
+use Rattle.sql_values.specs.Values.{Answer, is_null, if_ok, each, assign}
 use Rattle.sql_values.specs.Arithmetic.{signed}
-use Rattle.sql_values.specs.Sorting.{can_sort, key}
+use Rattle.sql_values.specs.Sorting.{can_sort}
 use Rattle.sql_values.specs.Expressions.{Cols, value, passes}
 use Rattle.sql_values.specs.Aggregates.{aggregate}
 use Rattle.query_results.specs.declared.title.Title.{Title}
@@ -29,22 +29,14 @@ abbrev pub first_of : {A B : Type 0} → (A → Option B) → List A → Option 
 first_of f [] = None
 first_of f (x ∷ xs) = option_or (f x) (first_of f xs)
 
--- what is answered at each, up to the first fault
-abbrev pub each : {A B : Type 0} → (A → Result B ValueFault) → List A → Result (List B) ValueFault
-each f [] = Ok []
-each f (x ∷ xs) = if_ok (f x) (λ y. if_ok (each f xs) (λ ys. Ok (y ∷ ys)))
-
 -- columns as expressions know them
 abbrev pub cols_of : List ColumnTree → Cols
 cols_of columns = map (λ (c : ColumnTree). (c.name, c.kind)) columns
 
-abbrev pub has_column : Cols → List ℕ → Bool
-has_column cols name = is_some (position (λ c. bytes_eq name c.0) cols)
-
 abbrev mutual
   -- the first column that an expression names and that isn't there, in the order of the text; a literal names none
   pub lacking : Cols → Tree → Option (List ℕ)
-  lacking cols (tree.Column name) = if has_column cols name then None else Some name
+  lacking cols (tree.Column name) = if is_some (position (λ c. bytes_eq name c.0) cols) then None else Some name
   lacking cols (tree.Plus a) = lacking cols a
   lacking cols (tree.Minus a) = lacking cols a
   lacking cols (tree.Not a) = lacking cols a
@@ -85,24 +77,23 @@ abbrev pub lacking_select : Cols → SelectTree → Option (List ℕ)
 lacking_select cols s =
     option_or (first_of (lacking_item cols) s.items) (option_or (lacking_if cols s.filter) (first_of (λ (k : OrderTree). lacking_key cols s.items k.expr) s.order))
 
--- a column that isn't there is a fault before any row is looked at
-abbrev pub unless_lacking : {A : Type 0} → Option (List ℕ) → Result A ValueFault → Result A ValueFault
-unless_lacking lacks answer = option_map_or (λ name. Err (NoColumn name)) lacks answer
-
 -- the places, counted from k, of the rows that pass WHERE
 abbrev pub passing : Cols → Option Tree → ℕ → List (List Value) → Result (List ℕ) ValueFault
 passing cols filter k [] = Ok []
 passing cols filter k (row ∷ rows) = if_ok (passes filter cols row) (λ p. if_ok (passing cols filter (k + 1) rows) (λ rest. Ok (if p then k ∷ rest else rest)))
 
--- what an item answers at a row
-abbrev pub item_values : Cols → List Value → ItemTree → Result (List Value) ValueFault
-item_values cols row stmt.All = Ok row
-item_values cols row (stmt.Value e alias) = if_ok (value e cols row) (λ v. Ok (v ∷ []))
-item_values cols row (stmt.Aggregate a alias) = Ok []
+-- what an item answers at a row, in each of its columns; an aggregate has none
+abbrev pub item_values : Cols → List Value → ItemTree → List Answer
+item_values cols row stmt.All = map (λ v. Ok v) row
+item_values cols row (stmt.Value e alias) = value e cols row ∷ []
+item_values cols row (stmt.Aggregate a alias) = []
+
+-- what the columns of the result answer at a row
+abbrev pub shown : Cols → List ItemTree → List Value → List Answer
+shown cols is row = flat_map (item_values cols row) is
 
 abbrev pub row_values : Cols → List ItemTree → List Value → Result (List Value) ValueFault
-row_values cols [] row = Ok []
-row_values cols (i ∷ is) row = if_ok (item_values cols row i) (λ vs. if_ok (row_values cols is row) (λ rest. Ok (vs ++ rest)))
+row_values cols is row = each (λ answer. answer) (shown cols is row)
 
 -- an item without an alias has the name of the column that it is
 abbrev pub title_of : Tree → Title
@@ -127,16 +118,10 @@ unlisted width e = None
 abbrev pub wrong_position : List ColumnTree → SelectTree → Option ℤ
 wrong_position columns s = first_of (λ (k : OrderTree). unlisted (length (titles_of columns s.items)) k.expr) s.order
 
--- the value that the result has at the row in its column k, counted from 0; NULL where it has no such column
-abbrev pub shown_at : Cols → List ItemTree → List Value → ℕ → Answer
-shown_at cols [] row k = Ok Null
-shown_at cols (stmt.All ∷ is) row k = if nat_lt k (length row) then Ok (key k row) else shown_at cols is row (k - length row)
-shown_at cols (stmt.Value e alias ∷ is) row k = if k == 0 then value e cols row else shown_at cols is row (k - 1)
-shown_at cols (stmt.Aggregate a alias ∷ is) row k = shown_at cols is row k
-
--- the value of a key of ORDER BY at a row: a number literal means that column of the result, and a bare name the item with that alias, if there is one
+-- the value of a key of ORDER BY at a row: a number literal means that column of the result, counted from 1, or NULL where there is none,
+-- and a bare name the item with that alias, if there is one
 abbrev pub key_value : Cols → List ItemTree → List Value → Tree → Answer
-key_value cols is row (tree.Number negative n) = if negative || n == 0 then Ok Null else shown_at cols is row (n - 1)
+key_value cols is row (tree.Number negative n) = if negative || n == 0 then Ok Null else slice_index_or (shown cols is row) (n - 1) (Ok Null)
 key_value cols is row (tree.Column name) = value (unwrap_or (aliased is name) (tree.Column name)) cols row
 key_value cols is row e = value e cols row
 
@@ -146,7 +131,7 @@ keys_of cols is order row = each (λ (k : OrderTree). key_value cols is row k.ex
 
 -- the places in the order of their rows' keys, if the keys can be sorted
 abbrev pub by_keys : List Dir → List ℕ → List (List Value) → Result (List ℕ) ValueFault
-by_keys by places keys = if can_sort 0 by keys then Ok (map (λ i. slice_index_or places i 0) (sorted_places by keys)) else Err TypeMismatch
+by_keys by places keys = if can_sort by keys then Ok (map (λ i. slice_index_or places i 0) (sorted_places by keys)) else Err TypeMismatch
 
 -- the places as ORDER BY sorts them: the keys of all their rows are evaluated, row by row, before any are compared
 abbrev pub ordered : Cols → List ItemTree → List OrderTree → List (List Value) → List ℕ → Result (List ℕ) ValueFault
@@ -157,15 +142,10 @@ ordered cols is order rows places = if_ok (each (keys_of cols is order) (rows_at
 abbrev pub taken : SelectTree → List ColumnTree → List (List Value) → Result (List ℕ) ValueFault
 taken s columns rows = if_ok (passing (cols_of columns) s.filter 0 rows) (ordered (cols_of columns) s.items s.order rows)
 
--- an aggregate among the items, with the name given to it
-pub record Counted : Type 0 where
-  pub agg : AggTree
-  pub alias : Option (List ℕ)
-
--- the aggregates among the items: a SELECT that has any has nothing else
-abbrev pub counted : List ItemTree → List Counted
+-- the aggregates among the items, each with the name given to it: a SELECT that has any has nothing else
+abbrev pub counted : List ItemTree → List (AggTree × Option (List ℕ))
 counted [] = []
-counted (stmt.Aggregate a alias ∷ is) = record { agg = a; alias = alias } ∷ counted is
+counted (stmt.Aggregate a alias ∷ is) = (a, alias) ∷ counted is
 counted (i ∷ is) = counted is
 
 -- the title of an aggregate by what it counts, sums or compares (9.21)
@@ -176,19 +156,18 @@ own_title (tree.Of agg_kind.Max e) = Max
 own_title a = Count
 
 -- its alias, or where it has none its own title
-abbrev pub agg_title : Counted → Title
-agg_title a = option_map_or Named a.alias (own_title a.agg)
+abbrev pub agg_title : AggTree × Option (List ℕ) → Title
+agg_title a = option_map_or Named a.1 (own_title a.0)
 
 -- what is answered from the rows that are taken: without aggregates the items at each of them, else one row, of the aggregates over all of them
-abbrev pub results_by : List ColumnTree → List ItemTree → List Counted → List (List Value) → Result Results ValueFault
+abbrev pub results_by : List ColumnTree → List ItemTree → List (AggTree × Option (List ℕ)) → List (List Value) → Result Results ValueFault
 results_by columns is [] taken = if_ok (each (row_values (cols_of columns) is) taken) (λ shown. Ok (record { titles = titles_of columns is; rows = shown }))
-results_by columns is aggs taken =
-    if_ok (each (λ (a : Counted). aggregate a.agg (cols_of columns) taken) aggs) (λ row. Ok (record { titles = map agg_title aggs; rows = row ∷ [] }))
+results_by columns is aggs taken = if_ok (each (λ a. aggregate a.0 (cols_of columns) taken) aggs) (λ row. Ok (record { titles = map agg_title aggs; rows = row ∷ [] }))
 
--- the result of a SELECT whose table has these columns and shows these rows: WHERE is tested at all of them, then they are sorted,
--- and then the items are evaluated
+-- the result of a SELECT whose table has these columns and shows these rows: a column that isn't there is a fault before any row is
+-- looked at; WHERE is tested at all rows, then they are sorted, and then the items are evaluated
 abbrev pub result_of : SelectTree → List ColumnTree → List (List Value) → Result Results ValueFault
-result_of s columns rows = unless_lacking (lacking_select (cols_of columns) s)
+result_of s columns rows = option_map_or (λ name. Err (NoColumn name)) (lacking_select (cols_of columns) s)
     (if_ok (taken s columns rows) (λ places. results_by columns s.items (counted s.items) (rows_at rows places)))
 
 -- where a value of an INSERT or UPDATE goes: a column's place, and its kind
@@ -224,8 +203,7 @@ new_values width to row = if_ok (each (λ e. value e [] []) row) (λ values. fil
 
 -- the first column that is NULL and must not be
 abbrev pub null_in : List ColumnTree → List Value → Option (List ℕ)
-null_in (c ∷ cs) (v ∷ vs) = if c.not_null && is_null v then Some c.name else null_in cs vs
-null_in cs vs = None
+null_in columns values = option_map (λ (c : ColumnTree × Value). c.0.name) (find (λ c. c.0.not_null && is_null c.1) (zip columns values))
 
 -- some row has more values than there are columns for them
 abbrev pub some_too_long : ℕ → List (List Tree) → Bool

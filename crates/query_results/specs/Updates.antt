@@ -4,9 +4,9 @@ use Rattle.std.specs.Option.{option_or}
 use Rattle.sql_trees.specs.Statements.{ColumnTree, SetTree, UpdateTree}
 use Rattle.sql_values.specs.declared.value.Value.{Value}
 use Rattle.sql_values.specs.declared.fault.ValueFault.{ValueFault}
-use Rattle.sql_values.specs.Values.{if_ok}
+use Rattle.sql_values.specs.Values.{if_ok, each}
 use Rattle.sql_values.specs.Expressions.{Cols, value}
-use Rattle.query_results.specs.Queries.{AssignedColumn, assigned_by_name, each, filled, first_of, lacking, lacking_if}
+use Rattle.query_results.specs.Queries.{AssignedColumn, assigned_by_name, filled, first_of, lacking, lacking_if}
 
 -- the first column that an UPDATE names and its table lacks: of the new values, then of WHERE; what it assigns to is looked at before
 abbrev pub lacking_update : Cols → UpdateTree → Option (List ℕ)

@@ -1,5 +1,5 @@
 -- What a session would see of a table is what a SELECT of all its rows shows.
-use Rattle.std.proofs.Common.{◌≡◌, ◌≢◌, ℕ, suc, ◌<◌, ◌≤◌, ◌+◌, ◌==◌, Bool, false, cond, not, ◌&&◌, ◌||◌, List, [], ◌∷◌, ◌++◌, length, append-nil, refl, ap, sym, ◌∙◌, subst, arith}
+use Rattle.std.proofs.Common.{◌≡◌, ◌≢◌, ℕ, suc, ◌<◌, ◌≤◌, ◌+◌, ◌==◌, Bool, false, cond, not, ◌&&◌, ◌||◌, List, [], ◌∷◌, ◌++◌, length, refl, ap, sym, ◌∙◌, subst, arith}
 use Rattle.std.specs.Prelude.{Option, Some, None, option_map, is_some, unwrap_or, slice_get, bytes_eq, nat_lt, map, Result, Ok}
 use Rattle.std.specs.List.{list_any}
 use Rattle.std.proofs.lemmas.Bool.{ne_eqb, le-ltb, and_right}
@@ -7,7 +7,7 @@ use Rattle.sql_trees.specs.declared.stmt.Level.TheVariants.{ReadCommitted}
 use Rattle.sql_trees.specs.Statements.{ColumnTree, SelectTree, All}
 use Rattle.sql_values.specs.declared.value.Value.{Value}
 use Rattle.sql_values.specs.declared.fault.ValueFault.{ValueFault}
-use Rattle.sql_values.specs.Values.{if_ok}
+use Rattle.sql_values.specs.Values.{Answer, each, if_ok}
 use Rattle.sql_values.specs.Expressions.{Cols}
 use Rattle.query_results.specs.Results.{Results}
 use Rattle.row_versions.specs.declared.names.TxId.{TxId}
@@ -27,7 +27,7 @@ use Rattle.session_machine.specs.declared.session.Transaction.TheVariants.{Close
 use Rattle.session_machine.specs.declared.fault.Refusal.{Refusal}
 use Rattle.session_machine.specs.Tables.{Database, Table, Dropped, counts, is_dropped, is_meant, find_from, find_table}
 use Rattle.session_machine.specs.Transactions.{begun, fresh, own_of, view_of, view_now}
-use Rattle.query_results.specs.Queries.{each, passing, row_values, titles_of, result_of, cols_of}
+use Rattle.query_results.specs.Queries.{passing, row_values, titles_of, result_of, cols_of}
 use Rattle.query_results.specs.Ordering.{rows_at}
 use Rattle.sql_values.specs.Sorting.{keys_at}
 use Rattle.session_machine.specs.Views.{rows_shown}
@@ -44,6 +44,9 @@ use Rattle.session_laws.proofs.Orderly.{IsKnown}
 use Rattle.session_laws.proofs.Ordering.{orderly_run}
 use Rattle.session_laws.proofs.Sound.{ran}
 use Rattle.session_laws.proofs.Positive.{begins_due}
+
+abbrev ok_row : List Value → Result (List Value) ValueFault
+ok_row vs = Ok vs
 
 abbrev ok_rows : List (List Value) → Result (List (List Value)) ValueFault
 ok_rows rows = Ok rows
@@ -68,11 +71,16 @@ picked_all all k (row ∷ rows) h =
     let rest = picked_all all (k + 1) rows (λ i. let e : k + 1 + i ≡ k + suc i = omega arith in ap (keys_at all) e ∙ h (suc i)) in
     λ i. first i ∷ rest i
 
+row_all : (row : List Value) → each (λ (answer : Answer). answer) (map (λ v. Ok v) row ++ []) ≡ Ok row
+row_all [] = refl
+row_all (v ∷ row) = let rest = row_all row in λ j. if_ok (rest j) (λ vs. ok_row (v ∷ vs))
+
 each_all : (cols : Cols) (rows : List (List Value)) → each (row_values cols (All ∷ [])) rows ≡ Ok rows
 each_all cols [] = refl
 each_all cols (row ∷ rows) =
-    ap (λ (r : Result (List (List Value)) ValueFault). if_ok r (λ rest. ok_rows ((row ++ []) ∷ rest))) (each_all cols rows)
-    ∙ ap (λ x. ok_rows (x ∷ rows)) (append-nil row)
+    let first = row_all row in
+    let rest = each_all cols rows in
+    λ j. if_ok (first j) (λ vs. if_ok (rest j) (λ more. ok_rows (vs ∷ more)))
 
 abbrev all_of : List ℕ → SelectTree
 all_of name = record { items = All ∷ []; table = Some name; filter = None; order = []; lock = None }

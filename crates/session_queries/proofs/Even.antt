@@ -8,10 +8,12 @@ use Rattle.sql_trees.specs.Statements.{ColumnTree, ItemTree, column_of}
 use Rattle.sql_trees.specs.Statements as item
 use Rattle.sql_values.specs.declared.value.Value.{Value}
 use Rattle.sql_values.specs.declared.fault.ValueFault.{ValueFault}
-use Rattle.sql_values.specs.Values.{Answers, if_ok}
+use Rattle.sql_values.specs.Values.{Answers, each, if_ok}
 use Rattle.sql_values.specs.Expressions.{Cols, value}
 use Rattle.query_results.specs.declared.title.Title.{Title}
-use Rattle.query_results.specs.Queries.{cols_of, each, item_titles, item_values, row_values, titles_of}
+use Rattle.query_results.specs.Queries.{cols_of, item_titles, row_values, titles_of}
+use Rattle.session_queries.specs.Inner.Answers.{item_row, row_by_items}
+use Rattle.session_queries.proofs.Shown.{by_items}
 
 one : (a : Result Value ValueFault) (vs : List Value) → if_ok a (λ v. Ok (v ∷ [])) ≡ Ok vs → length vs ≡ 1
 one (Ok v) vs h =
@@ -19,7 +21,7 @@ one (Ok v) vs h =
     sym (ap length same)
 one (Err e) vs h = absurd cc
 
-item_even : (columns : List ColumnTree) (i : ItemTree) (row vs : List Value) → length row ≡ length columns → item_values (cols_of columns) row i ≡ Ok vs → length vs ≡ length (item_titles columns i)
+item_even : (columns : List ColumnTree) (i : ItemTree) (row vs : List Value) → length row ≡ length columns → item_row (cols_of columns) row i ≡ Ok vs → length vs ≡ length (item_titles columns i)
 item_even columns item.All row vs long h =
     let same : row ≡ vs = cc in
     sym (ap length same) ∙ long ∙ sym (length-map columns _)
@@ -37,13 +39,16 @@ both (Ok us) (Ok ws) vs m n f g h =
 both (Ok us) (Err e) vs m n f g h = absurd cc
 both (Err e) b vs m n f g h = absurd cc
 
-pub row_even : (columns : List ColumnTree) (is : List ItemTree) (row vs : List Value) → length row ≡ length columns → row_values (cols_of columns) is row ≡ Ok vs → length vs ≡ length (titles_of columns is)
-row_even columns [] row vs long h =
+even_by_items : (columns : List ColumnTree) (is : List ItemTree) (row vs : List Value) → length row ≡ length columns → row_by_items (cols_of columns) is row ≡ Ok vs → length vs ≡ length (titles_of columns is)
+even_by_items columns [] row vs long h =
     let same : [] ≡ vs = cc in
     sym (ap length same)
-row_even columns (i ∷ is) row vs long h =
-    both (item_values (cols_of columns) row i) (row_values (cols_of columns) is row) vs _ _ (λ us. item_even columns i row us long) (λ us. row_even columns is row us long) h
+even_by_items columns (i ∷ is) row vs long h =
+    both (item_row (cols_of columns) row i) (row_by_items (cols_of columns) is row) vs _ _ (λ us. item_even columns i row us long) (λ us. even_by_items columns is row us long) h
     ∙ sym (length-append (item_titles columns i) (titles_of columns is))
+
+pub row_even : (columns : List ColumnTree) (is : List ItemTree) (row vs : List Value) → length row ≡ length columns → row_values (cols_of columns) is row ≡ Ok vs → length vs ≡ length (titles_of columns is)
+row_even columns is row vs long h = even_by_items columns is row vs long (sym (by_items (cols_of columns) is row) ∙ h)
 
 in_each : (a : Result (List Value) ValueFault) (b : Result (List (List Value)) ValueFault) (shown : List (List Value)) (n : ℕ) → ((vs : List Value) → a ≡ Ok vs → length vs ≡ n) → ((rest : List (List Value)) → b ≡ Ok rest → All (λ vs. length vs ≡ n) rest) → if_ok a (λ y. if_ok b (λ ys. Ok (y ∷ ys))) ≡ Ok shown → All (λ vs. length vs ≡ n) shown
 in_each (Ok vs) (Ok rest) shown n f g h =

@@ -6,6 +6,7 @@ pub mod Even
 pub mod Filling
 pub mod Fronts
 pub mod Selecting
+pub mod Shown
 pub mod Counting
 pub mod Parts
 pub mod Picking

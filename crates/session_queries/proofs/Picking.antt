@@ -33,9 +33,9 @@ sortable true h = refl
 sortable false h = absurd (h refl)
 
 -- what is picked by a sorted order is what sorting answers
-pub picked_in_order : (by : List Dir) (places : List ℕ) (keys : List (List Value)) (sorted picked : List ℕ) → (can_sort 0 by keys ≡ false → ⊥) → sorted_places by keys ≡ sorted → picked ≡ map (λ i. slice_index_or places i 0) sorted → by_keys by places keys ≡ Ok picked
+pub picked_in_order : (by : List Dir) (places : List ℕ) (keys : List (List Value)) (sorted picked : List ℕ) → (can_sort by keys ≡ false → ⊥) → sorted_places by keys ≡ sorted → picked ≡ map (λ i. slice_index_or places i 0) sorted → by_keys by places keys ≡ Ok picked
 picked_in_order by places keys sorted picked can order is =
-    picked_by (can_sort 0 by keys) (map (λ i. slice_index_or places i 0) (sorted_places by keys)) (sortable (can_sort 0 by keys) can)
+    picked_by (can_sort by keys) (map (λ i. slice_index_or places i 0) (sorted_places by keys)) (sortable (can_sort by keys) can)
     ∙ ap (λ ps. Ok (map (λ i. slice_index_or places i 0) ps)) order
     ∙ ap Ok (sym is)
 
@@ -48,7 +48,7 @@ all_picked P false these those h is = absurd cc
 -- what sorting answers are some of the places
 pub sorted_within : (n : ℕ) (by : List Dir) (places : List ℕ) (keys : List (List Value)) (result : Result (Vec ℕ) ValueFault) → length keys ≡ length places → All (λ p. p < n) places → AnswersList result (by_keys by places keys) → IfOk result (λ sorted. All (λ p. p < n) sorted.items)
 sorted_within n by places keys (Ok sorted) long low h =
-    all_picked (λ p. p < n) (can_sort 0 by keys) (map (λ i. slice_index_or places i 0) (sorted_places by keys)) sorted.items
+    all_picked (λ p. p < n) (can_sort by keys) (map (λ i. slice_index_or places i 0) (sorted_places by keys)) sorted.items
     (All-map (λ p. p < n) (λ i. slice_index_or places i 0) (sorted_places by keys)
     (λ k d less. low _ 0 (places_within by keys (length places) long k d less)))
     h

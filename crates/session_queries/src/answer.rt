@@ -2,11 +2,11 @@
 
 ghost use Rattle.std.specs.Prelude.{◌≡◌, ◌≢◌, ◌∷◌, ◌++◌, All, IfOk, OnOk, IsErrOf, MatchResult, Ok, Err, None, [], length, map, not};
 ghost use Rattle.sql_trees.specs.Statements.{column_of, item_of, select_of};
-ghost use Rattle.sql_values.specs.Values.{Answers};
+ghost use Rattle.sql_values.specs.Values.{Answers, each};
 ghost use Rattle.sql_values.specs.Aggregates.{aggregate};
-ghost use Rattle.query_results.specs.Queries.{Counted, cols_of, counted, each, item_values, lacking_select, result_of, row_values, titles_of};
+ghost use Rattle.query_results.specs.Queries.{cols_of, counted, lacking_select, result_of, row_values, titles_of};
 ghost use Rattle.session_queries.specs.Fronts.{AnswersList};
-ghost use Rattle.session_queries.specs.Inner.Answers.{agg_results, answered, has_none, row_results, selected};
+ghost use Rattle.session_queries.specs.Inner.Answers.{agg_results, answered, has_none, item_row, row_results, selected};
 ghost use Rattle.session_queries.specs.Inner.Fronts.{in_front};
 
 use crate::known::known;
@@ -38,8 +38,8 @@ fn append_item<'a>(
 ) -> Result<(), ValueFault<'a>>
     requires { length row.now ≡ length columns.now }
     ensures { MatchResult result
-        (λ _. in_front values.old.items (item_values columns.now row.now (item_of item.now)) ≡ Ok values.new.items)
-        (λ fault. fault ≢ ValueFault.Memory → item_values columns.now row.now (item_of item.now) ≡ Err fault) }
+        (λ _. in_front values.old.items (item_row columns.now row.now (item_of item.now)) ≡ Ok values.new.items)
+        (λ fault. fault ≢ ValueFault.Memory → item_row columns.now row.now (item_of item.now) ≡ Err fault) }
 {
     match item {
         Item::All => append_values(alloc, values, row)?,
@@ -134,7 +134,7 @@ fn agg_values<'a>(
     taken: &[&Row],
 ) -> Result<Vec<Value>, ValueFault<'a>>
     requires { All (λ row. length row.now ≡ length columns.now) taken.now }
-    ensures values { AnswersList result (each (λ (a : Counted). aggregate a.agg columns.now (map (λ row. row.now) taken.now)) (counted (map item_of items.now))) }
+    ensures values { AnswersList result (each (λ a. aggregate a.0 columns.now (map (λ row. row.now) taken.now)) (counted (map item_of items.now))) }
     ensures long { IfOk result (λ values. length values.items ≡ length (counted (map item_of items.now))) }
 {
     let mut values = Vec::new(alloc);

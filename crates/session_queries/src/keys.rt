@@ -1,13 +1,14 @@
 //! The values that rows are sorted by.
 
-ghost use Rattle.std.specs.Prelude.{◌≡◌, ◌<◌, All, IfOk, length, map, option_map};
+ghost use Rattle.std.specs.Prelude.{◌≡◌, ◌<◌, All, IfOk, Ok, length, map, option_map, slice_index_or};
 ghost use Rattle.iso_lexer.specs.Names.{name_view, decoded};
 ghost use Rattle.sql_trees.specs.Statements.{item_of, name_of, order_of};
 ghost use Rattle.sql_trees.specs.Trees.{tree_of};
-ghost use Rattle.sql_values.specs.Values.{Answers};
+ghost use Rattle.sql_values.specs.declared.value.Value.TheVariants.{Null as SqlNull};
+ghost use Rattle.sql_values.specs.Values.{Answers, each};
 ghost use Rattle.session_queries.specs.Fronts.{AnswersList};
 ghost use Rattle.query_results.specs.Ordering.{rows_at};
-ghost use Rattle.query_results.specs.Queries.{aliased, each, key_value, keys_of, shown_at};
+ghost use Rattle.query_results.specs.Queries.{aliased, key_value, keys_of, shown};
 
 use iso_lexer::{Name, same_name};
 use sql_trees::{Expr, Item, OrderKey};
@@ -38,7 +39,7 @@ fn shown_at<'a>(
     row: &Row,
 ) -> Result<Value, ValueFault<'a>>
     requires { length row.now ≡ length columns.now }
-    ensures { Answers result (shown_at columns.now (map item_of items.now) row.now place) }
+    ensures { Answers result (slice_index_or (shown columns.now (map item_of items.now) row.now) place (Ok SqlNull)) }
 {
     let mut place = place;
     let values = row.values();

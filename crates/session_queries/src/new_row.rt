@@ -3,9 +3,9 @@
 ghost use Rattle.std.specs.Prelude.{◌≡◌, IfOk, [], length, map, replicate, slice_set};
 ghost use Rattle.sql_trees.specs.Trees.{tree_of};
 ghost use Rattle.sql_values.specs.declared.value.Value.TheVariants.{Null as SqlNull};
-ghost use Rattle.sql_values.specs.Values.{Answers};
+ghost use Rattle.sql_values.specs.Values.{Answers, each};
 ghost use Rattle.sql_values.specs.Expressions.{value};
-ghost use Rattle.query_results.specs.Queries.{each, filled, new_values};
+ghost use Rattle.query_results.specs.Queries.{filled, new_values};
 
 use crate::assigned::{AssignedColumn, AssignedColumns};
 use sql_trees::Expr;

@@ -93,7 +93,7 @@ fn own_title<'a>(agg: &Agg<'_>) -> Title<'a>
 
 /// An aggregate without an alias has its own title.
 fn agg_title<'a>(agg: &Agg<'a>, alias: Option<Name<'a>>) -> Title<'a>
-    ensures { result ≡ agg_title (record { agg = agg_of agg.now; alias = option_map name_of alias.entry }) }
+    ensures { result ≡ agg_title (agg_of agg.now, option_map name_of alias.entry) }
 {
     match alias {
         Some(given) => Title::Column(Ident::new(given)),

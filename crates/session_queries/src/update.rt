@@ -3,8 +3,8 @@
 ghost use Rattle.std.specs.Prelude.{◌≡◌, IfOk, length, map};
 ghost use Rattle.sql_trees.specs.Statements.{SetTree, column_of, set_of};
 ghost use Rattle.sql_values.specs.Expressions.{value};
-ghost use Rattle.sql_values.specs.Values.{Answers};
-ghost use Rattle.query_results.specs.Queries.{cols_of, each};
+ghost use Rattle.sql_values.specs.Values.{Answers, each};
+ghost use Rattle.query_results.specs.Queries.{cols_of};
 ghost use Rattle.query_results.specs.Updates.{updated};
 
 use crate::assigned::AssignedColumns;

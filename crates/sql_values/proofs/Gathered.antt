@@ -1,5 +1,5 @@
 -- What an aggregate has seen of its rows, and what is to come.
-use Rattle.std.proofs.Common.{◌≡◌, ℕ, ◌+◌, ◌<◌, length, drop, get_or, ℤ, pos, ◌+ℤ◌, Bool, true, false, List, [], ◌∷◌, ◌++◌, Ok, Err, refl, sym, ap, ◌∙◌, arith, append_assoc, append-nil, if◌then◌else◌}
+use Rattle.std.proofs.Common.{◌≡◌, ℕ, ◌+◌, ◌<◌, length, drop, get_or, ℤ, pos, ◌+ℤ◌, Bool, true, false, cond, not, List, [], ◌∷◌, ◌++◌, Ok, Err, refl, sym, ap, ◌∙◌, arith, append_assoc, append-nil, if◌then◌else◌}
 use Rattle.std.specs.Prelude.{Result}
 use Rattle.std.proofs.lemmas.Int.{ints}
 use Rattle.std.proofs.lemmas.List.{at_drop_more}
@@ -7,7 +7,7 @@ use Rattle.sql_values.specs.declared.value.Value.{Value}
 use Rattle.sql_values.specs.declared.fault.ValueFault.{ValueFault}
 use Rattle.sql_values.specs.declared.value.Value.TheVariants.{Int}
 use Rattle.sql_values.specs.Aggregates.{total}
-use Rattle.sql_values.specs.Values.{if_ok}
+use Rattle.sql_values.specs.Values.{if_ok, is_null, without_nulls}
 
 -- the values found, and those of the rows to come
 abbrev pub gathered : List Value → Result (List Value) ValueFault → Result (List Value) ValueFault
@@ -20,11 +20,16 @@ gathered_none (Err e) = refl
 pub gathered_all : (found : List Value) → gathered found (Ok []) ≡ Ok found
 gathered_all found = ap Ok (append-nil found)
 
-pub gathered_more : (found : List Value) (v : Value) (null : Bool) (rest : Result (List Value) ValueFault) → gathered found (if_ok rest (λ vs. Ok (if null then vs else v ∷ vs))) ≡ gathered (if null then found else found ++ v ∷ []) rest
-gathered_more found v true (Ok vs) = refl
-gathered_more found v false (Ok vs) = ap Ok (sym (append_assoc found (v ∷ []) vs))
-gathered_more found v true (Err e) = refl
-gathered_more found v false (Err e) = refl
+abbrev ok_values : List Value → Result (List Value) ValueFault
+ok_values vs = Ok vs
+
+pub gathered_more : (found : List Value) (v : Value) (null : Bool) (rest : Result (List Value) ValueFault) → is_null v ≡ null
+    → gathered found (if_ok (if_ok rest (λ vs. ok_values (v ∷ vs))) (λ vs. ok_values (without_nulls vs))) ≡ gathered (if null then found else found ++ v ∷ []) (if_ok rest (λ vs. ok_values (without_nulls vs)))
+gathered_more found v true (Ok vs) h = ap (λ b. ok_values (found ++ cond (not b) (v ∷ without_nulls vs) (without_nulls vs))) h
+gathered_more found v false (Ok vs) h =
+    ap (λ b. ok_values (found ++ cond (not b) (v ∷ without_nulls vs) (without_nulls vs))) h ∙ ap ok_values (sym (append_assoc found (v ∷ []) (without_nulls vs)))
+gathered_more found v true (Err e) h = refl
+gathered_more found v false (Err e) h = refl
 
 -- the sum so far, and that of the values to come
 abbrev pub summed : ℤ → Result ℤ ValueFault → Result ℤ ValueFault

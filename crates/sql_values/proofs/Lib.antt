@@ -4,6 +4,7 @@ pub mod Calls
 pub mod Extremes
 pub mod Gathered
 pub mod Keys
+pub mod Negation
 pub mod OneOrder
 pub mod Orders
 pub mod Places

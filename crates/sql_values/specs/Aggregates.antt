@@ -7,33 +7,22 @@ use Rattle.sql_trees.specs.declared.expr.AggKind.TheVariants.{Count, Sum, Min, M
 use Rattle.sql_trees.specs.Trees.{Tree, AggTree}
 use Rattle.sql_trees.specs.Trees as tree
 use Rattle.sql_values.specs.declared.value.Value.{Value}
-use Rattle.sql_values.specs.declared.value.Value.TheVariants.{Null, Int, Big, Text}
+use Rattle.sql_values.specs.declared.value.Value.TheVariants.{Null, Int, Text}
 use Rattle.sql_values.specs.declared.fault.ValueFault.{ValueFault}
 use Rattle.sql_values.specs.declared.fault.ValueFault.TheVariants.{TypeMismatch}
-use Rattle.sql_values.specs.Values.{Answer, if_ok, bigint, is_null}
+use Rattle.sql_values.specs.Values.{Answer, if_ok, each, bigint, without_nulls, is_number}
 use Rattle.sql_values.specs.Expressions.{Cols, value}
 use Rattle.sql_values.specs.Sorting.{full_order}
 
 -- the values of the expression on the rows, in order, without NULLs
 abbrev pub values : Tree → Cols → List (List Value) → Result (List Value) ValueFault
-values e cols [] = Ok []
-values e cols (row ∷ rows) =
-    if_ok (value e cols row) (λ v. if_ok (values e cols rows) (λ vs. Ok (if is_null v then vs else v ∷ vs)))
+values e cols rows = if_ok (each (value e cols) rows) (λ vs. Ok (without_nulls vs))
 
 -- the sum of integers; other values have none
 abbrev pub total : List Value → Result ℤ ValueFault
 total [] = Ok (pos 0)
 total (Int z ∷ vs) = if_ok (total vs) (λ t. Ok (z +ℤ t))
 total (v ∷ vs) = Err TypeMismatch
-
-abbrev pub sum : List Value → Answer
-sum [] = Ok Null
-sum (v ∷ vs) = if_ok (total (v ∷ vs)) bigint
-
-abbrev pub is_number : Value → Bool
-is_number (Int z) = true
-is_number (Big z) = true
-is_number v = false
 
 abbrev pub is_text : Value → Bool
 is_text (Text s) = true
@@ -49,12 +38,13 @@ best greatest vs = find (λ v. not (list_any (λ w. beats greatest w v) vs)) vs
 
 -- that value, or NULL where there is none; the values are numbers alone or texts alone
 abbrev pub extreme : Bool → List Value → Answer
-extreme greatest vs =
-    if list_all is_number vs || list_all is_text vs then Ok (unwrap_or (best greatest vs) Null) else Err TypeMismatch
+extreme greatest vs = if list_all is_number vs || list_all is_text vs then Ok (unwrap_or (best greatest vs) Null) else Err TypeMismatch
 
+-- an aggregate of values, none of them NULL; the sum of none is NULL
 abbrev pub summary : AggKind → List Value → Answer
 summary Count vs = bigint (pos (length vs))
-summary Sum vs = sum vs
+summary Sum [] = Ok Null
+summary Sum vs = if_ok (total vs) bigint
 summary Min vs = extreme false vs
 summary Max vs = extreme true vs
 

@@ -5,3 +5,4 @@ pub mod Logic
 pub mod Expressions
 pub mod Sorting
 pub mod Aggregates
+pub mod Inner

@@ -1,5 +1,5 @@
 -- The order in which rows are sorted (PostgreSQL manual, 7.5).
-use Rattle.std.specs.Prelude.{ℕ, ◌+◌, ◌≤◌, ⊤, Bool, true, false, List, [], ◌∷◌, length, is_some, unwrap_or, slice_get, slice_index_or, if◌then◌else◌}
+use Rattle.std.specs.Prelude.{ℕ, ◌+◌, ◌≤◌, ⊤, Bool, true, List, [], ◌∷◌, length, map, is_some, unwrap_or, slice_get, slice_index_or, if◌then◌else◌}
 use Rattle.std.specs.List.{list_all, range_with_len, AllAdjacentBelow}
 use Rattle.std.specs.List.Sorted.{IsPermutation}
 use Rattle.std.specs.Ordering.{nat_cmp, ordering_then, MatchOrdering}
@@ -7,16 +7,15 @@ use Rattle.std.specs.declared.cmp.Ordering.{Ordering}
 use Rattle.std.specs.declared.cmp.Ordering.TheVariants.{Equal}
 use Rattle.sql_trees.specs.declared.kind.Dir.{Dir}
 use Rattle.sql_values.specs.declared.value.Value.{Value}
-use Rattle.sql_values.specs.declared.value.Value.TheVariants.{Null, Int, Big, Text, Bool as Boolean}
-use Rattle.sql_values.specs.Values.{is_null, compare}
+use Rattle.sql_values.specs.declared.value.Value.TheVariants.{Null, Text, Bool as Boolean}
+use Rattle.sql_values.specs.Values.{is_null, without_nulls, compare}
 
 -- kinds that don't compare stand in this order; nothing shows it, since sorting and aggregates refuse to mix them
 abbrev pub kind_rank : Value → ℕ
 kind_rank Null = 0
-kind_rank (Int z) = 1
-kind_rank (Big z) = 1
 kind_rank (Text s) = 2
 kind_rank (Boolean b) = 3
+kind_rank number = 1
 
 -- the order of two values, for all of them
 abbrev pub full_order : Value → Value → Ordering
@@ -28,8 +27,7 @@ null_place dir v = if is_null v then (if dir.nulls_first then 0 else 2) else 1
 
 -- how a key sorted in this direction orders two values
 abbrev pub key_order : Dir → Value → Value → Ordering
-key_order dir a b =
-    ordering_then (nat_cmp (null_place dir a) (null_place dir b)) (if dir.desc then full_order b a else full_order a b)
+key_order dir a b = ordering_then (nat_cmp (null_place dir a) (null_place dir b)) (if dir.desc then full_order b a else full_order a b)
 
 -- the value of key k of a row
 abbrev pub key : ℕ → List Value → Value
@@ -38,8 +36,7 @@ key k row = unwrap_or (slice_get row k) Null
 -- from key k on, the first key that tells two rows apart orders them
 abbrev pub row_order : ℕ → List Dir → List Value → List Value → Ordering
 row_order k [] a b = Equal
-row_order k (dir ∷ by) a b =
-    ordering_then (key_order dir (key k a) (key k b)) (row_order (k + 1) by a b)
+row_order k (dir ∷ by) a b = ordering_then (key_order dir (key k a) (key k b)) (row_order (k + 1) by a b)
 
 -- the keys of the row at that place
 abbrev pub keys_at : List (List Value) → ℕ → List Value
@@ -54,20 +51,11 @@ pub record IsSortedOrder (by : List Dir) (keys : List (List Value)) (places : Li
   pub each_once : IsPermutation (range_with_len 0 (length keys)) places
   pub in_order : AllAdjacentBelow (MayPrecede by keys) places (length places)
 
--- the values of key k on the rows, without NULLs
-abbrev pub key_values : ℕ → List (List Value) → List Value
-key_values k [] = []
-key_values k (row ∷ rows) = if is_null (key k row) then key_values k rows else key k row ∷ key_values k rows
-
--- they compare with v; they compare with the first of them
-abbrev pub all_compare_with : Value → List Value → Bool
-all_compare_with v vs = list_all (λ w. is_some (compare v w)) vs
-
+-- they compare with the first of them
 abbrev pub all_compare : List Value → Bool
 all_compare [] = true
-all_compare (v ∷ vs) = all_compare_with v vs
+all_compare (v ∷ vs) = list_all (λ w. is_some (compare v w)) vs
 
--- the rows can be sorted by this many keys, from key k on
-abbrev pub can_sort : ℕ → List Dir → List (List Value) → Bool
-can_sort k [] keys = true
-can_sort k (dir ∷ by) keys = if all_compare (key_values k keys) then can_sort (k + 1) by keys else false
+-- the rows can be sorted by this many keys: of each, the values that aren't NULL compare
+abbrev pub can_sort : List Dir → List (List Value) → Bool
+can_sort by keys = list_all (λ k. all_compare (without_nulls (map (key k) keys))) (range_with_len 0 (length by))

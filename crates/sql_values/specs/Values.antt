@@ -1,5 +1,7 @@
 -- Values: their ranges, how two of them compare, and what a column of a kind takes of them.
-use Rattle.std.specs.Prelude.{ℕ, ◌^◌, ◌≡◌, ◌≢◌, ℤ, pos, negsuc, Bool, true, false, nat_lt, Option, Some, None, Result, Ok, Err, if◌then◌else◌}
+use Rattle.std.specs.Prelude.{ℕ, ◌^◌, ◌≡◌, ◌≢◌, ℤ, pos, neg_ℤ, int_le, int_lt, Bool, true, false, not, ◌&&◌, List, [], ◌∷◌, filter}
+use Rattle.std.specs.Prelude.{Option, Some, None, option_map, ok_or, is_some, Result, Ok, Err, if◌then◌else◌}
+use Rattle.std.specs.Option.{option_zip}
 use Rattle.std.specs.Ordering.{nat_cmp, int_cmp, bool_cmp}
 use Rattle.std.specs.declared.cmp.Ordering.{Ordering}
 use Rattle.std.specs.Cmp.Lexicographic.{slice_cmp}
@@ -24,10 +26,14 @@ abbrev pub if_ok : {A B : Type 0} → Result A ValueFault → (A → Result B Va
 if_ok (Ok x) f = f x
 if_ok (Err e) f = Err e
 
+-- what is answered at each, up to the first fault
+abbrev pub each : {A B : Type 0} → (A → Result B ValueFault) → List A → Result (List B) ValueFault
+each f [] = Ok []
+each f (x ∷ xs) = if_ok (f x) (λ y. if_ok (each f xs) (λ ys. Ok (y ∷ ys)))
+
 -- the number is at least -half and below half
 abbrev pub is_within : ℕ → ℤ → Bool
-is_within half (pos n) = nat_lt n half
-is_within half (negsuc n) = nat_lt n half
+is_within half z = int_le (neg_ℤ (pos half)) z && int_lt z (pos half)
 
 -- an integer has 32 bits (PostgreSQL manual, 8.1)
 abbrev pub integer : ℤ → Answer
@@ -39,28 +45,35 @@ bigint z = if is_within (2 ^ 63) z then Ok (Big z) else Err BigintRange
 
 abbrev pub is_null : Value → Bool
 is_null Null = true
-is_null (Int z) = false
-is_null (Big z) = false
-is_null (Text s) = false
-is_null (Boolean b) = false
+is_null v = false
+
+abbrev pub without_nulls : List Value → List Value
+without_nulls vs = filter (λ v. not (is_null v)) vs
+
+-- the number that a value is
+abbrev pub number_of : Value → Option ℤ
+number_of (Int z) = Some z
+number_of (Big z) = Some z
+number_of v = None
+
+abbrev pub is_number : Value → Bool
+is_number v = is_some (number_of v)
+
+-- the numbers that two values are
+abbrev pub numbers_of : Value → Value → Option (ℤ × ℤ)
+numbers_of a b = option_zip (number_of a) (number_of b)
 
 -- numbers compare by size, texts by their bytes, false stands before true; NULL and values of other kinds don't compare (9.2)
 abbrev pub compare : Value → Value → Option Ordering
-compare (Int a) (Int b) = Some (int_cmp a b)
-compare (Int a) (Big b) = Some (int_cmp a b)
-compare (Big a) (Int b) = Some (int_cmp a b)
-compare (Big a) (Big b) = Some (int_cmp a b)
 compare (Text s) (Text t) = Some (slice_cmp nat_cmp s t)
 compare (Boolean a) (Boolean b) = Some (bool_cmp a b)
-compare a b = None
+compare a b = option_map (λ n. int_cmp n.0 n.1) (numbers_of a b)
 
 -- what a column of the kind takes a value as: NULL as it is, a number if it fits, another value of that kind
 abbrev pub assign : Value → Kind → Answer
 assign Null k = Ok Null
-assign (Int z) kind.Int = Ok (Int z)
-assign (Int z) kind.Big = Ok (Big z)
-assign (Big z) kind.Int = integer z
-assign (Big z) kind.Big = Ok (Big z)
+assign v kind.Int = if_ok (ok_or (number_of v) TypeMismatch) integer
+assign v kind.Big = if_ok (ok_or (number_of v) TypeMismatch) bigint
 assign (Text s) kind.Text = Ok (Text s)
 assign (Boolean b) kind.Bool = Ok (Boolean b)
 assign v k = Err TypeMismatch

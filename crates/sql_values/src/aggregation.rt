@@ -3,8 +3,8 @@
 ghost use Rattle.std.specs.Prelude.{◌≡◌, ◌≢◌, ◌^◌, pos, neg_ℤ, ◌+ℤ◌, ◌≤ℤ◌, ◌∷◌, All, length, map, Ok, Err, Some, MatchResult, if◌then◌else◌};
 ghost use Rattle.std.specs.List.{list_all};
 ghost use Rattle.sql_trees.specs.Trees.{tree_of, agg_of, CountRows};
-ghost use Rattle.sql_values.specs.Values.{Answers, bigint};
-ghost use Rattle.sql_values.specs.Aggregates.{values, total, sum, is_number, is_text, beats, best, extreme, summary, aggregate};
+ghost use Rattle.sql_values.specs.Values.{Answers, bigint, is_number};
+ghost use Rattle.sql_values.specs.Aggregates.{values, total, is_text, beats, best, extreme, summary, aggregate};
 
 use crate::arithmetic::bigint;
 use crate::columns::Columns;
@@ -49,7 +49,7 @@ fn added(total: i128, n: i32) -> i128
 
 /// The sum of integers.
 fn sum<'a>(values: &[Value]) -> Result<Value, ValueFault<'a>>
-    ensures { result ≡ sum values.now }
+    ensures { result ≡ summary AggKind.Sum values.now }
 {
     if values.is_empty() {
         return Ok(Value::Null);

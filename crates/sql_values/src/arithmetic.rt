@@ -1,8 +1,11 @@
 //! Arithmetic on whole numbers.
 
-ghost use Rattle.std.specs.Prelude.{◌≡◌};
+ghost use Rattle.std.specs.Prelude.{◌≡◌, pos};
+ghost use Rattle.sql_trees.specs.declared.expr.Operator.TheVariants.{Subtract};
+ghost use Rattle.sql_values.specs.declared.value.Value.TheVariants.{Int as SqlInt};
 ghost use Rattle.sql_values.specs.Values.{integer, bigint};
-ghost use Rattle.sql_values.specs.Arithmetic.{calculate, arithmetic, plus, minus, number, signed};
+ghost use Rattle.sql_values.specs.Arithmetic.{calculate, arithmetic, plus, number, signed};
+ghost use Rattle.sql_values.specs.Expressions.{operate};
 
 use crate::fault::ValueFault;
 use crate::value::Value;
@@ -71,8 +74,9 @@ pub fn plus<'a>(value: Value) -> Result<Value, ValueFault<'a>>
 }
 
 /// The value behind a minus sign.
+#[tactic(auto, using(crate::proofs::Negation::from_zero))]
 pub fn minus<'a>(value: Value) -> Result<Value, ValueFault<'a>>
-    ensures { result ≡ minus value }
+    ensures { result ≡ operate Subtract (SqlInt (pos 0)) value }
 {
     match value {
         Value::Null => Ok(Value::Null),

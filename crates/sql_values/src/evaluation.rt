@@ -2,11 +2,11 @@
 
 ghost use Rattle.std.specs.Prelude.{◌≡◌, ◌≢◌, length, option_map, true, false, Ok, None};
 ghost use Rattle.iso_lexer.specs.Names.{name_view, decoded};
-ghost use Rattle.sql_trees.specs.Trees.{tree_of, trees};
+ghost use Rattle.sql_trees.specs.Trees.{tree_of, trees, Column as NamedColumn};
 ghost use Rattle.sql_trees.specs.declared.expr.Operator.TheVariants.{AtMost};
 ghost use Rattle.sql_values.specs.Values.{Answers, if_ok};
-ghost use Rattle.sql_values.specs.Logic.{truth_of, and_of};
-ghost use Rattle.sql_values.specs.Expressions.{value, column, binary, compares, is_among, passes};
+ghost use Rattle.sql_values.specs.Logic.{and_of};
+ghost use Rattle.sql_values.specs.Expressions.{value, binary, compares, is_among, passes};
 
 use crate::arithmetic::{minus, number, plus};
 use crate::columns::Columns;
@@ -28,7 +28,7 @@ fn column<'a>(
     row: &Row,
 ) -> Result<Value, ValueFault<'a>>
     requires { length row.now ≡ length cols.now }
-    ensures { Answers result (column (decoded (name_view name.now)) cols.now row.now) }
+    ensures { Answers result (value (NamedColumn (decoded (name_view name.now))) cols.now row.now) }
 {
     match cols.place(name) {
         Some(i) => Ok(row.values()[i].copied(alloc)?),

@@ -1,10 +1,10 @@
 //! The texts that string literals stand for.
 
-ghost use Rattle.std.specs.Prelude.{◌≡◌, IfOk, MatchOption, true, false};
+ghost use Rattle.std.specs.Prelude.{◌≡◌, [], IfOk, MatchOption, true, false};
 ghost use Rattle.std.specs.Str.{is_utf8};
-ghost use Rattle.sql_trees.specs.Trees.{undoubled};
+ghost use Rattle.sql_trees.specs.Trees.{undoubled, Text as TextTree};
 ghost use Rattle.sql_values.specs.Values.{Answers};
-ghost use Rattle.sql_values.specs.Expressions.{text};
+ghost use Rattle.sql_values.specs.Expressions.{value};
 
 use crate::fault::ValueFault;
 use crate::text::Text;
@@ -40,7 +40,7 @@ fn text_of(bytes: Vec<u8>) -> Option<Text>
 
 /// The value of a string literal, by what stands between its quotes.
 pub fn literal<'a>(alloc: Global, written: &str) -> Result<Value, ValueFault<'a>>
-    ensures { Answers result (text (undoubled written.now)) }
+    ensures { Answers result (value (TextTree (undoubled written.now)) [] []) }
 {
     match text_of(undoubled(alloc, written)?) {
         Some(text) => Ok(Value::Text(text)),

@@ -1,8 +1,11 @@
 //! Three-valued logic: what is known of a condition is true, false, or nothing.
 
-ghost use Rattle.std.specs.Prelude.{◌≡◌, ◌≢◌, Ok, Some, true, false};
+ghost use Rattle.std.specs.Prelude.{◌≡◌, ◌≢◌, Ok, Some, true, false, not, option_map, if◌then◌else◌};
+ghost use Rattle.std.specs.Option.{option_map_or};
+ghost use Rattle.sql_values.specs.declared.value.Value.TheVariants.{Null as SqlNull, Bool as SqlBool};
 ghost use Rattle.sql_values.specs.Values.{is_null};
-ghost use Rattle.sql_values.specs.Logic.{truth, boolean, or_of, and_of, not_of, not_if, is_test, asks, condition};
+ghost use Rattle.sql_values.specs.Logic.{truth, or_of, and_of, is_test, condition};
+ghost use Rattle.sql_values.specs.Inner.Asked.{asks};
 
 use crate::fault::ValueFault;
 use crate::value::Value;
@@ -20,7 +23,7 @@ pub fn truth<'a>(value: &Value) -> Result<Option<bool>, ValueFault<'a>>
 }
 
 pub fn boolean(known: Option<bool>) -> Value
-    ensures { result ≡ boolean known }
+    ensures { result ≡ option_map_or SqlBool known SqlNull }
 {
     match known {
         None => Value::Null,
@@ -50,7 +53,7 @@ pub fn and(a: Option<bool>, b: Option<bool>) -> Option<bool>
 
 /// The negation where the flag says so.
 fn not_if(negated: bool, known: Option<bool>) -> Option<bool>
-    ensures { not_if negated (Ok known) ≡ Ok result }
+    ensures { result ≡ option_map (λ b. if negated then not b else b) known }
 {
     match known {
         Some(b) => Some(b != negated),
@@ -63,7 +66,7 @@ pub fn condition<'a>(
     negated: bool,
     known: Result<Option<bool>, ValueFault<'a>>,
 ) -> Result<Value, ValueFault<'a>>
-    ensures { result ≡ condition (not_if negated known.entry) }
+    ensures { result ≡ condition negated known.entry }
 {
     match known {
         Ok(known) => Ok(boolean(not_if(negated, known))),

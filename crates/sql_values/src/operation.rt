@@ -1,8 +1,10 @@
 //! Operators on two values.
 
 ghost use Rattle.std.specs.Prelude.{◌≡◌, ◌++◌, IfOk, ◌↔◌, IsTrue};
-ghost use Rattle.sql_values.specs.Values.{Answers, compare, is_null};
-ghost use Rattle.sql_values.specs.Expressions.{holds, comparison, concatenation, operation, operate};
+ghost use Rattle.sql_trees.specs.declared.expr.Operator.TheVariants.{Concat};
+ghost use Rattle.sql_values.specs.Values.{Answers, is_null};
+ghost use Rattle.sql_values.specs.Expressions.{operation, operate};
+ghost use Rattle.sql_values.specs.Inner.Comparisons.{holds, comparison};
 
 use crate::arithmetic::arithmetic;
 use crate::comparison::compare;
@@ -31,7 +33,7 @@ fn joined(alloc: Global, a: &Text, b: &Text) -> Result<Text, AllocError>
 }
 
 fn concatenation<'a>(alloc: Global, a: &Value, b: &Value) -> Result<Value, ValueFault<'a>>
-    ensures { Answers result (concatenation a.now b.now) }
+    ensures { Answers result (operation Concat a.now b.now) }
 {
     match (a, b) {
         (Value::Text(a), Value::Text(b)) => Ok(Value::Text(joined(alloc, a, b)?)),
@@ -55,7 +57,7 @@ fn holds(operator: Operator, order: Ordering) -> bool
 }
 
 fn comparison<'a>(operator: Operator, a: &Value, b: &Value) -> Result<Value, ValueFault<'a>>
-    ensures { result ≡ comparison operator (compare a.now b.now) }
+    ensures { result ≡ comparison operator a.now b.now }
 {
     match compare(a, b) {
         Some(order) => Ok(Value::Bool(holds(operator, order))),

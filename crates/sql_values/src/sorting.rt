@@ -1,9 +1,10 @@
 //! The order of rows.
 
-ghost use Rattle.std.specs.Prelude.{◌≡◌, ◌≢◌, ◌↔◌, ◌+◌, IfOk, IfErr, All, length, true, false, unwrap_or, slice_get, slice_index_or};
-ghost use Rattle.std.specs.List.{range_with_len};
+ghost use Rattle.std.specs.Prelude.{◌≡◌, ◌≢◌, ◌↔◌, ◌+◌, IfOk, IfErr, All, length, map, true, false, is_some, unwrap_or, slice_get, slice_index_or};
+ghost use Rattle.std.specs.List.{list_all, range_with_len};
 ghost use Rattle.sql_values.specs.declared.value.Value.TheVariants.{Null};
-ghost use Rattle.sql_values.specs.Sorting.{kind_rank, full_order, null_place, key_order, key, keys_at, row_order, IsSortedOrder, key_values, all_compare_with, all_compare, can_sort};
+ghost use Rattle.sql_values.specs.Sorting.{kind_rank, full_order, null_place, key_order, key, keys_at, row_order, IsSortedOrder, all_compare, can_sort};
+ghost use Rattle.sql_values.specs.Values.{compare, without_nulls};
 
 use crate::comparison::compare;
 use crate::fault::ValueFault;
@@ -94,7 +95,7 @@ fn keys_at(keys: &[Row], place: usize) -> &[Value]
 
 /// Whether the values of a key, NULLs aside, compare with this one.
 fn all_compare_with(value: &Value, k: usize, keys: &[Row]) -> bool
-    ensures { result ≡ all_compare_with value.now (key_values k keys.now) }
+    ensures { result ≡ list_all (λ w. is_some (compare value.now w)) (without_nulls (map (key k) keys.now)) }
 {
     let null = Value::Null;
     for row in keys {
@@ -108,7 +109,7 @@ fn all_compare_with(value: &Value, k: usize, keys: &[Row]) -> bool
 
 /// Whether the values of a key, NULLs aside, compare with the first of them.
 fn all_compare(k: usize, keys: &[Row]) -> bool
-    ensures { result ≡ all_compare (key_values k keys.now) }
+    ensures { result ≡ all_compare (without_nulls (map (key k) keys.now)) }
 {
     let null = Value::Null;
     for i in 0..keys.len() {
@@ -122,7 +123,7 @@ fn all_compare(k: usize, keys: &[Row]) -> bool
 
 /// Whether the rows can be sorted by these keys.
 fn can_sort(by: &[Dir], keys: &[Row]) -> bool
-    ensures { result ≡ can_sort 0 by.now keys.now }
+    ensures { result ≡ can_sort by.now keys.now }
 {
     for k in 0..by.len() {
         if !all_compare(k, keys) {
@@ -166,7 +167,7 @@ pub fn order<'a>(alloc: Global, keys: &[Row], by: &[Dir]) -> Result<Vec<usize>, 
     requires { All (λ row. length row ≡ length by.now) keys.now }
     ensures sorted { IfOk result (λ places. IsSortedOrder by.now keys.now places.items) }
     // A mismatch is told exactly where the keys don't compare, also where memory is short.
-    ensures mismatch { (result ≡ Err ValueFault.TypeMismatch) ↔ (can_sort 0 by.now keys.now ≡ false) }
+    ensures mismatch { (result ≡ Err ValueFault.TypeMismatch) ↔ (can_sort by.now keys.now ≡ false) }
     ensures nothing_else { IfErr result (λ fault. fault ≢ ValueFault.TypeMismatch → fault ≡ ValueFault.Memory) }
 {
     if !can_sort(by, keys) {

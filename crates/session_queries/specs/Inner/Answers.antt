@@ -1,22 +1,44 @@
 -- What a query answers at the rows that it takes.
-use Rattle.std.specs.Prelude.{Bool, true, false, List, [], ◌∷◌, map, Result, Ok}
+use Rattle.std.specs.Prelude.{ℕ, ◌-◌, ◌==◌, nat_lt, Bool, true, false, Option, List, [], ◌∷◌, ◌++◌, length, map, Result, Ok, if◌then◌else◌}
+use Rattle.sql_trees.specs.Trees.{AggTree}
 use Rattle.sql_trees.specs.Statements.{ColumnTree, ItemTree, SelectTree}
+use Rattle.sql_trees.specs.Statements as stmt
 use Rattle.sql_values.specs.declared.value.Value.{Value}
+use Rattle.sql_values.specs.declared.value.Value.TheVariants.{Null}
 use Rattle.sql_values.specs.declared.fault.ValueFault.{ValueFault}
-use Rattle.sql_values.specs.Values.{if_ok}
+use Rattle.sql_values.specs.Values.{Answer, each, if_ok}
+use Rattle.sql_values.specs.Sorting.{key}
+use Rattle.sql_values.specs.Expressions.{Cols, value}
 use Rattle.sql_values.specs.Aggregates.{aggregate}
 use Rattle.query_results.specs.Results.{Results}
 use Rattle.query_results.specs.Ordering.{rows_at}
-use Rattle.query_results.specs.Queries.{Counted, agg_title, cols_of, counted, each, results_by, taken}
+use Rattle.query_results.specs.Queries.{agg_title, cols_of, counted, results_by, taken}
+
+-- what an item answers at a row
+abbrev pub item_row : Cols → List Value → ItemTree → Result (List Value) ValueFault
+item_row cols row stmt.All = Ok row
+item_row cols row (stmt.Value e alias) = if_ok (value e cols row) (λ v. Ok (v ∷ []))
+item_row cols row (stmt.Aggregate a alias) = Ok []
+
+abbrev pub row_by_items : Cols → List ItemTree → List Value → Result (List Value) ValueFault
+row_by_items cols [] row = Ok []
+row_by_items cols (i ∷ is) row = if_ok (item_row cols row i) (λ vs. if_ok (row_by_items cols is row) (λ rest. Ok (vs ++ rest)))
+
+-- the value that the result has at the row in its column k, counted from 0; NULL where it has no such column
+abbrev pub shown_at : Cols → List ItemTree → List Value → ℕ → Answer
+shown_at cols [] row k = Ok Null
+shown_at cols (stmt.All ∷ is) row k = if nat_lt k (length row) then Ok (key k row) else shown_at cols is row (k - length row)
+shown_at cols (stmt.Value e alias ∷ is) row k = if k == 0 then value e cols row else shown_at cols is row (k - 1)
+shown_at cols (stmt.Aggregate a alias ∷ is) row k = shown_at cols is row k
 
 -- the items at each of the rows, under their titles
 abbrev pub row_results : List ColumnTree → List ItemTree → List (List Value) → Result Results ValueFault
 row_results columns is taken = results_by columns is [] taken
 
 -- the aggregates over all of the rows, one after the other, as one row
-abbrev pub agg_results : List ColumnTree → List Counted → List (List Value) → Result Results ValueFault
+abbrev pub agg_results : List ColumnTree → List (AggTree × Option (List ℕ)) → List (List Value) → Result Results ValueFault
 agg_results columns aggs taken =
-    if_ok (each (λ (a : Counted). aggregate a.agg (cols_of columns) taken) aggs) (λ row. Ok (record { titles = map agg_title aggs; rows = row ∷ [] }))
+    if_ok (each (λ a. aggregate a.0 (cols_of columns) taken) aggs) (λ row. Ok (record { titles = map agg_title aggs; rows = row ∷ [] }))
 
 -- the items at each of the rows, or the aggregates over all of them, under their titles
 abbrev pub answered : List ColumnTree → List ItemTree → List (List Value) → Result Results ValueFault

@@ -1,7 +1,8 @@
 use Rattle.std.proofs.Common.{◌≡◌, ◌+◌, drop, length, map}
 use Rattle.sql_trees.specs.Statements.{item_of}
 use Rattle.sql_values.specs.Aggregates.{aggregate}
-use Rattle.query_results.specs.Queries.{Counted, counted, each}
+use Rattle.sql_values.specs.Values.{each}
+use Rattle.query_results.specs.Queries.{counted}
 use Rattle.session_queries.specs.Inner.Fronts.{in_front}
 use Rattle.session_queries.proofs.answer.agg_values.Given as goal
 
@@ -10,6 +11,6 @@ invariant-loop-item l =
     let taken = map (λ row. row.now) l.taken in
     let rest = counted (map item_of (drop l.item-index l.items)) in
     record {
-      so_far : each (λ (a : Counted). aggregate a.agg l.columns taken) (counted (map item_of l.items)) ≡ in_front l.values.items (each (λ (a : Counted). aggregate a.agg l.columns taken) rest);
+      so_far : each (λ a. aggregate a.0 l.columns taken) (counted (map item_of l.items)) ≡ in_front l.values.items (each (λ a. aggregate a.0 l.columns taken) rest);
       long : length (counted (map item_of l.items)) ≡ length l.values.items + length rest;
     }

@@ -1,6 +1,7 @@
 use Rattle.std.proofs.Common.{◌≡◌, drop, map}
 use Rattle.sql_trees.specs.Statements.{item_of}
-use Rattle.query_results.specs.Queries.{each, row_values}
+use Rattle.sql_values.specs.Values.{each}
+use Rattle.query_results.specs.Queries.{row_values}
 use Rattle.session_queries.specs.Inner.Fronts.{in_front}
 use Rattle.session_queries.proofs.answer.shown.Given as goal
 

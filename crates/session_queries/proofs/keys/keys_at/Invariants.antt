@@ -3,7 +3,8 @@ use Rattle.std.specs.Prelude.{All}
 use Rattle.sql_trees.specs.Statements.{item_of, order_of}
 use Rattle.session_queries.specs.Inner.Fronts.{in_front}
 use Rattle.query_results.specs.Ordering.{rows_at}
-use Rattle.query_results.specs.Queries.{each, keys_of}
+use Rattle.sql_values.specs.Values.{each}
+use Rattle.query_results.specs.Queries.{keys_of}
 use Rattle.session_queries.proofs.keys.keys_at.Given as goal
 
 abbrev pub invariant-loop-place : goal.invariant-loop-place

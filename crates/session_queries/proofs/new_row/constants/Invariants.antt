@@ -1,7 +1,7 @@
 use Rattle.std.proofs.Common.{◌≡◌, [], drop, map}
 use Rattle.sql_trees.specs.Trees.{tree_of}
 use Rattle.sql_values.specs.Expressions.{value}
-use Rattle.query_results.specs.Queries.{each}
+use Rattle.sql_values.specs.Values.{each}
 use Rattle.session_queries.specs.Inner.Fronts.{in_front}
 use Rattle.session_queries.proofs.new_row.constants.Given as goal
 

@@ -2,7 +2,7 @@ use Rattle.std.proofs.Common.{◌≡◌, drop, map}
 use Rattle.sql_trees.specs.Statements.{SetTree, set_of}
 use Rattle.sql_values.specs.Expressions.{value}
 use Rattle.session_queries.specs.Inner.Fronts.{in_front}
-use Rattle.query_results.specs.Queries.{each}
+use Rattle.sql_values.specs.Values.{each}
 use Rattle.session_queries.proofs.update.set_values.Given as goal
 
 abbrev pub invariant-loop-expr : goal.invariant-loop-expr
