@@ -39,5 +39,7 @@ HasFault p f = Parses p.part.sql p.role (Err f)
 -- the blocks read as these statements, or the first of them that is no SQL has this fault
 pub data BlocksRead : List Placed → Result Blocks BlockFault → Type 0 where
   none : {answer : Result Blocks BlockFault} → answer ≡ Ok [] → BlocksRead [] answer
-  fault : {p : Placed} {ps : List Placed} {answer : Result Blocks BlockFault} (f : SqlFault) → HasFault p f → answer ≡ Err (record { block = p.part.at; fault = f }) → BlocksRead (p ∷ ps) answer
-  block : {p : Placed} {ps : List Placed} {answer : Result Blocks BlockFault} (stmts : List StmtTree) (others : Result Blocks BlockFault) → Parses p.part.sql p.role (Ok stmts) → BlocksRead ps others → answer ≡ behind_block stmts others → BlocksRead (p ∷ ps) answer
+  fault : {p : Placed} {ps : List Placed} {answer : Result Blocks BlockFault} (f : SqlFault) → HasFault p f
+      → answer ≡ Err (record { block = p.part.at; fault = f }) → BlocksRead (p ∷ ps) answer
+  block : {p : Placed} {ps : List Placed} {answer : Result Blocks BlockFault} (stmts : List StmtTree) (others : Result Blocks BlockFault)
+      → Parses p.part.sql p.role (Ok stmts) → BlocksRead ps others → answer ≡ behind_block stmts others → BlocksRead (p ∷ ps) answer

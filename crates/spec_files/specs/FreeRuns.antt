@@ -30,7 +30,8 @@ free_told (Ok ended) = Ok tt
 free_told (Err f) = Err (report_fault f)
 
 -- the text and notes of the free run with this history went out, or fronts of them, where a sink failed or memory was refused; the answer is how its setups ended
-pub record IsFreeWritten (spec : SpecTree) (items : List HistItem) (out_old out_new notes_old notes_new : Option (List ℕ)) (failed_old failed_new noted_old noted_new : Bool) (result : Result (Unit {0}) RunFault) : Type 0 where
+pub record IsFreeWritten (spec : SpecTree) (items : List HistItem) (out_old out_new notes_old notes_new : Option (List ℕ))
+    (failed_old failed_new noted_old noted_new : Bool) (result : Result (Unit {0}) RunFault) : Type 0 where
   pub told : Result Ended ReportFault
   pub is : result ≡ free_told told
   pub ending : EndsAs (free_says spec items).ending told

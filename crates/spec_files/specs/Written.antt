@@ -15,7 +15,8 @@ told_as (Ok ended) = Ok ended
 told_as (Err f) = Err (report_fault f)
 
 -- the text and notes of the permutation with this history went out, or fronts of them, where a sink failed or memory was refused; the answer is how the report ends
-pub record IsWritten (spec : SpecTree) (entries : List EntryTree) (items : List HistItem) (out_old out_new notes_old notes_new : Option (List ℕ)) (failed_old failed_new noted_old noted_new : Bool) (result : Result Ended RunFault) : Type 0 where
+pub record IsWritten (spec : SpecTree) (entries : List EntryTree) (items : List HistItem) (out_old out_new notes_old notes_new : Option (List ℕ))
+    (failed_old failed_new noted_old noted_new : Bool) (result : Result Ended RunFault) : Type 0 where
   pub told : Result Ended ReportFault
   pub is : result ≡ told_as told
   pub ending : EndsAs (permutation_says spec entries items).ending told
