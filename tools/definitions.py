@@ -51,7 +51,9 @@ def read(lines):
                 whole[alias or module.rpartition(".")[2]] = module
         else:
             start = STARTS.match(line)
-            name = start[1] if start else name
+            # (a row of an operator begins with what stands at its left)
+            is_row = name and name.startswith("◌") and f" {name.strip('◌')} " in line.partition(" = ")[0]
+            name = start[1] if start and not is_row else name
             if name:
                 found.setdefault(name, []).append(line)
     return imported, whole, found
