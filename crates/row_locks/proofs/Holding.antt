@@ -10,12 +10,12 @@ use Rattle.row_versions.specs.declared.names.RowId.{RowId}
 use Rattle.row_versions.specs.declared.write.Write.{Write}
 use Rattle.row_versions.specs.declared.write.Fate.{Fate}
 use Rattle.row_versions.specs.declared.write.Fate.TheVariants.{Open, RolledBack, Committed}
-use Rattle.row_versions.specs.Log.{Content, next_tx, after_begin, after_end}
+use Rattle.row_versions.specs.Log.{Content, next_tx, after_begin, after_end, is_open_fate, is_open}
 use Rattle.row_locks.specs.declared.held.Strength.{Strength}
 use Rattle.row_locks.specs.declared.held.Strength.TheVariants.{Share, Exclusive}
 use Rattle.row_locks.specs.declared.held.Held.{Held}
-use Rattle.row_locks.specs.Members.{has, same_tx}
-use Rattle.row_locks.specs.Held.{conflicts, is_against, holders_against, same_strength, same_lock, holds, IsReleased, is_open_fate, is_open, lock_of_write, held_locks}
+use Rattle.row_versions.specs.Members.{has, same_tx}
+use Rattle.row_locks.specs.Held.{conflicts, is_against, holders_against, same_strength, same_lock, holds, IsReleased, lock_of_write, held_locks}
 use Rattle.row_locks.specs.Laws.{SameLocks, SameButFor, BlockersHoldInConflict, BlockersByWhatIsHeld, DoingAddsOnlyTheDoer, EndsLetGo, BeginningsHoldNothing}
 use Rattle.row_locks.proofs.Reaching.{or_cases, or_left, or_right, and_both, both_and, same_is, is_same}
 use Rattle.row_locks.proofs.Waiting.{bool_is}

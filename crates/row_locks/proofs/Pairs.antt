@@ -1,7 +1,7 @@
 -- Closing a cycle is a matter of who is blocked by whom alone.
 use Rattle.std.proofs.Common.{◌≡◌, sym, ◌∙◌, true, List}
 use Rattle.row_versions.specs.declared.names.TxId.{TxId}
-use Rattle.row_locks.specs.Members.{has}
+use Rattle.row_versions.specs.Members.{has}
 use Rattle.row_locks.specs.Waiting.{Waiting}
 use Rattle.row_locks.specs.Cycles.{blocks, closes}
 use Rattle.row_locks.specs.Laws.{SamePairs, CyclesByWhoBlocks}

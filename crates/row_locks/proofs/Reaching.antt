@@ -7,7 +7,7 @@ use Rattle.std.proofs.lemmas.List.{append-nil}
 use Rattle.std.proofs.lemmas.List.Folds.{list_any-append}
 use Rattle.std.proofs.lemmas.List.Quantifiers.{position-Some}
 use Rattle.row_versions.specs.declared.names.TxId.{TxId}
-use Rattle.row_locks.specs.Members.{has, same_tx}
+use Rattle.row_versions.specs.Members.{has, same_tx}
 use Rattle.row_locks.specs.Waiting.{Waiting}
 use Rattle.row_locks.specs.Inner.Searching.{blockers_at, blockers_in, is_reached, is_reached_in}
 use Rattle.row_locks.specs.Cycles.{Path, Leads, Closes, blocks}

@@ -2,7 +2,7 @@
 use Rattle.std.specs.Prelude.{◌≡◌, Bool, true, false, ◌&&◌, ◌||◌, List, [], ◌∷◌}
 use Rattle.std.specs.List.{list_any}
 use Rattle.row_versions.specs.declared.names.TxId.{TxId}
-use Rattle.row_locks.specs.Members.{same_tx, has}
+use Rattle.row_versions.specs.Members.{same_tx, has}
 use Rattle.row_locks.specs.Waiting.{Waiting}
 
 -- the first waits, and the second is one of its blockers

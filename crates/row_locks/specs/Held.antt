@@ -1,23 +1,19 @@
 -- Held locks, and who stands against a request (PostgreSQL manual, 13.3.2).
-use Rattle.std.specs.Prelude.{◌≡◌, ◌==◌, Bool, true, false, not, ◌&&◌, ◌||◌, List, [], ◌∷◌, ◌++◌, Option, Some, None, map, filter}
+use Rattle.std.specs.Prelude.{◌≡◌, ◌==◌, Bool, true, false, not, ◌&&◌, ◌||◌, List, [], ◌∷◌, ◌++◌, map, filter}
 use Rattle.std.specs.List.{list_any}
 use Rattle.row_versions.specs.declared.names.TxId.{TxId}
 use Rattle.row_versions.specs.declared.names.RowId.{RowId}
 use Rattle.row_versions.specs.declared.write.Write.{Write}
-use Rattle.row_versions.specs.declared.write.Fate.{Fate}
-use Rattle.row_versions.specs.declared.write.Fate.TheVariants.{Open, RolledBack, Committed}
-use Rattle.row_versions.specs.Log.{Content, fate_of}
+use Rattle.row_versions.specs.Log.{Content, is_open}
 use Rattle.row_locks.specs.declared.held.Strength.{Strength}
 use Rattle.row_locks.specs.declared.held.Strength.TheVariants.{Share, Exclusive}
 use Rattle.row_locks.specs.declared.held.Held.{Held}
-use Rattle.row_locks.specs.Members.{same_tx}
+use Rattle.row_versions.specs.Members.{same_tx}
 
 -- a shared lock agrees with a shared lock; all other pairs conflict (13.3.2, "Conflicting Row-Level Locks")
 abbrev pub conflicts : Strength → Strength → Bool
 conflicts Share Share = false
-conflicts Share Exclusive = true
-conflicts Exclusive Share = true
-conflicts Exclusive Exclusive = true
+conflicts a b = true
 
 -- another transaction holds the row in conflict with the request; a transaction never conflicts with itself (13.3.2)
 abbrev pub is_against : RowId → TxId → Strength → Held → Bool
@@ -29,9 +25,8 @@ holders_against held row tx strength = map (λ h. h.tx) (filter (is_against row 
 
 abbrev pub same_strength : Strength → Strength → Bool
 same_strength Share Share = true
-same_strength Share Exclusive = false
-same_strength Exclusive Share = false
 same_strength Exclusive Exclusive = true
+same_strength a b = false
 
 -- the two are one lock
 abbrev pub same_lock : Held → Held → Bool
@@ -55,16 +50,6 @@ IsTaken old lock new = (h : Held) → holds new h ≡ (holds old h || same_lock 
 -- after a transaction let go, what the others held is held
 abbrev pub IsReleased : List Held → TxId → List Held → Type 0
 IsReleased old tx new = (h : Held) → holds new h ≡ (not (same_tx h.tx tx) && holds old h)
-
-abbrev pub is_open_fate : Option Fate → Bool
-is_open_fate None = false
-is_open_fate (Some Open) = true
-is_open_fate (Some RolledBack) = false
-is_open_fate (Some (Committed k)) = false
-
--- the transaction has begun and has not ended
-abbrev pub is_open : List Fate → TxId → Bool
-is_open fates tx = is_open_fate (fate_of fates tx)
 
 -- who writes a row holds it exclusively
 abbrev pub lock_of_write : Write → Held

@@ -8,7 +8,7 @@ use Rattle.row_versions.specs.declared.write.Fate.TheVariants.{Open}
 use Rattle.row_versions.specs.Log.{Content, IsOpen, next_tx, after_begin, after_end, after_write}
 use Rattle.row_locks.specs.declared.held.Strength.{Strength}
 use Rattle.row_locks.specs.declared.held.Held.{Held}
-use Rattle.row_locks.specs.Members.{has}
+use Rattle.row_versions.specs.Members.{has}
 use Rattle.row_locks.specs.Held.{conflicts, holders_against, holds, IsTaken, IsReleased, lock_of_write, held_locks}
 use Rattle.row_locks.specs.Waiting.{Waiting}
 use Rattle.row_locks.specs.Cycles.{blocks, Closes, NoCycle, AllEnd, closes}

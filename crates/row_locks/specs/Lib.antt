@@ -1,4 +1,3 @@
-pub mod Members
 pub mod Held
 pub mod Waiting
 pub mod Cycles

@@ -1,16 +1,12 @@
 -- The transactions that wait, in the order in which their waits began.
-use Rattle.std.specs.Prelude.{ℕ, Bool, true, false, not, List, [], ◌∷◌, filter, slice_set, position, Option, Some, None}
+use Rattle.std.specs.Prelude.{ℕ, Bool, not, List, filter, slice_set, position, Option, Some, None}
 use Rattle.row_versions.specs.declared.names.TxId.{TxId}
-use Rattle.row_locks.specs.Members.{same_tx}
+use Rattle.row_versions.specs.Members.{same_tx, is_none_of}
 
 -- a transaction that waits, and those that it waits for: they hold what it asked for in conflict (13.3.2)
 pub record Waiting : Type 0 where
   pub tx : TxId
   pub blockers : List TxId
-
-abbrev pub is_none_of : List TxId → Bool
-is_none_of [] = true
-is_none_of (tx ∷ rest) = false
 
 -- nobody is waited for
 abbrev pub is_free : Waiting → Bool

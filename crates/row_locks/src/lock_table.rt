@@ -1,8 +1,7 @@
 //! The locks that are held.
 ghost use Rattle.std.specs.Prelude.{◌≡◌, List, [], ◌∷◌, ◌++◌, not, ◌&&◌, OnOk, OnErr, IfOk};
 ghost use Rattle.std.specs.List.{list_any};
-ghost use Rattle.row_locks.specs.Members.{has, is_distinct};
-ghost use Rattle.row_locks.specs.Waiting.{is_none_of};
+ghost use Rattle.row_versions.specs.Members.{has, is_distinct, is_none_of};
 ghost use Rattle.row_locks.specs.declared.held.Held.{Held};
 ghost use Rattle.row_locks.specs.Held.{is_against, holders_against, with_lock, released, IsTaken, IsReleased};
 

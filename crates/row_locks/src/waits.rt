@@ -1,7 +1,7 @@
 //! The transactions that wait.
 ghost use Rattle.std.specs.Prelude.{◌≡◌, ◌↔◌, ℕ, IsTrue, true, List, [], ◌∷◌, ◌++◌, OnOk, OnErr, IfOk, filter, map, not, ◌==◌, ◌<◌, length, position, find, option_map};
 ghost use Rattle.std.specs.Option.{option_copied};
-ghost use Rattle.row_locks.specs.Members.{has};
+ghost use Rattle.row_versions.specs.Members.{has};
 ghost use Rattle.row_locks.specs.Waiting.{Waiting, is_free, is_of, without, with_blockers};
 ghost use Rattle.row_locks.specs.Inner.Searching.{is_reached, blockers_at};
 ghost use Rattle.row_locks.specs.Cycles.{Closes, blocks};

@@ -1,6 +1,9 @@
 -- The newest version of a row, and the write that it comes from.
 use Rattle.std.proofs.Common.{◌≡◌, ℕ, zero, suc, ◌+◌, ◌<◌, ◌≤◌, Bool, true, false, ◌||◌, cond, ◌==◌, ◌⊎◌, inl, inr, List, [], ◌∷◌, Option, Some, None, slice_get, refl, sym, ◌∙◌, ap, arith}
+use Rattle.std.specs.Prelude.{find, option_map}
+use Rattle.std.specs.List.{enumerate_from}
 use Rattle.std.specs.Option.{option_or}
+use mathlib.Core.List.{reverse_aux}
 use Rattle.std.proofs.lemmas.Bool.{and_parts, and_from, or_cases, or_left, or_right, eqb-true, eq-eqb, both_ways, false_from_ne_true}
 use Rattle.std.proofs.lemmas.Option.{same_Some, cond_some}
 use Rattle.row_versions.specs.declared.names.TxId.{TxId}
@@ -9,9 +12,34 @@ use Rattle.row_versions.specs.declared.write.Write.{Write}
 use Rattle.row_versions.specs.declared.write.Seen.{Seen}
 use Rattle.row_versions.specs.declared.write.Fate.{Fate}
 use Rattle.row_versions.specs.Log.{Content, fate_of, is_committed}
-use Rattle.row_versions.specs.Newest.{is_version, newest_from, newest_of}
+use Rattle.row_versions.specs.Newest.{is_version, newest_of}
+use Rattle.row_versions.specs.Inner.Searching.{newest_from}
 use Rattle.row_versions.specs.Laws.{CountsFor, IsNewest, NewestIsTheLast}
 use Rattle.row_versions.proofs.Seeing.{same_tx, same_row}
+
+-- the newest version is found write by write
+or_nothing : {X : Type 0} (o : Option X) → option_or o None ≡ o
+or_nothing None = refl
+or_nothing (Some x) = refl
+
+abbrev seen_at : RowId → ℕ × Write → Seen
+seen_at row e = record { row = row; place = e.0 }
+
+found_from : (fates : List Fate) (row : RowId) (tx : TxId) (place : ℕ) (ws : List Write) (before : List (ℕ × Write))
+    → option_map (seen_at row) (find (λ e. is_version fates row tx e.1) (reverse_aux (enumerate_from place ws) before))
+    ≡ option_or (newest_from fates row tx place ws) (option_map (seen_at row) (find (λ e. is_version fates row tx e.1) before))
+found_from fates row tx place [] before = refl
+found_from fates row tx place (w ∷ later) before =
+    found_from fates row tx (place + 1) later ((place, w) ∷ before)
+    ∙ by (newest_from fates row tx (place + 1) later) (is_version fates row tx w) (find (λ e. is_version fates row tx e.1) before) where
+      by : (o : Option Seen) (b : Bool) (rest : Option (ℕ × Write))
+          → option_or o (option_map (seen_at row) (cond b (Some (place, w)) rest)) ≡ option_or (option_or o (cond b (Some (record { row = row; place = place })) None)) (option_map (seen_at row) rest)
+      by (Some s) b rest = refl
+      by None true rest = refl
+      by None false rest = refl
+
+pub newest_is : (c : Content) (row : RowId) (tx : TxId) → newest_of c row tx ≡ newest_from c.fates row tx 0 c.log
+newest_is c row tx = found_from c.fates row tx 0 c.log [] ∙ or_nothing (newest_from c.fates row tx 0 c.log)
 
 -- the version comes from the k-th write of the part of the log that begins at the place, and no later write is one
 record IsLast (fates : List Fate) (row : RowId) (tx : TxId) (place : ℕ) (ws : List Write) (seen : Seen) : Type 0 where
@@ -124,7 +152,7 @@ not_counting c row tx w h its counts = both_ways _ h (version_from c row tx w it
 
 newest_from_law : (c : Content) (row : RowId) (tx : TxId) (seen : Seen) → newest_of c row tx ≡ Some seen → IsNewest c row tx seen
 newest_from_law c row tx seen h =
-    let last = last_of c.fates row tx 0 c.log seen h in
+    let last = last_of c.fates row tx 0 c.log seen (sym (newest_is c row tx) ∙ h) in
     let k_is : last.k ≡ seen.place = omega (arith, last.its_place) in
     let parts = and_parts _ _ last.is in
     record {
@@ -138,14 +166,15 @@ newest_from_law c row tx seen h =
 
 law_from_newest : (c : Content) (row : RowId) (tx : TxId) (seen : Seen) → IsNewest c row tx seen → newest_of c row tx ≡ Some seen
 law_from_newest c row tx seen h =
-    is_last c.fates row tx 0 c.log seen seen.place h.write h.there (version_from c row tx h.write h.its_row h.counts) (sym h.named) (omega arith)
+    newest_is c row tx
+    ∙ is_last c.fates row tx 0 c.log seen seen.place h.write h.there (version_from c row tx h.write h.its_row h.counts) (sym h.named) (omega arith)
     (λ j w after at. no_version c row tx w (h.last j w after at))
 
 pub newest_is_the_last : NewestIsTheLast
 newest_is_the_last c row tx = (
   (λ seen. (newest_from_law c row tx seen, law_from_newest c row tx seen)),
   (
-    (λ h place w at its. not_counting c row tx w (none_in c.fates row tx 0 c.log h place w at) its),
-    (λ h. is_none c.fates row tx 0 c.log (λ j w at. no_version c row tx w (h j w at))),
+    (λ h place w at its. not_counting c row tx w (none_in c.fates row tx 0 c.log (sym (newest_is c row tx) ∙ h) place w at) its),
+    (λ h. newest_is c row tx ∙ is_none c.fates row tx 0 c.log (λ j w at. no_version c row tx w (h j w at))),
   ),
 )

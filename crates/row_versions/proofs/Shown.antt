@@ -10,10 +10,10 @@ use Rattle.row_versions.specs.declared.write.Write.{Write}
 use Rattle.row_versions.specs.declared.write.View.{View}
 use Rattle.row_versions.specs.declared.write.Seen.{Seen}
 use Rattle.row_versions.specs.declared.write.Fate.{Fate}
-use Rattle.row_versions.specs.Log.{Content, after_write, next_place}
+use Rattle.row_versions.specs.Log.{Content, after_write}
 use Rattle.row_versions.specs.View.{sees}
 use Rattle.row_versions.specs.Rows.{replaces, is_shown, rows_from, rows_of}
-use Rattle.row_versions.specs.Laws.{IsShown, IsAt, RowsAreTheShown, RowsFollowTheLog, EachRowOnce, ShowsOwnWrite}
+use Rattle.row_versions.specs.Laws.{IsShown, IsAt, RowsAreTheShown, RowsFollowTheLog, EachRowOnce, ShowsOwnWrite, next_place}
 use Rattle.row_versions.proofs.Gets.{get-append_last, get-drop, member_cases, member_first, member_later, AllPairs-cond}
 use Rattle.row_versions.proofs.Seeing.{same_row, same_table}
 

@@ -1,5 +1,5 @@
 -- What follows from the definitions, in the words of transactions and rows. Each law stands on the contract of a function of `laws`.
-use Rattle.std.specs.Prelude.{◌≡◌, ◌≢◌, ◌↔◌, ◌⊎◌, ℕ, ◌+◌, ◌<◌, ◌≤◌, false, AllPairs, Contains, IsTrue, IsSome, Some, None, slice_get}
+use Rattle.std.specs.Prelude.{◌≡◌, ◌≢◌, ◌↔◌, ◌⊎◌, ℕ, ◌+◌, ◌<◌, ◌≤◌, false, length, AllPairs, Contains, IsTrue, IsSome, Some, None, slice_get}
 use Rattle.row_versions.specs.declared.names.TxId.{TxId}
 use Rattle.row_versions.specs.declared.names.RowId.{RowId}
 use Rattle.row_versions.specs.declared.names.TableId.{TableId}
@@ -7,7 +7,7 @@ use Rattle.row_versions.specs.declared.write.Write.{Write}
 use Rattle.row_versions.specs.declared.write.View.{View}
 use Rattle.row_versions.specs.declared.write.Seen.{Seen}
 use Rattle.row_versions.specs.declared.write.Fate.TheVariants.{RolledBack, Committed}
-use Rattle.row_versions.specs.Log.{Content, IsOpen, fate_of, has_committed, commit_count, next_place, new_row, after_begin, after_commit, after_roll_back, after_write}
+use Rattle.row_versions.specs.Log.{Content, IsOpen, fate_of, has_committed, commit_count, new_row, after_begin, after_commit, after_roll_back, after_write}
 use Rattle.row_versions.specs.View.{sees}
 use Rattle.row_versions.specs.Rows.{rows_of}
 use Rattle.row_versions.specs.Newest.{newest_of}
@@ -49,6 +49,10 @@ EachRowOnce = (c : Content) (view : View) (table : TableId) → AllPairs (λ a b
 abbrev pub OpenWritesOfOthersUnseen : Type 0
 OpenWritesOfOthersUnseen = (c : Content) (view : View) (table : TableId) (w : Write) → IsOpen c w.tx → view.tx ≢ Some w.tx
     → rows_of (after_write c w) view table ≡ rows_of c view table
+
+-- the place in the log of the write that is made next
+abbrev pub next_place : Content → ℕ
+next_place c = length c.log
 
 -- after its own write of an earlier command a view shows that version of the row, and no other version of it
 pub record ShowsOwnWrite (c : Content) (view : View) (w : Write) : Type 0 where

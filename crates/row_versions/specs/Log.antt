@@ -1,5 +1,6 @@
 -- The log of all writes, and the fates of transactions.
-use Rattle.std.specs.Prelude.{◌≡◌, ℕ, Bool, true, false, List, [], ◌∷◌, ◌++◌, length, Option, Some, None, slice_get, slice_set, count_by, option_and_then}
+use Rattle.std.specs.Prelude.{◌≡◌, ℕ, Bool, true, false, List, [], ◌∷◌, ◌++◌, length, Option, Some, slice_get, slice_set, count_by, option_and_then}
+use Rattle.std.specs.Option.{option_map_or}
 use Rattle.sql_values.specs.declared.value.Value.{Value}
 use Rattle.row_versions.specs.declared.names.TxId.{TxId}
 use Rattle.row_versions.specs.declared.names.RowId.{RowId}
@@ -24,15 +25,21 @@ fate_of fates tx = slice_get fates tx.0
 abbrev pub IsOpen : Content → TxId → Type 0
 IsOpen c tx = fate_of c.fates tx ≡ Some Open
 
+abbrev pub is_open_fate : Option Fate → Bool
+is_open_fate (Some Open) = true
+is_open_fate fate = false
+
+-- the same as a test
+abbrev pub is_open : List Fate → TxId → Bool
+is_open fates tx = is_open_fate (fate_of fates tx)
+
 abbrev pub is_commit : Fate → Bool
-is_commit Open = false
-is_commit RolledBack = false
 is_commit (Committed k) = true
+is_commit fate = false
 
 -- the fate, if there is one, is a commit
 abbrev pub is_committed : Option Fate → Bool
-is_committed None = false
-is_committed (Some fate) = is_commit fate
+is_committed fate = option_map_or is_commit fate false
 
 -- the transaction has committed
 abbrev pub has_committed : Content → TxId → Bool
@@ -46,13 +53,9 @@ commit_count c = count_by is_commit c.fates
 abbrev pub next_tx : Content → TxId
 next_tx c = record { 0 = length c.fates }
 
--- the place in the log of the write that is made next
-abbrev pub next_place : Content → ℕ
-next_place c = length c.log
-
--- the row that is made next: a row is named by the place of its first write
+-- the row that is made next: a row is named by the place in the log of its first write
 abbrev pub new_row : Content → RowId
-new_row c = record { 0 = next_place c }
+new_row c = record { 0 = length c.log }
 
 -- what a begin leaves: the next transaction is open
 abbrev pub after_begin : Content → Content

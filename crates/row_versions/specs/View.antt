@@ -1,24 +1,23 @@
 -- What a view sees: PostgreSQL's manual, "Transaction Isolation", on what was committed when a statement or a
 -- transaction began, and on the earlier updates of one's own transaction.
-use Rattle.std.specs.Prelude.{ℕ, ◌==◌, nat_lt, Bool, false, ◌&&◌, ◌||◌, List, Option, Some, None}
+use Rattle.std.specs.Prelude.{ℕ, nat_lt, Bool, false, ◌&&◌, ◌||◌, List, Option, Some}
+use Rattle.std.specs.Option.{option_map_or}
 use Rattle.row_versions.specs.declared.names.TxId.{TxId}
 use Rattle.row_versions.specs.declared.write.Write.{Write}
 use Rattle.row_versions.specs.declared.write.View.{View}
 use Rattle.row_versions.specs.declared.write.Fate.{Fate}
-use Rattle.row_versions.specs.declared.write.Fate.TheVariants.{Open, RolledBack, Committed}
+use Rattle.row_versions.specs.declared.write.Fate.TheVariants.{Committed}
+use Rattle.row_versions.specs.Members.{same_tx}
 use Rattle.row_versions.specs.Log.{fate_of}
 
 -- the transaction's commit is one of the first so many
 abbrev pub committed_before : ℕ → Option Fate → Bool
-committed_before commits None = false
-committed_before commits (Some Open) = false
-committed_before commits (Some RolledBack) = false
 committed_before commits (Some (Committed k)) = nat_lt k commits
+committed_before commits fate = false
 
 -- the view's own transaction made the write, in an earlier command
 abbrev pub own_before : Option TxId → ℕ → Write → Bool
-own_before None command w = false
-own_before (Some tx) command w = (w.tx.0 == tx.0) && nat_lt w.command command
+own_before own command w = option_map_or (λ tx. same_tx w.tx tx && nat_lt w.command command) own false
 
 -- the view sees the write: it is committed before the view, or the view's own of an earlier command
 abbrev pub sees : List Fate → View → Write → Bool

@@ -4,7 +4,8 @@ ghost use Rattle.std.specs.List.{list_any};
 ghost use Rattle.row_versions.specs.Log.{Content, empty_content};
 ghost use Rattle.row_versions.specs.View.{sees};
 ghost use Rattle.row_versions.specs.Rows.{is_shown, rows_from, replaces};
-ghost use Rattle.row_versions.specs.Newest.{is_version, newest_from};
+ghost use Rattle.row_versions.specs.Newest.{is_version};
+ghost use Rattle.row_versions.specs.Inner.Searching.{newest_from};
 
 use crate::names::{RowId, TableId, TxId};
 use crate::versions::Versions;
@@ -164,6 +165,7 @@ impl Versions for ListStore {
         shown_rows(*self.log.allocator(), &self.log, &self.fates, view, table)
     }
 
+    #[tactic(auto, using(crate::proofs::Last::newest_is))]
     fn newest(&self, row: RowId, tx: TxId) -> Option<Seen> {
         newest_version(&self.log, &self.fates, row, tx)
     }

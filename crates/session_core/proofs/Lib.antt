@@ -1,4 +1,5 @@
 pub mod BlockLemmas
+pub mod Freed
 pub mod Going
 pub mod Opening
 pub mod Replaying

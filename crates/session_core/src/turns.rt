@@ -1,6 +1,7 @@
 //! Whose turn it is.
 ghost use Rattle.std.specs.Prelude.{◌≡◌, ◌<◌, not, ◌&&◌, IfSome, length};
-ghost use Rattle.session_machine.specs.Machine.{first_ready, is_directed, is_quiet, is_ready, is_turn, turn_in};
+ghost use Rattle.std.specs.List.{position_from};
+ghost use Rattle.session_machine.specs.Machine.{is_directed, is_quiet, is_ready, is_turn, turn_in};
 
 use crate::live::Live;
 use crate::waits::freed_session;
@@ -15,7 +16,7 @@ fn is_ready(session: &Session) -> bool
 
 /// The least session that is in its block and doesn't wait.
 fn ready_session(sessions: &[Session]) -> Option<usize>
-    ensures first { result ≡ first_ready 0 sessions.now }
+    ensures first { result ≡ position_from is_ready 0 sessions.now }
     ensures within { IfSome result (λ k. k < length sessions.now) }
 {
     for (k, session) in sessions.iter().enumerate() {

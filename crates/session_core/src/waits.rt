@@ -1,6 +1,8 @@
 //! Sessions that wait, and those whose wait nothing blocks any more.
 ghost use Rattle.std.specs.Prelude.{◌≡◌, ◌<◌, IfSome, option_map, length};
-ghost use Rattle.session_machine.specs.Machine.{FreeWait, earliest_free, free_wait, is_still_blocked, sooner};
+ghost use Rattle.session_machine.specs.Machine.{free_wait};
+ghost use Rattle.session_core.specs.Inner.Freed.{FreeWait, earliest_free, sooner};
+ghost use Rattle.session_machine.specs.Waits.{is_still_blocked};
 
 use row_versions::Versions;
 use session_machine::{Session, Transaction};
@@ -15,7 +17,7 @@ struct Free {
 }
 
 impl Model for Free {
-    ghost use Rattle.session_machine.specs.Machine.{FreeWait};
+    ghost use Rattle.session_core.specs.Inner.Freed.{FreeWait};
 
     ghost Value = { FreeWait };
 

@@ -1,5 +1,5 @@
 -- What statements do to the state, and that what is so after each effect is so after each statement.
-use Rattle.std.proofs.Common.{◌≡◌, ℕ, zero, suc, arith, ◌<◌, Bool, true, false, List, [], ◌∷◌, length, drop, refl}
+use Rattle.std.proofs.Common.{◌≡◌, ℕ, zero, suc, arith, ◌<◌, Bool, true, false, List, [], ◌∷◌, length, drop, refl, sym, subst}
 use Rattle.std.specs.Prelude.{ℤ, Option, Some, None, is_some, unwrap_or, slice_get, Result, Ok, Err, ◌&&◌, not, if◌then◌else◌}
 use Rattle.std.proofs.lemmas.Option.{slice_get_within}
 use Rattle.sql_trees.specs.declared.stmt.Level.{Level}
@@ -25,11 +25,12 @@ use Rattle.session_machine.specs.declared.reply.Outcome.TheVariants.{Done, Rows,
 use Rattle.session_machine.specs.Tables.{Database, Table, find_table}
 use Rattle.session_machine.specs.Transactions.{fresh, begun, committed, rolled_back, view_of}
 use Rattle.session_machine.specs.Views.{rows_shown}
-use Rattle.session_machine.specs.Statements.{Surroundings, Effect, DroppedUpTo, fails, answers, turns, columns_at, with_table, with_drop, create, dropped_at, dropped, drop_tables, is_level, level_set, begin_in, run_aborted, is_end}
+use Rattle.session_machine.specs.Statements.{Surroundings, Effect, fails, answers, turns, create, drop_tables, is_level, level_set, begin_in, run_aborted, is_end}
 use Rattle.session_machine.specs.Walks.{Stop, Walk, Blocked, Fails, walked, walked_from}
 use Rattle.session_machine.specs.Rows.{Work, columns_in, insert_at, update_at, delete_at, lock_at, passing_targets, taken_targets}
 use Rattle.session_machine.specs.Running.{beginning, pauses, comes_to, ended, done, assigned_to, insert_from, insert, update_from, update, delete_from, delete, lock_from, answered, select_rows, unless_wrong, select, run_open, run_closed, run_on, run_stmt}
-use Rattle.session_machine.specs.Inner.Pieces.{drop_ended, insert_fitting, insert_to, update_fitting, update_to, delete_fitting, select_at, lock_again}
+use Rattle.session_machine.specs.Inner.Pieces.{drop_ended, insert_fitting, insert_to, update_fitting, update_to, delete_fitting, select_at, lock_again, columns_at, with_table, with_drop, DroppedUpTo, dropped_at, dropped}
+use Rattle.session_machine.proofs.Piecewise.{drops_by}
 use Rattle.session_machine.specs.Sound.{RowsFit, RowsStay}
 use Rattle.session_laws.proofs.Fitting.{find_table_within, fit_tables}
 use Rattle.session_laws.proofs.Writing.{Lasts, Works, passing_of, taken_of, works_inserts, works_updates, works_deletes, works_locks}
@@ -98,8 +99,9 @@ module _ (may : Bool) (db : Database) (t : OpenTransaction) (around : Surroundin
   drop_ends e h None = eff.answer e Done h.0 h.1
   drop_ends e h (Some name) = eff.fail e (NoTableToDrop name) h.0 h.1
 
-  drops_all : (d : DropTree) → M (drop_tables db t d)
-  drops_all d = drop_ends (dropped db t d.if_exists d.names).db (drops db d.if_exists d.names (eff.firm, eff.here)) (dropped db t d.if_exists d.names).missing
+  drops_all : (d : DropTree) → M (drop_tables db t d.if_exists d.names)
+  drops_all d = subst M (sym (drops_by db t d.if_exists d.names))
+      (drop_ends (dropped db t d.if_exists d.names).db (drops db d.if_exists d.names (eff.firm, eff.here)) (dropped db t d.if_exists d.names).missing)
 
   -- levels
   sets_level : may ≡ true → (explicit : Bool) (level : Level) → M (level_set db t explicit level)

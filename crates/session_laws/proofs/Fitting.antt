@@ -9,8 +9,9 @@ use Rattle.row_versions.specs.declared.names.TxId.{TxId}
 use Rattle.row_versions.specs.declared.write.Write.{Write}
 use Rattle.row_versions.specs.Log.{Content, values_at, after_write}
 use Rattle.row_versions.proofs.Gets.{get-append_left, get-append_last}
-use Rattle.session_machine.specs.Tables.{Database, Catalog, Table, Dropped, is_meant, find_from, find_table}
-use Rattle.session_machine.specs.Statements.{columns_at, with_table}
+use Rattle.session_machine.specs.Tables.{Database, Catalog, Table, Dropped, is_meant, find_table}
+use Rattle.session_machine.specs.Inner.Pieces.{columns_at, with_table, find_from}
+use Rattle.session_machine.proofs.Piecewise.{finds_by}
 use Rattle.session_machine.specs.Sound.{RowsFit, RowsStay}
 use Rattle.session_laws.proofs.Lists.{slice_get-append_left}
 
@@ -75,7 +76,7 @@ find_from_within c own drops name from (t ∷ ts) k h = at_test (is_meant c own 
 pub find_table_within : (db : Database) (own : Option TxId) (name : List ℕ) (k : ℕ) → find_table db own name ≡ Some k
     → (t : Table) × (slice_get db.catalog.tables k ≡ Some t)
 find_table_within db own name k h =
-    let r = find_from_within db.content own db.catalog.drops name 0 db.catalog.tables k h in
+    let r = find_from_within db.content own db.catalog.drops name 0 db.catalog.tables k (sym (finds_by db own name) ∙ h) in
     (r.2, ap (slice_get db.catalog.tables) (let z = r.1 in let e : k ≡ r.0 = omega arith in e) ∙ r.3)
 
 -- a table more takes no row from another

@@ -15,7 +15,7 @@ use Rattle.row_locks.specs.declared.held.Held.{Held}
 use Rattle.session_machine.specs.declared.session.OpenTransaction.{OpenTransaction}
 use Rattle.session_machine.specs.Tables.{Database, Table, Dropped}
 use Rattle.session_machine.specs.Transactions.{committed, rolled_back}
-use Rattle.session_machine.specs.Statements.{with_table, with_drop}
+use Rattle.session_machine.specs.Inner.Pieces.{with_table, with_drop}
 use Rattle.session_laws.proofs.Lists.{slice_get-set_other}
 use Rattle.session_laws.proofs.Staying.{count-roll_back}
 use Rattle.session_laws.proofs.Writing.{Lasts, write_by}

@@ -17,7 +17,8 @@ use Rattle.row_versions.proofs.Last.{newest_is_the_last}
 use Rattle.row_locks.specs.declared.held.Held.{Held}
 use Rattle.row_locks.specs.Waiting.{Waiting}
 use Rattle.update_recheck.specs.Asked.{Asked}
-use Rattle.update_recheck.specs.Outcome.{Holders, Version, rechecked, outcome, holders, version_at, version_of, target_outcome}
+use Rattle.update_recheck.specs.Outcome.{Holders, Version, rechecked, outcome, holders, version_at, target_outcome}
+use Rattle.update_recheck.specs.Inner.Stopping.{version_of}
 use Rattle.update_recheck.specs.Outcome.Holders.{Nobody, Others, OthersInACycle}
 use Rattle.update_recheck.specs.Outcome.Version.{Same, Gone, Newer}
 use Rattle.update_recheck.specs.Outcome.Outcome.{Takes}

@@ -29,10 +29,9 @@ use Rattle.update_recheck.specs.Outcome.Outcome.{Takes, Skips, Waits, Deadlocks,
 use Rattle.session_machine.specs.declared.session.OpenTransaction.{OpenTransaction}
 use Rattle.session_machine.specs.Tables.{Database, Table}
 use Rattle.session_machine.specs.Waits.{waits_in}
-use Rattle.session_machine.specs.Statements.{with_table, with_drop}
 use Rattle.session_machine.specs.Walks.{Visit, Stop, walked, walked_from}
 use Rattle.session_machine.specs.Rows.{Work, columns_in, cols_in, keys_in, written, inserted, stop_at_keys, insert_at, ask, settled, at_outcome, at_target, values_of, update_with, update_at, delete_with, delete_at, lock_with, strength_of, lock_at, seen_by, at_places, passing_targets, taken_targets}
-use Rattle.session_machine.specs.Inner.Pieces.{unless_stopped, unless_stopped_by, unless_null, insert_made, update_made, lock_made}
+use Rattle.session_machine.specs.Inner.Pieces.{unless_stopped, unless_stopped_by, unless_null, insert_made, update_made, lock_made, with_table, with_drop}
 use Rattle.session_machine.specs.Sound.{RowsFit, RowsStay}
 use Rattle.session_laws.proofs.Lists.{slice_get-append_left}
 use Rattle.session_laws.proofs.Fitting.{IsRowOf, fits_at, its_values, fit_written, stay_written, columns_are}

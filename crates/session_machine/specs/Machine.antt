@@ -1,6 +1,6 @@
 -- The machine of all sessions: what an event makes of it and answers, or why it is refused.
-use Rattle.std.specs.Prelude.{ℕ, ◌+◌, ◌==◌, nat_lt, Bool, true, false, not, ◌&&◌, ◌||◌, List, [], ◌∷◌, length, replicate, Option, Some, None, option_map, is_some, is_none, unwrap_or, slice_get, slice_set, if◌then◌else◌, Result, Ok, Err}
-use Rattle.std.specs.List.{list_any}
+use Rattle.std.specs.Prelude.{ℕ, ◌+◌, ◌==◌, nat_le, nat_lt, Bool, true, false, not, ◌&&◌, ◌||◌, List, [], ◌∷◌, length, replicate, Option, Some, None, option_map, is_some, is_none, unwrap_or, slice_get, slice_set, if◌then◌else◌, Result, Ok, Err}
+use Rattle.std.specs.List.{list_all, list_any, position_from}
 use Rattle.std.specs.Option.{option_map_or, option_or}
 use Rattle.sql_trees.specs.Statements.{StmtTree}
 use Rattle.sql_values.specs.declared.value.Value.{Value}
@@ -9,6 +9,7 @@ use Rattle.session_machine.specs.declared.session.Place.{Place}
 use Rattle.session_machine.specs.declared.session.Transaction.{Transaction}
 use Rattle.session_machine.specs.declared.session.Transaction.TheVariants.{Closed, Open}
 use Rattle.session_machine.specs.declared.session.Waiting.{Waiting}
+use Rattle.session_machine.specs.declared.session.Progress.{Progress}
 use Rattle.session_machine.specs.declared.session.Session.{Session}
 use Rattle.session_machine.specs.declared.event.Event.{Event}
 use Rattle.session_machine.specs.declared.event.Event.TheVariants.{Launch, Step, Leave}
@@ -22,7 +23,7 @@ use Rattle.session_machine.specs.declared.fault.Refusal.TheVariants.{Busy, NotYo
 use Rattle.session_machine.specs.Tables.{Database, find_table}
 use Rattle.session_machine.specs.Transactions.{committed, rolled_back, own_of, view_now}
 use Rattle.session_machine.specs.Views.{rows_shown}
-use Rattle.session_machine.specs.Waits.{is_blocked, wait_of}
+use Rattle.session_machine.specs.Waits.{is_still_blocked, wait_of}
 use Rattle.session_machine.specs.Statements.{Effect, Surroundings}
 use Rattle.session_machine.specs.Running.{run_stmt, is_definition}
 
@@ -60,42 +61,17 @@ is_busy s = is_some s.place
 abbrev pub is_ready : Session → Bool
 is_ready s = is_busy s && is_none (wait_of s)
 
--- the least such session, from the number on
-abbrev pub first_ready : ℕ → List Session → Option ℕ
-first_ready k [] = None
-first_ready k (s ∷ ss) = if is_ready s then Some k else first_ready (k + 1) ss
-
-abbrev pub is_stopped : Database → Transaction → Option Waiting → Bool
-is_stopped db (Open t) (Some w) = is_blocked db w.request t.tx
-is_stopped db transaction wait = false
-
--- the session waits, and what it asked for is still held against it
-abbrev pub is_still_blocked : Database → Session → Bool
-is_still_blocked db s = is_stopped db s.transaction (wait_of s)
-
 -- the number of a wait that nothing blocks any more
 abbrev pub free_wait : Database → Session → Option ℕ
 free_wait db s = if is_still_blocked db s then None else option_map (λ (w : Waiting). w.number) (wait_of s)
 
--- a wait that nothing blocks any more: its number, and its session
-pub record FreeWait : Type 0 where
-  pub number : ℕ
-  pub session : ℕ
+-- nothing blocks the session's wait any more, and of these waits that nothing blocks none has a lesser number
+abbrev pub is_first_free : Database → List Session → Session → Bool
+is_first_free db sessions s = option_map_or (λ n. list_all (λ other. option_map_or (nat_le n) (free_wait db other) true) sessions) (free_wait db s) false
 
--- the sooner of a session's wait and another
-abbrev pub sooner : Option ℕ → ℕ → Option FreeWait → Option FreeWait
-sooner None k other = other
-sooner (Some n) k None = Some (record { number = n; session = k })
-sooner (Some n) k (Some other) = if nat_lt other.number n then Some other else Some (record { number = n; session = k })
-
--- of the waits that nothing blocks the one with the least number, from the session on
-abbrev pub earliest_free : Database → ℕ → List Session → Option FreeWait
-earliest_free db k [] = None
-earliest_free db k (s ∷ ss) = sooner (free_wait db s) k (earliest_free db (k + 1) ss)
-
--- whose turn it is: the least session that can go on without waiting, else the earliest wait that nothing blocks; quiet, where there is neither
+-- whose turn it is: the least session that can go on without waiting, else the one with the earliest wait that nothing blocks; quiet, where there is neither
 abbrev pub turn_in : Machine → Option ℕ
-turn_in m = option_or (first_ready 0 m.sessions) (option_map (λ (w : FreeWait). w.session) (earliest_free m.db 0 m.sessions))
+turn_in m = option_or (position_from is_ready 0 m.sessions) (position_from (is_first_free m.db m.sessions) 0 m.sessions)
 
 abbrev pub is_quiet : Machine → Bool
 is_quiet m = is_none (turn_in m)
@@ -132,22 +108,17 @@ abbrev pub closed_at_end : Effect → Transaction → Effect
 closed_at_end effect (Open t) = if t.explicit then effect else record { db = committed effect.db t.tx; transaction = Closed; statement = None; outcome = effect.outcome }
 closed_at_end effect transaction = effect
 
-abbrev pub finished : Machine → ℕ → Effect → Option Place → Next
-finished m session effect place = comes_out m effect.db session (record { place = place; transaction = effect.transaction; statement = None }) effect.outcome
+-- the statement leaves the session there, in the middle of its targets or not
+abbrev pub leaves : Machine → ℕ → Effect → Option Progress → Option Place → Next
+leaves m session effect statement place = comes_out m effect.db session (record { place = place; transaction = effect.transaction; statement = statement }) effect.outcome
 
--- a session that waits stays at its statement
-abbrev pub waits_there : Machine → ℕ → Place → Effect → Next
-waits_there m session place effect = comes_out m effect.db session (record { place = Some place; transaction = effect.transaction; statement = effect.statement }) effect.outcome
-
--- after a statement that is over the rest of the block is dropped if it failed; else the session ends its block, or goes on
-abbrev pub after_end : Machine → ℕ → Place → ℕ → Effect → Next
-after_end m session place count effect =
-    if is_failed effect.outcome then finished m session effect None
-    else if nat_lt (place.next + 1) count then finished m session effect (Some (record { block = place.block; next = place.next + 1 }))
-    else finished m session (closed_at_end effect effect.transaction) None
-
+-- a session that waits stays at its statement; after a statement that failed the rest of the block is dropped; else the session goes on, or ends its block
 abbrev pub after_stmt : Machine → ℕ → Place → ℕ → Effect → Next
-after_stmt m session place count effect = if is_some effect.statement then waits_there m session place effect else after_end m session place count effect
+after_stmt m session place count effect =
+    if is_some effect.statement then leaves m session effect effect.statement (Some place)
+    else if is_failed effect.outcome then leaves m session effect None None
+    else if nat_lt (place.next + 1) count then leaves m session effect None (Some (record { block = place.block; next = place.next + 1 }))
+    else leaves m session (closed_at_end effect effect.transaction) None None
 
 -- what a statement of the session finds around it: while it runs, the session doesn't wait
 abbrev pub around : Machine → ℕ → Session → Surroundings

@@ -1,6 +1,6 @@
 -- What a statement does with rows: SELECT, INSERT, and UPDATE, DELETE and a locking SELECT at each of their targets
 -- (PostgreSQL manual, 13.2.1 and 13.3.2, and the pages of the statements).
-use Rattle.std.specs.Prelude.{ℕ, List, [], ◌∷◌, length, map, Option, Some, None, option_map, unwrap_or, slice_get, filter_map, Result, Ok, Err, if◌then◌else◌}
+use Rattle.std.specs.Prelude.{ℕ, not, List, [], ◌∷◌, length, map, Option, Some, None, option_map, unwrap_or, slice_get, filter_map, Result, Ok, Err, if◌then◌else◌}
 use Rattle.std.specs.Option.{option_map_or, option_or}
 use Rattle.sql_trees.specs.declared.stmt.Lock.{Lock}
 use Rattle.sql_trees.specs.declared.stmt.Lock.TheVariants as lock
@@ -15,24 +15,25 @@ use Rattle.row_versions.specs.declared.names.RowId.{RowId}
 use Rattle.row_versions.specs.declared.write.View.{View}
 use Rattle.row_versions.specs.declared.write.Seen.{Seen}
 use Rattle.row_versions.specs.Log.{values_at, new_row, after_write}
+use Rattle.row_versions.specs.Members.{is_none_of}
 use Rattle.row_versions.specs.Rows.{rows_of}
 use Rattle.row_locks.specs.declared.held.Strength.{Strength}
 use Rattle.row_locks.specs.declared.held.Strength.TheVariants.{Share, Exclusive}
 use Rattle.row_locks.specs.Held.{with_lock}
 use Rattle.row_locks.specs.Cycles.{closes}
-use Rattle.unique_keys.specs.Checks.{KeyFound, KeyIsFree, KeyIsTaken, KeyIsHeld, key_found}
+use Rattle.unique_keys.specs.Checks.{is_taken}
 use Rattle.update_recheck.specs.Asked.{Asked}
 use Rattle.update_recheck.specs.Outcome.{Outcome, target_outcome, is_target_locked}
 use Rattle.update_recheck.specs.Outcome.Outcome.{Takes, Skips, Waits, Deadlocks, Serializes, Faults}
-use Rattle.update_recheck.specs.Settling.{lock_of, locks_after}
+use Rattle.update_recheck.specs.Settling.{lock_of}
 use Rattle.session_machine.specs.declared.session.OpenTransaction.{OpenTransaction}
 use Rattle.session_machine.specs.declared.session.Request.TheVariants.{Row, Key}
 use Rattle.session_machine.specs.declared.fault.StmtFault.TheVariants.{Value as OfValue, NullValue, KeyTaken, NotSerializable, Deadlock}
-use Rattle.session_machine.specs.Tables.{Database}
+use Rattle.session_machine.specs.Tables.{Database, Table}
 use Rattle.session_machine.specs.Views.{rows_shown}
 use Rattle.session_machine.specs.AskedKeys.{AskedKey}
 use Rattle.session_machine.specs.Waits.{blockers, waits_in}
-use Rattle.session_machine.specs.Statements.{Surroundings, columns_at, keys_at}
+use Rattle.session_machine.specs.Statements.{Surroundings}
 use Rattle.session_machine.specs.Walks.{Stop, Visit, Blocked, Fails, stops, goes_on}
 
 -- a statement at work: in this transaction, at the table of this place, with this view, and what it finds around it
@@ -42,12 +43,12 @@ pub record Work : Type 0 where
   pub view : View
   pub around : Surroundings
 
+-- its table's columns, and its keys in declared order: the primary key first
 abbrev pub columns_in : Database → Work → List ColumnTree
-columns_in db w = columns_at db.catalog w.table
+columns_in db w = unwrap_or (option_map (λ (t : Table). t.made.columns) (slice_get db.catalog.tables w.table)) []
 
--- its keys in declared order: the primary key first
 abbrev pub keys_in : Database → Work → List KeyTree
-keys_in db w = keys_at db.catalog w.table
+keys_in db w = unwrap_or (option_map (λ (t : Table). t.made.keys) (slice_get db.catalog.tables w.table)) []
 
 abbrev pub cols_in : Database → Work → Cols
 cols_in db w = cols_of (columns_in db w)
@@ -68,19 +69,15 @@ names_at columns places = map (λ place. unwrap_or (option_map (λ (c : ColumnTr
 abbrev pub asked_key : Work → List Value → KeyTree → AskedKey
 asked_key w values key = record { table = record { 0 = w.table }; columns = key.columns; values = values }
 
--- others hold the key: the statement waits for them, or fails where that wait would close a cycle
-abbrev pub held_by_others : Database → Work → AskedKey → Stop
-held_by_others db w asked = if closes (waits_in db w.around.sessions) w.t.tx (blockers db (Key asked) w.t.tx) then Fails Deadlock else Blocked (Key asked)
-
--- what stops a statement at a key of which this is found: another row of the table has it, or others hold it
-abbrev pub stop_by : Database → Work → List ℕ → List Value → KeyTree → KeyFound → Option Stop
-stop_by db w name values key KeyIsFree = None
-stop_by db w name values key KeyIsTaken = Some (Fails (KeyTaken (key_name name key.primary (names_at (columns_in db w) key.columns))))
-stop_by db w name values key KeyIsHeld = Some (held_by_others db w (asked_key w values key))
-
--- a row with these values is about to be written, in place of a row or as a new one
+-- a row with these values is about to be written, in place of a row or as a new one. Where others hold the key the statement waits for them, or fails where
+-- that wait would close a cycle; else it fails where another row of the table has the key
 abbrev pub stop_at_key : Database → Work → List ℕ → List Value → Option RowId → KeyTree → Option Stop
-stop_at_key db w name values except key = stop_by db w name values key (key_found db.content (record { 0 = w.table }) w.t.tx except values key.columns)
+stop_at_key db w name values except key =
+    let asked = asked_key w values key in
+    let by = blockers db (Key asked) w.t.tx in
+    if not (is_none_of by) then Some (if closes (waits_in db w.around.sessions) w.t.tx by then Fails Deadlock else Blocked (Key asked))
+    else if is_taken db.content asked.table w.t.tx except values key.columns
+    then Some (Fails (KeyTaken (key_name name key.primary (names_at (columns_in db w) key.columns)))) else None
 
 -- the first of its keys that isn't free stops the statement (5.5.3)
 abbrev pub stop_at_keys : Database → Work → List ℕ → List Value → Option RowId → List KeyTree → Option Stop
@@ -108,7 +105,7 @@ ask db w strength filter seen = record { tx = w.t.tx; level = w.t.level; view = 
 
 -- the locks once the target is settled
 abbrev pub settled : Database → Work → Asked → Database
-settled db w a = record db { held = locks_after (is_target_locked db.content db.held (waits_in db w.around.sessions) a) db.held (lock_of a) }
+settled db w a = record db { held = if is_target_locked db.content db.held (waits_in db w.around.sessions) a then with_lock db.held (lock_of a) else db.held }
 
 -- what is done at a target that came to this: with the version that it takes, or without any
 abbrev pub at_outcome : (Database → Seen → Visit) → Database → Asked → Outcome → Visit
@@ -154,12 +151,9 @@ strength_of lock.Update = Exclusive
 abbrev pub lock_at : Work → SelectTree → Lock → Database → Seen → Visit
 lock_at w s l db seen = at_target (lock_with w s) db w (ask db w (strength_of l) s.filter seen)
 
--- the versions that the statement's view shows of its table, and their values
+-- the versions that the statement's view shows of its table
 abbrev pub seen_by : Database → Work → List Seen
 seen_by db w = rows_of db.content w.view (record { 0 = w.table })
-
-abbrev pub shown_to : Database → Work → List (List Value)
-shown_to db w = rows_shown db.content w.view w.table
 
 -- the versions at these places
 abbrev pub at_places : List Seen → Result (List ℕ) ValueFault → Result (List Seen) ValueFault
@@ -168,8 +162,8 @@ at_places seen (Ok places) = Ok (filter_map (slice_get seen) places)
 
 -- the targets of UPDATE and DELETE: the versions that their view shows and that pass WHERE
 abbrev pub passing_targets : Database → Work → Option Tree → Result (List Seen) ValueFault
-passing_targets db w filter = at_places (seen_by db w) (passing (cols_in db w) filter 0 (shown_to db w))
+passing_targets db w filter = at_places (seen_by db w) (passing (cols_in db w) filter 0 (rows_shown db.content w.view w.table))
 
 -- those of a locking SELECT, as ORDER BY sorts them
 abbrev pub taken_targets : Database → Work → SelectTree → Result (List Seen) ValueFault
-taken_targets db w s = at_places (seen_by db w) (taken s (columns_in db w) (shown_to db w))
+taken_targets db w s = at_places (seen_by db w) (taken s (columns_in db w) (rows_shown db.content w.view w.table))

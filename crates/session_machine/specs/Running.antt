@@ -1,6 +1,7 @@
 -- A statement is run: it begins, or goes on where it waits, by what its session's transaction is (PostgreSQL manual, the pages of the statements, and 13.2).
-use Rattle.std.specs.Prelude.{ℕ, ℤ, Bool, true, false, List, [], ◌∷◌, length, drop, Option, Some, None, unwrap_or, Result, Ok, Err, if◌then◌else◌}
+use Rattle.std.specs.Prelude.{ℕ, ℤ, Bool, true, false, List, [], ◌∷◌, length, drop, Option, Some, None, Result, Ok, Err, if◌then◌else◌}
 use Rattle.std.specs.Option.{option_map_or}
+use Rattle.std.specs.Result.{result_unwrap_or}
 use Rattle.sql_trees.specs.declared.stmt.Level.TheVariants.{ReadCommitted}
 use Rattle.sql_trees.specs.declared.stmt.Lock.{Lock}
 use Rattle.sql_trees.specs.Statements.{StmtTree, InsertTree, UpdateTree, DeleteTree, SelectTree, Begin, Commit, Rollback, SetTransaction, SetDeadlockTimeout, Create, DropTables, Inserts, Updates, Deletes, Selects}
@@ -57,8 +58,7 @@ done rows = Done
 
 -- no column is assigned where one isn't there
 abbrev pub assigned_to : Result (List AssignedColumn) (List ℕ) → List AssignedColumn
-assigned_to (Ok to) = to
-assigned_to (Err column) = []
+assigned_to found = result_unwrap_or found []
 
 -- a statement begins at the table that its name means; where it means none, it fails
 abbrev pub at_table : Database → OpenTransaction → Surroundings → List ℕ → Option ℕ → (Work → Effect) → Effect
@@ -131,7 +131,7 @@ run_open db t around Rollback = turns (rolled_back db t.tx) Closed
 run_open db t around (SetTransaction level) = level_set db t t.explicit level
 run_open db t around SetDeadlockTimeout = turns db (Open t)
 run_open db t around (Create c) = create db t c (find_table db (Some t.tx) c.name)
-run_open db t around (DropTables d) = drop_tables db t d
+run_open db t around (DropTables d) = drop_tables db t d.if_exists d.names
 run_open db t around (Inserts i) = insert db t around i (find_table db (Some t.tx) i.table)
 run_open db t around (Updates u) = update db t around u (find_table db (Some t.tx) u.table)
 run_open db t around (Deletes d) = delete db t around d (find_table db (Some t.tx) d.table)
@@ -139,10 +139,8 @@ run_open db t around (Selects s) = select db t around s s.table
 
 -- a statement where no transaction is open: of one that works an implicit transaction begins, at Read Committed
 abbrev pub run_closed : Database → Surroundings → StmtTree → Effect
-run_closed db around (Begin level) = turns (begun db) (Open (fresh db.content (unwrap_or level ReadCommitted) true))
 run_closed db around Commit = turns db Closed
 run_closed db around Rollback = turns db Closed
-run_closed db around (SetTransaction level) = turns (begun db) (Open (fresh db.content level false))
 run_closed db around SetDeadlockTimeout = turns db Closed
 run_closed db around stmt = run_open (begun db) (fresh db.content ReadCommitted false) around stmt
 

@@ -1,9 +1,10 @@
 -- Tables, and which of them a name means: what was made or dropped counts once committed, and for its own transaction at once (PostgreSQL manual, 13.2).
-use Rattle.std.specs.Prelude.{ℕ, ◌+◌, ◌==◌, Bool, false, not, ◌&&◌, ◌||◌, List, [], ◌∷◌, Option, Some, None, bytes_eq, if◌then◌else◌}
-use Rattle.std.specs.List.{list_any}
+use Rattle.std.specs.Prelude.{ℕ, ◌==◌, Bool, false, not, ◌&&◌, ◌||◌, List, Option, option_map, find, bytes_eq}
+use Rattle.std.specs.List.{enumerate_from, list_any}
 use Rattle.std.specs.Option.{option_map_or}
 use Rattle.sql_trees.specs.Statements.{CreateTree}
 use Rattle.row_versions.specs.declared.names.TxId.{TxId}
+use Rattle.row_versions.specs.Members.{same_tx}
 use Rattle.row_versions.specs.Log.{Content, has_committed}
 use Rattle.row_locks.specs.declared.held.Held.{Held}
 
@@ -28,25 +29,14 @@ pub record Database : Type 0 where
   pub catalog : Catalog
   pub held : List Held
 
-abbrev pub is_own : Option TxId → TxId → Bool
-is_own own tx = option_map_or (λ (o : TxId). o.0 == tx.0) own false
-
 -- what the transaction did counts: it is committed, or one's own
 abbrev pub counts : Content → Option TxId → TxId → Bool
-counts c own tx = has_committed c tx || is_own own tx
-
-abbrev pub is_dropped : Content → Option TxId → List Dropped → ℕ → Bool
-is_dropped c own drops k = list_any (λ (d : Dropped). (d.table == k) && counts c own d.by) drops
+counts c own tx = has_committed c tx || option_map_or (λ one. same_tx one tx) own false
 
 -- the name is that of the table, whose CREATE counts and whose DROP doesn't
 abbrev pub is_meant : Content → Option TxId → List Dropped → List ℕ → ℕ → Table → Bool
-is_meant c own drops name k t = bytes_eq t.made.name name && (counts c own t.by && not (is_dropped c own drops k))
+is_meant c own drops name k t = bytes_eq t.made.name name && (counts c own t.by && not (list_any (λ (d : Dropped). (d.table == k) && counts c own d.by) drops))
 
--- the first such table, from the place on
-abbrev pub find_from : Content → Option TxId → List Dropped → List ℕ → ℕ → List Table → Option ℕ
-find_from c own drops name k [] = None
-find_from c own drops name k (t ∷ ts) = if is_meant c own drops name k t then Some k else find_from c own drops name (k + 1) ts
-
--- the place of the table that the name means
+-- the place of the first such table, which the name means
 abbrev pub find_table : Database → Option TxId → List ℕ → Option ℕ
-find_table db own name = find_from db.content own db.catalog.drops name 0 db.catalog.tables
+find_table db own name = option_map (λ (e : ℕ × Table). e.0) (find (λ e. is_meant db.content own db.catalog.drops name e.0 e.1) (enumerate_from 0 db.catalog.tables))

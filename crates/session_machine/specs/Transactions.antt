@@ -1,5 +1,5 @@
 -- Transactions of sessions: how they begin, what their statements see, and how they end (PostgreSQL manual, 13.2).
-use Rattle.std.specs.Prelude.{ℕ, ◌+◌, ◌==◌, Bool, not, List, filter, Option, Some, None, unwrap_or, if◌then◌else◌}
+use Rattle.std.specs.Prelude.{ℕ, ◌+◌, Bool, Option, Some, None, unwrap_or, if◌then◌else◌}
 use Rattle.sql_trees.specs.declared.stmt.Level.{Level}
 use Rattle.sql_trees.specs.declared.stmt.Level.TheVariants.{ReadCommitted, RepeatableRead}
 use Rattle.row_versions.specs.declared.names.TxId.{TxId}

@@ -1,8 +1,10 @@
 -- Who waits for whom, in the present state (PostgreSQL manual, 13.3.2, and 5.5.3 of keys).
-use Rattle.std.specs.Prelude.{Bool, true, false, not, List, Option, Some, None, option_map, filter_map}
+use Rattle.std.specs.Prelude.{Bool, false, not, List, Option, Some, None, option_map, filter_map}
+use Rattle.std.specs.Option.{option_map_or}
 use Rattle.row_versions.specs.declared.names.TxId.{TxId}
+use Rattle.row_versions.specs.Members.{is_none_of}
 use Rattle.row_locks.specs.Held.{holders_against}
-use Rattle.row_locks.specs.Waiting.{Waiting, is_none_of}
+use Rattle.row_locks.specs.Waiting.{Waiting}
 use Rattle.unique_keys.specs.Checks.{blockers as key_blockers}
 use Rattle.session_machine.specs.declared.session.Request.{Request}
 use Rattle.session_machine.specs.declared.session.Request.TheVariants.{Row, Key}
@@ -32,6 +34,10 @@ waiting db transaction wait = None
 -- the session's transaction, with those that it waits for
 abbrev pub waiting_in : Database → Session → Option Waiting
 waiting_in db s = waiting db s.transaction (wait_of s)
+
+-- the session waits, and what it asked for is still held against it
+abbrev pub is_still_blocked : Database → Session → Bool
+is_still_blocked db s = option_map_or (λ (w : Waiting). not (is_none_of w.blockers)) (waiting_in db s) false
 
 -- all that wait, each with its blockers now
 abbrev pub waits_in : Database → List Session → List Waiting

@@ -10,11 +10,11 @@ use Rattle.query_results.specs.Updates.{lacking_update, columns_set}
 use Rattle.session_machine.specs.declared.session.OpenTransaction.{OpenTransaction}
 use Rattle.session_machine.specs.declared.fault.StmtFault.TheVariants.{NoColumnOf}
 use Rattle.session_machine.specs.Tables.{Database}
-use Rattle.session_machine.specs.Statements.{Effect, Surroundings, columns_at, fails}
+use Rattle.session_machine.specs.Statements.{Effect, Surroundings, fails}
 use Rattle.session_machine.specs.Walks.{Visit, walked, walked_from}
 use Rattle.session_machine.specs.Rows.{cols_in}
 use Rattle.session_machine.specs.Running.{beginning, unless_wrong, update}
-use Rattle.session_machine.specs.Inner.Pieces.{update_fitting, update_to}
+use Rattle.session_machine.specs.Inner.Pieces.{update_fitting, update_to, columns_at}
 
 -- targets that were found are gone over from the place on
 pub found_targets : (at : Database → Seen → Visit) (db : Database) (place : ℕ) (rows : List (List Value)) (r : Result (List Seen) ValueFault) (targets got : List Seen)

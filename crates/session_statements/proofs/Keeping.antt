@@ -18,7 +18,7 @@ use Rattle.row_versions.specs.Laws.{IsShown, IsNewest}
 use Rattle.row_versions.proofs.Shown.{shown_from_rows}
 use Rattle.row_versions.proofs.Last.{newest_is_the_last}
 use Rattle.session_machine.specs.Tables.{Database, Catalog, Table}
-use Rattle.session_machine.specs.Statements.{columns_at}
+use Rattle.session_machine.specs.Inner.Pieces.{columns_at}
 use Rattle.session_machine.specs.Sound.{RowsFit, RowsStay}
 use Rattle.session_machine.specs.Rows.{cols_in}
 use Rattle.session_machine.specs.Rows.{Work, columns_in}

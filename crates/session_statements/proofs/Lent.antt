@@ -8,7 +8,7 @@ use Rattle.row_versions.specs.declared.write.View.{View}
 use Rattle.row_versions.specs.Log.{Content}
 use Rattle.session_machine.specs.Tables.{Catalog, Table}
 use Rattle.session_machine.specs.Views.{rows_shown}
-use Rattle.session_machine.specs.Statements.{columns_at}
+use Rattle.session_machine.specs.Inner.Pieces.{columns_at}
 use Rattle.session_machine.specs.Sound.{RowsFit}
 use Rattle.row_versions.specs.declared.names.TableId.{TableId}
 use Rattle.row_versions.specs.declared.write.Write.{Write}

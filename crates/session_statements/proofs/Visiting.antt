@@ -25,7 +25,8 @@ use Rattle.query_results.specs.Queries.{AssignedColumn, null_in}
 use Rattle.query_results.specs.Updates.{updated}
 use Rattle.query_results.proofs.Placing.{length-updated}
 use Rattle.update_recheck.specs.Asked.{Asked}
-use Rattle.update_recheck.specs.Outcome.{Holders, Version, Outcome, rechecked, outcome, holders, version_at, version_of, newest_version, target_outcome}
+use Rattle.update_recheck.specs.Outcome.{Holders, Version, Outcome, rechecked, outcome, holders, version_at, newest_version, target_outcome}
+use Rattle.update_recheck.specs.Inner.Stopping.{version_of}
 use Rattle.update_recheck.specs.Outcome.Holders.{Nobody, Others, OthersInACycle}
 use Rattle.update_recheck.specs.Outcome.Version.{Same, Gone, Newer}
 use Rattle.update_recheck.specs.Outcome.Outcome.{Takes, Skips, Waits, Deadlocks, Serializes, Faults}

@@ -3,8 +3,8 @@
 ghost use Rattle.std.specs.Prelude.{◌≡◌, ◌<◌, [], length, map, IfSome, OnOk};
 ghost use Rattle.sql_trees.specs.Statements.{create_of, column_of, key_of, name_of};
 ghost use Rattle.row_versions.specs.Log.{Content};
-ghost use Rattle.session_machine.specs.Tables.{is_own, counts, is_dropped, is_meant, find_from};
-ghost use Rattle.session_machine.specs.Statements.{columns_at, keys_at, with_table, with_drop};
+ghost use Rattle.session_machine.specs.Tables.{counts, is_meant};
+ghost use Rattle.session_machine.specs.Inner.Pieces.{is_own, is_dropped, columns_at, keys_at, with_table, with_drop, find_from};
 
 use crate::table::{Dropped, Table};
 use iso_lexer::{Name, same_name};

@@ -11,7 +11,7 @@ ghost use Rattle.session_machine.specs.Waits.{is_blocked};
 ghost use Rattle.session_machine.specs.Transactions.{committed, rolled_back, begun, fresh, first_commits, commits_seen, view_of, moved_on, started, own_of, view_now};
 ghost use Rattle.row_versions.specs.declared.write.Seen.{Seen as SeenFacts};
 ghost use Rattle.row_versions.specs.Rows.{rows_of};
-ghost use Rattle.session_machine.specs.Statements.{columns_at, with_table, with_drop};
+ghost use Rattle.session_machine.specs.Inner.Pieces.{columns_at, with_table, with_drop};
 ghost use Rattle.session_machine.specs.declared.session.OpenTransaction.{OpenTransaction as OpenFacts};
 ghost use Rattle.session_machine.specs.Running.{beginning};
 ghost use Rattle.session_machine.specs.Rows.{columns_in, inserted, keys_in, seen_by, values_of, written};

@@ -5,7 +5,8 @@ ghost use Rattle.sql_trees.specs.Statements.{create_of, drop_of, name_of};
 ghost use Rattle.row_versions.specs.Log.{IsOpen};
 ghost use Rattle.session_machine.specs.Tables.{find_table};
 ghost use Rattle.session_statements.specs.Inner.Left.{left};
-ghost use Rattle.session_machine.specs.Statements.{create, dropped, drop_tables};
+ghost use Rattle.session_machine.specs.Statements.{create, drop_tables};
+ghost use Rattle.session_machine.specs.Inner.Pieces.{dropped};
 
 use crate::database::Database;
 use crate::effect::Effect;
@@ -68,7 +69,7 @@ impl<'a, 't, V: Versions> Database<'a, 't, V> {
     ) -> Result<Effect<'t>, AllocError>
         requires opened { IsOpen self.old.content by.now.tx }
         requires room { by.now.command + 1 < 2 ^ 64 }
-        ensures { IfOk result (λ did. drop_tables self.old by.now (drop_of stmt.now) ≡ left self.new did) }
+        ensures { IfOk result (λ did. drop_tables self.old by.now (drop_of stmt.now).if_exists (drop_of stmt.now).names ≡ left self.new did) }
     {
         let after = self.after_query(by);
         match self.drop_all(by, stmt.if_exists, stmt.names.as_slice())? {

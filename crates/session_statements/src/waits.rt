@@ -5,7 +5,7 @@ ghost use Rattle.row_versions.specs.declared.names.TxId.{TxId as TxFacts};
 ghost use Rattle.row_locks.specs.Laws.{SamePairs};
 ghost use Rattle.row_locks.specs.Cycles.{blocks};
 ghost use Rattle.session_machine.specs.Waits.{blockers, waiting_in, waits_in};
-ghost use Rattle.row_locks.specs.Members.{has, same_tx};
+ghost use Rattle.row_versions.specs.Members.{has, same_tx};
 ghost use Rattle.session_statements.specs.Inner.Waits.{blocks_in};
 
 use crate::database::Database;

@@ -10,28 +10,29 @@ use Rattle.row_versions.specs.Log.{Content, IsOpen, has_committed}
 use Rattle.unique_keys.specs.declared.noted.Noted.{Noted}
 use Rattle.unique_keys.specs.declared.key_index.Found.{Found}
 use Rattle.unique_keys.specs.declared.key_index.Found.TheVariants as found
-use Rattle.unique_keys.specs.Members.{is_none, EachOnce}
+use Rattle.unique_keys.specs.Members.{EachOnce}
+use Rattle.row_versions.specs.Members.{is_none_of}
 use Rattle.unique_keys.specs.Keys.{Keys, columns_at}
 use Rattle.unique_keys.specs.Writes.{IsUpToDate}
-use Rattle.unique_keys.specs.Finding.{is_in_way, blockers_among, is_taken_among}
+use Rattle.unique_keys.specs.Inner.Finding.{is_in_way, blockers_among, is_taken_among}
 use Rattle.unique_keys.specs.Checks.{KeyIsHeld, FindsKey, NamesBlockers, blockers, is_taken, found_by, found_of, key_found}
 use Rattle.unique_keys.proofs.Exact.{blockers_same, taken_same}
 
 -- some write passes the test where some transaction is found by it
-any_found : (p : Noted → Bool) (ws : List Noted) → list_any p ws ≡ not (is_none (map (λ (w : Noted). w.tx) (filter p ws)))
+any_found : (p : Noted → Bool) (ws : List Noted) → list_any p ws ≡ not (is_none_of (map (λ (w : Noted). w.tx) (filter p ws)))
 any_found p [] = refl
 any_found p (w ∷ ws) = step (p w) (any_found p ws) where
-  step : (b : Bool) → list_any p ws ≡ not (is_none (map (λ (v : Noted). v.tx) (filter p ws))) → (b || list_any p ws) ≡ not (is_none (map (λ (v : Noted). v.tx) (cond b (w ∷ filter p ws) (filter p ws))))
+  step : (b : Bool) → list_any p ws ≡ not (is_none_of (map (λ (v : Noted). v.tx) (filter p ws))) → (b || list_any p ws) ≡ not (is_none_of (map (λ (v : Noted). v.tx) (cond b (w ∷ filter p ws) (filter p ws))))
   step true ih = refl
   step false ih = ih
 
 -- whether a write of the index stands in the way is whether somebody blocks
 pub held_by_some : (c : Content) (index notes : List Noted) (table : TableId) (tx : TxId) (asked : List Value) (columns : List ℕ) → notes ≡ index → IsUpToDate index c
-    → list_any (is_in_way (has_committed c) (λ u. not (has_committed c u)) notes table columns asked tx) notes ≡ not (is_none (blockers c table tx asked columns))
+    → list_any (is_in_way (has_committed c) (λ u. not (has_committed c u)) notes table columns asked tx) notes ≡ not (is_none_of (blockers c table tx asked columns))
 held_by_some c index notes table tx asked columns e up =
     any_found (is_in_way (has_committed c) (λ u. not (has_committed c u)) notes table columns asked tx) notes
-    ∙ ap (λ v. not (is_none (blockers_among (has_committed c) (λ u. not (has_committed c u)) v table tx asked columns))) e
-    ∙ ap (λ v. not (is_none v)) (blockers_same c index up table tx asked columns)
+    ∙ ap (λ v. not (is_none_of (blockers_among (has_committed c) (λ u. not (has_committed c u)) v table tx asked columns))) e
+    ∙ ap (λ v. not (is_none_of v)) (blockers_same c index up table tx asked columns)
 
 -- who is found in the index is who blocks
 pub blockers_here : (c : Content) (index notes : List Noted) (table : TableId) (tx : TxId) (asked : List Value) (columns : List ℕ) (found : List TxId) → notes ≡ index
@@ -39,23 +40,23 @@ pub blockers_here : (c : Content) (index notes : List Noted) (table : TableId) (
 blockers_here c index notes table tx asked columns found e once up =
     subst (λ v. EachOnce v found) (ap (λ v. blockers_among (has_committed c) (λ u. not (has_committed c u)) v table tx asked columns) e ∙ blockers_same c index up table tx asked columns) once
 
-some_found : (by : List TxId) (taken b : Bool) → b ≡ not (is_none by) → b ≡ true → found_by by taken ≡ KeyIsHeld
+some_found : (by : List TxId) (taken b : Bool) → b ≡ not (is_none_of by) → b ≡ true → found_by by taken ≡ KeyIsHeld
 some_found [] taken true e h = cc
 some_found [] taken false e h = cc
 some_found (u ∷ others) taken b e h = refl
 
-none_found : (by : List TxId) (taken b : Bool) → b ≡ not (is_none by) → b ≡ false → found_by by taken ≡ found_by [] taken
+none_found : (by : List TxId) (taken b : Bool) → b ≡ not (is_none_of by) → b ≡ false → found_by by taken ≡ found_by [] taken
 none_found [] taken b e h = refl
 none_found (u ∷ others) taken true e h = cc
 none_found (u ∷ others) taken false e h = cc
 
 -- what is found where the key is held, and where it isn't
-pub finds_held : (c : Content) (table : TableId) (tx : TxId) (except : Option RowId) (asked : List Value) (columns : List ℕ) (b : Bool) → b ≡ not (is_none (blockers c table tx asked columns)) → b ≡ true
+pub finds_held : (c : Content) (table : TableId) (tx : TxId) (except : Option RowId) (asked : List Value) (columns : List ℕ) (b : Bool) → b ≡ not (is_none_of (blockers c table tx asked columns)) → b ≡ true
     → key_found c table tx except asked columns ≡ KeyIsHeld
 finds_held c table tx except asked columns b e h = some_found (blockers c table tx asked columns) (is_taken c table tx except asked columns) b e h
 
 pub finds_unheld : (c : Content) (index notes : List Noted) (table : TableId) (tx : TxId) (except : Option RowId) (asked : List Value) (columns : List ℕ) (b taken : Bool) → notes ≡ index
-    → (IsUpToDate index c → b ≡ not (is_none (blockers c table tx asked columns))) → b ≡ false → taken ≡ is_taken_among (has_committed c) notes table tx except asked columns
+    → (IsUpToDate index c → b ≡ not (is_none_of (blockers c table tx asked columns))) → b ≡ false → taken ≡ is_taken_among (has_committed c) notes table tx except asked columns
     → IsUpToDate index c → IsOpen c tx → key_found c table tx except asked columns ≡ found_by [] taken
 finds_unheld c index notes table tx except asked columns b taken e held h is up is_open =
     none_found (blockers c table tx asked columns) (is_taken c table tx except asked columns) b (held up) h

@@ -7,12 +7,12 @@ use Rattle.row_versions.specs.declared.names.RowId.{RowId}
 use Rattle.row_versions.specs.declared.names.TableId.{TableId}
 use Rattle.row_versions.specs.declared.write.Fate.{Fate}
 use Rattle.row_versions.specs.declared.write.Fate.TheVariants.{Open, RolledBack, Committed}
-use Rattle.row_versions.specs.Log.{Content, IsOpen, fate_of, has_committed, is_committed}
+use Rattle.row_versions.specs.Log.{Content, IsOpen, fate_of, has_committed, is_committed, is_open, is_open_fate}
 use Rattle.unique_keys.specs.declared.noted.Noted.{Noted}
-use Rattle.unique_keys.specs.Members.{same_tx, is_open, is_open_fate}
+use Rattle.row_versions.specs.Members.{same_tx}
 use Rattle.unique_keys.specs.Keys.{has_key}
 use Rattle.unique_keys.specs.Writes.{writes, stands, IsUpToDate}
-use Rattle.unique_keys.specs.Finding.{version_has, is_committed_version, committed_has, own_has, is_in_way, blockers_among, counts_for, is_version_for, is_another, newest_has, takes, is_taken_among}
+use Rattle.unique_keys.specs.Inner.Finding.{version_has, is_committed_version, committed_has, own_has, is_in_way, blockers_among, counts_for, is_version_for, is_another, newest_has, takes, is_taken_among}
 use Rattle.unique_keys.specs.Checks.{blockers, is_taken}
 use Rattle.unique_keys.proofs.Filtered.{list_any-filter, filter-filter, last_of-filter}
 use Rattle.unique_keys.proofs.Listed.{same_is}

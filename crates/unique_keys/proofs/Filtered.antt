@@ -4,7 +4,7 @@ use Rattle.std.specs.Prelude.{Some, filter, find}
 use Rattle.std.specs.List.{list_any}
 use mathlib.Core.List.{reverse_aux}
 use Rattle.unique_keys.specs.declared.noted.Noted.{Noted}
-use Rattle.unique_keys.specs.Finding.{last_of}
+use Rattle.unique_keys.specs.Inner.Finding.{last_of}
 
 false_test : (b : Bool) → (b ≡ true → false ≡ true) → b ≡ false
 false_test true h = let k : false ≡ true = h refl in cc

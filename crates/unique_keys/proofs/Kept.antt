@@ -8,7 +8,7 @@ use Rattle.row_versions.specs.declared.write.Fate.{Fate}
 use Rattle.row_versions.specs.declared.write.Fate.TheVariants.{Open, RolledBack, Committed}
 use Rattle.row_versions.specs.Log.{Content, IsOpen, fate_of, commit_count, empty_content, after_begin, after_commit, after_roll_back, after_write}
 use Rattle.unique_keys.specs.declared.noted.Noted.{Noted}
-use Rattle.unique_keys.specs.Members.{same_tx}
+use Rattle.row_versions.specs.Members.{same_tx}
 use Rattle.unique_keys.specs.Writes.{noted_of, without}
 use Rattle.unique_keys.specs.Laws.{KeepsUp, GoesOn}
 use Rattle.unique_keys.proofs.Keeping.{keeps_up}

@@ -4,7 +4,8 @@ use Rattle.std.proofs.lemmas.List.{take_all}
 use Rattle.std.proofs.lemmas.List.Elements.{filter_more}
 use Rattle.row_versions.specs.declared.names.TxId.{TxId}
 use Rattle.unique_keys.specs.declared.noted.Noted.{Noted}
-use Rattle.unique_keys.specs.Members.{has, same_tx, is_distinct, EachOnce}
+use Rattle.unique_keys.specs.Members.{EachOnce}
+use Rattle.row_versions.specs.Members.{has, same_tx, is_distinct}
 
 pub same_is : (a b : TxId) → same_tx a b ≡ true → a ≡ b
 same_is a b h = let mk : ℕ → TxId = λ n. record { 0 = n } in ap mk (eqb-true a.0 b.0 h)

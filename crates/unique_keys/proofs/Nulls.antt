@@ -9,9 +9,9 @@ use Rattle.row_versions.specs.declared.names.TxId.{TxId}
 use Rattle.row_versions.specs.declared.names.RowId.{RowId}
 use Rattle.row_versions.specs.declared.names.TableId.{TableId}
 use Rattle.unique_keys.specs.declared.noted.Noted.{Noted}
-use Rattle.unique_keys.specs.Members.{same_tx}
+use Rattle.row_versions.specs.Members.{same_tx}
 use Rattle.unique_keys.specs.Keys.{are_equal, agree, has_key}
-use Rattle.unique_keys.specs.Finding.{last_of, version_has, is_committed_version, own_has, is_in_way, blockers_among, counts_for, is_version_for, is_another, takes, is_taken_among}
+use Rattle.unique_keys.specs.Inner.Finding.{last_of, version_has, is_committed_version, own_has, is_in_way, blockers_among, counts_for, is_version_for, is_another, takes, is_taken_among}
 use Rattle.unique_keys.specs.Laws.{has_null}
 
 null_is_unequal : (asked other : Option Value) → is_null (unwrap_or asked Null) ≡ true → are_equal asked other ≡ false

@@ -3,9 +3,9 @@ use Rattle.std.specs.Prelude.{◌≡◌, Bool, not, ◌||◌, List, map, filter}
 use Rattle.row_versions.specs.declared.names.TxId.{TxId}
 use Rattle.row_versions.specs.declared.write.Write.{Write}
 use Rattle.row_versions.specs.declared.write.Fate.{Fate}
-use Rattle.row_versions.specs.Log.{Content, fate_of, is_committed}
+use Rattle.row_versions.specs.Log.{Content, fate_of, is_committed, is_open}
 use Rattle.unique_keys.specs.declared.noted.Noted.{Noted}
-use Rattle.unique_keys.specs.Members.{same_tx, is_open}
+use Rattle.row_versions.specs.Members.{same_tx}
 
 -- a write without the number of its command
 abbrev pub noted_of : Write → Noted

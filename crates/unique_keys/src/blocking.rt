@@ -2,8 +2,9 @@
 ghost use Rattle.std.specs.Prelude.{◌≡◌, ◌==◌, not, ◌&&◌, IfOk};
 ghost use Rattle.std.specs.List.{list_any};
 ghost use Rattle.row_versions.specs.Log.{has_committed};
-ghost use Rattle.unique_keys.specs.Members.{EachOnce, has};
-ghost use Rattle.unique_keys.specs.Finding.{committed_has, own_has, is_in_way, blockers_among};
+ghost use Rattle.unique_keys.specs.Members.{EachOnce};
+ghost use Rattle.row_versions.specs.Members.{has};
+ghost use Rattle.unique_keys.specs.Inner.Finding.{committed_has, own_has, is_in_way, blockers_among};
 
 use crate::noted::{Noted, has_key, version_has};
 use row_versions::{RowId, TableId, TxId, Versions};

@@ -2,7 +2,8 @@
 ghost use Rattle.std.specs.Prelude.{◌≡◌, ◌<◌, ◌^◌, List, [], ◌∷◌, ◌++◌, not, length, OnOk, OnErr, IfOk};
 ghost use Rattle.std.specs.Option.{option_copied};
 ghost use Rattle.row_versions.specs.Log.{Content, IsOpen};
-ghost use Rattle.unique_keys.specs.Members.{EachOnce, is_none};
+ghost use Rattle.unique_keys.specs.Members.{EachOnce};
+ghost use Rattle.row_versions.specs.Members.{is_none_of};
 ghost use Rattle.unique_keys.specs.Keys.{columns_at};
 ghost use Rattle.unique_keys.specs.Writes.{IsUpToDate, without};
 ghost use Rattle.unique_keys.specs.Checks.{FindsKeys, NamesBlockers, blockers, found_of, key_found};
@@ -105,7 +106,7 @@ impl KeyIndex {
         asked: &[Value],
         tx: TxId,
     ) -> bool
-        ensures { IsUpToDate self.now (V.content store.now) → result ≡ not (is_none (blockers (V.content store.now) table tx asked.now columns.now)) }
+        ensures { IsUpToDate self.now (V.content store.now) → result ≡ not (is_none_of (blockers (V.content store.now) table tx asked.now columns.now)) }
     {
         is_blocked(store, self.noted.as_slice(), table, columns, asked, tx)
     }

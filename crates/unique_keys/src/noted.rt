@@ -1,7 +1,7 @@
 //! Writes as the index knows them.
 ghost use Rattle.std.specs.Prelude.{◌≡◌};
 ghost use Rattle.unique_keys.specs.Keys.{agree, are_equal, has_key};
-ghost use Rattle.unique_keys.specs.Finding.{version_has};
+ghost use Rattle.unique_keys.specs.Inner.Finding.{version_has};
 ghost use Rattle.std.specs.List.{slice_get};
 ghost use Rattle.std.specs.Option.{option_copied};
 

@@ -3,7 +3,7 @@ ghost use Rattle.std.specs.Prelude.{◌≡◌, ◌==◌, ◌&&◌};
 ghost use Rattle.std.specs.List.{list_any};
 ghost use Rattle.row_versions.specs.Log.{has_committed};
 ghost use Rattle.unique_keys.specs.Keys.{has_key};
-ghost use Rattle.unique_keys.specs.Finding.{counts_for, is_another, newest_has, is_taken_among};
+ghost use Rattle.unique_keys.specs.Inner.Finding.{counts_for, is_another, newest_has, is_taken_among};
 
 use crate::noted::{Noted, has_key, version_has};
 use row_versions::{RowId, TableId, TxId, Versions};

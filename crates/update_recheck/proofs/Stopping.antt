@@ -2,20 +2,20 @@
 use Rattle.std.proofs.Common.{◌≡◌, refl, ap, Bool, true, false, List, [], ◌∷◌}
 use Rattle.std.specs.Prelude.{Some, None}
 use Rattle.row_versions.specs.declared.names.TxId.{TxId}
-use Rattle.row_locks.specs.Members.{has, same_tx}
+use Rattle.row_versions.specs.Members.{has, same_tx, is_none_of}
 use Rattle.row_locks.specs.declared.held.Held.{Held}
-use Rattle.row_locks.specs.Waiting.{Waiting, is_none_of}
+use Rattle.row_locks.specs.Waiting.{Waiting}
 use Rattle.row_locks.specs.Cycles.{closes}
 use Rattle.row_locks.specs.Laws.{SameLocks, SamePairs}
 use Rattle.row_locks.proofs.Reaching.{or_left, is_same}
 use Rattle.row_locks.proofs.Holding.{by_what_is_held}
 use Rattle.row_locks.proofs.Pairs.{by_who_blocks}
 use Rattle.update_recheck.specs.Asked.{Asked}
-use Rattle.update_recheck.specs.Outcome.{holders_of, holders, blockers, outcome, is_locked, newest_version}
+use Rattle.update_recheck.specs.Outcome.{holders, blockers, outcome, is_locked, newest_version}
 use Rattle.update_recheck.specs.Laws.{OutcomesByWhatIsHeld}
 use Rattle.update_recheck.specs.Outcome.Outcome.{Waits, Deadlocks}
 use Rattle.update_recheck.specs.Settling.{SameMembers}
-use Rattle.update_recheck.specs.Inner.Stopping.{stop_of}
+use Rattle.update_recheck.specs.Inner.Stopping.{stop_of, holders_of}
 
 -- lists with the same members are empty together
 pub none_same : (xs ys : List TxId) → SameMembers xs ys → is_none_of xs ≡ is_none_of ys

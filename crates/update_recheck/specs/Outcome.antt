@@ -1,5 +1,6 @@
 -- What becomes of one target row, at each level (PostgreSQL manual, 13.2.1 and 13.2.2).
-use Rattle.std.specs.Prelude.{◌==◌, Bool, true, false, List, [], ◌∷◌, Option, Some, None, Result, Ok, Err, if◌then◌else◌}
+use Rattle.std.specs.Prelude.{◌==◌, Bool, true, false, List, Option, Result, Ok, Err, if◌then◌else◌}
+use Rattle.std.specs.Option.{option_map_or}
 use Rattle.sql_trees.specs.declared.stmt.Level.{Level}
 use Rattle.sql_trees.specs.declared.stmt.Level.TheVariants.{ReadCommitted, RepeatableRead}
 use Rattle.sql_values.specs.declared.value.Value.{Value}
@@ -9,6 +10,7 @@ use Rattle.row_versions.specs.declared.names.TxId.{TxId}
 use Rattle.row_versions.specs.declared.write.Seen.{Seen}
 use Rattle.row_versions.specs.Log.{Content, values_at}
 use Rattle.row_versions.specs.Newest.{newest_of}
+use Rattle.row_versions.specs.Members.{is_none_of}
 use Rattle.row_locks.specs.declared.held.Held.{Held}
 use Rattle.row_locks.specs.Held.{holders_against}
 use Rattle.row_locks.specs.Waiting.{Waiting}
@@ -44,59 +46,42 @@ rechecked newer (Ok false) = Skips
 rechecked newer (Err fault) = Faults fault
 
 -- Read Committed waits for the others to end (13.2.1). Where the row was then deleted it is ignored; where it is as it was found,
--- the originally found row is used; where it was updated, WHERE is evaluated again
-abbrev pub read_committed : Seen → Holders → Version → Outcome
-read_committed found OthersInACycle version = Deadlocks
-read_committed found Others version = Waits
-read_committed found Nobody Gone = Skips
-read_committed found Nobody Same = Takes found
-read_committed found Nobody (Newer newer condition) = rechecked newer condition
-
+-- the originally found row is used; where it was updated, WHERE is evaluated again.
 -- Repeatable Read can't modify or lock a row that others changed after its view (13.2.2). A row that was only locked,
 -- or whose change was rolled back, is used as it was found
-abbrev pub repeatable_read : Seen → Holders → Version → Outcome
-repeatable_read found holders Gone = Serializes
-repeatable_read found holders (Newer newer condition) = Serializes
-repeatable_read found OthersInACycle Same = Deadlocks
-repeatable_read found Others Same = Waits
-repeatable_read found Nobody Same = Takes found
-
 abbrev pub outcome : Level → Seen → Holders → Version → Outcome
-outcome ReadCommitted found holders version = read_committed found holders version
-outcome RepeatableRead found holders version = repeatable_read found holders version
+outcome ReadCommitted found OthersInACycle version = Deadlocks
+outcome ReadCommitted found Others version = Waits
+outcome ReadCommitted found Nobody Gone = Skips
+outcome ReadCommitted found Nobody Same = Takes found
+outcome ReadCommitted found Nobody (Newer newer condition) = rechecked newer condition
+outcome RepeatableRead found holders Gone = Serializes
+outcome RepeatableRead found holders (Newer newer condition) = Serializes
+outcome RepeatableRead found OthersInACycle Same = Deadlocks
+outcome RepeatableRead found Others Same = Waits
+outcome RepeatableRead found Nobody Same = Takes found
 
 -- the target is locked: at Read Committed also where WHERE then doesn't match
 abbrev pub is_locked : Level → Holders → Version → Bool
-is_locked ReadCommitted Nobody Same = true
+is_locked level Nobody Same = true
 is_locked ReadCommitted Nobody (Newer newer condition) = true
-is_locked RepeatableRead Nobody Same = true
 is_locked level holders version = false
 
 -- the blockers of the target's request
 abbrev pub blockers : List Held → Asked → List TxId
 blockers held ask = holders_against held ask.seen.row ask.tx ask.strength
 
-abbrev pub holders_of : List TxId → Bool → Holders
-holders_of [] closing = Nobody
-holders_of (tx ∷ rest) false = Others
-holders_of (tx ∷ rest) true = OthersInACycle
-
 -- who holds the target, by the locks that are held and the waits that stand
 abbrev pub holders : List Held → List Waiting → Asked → Holders
-holders held waits ask = holders_of (blockers held ask) (closes waits ask.tx (blockers held ask))
+holders held waits ask = let by = blockers held ask in if is_none_of by then Nobody else if closes waits ask.tx by then OthersInACycle else Others
 
 -- a version beside the one that the view shows, by its values, if it has any
 abbrev pub version_at : Asked → Seen → Option (List Value) → Version
-version_at ask m None = Gone
-version_at ask m (Some values) = if m.place == ask.seen.place then Same else Newer m (passes ask.condition ask.cols values)
-
-abbrev pub version_of : Content → Asked → Option Seen → Version
-version_of c ask None = Gone
-version_of c ask (Some m) = version_at ask m (values_at c m.place)
+version_at ask m values = option_map_or (λ row. if m.place == ask.seen.place then Same else Newer m (passes ask.condition ask.cols row)) values Gone
 
 -- the row's newest version for the transaction
 abbrev pub newest_version : Content → Asked → Version
-newest_version c ask = version_of c ask (newest_of c ask.seen.row ask.tx)
+newest_version c ask = option_map_or (λ (m : Seen). version_at ask m (values_at c m.place)) (newest_of c ask.seen.row ask.tx) Gone
 
 -- the outcome of the target: from all writes and fates, the locks that are held, and the waits that stand
 abbrev pub target_outcome : Content → List Held → List Waiting → Asked → Outcome

@@ -1,8 +1,8 @@
 -- What `settle` answers, and the locks after it.
-use Rattle.std.specs.Prelude.{◌≡◌, Bool, true, false, List}
+use Rattle.std.specs.Prelude.{◌≡◌, Bool, true, false, List, if◌then◌else◌}
 use Rattle.row_versions.specs.declared.names.TxId.{TxId}
 use Rattle.row_locks.specs.declared.held.Held.{Held}
-use Rattle.row_locks.specs.Members.{has, is_distinct}
+use Rattle.row_versions.specs.Members.{has, is_distinct}
 use Rattle.row_locks.specs.Held.{IsTaken, with_lock}
 use Rattle.update_recheck.specs.declared.ask.Settled.{Settled}
 use Rattle.update_recheck.specs.declared.ask.Settled.TheVariants.{Take, Skip, Wait, Deadlock, Serialize, Fault}
@@ -43,5 +43,4 @@ LocksAfter false old lock new = new ≡ old
 
 -- the same as a list: the lock stands last
 abbrev pub locks_after : Bool → List Held → Held → List Held
-locks_after true held lock = with_lock held lock
-locks_after false held lock = held
+locks_after taken held lock = if taken then with_lock held lock else held

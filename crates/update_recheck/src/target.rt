@@ -3,10 +3,10 @@ ghost use Rattle.std.specs.Prelude.{◌≡◌, List, length, IfOk, IfSome, OnOk,
 ghost use Rattle.sql_values.specs.Expressions.{passes};
 ghost use Rattle.row_versions.specs.declared.names.TxId.{TxId};
 ghost use Rattle.row_locks.specs.Held.{IsTaken, with_lock};
-ghost use Rattle.row_locks.specs.Waiting.{is_none_of};
+ghost use Rattle.row_versions.specs.Members.{is_none_of};
 ghost use Rattle.row_locks.specs.Cycles.{closes};
 ghost use Rattle.update_recheck.specs.Asked.{Fits, asked};
-ghost use Rattle.update_recheck.specs.Outcome.{blockers, holders, is_locked, is_target_locked, read_committed, rechecked, repeatable_read, target_outcome};
+ghost use Rattle.update_recheck.specs.Outcome.{blockers, holders, is_locked, is_target_locked, outcome, rechecked, target_outcome};
 ghost use Rattle.update_recheck.specs.Settling.{LocksAfter, locks_after, SameMembers, WaitsFor, lock_of, outcome_of};
 ghost use Rattle.update_recheck.specs.Inner.Stopping.{stop_of};
 ghost use Rattle.update_recheck.specs.Inner.Found.{told, IsWhole};
@@ -52,7 +52,7 @@ fn settle_read_committed<'t>(
     newest: Newest<'_>,
 ) -> Result<Settled<'t>, AllocError>
     requires { IsWhole (asked ask.now) newest }
-    ensures outcome { IfOk result (λ s. outcome_of s ≡ read_committed (asked ask.now).seen (holders locks.old waits.now (asked ask.now)) (told (asked ask.now) newest.entry)) }
+    ensures outcome { IfOk result (λ s. outcome_of s ≡ outcome Level.ReadCommitted (asked ask.now).seen (holders locks.old waits.now (asked ask.now)) (told (asked ask.now) newest.entry)) }
     ensures blockers { IfOk result (λ s. WaitsFor (blockers locks.old (asked ask.now)) s) }
     ensures locks { OnOk result (LocksAfter (is_locked Level.ReadCommitted (holders locks.old waits.now (asked ask.now)) (told (asked ask.now) newest.entry)) locks.old (lock_of (asked ask.now)) locks.new) }
     ensures last { OnOk result (locks.new ≡ locks_after (is_locked Level.ReadCommitted (holders locks.old waits.now (asked ask.now)) (told (asked ask.now) newest.entry)) locks.old (lock_of (asked ask.now))) }
@@ -78,7 +78,7 @@ fn settle_repeatable_read<'t>(
     ask: &Ask<'_, 't>,
     newest: Newest<'_>,
 ) -> Result<Settled<'t>, AllocError>
-    ensures outcome { IfOk result (λ s. outcome_of s ≡ repeatable_read (asked ask.now).seen (holders locks.old waits.now (asked ask.now)) (told (asked ask.now) newest.entry)) }
+    ensures outcome { IfOk result (λ s. outcome_of s ≡ outcome Level.RepeatableRead (asked ask.now).seen (holders locks.old waits.now (asked ask.now)) (told (asked ask.now) newest.entry)) }
     ensures blockers { IfOk result (λ s. WaitsFor (blockers locks.old (asked ask.now)) s) }
     ensures locks { OnOk result (LocksAfter (is_locked Level.RepeatableRead (holders locks.old waits.now (asked ask.now)) (told (asked ask.now) newest.entry)) locks.old (lock_of (asked ask.now)) locks.new) }
     ensures last { OnOk result (locks.new ≡ locks_after (is_locked Level.RepeatableRead (holders locks.old waits.now (asked ask.now)) (told (asked ask.now) newest.entry)) locks.old (lock_of (asked ask.now))) }

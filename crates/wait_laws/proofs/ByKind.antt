@@ -21,7 +21,7 @@ pub record AtOnce (db : Database) (t : OpenTransaction) (around : Surroundings) 
   pub commits : M (turns (committed db t.tx) Closed)
   pub rolls_back : M (turns (rolled_back db t.tx) Closed)
   pub creates : (c : CreateTree) → M (create db t c (find_table db (Some t.tx) c.name))
-  pub drops : (d : DropTree) → M (drop_tables db t d)
+  pub drops : (d : DropTree) → M (drop_tables db t d.if_exists d.names)
   pub shows : (s : SelectTree) → s.lock ≡ None → M (select db t around s s.table)
 
 -- of the others, where they begin

@@ -12,7 +12,7 @@ use Rattle.row_versions.specs.Log.{IsOpen, commit_count, after_write}
 use Rattle.row_versions.proofs.Gets.{get-append_left}
 use Rattle.row_locks.specs.declared.held.Strength.{Strength}
 use Rattle.row_locks.specs.declared.held.Held.{Held}
-use Rattle.row_locks.specs.Members.{has, same_tx}
+use Rattle.row_versions.specs.Members.{has, same_tx}
 use Rattle.row_locks.specs.Held.{is_against, holders_against, lock_of_write, released, with_lock}
 use Rattle.row_locks.specs.Cycles.{blocks, NoCycle, closes}
 use Rattle.row_locks.proofs.Paths.{run_kept, wait_kept, no_cycle_less}
@@ -29,7 +29,7 @@ use Rattle.session_machine.specs.declared.event.Event.{Event}
 use Rattle.session_machine.specs.declared.event.Mode.{Mode}
 use Rattle.session_machine.specs.Tables.{Catalog, Database}
 use Rattle.session_machine.specs.Transactions.{begun, committed, rolled_back}
-use Rattle.session_machine.specs.Statements.{with_table, with_drop}
+use Rattle.session_machine.specs.Inner.Pieces.{with_table, with_drop}
 use Rattle.session_machine.specs.Waits.{blockers, waits_in}
 use Rattle.session_machine.specs.Machine.{Machine, Blocks, Next, next, opening, around, at_rest, empty_database, session_of}
 use Rattle.session_machine.specs.Sound.{command_in, tx_in, tx_of}

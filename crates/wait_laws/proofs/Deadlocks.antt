@@ -7,10 +7,11 @@ use Rattle.sql_trees.specs.declared.stmt.Level.TheVariants.{ReadCommitted, Repea
 use Rattle.sql_values.specs.declared.fault.ValueFault.{ValueFault}
 use Rattle.row_versions.specs.declared.names.TxId.{TxId}
 use Rattle.row_versions.specs.declared.write.Seen.{Seen}
-use Rattle.row_locks.specs.Waiting.{is_none_of}
+use Rattle.row_versions.specs.Members.{is_none_of}
 use Rattle.row_locks.specs.Cycles.{leads, closes}
 use Rattle.row_locks.proofs.Waiting.{closes_says}
-use Rattle.update_recheck.specs.Outcome.{Holders, Nobody, Others, OthersInACycle, Version, Same, Gone, Newer, blockers, holders_of, newest_version, outcome, rechecked}
+use Rattle.update_recheck.specs.Outcome.{Holders, Nobody, Others, OthersInACycle, Version, Same, Gone, Newer, blockers, newest_version, outcome, rechecked}
+use Rattle.update_recheck.specs.Inner.Stopping.{holders_of}
 use Rattle.update_recheck.specs.Outcome.Outcome.{Waits, Deadlocks}
 use Rattle.wait_laws.specs.Laws.{is_worth_a_wait, DeadlockIsExact}
 

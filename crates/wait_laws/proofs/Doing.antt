@@ -19,17 +19,20 @@ use Rattle.row_versions.specs.declared.write.Write.{Write}
 use Rattle.row_versions.specs.declared.write.View.{View}
 use Rattle.row_versions.specs.declared.write.Seen.{Seen}
 use Rattle.row_versions.specs.Log.{Content, next_tx, new_row, values_at, after_write, fate_of, is_committed}
-use Rattle.row_versions.specs.Newest.{is_version, newest_from, newest_of}
+use Rattle.row_versions.specs.Newest.{is_version, newest_of}
+use Rattle.row_versions.specs.Inner.Searching.{newest_from}
+use Rattle.row_versions.proofs.Last.{newest_is}
 use Rattle.row_locks.specs.declared.held.Strength.{Strength}
 use Rattle.row_locks.specs.declared.held.Strength.TheVariants.{Exclusive}
 use Rattle.row_locks.specs.declared.held.Held.{Held}
 use Rattle.row_locks.specs.Held.{holders_against, holds, lock_of_write, with_lock}
-use Rattle.row_locks.specs.Waiting.{is_none_of}
+use Rattle.row_versions.specs.Members.{is_none_of}
 use Rattle.row_locks.specs.Cycles.{closes}
 use Rattle.row_locks.proofs.Reaching.{and_both}
 use Rattle.unique_keys.specs.Checks.{KeyFound, KeyIsFree, KeyIsTaken, KeyIsHeld, found_by, key_found}
 use Rattle.update_recheck.specs.Asked.{Asked}
-use Rattle.update_recheck.specs.Outcome.{Holders, Nobody, Others, OthersInACycle, Version, Same, Gone, Newer, holders, holders_of, is_locked, newest_version, outcome, version_at, version_of}
+use Rattle.update_recheck.specs.Outcome.{Holders, Nobody, Others, OthersInACycle, Version, Same, Gone, Newer, holders, is_locked, newest_version, outcome, version_at}
+use Rattle.update_recheck.specs.Inner.Stopping.{holders_of, version_of}
 use Rattle.update_recheck.specs.Settling.{lock_of, locks_after}
 use Rattle.session_machine.specs.declared.session.OpenTransaction.{OpenTransaction}
 use Rattle.session_machine.specs.declared.session.Transaction.{Transaction}
@@ -46,12 +49,13 @@ use Rattle.session_machine.specs.Tables.{Database, find_table}
 use Rattle.session_machine.specs.Transactions.{begun, committed, fresh, rolled_back, view_of}
 use Rattle.session_machine.specs.Waits.{blockers, is_blocked, waits_in}
 use Rattle.session_machine.specs.Sound.{command_in}
-use Rattle.session_machine.specs.Statements.{Surroundings, Effect, DroppedUpTo, fails, turns, create, dropped, dropped_at, level_set, with_table, with_drop, is_end}
+use Rattle.session_machine.specs.Statements.{Surroundings, Effect, fails, turns, create, level_set, is_end}
 use Rattle.session_machine.specs.Walks.{Stop, Visit, Walk, Blocked, Fails, goes_on, walked, walked_from}
 use Rattle.session_machine.specs.AskedKeys.{AskedKey}
-use Rattle.session_machine.specs.Rows.{Work, columns_in, keys_in, cols_in, asked_key, stop_by, stop_at_key, stop_at_keys, inserted, written, insert_at, ask, at_outcome, at_target, values_of, update_with, update_at, delete_with, delete_at, lock_with, lock_at, strength_of, passing_targets, taken_targets}
+use Rattle.session_machine.specs.Rows.{Work, columns_in, keys_in, cols_in, asked_key, stop_at_key, stop_at_keys, inserted, written, insert_at, ask, at_outcome, at_target, values_of, update_with, update_at, delete_with, delete_at, lock_with, lock_at, strength_of, passing_targets, taken_targets}
 use Rattle.session_machine.specs.Running.{beginning, going_on, comes_to, ended, done, insert_from, insert, assigned_to, update_from, update, delete_from, delete, lock_from, answered, select_rows, unless_wrong, select, run_open, run_closed, run_on, run_stmt}
-use Rattle.session_machine.specs.Inner.Pieces.{drop_ended, unless_stopped, unless_stopped_by, unless_null, insert_made, update_made, lock_made, insert_fitting, insert_to, update_fitting, update_to, delete_fitting, select_in, select_at, run_first}
+use Rattle.session_machine.specs.Inner.Pieces.{drop_ended, unless_stopped, unless_stopped_by, unless_null, insert_made, update_made, lock_made, insert_fitting, insert_to, update_fitting, update_to, delete_fitting, select_in, select_at, run_first, with_table, with_drop, DroppedUpTo, dropped, dropped_at, stop_by}
+use Rattle.session_machine.proofs.Piecewise.{stops_by, drops_by}
 use Rattle.wait_laws.proofs.ByKind.{AtOnce, FromStart, FromPlace, by_kind, on_kind}
 use Rattle.wait_laws.proofs.Lists.{holds_last}
 
@@ -167,11 +171,11 @@ version_there : (c : Content) (a : Asked) → (newest_version c a ≡ Gone → �
 version_there c a is = by (newest_of c a.seen.row a.tx) refl is where
   by : (o : Option Seen) → newest_of c a.seen.row a.tx ≡ o → (version_of c a o ≡ Gone → ⊥) → IsWritten c.log a.seen.row
   by None e k = absurd (k refl)
-  by (Some m) e k = newest_there c a.seen.row a.tx m 0 c.log e
+  by (Some m) e k = newest_there c a.seen.row a.tx m 0 c.log (sym (newest_is c a.seen.row a.tx) ∙ e)
 
 -- the newest version of a row is of the row
 newest_row : (c : Content) (row : RowId) (tx : TxId) (m : Seen) → newest_of c row tx ≡ Some m → m.row ≡ row
-newest_row c row tx m h = from 0 c.log h where
+newest_row c row tx m h = from 0 c.log (sym (newest_is c row tx) ∙ h) where
   at : (o : Option Seen) (b : Bool) (place : ℕ) → (o ≡ Some m → m.row ≡ row)
       → (let later : Option Seen = if b then Some (record { row = row; place = place }) else None in option_or o later ≡ Some m) → m.row ≡ row
   at (Some n) b place k e = k e
@@ -277,7 +281,7 @@ held_some (b ∷ bs) taken h = refl
 
 key_refuses : (db : Database) (w : Work) (name : List ℕ) (values : List Value) (except : Option RowId) (key : KeyTree) (r : Request)
     → stop_at_key db w name values except key ≡ Some (Blocked r) → Refused w.t.tx w.around.sessions db r
-key_refuses db w name values except key r h = by (key_found db.content (record { 0 = w.table }) w.t.tx except values key.columns) refl h where
+key_refuses db w name values except key r h = by (key_found db.content (record { 0 = w.table }) w.t.tx except values key.columns) refl (sym (stops_by db w name values except key) ∙ h) where
   asked : AskedKey
   asked = asked_key w values key
 
@@ -507,7 +511,8 @@ ran_once P Q V db t around keeps view p = record {
   commits = ran_closed P Q V around.sessions t.tx t.command _ (keeps.commit db p);
   rolls_back = ran_closed P Q V around.sessions t.tx t.command _ (keeps.roll_back db p);
   creates = λ c. ran_create P Q V around.sessions db t c _ keeps p;
-  drops = λ d. let e = dropped db t d.if_exists d.names in ran_drop P Q V around.sessions db.content t e.db e.missing keeps (kept_dropped P Q t d.if_exists d.names keeps db p);
+  drops = λ d. let e = dropped db t d.if_exists d.names in subst (Ran t.tx t.command P Q V around.sessions) (sym (drops_by db t d.if_exists d.names))
+      (ran_drop P Q V around.sessions db.content t e.db e.missing keeps (kept_dropped P Q t d.if_exists d.names keeps db p));
   shows = λ s e. ran_select P Q V db t around s s.table keeps view p;
 }
 

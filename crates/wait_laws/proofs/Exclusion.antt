@@ -13,9 +13,8 @@ use Rattle.row_versions.proofs.Gets.{get-append_left, get-append_last}
 use Rattle.row_locks.specs.declared.held.Strength.{Strength}
 use Rattle.row_locks.specs.declared.held.Strength.TheVariants.{Share, Exclusive}
 use Rattle.row_locks.specs.declared.held.Held.{Held}
-use Rattle.row_locks.specs.Members.{has, same_tx}
+use Rattle.row_versions.specs.Members.{has, same_tx, is_none_of}
 use Rattle.row_locks.specs.Held.{conflicts, holders_against, holds, lock_of_write, released, same_lock, same_strength, with_lock}
-use Rattle.row_locks.specs.Waiting.{is_none_of}
 use Rattle.row_locks.proofs.Holding.{blockers_hold}
 use Rattle.row_locks.proofs.Reaching.{or_cases, or_left, or_right, and_both, same_is}
 use Rattle.row_locks.proofs.Waiting.{bool_is}

@@ -11,16 +11,14 @@ use Rattle.row_versions.specs.declared.names.RowId.{RowId}
 use Rattle.row_versions.specs.declared.write.Write.{Write}
 use Rattle.row_versions.specs.declared.write.Fate.{Fate}
 use Rattle.row_versions.specs.declared.write.Fate.TheVariants.{RolledBack, Committed, Open as OpenFate}
-use Rattle.row_versions.specs.Log.{Content, IsOpen, commit_count, fate_of, is_committed, has_committed, after_begin, after_write, after_commit, after_roll_back}
+use Rattle.row_versions.specs.Log.{Content, IsOpen, commit_count, fate_of, is_committed, has_committed, after_begin, after_write, after_commit, after_roll_back, is_open, is_open_fate}
 use Rattle.row_versions.proofs.Gets.{get-append_left}
-use Rattle.row_locks.specs.Members.{has, same_tx}
-use Rattle.row_locks.specs.Waiting.{is_none_of}
+use Rattle.row_versions.specs.Members.{has, same_tx, is_none_of}
 use Rattle.row_locks.proofs.Reaching.{or_cases, or_left, or_right, and_both, both_and, is_same, same_is}
 use Rattle.unique_keys.specs.declared.noted.Noted.{Noted}
-use Rattle.unique_keys.specs.Members.{is_open, is_open_fate}
 use Rattle.unique_keys.specs.Keys.{has_key}
 use Rattle.unique_keys.specs.Writes.{noted_of, writes}
-use Rattle.unique_keys.specs.Finding.{version_has, is_committed_version, committed_has, own_has, is_in_way}
+use Rattle.unique_keys.specs.Inner.Finding.{version_has, is_committed_version, committed_has, own_has, is_in_way}
 use Rattle.unique_keys.specs.Checks.{blockers as key_blockers}
 use Rattle.session_machine.specs.AskedKeys.{AskedKey}
 use Rattle.session_laws.proofs.Lists.{slice_get-set_same, slice_get-set_other}

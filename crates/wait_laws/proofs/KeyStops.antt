@@ -3,7 +3,7 @@ use Rattle.std.proofs.Common.{◌≡◌, ◌≢◌, ◌↔◌, refl, sym, ◌∙
 use Rattle.std.specs.Prelude.{Option, Some, None, if◌then◌else◌}
 use Rattle.sql_trees.specs.Statements.{key_name}
 use Rattle.row_versions.specs.declared.names.TxId.{TxId}
-use Rattle.row_locks.specs.Members.{has}
+use Rattle.row_versions.specs.Members.{has}
 use Rattle.row_locks.specs.Cycles.{blocks, Closes, closes}
 use Rattle.row_locks.proofs.Waiting.{closes_says}
 use Rattle.unique_keys.specs.Checks.{KeyFound, KeyIsFree, KeyIsTaken, KeyIsHeld, found_by}
@@ -12,7 +12,9 @@ use Rattle.session_machine.specs.declared.session.Request.TheVariants.{Key}
 use Rattle.session_machine.specs.declared.fault.StmtFault.TheVariants.{Deadlock, KeyTaken}
 use Rattle.session_machine.specs.Waits.{waits_in}
 use Rattle.session_machine.specs.Walks.{Stop, Blocked, Fails}
-use Rattle.session_machine.specs.Rows.{asked_key, columns_in, names_at, stop_by}
+use Rattle.session_machine.specs.Rows.{asked_key, columns_in, names_at}
+use Rattle.session_machine.specs.Inner.Pieces.{stop_by}
+use Rattle.session_machine.proofs.Piecewise.{stops_by}
 use Rattle.wait_laws.specs.Laws.{KeyIsExact, has_another, key_holders}
 use Rattle.wait_laws.proofs.Deadlocks.{false_is, false_not}
 
@@ -64,7 +66,7 @@ key_is_exact db w name values except key =
     let r : Request = Key (asked_key w values key) in
     let fault = key_name name key.primary (names_at (columns_in db w) key.columns) in
     let says = closes_says list w.t.tx bs in
-    let same = by (found_by bs taken) in
+    let same = stops_by db w name values except key ∙ by (found_by bs taken) in
     let d = by_deadlock r fault bs closing taken in
     let k = by_wait r fault bs closing taken in
     let t = by_taken r fault bs closing taken in

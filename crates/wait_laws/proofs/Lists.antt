@@ -6,7 +6,7 @@ use Rattle.std.proofs.lemmas.List.Folds.{list_any-append}
 use Rattle.row_locks.specs.declared.held.Strength.{Strength}
 use Rattle.row_locks.specs.declared.held.Strength.TheVariants.{Share, Exclusive}
 use Rattle.row_locks.specs.declared.held.Held.{Held}
-use Rattle.row_locks.specs.Members.{same_tx}
+use Rattle.row_versions.specs.Members.{same_tx}
 use Rattle.row_versions.specs.declared.names.TxId.{TxId}
 use Rattle.row_versions.specs.declared.write.Write.{Write}
 use Rattle.row_locks.specs.Held.{same_strength, same_lock, holds, released, with_lock}

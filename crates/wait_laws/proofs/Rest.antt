@@ -11,9 +11,8 @@ use Rattle.row_versions.specs.declared.write.Fate.TheVariants.{Open as OpenFate}
 use Rattle.row_versions.specs.Log.{IsOpen, after_begin, after_write}
 use Rattle.row_versions.proofs.Gets.{get-append_last}
 use Rattle.row_locks.specs.declared.held.Held.{Held}
-use Rattle.row_locks.specs.Members.{has}
+use Rattle.row_versions.specs.Members.{has, is_none_of}
 use Rattle.row_locks.specs.Held.{is_against, lock_of_write, with_lock}
-use Rattle.row_locks.specs.Waiting.{is_none_of}
 use Rattle.row_locks.proofs.Against.{some_are_against}
 use Rattle.row_locks.proofs.Reaching.{or_left, and_both, both_and}
 use Rattle.std.specs.List.{list_any}
@@ -33,11 +32,12 @@ use Rattle.session_machine.specs.declared.event.Mode.{Mode}
 use Rattle.session_machine.specs.declared.reply.HistItem.{HistItem}
 use Rattle.session_machine.specs.Tables.{Catalog, Database}
 use Rattle.session_machine.specs.Transactions.{begun}
-use Rattle.session_machine.specs.Waits.{is_blocked, wait_of}
-use Rattle.session_machine.specs.Statements.{Effect, with_table, with_drop}
+use Rattle.session_machine.specs.Waits.{is_blocked, wait_of, is_still_blocked}
+use Rattle.session_machine.specs.Statements.{Effect}
+use Rattle.session_machine.specs.Inner.Pieces.{with_table, with_drop}
 use Rattle.session_machine.specs.Running.{run_stmt}
-use Rattle.session_machine.specs.Machine.{Machine, Blocks, Next, next, stmts_at, is_busy, is_failed, is_stopped, is_still_blocked, finished, closed_at_end, waits_there, after_end, after_stmt, around, session_of}
-use Rattle.session_machine.specs.Inner.Steps.{step_of}
+use Rattle.session_machine.specs.Machine.{Machine, Blocks, Next, next, stmts_at, is_busy, is_failed, closed_at_end, after_stmt, around, session_of}
+use Rattle.session_machine.specs.Inner.Steps.{step_of, is_stopped, finished, waits_there, after_end}
 use Rattle.session_machine.specs.Engine.{Run}
 use Rattle.session_machine.specs.Sound.{command_in, tx_in, tx_of}
 use Rattle.wait_laws.specs.Laws.{left_from, left_of, statements_left, can_step, able, IsNearerRest, AreSteps, RestIsReached}

@@ -24,10 +24,11 @@ use Rattle.session_machine.specs.declared.reply.HistItem.{HistItem}
 use Rattle.session_machine.specs.declared.fault.Refusal.TheVariants.{Busy, NotYourTurn, BlockNotAllowed}
 use Rattle.session_machine.specs.Tables.{Database, find_table}
 use Rattle.session_machine.specs.Transactions.{view_of}
-use Rattle.session_machine.specs.Statements.{Surroundings, Effect, create, dropped, level_set}
+use Rattle.session_machine.specs.Statements.{Surroundings, Effect, create, level_set}
 use Rattle.session_machine.specs.Rows.{Work, columns_in, cols_in}
 use Rattle.session_machine.specs.Running.{answered, beginning, run_on, run_stmt, select, select_rows, unless_wrong}
-use Rattle.session_machine.specs.Inner.Pieces.{drop_ended, lock_again, select_at}
+use Rattle.session_machine.specs.Inner.Pieces.{drop_ended, lock_again, select_at, dropped}
+use Rattle.session_machine.proofs.Piecewise.{drops_by}
 use Rattle.session_machine.specs.Machine.{Machine, Blocks, Next, next, stmts_at, around, at_rest, first_place, session_of}
 use Rattle.session_machine.specs.Inner.Steps.{launch_of, step_of, leave_of}
 use Rattle.session_machine.specs.Sound.{command_in}
@@ -103,7 +104,7 @@ in_its_view db t around p q stmt = on_kind db t around In (record {
   commits = over _ refl;
   rolls_back = over _ refl;
   creates = λ c. over _ (over_create db t c (find_table db (Some t.tx) c.name));
-  drops = λ d. let e = dropped db t d.if_exists d.names in over _ (over_drop db.content t e.db e.missing);
+  drops = λ d. let e = dropped db t d.if_exists d.names in over _ (ap (λ (x : Effect). x.statement) (drops_by db t d.if_exists d.names) ∙ over_drop db.content t e.db e.missing);
   shows = λ s e. over _ (over_select db t around s e);
 }) p (record {
   inserts = again.inserts;

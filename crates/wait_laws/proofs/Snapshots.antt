@@ -1,5 +1,5 @@
 -- A transaction's snapshot is of commits that have been.
-use Rattle.std.proofs.Common.{◌≡◌, refl, subst, Bool, true, false, ℕ, ◌≤◌, List, [], arith}
+use Rattle.std.proofs.Common.{◌≡◌, refl, sym, subst, Bool, true, false, ℕ, ◌≤◌, List, [], arith}
 use Rattle.std.specs.Prelude.{ℤ, Option, Some, None, drop, unwrap_or, Result, Ok, Err, if◌then◌else◌}
 use Rattle.sql_trees.specs.declared.stmt.Level.{Level}
 use Rattle.sql_trees.specs.declared.stmt.Level.TheVariants.{ReadCommitted}
@@ -21,11 +21,12 @@ use Rattle.session_machine.specs.declared.reply.Outcome.{Outcome}
 use Rattle.session_machine.specs.declared.reply.Outcome.TheVariants.{Failed, Rows}
 use Rattle.session_machine.specs.Tables.{Database, find_table}
 use Rattle.session_machine.specs.Transactions.{begun, fresh, moved_on, started}
-use Rattle.session_machine.specs.Statements.{Surroundings, Effect, fails, turns, create, dropped, level_set, is_end}
+use Rattle.session_machine.specs.Statements.{Surroundings, Effect, fails, turns, create, level_set, is_end}
 use Rattle.session_machine.specs.Walks.{Stop, Walk, Blocked, Fails, walked, walked_from}
 use Rattle.session_machine.specs.Rows.{Work, columns_in, insert_at, update_at, delete_at, lock_at, passing_targets, taken_targets}
 use Rattle.session_machine.specs.Running.{beginning, going_on, comes_to, ended, done, insert_from, update_from, delete_from, lock_from, assigned_to, insert, update, delete, answered, select_rows, unless_wrong, select, run_open, run_closed, run_on, run_stmt}
-use Rattle.session_machine.specs.Inner.Pieces.{drop_ended, insert_fitting, insert_to, update_fitting, update_to, delete_fitting, select_at, run_first}
+use Rattle.session_machine.specs.Inner.Pieces.{drop_ended, insert_fitting, insert_to, update_fitting, update_to, delete_fitting, select_at, run_first, dropped}
+use Rattle.session_machine.proofs.Piecewise.{drops_by}
 use Rattle.wait_laws.proofs.ByKind.{AtOnce, FromStart, FromPlace, by_kind, on_kind}
 use Rattle.session_laws.proofs.Staying.{count-begin}
 
@@ -167,7 +168,7 @@ shot_once count db t around has same = record {
   commits = shot_closed count _;
   rolls_back = shot_closed count _;
   creates = λ c. shot_create count db t c _ has same;
-  drops = λ d. let e = dropped db t d.if_exists d.names in shot_drop count db.content t e.db e.missing has same;
+  drops = λ d. let e = dropped db t d.if_exists d.names in subst (Shot count) (sym (drops_by db t d.if_exists d.names)) (shot_drop count db.content t e.db e.missing has same);
   shows = λ s e. shot_select count db t around s s.table has same;
 }
 

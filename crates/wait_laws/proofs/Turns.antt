@@ -1,7 +1,8 @@
 -- The step of the session whose turn it is is taken.
 use Rattle.std.proofs.Common.{◌≡◌, refl, sym, ◌∙◌, ap, subst, ◌⊎◌, inl, inr, ⊎_elim, Bool, true, false, not, ◌&&◌, ℕ, zero, suc, ◌+◌, ◌<◌, List, [], ◌∷◌, length, set, replicate, arith}
-use Rattle.std.specs.Prelude.{Option, Some, None, is_some, is_none, nat_lt, option_map, slice_get, Result, Ok, Err, if◌then◌else◌}
-use Rattle.std.specs.Option.{option_or}
+use Rattle.std.specs.Prelude.{Option, Some, None, is_some, is_none, nat_le, nat_lt, option_map, slice_get, Result, Ok, Err, if◌then◌else◌}
+use Rattle.std.specs.List.{list_all, position_from}
+use Rattle.std.specs.Option.{option_map_or, option_or}
 use Rattle.std.proofs.lemmas.Bool.{cases_eq, eq-eqb, ltb-true}
 use Rattle.std.proofs.lemmas.Option.{slice_get_within}
 use Rattle.row_locks.proofs.Reaching.{and_both}
@@ -19,11 +20,11 @@ use Rattle.session_machine.specs.declared.event.Mode.TheVariants.{Directed, Free
 use Rattle.session_machine.specs.declared.fault.Refusal.{Refusal}
 use Rattle.session_machine.specs.declared.fault.Refusal.TheVariants.{Busy, NotYourTurn, StillBlocked, BlockNotAllowed}
 use Rattle.session_machine.specs.Tables.{Database}
-use Rattle.session_machine.specs.Waits.{wait_of}
+use Rattle.session_machine.specs.Waits.{wait_of, is_still_blocked}
 use Rattle.session_machine.specs.Statements.{Effect}
 use Rattle.session_machine.specs.Running.{run_stmt}
-use Rattle.session_machine.specs.Machine.{Machine, Blocks, Next, next, opening, at_rest, stmts_at, is_busy, is_ready, first_ready, is_stopped, is_still_blocked, free_wait, FreeWait, sooner, earliest_free, turn_in, is_turn, is_directed, is_failed, first_place, finished, closed_at_end, waits_there, after_end, after_stmt, around, session_of}
-use Rattle.session_machine.specs.Inner.Steps.{launch_of, step_stmt, step_at, step_of, leave_of}
+use Rattle.session_machine.specs.Machine.{Machine, Blocks, Next, next, opening, at_rest, stmts_at, is_busy, is_ready, free_wait, is_first_free, turn_in, is_turn, is_directed, is_failed, first_place, closed_at_end, after_stmt, around, session_of}
+use Rattle.session_machine.specs.Inner.Steps.{launch_of, step_stmt, step_at, step_of, leave_of, is_stopped, finished, waits_there, after_end}
 use Rattle.wait_laws.specs.Laws.{Reaches}
 use Rattle.session_laws.proofs.Lists.{slice_get-set_same, slice_get-set_other}
 use Rattle.wait_laws.proofs.Events.{session_there, ok_is, ok_else, stepped, always}
@@ -153,48 +154,27 @@ same_number a b h = cc
 no_number : (a : ℕ) → None ≡ Some a → ⊥
 no_number a h = cc
 
-able_ready : (db : Database) (j : ℕ) (ss : List Session) (k : ℕ) → first_ready j ss ≡ Some k → Able db ss j k
-able_ready db j [] k h = absurd (no_number k h)
-able_ready db j (s ∷ ss) k h = by (is_ready s) refl (λ f. able_ready db (j + 1) ss k f) h where
-  by : (b : Bool) → is_ready s ≡ b → (first_ready (j + 1) ss ≡ Some k → Able db ss (j + 1) k) → (let o : Option ℕ = if b then Some j else first_ready (j + 1) ss in o ≡ Some k)
+able_at : (db : Database) (p : Session → Bool) → ((s : Session) → p s ≡ true → (is_ready s ≡ true) ⊎ ((n : ℕ) × (free_wait db s ≡ Some n)))
+    → (j : ℕ) (ss : List Session) (k : ℕ) → position_from p j ss ≡ Some k → Able db ss j k
+able_at db p can j [] k h = absurd (no_number k h)
+able_at db p can j (s ∷ ss) k h = by (p s) refl (λ f. able_at db p can (j + 1) ss k f) h where
+  by : (b : Bool) → p s ≡ b → (position_from p (j + 1) ss ≡ Some k → Able db ss (j + 1) k) → (let o : Option ℕ = if b then Some j else position_from p (j + 1) ss in o ≡ Some k)
       → Able db (s ∷ ss) j k
-  by true e on f = let same = same_number j k f in record { i = 0; s = s; at = refl; its = omega arith; ready = inl e }
+  by true e on f = let same = same_number j k f in record { i = 0; s = s; at = refl; its = omega arith; ready = can s e }
   by false e on f = able_later db s ss j k (on f)
 
-same_free : (a b : FreeWait) → Some a ≡ Some b → a.session ≡ b.session
-same_free a b h = let session : Option FreeWait → ℕ = λ o. at o in ap session h where
-  at : Option FreeWait → ℕ
-  at None = 0
-  at (Some w) = w.session
-
-no_free : (a : FreeWait) → None ≡ Some a → ⊥
-no_free a h = cc
-
-able_free : (db : Database) (j : ℕ) (ss : List Session) (w : FreeWait) → earliest_free db j ss ≡ Some w → Able db ss j w.session
-able_free db j [] w h = absurd (no_free w h)
-able_free db j (s ∷ ss) w h = by (free_wait db s) refl (earliest_free db (j + 1) ss) (λ f. able_free db (j + 1) ss w f) h where
-  here : (n : ℕ) → free_wait db s ≡ Some n → (let v : FreeWait = record { number = n; session = j } in Some v ≡ Some w) → Able db (s ∷ ss) j w.session
-  here n e f = let same : j ≡ w.session = same_free (record { number = n; session = j }) w f in record { i = 0; s = s; at = refl; its = omega arith; ready = inr (n, e) }
-
-  either : (n : ℕ) → free_wait db s ≡ Some n → (v : FreeWait) → (b : Bool) → (Some v ≡ Some w → Able db ss (j + 1) w.session)
-      → (let o : Option FreeWait = if b then Some v else Some (record { number = n; session = j }) in o ≡ Some w) → Able db (s ∷ ss) j w.session
-  either n e v true on f = able_later db s ss j w.session (on f)
-  either n e v false on f = here n e f
-
-  by : (o : Option ℕ) → free_wait db s ≡ o → (other : Option FreeWait) → (other ≡ Some w → Able db ss (j + 1) w.session) → sooner o j other ≡ Some w → Able db (s ∷ ss) j w.session
-  by None e other on f = able_later db s ss j w.session (on f)
-  by (Some n) e None on f = here n e f
-  by (Some n) e (Some v) on f = either n e v (nat_lt v.number n) on f
+has_free : (db : Database) (ss : List Session) (s : Session) → is_first_free db ss s ≡ true → (n : ℕ) × (free_wait db s ≡ Some n)
+has_free db ss s h = by (free_wait db s) refl h where
+  by : (o : Option ℕ) → free_wait db s ≡ o → option_map_or (λ n. list_all (λ (u : Session). option_map_or (nat_le n) (free_wait db u) true) ss) o false ≡ true
+      → (n : ℕ) × (free_wait db s ≡ Some n)
+  by None e f = cc
+  by (Some n) e f = (n, e)
 
 able_turn : (m : Machine) (k : ℕ) → turn_in m ≡ Some k → Able m.db m.sessions 0 k
-able_turn m k h = by (first_ready 0 m.sessions) refl h where
-  wait : (o : Option FreeWait) → earliest_free m.db 0 m.sessions ≡ o → option_map (λ (w : FreeWait). w.session) o ≡ Some k → Able m.db m.sessions 0 k
-  wait None e f = absurd (no_number k f)
-  wait (Some w) e f = subst (λ y. Able m.db m.sessions 0 y) (same_number w.session k f) (able_free m.db 0 m.sessions w e)
-
-  by : (o : Option ℕ) → first_ready 0 m.sessions ≡ o → option_or o (option_map (λ (w : FreeWait). w.session) (earliest_free m.db 0 m.sessions)) ≡ Some k → Able m.db m.sessions 0 k
-  by None e f = wait (earliest_free m.db 0 m.sessions) refl f
-  by (Some r) e f = able_ready m.db 0 m.sessions k (e ∙ f)
+able_turn m k h = by (position_from is_ready 0 m.sessions) refl h where
+  by : (o : Option ℕ) → position_from is_ready 0 m.sessions ≡ o → option_or o (position_from (is_first_free m.db m.sessions) 0 m.sessions) ≡ Some k → Able m.db m.sessions 0 k
+  by None e f = able_at m.db (is_first_free m.db m.sessions) (λ s t. inr (has_free m.db m.sessions s t)) 0 m.sessions k f
+  by (Some r) e f = able_at m.db is_ready (λ s t. inl t) 0 m.sessions k (e ∙ f)
 
 -- it stands in its block, and isn't blocked
 record CanGoOn (db : Database) (s : Session) : Type 0 where

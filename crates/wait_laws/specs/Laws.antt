@@ -15,7 +15,8 @@ use Rattle.row_versions.specs.Rows.{rows_of}
 use Rattle.row_locks.specs.declared.held.Strength.{Strength}
 use Rattle.row_locks.specs.declared.held.Held.{Held}
 use Rattle.row_locks.specs.Held.{holds, lock_of_write}
-use Rattle.row_locks.specs.Waiting.{Waiting, is_none_of}
+use Rattle.row_locks.specs.Waiting.{Waiting}
+use Rattle.row_versions.specs.Members.{is_none_of}
 use Rattle.row_locks.specs.Cycles.{blocks, Closes, NoCycle, AllEnd}
 use Rattle.update_recheck.specs.Asked.{Asked}
 use Rattle.update_recheck.specs.Outcome.{Version, Same, Gone, Newer, blockers as target_blockers, newest_version, target_outcome}
@@ -37,12 +38,12 @@ use Rattle.session_machine.specs.declared.reply.HistItem.{HistItem}
 use Rattle.session_machine.specs.Tables.{Database, Table}
 use Rattle.session_machine.specs.Views.{rows_shown}
 use Rattle.session_machine.specs.Transactions.{fresh, view_of}
-use Rattle.session_machine.specs.Waits.{blockers, is_blocked, waits_in}
+use Rattle.session_machine.specs.Waits.{blockers, is_blocked, waits_in, is_still_blocked}
 use Rattle.session_machine.specs.Statements.{Surroundings}
 use Rattle.session_machine.specs.Rows.{Work, asked_key, columns_in, names_at, passing_targets, stop_at_key, taken_targets}
 use Rattle.session_machine.specs.Walks.{Blocked, Fails}
 use Rattle.session_machine.specs.Running.{going_on, run_stmt}
-use Rattle.session_machine.specs.Machine.{Machine, Blocks, Next, next, opening, session_of, stmts_at, is_busy, is_still_blocked, turn_in}
+use Rattle.session_machine.specs.Machine.{Machine, Blocks, Next, next, opening, session_of, stmts_at, is_busy, turn_in}
 use Rattle.session_machine.specs.Engine.{Follows, Run}
 
 -- the machine comes to the state, from its opening with so many sessions

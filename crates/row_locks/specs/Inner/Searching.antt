@@ -1,7 +1,7 @@
 -- Words of the search for a cycle.
 use Rattle.std.specs.Prelude.{ℕ, Bool, false, List, [], Option, Some, None, slice_get}
 use Rattle.row_versions.specs.declared.names.TxId.{TxId}
-use Rattle.row_locks.specs.Members.{has}
+use Rattle.row_versions.specs.Members.{has}
 use Rattle.row_locks.specs.Waiting.{Waiting}
 
 abbrev pub blockers_in : Option Waiting → List TxId

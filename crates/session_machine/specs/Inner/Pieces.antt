@@ -1,25 +1,78 @@
 -- Statements piece by piece, as the code runs them.
-use Rattle.std.specs.Prelude.{ℕ, false, List, [], ◌∷◌, length, Option, Some, None, Result, if◌then◌else◌}
+use Rattle.std.specs.Prelude.{ℕ, ◌+◌, ◌==◌, Bool, false, ◌&&◌, List, [], ◌∷◌, ◌++◌, length, Option, Some, None, option_map, unwrap_or, slice_get, Result, if◌then◌else◌}
+use Rattle.std.specs.List.{list_any}
 use Rattle.std.specs.Option.{option_map_or}
 use Rattle.sql_trees.specs.declared.stmt.Level.TheVariants.{ReadCommitted}
 use Rattle.sql_trees.specs.declared.stmt.Lock.{Lock}
-use Rattle.sql_trees.specs.Statements.{StmtTree, InsertTree, UpdateTree, DeleteTree, SelectTree, Selects}
+use Rattle.sql_trees.specs.Statements.{StmtTree, ColumnTree, KeyTree, CreateTree, InsertTree, UpdateTree, DeleteTree, SelectTree, Selects, key_name}
 use Rattle.sql_values.specs.declared.value.Value.{Value}
 use Rattle.sql_values.specs.declared.fault.ValueFault.{ValueFault}
 use Rattle.query_results.specs.Queries.{AssignedColumn, lacking_rows, lacking_select, some_too_long, wrong_position}
 use Rattle.query_results.specs.Updates.{lacking_update}
+use Rattle.row_versions.specs.declared.names.TxId.{TxId}
 use Rattle.row_versions.specs.declared.names.RowId.{RowId}
+use Rattle.row_versions.specs.Members.{same_tx}
 use Rattle.row_versions.specs.Log.{Content}
+use Rattle.row_locks.specs.Cycles.{closes}
+use Rattle.unique_keys.specs.Checks.{KeyFound, KeyIsFree, KeyIsTaken, KeyIsHeld}
+use Rattle.session_machine.specs.AskedKeys.{AskedKey}
 use Rattle.session_machine.specs.declared.session.OpenTransaction.{OpenTransaction}
 use Rattle.session_machine.specs.declared.session.Progress.{Progress}
-use Rattle.session_machine.specs.declared.fault.StmtFault.TheVariants.{NoTableToDrop, NullValue, TooManyValues}
+use Rattle.session_machine.specs.declared.session.Request.TheVariants.{Key}
+use Rattle.session_machine.specs.declared.fault.StmtFault.TheVariants.{Deadlock, KeyTaken, NoTableToDrop, NullValue, TooManyValues}
 use Rattle.session_machine.specs.declared.reply.Outcome.TheVariants.{Done}
-use Rattle.session_machine.specs.Tables.{Database}
+use Rattle.session_machine.specs.Tables.{Database, Catalog, Table, Dropped, counts, is_meant, find_table}
+use Rattle.session_machine.specs.Waits.{blockers, waits_in}
+use Rattle.session_machine.specs.Views.{rows_shown}
 use Rattle.session_machine.specs.Transactions.{fresh, begun}
 use Rattle.session_machine.specs.Statements.{Surroundings, Effect, fails, answers}
-use Rattle.session_machine.specs.Walks.{Stop, Visit, Walk, Fails, stops, goes_on}
-use Rattle.session_machine.specs.Rows.{Work, columns_in, cols_in, written, inserted, checked, with_values}
+use Rattle.session_machine.specs.Walks.{Stop, Visit, Walk, Blocked, Fails, stops, goes_on}
+use Rattle.session_machine.specs.Rows.{Work, asked_key, columns_in, cols_in, names_at, written, inserted, checked, with_values}
 use Rattle.session_machine.specs.Running.{going_on, at_table, assigning, unless_lacking, insert_from, update_from, delete_from, lock_from, select_rows, unless_wrong, run_open}
+
+-- ---- parts of the catalog
+
+abbrev pub columns_at : Catalog → ℕ → List ColumnTree
+columns_at catalog k = unwrap_or (option_map (λ (t : Table). t.made.columns) (slice_get catalog.tables k)) []
+
+abbrev pub keys_at : Catalog → ℕ → List KeyTree
+keys_at catalog k = unwrap_or (option_map (λ (t : Table). t.made.keys) (slice_get catalog.tables k)) []
+
+-- what a CREATE and a DROP make of it
+abbrev pub with_table : Catalog → CreateTree → TxId → Catalog
+with_table catalog made by = record catalog { tables = catalog.tables ++ record { made = made; by = by } ∷ [] }
+
+abbrev pub with_drop : Catalog → ℕ → TxId → Catalog
+with_drop catalog k by = record catalog { drops = catalog.drops ++ record { table = k; by = by } ∷ [] }
+
+-- the transaction is one's own
+abbrev pub is_own : Option TxId → TxId → Bool
+is_own own tx = option_map_or (λ one. same_tx one tx) own false
+
+-- a DROP of the table counts
+abbrev pub is_dropped : Content → Option TxId → List Dropped → ℕ → Bool
+is_dropped c own drops k = list_any (λ (d : Dropped). (d.table == k) && counts c own d.by) drops
+
+-- the first table that the name means, from the place on
+abbrev pub find_from : Content → Option TxId → List Dropped → List ℕ → ℕ → List Table → Option ℕ
+find_from c own drops name k [] = None
+find_from c own drops name k (t ∷ ts) = if is_meant c own drops name k t then Some k else find_from c own drops name (k + 1) ts
+
+-- the values of the rows that the statement's view shows of its table
+abbrev pub shown_to : Database → Work → List (List Value)
+shown_to db w = rows_shown db.content w.view w.table
+
+-- ---- at a key
+
+-- others hold the key: the statement waits for them, or fails where that wait would close a cycle
+abbrev pub held_by_others : Database → Work → AskedKey → Stop
+held_by_others db w asked = if closes (waits_in db w.around.sessions) w.t.tx (blockers db (Key asked) w.t.tx) then Fails Deadlock else Blocked (Key asked)
+
+-- what stops a statement at a key of which this is found
+abbrev pub stop_by : Database → Work → List ℕ → List Value → KeyTree → KeyFound → Option Stop
+stop_by db w name values key KeyIsFree = None
+stop_by db w name values key KeyIsTaken = Some (Fails (KeyTaken (key_name name key.primary (names_at (columns_in db w) key.columns))))
+stop_by db w name values key KeyIsHeld = Some (held_by_others db w (asked_key w values key))
 
 -- ---- at a target
 
@@ -67,6 +120,20 @@ select_in db w s = unless_wrong db w.t (lacking_select (cols_in db w) s) (wrong_
 
 abbrev pub select_at : Database → OpenTransaction → Surroundings → SelectTree → List ℕ → Option ℕ → Effect
 select_at db t around s name found = at_table db t around name found (λ w. select_in db w s)
+
+-- tables are dropped one after the other, up to the first that isn't there
+pub record DroppedUpTo : Type 0 where
+  pub db : Database
+  pub missing : Option (List ℕ)
+
+-- what follows at a name that means this table, or none; with IF EXISTS none is passed over
+abbrev pub dropped_at : Database → OpenTransaction → Bool → List ℕ → (Database → DroppedUpTo) → Option ℕ → DroppedUpTo
+dropped_at db t if_exists name others (Some k) = others (record db { catalog = with_drop db.catalog k t.tx })
+dropped_at db t if_exists name others None = if if_exists then others db else record { db = db; missing = Some name }
+
+abbrev pub dropped : Database → OpenTransaction → Bool → List (List ℕ) → DroppedUpTo
+dropped db t if_exists [] = record { db = db; missing = None }
+dropped db t if_exists (name ∷ names) = dropped_at db t if_exists name (λ d. dropped d t if_exists names) (find_table db (Some t.tx) name)
 
 -- tables were dropped up to the one that is missing, if one is
 abbrev pub drop_ended : Content → OpenTransaction → Database → Option (List ℕ) → Effect

@@ -1,15 +1,39 @@
 -- Events piece by piece, as the code does them.
-use Rattle.std.specs.Prelude.{ℕ, [], Option, None, Result, Err}
+use Rattle.std.specs.Prelude.{ℕ, ◌+◌, nat_lt, Bool, false, not, [], Option, Some, None, Result, Err, if◌then◌else◌}
 use Rattle.std.specs.Option.{option_map_or}
 use Rattle.sql_trees.specs.Statements.{StmtTree}
+use Rattle.row_versions.specs.Members.{is_none_of}
+use Rattle.row_locks.specs.Waiting.{Waiting as BlockedOne}
 use Rattle.session_machine.specs.declared.session.Place.{Place}
+use Rattle.session_machine.specs.declared.session.Transaction.{Transaction}
+use Rattle.session_machine.specs.declared.session.Waiting.{Waiting}
 use Rattle.session_machine.specs.declared.session.Session.{Session}
 use Rattle.session_machine.specs.declared.event.Event.TheVariants.{Launch, Step, Leave}
 use Rattle.session_machine.specs.declared.event.Mode.{Mode}
 use Rattle.session_machine.specs.declared.reply.Outcome.TheVariants.{Launched}
 use Rattle.session_machine.specs.declared.fault.Refusal.{Refusal}
 use Rattle.session_machine.specs.declared.fault.Refusal.TheVariants.{Idle, NoSession}
-use Rattle.session_machine.specs.Machine.{Machine, Blocks, Next, comes_out, next_for, step_from, step_with}
+use Rattle.session_machine.specs.Tables.{Database}
+use Rattle.session_machine.specs.Waits.{waiting}
+use Rattle.session_machine.specs.Statements.{Effect}
+use Rattle.session_machine.specs.Machine.{Machine, Blocks, Next, closed_at_end, comes_out, is_failed, leaves, next_for, step_from, step_with}
+
+-- what the session waits for is still held against it
+abbrev pub is_stopped : Database → Transaction → Option Waiting → Bool
+is_stopped db transaction wait = option_map_or (λ (w : BlockedOne). not (is_none_of w.blockers)) (waiting db transaction wait) false
+
+-- after a statement that is over, and in the middle of one
+abbrev pub finished : Machine → ℕ → Effect → Option Place → Next
+finished m session effect place = leaves m session effect None place
+
+abbrev pub waits_there : Machine → ℕ → Place → Effect → Next
+waits_there m session place effect = leaves m session effect effect.statement (Some place)
+
+abbrev pub after_end : Machine → ℕ → Place → ℕ → Effect → Next
+after_end m session place count effect =
+    if is_failed effect.outcome then finished m session effect None
+    else if nat_lt (place.next + 1) count then finished m session effect (Some (record { block = place.block; next = place.next + 1 }))
+    else finished m session (closed_at_end effect effect.transaction) None
 
 abbrev pub launched : Machine → ℕ → Session → Option Place → Next
 launched m session s place = comes_out m m.db session (record { place = place; transaction = s.transaction; statement = None }) Launched

@@ -1,7 +1,7 @@
 -- Whom a session's wait adds.
 use Rattle.std.specs.Prelude.{Bool, false, ◌&&◌, Option, Some, None}
 use Rattle.row_versions.specs.declared.names.TxId.{TxId}
-use Rattle.row_locks.specs.Members.{has, same_tx}
+use Rattle.row_versions.specs.Members.{has, same_tx}
 use Rattle.row_locks.specs.Waiting.{Waiting}
 
 -- this wait is the first's, and the second is one of its blockers

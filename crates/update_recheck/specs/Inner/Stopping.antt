@@ -1,11 +1,26 @@
--- How a target stops.
-use Rattle.std.specs.Prelude.{Option, Some, None}
-use Rattle.update_recheck.specs.Outcome.{Holders, Outcome}
+-- How a target stops, and by which version it goes on.
+use Rattle.std.specs.Prelude.{Bool, List, Option, Some, None, if◌then◌else◌}
+use Rattle.std.specs.Option.{option_map_or}
+use Rattle.row_versions.specs.declared.names.TxId.{TxId}
+use Rattle.row_versions.specs.declared.write.Seen.{Seen}
+use Rattle.row_versions.specs.Members.{is_none_of}
+use Rattle.row_versions.specs.Log.{Content, values_at}
+use Rattle.update_recheck.specs.Asked.{Asked}
+use Rattle.update_recheck.specs.Outcome.{Holders, Version, Outcome, version_at}
 use Rattle.update_recheck.specs.Outcome.Holders.{Nobody, Others, OthersInACycle}
+use Rattle.update_recheck.specs.Outcome.Version.{Gone}
 use Rattle.update_recheck.specs.Outcome.Outcome.{Waits, Deadlocks}
+
+-- who holds a target, by its blockers and by whether a wait for them closes a cycle
+abbrev pub holders_of : List TxId → Bool → Holders
+holders_of by closing = if is_none_of by then Nobody else if closing then OthersInACycle else Others
 
 -- what stops a target before its version is looked at
 abbrev pub stop_of : Holders → Option Outcome
 stop_of Nobody = None
 stop_of Others = Some Waits
 stop_of OthersInACycle = Some Deadlocks
+
+-- the row's newest version for the transaction, if there is one
+abbrev pub version_of : Content → Asked → Option Seen → Version
+version_of c ask newest = option_map_or (λ (m : Seen). version_at ask m (values_at c m.place)) newest Gone

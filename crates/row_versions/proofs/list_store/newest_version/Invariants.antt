@@ -1,6 +1,6 @@
 use Rattle.std.proofs.Common.{◌≡◌, drop}
 use Rattle.std.specs.Option.{option_or}
-use Rattle.row_versions.specs.Newest.{newest_from}
+use Rattle.row_versions.specs.Inner.Searching.{newest_from}
 use Rattle.row_versions.proofs.list_store.newest_version.Given as goal
 
 -- the newest version of what is left, or else the newest so far, is that of the log

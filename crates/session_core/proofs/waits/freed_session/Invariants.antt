@@ -1,6 +1,6 @@
 use Rattle.std.proofs.Common.{◌≡◌, ◌<◌, drop, length}
 use Rattle.std.specs.Prelude.{IfSome}
-use Rattle.session_machine.specs.Machine.{FreeWait, earliest_free}
+use Rattle.session_core.specs.Inner.Freed.{FreeWait, earliest_free}
 use Rattle.session_core.proofs.waits.freed_session.Given as goal
 
 -- the first wait of the sessions from here on

@@ -1,6 +1,6 @@
 use Rattle.std.proofs.Common.{◌≡◌, drop}
 use Rattle.sql_trees.specs.Statements.{name_of}
-use Rattle.session_machine.specs.Tables.{find_from}
+use Rattle.session_machine.specs.Inner.Pieces.{find_from}
 use Rattle.session_statements.proofs.catalog.find_in.Given as goal
 
 abbrev pub invariant-loop-place : goal.invariant-loop-place

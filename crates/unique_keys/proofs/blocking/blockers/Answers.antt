@@ -1,6 +1,6 @@
 use Rattle.std.proofs.Common.{ap, ◌∙◌, not, refl}
 use Rattle.row_versions.specs.Log.{has_committed}
-use Rattle.unique_keys.specs.Finding.{is_in_way}
+use Rattle.unique_keys.specs.Inner.Finding.{is_in_way}
 use Rattle.unique_keys.proofs.Listed.{step_found, step_same, found_all}
 use Rattle.unique_keys.proofs.blocking.blockers.Goals as goal
 use Rattle.unique_keys.proofs.blocking.blockers.Goals.{then-is_new_in_way+in_ok-push, else-is_new_in_way}

@@ -1,6 +1,6 @@
 use Rattle.std.proofs.Common.{not}
 use Rattle.row_versions.specs.Log.{has_committed}
-use Rattle.unique_keys.specs.Finding.{is_in_way}
+use Rattle.unique_keys.specs.Inner.Finding.{is_in_way}
 use Rattle.unique_keys.proofs.Listed.{Found}
 use Rattle.unique_keys.proofs.blocking.blockers.Given as goal
 

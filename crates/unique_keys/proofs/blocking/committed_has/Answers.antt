@@ -2,7 +2,7 @@ use Rattle.std.proofs.Common.{rules, tests, ap, ◌∙◌}
 use Rattle.std.proofs.lemmas.Iterator.Search.{find_from_yields_List}
 use Rattle.std.proofs.lemmas.Iterator.Adapters.{YieldsList-from_rev_slice}
 use Rattle.row_versions.specs.Log.{has_committed}
-use Rattle.unique_keys.specs.Finding.{version_has, is_committed_version}
+use Rattle.unique_keys.specs.Inner.Finding.{version_has, is_committed_version}
 use Rattle.unique_keys.proofs.blocking.committed_has.Goals as goal
 
 pub returns : goal.returns

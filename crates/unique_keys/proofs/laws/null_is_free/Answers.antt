@@ -1,5 +1,4 @@
-use Rattle.row_versions.specs.Log.{has_committed}
-use Rattle.unique_keys.specs.Members.{is_open}
+use Rattle.row_versions.specs.Log.{has_committed, is_open}
 use Rattle.unique_keys.specs.Writes.{writes}
 use Rattle.unique_keys.proofs.Nulls.{null_blocked_by_none, null_taken_by_none}
 use Rattle.unique_keys.proofs.laws.null_is_free.Goals as goal

@@ -1,6 +1,6 @@
 use Rattle.std.proofs.Common.{arith, ◌≡◌, ◌∙◌}
 use Rattle.std.proofs.lemmas.Grind.{common_steps}
-use Rattle.row_locks.specs.Waiting.{is_none_of}
+use Rattle.row_versions.specs.Members.{is_none_of}
 use Rattle.update_recheck.proofs.Stopping.{none_same}
 use Rattle.update_recheck.proofs.target.is_nobody.Goals as goal
 

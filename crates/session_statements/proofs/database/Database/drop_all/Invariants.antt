@@ -1,6 +1,6 @@
 use Rattle.std.proofs.Common.{◌≡◌, map, drop}
 use Rattle.sql_trees.specs.Statements.{name_of}
-use Rattle.session_machine.specs.Statements.{dropped}
+use Rattle.session_machine.specs.Inner.Pieces.{dropped}
 use Rattle.session_statements.proofs.database.Database.drop_all.Given as goal
 
 abbrev pub invariant-loop-name : goal.invariant-loop-name

@@ -8,7 +8,7 @@ use Rattle.row_versions.specs.declared.write.Seen.{Seen}
 use Rattle.row_versions.specs.Log.{values_at}
 use Rattle.query_results.specs.Queries.{result_of}
 use Rattle.session_machine.specs.Views.{rows_shown}
-use Rattle.session_machine.specs.Statements.{columns_at}
+use Rattle.session_machine.specs.Inner.Pieces.{columns_at}
 use Rattle.session_statements.proofs.Lent.{lent_fit}
 use Rattle.session_statements.proofs.database.Database.result_at.Goals as goal
 

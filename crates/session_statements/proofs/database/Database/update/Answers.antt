@@ -4,9 +4,9 @@ use Rattle.sql_trees.specs.Statements.{name_of, update_of}
 use Rattle.query_results.specs.Updates.{columns_set, lacking_update}
 use Rattle.session_machine.specs.Tables.{find_table}
 use Rattle.session_machine.specs.Rows.{Work, cols_in}
-use Rattle.session_machine.specs.Inner.Pieces.{update_fitting}
+use Rattle.session_machine.specs.Inner.Pieces.{update_fitting, columns_at}
 use Rattle.session_machine.specs.declared.fault.StmtFault.TheVariants.{NoColumnOf}
-use Rattle.session_machine.specs.Statements.{columns_at, fails}
+use Rattle.session_machine.specs.Statements.{fails}
 use Rattle.session_statements.specs.Inner.Left.{left}
 use Rattle.session_statements.proofs.Going.{no_such_column, such_columns}
 use Rattle.session_statements.proofs.database.Database.update.Goals as goal

@@ -1,13 +1,14 @@
--- Who stands in the way of a key, and which row has it. What has committed and what is open is asked of two tests, so that the same is said of the log and of
--- what is noted of it.
-use Rattle.std.specs.Prelude.{ℕ, ◌==◌, Bool, true, false, not, ◌&&◌, ◌||◌, List, Option, Some, None, map, filter, find, reverse}
+-- Who stands in the way of a key, and which row has it, as the code finds it. What has committed and what is open is asked of two tests, so that the same is said of
+-- the log and of what is noted of it.
+use Rattle.std.specs.Prelude.{ℕ, ◌==◌, Bool, true, false, not, ◌&&◌, ◌||◌, List, Option, map, filter, find, reverse}
 use Rattle.std.specs.List.{list_any}
+use Rattle.std.specs.Option.{option_map_or}
 use Rattle.sql_values.specs.declared.value.Value.{Value}
 use Rattle.row_versions.specs.declared.names.TxId.{TxId}
 use Rattle.row_versions.specs.declared.names.RowId.{RowId}
 use Rattle.row_versions.specs.declared.names.TableId.{TableId}
 use Rattle.unique_keys.specs.declared.noted.Noted.{Noted}
-use Rattle.unique_keys.specs.Members.{same_tx}
+use Rattle.row_versions.specs.Members.{same_tx}
 use Rattle.unique_keys.specs.Keys.{has_key}
 
 -- the last of the writes that passes the test
@@ -16,8 +17,7 @@ last_of p ws = find p (reverse ws)
 
 -- some version is there, and it has the key
 abbrev pub version_has : List ℕ → List Value → Option Noted → Bool
-version_has columns asked None = false
-version_has columns asked (Some w) = has_key columns asked w.values
+version_has columns asked version = option_map_or (λ (w : Noted). has_key columns asked w.values) version false
 
 -- it is a committed write of the row
 abbrev pub is_committed_version : (TxId → Bool) → RowId → Noted → Bool
@@ -55,8 +55,7 @@ newest_has committed ws columns asked row tx = version_has columns asked (last_o
 
 -- the row isn't the one that is left aside
 abbrev pub is_another : Option RowId → RowId → Bool
-is_another None row = true
-is_another (Some except) row = not (row.0 == except.0)
+is_another except row = option_map_or (λ (other : RowId). not (row.0 == other.0)) except true
 
 -- it is a write of another row of the table whose newest version for the transaction has the key
 abbrev pub takes : (TxId → Bool) → List Noted → TableId → TxId → Option RowId → List Value → List ℕ → Noted → Bool
