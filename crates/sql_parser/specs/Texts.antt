@@ -13,7 +13,7 @@ use Rattle.sql_expressions.specs.Results.{◌>>=◌}
 use Rattle.sql_blocks.specs.declared.block.Role.{Role}
 use Rattle.sql_parser.specs.Blocks.{block_at}
 
--- the text has these tokens, or this first fault of them; each token with its keyword, they are read as this block, or this is the first fault
+-- the text has tokens, or a first fault of them; the answer is that fault, or what the tokens are read as, each word with its keyword
 pub record ReadsAs (text : List ℕ) (role : Role) (answer : Result (List StmtTree) SqlFault) : Type 0 where
   pub lexed : Result (List (At SqlToken)) Fault
   pub lexes : SqlLexes text lexed
