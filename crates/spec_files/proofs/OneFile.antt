@@ -1,16 +1,15 @@
 -- The bytes of a file are one thing.
-use Rattle.std.proofs.Common.{◌≡◌, ◌⊎◌, ℕ, List, [], ◌∷◌, length, map, Result, Ok, Err, refl, sym, ap, subst, ◌∙◌, arith, inl, inr}
+use Rattle.std.proofs.Common.{◌≡◌, ℕ, List, [], ◌∷◌, Result, Ok, Err, refl, sym, ap, subst, ◌∙◌, arith}
 use Rattle.iso_lexer.specs.declared.fault.Fault.{Fault}
 use Rattle.iso_lexer.specs.declared.token.At.{At}
 use Rattle.iso_lexer.specs.SqlTokens.{SqlToken}
 use Rattle.iso_lexer.specs.SqlText.{SqlLexes}
 use Rattle.sql_trees.specs.declared.fault.SqlFault.{SqlFault}
-use Rattle.sql_trees.specs.declared.fault.SqlFault.TheVariants.{Memory, Lex, Syntax, LeftOut, TooDeep, TooMany, DdlInSession, BadColumns}
+use Rattle.sql_trees.specs.declared.fault.SqlFault.TheVariants.{Memory}
 use Rattle.sql_trees.specs.Statements.{StmtTree}
-use Rattle.sql_trees.specs.Tokens.{classify_at}
 use Rattle.sql_blocks.specs.declared.block.Role.{Role}
-use Rattle.sql_parser.specs.Blocks.{block_at}
-use Rattle.sql_parser.specs.Texts.{ReadsAs, LexFails}
+use Rattle.sql_parser.specs.Texts.{ReadsAs}
+use Rattle.sql_parser.proofs.Texts.{one_reading}
 use Rattle.session_machine.specs.Machine.{Blocks}
 use Rattle.spec_parser.specs.declared.fault.SpecFault.{SpecFault}
 use Rattle.spec_parser.specs.Trees.{SpecTree}
@@ -33,50 +32,12 @@ use Rattle.spec_files.specs.Files.{File, FileIs, longer, no_text, no_spec, no_sq
 abbrev pub OneLexing : Type 0
 OneLexing = (text : List ℕ) (x y : Result (List (At SqlToken)) Fault) → SqlLexes text x → SqlLexes text y → x ≡ y
 
--- what a block's text answers
-abbrev Says : List ℕ → Role → Result (List StmtTree) SqlFault → Type 0
-Says text role (Ok stmts) = ReadsAs text role (Ok stmts)
-Says text role (Err f) = LexFails text f ⊎ ReadsAs text role (Err f)
+one_block : OneLexing → (text : List ℕ) (role : Role) (x y : Result (List StmtTree) SqlFault) → ReadsAs text role x → ReadsAs text role y → x ≡ y
+one_block one text role x y r s = one_reading text role x y (one text) r s
 
-tokens_are : (a b : List (At SqlToken)) → ◌≡◌ {A = Result (List (At SqlToken)) Fault} (Ok a) (Ok b) → a ≡ b
-tokens_are a b e = cc
-
-fault_is : (a b : Fault) → ◌≡◌ {A = Result (List (At SqlToken)) Fault} (Err a) (Err b) → a ≡ b
-fault_is a b e = cc
-
-tokens_fault : (a : List (At SqlToken)) (b : Fault) → ◌≡◌ {A = Result (List (At SqlToken)) Fault} (Ok a) (Err b) → ⊥
-tokens_fault a b e = cc
-
-one_reading : OneLexing → (text : List ℕ) (role : Role) (x y : Result (List StmtTree) SqlFault) → ReadsAs text role x → ReadsAs text role y → x ≡ y
-one_reading one text role x y r s =
-    sym r.reads ∙ ap (λ (ts : List (At SqlToken)). block_at (length text) role (map classify_at ts)) (tokens_are r.tokens s.tokens (one text (Ok r.tokens) (Ok s.tokens) r.lexes s.lexes)) ∙ s.reads
-
-no_tokens : OneLexing → (text : List ℕ) (role : Role) (f : SqlFault) (y : Result (List StmtTree) SqlFault) → LexFails text f → ReadsAs text role y → ⊥
-no_tokens one text role f y l s = tokens_fault s.tokens l.fault (one text (Ok s.tokens) (Err l.fault) s.lexes l.lexes)
-
-one_lex_fault : OneLexing → (text : List ℕ) (f g : SqlFault) → LexFails text f → LexFails text g → f ≡ g
-one_lex_fault one text f g l m = l.is ∙ ap Lex (fault_is l.fault m.fault (one text (Err l.fault) (Err m.fault) l.lexes m.lexes)) ∙ sym m.is
-
-one_block : OneLexing → (text : List ℕ) (role : Role) (x y : Result (List StmtTree) SqlFault) → Says text role x → Says text role y → x ≡ y
-one_block one text role (Ok a) (Ok b) r s = one_reading one text role (Ok a) (Ok b) r s
-one_block one text role (Ok a) (Err g) r (inl m) = absurd (no_tokens one text role g (Ok a) m r)
-one_block one text role (Ok a) (Err g) r (inr s) = one_reading one text role (Ok a) (Err g) r s
-one_block one text role (Err f) (Ok b) (inl l) s = absurd (no_tokens one text role f (Ok b) l s)
-one_block one text role (Err f) (Ok b) (inr r) s = one_reading one text role (Err f) (Ok b) r s
-one_block one text role (Err f) (Err g) (inl l) (inl m) = ap Err (one_lex_fault one text f g l m)
-one_block one text role (Err f) (Err g) (inl l) (inr s) = absurd (no_tokens one text role f (Err g) l s)
-one_block one text role (Err f) (Err g) (inr r) (inl m) = absurd (no_tokens one text role g (Err f) m r)
-one_block one text role (Err f) (Err g) (inr r) (inr s) = one_reading one text role (Err f) (Err g) r s
-
-has_fault : (p : Placed) (f : SqlFault) → HasFault p f → Says p.part.sql p.role (Err f)
+has_fault : (p : Placed) (f : SqlFault) → HasFault p f → ReadsAs p.part.sql p.role (Err f)
 has_fault p Memory h = absurd h
-has_fault p (Lex f) h = h
-has_fault p (Syntax n) h = h
-has_fault p (LeftOut n) h = h
-has_fault p (TooDeep n) h = h
-has_fault p (TooMany n) h = h
-has_fault p (DdlInSession n) h = h
-has_fault p (BadColumns n) h = h
+has_fault p _ h = h
 
 -- ---- blocks
 

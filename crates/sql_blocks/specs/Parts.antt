@@ -1,6 +1,7 @@
 -- What the conditions of a block on its statements are said by; reading goes by the same.
-use Rattle.std.specs.Prelude.{ℕ, Bool, true, false, not, ◌||◌, ◌&&◌, ◌==◌, List, [], map, Option, Some, None, is_some}
+use Rattle.std.specs.Prelude.{ℕ, Bool, true, false, not, ◌||◌, ◌&&◌, ◌==◌, List, [], map, Option, is_some}
 use Rattle.std.specs.List.{list_any, list_all}
+use Rattle.std.specs.Option.{option_map_or}
 use Rattle.sql_trees.specs.Statements.{ColumnTree, SetTree, ItemTree, All, Aggregate, OrderTree, SelectTree}
 use Rattle.sql_blocks.specs.declared.block.Role.{Role}
 use Rattle.sql_blocks.specs.declared.block.Role.TheVariants as roles
@@ -13,8 +14,7 @@ abbrev pub column_names : List ColumnTree → List (List ℕ)
 column_names cs = map (λ c. c.name) cs
 
 abbrev pub fits : Option ℕ → ℕ → Bool
-fits None n = true
-fits (Some m) n = m == n
+fits width n = option_map_or (λ m. m == n) width true
 
 abbrev pub set_columns : List SetTree → List (List ℕ)
 set_columns ss = map (λ s. s.column) ss

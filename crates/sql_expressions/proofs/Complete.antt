@@ -3,6 +3,7 @@ use Rattle.std.proofs.Common.{◌≡◌, ℕ, zero, suc, ◌+◌, ◌<◌, ◌�
 use Rattle.std.specs.Prelude.{Ok, max, nat_lt, is_some}
 use Rattle.sql_expressions.specs.declared.level.Opened.TheVariants.{Whole}
 use Rattle.iso_lexer.specs.declared.token.At.{At}
+use Rattle.sql_trees.specs.Words.{is_reserved}
 use Rattle.sql_trees.specs.Tokens.{Token, Tokens, named}
 use Rattle.sql_trees.specs.Tokens as tok
 use Rattle.iso_lexer.specs.declared.sql_token.SqlSign.TheVariants as signs
@@ -192,6 +193,7 @@ starts_append : (l : Level) (ts us : Tokens) → Starts l ts → Starts l (ts ++
 starts_append l ts us k = (k.0, k.1 ++ us, ap (λ r. r ++ us) k.2, k.3)
 
 named_starts : (x : Token) (name : List ℕ) → named x ≡ Some name → starts PRIM x ≡ true
+unfolding is_reserved
 named_starts (tok.word words.Not s) name e = absurd cc
 named_starts (tok.word w s) name e = refl
 named_starts (tok.quoted s) name e = refl
@@ -360,6 +362,7 @@ module _ (last : ℕ) where
   column_read n t name (u ∷ us) s = rw s refl
 
   named_read : (n : ℕ) (x : Token) (t : At Token) (ts : Tokens) (name : List ℕ) → named x ≡ Some name → prim_of last (inside last n) x t ts ≡ column_at last t name ts
+  unfolding is_reserved
   named_read n (tok.number k) t ts name e = absurd cc
   named_read n (tok.string s) t ts name e = absurd cc
   named_read n (tok.word words.True s) t ts name e = absurd cc

@@ -1,6 +1,7 @@
 -- The words of reading read an expression as the code's pieces do.
 use Rattle.std.proofs.Common.{◌≡◌, ℕ, zero, suc, ◌+◌, Bool, true, false, List, [], ◌∷◌, length, Option, Some, None, refl, ap, ◌∙◌, subst, arith}
 use Rattle.std.specs.Prelude.{Result, Ok, Err, max, is_some, nat_lt, if◌then◌else◌}
+use Rattle.std.specs.Option.{option_map_or}
 use Rattle.iso_lexer.specs.declared.token.At.{At}
 use Rattle.iso_lexer.specs.declared.sql_token.SqlSign.TheVariants as signs
 use Rattle.sql_trees.specs.declared.fault.SqlFault.{SqlFault}
@@ -8,7 +9,6 @@ use Rattle.sql_trees.specs.declared.fault.SqlFault.TheVariants.{LeftOut, TooDeep
 use Rattle.sql_trees.specs.declared.word.Word.TheVariants as words
 use Rattle.sql_trees.specs.declared.expr.Operator.{Operator}
 use Rattle.sql_trees.specs.declared.expr.Truth.{Truth}
-use Rattle.sql_trees.specs.Words.{same_word}
 use Rattle.sql_trees.specs.Tokens.{Token, Tokens, named}
 use Rattle.sql_trees.specs.Tokens as tok
 use Rattle.sql_trees.specs.Trees.{Tree, none, more, Column, Plus, Not, Binary, Is, In, Between}
@@ -16,10 +16,10 @@ use Rattle.sql_expressions.specs.declared.level.Opened.{Opened}
 use Rattle.sql_expressions.specs.declared.level.Opened.TheVariants.{Whole, Negation, Unary}
 use Rattle.sql_expressions.specs.Build.{negated, push}
 use Rattle.sql_expressions.specs.Results.{◌>>=◌}
-use Rattle.sql_expressions.specs.Readers.{Reader, some_or, is_word, is_sign, after, either, more_at, items_at, place_of, misplaced, expect, keyword, closed}
+use Rattle.sql_expressions.specs.Readers.{Reader, is_word, is_sign, after, either, more_at, items_at, place_of, misplaced, expect, keyword, closed}
 use Rattle.sql_expressions.specs.Reading.{Found, Part, Parts, fits, node, operation, item_add, literal_of, truth_of, comparison_op, product_op, sum_op, concat_op, and_op, or_op, is_call, truth_at, opened, expr_at}
 use Rattle.sql_expressions.specs.Reading as reading
-use Rattle.sql_expressions.specs.Inner.Pieces.{Found_list, leaf, is_and, is_not, is_is, deeper, join, found_op, next_op, chain_end, chain_turn, chain_more, chain, list_turn, list_more, list_at, column_at, name_at, is_node, is_of, is_tail, is_more, parens_at, prim_of, prim_at, sign_at, una_of, una_at, mul_at, add_at, cat_at, in_at, between_at, not_in_of, not_in_at, not_in_from, inn_of, inn_more, inn_at, cmp_more, cmp_at, is_at, negation_at, not_at, and_at, or_at, at_level, inside}
+use Rattle.sql_expressions.specs.Inner.Pieces.{Found_list, leaf, is_and, is_not, is_is, deeper, join, found_op, next_op, chain_end, chain_turn, chain_more, chain, list_turn, list_more, list_at, column_at, name_at, is_node, is_of, is_tail, is_more, parens_at, prim_of, prim_at, sign_at, una_of, una_at, mul_at, add_at, cat_at, in_at, between_at, not_in_of, not_in_at, not_in_from, inn_of, inn_more, inn_at, cmp_more, cmp_at, is_at, negation_at, not_at, and_at, or_at, inside}
 
 -- ---- what a part that was read is to the code
 
@@ -87,17 +87,14 @@ node_same place d e ts = fits_then place d ts (λ us. Ok (part e (d + 1), us)) (
 -- ---- a first token of a kind
 
 is_and_word : (x : Token) → is_word words.And x ≡ is_and x
-unfolding same_word
 is_and_word (tok.word words.And s) = refl
 is_and_word _ = refl
 
 is_not_word : (x : Token) → is_word words.Not x ≡ is_not x
-unfolding same_word
 is_not_word (tok.word words.Not s) = refl
 is_not_word _ = refl
 
 is_is_word : (x : Token) → is_word words.Is x ≡ is_is x
-unfolding same_word
 is_is_word (tok.word words.Is s) = refl
 is_is_word _ = refl
 
@@ -118,13 +115,13 @@ module _ (read : Reader Part) (operand : Tokens → Result Found SqlFault) (same
   chain_more_same last op_of zero a [] = refl
   chain_more_same last op_of zero a (t ∷ ts) = of_op (op_of t.tok)
     where
-      of_op : (m : Option Operator) → Same (some_or (λ o. Err (TooDeep t.span.start)) (Ok (a, t ∷ ts)) m) (chain_end (found_op t ts m) (as_found (a, t ∷ ts)))
+      of_op : (m : Option Operator) → Same (option_map_or (λ o. Err (TooDeep t.span.start)) m (Ok (a, t ∷ ts))) (chain_end (found_op t ts m) (as_found (a, t ∷ ts)))
       of_op None = refl
       of_op (Some o) = refl
   chain_more_same last op_of (suc n) a [] = refl
   chain_more_same last op_of (suc n) a (t ∷ ts) = of_op (chain_more_same last op_of n) (op_of t.tok)
     where
-      of_op : ((b : Part) (us : Tokens) → Same (reading.chain_more last read op_of n b us) (chain_more operand op_of n (as_found (b, us)))) → (m : Option Operator) → Same (some_or (λ o. operation read t.span.start a o ts >>= λ x. reading.chain_more last read op_of n x.0 x.1) (Ok (a, t ∷ ts)) m) (chain_turn operand (chain_more operand op_of n) (found_op t ts m) (as_found (a, t ∷ ts)))
+      of_op : ((b : Part) (us : Tokens) → Same (reading.chain_more last read op_of n b us) (chain_more operand op_of n (as_found (b, us)))) → (m : Option Operator) → Same (option_map_or (λ o. operation read t.span.start a o ts >>= λ x. reading.chain_more last read op_of n x.0 x.1) m (Ok (a, t ∷ ts))) (chain_turn operand (chain_more operand op_of n) (found_op t ts m) (as_found (a, t ∷ ts)))
       of_op on None = refl
       of_op on (Some o) =
           let j = join (record { op = o; place = t.span.start; rest = ts }) (as_found (a, t ∷ ts)) in
@@ -153,7 +150,7 @@ module _ (read : Reader Part) (operand : Tokens → Result Found SqlFault) (same
   more_same (suc n) l [] = refl
   more_same (suc n) l (t ∷ ts) = of_test (more_same n) (is_sign signs.Comma t.tok)
     where
-      of_test : ((m : Parts) (us : Tokens) → SameList (more_at (item_add read) n m us) (list_more operand n (as_list (m, us)))) → (b : Bool) → SameList (some_or (λ us. item_add read l us >>= λ x. more_at (item_add read) n x.0 x.1) (Ok (l, t ∷ ts)) (if b then Some ts else None)) (list_turn operand (list_more operand n) (if b then Some ts else None) (as_list (l, t ∷ ts)))
+      of_test : ((m : Parts) (us : Tokens) → SameList (more_at (item_add read) n m us) (list_more operand n (as_list (m, us)))) → (b : Bool) → SameList (option_map_or (λ us. item_add read l us >>= λ x. more_at (item_add read) n x.0 x.1) (if b then Some ts else None) (Ok (l, t ∷ ts))) (list_turn operand (list_more operand n) (if b then Some ts else None) (as_list (l, t ∷ ts)))
       of_test on true = add_then (read ts) (operand ts) l (λ x. more_at (item_add read) n x.0 x.1) (λ e. list_more operand n (record { trees = push l.trees e.tree; depth = max l.depth e.depth; rest = e.rest })) (same ts) (λ x. on (grown l x.0) x.1)
       of_test on false = refl
 
@@ -172,7 +169,7 @@ module _ (last : ℕ) where
   truth_same neg a [] = refl
   truth_same neg a (t ∷ ts) = of_truth (truth_of t.tok)
     where
-      of_truth : (o : Option Truth) → (let r : Result (Truth × Tokens) SqlFault = some_or (λ w. Ok (w, ts)) (Err (misplaced last (t ∷ ts))) o in Same (r >>= λ x. Ok (part (Is a.tree neg x.0) (a.depth + 1), x.1)) (is_node last o neg a.tree (a.depth + 1) t ts))
+      of_truth : (o : Option Truth) → (let r : Result (Truth × Tokens) SqlFault = option_map_or (λ w. Ok (w, ts)) o (Err (misplaced last (t ∷ ts))) in Same (r >>= λ x. Ok (part (Is a.tree neg x.0) (a.depth + 1), x.1)) (is_node last o neg a.tree (a.depth + 1) t ts))
       of_truth None = refl
       of_truth (Some w) = refl
 
@@ -190,7 +187,7 @@ module _ (last : ℕ) where
   call_same n t [] = refl
   call_same n t (u ∷ us) = of_test (is_call t.tok) (is_sign signs.Open u.tok)
     where
-      of_test : (c b : Bool) → Same (some_or (λ vs. Err (LeftOut (place_of last (if is_some (if c then Some (u ∷ us) else None) then t ∷ u ∷ us else u ∷ us)))) (Ok (part (Column n) 0, u ∷ us)) (if b then Some us else None)) (if b then Err (LeftOut (if c then t.span.start else u.span.start)) else leaf (Column n) (u ∷ us))
+      of_test : (c b : Bool) → Same (option_map_or (λ vs. Err (LeftOut (place_of last (if is_some (if c then Some (u ∷ us) else None) then t ∷ u ∷ us else u ∷ us)))) (if b then Some us else None) (Ok (part (Column n) 0, u ∷ us))) (if b then Err (LeftOut (if c then t.span.start else u.span.start)) else leaf (Column n) (u ∷ us))
       of_test true true = refl
       of_test true false = refl
       of_test false true = refl
@@ -199,7 +196,7 @@ module _ (last : ℕ) where
   column_same : (t : At Token) (ts : Tokens) → Same (reading.column_at last (t ∷ ts)) (name_at last (named t.tok) t ts)
   column_same t ts = of_name (named t.tok)
     where
-      of_name : (o : Option (List ℕ)) → (let r : Result (List ℕ × Tokens) SqlFault = some_or (λ n. Ok (n, ts)) (Err (misplaced last (t ∷ ts))) o in Same (r >>= λ y. either (is_sign signs.Open) (λ vs. Err (LeftOut (place_of last (if is_some (after is_call (t ∷ ts)) then t ∷ ts else y.1)))) (reading.leaf (Column y.0)) y.1) (name_at last o t ts))
+      of_name : (o : Option (List ℕ)) → (let r : Result (List ℕ × Tokens) SqlFault = option_map_or (λ n. Ok (n, ts)) o (Err (misplaced last (t ∷ ts))) in Same (r >>= λ y. either (is_sign signs.Open) (λ vs. Err (LeftOut (place_of last (if is_some (after is_call (t ∷ ts)) then t ∷ ts else y.1)))) (reading.leaf (Column y.0)) y.1) (name_at last o t ts))
       of_name None = refl
       of_name (Some n) = call_same n t ts
 
@@ -234,7 +231,7 @@ module _ (last : ℕ) where
     prim_same [] = refl
     prim_same (t ∷ ts) = of_tok t.tok (column_same t ts)
       where
-        of_tok : (x : Token) → Same (reading.column_at last (t ∷ ts)) (name_at last (named x) t ts) → Same (some_or (closed last (λ e. e) (opened last within Whole (λ e. e) t.span.start)) (some_or (λ e. reading.leaf e ts) (reading.column_at last (t ∷ ts)) (literal_of x)) (if is_sign signs.Open x then Some ts else None)) (prim_of last inside' x t ts)
+        of_tok : (x : Token) → Same (reading.column_at last (t ∷ ts)) (name_at last (named x) t ts) → Same (option_map_or (closed last (λ e. e) (opened last within Whole (λ e. e) t.span.start)) (if is_sign signs.Open x then Some ts else None) (option_map_or (λ e. reading.leaf e ts) (literal_of x) (reading.column_at last (t ∷ ts)))) (prim_of last inside' x t ts)
         of_tok (tok.number n) c = refl
         of_tok (tok.string s) c = refl
         of_tok (tok.word words.True s) c = refl
@@ -248,7 +245,7 @@ module _ (last : ℕ) where
     una_same [] = prim_same []
     una_same (t ∷ ts) = of_tok t.tok
       where
-        of_tok : (x : Token) → Same (some_or (opened last within Unary negated t.span.start) (some_or (opened last within Unary Plus t.span.start) (reading.prim_at last within (t ∷ ts)) (if is_sign signs.Plus x then Some ts else None)) (if is_sign signs.Minus x then Some ts else None)) (una_of last inside' x t ts)
+        of_tok : (x : Token) → Same (option_map_or (opened last within Unary negated t.span.start) (if is_sign signs.Minus x then Some ts else None) (option_map_or (opened last within Unary Plus t.span.start) (if is_sign signs.Plus x then Some ts else None) (reading.prim_at last within (t ∷ ts)))) (una_of last inside' x t ts)
         of_tok (tok.sign signs.Minus) = opened_same Unary negated t.span.start ts
         of_tok (tok.sign signs.Plus) = opened_same Unary Plus t.span.start ts
         of_tok _ = prim_same (t ∷ ts)
@@ -284,11 +281,10 @@ module _ (last : ℕ) where
         (and_then low.1 _ _ (λ us. then_same (reading.cat_at last within us) (cat_at last inside' us) _ _ (cat_same us) (λ high. node_same place (max a.depth (max low.0.depth high.0.depth)) (Between a.tree neg low.0.tree high.0.tree) high.1)))))
 
     in_or_same : (place : ℕ) (a : Part) (rs ts : Tokens) → Same (reading.in_or last within true place a (λ us. Err (misplaced last us)) ts) (not_in_at last inside' place (as_found (a, rs)) ts)
-    unfolding same_word
     in_or_same place a rs [] = refl
     in_or_same place a rs (t ∷ ts) = of_tok t.tok
       where
-        of_tok : (x : Token) → Same (some_or (reading.in_at last within true place a) (some_or (reading.between_at last within true place a) (Err (misplaced last (t ∷ ts))) (if is_word words.Between x then Some ts else None)) (if is_word words.In x then Some ts else None)) (not_in_of last inside' x place (as_found (a, rs)) t ts)
+        of_tok : (x : Token) → Same (option_map_or (reading.in_at last within true place a) (if is_word words.In x then Some ts else None) (option_map_or (reading.between_at last within true place a) (if is_word words.Between x then Some ts else None) (Err (misplaced last (t ∷ ts))))) (not_in_of last inside' x place (as_found (a, rs)) t ts)
         of_tok (tok.word words.In s) = in_same true place a ts
         of_tok (tok.word words.Between s) = between_same true place a ts
         of_tok _ = refl
@@ -297,11 +293,10 @@ module _ (last : ℕ) where
     not_in_same place a rs ts = fits_then place a.depth ts (reading.in_or last within true place a (λ us. Err (misplaced last us))) (λ here. not_in_at last inside' place (as_found (a, rs)) ts) (in_or_same place a rs ts)
 
     inn_more_same : (a : Part) (ts : Tokens) → Same (reading.inn_more last within a ts) (inn_more last inside' (as_found (a, ts)) ts)
-    unfolding same_word
     inn_more_same a [] = refl
     inn_more_same a (t ∷ ts) = of_tok t.tok
       where
-        of_tok : (x : Token) → Same (some_or (reading.in_at last within false t.span.start a) (some_or (reading.between_at last within false t.span.start a) (some_or (reading.not_in_at last within t.span.start a) (Ok (a, t ∷ ts)) (if is_word words.Not x then Some ts else None)) (if is_word words.Between x then Some ts else None)) (if is_word words.In x then Some ts else None)) (inn_of last inside' x t.span.start (as_found (a, t ∷ ts)) ts)
+        of_tok : (x : Token) → Same (option_map_or (reading.in_at last within false t.span.start a) (if is_word words.In x then Some ts else None) (option_map_or (reading.between_at last within false t.span.start a) (if is_word words.Between x then Some ts else None) (option_map_or (reading.not_in_at last within t.span.start a) (if is_word words.Not x then Some ts else None) (Ok (a, t ∷ ts))))) (inn_of last inside' x t.span.start (as_found (a, t ∷ ts)) ts)
         of_tok (tok.word words.In s) = in_same false t.span.start a ts
         of_tok (tok.word words.Between s) = between_same false t.span.start a ts
         of_tok (tok.word words.Not s) = not_in_same t.span.start a (t ∷ ts) ts
@@ -315,7 +310,7 @@ module _ (last : ℕ) where
     cmp_more_same a [] = refl
     cmp_more_same a (t ∷ ts) = of_op (comparison_op t.tok)
       where
-        of_op : (m : Option Operator) → Same (some_or (λ o. operation (reading.inn_at last within) t.span.start a o ts) (Ok (a, t ∷ ts)) m) (cmp_more last inside' (found_op t ts m) (as_found (a, t ∷ ts)))
+        of_op : (m : Option Operator) → Same (option_map_or (λ o. operation (reading.inn_at last within) t.span.start a o ts) m (Ok (a, t ∷ ts))) (cmp_more last inside' (found_op t ts m) (as_found (a, t ∷ ts)))
         of_op None = refl
         of_op (Some o) = operation_same (reading.inn_at last within) (inn_at last inside') inn_same o t.span.start a (t ∷ ts) ts
 
@@ -340,16 +335,13 @@ module _ (last : ℕ) where
     unfolding reading.or_at or_at
     or_same ts = chain_same (reading.and_at last within) (and_at last inside') and_same last or_op ts
 
-    level_same : (level : Opened) (ts : Tokens) → Same (reading.at_level last within level ts) (at_level last inside' level ts)
-    level_same Whole ts = or_same ts
-    level_same Negation ts = not_same ts
-    level_same Unary ts = una_same ts
-
 -- behind an opening
 inside_same : (last n : ℕ) (level : Opened) (place : ℕ) (ts : Tokens) → Same (reading.inside last n level place ts) (inside last n level place ts)
 unfolding reading.inside inside
 inside_same last zero level place ts = refl
-inside_same last (suc n) level place ts = level_same last (reading.inside last n) (inside last n) (inside_same last n) level ts
+inside_same last (suc n) Whole place ts = or_same last (reading.inside last n) (inside last n) (inside_same last n) ts
+inside_same last (suc n) Negation place ts = not_same last (reading.inside last n) (inside last n) (inside_same last n) ts
+inside_same last (suc n) Unary place ts = una_same last (reading.inside last n) (inside last n) (inside_same last n) ts
 
 -- an expression is what the pieces find
 pub expr_same : (last : ℕ) (ts : Tokens) → expr_at last ts ≡ or_at last (inside last 64) ts

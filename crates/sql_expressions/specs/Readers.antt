@@ -1,5 +1,6 @@
 -- Reading from left to right with the first fault that is met: words of reading, for expressions and for statements.
-use Rattle.std.specs.Prelude.{ℕ, zero, suc, Bool, true, false, List, [], ◌∷◌, length, Option, Some, None, Result, Ok, Err, if◌then◌else◌}
+use Rattle.std.specs.Prelude.{ℕ, zero, suc, Bool, false, ◌||◌, List, [], ◌∷◌, length, Option, Some, None, Result, Ok, Err, if◌then◌else◌}
+use Rattle.std.specs.Option.{option_map_or}
 use denote.Enum.Bare.{sameb}
 use Rattle.iso_lexer.specs.declared.sql_token.SqlSign.{SqlSign}
 use Rattle.iso_lexer.specs.declared.sql_token.SqlSign.TheVariants as signs
@@ -34,11 +35,6 @@ gives x ts = Ok (x, ts)
 abbrev pub made : {X Y : Type 0} → (X → Y) → Reader X → Reader Y
 made make reader ts = and_then (reader ts) (λ x. Ok (make x.0, x.1))
 
--- what is made of a value, or this, where there is none
-abbrev pub some_or : {X R : Type 0} → (X → R) → R → Option X → R
-some_or make none (Some x) = make x
-some_or make none None = none
-
 -- ---- the first token
 
 -- the token is this keyword, in whatever letters
@@ -54,9 +50,7 @@ is_sign s _ = false
 -- a token that stands for a part that is left out
 abbrev pub left_out : Token → Bool
 left_out (tok.word w s) = is_left_out w
-left_out (tok.sign signs.Dot) = true
-left_out (tok.sign signs.Cast) = true
-left_out _ = false
+left_out t = is_sign signs.Dot t || is_sign signs.Cast t
 
 -- the tokens behind the next, if it is of this kind
 abbrev pub after : (Token → Bool) → Tokens → Option Tokens
@@ -65,17 +59,16 @@ after is_it (t ∷ ts) = if is_it t.tok then Some ts else None
 
 -- where the first token is of this kind, what is read behind it, else what others read
 abbrev pub either : {R : Type 0} → (Token → Bool) → (Tokens → R) → (Tokens → R) → Tokens → R
-either is_it behind others ts = some_or behind (others ts) (after is_it ts)
+either is_it behind others ts = option_map_or behind (after is_it ts) (others ts)
 
 -- where the first token says something, what that lets be read behind it, else what others read
 abbrev pub by_first : {X R : Type 0} → (Token → Option X) → (X → Tokens → R) → (Tokens → R) → Tokens → R
 by_first says behind others [] = others []
-by_first says behind others (t ∷ ts) = some_or (λ x. behind x ts) (others (t ∷ ts)) (says t.tok)
+by_first says behind others (t ∷ ts) = option_map_or (λ x. behind x ts) (says t.tok) (others (t ∷ ts))
 
 -- what the first token says, or a fault of the tokens
 abbrev pub one_at : {X : Type 0} → (Tokens → SqlFault) → (Token → Option X) → Reader X
-one_at fault says [] = Err (fault [])
-one_at fault says (t ∷ ts) = some_or (λ x. Ok (x, ts)) (Err (fault (t ∷ ts))) (says t.tok)
+one_at fault says = by_first says gives (λ ts. Err (fault ts))
 
 -- ---- lists
 

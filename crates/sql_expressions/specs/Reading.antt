@@ -1,5 +1,5 @@
 -- Reading an expression from left to right, with the first fault that is met.
-use Rattle.std.specs.Prelude.{ℕ, zero, suc, ◌+◌, max, Bool, true, false, List, Option, Some, None, Result, Ok, Err, is_some, nat_lt, if◌then◌else◌}
+use Rattle.std.specs.Prelude.{ℕ, zero, suc, ◌+◌, max, Bool, true, false, List, [], ◌∷◌, Option, Some, Result, Ok, Err, is_some, nat_lt, if◌then◌else◌}
 use Rattle.iso_lexer.specs.declared.token.At.{At}
 use Rattle.iso_lexer.specs.declared.sql_token.SqlSign.TheVariants as signs
 use Rattle.sql_trees.specs.declared.fault.SqlFault.{SqlFault}
@@ -8,9 +8,11 @@ use Rattle.sql_trees.specs.declared.word.Word.TheVariants as words
 use Rattle.sql_trees.specs.declared.token.Tok.{Tok}
 use Rattle.sql_trees.specs.declared.expr.Operator.{Operator}
 use Rattle.sql_trees.specs.declared.expr.Operator.TheVariants as op
+use Rattle.sql_trees.specs.declared.expr.AggKind.{AggKind}
+use Rattle.sql_trees.specs.declared.expr.AggKind.TheVariants as aggs
 use Rattle.sql_trees.specs.declared.expr.Truth.{Truth}
 use Rattle.sql_trees.specs.declared.expr.Truth.TheVariants as truth
-use Rattle.sql_trees.specs.Words.{is_aggregate}
+use Rattle.sql_trees.specs.Words.{row_of}
 use Rattle.sql_trees.specs.Tokens.{Token, Tokens, tok_views}
 use Rattle.sql_trees.specs.Tokens as tok
 use Rattle.sql_trees.specs.Trees.{Tree, Trees, none, Null, Flag, Number, Text, Column, Plus, Not, Binary, Is, In, Between, undoubled, tree_of}
@@ -35,57 +37,42 @@ found p ts = record { tree = tree_of p.expr.value; depth = p.depth; rest = tok_v
 
 -- the operators of the five levels whose chains group to the left
 abbrev pub or_op : Token → Option Operator
-or_op (tok.word words.Or s) = Some op.Or
-or_op _ = None
+or_op = row_of is_word ((words.Or, op.Or) ∷ [])
 
 abbrev pub and_op : Token → Option Operator
-and_op (tok.word words.And s) = Some op.And
-and_op _ = None
+and_op = row_of is_word ((words.And, op.And) ∷ [])
 
 abbrev pub concat_op : Token → Option Operator
-concat_op (tok.sign signs.Concat) = Some op.Concat
-concat_op _ = None
+concat_op = row_of is_sign ((signs.Concat, op.Concat) ∷ [])
 
 abbrev pub sum_op : Token → Option Operator
-sum_op (tok.sign signs.Plus) = Some op.Add
-sum_op (tok.sign signs.Minus) = Some op.Subtract
-sum_op _ = None
+sum_op = row_of is_sign ((signs.Plus, op.Add) ∷ (signs.Minus, op.Subtract) ∷ [])
 
 abbrev pub product_op : Token → Option Operator
-product_op (tok.sign signs.Star) = Some op.Multiply
-product_op (tok.sign signs.Slash) = Some op.Divide
-product_op (tok.sign signs.Percent) = Some op.Remainder
-product_op _ = None
+product_op = row_of is_sign ((signs.Star, op.Multiply) ∷ (signs.Slash, op.Divide) ∷ (signs.Percent, op.Remainder) ∷ [])
 
 -- the operators that stand between two operands at most
 abbrev pub comparison_op : Token → Option Operator
-comparison_op (tok.sign signs.Equal) = Some op.Equal
-comparison_op (tok.sign signs.NotEqual) = Some op.NotEqual
-comparison_op (tok.sign signs.Less) = Some op.Less
-comparison_op (tok.sign signs.AtMost) = Some op.AtMost
-comparison_op (tok.sign signs.Greater) = Some op.Greater
-comparison_op (tok.sign signs.AtLeast) = Some op.AtLeast
-comparison_op _ = None
+comparison_op = row_of is_sign
+    ((signs.Equal, op.Equal) ∷ (signs.NotEqual, op.NotEqual) ∷ (signs.Less, op.Less) ∷ (signs.AtMost, op.AtMost) ∷
+    (signs.Greater, op.Greater) ∷ (signs.AtLeast, op.AtLeast) ∷ [])
 
+-- what an IS asks for
 abbrev pub truth_of : Token → Option Truth
-truth_of (tok.word words.Null s) = Some truth.Null
-truth_of (tok.word words.True s) = Some truth.True
-truth_of (tok.word words.False s) = Some truth.False
-truth_of (tok.word words.Unknown s) = Some truth.Unknown
-truth_of _ = None
+truth_of = row_of is_word ((words.Null, truth.Null) ∷ (words.True, truth.True) ∷ (words.False, truth.False) ∷ (words.Unknown, truth.Unknown) ∷ [])
 
 abbrev pub literal_of : Token → Option Tree
 literal_of (tok.number n) = Some (Number false n)
 literal_of (tok.string s) = Some (Text (undoubled s))
-literal_of (tok.word words.True s) = Some (Flag true)
-literal_of (tok.word words.False s) = Some (Flag false)
-literal_of (tok.word words.Null s) = Some Null
-literal_of _ = None
+literal_of t = row_of is_word ((words.True, Flag true) ∷ (words.False, Flag false) ∷ (words.Null, Null) ∷ []) t
+
+-- the aggregate that a word names
+abbrev pub agg_kind : Token → Option AggKind
+agg_kind = row_of is_word ((words.Count, aggs.Count) ∷ (words.Sum, aggs.Sum) ∷ (words.Min, aggs.Min) ∷ (words.Max, aggs.Max) ∷ [])
 
 -- the name of an aggregate
 abbrev pub is_call : Token → Bool
-is_call (tok.word w s) = is_aggregate w
-is_call _ = false
+is_call t = is_some (agg_kind t)
 
 -- ---- parts
 
@@ -220,15 +207,12 @@ module _ (last : ℕ) where
     unfoldable pub or_at : Reader Part
     or_at = chain and_at or_op
 
-    abbrev pub at_level : Opened → Reader Part
-    at_level Whole = or_at
-    at_level Negation = not_at
-    at_level Unary = una_at
-
   -- what is read behind an opening at this place, of which so many may still be open
   unfoldable pub inside : ℕ → Opened → ℕ → Reader Part
   inside zero level place ts = Err (TooDeep place)
-  inside (suc n) level place ts = at_level (inside n) level ts
+  inside (suc n) Whole place ts = or_at (inside n) ts
+  inside (suc n) Negation place ts = not_at (inside n) ts
+  inside (suc n) Unary place ts = una_at (inside n) ts
 
   -- an expression
   abbrev pub expr_at : Tokens → Result Found SqlFault

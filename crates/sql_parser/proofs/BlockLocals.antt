@@ -1,6 +1,7 @@
 -- Statements are read as far as their tokens allow.
 use Rattle.std.proofs.Common.{◌≡◌, ℕ, Bool, true, false, List, [], ◌∷◌, ◌++◌, Option, Some, None, refl, ap, ◌∙◌}
 use Rattle.std.specs.Prelude.{Result, Ok, Err, ◌&&◌, ◌||◌, if◌then◌else◌}
+use Rattle.std.specs.Option.{option_map_or}
 use Rattle.iso_lexer.specs.declared.token.At.{At}
 use Rattle.iso_lexer.specs.declared.sql_token.SqlSign.TheVariants as signs
 use Rattle.sql_trees.specs.declared.fault.SqlFault.{SqlFault}
@@ -12,7 +13,7 @@ use Rattle.sql_trees.specs.Tokens.{Token, Tokens, named}
 use Rattle.sql_trees.specs.Tokens as tok
 use Rattle.sql_trees.specs.Trees.{Tree}
 use Rattle.sql_expressions.specs.Results.{◌>>=◌}
-use Rattle.sql_expressions.specs.Readers.{expect, is_word, is_sign, misplaced, some_or, name_at, items_at, Reader}
+use Rattle.sql_expressions.specs.Readers.{expect, is_word, is_sign, misplaced, name_at, items_at, Reader}
 use Rattle.sql_blocks.specs.declared.block.Role.{Role}
 use Rattle.sql_blocks.specs.Parts.{is_session, column_names}
 use Rattle.sql_parser.specs.Readers.{past, tree_at}
@@ -20,7 +21,7 @@ use Rattle.sql_parser.specs.Transactions.{is_work, begin_at, start_at, set_at}
 use Rattle.sql_parser.specs.Tables.{TableRead, empty_table, table_add, keys_fault, finished, create_at, drop_at, created}
 use Rattle.sql_parser.specs.Changes.{insert_at, update_at, delete_at}
 use Rattle.sql_parser.specs.Queries.{select_at}
-use Rattle.sql_parser.specs.Blocks.{is_ddl, stmt_at, whole_at}
+use Rattle.sql_parser.specs.Blocks.{is_ddl, simple_of, stmt_at, whole_at}
 use Rattle.sql_parser.specs.Inner.Pieces.{begun_at}
 use Rattle.sql_parser.specs.Grammar.{Is, Key, Names, nothing, Commas, AddsPart, Spells, commit, end, rollback, abort, create}
 use Rattle.sql_parser.specs.Stops.{WantsWords}
@@ -34,7 +35,7 @@ finished_shown : (ts : Tokens) (name : List ℕ) (t : TableRead) → Shown ts (f
 unfolding finished
 finished_shown ts name t = of_fault (keys_fault name (column_names t.columns) [] t.keys) refl
   where
-    of_fault : (o : Option ℕ) → keys_fault name (column_names t.columns) [] t.keys ≡ o → Shown ts (some_or (λ place. Err (BadColumns place)) (Ok (created name t)) o) (created name t)
+    of_fault : (o : Option ℕ) → keys_fault name (column_names t.columns) [] t.keys ≡ o → Shown ts (option_map_or (λ place. Err (BadColumns place)) o (Ok (created name t))) (created name t)
     of_fault None h = shown (created name t)
     of_fault (Some place) h = no_columns place name t h
 
@@ -104,6 +105,7 @@ module _ (last : ℕ) (E : Tokens → Tree → Type 0) (W Any : Type 0) (an_expr
   simple_case p t us same l = behind last E W Any (Whole E) (λ vs. p vs >>= λ y. Ok (Ok y.0, y.1)) (begun_at last) t us same (mapped last E W Any (λ xs s. Spells E (t ∷ xs) s) (λ xs r. Whole E (t ∷ xs) r) p (λ s. Ok s) us (λ xs s q. whole_of (t ∷ xs) s q) l)
 
   begun_token : (t : At Token) (us : Tokens) → (WantsWords (t ∷ us) → W) → (x : Token) → t.tok ≡ x → Local last E W Any (Whole E) (begun_at last) (t ∷ us)
+  unfolding simple_of
   begun_token t us wants (tok.word words.Create s) h = behind last E W Any (Whole E) (create_at last) (begun_at last) t us (λ vs. rw h refl) (create_local (wants (or_first (is_word words.Create t.tok) (is_word words.Set t.tok) (key_of words.Create t s h))) t (key_of words.Create t s h) us)
   begun_token t us wants (tok.word words.Select s) h = behind last E W Any (Whole E) (select_at last t.span.start) (begun_at last) t us (λ vs. rw h refl) (select_local last E W Any an_expr exprs some_token one_name t (key_of words.Select t s h) us)
   begun_token t us wants (tok.word words.Begin s) h = simple_case (λ vs. begin_at last (past is_work vs)) t us (λ vs. rw h refl) (begun_local last E W Any t (key_of words.Begin t s h) us)

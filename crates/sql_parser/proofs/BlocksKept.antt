@@ -3,6 +3,7 @@ use Rattle.std.proofs.Common.{◌≡◌, ℕ, ◌+◌, ◌<◌, ◌^◌, List, [
 use Rattle.std.proofs.lemmas.Bool.{and_from, not_from_false}
 use Rattle.std.specs.List.{list_all}
 use Rattle.std.specs.Prelude.{Result, Ok, Err, Bool, true, false, not, ◌&&◌, nat_lt, if◌then◌else◌}
+use Rattle.std.specs.Option.{option_map_or}
 use Rattle.iso_lexer.specs.declared.token.At.{At}
 use Rattle.iso_lexer.specs.declared.sql_token.SqlSign.TheVariants as signs
 use Rattle.sql_trees.specs.declared.fault.SqlFault.{SqlFault}
@@ -12,7 +13,7 @@ use Rattle.sql_trees.specs.Statements.{StmtTree, Begin, Commit, Rollback, SetTra
 use Rattle.sql_trees.specs.Tokens.{Token, Tokens}
 use Rattle.sql_trees.specs.Tokens as tok
 use Rattle.sql_expressions.specs.Results.{◌>>=◌}
-use Rattle.sql_expressions.specs.Readers.{is_sign, after, expect, is_word, items_at, keyword, some_or, name_at}
+use Rattle.sql_expressions.specs.Readers.{is_sign, after, expect, is_word, items_at, keyword, name_at}
 use Rattle.sql_blocks.specs.declared.block.Role.{Role}
 use Rattle.sql_blocks.specs.Parts.{is_session}
 use Rattle.sql_blocks.specs.Kept.{is_kept, is_kept_in, makes_or_drops}
@@ -30,7 +31,7 @@ module _ (last : ℕ) where
   unfolding begin_at
   begin_fine ts x e = of_level (after (is_word words.Isolation) ts) e
     where
-      of_level : (o : Option Tokens) → some_or (λ us. level_at last us >>= λ y. Ok (Begin (Some y.0), y.1)) (Ok (Begin None, ts)) o ≡ Ok x → Fine false x.0
+      of_level : (o : Option Tokens) → option_map_or (λ us. level_at last us >>= λ y. Ok (Begin (Some y.0), y.1)) o (Ok (Begin None, ts)) ≡ Ok x → Fine false x.0
       of_level None h = subst (λ (y : StmtTree × Tokens). Fine false y.0) (ok_same (Begin None, ts) x h) (record { kept = refl; made = refl })
       of_level (Some us) h =
           let a = bind_ok (level_at last us) (λ y. Ok (Begin (Some y.0), y.1)) x h in
@@ -46,7 +47,7 @@ module _ (last : ℕ) where
   unfolding parameter_at
   parameter_fine ts x e = of_name (after (is_word words.DeadlockTimeout) ts) e
     where
-      of_name : (o : Option Tokens) → some_or (λ us. expect last is_to us >>= λ vs. expect last is_setting vs >>= λ rest. Ok (SetDeadlockTimeout, rest)) (Err (misplaced_word last ts)) o ≡ Ok x → Fine false x.0
+      of_name : (o : Option Tokens) → option_map_or (λ us. expect last is_to us >>= λ vs. expect last is_setting vs >>= λ rest. Ok (SetDeadlockTimeout, rest)) o (Err (misplaced_word last ts)) ≡ Ok x → Fine false x.0
       of_name None h = absurd cc
       of_name (Some us) h =
           let a = bind_ok (expect last is_to us) (λ vs. expect last is_setting vs >>= λ rest. Ok (SetDeadlockTimeout, rest)) x h in
@@ -57,7 +58,7 @@ module _ (last : ℕ) where
   unfolding set_at
   set_fine ts x e = of_transaction (after (is_word words.Transaction) ts) e
     where
-      of_transaction : (o : Option Tokens) → some_or (λ us. keyword last words.Isolation us >>= λ vs. level_at last vs >>= λ y. Ok (SetTransaction y.0, y.1)) (parameter_at last (past is_scope ts)) o ≡ Ok x → Fine false x.0
+      of_transaction : (o : Option Tokens) → option_map_or (λ us. keyword last words.Isolation us >>= λ vs. level_at last vs >>= λ y. Ok (SetTransaction y.0, y.1)) o (parameter_at last (past is_scope ts)) ≡ Ok x → Fine false x.0
       of_transaction (Some us) h =
           let a = bind_ok (keyword last words.Isolation us) (λ vs. level_at last vs >>= λ y. Ok (SetTransaction y.0, y.1)) x h in
           let b = bind_ok (level_at last a.0) (λ y. Ok (SetTransaction y.0, y.1)) x a.2 in
@@ -72,10 +73,10 @@ module _ (last : ℕ) where
   drop_fine : (ts : Tokens) (x : StmtTree × Tokens) → drop_at last ts ≡ Ok x → Fine true x.0
   unfolding drop_at
   drop_fine ts x e =
-      let a = bind_ok (keyword last words.Table ts) (λ us. some_or (drop_of last true) (drop_of last false us) (after_if us)) x e in
+      let a = bind_ok (keyword last words.Table ts) (λ us. option_map_or (drop_of last true) (after_if us) (drop_of last false us)) x e in
       of_if a.0 (after_if a.0) a.2
     where
-      of_if : (us : Tokens) (o : Option Tokens) → some_or (drop_of last true) (drop_of last false us) o ≡ Ok x → Fine true x.0
+      of_if : (us : Tokens) (o : Option Tokens) → option_map_or (drop_of last true) o (drop_of last false us) ≡ Ok x → Fine true x.0
       of_if us None h = drop_of_fine false us x h
       of_if us (Some vs) h = drop_of_fine true vs x h
 
@@ -83,6 +84,7 @@ module _ (last : ℕ) where
   done s ts x f h = subst (λ (y : StmtTree × Tokens). Fine false y.0) (ok_same (s, ts) x h) f
 
   simple_fine : (w : Token) (t : At Token) (ts : Tokens) (x : StmtTree × Tokens) → simple_of last w t ts ≡ Ok x → Fine (is_ddl w) x.0
+  unfolding simple_of
   simple_fine (tok.word words.Begin s) t ts x e = begin_fine (past is_work ts) x e
   simple_fine (tok.word words.Start s) t ts x e = start_fine ts x e
   simple_fine (tok.word words.Commit s) t ts x e = done Commit (past is_work ts) x (record { kept = refl; made = refl }) e

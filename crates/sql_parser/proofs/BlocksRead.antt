@@ -18,7 +18,7 @@ use Rattle.sql_expressions.specs.Readers.{is_sign, misplaced}
 use Rattle.sql_blocks.specs.declared.block.Role.{Role}
 use Rattle.sql_blocks.specs.Parts.{is_session, set_columns, is_allowed}
 use Rattle.sql_blocks.specs.Kept.{is_shallow, maybe_shallow, item_shallow, all_differ, columns_differ, rows_fit, is_kept, makes_or_drops, is_kept_in}
-use Rattle.sql_parser.specs.Blocks.{is_ddl, begun_of, stmt_at, at_end, whole_at, piece_at, stmts_at, block_at}
+use Rattle.sql_parser.specs.Blocks.{is_ddl, simple_of, begun_of, stmt_at, at_end, whole_at, piece_at, stmts_at, block_at}
 use Rattle.sql_parser.specs.Inner.Pieces.{begun_at}
 use Rattle.sql_parser.specs.Grammar.{Is, Spells, begin, start, commit, end, rollback, abort, set_transaction, set_timeout, create, drop, drop_if, insert, update, delete, select, PieceIs, no_stmt, a_stmt, BlockIs, last_piece, next_piece, Shallow}
 use Rattle.sql_parser.specs.Laws.{BlocksAreRead}
@@ -128,6 +128,7 @@ module _ (last : ℕ) where
       not_not false e = refl
 
   pub whole_reads : (role : Role) (ts : Tokens) (s : StmtTree) → Spells Shallow ts s → is_kept_in role s ≡ true → whole_at last role ts ≡ Ok s
+  unfolding simple_of
   whole_reads role _ _ (begin b ws is level hb p m) k = let w = word_is words.Begin b.tok hb in whole_one role b (ws ++ is) _ (not_ddl role (is_ddl b.tok) (rw w.1 refl)) (begun_simple b (ws ++ is) _ (tok.word words.Begin w.0) w.1 (rw (w.1, begun_reads last ws is level p m) refl))
   whole_reads role _ _ (start s t is level hs ht m) k = let w = word_is words.Start s.tok hs in whole_one role s (t ∷ is) _ (not_ddl role (is_ddl s.tok) (rw w.1 refl)) (begun_simple s (t ∷ is) _ (tok.word words.Start w.0) w.1 (rw (w.1, start_reads last t is level ht m) refl))
   whole_reads role _ _ (commit c ws h p) k = let w = word_is words.Commit c.tok h in whole_one role c ws _ (not_ddl role (is_ddl c.tok) (rw w.1 refl)) (begun_simple c ws _ (tok.word words.Commit w.0) w.1 (rw (w.1, work_reads ws p) refl))

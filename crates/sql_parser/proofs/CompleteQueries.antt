@@ -10,18 +10,19 @@ use Rattle.sql_trees.specs.declared.word.Word.TheVariants as words
 use Rattle.sql_trees.specs.declared.expr.AggKind.{AggKind}
 use Rattle.sql_trees.specs.declared.expr.AggKind.TheVariants as aggs
 use Rattle.sql_trees.specs.declared.stmt.Lock.{Lock}
+use Rattle.sql_trees.specs.Words.{is_reserved}
 use Rattle.sql_trees.specs.Statements.{ItemTree, OrderTree, SelectTree, Selects, All, Value, Aggregate}
 use Rattle.sql_trees.specs.Tokens.{Token, Tokens, named}
 use Rattle.sql_trees.specs.Tokens as tok
 use Rattle.sql_trees.specs.Trees.{Tree, AggTree}
 use Rattle.sql_expressions.specs.Readers.{misplaced, is_word, is_sign, after}
-use Rattle.sql_expressions.specs.Reading.{Found, expr_at}
+use Rattle.sql_expressions.specs.Reading.{Found, agg_kind, expr_at}
 use Rattle.sql_expressions.specs.Inner.Pieces.{chain, or_at, and_at, is_at, cmp_at, inn_at, cat_at, add_at, mul_at}
 use Rattle.sql_expressions.specs.Grammar.{Ends, goes_on}
 use Rattle.sql_expressions.proofs.Complete.{expr_complete}
 use Rattle.sql_expressions.proofs.Same.{expr_same}
 use Rattle.sql_blocks.specs.Parts.{is_allowed}
-use Rattle.sql_parser.specs.Queries.{agg_kind, call_at, rows_of, maybe_name, direction_at, alias_at, agg_at, item_at, from_at, nulls_at, order_add, order_at, lock_at, select_at}
+use Rattle.sql_parser.specs.Queries.{call_at, rows_of, maybe_name, direction_at, alias_at, agg_at, item_at, from_at, nulls_at, order_add, order_at, lock_at, select_at}
 use Rattle.sql_parser.specs.Grammar.{Is, Commas, AliasIs, no_alias, as_alias, bare_alias, AggIs, all_rows, of_values, AddsItem, a_star, a_value, an_aggregate, FromIs, no_table, from_table, DirectionIs, as_ever, ascending, descending, NullsAre, unsaid, nulls_first, nulls_last, AddsKey, adds_key, OrderIs, unordered, ordered, LockIs, no_lock, for_update, for_share, WhereIs, unfiltered, filtered, Shallow}
 use Rattle.sql_parser.specs.Readers.{added}
 use Rattle.sql_parser.proofs.StmtLocals.{word_is}
@@ -41,7 +42,7 @@ module _ (last : ℕ) where
   star_faults t ts _ h e = absurd cc
 
   call_faults : (t o : At Token) (ts : Tokens) (k : AggKind) (x : Token) → t.tok ≡ x → agg_kind x ≡ Some k → is_sign signs.Open o.tok ≡ true → expr_at last (t ∷ o ∷ ts) ≡ Err (LeftOut t.span.start)
-  unfolding chain or_at and_at is_at cmp_at inn_at cat_at add_at mul_at
+  unfolding is_reserved chain or_at and_at is_at cmp_at inn_at cat_at add_at mul_at
   call_faults t o ts k (tok.word words.Count s) h e g = expr_same last (t ∷ o ∷ ts) ∙ rw (h, g) refl
   call_faults t o ts k (tok.word words.Sum s) h e g = expr_same last (t ∷ o ∷ ts) ∙ rw (h, g) refl
   call_faults t o ts k (tok.word words.Min s) h e g = expr_same last (t ∷ o ∷ ts) ∙ rw (h, g) refl
@@ -81,6 +82,7 @@ module _ (last : ℕ) where
   -- ---- items
 
   name_no_as : (x : Token) (n : List ℕ) → named x ≡ Some n → is_word words.As x ≡ false
+  unfolding is_reserved
   name_no_as x n h = of_test (is_word words.As x) refl
     where
       of_test : (b : Bool) → is_word words.As x ≡ b → is_word words.As x ≡ false
@@ -88,6 +90,7 @@ module _ (last : ℕ) where
       of_test true g = let k = word_is words.As x g in absurd (let e : named (tok.word words.As k.0) ≡ Some n = sym (ap named k.1) ∙ h in cc)
 
   name_goes_on : (x : Token) (n : List ℕ) → named x ≡ Some n → goes_on x ≡ false
+  unfolding is_reserved
   name_goes_on (tok.word words.And s) n e = absurd cc
   name_goes_on (tok.word words.Between s) n e = absurd cc
   name_goes_on (tok.word words.In s) n e = absurd cc

@@ -5,6 +5,7 @@ use Rattle.std.proofs.lemmas.List.{map-append}
 use Rattle.std.proofs.lemmas.List.Folds.{list_any-append}
 use Rattle.std.specs.List.{list_any}
 use Rattle.std.specs.Prelude.{Ok, not, ◌&&◌, ◌||◌, bytes_eq, option_map, if◌then◌else◌}
+use Rattle.std.specs.Option.{option_map_or}
 use Rattle.iso_lexer.specs.declared.token.At.{At}
 use Rattle.iso_lexer.specs.declared.sql_token.SqlSign.TheVariants as signs
 use Rattle.sql_trees.specs.declared.word.Word.{Word}
@@ -14,7 +15,7 @@ use Rattle.sql_trees.specs.Statements.{SetTree, Begin, SetTransaction, SetDeadlo
 use Rattle.sql_trees.specs.Tokens.{Token, Tokens, named}
 use Rattle.sql_trees.specs.Tokens as tok
 use Rattle.sql_trees.specs.Trees.{Tree}
-use Rattle.sql_expressions.specs.Readers.{is_word, is_sign, after, some_or, items_at, name_at}
+use Rattle.sql_expressions.specs.Readers.{is_word, is_sign, after, items_at, name_at}
 use Rattle.sql_expressions.specs.Grammar.{Ends}
 use Rattle.sql_blocks.specs.Parts.{fits, set_columns}
 use Rattle.sql_blocks.specs.Kept.{all_differ, rows_fit, columns_differ}
@@ -106,7 +107,7 @@ no_exists _ _ _ (last_item s v ts a) = of_name s v ts a
     of_name : (s v : List (List ℕ)) (ts : Tokens) → AddsName s ts v → after_if ts ≡ None
     of_name _ _ _ (adds_name ns t n h) = of_test (is_word words.If t.tok)
       where
-        of_test : (b : Bool) → some_or (after (is_word words.Exists)) None (if b then Some [] else None) ≡ None
+        of_test : (b : Bool) → option_map_or (after (is_word words.Exists)) (if b then Some [] else None) None ≡ None
         of_test true = refl
         of_test false = refl
 no_exists _ _ _ (next_item s t v ts us c a g k) = of_name s t ts a c us g
@@ -118,7 +119,7 @@ no_exists _ _ _ (next_item s t v ts us c a g k) = of_name s t ts a c us g
     of_name : (s v : List (List ℕ)) (ts : Tokens) → AddsName s ts v → (c : At Token) (us : Tokens) → Is (is_sign signs.Comma) c → after_if (ts ++ c ∷ us) ≡ None
     of_name _ _ _ (adds_name ns t n h) c us g = of_test (is_word words.If t.tok)
       where
-        of_test : (b : Bool) → some_or (after (is_word words.Exists)) None (if b then Some (c ∷ us) else None) ≡ None
+        of_test : (b : Bool) → option_map_or (after (is_word words.Exists)) (if b then Some (c ∷ us) else None) None ≡ None
         of_test true = rw (comma_word c.tok g) refl
         of_test false = refl
 

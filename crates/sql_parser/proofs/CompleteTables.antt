@@ -1,5 +1,5 @@
 -- What the tokens spell is read: CREATE TABLE.
-use Rattle.std.proofs.Common.{◌≡◌, ℕ, suc, ◌<◌, ◌^◌, Bool, true, false, List, [], ◌∷◌, ◌++◌, length, map, Some, None, refl, sym, ap, subst, ◌∙◌, append_assoc, arith, rules}
+use Rattle.std.proofs.Common.{◌≡◌, ℕ, suc, ◌+◌, ◌<◌, ◌^◌, Bool, true, false, List, [], ◌∷◌, ◌++◌, length, map, Some, None, refl, sym, ap, subst, ◌∙◌, append_assoc, arith, rules}
 use Rattle.std.proofs.lemmas.Bool.{and_from, and_parts, or_parts, not_from_false, not-true, false_from_ne_true, lt-ltb}
 use Rattle.std.proofs.lemmas.Bool.Decides.{Decides-eqb}
 use Rattle.std.proofs.lemmas.List.{map-append, length-map}
@@ -20,11 +20,12 @@ use Rattle.sql_trees.specs.Tokens as tok
 use Rattle.sql_expressions.specs.Readers.{is_word, is_sign}
 use Rattle.sql_blocks.specs.Parts.{column_names}
 use Rattle.sql_blocks.specs.Kept.{all_differ, places_differ, key_fits, tree_name, table_kept}
-use Rattle.sql_parser.specs.Tables.{Placed, KeyRead, TableRead, Constraints, is_among, placed_names, empty_table, with_key, with_column, kind_of, key_add, key_at, constraints_at, column_at, table_add, made_name, first_lacking, keys_fault, completed, place_among, places_in, resolved, is_kept, resolved_keys, declared, finished, create_at, created}
+use Rattle.sql_parser.specs.Tables.{Placed, KeyRead, TableRead, Constraints, is_among, placed_names, empty_table, with_key, with_column, kind_of, key_add, key_at, constraints_at, column_at, table_add, made_name, first_lacking, text_fault, keys_fault, completed, place_among, resolved, declared, finished, create_at, created}
 use Rattle.sql_parser.specs.Inner.OneConstraint.{is_constraint}
+use Rattle.sql_parser.specs.Inner.Pieces.{is_kept, resolved_keys}
 use Rattle.sql_parser.specs.Grammar.{Is, Key, Names, Commas, placed, AddsColumn, adds_column, Says, no_more, not_null, primary_key, unique_key, AddsPart, a_column, a_primary, a_unique, Shallow}
 use Rattle.sql_parser.proofs.Keeping.{or_none}
-use Rattle.sql_parser.proofs.KeysKept.{key_among, names_kept, made, names_stay}
+use Rattle.sql_parser.proofs.KeysKept.{key_among, places_in, names_kept, made, names_stay}
 use Rattle.sql_parser.proofs.TablesKept.{key_differs}
 use Rattle.sql_parser.proofs.StmtLocals.{word_is}
 use Rattle.sql_parser.proofs.TableLocals.{says_end, says_no_more, not_turn, primary_turn, unique_turn, kind_turn}
@@ -36,15 +37,15 @@ use Rattle.sql_parser.proofs.CompleteStmts.{differ_pop}
 below : (m n : ℕ) → nat_lt m n ≡ true → m < n
 below m n h = search rules
 
-one_less : (m n : ℕ) → nat_lt (suc m) (suc n) ≡ true → nat_lt m n ≡ true
-one_less m n h = lt-ltb m n (omega (arith, below (suc m) (suc n) h))
+one_less : (m n : ℕ) → nat_lt (1 + m) (suc n) ≡ true → nat_lt m n ≡ true
+one_less m n h = lt-ltb m n (omega (arith, below (1 + m) (suc n) h))
 
 within_among : (columns : List (List ℕ)) (n : List ℕ) → nat_lt (place_among columns n) (length columns) ≡ true → is_among n columns ≡ true
 unfolding place_among
 within_among [] n e = absurd cc
 within_among (m ∷ ms) n e = of_test (bytes_eq m n) refl (within_among ms n) e
   where
-    of_test : (b : Bool) → bytes_eq m n ≡ b → (nat_lt (place_among ms n) (length ms) ≡ true → is_among n ms ≡ true) → nat_lt (if b then 0 else suc (place_among ms n)) (suc (length ms)) ≡ true → (b || is_among n ms) ≡ true
+    of_test : (b : Bool) → bytes_eq m n ≡ b → (nat_lt (place_among ms n) (length ms) ≡ true → is_among n ms ≡ true) → nat_lt (if not b then 1 + place_among ms n else 0) (suc (length ms)) ≡ true → (b || is_among n ms) ≡ true
     of_test true h go k = refl
     of_test false h go k = go (one_less (place_among ms n) (length ms) k)
 
@@ -167,7 +168,7 @@ among_not n (m ∷ ns) ms e =
     or_none (bytes_eq m n) (is_among n ns) b.0 (among_not n ns ms p.1)
 
 keys_right : (table : List ℕ) (columns earlier : List (List ℕ)) (ks : List KeyRead) → list_all (key_among columns) ks ≡ true → all_differ (earlier ++ map (made_name table) ks) ≡ true → keys_fault table columns earlier ks ≡ None
-unfolding keys_fault
+unfolding keys_fault text_fault
 keys_right table columns earlier [] a d = refl
 keys_right table columns earlier (k ∷ ks) a d =
     let p = and_parts (key_among columns k) (list_all (key_among columns) ks) a in
@@ -292,7 +293,7 @@ module _ (last : ℕ) where
   parts_come _ _ _ (a_unique t u o c ts columns hu ho q hc) f = (f.0, (key_pop t.keys (record { primary = false; columns = columns }) f.1).0)
 
   part_add : (s t : TableRead) (ts rest : Tokens) → Unit {0} → AddsPart s ts t → Apart t → Unconstrained rest → table_add last s (ts ++ rest) ≡ Ok (t, rest)
-  unfolding table_add
+  unfolding is_reserved table_add
   part_add _ _ _ rest b (a_column t n k name kind ts s hn hk says) f g = rw (name_no_key words.Primary refl n.tok name hn, name_no_key words.Unique refl n.tok name hn) (column_reads t n k name kind ts rest s hn hk says (column_pop t.columns (record { name = name; kind = kind; not_null = s.not_null }) f.0).1 g)
   part_add _ _ _ rest b (a_primary t p k o c ts columns hp hk ho q hc) f g = rw (hp, hk) (key_reads true t o c ts rest columns ho q hc (key_pop t.keys (record { primary = true; columns = columns }) f.1).1)
   part_add _ _ _ rest b (a_unique t u o c ts columns hu ho q hc) f g = rw (not_key words.Unique words.Primary u hu (λ e. cc), hu) (key_reads false t o c ts rest columns ho q hc (key_pop t.keys (record { primary = false; columns = columns }) f.1).1)

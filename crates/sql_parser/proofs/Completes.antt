@@ -5,6 +5,7 @@ use Rattle.iso_lexer.specs.declared.token.At.{At}
 use Rattle.iso_lexer.specs.declared.sql_token.SqlSign.TheVariants as signs
 use Rattle.sql_trees.specs.declared.word.Word.{Word}
 use Rattle.sql_trees.specs.declared.word.Word.TheVariants as words
+use Rattle.sql_trees.specs.Words.{is_reserved}
 use Rattle.sql_trees.specs.Tokens.{Token, Tokens, named}
 use Rattle.sql_trees.specs.Tokens as tok
 use Rattle.sql_trees.specs.Trees.{Tree}
@@ -60,6 +61,7 @@ part_ends [] p = tt
 part_ends (t ∷ ts) p = part_goes_on t.tok p
 
 part_named : (x : Token) → ends_part x ≡ true → named x ≡ None
+unfolding is_reserved
 part_named (tok.sign signs.Comma) e = refl
 part_named (tok.word words.From s) e = refl
 part_named (tok.word words.Where s) e = refl

@@ -2,6 +2,7 @@
 use Rattle.std.proofs.Common.{◌≡◌, ℕ, zero, suc, ◌+◌, ◌≤◌, List, [], length, Option, Some, None, subst, arith, length-append}
 use Rattle.std.proofs.lemmas.List.{length-map}
 use Rattle.std.specs.Prelude.{map, Result, Ok, Err, Bool, true, false, if◌then◌else◌}
+use Rattle.std.specs.Option.{option_map_or}
 use Rattle.iso_lexer.specs.declared.sql_token.SqlSign.TheVariants as signs
 use Rattle.sql_trees.specs.declared.fault.SqlFault.{SqlFault}
 use Rattle.sql_trees.specs.declared.fault.SqlFault.TheVariants.{BadColumns}
@@ -12,7 +13,7 @@ use Rattle.sql_trees.specs.declared.token.Tok.{Tok}
 use Rattle.sql_trees.specs.Statements.{ColumnTree, column_of}
 use Rattle.sql_trees.specs.Tokens.{Tokens, tok_at, tok_views}
 use Rattle.sql_expressions.specs.Results.{◌>>=◌}
-use Rattle.sql_expressions.specs.Readers.{after, is_sign, expect, is_word, place_of, items_at, keyword, more_at, name_at, some_or}
+use Rattle.sql_expressions.specs.Readers.{after, is_sign, expect, is_word, place_of, items_at, keyword, more_at, name_at}
 use Rattle.sql_blocks.specs.Parts.{column_names}
 use Rattle.sql_parser.proofs.Steps.{bind_ok, ok_same}
 use Rattle.sql_parser.specs.Tables.{Placed, KeyRead, TableRead, column_at, column_behind, empty_table, is_among, key_add, key_at, limits_at, table_add, with_column, with_key}
@@ -52,11 +53,11 @@ module _ (last : ℕ) where
   unfolding table_add
   add_counts t ts x e = of_primary (after (is_word words.Primary) ts) e
     where
-      of_unique : (o : Option Tokens) → some_or (key_at last false t) (column_at last t ts) o ≡ Ok x → OneMore t x
+      of_unique : (o : Option Tokens) → option_map_or (key_at last false t) o (column_at last t ts) ≡ Ok x → OneMore t x
       of_unique (Some us) h = key_counts false t us x h
       of_unique None h = column_counts t ts x h
 
-      of_primary : (o : Option Tokens) → some_or (λ us. keyword last words.Key us >>= key_at last true t) (some_or (key_at last false t) (column_at last t ts) (after (is_word words.Unique) ts)) o ≡ Ok x → OneMore t x
+      of_primary : (o : Option Tokens) → option_map_or (λ us. keyword last words.Key us >>= key_at last true t) o (option_map_or (key_at last false t) (after (is_word words.Unique) ts) (column_at last t ts)) ≡ Ok x → OneMore t x
       of_primary (Some us) h =
           let a = bind_ok (keyword last words.Key us) (key_at last true t) x h in
           key_counts true t a.0 x a.2
@@ -68,7 +69,7 @@ module _ (last : ℕ) where
       subst (λ (y : TableRead × Tokens). length y.0.columns ≤ length t.columns + 0) (ok_same (t, ts) x e) (omega arith)
   more_counts (suc n) t ts x e = of_comma (more_counts n) (after (is_sign signs.Comma) ts) e
     where
-      of_comma : ((u : TableRead) (us : Tokens) (y : TableRead × Tokens) → more_at (table_add last) n u us ≡ Ok y → length y.0.columns ≤ length u.columns + n) → (m : Option Tokens) → some_or (λ us. table_add last t us >>= λ y. more_at (table_add last) n y.0 y.1) (Ok (t, ts)) m ≡ Ok x → length x.0.columns ≤ length t.columns + suc n
+      of_comma : ((u : TableRead) (us : Tokens) (y : TableRead × Tokens) → more_at (table_add last) n u us ≡ Ok y → length y.0.columns ≤ length u.columns + n) → (m : Option Tokens) → option_map_or (λ us. table_add last t us >>= λ y. more_at (table_add last) n y.0 y.1) m (Ok (t, ts)) ≡ Ok x → length x.0.columns ≤ length t.columns + suc n
       of_comma more None h =
           subst (λ (y : TableRead × Tokens). length y.0.columns ≤ length t.columns + suc n) (ok_same (t, ts) x h) (omega arith)
       of_comma more (Some us) h =

@@ -3,7 +3,6 @@ use Rattle.std.proofs.Common.{◌≡◌, ℕ, zero, suc, ◌<◌, ◌≤◌, Lis
 use Rattle.std.specs.Prelude.{Result, Ok, Err, true, false, if◌then◌else◌}
 use Rattle.sql_trees.specs.declared.fault.SqlFault.{SqlFault}
 use Rattle.sql_trees.specs.declared.word.Word.TheVariants as words
-use Rattle.sql_trees.specs.Words.{same_word}
 use Rattle.sql_trees.specs.Tokens.{Token, Tokens}
 use Rattle.sql_trees.specs.Tokens as tok
 use Rattle.sql_expressions.specs.Results.{◌>>=◌}
@@ -28,7 +27,7 @@ module _ (last : ℕ) (c : Placed) (n : ℕ) where
   behind_word v (Err f) = refl
 
   pub turn_is : (s : Constraints) (ts : Tokens) → constraints_at last c (suc n) s ts ≡ (if constrained ts then (constraint_at last c s ts >>= λ x. constraints_at last c n x.0 x.1) else Ok (s, ts))
-  unfolding constraints_at same_word
+  unfolding constraints_at
   turn_is s [] = refl
   turn_is s (t ∷ ts) = of_token t.tok refl
     where

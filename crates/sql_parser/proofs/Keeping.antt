@@ -5,6 +5,7 @@ use Rattle.std.proofs.lemmas.List.{map-append}
 use Rattle.std.proofs.lemmas.List.Folds.{list_any-append}
 use Rattle.std.specs.List.{list_any, list_all}
 use Rattle.std.specs.Prelude.{Result, Ok, Err, Bool, true, false, not, ◌&&◌, ◌||◌, bytes_eq, option_map, if◌then◌else◌}
+use Rattle.std.specs.Option.{option_map_or}
 use Rattle.iso_lexer.specs.declared.sql_token.SqlSign.TheVariants as signs
 use Rattle.sql_trees.specs.declared.fault.SqlFault.{SqlFault}
 use Rattle.sql_trees.specs.declared.fault.SqlFault.TheVariants.{Syntax, BadColumns, LeftOut}
@@ -14,7 +15,7 @@ use Rattle.sql_trees.specs.Statements.{StmtTree, SetTree, ItemTree, OrderTree, S
 use Rattle.sql_trees.specs.Tokens.{Tokens}
 use Rattle.sql_trees.specs.Trees.{Tree, AggTree, CountRows, Of}
 use Rattle.sql_expressions.specs.Results.{◌>>=◌}
-use Rattle.sql_expressions.specs.Readers.{after, expect, is_sign, is_word, place_of, items_at, keyword, name_at, some_or, closed}
+use Rattle.sql_expressions.specs.Readers.{after, expect, is_sign, is_word, place_of, items_at, keyword, name_at, closed}
 use Rattle.sql_blocks.specs.Parts.{fits, set_columns, is_allowed}
 use Rattle.sql_blocks.specs.Kept.{is_shallow, maybe_shallow, item_shallow, all_differ, columns_differ, rows_fit, is_kept, makes_or_drops}
 use Rattle.sql_parser.specs.Readers.{tree_at, added}
@@ -104,7 +105,7 @@ module _ (last : ℕ) where
   unfolding columns_at
   columns_keep ts x e = of_open (after (is_sign signs.Open) ts) e
     where
-      of_open : (o : Option Tokens) → some_or (closed last (λ ns. Some ns) (items_at (distinct_add last) [])) (Ok (None, ts)) o ≡ Ok x → columns_differ x.0 ≡ true
+      of_open : (o : Option Tokens) → option_map_or (closed last (λ ns. Some ns) (items_at (distinct_add last) [])) o (Ok (None, ts)) ≡ Ok x → columns_differ x.0 ≡ true
       of_open None h = subst (λ (y : Option (List (List ℕ)) × Tokens). columns_differ y.0 ≡ true) (ok_same (None, ts) x h) refl
       of_open (Some us) h =
           let a = bind_ok (items_at (distinct_add last) [] us) (λ y. expect last (is_sign signs.Close) y.1 >>= λ rest. Ok (Some y.0, rest)) x h in
@@ -133,7 +134,7 @@ module _ (last : ℕ) where
   unfolding filter_at
   filter_keeps ts x e = of_where (after (is_word words.Where) ts) e
     where
-      of_where : (o : Option Tokens) → some_or (λ us. tree_at last us >>= λ e. Ok (Some e.0, e.1)) (Ok (None, ts)) o ≡ Ok x → maybe_shallow x.0 ≡ true
+      of_where : (o : Option Tokens) → option_map_or (λ us. tree_at last us >>= λ e. Ok (Some e.0, e.1)) o (Ok (None, ts)) ≡ Ok x → maybe_shallow x.0 ≡ true
       of_where None h = subst (λ (y : Option Tree × Tokens). maybe_shallow y.0 ≡ true) (ok_same (None, ts) x h) refl
       of_where (Some us) h =
           let a = bind_ok (tree_at last us) (λ y. Ok (Some y.0, y.1)) x h in
@@ -189,7 +190,7 @@ module _ (last : ℕ) where
   unfolding agg_at
   agg_keeps k ts x e = of_rows (rows_of k ts) e
     where
-      of_rows : (o : Option Tokens) → some_or (λ us. expect last (is_sign signs.Close) us >>= λ rest. Ok (CountRows, rest)) (closed last (Of k) (tree_at last) ts) o ≡ Ok x → agg_shallow x.0 ≡ true
+      of_rows : (o : Option Tokens) → option_map_or (λ us. expect last (is_sign signs.Close) us >>= λ rest. Ok (CountRows, rest)) o (closed last (Of k) (tree_at last) ts) ≡ Ok x → agg_shallow x.0 ≡ true
       of_rows (Some us) h =
           let a = bind_ok (expect last (is_sign signs.Close) us) (λ rest. Ok (CountRows, rest)) x h in
           subst (λ (y : AggTree × Tokens). agg_shallow y.0 ≡ true) (ok_same (CountRows, a.0) x a.2) refl
@@ -216,7 +217,7 @@ module _ (last : ℕ) where
           let n = bind_ok (alias_at last a.0.1) (λ n. Ok (Value a.0.0 n.0, n.1)) x a.2 in
           subst (λ (y : ItemTree × Tokens). item_shallow y.0 ≡ true) (ok_same (Value a.0.0 n.0.0, n.0.1) x n.2) (read_shallow last ts a.0 a.1)
 
-      of_star : (o : Option Tokens) → some_or (λ us. Ok (All, us)) (item_of last (call_at ts) ts) o ≡ Ok x → item_shallow x.0 ≡ true
+      of_star : (o : Option Tokens) → option_map_or (λ us. Ok (All, us)) o (item_of last (call_at ts) ts) ≡ Ok x → item_shallow x.0 ≡ true
       of_star (Some us) h = subst (λ (y : ItemTree × Tokens). item_shallow y.0 ≡ true) (ok_same (All, us) x h) refl
       of_star None h = of_call (call_at ts) h
 
@@ -244,7 +245,7 @@ module _ (last : ℕ) where
   unfolding order_at
   order_keeps ts x e = of_order (after (is_word words.Order) ts) e
     where
-      of_order : (o : Option Tokens) → some_or (λ us. keyword last words.By us >>= items_at (order_add last) []) (Ok ([], ts)) o ≡ Ok x → list_all key_shallow x.0 ≡ true
+      of_order : (o : Option Tokens) → option_map_or (λ us. keyword last words.By us >>= items_at (order_add last) []) o (Ok ([], ts)) ≡ Ok x → list_all key_shallow x.0 ≡ true
       of_order None h = subst (λ (y : List OrderTree × Tokens). list_all key_shallow y.0 ≡ true) (ok_same ([], ts) x h) refl
       of_order (Some us) h =
           let a = bind_ok (keyword last words.By us) (λ vs. items_at (order_add last) [] vs) x h in

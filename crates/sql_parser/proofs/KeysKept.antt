@@ -6,17 +6,19 @@ use Rattle.std.proofs.lemmas.List.{map-append, length-map}
 use Rattle.std.proofs.lemmas.List.Folds.{list_any-append, list_all-append}
 use Rattle.std.proofs.lemmas.Slice.Eq.{bytes_eq-Decides}
 use Rattle.std.specs.List.{list_any, list_all, filter}
-use Rattle.std.specs.Prelude.{Result, Ok, Err, Bool, true, false, not, ◌&&◌, ◌||◌, ◌==◌, nat_lt, bytes_eq, if◌then◌else◌}
+use Rattle.std.specs.Prelude.{Result, Ok, Err, Bool, true, false, not, ◌&&◌, ◌||◌, ◌==◌, nat_lt, bytes_eq, find, option_map, slice_index, if◌then◌else◌}
+use Rattle.std.specs.Option.{option_or, option_map_or}
 use Rattle.iso_lexer.specs.declared.sql_token.SqlSign.TheVariants as signs
 use Rattle.sql_trees.specs.declared.fault.SqlFault.{SqlFault}
 use Rattle.sql_trees.specs.declared.word.Word.TheVariants as words
 use Rattle.sql_trees.specs.Statements.{StmtTree, ColumnTree, KeyTree, key_name}
 use Rattle.sql_trees.specs.Tokens.{Tokens}
 use Rattle.sql_expressions.specs.Results.{◌>>=◌}
-use Rattle.sql_expressions.specs.Readers.{expect, is_sign, is_word, some_or, items_at, keyword, name_at}
+use Rattle.sql_expressions.specs.Readers.{expect, is_sign, is_word, items_at, keyword, name_at}
 use Rattle.sql_blocks.specs.Parts.{column_names}
 use Rattle.sql_blocks.specs.Kept.{all_differ, places_differ, names_at, key_fits, tree_name, table_kept}
-use Rattle.sql_parser.specs.Tables.{Placed, KeyRead, TableRead, is_among, placed_names, empty_table, made_name, first_place, first_lacking, text_fault, keys_fault, completed, place_among, places_in, resolved, is_kept, resolved_keys, declared, finished, table_add, create_at, created}
+use Rattle.sql_parser.specs.Tables.{Placed, KeyRead, TableRead, is_among, placed_names, empty_table, made_name, first_lacking, text_fault, keys_fault, completed, place_among, resolved, declared, finished, table_add, create_at, created}
+use Rattle.sql_parser.specs.Inner.Pieces.{is_kept, resolved_keys}
 use Rattle.sql_trees.specs.declared.fault.SqlFault.TheVariants.{BadColumns}
 use Rattle.sql_parser.proofs.Keeping.{FineOrNot, differ_push, or_none}
 use Rattle.sql_parser.proofs.Steps.{bind_ok, ok_same}
@@ -32,7 +34,7 @@ text_none : (b : Bool) (p : ℕ) (o : Option ℕ) → (if b then Some p else o) 
 text_none true p o e = absurd cc
 text_none false p o e = (refl, e)
 
-both_none : (a b : Option ℕ) → some_or (λ place. Some place) b a ≡ None → (a ≡ None) × (b ≡ None)
+both_none : (a b : Option ℕ) → option_or a b ≡ None → (a ≡ None) × (b ≡ None)
 both_none (Some n) b e = absurd cc
 both_none None b e = (refl, e)
 
@@ -40,16 +42,16 @@ none_lacks : (columns : List (List ℕ)) (ns : List Placed) → first_lacking co
 none_lacks columns [] e = refl
 none_lacks columns (n ∷ ns) e = of_test (is_among n.name columns) refl (none_lacks columns ns) e
   where
-    of_test : (b : Bool) → is_among n.name columns ≡ b → (first_lacking columns ns ≡ None → list_all (λ m. is_among m columns) (placed_names ns) ≡ true) → (if b then first_lacking columns ns else Some n.place) ≡ None → list_all (λ m. is_among m columns) (n.name ∷ placed_names ns) ≡ true
+    of_test : (b : Bool) → is_among n.name columns ≡ b → (first_lacking columns ns ≡ None → list_all (λ m. is_among m columns) (placed_names ns) ≡ true) → option_map (λ (m : Placed). m.place) (if not b then Some n else find (λ m. not (is_among m.name columns)) ns) ≡ None → list_all (λ m. is_among m columns) (n.name ∷ placed_names ns) ≡ true
     of_test true h go k = and_from (is_among n.name columns) (list_all (λ m. is_among m columns) (placed_names ns)) h (go k)
     of_test false h go k = absurd cc
 
 no_fault : (table : List ℕ) (columns earlier : List (List ℕ)) (ks : List KeyRead) → keys_fault table columns earlier ks ≡ None → all_differ earlier ≡ true → (all_differ (earlier ++ map (made_name table) ks) ≡ true) × (list_all (key_among columns) ks ≡ true)
-unfolding keys_fault
+unfolding keys_fault text_fault
 no_fault table columns earlier [] e h = (ap all_differ (append-nil earlier) ∙ h, refl)
 no_fault table columns earlier (k ∷ ks) e h =
     let p = both_none (text_fault (made_name table k) columns earlier k) (keys_fault table columns (earlier ++ made_name table k ∷ []) ks) e in
-    let q = text_none (is_among (made_name table k) earlier) (first_place k.columns) (first_lacking columns k.columns) p.0 in
+    let q = text_none (is_among (made_name table k) earlier) (slice_index (map (λ (n : Placed). n.place) k.columns) 0) (first_lacking columns k.columns) p.0 in
     let r = no_fault table columns (earlier ++ made_name table k ∷ []) ks p.1 (differ_push earlier (made_name table k) h q.0) in
     (ap all_differ (sym (append_assoc earlier (made_name table k ∷ []) (map (made_name table) ks))) ∙ r.0, and_from (key_among columns k) (list_all (key_among columns) ks) (none_lacks columns k.columns q.1) r.1)
 
@@ -64,9 +66,16 @@ unfolding place_among
 place_ok [] n e = absurd cc
 place_ok (m ∷ ms) n e = of_test (bytes_eq m n) refl (place_ok ms n) e
   where
-    of_test : (b : Bool) → bytes_eq m n ≡ b → (is_among n ms ≡ true → PlaceOk ms n (place_among ms n)) → (b || is_among n ms) ≡ true → PlaceOk (m ∷ ms) n (if b then 0 else suc (place_among ms n))
+    of_test : (b : Bool) → bytes_eq m n ≡ b → (is_among n ms ≡ true → PlaceOk ms n (place_among ms n)) → (b || is_among n ms) ≡ true → PlaceOk (m ∷ ms) n (if not b then 1 + place_among ms n else 0)
     of_test true h go k = record { within = omega arith; back = (bytes_eq-Decides m n).0 h }
-    of_test false h go k = let p = go k in record { within = omega (arith, p.within); back = p.back }
+    of_test false h go k =
+        let p = go k in
+        let next : suc (place_among ms n) ≡ 1 + place_among ms n = omega arith in
+        record { within = omega (arith, p.within); back = subst (λ i. get_or (m ∷ ms) i [] ≡ n) next p.back }
+
+-- the places of these columns
+abbrev pub places_in : List (List ℕ) → List Placed → List ℕ
+places_in columns ns = map (λ n. place_among columns n.name) ns
 
 names_back : (columns : List (List ℕ)) (ns : List Placed) → list_all (λ n. is_among n columns) (placed_names ns) ≡ true → names_at columns (places_in columns ns) ≡ placed_names ns
 names_back columns [] e = refl
@@ -234,7 +243,7 @@ finished_fine : (name : List ℕ) (bound : ℕ) (t : TableRead) (ts : Tokens) �
 unfolding finished
 finished_fine name bound t ts w less = of_fault (keys_fault name (column_names t.columns) [] t.keys) refl
   where
-    of_fault : (o : Option ℕ) → keys_fault name (column_names t.columns) [] t.keys ≡ o → FineOrNot true (some_or (λ place. Err (BadColumns place)) (Ok (created name t)) o)
+    of_fault : (o : Option ℕ) → keys_fault name (column_names t.columns) [] t.keys ≡ o → FineOrNot true (option_map_or (λ place. Err (BadColumns place)) o (Ok (created name t)))
     of_fault (Some place) e = tt
     of_fault None e =
         let cols = column_names t.columns in

@@ -1,6 +1,7 @@
 -- Where reading stops depends on the tokens up to there alone: the forms that readings of statements are made of.
 use Rattle.std.proofs.Common.{◌≡◌, ℕ, zero, suc, ◌≤◌, Bool, true, false, List, [], ◌∷◌, ◌++◌, length, Option, Some, None, refl, sym, ap, subst, ◌∙◌, append_assoc, append-nil, length-append, arith}
 use Rattle.std.specs.Prelude.{Result, Ok, Err}
+use Rattle.std.specs.Option.{option_map_or}
 use Rattle.iso_lexer.specs.declared.token.At.{At}
 use Rattle.iso_lexer.specs.declared.sql_token.SqlSign.TheVariants as signs
 use Rattle.sql_trees.specs.declared.fault.SqlFault.{SqlFault}
@@ -8,7 +9,7 @@ use Rattle.sql_trees.specs.declared.fault.SqlFault.TheVariants.{Syntax, TooDeep}
 use Rattle.sql_trees.specs.Tokens.{Token, Tokens, named}
 use Rattle.sql_trees.specs.Trees.{Tree}
 use Rattle.sql_expressions.specs.Results.{◌>>=◌}
-use Rattle.sql_expressions.specs.Readers.{misplaced, place_of, expect, is_sign, after, Reader, some_or, name_at, more_at, items_at}
+use Rattle.sql_expressions.specs.Readers.{misplaced, place_of, expect, is_sign, after, Reader, name_at, more_at, items_at}
 use Rattle.sql_expressions.specs.Laws.{head}
 use Rattle.sql_expressions.proofs.Local.{first_is, nothing_is, head_after}
 use Rattle.sql_parser.specs.Grammar.{Is, Names, NameIs, is_name, Commas, last_item, next_item}
@@ -164,8 +165,8 @@ module _ (last : ℕ) (E : Tokens → Tree → Type 0) (W Any : Type 0) where
       of_test true h = behind K p q t us (λ vs. there_is t vs h) (there t us h)
       of_test false h = switch_at K p' q t us (λ vs. none t vs h) l
 
-  pub chosen : {B : Type 0} (K : Tokens → B → Type 0) (is_it : Token → Bool) (p p' : Reader B) (ts : Tokens) → ((t : At Token) (us : Tokens) → Is is_it t → Local (λ xs w. K (t ∷ xs) w) p us) → Local K p' ts → Local K (λ r. some_or p (p' r) (after is_it r)) ts
-  chosen K is_it p p' ts there l = either K is_it p p' (λ r. some_or p (p' r) (after is_it r)) ts (λ t vs h. rw h refl) (λ t vs h. rw h refl) refl there l
+  pub chosen : {B : Type 0} (K : Tokens → B → Type 0) (is_it : Token → Bool) (p p' : Reader B) (ts : Tokens) → ((t : At Token) (us : Tokens) → Is is_it t → Local (λ xs w. K (t ∷ xs) w) p us) → Local K p' ts → Local K (λ r. option_map_or p (after is_it r) (p' r)) ts
+  chosen K is_it p p' ts there l = either K is_it p p' (λ r. option_map_or p (after is_it r) (p' r)) ts (λ t vs h. rw h refl) (λ t vs h. rw h refl) refl there l
 
   -- ---- lists
 

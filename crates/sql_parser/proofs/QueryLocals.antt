@@ -1,6 +1,7 @@
 -- SELECT is read as far as its tokens allow.
 use Rattle.std.proofs.Common.{◌≡◌, ℕ, Bool, true, false, List, [], ◌∷◌, ◌++◌, Option, Some, None, refl, sym, ap, subst, ◌∙◌, append-nil}
 use Rattle.std.specs.Prelude.{Result, Ok, Err, option_map, if◌then◌else◌}
+use Rattle.std.specs.Option.{option_map_or}
 use Rattle.iso_lexer.specs.declared.token.At.{At}
 use Rattle.iso_lexer.specs.declared.sql_token.SqlSign.TheVariants as signs
 use Rattle.iso_lexer.specs.Names as names
@@ -11,19 +12,21 @@ use Rattle.sql_trees.specs.declared.expr.AggKind.{AggKind}
 use Rattle.sql_trees.specs.declared.expr.AggKind.TheVariants as aggs
 use Rattle.sql_trees.specs.declared.stmt.Lock.{Lock}
 use Rattle.sql_trees.specs.declared.stmt.Lock.TheVariants as locks
+use Rattle.sql_trees.specs.Words.{is_reserved}
 use Rattle.sql_trees.specs.Statements.{StmtTree, ItemTree, OrderTree, SelectTree, Selects, All, Value, Aggregate}
 use Rattle.sql_trees.specs.Tokens.{Token, Tokens, named}
 use Rattle.sql_trees.specs.Tokens as tok
 use Rattle.sql_trees.specs.Trees.{Tree, AggTree, CountRows, Of}
 use Rattle.sql_expressions.specs.Results.{◌>>=◌}
-use Rattle.sql_expressions.specs.Readers.{expect, is_word, is_sign, after, keyword, name_at, items_at, Reader, some_or}
+use Rattle.sql_expressions.specs.Readers.{expect, is_word, is_sign, after, keyword, name_at, items_at, Reader}
 use Rattle.sql_expressions.specs.Laws.{head}
 use Rattle.sql_expressions.proofs.Local.{first_is, head_after}
 use Rattle.sql_blocks.specs.Parts.{column_names, is_allowed}
+use Rattle.sql_expressions.specs.Reading.{agg_kind}
 use Rattle.sql_parser.specs.Readers.{tree_at, added}
 use Rattle.sql_parser.specs.Tables.{TableRead, keys_fault, created}
 use Rattle.sql_parser.specs.Changes.{filter_at}
-use Rattle.sql_parser.specs.Queries.{agg_kind, call_at, maybe_name, direction_at, alias_at, agg_at, item_of, item_at, from_at, nulls_at, order_add, order_at, lock_at, query_of, select_at}
+use Rattle.sql_parser.specs.Queries.{call_at, maybe_name, direction_at, alias_at, agg_at, item_of, item_at, from_at, nulls_at, order_add, order_at, lock_at, query_of, select_at}
 use Rattle.sql_parser.specs.Grammar.{Is, Key, Names, Commas, AliasIs, no_alias, as_alias, bare_alias, AggIs, all_rows, of_values, AddsItem, a_star, a_value, an_aggregate, FromIs, no_table, from_table, DirectionIs, as_ever, ascending, descending, NullsAre, unsaid, nulls_first, nulls_last, AddsKey, adds_key, OrderIs, unordered, ordered, LockIs, no_lock, for_update, for_share, WhereIs, unfiltered, Spells, select}
 use Rattle.sql_parser.proofs.Locals.{Inhabited, Local, Begun, took, stopped, gives, gives_at, gives_end, behind, same_at, switch_at, switch_end, in_turn, mapped, token_then, token_last, name_then, list_local, some_list, chosen}
 use Rattle.sql_parser.proofs.StmtLocals.{a_word, a_sign, a_name, the_name, key_is}
@@ -60,7 +63,7 @@ after_same is_it (x ∷ xs) ys h e =
     of_test false k g = rw k refl
 
 abbrev pub call_of : Option AggKind → Option Tokens → Option (AggKind × Tokens)
-call_of k o = some_or (λ j. option_map (λ us. (j, us)) o) None k
+call_of k o = option_map_or (λ j. option_map (λ us. (j, us)) o) k None
 
 call_none : (k : Option AggKind) (xs ys : Tokens) → head xs ≡ head ys → call_of k (after (is_sign signs.Open) xs) ≡ None → call_of k (after (is_sign signs.Open) ys) ≡ None
 call_none None xs ys h e = refl
@@ -156,6 +159,7 @@ module _ (last : ℕ) (E : Tokens → Tree → Type 0) (W Any : Type 0) (an_expr
   name_reads t n h = let o = one_name t n h in (Value o.0 None, rw (o.1, no_alias_at) refl)
 
   agg_named : (x : Token) (k : AggKind) → agg_kind x ≡ Some k → (n : List ℕ) × (named x ≡ Some n)
+  unfolding is_reserved
   agg_named (tok.word words.Count s) k e = (names.decoded (names.folded s), refl)
   agg_named (tok.word words.Sum s) k e = (names.decoded (names.folded s), refl)
   agg_named (tok.word words.Min s) k e = (names.decoded (names.folded s), refl)
@@ -227,7 +231,7 @@ module _ (last : ℕ) (E : Tokens → Tree → Type 0) (W Any : Type 0) (an_expr
 
   nulls_local : (down : Bool) (ts : Tokens) → Local last E W Any (NullsAre down) (nulls_at last down) ts
   unfolding nulls_at
-  nulls_local down ts = chosen last E W Any (NullsAre down) (is_word words.Nulls) (λ us. some_or (λ rest. Ok (true, rest)) (keyword last words.Last us >>= λ rest. Ok (false, rest)) (after (is_word words.First) us)) (λ us. Ok (down, us)) ts
+  nulls_local down ts = chosen last E W Any (NullsAre down) (is_word words.Nulls) (λ us. option_map_or (λ rest. Ok (true, rest)) (after (is_word words.First) us) (keyword last words.Last us >>= λ rest. Ok (false, rest))) (λ us. Ok (down, us)) ts
       (λ n us hn. chosen last E W Any (λ xs w. NullsAre down (n ∷ xs) w) (is_word words.First) (λ rest. Ok (true, rest)) (λ vs. keyword last words.Last vs >>= λ rest. Ok (false, rest)) us
       (λ f vs hf. gives last E W Any (λ xs w. NullsAre down (n ∷ f ∷ xs) w) true vs (nulls_first n f hn hf))
       (token_last last E W Any (λ xs w. NullsAre down (n ∷ xs) w) (is_word words.Last) false us (a_word words.Last ∷ [], false, nulls_last n (a_word words.Last) hn (key_is words.Last [])) (λ l hl. nulls_last n l hn hl)))
@@ -241,7 +245,7 @@ module _ (last : ℕ) (E : Tokens → Tree → Type 0) (W Any : Type 0) (an_expr
 
   direction_local : (ts : Tokens) → Local last E W Any DirectionIs direction_at ts
   unfolding direction_at
-  direction_local ts = chosen last E W Any DirectionIs (is_word words.Asc) (λ us. Ok (false, us)) (λ us. some_or (λ vs. Ok (true, vs)) (Ok (false, us)) (after (is_word words.Desc) us)) ts
+  direction_local ts = chosen last E W Any DirectionIs (is_word words.Asc) (λ us. Ok (false, us)) (λ us. option_map_or (λ vs. Ok (true, vs)) (after (is_word words.Desc) us) (Ok (false, us))) ts
       (λ a us ha. gives last E W Any (λ xs w. DirectionIs (a ∷ xs) w) false us (ascending a ha))
       (chosen last E W Any DirectionIs (is_word words.Desc) (λ us. Ok (true, us)) (λ us. Ok (false, us)) ts
       (λ d us hd. gives last E W Any (λ xs w. DirectionIs (d ∷ xs) w) true us (descending d hd))
@@ -270,7 +274,7 @@ module _ (last : ℕ) (E : Tokens → Tree → Type 0) (W Any : Type 0) (an_expr
 
   lock_local : (ts : Tokens) → Local last E W Any LockIs (lock_at last) ts
   unfolding lock_at
-  lock_local ts = chosen last E W Any LockIs (is_word words.For) (λ us. some_or (λ rest. Ok (Some locks.Update, rest)) (keyword last words.Share us >>= λ rest. Ok (Some locks.Share, rest)) (after (is_word words.Update) us)) (λ us. Ok (None, us)) ts
+  lock_local ts = chosen last E W Any LockIs (is_word words.For) (λ us. option_map_or (λ rest. Ok (Some locks.Update, rest)) (after (is_word words.Update) us) (keyword last words.Share us >>= λ rest. Ok (Some locks.Share, rest))) (λ us. Ok (None, us)) ts
       (λ f us hf. chosen last E W Any (λ xs w. LockIs (f ∷ xs) w) (is_word words.Update) (λ rest. Ok (Some locks.Update, rest)) (λ vs. keyword last words.Share vs >>= λ rest. Ok (Some locks.Share, rest)) us
       (λ u vs hu. gives last E W Any (λ xs w. LockIs (f ∷ u ∷ xs) w) (Some locks.Update) vs (for_update f u hf hu))
       (token_last last E W Any (λ xs w. LockIs (f ∷ xs) w) (is_word words.Share) (Some locks.Share) us (a_word words.Share ∷ [], Some locks.Share, for_share f (a_word words.Share) hf (key_is words.Share [])) (λ s hs. for_share f s hf hs)))

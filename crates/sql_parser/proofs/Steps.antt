@@ -4,11 +4,12 @@ use Rattle.std.proofs.lemmas.Bool.{and_from}
 use Rattle.std.proofs.lemmas.List.Folds.{list_all-append}
 use Rattle.std.specs.List.{list_all}
 use Rattle.std.specs.Prelude.{Result, Ok, Err, Bool, true, false, if◌then◌else◌}
+use Rattle.std.specs.Option.{option_map_or}
 use Rattle.iso_lexer.specs.declared.sql_token.SqlSign.TheVariants as signs
 use Rattle.sql_trees.specs.declared.fault.SqlFault.{SqlFault}
 use Rattle.sql_trees.specs.Tokens.{Tokens}
 use Rattle.sql_expressions.specs.Results.{◌>>=◌}
-use Rattle.sql_expressions.specs.Readers.{after, is_sign, items_at, more_at, some_or}
+use Rattle.sql_expressions.specs.Readers.{after, is_sign, items_at, more_at}
 
 -- what a reading in steps has met
 pub bind_ok : {A B : Type 0} (r : Result A SqlFault) (f : A → Result B SqlFault) (y : B) → (r >>= f) ≡ Ok y → (x : A) × (r ≡ Ok x) × (f x ≡ Ok y)
@@ -36,7 +37,7 @@ module _ {S : Type 0} (add : S → Tokens → Result (S × Tokens) SqlFault) (P 
   more_keep zero s ts x p e = subst (λ (y : S × Tokens). P y.0 y.1) (ok_same (s, ts) x e) p
   more_keep (suc n) s ts x p e = of_comma (more_keep n) (after (is_sign signs.Comma) ts) refl e
     where
-      of_comma : ((t : S) (us : Tokens) (y : S × Tokens) → P t us → more_at add n t us ≡ Ok y → P y.0 y.1) → (m : Option Tokens) → after (is_sign signs.Comma) ts ≡ m → some_or (λ us. add s us >>= λ y. more_at add n y.0 y.1) (Ok (s, ts)) m ≡ Ok x → P x.0 x.1
+      of_comma : ((t : S) (us : Tokens) (y : S × Tokens) → P t us → more_at add n t us ≡ Ok y → P y.0 y.1) → (m : Option Tokens) → after (is_sign signs.Comma) ts ≡ m → option_map_or (λ us. add s us >>= λ y. more_at add n y.0 y.1) m (Ok (s, ts)) ≡ Ok x → P x.0 x.1
       of_comma go None h k = subst (λ (y : S × Tokens). P y.0 y.1) (ok_same (s, ts) x k) p
       of_comma go (Some us) h k =
           let a = bind_ok (add s us) (λ y. more_at add n y.0 y.1) x k in

@@ -1,6 +1,7 @@
 -- Statements are read as far as their tokens allow.
 use Rattle.std.proofs.Common.{◌≡◌, ℕ, Bool, true, false, List, [], ◌∷◌, ◌++◌, length, Option, Some, None, refl, sym, ap, subst, ◌∙◌, append-nil, arith}
 use Rattle.std.specs.Prelude.{Ok, Err}
+use Rattle.std.specs.Option.{option_map_or}
 use denote.Enum.Bare.{same_true, true_same}
 use Rattle.iso_lexer.specs.declared.token.At.{At}
 use Rattle.iso_lexer.specs.declared.sql_token.SqlSign.{SqlSign}
@@ -10,14 +11,14 @@ use Rattle.sql_trees.specs.declared.word.Word.{Word}
 use Rattle.sql_trees.specs.declared.word.Word.TheVariants as words
 use Rattle.sql_trees.specs.declared.stmt.Level.{Level}
 use Rattle.sql_trees.specs.declared.stmt.Level.TheVariants.{ReadCommitted, RepeatableRead}
-use Rattle.sql_trees.specs.Words.{same_word}
 use Rattle.sql_trees.specs.contracts.word.Word.{the_type}
+use Rattle.sql_trees.specs.Words.{is_reserved}
 use Rattle.sql_trees.specs.Statements.{StmtTree, Begin, SetTransaction, SetDeadlockTimeout, DropTables}
 use Rattle.sql_trees.specs.Tokens.{Token, Tokens, named}
 use Rattle.sql_trees.specs.Tokens as tok
 use Rattle.sql_trees.specs.Trees.{Tree}
 use Rattle.sql_expressions.specs.Results.{◌>>=◌}
-use Rattle.sql_expressions.specs.Readers.{expect, is_word, after, keyword, items_at, Reader, some_or, name_at}
+use Rattle.sql_expressions.specs.Readers.{expect, is_word, after, keyword, items_at, Reader, name_at}
 use Rattle.sql_expressions.proofs.Shapes.{some_token}
 use Rattle.sql_parser.specs.Readers.{is_unquoted, past, misplaced_word, added}
 use Rattle.sql_parser.specs.Transactions.{is_work, is_scope, is_to, is_setting, level_at, begin_at, start_at, parameter_at, set_at}
@@ -29,11 +30,9 @@ use Rattle.sql_parser.proofs.Locals.{Inhabited, Begins, Local, gives, stuck_at, 
 -- ---- tokens that can stand there
 
 pub key_is : (w : Word) (s : List ℕ) → is_word w (tok.word w s) ≡ true
-unfolding same_word
 key_is w s = true_same the_type w w refl
 
 pub word_is : (w : Word) (x : Token) → is_word w x ≡ true → (s : List ℕ) × (x ≡ tok.word w s)
-unfolding same_word
 word_is w (tok.word v s) e = (s, ap (λ u. tok.word u s) (same_true the_type tt v w e))
 word_is w _ e = absurd cc
 
@@ -69,9 +68,9 @@ module _ (last : ℕ) (E : Tokens → Tree → Type 0) (W Any : Type 0) where
   level_local : (i : At Token) → Key words.Isolation i → (ts : Tokens) → Local last E W Any (λ xs w. IsolationIs (i ∷ xs) w) (level_at last) ts
   unfolding level_at
   level_local i hi us =
-      token_then last E W Any (λ xs w. IsolationIs (i ∷ xs) w) (is_word words.Level) (λ vs. some_or (λ ws. some_or (λ rest. Ok (ReadCommitted, rest)) (keyword last words.Uncommitted ws >>= λ rest. Ok (ReadCommitted, rest)) (after (is_word words.Committed) ws)) (keyword last words.Repeatable vs >>= λ ws. keyword last words.Read ws >>= λ rest. Ok (RepeatableRead, rest)) (after (is_word words.Read) vs)) us
+      token_then last E W Any (λ xs w. IsolationIs (i ∷ xs) w) (is_word words.Level) (λ vs. option_map_or (λ ws. option_map_or (λ rest. Ok (ReadCommitted, rest)) (after (is_word words.Committed) ws) (keyword last words.Uncommitted ws >>= λ rest. Ok (ReadCommitted, rest))) (after (is_word words.Read) vs) (keyword last words.Repeatable vs >>= λ ws. keyword last words.Read ws >>= λ rest. Ok (RepeatableRead, rest))) us
       (a_word words.Level ∷ a_word words.Read ∷ a_word words.Committed ∷ [], ReadCommitted, committed i (a_word words.Level) (a_word words.Read) (a_word words.Committed) hi (key_is words.Level []) (key_is words.Read []) (key_is words.Committed [])) (λ l vs hl.
-      chosen last E W Any (λ xs w. IsolationIs (i ∷ l ∷ xs) w) (is_word words.Read) (λ ws. some_or (λ rest. Ok (ReadCommitted, rest)) (keyword last words.Uncommitted ws >>= λ rest. Ok (ReadCommitted, rest)) (after (is_word words.Committed) ws)) (λ ws. keyword last words.Repeatable ws >>= λ xs. keyword last words.Read xs >>= λ rest. Ok (RepeatableRead, rest)) vs
+      chosen last E W Any (λ xs w. IsolationIs (i ∷ l ∷ xs) w) (is_word words.Read) (λ ws. option_map_or (λ rest. Ok (ReadCommitted, rest)) (after (is_word words.Committed) ws) (keyword last words.Uncommitted ws >>= λ rest. Ok (ReadCommitted, rest))) (λ ws. keyword last words.Repeatable ws >>= λ xs. keyword last words.Read xs >>= λ rest. Ok (RepeatableRead, rest)) vs
       (λ r ws hr. chosen last E W Any (λ xs w. IsolationIs (i ∷ l ∷ r ∷ xs) w) (is_word words.Committed) (λ rest. Ok (ReadCommitted, rest)) (λ xs. keyword last words.Uncommitted xs >>= λ rest. Ok (ReadCommitted, rest)) ws
       (λ c xs hc. gives last E W Any (λ ys w. IsolationIs (i ∷ l ∷ r ∷ c ∷ ys) w) ReadCommitted xs (committed i l r c hi hl hr hc))
       (token_last last E W Any (λ xs w. IsolationIs (i ∷ l ∷ r ∷ xs) w) (is_word words.Uncommitted) ReadCommitted ws (a_word words.Committed ∷ [], ReadCommitted, committed i l r (a_word words.Committed) hi hl hr (key_is words.Committed [])) (λ u hu. uncommitted i l r u hi hl hr hu)))
@@ -151,6 +150,7 @@ module _ (last : ℕ) (E : Tokens → Tree → Type 0) (W Any : Type 0) where
 
   -- IF may be a name, where no EXISTS follows
   if_named : (i : At Token) → Key words.If i → (n : List ℕ) × Names n i
+  unfolding is_reserved
   if_named i h = let w = word_is words.If i.tok h in (names.decoded (names.folded w.0), ap named w.1)
 
   drop_named_local : (d t i : At Token) (n : List ℕ) → Key words.Drop d → Key words.Table t → Names n i → (ts : Tokens) → Local last E W Any (λ xs w. Spells E (d ∷ t ∷ i ∷ xs) w) (λ vs. drop_of last false (i ∷ vs)) ts
@@ -162,22 +162,22 @@ module _ (last : ℕ) (E : Tokens → Tree → Type 0) (W Any : Type 0) where
       (λ xs ns q. drop d t (i ∷ xs) ns hd ht (joined last E W Any (added (name_at last)) AddsName adds_some_name name_add_local [] (n ∷ []) ns (i ∷ []) xs (adds_name [] i n hi) q))
       (tail_local last E W Any (added (name_at last)) AddsName adds_some_name name_add_local (length ts) (n ∷ []) ts (omega arith)))
 
-  drop_names_token : (d t i : At Token) (us : Tokens) (b : Bool) → Key words.Drop d → Key words.Table t → is_word words.If i.tok ≡ b → Local last E W Any (λ xs w. Spells E (d ∷ t ∷ xs) w) (λ vs. some_or (drop_of last true) (drop_of last false vs) (after_if vs)) (i ∷ us)
-  drop_names_token d t i us false hd ht h = switch_at last E W Any (λ xs w. Spells E (d ∷ t ∷ xs) w) (drop_of last false) (λ vs. some_or (drop_of last true) (drop_of last false vs) (after_if vs)) i us (λ vs. rw h refl) (drop_plain_local d t hd ht (i ∷ us))
+  drop_names_token : (d t i : At Token) (us : Tokens) (b : Bool) → Key words.Drop d → Key words.Table t → is_word words.If i.tok ≡ b → Local last E W Any (λ xs w. Spells E (d ∷ t ∷ xs) w) (λ vs. option_map_or (drop_of last true) (after_if vs) (drop_of last false vs)) (i ∷ us)
+  drop_names_token d t i us false hd ht h = switch_at last E W Any (λ xs w. Spells E (d ∷ t ∷ xs) w) (drop_of last false) (λ vs. option_map_or (drop_of last true) (after_if vs) (drop_of last false vs)) i us (λ vs. rw h refl) (drop_plain_local d t hd ht (i ∷ us))
   drop_names_token d t i us true hd ht h =
       let n = if_named i h in
-      behind last E W Any (λ xs w. Spells E (d ∷ t ∷ xs) w) (λ vs. some_or (drop_of last true) (drop_of last false (i ∷ vs)) (after (is_word words.Exists) vs)) (λ vs. some_or (drop_of last true) (drop_of last false vs) (after_if vs)) i us (λ vs. rw h refl)
-      (either last E W Any (λ xs w. Spells E (d ∷ t ∷ i ∷ xs) w) (is_word words.Exists) (drop_of last true) (λ vs. drop_of last false (i ∷ vs)) (λ vs. some_or (drop_of last true) (drop_of last false (i ∷ vs)) (after (is_word words.Exists) vs)) us
+      behind last E W Any (λ xs w. Spells E (d ∷ t ∷ xs) w) (λ vs. option_map_or (drop_of last true) (after (is_word words.Exists) vs) (drop_of last false (i ∷ vs))) (λ vs. option_map_or (drop_of last true) (after_if vs) (drop_of last false vs)) i us (λ vs. rw h refl)
+      (either last E W Any (λ xs w. Spells E (d ∷ t ∷ i ∷ xs) w) (is_word words.Exists) (drop_of last true) (λ vs. drop_of last false (i ∷ vs)) (λ vs. option_map_or (drop_of last true) (after (is_word words.Exists) vs) (drop_of last false (i ∷ vs))) us
       (λ e vs g. rw g refl) (λ e vs g. rw g refl) refl
       (λ e vs he. drop_if_local d t i e hd ht h he vs)
       (drop_named_local d t i n.0 hd ht n.1 us))
 
-  drop_names_local : (d t : At Token) (ts : Tokens) → Key words.Drop d → Key words.Table t → Local last E W Any (λ xs w. Spells E (d ∷ t ∷ xs) w) (λ vs. some_or (drop_of last true) (drop_of last false vs) (after_if vs)) ts
-  drop_names_local d t [] hd ht = switch_end last E W Any (λ xs w. Spells E (d ∷ t ∷ xs) w) (drop_of last false) (λ vs. some_or (drop_of last true) (drop_of last false vs) (after_if vs)) refl (drop_plain_local d t hd ht [])
+  drop_names_local : (d t : At Token) (ts : Tokens) → Key words.Drop d → Key words.Table t → Local last E W Any (λ xs w. Spells E (d ∷ t ∷ xs) w) (λ vs. option_map_or (drop_of last true) (after_if vs) (drop_of last false vs)) ts
+  drop_names_local d t [] hd ht = switch_end last E W Any (λ xs w. Spells E (d ∷ t ∷ xs) w) (drop_of last false) (λ vs. option_map_or (drop_of last true) (after_if vs) (drop_of last false vs)) refl (drop_plain_local d t hd ht [])
   drop_names_local d t (i ∷ us) hd ht = drop_names_token d t i us (is_word words.If i.tok) hd ht refl
 
   pub drop_local : (d : At Token) → Key words.Drop d → (ts : Tokens) → Local last E W Any (λ xs w. Spells E (d ∷ xs) w) (drop_at last) ts
   unfolding drop_at
-  drop_local d hd ts = token_then last E W Any (λ xs w. Spells E (d ∷ xs) w) (is_word words.Table) (λ vs. some_or (drop_of last true) (drop_of last false vs) (after_if vs)) ts
+  drop_local d hd ts = token_then last E W Any (λ xs w. Spells E (d ∷ xs) w) (is_word words.Table) (λ vs. option_map_or (drop_of last true) (after_if vs) (drop_of last false vs)) ts
       (let a = some_list last E W Any (added (name_at last)) AddsName adds_some_name name_add_local [] in (a_word words.Table ∷ a.0, dropped false a.1, drop d (a_word words.Table) a.0 a.1 hd (key_is words.Table []) a.2))
       (λ t us ht. drop_names_local d t us hd ht)

@@ -1,6 +1,7 @@
 -- CREATE TABLE is read as far as its tokens allow.
 use Rattle.std.proofs.Common.{◌≡◌, ℕ, zero, suc, ◌≤◌, Bool, true, false, List, [], ◌∷◌, ◌++◌, length, Option, Some, None, refl, sym, ap, ◌∙◌, arith}
 use Rattle.std.specs.Prelude.{Result, Ok, Err, if◌then◌else◌}
+use Rattle.std.specs.Option.{option_map_or}
 use Rattle.iso_lexer.specs.declared.token.At.{At}
 use Rattle.iso_lexer.specs.declared.sql_token.SqlSign.TheVariants as signs
 use Rattle.sql_trees.specs.declared.fault.SqlFault.{SqlFault}
@@ -13,7 +14,7 @@ use Rattle.sql_trees.specs.Tokens.{Token, Tokens, named}
 use Rattle.sql_trees.specs.Tokens as tok
 use Rattle.sql_trees.specs.Trees.{Tree}
 use Rattle.sql_expressions.specs.Results.{◌>>=◌}
-use Rattle.sql_expressions.specs.Readers.{place_of, expect, is_word, is_sign, after, keyword, name_at, items_at, Reader, some_or}
+use Rattle.sql_expressions.specs.Readers.{place_of, expect, is_word, is_sign, after, keyword, name_at, items_at, Reader}
 use Rattle.sql_blocks.specs.Parts.{column_names}
 use Rattle.sql_parser.specs.Readers.{misplaced_word}
 use Rattle.sql_parser.specs.Tables.{Placed, KeyRead, TableRead, Constraints, is_among, placed_names, empty_table, with_key, with_column, key_limit, kind_of, kind_at, key_add, key_at, constraints_at, limits_at, column_behind, column_at, table_add}
@@ -207,7 +208,7 @@ module _ (last : ℕ) (E : Tokens → Tree → Type 0) (W Any : Type 0) where
 
   part_local : W → (t : TableRead) (ts : Tokens) → Local last E W Any (AddsPart t) (table_add last t) ts
   unfolding table_add
-  part_local w t ts = chosen last E W Any (AddsPart t) (is_word words.Primary) (λ us. keyword last words.Key us >>= key_at last true t) (λ us. some_or (key_at last false t) (column_at last t us) (after (is_word words.Unique) us)) ts
+  part_local w t ts = chosen last E W Any (AddsPart t) (is_word words.Primary) (λ us. keyword last words.Key us >>= key_at last true t) (λ us. option_map_or (key_at last false t) (after (is_word words.Unique) us) (column_at last t us)) ts
       (λ p us hp. let s = some_columns in token_then last E W Any (λ xs w. AddsPart t (p ∷ xs) w) (is_word words.Key) (key_at last true t) us
       (a_word words.Key ∷ a_sign signs.Open ∷ (s.0 ++ a_sign signs.Close ∷ []), with_key true s.1 t, a_primary t p (a_word words.Key) (a_sign signs.Open) (a_sign signs.Close) s.0 s.1 hp (key_is words.Key []) refl s.2 refl)
       (λ k vs hk. key_local (λ xs w. AddsPart t (p ∷ k ∷ xs) w) true t vs (λ o c xs ns ho q hc. a_primary t p k o c xs ns hp hk ho q hc)))

@@ -3,6 +3,7 @@ use Rattle.std.proofs.Common.{◌≡◌, ℕ, zero, suc, ◌+◌, ◌<◌, ◌�
 use Rattle.std.proofs.lemmas.List.{map-append}
 use Rattle.std.specs.List.{list_all}
 use Rattle.std.specs.Prelude.{Result, Ok, Err, Bool, true, false, if◌then◌else◌}
+use Rattle.std.specs.Option.{option_map_or}
 use Rattle.iso_lexer.specs.declared.sql_token.SqlSign.TheVariants as signs
 use Rattle.sql_trees.specs.declared.fault.SqlFault.{SqlFault}
 use Rattle.sql_trees.specs.declared.fault.SqlFault.TheVariants.{BadColumns}
@@ -12,7 +13,7 @@ use Rattle.sql_trees.specs.Statements.{ColumnTree}
 use Rattle.sql_trees.specs.Tokens.{Token, Tokens, named}
 use Rattle.sql_trees.specs.Tokens as tok
 use Rattle.sql_expressions.specs.Results.{◌>>=◌}
-use Rattle.sql_expressions.specs.Readers.{after, is_sign, expect, misplaced, is_word, place_of, items_at, keyword, name_at, some_or}
+use Rattle.sql_expressions.specs.Readers.{after, is_sign, expect, misplaced, is_word, place_of, items_at, keyword, name_at}
 use Rattle.sql_blocks.specs.Parts.{column_names}
 use Rattle.sql_blocks.specs.Kept.{all_differ}
 use Rattle.sql_parser.specs.Readers.{misplaced_word}
@@ -53,7 +54,7 @@ module _ (last : ℕ) where
   name_shorter [] x e = absurd cc
   name_shorter (t ∷ ts) x e = of_name (named t.tok) e
     where
-      of_name : (o : Option (List ℕ)) → some_or (λ n. Ok (n, ts)) (Err (misplaced last (t ∷ ts))) o ≡ Ok x → length x.1 < length (t ∷ ts)
+      of_name : (o : Option (List ℕ)) → option_map_or (λ n. Ok (n, ts)) o (Err (misplaced last (t ∷ ts))) ≡ Ok x → length x.1 < length (t ∷ ts)
       of_name None h = absurd cc
       of_name (Some n) h = subst (λ (y : List ℕ × Tokens). length y.1 < length (t ∷ ts)) (ok_same (n, ts) x h) (omega arith)
 
@@ -61,7 +62,7 @@ module _ (last : ℕ) where
   kind_shorter [] x e = absurd cc
   kind_shorter (t ∷ ts) x e = of_kind (kind_of t.tok) e
     where
-      of_kind : (o : Option Kind) → some_or (λ k. Ok (k, ts)) (Err (misplaced_word last (t ∷ ts))) o ≡ Ok x → length x.1 < length (t ∷ ts)
+      of_kind : (o : Option Kind) → option_map_or (λ k. Ok (k, ts)) o (Err (misplaced_word last (t ∷ ts))) ≡ Ok x → length x.1 < length (t ∷ ts)
       of_kind None h = absurd cc
       of_kind (Some k) h = subst (λ (y : Kind × Tokens). length y.1 < length (t ∷ ts)) (ok_same (k, ts) x h) (omega arith)
 
@@ -185,11 +186,11 @@ module _ (last : ℕ) where
   unfolding table_add
   add_keeps bound t ts x k e = of_primary (after (is_word words.Primary) ts) refl e
     where
-      of_unique : (o : Option Tokens) → after (is_word words.Unique) ts ≡ o → some_or (key_at last false t) (column_at last t ts) o ≡ Ok x → TableWithin bound x.0 x.1
+      of_unique : (o : Option Tokens) → after (is_word words.Unique) ts ≡ o → option_map_or (key_at last false t) o (column_at last t ts) ≡ Ok x → TableWithin bound x.0 x.1
       of_unique (Some us) hu h = key_keeps bound false t us x (fewer_tokens bound t ts us k (after_shorter (is_word words.Unique) ts us hu)) h
       of_unique None hu h = column_keeps bound t ts x k h
 
-      of_primary : (o : Option Tokens) → after (is_word words.Primary) ts ≡ o → some_or (λ us. keyword last words.Key us >>= key_at last true t) (some_or (key_at last false t) (column_at last t ts) (after (is_word words.Unique) ts)) o ≡ Ok x → TableWithin bound x.0 x.1
+      of_primary : (o : Option Tokens) → after (is_word words.Primary) ts ≡ o → option_map_or (λ us. keyword last words.Key us >>= key_at last true t) o (option_map_or (key_at last false t) (after (is_word words.Unique) ts) (column_at last t ts)) ≡ Ok x → TableWithin bound x.0 x.1
       of_primary (Some us) hp h =
           let a = bind_ok (keyword last words.Key us) (λ vs. key_at last true t vs) x h in
           key_keeps bound true t a.0 x (fewer_tokens bound t ts a.0 k (omega (arith, after_shorter (is_word words.Primary) ts us hp, expect_shorter (is_word words.Key) us a.0 a.1))) a.2

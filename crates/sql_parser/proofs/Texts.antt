@@ -1,7 +1,8 @@
 -- SQL text and its tokens.
-use Rattle.std.proofs.Common.{◌≡◌, ℕ, ◌<◌, ◌≤◌, List, [], ◌∷◌, length, map, refl, sym, ap, ◌∙◌, subst, arith, inr}
+use Rattle.std.proofs.Common.{◌≡◌, ℕ, ◌<◌, ◌≤◌, List, [], ◌∷◌, length, map, refl, sym, ap, ◌∙◌, subst, arith}
 use Rattle.std.proofs.lemmas.List.{length-map}
 use Rattle.std.specs.Prelude.{Result, Ok, Err}
+use Rattle.std.specs.Result.{result_map_both}
 use Rattle.iso_lexer.specs.declared.fault.Fault.{Fault}
 use Rattle.iso_lexer.specs.declared.token.At.{At}
 use Rattle.iso_lexer.specs.Lexing.{Front, gap, token, fault, Reads, between, in_front}
@@ -12,15 +13,15 @@ use Rattle.iso_lexer.specs.SqlTokens.{SqlToken, sql_at_views}
 use Rattle.iso_lexer.proofs.Lexing.{Shorter}
 use Rattle.iso_lexer.proofs.SqlRules.{sql_rules}
 use Rattle.sql_trees.specs.declared.fault.SqlFault.{SqlFault}
-use Rattle.sql_trees.specs.declared.fault.SqlFault.TheVariants.{Memory}
+use Rattle.sql_trees.specs.declared.fault.SqlFault.TheVariants.{Memory, Lex}
 use Rattle.sql_trees.specs.Statements.{StmtTree}
 use Rattle.sql_trees.specs.declared.token.Tok.{Tok}
 use Rattle.sql_trees.specs.Tokens.{classify_at, tok_at, tok_views}
-use Rattle.sql_expressions.specs.Results.{Gives}
+use Rattle.sql_expressions.specs.Results.{Gives, ◌>>=◌}
 use Rattle.sql_blocks.specs.declared.block.Role.{Role}
 use Rattle.sql_parser.specs.Inner.Calls.{seen}
 use Rattle.sql_parser.specs.Blocks.{block_at}
-use Rattle.sql_parser.specs.Texts.{Parses}
+use Rattle.sql_parser.specs.Texts.{ReadsAs, Parses}
 
 some_token : (text : List ℕ) (t : SqlToken) (rest : List ℕ) → sql_front text ≡ token t rest → 0 < length text
 some_token [] t rest e = let n = sql_rules.nothing in absurd cc
@@ -50,9 +51,14 @@ few_tokens text ts r = few r ts refl
 
 -- what the tokens read as, the text reads as
 pub parses : {B : Type 0} (view : B → List StmtTree) (text : List ℕ) (role : Role) (ts : List (At SqlToken)) (r : Result B SqlFault) → SqlLexes text (Ok ts) → Gives view r (block_at (length text) role (map classify_at ts)) → Parses text role (seen view r)
-parses view text role ts (Ok b) l g = record { tokens = ts; lexes = l; reads = g }
+parses view text role ts (Ok b) l g = record { lexed = Ok ts; lexes = l; reads = g }
 parses view text role ts (Err Memory) l g = tt
-parses view text role ts (Err _) l g = inr (record { tokens = ts; lexes = l; reads = g })
+parses view text role ts (Err _) l g = record { lexed = Ok ts; lexes = l; reads = g }
+
+-- where a text's tokens are one thing, what it is read as is one thing
+pub one_reading : (text : List ℕ) (role : Role) (x y : Result (List StmtTree) SqlFault) → ((a b : Result (List (At SqlToken)) Fault) → SqlLexes text a → SqlLexes text b → a ≡ b) → ReadsAs text role x → ReadsAs text role y → x ≡ y
+one_reading text role x y one r s =
+    sym r.reads ∙ ap (λ (l : Result (List (At SqlToken)) Fault). result_map_both (map classify_at) Lex l >>= block_at (length text) role) (one r.lexed s.lexed r.lexes s.lexes) ∙ s.reads
 
 -- nor has it more with their keywords
 pub tokens_fit : (text : List ℕ) (xs : List (At SqlTok)) (ys : List (At Tok)) → SqlLexes text (Ok (sql_at_views xs)) → tok_views ys ≡ map classify_at (sql_at_views xs) → length ys ≤ length text

@@ -1,15 +1,18 @@
 -- Statements and blocks.
-use Rattle.std.specs.Prelude.{ℕ, Bool, true, false, ◌&&◌, List, [], ◌∷◌, ◌++◌, length, Result, Ok, Err, nat_lt, if◌then◌else◌}
+use Rattle.std.specs.Prelude.{ℕ, Bool, ◌&&◌, ◌||◌, List, [], ◌∷◌, ◌++◌, length, Result, Ok, Err, nat_lt, if◌then◌else◌}
+use Rattle.std.specs.Option.{option_map_or}
 use Rattle.iso_lexer.specs.declared.token.At.{At}
 use Rattle.iso_lexer.specs.declared.sql_token.SqlSign.TheVariants as signs
 use Rattle.sql_trees.specs.declared.fault.SqlFault.{SqlFault}
 use Rattle.sql_trees.specs.declared.fault.SqlFault.TheVariants.{TooMany, DdlInSession}
+use Rattle.sql_trees.specs.declared.word.Word.{Word}
 use Rattle.sql_trees.specs.declared.word.Word.TheVariants as words
+use Rattle.sql_trees.specs.Words.{row_of}
 use Rattle.sql_trees.specs.Statements.{StmtTree, Commit, Rollback}
 use Rattle.sql_trees.specs.Tokens.{Token, Tokens}
 use Rattle.sql_trees.specs.Tokens as tok
 use Rattle.sql_expressions.specs.Results.{◌>>=◌}
-use Rattle.sql_expressions.specs.Readers.{is_sign, misplaced, Reader, made}
+use Rattle.sql_expressions.specs.Readers.{is_sign, is_word, misplaced, Reader, made}
 use Rattle.sql_blocks.specs.declared.block.Role.{Role}
 use Rattle.sql_blocks.specs.Parts.{is_session}
 use Rattle.sql_parser.specs.Readers.{past}
@@ -19,25 +22,19 @@ use Rattle.sql_parser.specs.Changes.{insert_at, update_at, delete_at}
 use Rattle.sql_parser.specs.Queries.{select_at}
 
 abbrev pub is_ddl : Token → Bool
-is_ddl (tok.word words.Create s) = true
-is_ddl (tok.word words.Drop s) = true
-is_ddl _ = false
+is_ddl t = is_word words.Create t || is_word words.Drop t
 
 module _ (last : ℕ) where
-  -- a statement of which nothing has to hold as a whole, by its first token
-  abbrev pub simple_of : Token → At Token → Reader StmtTree
-  simple_of (tok.word words.Begin s) t ts = begin_at last (past is_work ts)
-  simple_of (tok.word words.Start s) t ts = start_at last ts
-  simple_of (tok.word words.Commit s) t ts = Ok (Commit, past is_work ts)
-  simple_of (tok.word words.End s) t ts = Ok (Commit, past is_work ts)
-  simple_of (tok.word words.Rollback s) t ts = Ok (Rollback, past is_work ts)
-  simple_of (tok.word words.Abort s) t ts = Ok (Rollback, past is_work ts)
-  simple_of (tok.word words.Set s) t ts = set_at last ts
-  simple_of (tok.word words.Drop s) t ts = drop_at last ts
-  simple_of (tok.word words.Insert s) t ts = insert_at last ts
-  simple_of (tok.word words.Update s) t ts = update_at last ts
-  simple_of (tok.word words.Delete s) t ts = delete_at last ts
-  simple_of _ t ts = Err (misplaced last (t ∷ ts))
+  -- the statements of which nothing has to hold as a whole: the first word of each, and what is read behind it
+  abbrev pub simple : List (Word × Reader StmtTree)
+  simple =
+      (words.Begin, λ ts. begin_at last (past is_work ts)) ∷ (words.Start, start_at last) ∷ (words.Set, set_at last) ∷
+      (words.Commit, λ ts. Ok (Commit, past is_work ts)) ∷ (words.End, λ ts. Ok (Commit, past is_work ts)) ∷
+      (words.Rollback, λ ts. Ok (Rollback, past is_work ts)) ∷ (words.Abort, λ ts. Ok (Rollback, past is_work ts)) ∷
+      (words.Drop, drop_at last) ∷ (words.Insert, insert_at last) ∷ (words.Update, update_at last) ∷ (words.Delete, delete_at last) ∷ []
+
+  unfoldable pub simple_of : Token → At Token → Reader StmtTree
+  simple_of first t ts = option_map_or (λ read. read ts) (row_of is_word simple first) (Err (misplaced last (t ∷ ts)))
 
   -- a statement by its first token, or what is wrong with the whole of it
   abbrev pub begun_of : Token → At Token → Reader (Result StmtTree SqlFault)

@@ -18,11 +18,11 @@ use Rattle.sql_trees.specs.Statements.{SetTree, ItemTree, OrderTree, All, Value,
 use Rattle.sql_trees.specs.Tokens.{Token, Tokens, named}
 use Rattle.sql_trees.specs.Trees.{Tree, AggTree, CountRows, Of}
 use Rattle.sql_expressions.specs.Readers.{is_word, is_sign}
+use Rattle.sql_expressions.specs.Reading.{agg_kind}
 use Rattle.sql_expressions.specs.Grammar.{OR, SpellsIn}
 use Rattle.sql_parser.specs.Transactions.{is_work, is_scope, is_to, is_setting}
 use Rattle.sql_parser.specs.Tables.{Placed, TableRead, Constraints, empty_table, with_key, with_column, key_limit, kind_of, created}
 use Rattle.sql_parser.specs.Changes.{Rows}
-use Rattle.sql_parser.specs.Queries.{agg_kind}
 
 -- ---- tokens
 

@@ -1,5 +1,6 @@
 -- SELECT (PostgreSQL manual: SELECT).
 use Rattle.std.specs.Prelude.{ℕ, Bool, true, false, List, [], ◌∷◌, ◌++◌, Option, Some, None, Result, Ok, Err, option_map, if◌then◌else◌}
+use Rattle.std.specs.Option.{option_map_or}
 use Rattle.iso_lexer.specs.declared.sql_token.SqlSign.TheVariants as signs
 use Rattle.sql_trees.specs.declared.fault.SqlFault.{SqlFault}
 use Rattle.sql_trees.specs.declared.fault.SqlFault.TheVariants.{LeftOut}
@@ -9,26 +10,17 @@ use Rattle.sql_trees.specs.declared.expr.AggKind.TheVariants as aggs
 use Rattle.sql_trees.specs.declared.stmt.Lock.{Lock}
 use Rattle.sql_trees.specs.declared.stmt.Lock.TheVariants as locks
 use Rattle.sql_trees.specs.Statements.{StmtTree, ItemTree, All, Value, Aggregate, OrderTree, SelectTree, Selects}
-use Rattle.sql_trees.specs.Tokens.{Token, Tokens, named}
-use Rattle.sql_trees.specs.Tokens as tok
+use Rattle.sql_trees.specs.Tokens.{Tokens, named}
 use Rattle.sql_trees.specs.Trees.{AggTree, CountRows, Of}
-use Rattle.sql_expressions.specs.Readers.{after, expect, is_sign, is_word, Reader, gives, made, some_or, either, keyword, closed, name_at, items_at, ◌>>=◌, ◌>>◌}
+use Rattle.sql_expressions.specs.Readers.{after, expect, is_sign, is_word, Reader, gives, made, either, by_first, keyword, closed, name_at, items_at, ◌>>=◌, ◌>>◌}
+use Rattle.sql_expressions.specs.Reading.{agg_kind}
 use Rattle.sql_blocks.specs.Parts.{is_allowed}
 use Rattle.sql_parser.specs.Readers.{maybe, tree_at, added}
 use Rattle.sql_parser.specs.Changes.{filter_at}
 
--- the aggregate that a word names
-abbrev pub agg_kind : Token → Option AggKind
-agg_kind (tok.word words.Count s) = Some aggs.Count
-agg_kind (tok.word words.Sum s) = Some aggs.Sum
-agg_kind (tok.word words.Min s) = Some aggs.Min
-agg_kind (tok.word words.Max s) = Some aggs.Max
-agg_kind _ = None
-
 -- an aggregate's name with an open parenthesis behind it, and the tokens behind that
 abbrev pub call_at : Tokens → Option (AggKind × Tokens)
-call_at [] = None
-call_at (t ∷ ts) = some_or (λ k. option_map (λ us. (k, us)) (after (is_sign signs.Open) ts)) None (agg_kind t.tok)
+call_at = by_first agg_kind (λ k ts. option_map (λ us. (k, us)) (after (is_sign signs.Open) ts)) (λ ts. None)
 
 -- the star of count(*)
 abbrev pub rows_of : AggKind → Tokens → Option Tokens
@@ -37,8 +29,7 @@ rows_of _ ts = None
 
 -- the name that stands next, if one does
 abbrev pub maybe_name : Reader (Option (List ℕ))
-maybe_name [] = Ok (None, [])
-maybe_name (t ∷ ts) = some_or (λ n. Ok (Some n, ts)) (Ok (None, t ∷ ts)) (named t.tok)
+maybe_name = by_first named (λ n. gives (Some n)) (gives None)
 
 -- ASC, DESC or none of them: whether sorting goes down
 unfoldable pub direction_at : Reader Bool
@@ -51,7 +42,7 @@ module _ (last : ℕ) where
 
   -- an aggregate behind its open parenthesis
   unfoldable pub agg_at : AggKind → Reader AggTree
-  agg_at k ts = some_or (expect last (is_sign signs.Close) >> gives CountRows) (closed last (Of k) (tree_at last) ts) (rows_of k ts)
+  agg_at k ts = option_map_or (expect last (is_sign signs.Close) >> gives CountRows) (rows_of k ts) (closed last (Of k) (tree_at last) ts)
 
   -- an aggregate or an expression, and the name given to it
   abbrev pub item_of : Option (AggKind × Tokens) → Reader ItemTree

@@ -1,18 +1,19 @@
 -- CREATE TABLE and DROP TABLE (PostgreSQL manual: CREATE TABLE, DROP TABLE).
-use Rattle.std.specs.Prelude.{ℕ, zero, suc, Bool, true, false, not, ◌||◌, ◌&&◌, List, [], ◌∷◌, ◌++◌, length, map, filter, bytes_eq}
-use Rattle.std.specs.Prelude.{Option, Some, None, Result, Ok, Err, if◌then◌else◌}
-use Rattle.std.specs.List.{list_any}
+use Rattle.std.specs.Prelude.{ℕ, zero, suc, Bool, true, false, not, ◌||◌, ◌&&◌, List, [], ◌∷◌, ◌++◌, length, map, filter, find, slice_index, bytes_eq}
+use Rattle.std.specs.Prelude.{Option, Some, None, option_map, Result, Ok, Err, if◌then◌else◌}
+use Rattle.std.specs.List.{list_any, position_or_len}
+use Rattle.std.specs.Option.{option_or, option_map_or}
 use Rattle.iso_lexer.specs.declared.sql_token.SqlSign.TheVariants as signs
 use Rattle.sql_trees.specs.declared.fault.SqlFault.{SqlFault}
 use Rattle.sql_trees.specs.declared.fault.SqlFault.TheVariants.{BadColumns}
 use Rattle.sql_trees.specs.declared.word.Word.TheVariants as words
 use Rattle.sql_trees.specs.declared.kind.Kind.{Kind}
 use Rattle.sql_trees.specs.declared.kind.Kind.TheVariants as kinds
+use Rattle.sql_trees.specs.Words.{row_of}
 use Rattle.sql_trees.specs.Statements.{StmtTree, ColumnTree, KeyTree, Create, DropTables, key_name}
 use Rattle.sql_trees.specs.Tokens.{Token, Tokens}
-use Rattle.sql_trees.specs.Tokens as tok
 use Rattle.sql_expressions.specs.Results.{◌>>=◌ as and_then}
-use Rattle.sql_expressions.specs.Readers.{after, place_of, expect, is_sign, is_word, Reader, gives, made, some_or, either, one_at, keyword, closed, name_at, items_at, ◌>>=◌, ◌>>◌}
+use Rattle.sql_expressions.specs.Readers.{after, place_of, expect, is_sign, is_word, Reader, gives, made, either, one_at, keyword, closed, name_at, items_at, ◌>>=◌, ◌>>◌}
 use Rattle.sql_blocks.specs.Parts.{column_names}
 use Rattle.sql_parser.specs.Readers.{misplaced_word, added}
 
@@ -49,7 +50,7 @@ abbrev pub empty_table : TableRead
 empty_table = record { columns = []; keys = [] }
 
 abbrev pub with_key : Bool → List Placed → TableRead → TableRead
-with_key primary columns t = record { columns = t.columns; keys = t.keys ++ (record { primary = primary; columns = columns }) ∷ [] }
+with_key primary columns t = record t { keys = t.keys ++ (record { primary = primary; columns = columns }) ∷ [] }
 
 -- with a column, behind its keys
 abbrev pub with_column : Placed → Kind → Constraints → TableRead → TableRead
@@ -57,15 +58,11 @@ with_column c kind s t = record { columns = t.columns ++ (record { name = c.name
 
 -- with a key of this column alone
 abbrev pub key_limit : Bool → Placed → Constraints → Constraints
-key_limit primary c s = record { not_null = s.not_null; keys = s.keys ++ (record { primary = primary; columns = c ∷ [] }) ∷ [] }
+key_limit primary c s = record s { keys = s.keys ++ (record { primary = primary; columns = c ∷ [] }) ∷ [] }
 
 -- the kind that a word names
 abbrev pub kind_of : Token → Option Kind
-kind_of (tok.word words.Integer s) = Some kinds.Int
-kind_of (tok.word words.Bigint s) = Some kinds.Big
-kind_of (tok.word words.Text s) = Some kinds.Text
-kind_of (tok.word words.Boolean s) = Some kinds.Bool
-kind_of _ = None
+kind_of = row_of is_word ((words.Integer, kinds.Int) ∷ (words.Bigint, kinds.Big) ∷ (words.Text, kinds.Text) ∷ (words.Boolean, kinds.Bool) ∷ [])
 
 -- the tokens behind IF EXISTS
 abbrev pub after_if : Tokens → Option Tokens
@@ -92,19 +89,15 @@ module _ (last : ℕ) where
   unfoldable pub constraints_at : Placed → ℕ → Constraints → Reader Constraints
   constraints_at c zero s ts = Ok (s, ts)
   constraints_at c (suc n) s ts =
-      either (is_word words.Not) (keyword last words.Null >> constraints_at c n (record { not_null = true; keys = s.keys }))
+      either (is_word words.Not) (keyword last words.Null >> constraints_at c n (record s { not_null = true }))
       (either (is_word words.Primary) (keyword last words.Key >> constraints_at c n (key_limit true c s))
       (either (is_word words.Unique) (constraints_at c n (key_limit false c s)) (gives s))) ts
 
-  -- all that is said of a column
-  abbrev pub said_at : Placed → Constraints → Reader Constraints
-  said_at c s ts = constraints_at c (length ts) s ts
-
-  -- a column's kind and what is said of it, behind the keys before it
+  -- a column's kind and all that is said of it, behind the keys before it
   unfoldable pub limits_at : Placed → List KeyRead → Reader (Kind × Constraints)
   limits_at c keys = do
     kind ← kind_at
-    gives (kind, (← said_at c (record { not_null = false; keys = keys })))
+    gives (kind, (← λ ts. constraints_at c (length ts) (record { not_null = false; keys = keys }) ts))
 
   -- a column behind its name
   unfoldable pub column_behind : Placed → TableRead → Reader TableRead
@@ -123,54 +116,34 @@ module _ (last : ℕ) where
 abbrev pub made_name : List ℕ → KeyRead → List ℕ
 made_name table k = key_name table k.primary (placed_names k.columns)
 
-abbrev pub first_place : List Placed → ℕ
-first_place [] = 0
-first_place (n ∷ ns) = n.place
-
 -- where the first column stands that is none of these
 abbrev pub first_lacking : List (List ℕ) → List Placed → Option ℕ
-first_lacking columns [] = None
-first_lacking columns (n ∷ ns) = if is_among n.name columns then first_lacking columns ns else Some n.place
+first_lacking columns ns = option_map (λ n. n.place) (find (λ n. not (is_among n.name columns)) ns)
 
 -- the place of the fault of a key with this name: of its first column, if the name was made before, else of the first column that the table lacks
-abbrev pub text_fault : List ℕ → List (List ℕ) → List (List ℕ) → KeyRead → Option ℕ
-text_fault name columns earlier k = if is_among name earlier then Some (first_place k.columns) else first_lacking columns k.columns
+unfoldable pub text_fault : List ℕ → List (List ℕ) → List (List ℕ) → KeyRead → Option ℕ
+text_fault name columns earlier k = if is_among name earlier then Some (slice_index (map (λ n. n.place) k.columns) 0) else first_lacking columns k.columns
 
 -- the place of the first fault of the keys, in the order of the text; earlier are the names made before
 unfoldable pub keys_fault : List ℕ → List (List ℕ) → List (List ℕ) → List KeyRead → Option ℕ
 keys_fault table columns earlier [] = None
-keys_fault table columns earlier (k ∷ ks) = some_or (λ place. Some place) (keys_fault table columns (earlier ++ made_name table k ∷ []) ks) (text_fault (made_name table k) columns earlier k)
+keys_fault table columns earlier (k ∷ ks) = option_or (text_fault (made_name table k) columns earlier k) (keys_fault table columns (earlier ++ made_name table k ∷ []) ks)
 
 -- a column of a primary key is NOT NULL
-abbrev pub in_primary : List KeyRead → List ℕ → Bool
-in_primary ks n = list_any (λ k. k.primary && is_among n (placed_names k.columns)) ks
-
 abbrev pub completed : List KeyRead → ColumnTree → ColumnTree
-completed ks c = record { name = c.name; kind = c.kind; not_null = c.not_null || in_primary ks c.name }
+completed ks c = record c { not_null = c.not_null || list_any (λ k. k.primary && is_among c.name (placed_names k.columns)) ks }
 
 -- the place of the first column of this name, counted from 0
 unfoldable pub place_among : List (List ℕ) → List ℕ → ℕ
-place_among [] n = 0
-place_among (m ∷ ms) n = if bytes_eq m n then 0 else suc (place_among ms n)
-
-abbrev pub places_in : List (List ℕ) → List Placed → List ℕ
-places_in columns ns = map (λ n. place_among columns n.name) ns
+place_among columns n = position_or_len (λ m. bytes_eq m n) columns
 
 -- a key with its columns' places in the table
 abbrev pub resolved : List (List ℕ) → KeyRead → KeyTree
-resolved columns k = record { primary = k.primary; columns = places_in columns k.columns }
-
-abbrev pub is_kept : Bool → KeyRead → Bool
-is_kept true k = k.primary
-is_kept false k = not k.primary
-
--- the primary keys, or the others
-abbrev pub resolved_keys : Bool → List (List ℕ) → List KeyRead → List KeyTree
-resolved_keys primary columns ks = map (resolved columns) (filter (is_kept primary) ks)
+resolved columns k = record { primary = k.primary; columns = map (λ n. place_among columns n.name) k.columns }
 
 -- the primary key first, then the others in the order of the text
 abbrev pub declared : List (List ℕ) → List KeyRead → List KeyTree
-declared columns ks = resolved_keys true columns ks ++ resolved_keys false columns ks
+declared columns ks = map (resolved columns) (filter (λ k. k.primary) ks) ++ map (resolved columns) (filter (λ k. not k.primary) ks)
 
 -- the table of these columns and keys: a column of a primary key is NOT NULL, and the primary key stands first
 abbrev pub created : List ℕ → TableRead → StmtTree
@@ -178,7 +151,7 @@ created name t = Create (record { name = name; columns = map (completed t.keys) 
 
 -- the table as it was read, or the fault of its keys
 unfoldable pub finished : List ℕ → TableRead → Result StmtTree SqlFault
-finished name t = some_or (λ place. Err (BadColumns place)) (Ok (created name t)) (keys_fault name (column_names t.columns) [] t.keys)
+finished name t = option_map_or (λ place. Err (BadColumns place)) (keys_fault name (column_names t.columns) [] t.keys) (Ok (created name t))
 
 -- ---- statements
 
@@ -196,4 +169,4 @@ module _ (last : ℕ) where
 
   -- what stands behind DROP
   unfoldable pub drop_at : Reader StmtTree
-  drop_at = keyword last words.Table >> λ ts. some_or (drop_of true) (drop_of false ts) (after_if ts)
+  drop_at = keyword last words.Table >> λ ts. option_map_or (drop_of true) (after_if ts) (drop_of false ts)

@@ -7,7 +7,7 @@ use Rattle.sql_trees.specs.declared.stmt.Level.TheVariants.{ReadCommitted, Repea
 use Rattle.sql_trees.specs.Statements.{StmtTree, Begin, SetTransaction, SetDeadlockTimeout}
 use Rattle.sql_trees.specs.Tokens.{Token, Tokens}
 use Rattle.sql_trees.specs.Tokens as tok
-use Rattle.sql_expressions.specs.Readers.{expect, is_word, Reader, gives, made, either, keyword, ◌>>◌}
+use Rattle.sql_expressions.specs.Readers.{expect, is_sign, is_word, Reader, gives, made, either, keyword, ◌>>◌}
 use Rattle.sql_parser.specs.Readers.{past, misplaced_word}
 
 abbrev pub is_work : Token → Bool
@@ -17,8 +17,7 @@ abbrev pub is_scope : Token → Bool
 is_scope t = is_word words.Session t || is_word words.Local t
 
 abbrev pub is_to : Token → Bool
-is_to (tok.sign signs.Equal) = true
-is_to t = is_word words.To t
+is_to t = is_sign signs.Equal t || is_word words.To t
 
 abbrev pub is_setting : Token → Bool
 is_setting (tok.number n) = true

@@ -27,6 +27,7 @@ fn is_ddl(tok: Tok) -> bool
 }
 
 // A statement of which nothing has to hold as a whole, by its first token.
+#[tactic(auto, unfolding(crate::specs::Blocks::simple_of))]
 fn simple<'t, 'a>(parser: Parser, tokens: Tokens<'t, 'a>) -> ReadStmt<'t, 'a>
     ensures { Gives (λ x. (stmt_of x.0, tok_views x.1.now)) result (simple_at parser.text_len (tok_views tokens.now)) }
 {

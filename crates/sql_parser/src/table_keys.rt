@@ -1,12 +1,14 @@
 //! The keys of a CREATE TABLE, once the whole has been read.
 
-ghost use Rattle.std.specs.Prelude.{bytes_eq, ◌≡◌, ◌<◌, ◌≤◌, ◌^◌, ◌++◌, ◌∷◌, [], ℕ, List, Bool, IfOk, length, map, filter, not};
+ghost use Rattle.std.specs.Prelude.{◌≡◌, ◌<◌, ◌^◌, ◌++◌, ◌&&◌, [], IfOk, length, map, slice_index};
+ghost use Rattle.std.specs.List.{list_any};
 ghost use Rattle.sql_trees.specs.Statements.{underscored, name_of, stmt_of, column_of, key_of};
 ghost use Rattle.sql_trees.specs.Tokens.{tok_views};
 ghost use Rattle.sql_expressions.specs.Results.{Gives};
 ghost use Rattle.sql_blocks.specs.Parts.{column_names};
 ghost use Rattle.sql_parser.specs.Inner.Calls.{seen};
-ghost use Rattle.sql_parser.specs.Tables.{is_among, made_name, first_place, first_lacking, text_fault, keys_fault, place_among, places_in, in_primary, is_kept, completed, resolved, resolved_keys, placed_names, finished, create_at};
+ghost use Rattle.sql_parser.specs.Inner.Pieces.{is_kept, resolved_keys};
+ghost use Rattle.sql_parser.specs.Tables.{is_among, made_name, first_lacking, text_fault, keys_fault, place_among, completed, resolved, placed_names, finished, create_at};
 ghost use Rattle.sql_parser.specs.Views.{placed_of, key_text_of, table_text_of};
 
 use crate::part::{close, keyword, name, open};
@@ -74,7 +76,7 @@ fn first_lacking(columns: &[Column], mut names: &[PlacedName]) -> Option<usize>
 }
 
 fn first_place(names: &[PlacedName]) -> usize
-    ensures { result ≡ first_place (map placed_of names.now) }
+    ensures { result ≡ slice_index (map (λ n. n.place) (map placed_of names.now)) 0 }
 {
     match names {
         [] => 0,
@@ -83,6 +85,7 @@ fn first_place(names: &[PlacedName]) -> usize
 }
 
 // The place of a key's fault: a name that was made before, or a column that the table lacks.
+#[tactic(auto, unfolding(crate::specs::Tables::text_fault))]
 fn key_fault(text: &[u8], made: &[Vec<u8>], columns: &[Column], key: &KeyText) -> Option<usize>
     ensures { result ≡ text_fault text.now (column_names (map column_of columns.now)) (map (λ v. v.items) made.now) (key_text_of key.now) }
 {
@@ -116,7 +119,7 @@ fn keys_fault(
 }
 
 fn in_primary(mut keys: &[KeyText], name: &Name) -> bool
-    ensures { result ≡ in_primary (map key_text_of keys.entry.now) (name_of name.now) }
+    ensures { result ≡ list_any (λ k. k.primary && is_among (name_of name.now) (placed_names k.columns)) (map key_text_of keys.entry.now) }
 {
     while let [key, rest @ ..] = keys {
         if key.primary && is_placed(name, &key.columns) {
@@ -171,7 +174,7 @@ fn places(
     mut names: &[PlacedName],
 ) -> Result<Vec<u32>, AllocError>
     requires { length columns.now < 2 ^ 32 }
-    ensures { IfOk result (λ v. v.items ≡ places_in (column_names (map column_of columns.now)) (map placed_of names.entry.now)) }
+    ensures { IfOk result (λ v. v.items ≡ map (λ n. place_among (column_names (map column_of columns.now)) n.name) (map placed_of names.entry.now)) }
 {
     let mut places = Vec::new(alloc);
     while let [name, rest @ ..] = names {

@@ -9,9 +9,9 @@ unfolding keywords
 table_is = refl
 
 pub reserved_are : spellings is_reserved ≡ reserved_words
-unfolding keywords reserved_words
+unfolding keywords reserved_words is_reserved
 reserved_are = refl
 
 pub left_out_are : spellings is_left_out ≡ left_out_words
-unfolding keywords left_out_words
+unfolding keywords left_out_words is_left_out
 left_out_are = refl

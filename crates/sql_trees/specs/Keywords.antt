@@ -1,15 +1,12 @@
 -- The words of SQL, in lower case, each with what it is to the grammar; synonyms are one.
-use Rattle.std.specs.Prelude.{ℕ, List, [], ◌∷◌, ◌++◌, ◌==◌, map, codes, if◌then◌else◌}
+use Rattle.std.specs.Prelude.{ℕ, List, [], ◌∷◌, ◌++◌, ◌==◌, map, codes}
+use Rattle.std.specs.List.{slice_split}
 use Rattle.sql_trees.specs.declared.word.Word.{Word}
 use Rattle.sql_trees.specs.declared.word.Word.TheVariants as words
 
 -- the words of a line, between its spaces
-abbrev pub words_behind : List ℕ → List ℕ → List (List ℕ)
-words_behind word [] = word ∷ []
-words_behind word (c ∷ cs) = if c == 32 then word ∷ words_behind [] cs else words_behind (word ++ c ∷ []) cs
-
 abbrev pub words_of : List ℕ → List (List ℕ)
-words_of line = words_behind [] line
+words_of line = slice_split (λ c. c == 32) line
 
 -- each word of a line, as this one
 abbrev pub each : Word → List ℕ → List (List ℕ × Word)

@@ -1,5 +1,6 @@
 -- Trees of statements, without where they lie in memory: names stand decoded.
-use Rattle.std.specs.Prelude.{ℕ, Bool, List, [], ◌∷◌, ◌++◌, codes, map, Option, option_map, if◌then◌else◌}
+use Rattle.std.specs.Prelude.{ℕ, Bool, List, ◌∷◌, ◌++◌, codes, map, Option, option_map, if◌then◌else◌}
+use Rattle.std.specs.List.{concat}
 use Rattle.std.specs.Global.{Vec}
 use Rattle.iso_lexer.specs.declared.name.Name.{Name}
 use Rattle.iso_lexer.specs.Names.{name_view, decoded}
@@ -29,8 +30,7 @@ name_of n = decoded (name_view n)
 
 -- the names, each behind an underscore
 abbrev pub underscored : List (List ℕ) → List ℕ
-underscored [] = []
-underscored (n ∷ ns) = 95 ∷ (n ++ underscored ns)
+underscored ns = concat (map (λ n. 95 ∷ n) ns)
 
 -- the name that a key over these columns is given
 abbrev pub key_name : List ℕ → Bool → List (List ℕ) → List ℕ

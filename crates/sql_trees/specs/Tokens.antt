@@ -1,5 +1,5 @@
 -- Tokens of SQL text, each word with its keyword.
-use Rattle.std.specs.Prelude.{ℕ, List, [], ◌∷◌, map, Option, Some, None, if◌then◌else◌}
+use Rattle.std.specs.Prelude.{ℕ, List, ◌∷◌, map, Option, Some, None, if◌then◌else◌}
 use Rattle.iso_lexer.specs.declared.token.At.{At}
 use Rattle.iso_lexer.specs.declared.sql_token.SqlSign.{SqlSign}
 use Rattle.iso_lexer.specs.SqlTokens.{SqlToken}
@@ -48,6 +48,5 @@ classify_at t = record { tok = classify t.tok; span = t.span }
 -- the bytes that a token names: an unquoted word in lower case, unless it is reserved, or what stands in quotes, which may not be empty
 abbrev pub named : Token → Option (List ℕ)
 named (word w s) = if is_reserved w then None else Some (names.decoded (names.folded s))
-named (quoted []) = None
 named (quoted (b ∷ bs)) = Some (names.decoded (names.quoted (b ∷ bs)))
 named _ = None

@@ -1,5 +1,6 @@
 -- Keywords, and what they are to the grammar.
-use Rattle.std.specs.Prelude.{ℕ, Bool, true, false, List, [], ◌∷◌, map, filter, if◌then◌else◌}
+use Rattle.std.specs.Prelude.{ℕ, Bool, List, [], ◌∷◌, map, filter, find, Option, option_map, unwrap_or}
+use Rattle.std.specs.List.{list_any}
 use denote.Enum.Bare.{sameb}
 use Rattle.std.specs.Str.{str_eq_ignore_ascii_case}
 use Rattle.sql_trees.specs.declared.word.Word.{Word}
@@ -7,52 +8,31 @@ use Rattle.sql_trees.specs.declared.word.Word.TheVariants as words
 use Rattle.sql_trees.specs.contracts.word.Word.{the_type}
 use Rattle.sql_trees.specs.Keywords.{keywords}
 
+-- what the first row says whose key passes for this thing
+abbrev pub row_of : {K T X : Type 0} → (K → T → Bool) → List (K × X) → T → Option X
+row_of passes rows thing = option_map (λ row. row.1) (find (λ row. passes row.0 thing) rows)
+
 -- the first word of a table that is spelled so, in any case of its letters (PostgreSQL manual, 4.1.1)
 abbrev pub first_spelled : List (List ℕ × Word) → List ℕ → Word
-first_spelled [] text = words.Plain
-first_spelled (row ∷ rows) text = if str_eq_ignore_ascii_case row.0 text then row.1 else first_spelled rows text
+first_spelled rows text = unwrap_or (row_of str_eq_ignore_ascii_case rows text) words.Plain
 
 -- the keyword that a word is
 unfoldable pub word_of : List ℕ → Word
 word_of = first_spelled keywords
 
+-- whether two words are one
+abbrev pub same_word : Word → Word → Bool
+same_word = sameb the_type
+
 -- a word that is no name, unless it stands in quotes
-abbrev pub is_reserved : Word → Bool
-is_reserved words.Excluded = true
-is_reserved words.And = true
-is_reserved words.As = true
-is_reserved words.Asc = true
-is_reserved words.Between = true
-is_reserved words.Create = true
-is_reserved words.Desc = true
-is_reserved words.End = true
-is_reserved words.False = true
-is_reserved words.For = true
-is_reserved words.From = true
-is_reserved words.In = true
-is_reserved words.Into = true
-is_reserved words.Is = true
-is_reserved words.Not = true
-is_reserved words.Null = true
-is_reserved words.Or = true
-is_reserved words.Order = true
-is_reserved words.Primary = true
-is_reserved words.Select = true
-is_reserved words.Table = true
-is_reserved words.True = true
-is_reserved words.Unique = true
-is_reserved words.Where = true
-is_reserved _ = false
+unfoldable pub is_reserved : Word → Bool
+is_reserved w = list_any (same_word w)
+    (words.Excluded ∷ words.And ∷ words.As ∷ words.Asc ∷ words.Between ∷ words.Create ∷ words.Desc ∷ words.End ∷ words.False ∷ words.For ∷ words.From ∷ words.In ∷
+    words.Into ∷ words.Is ∷ words.Not ∷ words.Null ∷ words.Or ∷ words.Order ∷ words.Primary ∷ words.Select ∷ words.Table ∷ words.True ∷ words.Unique ∷ words.Where ∷ [])
 
 -- a word that stands for a part of SQL that is left out, where no rule allows it
-abbrev pub is_left_out : Word → Bool
-is_left_out words.Excluded = true
-is_left_out words.LeftOut = true
-is_left_out words.Drop = true
-is_left_out words.Key = true
-is_left_out words.Read = true
-is_left_out words.Select = true
-is_left_out _ = false
+unfoldable pub is_left_out : Word → Bool
+is_left_out w = list_any (same_word w) (words.Excluded ∷ words.LeftOut ∷ words.Drop ∷ words.Key ∷ words.Read ∷ words.Select ∷ [])
 
 -- the words of this class, as they are spelled
 abbrev pub spellings : (Word → Bool) → List (List ℕ)
@@ -60,12 +40,4 @@ spellings class = map (λ k. k.0) (filter (λ k. class k.1) keywords)
 
 -- the name of an aggregate
 abbrev pub is_aggregate : Word → Bool
-is_aggregate words.Count = true
-is_aggregate words.Sum = true
-is_aggregate words.Min = true
-is_aggregate words.Max = true
-is_aggregate _ = false
-
--- whether two words are one
-unfoldable pub same_word : Word → Word → Bool
-same_word = sameb the_type
+is_aggregate w = list_any (same_word w) (words.Count ∷ words.Sum ∷ words.Min ∷ words.Max ∷ [])

@@ -242,6 +242,7 @@ pub fn words_are_classed()
 
 impl Word {
     /// Whether the word is no name, unless it stands in quotes.
+    #[tactic(auto, unfolding(crate::specs::Words::is_reserved))]
     pub fn is_reserved(self) -> bool
         ensures { result ≡ is_reserved self }
     {
@@ -275,6 +276,7 @@ impl Word {
     }
 
     /// Whether the word stands for a part of SQL that is left out, where no rule allows it.
+    #[tactic(auto, unfolding(crate::specs::Words::is_left_out))]
     pub fn is_left_out(self) -> bool
         ensures { result ≡ is_left_out self }
     {
@@ -292,7 +294,6 @@ impl Word {
     }
 
     /// Whether it is that keyword.
-    #[tactic(auto, unfolding(crate::specs::Words::same_word))]
     pub fn is(self, other: Word) -> bool
         ensures value { result ≡ same_word self other }
         ensures same { IsTrue result ↔ (self ≡ other) }

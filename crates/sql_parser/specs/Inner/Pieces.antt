@@ -1,15 +1,16 @@
 -- Statements and blocks as the code reads them, piece by piece.
-use Rattle.std.specs.Prelude.{◌≡◌, ℕ, suc, List, [], ◌∷◌, Option, Some, None, Result, Err, if◌then◌else◌}
+use Rattle.std.specs.Prelude.{◌≡◌, ℕ, suc, Bool, true, false, not, List, [], ◌∷◌, map, filter, Option, Some, None, Result, Err, if◌then◌else◌}
 use Rattle.iso_lexer.specs.declared.sql_token.SqlSign.TheVariants as signs
 use Rattle.sql_trees.specs.declared.fault.SqlFault.{SqlFault}
 use Rattle.sql_trees.specs.declared.expr.AggKind.{AggKind}
-use Rattle.sql_trees.specs.Statements.{StmtTree, ItemTree}
+use Rattle.sql_trees.specs.Statements.{StmtTree, ItemTree, KeyTree}
 use Rattle.sql_trees.specs.Tokens.{Tokens}
 use Rattle.sql_expressions.specs.Results.{◌>>=◌}
 use Rattle.sql_expressions.specs.Readers.{is_sign, misplaced, Reader}
 use Rattle.sql_blocks.specs.declared.block.Role.{Role}
 use Rattle.sql_parser.specs.Blocks.{simple_of, begun_of, piece_at, stmts_at}
 use Rattle.sql_parser.specs.Queries.{item_of}
+use Rattle.sql_parser.specs.Tables.{KeyRead, resolved}
 
 module _ (last : ℕ) where
   -- an item behind the open parenthesis of its aggregate
@@ -23,6 +24,14 @@ module _ (last : ℕ) where
   abbrev pub begun_at : Reader (Result StmtTree SqlFault)
   begun_at [] = Err (misplaced last [])
   begun_at (t ∷ ts) = begun_of last t.tok t ts
+
+-- the primary keys, or the others
+abbrev pub is_kept : Bool → KeyRead → Bool
+is_kept true k = k.primary
+is_kept false k = not k.primary
+
+abbrev pub resolved_keys : Bool → List (List ℕ) → List KeyRead → List KeyTree
+resolved_keys primary columns ks = map (resolved columns) (filter (λ k. is_kept primary k) ks)
 
 -- the statements of a block, behind these
 abbrev pub block_from : ℕ → Role → List StmtTree → Tokens → Result (List StmtTree) SqlFault

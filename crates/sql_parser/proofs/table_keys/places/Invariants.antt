@@ -1,12 +1,12 @@
 use Rattle.std.proofs.Common.{◌≡◌, ◌++◌, length, map}
 use Rattle.sql_blocks.specs.Parts.{column_names}
-use Rattle.sql_parser.specs.Tables.{places_in}
+use Rattle.sql_parser.specs.Tables.{place_among}
 use Rattle.sql_parser.specs.Views.{placed_of}
 use Rattle.sql_trees.specs.Statements.{column_of}
 use Rattle.sql_parser.proofs.table_keys.places.Given as goal
 
 abbrev pub invariant-loop-names : goal.invariant-loop-names
-invariant-loop-names l = l.places.items ++ places_in (column_names (map column_of l.columns)) (map placed_of l.names) ≡ places_in (column_names (map column_of l.columns)) (map placed_of l.fn.names)
+invariant-loop-names l = l.places.items ++ map (λ n. place_among (column_names (map column_of l.columns)) n.name) (map placed_of l.names) ≡ map (λ n. place_among (column_names (map column_of l.columns)) n.name) (map placed_of l.fn.names)
 
 abbrev pub decreases-loop-names : goal.decreases-loop-names
 decreases-loop-names l = length l.names
