@@ -68,14 +68,14 @@ aliased (stmt.Value e (Some alias) ∷ is) name = if bytes_eq name alias then So
 aliased (i ∷ is) name = aliased is name
 
 -- a key of ORDER BY that is a bare name means the item with that alias, if there is one
-abbrev pub lacking_key : Cols → List ItemTree → Tree → Option (List ℕ)
-lacking_key cols is (tree.Column name) = if is_some (aliased is name) then None else lacking cols (tree.Column name)
-lacking_key cols is e = lacking cols e
+abbrev pub meant : List ItemTree → Tree → Tree
+meant is (tree.Column name) = unwrap_or (aliased is name) (tree.Column name)
+meant is e = e
 
 -- the first column that a SELECT names and its table lacks: of its items, then of WHERE, then of ORDER BY
 abbrev pub lacking_select : Cols → SelectTree → Option (List ℕ)
 lacking_select cols s =
-    option_or (first_of (lacking_item cols) s.items) (option_or (lacking_if cols s.filter) (first_of (λ (k : OrderTree). lacking_key cols s.items k.expr) s.order))
+    option_or (first_of (lacking_item cols) s.items) (option_or (lacking_if cols s.filter) (first_of (λ (k : OrderTree). lacking cols (meant s.items k.expr)) s.order))
 
 -- the places, counted from k, of the rows that pass WHERE
 abbrev pub passing : Cols → Option Tree → ℕ → List (List Value) → Result (List ℕ) ValueFault
@@ -118,12 +118,10 @@ unlisted width e = None
 abbrev pub wrong_position : List ColumnTree → SelectTree → Option ℤ
 wrong_position columns s = first_of (λ (k : OrderTree). unlisted (length (titles_of columns s.items)) k.expr) s.order
 
--- the value of a key of ORDER BY at a row: a number literal means that column of the result, counted from 1, or NULL where there is none,
--- and a bare name the item with that alias, if there is one
+-- the value of a key of ORDER BY at a row: a number literal means that column of the result, counted from 1, or NULL where there is none
 abbrev pub key_value : Cols → List ItemTree → List Value → Tree → Answer
 key_value cols is row (tree.Number negative n) = if negative || n == 0 then Ok Null else slice_index_or (shown cols is row) (n - 1) (Ok Null)
-key_value cols is row (tree.Column name) = value (unwrap_or (aliased is name) (tree.Column name)) cols row
-key_value cols is row e = value e cols row
+key_value cols is row e = value (meant is e) cols row
 
 -- the keys of a row, from the left
 abbrev pub keys_of : Cols → List ItemTree → List OrderTree → List Value → Result (List Value) ValueFault

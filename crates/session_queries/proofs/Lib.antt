@@ -8,5 +8,6 @@ pub mod Fronts
 pub mod Selecting
 pub mod Shown
 pub mod Counting
+pub mod Meant
 pub mod Parts
 pub mod Picking

@@ -3,8 +3,8 @@
 ghost use Rattle.std.specs.Prelude.{◌≡◌, [], map, option_map};
 ghost use Rattle.sql_trees.specs.Trees.{agg_of, tree_of, trees, Column as NamedColumn};
 ghost use Rattle.sql_trees.specs.Statements.{OrderTree, SetTree, column_of, exprs_of, item_of, name_of, order_of, select_of, set_of, update_of};
-ghost use Rattle.query_results.specs.Queries.{cols_of, first_of, lacking, lacking_among, lacking_if, lacking_item, lacking_key, lacking_rows, lacking_select};
-ghost use Rattle.session_queries.specs.Inner.Parts.{lacking_agg};
+ghost use Rattle.query_results.specs.Queries.{cols_of, first_of, lacking, lacking_among, lacking_if, lacking_item, lacking_rows, lacking_select};
+ghost use Rattle.session_queries.specs.Inner.Parts.{lacking_agg, lacking_key};
 ghost use Rattle.query_results.specs.Updates.{lacking_update};
 
 use crate::keys::aliased;

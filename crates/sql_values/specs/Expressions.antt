@@ -14,8 +14,8 @@ use Rattle.sql_values.specs.declared.value.Value.{Value}
 use Rattle.sql_values.specs.declared.value.Value.TheVariants.{Null, Int, Text, Bool as Boolean}
 use Rattle.sql_values.specs.declared.fault.ValueFault.{ValueFault}
 use Rattle.sql_values.specs.declared.fault.ValueFault.TheVariants.{NoColumn, TypeMismatch}
-use Rattle.sql_values.specs.Values.{Answer, if_ok, is_null, compare}
-use Rattle.sql_values.specs.Arithmetic.{arithmetic, plus, number, signed}
+use Rattle.sql_values.specs.Values.{Answer, if_ok, is_null, is_number, compare}
+use Rattle.sql_values.specs.Arithmetic.{arithmetic, number, signed}
 use Rattle.sql_values.specs.Logic.{Known, truth, condition, or_of, and_of, is_test}
 
 abbrev pub Cols : Type 0
@@ -51,15 +51,15 @@ binary And a b = condition false (and_of (if_ok a truth) (if_ok b truth))
 binary op a b = if_ok a (λ v. if_ok b (operate op v))
 
 abbrev mutual
-  -- the value of an expression at a row of these columns (4.2); a string literal that isn't UTF-8, which no text has, is no text,
-  -- and a name means the first column that has it
+  -- the value of an expression at a row of these columns (4.2): a string literal that isn't UTF-8, which no text has, is no text,
+  -- a name means the first column that has it, a plus sign leaves NULL and a number as it is, and a minus sign takes it from 0 (9.3)
   pub value : Tree → Cols → List Value → Answer
   value tree.Null cols row = Ok Null
   value (tree.Flag b) cols row = Ok (Boolean b)
   value (tree.Number negative n) cols row = number (signed negative n)
   value (tree.Text s) cols row = if is_utf8 s then Ok (Text s) else Err TypeMismatch
   value (tree.Column name) cols row = ok_or (option_and_then (slice_get row) (position (λ c. bytes_eq name c.0) cols)) (NoColumn name)
-  value (tree.Plus a) cols row = if_ok (value a cols row) plus
+  value (tree.Plus a) cols row = if_ok (value a cols row) (λ v. if is_null v || is_number v then Ok v else Err TypeMismatch)
   value (tree.Minus a) cols row = if_ok (value a cols row) (operate Subtract (Int (pos 0)))
   value (tree.Not a) cols row = condition true (if_ok (value a cols row) truth)
   value (tree.Binary op a b) cols row = binary op (value a cols row) (value b cols row)

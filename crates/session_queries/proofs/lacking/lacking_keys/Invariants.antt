@@ -1,6 +1,7 @@
 use Rattle.std.proofs.Common.{◌≡◌, drop, map}
 use Rattle.sql_trees.specs.Statements.{OrderTree, item_of, order_of}
-use Rattle.query_results.specs.Queries.{first_of, lacking_key}
+use Rattle.query_results.specs.Queries.{first_of}
+use Rattle.session_queries.specs.Inner.Parts.{lacking_key}
 use Rattle.session_queries.proofs.lacking.lacking_keys.Given as goal
 
 abbrev pub invariant-loop-key : goal.invariant-loop-key
