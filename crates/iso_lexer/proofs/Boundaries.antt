@@ -1,6 +1,6 @@
 -- A run ends between characters.
 use Rattle.std.proofs.Common.{◌≡◌, ℕ, ◌+◌, ◌-◌, ◌<◌, ◌≤◌, Bool, true, false, List, length, get_or, IsUtf8, subst, arith, inl, inr}
-use Rattle.std.specs.Prelude.{not, reverse}
+use Rattle.std.specs.Prelude.{reverse}
 use Rattle.std.specs.List.{prefix_len, suffix_len}
 use Rattle.std.specs.Str.{IsCharBoundary}
 use Rattle.std.specs.Char.{is_ascii_digit}
@@ -11,12 +11,12 @@ use Rattle.std.proofs.lemmas.List.{length-reverse, get_or-reverse}
 use Rattle.std.proofs.lemmas.List.Sums.{suffix_len-le-length, prefix_len-le-length, prefix_len_passes, prefix_len_stops}
 use Rattle.iso_lexer.specs.declared.runs.Run.{Run}
 use Rattle.iso_lexer.specs.declared.runs.Run.TheVariants.{Blanks, Comment, Word, Digits}
-use Rattle.iso_lexer.specs.Bytes.{is_blank, is_line_end, is_name_byte, passes}
+use Rattle.iso_lexer.specs.Bytes.{is_blank, is_name_byte, passes}
 
 blank_small : (b : ℕ) → is_blank b ≡ true → b < 128
 blank_small b h = grind (arith, nat_tests)
 
-line_end_small : (b : ℕ) → not (is_line_end b) ≡ false → b < 128
+line_end_small : (b : ℕ) → passes Comment b ≡ false → b < 128
 line_end_small b h = grind (arith, nat_tests)
 
 name_stop_small : (b : ℕ) → is_name_byte b ≡ false → b < 128
@@ -54,7 +54,7 @@ before_ascii p small bs =
 
 pub run_boundary : (run : Run) (bs : List ℕ) → IsUtf8 bs → IsCharBoundary bs (prefix_len (passes run) bs)
 run_boundary Blanks bs utf8 = behind_ascii is_blank blank_small bs utf8
-run_boundary Comment bs utf8 = before_ascii (λ b. not (is_line_end b)) line_end_small bs
+run_boundary Comment bs utf8 = before_ascii (passes Comment) line_end_small bs
 run_boundary Word bs utf8 = before_ascii is_name_byte name_stop_small bs
 run_boundary Digits bs utf8 = behind_ascii is_ascii_digit digit_small bs utf8
 

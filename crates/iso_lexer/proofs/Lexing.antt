@@ -3,7 +3,7 @@ use Rattle.std.proofs.Common.{◌≡◌, ℕ, ◌+◌, ◌-◌, ◌<◌, ◌≤�
 use Rattle.std.specs.Prelude.{map, slice_range}
 use Rattle.std.specs.List.{AllByRecursion}
 use Rattle.std.proofs.lemmas.List.{append-nil, map-append, drop-drop}
-use Rattle.iso_lexer.specs.Lexing.{Front, gap, token, fault, made, Reads, ends, takes, fails, in_front, between, SpelledAt, HasToken, here, behind}
+use Rattle.iso_lexer.specs.Lexing.{Front, gap, token, fault, Reads, ends, takes, fails, in_front, between, SpelledAt, HasToken, here, behind}
 use Rattle.iso_lexer.specs.Lexing.{passes as skips}
 use Rattle.iso_lexer.specs.declared.fault.Fault.{Fault}
 use Rattle.iso_lexer.specs.declared.fault.FaultKind.{FaultKind}
@@ -18,11 +18,6 @@ abbrev pub Shorter : {T : Type 0} → ℕ → Front T → Type 0
 Shorter n (gap rest) = length rest < n
 Shorter n (token t rest) = length rest < n
 Shorter n (fault kind m) = m < n
-
-pub made_shorter : {A B : Type 0} (make : A → B) (n : ℕ) (f : Front A) → Shorter n f → Shorter n (made make f)
-made_shorter make n (gap rest) h = h
-made_shorter make n (token t rest) h = h
-made_shorter make n (fault kind m) h = h
 
 -- what rules have to keep: nothing begins nothing, and each piece takes something
 pub record Rules {T : Type 0} (front : List ℕ → Front T) : Type 0 where

@@ -8,7 +8,7 @@ use Rattle.std.proofs.lemmas.Str.{IsCharBoundary-after_ascii, IsCharBoundary-bef
 use Rattle.iso_lexer.specs.declared.fault.FaultKind.{FaultKind}
 use Rattle.iso_lexer.specs.declared.quoted.Quoted.{Quoted}
 use Rattle.iso_lexer.specs.declared.quoted.Quoted.TheVariants.{Closed, Broken, Unclosed}
-use Rattle.iso_lexer.specs.Lexing.{made}
+use Rattle.iso_lexer.specs.Lexing.{Front, gap, token, fault}
 use Rattle.iso_lexer.specs.Quotes.{longer, quoted_from, quoted_front}
 use Rattle.iso_lexer.proofs.Lexing.{Shorter, CutBy}
 
@@ -129,12 +129,12 @@ closed_boundary mark one_line bs xs n ascii utf8 same e =
 
 -- ---- the rule
 
-pub quoted_shorter : (mark : ℕ) (one_line : Bool) (unclosed : FaultKind) (q : Quoted) (bs : List ℕ) → q ≡ quoted_from mark one_line false bs → Shorter (suc (length bs)) (quoted_front unclosed q bs)
-quoted_shorter mark one_line unclosed (Closed n) bs e = omega (arith, length-drop n bs)
-quoted_shorter mark one_line unclosed (Broken n) bs e = omega (arith, breaks mark one_line false bs n (sym e))
-quoted_shorter mark one_line unclosed Unclosed bs e = omega arith
+pub quoted_shorter : {T : Type 0} (make : List ℕ → T) (mark : ℕ) (one_line : Bool) (unclosed : FaultKind) (q : Quoted) (bs : List ℕ) → q ≡ quoted_from mark one_line false bs → Shorter (suc (length bs)) (quoted_front make unclosed q bs)
+quoted_shorter make mark one_line unclosed (Closed n) bs e = omega (arith, length-drop n bs)
+quoted_shorter make mark one_line unclosed (Broken n) bs e = omega (arith, breaks mark one_line false bs n (sym e))
+quoted_shorter make mark one_line unclosed Unclosed bs e = omega arith
 
-pub quoted_cut : {T : Type 0} (Spells : T → List ℕ → Type 0) (make : List ℕ → T) (mark : ℕ) (one_line : Bool) (unclosed : FaultKind) (b : ℕ) (bs : List ℕ) (q : Quoted) → ((w : List ℕ) → Spells (make w) (mark ∷ (w ++ mark ∷ []))) → b ≡ mark → q ≡ quoted_from mark one_line false bs → CutBy Spells (b ∷ bs) (made make (quoted_front unclosed q bs))
+pub quoted_cut : {T : Type 0} (Spells : T → List ℕ → Type 0) (make : List ℕ → T) (mark : ℕ) (one_line : Bool) (unclosed : FaultKind) (b : ℕ) (bs : List ℕ) (q : Quoted) → ((w : List ℕ) → Spells (make w) (mark ∷ (w ++ mark ∷ []))) → b ≡ mark → q ≡ quoted_from mark one_line false bs → CutBy Spells (b ∷ bs) (quoted_front make unclosed q bs)
 quoted_cut Spells make mark one_line unclosed b bs Unclosed spells is e = tt
 quoted_cut Spells make mark one_line unclosed b bs (Broken n) spells is e = tt
 quoted_cut Spells make mark one_line unclosed b bs (Closed n) spells is e =
@@ -143,3 +143,15 @@ quoted_cut Spells make mark one_line unclosed b bs (Closed n) spells is e =
     let last : take n bs ≡ take (n - 1) bs ++ mark ∷ [] = ap (λ k. take k bs) pred ∙ take-suc bs (n - 1) 0 (omega (arith, h.0, h.1)) ∙ ap (λ c. take (n - 1) bs ++ c ∷ []) h.2 in
     let written : mark ∷ (take (n - 1) bs ++ mark ∷ []) ≡ b ∷ take n bs = (λ i. sym is i ∷ sym last i) in
     record { len = suc n; within = omega (arith, h.1); after = refl; spells = subst (Spells (make (take (n - 1) bs))) written (spells (take (n - 1) bs)) }
+
+-- the same with another token made of its token
+abbrev pub made : {A B : Type 0} → (A → B) → Front A → Front B
+made make (gap rest) = gap rest
+made make (token t rest) = token (make t) rest
+made make (fault kind n) = fault kind n
+
+-- a front that holds the text between the quotes holds what is made of it
+pub made_of_quoted : {T : Type 0} (make : List ℕ → T) (unclosed : FaultKind) (q : Quoted) (bs : List ℕ) (f : Front (List ℕ)) → f ≡ quoted_front (λ s. s) unclosed q bs → made make f ≡ quoted_front make unclosed q bs
+made_of_quoted make unclosed (Closed n) bs f e = ap (made make) e
+made_of_quoted make unclosed (Broken n) bs f e = ap (made make) e
+made_of_quoted make unclosed Unclosed bs f e = ap (made make) e

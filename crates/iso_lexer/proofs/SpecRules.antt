@@ -3,19 +3,20 @@ use Rattle.std.proofs.Common.{◌≡◌, ℕ, suc, ◌+◌, ◌<◌, ◌≤◌, 
 use Rattle.std.specs.Prelude.{MatchBool, nat_lt, ◌==◌, ◌||◌}
 use Rattle.std.specs.List.{prefix_len, position_or_len}
 use Rattle.std.specs.Char.{is_ascii_digit}
+use Rattle.std.specs.Option.{option_map_or}
 use Rattle.std.proofs.lemmas.Bool.{le-ltb, eqb-true}
-use Rattle.iso_lexer.specs.Bytes.{passes, is_blank, is_name_start, is_name_byte}
-use Rattle.iso_lexer.specs.SpecTokens.{Token, name}
+use Rattle.iso_lexer.specs.Bytes.{passes, is_blank, is_name_start, is_name_byte, row_of}
+use Rattle.iso_lexer.specs.SpecTokens.{Token, name, sign}
 use Rattle.iso_lexer.specs.Names.{quoted}
 use Rattle.iso_lexer.specs.Lexing.{Front, gap, token, fault, Reads}
 use Rattle.iso_lexer.specs.Quotes.{quoted_from, quoted_front}
-use Rattle.iso_lexer.specs.SpecText.{block_of, front, name_front, block_front, sign_front, sign_of, word_front, ascii_front, Lexes}
+use Rattle.iso_lexer.specs.SpecText.{block_of, front, block_front, signs, word_front, ascii_front, Lexes}
 use Rattle.iso_lexer.specs.declared.fault.Fault.{Fault}
-use Rattle.iso_lexer.specs.declared.fault.FaultKind.TheVariants.{UnterminatedBlock, UnterminatedName}
+use Rattle.iso_lexer.specs.declared.fault.FaultKind.TheVariants.{UnterminatedBlock, UnterminatedName, UnexpectedByte}
 use Rattle.iso_lexer.specs.declared.token.At.{At}
 use Rattle.iso_lexer.specs.declared.spec_token.Sign.{Sign}
 use Rattle.iso_lexer.specs.declared.runs.Run.TheVariants.{Comment}
-use Rattle.iso_lexer.proofs.Lexing.{either, Shorter, made_shorter, Rules, one_reading}
+use Rattle.iso_lexer.proofs.Lexing.{either, Shorter, Rules, one_reading}
 use Rattle.iso_lexer.proofs.QuoteEnds.{quoted_shorter}
 
 pub after_shorter : (p : ℕ → Bool) (b : ℕ) (bs : List ℕ) → p b ≡ true → length (drop (prefix_len p (b ∷ bs)) (b ∷ bs)) < suc (length bs)
@@ -23,10 +24,11 @@ after_shorter p b bs h =
     let one : prefix_len p (b ∷ bs) ≡ 1 + prefix_len p bs = rw h refl in
     omega (arith, one, length-drop (prefix_len p (b ∷ bs)) (b ∷ bs))
 
-name_shorter : (bs : List ℕ) → Shorter (suc (length bs)) (name_front bs)
-name_shorter bs =
-    let q = quoted_from 34 true false bs in
-    made_shorter (λ s. name (quoted s)) (suc (length bs)) (quoted_front UnterminatedName q bs) (quoted_shorter 34 true UnterminatedName q bs refl)
+name_shorter : (bs : List ℕ) → Shorter (suc (length bs)) (quoted_front (λ s. name (quoted s)) UnterminatedName (quoted_from 34 true false bs) bs)
+name_shorter bs = quoted_shorter (λ s. name (quoted s)) 34 true UnterminatedName (quoted_from 34 true false bs) bs refl
+
+abbrev sign_front : Option Sign → List ℕ → Front Token
+sign_front o bs = option_map_or (λ s. token (sign s) bs) o (fault UnexpectedByte 0)
 
 sign_shorter : (s : Option Sign) (bs : List ℕ) → Shorter (suc (length bs)) (sign_front s bs)
 sign_shorter (Some s) bs = omega arith
@@ -59,9 +61,9 @@ front_shorter (b ∷ bs) lt =
     (λ h. after_shorter (passes Comment) b bs (comment_byte b h))
     (λ h2. either P _ _ _
     (λ h. after_shorter is_ascii_digit b bs h)
-    (λ h3. either P (b == 34) (name_front bs) (cond (b == 123) (block_front bs) (sign_front (sign_of b) bs))
+    (λ h3. either P (b == 34) (quoted_front (λ s. name (quoted s)) UnterminatedName (quoted_from 34 true false bs) bs) (cond (b == 123) (block_front bs) (sign_front (row_of signs (b ∷ [])) bs))
     (λ h. name_shorter bs)
-    (λ h4. either P (b == 123) (block_front bs) (sign_front (sign_of b) bs) (λ h. block_shorter bs) (λ h5. sign_shorter (sign_of b) bs))))))
+    (λ h4. either P (b == 123) (block_front bs) (sign_front (row_of signs (b ∷ [])) bs) (λ h. block_shorter bs) (λ h5. sign_shorter (row_of signs (b ∷ [])) bs))))))
 
 pub spec_rules : Rules front
 unfolding front

@@ -1,33 +1,33 @@
 -- The front of SQL text by its first byte, its numbers and signs, and the places between characters.
-use Rattle.std.proofs.Common.{◌≡◌, ℕ, ◌+◌, ◌-◌, ◌<◌, ◌≤◌, Bool, true, false, cond, List, [], ◌∷◌, length, get_or, drop, take, sym, refl, ap, subst, ◌∙◌, arith, IsUtf8, Option, Some, None}
-use Rattle.std.specs.Prelude.{◌==◌, ◌&&◌, ◌||◌, slice_index, nat_lt, bytes_eq}
+use Rattle.std.proofs.Common.{◌≡◌, ℕ, ◌+◌, ◌-◌, ◌<◌, ◌≤◌, Bool, true, false, cond, List, [], ◌∷◌, length, get_or, drop, take, sym, refl, ap, subst, ◌∙◌, arith, inl, inr, IsUtf8, Some}
+use Rattle.std.specs.Prelude.{◌==◌, ◌&&◌, slice_index, nat_lt, bytes_eq}
 use Rattle.std.specs.Str.{IsCharBoundary}
 use Rattle.std.specs.Str.Parse.{IsNumeral, digits_value}
-use Rattle.std.specs.List.{prefix_len}
+use Rattle.std.specs.List.{prefix_len, list_all}
 use Rattle.std.specs.Int.{IsInRange}
 use Rattle.std.specs.Char.{is_ascii_digit}
-use Rattle.std.proofs.lemmas.Bool.{eqb-true, and_parts, le-ltb}
+use Rattle.std.proofs.lemmas.Bool.{eqb-true, and_parts, le-ltb, ltb-true, cases_Bool, false≢true}
 use Rattle.std.proofs.lemmas.Bool.Decides.{nat_tests}
 use Rattle.std.proofs.lemmas.List.{get_or-take}
 use Rattle.std.proofs.lemmas.List.Sums.{prefix_len_passes}
 use Rattle.std.proofs.lemmas.List.Folds.{length-prefix_len}
 use Rattle.std.proofs.lemmas.Str.{IsCharBoundary-after_ascii}
 use Rattle.std.proofs.lemmas.Str.Parse.{IsNumeralModel, numerals_by_value, tells_by_index}
-use Rattle.iso_lexer.specs.Bytes.{is_name_start, is_name_byte, run_of, after_run}
+use Rattle.iso_lexer.specs.Bytes.{is_name_start, is_name_byte, run_of, after_run, row_of}
 use Rattle.iso_lexer.specs.Comments.{EndsAt}
-use Rattle.iso_lexer.specs.SqlTokens.{number}
+use Rattle.iso_lexer.specs.SqlTokens.{word, number}
 use Rattle.iso_lexer.specs.Lexing.{token, fault}
-use Rattle.iso_lexer.specs.SqlText.{sql_front, word_front, number_front, ascii_front, sign_of_two}
+use Rattle.iso_lexer.specs.SqlText.{sql_front, number_front, ascii_front, signs}
 use Rattle.iso_lexer.specs.declared.fault.FaultKind.TheVariants.{UnexpectedByte}
 use Rattle.iso_lexer.specs.declared.sql_token.SqlSign.{SqlSign}
-use Rattle.iso_lexer.specs.declared.runs.Run.TheVariants.{Digits}
+use Rattle.iso_lexer.specs.declared.runs.Run.TheVariants.{Word, Digits}
 
-front_is : (text : List ℕ) → 0 < length text → sql_front text ≡ cond (is_name_start (get_or text 0 0)) (word_front text) (ascii_front (get_or text 0 0) text (drop 1 text))
+front_is : (text : List ℕ) → 0 < length text → sql_front text ≡ cond (is_name_start (get_or text 0 0)) (token (word (run_of Word text)) (after_run Word text)) (ascii_front (get_or text 0 0) text (drop 1 text))
 unfolding sql_front
 front_is [] lt = absurd (omega arith)
 front_is (b ∷ bs) lt = refl
 
-pub front_word : (bs xs : List ℕ) → xs ≡ bs → 0 < length bs → is_name_start (get_or xs 0 0) ≡ true → sql_front bs ≡ word_front bs
+pub front_word : (bs xs : List ℕ) → xs ≡ bs → 0 < length bs → is_name_start (get_or xs 0 0) ≡ true → sql_front bs ≡ token (word (run_of Word bs)) (after_run Word bs)
 front_word bs xs same lt h = front_is bs lt ∙ rw (rw same at h) refl
 
 pub front_ascii : (bs xs rest : List ℕ) → xs ≡ bs → 0 < length bs → is_name_start (get_or xs 0 0) ≡ false → rest ≡ drop 1 bs → sql_front bs ≡ ascii_front (get_or xs 0 0) bs rest
@@ -52,33 +52,35 @@ second_of_opening b c h =
 
 -- ---- signs of two bytes
 
-abbrev Small : ℕ → Option SqlSign → Type 0
-Small c o = (g : SqlSign) → o ≡ Some g → (0 < c) × (c < 128)
+abbrev Small : ℕ → Type 0
+Small c = (0 < c) × (c < 128)
 
-one_of : (c : ℕ) (b : Bool) (x y : Option SqlSign) → (b ≡ true → (0 < c) × (c < 128)) → Small c y → Small c (cond b x y)
-one_of c true x y p q g e = p refl
-one_of c false x y p q g e = q g e
+-- the bytes are as many as those of a row, and where they are two, the second is one of ASCII
+abbrev is_row : List ℕ → Bool
+is_row (x ∷ y ∷ []) = nat_lt 0 y && nat_lt y 128
+is_row (x ∷ []) = true
+is_row _ = false
 
-none_small : (c : ℕ) → Small c None
-none_small c g e = absurd cc
-
-second_is : (b c x y : ℕ) → 0 < y → y < 128 → bytes_eq (b ∷ c ∷ []) (x ∷ y ∷ []) ≡ true → (0 < c) × (c < 128)
-second_is b c x y some small h =
+second_is : (b c : ℕ) (row : List ℕ) → is_row row ≡ true → bytes_eq (b ∷ c ∷ []) row ≡ true → Small c
+second_is b c [] r h = absurd (false≢true r)
+second_is b c (x ∷ []) r h = absurd (false≢true (and_parts (b == x) false h).1)
+second_is b c (x ∷ y ∷ []) r h =
     let same : c ≡ y = eqb-true c y (and_parts (c == y) true (and_parts (b == x) (c == y && true) h).1).0 in
-    (omega arith, omega arith)
+    let both = and_parts (nat_lt 0 y) (nat_lt y 128) r in
+    (omega (arith, ltb-true 0 y both.0), omega (arith, ltb-true y 128 both.1))
+second_is b c (x ∷ y ∷ z ∷ row) r h = absurd (false≢true r)
 
-either_is : (p q : Bool) (c : ℕ) → (p || q) ≡ true → (p ≡ true → (0 < c) × (c < 128)) → (q ≡ true → (0 < c) × (c < 128)) → (0 < c) × (c < 128)
-either_is true q c h l r = l refl
-either_is false q c h l r = r h
+second_in : (b c : ℕ) (rows : List (List ℕ × SqlSign)) (g : SqlSign) → list_all (λ (row : List ℕ × SqlSign). is_row row.0) rows ≡ true → row_of rows (b ∷ c ∷ []) ≡ Some g → Small c
+second_in b c [] g r h = absurd cc
+second_in b c (row ∷ rows) g r h =
+    let parts = and_parts (is_row row.0) (list_all (λ (row : List ℕ × SqlSign). is_row row.0) rows) r in
+    elim (cases_Bool (bytes_eq (b ∷ c ∷ []) row.0)) [
+      | inl same ↦ second_is b c row.0 parts.0 same
+      | inr other ↦ second_in b c rows g parts.1 (rw other at h)
+    ]
 
-pub second_of_two : (b c : ℕ) (g : SqlSign) → sign_of_two (b ∷ c ∷ []) ≡ Some g → (0 < c) × (c < 128)
-second_of_two b c =
-    let s : List ℕ = b ∷ c ∷ [] in
-    one_of c (bytes_eq s (60 ∷ 62 ∷ []) || bytes_eq s (33 ∷ 61 ∷ [])) _ _ (λ h. either_is _ _ c h (second_is b c 60 62 (omega arith) (omega arith)) (second_is b c 33 61 (omega arith) (omega arith)))
-    (one_of c (bytes_eq s (60 ∷ 61 ∷ [])) _ _ (second_is b c 60 61 (omega arith) (omega arith))
-    (one_of c (bytes_eq s (62 ∷ 61 ∷ [])) _ _ (second_is b c 62 61 (omega arith) (omega arith))
-    (one_of c (bytes_eq s (124 ∷ 124 ∷ [])) _ _ (second_is b c 124 124 (omega arith) (omega arith))
-    (one_of c (bytes_eq s (58 ∷ 58 ∷ [])) _ _ (second_is b c 58 58 (omega arith) (omega arith)) (none_small c)))))
+pub second_of_two : (b c : ℕ) (g : SqlSign) → row_of signs (b ∷ c ∷ []) ≡ Some g → Small c
+second_of_two b c g h = second_in b c signs g refl h
 
 -- ---- numbers
 

@@ -3,19 +3,20 @@ use Rattle.std.proofs.Common.{◌≡◌, ℕ, suc, ◌<◌, length, drop, List, 
 use Rattle.std.specs.Prelude.{◌==◌, ◌||◌, ◌&&◌, nat_lt, slice_index}
 use Rattle.std.specs.List.{prefix_len}
 use Rattle.std.specs.Char.{is_ascii_digit}
+use Rattle.std.specs.Option.{option_map_or}
 use Rattle.std.specs.Str.Parse.{digits_value}
 use Rattle.std.proofs.lemmas.Bool.{eqb-true, and_parts}
 use Rattle.std.proofs.lemmas.List.Folds.{length-prefix_len}
-use Rattle.iso_lexer.specs.Bytes.{passes, is_blank, is_name_start, is_name_byte, after_run, run_of}
-use Rattle.iso_lexer.specs.SqlTokens.{SqlToken, quoted_word, string, number}
+use Rattle.iso_lexer.specs.Bytes.{passes, is_blank, is_name_start, is_name_byte, after_run, run_of, row_of}
+use Rattle.iso_lexer.specs.SqlTokens.{SqlToken, word, quoted_word, string, number, sql_sign}
 use Rattle.iso_lexer.specs.Lexing.{Front, gap, token, fault}
 use Rattle.iso_lexer.specs.Quotes.{quoted_from, quoted_front}
 use Rattle.iso_lexer.specs.Comments.{after_comment}
-use Rattle.iso_lexer.specs.SqlText.{sql_front, word_front, number_front, name_front, string_front, comment_front, sign_front, pair_front, ascii_front, sign_of_two, sign_of_one}
-use Rattle.iso_lexer.specs.declared.fault.FaultKind.TheVariants.{NumberTooLarge, UnexpectedByte, UnterminatedName, UnterminatedString}
+use Rattle.iso_lexer.specs.SqlText.{sql_front, number_front, pair_front, ascii_front, signs}
+use Rattle.iso_lexer.specs.declared.fault.FaultKind.TheVariants.{NumberTooLarge, UnexpectedByte, UnterminatedName, UnterminatedString, UnterminatedComment}
 use Rattle.iso_lexer.specs.declared.sql_token.SqlSign.{SqlSign}
-use Rattle.iso_lexer.specs.declared.runs.Run.TheVariants.{Comment, Digits}
-use Rattle.iso_lexer.proofs.Lexing.{either, Shorter, made_shorter, Rules}
+use Rattle.iso_lexer.specs.declared.runs.Run.TheVariants.{Comment, Word, Digits}
+use Rattle.iso_lexer.proofs.Lexing.{either, Shorter, Rules}
 use Rattle.iso_lexer.proofs.QuoteEnds.{quoted_shorter}
 use Rattle.iso_lexer.proofs.Comments.{behind, comment_further}
 use Rattle.iso_lexer.proofs.SpecRules.{after_shorter, gap_shorter, name_byte}
@@ -34,15 +35,14 @@ number_shorter b bs h =
     (λ h1. omega (arith, length-prefix_len is_ascii_digit text, length-drop n text, some_byte (after_run Digits text) h1))
     (λ h1. after_shorter is_ascii_digit b bs h))
 
-name_shorter : (bs : List ℕ) → Shorter (suc (length bs)) (name_front bs)
-name_shorter bs =
-    let q = quoted_from 34 false false bs in
-    made_shorter quoted_word (suc (length bs)) (quoted_front UnterminatedName q bs) (quoted_shorter 34 false UnterminatedName q bs refl)
+name_shorter : (bs : List ℕ) → Shorter (suc (length bs)) (quoted_front quoted_word UnterminatedName (quoted_from 34 false false bs) bs)
+name_shorter bs = quoted_shorter quoted_word 34 false UnterminatedName (quoted_from 34 false false bs) bs refl
 
-string_shorter : (bs : List ℕ) → Shorter (suc (length bs)) (string_front bs)
-string_shorter bs =
-    let q = quoted_from 39 false false bs in
-    made_shorter string (suc (length bs)) (quoted_front UnterminatedString q bs) (quoted_shorter 39 false UnterminatedString q bs refl)
+string_shorter : (bs : List ℕ) → Shorter (suc (length bs)) (quoted_front string UnterminatedString (quoted_from 39 false false bs) bs)
+string_shorter bs = quoted_shorter string 39 false UnterminatedString (quoted_from 39 false false bs) bs refl
+
+abbrev comment_front : Option (List ℕ) → Front SqlToken
+comment_front o = option_map_or gap o (fault UnterminatedComment 0)
 
 comment_shorter : (bs : List ℕ) (o : Option (List ℕ)) → after_comment 0 (drop 1 bs) ≡ o → Shorter (suc (length bs)) (comment_front o)
 comment_shorter bs None e = omega arith
@@ -50,7 +50,10 @@ comment_shorter bs (Some rest) e =
     let f = comment_further (drop 1 bs) rest (behind 0 (drop 1 bs) rest e) in
     omega (arith, ap length f.is, length-drop f.n (drop 1 bs), length-drop 1 bs)
 
-sign_shorter : (two one : Option SqlSign) (bs : List ℕ) → Shorter (suc (length bs)) (sign_front two one bs)
+abbrev by_signs : Option SqlSign → Option SqlSign → List ℕ → Front SqlToken
+by_signs two one bs = option_map_or (λ s. token (sql_sign s) (drop 1 bs)) two (option_map_or (λ s. token (sql_sign s) bs) one (fault UnexpectedByte 0))
+
+sign_shorter : (two one : Option SqlSign) (bs : List ℕ) → Shorter (suc (length bs)) (by_signs two one bs)
 sign_shorter (Some s) one bs = omega (arith, length-drop 1 bs)
 sign_shorter None (Some s) bs = omega arith
 sign_shorter None None bs = omega arith
@@ -63,19 +66,19 @@ pair_shorter b c bs =
     let P : Front SqlToken → Type 0 = Shorter (suc (length bs)) in
     either P (b == 45 && c == 45) (gap (after_run Comment (b ∷ bs))) _ (λ h. after_shorter (passes Comment) b bs (dash b c h))
     (λ h0. either P (b == 47 && c == 42) (comment_front (after_comment 0 (drop 1 bs))) _ (λ h. comment_shorter bs _ refl)
-    (λ h1. sign_shorter (sign_of_two (b ∷ c ∷ [])) (sign_of_one (b ∷ [])) bs))
+    (λ h1. sign_shorter (row_of signs (b ∷ c ∷ [])) (row_of signs (b ∷ [])) bs))
 
 front_shorter : (text : List ℕ) → 0 < length text → Shorter (length text) (sql_front text)
 unfolding sql_front
 front_shorter [] lt = absurd (omega arith)
 front_shorter (b ∷ bs) lt =
     let P : Front SqlToken → Type 0 = Shorter (suc (length bs)) in
-    either P (is_name_start b) (word_front (b ∷ bs)) (ascii_front b (b ∷ bs) bs)
+    either P (is_name_start b) (token (word (run_of Word (b ∷ bs))) (after_run Word (b ∷ bs))) (ascii_front b (b ∷ bs) bs)
     (λ h. after_shorter is_name_byte b bs (name_byte b h))
     (λ h0. either P (is_blank b || b == 10) (gap bs) _ (λ h. gap_shorter bs)
     (λ h1. either P (is_ascii_digit b) (number_front (b ∷ bs)) _ (λ h. number_shorter b bs h)
-    (λ h2. either P (b == 34) (name_front bs) _ (λ h. name_shorter bs)
-    (λ h3. either P (b == 39) (string_front bs) _ (λ h. string_shorter bs)
+    (λ h2. either P (b == 34) (quoted_front quoted_word UnterminatedName (quoted_from 34 false false bs) bs) _ (λ h. name_shorter bs)
+    (λ h3. either P (b == 39) (quoted_front string UnterminatedString (quoted_from 39 false false bs) bs) _ (λ h. string_shorter bs)
     (λ h4. pair_shorter b (slice_index bs 0) bs)))))
 
 pub sql_rules : Rules sql_front

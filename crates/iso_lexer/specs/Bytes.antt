@@ -1,5 +1,5 @@
--- Classes of bytes, and the runs that they make.
-use Rattle.std.specs.Prelude.{ℕ, Bool, ◌||◌, ◌==◌, nat_le, not, List, length, take, drop, ◌-◌}
+-- Classes of bytes, the runs that they make, and rows of spellings.
+use Rattle.std.specs.Prelude.{ℕ, Bool, ◌||◌, ◌==◌, nat_le, not, List, length, take, drop, ◌-◌, Option, option_map, find, bytes_eq}
 use Rattle.std.specs.List.{prefix_len, suffix_len}
 use Rattle.std.specs.Char.{is_ascii_digit, is_ascii_alphabetic}
 use Rattle.iso_lexer.specs.declared.runs.Run.{Run}
@@ -9,9 +9,6 @@ use Rattle.iso_lexer.specs.declared.runs.Run.TheVariants.{Blanks, Comment, Word,
 abbrev pub is_blank : ℕ → Bool
 is_blank b = b == 32 || b == 9 || b == 13 || b == 12 || b == 11
 
-abbrev pub is_line_end : ℕ → Bool
-is_line_end b = b == 10 || b == 13
-
 -- a letter, an underscore or part of a character past ASCII
 abbrev pub is_name_start : ℕ → Bool
 is_name_start b = is_ascii_alphabetic b || b == 95 || nat_le 128 b
@@ -19,10 +16,10 @@ is_name_start b = is_ascii_alphabetic b || b == 95 || nat_le 128 b
 abbrev pub is_name_byte : ℕ → Bool
 is_name_byte b = is_name_start b || is_ascii_digit b || b == 36
 
--- the bytes that a run of this kind has
+-- the bytes that a run of this kind has: a comment goes on up to LF or CR
 abbrev pub passes : Run → ℕ → Bool
 passes Blanks b = is_blank b
-passes Comment b = not (is_line_end b)
+passes Comment b = not (b == 10 || b == 13)
 passes Word b = is_name_byte b
 passes Digits b = is_ascii_digit b
 
@@ -36,3 +33,7 @@ after_run run text = drop (prefix_len (passes run) text) text
 -- without the blanks at both ends
 abbrev pub trimmed : List ℕ → List ℕ
 trimmed text = let rest = after_run Blanks text in take (length rest - suffix_len is_blank rest) rest
+
+-- what stands beside these bytes in the first row that has them
+abbrev pub row_of : {A : Type 0} → List (List ℕ × A) → List ℕ → Option A
+row_of {A} rows bytes = option_map (λ (row : List ℕ × A). row.1) (find (λ (row : List ℕ × A). bytes_eq bytes row.0) rows)

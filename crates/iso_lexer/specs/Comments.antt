@@ -1,5 +1,5 @@
 -- Where a comment of SQL text ends.
-use Rattle.std.specs.Prelude.{◌≡◌, ◌≢◌, ◌↔◌, ℕ, suc, ◌-◌, ◌<◌, ◌≤◌, ◌&&◌, ◌==◌, List, [], ◌∷◌, Option, Some, None, if◌then◌else◌, length, drop, slice_index}
+use Rattle.std.specs.Prelude.{◌≡◌, ◌≢◌, ◌↔◌, ℕ, suc, ◌-◌, ◌<◌, ◌≤◌, ◌&&◌, ◌==◌, List, ◌∷◌, Option, Some, None, if◌then◌else◌, length, drop, slice_index}
 
 -- Behind a comment's opening: its end, a comment in it and what goes on behind that, or another byte. The rest follows the end.
 pub data Comment : List ℕ → List ℕ → Type 0 where
@@ -9,12 +9,11 @@ pub data Comment : List ℕ → List ℕ → Type 0 where
 
 -- The same, computed: what follows the end of a comment that so many comments are around.
 unfoldable pub after_comment : ℕ → List ℕ → Option (List ℕ)
-after_comment around [] = None
-after_comment around (b ∷ []) = None
 after_comment around (b ∷ c ∷ bs) =
     if b == 42 && c == 47 then (if around == 0 then Some bs else after_comment (around - 1) bs)
     else (if b == 47 && c == 42 then after_comment (suc around) bs
     else after_comment around (c ∷ bs))
+after_comment around _ = None
 
 -- what follows a comment is what is computed
 abbrev pub ComputedComments : Type 0

@@ -10,12 +10,6 @@ pub data Front (T : Type 0) : Type 0 where
   token : T → List ℕ → Front T
   fault : FaultKind → ℕ → Front T
 
--- the same, with another token made of its token
-abbrev pub made : {A B : Type 0} → (A → B) → Front A → Front B
-made make (gap rest) = gap rest
-made make (token t rest) = token (make t) rest
-made make (fault kind n) = fault kind n
-
 -- the token between two rests of a text of this many bytes
 abbrev pub between : {T : Type 0} → ℕ → List ℕ → T → List ℕ → At T
 between total text t rest = record { tok = t; span = record { start = total - length text; end = total - length rest } }

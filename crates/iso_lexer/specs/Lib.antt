@@ -12,3 +12,4 @@ pub mod SqlSpelling
 pub mod FaultText
 pub mod Fronts
 pub mod Devices
+pub mod Inner

@@ -1,5 +1,5 @@
 -- Where a quoted name or string ends.
-use Rattle.std.specs.Prelude.{◌≡◌, ◌≢◌, ◌↔◌, ℕ, ◌+◌, ◌-◌, Bool, true, false, ◌&&◌, ◌==◌, List, [], ◌∷◌, take, drop, if◌then◌else◌}
+use Rattle.std.specs.Prelude.{◌≡◌, ◌≢◌, ◌↔◌, ℕ, ◌+◌, ◌-◌, Bool, true, false, not, ◌&&◌, ◌==◌, List, [], ◌∷◌, take, drop, if◌then◌else◌}
 use Rattle.iso_lexer.specs.declared.fault.FaultKind.{FaultKind}
 use Rattle.iso_lexer.specs.declared.fault.FaultKind.TheVariants.{NewlineInName}
 use Rattle.iso_lexer.specs.declared.quoted.Quoted.{Quoted}
@@ -21,21 +21,18 @@ pub data GoesOn (mark : ℕ) (one_line : Bool) : List ℕ → Quoted → Type 0 
   breaks : {text rest : List ℕ} {end : Quoted} → text ≡ 10 ∷ rest → mark ≢ 10 → one_line ≡ true → end ≡ Broken 0 → GoesOn mark one_line text end
   goes_on : {text rest : List ℕ} {b : ℕ} {end more : Quoted} → text ≡ b ∷ rest → b ≢ mark → (one_line ≡ true → b ≢ 10) → GoesOn mark one_line rest more → end ≡ longer 1 more → GoesOn mark one_line text end
 
--- The same, computed. The second test says that the byte before is a quote with no partner.
+-- The same, computed. `alone` says that the byte before is a quote with no partner.
 unfoldable pub quoted_from : ℕ → Bool → Bool → List ℕ → Quoted
-quoted_from mark one_line false [] = Unclosed
-quoted_from mark one_line true [] = Closed 0
-quoted_from mark one_line false (b ∷ bs) =
-    if b == mark then longer 1 (quoted_from mark one_line true bs)
-    else (if one_line && b == 10 then Broken 0
-    else longer 1 (quoted_from mark one_line false bs))
-quoted_from mark one_line true (b ∷ bs) = if b == mark then longer 1 (quoted_from mark one_line false bs) else Closed 0
+quoted_from mark one_line alone [] = if alone then Closed 0 else Unclosed
+quoted_from mark one_line alone (b ∷ bs) =
+    if b == mark then longer 1 (quoted_from mark one_line (not alone) bs)
+    else (if alone then Closed 0 else (if one_line && b == 10 then Broken 0 else longer 1 (quoted_from mark one_line false bs)))
 
--- the text between the quotes, of what stands behind the opening one; without a closing quote the fault is at the opening one
-abbrev pub quoted_front : FaultKind → Quoted → List ℕ → Front (List ℕ)
-quoted_front unclosed (Closed n) bs = token (take (n - 1) bs) (drop n bs)
-quoted_front unclosed (Broken n) bs = fault NewlineInName (n + 1)
-quoted_front unclosed Unclosed bs = fault unclosed 0
+-- the token made of the text between the quotes, by what stands behind the opening one; without a closing quote the fault is at the opening one
+abbrev pub quoted_front : {T : Type 0} → (List ℕ → T) → FaultKind → Quoted → List ℕ → Front T
+quoted_front make unclosed (Closed n) bs = token (make (take (n - 1) bs)) (drop n bs)
+quoted_front make unclosed (Broken n) bs = fault NewlineInName (n + 1)
+quoted_front make unclosed Unclosed bs = fault unclosed 0
 
 -- how a quoted text goes on is what is computed
 abbrev pub ComputedQuotes : Type 0

@@ -1,7 +1,8 @@
 -- The tokens of a spec file, or the first fault of one.
-use Rattle.std.specs.Prelude.{◌≡◌, ◌≤◌, ℕ, ◌+◌, true, false, ◌||◌, ◌==◌, List, [], ◌∷◌, length, take, drop, Option, Some, None, Result, Ok, Err, if◌then◌else◌, bytes_eq, codes, nat_lt, MatchBool}
+use Rattle.std.specs.Prelude.{◌≡◌, ◌≤◌, ℕ, ◌+◌, true, false, ◌||◌, ◌==◌, List, [], ◌∷◌, length, take, drop, Result, Ok, Err, if◌then◌else◌, codes, nat_lt, MatchBool}
 use Rattle.std.specs.Global.{Vec}
 use Rattle.std.specs.List.{position_or_len}
+use Rattle.std.specs.Option.{option_map_or}
 use Rattle.std.specs.Char.{is_ascii_digit}
 use Rattle.iso_lexer.specs.declared.fault.FaultKind.TheVariants.{UnterminatedBlock, UnterminatedName, UnexpectedByte, FileTooLong}
 use Rattle.iso_lexer.specs.declared.fault.Fault.{Fault}
@@ -14,37 +15,20 @@ use Rattle.iso_lexer.specs.declared.spec_token.Sign.TheVariants.{Open, Close, Co
 use Rattle.iso_lexer.specs.declared.spec_token.SpecTok.{SpecTok}
 use Rattle.iso_lexer.specs.declared.token.At.{At}
 use Rattle.iso_lexer.specs.declared.runs.Run.TheVariants.{Blanks, Comment, Word, Digits}
-use Rattle.iso_lexer.specs.Bytes.{is_blank, is_name_start, run_of, after_run, trimmed}
+use Rattle.iso_lexer.specs.Bytes.{is_blank, is_name_start, run_of, after_run, trimmed, row_of}
 use Rattle.iso_lexer.specs.Names.{plain, quoted}
 use Rattle.iso_lexer.specs.SpecTokens.{Token, keyword, name, digits, sign, block, at_views}
-use Rattle.iso_lexer.specs.Lexing.{Front, gap, token, fault, made, Reads, HasToken}
+use Rattle.iso_lexer.specs.Lexing.{Front, gap, token, fault, Reads, HasToken}
 use Rattle.iso_lexer.specs.Quotes.{quoted_from, quoted_front}
 
-abbrev pub keyword_of : List ℕ → Option Keyword
-keyword_of w =
-    if bytes_eq w (codes "permutation") then Some Permutation
-    else (if bytes_eq w (codes "session") then Some Session
-    else (if bytes_eq w (codes "setup") then Some Setup
-    else (if bytes_eq w (codes "step") then Some Step
-    else (if bytes_eq w (codes "teardown") then Some Teardown
-    else (if bytes_eq w (codes "notices") then Some Notices
-    else None)))))
+-- the keywords and the signs, as they are spelled
+abbrev pub keywords : List (List ℕ × Keyword)
+keywords =
+    (codes "permutation", Permutation) ∷ (codes "session", Session) ∷ (codes "setup", Setup) ∷ (codes "step", Step)
+    ∷ (codes "teardown", Teardown) ∷ (codes "notices", Notices) ∷ []
 
-abbrev pub named : Option Keyword → List ℕ → Token
-named (Some k) w = keyword k
-named None w = name (plain w)
-
-abbrev pub sign_of : ℕ → Option Sign
-sign_of b =
-    if b == 40 then Some Open
-    else (if b == 41 then Some Close
-    else (if b == 44 then Some Comma
-    else (if b == 42 then Some Star
-    else None)))
-
--- a quoted name, by what stands behind its opening quote
-abbrev pub name_front : List ℕ → Front Token
-name_front rest = made (λ s. name (quoted s)) (quoted_front UnterminatedName (quoted_from 34 true false rest) rest)
+abbrev pub signs : List (List ℕ × Sign)
+signs = (codes "(", Open) ∷ (codes ")", Close) ∷ (codes ",", Comma) ∷ (codes "*", Star) ∷ []
 
 -- the token of a block, by what stands between its braces
 abbrev pub block_of : List ℕ → Token
@@ -54,25 +38,21 @@ block_of inner = block (length (run_of Blanks inner)) (trimmed inner)
 abbrev pub block_front : List ℕ → Front Token
 block_front bs =
     let n = position_or_len (λ b. b == 125) bs in
-    if n == length bs then fault UnterminatedBlock 0
-    else token (block_of (take n bs)) (drop (n + 1) bs)
+    if n == length bs then fault UnterminatedBlock 0 else token (block_of (take n bs)) (drop (n + 1) bs)
 
-abbrev pub sign_front : Option Sign → List ℕ → Front Token
-sign_front (Some s) bs = token (sign s) bs
-sign_front None bs = fault UnexpectedByte 0
-
+-- a keyword, or else a plain name
 abbrev pub word_front : List ℕ → Front Token
-word_front text = token (named (keyword_of (run_of Word text)) (run_of Word text)) (after_run Word text)
+word_front text = let w = run_of Word text in token (option_map_or keyword (row_of keywords w) (name (plain w))) (after_run Word text)
 
--- a rule for each first byte b of ASCII that begins no word; rest is what follows it
+-- a rule for each first byte b of ASCII that begins no word; rest is what follows it. A quoted name stays on its line.
 abbrev pub ascii_front : ℕ → List ℕ → List ℕ → Front Token
 ascii_front b text rest =
     if is_blank b || b == 10 then gap rest
     else (if b == 35 then gap (after_run Comment text)
     else (if is_ascii_digit b then token (digits (run_of Digits text)) (after_run Digits text)
-    else (if b == 34 then name_front rest
+    else (if b == 34 then quoted_front (λ s. name (quoted s)) UnterminatedName (quoted_from 34 true false rest) rest
     else (if b == 123 then block_front rest
-    else sign_front (sign_of b) rest))))
+    else option_map_or (λ s. token (sign s) rest) (row_of signs (b ∷ [])) (fault UnexpectedByte 0)))))
 
 unfoldable pub front : List ℕ → Front Token
 front [] = gap []

@@ -1,8 +1,14 @@
 //! What stands at the front of a spec file.
 
-ghost use Rattle.std.specs.Prelude.{◌≡◌, ◌<◌, length};
-ghost use Rattle.iso_lexer.specs.Bytes.{is_blank, is_name_start};
-ghost use Rattle.iso_lexer.specs.SpecText.{keyword_of, sign_of, front, name_front, block_front, word_front, sign_front, ascii_front};
+ghost use Rattle.std.specs.Prelude.{◌≡◌, ◌<◌, true, false, [], ◌∷◌, length};
+ghost use Rattle.std.specs.Option.{option_map_or};
+ghost use Rattle.iso_lexer.specs.Bytes.{is_blank, is_name_start, row_of};
+ghost use Rattle.iso_lexer.specs.Names.{quoted};
+ghost use Rattle.iso_lexer.specs.SpecTokens.{name, sign};
+ghost use Rattle.iso_lexer.specs.Lexing.{token, fault};
+ghost use Rattle.iso_lexer.specs.Quotes.{quoted_from, quoted_front};
+ghost use Rattle.iso_lexer.specs.declared.fault.FaultKind.TheVariants.{UnterminatedName, UnexpectedByte};
+ghost use Rattle.iso_lexer.specs.SpecText.{keywords, signs, front, block_front, word_front, ascii_front};
 ghost use Rattle.iso_lexer.specs.Fronts.{front_view};
 
 use crate::fault::FaultKind;
@@ -14,7 +20,7 @@ use crate::spec_token::{Keyword, Sign, SpecTok};
 use memchr::memchr;
 
 fn keyword_of(word: &str) -> Option<Keyword>
-    ensures { result ≡ keyword_of word.now }
+    ensures { result ≡ row_of keywords word.now }
 {
     match word {
         "permutation" => Some(Keyword::Permutation),
@@ -28,7 +34,7 @@ fn keyword_of(word: &str) -> Option<Keyword>
 }
 
 fn sign_of(b: u8) -> Option<Sign>
-    ensures { result ≡ sign_of b }
+    ensures { result ≡ row_of signs (b ∷ []) }
 {
     match b {
         b'(' => Some(Sign::Open),
@@ -41,7 +47,7 @@ fn sign_of(b: u8) -> Option<Sign>
 
 /// A quoted name, by the text behind its opening quote.
 fn name_front(text: &str) -> Piece<'_, SpecTok<'_>>
-    ensures { front_view result ≡ name_front text.now }
+    ensures { front_view result ≡ quoted_front (λ s. name (quoted s)) UnterminatedName (quoted_from 34 true false text.now) text.now }
 {
     match quoted_front(b'"', true, FaultKind::UnterminatedName, text) {
         Piece::Gap(rest) => Piece::Gap(rest),
@@ -81,7 +87,7 @@ fn word_front(text: &str) -> Piece<'_, SpecTok<'_>>
 }
 
 fn sign_front(b: u8, rest: &str) -> Piece<'_, SpecTok<'_>>
-    ensures { front_view result ≡ sign_front (sign_of b) rest.now }
+    ensures { front_view result ≡ option_map_or (λ s. token (sign s) rest.now) (row_of signs (b ∷ [])) (fault UnexpectedByte 0) }
 {
     match sign_of(b) {
         Some(sign) => Piece::Token(SpecTok::Sign(sign), rest),

@@ -50,7 +50,7 @@ fn quoted_end(mark: u8, one_line: bool, bytes: &[u8]) -> Quoted
 /// The text between the quotes, by what stands behind the opening one.
 pub fn quoted_front(mark: u8, one_line: bool, unclosed: FaultKind, text: &str) -> Piece<'_, &str>
     requires { mark < 128 }
-    ensures { piece_view (λ s. s.now) result ≡ quoted_front unclosed (quoted_from mark one_line false text.now) text.now }
+    ensures { piece_view (λ s. s.now) result ≡ quoted_front (λ s. s) unclosed (quoted_from mark one_line false text.now) text.now }
 {
     match quoted_end(mark, one_line, text.as_bytes()) {
         Quoted::Closed(len) => {

@@ -1,8 +1,8 @@
 //! Runs of bytes of one class.
 
-ghost use Rattle.std.specs.Prelude.{◌≡◌};
+ghost use Rattle.std.specs.Prelude.{◌≡◌, ◌||◌, ◌==◌};
 ghost use Rattle.std.specs.List.{prefix_len, suffix_len};
-ghost use Rattle.iso_lexer.specs.Bytes.{is_blank, is_line_end, is_name_start, is_name_byte, passes, run_of, after_run, trimmed};
+ghost use Rattle.iso_lexer.specs.Bytes.{is_blank, is_name_start, is_name_byte, passes, run_of, after_run, trimmed};
 
 #[derive(Clone, Copy)]
 pub enum Run {
@@ -19,7 +19,7 @@ pub fn is_blank(b: u8) -> bool
 }
 
 pub fn is_line_end(b: u8) -> bool
-    ensures { result ≡ is_line_end b }
+    ensures { result ≡ (b == 10 || b == 13) }
 {
     b == b'\n' || b == b'\r'
 }

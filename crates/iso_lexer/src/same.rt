@@ -2,7 +2,8 @@
 
 ghost use Rattle.std.specs.Prelude.{◌≡◌, [], bytes_eq, MatchOption};
 ghost use Rattle.iso_lexer.specs.Names.{name_view};
-ghost use Rattle.iso_lexer.specs.Names.{decoded, decoded_in, written, FirstIs};
+ghost use Rattle.iso_lexer.specs.Names.{decoded};
+ghost use Rattle.iso_lexer.specs.Inner.NameParts.{decoded_in, written, FirstIs};
 ghost use Rattle.std.proofs.Common.{rules};
 ghost use Rattle.std.specs.Cmp.Rules.{comparing};
 

@@ -1,10 +1,17 @@
 //! What stands at the front of SQL text.
 
-ghost use Rattle.std.specs.Prelude.{◌≡◌, ◌<◌, ◌≤◌, true, [], ◌∷◌, length, slice_index, MatchOption};
+ghost use Rattle.std.specs.Prelude.{◌≡◌, ◌<◌, ◌≤◌, true, false, [], ◌∷◌, length, slice_index, MatchOption};
+ghost use Rattle.std.specs.Option.{option_map_or};
 ghost use Rattle.std.specs.Char.{is_ascii_digit};
 ghost use Rattle.std.specs.Str.Parse.{IsNumeral, digits_value};
+ghost use Rattle.iso_lexer.specs.Bytes.{run_of, after_run, row_of};
 ghost use Rattle.iso_lexer.specs.Comments.{after_comment};
-ghost use Rattle.iso_lexer.specs.SqlText.{sign_of_two, sign_of_one, word_front, number_front, name_front, string_front, comment_front, sign_front, pair_front, ascii_front, sql_front};
+ghost use Rattle.iso_lexer.specs.SqlTokens.{word, quoted_word, string};
+ghost use Rattle.iso_lexer.specs.Lexing.{gap, token, fault};
+ghost use Rattle.iso_lexer.specs.Quotes.{quoted_from, quoted_front};
+ghost use Rattle.iso_lexer.specs.declared.runs.Run.TheVariants.{Word};
+ghost use Rattle.iso_lexer.specs.declared.fault.FaultKind.TheVariants.{UnterminatedName, UnterminatedString, UnterminatedComment};
+ghost use Rattle.iso_lexer.specs.SqlText.{signs, number_front, sign_front, pair_front, ascii_front, sql_front};
 ghost use Rattle.iso_lexer.specs.Fronts.{sql_front_view};
 
 use crate::comment::{comment_end, opens_here};
@@ -18,7 +25,7 @@ const LARGEST_NUMBER: u64 = 9_223_372_036_854_775_807;
 
 /// The sign of two bytes.
 fn sign_of_two(first: u8, second: u8) -> Option<SqlSign>
-    ensures { result ≡ sign_of_two (first ∷ second ∷ []) }
+    ensures { result ≡ row_of signs (first ∷ second ∷ []) }
 {
     match (first, second) {
         (b'<', b'>') => Some(SqlSign::NotEqual),
@@ -33,7 +40,7 @@ fn sign_of_two(first: u8, second: u8) -> Option<SqlSign>
 
 /// The sign of one byte.
 fn sign_of_one(first: u8) -> Option<SqlSign>
-    ensures { result ≡ sign_of_one (first ∷ []) }
+    ensures { result ≡ row_of signs (first ∷ []) }
 {
     match first {
         b'(' => Some(SqlSign::Open),
@@ -54,7 +61,7 @@ fn sign_of_one(first: u8) -> Option<SqlSign>
 }
 
 fn word_front(text: &str) -> Piece<'_, SqlTok<'_>>
-    ensures { sql_front_view result ≡ word_front text.now }
+    ensures { sql_front_view result ≡ token (word (run_of Word text.now)) (after_run Word text.now) }
 {
     let (word, rest) = split_run(Run::Word, text);
     Piece::Token(SqlTok::Word(word), rest)
@@ -101,7 +108,7 @@ fn number_front(text: &str) -> Piece<'_, SqlTok<'_>>
 
 /// A quoted name, by the text behind its opening quote.
 fn name_front(text: &str) -> Piece<'_, SqlTok<'_>>
-    ensures { sql_front_view result ≡ name_front text.now }
+    ensures { sql_front_view result ≡ quoted_front quoted_word UnterminatedName (quoted_from 34 false false text.now) text.now }
 {
     match quoted_front(b'"', false, FaultKind::UnterminatedName, text) {
         Piece::Gap(rest) => Piece::Gap(rest),
@@ -112,7 +119,7 @@ fn name_front(text: &str) -> Piece<'_, SqlTok<'_>>
 
 /// A string, by the text behind its opening quote.
 fn string_front(text: &str) -> Piece<'_, SqlTok<'_>>
-    ensures { sql_front_view result ≡ string_front text.now }
+    ensures { sql_front_view result ≡ quoted_front string UnterminatedString (quoted_from 39 false false text.now) text.now }
 {
     match quoted_front(b'\'', false, FaultKind::UnterminatedString, text) {
         Piece::Gap(rest) => Piece::Gap(rest),
@@ -123,7 +130,7 @@ fn string_front(text: &str) -> Piece<'_, SqlTok<'_>>
 
 /// A comment that nests, by the text behind its opening.
 fn comment_front(text: &str) -> Piece<'_, SqlTok<'_>>
-    ensures { sql_front_view result ≡ comment_front (after_comment 0 text.now) }
+    ensures { sql_front_view result ≡ option_map_or gap (after_comment 0 text.now) (fault UnterminatedComment 0) }
 {
     match comment_end(text.as_bytes()) {
         None => Piece::Fault(FaultKind::UnterminatedComment, 0),
@@ -134,7 +141,7 @@ fn comment_front(text: &str) -> Piece<'_, SqlTok<'_>>
 /// A sign; `rest` is what follows its first byte.
 fn sign_front(first: u8, second: u8, rest: &str) -> Piece<'_, SqlTok<'_>>
     requires { second ≡ slice_index rest.now 0 }
-    ensures { sql_front_view result ≡ sign_front (sign_of_two (first ∷ second ∷ [])) (sign_of_one (first ∷ [])) rest.now }
+    ensures { sql_front_view result ≡ sign_front first second rest.now }
 {
     if let Some(sign) = sign_of_two(first, second) {
         return Piece::Token(SqlTok::Sign(sign), rest.split_at(1).1);

@@ -12,14 +12,14 @@ use Rattle.iso_lexer.specs.SpecTokens.{Token, keyword, name, sign}
 use Rattle.spec_parser.specs.declared.fault.What.{What}
 use Rattle.spec_parser.specs.declared.fault.What.TheVariants as what
 use Rattle.spec_parser.specs.declared.fault.Stop.TheVariants.{Expected, OverLimit}
-use Rattle.spec_parser.specs.Trees.{PartTree, NameAt, NamedStep, NamedSession, MarkerTree, star, named, NamedEntry, FileTree}
+use Rattle.spec_parser.specs.Trees.{PartTree, NameAt, StepOf, SessionOf, MarkerTree, star, named, NamedEntry, FileTree}
 use Rattle.spec_parser.specs.Counts.{Counts, past, past_token}
-use Rattle.spec_parser.specs.Reading.{Rest, Read, is_word, is_sign, is_name, first_is, the_name, the_block, token_at, next, many_at, all_at, some_at, maybe_at, name_at, block_at, end_at, name_within, block_after, maybe_block, step_at, session_at, no_notices, marker_at, markers_at, entry_at, perm_at, file_at}
+use Rattle.spec_parser.specs.Reading.{Rest, Read, is_word, is_sign, is_name, the_name, the_block, token_at, next, many_at, all_at, some_at, maybe_at, name_at, block_at, end_at, name_within, block_after, maybe_block, step_at, session_at, no_notices, marker_at, markers_at, entry_at, perm_at, file_at}
 use Rattle.spec_parser.specs.Inner.Pieces.{starts_name, word_at, sign_at, setup_at, teardown_at, setups_at, steps_at, sessions_at, next_marker_at, next_markers_at, some_markers_at, entries_at, perms_at}
 use Rattle.spec_parser.specs.Grammar.{Grammar, gives, one, the_word, the_sign, Maybe, left_out, given, Many, none, more, some, first, second, block_behind, step, session, marker, markers, entry, perm, file}
 use Rattle.spec_parser.specs.Grammar.{◌>>=◌ as ◌▸◌}
 use Rattle.spec_parser.proofs.Tokens.{test_true, keyword_in, sign_in, named_in, word_past, grows}
-use Rattle.spec_parser.proofs.Local.{◌>>=◌, past_twice, stops_at, goes_on, goes, TakesOne, first_takes}
+use Rattle.spec_parser.proofs.Local.{first_is, ◌>>=◌, past_twice, stops_at, goes_on, goes, TakesOne, first_takes}
 
 -- what is over a limit: the sessions or steps up to a place, or what was read
 pub data IsOver {A : Type 0} (Long : A → Type 0) (d : Counts) (x : A) : Type 0 where
@@ -102,12 +102,12 @@ seq G H p f F E reads next leads = seq_or Never Never G H p f F E (λ c x ts z h
 gives_again : {A : Type 0} {L : A → Type 0} (v : A) (F : List (At Token) → Type 0) → CompletesOr L (gives v) (λ r. (Ok v, r)) F
 gives_again v F c xs rest x follows (nothing, is) = rw (nothing, is) (whole refl)
 
-token_again : {A : Type 0} (f : Counts → At Token → Option A) (w : What) → Completes (one f) (token_at f w) Any
+token_again : {A : Type 0} (f : Counts → ℕ → Token → Option A) (w : What) → Completes (one f) (token_at f w) Any
 token_again f w c xs rest x follows (t, e, is) = rw e (whole (rw is refl))
 
 -- ---- the first token
 
-begins : {A B : Type 0} (f : Counts → At Token → Option A) (H : A → Grammar B) (p : Token → Bool) (c : Counts) (ts rest : List (At Token)) (z : B) (b : Bool) → ((t : At Token) (x : A) → f c t ≡ Some x → p t.tok ≡ b) → (one f ▸ H) c ts z → first_is p (ts ++ rest) ≡ b
+begins : {A B : Type 0} (f : Counts → ℕ → Token → Option A) (H : A → Grammar B) (p : Token → Bool) (c : Counts) (ts rest : List (At Token)) (z : B) (b : Bool) → ((t : At Token) (x : A) → f c t.span.start t.tok ≡ Some x → p t.tok ≡ b) → (one f ▸ H) c ts z → first_is p (ts ++ rest) ≡ b
 begins f H p c ts rest z b says (x, xs, ys, e, (t, te, is), h) =
     let front : ts ≡ (t ∷ []) ++ ys = e ∙ ap (λ (r : List (At Token)). r ++ ys) te in
     ap (λ (r : List (At Token)). first_is p (r ++ rest)) front ∙ says t x is
@@ -119,13 +119,13 @@ begins_sign : {B : Type 0} (g : Sign) (H : Unit {0} → Grammar B) (p : Token �
 begins_sign g H p c ts rest z h = begins (the_sign g) H p c ts rest z (p (sign g)) (λ t x is. ap p (sign_in g t.tok (test_true (is_sign g t.tok) x is))) h
 
 begins_name : {B : Type 0} (H : NameAt → Grammar B) (p : Token → Bool) (b : Bool) → ((m : Written) → p (name m) ≡ b) → (c : Counts) (ts rest : List (At Token)) (z : B) → (one the_name ▸ H) c ts z → first_is p (ts ++ rest) ≡ b
-begins_name H p b of_names c ts rest z h = begins the_name H p c ts rest z b (λ t n is. let m = named_in t.span.start t.tok n is in ap p m.1 ∙ of_names m.0) h
+begins_name H p b of_names c ts rest z h = begins the_name H p c ts rest z b (λ t n is. let m = named_in c t.span.start t.tok n is in ap p m.1 ∙ of_names m.0) h
 
 -- ---- one token, under a limit
 
-within_case : (b : Bool) (before most : ℕ) (c : Counts) (t : At Token) (rest : List (At Token)) (n : NameAt) → nat_lt before most ≡ b → the_name c t ≡ Some n → Again (λ _. most ≤ before) n (past_token t.tok c, rest) (cond b (token_at the_name what.Name (c, t ∷ rest)) (cond (is_name t.tok) (Err OverLimit, (c, t ∷ rest)) (Err (Expected what.Name), (c, t ∷ rest))))
+within_case : (b : Bool) (before most : ℕ) (c : Counts) (t : At Token) (rest : List (At Token)) (n : NameAt) → nat_lt before most ≡ b → the_name c t.span.start t.tok ≡ Some n → Again (λ _. most ≤ before) n (past_token t.tok c, rest) (cond b (token_at the_name what.Name (c, t ∷ rest)) (cond (is_name t.tok) (Err OverLimit, (c, t ∷ rest)) (Err (Expected what.Name), (c, t ∷ rest))))
 within_case true before most c t rest n lt is = whole (rw is refl)
-within_case false before most c t rest n lt is = let m = named_in t.span.start t.tok n is in over (rw m.1 refl) (long (ltb-false before most lt))
+within_case false before most c t rest n lt is = let m = named_in c t.span.start t.tok n is in over (rw m.1 refl) (long (ltb-false before most lt))
 
 name_within_again : (before most : ℕ) → CompletesOr (λ _. most ≤ before) (one the_name) (name_within before most) Any
 unfolding name_within name_at
@@ -250,13 +250,13 @@ teardown_again = maybe_again (block_behind Teardown) (is_word Teardown) (block_a
 setups_again : Completes (Many (block_behind Setup)) setups_at (λ rest. NotFirst (is_word Setup) rest × Any rest)
 setups_again = all_again (block_behind Setup) (is_word Setup) (λ k. block_after Setup) Any (λ k. block_after_again Setup) (setup_begins (is_word Setup)) (first_takes (the_word Setup) (λ _. one the_block)) (λ c xs rest x g. tt)
 
-abbrev step_of : NameAt → PartTree → NamedStep
+abbrev step_of : NameAt → PartTree → StepOf NameAt
 step_of n b = record { name = n; part = b }
 
 step_end_again : (n : NameAt) → Completes (one the_block ▸ λ b. gives (step_of n b)) (λ r. block_at r >>= λ b. (Ok (step_of n b.0), b.1)) Any
 step_end_again n = seq (one the_block) (λ b. gives (step_of n b)) block_at (λ b. (Ok (step_of n b.0), b.1)) Any Any block_again (λ b. gives_again (step_of n b) Any) (λ d x ys rest z f h. tt)
 
-abbrev AfterStep : Grammar NamedStep
+abbrev AfterStep : Grammar (StepOf NameAt)
 AfterStep = one the_name ▸ λ n. one the_block ▸ λ b. gives (step_of n b)
 
 named_step_again : (d : Counts) → CompletesOr (λ _. 1000 ≤ d.steps) AfterStep (λ r. name_within d.steps 1000 r >>= λ n. block_at n.1 >>= λ b. (Ok (step_of n.0 b.0), b.1)) Any
@@ -281,23 +281,23 @@ steps_again = some_again step what.Step (is_word Step) (λ k. step_at) Any (λ k
 abbrev BehindSession : List (At Token) → Type 0
 BehindSession rest = NotFirst (is_word Step) rest × NotFirst (is_word Teardown) rest
 
-abbrev session_of : NameAt → Option PartTree → List NamedStep → Option PartTree → NamedSession
+abbrev session_of : NameAt → Option PartTree → List (StepOf NameAt) → Option PartTree → SessionOf NameAt
 session_of n setup steps teardown = record { name = n; setup = setup; steps = steps; teardown = teardown }
 
-abbrev TornDown : NameAt → Option PartTree → List NamedStep → Grammar NamedSession
+abbrev TornDown : NameAt → Option PartTree → List (StepOf NameAt) → Grammar (SessionOf NameAt)
 TornDown n setup steps = Maybe (block_behind Teardown) ▸ λ teardown. gives (session_of n setup steps teardown)
 
-abbrev Stepped : NameAt → Option PartTree → Grammar NamedSession
+abbrev Stepped : NameAt → Option PartTree → Grammar (SessionOf NameAt)
 Stepped n setup = some step ▸ TornDown n setup
 
-abbrev SetUp : NameAt → Grammar NamedSession
+abbrev SetUp : NameAt → Grammar (SessionOf NameAt)
 SetUp n = Maybe (block_behind Setup) ▸ Stepped n
 
-torn_again : (n : NameAt) (setup : Option PartTree) (steps : List NamedStep) → Completes (TornDown n setup steps) (λ r. teardown_at r >>= λ teardown. (Ok (session_of n setup steps teardown.0), teardown.1)) BehindSession
+torn_again : (n : NameAt) (setup : Option PartTree) (steps : List (StepOf NameAt)) → Completes (TornDown n setup steps) (λ r. teardown_at r >>= λ teardown. (Ok (session_of n setup steps teardown.0), teardown.1)) BehindSession
 torn_again n setup steps = seq (Maybe (block_behind Teardown)) (λ teardown. gives (session_of n setup steps teardown)) teardown_at (λ teardown. (Ok (session_of n setup steps teardown.0), teardown.1)) (NotFirst (is_word Teardown)) BehindSession teardown_again (λ teardown. gives_again (session_of n setup steps teardown) BehindSession)
     (λ d x ys rest z f h. stays (NotFirst (is_word Teardown)) ys rest h.0 f.1)
 
-no_step_first : (n : NameAt) (setup : Option PartTree) (steps : List NamedStep) (d : Counts) (ys rest : List (At Token)) (z : NamedSession) → BehindSession rest → TornDown n setup steps d ys z → NotFirst (is_word Step) (ys ++ rest)
+no_step_first : (n : NameAt) (setup : Option PartTree) (steps : List (StepOf NameAt)) (d : Counts) (ys rest : List (At Token)) (z : SessionOf NameAt) → BehindSession rest → TornDown n setup steps d ys z → NotFirst (is_word Step) (ys ++ rest)
 no_step_first n setup steps d ts rest z f (o, xs, ys, e, m, (nothing, is)) =
     regroup (NotFirst (is_word Step)) ts xs ys rest e (maybe_begins (block_behind Teardown) (is_word Step) (teardown_begins (is_word Step)) d xs (ys ++ rest) o (stays (NotFirst (is_word Step)) ys rest nothing f.0) m)
 
@@ -305,7 +305,7 @@ stepped_again : (n : NameAt) (setup : Option PartTree) → Completes (Stepped n 
 stepped_again n setup = seq (some step) (TornDown n setup) steps_at (λ steps. teardown_at steps.1 >>= λ teardown. (Ok (session_of n setup steps.0 teardown.0), teardown.1)) (λ rest. NotFirst (is_word Step) rest × Any rest) BehindSession steps_again (torn_again n setup)
     (λ d x ys rest z f h. (no_step_first n setup x d ys rest z f h, tt))
 
-no_setup_first : (n : NameAt) (setup : Option PartTree) (d : Counts) (ys rest : List (At Token)) (z : NamedSession) → Stepped n setup d ys z → NotFirst (is_word Setup) (ys ++ rest)
+no_setup_first : (n : NameAt) (setup : Option PartTree) (d : Counts) (ys rest : List (At Token)) (z : SessionOf NameAt) → Stepped n setup d ys z → NotFirst (is_word Setup) (ys ++ rest)
 no_setup_first n setup d ts rest z (ss, xs, ys, e, m, h) = regroup (NotFirst (is_word Setup)) ts xs ys rest e (some_begins step (is_word Setup) false (step_begins (is_word Setup)) d xs (ys ++ rest) ss m)
 
 set_up_again : (n : NameAt) → Completes (SetUp n) (λ r. setup_at r >>= λ setup. steps_at setup.1 >>= λ steps. teardown_at steps.1 >>= λ teardown. (Ok (session_of n setup.0 steps.0 teardown.0), teardown.1)) BehindSession
@@ -453,10 +453,10 @@ perms_again = all_or (λ _. IsLong) (λ _. SomeLong) perm (is_word Permutation) 
 abbrev AtEnd : List (At Token) → Type 0
 AtEnd rest = rest ≡ []
 
-abbrev file_of : List PartTree → Option PartTree → List NamedSession → List (List NamedEntry) → FileTree
+abbrev file_of : List PartTree → Option PartTree → List (SessionOf NameAt) → List (List NamedEntry) → FileTree
 file_of setups teardown sessions perms = record { setups = setups; teardown = teardown; sessions = sessions; perms = perms }
 
-abbrev Permuted : List PartTree → Option PartTree → List NamedSession → Grammar FileTree
+abbrev Permuted : List PartTree → Option PartTree → List (SessionOf NameAt) → Grammar FileTree
 Permuted setups teardown sessions = Many perm ▸ λ perms. gives (file_of setups teardown sessions perms)
 
 abbrev Held : List PartTree → Option PartTree → Grammar FileTree
@@ -475,11 +475,11 @@ ended_again f c xs rest x follows (nothing, is) = rw (nothing, is, follows) (who
 ends_so : (F : List (At Token) → Type 0) (ys rest : List (At Token)) → ys ≡ [] → rest ≡ [] → F [] → F (ys ++ rest)
 ends_so F ys rest e d h = stays F ys rest e (subst F (sym d) h)
 
-permuted_again : (setups : List PartTree) (teardown : Option PartTree) (sessions : List NamedSession) → CompletesOr LongFile (Permuted setups teardown sessions) (λ r. perms_at r >>= λ perms. end_at perms.1 >>= λ ended. (Ok (file_of setups teardown sessions perms.0), ended.1)) AtEnd
+permuted_again : (setups : List PartTree) (teardown : Option PartTree) (sessions : List (SessionOf NameAt)) → CompletesOr LongFile (Permuted setups teardown sessions) (λ r. perms_at r >>= λ perms. end_at perms.1 >>= λ ended. (Ok (file_of setups teardown sessions perms.0), ended.1)) AtEnd
 permuted_again setups teardown sessions = seq_or SomeLong LongFile (Many perm) (λ perms. gives (file_of setups teardown sessions perms)) perms_at (λ perms. end_at perms.1 >>= λ ended. (Ok (file_of setups teardown sessions perms.0), ended.1)) BehindPerms AtEnd (λ c ps ts z h k. subst LongFile (sym h.1) k) perms_again (λ perms. ended_again (file_of setups teardown sessions perms))
     (λ d x ys rest z f h. ends_so BehindPerms ys rest h.0 f (refl, (refl, refl)))
 
-behind_sessions : (setups : List PartTree) (teardown : Option PartTree) (sessions : List NamedSession) (d : Counts) (ys rest : List (At Token)) (z : FileTree) → AtEnd rest → Permuted setups teardown sessions d ys z → BehindSessions (ys ++ rest)
+behind_sessions : (setups : List PartTree) (teardown : Option PartTree) (sessions : List (SessionOf NameAt)) (d : Counts) (ys rest : List (At Token)) (z : FileTree) → AtEnd rest → Permuted setups teardown sessions d ys z → BehindSessions (ys ++ rest)
 behind_sessions setups teardown sessions d ts rest z f (perms, xs, ys, e, many, h) =
     regroup BehindSessions ts xs ys rest e (next_follows perm BehindSessions (λ c us vs x g. (perm_begins (is_word Session) c us vs x g, (perm_begins (is_word Step) c us vs x g, perm_begins (is_word Teardown) c us vs x g))) d xs (ys ++ rest) perms (ends_so BehindSessions ys rest h.0 f (refl, (refl, refl))) many)
 

@@ -15,12 +15,13 @@ use Rattle.iso_lexer.specs.Bytes.{passes as passes_run, is_blank, run_of, trimme
 use Rattle.iso_lexer.specs.SpecTokens.{Token, keyword, name, digits, sign, block}
 use Rattle.iso_lexer.specs.SpecText.{block_of}
 use Rattle.iso_lexer.specs.SpecSpelling.{NameSpells, Spells, LiesAt}
-use Rattle.spec_parser.specs.Trees.{PartTree, StepTree, NameAt, NamedStep, NamedSession, star, named, FileTree}
+use Rattle.spec_parser.specs.Trees.{PartTree, StepTree, NameAt, StepOf, SessionOf, star, named, FileTree}
 use Rattle.spec_parser.specs.Counts.{Counts, past, past_token}
-use Rattle.spec_parser.specs.Reading.{the_name, the_block, name_in, block_in}
+use Rattle.spec_parser.specs.Reading.{the_name, the_block}
 use Rattle.spec_parser.specs.Grammar.{Grammar, gives, one, the_word, the_sign, Maybe, left_out, given, Many, none, more, some, first, second, block_behind, step, session, marker, markers, entry, perm, file}
 use Rattle.spec_parser.specs.Grammar.{◌>>=◌ as ◌▸◌}
-use Rattle.spec_parser.specs.Names.{steps_from, sessions_from, step_tree, session_tree}
+use Rattle.spec_parser.specs.Names.{step_tree, session_tree}
+use Rattle.spec_parser.specs.Inner.Known.{steps_from, sessions_from}
 use Rattle.spec_parser.specs.Stands.{PartLies, NameLies, session_parts, session_names}
 use Rattle.spec_parser.proofs.Local.{past_twice}
 use Rattle.spec_parser.proofs.Tokens.{past_one, word_past, sign_past, name_past}
@@ -115,12 +116,12 @@ step_word c ts u h = word_has Step c ts u a_step h (record { blocks = omega arit
 abbrev a_name : NameAt → Contents
 a_name n = record { parts = []; names = n ∷ []; sessions = 0; steps = 0 }
 
-named_is : (text : List ℕ) (start end : ℕ) (t : Token) (n : NameAt) → name_in start t ≡ Some n → Spells t (slice_range text start end) → NameSpells n.name (slice_range text n.at end)
-named_is text start end (name m) n e h = subst (λ (k : NameAt). NameSpells k.name (slice_range text k.at end)) (same_Some _ _ e) h
-named_is text start end (keyword k) n e h = absurd cc
-named_is text start end (digits d) n e h = absurd cc
-named_is text start end (sign g) n e h = absurd cc
-named_is text start end (block k b) n e h = absurd cc
+named_is : (text : List ℕ) (c : Counts) (start end : ℕ) (t : Token) (n : NameAt) → the_name c start t ≡ Some n → Spells t (slice_range text start end) → NameSpells n.name (slice_range text n.at end)
+named_is text c start end (name m) n e h = subst (λ (k : NameAt). NameSpells k.name (slice_range text k.at end)) (same_Some _ _ e) h
+named_is text c start end (keyword k) n e h = absurd cc
+named_is text c start end (digits d) n e h = absurd cc
+named_is text c start end (sign g) n e h = absurd cc
+named_is text c start end (block k b) n e h = absurd cc
 
 name_has : (c : Counts) (ts : List (At Token)) (n : NameAt) → one the_name c ts n → Holds c (past c ts) ts (a_name n)
 name_has c ts n (t, e, is) =
@@ -130,7 +131,7 @@ name_has c ts n (t, e, is) =
       steps = omega arith;
       numbered = refl;
       parts_lie = λ text all. tt;
-      names_lie = λ text all. let lies = (subst (AllByRecursion (LiesAt text)) e all).0 in (record { end = t.span.end; within = lies.0; slice = named_is text t.span.start t.span.end t.tok n is lies.1 }, tt);
+      names_lie = λ text all. let lies = (subst (AllByRecursion (LiesAt text)) e all).0 in (record { end = t.span.end; within = lies.0; slice = named_is text c t.span.start t.span.end t.tok n is lies.1 }, tt);
     })
 
 -- ---- a block lies where it says
@@ -171,12 +172,12 @@ block_lies text inner b start end n k e is =
       slice = cut_inside text inner rest b start n open_at le cut;
     }
 
-block_is : (at number : ℕ) (t : Token) (p : PartTree) → block_in at number t ≡ Some p → (n : ℕ) × (b : List ℕ) × (t ≡ block n b) × (p ≡ record { sql = b; at = at + 1 + n; block = number })
-block_is at number (block n b) p e = (n, b, refl, sym (same_Some _ _ e))
-block_is at number (keyword k) p e = absurd cc
-block_is at number (name m) p e = absurd cc
-block_is at number (digits d) p e = absurd cc
-block_is at number (sign g) p e = absurd cc
+block_is : (c : Counts) (at : ℕ) (t : Token) (p : PartTree) → the_block c at t ≡ Some p → (n : ℕ) × (b : List ℕ) × (t ≡ block n b) × (p ≡ record { sql = b; at = at + 1 + n; block = c.blocks })
+block_is c at (block n b) p e = (n, b, refl, sym (same_Some _ _ e))
+block_is c at (keyword k) p e = absurd cc
+block_is c at (name m) p e = absurd cc
+block_is c at (digits d) p e = absurd cc
+block_is c at (sign g) p e = absurd cc
 
 token_lies : (text inner b : List ℕ) (start end n k : ℕ) → Spells (block n b) (slice_range text start end) → PartLies text (record { sql = b; at = start + 1 + n; block = k })
 token_lies text _ b start end n k (inner, e, is) = block_lies text inner b start end n k e is
@@ -186,7 +187,7 @@ only_parts ps = record { parts = ps; names = []; sessions = 0; steps = 0 }
 
 block_has : (c : Counts) (ts : List (At Token)) (p : PartTree) → one the_block c ts p → Holds c (past c ts) ts (only_parts (p ∷ []))
 block_has c ts p (t, e, is) =
-    let k = block_is t.span.start c.blocks t.tok p is in
+    let k = block_is c t.span.start t.tok p is in
     subst (λ d. Holds c d ts (only_parts (p ∷ []))) (sym (past_one c ts t (block k.0 k.1) e k.2)) (record {
       blocks = omega arith;
       sessions = omega arith;
@@ -226,38 +227,38 @@ setup_has c ts p (u, xs, ys, e, w, b) = then_has c ts xs ys nothing (only_parts 
 pub teardown_has : Has (block_behind Teardown) (λ p. only_parts (p ∷ []))
 teardown_has c ts p (u, xs, ys, e, w, b) = then_has c ts xs ys nothing (only_parts (p ∷ [])) e (word_has Teardown c xs u nothing w (quiet c xs)) (block_has (past c xs) ys p b)
 
-abbrev pub step_contents : NamedStep → Contents
+abbrev pub step_contents : StepOf NameAt → Contents
 step_contents s = record { parts = s.part ∷ []; names = s.name ∷ []; sessions = 0; steps = 1 }
 
 pub step_has : Has step step_contents
 step_has c ts z (u, xs, ys, e, w, (n, us, vs, d, nm, (b, ws, zs, f, bl, (nil, is)))) =
     let block_on = then_has (past (past c xs) us) vs ws zs (only_parts (b ∷ [])) nothing f (block_has (past (past c xs) us) ws b bl) (nil_has (past (past (past c xs) us) ws) zs nil) in
     let name_on = then_has (past c xs) ys us vs (a_name n) (only_parts (b ∷ [])) d (name_has (past c xs) us n nm) block_on in
-    subst (λ (s : NamedStep). Holds c (past c ts) ts (step_contents s)) (sym is) (then_has c ts xs ys a_step _ e (step_word c xs u w) name_on)
+    subst (λ (s : StepOf NameAt). Holds c (past c ts) ts (step_contents s)) (sym is) (then_has c ts xs ys a_step _ e (step_word c xs u w) name_on)
 
-steps_parts : (ss : List NamedStep) → (all_contents step_contents ss).parts ≡ map (λ (x : StepTree). x.part) (map step_tree ss)
+steps_parts : (ss : List (StepOf NameAt)) → (all_contents step_contents ss).parts ≡ map (λ (x : StepTree). x.part) (map step_tree ss)
 steps_parts [] = refl
 steps_parts (s ∷ ss) = ap (λ ps. s.part ∷ ps) (steps_parts ss)
 
-steps_names : (ss : List NamedStep) → (all_contents step_contents ss).names ≡ map (λ (x : NamedStep). x.name) ss
+steps_names : (ss : List (StepOf NameAt)) → (all_contents step_contents ss).names ≡ map (λ (x : StepOf NameAt). x.name) ss
 steps_names [] = refl
 steps_names (s ∷ ss) = ap (λ ns. s.name ∷ ns) (steps_names ss)
 
-steps_none : (ss : List NamedStep) → (all_contents step_contents ss).sessions ≡ 0
+steps_none : (ss : List (StepOf NameAt)) → (all_contents step_contents ss).sessions ≡ 0
 steps_none [] = refl
 steps_none (s ∷ ss) = omega (arith, steps_none ss)
 
-steps_count : (ss : List NamedStep) → (all_contents step_contents ss).steps ≡ length ss
+steps_count : (ss : List (StepOf NameAt)) → (all_contents step_contents ss).steps ≡ length ss
 steps_count [] = refl
 steps_count (s ∷ ss) = omega (arith, steps_count ss)
 
-abbrev steps_contents : List NamedStep → Contents
-steps_contents ss = record { parts = map (λ (x : StepTree). x.part) (map step_tree ss); names = map (λ (x : NamedStep). x.name) ss; sessions = 0; steps = length ss }
+abbrev steps_contents : List (StepOf NameAt) → Contents
+steps_contents ss = record { parts = map (λ (x : StepTree). x.part) (map step_tree ss); names = map (λ (x : StepOf NameAt). x.name) ss; sessions = 0; steps = length ss }
 
-steps_have : (c : Counts) (ts : List (At Token)) (ss : List NamedStep) → Many step c ts ss → Holds c (past c ts) ts (steps_contents ss)
+steps_have : (c : Counts) (ts : List (At Token)) (ss : List (StepOf NameAt)) → Many step c ts ss → Holds c (past c ts) ts (steps_contents ss)
 steps_have c ts ss m = like c (past c ts) ts (all_contents step_contents ss) _ _ _ _ (many_has step step_contents step_has c ts ss m) (steps_parts ss) (steps_names ss) (steps_none ss) (steps_count ss)
 
-abbrev pub session_contents : NamedSession → Contents
+abbrev pub session_contents : SessionOf NameAt → Contents
 session_contents s = record { parts = session_parts (session_tree s); names = session_names s; sessions = 1; steps = length s.steps }
 
 pub session_has : Has session session_contents
@@ -271,37 +272,37 @@ session_has c ts z (u, xs, ys, e, w, (n, us, vs, d, nm, (o, ws, zs, f, mo, (ss, 
     let setup_on = then_has c2 vs ws zs (only_parts (option_to_list o)) _ f (maybe_has (block_behind Setup) setup_has c2 ws o mo) steps_on in
     let name_on = then_has c1 ys us vs (a_name n) _ d (name_has c1 us n nm) setup_on in
     let whole = then_has c ts xs ys a_session _ e (session_word c xs u w) name_on in
-    let s : NamedSession = record { name = n; setup = o; steps = ss; teardown = t } in
-    subst (λ (s : NamedSession). Holds c (past c ts) ts (session_contents s)) (sym is) (like c (past c ts) ts _ (session_parts (session_tree s)) (session_names s) 1 (length ss) whole
+    let s : SessionOf NameAt = record { name = n; setup = o; steps = ss; teardown = t } in
+    subst (λ (s : SessionOf NameAt). Holds c (past c ts) ts (session_contents s)) (sym is) (like c (past c ts) ts _ (session_parts (session_tree s)) (session_names s) 1 (length ss) whole
     (ap (λ l. option_to_list o ++ (map (λ (x : StepTree). x.part) (map step_tree ss) ++ l)) (append-nil (option_to_list t)))
-    (ap (λ l. n ∷ l) (append-nil (map (λ (x : NamedStep). x.name) ss)))
+    (ap (λ l. n ∷ l) (append-nil (map (λ (x : StepOf NameAt). x.name) ss)))
     refl
     (omega arith))
 
-sessions_parts : (ss : List NamedSession) → (all_contents session_contents ss).parts ≡ flat_map session_parts (map session_tree ss)
+sessions_parts : (ss : List (SessionOf NameAt)) → (all_contents session_contents ss).parts ≡ flat_map session_parts (map session_tree ss)
 sessions_parts [] = refl
 sessions_parts (s ∷ ss) = ap (λ ps. session_parts (session_tree s) ++ ps) (sessions_parts ss)
 
-sessions_names : (ss : List NamedSession) → (all_contents session_contents ss).names ≡ flat_map session_names ss
+sessions_names : (ss : List (SessionOf NameAt)) → (all_contents session_contents ss).names ≡ flat_map session_names ss
 sessions_names [] = refl
 sessions_names (s ∷ ss) = ap (λ ns. session_names s ++ ns) (sessions_names ss)
 
-sessions_count : (ss : List NamedSession) → (all_contents session_contents ss).sessions ≡ length ss
+sessions_count : (ss : List (SessionOf NameAt)) → (all_contents session_contents ss).sessions ≡ length ss
 sessions_count [] = refl
 sessions_count (s ∷ ss) = omega (arith, sessions_count ss)
 
-pub steps_len : (k j : ℕ) (ss : List NamedStep) → length (steps_from k j ss) ≡ length ss
+pub steps_len : (k j : ℕ) (ss : List (StepOf NameAt)) → length (steps_from k j ss) ≡ length ss
 steps_len k j [] = refl
 steps_len k j (s ∷ ss) = omega (arith, steps_len k (j + 1) ss)
 
-sessions_steps : (k : ℕ) (ss : List NamedSession) → (all_contents session_contents ss).steps ≡ length (sessions_from k ss)
+sessions_steps : (k : ℕ) (ss : List (SessionOf NameAt)) → (all_contents session_contents ss).steps ≡ length (sessions_from k ss)
 sessions_steps k [] = refl
 sessions_steps k (s ∷ ss) = omega (arith, steps_len k 0 s.steps, sessions_steps (k + 1) ss, length-append (steps_from k 0 s.steps) (sessions_from (k + 1) ss))
 
-abbrev sessions_contents : List NamedSession → Contents
+abbrev sessions_contents : List (SessionOf NameAt) → Contents
 sessions_contents ss = record { parts = flat_map session_parts (map session_tree ss); names = flat_map session_names ss; sessions = length ss; steps = length (sessions_from 1 ss) }
 
-sessions_have : (c : Counts) (ts : List (At Token)) (ss : List NamedSession) → Many session c ts ss → Holds c (past c ts) ts (sessions_contents ss)
+sessions_have : (c : Counts) (ts : List (At Token)) (ss : List (SessionOf NameAt)) → Many session c ts ss → Holds c (past c ts) ts (sessions_contents ss)
 sessions_have c ts ss m = like c (past c ts) ts (all_contents session_contents ss) _ _ _ _ (many_has session session_contents session_has c ts ss m) (sessions_parts ss) (sessions_names ss) (sessions_count ss) (sessions_steps 1 ss)
 
 setups_parts : (ps : List PartTree) → (all_contents (λ p. only_parts (p ∷ [])) ps).parts ≡ ps

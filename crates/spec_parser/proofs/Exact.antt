@@ -1,6 +1,6 @@
 -- What reading gives is just what the relations say.
 use Rattle.std.proofs.Common.{◌≡◌, ◌⊎◌, inl, inr, ℕ, length, List, [], map, Option, Some, None, Result, Ok, Err, refl, sym, ap, subst, ◌∙◌}
-use Rattle.std.specs.Prelude.{option_map, unwrap_or}
+use Rattle.std.specs.Option.{option_map_or}
 use Rattle.std.proofs.lemmas.Option.{same_Some}
 use Rattle.iso_lexer.specs.declared.token.At.{At}
 use Rattle.iso_lexer.specs.declared.fault.Fault.{Fault}
@@ -8,7 +8,6 @@ use Rattle.iso_lexer.specs.SpecTokens.{Token}
 use Rattle.iso_lexer.specs.SpecText.{Lexes}
 use Rattle.spec_parser.specs.declared.fault.Stop.{Stop}
 use Rattle.spec_parser.specs.declared.fault.Stop.TheVariants.{Expected, NoticesLeftOut, OverLimit}
-use Rattle.spec_parser.specs.declared.fault.Halt.TheVariants.{At as AtPlace}
 use Rattle.spec_parser.specs.declared.fault.SpecFault.{SpecFault}
 use Rattle.spec_parser.specs.declared.fault.SpecFault.TheVariants as faults
 use Rattle.spec_parser.specs.Trees.{FileTree, SpecTree, EntryTree}
@@ -16,11 +15,11 @@ use Rattle.spec_parser.specs.Faults.{stopped}
 use Rattle.spec_parser.specs.Counts.{start, past}
 use Rattle.spec_parser.specs.Reading.{Rest, Read, place, file_at}
 use Rattle.spec_parser.specs.Grammar.{file}
-use Rattle.spec_parser.specs.Names.{StepAt, first_repeat, session_tree, ◌>>=◌, resolved}
+use Rattle.spec_parser.specs.Names.{StepAt, steps_of, first_repeat, session_tree, ◌>>=◌, resolved}
 use Rattle.spec_parser.specs.Inner.Known.{known_perms}
 use Rattle.spec_parser.specs.SpecText.{SpecReads, no_tokens, tokens, finished}
 use Rattle.spec_parser.specs.Laws.{HasStop}
-use Rattle.spec_parser.specs.IsSpec.{steps_of, WithinLimits, IsSpec}
+use Rattle.spec_parser.specs.IsSpec.{WithinLimits, IsSpec}
 use Rattle.spec_parser.specs.NameFaults.{Mention, by_entry, by_marker, mentions, undefined_at, IsFirstUndefined, HasRepeat, HasUndefined}
 use Rattle.spec_parser.proofs.Complete.{Again, whole, over, LongFile}
 use Rattle.spec_parser.proofs.WholeLaws.{read_or_over, reads_are_files, files_are_read, stops_first}
@@ -65,7 +64,7 @@ pub record WasResolved (text : List ℕ) (x : Result SpecTree SpecFault) : Type 
   pub read : file_at (start, tokens) ≡ (Ok file_is, rest)
   pub is : x ≡ resolved file_is
 
-past_stop : (s : Stop) (p : ℕ) → IsPast (Err (stopped (AtPlace s p))) → ⊥
+past_stop : (s : Stop) (p : ℕ) → IsPast (Err (stopped s p)) → ⊥
 past_stop (Expected w) p h = h
 past_stop NoticesLeftOut p h = h
 past_stop OverLimit p h = h
@@ -89,7 +88,7 @@ made f ps = record { setups = f.setups; teardown = f.teardown; sessions = map se
 
 -- the fault at the first repeat, or else this
 abbrev without_repeat : Option ℕ → Result SpecTree SpecFault → Result SpecTree SpecFault
-without_repeat o spec = unwrap_or (option_map (λ at. Err (faults.DuplicateStep at)) o) spec
+without_repeat o spec = option_map_or (λ at. Err (faults.DuplicateStep at)) o spec
 
 abbrev out_of : FileTree → Option ℕ → Result (List (List EntryTree)) SpecFault → Result SpecTree SpecFault
 out_of f o r = without_repeat o (r >>= λ ps. Ok (made f ps))
@@ -220,7 +219,7 @@ no_limit f at (Some n) r h e = not_limit_repeat at n (err_same (faults.Limit at)
 no_limit f at None (Ok ps) h e = ok_err (made f ps) (faults.Limit at) (sym e)
 no_limit f at None (Err y) h e = subst IsUndefined (sym (err_same (faults.Limit at) y e)) (h y refl)
 
-limit_stopped : (at p : ℕ) (s : Stop) → faults.Limit at ≡ stopped (AtPlace s p) → (s ≡ OverLimit) × (at ≡ p)
+limit_stopped : (at p : ℕ) (s : Stop) → faults.Limit at ≡ stopped s p → (s ≡ OverLimit) × (at ≡ p)
 limit_stopped at p OverLimit e = (refl, limit_at at p e)
 limit_stopped at p (Expected w) e = absurd cc
 limit_stopped at p NoticesLeftOut e = absurd cc
@@ -228,7 +227,7 @@ limit_stopped at p NoticesLeftOut e = absurd cc
 limit_from : (text : List ℕ) (ts : List (At Token)) (at : ℕ) (q : Read FileTree) → file_at (start, ts) ≡ q → Lexes text (Ok ts) → Err (faults.Limit at) ≡ finished (length text) q → HasLimit text at
 limit_from text ts at (Ok f, rest) e lexes is = absurd (no_limit f at (first_repeat [] (steps_of f)) (known_perms (steps_of f) f.perms) (λ x d. is_undefined (steps_of f) (mentions f.perms) x (undefined_first (steps_of f) f.perms x d)) is)
 limit_from text ts at (Err s, rest) e lexes is =
-    let k = limit_stopped at (place (length text) rest.1) s (err_same (faults.Limit at) (stopped (AtPlace s (place (length text) rest.1))) is) in
+    let k = limit_stopped at (place (length text) rest.1) s (err_same (faults.Limit at) (stopped s (place (length text) rest.1)) is) in
     let stop = limit_stop ts rest (e ∙ (λ i. (Err (k.0 i), rest))) in
     record { tokens = ts; lexes = lexes; rest = rest.1; stop = stop; place = k.1 ∙ ap (place (length text)) stop.rest_is }
 
@@ -267,7 +266,7 @@ IsStopped (faults.UndefinedMarker at) = ⊥
 IsStopped faults.Memory = ⊥
 IsStopped (faults.Lex f) = ⊥
 
-stop_is : (s : Stop) (at : ℕ) → IsStopped (stopped (AtPlace s at))
+stop_is : (s : Stop) (at : ℕ) → IsStopped (stopped s at)
 stop_is (Expected w) at = tt
 stop_is NoticesLeftOut at = tt
 stop_is OverLimit at = tt
@@ -307,24 +306,24 @@ stop_in (faults.UndefinedMarker at) = None
 stop_in faults.Memory = None
 stop_in (faults.Lex f) = None
 
-of_stop : (s : Stop) (at : ℕ) → (stop_in (stopped (AtPlace s at)) ≡ Some s) × (place_in (stopped (AtPlace s at)) ≡ at)
+of_stop : (s : Stop) (at : ℕ) → (stop_in (stopped s at) ≡ Some s) × (place_in (stopped s at) ≡ at)
 of_stop (Expected w) at = (refl, refl)
 of_stop NoticesLeftOut at = (refl, refl)
 of_stop OverLimit at = (refl, refl)
 
-same_stop : (s t : Stop) (at p : ℕ) → stopped (AtPlace s at) ≡ stopped (AtPlace t p) → (t ≡ s) × (at ≡ p)
+same_stop : (s t : Stop) (at p : ℕ) → stopped s at ≡ stopped t p → (t ≡ s) × (at ≡ p)
 same_stop s t at p e =
     (same_Some t s (sym (of_stop t p).0 ∙ sym (ap stop_in e) ∙ (of_stop s at).0), sym (of_stop s at).1 ∙ ap place_in e ∙ (of_stop t p).1)
 
-stop_from : (text : List ℕ) (ts : List (At Token)) (s : Stop) (at : ℕ) (q : Read FileTree) → file_at (start, ts) ≡ q → Lexes text (Ok ts) → Err (stopped (AtPlace s at)) ≡ finished (length text) q → HasStop text s at
-stop_from text ts s at (Ok f, rest) e lexes is = absurd (no_stop_in f (stopped (AtPlace s at)) (first_repeat [] (steps_of f)) (known_perms (steps_of f) f.perms) (stop_is s at) (λ x d. is_undefined (steps_of f) (mentions f.perms) x (undefined_first (steps_of f) f.perms x d)) is)
+stop_from : (text : List ℕ) (ts : List (At Token)) (s : Stop) (at : ℕ) (q : Read FileTree) → file_at (start, ts) ≡ q → Lexes text (Ok ts) → Err (stopped s at) ≡ finished (length text) q → HasStop text s at
+stop_from text ts s at (Ok f, rest) e lexes is = absurd (no_stop_in f (stopped s at) (first_repeat [] (steps_of f)) (known_perms (steps_of f) f.perms) (stop_is s at) (λ x d. is_undefined (steps_of f) (mentions f.perms) x (undefined_first (steps_of f) f.perms x d)) is)
 stop_from text ts s at (Err t, rest) e lexes is =
-    let k = same_stop s t at (place (length text) rest.1) (err_same (stopped (AtPlace s at)) (stopped (AtPlace t (place (length text) rest.1))) is) in
+    let k = same_stop s t at (place (length text) rest.1) (err_same (stopped s at) (stopped t (place (length text) rest.1)) is) in
     record { tokens = ts; lexes = lexes; rest = rest.1; first = stops_first ts s rest (e ∙ (λ i. (Err (k.0 i), rest))); place = k.1; notices = λ h. file_ends (start, ts) rest (e ∙ (λ i. (Err ((k.0 ∙ h) i), rest))) }
 
-stop_by : (text : List ℕ) (s : Stop) (at : ℕ) (x : Result SpecTree SpecFault) → x ≡ Err (stopped (AtPlace s at)) → SpecReads text x → HasStop text s at
-stop_by text s at x e (no_tokens f lexes) = absurd (subst IsStopped (sym (err_same (faults.Lex f) (stopped (AtPlace s at)) e)) (stop_is s at))
+stop_by : (text : List ℕ) (s : Stop) (at : ℕ) (x : Result SpecTree SpecFault) → x ≡ Err (stopped s at) → SpecReads text x → HasStop text s at
+stop_by text s at x e (no_tokens f lexes) = absurd (subst IsStopped (sym (err_same (faults.Lex f) (stopped s at) e)) (stop_is s at))
 stop_by text s at x e (tokens ts lexes is) = stop_from text ts s at (file_at (start, ts)) refl lexes (sym e ∙ is)
 
-pub stops_are_first : (text : List ℕ) (s : Stop) (at : ℕ) → SpecReads text (Err (stopped (AtPlace s at))) → HasStop text s at
-stops_are_first text s at h = stop_by text s at (Err (stopped (AtPlace s at))) refl h
+pub stops_are_first : (text : List ℕ) (s : Stop) (at : ℕ) → SpecReads text (Err (stopped s at)) → HasStop text s at
+stops_are_first text s at h = stop_by text s at (Err (stopped s at)) refl h

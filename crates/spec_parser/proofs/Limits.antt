@@ -10,7 +10,7 @@ use Rattle.spec_parser.specs.declared.fault.What.{What}
 use Rattle.spec_parser.specs.declared.fault.What.TheVariants as what
 use Rattle.spec_parser.specs.declared.fault.Stop.{Stop}
 use Rattle.spec_parser.specs.declared.fault.Stop.TheVariants.{Expected, OverLimit}
-use Rattle.spec_parser.specs.Trees.{PartTree, NameAt, NamedStep, NamedSession, NamedEntry, FileTree}
+use Rattle.spec_parser.specs.Trees.{PartTree, NameAt, StepOf, SessionOf, NamedEntry, FileTree}
 use Rattle.spec_parser.specs.Counts.{Counts, start, past}
 use Rattle.spec_parser.specs.Reading.{Rest, Read, many_at, all_at, some_at, name_at, end_at, name_within, step_at, session_at, entry_at, perm_at, file_at, the_name}
 use Rattle.spec_parser.specs.Inner.Pieces.{starts_word, starts_name, word_at, setup_at, teardown_at, setups_at, steps_at, sessions_at, perms_at}
@@ -98,7 +98,7 @@ word_keeps_steps : (c d : Counts) (ts : List (At Token)) (u : Unit {0}) → one 
 word_keeps_steps c d ts u h e = omega (arith, ap (λ (d : Counts). d.steps) e, (session_word c ts u h).steps)
 
 -- one more than before, where there were fewer
-step_before : (r after : Rest) (s : NamedStep) → step_at r ≡ (Ok s, after) → r.0.steps < 1000
+step_before : (r after : Rest) (s : StepOf NameAt) → step_at r ≡ (Ok s, after) → r.0.steps < 1000
 unfolding step_at
 step_before r after s e =
     let key = in_two (word_at Step what.Item r) _ s after e in
@@ -163,7 +163,7 @@ gives_keep {A} v r after x e few = subst (λ (d : Rest). Few d.0) (ap (λ (q : R
 pub steps_keep : Keeps steps_at
 steps_keep = some_keep what.Step (starts_word Step) (λ k. step_at) step_keeps
 
-abbrev session_of : NameAt → Option PartTree → List NamedStep → Option PartTree → NamedSession
+abbrev session_of : NameAt → Option PartTree → List (StepOf NameAt) → Option PartTree → SessionOf NameAt
 session_of n setup ss teardown = record { name = n; setup = setup; steps = ss; teardown = teardown }
 
 session_end_keeps : (n : NameAt) → Keeps (λ r. setup_at r >>= λ setup. steps_at setup.1 >>= λ ss. teardown_at ss.1 >>= λ teardown. (Ok (session_of n setup.0 ss.0 teardown.0), teardown.1))
@@ -232,7 +232,7 @@ end_keeps : Keeps end_at
 unfolding end_at
 end_keeps r after u e few = subst (λ (d : Rest). Few d.0) (end_by r.0 r.1 u after e) few
 
-abbrev file_of : List PartTree → Option PartTree → List NamedSession → List (List NamedEntry) → FileTree
+abbrev file_of : List PartTree → Option PartTree → List (SessionOf NameAt) → List (List NamedEntry) → FileTree
 file_of setups teardown ss perms = record { setups = setups; teardown = teardown; sessions = ss; perms = perms }
 
 file_keeps : Keeps file_at

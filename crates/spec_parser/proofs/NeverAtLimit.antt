@@ -32,9 +32,9 @@ taken_never : {A : Type 0} (o : Option A) (w : What) (c : Counts) (t : At Token)
 taken_never (Some x) w c t ts after e = not_value x _ after e
 taken_never {A} None w c t ts after e = not_expected {A = A} w _ after e
 
-token_never : {A : Type 0} (f : Counts → At Token → Option A) (w : What) (c : Counts) (ts : List (At Token)) (after : Rest) → token_at f w (c, ts) ≡ (Err OverLimit, after) → ⊥
+token_never : {A : Type 0} (f : Counts → ℕ → Token → Option A) (w : What) (c : Counts) (ts : List (At Token)) (after : Rest) → token_at f w (c, ts) ≡ (Err OverLimit, after) → ⊥
 token_never {A} f w c [] after e = not_expected {A = A} w _ after e
-token_never f w c (t ∷ ts) after e = taken_never (f c t) w c t ts after e
+token_never f w c (t ∷ ts) after e = taken_never (f c t.span.start t.tok) w c t ts after e
 
 pub word_never : (k : Keyword) (w : What) → Never (word_at k w)
 unfolding next

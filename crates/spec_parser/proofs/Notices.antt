@@ -11,7 +11,7 @@ use Rattle.spec_parser.specs.declared.fault.What.{What}
 use Rattle.spec_parser.specs.declared.fault.What.TheVariants as what
 use Rattle.spec_parser.specs.declared.fault.Stop.{Stop}
 use Rattle.spec_parser.specs.declared.fault.Stop.TheVariants.{Expected, NoticesLeftOut, OverLimit}
-use Rattle.spec_parser.specs.Trees.{PartTree, NameAt, NamedStep, NamedSession, MarkerTree, star, named, NamedEntry, FileTree}
+use Rattle.spec_parser.specs.Trees.{PartTree, NameAt, StepOf, SessionOf, MarkerTree, star, named, NamedEntry, FileTree}
 use Rattle.spec_parser.specs.Counts.{Counts}
 use Rattle.spec_parser.specs.Reading.{Rest, Read, next, many_at, all_at, some_at, maybe_at, name_at, block_at, end_at, name_within, block_after, maybe_block, step_at, session_at, no_notices, marker_at, markers_at, entry_at, perm_at, file_at, the_name, the_block, token_at}
 use Rattle.spec_parser.specs.Inner.Pieces.{starts_word, starts_sign, starts_name, word_at, sign_at, setup_at, teardown_at, setups_at, steps_at, sessions_at, next_marker_at, next_markers_at, some_markers_at, entries_at, perms_at}
@@ -40,9 +40,9 @@ taken_ends : {A : Type 0} (o : Option A) (w : What) (c : Counts) (t : At Token) 
 taken_ends (Some x) w c t ts after e = not_value x _ after e
 taken_ends {A} None w c t ts after e = not_expected {A = A} w _ after e
 
-token_ends : {A : Type 0} (f : Counts → At Token → Option A) (w : What) (c : Counts) (ts : List (At Token)) (after : Rest) → token_at f w (c, ts) ≡ (Err NoticesLeftOut, after) → ⊥
+token_ends : {A : Type 0} (f : Counts → ℕ → Token → Option A) (w : What) (c : Counts) (ts : List (At Token)) (after : Rest) → token_at f w (c, ts) ≡ (Err NoticesLeftOut, after) → ⊥
 token_ends {A} f w c [] after e = not_expected {A = A} w _ after e
-token_ends f w c (t ∷ ts) after e = taken_ends (f c t) w c t ts after e
+token_ends f w c (t ∷ ts) after e = taken_ends (f c t.span.start t.tok) w c t ts after e
 
 word_ends : (k : Keyword) (w : What) → Ends (word_at k w)
 unfolding next
@@ -130,7 +130,7 @@ setups_end : Ends setups_at
 unfolding all_at
 setups_end r after e = many_ends (starts_word Setup) (λ k. block_after Setup) (λ k. block_after_ends Setup) (length r.1) 0 r after e
 
-abbrev step_of : NameAt → PartTree → NamedStep
+abbrev step_of : NameAt → PartTree → StepOf NameAt
 step_of n b = record { name = n; part = b }
 
 step_ends : Ends step_at
@@ -142,7 +142,7 @@ step_ends r after e = ends_then (word_at Step what.Item) (λ key. name_within r.
 steps_end : Ends steps_at
 steps_end = some_ends what.Step (starts_word Step) (λ k. step_at) (λ k. step_ends)
 
-abbrev session_of : NameAt → Option PartTree → List NamedStep → Option PartTree → NamedSession
+abbrev session_of : NameAt → Option PartTree → List (StepOf NameAt) → Option PartTree → SessionOf NameAt
 session_of n setup ss teardown = record { name = n; setup = setup; steps = ss; teardown = teardown }
 
 session_ends : Ends session_at
@@ -207,7 +207,7 @@ perms_end : Ends perms_at
 unfolding all_at
 perms_end r after e = many_ends (starts_word Permutation) (λ k. perm_at) (λ k. perm_ends) (length r.1) 0 r after e
 
-abbrev file_of : List PartTree → Option PartTree → List NamedSession → List (List NamedEntry) → FileTree
+abbrev file_of : List PartTree → Option PartTree → List (SessionOf NameAt) → List (List NamedEntry) → FileTree
 file_of setups teardown ss perms = record { setups = setups; teardown = teardown; sessions = ss; perms = perms }
 
 pub file_ends : (r after : Rest) → file_at r ≡ (Err NoticesLeftOut, after) → starts_word Notices after ≡ true

@@ -15,7 +15,7 @@ use Rattle.iso_lexer.specs.SpecTokens.{Token, keyword, name, sign, block}
 use Rattle.spec_parser.specs.declared.fault.What.{What}
 use Rattle.spec_parser.specs.declared.fault.What.TheVariants as what
 use Rattle.spec_parser.specs.declared.fault.Stop.TheVariants.{Expected, NoticesLeftOut, OverLimit}
-use Rattle.spec_parser.specs.Trees.{PartTree, NameAt, NamedStep, NamedSession, MarkerTree, star, named, NamedEntry, FileTree}
+use Rattle.spec_parser.specs.Trees.{PartTree, NameAt, StepOf, SessionOf, MarkerTree, star, named, NamedEntry, FileTree}
 use Rattle.spec_parser.specs.Counts.{Counts}
 use Rattle.spec_parser.specs.Reading.{Rest, is_word, is_sign, is_name, the_name, the_block, next, name_at, block_at, end_at, name_within, block_after, maybe_block, step_at, session_at, no_notices, marker_at, markers_at, entry_at, perm_at, file_at}
 use Rattle.spec_parser.specs.Inner.Pieces.{starts_word, starts_sign, starts_name, word_at, sign_at, setup_at, teardown_at, setups_at, steps_at, sessions_at, next_marker_at, next_markers_at, some_markers_at, entries_at, perms_at}
@@ -112,7 +112,7 @@ setups_local = many_local (block_behind Setup) (starts_word Setup) (λ k. block_
 
 -- ---- steps
 
-abbrev step_of : NameAt → PartTree → NamedStep
+abbrev step_of : NameAt → PartTree → StepOf NameAt
 step_of n b = record { name = n; part = b }
 
 step_end_inhabited : (n : NameAt) → Inhabited (one the_block ▸ λ b. gives (step_of n b))
@@ -142,19 +142,19 @@ steps_local = some_local step what.Step (starts_word Step) (λ k. step_at) step_
 
 -- ---- sessions
 
-abbrev session_of : NameAt → Option PartTree → List NamedStep → Option PartTree → NamedSession
+abbrev session_of : NameAt → Option PartTree → List (StepOf NameAt) → Option PartTree → SessionOf NameAt
 session_of n setup steps teardown = record { name = n; setup = setup; steps = steps; teardown = teardown }
 
-abbrev TornDown : NameAt → Option PartTree → List NamedStep → Grammar NamedSession
+abbrev TornDown : NameAt → Option PartTree → List (StepOf NameAt) → Grammar (SessionOf NameAt)
 TornDown n setup steps = Maybe (block_behind Teardown) ▸ λ teardown. gives (session_of n setup steps teardown)
 
-abbrev Stepped : NameAt → Option PartTree → Grammar NamedSession
+abbrev Stepped : NameAt → Option PartTree → Grammar (SessionOf NameAt)
 Stepped n setup = some step ▸ TornDown n setup
 
-abbrev SetUp : NameAt → Grammar NamedSession
+abbrev SetUp : NameAt → Grammar (SessionOf NameAt)
 SetUp n = Maybe (block_behind Setup) ▸ Stepped n
 
-torn_inhabited : (n : NameAt) (setup : Option PartTree) (steps : List NamedStep) → Inhabited (TornDown n setup steps)
+torn_inhabited : (n : NameAt) (setup : Option PartTree) (steps : List (StepOf NameAt)) → Inhabited (TornDown n setup steps)
 torn_inhabited n setup steps = seq_inhabited (Maybe (block_behind Teardown)) (λ teardown. gives (session_of n setup steps teardown)) (maybe_inhabited (block_behind Teardown)) (λ teardown. gives_inhabited (session_of n setup steps teardown))
 
 stepped_inhabited : (n : NameAt) (setup : Option PartTree) → Inhabited (Stepped n setup)
@@ -169,7 +169,7 @@ named_inhabited = seq_inhabited (one the_name) SetUp name_inhabited set_up_inhab
 session_begins : Begins what.Session session
 session_begins = seq_begins what.Session (one (the_word Session)) (λ _. one the_name ▸ SetUp) (word_begins what.Session Session refl) (λ _. named_inhabited)
 
-torn_local : (n : NameAt) (setup : Option PartTree) (steps : List NamedStep) → AreLocal (TornDown n setup steps) (λ r. teardown_at r >>= λ teardown. (Ok (session_of n setup steps teardown.0), teardown.1))
+torn_local : (n : NameAt) (setup : Option PartTree) (steps : List (StepOf NameAt)) → AreLocal (TornDown n setup steps) (λ r. teardown_at r >>= λ teardown. (Ok (session_of n setup steps teardown.0), teardown.1))
 torn_local n setup steps = then {G = Maybe (block_behind Teardown)} {H = λ teardown. gives (session_of n setup steps teardown)} teardown_at (λ teardown. (Ok (session_of n setup steps teardown.0), teardown.1)) teardown_local (λ teardown. gives_inhabited (session_of n setup steps teardown)) (λ teardown. gives_local (session_of n setup steps teardown))
 
 stepped_local : (n : NameAt) (setup : Option PartTree) → AreLocal (Stepped n setup) (λ r. steps_at r >>= λ steps. teardown_at steps.1 >>= λ teardown. (Ok (session_of n setup steps.0 teardown.0), teardown.1))
@@ -317,10 +317,10 @@ unfolding end_at
 something_there c t [] h = absurd (not_none t h)
 something_there c t (s ∷ others) h = refl
 
-abbrev file_of : List PartTree → Option PartTree → List NamedSession → List (List NamedEntry) → FileTree
+abbrev file_of : List PartTree → Option PartTree → List (SessionOf NameAt) → List (List NamedEntry) → FileTree
 file_of setups teardown sessions perms = record { setups = setups; teardown = teardown; sessions = sessions; perms = perms }
 
-abbrev Permuted : List PartTree → Option PartTree → List NamedSession → Grammar FileTree
+abbrev Permuted : List PartTree → Option PartTree → List (SessionOf NameAt) → Grammar FileTree
 Permuted setups teardown sessions = Many perm ▸ λ perms. gives (file_of setups teardown sessions perms)
 
 abbrev Held : List PartTree → Option PartTree → Grammar FileTree
@@ -330,17 +330,17 @@ abbrev Ended : List PartTree → Grammar FileTree
 Ended setups = Maybe (block_behind Teardown) ▸ Held setups
 
 -- where a file may end, more permutations may follow too
-abbrev GoesOn : List PartTree → Option PartTree → List NamedSession → List (List NamedEntry) → Grammar FileTree
+abbrev GoesOn : List PartTree → Option PartTree → List (SessionOf NameAt) → List (List NamedEntry) → Grammar FileTree
 GoesOn setups teardown sessions perms = Many perm ▸ λ others. gives (file_of setups teardown sessions (perms ++ others))
 
-goes_on_is : (setups : List PartTree) (teardown : Option PartTree) (sessions : List NamedSession) → Within (Many perm ▸ GoesOn setups teardown sessions) (Permuted setups teardown sessions)
+goes_on_is : (setups : List PartTree) (teardown : Option PartTree) (sessions : List (SessionOf NameAt)) → Within (Many perm ▸ GoesOn setups teardown sessions) (Permuted setups teardown sessions)
 goes_on_is setups teardown sessions c ts f (perms, xs, ys, e, h, (others, us, vs, d, k, (nothing, is))) =
     (perms ++ others, xs ++ us, [], e ∙ ap (λ (r : List (At Token)). xs ++ r) (d ∙ ap (λ (r : List (At Token)). us ++ r) nothing) ∙ sym (append_assoc xs us []), many_twice perm c xs us perms others h k, (refl, is))
 
-goes_on_begins : (setups : List PartTree) (teardown : Option PartTree) (sessions : List NamedSession) (perms : List (List NamedEntry)) → Begins what.Item (GoesOn setups teardown sessions perms)
+goes_on_begins : (setups : List PartTree) (teardown : Option PartTree) (sessions : List (SessionOf NameAt)) (perms : List (List NamedEntry)) → Begins what.Item (GoesOn setups teardown sessions perms)
 goes_on_begins setups teardown sessions perms = seq_begins what.Item (Many perm) (λ others. gives (file_of setups teardown sessions (perms ++ others))) (many_begins what.Item perm perm_begins) (λ others. gives_inhabited (file_of setups teardown sessions (perms ++ others)))
 
-ended_local : (setups : List PartTree) (teardown : Option PartTree) (sessions : List NamedSession) (perms : List (List NamedEntry)) → AreLocal (GoesOn setups teardown sessions perms) (λ r. end_at r >>= λ ended. (Ok (file_of setups teardown sessions perms), ended.1))
+ended_local : (setups : List PartTree) (teardown : Option PartTree) (sessions : List (SessionOf NameAt)) (perms : List (List NamedEntry)) → AreLocal (GoesOn setups teardown sessions perms) (λ r. end_at r >>= λ ended. (Ok (file_of setups teardown sessions perms), ended.1))
 ended_local setups teardown sessions perms c [] = record {
   out = Ok (file_of setups teardown sessions perms);
   front = [];
@@ -358,7 +358,7 @@ ended_local setups teardown sessions perms c (t ∷ ts) = record {
   means = goes_on_begins setups teardown sessions perms c;
 }
 
-permuted_inhabited : (setups : List PartTree) (teardown : Option PartTree) (sessions : List NamedSession) → Inhabited (Permuted setups teardown sessions)
+permuted_inhabited : (setups : List PartTree) (teardown : Option PartTree) (sessions : List (SessionOf NameAt)) → Inhabited (Permuted setups teardown sessions)
 permuted_inhabited setups teardown sessions = seq_inhabited (Many perm) (λ perms. gives (file_of setups teardown sessions perms)) (many_inhabited perm) (λ perms. gives_inhabited (file_of setups teardown sessions perms))
 
 held_inhabited : (setups : List PartTree) (teardown : Option PartTree) → Inhabited (Held setups teardown)
@@ -367,7 +367,7 @@ held_inhabited setups teardown = seq_inhabited (some session) (Permuted setups t
 torn_file_inhabited : (setups : List PartTree) → Inhabited (Ended setups)
 torn_file_inhabited setups = seq_inhabited (Maybe (block_behind Teardown)) (Held setups) (maybe_inhabited (block_behind Teardown)) (held_inhabited setups)
 
-permuted_local : (setups : List PartTree) (teardown : Option PartTree) (sessions : List NamedSession) → AreLocal (Permuted setups teardown sessions) (λ r. perms_at r >>= λ perms. end_at perms.1 >>= λ ended. (Ok (file_of setups teardown sessions perms.0), ended.1))
+permuted_local : (setups : List PartTree) (teardown : Option PartTree) (sessions : List (SessionOf NameAt)) → AreLocal (Permuted setups teardown sessions) (λ r. perms_at r >>= λ perms. end_at perms.1 >>= λ ended. (Ok (file_of setups teardown sessions perms.0), ended.1))
 permuted_local setups teardown sessions = wider {G = Many perm ▸ GoesOn setups teardown sessions} {K = Permuted setups teardown sessions} (λ r. perms_at r >>= λ perms. end_at perms.1 >>= λ ended. (Ok (file_of setups teardown sessions perms.0), ended.1)) (goes_on_is setups teardown sessions)
     (then {G = Many perm} {H = GoesOn setups teardown sessions} perms_at (λ perms. end_at perms.1 >>= λ ended. (Ok (file_of setups teardown sessions perms.0), ended.1)) perms_local (λ perms. inhabited what.Item (GoesOn setups teardown sessions perms) (goes_on_begins setups teardown sessions perms)) (ended_local setups teardown sessions))
 
@@ -386,10 +386,10 @@ file_local = then {G = Many (block_behind Setup)} {H = Ended} setups_at (λ setu
 pub block_shorter : (k : Keyword) (r after : Rest) (b : PartTree) → block_after k r ≡ (Ok b, after) → length after.1 < length r.1
 block_shorter k = shortens (block_behind k) (block_after k) (first_takes (the_word k) (λ _. one the_block)) (block_after_read k)
 
-pub step_shorter : (r after : Rest) (s : NamedStep) → step_at r ≡ (Ok s, after) → length after.1 < length r.1
+pub step_shorter : (r after : Rest) (s : StepOf NameAt) → step_at r ≡ (Ok s, after) → length after.1 < length r.1
 step_shorter = shortens step step_at (first_takes (the_word Step) (λ _. one the_name ▸ λ n. one the_block ▸ λ b. gives (step_of n b))) step_read
 
-pub session_shorter : (r after : Rest) (s : NamedSession) → session_at r ≡ (Ok s, after) → length after.1 < length r.1
+pub session_shorter : (r after : Rest) (s : SessionOf NameAt) → session_at r ≡ (Ok s, after) → length after.1 < length r.1
 session_shorter = shortens session session_at (first_takes (the_word Session) (λ _. one the_name ▸ SetUp)) session_read
 
 pub next_marker_shorter : (r after : Rest) (m : MarkerTree) → next_marker_at r ≡ (Ok m, after) → length after.1 < length r.1

@@ -10,15 +10,15 @@ use Rattle.iso_lexer.specs.SpecTokens.{Token}
 use Rattle.spec_parser.specs.declared.fault.What.{What}
 use Rattle.spec_parser.specs.declared.fault.What.TheVariants as what
 use Rattle.spec_parser.specs.declared.fault.Stop.TheVariants.{Expected, OverLimit}
-use Rattle.spec_parser.specs.Trees.{PartTree, NameAt, NamedStep, NamedSession, MarkerTree, NamedEntry, FileTree}
+use Rattle.spec_parser.specs.Trees.{PartTree, NameAt, StepOf, SessionOf, MarkerTree, NamedEntry, FileTree}
 use Rattle.spec_parser.specs.Counts.{Counts, start, past}
-use Rattle.spec_parser.specs.Reading.{Rest, Read, is_name, is_word, first_is, many_at, all_at, some_at, name_at, block_at, end_at, name_within, step_at, session_at, entry_at, perm_at, file_at, the_name}
+use Rattle.spec_parser.specs.Reading.{Rest, Read, is_name, is_word, many_at, all_at, some_at, name_at, block_at, end_at, name_within, step_at, session_at, entry_at, perm_at, file_at, the_name}
 use Rattle.spec_parser.specs.Inner.Pieces.{starts_word, starts_name, word_at, setup_at, teardown_at, setups_at, steps_at, sessions_at, some_markers_at, perms_at}
 use Rattle.spec_parser.specs.Grammar.{Grammar, one, the_word, Maybe, Many, none, more, some, block_behind, entry, perm}
 use Rattle.spec_parser.specs.Grammar.{step as step_grammar, session as session_grammar}
 use Rattle.spec_parser.specs.IsSpec.{IsShort}
 use Rattle.spec_parser.specs.LimitFaults.{IsWord, IsOverAt, at_session, at_step, at_entry, LimitStop}
-use Rattle.spec_parser.proofs.Local.{◌>>=◌, AreLocal, LocalRead, local_read, is_read, past_twice}
+use Rattle.spec_parser.proofs.Local.{first_is, ◌>>=◌, AreLocal, LocalRead, local_read, is_read, past_twice}
 use Rattle.spec_parser.proofs.Tokens.{test_true}
 use Rattle.spec_parser.proofs.Productions.{word_read, name_within_local, step_read, steps_local, session_read, sessions_local, setup_local, teardown_local, setups_local, entry_local, perm_read, perms_local}
 use Rattle.spec_parser.proofs.ContentsAreCounted.{session_word}
@@ -121,7 +121,7 @@ word_token k w r mid u e =
     (t, f.1 ∙ ap (λ (us : List (At Token)). us ++ mid.1) f.3.1, test_true (is_word k t.tok) u f.3.2, f.2 ∙ ap (past r.0) f.3.1)
 
 -- the word was read, and then the name is over, or what is behind it is
-step_name : (r mid after : Rest) (u : Unit {0}) (f : NameAt × Rest → Read NamedStep) → Few r.0 → word_at Step what.Item r ≡ (Ok u, mid) → ((n : NameAt) → Never (λ m. f (n, m)))
+step_name : (r mid after : Rest) (u : Unit {0}) (f : NameAt × Rest → Read (StepOf NameAt)) → Few r.0 → word_at Step what.Item r ≡ (Ok u, mid) → ((n : NameAt) → Never (λ m. f (n, m)))
     → (name_within r.0.steps 1000 mid ≡ (Err OverLimit, after)) ⊎ ((n : NameAt) × (m : Rest) × (name_within r.0.steps 1000 mid ≡ (Ok n, m)) × (f (n, m) ≡ (Err OverLimit, after))) → LimitLater r after
 step_name r mid after u f few word never (inl e) =
     let o = name_over r.0.steps 1000 mid after e in
@@ -129,12 +129,12 @@ step_name r mid after u f few word never (inl e) =
     record { fs = []; mid = r; split = refl; place = refl; few = few; is_named = subst (λ (m : Rest). starts_name m ≡ true) o.2 o.1; here = here_step t.0 (t.1 ∙ ap (λ (m : Rest). t.0 ∷ m.1) o.2) t.2 o.0 }
 step_name r mid after u f few word never (inr (n, m, is, e)) = absurd (never n m after e)
 
-step_case : (r after : Rest) (f : Unit {0} × Rest → Read NamedStep) (g : NameAt × Rest → Read NamedStep) → Few r.0 → ((u : Unit {0}) (m : Rest) → f (u, m) ≡ (name_within r.0.steps 1000 m >>= g)) → ((n : NameAt) → Never (λ m. g (n, m)))
+step_case : (r after : Rest) (f : Unit {0} × Rest → Read (StepOf NameAt)) (g : NameAt × Rest → Read (StepOf NameAt)) → Few r.0 → ((u : Unit {0}) (m : Rest) → f (u, m) ≡ (name_within r.0.steps 1000 m >>= g)) → ((n : NameAt) → Never (λ m. g (n, m)))
     → (word_at Step what.Item r ≡ (Err OverLimit, after)) ⊎ ((u : Unit {0}) × (mid : Rest) × (word_at Step what.Item r ≡ (Ok u, mid)) × (f (u, mid) ≡ (Err OverLimit, after))) → LimitLater r after
 step_case r after f g few is never (inl e) = absurd (word_never Step what.Item r after e)
 step_case r after f g few is never (inr (u, mid, word, e)) = step_name r mid after u g few word never (err_two (name_within r.0.steps 1000 mid) g OverLimit after (sym (is u mid) ∙ e))
 
-abbrev step_of : NameAt → PartTree → NamedStep
+abbrev step_of : NameAt → PartTree → StepOf NameAt
 step_of n b = record { name = n; part = b }
 
 step_stops : Stops step_at
@@ -149,10 +149,10 @@ steps_stop = some_stop step_grammar what.Step (starts_word Step) (λ k. step_at)
 
 -- ---- sessions
 
-abbrev session_of : NameAt → Option PartTree → List NamedStep → Option PartTree → NamedSession
+abbrev session_of : NameAt → Option PartTree → List (StepOf NameAt) → Option PartTree → SessionOf NameAt
 session_of n setup ss teardown = record { name = n; setup = setup; steps = ss; teardown = teardown }
 
-abbrev session_end : NameAt × Rest → Read NamedSession
+abbrev session_end : NameAt × Rest → Read (SessionOf NameAt)
 session_end n = setup_at n.1 >>= λ setup. steps_at setup.1 >>= λ ss. teardown_at ss.1 >>= λ teardown. (Ok (session_of n.0 setup.0 ss.0 teardown.0), teardown.1)
 
 session_end_stops : (n : NameAt) → Stops (λ r. session_end (n, r))
@@ -299,7 +299,7 @@ perms_stop r after few e =
 
 -- ---- the file
 
-abbrev file_of : List PartTree → Option PartTree → List NamedSession → List (List NamedEntry) → FileTree
+abbrev file_of : List PartTree → Option PartTree → List (SessionOf NameAt) → List (List NamedEntry) → FileTree
 file_of setups teardown ss perms = record { setups = setups; teardown = teardown; sessions = ss; perms = perms }
 
 file_stops : Stops file_at

@@ -11,7 +11,7 @@ use Rattle.iso_lexer.specs.Names.{Written}
 use Rattle.iso_lexer.specs.SpecTokens.{Token, keyword, name, digits, sign, block}
 use Rattle.spec_parser.specs.Trees.{NameAt}
 use Rattle.spec_parser.specs.Counts.{Counts, past, past_token}
-use Rattle.spec_parser.specs.Reading.{is_word, is_sign, the_name, name_in}
+use Rattle.spec_parser.specs.Reading.{is_word, is_sign, the_name}
 use Rattle.spec_parser.specs.Grammar.{one, the_word, the_sign}
 
 pub test_true : (b : Bool) (u : Unit {0}) → ◌≡◌ {A = Option (Unit {0})} (cond b (Some tt) None) (Some u) → b ≡ true
@@ -38,12 +38,12 @@ sign_in g (name n) e = absurd cc
 sign_in g (digits d) e = absurd cc
 sign_in g (block n b) e = absurd cc
 
-pub named_in : (at : ℕ) (t : Token) (n : NameAt) → name_in at t ≡ Some n → (m : Written) × (t ≡ name m)
-named_in at (name m) n e = (m, refl)
-named_in at (keyword k) n e = absurd cc
-named_in at (digits d) n e = absurd cc
-named_in at (sign s) n e = absurd cc
-named_in at (block k b) n e = absurd cc
+pub named_in : (c : Counts) (at : ℕ) (t : Token) (n : NameAt) → the_name c at t ≡ Some n → (m : Written) × (t ≡ name m)
+named_in c at (name m) n e = (m, refl)
+named_in c at (keyword k) n e = absurd cc
+named_in c at (digits d) n e = absurd cc
+named_in c at (sign s) n e = absurd cc
+named_in c at (block k b) n e = absurd cc
 
 -- ---- what stands before
 
@@ -57,7 +57,7 @@ pub sign_past : (g : Sign) (c : Counts) (ts : List (At Token)) (u : Unit {0}) �
 sign_past g c ts u (t, e, is) = past_one c ts t (sign g) e (sign_in g t.tok (test_true (is_sign g t.tok) u is))
 
 pub name_past : (c : Counts) (ts : List (At Token)) (n : NameAt) → one the_name c ts n → past c ts ≡ c
-name_past c ts n (t, e, is) = let m = named_in t.span.start t.tok n is in past_one c ts t (name m.0) e m.1
+name_past c ts n (t, e, is) = let m = named_in c t.span.start t.tok n is in past_one c ts t (name m.0) e m.1
 
 -- no count falls
 abbrev pub NoLess : Counts → Counts → Type 0

@@ -11,13 +11,13 @@ use Rattle.spec_parser.specs.declared.fault.Halt.{Halt}
 use Rattle.spec_parser.specs.declared.fault.Halt.TheVariants as halts
 use Rattle.spec_parser.specs.declared.fault.SpecFault.{SpecFault}
 use Rattle.spec_parser.specs.declared.fault.SpecFault.TheVariants as faults
-use Rattle.spec_parser.specs.Faults.{lexer_fault, stopped}
+use Rattle.spec_parser.specs.Faults.{lexer_fault, stopped, halted}
 use Rattle.spec_parser.specs.Trees.{FileTree, SpecTree, EntryTree}
 use Rattle.spec_parser.specs.Counts.{start}
 use Rattle.spec_parser.specs.Reading.{Rest, Read, place, file_at}
 use Rattle.spec_parser.specs.Inner.Readers.{FailsAs}
-use Rattle.spec_parser.specs.Names.{StepAt, sessions_from, first_repeat, session_tree, resolved}
-use Rattle.spec_parser.specs.Inner.Known.{known_perms, FailsWith}
+use Rattle.spec_parser.specs.Names.{StepAt, first_repeat, session_tree, resolved}
+use Rattle.spec_parser.specs.Inner.Known.{sessions_from, known_perms, FailsWith}
 use Rattle.spec_parser.specs.SpecText.{SpecReads, no_tokens, tokens, finished, Answers}
 
 abbrev LexAnswers : List ℕ → LexFault → Type 0
@@ -34,11 +34,11 @@ no_stop f s e = cc
 same_stop : (s t : Stop) → ◌≡◌ {A = Result FileTree Stop} (Err s) (Err t) → s ≡ t
 same_stop s t e = cc
 
-stop_is : (end : ℕ) (read : Read FileTree) (s : Stop) (at : ℕ) → read.0 ≡ Err s → at ≡ place end read.1.1 → Err (stopped (halts.At s at)) ≡ finished end read
+stop_is : (end : ℕ) (read : Read FileTree) (s : Stop) (at : ℕ) → read.0 ≡ Err s → at ≡ place end read.1.1 → Err (stopped s at) ≡ finished end read
 stop_is end (Ok f, rest) s at e is = absurd (no_stop f s e)
 stop_is end (Err t, rest) s at e is = rw (is, same_stop t s e) refl
 
-pub on_halt : (text : List ℕ) (ts : List (At Token)) (h : Halt) → Lexes text (Ok ts) → FailsAs (length text) h (file_at (start, ts)) → Answers text (Err (stopped h))
+pub on_halt : (text : List ℕ) (ts : List (At Token)) (h : Halt) → Lexes text (Ok ts) → FailsAs (length text) h (file_at (start, ts)) → Answers text (Err (halted h))
 on_halt text ts halts.Memory lexes fails = tt
 on_halt text ts (halts.At (Expected w) at) lexes fails = tokens ts lexes (stop_is (length text) (file_at (start, ts)) (Expected w) at fails.0 fails.1)
 on_halt text ts (halts.At NoticesLeftOut at) lexes fails = tokens ts lexes (stop_is (length text) (file_at (start, ts)) NoticesLeftOut at fails.0 fails.1)

@@ -1,6 +1,8 @@
 -- How faults are passed on.
+use Rattle.std.specs.Prelude.{ℕ}
 use Rattle.iso_lexer.specs.declared.fault.LexFault.{LexFault}
 use Rattle.iso_lexer.specs.declared.fault.LexFault.TheVariants as lexer
+use Rattle.spec_parser.specs.declared.fault.Stop.{Stop}
 use Rattle.spec_parser.specs.declared.fault.Stop.TheVariants as stops
 use Rattle.spec_parser.specs.declared.fault.Halt.{Halt}
 use Rattle.spec_parser.specs.declared.fault.Halt.TheVariants as halts
@@ -13,8 +15,11 @@ lexer_fault lexer.Memory = faults.Memory
 lexer_fault (lexer.Fault f) = faults.Lex f
 
 -- a stop before a token is a fault at its place
-abbrev pub stopped : Halt → SpecFault
-stopped halts.Memory = faults.Memory
-stopped (halts.At (stops.Expected what) at) = faults.Expected what at
-stopped (halts.At stops.NoticesLeftOut at) = faults.NoticesLeftOut at
-stopped (halts.At stops.OverLimit at) = faults.Limit at
+abbrev pub stopped : Stop → ℕ → SpecFault
+stopped (stops.Expected what) at = faults.Expected what at
+stopped stops.NoticesLeftOut at = faults.NoticesLeftOut at
+stopped stops.OverLimit at = faults.Limit at
+
+abbrev pub halted : Halt → SpecFault
+halted halts.Memory = faults.Memory
+halted (halts.At stop at) = stopped stop at

@@ -1,12 +1,12 @@
 -- The grammar of spec files (README of src/test/isolation, "Test specification"): one definition for each production.
-use Rattle.std.specs.Prelude.{◌≡◌, ◌<◌, List, [], ◌∷◌, ◌++◌, length, Option, Some, None, unwrap_or, if◌then◌else◌}
+use Rattle.std.specs.Prelude.{◌≡◌, ◌<◌, ℕ, List, [], ◌∷◌, ◌++◌, length, Option, Some, None, unwrap_or, if◌then◌else◌}
 use Rattle.iso_lexer.specs.declared.token.At.{At}
 use Rattle.iso_lexer.specs.declared.spec_token.Keyword.{Keyword}
 use Rattle.iso_lexer.specs.declared.spec_token.Keyword.TheVariants.{Permutation, Session, Setup, Step, Teardown}
 use Rattle.iso_lexer.specs.declared.spec_token.Sign.{Sign}
 use Rattle.iso_lexer.specs.declared.spec_token.Sign.TheVariants.{Open, Close, Comma, Star}
 use Rattle.iso_lexer.specs.SpecTokens.{Token}
-use Rattle.spec_parser.specs.Trees.{PartTree, NamedStep, NamedSession, MarkerTree, star, named, NamedEntry, FileTree}
+use Rattle.spec_parser.specs.Trees.{PartTree, NameAt, StepOf, SessionOf, MarkerTree, star, named, NamedEntry, FileTree}
 use Rattle.spec_parser.specs.Counts.{Counts, past}
 use Rattle.spec_parser.specs.Reading.{is_word, is_sign, the_name, the_block}
 
@@ -24,15 +24,15 @@ abbrev pub gives : {A : Type 0} → A → Grammar A
 gives v c ts x = (ts ≡ []) × (x ≡ v)
 
 -- one token, which says this
-abbrev pub one : {A : Type 0} → (Counts → At Token → Option A) → Grammar A
-one f c ts x = (t : At Token) × (ts ≡ t ∷ []) × (f c t ≡ Some x)
+abbrev pub one : {A : Type 0} → (Counts → ℕ → Token → Option A) → Grammar A
+one f c ts x = (t : At Token) × (ts ≡ t ∷ []) × (f c t.span.start t.tok ≡ Some x)
 
 -- nothing but that the token is this word, or this sign
-abbrev pub the_word : Keyword → Counts → At Token → Option (Unit {0})
-the_word k c t = if is_word k t.tok then Some tt else None
+abbrev pub the_word : Keyword → Counts → ℕ → Token → Option (Unit {0})
+the_word k c at t = if is_word k t then Some tt else None
 
-abbrev pub the_sign : Sign → Counts → At Token → Option (Unit {0})
-the_sign g c t = if is_sign g t.tok then Some tt else None
+abbrev pub the_sign : Sign → Counts → ℕ → Token → Option (Unit {0})
+the_sign g c at t = if is_sign g t then Some tt else None
 
 -- it, or no token
 pub data Maybe {A : Type 0} (G : Grammar A) (c : Counts) : List (At Token) → Option A → Type 0 where
@@ -61,7 +61,7 @@ block_behind k = do
   one the_block
 
 -- "step" name block
-abbrev pub step : Grammar NamedStep
+abbrev pub step : Grammar (StepOf NameAt)
 step = do
   _ ← one (the_word Step)
   n ← one the_name
@@ -69,7 +69,7 @@ step = do
   gives (record { name = n; part = b })
 
 -- "session" name ["setup" block] step+ ["teardown" block]
-abbrev pub session : Grammar NamedSession
+abbrev pub session : Grammar (SessionOf NameAt)
 session = do
   _ ← one (the_word Session)
   n ← one the_name

@@ -10,11 +10,7 @@ use Rattle.spec_parser.specs.declared.tree.Marker.TheVariants as markers
 use Rattle.spec_parser.specs.Trees.{EntryTree, SpecTree, NameAt, MarkerTree, star, named, NamedEntry, FileTree}
 use Rattle.spec_parser.specs.Counts.{start}
 use Rattle.spec_parser.specs.Grammar.{file as in_grammar}
-use Rattle.spec_parser.specs.Names.{StepAt, sessions_from, session_tree}
-
--- the steps of a file, in file order, with the numbers of their sessions, from 1, and their own, from 0
-abbrev pub steps_of : FileTree → List StepAt
-steps_of f = sessions_from 1 f.sessions
+use Rattle.spec_parser.specs.Names.{StepAt, steps_of, session_tree}
 
 -- ---- limits
 

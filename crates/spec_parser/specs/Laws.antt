@@ -11,10 +11,9 @@ use Rattle.spec_parser.specs.Trees.{FileTree, SpecTree}
 use Rattle.spec_parser.specs.Counts.{start, past}
 use Rattle.iso_lexer.specs.declared.spec_token.Keyword.TheVariants.{Permutation, Session, Setup, Step, Teardown, Notices}
 use Rattle.iso_lexer.specs.declared.spec_token.Sign.TheVariants.{Close, Comma, Star}
-use Rattle.spec_parser.specs.Reading.{Rest, is_word, is_sign, is_name, block_in, first_is, file_at}
+use Rattle.spec_parser.specs.Reading.{Rest, is_word, is_sign, is_name, the_block, starts, file_at}
 use Rattle.spec_parser.specs.Reading.{place as place_of}
 use Rattle.spec_parser.specs.Faults.{stopped}
-use Rattle.spec_parser.specs.declared.fault.Halt.TheVariants.{At as AtPlace}
 use Rattle.iso_lexer.specs.SpecText.{Lexes}
 use Rattle.spec_parser.specs.Grammar.{file}
 use Rattle.spec_parser.specs.declared.fault.SpecFault.TheVariants as faults
@@ -33,7 +32,7 @@ abbrev pub names_token : What → Token → Bool
 names_token what.Session t = is_word Session t
 names_token what.Step t = is_word Step t
 names_token what.Name t = is_name t
-names_token what.Block t = is_some (block_in 0 0 t)
+names_token what.Block t = is_some (the_block start 0 t)
 names_token what.Marker t = is_sign Star t || is_name t
 names_token what.CommaOrClose t = is_sign Comma t || is_sign Close t
 names_token what.Item t = is_word Setup t || is_word Teardown t || is_word Session t || is_word Permutation t
@@ -78,11 +77,11 @@ pub record HasStop (text : List ℕ) (stop : Stop) (at : ℕ) : Type 0 where
   pub rest : List (At Token)
   pub first : StopsFirst tokens stop rest
   pub place : at ≡ place_of (length text) rest
-  pub notices : stop ≡ NoticesLeftOut → first_is (is_word Notices) rest ≡ true
+  pub notices : stop ≡ NoticesLeftOut → starts (is_word Notices) (past start first.front, rest) ≡ true
 
 -- A text is refused as Expected, NoticesLeftOut or Limit only at such a byte.
 abbrev pub StopsAreFirst : Type 0
-StopsAreFirst = (text : List ℕ) (stop : Stop) (at : ℕ) → SpecReads text (Err (stopped (AtPlace stop at))) → HasStop text stop at
+StopsAreFirst = (text : List ℕ) (stop : Stop) (at : ℕ) → SpecReads text (Err (stopped stop at)) → HasStop text stop at
 
 -- A text says this where it is this spec file, and nowhere else.
 abbrev pub SpecsAreExact : Type 0

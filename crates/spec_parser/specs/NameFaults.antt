@@ -8,8 +8,8 @@ use Rattle.spec_parser.specs.declared.fault.SpecFault.TheVariants.{UndefinedStep
 use Rattle.spec_parser.specs.Trees.{NameAt, MarkerTree, star, named, NamedEntry, FileTree}
 use Rattle.spec_parser.specs.Counts.{start}
 use Rattle.spec_parser.specs.Grammar.{file as in_grammar}
-use Rattle.spec_parser.specs.Names.{StepAt}
-use Rattle.spec_parser.specs.IsSpec.{steps_of, WithinLimits, SameName, NamesDiffer}
+use Rattle.spec_parser.specs.Names.{StepAt, steps_of}
+use Rattle.spec_parser.specs.IsSpec.{WithinLimits, SameName, NamesDiffer}
 
 -- ---- step names
 

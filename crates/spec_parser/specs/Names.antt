@@ -1,11 +1,13 @@
 -- The steps that a file's names stand for.
-use Rattle.std.specs.Prelude.{ℕ, ◌+◌, Bool, List, [], ◌∷◌, ◌++◌, find, is_some, map, Option, Some, None, ok_or, option_map, unwrap_or, Result, Ok, Err, bytes_eq, if◌then◌else◌}
+use Rattle.std.specs.Prelude.{ℕ, Bool, List, [], ◌∷◌, ◌++◌, find, is_some, map, flat_map, Option, Some, None, ok_or, option_map, Result, Ok, Err, bytes_eq, if◌then◌else◌}
+use Rattle.std.specs.List.{enumerate_from}
+use Rattle.std.specs.Option.{option_map_or}
 use Rattle.iso_lexer.specs.Names.{Written, decoded}
 use Rattle.spec_parser.specs.declared.tree.Marker.{Marker}
 use Rattle.spec_parser.specs.declared.tree.Marker.TheVariants as markers
 use Rattle.spec_parser.specs.declared.fault.SpecFault.{SpecFault}
 use Rattle.spec_parser.specs.declared.fault.SpecFault.TheVariants.{DuplicateStep, UndefinedStep, UndefinedMarker}
-use Rattle.spec_parser.specs.Trees.{StepTree, SessionTree, EntryTree, SpecTree, NameAt, NamedStep, NamedSession, MarkerTree, star, named, NamedEntry, FileTree}
+use Rattle.spec_parser.specs.Trees.{StepTree, SessionTree, EntryTree, SpecTree, NameAt, StepOf, SessionOf, MarkerTree, star, named, NamedEntry, FileTree}
 
 -- a step of the file: its name, its session, numbered from 1, and its number in that, from 0
 pub record StepAt : Type 0 where
@@ -13,15 +15,13 @@ pub record StepAt : Type 0 where
   pub session : ℕ
   pub step : ℕ
 
--- the steps of session k, from number j on
-abbrev pub steps_from : ℕ → ℕ → List NamedStep → List StepAt
-steps_from k j [] = []
-steps_from k j (s ∷ ss) = record { name = s.name; session = k; step = j } ∷ steps_from k (j + 1) ss
+-- the steps of a session, which stands behind its number; their own numbers are from 0
+abbrev pub steps_in : ℕ × SessionOf NameAt → List StepAt
+steps_in s = map (λ (x : ℕ × StepOf NameAt). record { name = x.1.name; session = s.0; step = x.0 }) (enumerate_from 0 s.1.steps)
 
--- the steps of the sessions from number k on, in file order
-abbrev pub sessions_from : ℕ → List NamedSession → List StepAt
-sessions_from k [] = []
-sessions_from k (s ∷ ss) = steps_from k 0 s.steps ++ sessions_from (k + 1) ss
+-- the steps of a file, in file order; its sessions have the numbers from 1
+abbrev pub steps_of : FileTree → List StepAt
+steps_of f = flat_map steps_in (enumerate_from 1 f.sessions)
 
 -- names are the same where they stand for the same bytes
 abbrev pub is_named : Written → StepAt → Bool
@@ -56,15 +56,13 @@ known_entry known e = do
 
 -- ---- the whole
 
-abbrev pub step_tree : NamedStep → StepTree
+abbrev pub step_tree : StepOf NameAt → StepTree
 step_tree s = record { name = s.name.name; part = s.part }
 
-abbrev pub session_tree : NamedSession → SessionTree
+abbrev pub session_tree : SessionOf NameAt → SessionTree
 session_tree s = record { name = s.name.name; setup = s.setup; steps = map step_tree s.steps; teardown = s.teardown }
 
 -- a file whose step names differ, and whose permutations name steps of it; else the first name that stands again, or the first that no step has
 abbrev pub resolved : FileTree → Result SpecTree SpecFault
-resolved f =
-    let known = sessions_from 1 f.sessions in
-    unwrap_or (option_map (λ at. Err (DuplicateStep at)) (first_repeat [] known)) (do
-      Ok (record { setups = f.setups; teardown = f.teardown; sessions = map session_tree f.sessions; perms = (← each (each (known_entry known)) f.perms) }))
+resolved f = option_map_or (λ at. Err (DuplicateStep at)) (first_repeat [] (steps_of f)) (do
+  Ok (record { setups = f.setups; teardown = f.teardown; sessions = map session_tree f.sessions; perms = (← each (each (known_entry (steps_of f))) f.perms) }))

@@ -6,12 +6,9 @@ use Rattle.spec_parser.specs.Trees.{StepTree, SessionTree, EntryTree, SpecTree}
 abbrev pub session_numbered : List SessionTree → ℕ → Option SessionTree
 session_numbered sessions number = if number == 0 then None else slice_get sessions (number - 1)
 
--- the session's step of this number, from 0
-abbrev pub step_in : ℕ → SessionTree → Option StepTree
-step_in step s = slice_get s.steps step
-
+-- a step of this number, from 0, of the session of that number
 abbrev pub step_numbered : SpecTree → ℕ → ℕ → Option StepTree
-step_numbered spec session step = option_and_then (step_in step) (session_numbered spec.sessions session)
+step_numbered spec session step = option_and_then (λ (s : SessionTree). slice_get s.steps step) (session_numbered spec.sessions session)
 
 abbrev pub step_of_entry : SpecTree → EntryTree → Option StepTree
 step_of_entry spec e = step_numbered spec e.session e.step

@@ -1,5 +1,6 @@
 -- Reading tokens from left to right, up to the first one that may not stand there: words of reading, and the parts of a file.
-use Rattle.std.specs.Prelude.{ℕ, zero, suc, Bool, true, false, List, [], ◌∷◌, length, ◌+◌, nat_lt, Option, Some, None, is_some, option_map, unwrap_or, Result, Ok, Err, if◌then◌else◌}
+use Rattle.std.specs.Prelude.{ℕ, zero, suc, Bool, true, false, List, [], ◌∷◌, length, ◌+◌, nat_lt, Option, Some, None, is_some, unwrap_or, Result, Ok, Err, if◌then◌else◌}
+use Rattle.std.specs.Option.{option_map_or}
 use denote.Enum.Bare.{sameb}
 use Rattle.iso_lexer.specs.declared.token.At.{At}
 use Rattle.iso_lexer.specs.declared.spec_token.Keyword.{Keyword}
@@ -13,8 +14,8 @@ use Rattle.spec_parser.specs.declared.fault.What.{What}
 use Rattle.spec_parser.specs.declared.fault.What.TheVariants as what
 use Rattle.spec_parser.specs.declared.fault.Stop.{Stop}
 use Rattle.spec_parser.specs.declared.fault.Stop.TheVariants.{Expected, NoticesLeftOut, OverLimit}
-use Rattle.spec_parser.specs.Trees.{PartTree, NameAt, NamedStep, NamedSession, MarkerTree, star, named, NamedEntry, FileTree}
-use Rattle.spec_parser.specs.Counts.{Counts, past_token}
+use Rattle.spec_parser.specs.Trees.{PartTree, NameAt, StepOf, SessionOf, MarkerTree, star, named, NamedEntry, FileTree}
+use Rattle.spec_parser.specs.Counts.{Counts, start, past_token}
 
 infixr 10 ◌>>=◌
 infixr 10 ◌>>◌
@@ -63,42 +64,32 @@ abbrev pub is_sign : Sign → Token → Bool
 is_sign g (sign h) = sameb signs h g
 is_sign g _ = false
 
--- the name that a token is, with the byte at which it stands
-abbrev pub name_in : ℕ → Token → Option NameAt
-name_in at (name n) = Some (record { name = n; at = at })
-name_in at _ = None
-
-abbrev pub is_name : Token → Bool
-is_name t = is_some (name_in 0 t)
+-- the name that a token is, where it is one; `at` is the byte at which it stands, and c what stands before it
+abbrev pub the_name : Counts → ℕ → Token → Option NameAt
+the_name c at (name n) = Some (record { name = n; at = at })
+the_name c at _ = None
 
 -- a block's text begins behind its brace and blanks, and its number is how many blocks stand before it
-abbrev pub block_in : ℕ → ℕ → Token → Option PartTree
-block_in at number (block blanks sql) = Some (record { sql = sql; at = at + 1 + blanks; block = number })
-block_in at number _ = None
+abbrev pub the_block : Counts → ℕ → Token → Option PartTree
+the_block c at (block blanks sql) = Some (record { sql = sql; at = at + 1 + blanks; block = c.blocks })
+the_block c at _ = None
+
+abbrev pub is_name : Token → Bool
+is_name t = is_some (the_name start 0 t)
 
 -- a token of this kind stands next
-abbrev pub first_is : (Token → Bool) → List (At Token) → Bool
-first_is p [] = false
-first_is p (t ∷ ts) = p t.tok
-
 abbrev pub starts : (Token → Bool) → Rest → Bool
-starts p r = first_is p r.1
-
--- what a token says where it is of the kind asked for; c is what stands before it
-abbrev pub the_name : Counts → At Token → Option NameAt
-the_name c t = name_in t.span.start t.tok
-
-abbrev pub the_block : Counts → At Token → Option PartTree
-the_block c t = block_in t.span.start c.blocks t.tok
+starts p (c, []) = false
+starts p (c, t ∷ ts) = p t.tok
 
 -- what the next token says, or w, which is expected there
-abbrev pub token_at : {A : Type 0} → (Counts → At Token → Option A) → What → Reader A
+abbrev pub token_at : {A : Type 0} → (Counts → ℕ → Token → Option A) → What → Reader A
 token_at says w (c, []) = (Err (Expected w), (c, []))
-token_at says w (c, t ∷ ts) = unwrap_or (option_map (λ x. (Ok x, (past_token t.tok c, ts))) (says c t)) (Err (Expected w), (c, t ∷ ts))
+token_at says w (c, t ∷ ts) = option_map_or (λ x. (Ok x, (past_token t.tok c, ts))) (says c t.span.start t.tok) (Err (Expected w), (c, t ∷ ts))
 
 -- a token of this kind, or what is expected there
 unfoldable pub next : (Token → Bool) → What → Reader (Unit {0})
-next p = token_at (λ c t. if p t.tok then Some tt else None)
+next p = token_at (λ c at t. if p t then Some tt else None)
 
 -- a word with which an item of the file begins
 abbrev pub word : Keyword → Reader (Unit {0})
@@ -148,11 +139,11 @@ unfoldable pub maybe_block : Keyword → Reader (Option PartTree)
 maybe_block k = maybe_at (starts (is_word k)) (block_after k)
 
 -- "step" name block; a file has at most 1,000
-unfoldable pub step_at : Reader NamedStep
+unfoldable pub step_at : Reader (StepOf NameAt)
 step_at r = (word Step >> name_within r.0.steps 1000 >>= λ n. block_at >>= λ b. gives (record { name = n; part = b })) r
 
 -- "session" name ["setup" block] step+ ["teardown" block]; a file has at most 64
-unfoldable pub session_at : Reader NamedSession
+unfoldable pub session_at : Reader (SessionOf NameAt)
 session_at r = (word Session >> do
   n ← name_within r.0.sessions 64
   setup ← maybe_block Setup

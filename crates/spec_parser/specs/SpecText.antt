@@ -4,7 +4,6 @@ use Rattle.iso_lexer.specs.declared.token.At.{At}
 use Rattle.iso_lexer.specs.declared.fault.Fault.{Fault}
 use Rattle.iso_lexer.specs.SpecTokens.{Token}
 use Rattle.iso_lexer.specs.SpecText.{Lexes}
-use Rattle.spec_parser.specs.declared.fault.Halt.TheVariants.{At as AtPlace}
 use Rattle.spec_parser.specs.declared.fault.SpecFault.{SpecFault}
 use Rattle.spec_parser.specs.declared.fault.SpecFault.TheVariants as faults
 use Rattle.spec_parser.specs.declared.tree.Spec.{Spec}
@@ -17,7 +16,7 @@ use Rattle.spec_parser.specs.Names.{resolved}
 -- what was read, in a file of so many bytes, with its names looked up
 abbrev pub finished : ℕ → Read FileTree → Result SpecTree SpecFault
 finished end (Ok file, rest) = resolved file
-finished end (Err stop, rest) = Err (stopped (AtPlace stop (place end rest.1)))
+finished end (Err stop, rest) = Err (stopped stop (place end rest.1))
 
 -- A text says this, or has this fault: the first of its tokens, else the first that reading them meets, else the first of
 -- its step names, else the first of its permutations.

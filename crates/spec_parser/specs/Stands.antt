@@ -4,7 +4,7 @@ use Rattle.std.specs.List.{range_with_len}
 use Rattle.iso_lexer.specs.SpecSpelling.{NameSpells}
 use Rattle.spec_parser.specs.declared.tree.Marker.{Marker}
 use Rattle.spec_parser.specs.declared.tree.Marker.TheVariants as markers
-use Rattle.spec_parser.specs.Trees.{PartTree, StepTree, SessionTree, EntryTree, SpecTree, NameAt, NamedStep, NamedSession, FileTree}
+use Rattle.spec_parser.specs.Trees.{PartTree, StepTree, SessionTree, EntryTree, SpecTree, NameAt, StepOf, SessionOf, FileTree}
 use Rattle.spec_parser.specs.IsSpec.{IsSpec}
 
 -- ---- numbers
@@ -38,8 +38,8 @@ session_parts s = option_to_list s.setup ++ (map (λ (x : StepTree). x.part) s.s
 abbrev pub parts_of : SpecTree → List PartTree
 parts_of s = s.setups ++ (option_to_list s.teardown ++ flat_map session_parts s.sessions)
 
-abbrev pub session_names : NamedSession → List NameAt
-session_names s = s.name ∷ map (λ (x : NamedStep). x.name) s.steps
+abbrev pub session_names : SessionOf NameAt → List NameAt
+session_names s = s.name ∷ map (λ (x : StepOf NameAt). x.name) s.steps
 
 -- the names of all sessions and steps with their places, in file order
 abbrev pub names_of : FileTree → List NameAt

@@ -27,15 +27,22 @@ part_view p = record { sql = p.sql.now; at = p.at; block = p.block }
 
 -- ---- a spec
 
-pub record StepTree : Type 0 where
-  pub name : Written
+-- a step, and a session; N is how a name is told: as it is written, or with its place
+pub record StepOf (N : Type 0) : Type 0 where
+  pub name : N
   pub part : PartTree
 
-pub record SessionTree : Type 0 where
-  pub name : Written
+pub record SessionOf (N : Type 0) : Type 0 where
+  pub name : N
   pub setup : Option PartTree
-  pub steps : List StepTree
+  pub steps : List (StepOf N)
   pub teardown : Option PartTree
+
+abbrev pub StepTree : Type 0
+StepTree = StepOf Written
+
+abbrev pub SessionTree : Type 0
+SessionTree = SessionOf Written
 
 pub record EntryTree : Type 0 where
   pub session : ℕ
@@ -70,16 +77,6 @@ pub record NameAt : Type 0 where
   pub name : Written
   pub at : ℕ
 
-pub record NamedStep : Type 0 where
-  pub name : NameAt
-  pub part : PartTree
-
-pub record NamedSession : Type 0 where
-  pub name : NameAt
-  pub setup : Option PartTree
-  pub steps : List NamedStep
-  pub teardown : Option PartTree
-
 pub data MarkerTree : Type 0 where
   star : MarkerTree
   named : NameAt → MarkerTree
@@ -91,16 +88,16 @@ pub record NamedEntry : Type 0 where
 pub record FileTree : Type 0 where
   pub setups : List PartTree
   pub teardown : Option PartTree
-  pub sessions : List NamedSession
+  pub sessions : List (SessionOf NameAt)
   pub perms : List (List NamedEntry)
 
 abbrev pub placed_view : PlacedName → NameAt
 placed_view n = record { name = name_view n.name; at = n.at }
 
-abbrev pub draft_view : StepDraft → NamedStep
+abbrev pub draft_view : StepDraft → StepOf NameAt
 draft_view s = record { name = placed_view s.name; part = part_view s.part }
 
-abbrev pub session_draft_view : SessionDraft → NamedSession
+abbrev pub session_draft_view : SessionDraft → SessionOf NameAt
 session_draft_view s = record { name = placed_view s.name; setup = option_map part_view s.setup; steps = map draft_view s.steps.items; teardown = option_map part_view s.teardown }
 
 abbrev pub marker_view : MarkerName → MarkerTree

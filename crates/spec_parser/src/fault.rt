@@ -1,7 +1,7 @@
 //! Why a file is no spec.
 
 ghost use Rattle.std.specs.Prelude.{◌≡◌, Some};
-ghost use Rattle.spec_parser.specs.Faults.{lexer_fault, stopped};
+ghost use Rattle.spec_parser.specs.Faults.{lexer_fault, halted};
 ghost use Rattle.spec_parser.specs.FaultText.{what_text, spec_fault_text};
 ghost use Rattle.spec_parser.specs.declared.fault.Halt.TheVariants.{Memory};
 ghost use Rattle.spec_parser.specs.declared.fault.SpecFault.TheVariants.{Memory as NoMemory};
@@ -115,7 +115,7 @@ impl From<LexFault> for SpecFault {
 }
 
 impl From<Halt> for SpecFault {
-    ghost from_gives = { λ h e. e ≡ stopped h };
+    ghost from_gives = { λ h e. e ≡ halted h };
 
     fn from(e: Halt) -> SpecFault {
         match e {

@@ -12,9 +12,8 @@ use Rattle.sql_trees.specs.declared.expr.Expr.TheVariants.{In', Between', Is', B
 
 -- what stands between the quotes of a string; a doubled quote is one
 unfoldable pub undoubled : List ℕ → List ℕ
-undoubled [] = []
-undoubled (b ∷ []) = b ∷ []
 undoubled (b ∷ c ∷ bs) = if b == 39 && c == 39 then b ∷ undoubled bs else b ∷ undoubled (c ∷ bs)
+undoubled bs = bs
 
 mutual
   -- an expression

@@ -1,13 +1,22 @@
 -- What contracts see of the steps by name, and of what was resolved.
-use Rattle.std.specs.Prelude.{◌≡◌, ◌<◌, List, length, find, IsSome, Result, Ok, Err}
+use Rattle.std.specs.Prelude.{◌≡◌, ◌<◌, ℕ, List, length, find, map, flat_map, IsSome, Result, Ok, Err}
+use Rattle.std.specs.List.{enumerate_from}
 use Rattle.spec_parser.specs.declared.known.KnownStep.{KnownStep}
 use Rattle.spec_parser.specs.declared.fault.SpecFault.{SpecFault}
 use Rattle.spec_parser.specs.declared.fault.SpecFault.TheVariants as faults
-use Rattle.spec_parser.specs.Trees.{EntryTree, placed_view, NamedEntry}
-use Rattle.spec_parser.specs.Names.{StepAt, is_named, each, known_entry}
+use Rattle.spec_parser.specs.Trees.{EntryTree, placed_view, NameAt, StepOf, SessionOf, NamedEntry}
+use Rattle.spec_parser.specs.Names.{StepAt, steps_in, is_named, each, known_entry}
 
 abbrev pub known_view : KnownStep → StepAt
 known_view s = record { name = placed_view s.name; session = s.session; step = s.step }
+
+-- the steps of session k, from number j on
+abbrev pub steps_from : ℕ → ℕ → List (StepOf NameAt) → List StepAt
+steps_from k j ss = map (λ (x : ℕ × StepOf NameAt). record { name = x.1.name; session = k; step = x.0 }) (enumerate_from j ss)
+
+-- the steps of the sessions from number k on, in file order
+abbrev pub sessions_from : ℕ → List (SessionOf NameAt) → List StepAt
+sessions_from k ss = flat_map steps_in (enumerate_from k ss)
 
 -- permutations, entry by entry
 abbrev pub known_perms : List StepAt → List (List NamedEntry) → Result (List (List EntryTree)) SpecFault

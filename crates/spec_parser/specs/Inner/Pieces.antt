@@ -6,7 +6,7 @@ use Rattle.iso_lexer.specs.declared.spec_token.Sign.{Sign}
 use Rattle.iso_lexer.specs.declared.spec_token.Sign.TheVariants.{Open, Comma}
 use Rattle.spec_parser.specs.declared.fault.What.{What}
 use Rattle.spec_parser.specs.declared.fault.What.TheVariants as what
-use Rattle.spec_parser.specs.Trees.{PartTree, NamedStep, NamedSession, MarkerTree, NamedEntry}
+use Rattle.spec_parser.specs.Trees.{PartTree, NameAt, StepOf, SessionOf, MarkerTree, NamedEntry}
 use Rattle.spec_parser.specs.Reading.{Rest, Reader, ◌>>◌, is_word, is_sign, is_name, starts, next, all_at, some_at, maybe_at}
 use Rattle.spec_parser.specs.Reading.{block_after, maybe_block, step_at, session_at, marker_at, markers_at, entry_at, perm_at}
 
@@ -38,10 +38,10 @@ teardown_at = maybe_block Teardown
 abbrev pub setups_at : Reader (List PartTree)
 setups_at = all_at (starts_word Setup) (λ k. block_after Setup)
 
-abbrev pub steps_at : Reader (List NamedStep)
+abbrev pub steps_at : Reader (List (StepOf NameAt))
 steps_at = some_at what.Step (starts_word Step) (λ k. step_at)
 
-abbrev pub sessions_at : Reader (List NamedSession)
+abbrev pub sessions_at : Reader (List (SessionOf NameAt))
 sessions_at = some_at what.Session (starts_word Session) (λ k. session_at)
 
 abbrev pub next_marker_at : Reader MarkerTree

@@ -1,7 +1,8 @@
 use Rattle.std.proofs.Common.{◌≡◌, length}
 use Rattle.std.specs.Prelude.{bytes_eq}
 use Rattle.iso_lexer.specs.Names.{name_view}
-use Rattle.iso_lexer.specs.Names.{decoded, decoded_in}
+use Rattle.iso_lexer.specs.Names.{decoded}
+use Rattle.iso_lexer.specs.Inner.NameParts.{decoded_in}
 use Rattle.iso_lexer.proofs.same.same_name.Given as goal
 
 abbrev pub invariant-loop-first : goal.invariant-loop-first

@@ -1,7 +1,6 @@
 use Rattle.std.proofs.Common.{◌≡◌, ◌++◌, drop, map}
 use Rattle.spec_parser.specs.Trees.{draft_view}
-use Rattle.spec_parser.specs.Names.{steps_from}
-use Rattle.spec_parser.specs.Inner.Known.{known_view}
+use Rattle.spec_parser.specs.Inner.Known.{known_view, steps_from}
 use Rattle.spec_parser.proofs.known.add_steps.Given as goal
 
 abbrev pub invariant-loop-step : goal.invariant-loop-step

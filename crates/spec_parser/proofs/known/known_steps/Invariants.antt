@@ -1,7 +1,6 @@
 use Rattle.std.proofs.Common.{◌≡◌, ◌++◌, ◌+◌, drop, map}
 use Rattle.spec_parser.specs.Trees.{session_draft_view}
-use Rattle.spec_parser.specs.Names.{sessions_from}
-use Rattle.spec_parser.specs.Inner.Known.{known_view}
+use Rattle.spec_parser.specs.Inner.Known.{known_view, sessions_from}
 use Rattle.spec_parser.proofs.known.known_steps.Given as goal
 
 abbrev pub invariant-loop-session : goal.invariant-loop-session
