@@ -5,7 +5,7 @@ use Rattle.std.specs.List.{prefix_len, position_or_len}
 use Rattle.std.specs.Char.{is_ascii_digit}
 use Rattle.std.specs.Option.{option_map_or}
 use Rattle.std.proofs.lemmas.Bool.{le-ltb, eqb-true}
-use Rattle.iso_lexer.specs.Bytes.{passes, is_blank, is_name_start, is_name_byte, row_of}
+use Rattle.iso_lexer.specs.Bytes.{passes, is_blank, is_name_start, is_name_byte, spelled}
 use Rattle.iso_lexer.specs.SpecTokens.{Token, name, sign}
 use Rattle.iso_lexer.specs.Names.{quoted}
 use Rattle.iso_lexer.specs.Lexing.{Front, gap, token, fault, Reads}
@@ -61,9 +61,9 @@ front_shorter (b ∷ bs) lt =
     (λ h. after_shorter (passes Comment) b bs (comment_byte b h))
     (λ h2. either P _ _ _
     (λ h. after_shorter is_ascii_digit b bs h)
-    (λ h3. either P (b == 34) (quoted_front (λ s. name (quoted s)) UnterminatedName (quoted_from 34 true false bs) bs) (cond (b == 123) (block_front bs) (sign_front (row_of signs (b ∷ [])) bs))
+    (λ h3. either P (b == 34) (quoted_front (λ s. name (quoted s)) UnterminatedName (quoted_from 34 true false bs) bs) (cond (b == 123) (block_front bs) (sign_front (spelled signs (b ∷ [])) bs))
     (λ h. name_shorter bs)
-    (λ h4. either P (b == 123) (block_front bs) (sign_front (row_of signs (b ∷ [])) bs) (λ h. block_shorter bs) (λ h5. sign_shorter (row_of signs (b ∷ [])) bs))))))
+    (λ h4. either P (b == 123) (block_front bs) (sign_front (spelled signs (b ∷ [])) bs) (λ h. block_shorter bs) (λ h5. sign_shorter (spelled signs (b ∷ [])) bs))))))
 
 pub spec_rules : Rules front
 unfolding front

@@ -7,7 +7,7 @@ use Rattle.std.specs.Option.{option_map_or}
 use Rattle.std.proofs.Math.Seq.{take-suc}
 use Rattle.std.proofs.lemmas.Bool.{eqb-true, eqb-false}
 use Rattle.std.proofs.lemmas.List.Sums.{prefix_len-le-length, passes_at_first}
-use Rattle.iso_lexer.specs.Bytes.{passes, is_blank, is_name_start, run_of, after_run, row_of}
+use Rattle.iso_lexer.specs.Bytes.{passes, is_blank, is_name_start, run_of, after_run, spelled}
 use Rattle.iso_lexer.specs.declared.fault.Fault.{Fault}
 use Rattle.iso_lexer.specs.declared.fault.FaultKind.TheVariants.{UnterminatedBlock, UnterminatedName, UnexpectedByte}
 use Rattle.iso_lexer.specs.declared.token.At.{At}
@@ -26,12 +26,12 @@ use Rattle.iso_lexer.proofs.QuoteEnds.{quoted_cut}
 abbrev Spelling : List ℕ → Front Token → Type 0
 Spelling text f = CutBy Spells text f
 
-named_spells : (o : Option Keyword) (w : List ℕ) → row_of keywords w ≡ o → Spells (option_map_or keyword o (name (plain w))) w
+named_spells : (o : Option Keyword) (w : List ℕ) → spelled keywords w ≡ o → Spells (option_map_or keyword o (name (plain w))) w
 named_spells (Some k) w e = e
 named_spells None w e = refl
 
 word_cut : (text : List ℕ) → Spelling text (word_front text)
-word_cut text = record { len = prefix_len (passes Word) text; within = prefix_len-le-length (passes Word) text; after = refl; spells = named_spells (row_of keywords (run_of Word text)) (run_of Word text) refl }
+word_cut text = record { len = prefix_len (passes Word) text; within = prefix_len-le-length (passes Word) text; after = refl; spells = named_spells (spelled keywords (run_of Word text)) (run_of Word text) refl }
 
 name_cut : (b : ℕ) (bs : List ℕ) → b ≡ 34 → Spelling (b ∷ bs) (quoted_front (λ s. name (quoted s)) UnterminatedName (quoted_from 34 true false bs) bs)
 name_cut b bs is = quoted_cut Spells (λ s. name (quoted s)) 34 true UnterminatedName b bs (quoted_from 34 true false bs) (λ w. refl) is refl
@@ -49,7 +49,7 @@ block_cut b bs is =
 abbrev sign_front : Option Sign → List ℕ → Front Token
 sign_front o bs = option_map_or (λ s. token (sign s) bs) o (fault UnexpectedByte 0)
 
-sign_cut : (b : ℕ) (bs : List ℕ) (o : Option Sign) → row_of signs (b ∷ []) ≡ o → Spelling (b ∷ bs) (sign_front o bs)
+sign_cut : (b : ℕ) (bs : List ℕ) (o : Option Sign) → spelled signs (b ∷ []) ≡ o → Spelling (b ∷ bs) (sign_front o bs)
 sign_cut b bs None e = tt
 sign_cut b bs (Some s) e = record { len = 1; within = omega arith; after = refl; spells = e }
 
@@ -65,9 +65,9 @@ front_cut (b ∷ bs) =
     (λ h0. either P (is_blank b || b == 10) (gap bs) _ (λ h. one_off b bs)
     (λ h1. either P (b == 35) (gap (after_run Comment (b ∷ bs))) _ (λ h. (prefix_len (passes Comment) (b ∷ bs), prefix_len-le-length (passes Comment) (b ∷ bs), refl))
     (λ h2. either P (is_ascii_digit b) (token (digits (run_of Digits (b ∷ bs))) (after_run Digits (b ∷ bs))) _ (λ h. record { len = prefix_len (passes Digits) (b ∷ bs); within = prefix_len-le-length (passes Digits) (b ∷ bs); after = refl; spells = refl })
-    (λ h3. either P (b == 34) (quoted_front (λ s. name (quoted s)) UnterminatedName (quoted_from 34 true false bs) bs) (cond (b == 123) (block_front bs) (sign_front (row_of signs (b ∷ [])) bs))
+    (λ h3. either P (b == 34) (quoted_front (λ s. name (quoted s)) UnterminatedName (quoted_from 34 true false bs) bs) (cond (b == 123) (block_front bs) (sign_front (spelled signs (b ∷ [])) bs))
     (λ h. name_cut b bs (eqb-true b 34 h))
-    (λ h4. either P (b == 123) (block_front bs) (sign_front (row_of signs (b ∷ [])) bs) (λ h. block_cut b bs (eqb-true b 123 h)) (λ h5. sign_cut b bs (row_of signs (b ∷ [])) refl))))))
+    (λ h4. either P (b == 123) (block_front bs) (sign_front (spelled signs (b ∷ [])) bs) (λ h. block_cut b bs (eqb-true b 123 h)) (λ h5. sign_cut b bs (spelled signs (b ∷ [])) refl))))))
 
 of_two : (b : Bool) (text : List ℕ) (f : Fault) (ts : List (At Token)) → MatchBool b (◌≡◌ {A = Result (List (At Token)) Fault} (Ok ts) (Err f)) (Reads front (length text) text (Ok ts)) → AllByRecursion (LiesAt text) ts
 of_two true text f ts h = absurd cc

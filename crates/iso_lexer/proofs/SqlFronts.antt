@@ -13,7 +13,7 @@ use Rattle.std.proofs.lemmas.List.Sums.{prefix_len_passes}
 use Rattle.std.proofs.lemmas.List.Folds.{length-prefix_len}
 use Rattle.std.proofs.lemmas.Str.{IsCharBoundary-after_ascii}
 use Rattle.std.proofs.lemmas.Str.Parse.{IsNumeralModel, numerals_by_value, tells_by_index}
-use Rattle.iso_lexer.specs.Bytes.{is_name_start, is_name_byte, run_of, after_run, row_of}
+use Rattle.iso_lexer.specs.Bytes.{is_name_start, is_name_byte, run_of, after_run, spelled}
 use Rattle.iso_lexer.specs.Comments.{EndsAt}
 use Rattle.iso_lexer.specs.SqlTokens.{word, number}
 use Rattle.iso_lexer.specs.Lexing.{token, fault}
@@ -70,7 +70,7 @@ second_is b c (x ∷ y ∷ []) r h =
     (omega (arith, ltb-true 0 y both.0), omega (arith, ltb-true y 128 both.1))
 second_is b c (x ∷ y ∷ z ∷ row) r h = absurd (false≢true r)
 
-second_in : (b c : ℕ) (rows : List (List ℕ × SqlSign)) (g : SqlSign) → list_all (λ (row : List ℕ × SqlSign). is_row row.0) rows ≡ true → row_of rows (b ∷ c ∷ []) ≡ Some g → Small c
+second_in : (b c : ℕ) (rows : List (List ℕ × SqlSign)) (g : SqlSign) → list_all (λ (row : List ℕ × SqlSign). is_row row.0) rows ≡ true → spelled rows (b ∷ c ∷ []) ≡ Some g → Small c
 second_in b c [] g r h = absurd cc
 second_in b c (row ∷ rows) g r h =
     let parts = and_parts (is_row row.0) (list_all (λ (row : List ℕ × SqlSign). is_row row.0) rows) r in
@@ -79,7 +79,7 @@ second_in b c (row ∷ rows) g r h =
       | inr other ↦ second_in b c rows g parts.1 (rw other at h)
     ]
 
-pub second_of_two : (b c : ℕ) (g : SqlSign) → row_of signs (b ∷ c ∷ []) ≡ Some g → Small c
+pub second_of_two : (b c : ℕ) (g : SqlSign) → spelled signs (b ∷ c ∷ []) ≡ Some g → Small c
 second_of_two b c g h = second_in b c signs g refl h
 
 -- ---- numbers

@@ -7,7 +7,7 @@ use Rattle.std.specs.Option.{option_map_or}
 use Rattle.std.specs.Str.Parse.{digits_value}
 use Rattle.std.proofs.lemmas.Bool.{eqb-true, and_parts}
 use Rattle.std.proofs.lemmas.List.Folds.{length-prefix_len}
-use Rattle.iso_lexer.specs.Bytes.{passes, is_blank, is_name_start, is_name_byte, after_run, run_of, row_of}
+use Rattle.iso_lexer.specs.Bytes.{passes, is_blank, is_name_start, is_name_byte, after_run, run_of, spelled}
 use Rattle.iso_lexer.specs.SqlTokens.{SqlToken, word, quoted_word, string, number, sql_sign}
 use Rattle.iso_lexer.specs.Lexing.{Front, gap, token, fault}
 use Rattle.iso_lexer.specs.Quotes.{quoted_from, quoted_front}
@@ -66,7 +66,7 @@ pair_shorter b c bs =
     let P : Front SqlToken → Type 0 = Shorter (suc (length bs)) in
     either P (b == 45 && c == 45) (gap (after_run Comment (b ∷ bs))) _ (λ h. after_shorter (passes Comment) b bs (dash b c h))
     (λ h0. either P (b == 47 && c == 42) (comment_front (after_comment 0 (drop 1 bs))) _ (λ h. comment_shorter bs _ refl)
-    (λ h1. sign_shorter (row_of signs (b ∷ c ∷ [])) (row_of signs (b ∷ [])) bs))
+    (λ h1. sign_shorter (spelled signs (b ∷ c ∷ [])) (spelled signs (b ∷ [])) bs))
 
 front_shorter : (text : List ℕ) → 0 < length text → Shorter (length text) (sql_front text)
 unfolding sql_front

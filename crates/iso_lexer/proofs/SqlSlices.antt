@@ -7,7 +7,7 @@ use Rattle.std.specs.Option.{option_map_or}
 use Rattle.std.specs.Str.Parse.{digits_value}
 use Rattle.std.proofs.lemmas.Bool.{eqb-true}
 use Rattle.std.proofs.lemmas.List.Sums.{prefix_len-le-length}
-use Rattle.iso_lexer.specs.Bytes.{passes, is_blank, is_name_start, is_name_byte, run_of, after_run, row_of}
+use Rattle.iso_lexer.specs.Bytes.{passes, is_blank, is_name_start, is_name_byte, run_of, after_run, spelled}
 use Rattle.iso_lexer.specs.declared.fault.FaultKind.TheVariants.{NumberTooLarge, UnexpectedByte, UnterminatedName, UnterminatedString, UnterminatedComment}
 use Rattle.iso_lexer.specs.declared.sql_token.SqlSign.{SqlSign}
 use Rattle.iso_lexer.specs.declared.token.At.{At}
@@ -55,7 +55,7 @@ comment_cut b (c ∷ cs) (Some rest) lt e =
 abbrev by_signs : Option SqlSign → Option SqlSign → List ℕ → Front SqlToken
 by_signs two one bs = option_map_or (λ s. token (sql_sign s) (drop 1 bs)) two (option_map_or (λ s. token (sql_sign s) bs) one (fault UnexpectedByte 0))
 
-sign_cut : (b : ℕ) (bs : List ℕ) (two one : Option SqlSign) → row_of signs (b ∷ slice_index bs 0 ∷ []) ≡ two → row_of signs (b ∷ []) ≡ one → Spelling (b ∷ bs) (by_signs two one bs)
+sign_cut : (b : ℕ) (bs : List ℕ) (two one : Option SqlSign) → spelled signs (b ∷ slice_index bs 0 ∷ []) ≡ two → spelled signs (b ∷ []) ≡ one → Spelling (b ∷ bs) (by_signs two one bs)
 sign_cut b [] (Some s) one e f = absurd (omega (arith, (second_of_two b 0 s e).0))
 sign_cut b (c ∷ cs) (Some s) one e f = record { len = 2; within = omega arith; after = refl; spells = e }
 sign_cut b bs None (Some s) e f = record { len = 1; within = omega arith; after = refl; spells = f }
@@ -70,7 +70,7 @@ pair_cut b bs =
     let c = slice_index bs 0 in
     either P (b == 45 && c == 45) (gap (after_run Comment (b ∷ bs))) _ (λ h. (prefix_len (passes Comment) (b ∷ bs), prefix_len-le-length (passes Comment) (b ∷ bs), refl))
     (λ h0. either P (b == 47 && c == 42) (comment_front (after_comment 0 (drop 1 bs))) _ (λ h. comment_cut b bs _ (opening b c h) refl)
-    (λ h1. sign_cut b bs (row_of signs (b ∷ c ∷ [])) (row_of signs (b ∷ [])) refl refl))
+    (λ h1. sign_cut b bs (spelled signs (b ∷ c ∷ [])) (spelled signs (b ∷ [])) refl refl))
 
 one_off : (b : ℕ) (bs : List ℕ) → Spelling (b ∷ bs) (gap bs)
 one_off b bs = (1, omega arith, refl)

@@ -34,6 +34,10 @@ after_run run text = drop (prefix_len (passes run) text) text
 abbrev pub trimmed : List ℕ → List ℕ
 trimmed text = let rest = after_run Blanks text in take (length rest - suffix_len is_blank rest) rest
 
--- what stands beside these bytes in the first row that has them
-abbrev pub row_of : {A : Type 0} → List (List ℕ × A) → List ℕ → Option A
-row_of {A} rows bytes = option_map (λ (row : List ℕ × A). row.1) (find (λ (row : List ℕ × A). bytes_eq bytes row.0) rows)
+-- what stands beside the first key that passes for this thing
+abbrev pub row_of : {K T A : Type 0} → (K → T → Bool) → List (K × A) → T → Option A
+row_of passes rows thing = option_map (λ row. row.1) (find (λ row. passes row.0 thing) rows)
+
+-- what stands beside these bytes
+abbrev pub spelled : {A : Type 0} → List (List ℕ × A) → List ℕ → Option A
+spelled rows text = row_of (λ key bytes. bytes_eq bytes key) rows text

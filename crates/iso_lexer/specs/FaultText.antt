@@ -1,7 +1,8 @@
 -- What is printed of a fault.
 use Rattle.std.specs.Prelude.{ℕ, List, ◌++◌, codes, decimal}
 use Rattle.iso_lexer.specs.declared.fault.FaultKind.{FaultKind}
-use Rattle.iso_lexer.specs.declared.fault.FaultKind.TheVariants.{UnterminatedBlock, UnterminatedName, NewlineInName, UnexpectedByte, FileTooLong, UnterminatedString, UnterminatedComment, NumberTooLarge}
+use Rattle.iso_lexer.specs.declared.fault.FaultKind.TheVariants.{UnterminatedBlock, UnterminatedName, NewlineInName, UnexpectedByte, FileTooLong}
+use Rattle.iso_lexer.specs.declared.fault.FaultKind.TheVariants.{UnterminatedString, UnterminatedComment, NumberTooLarge}
 use Rattle.iso_lexer.specs.declared.fault.Fault.{Fault}
 
 abbrev pub kind_text : FaultKind → List ℕ

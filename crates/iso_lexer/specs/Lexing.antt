@@ -23,8 +23,10 @@ in_front ts (Err f) = Err f
 pub data Reads {T : Type 0} (front : List ℕ → Front T) (total : ℕ) : List ℕ → Result (List (At T)) Fault → Type 0 where
   ends : Reads front total [] (Ok [])
   passes : {text : List ℕ} (rest : List ℕ) {answer : Result (List (At T)) Fault} → 0 < length text → front text ≡ gap rest → Reads front total rest answer → Reads front total text answer
-  takes : {text : List ℕ} (t : T) (rest : List ℕ) {more answer : Result (List (At T)) Fault} → front text ≡ token t rest → Reads front total rest more → answer ≡ in_front (between total text t rest ∷ []) more → Reads front total text answer
-  fails : {text : List ℕ} (kind : FaultKind) (n : ℕ) {answer : Result (List (At T)) Fault} → front text ≡ fault kind n → answer ≡ Err (record { kind = kind; at = total - length text + n }) → Reads front total text answer
+  takes : {text : List ℕ} (t : T) (rest : List ℕ) {more answer : Result (List (At T)) Fault} → front text ≡ token t rest → Reads front total rest more
+      → answer ≡ in_front (between total text t rest ∷ []) more → Reads front total text answer
+  fails : {text : List ℕ} (kind : FaultKind) (n : ℕ) {answer : Result (List (At T)) Fault} → front text ≡ fault kind n
+      → answer ≡ Err (record { kind = kind; at = total - length text + n }) → Reads front total text answer
 
 -- A token stands in the text, and before it nothing but what doesn't count.
 pub data HasToken {T : Type 0} (front : List ℕ → Front T) : List ℕ → Type 0 where

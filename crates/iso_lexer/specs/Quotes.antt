@@ -19,7 +19,8 @@ pub data GoesOn (mark : ℕ) (one_line : Bool) : List ℕ → Quoted → Type 0 
   doubled : {text rest : List ℕ} {end more : Quoted} → text ≡ mark ∷ mark ∷ rest → GoesOn mark one_line rest more → end ≡ longer 2 more → GoesOn mark one_line text end
   closes : {text rest : List ℕ} {end : Quoted} → text ≡ mark ∷ rest → ((more : List ℕ) → rest ≢ mark ∷ more) → end ≡ Closed 1 → GoesOn mark one_line text end
   breaks : {text rest : List ℕ} {end : Quoted} → text ≡ 10 ∷ rest → mark ≢ 10 → one_line ≡ true → end ≡ Broken 0 → GoesOn mark one_line text end
-  goes_on : {text rest : List ℕ} {b : ℕ} {end more : Quoted} → text ≡ b ∷ rest → b ≢ mark → (one_line ≡ true → b ≢ 10) → GoesOn mark one_line rest more → end ≡ longer 1 more → GoesOn mark one_line text end
+  goes_on : {text rest : List ℕ} {b : ℕ} {end more : Quoted} → text ≡ b ∷ rest → b ≢ mark → (one_line ≡ true → b ≢ 10) → GoesOn mark one_line rest more → end ≡ longer 1 more
+      → GoesOn mark one_line text end
 
 -- The same, computed. `alone` says that the byte before is a quote with no partner.
 unfoldable pub quoted_from : ℕ → Bool → Bool → List ℕ → Quoted

@@ -15,7 +15,7 @@ use Rattle.iso_lexer.specs.declared.spec_token.Sign.TheVariants.{Open, Close, Co
 use Rattle.iso_lexer.specs.declared.spec_token.SpecTok.{SpecTok}
 use Rattle.iso_lexer.specs.declared.token.At.{At}
 use Rattle.iso_lexer.specs.declared.runs.Run.TheVariants.{Blanks, Comment, Word, Digits}
-use Rattle.iso_lexer.specs.Bytes.{is_blank, is_name_start, run_of, after_run, trimmed, row_of}
+use Rattle.iso_lexer.specs.Bytes.{is_blank, is_name_start, run_of, after_run, trimmed, spelled}
 use Rattle.iso_lexer.specs.Names.{plain, quoted}
 use Rattle.iso_lexer.specs.SpecTokens.{Token, keyword, name, digits, sign, block, at_views}
 use Rattle.iso_lexer.specs.Lexing.{Front, gap, token, fault, Reads, HasToken}
@@ -42,7 +42,7 @@ block_front bs =
 
 -- a keyword, or else a plain name
 abbrev pub word_front : List ℕ → Front Token
-word_front text = let w = run_of Word text in token (option_map_or keyword (row_of keywords w) (name (plain w))) (after_run Word text)
+word_front text = let w = run_of Word text in token (option_map_or keyword (spelled keywords w) (name (plain w))) (after_run Word text)
 
 -- a rule for each first byte b of ASCII that begins no word; rest is what follows it. A quoted name stays on its line.
 abbrev pub ascii_front : ℕ → List ℕ → List ℕ → Front Token
@@ -52,7 +52,7 @@ ascii_front b text rest =
     else (if is_ascii_digit b then token (digits (run_of Digits text)) (after_run Digits text)
     else (if b == 34 then quoted_front (λ s. name (quoted s)) UnterminatedName (quoted_from 34 true false rest) rest
     else (if b == 123 then block_front rest
-    else option_map_or (λ s. token (sign s) rest) (row_of signs (b ∷ [])) (fault UnexpectedByte 0)))))
+    else option_map_or (λ s. token (sign s) rest) (spelled signs (b ∷ [])) (fault UnexpectedByte 0)))))
 
 unfoldable pub front : List ℕ → Front Token
 front [] = gap []

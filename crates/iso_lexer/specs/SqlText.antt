@@ -14,7 +14,7 @@ use Rattle.iso_lexer.specs.declared.sql_token.SqlSign.TheVariants.{NotEqual, AtM
 use Rattle.iso_lexer.specs.declared.sql_token.SqlTok.{SqlTok}
 use Rattle.iso_lexer.specs.declared.token.At.{At}
 use Rattle.iso_lexer.specs.declared.runs.Run.TheVariants.{Comment, Word, Digits}
-use Rattle.iso_lexer.specs.Bytes.{is_blank, is_name_start, is_name_byte, run_of, after_run, row_of}
+use Rattle.iso_lexer.specs.Bytes.{is_blank, is_name_start, is_name_byte, run_of, after_run, spelled}
 use Rattle.iso_lexer.specs.SqlTokens.{SqlToken, word, quoted_word, string, number, sql_sign, sql_at_views}
 use Rattle.iso_lexer.specs.Lexing.{Front, gap, token, fault, Reads, HasToken}
 use Rattle.iso_lexer.specs.Quotes.{quoted_from, quoted_front}
@@ -38,8 +38,8 @@ number_front text =
 -- a sign of two bytes, else one of one byte; b stands first, c behind it
 abbrev pub sign_front : ℕ → ℕ → List ℕ → Front SqlToken
 sign_front b c rest =
-    let one = option_map_or (λ s. token (sql_sign s) rest) (row_of signs (b ∷ [])) (fault UnexpectedByte 0) in
-    option_map_or (λ s. token (sql_sign s) (drop 1 rest)) (row_of signs (b ∷ c ∷ [])) one
+    let one = option_map_or (λ s. token (sql_sign s) rest) (spelled signs (b ∷ [])) (fault UnexpectedByte 0) in
+    option_map_or (λ s. token (sql_sign s) (drop 1 rest)) (spelled signs (b ∷ c ∷ [])) one
 
 -- two dashes begin a comment up to the line's end, a slash and a star one that nests
 abbrev pub pair_front : ℕ → ℕ → List ℕ → List ℕ → Front SqlToken

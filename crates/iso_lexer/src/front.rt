@@ -2,7 +2,7 @@
 
 ghost use Rattle.std.specs.Prelude.{◌≡◌, ◌<◌, true, false, [], ◌∷◌, length};
 ghost use Rattle.std.specs.Option.{option_map_or};
-ghost use Rattle.iso_lexer.specs.Bytes.{is_blank, is_name_start, row_of};
+ghost use Rattle.iso_lexer.specs.Bytes.{is_blank, is_name_start, spelled};
 ghost use Rattle.iso_lexer.specs.Names.{quoted};
 ghost use Rattle.iso_lexer.specs.SpecTokens.{name, sign};
 ghost use Rattle.iso_lexer.specs.Lexing.{token, fault};
@@ -20,7 +20,7 @@ use crate::spec_token::{Keyword, Sign, SpecTok};
 use memchr::memchr;
 
 fn keyword_of(word: &str) -> Option<Keyword>
-    ensures { result ≡ row_of keywords word.now }
+    ensures { result ≡ spelled keywords word.now }
 {
     match word {
         "permutation" => Some(Keyword::Permutation),
@@ -34,7 +34,7 @@ fn keyword_of(word: &str) -> Option<Keyword>
 }
 
 fn sign_of(b: u8) -> Option<Sign>
-    ensures { result ≡ row_of signs (b ∷ []) }
+    ensures { result ≡ spelled signs (b ∷ []) }
 {
     match b {
         b'(' => Some(Sign::Open),
@@ -87,7 +87,7 @@ fn word_front(text: &str) -> Piece<'_, SpecTok<'_>>
 }
 
 fn sign_front(b: u8, rest: &str) -> Piece<'_, SpecTok<'_>>
-    ensures { front_view result ≡ option_map_or (λ s. token (sign s) rest.now) (row_of signs (b ∷ [])) (fault UnexpectedByte 0) }
+    ensures { front_view result ≡ option_map_or (λ s. token (sign s) rest.now) (spelled signs (b ∷ [])) (fault UnexpectedByte 0) }
 {
     match sign_of(b) {
         Some(sign) => Piece::Token(SpecTok::Sign(sign), rest),

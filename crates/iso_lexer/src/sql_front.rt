@@ -4,7 +4,7 @@ ghost use Rattle.std.specs.Prelude.{◌≡◌, ◌<◌, ◌≤◌, true, false, 
 ghost use Rattle.std.specs.Option.{option_map_or};
 ghost use Rattle.std.specs.Char.{is_ascii_digit};
 ghost use Rattle.std.specs.Str.Parse.{IsNumeral, digits_value};
-ghost use Rattle.iso_lexer.specs.Bytes.{run_of, after_run, row_of};
+ghost use Rattle.iso_lexer.specs.Bytes.{run_of, after_run, spelled};
 ghost use Rattle.iso_lexer.specs.Comments.{after_comment};
 ghost use Rattle.iso_lexer.specs.SqlTokens.{word, quoted_word, string};
 ghost use Rattle.iso_lexer.specs.Lexing.{gap, token, fault};
@@ -25,7 +25,7 @@ const LARGEST_NUMBER: u64 = 9_223_372_036_854_775_807;
 
 /// The sign of two bytes.
 fn sign_of_two(first: u8, second: u8) -> Option<SqlSign>
-    ensures { result ≡ row_of signs (first ∷ second ∷ []) }
+    ensures { result ≡ spelled signs (first ∷ second ∷ []) }
 {
     match (first, second) {
         (b'<', b'>') => Some(SqlSign::NotEqual),
@@ -40,7 +40,7 @@ fn sign_of_two(first: u8, second: u8) -> Option<SqlSign>
 
 /// The sign of one byte.
 fn sign_of_one(first: u8) -> Option<SqlSign>
-    ensures { result ≡ row_of signs (first ∷ []) }
+    ensures { result ≡ spelled signs (first ∷ []) }
 {
     match first {
         b'(' => Some(SqlSign::Open),

@@ -1,6 +1,7 @@
 -- What a query answers at the rows of its table, and what an INSERT makes of its values (PostgreSQL manual, SELECT and INSERT).
 use Rattle.std.specs.Prelude.{ℕ, ◌+◌, ◌-◌, ◌==◌, ℤ, Bool, not, ◌&&◌, ◌||◌, List, [], ◌∷◌, length, map, flat_map, replicate}
-use Rattle.std.specs.Prelude.{Option, Some, None, is_none, is_some, option_map, unwrap_or, find, filter_map, position, zip, bytes_eq, slice_set, slice_index_or, nat_le, nat_lt, Result, Ok, Err, if◌then◌else◌}
+use Rattle.std.specs.Prelude.{Option, Some, None, is_none, is_some, option_map, unwrap_or, find, filter_map, position, zip}
+use Rattle.std.specs.Prelude.{bytes_eq, slice_set, slice_index_or, nat_le, nat_lt, Result, Ok, Err, if◌then◌else◌}
 use Rattle.std.specs.List.{enumerate_from, list_any}
 use Rattle.std.specs.Option.{option_or, option_map_or}
 use Rattle.sql_trees.specs.declared.kind.Kind.{Kind}

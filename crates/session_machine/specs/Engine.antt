@@ -10,7 +10,8 @@ use Rattle.session_machine.specs.declared.reply.HistItem.{HistItem}
 use Rattle.session_machine.specs.declared.fault.Refusal.{Refusal}
 use Rattle.session_machine.specs.declared.fault.Refusal.TheVariants.{Busy, NotYourTurn, StillBlocked, Idle, NoSession, BlockNotAllowed}
 use Rattle.session_machine.specs.declared.fault.EngineFault.{EngineFault}
-use Rattle.session_machine.specs.declared.fault.EngineFault.TheVariants.{Busy as BusyFault, NotYourTurn as TurnFault, StillBlocked as BlockedFault, Idle as IdleFault, Spent as SpentFault, NoSession as SessionFault, BlockNotAllowed as BlockFault}
+use Rattle.session_machine.specs.declared.fault.EngineFault.TheVariants.{Busy as BusyFault, NotYourTurn as TurnFault, StillBlocked as BlockedFault, Idle as IdleFault}
+use Rattle.session_machine.specs.declared.fault.EngineFault.TheVariants.{Spent as SpentFault, NoSession as SessionFault, BlockNotAllowed as BlockFault}
 use Rattle.session_machine.specs.Machine.{Machine, Blocks, Next, is_quiet, next, opening, turn_in, visible}
 
 -- the item is the machine's next one, and leads on to the state

@@ -12,7 +12,7 @@ use Rattle.sql_trees.specs.declared.expr.AggKind.{AggKind}
 use Rattle.sql_trees.specs.declared.expr.AggKind.TheVariants as aggs
 use Rattle.sql_trees.specs.declared.expr.Truth.{Truth}
 use Rattle.sql_trees.specs.declared.expr.Truth.TheVariants as truth
-use Rattle.sql_trees.specs.Words.{row_of}
+use Rattle.iso_lexer.specs.Bytes.{row_of}
 use Rattle.sql_trees.specs.Tokens.{Token, Tokens, tok_views}
 use Rattle.sql_trees.specs.Tokens as tok
 use Rattle.sql_trees.specs.Trees.{Tree, Trees, none, Null, Flag, Number, Text, Column, Plus, Not, Binary, Is, In, Between, undoubled, tree_of}

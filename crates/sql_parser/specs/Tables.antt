@@ -9,7 +9,7 @@ use Rattle.sql_trees.specs.declared.fault.SqlFault.TheVariants.{BadColumns}
 use Rattle.sql_trees.specs.declared.word.Word.TheVariants as words
 use Rattle.sql_trees.specs.declared.kind.Kind.{Kind}
 use Rattle.sql_trees.specs.declared.kind.Kind.TheVariants as kinds
-use Rattle.sql_trees.specs.Words.{row_of}
+use Rattle.iso_lexer.specs.Bytes.{row_of}
 use Rattle.sql_trees.specs.Statements.{StmtTree, ColumnTree, KeyTree, Create, DropTables, key_name}
 use Rattle.sql_trees.specs.Tokens.{Token, Tokens}
 use Rattle.sql_expressions.specs.Results.{◌>>=◌ as and_then}

@@ -1,16 +1,13 @@
 -- Keywords, and what they are to the grammar.
-use Rattle.std.specs.Prelude.{ℕ, Bool, List, [], ◌∷◌, map, filter, find, Option, option_map, unwrap_or}
+use Rattle.std.specs.Prelude.{ℕ, Bool, List, [], ◌∷◌, map, filter, unwrap_or}
 use Rattle.std.specs.List.{list_any}
 use denote.Enum.Bare.{sameb}
 use Rattle.std.specs.Str.{str_eq_ignore_ascii_case}
+use Rattle.iso_lexer.specs.Bytes.{row_of}
 use Rattle.sql_trees.specs.declared.word.Word.{Word}
 use Rattle.sql_trees.specs.declared.word.Word.TheVariants as words
 use Rattle.sql_trees.specs.contracts.word.Word.{the_type}
 use Rattle.sql_trees.specs.Keywords.{keywords}
-
--- what the first row says whose key passes for this thing
-abbrev pub row_of : {K T X : Type 0} → (K → T → Bool) → List (K × X) → T → Option X
-row_of passes rows thing = option_map (λ row. row.1) (find (λ row. passes row.0 thing) rows)
 
 -- the first word of a table that is spelled so, in any case of its letters (PostgreSQL manual, 4.1.1)
 abbrev pub first_spelled : List (List ℕ × Word) → List ℕ → Word
