@@ -9,6 +9,7 @@ import shutil
 import subprocess
 import sys
 import tempfile
+import threading
 
 TOP = os.path.dirname(os.path.dirname(os.path.realpath(__file__)))
 TRIED = f"{TOP}/wrong_bodies.txt"
@@ -35,6 +36,28 @@ def load():
 
 rt = load()
 rtlib = rt.rtlib
+
+
+SUMS = threading.local()
+
+
+def sum_once(stamp):
+    """Returns the sum of what a crate is made from, as stamp does, where each crate below is summed once in a call, and not once for each way down to it."""
+
+    def summed(crate):
+        outer = getattr(SUMS, "known", None)
+        known = SUMS.known = {} if outer is None else outer
+        try:
+            if crate.name not in known:
+                known[crate.name] = stamp(crate)
+            return known[crate.name]
+        finally:
+            SUMS.known = outer
+
+    return summed
+
+
+rt.Crate.stamp = sum_once(rt.Crate.stamp)
 
 
 class Kept(rt.Crate):
