@@ -8,9 +8,9 @@ use crate::words::{
 };
 use iso_lexer::Name;
 use session_queries::{
-    AssignedColumns, columns_assigned, columns_set, lacking_filter, lacking_select, lacking_update,
-    new_values, passing_places, result_of, row_values, taken_places, updated_values,
-    wrong_position,
+    AssignedColumns, columns_assigned, columns_set, new_values, passing_places, result_of,
+    row_values, taken_places, undefined_in_filter, undefined_in_select, undefined_in_update,
+    updated_values, wrong_position,
 };
 use sql_parser::{Block, Role};
 use sql_trees::{Column, Delete, Insert, Kind, Select, Stmt, Update};
@@ -84,7 +84,7 @@ fn is_shown(alloc: Global, select: &Select<'static>, at: At<'_>, words: &str) ->
 fn is_selected(alloc: Global, select: &Select<'static>, at: At<'_>, words: &str) -> Answer
     requires { All (λ row. length row.now ≡ length at.columns.now) at.rows.now }
 {
-    if let Some(name) = lacking_select(at.columns, select) {
+    if let Some(name) = undefined_in_select(at.columns, select) {
         return Err(ValueFault::NoColumn(name));
     }
     if let Some(position) = wrong_position(at.columns, select) {
@@ -120,7 +120,7 @@ fn is_updated(alloc: Global, update: &Update<'static>, at: At<'_>, words: &str) 
     requires { All (λ row. length row.now ≡ length at.columns.now) at.rows.now }
 {
     match columns_set(alloc, at.columns, &update.sets)? {
-        Ok(to) => match lacking_update(at.columns, update) {
+        Ok(to) => match undefined_in_update(at.columns, update) {
             Some(name) => Err(ValueFault::NoColumn(name)),
             None => is_made(alloc, update, &to, at, words),
         },
@@ -135,7 +135,7 @@ fn is_updated(alloc: Global, update: &Update<'static>, at: At<'_>, words: &str) 
 fn is_deleted(alloc: Global, delete: &Delete<'static>, at: At<'_>, words: &str) -> Answer
     requires { All (λ row. length row.now ≡ length at.columns.now) at.rows.now }
 {
-    if let Some(name) = lacking_filter(at.columns, &delete.filter) {
+    if let Some(name) = undefined_in_filter(at.columns, &delete.filter) {
         return Err(ValueFault::NoColumn(name));
     }
     let mut rest = Some(words);

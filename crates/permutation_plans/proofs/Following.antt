@@ -5,12 +5,12 @@ use Rattle.std.proofs.lemmas.List.{drop_all}
 use Rattle.session_machine.specs.declared.event.Order.{Order}
 use Rattle.session_machine.specs.declared.event.Order.TheVariants.{Stop}
 use Rattle.session_machine.specs.declared.reply.HistItem.{HistItem}
-use Rattle.report_lines.specs.declared.progress.Progress.{Progress}
+use Rattle.report_lines.specs.declared.progress.PlanProgress.{PlanProgress}
 use Rattle.report_lines.specs.History.{PermutationRun}
-use Rattle.report_lines.specs.Progress.{Keeps, Follows, front}
+use Rattle.report_lines.specs.Progress.{Keeps, KeepsFront, first_items}
 use Rattle.permutation_plans.specs.Regular.{FitsAfter}
 
-pub further : (c : PermutationRun) (k : ℕ) (p : Progress) → Follows (front c k) p → Follows (front c (k + 1)) p
+pub further : (c : PermutationRun) (k : ℕ) (p : PlanProgress) → KeepsFront (first_items c k) p → KeepsFront (first_items c (k + 1)) p
 further c k p follows =
     let few = follows.few in
     let short = length-take k c.items in

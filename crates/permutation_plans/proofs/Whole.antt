@@ -13,7 +13,7 @@ use Rattle.report_lines.specs.declared.history.TeardownsSoFar.{TeardownsSoFar}
 use Rattle.report_lines.specs.declared.history.RunState.{RunState}
 use Rattle.report_lines.specs.declared.history.RunState.TheVariants.{Due, Whole, Invalid}
 use Rattle.report_lines.specs.History.{PermutationRun, is_empty}
-use Rattle.report_lines.specs.Report.{Report, before, active, poll, is_busy, made_way, launched, report_from, report}
+use Rattle.report_lines.specs.Report.{Report, before_launch, active, poll, has_unreported, made_way, launched, report_from, report}
 use Rattle.report_lines.specs.Due.{Launches, Planned, orders, went_well, is_over, launch, due_setup, teardowns_so_far, due_last, due_entry, due}
 use Rattle.permutation_plans.specs.Launches.{launch_of_entry}
 use Rattle.permutation_plans.specs.Whole.{planned, leaves, order_at, AreWell, AreOver, GoesWell, NextIsDue}
@@ -189,11 +189,11 @@ entry_state e count n false false way next le lt before_it behind_it rest h =
 state_from : (c : PermutationRun) (count n rest e : ℕ) (lines : List Line) → e ≤ count → e + rest ≡ n → (report_from c e rest count lines).state ≢ Invalid → IsStateAt (report_from c e rest count lines).state count n
 state_from c count n zero e lines le all h =
     let many : n ≤ count = omega arith in
-    inr (many, end_state (is_empty (active (poll c (before c e) lines) e)) h)
+    inr (many, end_state (is_empty (active (poll c (before_launch c e) lines) e)) h)
 state_from c count n (suc rest) e lines le all h =
     let way = made_way c lines e in
     let less : e < n = omega arith in
-    entry_state e count n (is_busy c way e) (nat_lt e count) way (report_from c (e + 1) rest count (launched c way e)) le less (ltb-true e count) (ltb-false e count)
+    entry_state e count n (has_unreported c way e) (nat_lt e count) way (report_from c (e + 1) rest count (launched c way e)) le less (ltb-true e count) (ltb-false e count)
     (λ lt valid. state_from c count n rest (e + 1) (launched c way e) (omega arith) (omega arith) valid) h
 
 state_at : (c : PermutationRun) (count : ℕ) → (report c count).state ≢ Invalid → IsStateAt (report c count).state count (length c.entries)

@@ -1,13 +1,13 @@
 //! Whether a history launched what its permutation launches.
 ghost use Rattle.std.specs.Prelude.{◌≡◌, ◌↔◌, ◌<◌, ◌^◌, [], length, map, IsTrue, true, IfOk, OnOk, OnErr};
 ghost use Rattle.spec_parser.specs.Trees.{spec_view, entry_view};
-ghost use Rattle.report_lines.specs.Progress.{Follows};
+ghost use Rattle.report_lines.specs.Progress.{KeepsFront};
 ghost use Rattle.report_lines.specs.Starts.{is_order};
 ghost use Rattle.permutation_plans.specs.Launches.{plan_of, due_after, due_in};
 ghost use Rattle.permutation_plans.specs.Regular.{IsOrdered, FitsAfter};
 
 use crate::launches::Launches;
-use report_lines::Progress;
+use report_lines::PlanProgress;
 use session_machine::{Event, HistItem, Order};
 use spec_parser::{Entry, Spec};
 use std::alloc::{AllocError, Global};
@@ -19,11 +19,11 @@ fn is_due(
     entries: &[Entry],
     items: &[HistItem<'_>],
     order: Order,
-    progress: &mut Progress,
+    progress: &mut PlanProgress,
 ) -> Result<bool, AllocError>
-    requires follows { Follows (plan_of launches.now (map entry_view entries.now) items.now).run progress.old }
+    requires follows { KeepsFront (plan_of launches.now (map entry_view entries.now) items.now).run progress.old }
     ensures due { IfOk result (λ due. IsTrue due ↔ (due_after launches.now (map entry_view entries.now) items.now ≡ order)) }
-    ensures follows { OnOk result (Follows (plan_of launches.now (map entry_view entries.now) items.now).run progress.new) }
+    ensures follows { OnOk result (KeepsFront (plan_of launches.now (map entry_view entries.now) items.now).run progress.new) }
 {
     let due = launches.go_on(alloc, entries, items, progress)?;
     Ok(due == order)
@@ -36,11 +36,11 @@ fn is_ordered(
     entries: &[Entry],
     before: &[HistItem<'_>],
     event: Event,
-    progress: &mut Progress,
+    progress: &mut PlanProgress,
 ) -> Result<bool, AllocError>
-    requires follows { Follows (plan_of launches.now (map entry_view entries.now) before.now).run progress.old }
+    requires follows { KeepsFront (plan_of launches.now (map entry_view entries.now) before.now).run progress.old }
     ensures ordered { IfOk result (λ ordered. IsTrue ordered ↔ IsOrdered event (due_after launches.now (map entry_view entries.now) before.now)) }
-    ensures follows { OnOk result (Follows (plan_of launches.now (map entry_view entries.now) before.now).run progress.new) }
+    ensures follows { OnOk result (KeepsFront (plan_of launches.now (map entry_view entries.now) before.now).run progress.new) }
     ensures memory { OnErr result (is_order event ≡ true) }
 {
     match event {

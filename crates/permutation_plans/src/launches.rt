@@ -4,9 +4,9 @@ ghost use Rattle.std.specs.Option.{option_map_or};
 ghost use Rattle.spec_parser.specs.Trees.{StepTree, part_view, session_view, spec_view, entry_view};
 ghost use Rattle.spec_parser.specs.Numbered.{step_of_entry};
 ghost use Rattle.permutation_plans.specs.Launches.{launch_in, own_launches, launch_of_entry, launches, plan_of, due_after};
-ghost use Rattle.report_lines.specs.Progress.{Follows};
+ghost use Rattle.report_lines.specs.Progress.{KeepsFront};
 
-use report_lines::{Plan, PlannedLaunch, Progress, Schedule};
+use report_lines::{Plan, PlanProgress, PlannedLaunch, Schedule};
 use session_machine::{HistItem, Order};
 use spec_parser::{Entry, Part, SessionPart, Spec};
 use std::alloc::{AllocError, Global};
@@ -119,7 +119,7 @@ fn steps(
 impl Launches {
     ghost use Rattle.std.specs.Prelude.{List};
     ghost use Rattle.session_machine.specs.declared.reply.HistItem.{HistItem};
-    ghost use Rattle.report_lines.specs.Progress.{Follows};
+    ghost use Rattle.report_lines.specs.Progress.{KeepsFront};
     ghost use Rattle.permutation_plans.specs.Launches.{launches, plan_of, due_after};
 
     /// What a permutation of the spec launches.
@@ -141,10 +141,10 @@ impl Launches {
     }
 
     /// What is kept before anything has come.
-    pub fn begin(&self, alloc: Global, entries: &[Entry]) -> Result<Progress, AllocError>
-        ensures { IfOk result (λ p. (items : List HistItem) → Follows (plan_of self.now (map entry_view entries.now) items).run p) }
+    pub fn begin(&self, alloc: Global, entries: &[Entry]) -> Result<PlanProgress, AllocError>
+        ensures { IfOk result (λ p. (items : List HistItem) → KeepsFront (plan_of self.now (map entry_view entries.now) items).run p) }
     {
-        Progress::new(alloc, entries, self.setups.len())
+        PlanProgress::new(alloc, entries, self.setups.len())
     }
 
     /// The next order, by what was kept of a front of the history; the same is then kept of the whole history.
@@ -153,11 +153,11 @@ impl Launches {
         alloc: Global,
         entries: &[Entry],
         items: &[HistItem<'_>],
-        progress: &mut Progress,
+        progress: &mut PlanProgress,
     ) -> Result<Order, AllocError>
-        requires follows { Follows (plan_of self.now (map entry_view entries.now) items.now).run progress.old }
+        requires follows { KeepsFront (plan_of self.now (map entry_view entries.now) items.now).run progress.old }
         ensures order { IfOk result (λ order. order ≡ due_after self.now (map entry_view entries.now) items.now) }
-        ensures follows { OnOk result (Follows (plan_of self.now (map entry_view entries.now) items.now).run progress.new) }
+        ensures follows { OnOk result (KeepsFront (plan_of self.now (map entry_view entries.now) items.now).run progress.new) }
     {
         order_on(self, alloc, entries, items, progress)
     }
@@ -169,11 +169,11 @@ fn order_on<'a>(
     alloc: Global,
     entries: &'a [Entry],
     items: &'a [HistItem<'a>],
-    progress: &mut Progress,
+    progress: &mut PlanProgress,
 ) -> Result<Order, AllocError>
-    requires follows { Follows (plan_of launches.now (map entry_view entries.now) items.now).run progress.old }
+    requires follows { KeepsFront (plan_of launches.now (map entry_view entries.now) items.now).run progress.old }
     ensures order { IfOk result (λ order. order ≡ due_after launches.now (map entry_view entries.now) items.now) }
-    ensures follows { OnOk result (Follows (plan_of launches.now (map entry_view entries.now) items.now).run progress.new) }
+    ensures follows { OnOk result (KeepsFront (plan_of launches.now (map entry_view entries.now) items.now).run progress.new) }
 {
     let schedule = Schedule {
         setups: &launches.setups,

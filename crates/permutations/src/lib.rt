@@ -12,7 +12,7 @@ mod thread_run;
 
 pub use freely::free_spec;
 pub use permutation_plans::launches_fit;
-pub use plan::Plan;
+pub use plan::PermutationDriver;
 pub use program::serve;
 pub use run::run_spec;
 pub use spec_files::{

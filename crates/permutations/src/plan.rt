@@ -6,7 +6,7 @@ ghost use Rattle.permutation_plans.specs.Launches.{launches};
 ghost use Rattle.spec_files.specs.Plans.{order_after, IsFollowing};
 
 use permutation_plans::Launches;
-use report_lines::Progress;
+use report_lines::PlanProgress;
 use row_versions::Versions;
 use session_core::EngineState;
 use session_machine::HistItem;
@@ -17,13 +17,13 @@ use std::marker::Model;
 
 /// What a permutation launches, by its entries and what the engine has answered so far.
 #[derive(Drop)]
-pub struct Plan<'s> {
+pub struct PermutationDriver<'s> {
     launches: Launches,
     entries: &'s [Entry],
-    progress: Progress,
+    progress: PlanProgress,
 }
 
-impl<'s> Model for Plan<'s> {
+impl<'s> Model for PermutationDriver<'s> {
     ghost use Rattle.std.specs.Prelude.{map};
     ghost use Rattle.spec_parser.specs.Trees.{entry_view};
     ghost use Rattle.spec_files.specs.Plans.{Planning};
@@ -33,20 +33,24 @@ impl<'s> Model for Plan<'s> {
     ghost view = { λ p. record { launches = p.launches; entries = map entry_view p.entries.now; progress = p.progress } };
 }
 
-impl<'s> Plan<'s> {
+impl<'s> PermutationDriver<'s> {
     ghost use Rattle.std.specs.Prelude.{List};
     ghost use Rattle.session_machine.specs.declared.reply.HistItem.{HistItem};
     ghost use Rattle.spec_files.specs.Plans.{order_after, IsFollowing};
 
     /// The plan of the spec's permutation that has these entries.
-    pub fn new(alloc: Global, spec: &Spec<'_>, entries: &'s [Entry]) -> Result<Plan<'s>, AllocError>
+    pub fn new(
+        alloc: Global,
+        spec: &Spec<'_>,
+        entries: &'s [Entry],
+    ) -> Result<PermutationDriver<'s>, AllocError>
         requires { length spec.now.sessions.items < 2 ^ 32 }
         ensures plan { IfOk result (λ p. (p.launches ≡ launches (spec_view spec.now) (map entry_view entries.now)) × (p.entries ≡ map entry_view entries.now)) }
         ensures follows { IfOk result (λ p. (items : List HistItem) → IsFollowing p items) }
     {
         let launches = Launches::of(alloc, spec, entries)?;
         let progress = launches.begin(alloc, entries)?;
-        Ok(Plan {
+        Ok(PermutationDriver {
             launches,
             entries,
             progress,
@@ -65,7 +69,7 @@ impl<'s> Plan<'s> {
     }
 }
 
-impl<'s, V: Versions> Driver<V> for Plan<'s> {
+impl<'s, V: Versions> Driver<V> for PermutationDriver<'s> {
     ghost order_after = { order_after };
 
     ghost follows = { IsFollowing };

@@ -36,31 +36,31 @@ cols_of columns = map (λ (c : ColumnTree). (c.name, c.kind)) columns
 
 abbrev mutual
   -- the first column that an expression names and that isn't there, in the order of the text; a literal names none
-  pub lacking : Cols → Tree → Option (List ℕ)
-  lacking cols (tree.Column name) = if is_some (position (λ c. bytes_eq name c.0) cols) then None else Some name
-  lacking cols (tree.Plus a) = lacking cols a
-  lacking cols (tree.Minus a) = lacking cols a
-  lacking cols (tree.Not a) = lacking cols a
-  lacking cols (tree.Binary op a b) = option_or (lacking cols a) (lacking cols b)
-  lacking cols (tree.Is a negated truth) = lacking cols a
-  lacking cols (tree.In a negated items) = option_or (lacking cols a) (lacking_among cols items)
-  lacking cols (tree.Between a negated low high) = option_or (lacking cols a) (option_or (lacking cols low) (lacking cols high))
-  lacking cols literal = None
+  pub undefined_column : Cols → Tree → Option (List ℕ)
+  undefined_column cols (tree.Column name) = if is_some (position (λ c. bytes_eq name c.0) cols) then None else Some name
+  undefined_column cols (tree.Plus a) = undefined_column cols a
+  undefined_column cols (tree.Minus a) = undefined_column cols a
+  undefined_column cols (tree.Not a) = undefined_column cols a
+  undefined_column cols (tree.Binary op a b) = option_or (undefined_column cols a) (undefined_column cols b)
+  undefined_column cols (tree.Is a negated truth) = undefined_column cols a
+  undefined_column cols (tree.In a negated items) = option_or (undefined_column cols a) (undefined_in_list cols items)
+  undefined_column cols (tree.Between a negated low high) = option_or (undefined_column cols a) (option_or (undefined_column cols low) (undefined_column cols high))
+  undefined_column cols literal = None
 
-  pub lacking_among : Cols → Trees → Option (List ℕ)
-  lacking_among cols tree.none = None
-  lacking_among cols (tree.more e rest) = option_or (lacking cols e) (lacking_among cols rest)
+  pub undefined_in_list : Cols → Trees → Option (List ℕ)
+  undefined_in_list cols tree.none = None
+  undefined_in_list cols (tree.more e rest) = option_or (undefined_column cols e) (undefined_in_list cols rest)
 
 -- the same of WHERE, which may be left out
-abbrev pub lacking_if : Cols → Option Tree → Option (List ℕ)
-lacking_if cols None = None
-lacking_if cols (Some e) = lacking cols e
+abbrev pub undefined_in_condition : Cols → Option Tree → Option (List ℕ)
+undefined_in_condition cols None = None
+undefined_in_condition cols (Some e) = undefined_column cols e
 
 -- the same of an item; `*` and count(*) name none
-abbrev pub lacking_item : Cols → ItemTree → Option (List ℕ)
-lacking_item cols (stmt.Value e alias) = lacking cols e
-lacking_item cols (stmt.Aggregate (tree.Of k e) alias) = lacking cols e
-lacking_item cols i = None
+abbrev pub undefined_in_item : Cols → ItemTree → Option (List ℕ)
+undefined_in_item cols (stmt.Value e alias) = undefined_column cols e
+undefined_in_item cols (stmt.Aggregate (tree.Of k e) alias) = undefined_column cols e
+undefined_in_item cols i = None
 
 -- the expression of the first item that has this alias
 abbrev pub aliased : List ItemTree → List ℕ → Option Tree
@@ -74,9 +74,9 @@ meant is (tree.Column name) = unwrap_or (aliased is name) (tree.Column name)
 meant is e = e
 
 -- the first column that a SELECT names and its table lacks: of its items, then of WHERE, then of ORDER BY
-abbrev pub lacking_select : Cols → SelectTree → Option (List ℕ)
-lacking_select cols s =
-    option_or (first_of (lacking_item cols) s.items) (option_or (lacking_if cols s.filter) (first_of (λ (k : OrderTree). lacking cols (meant s.items k.expr)) s.order))
+abbrev pub undefined_in_select : Cols → SelectTree → Option (List ℕ)
+undefined_in_select cols s =
+    option_or (first_of (undefined_in_item cols) s.items) (option_or (undefined_in_condition cols s.filter) (first_of (λ (k : OrderTree). undefined_column cols (meant s.items k.expr)) s.order))
 
 -- the places, counted from k, of the rows that pass WHERE
 abbrev pub passing : Cols → Option Tree → ℕ → List (List Value) → Result (List ℕ) ValueFault
@@ -166,7 +166,7 @@ results_by columns is aggs taken = if_ok (each (λ a. aggregate a.0 (cols_of col
 -- the result of a SELECT whose table has these columns and shows these rows: a column that isn't there is a fault before any row is
 -- looked at; WHERE is tested at all rows, then they are sorted, and then the items are evaluated
 abbrev pub result_of : SelectTree → List ColumnTree → List (List Value) → Result Results ValueFault
-result_of s columns rows = option_map_or (λ name. Err (NoColumn name)) (lacking_select (cols_of columns) s)
+result_of s columns rows = option_map_or (λ name. Err (NoColumn name)) (undefined_in_select (cols_of columns) s)
     (if_ok (taken s columns rows) (λ places. results_by columns s.items (counted s.items) (rows_at rows places)))
 
 -- where a value of an INSERT or UPDATE goes: a column's place, and its kind
@@ -209,5 +209,5 @@ abbrev pub some_too_long : ℕ → List (List Tree) → Bool
 some_too_long width rows = list_any (λ row. nat_lt width (length row)) rows
 
 -- the first column that the VALUES name: they have none
-abbrev pub lacking_rows : List (List Tree) → Option (List ℕ)
-lacking_rows rows = first_of (first_of (lacking [])) rows
+abbrev pub undefined_in_rows : List (List Tree) → Option (List ℕ)
+undefined_in_rows rows = first_of (first_of (undefined_column [])) rows

@@ -6,11 +6,11 @@ use Rattle.sql_values.specs.declared.value.Value.{Value}
 use Rattle.sql_values.specs.declared.fault.ValueFault.{ValueFault}
 use Rattle.sql_values.specs.Values.{if_ok, each}
 use Rattle.sql_values.specs.Expressions.{Cols, value}
-use Rattle.query_results.specs.Queries.{AssignedColumn, assigned_by_name, filled, first_of, lacking, lacking_if}
+use Rattle.query_results.specs.Queries.{AssignedColumn, assigned_by_name, filled, first_of, undefined_column, undefined_in_condition}
 
 -- the first column that an UPDATE names and its table lacks: of the new values, then of WHERE; what it assigns to is looked at before
-abbrev pub lacking_update : Cols → UpdateTree → Option (List ℕ)
-lacking_update cols u = option_or (first_of (λ (s : SetTree). lacking cols s.value) u.sets) (lacking_if cols u.filter)
+abbrev pub undefined_in_update : Cols → UpdateTree → Option (List ℕ)
+undefined_in_update cols u = option_or (first_of (λ (s : SetTree). undefined_column cols s.value) u.sets) (undefined_in_condition cols u.filter)
 
 -- the columns that are assigned to, or the first name that is none
 abbrev pub columns_set : List ColumnTree → List SetTree → Result (List AssignedColumn) (List ℕ)

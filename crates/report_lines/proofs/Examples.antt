@@ -9,7 +9,7 @@ use Rattle.spec_parser.specs.declared.tree.Marker.{Marker}
 use Rattle.spec_parser.specs.declared.tree.Marker.TheVariants.{Star, Step as Named}
 use Rattle.report_lines.specs.declared.history.RunState.TheVariants.{Due, Whole, Invalid}
 use Rattle.session_machine.specs.declared.event.Order.TheVariants.{Launch as LaunchOf, Leave as LeaveOf, Stop}
-use Rattle.report_lines.specs.Starts.{start}
+use Rattle.report_lines.specs.Starts.{segment_start}
 use Rattle.report_lines.specs.Due.{due, Planned, orders, segment, is_over, went_well}
 use Rattle.report_lines.specs.declared.history.PlannedLaunch.{PlannedLaunch}
 use Rattle.spec_parser.specs.Trees.{EntryTree}
@@ -189,10 +189,10 @@ cut = begins 0 ∷ does 0 Done false ∷ does 0 (Failed TooManyValues) true ∷ 
 cut_orders : orders cut ≡ 3
 cut_orders = refl
 
-cut_starts : start cut 1 ≡ 3
+cut_starts : segment_start cut 1 ≡ 3
 cut_starts = refl
 
-cut_ends : start cut 3 ≡ 6
+cut_ends : segment_start cut 3 ≡ 6
 cut_ends = refl
 
 cut_last : segment cut 2 ≡ begins 2 ∷ does 2 Done true ∷ []

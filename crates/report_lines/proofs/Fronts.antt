@@ -9,12 +9,12 @@ use Rattle.report_lines.specs.declared.history.Line.{Line}
 use Rattle.report_lines.specs.declared.history.Line.TheVariants.{AtOnce, Waiting, Completed}
 use Rattle.report_lines.specs.declared.history.Moment.{Moment}
 use Rattle.report_lines.specs.declared.history.RunState.TheVariants.{Whole, Invalid, Due}
-use Rattle.report_lines.specs.Starts.{start, is_order, ends_in}
+use Rattle.report_lines.specs.Starts.{segment_start, is_order, ends_in}
 use Rattle.session_machine.specs.Machine.{is_failed}
 use Rattle.report_lines.specs.Due.{Launches, Planned, orders, segment, is_over, went_well, launch, due_setup, teardowns_so_far, due_last, due_entry, due_at, due}
-use Rattle.report_lines.specs.History.{PermutationRun, session_at, seen_before, has_ended, is_named, is_starred, is_empty}
-use Rattle.report_lines.specs.Report.{Report, is_reported, active, instances, before, after, may_report, first_try, retry, pass, goes_on, polled, poll, is_of, is_busy, made_way, launched, report_from, report}
-use Rattle.report_lines.specs.Fronts.{longer, longer_plan}
+use Rattle.report_lines.specs.History.{PermutationRun, session_of_entry, seen_before, has_ended, is_awaited, is_starred, is_empty}
+use Rattle.report_lines.specs.Report.{Report, is_reported, active, instances, before_launch, after_launch, may_report, first_try, retry, pass, polls_again, polled, poll, is_of, has_unreported, made_way, launched, report_from, report}
+use Rattle.report_lines.specs.Fronts.{with_more, longer_plan}
 use Rattle.report_lines.specs.declared.history.PlannedLaunch.{PlannedLaunch}
 use Rattle.report_lines.specs.declared.history.TeardownsSoFar.{TeardownsSoFar}
 use Rattle.report_lines.specs.declared.history.RunState.{RunState}
@@ -39,13 +39,13 @@ orders_more true item items = refl
 orders_more false item items = refl
 
 -- so many orders begin where they began
-start_stays : (front : List HistItem) (item : HistItem) (more : List HistItem) (j : ℕ) → is_order item.event ≡ true → j ≤ orders front → start (front ++ item ∷ more) j ≡ start front j
+start_stays : (front : List HistItem) (item : HistItem) (more : List HistItem) (j : ℕ) → is_order item.event ≡ true → j ≤ orders front → segment_start (front ++ item ∷ more) j ≡ segment_start front j
 start_stays [] item more zero ordered few = rw ordered refl
 start_stays [] item more (suc j) ordered few = absurd (omega (arith, few))
-start_stays (x ∷ xs) item more zero ordered few = first_stays (is_order x.event) (start (xs ++ item ∷ more) zero) (start xs zero) (start_stays xs item more zero ordered (omega arith))
+start_stays (x ∷ xs) item more zero ordered few = first_stays (is_order x.event) (segment_start (xs ++ item ∷ more) zero) (segment_start xs zero) (start_stays xs item more zero ordered (omega arith))
 start_stays (x ∷ xs) item more (suc j) ordered few =
     let less : suc j ≤ (if is_order x.event then suc (orders xs) else orders xs) = let all = orders_more (is_order x.event) x (filter (λ i. is_order i.event) xs) in omega (arith, few, all) in
-    next_stays (is_order x.event) (orders xs) j (start (xs ++ item ∷ more) j) (start xs j) (start (xs ++ item ∷ more) (suc j)) (start xs (suc j)) less
+    next_stays (is_order x.event) (orders xs) j (segment_start (xs ++ item ∷ more) j) (segment_start xs j) (segment_start (xs ++ item ∷ more) (suc j)) (segment_start xs (suc j)) less
     (start_stays xs item more j ordered) (start_stays xs item more (suc j) ordered)
 
 kept_first : (b : Bool) (n s t : ℕ) → zero < (if b then suc n else n) → (zero < n → s ≡ t) → cond b 0 (s + 1) ≡ cond b 0 (t + 1)
@@ -57,14 +57,14 @@ kept_next true n k s t u v few one other = ap (λ j. j + 1) (one (omega (arith, 
 kept_next false n k s t u v few one other = ap (λ j. j + 1) (other few)
 
 -- an order that is there begins where it began, whatever follows
-pub start_kept : (front more : List HistItem) (j : ℕ) → j < orders front → start (front ++ more) j ≡ start front j
+pub start_kept : (front more : List HistItem) (j : ℕ) → j < orders front → segment_start (front ++ more) j ≡ segment_start front j
 start_kept [] more j few = absurd (omega (arith, few))
 start_kept (x ∷ xs) more zero few =
     let less : zero < (if is_order x.event then suc (orders xs) else orders xs) = let all = orders_more (is_order x.event) x (filter (λ i. is_order i.event) xs) in omega (arith, few, all) in
-    kept_first (is_order x.event) (orders xs) (start (xs ++ more) zero) (start xs zero) less (start_kept xs more zero)
+    kept_first (is_order x.event) (orders xs) (segment_start (xs ++ more) zero) (segment_start xs zero) less (start_kept xs more zero)
 start_kept (x ∷ xs) more (suc j) few =
     let less : suc j < (if is_order x.event then suc (orders xs) else orders xs) = let all = orders_more (is_order x.event) x (filter (λ i. is_order i.event) xs) in omega (arith, few, all) in
-    kept_next (is_order x.event) (orders xs) j (start (xs ++ more) j) (start xs j) (start (xs ++ more) (suc j)) (start xs (suc j)) less
+    kept_next (is_order x.event) (orders xs) j (segment_start (xs ++ more) j) (segment_start xs j) (segment_start (xs ++ more) (suc j)) (segment_start xs (suc j)) less
     (start_kept xs more j) (start_kept xs more (suc j))
 
 -- ---- what has ended
@@ -76,22 +76,22 @@ range_stays front rest from to low high =
 
 -- the moments of these entries, and what has ended at them, are the same in the longer history
 record Stays (c : PermutationRun) (more : List HistItem) (count : ℕ) : Type 0 where
-  seen : (e : ℕ) → e ≤ count → seen_before (longer c more) e ≡ seen_before c e
-  ended : (e i : ℕ) → e ≤ count → i ≤ count → has_ended (longer c more) (seen_before c e) i ≡ has_ended c (seen_before c e) i
+  seen : (e : ℕ) → e ≤ count → seen_before (with_more c more) e ≡ seen_before c e
+  ended : (e i : ℕ) → e ≤ count → i ≤ count → has_ended (with_more c more) (seen_before c e) i ≡ has_ended c (seen_before c e) i
 
 -- at this moment the blocks of these entries have ended in both histories or in neither
 abbrev EndAlike : PermutationRun → List HistItem → ℕ → Moment → Type 0
-EndAlike c more count m = (i : ℕ) → i ≤ count → has_ended (longer c more) m.seen i ≡ has_ended c m.seen i
+EndAlike c more count m = (i : ℕ) → i ≤ count → has_ended (with_more c more) m.seen i ≡ has_ended c m.seen i
 
 -- ---- the tries
 
-may_same : (c : PermutationRun) (more : List HistItem) (count : ℕ) (m : Moment) (lines : List Line) (i : ℕ) → EndAlike c more count m → i ≤ count → may_report (longer c more) m lines i ≡ may_report c m lines i
-may_same c more count m lines i same le = ap (λ b. b && not (list_any (is_named c i) (active lines m.launched))) (same i le)
+may_same : (c : PermutationRun) (more : List HistItem) (count : ℕ) (m : Moment) (lines : List Line) (i : ℕ) → EndAlike c more count m → i ≤ count → may_report (with_more c more) m lines i ≡ may_report c m lines i
+may_same c more count m lines i same le = ap (λ b. b && not (list_any (is_awaited c i) (active lines m.launched))) (same i le)
 
-retry_same : (c : PermutationRun) (more : List HistItem) (count : ℕ) (m : Moment) (lines : List Line) (i : ℕ) → EndAlike c more count m → i ≤ count → retry (longer c more) m lines i ≡ retry c m lines i
+retry_same : (c : PermutationRun) (more : List HistItem) (count : ℕ) (m : Moment) (lines : List Line) (i : ℕ) → EndAlike c more count m → i ≤ count → retry (with_more c more) m lines i ≡ retry c m lines i
 retry_same c more count m lines i same le = ap (λ b. if not (is_reported lines i) && b then lines ++ Completed i m.seen ∷ [] else lines) (may_same c more count m lines i same le)
 
-own_same : (c : PermutationRun) (more : List HistItem) (count : ℕ) (m : Moment) (session : ℕ) (lines : List Line) (i : ℕ) → EndAlike c more count m → i ≤ count → own_retry (longer c more) m session lines i ≡ own_retry c m session lines i
+own_same : (c : PermutationRun) (more : List HistItem) (count : ℕ) (m : Moment) (session : ℕ) (lines : List Line) (i : ℕ) → EndAlike c more count m → i ≤ count → own_retry (with_more c more) m session lines i ≡ own_retry c m session lines i
 own_same c more count m session lines i same le = ap (λ w. if is_of c session i then w else lines) (retry_same c more count m lines i same le)
 
 fold_same : (f g : List Line → ℕ → List Line) (n : ℕ) (lines : List Line) → ((w : List Line) (i : ℕ) → i < n → f w i ≡ g w i) → fold f lines (instances n) ≡ fold g lines (instances n)
@@ -103,103 +103,103 @@ fold_same f g (suc n) lines same =
     ∙ sym (fold-append g lines (instances n) (n ∷ []))
 
 own_steps_same : (c : PermutationRun) (more : List HistItem) (count : ℕ) (m : Moment) (session n : ℕ) (lines : List Line) → EndAlike c more count m → n ≤ count
-    → fold (retry (longer c more) m) lines (filter (is_of c session) (instances n)) ≡ fold (retry c m) lines (filter (is_of c session) (instances n))
+    → fold (retry (with_more c more) m) lines (filter (is_of c session) (instances n)) ≡ fold (retry c m) lines (filter (is_of c session) (instances n))
 own_steps_same c more count m session n lines same le =
-    sym (own_filter (longer c more) m session (instances n) lines)
-    ∙ fold_same (own_retry (longer c more) m session) (own_retry c m session) n lines (λ w i less. own_same c more count m session w i same (omega (arith, less, le)))
+    sym (own_filter (with_more c more) m session (instances n) lines)
+    ∙ fold_same (own_retry (with_more c more) m session) (own_retry c m session) n lines (λ w i less. own_same c more count m session w i same (omega (arith, less, le)))
     ∙ own_filter c m session (instances n) lines
 
-pass_same : (c : PermutationRun) (more : List HistItem) (count : ℕ) (m : Moment) (lines : List Line) → EndAlike c more count m → m.joined ≤ count → pass (longer c more) m lines ≡ pass c m lines
-pass_same c more count m lines same le = fold_same (retry (longer c more) m) (retry c m) m.joined lines (λ w i less. retry_same c more count m w i same (omega (arith, less)))
+pass_same : (c : PermutationRun) (more : List HistItem) (count : ℕ) (m : Moment) (lines : List Line) → EndAlike c more count m → m.joined ≤ count → pass (with_more c more) m lines ≡ pass c m lines
+pass_same c more count m lines same le = fold_same (retry (with_more c more) m) (retry c m) m.joined lines (λ w i less. retry_same c more count m w i same (omega (arith, less)))
 
-polled_same : (c : PermutationRun) (more : List HistItem) (count : ℕ) (m : Moment) (counted : ℕ) (lines : List Line) → EndAlike c more count m → m.joined ≤ count → polled (longer c more) m counted lines ≡ polled c m counted lines
+polled_same : (c : PermutationRun) (more : List HistItem) (count : ℕ) (m : Moment) (counted : ℕ) (lines : List Line) → EndAlike c more count m → m.joined ≤ count → polled (with_more c more) m counted lines ≡ polled c m counted lines
 polled_same c more count m zero lines same le = refl
 polled_same c more count m (suc counted) lines same le =
-    ap (λ (new : List Line). if goes_on c m lines new then polled (longer c more) m counted new else new) (pass_same c more count m lines same le)
-    ∙ ap (λ (w : List Line). if goes_on c m lines (pass c m lines) then w else pass c m lines) (polled_same c more count m counted (pass c m lines) same le)
+    ap (λ (new : List Line). if polls_again c m lines new then polled (with_more c more) m counted new else new) (pass_same c more count m lines same le)
+    ∙ ap (λ (w : List Line). if polls_again c m lines (pass c m lines) then w else pass c m lines) (polled_same c more count m counted (pass c m lines) same le)
 
-poll_same : (c : PermutationRun) (more : List HistItem) (count : ℕ) (m : Moment) (lines : List Line) → EndAlike c more count m → m.joined ≤ count → poll (longer c more) m lines ≡ poll c m lines
+poll_same : (c : PermutationRun) (more : List HistItem) (count : ℕ) (m : Moment) (lines : List Line) → EndAlike c more count m → m.joined ≤ count → poll (with_more c more) m lines ≡ poll c m lines
 poll_same c more count m lines same le = polled_same c more count m (m.joined + 1) lines same le
 
-first_same : (c : PermutationRun) (more : List HistItem) (count : ℕ) (m : Moment) (lines : List Line) (i : ℕ) → EndAlike c more count m → i ≤ count → first_try (longer c more) m lines i ≡ first_try c m lines i
+first_same : (c : PermutationRun) (more : List HistItem) (count : ℕ) (m : Moment) (lines : List Line) (i : ℕ) → EndAlike c more count m → i ≤ count → first_try (with_more c more) m lines i ≡ first_try c m lines i
 first_same c more count m lines i same le = ap (λ b. lines ++ (if b && not (is_starred c i) then AtOnce i m.seen else Waiting i) ∷ []) (may_same c more count m lines i same le)
 
 -- ---- the entries
 
-before_same : (c : PermutationRun) (more : List HistItem) (count e : ℕ) → Stays c more count → e ≤ count → before (longer c more) e ≡ before c e
+before_same : (c : PermutationRun) (more : List HistItem) (count e : ℕ) → Stays c more count → e ≤ count → before_launch (with_more c more) e ≡ before_launch c e
 before_same c more count e stays le = ap (λ (s : ℕ). record { seen = s; launched = e; joined = e }) (stays.seen e le)
 
-after_same : (c : PermutationRun) (more : List HistItem) (count e : ℕ) → Stays c more count → e + 1 ≤ count → after (longer c more) e ≡ after c e
+after_same : (c : PermutationRun) (more : List HistItem) (count e : ℕ) → Stays c more count → e + 1 ≤ count → after_launch (with_more c more) e ≡ after_launch c e
 after_same c more count e stays le = ap (λ (s : ℕ). record { seen = s; launched = e + 1; joined = e }) (stays.seen (e + 1) le)
 
-before_poll : (c : PermutationRun) (more : List HistItem) (count e : ℕ) (lines : List Line) → Stays c more count → e ≤ count → poll (longer c more) (before (longer c more) e) lines ≡ poll c (before c e) lines
+before_poll : (c : PermutationRun) (more : List HistItem) (count e : ℕ) (lines : List Line) → Stays c more count → e ≤ count → poll (with_more c more) (before_launch (with_more c more) e) lines ≡ poll c (before_launch c e) lines
 before_poll c more count e lines stays le =
-    ap (λ (m : Moment). poll (longer c more) m lines) (before_same c more count e stays le)
-    ∙ poll_same c more count (before c e) lines (λ i low. stays.ended e i le low) le
+    ap (λ (m : Moment). poll (with_more c more) m lines) (before_same c more count e stays le)
+    ∙ poll_same c more count (before_launch c e) lines (λ i low. stays.ended e i le low) le
 
-way_same : (c : PermutationRun) (more : List HistItem) (count e : ℕ) (lines : List Line) → Stays c more count → e ≤ count → made_way (longer c more) lines e ≡ made_way c lines e
+way_same : (c : PermutationRun) (more : List HistItem) (count e : ℕ) (lines : List Line) → Stays c more count → e ≤ count → made_way (with_more c more) lines e ≡ made_way c lines e
 way_same c more count e lines stays le =
-    let same : EndAlike c more count (before c e) = λ i low. stays.ended e i le low in
-    ap (λ (m : Moment). if is_busy c lines e then poll (longer c more) m (fold (retry (longer c more) m) lines (filter (is_of c (session_at c e)) (instances e))) else lines) (before_same c more count e stays le)
-    ∙ ap (λ (w : List Line). if is_busy c lines e then w else lines)
-    (poll_same c more count (before c e) (fold (retry (longer c more) (before c e)) lines (filter (is_of c (session_at c e)) (instances e))) same le
-    ∙ ap (poll c (before c e)) (own_steps_same c more count (before c e) (session_at c e) e lines same le))
+    let same : EndAlike c more count (before_launch c e) = λ i low. stays.ended e i le low in
+    ap (λ (m : Moment). if has_unreported c lines e then poll (with_more c more) m (fold (retry (with_more c more) m) lines (filter (is_of c (session_of_entry c e)) (instances e))) else lines) (before_same c more count e stays le)
+    ∙ ap (λ (w : List Line). if has_unreported c lines e then w else lines)
+    (poll_same c more count (before_launch c e) (fold (retry (with_more c more) (before_launch c e)) lines (filter (is_of c (session_of_entry c e)) (instances e))) same le
+    ∙ ap (poll c (before_launch c e)) (own_steps_same c more count (before_launch c e) (session_of_entry c e) e lines same le))
 
-launched_same : (c : PermutationRun) (more : List HistItem) (count e : ℕ) (lines : List Line) → Stays c more count → e + 1 ≤ count → launched (longer c more) lines e ≡ launched c lines e
+launched_same : (c : PermutationRun) (more : List HistItem) (count e : ℕ) (lines : List Line) → Stays c more count → e + 1 ≤ count → launched (with_more c more) lines e ≡ launched c lines e
 launched_same c more count e lines stays le =
-    let same : EndAlike c more count (after c e) = λ i low. stays.ended (e + 1) i le low in
-    ap (λ (m : Moment). poll (longer c more) m (first_try (longer c more) m lines e)) (after_same c more count e stays le)
-    ∙ poll_same c more count (after c e) (first_try (longer c more) (after c e) lines e) same (omega (arith, le))
-    ∙ ap (poll c (after c e)) (first_same c more count (after c e) lines e same (omega (arith, le)))
+    let same : EndAlike c more count (after_launch c e) = λ i low. stays.ended (e + 1) i le low in
+    ap (λ (m : Moment). poll (with_more c more) m (first_try (with_more c more) m lines e)) (after_same c more count e stays le)
+    ∙ poll_same c more count (after_launch c e) (first_try (with_more c more) (after_launch c e) lines e) same (omega (arith, le))
+    ∙ ap (poll c (after_launch c e)) (first_same c more count (after_launch c e) lines e same (omega (arith, le)))
 
 if_same : {A : Type 0} (b : Bool) (x y z : A) → (true ≡ b → x ≡ y) → (if b then x else z) ≡ (if b then y else z)
 if_same true x y z same = same refl
 if_same false x y z same = refl
 
-from_same : (c : PermutationRun) (more : List HistItem) (count e rest : ℕ) (lines : List Line) → Stays c more count → e ≤ count → report_from (longer c more) e rest count lines ≡ report_from c e rest count lines
+from_same : (c : PermutationRun) (more : List HistItem) (count e rest : ℕ) (lines : List Line) → Stays c more count → e ≤ count → report_from (with_more c more) e rest count lines ≡ report_from c e rest count lines
 from_same c more count e zero lines stays le =
     ap (λ (all : List Line). record { lines = all; state = if is_empty (active all e) then Whole else Invalid }) (before_poll c more count e lines stays le)
 from_same c more count e (suc rest) lines stays le =
     let way = made_way c lines e in
-    ap (λ (w : List Line). if is_busy c w e then record { lines = w; state = Invalid } else (if nat_lt e count then report_from (longer c more) (e + 1) rest count (launched (longer c more) w e) else record { lines = w; state = Due e })) (way_same c more count e lines stays le)
-    ∙ ap (λ (r : Report). if is_busy c way e then record { lines = way; state = Invalid } else r)
-    (if_same (nat_lt e count) (report_from (longer c more) (e + 1) rest count (launched (longer c more) way e)) (report_from c (e + 1) rest count (launched c way e)) (record { lines = way; state = Due e })
-    (λ less. let next : e + 1 ≤ count = grind arith in ap (report_from (longer c more) (e + 1) rest count) (launched_same c more count e way stays next) ∙ from_same c more count (e + 1) rest (launched c way e) stays next))
+    ap (λ (w : List Line). if has_unreported c w e then record { lines = w; state = Invalid } else (if nat_lt e count then report_from (with_more c more) (e + 1) rest count (launched (with_more c more) w e) else record { lines = w; state = Due e })) (way_same c more count e lines stays le)
+    ∙ ap (λ (r : Report). if has_unreported c way e then record { lines = way; state = Invalid } else r)
+    (if_same (nat_lt e count) (report_from (with_more c more) (e + 1) rest count (launched (with_more c more) way e)) (report_from c (e + 1) rest count (launched c way e)) (record { lines = way; state = Due e })
+    (λ less. let next : e + 1 ≤ count = grind arith in ap (report_from (with_more c more) (e + 1) rest count) (launched_same c more count e way stays next) ∙ from_same c more count (e + 1) rest (launched c way e) stays next))
 
 stays_so : (c : PermutationRun) (item : HistItem) (more : List HistItem) (count : ℕ) → is_order item.event ≡ true → orders c.items ≡ c.setups + count → Stays c (item ∷ more) count
 stays_so c item more count ordered all =
-    let seen : (e : ℕ) → e ≤ count → seen_before (longer c (item ∷ more)) e ≡ seen_before c e = λ e le. start_stays c.items item more (c.setups + e) ordered (omega (arith, le, all)) in
+    let seen : (e : ℕ) → e ≤ count → seen_before (with_more c (item ∷ more)) e ≡ seen_before c e = λ e le. start_stays c.items item more (c.setups + e) ordered (omega (arith, le, all)) in
     record {
       seen = seen;
       ended = λ e i le low.
-          ap (λ s. list_any (ends_in (session_at c i)) (slice_range (c.items ++ item ∷ more) s (seen_before c e))) (seen i low)
-          ∙ ap (list_any (ends_in (session_at c i))) (range_stays c.items (item ∷ more) (seen_before c i) (seen_before c e) (start_within c.items (c.setups + i)) (start_within c.items (c.setups + e)));
+          ap (λ s. list_any (ends_in (session_of_entry c i)) (slice_range (c.items ++ item ∷ more) s (seen_before c e))) (seen i low)
+          ∙ ap (list_any (ends_in (session_of_entry c i))) (range_stays c.items (item ∷ more) (seen_before c i) (seen_before c e) (start_within c.items (c.setups + i)) (start_within c.items (c.setups + e)));
     }
 
-pub front_stays : (c : PermutationRun) (item : HistItem) (more : List HistItem) (count : ℕ) → is_order item.event ≡ true → orders c.items ≡ c.setups + count → report (longer c (item ∷ more)) count ≡ report c count
+pub front_stays : (c : PermutationRun) (item : HistItem) (more : List HistItem) (count : ℕ) → is_order item.event ≡ true → orders c.items ≡ c.setups + count → report (with_more c (item ∷ more)) count ≡ report c count
 front_stays c item more count ordered all = from_same c (item ∷ more) count 0 (length c.entries) [] (stays_so c item more count ordered all) (omega arith)
 
 stays_kept : (c : PermutationRun) (more : List HistItem) (count : ℕ) → c.setups + count < orders c.items → Stays c more count
 stays_kept c more count past =
-    let seen : (e : ℕ) → e ≤ count → seen_before (longer c more) e ≡ seen_before c e = λ e le. start_kept c.items more (c.setups + e) (omega (arith, le, past)) in
+    let seen : (e : ℕ) → e ≤ count → seen_before (with_more c more) e ≡ seen_before c e = λ e le. start_kept c.items more (c.setups + e) (omega (arith, le, past)) in
     record {
       seen = seen;
       ended = λ e i le low.
-          ap (λ s. list_any (ends_in (session_at c i)) (slice_range (c.items ++ more) s (seen_before c e))) (seen i low)
-          ∙ ap (list_any (ends_in (session_at c i))) (range_stays c.items more (seen_before c i) (seen_before c e) (start_within c.items (c.setups + i)) (start_within c.items (c.setups + e)));
+          ap (λ s. list_any (ends_in (session_of_entry c i)) (slice_range (c.items ++ more) s (seen_before c e))) (seen i low)
+          ∙ ap (list_any (ends_in (session_of_entry c i))) (range_stays c.items more (seen_before c i) (seen_before c e) (start_within c.items (c.setups + i)) (start_within c.items (c.setups + e)));
     }
 
 -- what was told before an order that is there stays so, whatever follows
-pub past_stays : (c : PermutationRun) (more : List HistItem) (count : ℕ) → c.setups + count < orders c.items → report (longer c more) count ≡ report c count
+pub past_stays : (c : PermutationRun) (more : List HistItem) (count : ℕ) → c.setups + count < orders c.items → report (with_more c more) count ≡ report c count
 past_stays c more count past = from_same c more count 0 (length c.entries) [] (stays_kept c more count past) (omega arith)
 
 -- ---- the next order
 
 segment_stays : (front : List HistItem) (item : HistItem) (more : List HistItem) (k : ℕ) → is_order item.event ≡ true → k < orders front → segment (front ++ item ∷ more) k ≡ segment front k
 segment_stays front item more k ordered less =
-    ap (λ a. slice_range (front ++ item ∷ more) a (start (front ++ item ∷ more) (k + 1))) (start_stays front item more k ordered (omega (arith, less)))
-    ∙ ap (λ b. slice_range (front ++ item ∷ more) (start front k) b) (start_stays front item more (k + 1) ordered (omega (arith, less)))
-    ∙ range_stays front (item ∷ more) (start front k) (start front (k + 1)) (start_within front k) (start_within front (k + 1))
+    ap (λ a. slice_range (front ++ item ∷ more) a (segment_start (front ++ item ∷ more) (k + 1))) (start_stays front item more k ordered (omega (arith, less)))
+    ∙ ap (λ b. slice_range (front ++ item ∷ more) (segment_start front k) b) (start_stays front item more (k + 1) ordered (omega (arith, less)))
+    ∙ range_stays front (item ∷ more) (segment_start front k) (segment_start front (k + 1)) (start_within front k) (start_within front (k + 1))
 
 unless_same : {A : Type 0} (b : Bool) (x y z : A) → (false ≡ b → x ≡ y) → (if b then z else x) ≡ (if b then z else y)
 unless_same true x y z same = refl
@@ -260,13 +260,13 @@ due_case p item more ordered setups (inr le) =
     let l = p.launches in
     let count = orders p.run.items in
     let split : count ≡ p.run.setups + (count - length l.setups) = omega (arith, le, setups) in
-    ap (λ (o : Option Order). unwrap_or o (due_entry l (p.run.items ++ item ∷ more) count (report (longer p.run (item ∷ more)) (count - length l.setups)).state)) (setup_stays p.run.items item more 0 l.setups ordered)
+    ap (λ (o : Option Order). unwrap_or o (due_entry l (p.run.items ++ item ∷ more) count (report (with_more p.run (item ∷ more)) (count - length l.setups)).state)) (setup_stays p.run.items item more 0 l.setups ordered)
     ∙ ap (λ (r : Report). unwrap_or (due_setup p.run.items count 0 l.setups) (due_entry l (p.run.items ++ item ∷ more) count r.state)) (front_stays p.run item more (count - length l.setups) ordered split)
     ∙ ap (unwrap_or (due_setup p.run.items count 0 l.setups)) (entry_stays l p.run.items item more (report p.run (count - length l.setups)).state ordered)
 due_case p item more ordered setups (inl less) =
     let l = p.launches in
     let count = orders p.run.items in
-    let other = due_entry l (p.run.items ++ item ∷ more) count (report (longer p.run (item ∷ more)) (count - length l.setups)).state in
+    let other = due_entry l (p.run.items ++ item ∷ more) count (report (with_more p.run (item ∷ more)) (count - length l.setups)).state in
     ap (λ (o : Option Order). unwrap_or o other) (setup_stays p.run.items item more 0 l.setups ordered)
     ∙ setups_first p.run.items count 0 l.setups other (due_entry l p.run.items count (report p.run (count - length l.setups)).state) (omega (arith, less)) (omega arith)
 

@@ -4,7 +4,7 @@ use Rattle.std.proofs.lemmas.Bool.{cases_lt, le-ltb, ltb-true, ltb-false}
 use Rattle.report_lines.specs.declared.history.Line.{Line}
 use Rattle.report_lines.specs.declared.history.RunState.TheVariants.{Due, Whole, Invalid}
 use Rattle.report_lines.specs.History.{PermutationRun, is_empty}
-use Rattle.report_lines.specs.Report.{before, active, poll, is_busy, made_way, launched, report_from, report}
+use Rattle.report_lines.specs.Report.{before_launch, active, poll, has_unreported, made_way, launched, report_from, report}
 use Rattle.report_lines.specs.Tries.{Try, still_active, all_passes, has_active, tries_before, tries_after}
 use Rattle.report_lines.specs.Invalid.{launched_tries, tries_up_to, tries_to_the_end, IsStuck, IsInvalid}
 use Rattle.report_lines.proofs.Tried.{Follows, follows_polled, follows_busy, follows_way, follows_launch, follows_active}
@@ -71,17 +71,17 @@ entry_case c count e rest ts way more false false l less is before_it behind_it 
 invalid_from : (c : PermutationRun) (count rest e : ℕ) (lines : List Line) (ts : List Try) → Follows c e lines ts → IsLaunched c count e ts → e + rest ≡ length c.entries
     → (report_from c e rest count lines).state ≡ Invalid ↔ IsInvalid c count
 invalid_from c count zero e lines ts f l all =
-    let m = before c e in
+    let m = before_launch c e in
     let at_end : e ≡ length c.entries = omega arith in
     let polled = follows_polled c m e (m.joined + 1) lines ts (omega arith) (omega arith) f in
-    let tries_are : all_passes c m ts ≡ tries_to_the_end c = ap (all_passes c m) l.tries_are ∙ ap (λ (n : ℕ). all_passes c (before c n) (launched_tries c n)) at_end in
+    let tries_are : all_passes c m ts ≡ tries_to_the_end c = ap (all_passes c m) l.tries_are ∙ ap (λ (n : ℕ). all_passes c (before_launch c n) (launched_tries c n)) at_end in
     let left : active (poll c m lines) e ≡ still_active c (tries_to_the_end c) (length c.entries) =
     follows_active c e (poll c m lines) (all_passes c m ts) e polled ∙ ap (λ (w : List Try). still_active c w e) tries_are ∙ ap (still_active c (tries_to_the_end c)) at_end in
     end_case c count e ts (is_empty (active (poll c m lines) e)) l at_end (ap is_empty left)
 invalid_from c count (suc rest) e lines ts f l all =
     let way = follows_way c e lines ts f in
     let busy = follows_busy c e (made_way c lines e) (tries_before c ts e) way in
-    entry_case c count e rest ts (made_way c lines e) (launched c (made_way c lines e) e) (is_busy c (made_way c lines e) e) (nat_lt e count) l (omega arith) busy (ltb-true e count) (ltb-false e count)
+    entry_case c count e rest ts (made_way c lines e) (launched c (made_way c lines e) e) (has_unreported c (made_way c lines e) e) (nat_lt e count) l (omega arith) busy (ltb-true e count) (ltb-false e count)
     (λ lt free. invalid_from c count rest (e + 1) (launched c (made_way c lines e) e) (tries_after c (tries_before c ts e) e)
     (follows_launch c e (made_way c lines e) (tries_before c ts e) way) (next_launched c count e ts l lt (sym busy ∙ free)) (omega arith))
 

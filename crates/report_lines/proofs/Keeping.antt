@@ -9,7 +9,7 @@ use Rattle.std.proofs.lemmas.Bool.{cases_lt}
 use Rattle.session_machine.specs.declared.reply.HistItem.{HistItem}
 use Rattle.report_lines.specs.declared.history.RunState.{RunState}
 use Rattle.report_lines.specs.declared.history.RunState.TheVariants.{Due, Whole, Invalid}
-use Rattle.report_lines.specs.declared.progress.Progress.{Progress}
+use Rattle.report_lines.specs.declared.progress.PlanProgress.{PlanProgress}
 use Rattle.session_machine.specs.Machine.{session_of}
 use Rattle.report_lines.specs.Starts.{is_order, ends_in}
 use Rattle.report_lines.specs.Due.{orders}
@@ -18,9 +18,9 @@ use Rattle.report_lines.specs.Report.{report, report_from, launched}
 use Rattle.report_lines.specs.SoFar.{LinesSoFar, IsAt, IsReportSoFar}
 use Rattle.report_lines.specs.Places.{starts_from, last_end, IsTimed, IsSeen}
 use Rattle.report_lines.specs.Inner.Places.{ended_behind, ends_after, starts_after}
-use Rattle.report_lines.specs.Progress.{Keeps, Follows, front}
+use Rattle.report_lines.specs.Progress.{Keeps, KeepsFront, first_items}
 use Rattle.report_lines.specs.Inner.Progress.{Lags, IsSettled, IsNoted}
-use Rattle.report_lines.specs.Fronts.{longer}
+use Rattle.report_lines.specs.Fronts.{with_more}
 use Rattle.report_lines.proofs.Reports.{first_same, report_next, report_over, whole_due, invalid_due}
 use Rattle.report_lines.proofs.Fronts.{front_stays, past_stays}
 use Rattle.report_lines.proofs.Found.{count_found}
@@ -68,29 +68,29 @@ orders_snoc items item =
 
 -- ---- the lines so far stay
 
-is_at_longer : (c : PermutationRun) (more : List HistItem) (count launched : ℕ) (s : RunState) → IsAt c count launched s → IsAt (longer c more) count launched s
+is_at_longer : (c : PermutationRun) (more : List HistItem) (count launched : ℕ) (s : RunState) → IsAt c count launched s → IsAt (with_more c more) count launched s
 is_at_longer c more count launched (Due e) h = h
 is_at_longer c more count launched Whole h = h
 is_at_longer c more count launched Invalid h = h
 
-tells_longer : (c : PermutationRun) (more : List HistItem) (count : ℕ) (t : LinesSoFar) (s : RunState) → report (longer c more) count ≡ report c count → IsReportSoFar c count t s → IsReportSoFar (longer c more) count t s
+tells_longer : (c : PermutationRun) (more : List HistItem) (count : ℕ) (t : LinesSoFar) (s : RunState) → report (with_more c more) count ≡ report c count → IsReportSoFar c count t s → IsReportSoFar (with_more c more) count t s
 tells_longer c more count t s same h = record { report_is = same ∙ h.report_is; at = is_at_longer c more count t.launched s h.at }
 
 -- before an order
-before_order : (c : PermutationRun) (item : HistItem) (count : ℕ) → is_order item.event ≡ true → count ≡ orders c.items - c.setups → (orders c.items < c.setups) ⊎ (c.setups ≤ orders c.items) → report (longer c (item ∷ [])) count ≡ report c count
+before_order : (c : PermutationRun) (item : HistItem) (count : ℕ) → is_order item.event ≡ true → count ≡ orders c.items - c.setups → (orders c.items < c.setups) ⊎ (c.setups ≤ orders c.items) → report (with_more c (item ∷ [])) count ≡ report c count
 before_order c item count ordered is (inl few) =
     let none : count ≡ 0 = omega (arith, is, few) in
-    rw none (first_same (longer c (item ∷ [])) c refl)
+    rw none (first_same (with_more c (item ∷ [])) c refl)
 before_order c item count ordered is (inr enough) =
     let all : orders c.items ≡ c.setups + count = omega (arith, is, enough) in
     front_stays c item [] count ordered all
 
 -- within a segment whose lines are missing
-within_segment : (c : PermutationRun) (item : HistItem) (count : ℕ) → count ≡ orders c.items - (c.setups + 1) → count ≤ orders c.items - c.setups → (c.setups < orders c.items) ⊎ (orders c.items ≤ c.setups) → report (longer c (item ∷ [])) count ≡ report c count
+within_segment : (c : PermutationRun) (item : HistItem) (count : ℕ) → count ≡ orders c.items - (c.setups + 1) → count ≤ orders c.items - c.setups → (c.setups < orders c.items) ⊎ (orders c.items ≤ c.setups) → report (with_more c (item ∷ [])) count ≡ report c count
 within_segment c item count lags low (inl past) = past_stays c (item ∷ []) count (omega (arith, lags, past))
 within_segment c item count lags low (inr few) =
     let none : count ≡ 0 = omega (arith, low, few) in
-    rw none (first_same (longer c (item ∷ [])) c refl)
+    rw none (first_same (with_more c (item ∷ [])) c refl)
 
 -- ---- what is kept stays right
 
@@ -138,7 +138,7 @@ after_case true false session place k old last within is so_far = ended_at last 
 after_case false true session place k old last within is so_far = so_far
 after_case false false session place k old last within is so_far = so_far
 
-timed_more : (c : PermutationRun) (item : HistItem) (last : List ℕ) → IsTimed c last → IsTimed (longer c (item ∷ [])) (ends_after item (length c.items + 1) last)
+timed_more : (c : PermutationRun) (item : HistItem) (last : List ℕ) → IsTimed c last → IsTimed (with_more c (item ∷ [])) (ends_after item (length c.items + 1) last)
 timed_more c item last timed = record {
   room = timed.room;
   ends_at = λ k within.
@@ -153,30 +153,30 @@ starts_case : (b : Bool) (starts : List ℕ) (p q : ℕ) → p ≡ q → (if b t
 starts_case true starts p q same = ap (λ k. starts ++ k ∷ []) same
 starts_case false starts p q same = sym (append-nil starts)
 
-seen_more : (c : PermutationRun) (item : HistItem) (starts last : List ℕ) (place : ℕ) → place ≡ length c.items → IsSeen c starts last → IsSeen (longer c (item ∷ [])) (starts_after item place starts) (ends_after item (place + 1) last)
+seen_more : (c : PermutationRun) (item : HistItem) (starts last : List ℕ) (place : ℕ) → place ≡ length c.items → IsSeen c starts last → IsSeen (with_more c (item ∷ [])) (starts_after item place starts) (ends_after item (place + 1) last)
 seen_more c item starts last place is seen = record {
   starts_are =
       let at : place ≡ 0 + length c.items = omega (arith, is) in
       starts_case (is_order item.event) starts place (0 + length c.items) at
       ∙ ap (λ (w : List ℕ). w ++ (if is_order item.event then (0 + length c.items) ∷ [] else [])) seen.starts_are
       ∙ sym (starts_more c.items 0 item);
-  timed = subst (λ k. IsTimed (longer c (item ∷ [])) (ends_after item (k + 1) last)) (sym is) (timed_more c item last seen.timed);
+  timed = subst (λ k. IsTimed (with_more c (item ∷ [])) (ends_after item (k + 1) last)) (sym is) (timed_more c item last seen.timed);
 }
 
-keeps_next : (c : PermutationRun) (item : HistItem) (p q : Progress) → Keeps c p → report (longer c (item ∷ [])) p.segments_done ≡ report c p.segments_done → p.segments_done ≡ orders (c.items ++ item ∷ []) - (c.setups + 1) → IsNoted item p q → Keeps (longer c (item ∷ [])) q
+keeps_next : (c : PermutationRun) (item : HistItem) (p q : PlanProgress) → Keeps c p → report (with_more c (item ∷ [])) p.segments_done ≡ report c p.segments_done → p.segments_done ≡ orders (c.items ++ item ∷ []) - (c.setups + 1) → IsNoted item p q → Keeps (with_more c (item ∷ [])) q
 keeps_next c item p q kept same lags n =
     let long = length-append c.items (item ∷ []) in
     let at = kept.seen_are in
     let seen = n.seen_is in
     let done = n.segments_done_is in
-    let found : IsSeen (longer c (item ∷ [])) q.starts.items q.last.items =
-    subst (λ (w : List ℕ). IsSeen (longer c (item ∷ [])) q.starts.items w) (sym n.last_is)
-    (subst (λ (w : List ℕ). IsSeen (longer c (item ∷ [])) w (ends_after item (p.seen + 1) p.last.items)) (sym n.starts_are)
+    let found : IsSeen (with_more c (item ∷ [])) q.starts.items q.last.items =
+    subst (λ (w : List ℕ). IsSeen (with_more c (item ∷ [])) q.starts.items w) (sym n.last_is)
+    (subst (λ (w : List ℕ). IsSeen (with_more c (item ∷ [])) w (ends_after item (p.seen + 1) p.last.items)) (sym n.starts_are)
     (seen_more c item p.starts.items p.last.items p.seen at kept.found)) in
-    let tells : IsReportSoFar (longer c (item ∷ [])) q.segments_done q.so_far q.state =
-    subst (λ k. IsReportSoFar (longer c (item ∷ [])) k q.so_far q.state) (sym done)
-    (subst (λ (t : LinesSoFar). IsReportSoFar (longer c (item ∷ [])) p.segments_done t q.state) (sym n.so_far_is)
-    (subst (λ (s : RunState). IsReportSoFar (longer c (item ∷ [])) p.segments_done p.so_far s) (sym n.state_is)
+    let tells : IsReportSoFar (with_more c (item ∷ [])) q.segments_done q.so_far q.state =
+    subst (λ k. IsReportSoFar (with_more c (item ∷ [])) k q.so_far q.state) (sym done)
+    (subst (λ (t : LinesSoFar). IsReportSoFar (with_more c (item ∷ [])) p.segments_done t q.state) (sym n.so_far_is)
+    (subst (λ (s : RunState). IsReportSoFar (with_more c (item ∷ [])) p.segments_done p.so_far s) (sym n.state_is)
     (tells_longer c (item ∷ []) p.segments_done p.so_far p.state same kept.reported))) in
     record {
       seen_are = omega (arith, seen, at, long);
@@ -193,7 +193,7 @@ order_lags c item count ordered is =
     let one = one_order (is_order item.event) item ordered in
     omega (arith, is, more, one)
 
-order_stays : (c : PermutationRun) (item : HistItem) (count : ℕ) → is_order item.event ≡ true → count ≡ orders c.items - c.setups → report (longer c (item ∷ [])) count ≡ report c count
+order_stays : (c : PermutationRun) (item : HistItem) (count : ℕ) → is_order item.event ≡ true → count ≡ orders c.items - c.setups → report (with_more c (item ∷ [])) count ≡ report c count
 order_stays c item count ordered is = before_order c item count ordered is (cases_lt (orders c.items) c.setups)
 
 -- a Step follows within the last segment
@@ -203,27 +203,27 @@ step_lags c item count step is =
     let none = no_order (is_order item.event) item step in
     omega (arith, is, more, none)
 
-step_stays : (c : PermutationRun) (item : HistItem) (count : ℕ) → count ≡ orders c.items - (c.setups + 1) → count ≤ orders c.items - c.setups → report (longer c (item ∷ [])) count ≡ report c count
+step_stays : (c : PermutationRun) (item : HistItem) (count : ℕ) → count ≡ orders c.items - (c.setups + 1) → count ≤ orders c.items - c.setups → report (with_more c (item ∷ [])) count ≡ report c count
 step_stays c item count is low = within_segment c item count is low (cases_lt c.setups (orders c.items))
 
 -- what is kept once an order has come, and that the lines of its segment are missing
-pub seen_order : (c : PermutationRun) (item : HistItem) (p q : Progress) → IsSettled c p → is_order item.event ≡ true → IsNoted item p q → Keeps (longer c (item ∷ [])) q
+pub seen_order : (c : PermutationRun) (item : HistItem) (p q : PlanProgress) → IsSettled c p → is_order item.event ≡ true → IsNoted item p q → Keeps (with_more c (item ∷ [])) q
 seen_order c item p q settled ordered n = keeps_next c item p q settled.kept (order_stays c item p.segments_done ordered settled.all) (order_lags c item p.segments_done ordered settled.all) n
 
-pub order_waits : (c : PermutationRun) (item : HistItem) (p q : Progress) → IsSettled c p → is_order item.event ≡ true → IsNoted item p q → Lags (longer c (item ∷ [])) q
+pub order_waits : (c : PermutationRun) (item : HistItem) (p q : PlanProgress) → IsSettled c p → is_order item.event ≡ true → IsNoted item p q → Lags (with_more c (item ∷ [])) q
 order_waits c item p q settled ordered n = n.segments_done_is ∙ order_lags c item p.segments_done ordered settled.all
 
-in_segment : (c : PermutationRun) (item : HistItem) (p : Progress) → is_order item.event ≡ false → (is_order item.event ≡ true) ⊎ Lags c p → Lags c p
+in_segment : (c : PermutationRun) (item : HistItem) (p : PlanProgress) → is_order item.event ≡ false → (is_order item.event ≡ true) ⊎ Lags c p → Lags c p
 in_segment c item p step (inl ordered) = cc
 in_segment c item p step (inr lags) = lags
 
 -- the same for a Step
-pub seen_step : (c : PermutationRun) (item : HistItem) (p q : Progress) → Keeps c p → (is_order item.event ≡ true) ⊎ Lags c p → is_order item.event ≡ false → IsNoted item p q → Keeps (longer c (item ∷ [])) q
+pub seen_step : (c : PermutationRun) (item : HistItem) (p q : PlanProgress) → Keeps c p → (is_order item.event ≡ true) ⊎ Lags c p → is_order item.event ≡ false → IsNoted item p q → Keeps (with_more c (item ∷ [])) q
 seen_step c item p q kept next step n =
     let lags = in_segment c item p step next in
     keeps_next c item p q kept (step_stays c item p.segments_done lags kept.low) (step_lags c item p.segments_done step lags) n
 
-pub step_waits : (c : PermutationRun) (item : HistItem) (p q : Progress) → (is_order item.event ≡ true) ⊎ Lags c p → is_order item.event ≡ false → IsNoted item p q → Lags (longer c (item ∷ [])) q
+pub step_waits : (c : PermutationRun) (item : HistItem) (p q : PlanProgress) → (is_order item.event ≡ true) ⊎ Lags c p → is_order item.event ≡ false → IsNoted item p q → Lags (with_more c (item ∷ [])) q
 step_waits c item p q next step n = n.segments_done_is ∙ step_lags c item p.segments_done step (in_segment c item p step next)
 
 -- ---- the lines of the next segment
@@ -255,10 +255,10 @@ tells_next c count e l t mid new s next reported due is at_l h at =
     (ap (report_from c l (length c.entries - l) l) (sym lines) ∙ h))
     (subst (λ k. IsAt c k new.launched next) next_is at)
 
-starts_count : (c : PermutationRun) (p : Progress) → Keeps c p → length p.starts.items ≡ orders c.items
+starts_count : (c : PermutationRun) (p : PlanProgress) → Keeps c p → length p.starts.items ≡ orders c.items
 starts_count c p kept = ap length kept.found.starts_are ∙ count_found c.items 0
 
-pub settled_already : (c : PermutationRun) (p : Progress) → Keeps c p → length p.starts.items - c.setups ≡ p.segments_done → IsSettled c p
+pub settled_already : (c : PermutationRun) (p : PlanProgress) → Keeps c p → length p.starts.items - c.setups ≡ p.segments_done → IsSettled c p
 settled_already c p kept all = let counted = starts_count c p kept in record { kept = kept; all = omega (arith, all, counted) }
 
 not_there_case : (n s count : ℕ) → count ≤ n - s → n - s ≤ count + 1 → (n - s ≡ count → ⊥) → (n - s < count + 1) ⊎ (count + 1 ≤ n - s) → n ≡ s + count + 1
@@ -268,14 +268,14 @@ not_there_case n s count low high differs (inr more) = omega (arith, more, high)
 not_there : (n s count : ℕ) → count ≤ n - s → n - s ≤ count + 1 → (n - s ≡ count → ⊥) → n ≡ s + count + 1
 not_there n s count low high differs = not_there_case n s count low high differs (cases_lt (n - s) (count + 1))
 
-pub one_behind : (c : PermutationRun) (p : Progress) → Keeps c p → (length p.starts.items - c.setups ≡ p.segments_done → ⊥) → orders c.items ≡ c.setups + p.segments_done + 1
+pub one_behind : (c : PermutationRun) (p : PlanProgress) → Keeps c p → (length p.starts.items - c.setups ≡ p.segments_done → ⊥) → orders c.items ≡ c.setups + p.segments_done + 1
 one_behind c p kept differs =
     let counted = starts_count c p kept in
     let low = kept.low in
     let high = kept.high in
     not_there (orders c.items) c.setups p.segments_done low high (λ same. differs (omega (arith, counted, same)))
 
-pub settled_next : (c : PermutationRun) (p q : Progress) → Keeps c p → orders c.items ≡ c.setups + p.segments_done + 1 → q.starts ≡ p.starts → q.last ≡ p.last → q.seen ≡ p.seen → q.segments_done ≡ p.segments_done + 1 → IsReportSoFar c (p.segments_done + 1) q.so_far q.state → IsSettled c q
+pub settled_next : (c : PermutationRun) (p q : PlanProgress) → Keeps c p → orders c.items ≡ c.setups + p.segments_done + 1 → q.starts ≡ p.starts → q.last ≡ p.last → q.seen ≡ p.seen → q.segments_done ≡ p.segments_done + 1 → IsReportSoFar c (p.segments_done + 1) q.so_far q.state → IsSettled c q
 settled_next c p q kept behind starts last seen done reported =
     let seen_are = kept.seen_are in
     record {
@@ -289,7 +289,7 @@ settled_next c p q kept behind starts last seen done reported =
       all = omega (arith, behind, done);
     }
 
-pub room_to_tell : (c : PermutationRun) (p : Progress) → Keeps c p → orders c.items ≡ c.setups + p.segments_done + 1 → p.segments_done + 1 ≤ length p.starts.items
+pub room_to_tell : (c : PermutationRun) (p : PlanProgress) → Keeps c p → orders c.items ≡ c.setups + p.segments_done + 1 → p.segments_done + 1 ≤ length p.starts.items
 room_to_tell c p kept behind = let counted = starts_count c p kept in omega (arith, behind, counted)
 
 -- ---- which item comes next
@@ -299,10 +299,10 @@ past_end [] k item over h = cc
 past_end (x ∷ xs) zero item over h = absurd (omega (arith, over))
 past_end (x ∷ xs) (suc k) item over h = past_end xs k item (omega (arith, over)) h
 
-pub lags_so : (c : PermutationRun) (p : Progress) → Follows c p → length p.starts.items - (c.setups + 1) ≡ p.segments_done → Lags (front c p.seen) p
-lags_so c p follows is = let counted = starts_count (front c p.seen) p follows.kept in omega (arith, counted, is)
+pub lags_so : (c : PermutationRun) (p : PlanProgress) → KeepsFront c p → length p.starts.items - (c.setups + 1) ≡ p.segments_done → Lags (first_items c p.seen) p
+lags_so c p follows is = let counted = starts_count (first_items c p.seen) p follows.kept in omega (arith, counted, is)
 
-pub none_next : (c : PermutationRun) (p : Progress) (item : HistItem) → length c.items ≤ p.seen → slice_get c.items p.seen ≡ Some item → ⊥
+pub none_next : (c : PermutationRun) (p : PlanProgress) (item : HistItem) → length c.items ≤ p.seen → slice_get c.items p.seen ≡ Some item → ⊥
 none_next c p item over h = past_end c.items p.seen item over h
 
 pub order_next : (items : List HistItem) (k : ℕ) (item other : HistItem) → true ≡ nat_lt k (length items) → item ≡ get_or items k item → slice_get items k ≡ Some other → item ≡ other
@@ -314,11 +314,11 @@ order_next items k item other within at h =
 pub one_further : (items : List HistItem) (k : ℕ) (item : HistItem) → k < length items → item ≡ get_or items k item → take (k + 1) items ≡ take k items ++ item ∷ []
 one_further items k item less at = take_more items k item less ∙ ap (λ (x : HistItem). take k items ++ x ∷ []) (sym at)
 
-pub settled_tells : (c : PermutationRun) (p : Progress) → IsSettled c p → report c (orders c.items - c.setups) ≡ record { lines = p.so_far.lines; state = p.state }
+pub settled_tells : (c : PermutationRun) (p : PlanProgress) → IsSettled c p → report c (orders c.items - c.setups) ≡ record { lines = p.so_far.lines; state = p.state }
 settled_tells c p settled = ap (report c) (sym settled.all) ∙ settled.kept.reported.report_is
 
 -- what is kept of a front is kept of the whole
-pub follows_whole : (c : PermutationRun) (k : ℕ) (p : Progress) → Follows (front c k) p → Follows c p
+pub follows_whole : (c : PermutationRun) (k : ℕ) (p : PlanProgress) → KeepsFront (first_items c k) p → KeepsFront c p
 follows_whole c k p follows =
     let few = follows.few in
     let short = length-take k c.items in

@@ -6,7 +6,7 @@ use Rattle.report_lines.specs.declared.history.Line.{Line}
 use Rattle.report_lines.specs.declared.history.Line.TheVariants.{Completed}
 use Rattle.report_lines.specs.declared.history.Moment.{Moment}
 use Rattle.report_lines.specs.History.{PermutationRun}
-use Rattle.report_lines.specs.Report.{is_reported, active, instances, may_report, retry, pass, goes_on, polled, poll, is_of}
+use Rattle.report_lines.specs.Report.{is_reported, active, instances, may_report, retry, pass, polls_again, polled, poll, is_of}
 use Rattle.report_lines.specs.Inner.Trying.{own_retry}
 use Rattle.report_lines.proofs.Waits.{active_leave, reported_push, any_is}
 use Rattle.report_lines.proofs.Rising.{Between, between_instances, between_filter, between_length}
@@ -162,7 +162,7 @@ fold_count c m n low high (x ∷ xs) lines h le =
 pass_count : (c : PermutationRun) (m : Moment) (lines : List Line) → length (pass c m lines) + length (active (pass c m lines) m.joined) ≤ length lines + length (active lines m.joined)
 pass_count c m lines = fold_count c m m.joined 0 m.joined (instances m.joined) lines (between_instances m.joined) (omega arith)
 
-enough_case : (c : PermutationRun) (m : Moment) (k more : ℕ) (lines new : List Line) (b : Bool) → goes_on c m lines new ≡ b → (length lines < length new → polled c m (k + more) new ≡ polled c m k new) → (if b then polled c m (k + more) new else new) ≡ (if b then polled c m k new else new)
+enough_case : (c : PermutationRun) (m : Moment) (k more : ℕ) (lines new : List Line) (b : Bool) → polls_again c m lines new ≡ b → (length lines < length new → polled c m (k + more) new ≡ polled c m k new) → (if b then polled c m (k + more) new else new) ≡ (if b then polled c m k new else new)
 enough_case c m k more lines new true is rest = rest (ltb-true (length lines) (length new) (and_parts _ _ is).0)
 enough_case c m k more lines new false is rest = refl
 
@@ -171,7 +171,7 @@ enough c m more zero lines h = absurd (omega arith)
 enough c m more (suc k) lines h =
     let next : suc k + more ≡ suc (k + more) = omega arith in
     let counted = pass_count c m lines in
-    rw next (enough_case c m k more lines (pass c m lines) (goes_on c m lines (pass c m lines)) refl (λ grew. enough c m more k (pass c m lines) (omega arith)))
+    rw next (enough_case c m k more lines (pass c m lines) (polls_again c m lines (pass c m lines)) refl (λ grew. enough c m more k (pass c m lines) (omega arith)))
 
 -- any larger number of passes gives the same lines
 pub more_passes : (c : PermutationRun) (m : Moment) (lines : List Line) (more : ℕ) → polled c m (m.joined + 1 + more) lines ≡ poll c m lines

@@ -4,24 +4,24 @@ use Rattle.report_lines.specs.declared.history.Line.{Line}
 use Rattle.report_lines.specs.declared.history.RunState.{RunState}
 use Rattle.report_lines.specs.declared.history.RunState.TheVariants.{Due, Whole, Invalid}
 use Rattle.report_lines.specs.History.{PermutationRun, is_empty}
-use Rattle.report_lines.specs.Report.{Report, report, report_from, made_way, launched, poll, before, is_busy, active}
+use Rattle.report_lines.specs.Report.{Report, report, report_from, made_way, launched, poll, before_launch, has_unreported, active}
 
 -- where the entries come to an end
-pub report_end : (c : PermutationRun) (n e count : ℕ) (lines : List Line) → n ≤ e → report_from c e (n - e) count lines ≡ (let all = poll c (before c e) lines in record { lines = all; state = if is_empty (active all e) then Whole else Invalid })
+pub report_end : (c : PermutationRun) (n e count : ℕ) (lines : List Line) → n ≤ e → report_from c e (n - e) count lines ≡ (let all = poll c (before_launch c e) lines in record { lines = all; state = if is_empty (active all e) then Whole else Invalid })
 report_end c n e count lines h = let over : n - e ≡ 0 = omega arith in rw over refl
 
 -- at an entry of which no segment is there
-pub report_stuck : (c : PermutationRun) (n e : ℕ) (lines way : List Line) → e < n → way ≡ made_way c lines e → is_busy c way e ≡ true → report_from c e (n - e) e lines ≡ record { lines = way; state = Invalid }
+pub report_stuck : (c : PermutationRun) (n e : ℕ) (lines way : List Line) → e < n → way ≡ made_way c lines e → has_unreported c way e ≡ true → report_from c e (n - e) e lines ≡ record { lines = way; state = Invalid }
 report_stuck c n e lines way h is busy =
     let more : n - e ≡ suc (n - (e + 1)) = omega arith in
-    let busy_way : is_busy c (made_way c lines e) e ≡ true = ap (λ (w : List Line). is_busy c w e) (sym is) ∙ busy in
+    let busy_way : has_unreported c (made_way c lines e) e ≡ true = ap (λ (w : List Line). has_unreported c w e) (sym is) ∙ busy in
     rw (more, busy_way, is) refl
 
-pub report_due : (c : PermutationRun) (n e : ℕ) (lines way : List Line) → e < n → way ≡ made_way c lines e → is_busy c way e ≡ false → report_from c e (n - e) e lines ≡ record { lines = way; state = Due e }
+pub report_due : (c : PermutationRun) (n e : ℕ) (lines way : List Line) → e < n → way ≡ made_way c lines e → has_unreported c way e ≡ false → report_from c e (n - e) e lines ≡ record { lines = way; state = Due e }
 report_due c n e lines way h is free =
     let more : n - e ≡ suc (n - (e + 1)) = omega arith in
     let absent : nat_lt e e ≡ false = grind arith in
-    let free_way : is_busy c (made_way c lines e) e ≡ false = ap (λ (w : List Line). is_busy c w e) (sym is) ∙ free in
+    let free_way : has_unreported c (made_way c lines e) e ≡ false = ap (λ (w : List Line). has_unreported c w e) (sym is) ∙ free in
     rw (more, free_way, absent, is) refl
 
 -- ---- with no segment
@@ -61,7 +61,7 @@ record Next (c : PermutationRun) (e rest count : ℕ) (lines way : List Line) (d
   within : count < e + rest
   goes_on : report_from c e rest (count + 1) lines ≡ report_from c (count + 1) (e + rest - (count + 1)) (count + 1) (launched c way count)
 
-next_case : (c : PermutationRun) (e rest count : ℕ) (lines way : List Line) (d : ℕ) (busy past : Bool) → busy ≡ is_busy c (made_way c lines e) e → past ≡ nat_lt e count → e ≤ count
+next_case : (c : PermutationRun) (e rest count : ℕ) (lines way : List Line) (d : ℕ) (busy past : Bool) → busy ≡ has_unreported c (made_way c lines e) e → past ≡ nat_lt e count → e ≤ count
     → (e + 1 ≤ count → report_from c (e + 1) rest count (launched c (made_way c lines e) e) ≡ record { lines = way; state = Due d } → Next c (e + 1) rest count (launched c (made_way c lines e) e) way d)
     → (if busy then record { lines = made_way c lines e; state = Invalid } else (if past then report_from c (e + 1) rest count (launched c (made_way c lines e) e) else record { lines = made_way c lines e; state = Due e })) ≡ record { lines = way; state = Due d }
     → Next c e (suc rest) count lines way d
@@ -91,9 +91,9 @@ next_case c e rest count lines way d false false is_b is_p le later h =
     }
 
 from_next : (c : PermutationRun) (e rest count : ℕ) (lines way : List Line) (d : ℕ) → e ≤ count → report_from c e rest count lines ≡ record { lines = way; state = Due d } → Next c e rest count lines way d
-from_next c e zero count lines way d le h = absurd (ends_so (is_empty (active (poll c (before c e) lines) e)) d (ap (λ (r : Report). r.state) h))
+from_next c e zero count lines way d le h = absurd (ends_so (is_empty (active (poll c (before_launch c e) lines) e)) d (ap (λ (r : Report). r.state) h))
 from_next c e (suc rest) count lines way d le h =
-    next_case c e rest count lines way d (is_busy c (made_way c lines e) e) (nat_lt e count) refl refl le
+    next_case c e rest count lines way d (has_unreported c (made_way c lines e) e) (nat_lt e count) refl refl le
     (λ more h'. from_next c (e + 1) rest count (launched c (made_way c lines e) e) way d more h') h
 
 pub report_next : (c : PermutationRun) (count : ℕ) (way : List Line) (d : ℕ) → report c count ≡ record { lines = way; state = Due d } → report c (count + 1) ≡ report_from c (count + 1) (length c.entries - (count + 1)) (count + 1) (launched c way count)
@@ -112,7 +112,7 @@ not_due (Due d) e over h = cc
 not_due Whole e over h = whole_due e (sym h)
 not_due Invalid e over h = invalid_due e (sym h)
 
-over_case : (c : PermutationRun) (e rest count : ℕ) (lines way : List Line) (s : RunState) (busy past : Bool) → busy ≡ is_busy c (made_way c lines e) e → past ≡ nat_lt e count → is_due s ≡ false
+over_case : (c : PermutationRun) (e rest count : ℕ) (lines way : List Line) (s : RunState) (busy past : Bool) → busy ≡ has_unreported c (made_way c lines e) e → past ≡ nat_lt e count → is_due s ≡ false
     → (report_from c (e + 1) rest count (launched c (made_way c lines e) e) ≡ record { lines = way; state = s } → report_from c (e + 1) rest (count + 1) (launched c (made_way c lines e) e) ≡ record { lines = way; state = s })
     → (if busy then record { lines = made_way c lines e; state = Invalid } else (if past then report_from c (e + 1) rest count (launched c (made_way c lines e) e) else record { lines = made_way c lines e; state = Due e })) ≡ record { lines = way; state = s }
     → report_from c e (suc rest) (count + 1) lines ≡ record { lines = way; state = s }
@@ -123,7 +123,7 @@ over_case c e rest count lines way s false false is_b is_p over later h = absurd
 from_over : (c : PermutationRun) (e rest count : ℕ) (lines way : List Line) (s : RunState) → is_due s ≡ false → report_from c e rest count lines ≡ record { lines = way; state = s } → report_from c e rest (count + 1) lines ≡ record { lines = way; state = s }
 from_over c e zero count lines way s over h = h
 from_over c e (suc rest) count lines way s over h =
-    over_case c e rest count lines way s (is_busy c (made_way c lines e) e) (nat_lt e count) refl refl over
+    over_case c e rest count lines way s (has_unreported c (made_way c lines e) e) (nat_lt e count) refl refl over
     (from_over c (e + 1) rest count (launched c (made_way c lines e) e) way s over) h
 
 -- what is whole or invalid stays so

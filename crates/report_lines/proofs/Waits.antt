@@ -12,8 +12,8 @@ use Rattle.report_lines.specs.declared.history.Line.TheVariants.{AtOnce, Waiting
 use Rattle.report_lines.specs.declared.history.Moment.{Moment}
 use Rattle.spec_parser.specs.Trees.{EntryTree}
 use Rattle.spec_parser.specs.declared.tree.Marker.{Marker}
-use Rattle.report_lines.specs.History.{PermutationRun, names, is_named, is_empty, is_marked, markers_at}
-use Rattle.report_lines.specs.Report.{reports, is_reported, active, instances, pass, polled, goes_on}
+use Rattle.report_lines.specs.History.{PermutationRun, names, is_awaited, is_empty, is_marked, markers_of}
+use Rattle.report_lines.specs.Report.{reports, is_reported, active, instances, pass, polled, polls_again}
 use Rattle.report_lines.specs.Inner.Waiting.{IsKept}
 
 pub reported_push : (lines : List Line) (l : Line) (i : ℕ) → is_reported (lines ++ l ∷ []) i ≡ (is_reported lines i || reports i l)
@@ -123,16 +123,16 @@ held_first p lines n xs k = ap (list_any p) (active_more lines n (k.fresh n (ome
 pub kept_is : (lines : List Line) (n e : ℕ) (xs : List ℕ) → IsKept lines n xs → e < n → list_any (λ j. j == e) xs ≡ not (is_reported lines e)
 kept_is lines n e xs k h = ap (list_any (λ j. j == e)) k.waits ∙ any_is (λ j. not (is_reported lines j)) e n h
 
-pub polled_on : (c : PermutationRun) (m : Moment) (n t : ℕ) (old new : List Line) (b : Bool) → t < n → new ≡ pass c m old → b ≡ goes_on c m old new → b ≡ true → polled c m (n - (t + 1)) new ≡ polled c m (n - t) old
+pub polled_on : (c : PermutationRun) (m : Moment) (n t : ℕ) (old new : List Line) (b : Bool) → t < n → new ≡ pass c m old → b ≡ polls_again c m old new → b ≡ true → polled c m (n - (t + 1)) new ≡ polled c m (n - t) old
 polled_on c m n t old new b h is says holds =
     let e : n - t ≡ suc (n - (t + 1)) = omega arith in
-    let on : goes_on c m old (pass c m old) ≡ true = ap (goes_on c m old) (sym is) ∙ sym says ∙ holds in
+    let on : polls_again c m old (pass c m old) ≡ true = ap (polls_again c m old) (sym is) ∙ sym says ∙ holds in
     rw (e, on, is) refl
 
-pub polled_off : (c : PermutationRun) (m : Moment) (n t : ℕ) (old new : List Line) (b : Bool) → t < n → new ≡ pass c m old → b ≡ goes_on c m old new → b ≡ false → new ≡ polled c m (n - t) old
+pub polled_off : (c : PermutationRun) (m : Moment) (n t : ℕ) (old new : List Line) (b : Bool) → t < n → new ≡ pass c m old → b ≡ polls_again c m old new → b ≡ false → new ≡ polled c m (n - t) old
 polled_off c m n t old new b h is says fails =
     let e : n - t ≡ suc (n - (t + 1)) = omega arith in
-    let off : goes_on c m old (pass c m old) ≡ false = ap (goes_on c m old) (sym is) ∙ sym says ∙ fails in
+    let off : polls_again c m old (pass c m old) ≡ false = ap (polls_again c m old) (sym is) ∙ sym says ∙ fails in
     rw (e, off, is) refl
 
 pub fold_more : (f : List Line → ℕ → List Line) (a : List Line) (n : ℕ) → fold f a (instances (n + 1)) ≡ f (fold f a (instances n)) n
@@ -144,6 +144,6 @@ unnamed (Some e) [] h = refl
 unnamed (Some e) (m ∷ ms) h = let some : is_empty (m ∷ ms) ≡ false = grind arith in let no : true ≡ false = ap not (sym some) ∙ h in cc
 
 -- an entry without markers names no step
-pub unmarked : (c : PermutationRun) (i : ℕ) (xs : List ℕ) → is_marked c i ≡ false → list_any (is_named c i) xs ≡ false
+pub unmarked : (c : PermutationRun) (i : ℕ) (xs : List ℕ) → is_marked c i ≡ false → list_any (is_awaited c i) xs ≡ false
 unmarked c i [] h = refl
-unmarked c i (x ∷ xs) h = rw (unnamed (slice_get c.entries x) (markers_at c i) h, unmarked c i xs h) refl
+unmarked c i (x ∷ xs) h = rw (unnamed (slice_get c.entries x) (markers_of c i) h, unmarked c i xs h) refl

@@ -10,7 +10,7 @@ use Rattle.report_lines.specs.declared.history.PlannedLaunch.{PlannedLaunch}
 use Rattle.report_lines.specs.declared.history.TeardownsSoFar.{TeardownsSoFar}
 use Rattle.report_lines.specs.declared.history.RunState.{RunState}
 use Rattle.report_lines.specs.declared.history.RunState.TheVariants.{Due, Whole, Invalid}
-use Rattle.report_lines.specs.Starts.{start, ends_in, is_order}
+use Rattle.report_lines.specs.Starts.{segment_start, ends_in, is_order}
 use Rattle.report_lines.specs.History.{PermutationRun}
 use Rattle.report_lines.specs.Report.{report}
 
@@ -29,7 +29,7 @@ pub record Planned : Type 0 where
 
 -- the segment of this number
 abbrev pub segment : List HistItem → ℕ → List HistItem
-segment items k = slice_range items (start items k) (start items (k + 1))
+segment items k = slice_range items (segment_start items k) (segment_start items (k + 1))
 
 -- the segment's block ended
 abbrev pub is_over : List HistItem → ℕ → ℕ → Bool

@@ -5,9 +5,9 @@ use Rattle.report_lines.specs.History.{PermutationRun}
 use Rattle.report_lines.specs.Due.{Planned}
 
 -- the same with more items behind its own
-abbrev pub longer : PermutationRun → List HistItem → PermutationRun
-longer c more = record { entries = c.entries; items = c.items ++ more; setups = c.setups }
+abbrev pub with_more : PermutationRun → List HistItem → PermutationRun
+with_more c more = record { entries = c.entries; items = c.items ++ more; setups = c.setups }
 
 -- the same plan with more items behind those of its history
 abbrev pub longer_plan : Planned → List HistItem → Planned
-longer_plan p more = record p { run = longer p.run more }
+longer_plan p more = record p { run = with_more p.run more }

@@ -2,7 +2,7 @@
 use Rattle.std.specs.Prelude.{ℕ, ◌+◌, ◌==◌, Bool, true, false, not, ◌&&◌, List, [], length, slice_get, slice_range}
 use Rattle.std.specs.List.{list_any}
 use Rattle.std.specs.Option.{option_map_or}
-use Rattle.report_lines.specs.Starts.{start, ends_in}
+use Rattle.report_lines.specs.Starts.{segment_start, ends_in}
 use Rattle.session_machine.specs.declared.reply.HistItem.{HistItem}
 use Rattle.spec_parser.specs.Trees.{EntryTree}
 use Rattle.spec_parser.specs.declared.tree.Marker.{Marker}
@@ -15,16 +15,16 @@ pub record PermutationRun : Type 0 where
   pub setups : ℕ
 
 -- the session of an instance, which is an entry by its number from 0
-abbrev pub session_at : PermutationRun → ℕ → ℕ
-session_at c i = option_map_or (λ (e : EntryTree). e.session) (slice_get c.entries i) 0
+abbrev pub session_of_entry : PermutationRun → ℕ → ℕ
+session_of_entry c i = option_map_or (λ (e : EntryTree). e.session) (slice_get c.entries i) 0
 
 -- how many items there are before the segment of an entry, and with it
 abbrev pub seen_before : PermutationRun → ℕ → ℕ
-seen_before c i = start c.items (c.setups + i)
+seen_before c i = segment_start c.items (c.setups + i)
 
 -- the instance's block has ended in the items so far
 abbrev pub has_ended : PermutationRun → ℕ → ℕ → Bool
-has_ended c seen i = list_any (ends_in (session_at c i)) (slice_range c.items (seen_before c i) seen)
+has_ended c seen i = list_any (ends_in (session_of_entry c i)) (slice_range c.items (seen_before c i) seen)
 
 abbrev pub names : EntryTree → Marker → Bool
 names e Star = false
@@ -34,18 +34,18 @@ abbrev pub is_star : Marker → Bool
 is_star Star = true
 is_star (Named session step) = false
 
-abbrev pub markers_at : PermutationRun → ℕ → List Marker
-markers_at c i = option_map_or (λ (e : EntryTree). e.markers) (slice_get c.entries i) []
+abbrev pub markers_of : PermutationRun → ℕ → List Marker
+markers_of c i = option_map_or (λ (e : EntryTree). e.markers) (slice_get c.entries i) []
 
 -- the step of the second instance is named by a marker of the first
-abbrev pub is_named : PermutationRun → ℕ → ℕ → Bool
-is_named c i j = option_map_or (λ (e : EntryTree). list_any (names e) (markers_at c i)) (slice_get c.entries j) false
+abbrev pub is_awaited : PermutationRun → ℕ → ℕ → Bool
+is_awaited c i j = option_map_or (λ (e : EntryTree). list_any (names e) (markers_of c i)) (slice_get c.entries j) false
 
 abbrev pub is_starred : PermutationRun → ℕ → Bool
-is_starred c i = list_any is_star (markers_at c i)
+is_starred c i = list_any is_star (markers_of c i)
 
 abbrev pub is_empty : {A : Type 0} → List A → Bool
 is_empty xs = length xs == 0
 
 abbrev pub is_marked : PermutationRun → ℕ → Bool
-is_marked c i = not (is_empty (markers_at c i))
+is_marked c i = not (is_empty (markers_of c i))

@@ -1,6 +1,6 @@
 -- What is kept of a permutation and a front of its history.
 use Rattle.std.specs.Prelude.{◌≡◌, ℕ, ◌+◌, ◌-◌, ◌≤◌, List, length, map, take}
-use Rattle.report_lines.specs.declared.progress.Progress.{Progress}
+use Rattle.report_lines.specs.declared.progress.PlanProgress.{PlanProgress}
 use Rattle.session_machine.specs.declared.reply.HistItem.{HistItem}
 use Rattle.spec_parser.specs.declared.tree.Entry.{Entry}
 use Rattle.spec_parser.specs.Trees.{entry_view}
@@ -14,7 +14,7 @@ abbrev pub permutation_run : List Entry → List HistItem → ℕ → Permutatio
 permutation_run entries items setups = record { entries = map entry_view entries; items = items; setups = setups }
 
 -- what is kept is what these items lead to, but that the lines of the last segment may be missing yet
-pub record Keeps (c : PermutationRun) (p : Progress) : Type 0 where
+pub record Keeps (c : PermutationRun) (p : PlanProgress) : Type 0 where
   pub seen_are : p.seen ≡ length c.items
   pub found : IsSeen c p.starts.items p.last.items
   pub reported : IsReportSoFar c p.segments_done p.so_far p.state
@@ -22,10 +22,10 @@ pub record Keeps (c : PermutationRun) (p : Progress) : Type 0 where
   pub high : orders c.items - c.setups ≤ p.segments_done + 1
 
 -- the first so many items
-abbrev pub front : PermutationRun → ℕ → PermutationRun
-front c n = record { entries = c.entries; items = take n c.items; setups = c.setups }
+abbrev pub first_items : PermutationRun → ℕ → PermutationRun
+first_items c n = record { entries = c.entries; items = take n c.items; setups = c.setups }
 
 -- what is kept is of a front of this history
-pub record Follows (c : PermutationRun) (p : Progress) : Type 0 where
+pub record KeepsFront (c : PermutationRun) (p : PlanProgress) : Type 0 where
   pub few : p.seen ≤ length c.items
-  pub kept : Keeps (front c p.seen) p
+  pub kept : Keeps (first_items c p.seen) p

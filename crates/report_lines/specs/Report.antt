@@ -6,7 +6,7 @@ use Rattle.report_lines.specs.declared.history.Line.TheVariants.{AtOnce, Waiting
 use Rattle.report_lines.specs.declared.history.Moment.{Moment}
 use Rattle.report_lines.specs.declared.history.RunState.{RunState}
 use Rattle.report_lines.specs.declared.history.RunState.TheVariants.{Due, Whole, Invalid}
-use Rattle.report_lines.specs.History.{PermutationRun, session_at, seen_before, has_ended, is_named, is_starred, is_empty, is_marked}
+use Rattle.report_lines.specs.History.{PermutationRun, session_of_entry, seen_before, has_ended, is_awaited, is_starred, is_empty, is_marked}
 
 -- the line reports the instance
 abbrev pub reports : ℕ → Line → Bool
@@ -26,14 +26,14 @@ instances (suc n) = instances n ++ n ∷ []
 abbrev pub active : List Line → ℕ → List ℕ
 active lines launched = filter (λ j. not (is_reported lines j)) (instances launched)
 
-abbrev pub before : PermutationRun → ℕ → Moment
-before c e = record { seen = seen_before c e; launched = e; joined = e }
+abbrev pub before_launch : PermutationRun → ℕ → Moment
+before_launch c e = record { seen = seen_before c e; launched = e; joined = e }
 
-abbrev pub after : PermutationRun → ℕ → Moment
-after c e = record { seen = seen_before c (e + 1); launched = e + 1; joined = e }
+abbrev pub after_launch : PermutationRun → ℕ → Moment
+after_launch c e = record { seen = seen_before c (e + 1); launched = e + 1; joined = e }
 
 abbrev pub may_report : PermutationRun → Moment → List Line → ℕ → Bool
-may_report c m lines i = has_ended c m.seen i && not (list_any (is_named c i) (active lines m.launched))
+may_report c m lines i = has_ended c m.seen i && not (list_any (is_awaited c i) (active lines m.launched))
 
 -- the first try of an instance
 abbrev pub first_try : PermutationRun → Moment → List Line → ℕ → List Line
@@ -48,32 +48,32 @@ abbrev pub pass : PermutationRun → Moment → List Line → List Line
 pass c m lines = fold (retry c m) lines (instances m.joined)
 
 -- the last pass reported a step, and a step that remains has a marker
-abbrev pub goes_on : PermutationRun → Moment → List Line → List Line → Bool
-goes_on c m old new = nat_lt (length old) (length new) && list_any (λ j. nat_lt j m.joined && is_marked c j) (active new m.launched)
+abbrev pub polls_again : PermutationRun → Moment → List Line → List Line → Bool
+polls_again c m old new = nat_lt (length old) (length new) && list_any (λ j. nat_lt j m.joined && is_marked c j) (active new m.launched)
 
 -- so many passes at most
 abbrev pub polled : PermutationRun → Moment → ℕ → List Line → List Line
 polled c m zero lines = lines
-polled c m (suc more) lines = let new = pass c m lines in if goes_on c m lines new then polled c m more new else new
+polled c m (suc more) lines = let new = pass c m lines in if polls_again c m lines new then polled c m more new else new
 
 abbrev pub poll : PermutationRun → Moment → List Line → List Line
 poll c m lines = polled c m (m.joined + 1) lines
 
 abbrev pub is_of : PermutationRun → ℕ → ℕ → Bool
-is_of c session i = session_at c i == session
+is_of c session i = session_of_entry c i == session
 
 -- the session of an entry that is to be launched has an active step
-abbrev pub is_busy : PermutationRun → List Line → ℕ → Bool
-is_busy c lines e = list_any (is_of c (session_at c e)) (active lines e)
+abbrev pub has_unreported : PermutationRun → List Line → ℕ → Bool
+has_unreported c lines e = list_any (is_of c (session_of_entry c e)) (active lines e)
 
 -- the tries before an entry's Launch: where its session has an active step, the session's steps first
 abbrev pub made_way : PermutationRun → List Line → ℕ → List Line
 made_way c lines e =
-    if is_busy c lines e then poll c (before c e) (fold (retry c (before c e)) lines (filter (is_of c (session_at c e)) (instances e))) else lines
+    if has_unreported c lines e then poll c (before_launch c e) (fold (retry c (before_launch c e)) lines (filter (is_of c (session_of_entry c e)) (instances e))) else lines
 
 -- the tries after it
 abbrev pub launched : PermutationRun → List Line → ℕ → List Line
-launched c lines e = poll c (after c e) (first_try c (after c e) lines e)
+launched c lines e = poll c (after_launch c e) (first_try c (after_launch c e) lines e)
 
 pub record Report : Type 0 where
   pub lines : List Line
@@ -82,10 +82,10 @@ pub record Report : Type 0 where
 -- the report of the entries from one on, of whose segments so many are there
 abbrev pub report_from : PermutationRun → ℕ → ℕ → ℕ → List Line → Report
 report_from c e zero count lines =
-    let all = poll c (before c e) lines in record { lines = all; state = if is_empty (active all e) then Whole else Invalid }
+    let all = poll c (before_launch c e) lines in record { lines = all; state = if is_empty (active all e) then Whole else Invalid }
 report_from c e (suc rest) count lines =
     let way = made_way c lines e in
-    if is_busy c way e then record { lines = way; state = Invalid }
+    if has_unreported c way e then record { lines = way; state = Invalid }
     else if nat_lt e count then report_from c (e + 1) rest count (launched c way e) else record { lines = way; state = Due e }
 
 abbrev pub report : PermutationRun → ℕ → Report

@@ -10,10 +10,10 @@ is_order (Step session) = false
 is_order _ = true
 
 -- how many items come before the order of this number, from 0; all where there are fewer orders
-abbrev pub start : List HistItem → ℕ → ℕ
-start [] k = 0
-start (item ∷ items) zero = if is_order item.event then 0 else (start items zero + 1)
-start (item ∷ items) (suc k) = if is_order item.event then (start items k + 1) else (start items (suc k) + 1)
+abbrev pub segment_start : List HistItem → ℕ → ℕ
+segment_start [] k = 0
+segment_start (item ∷ items) zero = if is_order item.event then 0 else (segment_start items zero + 1)
+segment_start (item ∷ items) (suc k) = if is_order item.event then (segment_start items k + 1) else (segment_start items (suc k) + 1)
 
 abbrev pub ends_in : ℕ → HistItem → Bool
 ends_in session item = (session_of item.event == session) && item.reply.ended

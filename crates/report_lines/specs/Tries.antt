@@ -5,8 +5,8 @@ use Rattle.std.specs.List.{list_any, filter}
 use Rattle.report_lines.specs.declared.history.Line.{Line}
 use Rattle.report_lines.specs.declared.history.Line.TheVariants.{AtOnce, Waiting, Completed}
 use Rattle.report_lines.specs.declared.history.Moment.{Moment}
-use Rattle.report_lines.specs.History.{PermutationRun, session_at, has_ended, is_named, is_starred, is_marked}
-use Rattle.report_lines.specs.Report.{instances, before, after, is_of}
+use Rattle.report_lines.specs.History.{PermutationRun, session_of_entry, has_ended, is_awaited, is_starred, is_marked}
+use Rattle.report_lines.specs.Report.{instances, before_launch, after_launch, is_of}
 
 -- an instance is tried at a moment
 pub record Try : Type 0 where
@@ -23,7 +23,7 @@ is_untried tries i = not (list_any (is_try_of i) tries)
 -- the condition of a try: the block has ended in the items so far, no instance of a step that a marker names is active, and, with a star, the try isn't the first
 abbrev pub may_be_reported : PermutationRun → List ℕ → Bool → Try → Bool
 may_be_reported c active is_first t =
-    has_ended c t.moment.seen t.entry && not (list_any (is_named c t.entry) active) && not (is_first && is_starred c t.entry)
+    has_ended c t.moment.seen t.entry && not (list_any (is_awaited c t.entry) active) && not (is_first && is_starred c t.entry)
 
 -- the condition was met at one of the tries of this instance
 abbrev pub was_reported : PermutationRun → List Try → ℕ → Bool
@@ -75,22 +75,22 @@ all_passes c m tries = passes c m (m.joined + 1) tries
 
 -- the session of an entry has an active step
 abbrev pub has_active : PermutationRun → List Try → ℕ → Bool
-has_active c tries e = list_any (is_of c (session_at c e)) (still_active c tries e)
+has_active c tries e = list_any (is_of c (session_of_entry c e)) (still_active c tries e)
 
 -- before an entry's Launch, if its session has an active step: that step first
 abbrev pub tries_before : PermutationRun → List Try → ℕ → List Try
 tries_before c tries e =
     if has_active c tries e
-    then all_passes c (before c e) (try_each (before c e) tries (filter (is_of c (session_at c e)) (still_active c tries e)))
+    then all_passes c (before_launch c e) (try_each (before_launch c e) tries (filter (is_of c (session_of_entry c e)) (still_active c tries e)))
     else tries
 
 -- after an entry's segment: the new step first
 abbrev pub tries_after : PermutationRun → List Try → ℕ → List Try
-tries_after c tries e = all_passes c (after c e) (record { entry = e; moment = after c e } ∷ tries)
+tries_after c tries e = all_passes c (after_launch c e) (record { entry = e; moment = after_launch c e } ∷ tries)
 
 -- the tries of the entries from one on, of whose segments so many are there
 abbrev pub tries_from : PermutationRun → ℕ → ℕ → ℕ → List Try → List Try
-tries_from c e zero count tries = all_passes c (before c e) tries
+tries_from c e zero count tries = all_passes c (before_launch c e) tries
 tries_from c e (suc rest) count tries =
     let way = tries_before c tries e in
     if has_active c way e then way

@@ -9,7 +9,7 @@ ghost use Rattle.report_lines.specs.Tries.{tries, said, IsReportPoint};
 ghost use Rattle.session_machine.specs.declared.reply.HistItem.{HistItem};
 ghost use Rattle.report_lines.specs.Starts.{is_order};
 ghost use Rattle.report_lines.specs.Due.{Planned, orders, due_at, due};
-ghost use Rattle.report_lines.specs.Fronts.{longer, longer_plan};
+ghost use Rattle.report_lines.specs.Fronts.{with_more, longer_plan};
 ghost use Rattle.report_lines.specs.Invalid.{IsInvalid};
 ghost use Rattle.report_lines.specs.declared.history.RunState.TheVariants.{Invalid};
 
@@ -42,7 +42,7 @@ pub fn invalid_where_a_step_is_still_active()
 /// What was told before an order stays so, whatever the history goes on with.
 pub fn what_was_reported_stays()
     ensures { (c : PermutationRun) (item : HistItem) (more : List HistItem) (count : ℕ) → is_order item.event ≡ true → orders c.items ≡ c.setups + count →
-        report (longer c (item ∷ more)) count ≡ report c count }
+        report (with_more c (item ∷ more)) count ≡ report c count }
 {}
 
 /// What was due before an order can be told from the whole history.

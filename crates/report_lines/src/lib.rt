@@ -16,5 +16,5 @@ pub use history::{Line, Moment, PlannedLaunch, RunState};
 pub use lines_so_far::LinesSoFar;
 pub use permutation_run::PermutationRun;
 pub use plan::{Plan, Schedule};
-pub use progress::{Progress, report};
+pub use progress::{PlanProgress, report};
 pub use segments::{Segments, any_ends, any_fails};

@@ -5,10 +5,10 @@ ghost use Rattle.std.specs.List.{list_any, filter, fold};
 ghost use Rattle.report_lines.specs.SoFar.{LinesSoFar, IsAt, IsReportSoFar};
 ghost use Rattle.report_lines.specs.Inner.Waiting.{IsKept};
 ghost use Rattle.report_lines.specs.Due.{orders};
-ghost use Rattle.report_lines.specs.History.{session_at, is_named, is_marked, has_ended, seen_before};
+ghost use Rattle.report_lines.specs.History.{session_of_entry, is_awaited, is_marked, has_ended, seen_before};
 ghost use Rattle.report_lines.specs.Inner.Trying.{is_chosen, chosen_retry, retried_from};
-ghost use Rattle.report_lines.specs.Report.{is_reported, active, may_report, first_try, retry, pass, goes_on, polled, poll, is_busy, is_of};
-ghost use Rattle.report_lines.specs.Report.{made_way, launched, after, report, report_from, instances};
+ghost use Rattle.report_lines.specs.Report.{is_reported, active, may_report, first_try, retry, pass, polls_again, polled, poll, has_unreported, is_of};
+ghost use Rattle.report_lines.specs.Report.{made_way, launched, after_launch, report, report_from, instances};
 
 use crate::history::{Line, Moment, RunState};
 use crate::run_so_far::RunSoFar;
@@ -95,7 +95,7 @@ impl LinesSoFar {
     /// Whether a step that an entry's markers name is active.
     #[tactic(auto, using(crate::proofs::Waits::unmarked))]
     fn is_held(&self, run: &RunSoFar<'_>, entry: usize) -> bool
-        ensures { result ≡ list_any (is_named run.now entry) (active self.now.lines self.now.launched) }
+        ensures { result ≡ list_any (is_awaited run.now entry) (active self.now.lines self.now.launched) }
     {
         if !run.is_marked(entry) {
             return false;
@@ -215,7 +215,7 @@ impl LinesSoFar {
         requires seen { m.seen ≡ length run.now.items }
         requires launched { m.launched ≡ self.old.launched }
         ensures lines { OnOk result (self.new ≡ record self.old { lines = pass run.now m self.old.lines }) }
-        ensures again { IfOk result (λ again. again ≡ goes_on run.now m self.old.lines self.new.lines) }
+        ensures again { IfOk result (λ again. again ≡ polls_again run.now m self.old.lines self.new.lines) }
     {
         let had = self.lines.len();
         self.pass(run, m)?;
@@ -243,7 +243,7 @@ impl LinesSoFar {
 
     /// Whether a step that the next entry's markers name is active once that entry is launched.
     fn is_held_first(&self, run: &RunSoFar<'_>) -> bool
-        ensures { result ≡ list_any (is_named run.now self.now.launched) (active self.now.lines (self.now.launched + 1)) }
+        ensures { result ≡ list_any (is_awaited run.now self.now.launched) (active self.now.lines (self.now.launched + 1)) }
     {
         let held = self.is_held(run, self.launched);
         let by_itself = run.is_named(self.launched, self.launched);
@@ -295,7 +295,7 @@ impl LinesSoFar {
     /// Whether the session of the next entry has an active step.
     fn is_busy(&self, run: &RunSoFar<'_>, entry: usize) -> bool
         requires { entry ≡ self.now.launched }
-        ensures { result ≡ is_busy run.now self.now.lines entry }
+        ensures { result ≡ has_unreported run.now self.now.lines entry }
     {
         let session = run.session_at(entry);
         self.has_of(run, session)

@@ -33,7 +33,7 @@ impl<'a> Model for PermutationRun<'a> {
 }
 
 impl<'a> PermutationRun<'a> {
-    ghost use Rattle.report_lines.specs.History.{PermutationRun, seen_before, session_at};
+    ghost use Rattle.report_lines.specs.History.{PermutationRun, seen_before, session_of_entry};
 
     /// These entries with a history, in which so many segments come before the first entry's. Fails only where memory is refused.
     pub fn new(
@@ -94,7 +94,7 @@ impl<'a> PermutationRun<'a> {
 
     /// The session of an entry; 0 where there is no such entry.
     pub fn session_at(&self, entry: usize) -> u32
-        ensures { result ≡ session_at self.now entry }
+        ensures { result ≡ session_of_entry self.now entry }
     {
         entries::session_at(self.entries(), entry)
     }

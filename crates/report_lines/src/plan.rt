@@ -3,11 +3,11 @@ ghost use Rattle.std.specs.Prelude.{◌≡◌, ◌+◌, ◌-◌, ◌<◌, ◌≤
 ghost use Rattle.std.specs.Option.{option_map_or};
 ghost use Rattle.spec_parser.specs.Trees.{entry_view};
 ghost use Rattle.report_lines.specs.Due.{is_over, went_well, orders, launch, due_setup, teardowns_so_far, due_last, due_entry, due};
-ghost use Rattle.report_lines.specs.Progress.{Follows};
+ghost use Rattle.report_lines.specs.Progress.{KeepsFront};
 ghost use Rattle.report_lines.specs.Inner.Progress.{IsSettled};
 
 use crate::history::{PlannedLaunch, RunState, TeardownsSoFar};
-use crate::progress::Progress;
+use crate::progress::PlanProgress;
 use crate::segments::Segments;
 use session_machine::{HistItem, Order};
 use spec_parser::Entry;
@@ -183,16 +183,16 @@ impl<'a> Plan<'a> {
     pub fn due(&self, alloc: Global) -> Result<Order, AllocError>
         ensures { IfOk result (λ order. order ≡ due self.now) }
     {
-        let mut progress = Progress::new(alloc, self.entries, self.setups.len())?;
+        let mut progress = PlanProgress::new(alloc, self.entries, self.setups.len())?;
         self.go_on(alloc, &mut progress)
     }
 
     /// The next order, by what was kept of a front of the history, such as nothing; the same is then kept of the whole.
     /// Fails only where memory is refused.
-    pub fn go_on(&self, alloc: Global, progress: &mut Progress) -> Result<Order, AllocError>
-        requires follows { Follows self.now.run progress.old }
+    pub fn go_on(&self, alloc: Global, progress: &mut PlanProgress) -> Result<Order, AllocError>
+        requires follows { KeepsFront self.now.run progress.old }
         ensures order { IfOk result (λ order. order ≡ due self.now) }
-        ensures follows { OnOk result (Follows self.now.run progress.new) }
+        ensures follows { OnOk result (KeepsFront self.now.run progress.new) }
     {
         progress.reach(alloc, self.entries, self.setups.len(), self.items)?;
         Ok(due_by(self, progress))
@@ -200,7 +200,7 @@ impl<'a> Plan<'a> {
 }
 
 /// The next order, by what is kept of the whole history.
-fn due_by<'a>(plan: &'a Plan<'a>, progress: &'a Progress) -> Order
+fn due_by<'a>(plan: &'a Plan<'a>, progress: &'a PlanProgress) -> Order
     requires { IsSettled plan.now.run progress.now }
     ensures { result ≡ due plan.now }
 {

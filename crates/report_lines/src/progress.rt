@@ -5,7 +5,7 @@ ghost use Rattle.report_lines.specs.Due.{orders};
 ghost use Rattle.report_lines.specs.Report.{report};
 ghost use Rattle.report_lines.specs.Places.{starts_from};
 ghost use Rattle.report_lines.specs.Inner.Places.{starts_after, ended_behind, ends_after, IsZeros};
-ghost use Rattle.report_lines.specs.Progress.{Keeps, Follows, permutation_run};
+ghost use Rattle.report_lines.specs.Progress.{Keeps, KeepsFront, permutation_run};
 ghost use Rattle.report_lines.specs.Inner.Progress.{Lags, IsSettled, IsNext, IsNoted};
 
 use crate::entries::{is_order, session_of};
@@ -20,7 +20,7 @@ use std::alloc::{AllocError, Global};
 
 /// The orders so far, the lines of the entries, and how far they have come.
 #[derive(Drop)]
-pub struct Progress {
+pub struct PlanProgress {
     starts: Vec<usize>,
     // Behind which item the last block of each session ended.
     last: Vec<usize>,
@@ -70,9 +70,9 @@ fn note_start(starts: &mut Vec<usize>, item: &HistItem<'_>, place: usize) -> Res
     Ok(())
 }
 
-impl Progress {
+impl PlanProgress {
     /// Before anything has come.
-    pub fn new(alloc: Global, entries: &[Entry], setups: usize) -> Result<Progress, AllocError>
+    pub fn new(alloc: Global, entries: &[Entry], setups: usize) -> Result<PlanProgress, AllocError>
         requires { setups + length entries.now + 1 < 2 ^ 64 }
         ensures { IfOk result (λ p. Keeps (permutation_run entries.now [] setups) p) }
     {
@@ -83,7 +83,7 @@ impl Progress {
         } else {
             RunState::Due(0)
         };
-        Ok(Progress {
+        Ok(PlanProgress {
             starts: Vec::new(alloc),
             last,
             so_far,
@@ -152,7 +152,7 @@ impl Progress {
         setups: usize,
         items: &[HistItem<'_>],
     ) -> Result<(), AllocError>
-        requires follows { Follows (permutation_run entries.now items.now setups) self.old }
+        requires follows { KeepsFront (permutation_run entries.now items.now setups) self.old }
         requires next { IsNext (permutation_run entries.now items.now setups) self.old }
         ensures { OnOk result (Keeps (permutation_run entries.now items.now setups) self.new) }
     {
@@ -164,7 +164,7 @@ impl Progress {
 
     /// Whether the item behind those that have come is an order, or belongs to a segment whose lines are missing.
     fn goes_on(&self, entries: &[Entry], setups: usize, items: &[HistItem<'_>]) -> bool
-        requires follows { Follows (permutation_run entries.now items.now setups) self.now }
+        requires follows { KeepsFront (permutation_run entries.now items.now setups) self.now }
         ensures { IsTrue result → IsNext (permutation_run entries.now items.now setups) self.now }
     {
         if self.starts.len().saturating_sub(setups + 1) == self.segments_done {
@@ -185,11 +185,11 @@ impl Progress {
         items: &[HistItem<'_>],
     ) -> Result<(), AllocError>
         requires room { setups + length entries.now + 1 < 2 ^ 64 }
-        requires follows { Follows (permutation_run entries.now items.now setups) self.old }
+        requires follows { KeepsFront (permutation_run entries.now items.now setups) self.old }
         ensures { OnOk result (IsSettled (permutation_run entries.now items.now setups) self.new) }
     {
         if !self.goes_on(entries, setups, items) {
-            *self = Progress::new(alloc, entries, setups)?;
+            *self = PlanProgress::new(alloc, entries, setups)?;
         }
         self.see_all(entries, setups, items)?;
         self.settle(entries, setups, items)
@@ -215,8 +215,8 @@ impl Progress {
 pub fn report(alloc: Global, run: &PermutationRun<'_>) -> Result<(LinesSoFar, RunState), AllocError>
     ensures { IfOk result (λ reported. report run.now (orders run.now.items - run.now.setups) ≡ record { lines = reported.0.lines; state = reported.1 }) }
 {
-    let mut progress = Progress::new(alloc, run.entries(), run.setups())?;
+    let mut progress = PlanProgress::new(alloc, run.entries(), run.setups())?;
     progress.reach(alloc, run.entries(), run.setups(), run.items())?;
-    let Progress { so_far, state, .. } = progress;
+    let PlanProgress { so_far, state, .. } = progress;
     Ok((so_far, state))
 }

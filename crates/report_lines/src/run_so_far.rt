@@ -36,8 +36,8 @@ impl<'a> Model for RunSoFar<'a> {
 }
 
 impl<'a> RunSoFar<'a> {
-    ghost use Rattle.report_lines.specs.Report.{before, after};
-    ghost use Rattle.report_lines.specs.History.{seen_before, has_ended, is_named, is_starred, is_marked, session_at};
+    ghost use Rattle.report_lines.specs.Report.{before_launch, after_launch};
+    ghost use Rattle.report_lines.specs.History.{seen_before, has_ended, is_awaited, is_starred, is_marked, session_of_entry};
     ghost use Rattle.report_lines.specs.Due.{orders};
     ghost use Rattle.report_lines.specs.Places.{IsSeen};
 
@@ -86,7 +86,7 @@ impl<'a> RunSoFar<'a> {
     pub(crate) fn before(&self, entry: usize) -> Moment
         requires entry { entry ≤ length self.now.entries }
         requires now { orders self.now.items ≤ self.now.setups + entry }
-        ensures moment { result ≡ before self.now entry }
+        ensures moment { result ≡ before_launch self.now entry }
         ensures seen { result.seen ≡ length self.now.items }
         ensures room { length self.now.entries + 1 < 2 ^ 64 }
     {
@@ -102,7 +102,7 @@ impl<'a> RunSoFar<'a> {
     pub(crate) fn after(&self, entry: usize) -> Moment
         requires entry { entry < length self.now.entries }
         requires now { orders self.now.items ≤ self.now.setups + entry + 1 }
-        ensures moment { result ≡ after self.now entry }
+        ensures moment { result ≡ after_launch self.now entry }
         ensures seen { result.seen ≡ length self.now.items }
         ensures room { length self.now.entries + 1 < 2 ^ 64 }
     {
@@ -116,14 +116,14 @@ impl<'a> RunSoFar<'a> {
 
     /// The session of an entry; 0 where there is no such entry.
     pub(crate) fn session_at(&self, entry: usize) -> u32
-        ensures { result ≡ session_at self.now entry }
+        ensures { result ≡ session_of_entry self.now entry }
     {
         entries::session_at(self.entries(), entry)
     }
 
     /// Whether a marker of the first entry names the step of the other.
     pub(crate) fn is_named(&self, entry: usize, other: usize) -> bool
-        ensures { result ≡ is_named self.now entry other }
+        ensures { result ≡ is_awaited self.now entry other }
     {
         match (self.entries().get(entry), self.entries().get(other)) {
             (Some(e), Some(o)) => entries::waits_for(e, o),

@@ -1,7 +1,7 @@
 //! A history with the places of its orders.
 ghost use Rattle.std.specs.Prelude.{◌≡◌, ◌+◌, ◌<◌, ◌≤◌, ◌^◌, ◌++◌, length, IfOk, slice_range};
 ghost use Rattle.std.specs.List.{list_any};
-ghost use Rattle.report_lines.specs.Starts.{start, ends_in};
+ghost use Rattle.report_lines.specs.Starts.{segment_start, ends_in};
 ghost use Rattle.session_machine.specs.Machine.{is_failed};
 ghost use Rattle.report_lines.specs.Due.{segment, is_over, went_well, orders};
 ghost use Rattle.report_lines.specs.Places.{starts_from};
@@ -32,7 +32,7 @@ impl<'a> Model for Segments<'a> {
 }
 
 impl<'a> Segments<'a> {
-    ghost use Rattle.report_lines.specs.Starts.{start};
+    ghost use Rattle.report_lines.specs.Starts.{segment_start};
     ghost use Rattle.report_lines.specs.Due.{segment, is_over, went_well, orders};
     ghost use Rattle.report_lines.specs.Places.{starts_from};
 
@@ -63,7 +63,7 @@ impl<'a> Segments<'a> {
 
     /// How many items come before the order of this number; all where there are fewer orders.
     pub fn start(&self, number: usize) -> usize
-        ensures exact { result ≡ start self.now number }
+        ensures exact { result ≡ segment_start self.now number }
         ensures within { result ≤ length self.now }
     {
         match self.starts.get(number) {

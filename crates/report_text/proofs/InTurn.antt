@@ -5,7 +5,7 @@ use Rattle.session_machine.specs.declared.reply.HistItem.{HistItem}
 use Rattle.spec_parser.specs.Trees.{SessionTree, SpecTree}
 use Rattle.report_lines.specs.Due.{is_over}
 use Rattle.report_text.specs.Said.{Said, whole, says, ◌>>◌}
-use Rattle.report_text.specs.Setups.{numbers_of}
+use Rattle.report_text.specs.Setups.{session_numbers}
 use Rattle.report_text.specs.Teardowns.{teardown_says, teardowns_of, teardowns_say}
 use Rattle.report_text.specs.Inner.Teardowns.{TeardownsSaid, behind, teardown_first, teardowns_from, teardowns_in_turn}
 use Rattle.report_text.proofs.Saying.{after_whole}
@@ -77,7 +77,7 @@ last false sessions items count k = refl
 
 pub told : (spec : SpecTree) (items : List HistItem) (count k : ℕ) → teardowns_say spec.sessions items count k (teardowns_of spec) ≡ teardowns_in_turn spec items count k
 told spec items count k =
-    let numbers = numbers_of (λ s. s.teardown) spec.sessions in
+    let numbers = session_numbers (λ s. s.teardown) spec.sessions in
     let first = teardowns_from spec.sessions items count k numbers in
     let leave : List (Option ℕ) = replicate (length spec.sessions) None in
     let main : List (Option ℕ) = if is_some spec.teardown then Some 0 ∷ [] else [] in

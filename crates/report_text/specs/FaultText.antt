@@ -8,8 +8,8 @@ use Rattle.session_machine.specs.declared.fault.StmtFault.TheVariants as faults
 abbrev pub in_quotes : List ℕ → List ℕ
 in_quotes name = codes "\"" ++ name ++ codes "\""
 
-abbrev pub column_of : List ℕ → List ℕ → List ℕ
-column_of column table = codes "column " ++ in_quotes column ++ codes " of relation " ++ in_quotes table
+abbrev pub column_of_relation : List ℕ → List ℕ → List ℕ
+column_of_relation column table = codes "column " ++ in_quotes column ++ codes " of relation " ++ in_quotes table
 
 -- want of memory is in no reply
 unfoldable pub fault_text : StmtFault → List ℕ
@@ -19,11 +19,11 @@ fault_text (faults.Value values.BigintRange) = codes "bigint out of range"
 fault_text (faults.Value values.TypeMismatch) = codes "type mismatch"
 fault_text (faults.Value (values.NoColumn name)) = codes "column " ++ in_quotes name ++ codes " does not exist"
 fault_text (faults.Value values.Memory) = codes "out of memory"
-fault_text (faults.NoColumnOf column table) = column_of column table ++ codes " does not exist"
+fault_text (faults.NoColumnOf column table) = column_of_relation column table ++ codes " does not exist"
 fault_text (faults.NoTable name) = codes "relation " ++ in_quotes name ++ codes " does not exist"
 fault_text (faults.NoTableToDrop name) = codes "table " ++ in_quotes name ++ codes " does not exist"
 fault_text (faults.TableExists name) = codes "relation " ++ in_quotes name ++ codes " already exists"
-fault_text (faults.NullValue column table) = codes "null value in " ++ column_of column table ++ codes " violates not-null constraint"
+fault_text (faults.NullValue column table) = codes "null value in " ++ column_of_relation column table ++ codes " violates not-null constraint"
 fault_text (faults.KeyTaken name) = codes "duplicate key value violates unique constraint " ++ in_quotes name
 fault_text faults.TooManyValues = codes "INSERT has more expressions than target columns"
 fault_text (faults.NoPosition n) = codes "ORDER BY position " ++ signed_decimal n ++ codes " is not in select list"

@@ -17,8 +17,8 @@ pub record Said : Type 0 where
   pub ending : Ending
 
 -- nothing is said, and so it ends
-abbrev pub ended : Ending → Said
-ended ending = record { text = []; notes = []; ending = ending }
+abbrev pub only_ends : Ending → Said
+only_ends ending = record { text = []; notes = []; ending = ending }
 
 abbrev pub says : List ℕ → Said
 says text = record { text = text; notes = []; ending = whole }

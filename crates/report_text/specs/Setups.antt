@@ -9,16 +9,16 @@ use Rattle.session_machine.specs.declared.reply.Outcome.TheVariants.{Failed}
 use Rattle.report_lines.specs.Due.{segment, went_well}
 use Rattle.report_text.specs.FaultText.{fault_text}
 use Rattle.report_text.specs.Replies.{rows_text, last_outcome}
-use Rattle.report_text.specs.Said.{Ending, setup_failed, setup_waits, Said, ended, says, ◌>>◌}
+use Rattle.report_text.specs.Said.{Ending, setup_failed, setup_waits, Said, only_ends, says, ◌>>◌}
 
 -- ---- whose they are, in their order: a session of the file by its number from 1, and 0 for those of the whole file
 
 -- the numbers of the sessions that have this part
-abbrev pub numbers_of : (SessionTree → Option PartTree) → List SessionTree → List ℕ
-numbers_of part sessions = flat_map (λ (p : ℕ × SessionTree). if is_some (part p.1) then p.0 ∷ [] else []) (enumerate_from 1 sessions)
+abbrev pub session_numbers : (SessionTree → Option PartTree) → List SessionTree → List ℕ
+session_numbers part sessions = flat_map (λ (p : ℕ × SessionTree). if is_some (part p.1) then p.0 ∷ [] else []) (enumerate_from 1 sessions)
 
 abbrev pub setups_of : SpecTree → List ℕ
-setups_of spec = replicate (length spec.setups) 0 ++ numbers_of (λ s. s.setup) spec.sessions
+setups_of spec = replicate (length spec.setups) 0 ++ session_numbers (λ s. s.setup) spec.sessions
 
 -- ---- what they say
 
@@ -33,4 +33,4 @@ setups_say items count k [] = says []
 setups_say items count k (session ∷ sessions) =
     if nat_le count k then says []
     else if went_well items k session then says (rows_text (last_outcome (segment items k))) >> setups_say items count (k + 1) sessions
-    else ended (setup_ending (last_outcome (segment items k)))
+    else only_ends (setup_ending (last_outcome (segment items k)))

@@ -11,7 +11,7 @@ use Rattle.report_lines.specs.Due.{segment, is_over}
 use Rattle.report_text.specs.FaultText.{fault_text}
 use Rattle.report_text.specs.Replies.{rows_text, last_outcome}
 use Rattle.report_text.specs.Said.{Said, says, ◌>>◌}
-use Rattle.report_text.specs.Setups.{numbers_of}
+use Rattle.report_text.specs.Setups.{session_numbers}
 
 -- ---- notes
 
@@ -37,7 +37,7 @@ teardown_says sessions items k session =
 
 -- what comes behind the entries: the teardowns of sessions, by their numbers from 1; a Leave of each session, for which None stands; and with 0 the teardown of the whole file
 abbrev pub teardowns_of : SpecTree → List (Option ℕ)
-teardowns_of spec = map Some (numbers_of (λ s. s.teardown) spec.sessions) ++ replicate (length spec.sessions) None ++ (if is_some spec.teardown then Some 0 ∷ [] else [])
+teardowns_of spec = map Some (session_numbers (λ s. s.teardown) spec.sessions) ++ replicate (length spec.sessions) None ++ (if is_some spec.teardown then Some 0 ∷ [] else [])
 
 -- what these say from a segment on, of which so many segments are there: a Leave says nothing; a teardown that isn't over has one of its own behind it
 abbrev pub teardowns_say : List SessionTree → List HistItem → ℕ → ℕ → List (Option ℕ) → Said

@@ -4,7 +4,7 @@ ghost use Rattle.std.specs.Prelude.{◌≡◌, ◌++◌, codes, OnOk};
 ghost use Rattle.std.specs.Fmt.{signed_decimal};
 ghost use Rattle.iso_lexer.specs.Devices.{page_text};
 ghost use Rattle.iso_lexer.specs.Names.{name_view, decoded};
-ghost use Rattle.report_text.specs.FaultText.{in_quotes, column_of, fault_text};
+ghost use Rattle.report_text.specs.FaultText.{in_quotes, column_of_relation, fault_text};
 ghost use Rattle.session_machine.specs.declared.fault.StmtFault.TheVariants.{Value};
 
 use crate::names::push_name;
@@ -55,7 +55,7 @@ fn push_value_fault(page: &mut Page, fault: &ValueFault<'_>) -> Result<(), Alloc
 
 /// Of a column of a relation.
 fn push_column_of(page: &mut Page, column: &Ident<'_>, table: &Ident<'_>) -> Result<(), AllocError>
-    ensures { OnOk result (page_text page.new ≡ page_text page.old ++ column_of column.now table.now) }
+    ensures { OnOk result (page_text page.new ≡ page_text page.old ++ column_of_relation column.now table.now) }
 {
     push_column(page, &column.name())?;
     page.push(b" of ")?;

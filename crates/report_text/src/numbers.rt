@@ -2,7 +2,7 @@
 
 ghost use Rattle.std.specs.Prelude.{◌≡◌, ◌++◌, ◌∷◌, [], map, OnOk, IfOk, if◌then◌else◌};
 ghost use Rattle.spec_parser.specs.Trees.{session_view, spec_view};
-ghost use Rattle.report_text.specs.Setups.{numbers_of, setups_of};
+ghost use Rattle.report_text.specs.Setups.{session_numbers, setups_of};
 
 use spec_parser::{SessionPart, Spec};
 use std::alloc::{AllocError, Global};
@@ -17,7 +17,7 @@ fn add_if(numbers: &mut Vec<usize>, has: bool, number: usize) -> Result<(), Allo
 }
 
 fn add_setups(numbers: &mut Vec<usize>, sessions: &[SessionPart<'_>]) -> Result<(), AllocError>
-    ensures { OnOk result (numbers.new.items ≡ numbers.old.items ++ numbers_of (λ s. s.setup) (map session_view sessions.now)) }
+    ensures { OnOk result (numbers.new.items ≡ numbers.old.items ++ session_numbers (λ s. s.setup) (map session_view sessions.now)) }
 {
     for (index, session) in sessions.iter().enumerate() {
         add_if(numbers, session.setup.is_some(), index + 1)?;
@@ -26,7 +26,7 @@ fn add_setups(numbers: &mut Vec<usize>, sessions: &[SessionPart<'_>]) -> Result<
 }
 
 fn add_teardowns(numbers: &mut Vec<usize>, sessions: &[SessionPart<'_>]) -> Result<(), AllocError>
-    ensures { OnOk result (numbers.new.items ≡ numbers.old.items ++ numbers_of (λ s. s.teardown) (map session_view sessions.now)) }
+    ensures { OnOk result (numbers.new.items ≡ numbers.old.items ++ session_numbers (λ s. s.teardown) (map session_view sessions.now)) }
 {
     for (index, session) in sessions.iter().enumerate() {
         add_if(numbers, session.teardown.is_some(), index + 1)?;
@@ -46,7 +46,7 @@ pub fn setups_of(alloc: Global, spec: &Spec<'_>) -> Result<Vec<usize>, AllocErro
 
 /// The sessions that have a teardown, in their order.
 pub fn teardowns_of(alloc: Global, spec: &Spec<'_>) -> Result<Vec<usize>, AllocError>
-    ensures { IfOk result (λ numbers. numbers.items ≡ numbers_of (λ s. s.teardown) (spec_view spec.now).sessions) }
+    ensures { IfOk result (λ numbers. numbers.items ≡ session_numbers (λ s. s.teardown) (spec_view spec.now).sessions) }
 {
     let mut numbers = Vec::new(alloc);
     add_teardowns(&mut numbers, &spec.sessions)?;

@@ -11,7 +11,7 @@ use Rattle.std.proofs.lemmas.List.Folds.{list_all-append}
 use lib.IntN.{ℤ, pos, negsuc}
 use lib.Signed.{mag}
 use Rattle.result_tables.specs.Numeric.{is_numeric, is_numeric_byte, is_exponent}
-use Rattle.result_tables.specs.TableText.{is_word}
+use Rattle.result_tables.specs.TableText.{is_textual}
 
 -- some digits, and nothing else
 record AreDigits (ds : List ℕ) : Type 0 where
@@ -85,5 +85,5 @@ pub is_numeric-signed : (z : ℤ) → mag z < 2 ^ 63 → is_numeric (signed_deci
 is_numeric-signed (pos n) h = is_numeric-digits (decimal n) (decimal_is_digits n (omega arith))
 is_numeric-signed (negsuc n) h = is_numeric-minus (decimal (suc n)) (decimal_is_digits (suc n) (omega arith))
 
-pub decimal_is_no_word : (z : ℤ) → mag z < 2 ^ 63 → is_word (signed_decimal z) ≡ false
+pub decimal_is_no_word : (z : ℤ) → mag z < 2 ^ 63 → is_textual (signed_decimal z) ≡ false
 decimal_is_no_word z h = rw (is_numeric-signed z h) (and_false _)

@@ -8,20 +8,20 @@ use Rattle.result_tables.specs.Printed.{printed}
 use Rattle.result_tables.specs.Titles.{title_text}
 
 -- some text, and not a number
-abbrev pub is_word : List ℕ → Bool
-is_word text = nat_lt 0 (length text) && not (is_numeric text)
+abbrev pub is_textual : List ℕ → Bool
+is_textual text = nat_lt 0 (length text) && not (is_numeric text)
 
 -- the printed values of a column, from the top
 abbrev pub cells : List (List (List ℕ)) → ℕ → List (List ℕ)
 cells rows k = map (λ row. slice_index_or row k []) rows
 
 -- as wide as the longest of the title and the values; aligned to the left where some value is a word
-abbrev pub column_of : List ℕ → List (List ℕ) → ColumnLayout
-column_of title values = record { width = fold max 0 (map length (title ∷ values)); left = list_any is_word values }
+abbrev pub layout_of : List ℕ → List (List ℕ) → ColumnLayout
+layout_of title values = record { width = fold max 0 (map length (title ∷ values)); left = list_any is_textual values }
 
 -- a column for each title
-abbrev pub columns_of : List (List ℕ) → List (List (List ℕ)) → List ColumnLayout
-columns_of titles rows = map (λ k. column_of (slice_index_or titles k []) (cells rows k)) (range_with_len 0 (length titles))
+abbrev pub layouts_of : List (List ℕ) → List (List (List ℕ)) → List ColumnLayout
+layouts_of titles rows = map (λ k. layout_of (slice_index_or titles k []) (cells rows k)) (range_with_len 0 (length titles))
 
 -- a cell, filled up with blanks to the column's width
 abbrev pub padded : ColumnLayout → List ℕ → List ℕ
@@ -44,5 +44,5 @@ abbrev pub table_text : Results → List ℕ
 table_text set =
     let titles = map title_text set.titles in
     let rows = map (map printed) set.rows in
-    let columns = columns_of titles rows in
+    let columns = layouts_of titles rows in
     table_line columns titles ++ rule_line columns ++ flat_map (table_line columns) rows ++ foot (length rows)

@@ -3,7 +3,7 @@
 ghost use Rattle.std.specs.Prelude.{◌≡◌, ◌<◌, ◌||◌, length, map, max, All, IfOk};
 ghost use Rattle.result_tables.specs.Printed.{printed};
 ghost use Rattle.result_tables.specs.Titles.{title_text};
-ghost use Rattle.result_tables.specs.TableText.{is_word, cells, column_of, columns_of};
+ghost use Rattle.result_tables.specs.TableText.{is_textual, cells, layout_of, layouts_of};
 
 use crate::shown::{Shown, shows_word};
 use query_results::{ResultSet, Title};
@@ -20,7 +20,7 @@ pub struct ColumnLayout {
 /// The column with one more value.
 fn with_value(column: ColumnLayout, value: &Value) -> ColumnLayout
     ensures width { result.width ≡ max column.width (length (printed value.now)) }
-    ensures left { result.left ≡ (column.left || is_word (printed value.now)) }
+    ensures left { result.left ≡ (column.left || is_textual (printed value.now)) }
 {
     ColumnLayout {
         width: column.width.max(value.shown_len()),
@@ -31,7 +31,7 @@ fn with_value(column: ColumnLayout, value: &Value) -> ColumnLayout
 /// Column `k` of a table.
 fn measured(title: &Title<'_>, rows: &[Row], k: usize) -> ColumnLayout
     requires { All (λ row. k < length row) rows.now }
-    ensures { result ≡ column_of (title_text title.now) (cells (map (map printed) rows.now) k) }
+    ensures { result ≡ layout_of (title_text title.now) (cells (map (map printed) rows.now) k) }
 {
     let mut column = ColumnLayout {
         width: title.shown_len(),
@@ -46,7 +46,7 @@ fn measured(title: &Title<'_>, rows: &[Row], k: usize) -> ColumnLayout
 
 /// The columns of a result's table.
 pub fn measured_columns(alloc: Global, set: &ResultSet<'_>) -> Result<Vec<ColumnLayout>, AllocError>
-    ensures { IfOk result (λ columns. columns.items ≡ columns_of (map title_text set.now.titles) (map (map printed) set.now.rows)) }
+    ensures { IfOk result (λ columns. columns.items ≡ layouts_of (map title_text set.now.titles) (map (map printed) set.now.rows)) }
 {
     let titles = set.titles();
     let rows = set.rows();

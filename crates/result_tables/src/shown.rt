@@ -4,7 +4,7 @@ ghost use Rattle.std.specs.Prelude.{◌≡◌, ℕ, List, ◌++◌, length, OnOk
 ghost use Rattle.std.specs.Fmt.{signed_decimal};
 ghost use Rattle.result_tables.specs.Printed.{printed};
 ghost use Rattle.result_tables.specs.Titles.{title_text};
-ghost use Rattle.result_tables.specs.TableText.{is_word};
+ghost use Rattle.result_tables.specs.TableText.{is_textual};
 
 use crate::name_bytes::{append_name, name_len};
 use crate::numeric::is_numeric;
@@ -89,7 +89,7 @@ impl Shown for Value {
 
 /// A number in decimal is never a word.
 fn decimal_is_word(number: i64) -> bool
-    ensures { result ≡ is_word (signed_decimal number) }
+    ensures { result ≡ is_textual (signed_decimal number) }
 {
     let _ = number;
     false
@@ -97,7 +97,7 @@ fn decimal_is_word(number: i64) -> bool
 
 /// Whether a value prints some text that is no number.
 pub fn shows_word(value: &Value) -> bool
-    ensures { result ≡ is_word (printed value.now) }
+    ensures { result ≡ is_textual (printed value.now) }
 {
     match value {
         Value::Null => false,

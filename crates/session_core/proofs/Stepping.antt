@@ -19,7 +19,7 @@ use Rattle.session_machine.specs.declared.fault.Refusal.TheVariants.{StillBlocke
 use Rattle.session_machine.specs.Tables.{Database}
 use Rattle.session_machine.specs.Statements.{Effect}
 use Rattle.session_machine.specs.Running.{run_stmt}
-use Rattle.session_machine.specs.Machine.{Machine, Blocks, Next, after_stmt, around, closed_at_end, is_failed, next, stmts_at, with_session}
+use Rattle.session_machine.specs.Machine.{Machine, Blocks, Next, after_stmt, around, closed_at_end, is_failed, next, stmts_of, with_session}
 use Rattle.session_machine.specs.Waits.{is_still_blocked}
 use Rattle.session_machine.specs.Inner.Steps.{step_of, step_at, step_stmt, finished, waits_there}
 use Rattle.session_machine.specs.Sound.{IsSoundMachine, StaysSound, tx_in, tx_of, command_in, command_of, progress_of}
@@ -64,7 +64,7 @@ longer place stmt = replicate (place.next + 2) stmt
 blocks_with : Place → StmtTree → Blocks
 blocks_with place stmt = replicate (place.block + 1) (longer place stmt)
 
-block_is : (place : Place) (stmt : StmtTree) → stmts_at (blocks_with place stmt) place.block ≡ longer place stmt
+block_is : (place : Place) (stmt : StmtTree) → stmts_of (blocks_with place stmt) place.block ≡ longer place stmt
 unfolding blocks_with
 block_is place stmt = rw (many (place.block + 1) place.block (longer place stmt) (omega arith)) refl
 
@@ -84,14 +84,14 @@ ok_or_blocked blocked n = if blocked then Err StillBlocked else Ok n
 
 -- in free mode the statement would run as well in such a block
 runs_there : (blocks : Blocks) (m : Machine) (i : ℕ) (s : Session) (place : Place) (stmt : StmtTree) → slice_get m.sessions i ≡ Some s → s.place ≡ Some place
-    → is_still_blocked m.db s ≡ false → slice_get (stmts_at blocks place.block) place.next ≡ Some stmt
+    → is_still_blocked m.db s ≡ false → slice_get (stmts_of blocks place.block) place.next ≡ Some stmt
     → next blocks Free m (Step i)
-    ≡ Ok (after_stmt m i place (length (stmts_at blocks place.block)) (run_stmt m.db s.transaction s.statement (around m i s) stmt))
+    ≡ Ok (after_stmt m i place (length (stmts_of blocks place.block)) (run_stmt m.db s.transaction s.statement (around m i s) stmt))
 runs_there blocks m i s place stmt at stands free is =
     ap (step_of blocks Free m i) at
     ∙ (ap (step_at blocks Free m i s) stands
-    ∙ (ap (step_stmt Free m i s place (length (stmts_at blocks place.block))) is
-    ∙ ap (λ b. ok_or_blocked b (after_stmt m i place (length (stmts_at blocks place.block)) (run_stmt m.db s.transaction s.statement (around m i s) stmt))) free))
+    ∙ (ap (step_stmt Free m i s place (length (stmts_of blocks place.block))) is
+    ∙ ap (λ b. ok_or_blocked b (after_stmt m i place (length (stmts_of blocks place.block)) (run_stmt m.db s.transaction s.statement (around m i s) stmt))) free))
 
 -- so a statement leaves its transaction open, if it leaves one
 pub left_open : StaysSound → (m : Machine) (i : ℕ) (s : Session) (place : Place) (stmt : StmtTree) (d : Effect) (t : OpenTransaction) → IsSoundMachine m
@@ -99,8 +99,8 @@ pub left_open : StaysSound → (m : Machine) (i : ℕ) (s : Session) (place : Pl
     → run_stmt m.db s.transaction s.statement (around m i s) stmt ≡ d → d.transaction ≡ Open t → IsOpen d.db.content t.tx
 left_open law m i s place stmt d t sound at stands free ran is =
     let blocks = blocks_with place stmt in
-    let count = length (stmts_at blocks place.block) in
-    let here : slice_get (stmts_at blocks place.block) place.next ≡ Some stmt = ap (λ ss. slice_get ss place.next) (block_is place stmt) ∙ stmt_is place stmt in
+    let count = length (stmts_of blocks place.block) in
+    let here : slice_get (stmts_of blocks place.block) place.next ≡ Some stmt = ap (λ ss. slice_get ss place.next) (block_is place stmt) ∙ stmt_is place stmt in
     let more : nat_lt (place.next + 1) count ≡ true =
     ap (λ (ss : List StmtTree). nat_lt (place.next + 1) (length ss)) (block_is place stmt) ∙ lt_true _ _ (more_behind place stmt) in
     let steps : next blocks Free m (Step i) ≡ Ok (after_stmt m i place count d) =

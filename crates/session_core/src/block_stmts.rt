@@ -2,7 +2,7 @@
 ghost use Rattle.std.specs.Prelude.{◌≡◌, ◌≤◌, ◌<◌, MatchOption, None, Some, length, map, slice_get};
 ghost use Rattle.sql_trees.specs.Statements.{stmt_of};
 ghost use Rattle.sql_blocks.specs.Blocks.{blocks_of};
-ghost use Rattle.session_machine.specs.Machine.{stmts_at};
+ghost use Rattle.session_machine.specs.Machine.{stmts_of};
 
 use session_machine::Place;
 use sql_blocks::Block;
@@ -12,7 +12,7 @@ use sql_trees::Stmt;
 #[tactic(auto, using(crate::proofs::BlockLemmas::stmts_are))]
 pub fn block_stmts<'a, 't>(blocks: &'a [Block<'t>], block: u32) -> Option<&'a [Stmt<'t>]>
     ensures { MatchOption result (length blocks.now ≤ block)
-        (λ stmts. (block < length blocks.now) × (map stmt_of stmts.now ≡ stmts_at (blocks_of blocks.now) block)) }
+        (λ stmts. (block < length blocks.now) × (map stmt_of stmts.now ≡ stmts_of (blocks_of blocks.now) block)) }
 {
     Some(blocks.get(block as usize)?.stmts())
 }
@@ -26,9 +26,9 @@ pub struct StmtAt<'a, 't> {
 
 /// The statement at a place, if there is one.
 pub fn stmt_at<'a, 't>(blocks: &'a [Block<'t>], place: &Place) -> Option<StmtAt<'a, 't>>
-    ensures { MatchOption result (slice_get (stmts_at (blocks_of blocks.now) place.now.block) place.now.next ≡ None)
-        (λ at. (slice_get (stmts_at (blocks_of blocks.now) place.now.block) place.now.next ≡ Some (stmt_of at.stmt.now))
-        × (length (stmts_at (blocks_of blocks.now) place.now.block) ≡ at.count)
+    ensures { MatchOption result (slice_get (stmts_of (blocks_of blocks.now) place.now.block) place.now.next ≡ None)
+        (λ at. (slice_get (stmts_of (blocks_of blocks.now) place.now.block) place.now.next ≡ Some (stmt_of at.stmt.now))
+        × (length (stmts_of (blocks_of blocks.now) place.now.block) ≡ at.count)
         × (place.now.next < at.count)) }
 {
     let stmts = block_stmts(blocks, place.block)?;

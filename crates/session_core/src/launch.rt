@@ -4,7 +4,7 @@ ghost use Rattle.std.specs.List.{list_any};
 ghost use Rattle.sql_trees.specs.Statements.{stmt_of};
 ghost use Rattle.sql_blocks.specs.Blocks.{blocks_of};
 ghost use Rattle.session_machine.specs.Running.{is_definition};
-ghost use Rattle.session_machine.specs.Machine.{first_place, is_allowed, next, stmts_at, with_session};
+ghost use Rattle.session_machine.specs.Machine.{first_place, may_launch, next, stmts_of, with_session};
 ghost use Rattle.session_core.specs.Inner.Answers.{answered};
 
 use crate::block_stmts::block_stmts;
@@ -39,8 +39,8 @@ fn allowed_stmts<'a, 't>(
     session: u32,
     block: u32,
 ) -> Option<&'a [Stmt<'t>]>
-    ensures { MatchOption result (is_allowed (blocks_of blocks.now) session block ≡ false)
-        (λ stmts. (is_allowed (blocks_of blocks.now) session block ≡ true) × (map stmt_of stmts.now ≡ stmts_at (blocks_of blocks.now) block)) }
+    ensures { MatchOption result (may_launch (blocks_of blocks.now) session block ≡ false)
+        (λ stmts. (may_launch (blocks_of blocks.now) session block ≡ true) × (map stmt_of stmts.now ≡ stmts_of (blocks_of blocks.now) block)) }
 {
     let stmts = block_stmts(blocks, block)?;
     if may_define(session, stmts) {

@@ -11,8 +11,8 @@ use Rattle.sql_values.specs.declared.fault.ValueFault.{ValueFault}
 use Rattle.sql_values.specs.declared.fault.ValueFault.TheVariants.{NoColumn}
 use Rattle.query_results.specs.Results.{Results}
 use Rattle.row_versions.specs.declared.write.View.{View}
-use Rattle.query_results.specs.Queries.{AssignedColumn, cols_of, lacking_if, lacking_rows, lacking_select, result_of, some_too_long, columns_assigned, titles_of, wrong_position}
-use Rattle.query_results.specs.Updates.{lacking_update, columns_set}
+use Rattle.query_results.specs.Queries.{AssignedColumn, cols_of, undefined_in_condition, undefined_in_rows, undefined_in_select, result_of, some_too_long, columns_assigned, titles_of, wrong_position}
+use Rattle.query_results.specs.Updates.{undefined_in_update, columns_set}
 use Rattle.session_machine.specs.declared.session.OpenTransaction.{OpenTransaction}
 use Rattle.session_machine.specs.declared.session.Transaction.{Transaction}
 use Rattle.session_machine.specs.declared.session.Transaction.TheVariants.{Closed, Open, Aborted}
@@ -27,8 +27,8 @@ use Rattle.session_machine.specs.Transactions.{fresh, begun, committed, rolled_b
 use Rattle.session_machine.specs.Views.{rows_shown}
 use Rattle.session_machine.specs.Statements.{Surroundings, Effect, fails, answers, turns, create, drop_tables, is_level, level_set, begin_in, run_aborted, is_end}
 use Rattle.session_machine.specs.Walks.{Stop, Walk, Blocked, Fails, walked, walked_from}
-use Rattle.session_machine.specs.Rows.{Work, columns_in, insert_at, update_at, delete_at, lock_at, passing_targets, taken_targets}
-use Rattle.session_machine.specs.Running.{beginning, pauses, comes_to, ended, done, assigned_to, insert_from, insert, update_from, update, delete_from, delete, lock_from, answered, select_rows, unless_wrong, select, run_open, run_closed, run_on, run_stmt}
+use Rattle.session_machine.specs.Rows.{Work, columns_in, insert_one, update_one, delete_one, lock_one, passing_targets, taken_targets}
+use Rattle.session_machine.specs.Running.{beginning, pauses, comes_to, after_walk, done, assigned_to, insert_from, insert, update_from, update, delete_from, delete, lock_from, answered, select_rows, unless_wrong, select, run_open, run_closed, run_on, run_stmt}
 use Rattle.session_machine.specs.Inner.Pieces.{drop_ended, insert_fitting, insert_to, update_fitting, update_to, delete_fitting, select_at, lock_again, columns_at, with_table, with_drop, DroppedUpTo, dropped_at, dropped}
 use Rattle.session_machine.proofs.Piecewise.{drops_by}
 use Rattle.session_machine.specs.Sound.{RowsFit, RowsStay}
@@ -122,7 +122,7 @@ module _ (may : Bool) (db : Database) (t : OpenTransaction) (around : Surroundin
   starts : (k : ℕ) (table : Table) → At k table → Works db.content k table P db
   starts k table at = record { fit = eff.firm.fit; stay = eff.firm.stay; there = at; rows = λ row of. of; holds = eff.here }
 
-  ends : (k : ℕ) (view : View) (table : Table) (outcome : List (List Value) → Outcome) (walk : Walk) → Works db.content k table P walk.db → M (ended db.content (work k view) outcome walk)
+  ends : (k : ℕ) (view : View) (table : Table) (outcome : List (List Value) → Outcome) (walk : Walk) → Works db.content k table P walk.db → M (after_walk db.content (work k view) outcome walk)
   ends k view table outcome walk h = at_stop walk.stop where
     firm : IsFirm walk.db
     firm = record { fit = h.fit; stay = h.stay }
@@ -136,26 +136,26 @@ module _ (may : Bool) (db : Database) (t : OpenTransaction) (around : Surroundin
   inserts_from k view table at i place rows =
       let w = work k view in
       let targets = assigned_to (columns_assigned (columns_in db w) i.columns) in
-      ends k view table done (walked (insert_at w i.table targets) db place rows (drop place i.rows))
+      ends k view table done (walked (insert_one w i.table targets) db place rows (drop place i.rows))
       (works_inserts db.content w table P eff.lasts i.table targets (drop place i.rows) db place rows (starts k table at))
 
   updates_from : (k : ℕ) (view : View) (table : Table) → At k table → (u : UpdateTree) (place : ℕ) (rows : List (List Value)) → M (update_from db (work k view) u place rows)
   updates_from k view table at u place rows =
       let w = work k view in
       let targets = assigned_to (columns_set (columns_in db w) u.sets) in
-      ends k view table done (walked_from (update_at w u targets) db place rows (passing_targets db w u.filter))
+      ends k view table done (walked_from (update_one w u targets) db place rows (passing_targets db w u.filter))
       (works_updates db.content w table P eff.lasts u targets (passing_targets db w u.filter) (passing_of db w u.filter eff.firm.stay) db place rows (starts k table at))
 
   deletes_from : (k : ℕ) (view : View) (table : Table) → At k table → (d : DeleteTree) (place : ℕ) (rows : List (List Value)) → M (delete_from db (work k view) d place rows)
   deletes_from k view table at d place rows =
       let w = work k view in
-      ends k view table done (walked_from (delete_at w d) db place rows (passing_targets db w d.filter))
+      ends k view table done (walked_from (delete_one w d) db place rows (passing_targets db w d.filter))
       (works_deletes db.content w table P eff.lasts d (passing_targets db w d.filter) (passing_of db w d.filter eff.firm.stay) db place rows (starts k table at))
 
   locks_from : (k : ℕ) (view : View) (table : Table) → At k table → (s : SelectTree) (l : Lock) (place : ℕ) (rows : List (List Value)) → M (lock_from db (work k view) s l place rows)
   locks_from k view table at s l place rows =
       let w = work k view in
-      ends k view table (λ shown. Rows (record { titles = titles_of (columns_in db w) s.items; rows = shown })) (walked_from (lock_at w s l) db place rows (taken_targets db w s))
+      ends k view table (λ shown. Rows (record { titles = titles_of (columns_in db w) s.items; rows = shown })) (walked_from (lock_one w s l) db place rows (taken_targets db w s))
       (works_locks db.content w table P eff.lasts s l (taken_targets db w s) (taken_of db w s eff.firm.stay) db place rows (starts k table at))
 
   -- INSERT
@@ -167,7 +167,7 @@ module _ (may : Bool) (db : Database) (t : OpenTransaction) (around : Surroundin
 
   inserts_to : (k : ℕ) (table : Table) → At k table → (i : InsertTree) (r : Result (List AssignedColumn) (List ℕ)) → M (insert_to db (beginning db t around k) i r)
   inserts_to k table at i (Err column) = failed_here (NoColumnOf column i.table)
-  inserts_to k table at i (Ok targets) = inserts_fitting k table at i targets (lacking_rows i.rows)
+  inserts_to k table at i (Ok targets) = inserts_fitting k table at i targets (undefined_in_rows i.rows)
 
   inserts : (i : InsertTree) (o : Option ℕ) → find_table db (Some t.tx) i.table ≡ o → M (insert db t around i o)
   inserts i None e = failed_here (NoTable i.table)
@@ -180,7 +180,7 @@ module _ (may : Bool) (db : Database) (t : OpenTransaction) (around : Surroundin
 
   updates_to : (k : ℕ) (table : Table) → At k table → (u : UpdateTree) (r : Result (List AssignedColumn) (List ℕ)) → M (update_to db (beginning db t around k) u r)
   updates_to k table at u (Err column) = failed_here (NoColumnOf column u.table)
-  updates_to k table at u (Ok targets) = updates_fitting k table at u (lacking_update (cols_of (columns_in db (beginning db t around k))) u)
+  updates_to k table at u (Ok targets) = updates_fitting k table at u (undefined_in_update (cols_of (columns_in db (beginning db t around k))) u)
 
   updates : (u : UpdateTree) (o : Option ℕ) → find_table db (Some t.tx) u.table ≡ o → M (update db t around u o)
   updates u None e = failed_here (NoTable u.table)
@@ -194,7 +194,7 @@ module _ (may : Bool) (db : Database) (t : OpenTransaction) (around : Surroundin
   deletes : (d : DeleteTree) (o : Option ℕ) → find_table db (Some t.tx) d.table ≡ o → M (delete db t around d o)
   deletes d None e = failed_here (NoTable d.table)
   deletes d (Some k) e =
-      let at = find_table_within db (Some t.tx) d.table k e in deletes_fitting k at.0 at.1 d (lacking_if (cols_of (columns_at db.catalog k)) d.filter)
+      let at = find_table_within db (Some t.tx) d.table k e in deletes_fitting k at.0 at.1 d (undefined_in_condition (cols_of (columns_at db.catalog k)) d.filter)
 
   -- SELECT
   answers_set : (r : Result Results ValueFault) → M (answered db t r)
@@ -215,10 +215,10 @@ module _ (may : Bool) (db : Database) (t : OpenTransaction) (around : Surroundin
   selects_at s name (Some k) e =
       let at = find_table_within db (Some t.tx) name k e in
       let w = beginning db t around k in
-      selects_unless (lacking_select (cols_of (columns_in db w)) s) (wrong_position (columns_in db w) s) (select_rows db w s s.lock) (selects_rows k at.0 at.1 s s.lock)
+      selects_unless (undefined_in_select (cols_of (columns_in db w)) s) (wrong_position (columns_in db w) s) (select_rows db w s s.lock) (selects_rows k at.0 at.1 s s.lock)
 
   selects : (s : SelectTree) (o : Option (List ℕ)) → M (select db t around s o)
-  selects s None = selects_unless (lacking_select [] s) (wrong_position [] s) (answered db t (result_of s [] ([] ∷ []))) (answers_set (result_of s [] ([] ∷ [])))
+  selects s None = selects_unless (undefined_in_select [] s) (wrong_position [] s) (answered db t (result_of s [] ([] ∷ []))) (answers_set (result_of s [] ([] ∷ [])))
   selects s (Some name) = selects_at s name (find_table db (Some t.tx) name) refl
 
   -- what is so after each effect is so after each statement that begins

@@ -10,21 +10,21 @@ use Rattle.session_machine.specs.declared.event.Event.TheVariants.{Launch, Step,
 use Rattle.session_machine.specs.declared.event.Mode.{Mode}
 use Rattle.session_machine.specs.declared.fault.Refusal.TheVariants.{Busy, NotYourTurn, BlockNotAllowed}
 use Rattle.session_machine.specs.Statements.{Effect}
-use Rattle.session_machine.specs.Machine.{Machine, Blocks, Next, next, stmts_at, is_failed, is_allowed, is_directed, is_quiet, first_place, after_stmt, closed_at_end, session_of}
+use Rattle.session_machine.specs.Machine.{Machine, Blocks, Next, next, stmts_of, is_failed, may_launch, is_directed, is_quiet, first_place, after_stmt, closed_at_end, session_of}
 use Rattle.session_machine.specs.Inner.Steps.{launched, launch_of, step_of, step_at, step_stmt, leave_of, after_end, waits_there, finished}
 use Rattle.session_laws.proofs.Sound.{if_ok, ok_launch, ok_step, ok_leave, ran, left_by}
 
 -- a session that is launched is in no block
 idle_launch : (blocks : Blocks) (mode : Mode) (m : Machine) (i block : ℕ) (s : Session) (n : Next) → launch_of blocks mode m i block (Some s) ≡ Ok n → s.place ≡ None
-idle_launch blocks mode m i block s n h = at_place s.place (if_ok (not (is_allowed blocks i block)) BlockNotAllowed _ n h) where
-  at_place : (o : Option Place) → (if is_some o then Err Busy else if is_directed mode && not (is_quiet m) then Err NotYourTurn else Ok (launched m i s (first_place block (stmts_at blocks block)))) ≡ Ok n
+idle_launch blocks mode m i block s n h = at_place s.place (if_ok (not (may_launch blocks i block)) BlockNotAllowed _ n h) where
+  at_place : (o : Option Place) → (if is_some o then Err Busy else if is_directed mode && not (is_quiet m) then Err NotYourTurn else Ok (launched m i s (first_place block (stmts_of blocks block)))) ≡ Ok n
       → o ≡ None
   at_place (Some place) e = cc
   at_place None e = refl
 
 -- the session stands at this place, and at this statement
 abbrev pub due_at : Blocks → Session → Place → StmtTree → Type 0
-due_at blocks s place stmt = (s.place ≡ Some place) × (slice_get (stmts_at blocks place.block) place.next ≡ Some stmt)
+due_at blocks s place stmt = (s.place ≡ Some place) × (slice_get (stmts_of blocks place.block) place.next ≡ Some stmt)
 
 -- a session is launched, does its statement, or leaves
 pub event_cases : (blocks : Blocks) (mode : Mode) (m : Machine) (event : Event) (n : Next) (G : Next → Type 0) → next blocks mode m event ≡ Ok n
@@ -35,16 +35,16 @@ pub event_cases : (blocks : Blocks) (mode : Mode) (m : Machine) (event : Event) 
 event_cases blocks mode m (Launch i block) n G h launches steps leaves = at_launch (slice_get m.sessions i) refl h where
   at_launch : (o : Option Session) → slice_get m.sessions i ≡ o → launch_of blocks mode m i block o ≡ Ok n → G n
   at_launch None e h = cc
-  at_launch (Some s) e h = subst G (ok_launch blocks mode m i block s n h) (launches s (first_place block (stmts_at blocks block)) e (idle_launch blocks mode m i block s n h))
+  at_launch (Some s) e h = subst G (ok_launch blocks mode m i block s n h) (launches s (first_place block (stmts_of blocks block)) e (idle_launch blocks mode m i block s n h))
 event_cases blocks mode m (Step i) n G h launches steps leaves = at_step (slice_get m.sessions i) refl h where
   at_stmt : (s : Session) (place : Place) (count : ℕ) (o : Option StmtTree) → slice_get m.sessions i ≡ Some s → s.place ≡ Some place
-      → slice_get (stmts_at blocks place.block) place.next ≡ o → step_stmt mode m i s place count o ≡ Ok n → G n
+      → slice_get (stmts_of blocks place.block) place.next ≡ o → step_stmt mode m i s place count o ≡ Ok n → G n
   at_stmt s place count None e f g h = cc
   at_stmt s place count (Some stmt) e f g h = subst G (ok_step mode m i s place count stmt n h) (steps s place count stmt e (f, g))
 
   at_place : (s : Session) (o : Option Place) → slice_get m.sessions i ≡ Some s → s.place ≡ o → step_at blocks mode m i s o ≡ Ok n → G n
   at_place s None e f h = cc
-  at_place s (Some place) e f h = at_stmt s place (length (stmts_at blocks place.block)) (slice_get (stmts_at blocks place.block) place.next) e f refl h
+  at_place s (Some place) e f h = at_stmt s place (length (stmts_of blocks place.block)) (slice_get (stmts_of blocks place.block) place.next) e f refl h
 
   at_step : (o : Option Session) → slice_get m.sessions i ≡ o → step_of blocks mode m i o ≡ Ok n → G n
   at_step None e h = cc

@@ -21,7 +21,7 @@ use Rattle.session_machine.specs.declared.fault.StmtFault.TheVariants.{LevelTooL
 use Rattle.session_machine.specs.Tables.{Database}
 use Rattle.session_machine.specs.Statements.{Surroundings, Effect, fails, turns, is_level, level_set, begin_in}
 use Rattle.session_machine.specs.Running.{run_open, run_on, run_closed, run_stmt}
-use Rattle.session_machine.specs.Machine.{Machine, Blocks, Next, next, around, with_session, at_rest, opening, stmts_at, left_behind, closed_at_end, session_of}
+use Rattle.session_machine.specs.Machine.{Machine, Blocks, Next, next, around, with_session, at_rest, opening, stmts_of, left_behind, closed_at_end, session_of}
 use Rattle.session_machine.specs.Engine.{Run}
 use Rattle.session_machine.specs.Sound.{IsSoundMachine, tx_in, tx_of}
 use Rattle.session_laws.proofs.Lists.{slice_get-set_same, slice_get-set_other}
@@ -164,7 +164,7 @@ orderly_next blocks mode m event n sound orderly h =
     (orderly_set blocks m d.db i s (record { place = Some place; transaction = d.transaction; statement = d.statement }) sound orderly at adds
     (λ p x its ok.
     let one : place ≡ p = same_place its.0 in
-    let two : stmt ≡ x = same_Some stmt x (sym due.1 ∙ (ap (λ (q : Place). slice_get (stmts_at blocks q.block) q.next) one ∙ its.1)) in
+    let two : stmt ≡ x = same_Some stmt x (sym due.1 ∙ (ap (λ (q : Place). slice_get (stmts_of blocks q.block) q.next) one ∙ its.1)) in
     turning_over m.db s.transaction s.statement (around m i s) stmt (ap may_turn two ∙ ok))
     (λ e. no_place place e))
     (λ over p.

@@ -32,7 +32,7 @@ use Rattle.session_machine.specs.Views.{rows_shown}
 use Rattle.session_machine.specs.declared.session.Progress.{Progress}
 use Rattle.session_machine.specs.Statements.{Surroundings, Effect, turns, is_level}
 use Rattle.session_machine.specs.Running.{run_stmt}
-use Rattle.session_machine.specs.Machine.{Machine, Blocks, Next, next, around, stmts_at, after_stmt}
+use Rattle.session_machine.specs.Machine.{Machine, Blocks, Next, next, around, stmts_of, after_stmt}
 use Rattle.session_machine.specs.Inner.Steps.{step_of, step_at, step_stmt, finished}
 use Rattle.session_machine.specs.Sound.{tx_in}
 use Rattle.session_laws.specs.Laws.{CommitsCount, CommitsAreSeen, OwnWritesAreSeen, IsLastOf, due_stmt, sees_all_committed}
@@ -59,9 +59,9 @@ begins_due blocks mode m i s stmt n at due h = at_place s.place due (sym (ap (st
         leads = sym (ap (λ (y : StmtTree). after_stmt m i place count (ran m i s y)) (same_Some x stmt e)) ∙ ok_step mode m i s place count x n h;
       }
 
-  at_place : (o : Option Place) → option_and_then (λ (p : Place). slice_get (stmts_at blocks p.block) p.next) o ≡ Some stmt → step_at blocks mode m i s o ≡ Ok n → Began m i s stmt n
+  at_place : (o : Option Place) → option_and_then (λ (p : Place). slice_get (stmts_of blocks p.block) p.next) o ≡ Some stmt → step_at blocks mode m i s o ≡ Ok n → Began m i s stmt n
   at_place None e h = cc
-  at_place (Some place) e h = at_stmt place (length (stmts_at blocks place.block)) (slice_get (stmts_at blocks place.block) place.next) e h
+  at_place (Some place) e h = at_stmt place (length (stmts_of blocks place.block)) (slice_get (stmts_of blocks place.block) place.next) e h
 
 commit_done : (m : Machine) (i : ℕ) (place : Place) (count : ℕ) (t : OpenTransaction) → (after_stmt m i place count (turns (committed m.db t.tx) Closed)).machine.db ≡ committed m.db t.tx
 commit_done m i place count t = at_test (nat_lt (place.next + 1) count) where

@@ -24,7 +24,7 @@ use Rattle.session_machine.specs.Tables.{Database}
 use Rattle.session_machine.specs.Transactions.{committed}
 use Rattle.session_machine.specs.Statements.{Effect}
 use Rattle.session_machine.specs.Running.{run_stmt}
-use Rattle.session_machine.specs.Machine.{Machine, Blocks, Next, next, around, with_session, at_rest, opening, stmts_at, is_allowed, is_busy, is_directed, is_quiet, is_turn, turn_in, is_failed, first_place, left_behind, after_stmt, closed_at_end}
+use Rattle.session_machine.specs.Machine.{Machine, Blocks, Next, next, around, with_session, at_rest, opening, stmts_of, may_launch, is_busy, is_directed, is_quiet, is_turn, turn_in, is_failed, first_place, left_behind, after_stmt, closed_at_end}
 use Rattle.session_machine.specs.Waits.{is_still_blocked}
 use Rattle.session_machine.specs.Inner.Steps.{launched, launch_of, step_of, step_at, step_stmt, leave_of, after_end, waits_there, finished}
 use Rattle.session_machine.specs.Sound.{IsSound, IsSoundMachine, StaysSound, tx_in, tx_of, command_in, command_of, progress_of}
@@ -222,10 +222,10 @@ longer_left db (Open t) = le_refl _
 
 -- what an event that isn't refused leads to
 pub ok_launch : (blocks : Blocks) (mode : Mode) (m : Machine) (i block : ℕ) (s : Session) (n : Next) → launch_of blocks mode m i block (Some s) ≡ Ok n
-    → launched m i s (first_place block (stmts_at blocks block)) ≡ n
+    → launched m i s (first_place block (stmts_of blocks block)) ≡ n
 ok_launch blocks mode m i block s n h =
-    ok_at (if_ok (is_directed mode && not (is_quiet m)) NotYourTurn (ok_next (launched m i s (first_place block (stmts_at blocks block)))) n
-    (if_ok (is_busy s) Busy _ n (if_ok (not (is_allowed blocks i block)) BlockNotAllowed _ n h)))
+    ok_at (if_ok (is_directed mode && not (is_quiet m)) NotYourTurn (ok_next (launched m i s (first_place block (stmts_of blocks block)))) n
+    (if_ok (is_busy s) Busy _ n (if_ok (not (may_launch blocks i block)) BlockNotAllowed _ n h)))
 
 -- what the session's next statement, which begins or goes on, does
 abbrev pub ran : Machine → ℕ → Session → StmtTree → Effect
@@ -255,7 +255,7 @@ sound_next blocks mode m (Launch i block) n sound h = at_launch (slice_get m.ses
   at_launch : (o : Option Session) → slice_get m.sessions i ≡ o → launch_of blocks mode m i block o ≡ Ok n → SoundNext m n
   at_launch None e h = cc
   at_launch (Some s) e h =
-      let place = first_place block (stmts_at blocks block) in
+      let place = first_place block (stmts_of blocks block) in
       subst (SoundNext m) (ok_launch blocks mode m i block s n h) (
         sound_set m.db m.db m.sessions m.events i s (record { place = place; transaction = s.transaction; statement = None }) sound e
             (same m.db.content s.transaction (sound_live _ _ m.events i s sound e)) (sound_firm _ _ m.events sound) (le_refl _) (λ p e. no_progress p e) (λ p e. no_progress p e),
@@ -269,7 +269,7 @@ sound_next blocks mode m (Step i) n sound h = at_step (slice_get m.sessions i) r
 
   at_place : (s : Session) (o : Option Place) → slice_get m.sessions i ≡ Some s → step_at blocks mode m i s o ≡ Ok n → SoundNext m n
   at_place s None e h = cc
-  at_place s (Some place) e h = at_stmt s place (length (stmts_at blocks place.block)) (slice_get (stmts_at blocks place.block) place.next) e h
+  at_place s (Some place) e h = at_stmt s place (length (stmts_of blocks place.block)) (slice_get (stmts_of blocks place.block) place.next) e h
 
   at_step : (o : Option Session) → slice_get m.sessions i ≡ o → step_of blocks mode m i o ≡ Ok n → SoundNext m n
   at_step None e h = cc

@@ -30,7 +30,7 @@ use Rattle.session_machine.specs.declared.session.OpenTransaction.{OpenTransacti
 use Rattle.session_machine.specs.Tables.{Database, Table}
 use Rattle.session_machine.specs.Waits.{waits_in}
 use Rattle.session_machine.specs.Walks.{Visit, Stop, walked, walked_from}
-use Rattle.session_machine.specs.Rows.{Work, columns_in, cols_in, keys_in, written, inserted, stop_at_keys, insert_at, ask, settled, at_outcome, at_target, values_of, update_with, update_at, delete_with, delete_at, lock_with, strength_of, lock_at, seen_by, at_places, passing_targets, taken_targets}
+use Rattle.session_machine.specs.Rows.{Work, columns_in, cols_in, keys_in, written, inserted, stop_at_keys, insert_one, ask, settled, at_outcome, at_target, values_of, update_with, update_one, delete_with, delete_one, lock_with, strength_of, lock_one, seen_by, at_places, passing_targets, taken_targets}
 use Rattle.session_machine.specs.Inner.Pieces.{unless_stopped, unless_stopped_by, unless_null, insert_made, update_made, lock_made, with_table, with_drop}
 use Rattle.session_machine.specs.Sound.{RowsFit, RowsStay}
 use Rattle.session_laws.proofs.Lists.{slice_get-append_left}
@@ -141,7 +141,7 @@ module _ (start : Content) (w : Work) (table : Table) (P : Database → Type 0) 
   works_checked name db after (Some stop) None h k = h
   works_checked name db after None None h k = k
 
-  works_insert : (name : List ℕ) (targets : List AssignedColumn) (db : Database) (row : List Tree) → W db → W (insert_at w name targets db row).db
+  works_insert : (name : List ℕ) (targets : List AssignedColumn) (db : Database) (row : List Tree) → W db → W (insert_one w name targets db row).db
   works_insert name targets db row h = at_values (new_values (length (columns_in db w)) targets row) refl where
     long : (values : List Value) → new_values (length (columns_in db w)) targets row ≡ Ok values → length values ≡ length table.made.columns
     long values e = length-new_values (length (columns_in db w)) targets row values e ∙ ap length (columns_are db.catalog w.table table h.there)
@@ -215,24 +215,24 @@ module _ (start : Content) (w : Work) (table : Table) (P : Database → Type 0) 
     at_row (Ok row) = h
 
   pub works_inserts : (name : List ℕ) (targets : List AssignedColumn) (given : List (List Tree)) (db : Database) (place : ℕ) (rows : List (List Value)) → W db
-      → W (walked (insert_at w name targets) db place rows given).db
+      → W (walked (insert_one w name targets) db place rows given).db
   works_inserts name targets given db place rows h =
-      walked_keeps W (λ row. Unit {0}) (insert_at w name targets) (λ d row of k. works_insert name targets d row k) given (any given) db place rows h where
+      walked_keeps W (λ row. Unit {0}) (insert_one w name targets) (λ d row of k. works_insert name targets d row k) given (any given) db place rows h where
         any : (xs : List (List Tree)) → Each (λ row. Unit {0}) xs
         any [] = tt
         any (x ∷ xs) = (tt, any xs)
 
   pub works_updates : (u : UpdateTree) (targets : List AssignedColumn) (r : Result (List Seen) ValueFault) → EachOk (SeenOf start w.table) r → (db : Database) (place : ℕ) (rows : List (List Value)) → W db
-      → W (walked_from (update_at w u targets) db place rows r).db
+      → W (walked_from (update_one w u targets) db place rows r).db
   works_updates u targets r of db place rows h =
-      walked_from_keeps W (SeenOf start w.table) (update_at w u targets) (λ d s its k. works_target (update_with w u targets) (acts_update u targets) d (ask d w Exclusive u.filter s) its k) r of db place rows h
+      walked_from_keeps W (SeenOf start w.table) (update_one w u targets) (λ d s its k. works_target (update_with w u targets) (acts_update u targets) d (ask d w Exclusive u.filter s) its k) r of db place rows h
 
   pub works_deletes : (q : DeleteTree) (r : Result (List Seen) ValueFault) → EachOk (SeenOf start w.table) r → (db : Database) (place : ℕ) (rows : List (List Value)) → W db
-      → W (walked_from (delete_at w q) db place rows r).db
+      → W (walked_from (delete_one w q) db place rows r).db
   works_deletes q r of db place rows h =
-      walked_from_keeps W (SeenOf start w.table) (delete_at w q) (λ d s its k. works_target (delete_with w) acts_delete d (ask d w Exclusive q.filter s) its k) r of db place rows h
+      walked_from_keeps W (SeenOf start w.table) (delete_one w q) (λ d s its k. works_target (delete_with w) acts_delete d (ask d w Exclusive q.filter s) its k) r of db place rows h
 
   pub works_locks : (q : SelectTree) (l : Lock) (r : Result (List Seen) ValueFault) → EachOk (SeenOf start w.table) r → (db : Database) (place : ℕ) (rows : List (List Value)) → W db
-      → W (walked_from (lock_at w q l) db place rows r).db
+      → W (walked_from (lock_one w q l) db place rows r).db
   works_locks q l r of db place rows h =
-      walked_from_keeps W (SeenOf start w.table) (lock_at w q l) (λ d s its k. works_target (lock_with w q) (acts_lock q) d (ask d w (strength_of l) q.filter s) its k) r of db place rows h
+      walked_from_keeps W (SeenOf start w.table) (lock_one w q l) (λ d s its k. works_target (lock_with w q) (acts_lock q) d (ask d w (strength_of l) q.filter s) its k) r of db place rows h

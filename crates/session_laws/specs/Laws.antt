@@ -22,7 +22,7 @@ use Rattle.session_machine.specs.declared.reply.HistItem.{HistItem}
 use Rattle.session_machine.specs.Transactions.{view_of, view_now}
 use Rattle.session_machine.specs.Views.{rows_shown}
 use Rattle.session_machine.specs.Statements.{is_level}
-use Rattle.session_machine.specs.Machine.{Machine, Blocks, opening, session_of, stmts_at, visible}
+use Rattle.session_machine.specs.Machine.{Machine, Blocks, opening, session_of, stmts_of, visible}
 use Rattle.session_machine.specs.Engine.{Run, Follows, IsLegal}
 
 -- a history leads to one state
@@ -63,7 +63,7 @@ FailuresAreUnseen = (blocks : Blocks) (count : ℕ) (mode : Mode) (items : List 
 
 -- the statement that the session's next step begins, or goes on with
 abbrev pub due_stmt : Blocks → Session → Option StmtTree
-due_stmt blocks s = option_and_then (λ (p : Place). slice_get (stmts_at blocks p.block) p.next) s.place
+due_stmt blocks s = option_and_then (λ (p : Place). slice_get (stmts_of blocks p.block) p.next) s.place
 
 -- the write at the place gave its row these values, and nobody has written the row since
 pub record IsLastOf (c : Content) (place : ℕ) (w : Write) (values : List Value) : Type 0 where

@@ -47,12 +47,12 @@ empty_database = record { content = empty_content; catalog = record { tables = [
 abbrev pub opening : ℕ → Machine
 opening count = record { db = empty_database; sessions = replicate (count + 1) at_rest; events = 0 }
 
-abbrev pub stmts_at : Blocks → ℕ → List StmtTree
-stmts_at blocks k = unwrap_or (slice_get blocks k) []
+abbrev pub stmts_of : Blocks → ℕ → List StmtTree
+stmts_of blocks k = unwrap_or (slice_get blocks k) []
 
 -- the session may be given the block: it is there, and tables are made and dropped by the control session alone
-abbrev pub is_allowed : Blocks → ℕ → ℕ → Bool
-is_allowed blocks session k = nat_lt k (length blocks) && ((session == 0) || not (list_any is_definition (stmts_at blocks k)))
+abbrev pub may_launch : Blocks → ℕ → ℕ → Bool
+may_launch blocks session k = nat_lt k (length blocks) && ((session == 0) || not (list_any is_definition (stmts_of blocks k)))
 
 -- the session is in its block
 abbrev pub is_busy : Session → Bool
@@ -135,7 +135,7 @@ step_with mode m session s place count stmt =
 -- it does the statement at this place, where its block has one there
 abbrev pub step_from : Blocks → Mode → Machine → ℕ → Session → Place → Result Next Refusal
 step_from blocks mode m session s place =
-    option_map_or (step_with mode m session s place (length (stmts_at blocks place.block))) (slice_get (stmts_at blocks place.block) place.next) (Err Idle)
+    option_map_or (step_with mode m session s place (length (stmts_of blocks place.block))) (slice_get (stmts_of blocks place.block) place.next) (Err Idle)
 
 -- a session that leaves rolls its open transaction back
 abbrev pub left_behind : Database → Transaction → Database
@@ -145,10 +145,10 @@ left_behind db transaction = db
 -- what the event makes of the machine where this session does it, or why it is refused
 abbrev pub next_for : Blocks → Mode → Machine → Session → Event → Result Next Refusal
 next_for blocks mode m s (Launch session block) =
-    if not (is_allowed blocks session block) then Err BlockNotAllowed
+    if not (may_launch blocks session block) then Err BlockNotAllowed
     else if is_busy s then Err Busy
     else if is_directed mode && not (is_quiet m) then Err NotYourTurn
-    else Ok (comes_out m m.db session (record { place = first_place block (stmts_at blocks block); transaction = s.transaction; statement = None }) Launched)
+    else Ok (comes_out m m.db session (record { place = first_place block (stmts_of blocks block); transaction = s.transaction; statement = None }) Launched)
 next_for blocks mode m s (Step session) = option_map_or (step_from blocks mode m session s) s.place (Err Idle)
 next_for blocks mode m s (Leave session) =
     if is_directed mode && not (is_quiet m) then Err NotYourTurn else Ok (comes_out m (left_behind m.db s.transaction) session at_rest Left)

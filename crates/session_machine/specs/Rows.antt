@@ -96,8 +96,8 @@ with_values db (Err fault) visit = stops db (Fails (OfValue fault))
 with_values db (Ok values) visit = visit values
 
 -- INSERT at a row of its VALUES: it is evaluated and assigned, its NULLs and then its keys are checked, and it is written
-abbrev pub insert_at : Work → List ℕ → List AssignedColumn → Database → List Tree → Visit
-insert_at w name to db row = with_values db (new_values (length (columns_in db w)) to row) (λ values. checked w name db None values (inserted db w values))
+abbrev pub insert_one : Work → List ℕ → List AssignedColumn → Database → List Tree → Visit
+insert_one w name to db row = with_values db (new_values (length (columns_in db w)) to row) (λ values. checked w name db None values (inserted db w values))
 
 -- one target, as it is asked for
 abbrev pub ask : Database → Work → Strength → Option Tree → Seen → Asked
@@ -129,15 +129,15 @@ abbrev pub update_with : Work → UpdateTree → List AssignedColumn → Databas
 update_with w u to db seen =
     with_values db (updated (cols_in db w) to u.sets (values_of db seen)) (λ values. checked w u.table db (Some seen.row) values (written db w seen.row (Some values)))
 
-abbrev pub update_at : Work → UpdateTree → List AssignedColumn → Database → Seen → Visit
-update_at w u to db seen = at_target (update_with w u to) db w (ask db w Exclusive u.filter seen)
+abbrev pub update_one : Work → UpdateTree → List AssignedColumn → Database → Seen → Visit
+update_one w u to db seen = at_target (update_with w u to) db w (ask db w Exclusive u.filter seen)
 
 -- DELETE with the version that it takes
 abbrev pub delete_with : Work → Database → Seen → Visit
 delete_with w db seen = goes_on (written db w seen.row None) []
 
-abbrev pub delete_at : Work → DeleteTree → Database → Seen → Visit
-delete_at w d db seen = at_target (delete_with w) db w (ask db w Exclusive d.filter seen)
+abbrev pub delete_one : Work → DeleteTree → Database → Seen → Visit
+delete_one w d db seen = at_target (delete_with w) db w (ask db w Exclusive d.filter seen)
 
 -- a locking SELECT with the version that it takes
 abbrev pub lock_with : Work → SelectTree → Database → Seen → Visit
@@ -148,8 +148,8 @@ abbrev pub strength_of : Lock → Strength
 strength_of lock.Share = Share
 strength_of lock.Update = Exclusive
 
-abbrev pub lock_at : Work → SelectTree → Lock → Database → Seen → Visit
-lock_at w s l db seen = at_target (lock_with w s) db w (ask db w (strength_of l) s.filter seen)
+abbrev pub lock_one : Work → SelectTree → Lock → Database → Seen → Visit
+lock_one w s l db seen = at_target (lock_with w s) db w (ask db w (strength_of l) s.filter seen)
 
 -- the versions that the statement's view shows of its table
 abbrev pub seen_by : Database → Work → List Seen

@@ -10,8 +10,8 @@ use Rattle.sql_values.specs.declared.value.Value.{Value}
 use Rattle.sql_values.specs.declared.fault.ValueFault.{ValueFault}
 use Rattle.sql_values.specs.declared.fault.ValueFault.TheVariants.{NoColumn}
 use Rattle.query_results.specs.Results.{Results}
-use Rattle.query_results.specs.Queries.{AssignedColumn, lacking_if, lacking_rows, lacking_select, result_of, some_too_long, columns_assigned, titles_of, wrong_position}
-use Rattle.query_results.specs.Updates.{lacking_update, columns_set}
+use Rattle.query_results.specs.Queries.{AssignedColumn, undefined_in_condition, undefined_in_rows, undefined_in_select, result_of, some_too_long, columns_assigned, titles_of, wrong_position}
+use Rattle.query_results.specs.Updates.{undefined_in_update, columns_set}
 use Rattle.row_versions.specs.Log.{Content}
 use Rattle.session_machine.specs.declared.session.OpenTransaction.{OpenTransaction}
 use Rattle.session_machine.specs.declared.session.Transaction.{Transaction}
@@ -26,7 +26,7 @@ use Rattle.session_machine.specs.Transactions.{fresh, begun, committed, rolled_b
 use Rattle.session_machine.specs.Views.{rows_shown}
 use Rattle.session_machine.specs.Statements.{Surroundings, Effect, fails, answers, turns, create, drop_tables, level_set, begin_in, run_aborted}
 use Rattle.session_machine.specs.Walks.{Stop, Walk, Blocked, Fails, walked, walked_from}
-use Rattle.session_machine.specs.Rows.{Work, columns_in, cols_in, insert_at, update_at, delete_at, lock_at, passing_targets, taken_targets}
+use Rattle.session_machine.specs.Rows.{Work, columns_in, cols_in, insert_one, update_one, delete_one, lock_one, passing_targets, taken_targets}
 
 -- what a statement finds that begins: its view is taken now
 abbrev pub beginning : Database → OpenTransaction → Surroundings → ℕ → Work
@@ -51,8 +51,8 @@ comes_to before w outcome walk None = answers before walk.db w.t (outcome walk.r
 comes_to before w outcome walk (Some (Blocked request)) = pauses before w walk request
 comes_to before w outcome walk (Some (Fails fault)) = fails walk.db w.t fault
 
-abbrev pub ended : Content → Work → (List (List Value) → Outcome) → Walk → Effect
-ended before w outcome walk = comes_to before w outcome walk walk.stop
+abbrev pub after_walk : Content → Work → (List (List Value) → Outcome) → Walk → Effect
+after_walk before w outcome walk = comes_to before w outcome walk walk.stop
 
 abbrev pub done : List (List Value) → Outcome
 done rows = Done
@@ -71,39 +71,39 @@ assigning db t table (Err column) runs = fails db t (NoColumnOf column table)
 assigning db t table (Ok to) runs = runs to
 
 -- it fails where its expressions name a column that isn't there; else this is due
-abbrev pub unless_lacking : Database → OpenTransaction → Option (List ℕ) → Effect → Effect
-unless_lacking db t lacking due = option_map_or (λ name. fails db t (OfValue (NoColumn name))) lacking due
+abbrev pub unless_undefined : Database → OpenTransaction → Option (List ℕ) → Effect → Effect
+unless_undefined db t undefined due = option_map_or (λ name. fails db t (OfValue (NoColumn name))) undefined due
 
 -- INSERT, from this place among the rows of its VALUES on
 abbrev pub insert_from : Database → Work → InsertTree → ℕ → List (List Value) → Effect
-insert_from db w i place rows = ended db.content w done (walked (insert_at w i.table (assigned_to (columns_assigned (columns_in db w) i.columns))) db place rows (drop place i.rows))
+insert_from db w i place rows = after_walk db.content w done (walked (insert_one w i.table (assigned_to (columns_assigned (columns_in db w) i.columns))) db place rows (drop place i.rows))
 
 -- INSERT at the table that is found; no row of its VALUES may have more of them than there are columns to assign
 abbrev pub insert : Database → OpenTransaction → Surroundings → InsertTree → Option ℕ → Effect
 insert db t around i found = at_table db t around i.table found (λ w. assigning db t i.table (columns_assigned (columns_in db w) i.columns) (λ to.
-    unless_lacking db t (lacking_rows i.rows) (if some_too_long (length to) i.rows then fails db t TooManyValues else insert_from db w i 0 [])))
+    unless_undefined db t (undefined_in_rows i.rows) (if some_too_long (length to) i.rows then fails db t TooManyValues else insert_from db w i 0 [])))
 
 -- UPDATE, from this place among its targets on
 abbrev pub update_from : Database → Work → UpdateTree → ℕ → List (List Value) → Effect
-update_from db w u place rows = ended db.content w done (walked_from (update_at w u (assigned_to (columns_set (columns_in db w) u.sets))) db place rows (passing_targets db w u.filter))
+update_from db w u place rows = after_walk db.content w done (walked_from (update_one w u (assigned_to (columns_set (columns_in db w) u.sets))) db place rows (passing_targets db w u.filter))
 
 -- UPDATE at the table that is found
 abbrev pub update : Database → OpenTransaction → Surroundings → UpdateTree → Option ℕ → Effect
 update db t around u found = at_table db t around u.table found (λ w. assigning db t u.table (columns_set (columns_in db w) u.sets) (λ to.
-    unless_lacking db t (lacking_update (cols_in db w) u) (update_from db w u 0 [])))
+    unless_undefined db t (undefined_in_update (cols_in db w) u) (update_from db w u 0 [])))
 
 -- DELETE, from this place among its targets on
 abbrev pub delete_from : Database → Work → DeleteTree → ℕ → List (List Value) → Effect
-delete_from db w d place rows = ended db.content w done (walked_from (delete_at w d) db place rows (passing_targets db w d.filter))
+delete_from db w d place rows = after_walk db.content w done (walked_from (delete_one w d) db place rows (passing_targets db w d.filter))
 
 -- DELETE at the table that is found
 abbrev pub delete : Database → OpenTransaction → Surroundings → DeleteTree → Option ℕ → Effect
-delete db t around d found = at_table db t around d.table found (λ w. unless_lacking db t (lacking_if (cols_in db w) d.filter) (delete_from db w d 0 []))
+delete db t around d found = at_table db t around d.table found (λ w. unless_undefined db t (undefined_in_condition (cols_in db w) d.filter) (delete_from db w d 0 []))
 
 -- a locking SELECT, from this place among its targets on
 abbrev pub lock_from : Database → Work → SelectTree → Lock → ℕ → List (List Value) → Effect
 lock_from db w s l place rows =
-    ended db.content w (λ shown. Rows (record { titles = titles_of (columns_in db w) s.items; rows = shown })) (walked_from (lock_at w s l) db place rows (taken_targets db w s))
+    after_walk db.content w (λ shown. Rows (record { titles = titles_of (columns_in db w) s.items; rows = shown })) (walked_from (lock_one w s l) db place rows (taken_targets db w s))
 
 -- a SELECT has this result
 abbrev pub answered : Database → OpenTransaction → Result Results ValueFault → Effect
@@ -116,13 +116,13 @@ select_rows db w s (Some l) = lock_from db w s l 0 []
 
 -- it fails where it names a column that isn't there, and then where it sorts by a position that isn't there
 abbrev pub unless_wrong : Database → OpenTransaction → Option (List ℕ) → Option ℤ → Effect → Effect
-unless_wrong db t lacking position due = unless_lacking db t lacking (option_map_or (λ n. fails db t (NoPosition n)) position due)
+unless_wrong db t undefined position due = unless_undefined db t undefined (option_map_or (λ n. fails db t (NoPosition n)) position due)
 
 -- without FROM there is one row, without columns
 abbrev pub select : Database → OpenTransaction → Surroundings → SelectTree → Option (List ℕ) → Effect
-select db t around s None = unless_wrong db t (lacking_select [] s) (wrong_position [] s) (answered db t (result_of s [] ([] ∷ [])))
+select db t around s None = unless_wrong db t (undefined_in_select [] s) (wrong_position [] s) (answered db t (result_of s [] ([] ∷ [])))
 select db t around s (Some name) = at_table db t around name (find_table db (Some t.tx) name) (λ w.
-    unless_wrong db t (lacking_select (cols_in db w) s) (wrong_position (columns_in db w) s) (select_rows db w s s.lock))
+    unless_wrong db t (undefined_in_select (cols_in db w) s) (wrong_position (columns_in db w) s) (select_rows db w s s.lock))
 
 -- a statement that begins in an open transaction
 abbrev pub run_open : Database → OpenTransaction → Surroundings → StmtTree → Effect

@@ -5,7 +5,7 @@ use Rattle.row_versions.specs.declared.names.TxId.{TxId}
 use Rattle.row_versions.specs.Members.{is_none_of}
 use Rattle.row_locks.specs.Held.{holders_against}
 use Rattle.row_locks.specs.Waiting.{Waiting}
-use Rattle.unique_keys.specs.Checks.{blockers as key_blockers}
+use Rattle.unique_keys.specs.Checks.{key_blockers}
 use Rattle.session_machine.specs.declared.session.Request.{Request}
 use Rattle.session_machine.specs.declared.session.Request.TheVariants.{Row, Key}
 use Rattle.session_machine.specs.declared.session.Waiting.{Waiting as Wait}

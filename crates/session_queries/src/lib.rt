@@ -5,22 +5,24 @@ mod answer;
 mod assigned;
 mod keys;
 mod known;
-mod lacking;
 mod new_row;
 mod ordering;
 mod passing;
 mod positions;
 mod titles;
+mod undefined;
 mod update;
 mod values_check;
 
 pub use answer::{result_of, row_values};
 pub use assigned::{AssignedColumn, AssignedColumns, columns_assigned, columns_set};
-pub use lacking::{lacking_filter, lacking_rows, lacking_select, lacking_update};
 pub use new_row::new_values;
 pub use ordering::taken_places;
 pub use passing::passing_places;
 pub use positions::wrong_position;
 pub use titles::titles_of;
+pub use undefined::{
+    undefined_in_filter, undefined_in_rows, undefined_in_select, undefined_in_update,
+};
 pub use update::updated_values;
 pub use values_check::{null_in, some_too_long};

@@ -6,7 +6,7 @@ use Rattle.sql_values.specs.declared.value.Value.{Value}
 use Rattle.sql_values.specs.declared.fault.ValueFault.{ValueFault}
 use Rattle.row_versions.specs.declared.write.Seen.{Seen}
 use Rattle.query_results.specs.Queries.{AssignedColumn}
-use Rattle.query_results.specs.Updates.{lacking_update, columns_set}
+use Rattle.query_results.specs.Updates.{undefined_in_update, columns_set}
 use Rattle.session_machine.specs.declared.session.OpenTransaction.{OpenTransaction}
 use Rattle.session_machine.specs.declared.fault.StmtFault.TheVariants.{NoColumnOf}
 use Rattle.session_machine.specs.Tables.{Database}
@@ -22,8 +22,8 @@ pub found_targets : (at : Database → Seen → Visit) (db : Database) (place : 
 found_targets at db place rows r targets got is same = ap (walked_from at db place rows) is ∙ ap (λ (xs : List Seen). walked at db place rows (drop place xs)) (sym same)
 
 -- a SELECT that names nothing wrong comes to what is due
-pub not_wrong : (db : Database) (t : OpenTransaction) (lacking : Option (List ℕ)) (position : Option ℤ) (due : Effect) → lacking ≡ None → position ≡ None → unless_wrong db t lacking position due ≡ due
-not_wrong db t lacking position due a b = ap (λ (x : Option (List ℕ)). unless_wrong db t x position due) a ∙ ap (λ (y : Option ℤ). unless_wrong db t None y due) b
+pub not_wrong : (db : Database) (t : OpenTransaction) (undefined : Option (List ℕ)) (position : Option ℤ) (due : Effect) → undefined ≡ None → position ≡ None → unless_wrong db t undefined position due ≡ due
+not_wrong db t undefined position due a b = ap (λ (x : Option (List ℕ)). unless_wrong db t x position due) a ∙ ap (λ (y : Option ℤ). unless_wrong db t None y due) b
 
 -- an UPDATE that assigns to a column that isn't there fails
 pub no_such_column : (db : Database) (t : OpenTransaction) (around : Surroundings) (u : UpdateTree) (found : Option ℕ) (k : ℕ) (column : List ℕ) → found ≡ Some k
@@ -32,5 +32,5 @@ no_such_column db t around u found k column a b = ap (update db t around u) a �
 
 -- one whose columns are all there goes on with them
 pub such_columns : (db : Database) (t : OpenTransaction) (around : Surroundings) (u : UpdateTree) (found : Option ℕ) (k : ℕ) (to : List AssignedColumn) → found ≡ Some k
-    → columns_set (columns_at db.catalog k) u.sets ≡ Ok to → update db t around u found ≡ update_fitting db (beginning db t around k) u (lacking_update (cols_in db (beginning db t around k)) u)
+    → columns_set (columns_at db.catalog k) u.sets ≡ Ok to → update db t around u found ≡ update_fitting db (beginning db t around k) u (undefined_in_update (cols_in db (beginning db t around k)) u)
 such_columns db t around u found k to a b = ap (update db t around u) a ∙ ap (update_to db (beginning db t around k) u) b

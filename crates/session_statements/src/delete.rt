@@ -16,7 +16,7 @@ use crate::effect::{Effect, Surroundings, Work};
 use iso_lexer::Ident;
 use row_versions::{Seen, Versions};
 use session_machine::{OpenTransaction, StmtFault};
-use session_queries::lacking_filter;
+use session_queries::undefined_in_filter;
 use sql_trees::Delete;
 use sql_values::Row;
 use std::alloc::AllocError;
@@ -69,7 +69,7 @@ impl<'a, 't, V: Versions> Database<'a, 't, V> {
         let Some(place) = self.find_table(Some(by.tx), &stmt.table) else {
             return Ok(self.fail(by, StmtFault::NoTable(Ident::new(stmt.table))));
         };
-        if let Some(name) = lacking_filter(self.columns(place), &stmt.filter) {
+        if let Some(name) = undefined_in_filter(self.columns(place), &stmt.filter) {
             return Ok(self.fail_column(by, name));
         }
         let work = self.work(by, place, around);

@@ -6,11 +6,11 @@ ghost use Rattle.sql_trees.specs.Statements.{column_of, exprs_of, insert_of, nam
 ghost use Rattle.sql_values.specs.declared.fault.ValueFault.TheVariants.{Memory};
 ghost use Rattle.sql_values.specs.declared.value.Value.{Value as SqlValue};
 ghost use Rattle.row_versions.specs.Log.{Content, IsOpen};
-ghost use Rattle.query_results.specs.Queries.{lacking_rows, columns_assigned};
+ghost use Rattle.query_results.specs.Queries.{undefined_in_rows, columns_assigned};
 ghost use Rattle.session_machine.specs.Tables.{find_table};
 ghost use Rattle.session_machine.specs.Walks.{walked};
-ghost use Rattle.session_machine.specs.Rows.{insert_at};
-ghost use Rattle.session_machine.specs.Running.{assigned_to, done, ended, insert, insert_from};
+ghost use Rattle.session_machine.specs.Rows.{insert_one};
+ghost use Rattle.session_machine.specs.Running.{assigned_to, done, after_walk, insert, insert_from};
 ghost use Rattle.session_machine.specs.Inner.Pieces.{insert_made, insert_fitting};
 ghost use Rattle.session_statements.specs.Inner.Acting.{halted, stop_of};
 ghost use Rattle.session_statements.specs.Inner.Left.{left};
@@ -22,7 +22,9 @@ use crate::targets::all_or_none;
 use iso_lexer::{Ident, Name};
 use row_versions::Versions;
 use session_machine::{OpenTransaction, StmtFault, Transaction};
-use session_queries::{AssignedColumns, columns_assigned, lacking_rows, new_values, some_too_long};
+use session_queries::{
+    AssignedColumns, columns_assigned, new_values, some_too_long, undefined_in_rows,
+};
 use sql_trees::{Column, Expr, Insert};
 use sql_values::{Row, ValueFault};
 use std::alloc::{AllocError, Global};
@@ -83,7 +85,7 @@ impl<'a, 't, V: Versions> Database<'a, 't, V> {
         requires opened { IsOpen self.old.content work.now.t.tx }
         requires within { work.now.table < length self.old.catalog.tables }
         ensures visit { IfOk result (λ stop.
-            insert_at work.now (name_of stmt.now.table) to.now self.old (map tree_of row.now) ≡ record { db = self.new; rows = []; stop = option_map stop_of stop }) }
+            insert_one work.now (name_of stmt.now.table) to.now self.old (map tree_of row.now) ≡ record { db = self.new; rows = []; stop = option_map stop_of stop }) }
         ensures fates { OnOk result (self.new.content.fates ≡ self.old.content.fates) }
         ensures catalog { OnOk result (self.new.catalog ≡ self.old.catalog) }
     {
@@ -107,7 +109,7 @@ impl<'a, 't, V: Versions> Database<'a, 't, V> {
         requires opened { IsOpen self.old.content work.now.t.tx }
         requires within { work.now.table < length self.old.catalog.tables }
         ensures walk { (before : Content) (rows : List (List SqlValue)) → IfOk result (λ halt.
-            ended before work.now done (walked (insert_at work.now (name_of stmt.now.table) to.now) self.old place rows (drop place (map exprs_of stmt.now.rows.items)))
+            after_walk before work.now done (walked (insert_one work.now (name_of stmt.now.table) to.now) self.old place rows (drop place (map exprs_of stmt.now.rows.items)))
             ≡ halted before work.now done self.new rows halt) }
         ensures fates { OnOk result (self.new.content.fates ≡ self.old.content.fates) }
     {
@@ -152,9 +154,9 @@ impl<'a, 't, V: Versions> Database<'a, 't, V> {
         requires room { work.now.t.command + 1 < 2 ^ 64 }
         requires within { work.now.table < length self.old.catalog.tables }
         ensures { IfOk result (λ did.
-            insert_fitting self.old work.now (insert_of stmt.now) to.now (lacking_rows (map exprs_of stmt.now.rows.items)) ≡ left self.new did) }
+            insert_fitting self.old work.now (insert_of stmt.now) to.now (undefined_in_rows (map exprs_of stmt.now.rows.items)) ≡ left self.new did) }
     {
-        if let Some(name) = lacking_rows(stmt.rows.as_slice()) {
+        if let Some(name) = undefined_in_rows(stmt.rows.as_slice()) {
             return Ok(self.fail_column(&work.by, name));
         }
         if some_too_long(to.len(), stmt.rows.as_slice()) {

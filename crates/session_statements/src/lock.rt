@@ -7,7 +7,7 @@ ghost use Rattle.query_results.specs.Results.{IsEven};
 ghost use Rattle.query_results.specs.Queries.{titles_of};
 ghost use Rattle.row_versions.specs.Log.{IsOpen};
 ghost use Rattle.session_machine.specs.Rows.{columns_in, lock_with, strength_of, values_of};
-ghost use Rattle.session_machine.specs.Running.{ended, lock_from};
+ghost use Rattle.session_machine.specs.Running.{after_walk, lock_from};
 ghost use Rattle.session_machine.specs.Walks.{walked};
 ghost use Rattle.session_machine.specs.declared.reply.Outcome.TheVariants.{Rows};
 ghost use Rattle.session_statements.specs.Inner.Acting.{visit_at, visit_of};
@@ -96,7 +96,7 @@ impl<'a, 't, V: Versions> Database<'a, 't, V> {
         requires orderly { IsOrderly self.old }
         requires its { RowsIn self.old.content work.now.table targets.now }
         ensures { IfOk result (λ did.
-            ended self.old.content work.now (λ shown. Rows (record { titles = titles_of (columns_in self.old work.now) (map item_of stmt.now.items.items); rows = shown }))
+            after_walk self.old.content work.now (λ shown. Rows (record { titles = titles_of (columns_in self.old work.now) (map item_of stmt.now.items.items); rows = shown }))
             (walked (visit_at work.now act.now) self.old place rows.items (drop place targets.now)) ≡ left self.new did) }
     {
         let mut answered = rows;

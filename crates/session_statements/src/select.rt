@@ -7,7 +7,7 @@ ghost use Rattle.sql_values.specs.Values.{Answers};
 ghost use Rattle.query_results.specs.Results.{Results};
 ghost use Rattle.row_versions.specs.Log.{IsOpen};
 ghost use Rattle.session_machine.specs.Tables.{find_table};
-ghost use Rattle.query_results.specs.Queries.{lacking_select, result_of, wrong_position};
+ghost use Rattle.query_results.specs.Queries.{undefined_in_select, result_of, wrong_position};
 ghost use Rattle.session_machine.specs.Views.{rows_shown};
 ghost use Rattle.session_machine.specs.Rows.{columns_in};
 ghost use Rattle.session_machine.specs.Running.{answered, select, select_rows, unless_wrong};
@@ -22,7 +22,7 @@ use iso_lexer::{Ident, Name};
 use query_results::ResultSet;
 use row_versions::Versions;
 use session_machine::{OpenTransaction, Outcome, StmtFault, Transaction};
-use session_queries::{lacking_select, result_of, wrong_position};
+use session_queries::{result_of, undefined_in_select, wrong_position};
 use sql_trees::Select;
 use sql_values::{Row, ValueFault};
 use std::alloc::{AllocError, Global};
@@ -101,7 +101,7 @@ impl<'a, 't, V: Versions> Database<'a, 't, V> {
         ensures { IfOk result (λ did. select_in self.old work.now (select_of stmt.now) ≡ left self.new did) }
     {
         let columns = self.columns_in(work);
-        if let Some(name) = lacking_select(columns, stmt) {
+        if let Some(name) = undefined_in_select(columns, stmt) {
             return Ok(self.fail_column(&work.by, name));
         }
         if let Some(position) = wrong_position(columns, stmt) {
@@ -140,10 +140,10 @@ impl<'a, 't, V: Versions> Database<'a, 't, V> {
         requires opened { IsOpen self.old.content by.now.tx }
         requires room { by.now.command + 1 < 2 ^ 64 }
         ensures { IfOk result (λ did.
-            unless_wrong self.old by.now (lacking_select [] (select_of stmt.now)) (wrong_position [] (select_of stmt.now))
+            unless_wrong self.old by.now (undefined_in_select [] (select_of stmt.now)) (wrong_position [] (select_of stmt.now))
             (answered self.old by.now (result_of (select_of stmt.now) [] ([] ∷ []))) ≡ left self.new did) }
     {
-        if let Some(name) = lacking_select(&[], stmt) {
+        if let Some(name) = undefined_in_select(&[], stmt) {
             return Ok(self.fail_column(by, name));
         }
         if let Some(position) = wrong_position(&[], stmt) {

@@ -3,7 +3,7 @@
 ghost use Rattle.std.specs.Prelude.{◌≡◌, ◌+◌, ◌<◌, ◌^◌, Some, None, Ok, length, map, IfOk, OnErr, IsSome};
 ghost use Rattle.sql_trees.specs.Statements.{column_of, name_of, set_of, update_of};
 ghost use Rattle.row_versions.specs.Log.{IsOpen};
-ghost use Rattle.query_results.specs.Updates.{lacking_update, columns_set, updated};
+ghost use Rattle.query_results.specs.Updates.{undefined_in_update, columns_set, updated};
 ghost use Rattle.sql_values.specs.Values.{Answers};
 ghost use Rattle.query_results.specs.Queries.{cols_of};
 ghost use Rattle.session_machine.specs.Tables.{find_table};
@@ -22,7 +22,7 @@ use crate::targets::all_or_none;
 use iso_lexer::{Ident, Name};
 use row_versions::{Seen, Versions};
 use session_machine::{OpenTransaction, StmtFault};
-use session_queries::{AssignedColumns, columns_set, lacking_update, updated_values};
+use session_queries::{AssignedColumns, columns_set, undefined_in_update, updated_values};
 use sql_trees::{Column, Expr, Update};
 use sql_values::{Row, ValueFault};
 use std::alloc::{AllocError, Global};
@@ -126,9 +126,9 @@ impl<'a, 't, V: Versions> Database<'a, 't, V> {
         requires within { work.now.table < length self.old.catalog.tables }
         requires orderly { IsOrderly self.old }
         ensures { IfOk result (λ did.
-            update_fitting self.old work.now (update_of stmt.now) (lacking_update (cols_of (columns_in self.old work.now)) (update_of stmt.now)) ≡ left self.new did) }
+            update_fitting self.old work.now (update_of stmt.now) (undefined_in_update (cols_of (columns_in self.old work.now)) (update_of stmt.now)) ≡ left self.new did) }
     {
-        if let Some(name) = lacking_update(self.columns_in(work), stmt) {
+        if let Some(name) = undefined_in_update(self.columns_in(work), stmt) {
             return Ok(self.fail_column(&work.by, name));
         }
         self.update_from(work, stmt, 0, Vec::new(self.alloc))

@@ -9,7 +9,7 @@ ghost use Rattle.session_machine.specs.Transactions.{started};
 ghost use Rattle.session_machine.specs.Walks.{Blocked, walked, walked_from};
 ghost use Rattle.session_machine.specs.Rows.{passing_targets};
 ghost use Rattle.session_machine.specs.Tables.{Database as DatabaseFacts};
-ghost use Rattle.session_machine.specs.Running.{done, ended, pauses};
+ghost use Rattle.session_machine.specs.Running.{done, after_walk, pauses};
 ghost use Rattle.session_statements.specs.Inner.Acting.{halted, visit_at};
 ghost use Rattle.session_statements.specs.Inner.Keeping.{IsKept, IsOrderly, RowsIn};
 ghost use Rattle.session_statements.specs.Inner.Left.{left};
@@ -40,7 +40,7 @@ impl<'a, 't, V: Versions> Database<'a, 't, V> {
         requires orderly { IsOrderly self.old }
         requires its { RowsIn self.old.content work.now.table targets.now }
         ensures walk { (before : Content) (outcome : List (List SqlValue) → OutcomeFacts) → IfOk result (λ halt.
-            ended before work.now outcome (walked (visit_at work.now act.now) self.old place rows.old.items (drop place targets.now))
+            after_walk before work.now outcome (walked (visit_at work.now act.now) self.old place rows.old.items (drop place targets.now))
             ≡ halted before work.now outcome self.new rows.new.items halt) }
         ensures kept { OnOk result (IsKept self.old self.new) }
     {
@@ -118,7 +118,7 @@ impl<'a, 't, V: Versions> Database<'a, 't, V> {
         requires orderly { IsOrderly self.old }
         requires its { RowsIn self.old.content work.now.table targets.now }
         ensures { IfOk result (λ did.
-            ended self.old.content work.now done (walked (visit_at work.now act.now) self.old place rows.items (drop place targets.now)) ≡ left self.new did) }
+            after_walk self.old.content work.now done (walked (visit_at work.now act.now) self.old place rows.items (drop place targets.now)) ≡ left self.new did) }
     {
         let mut answered = rows;
         let begun = self.started(&work.by);
@@ -143,7 +143,7 @@ impl<'a, 't, V: Versions> Database<'a, 't, V> {
         requires within { work.now.table < length self.old.catalog.tables }
         requires orderly { IsOrderly self.old }
         ensures { IfOk result (λ did.
-            ended self.old.content work.now done (walked_from (visit_at work.now act.now) self.old place rows.items (passing_targets self.old work.now (option_map tree_of filter.now)))
+            after_walk self.old.content work.now done (walked_from (visit_at work.now act.now) self.old place rows.items (passing_targets self.old work.now (option_map tree_of filter.now)))
             ≡ left self.new did) }
     {
         match self.passing_targets(work, filter) {

@@ -11,7 +11,7 @@ use Rattle.permutation_plans.specs.Regular.{IsRegular}
 use Rattle.permutation_plans.specs.FreeRegular.{IsFreeRegular}
 use Rattle.report_text.specs.declared.fault.ReportFault.{ReportFault}
 use Rattle.report_text.specs.declared.fault.ReportFault.TheVariants as writes
-use Rattle.report_text.specs.Said.{Said, Ending, ended, whole, invalid, setup_failed, setup_waits, too_many}
+use Rattle.report_text.specs.Said.{Said, Ending, only_ends, whole, invalid, setup_failed, setup_waits, too_many}
 use Rattle.report_text.specs.Answers.{Puts}
 use Rattle.report_text.specs.FreeText.{free_says}
 use Rattle.report_text.specs.Permutation.{permutation_says}
@@ -70,7 +70,7 @@ freely_begun bytes f wo wn eo en is (fronts text notes so t n) = fronts text not
 -- how it ends where none of these may run
 record Stays (spec : SpecTree) (blocks : Blocks) (more : List (List EntryTree)) : Type 0 where
   how : Ending
-  prints : Prints spec blocks 0 more (ended how)
+  prints : Prints spec blocks 0 more (only_ends how)
 
 stays : (spec : SpecTree) (blocks : Blocks) (more : List (List EntryTree)) → Stays spec blocks more
 unfolding Prints
@@ -80,9 +80,9 @@ stays spec blocks (p ∷ ps) = record { how = too_many; prints = refl }
 -- how it ends behind a report that ended so, where none of these may run
 record Follows (ending : Ending) (Others : Said → Type 0) : Type 0 where
   how : Ending
-  goes : GoesOn ending Others (ended how)
+  goes : GoesOn ending Others (only_ends how)
 
-follows : (ending : Ending) (Others : Said → Type 0) (how : Ending) → Others (ended how) → Follows ending Others
+follows : (ending : Ending) (Others : Said → Type 0) (how : Ending) → Others (only_ends how) → Follows ending Others
 follows whole Others how so = record { how = how; goes = so }
 follows invalid Others how so = record { how = how; goes = so }
 follows (setup_failed text) Others how so = record { how = setup_failed text; goes = refl }
@@ -95,7 +95,7 @@ module _ (spec : SpecTree) (blocks : Blocks) (limit : ℕ) (all : List (List Ent
       → SoFar spec blocks wo wn eo en limit all left more → Begun (RunSays spec blocks limit all) wo wn eo en
   whole_begun wo wn eo en left more so =
       let end = stays spec blocks more in
-      fronts _ _ (run (so.done + 0) (behind so.text so.notes (ended end.how)) (omega (arith, so.split)) (so.told 0 (ended end.how) end.prints))
+      fronts _ _ (run (so.done + 0) (behind so.text so.notes (only_ends end.how)) (omega (arith, so.split)) (so.told 0 (only_ends end.how) end.prints))
       (put_with wo wn so.text [] so.out) (put_with eo en so.notes [] so.noted)
 
   -- and a front of one more
@@ -103,14 +103,14 @@ module _ (spec : SpecTree) (blocks : Blocks) (limit : ℕ) (all : List (List Ent
       → SoFar spec blocks wo wm eo em limit all left more → more ≡ p ∷ ps → 0 < left → Begun (OneSays spec blocks p) wm wn em en → Begun (RunSays spec blocks limit all) wo wn eo en
   next_begun wo wm wn eo em en left more p ps so is lt (none t n) =
       let end = stays spec blocks more in
-      fronts _ _ (run (so.done + 0) (behind so.text so.notes (ended end.how)) (omega (arith, so.split)) (so.told 0 (ended end.how) end.prints))
+      fronts _ _ (run (so.done + 0) (behind so.text so.notes (only_ends end.how)) (omega (arith, so.split)) (so.told 0 (only_ends end.how) end.prints))
       (put_still wo wm wn so.text so.out t) (put_still eo em en so.notes so.noted n)
   next_begun wo wm wn eo em en left more p ps so is lt (fronts _ _ (of_one items regular) t n) =
       let one = permutation_says spec p items in
       let end = stays spec blocks ps in
       let after = follows one.ending (Prints spec blocks 0 ps) end.how end.prints in
-      let said = behind one.text one.notes (ended after.how) in
-      let here : Prints spec blocks 1 more said = subst (λ (ms : List (List EntryTree)). Prints spec blocks 1 ms said) (sym is) (one_more spec blocks 0 p ps items (ended after.how) regular after.goes) in
+      let said = behind one.text one.notes (only_ends after.how) in
+      let here : Prints spec blocks 1 more said = subst (λ (ms : List (List EntryTree)). Prints spec blocks 1 ms said) (sym is) (one_more spec blocks 0 p ps items (only_ends after.how) regular after.goes) in
       fronts _ _ (run (so.done + 1) (behind so.text so.notes said) (omega (arith, so.split, lt)) (so.told 1 said here))
       (front_behind wo wm wn so.text (one.text ++ []) so.out (front_of_piece wm wn one.text [] t)) (front_behind eo em en so.notes (one.notes ++ []) so.noted (front_of_piece em en one.notes [] n))
 
@@ -120,7 +120,7 @@ module _ (spec : SpecTree) (blocks : Blocks) (limit : ℕ) (all : List (List Ent
 line_begun : (bytes : List ℕ) (limit : ℕ) (f : File) (wo wn eo en : Option (List ℕ)) → FileIs bytes (Ok f) → PutsFront wo wn (first_line f.spec) → en ≡ eo → Begun (FileMaySay bytes limit) wo wn eo en
 line_begun bytes limit f wo wn eo en is put same =
     let end = stays f.spec f.blocks (permutations_of f.spec) in
-    fronts _ _ (of_file 0 (behind (first_line f.spec) [] (ended end.how)) (omega arith) (runs f (ended end.how) is end.prints))
+    fronts _ _ (of_file 0 (behind (first_line f.spec) [] (only_ends end.how)) (omega arith) (runs f (only_ends end.how) is end.prints))
     (front_of_piece wo wn (first_line f.spec) [] put) (subst (λ (e : Option (List ℕ)). PutsFront eo e []) (sym same) (nothing_put eo []))
 
 pub no_line_begun : (bytes : List ℕ) (limit : ℕ) (f : File) (wo wn eo : Option (List ℕ)) (line : List ℕ) → FileIs bytes (Ok f) → line ≡ first_line f.spec → PutsFront wo wn line → Begun (FileMaySay bytes limit) wo wn eo eo

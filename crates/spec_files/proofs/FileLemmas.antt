@@ -16,7 +16,7 @@ use Rattle.spec_files.specs.Faults.{spec_fault}
 use Rattle.spec_files.specs.Runs.{is_of_reading}
 use Rattle.sql_blocks.specs.declared.block.Role.{Role}
 use Rattle.sql_blocks.specs.declared.block.Role.TheVariants.{Main, Session}
-use Rattle.spec_files.specs.Blocks.{Placed, block_as, blocks_in, BlocksRead}
+use Rattle.spec_files.specs.Blocks.{BlockWithRole, block_as, blocks_in, BlocksRead}
 use Rattle.spec_files.specs.BlockAnswers.{SayAll, HasShortText}
 use Rattle.spec_files.specs.Files.{FileIs, no_spec, no_sql, is_spec}
 
@@ -38,16 +38,16 @@ spec_refused bytes text f e same short utf8 a is differs =
 -- ---- a file that is a spec
 
 -- it is short enough, UTF-8, and says this, with these blocks
-pub record IsSpecFile (bytes : List ℕ) (spec : SpecTree) (parts : List Placed) : Type 0 where
+pub record IsSpecFile (bytes : List ℕ) (spec : SpecTree) (parts : List BlockWithRole) : Type 0 where
   pub short : length bytes ≤ 1048576
   pub utf8 : IsUtf8 bytes
   pub reads : SpecReads bytes (Ok spec)
   pub same : parts ≡ blocks_in spec
 
-pub spec_file : (bytes text : List ℕ) (spec : SpecTree) (parts : List Placed) → text ≡ bytes → length bytes ≤ 1048576 → IsUtf8 bytes → SpecReads text (Ok spec) → parts ≡ blocks_in spec → IsSpecFile bytes spec parts
+pub spec_file : (bytes text : List ℕ) (spec : SpecTree) (parts : List BlockWithRole) → text ≡ bytes → length bytes ≤ 1048576 → IsUtf8 bytes → SpecReads text (Ok spec) → parts ≡ blocks_in spec → IsSpecFile bytes spec parts
 spec_file bytes text spec parts same short utf8 reads e = record { short = short; utf8 = utf8; reads = subst (λ t. SpecReads t (Ok spec)) same reads; same = e }
 
-pub block_refused : (bytes : List ℕ) (spec : SpecTree) (parts : List Placed) (e : RunFault) → IsSpecFile bytes spec parts → SayAll parts (Err e) → e ≢ told.Memory → FileIs bytes (Err e)
+pub block_refused : (bytes : List ℕ) (spec : SpecTree) (parts : List BlockWithRole) (e : RunFault) → IsSpecFile bytes spec parts → SayAll parts (Err e) → e ≢ told.Memory → FileIs bytes (Err e)
 block_refused bytes spec parts told.Memory file says differs = absurd (differs refl)
 block_refused bytes spec parts (told.Sql f) file says differs = no_sql spec f file.short file.utf8 file.reads (subst (λ ps. BlocksRead ps (Err f)) file.same says)
 block_refused bytes spec parts told.Read file says differs = absurd says
@@ -61,7 +61,7 @@ block_refused bytes spec parts (told.Threads f) file says differs = absurd says
 block_refused bytes spec parts told.TooManyPermutations file says differs = absurd says
 block_refused bytes spec parts (told.NotUtf8 at) file says differs = absurd says
 
-pub whole_file : (bytes : List ℕ) (spec : SpecTree) (parts : List Placed) (bs : Vec Block) → IsSpecFile bytes spec parts → SayAll parts (Ok bs) → FileIs bytes (Ok (record { spec = spec; blocks = blocks_of bs.items }))
+pub whole_file : (bytes : List ℕ) (spec : SpecTree) (parts : List BlockWithRole) (bs : Vec Block) → IsSpecFile bytes spec parts → SayAll parts (Ok bs) → FileIs bytes (Ok (record { spec = spec; blocks = blocks_of bs.items }))
 whole_file bytes spec parts bs file says = is_spec spec (blocks_of bs.items) file.short file.utf8 file.reads (subst (λ ps. BlocksRead ps (Ok (blocks_of bs.items))) file.same says)
 
 -- ---- which faults there are
@@ -76,7 +76,7 @@ spec_kind (faults.UndefinedMarker at) = refl
 spec_kind (faults.NoticesLeftOut at) = refl
 spec_kind (faults.Limit at) = refl
 
-pub blocks_kind : (parts : List Placed) (e : RunFault) → SayAll parts (Err e) → is_of_reading e ≡ true
+pub blocks_kind : (parts : List BlockWithRole) (e : RunFault) → SayAll parts (Err e) → is_of_reading e ≡ true
 blocks_kind parts told.Memory says = refl
 blocks_kind parts (told.Sql f) says = refl
 blocks_kind parts told.Read says = absurd says
@@ -120,5 +120,5 @@ all_short text spec short lies =
     let split : AllByRecursion (PartLies text) (mains ++ owns) = subst (AllByRecursion (PartLies text)) (sym (append_assoc spec.setups (option_to_list spec.teardown) owns)) all in
     all_append HasShortText (map (block_as Main) mains) (map (block_as Session) owns) (own_short text Main short mains (all_front (PartLies text) mains owns split)) (own_short text Session short owns (all_back (PartLies text) mains owns split))
 
-pub parts_short : (bytes : List ℕ) (spec : SpecTree) (parts : List Placed) → IsSpecFile bytes spec parts → LiesIn bytes spec → AllByRecursion HasShortText parts
+pub parts_short : (bytes : List ℕ) (spec : SpecTree) (parts : List BlockWithRole) → IsSpecFile bytes spec parts → LiesIn bytes spec → AllByRecursion HasShortText parts
 parts_short bytes spec parts file lies = subst (AllByRecursion HasShortText) (sym file.same) (all_short bytes spec file.short lies)

@@ -6,8 +6,8 @@ use Rattle.std.specs.Io.KnownBytes.{Appends}
 use Rattle.iso_lexer.specs.Devices.{PutsFront}
 use Rattle.spec_parser.specs.Trees.{EntryTree, SpecTree}
 use Rattle.permutation_lists.specs.Lines.{line_text}
-use Rattle.report_text.specs.Said.{Said, Ending, ended, whole, too_many}
-use Rattle.spec_files.specs.Runs.{is_refusal, is_of_reading, is_of_listing, Answers, IsListed}
+use Rattle.report_text.specs.Said.{Said, Ending, only_ends, whole, too_many}
+use Rattle.spec_files.specs.Runs.{is_refusal, is_of_reading, is_of_listing, AnswersRun, IsListed}
 use Rattle.spec_files.specs.Begun.{ListBegun, begun}
 use Rattle.spec_files.specs.declared.fault.RunFault.{RunFault}
 use Rattle.spec_files.specs.declared.fault.RunFault.TheVariants.{TooManyPermutations, Memory}
@@ -60,7 +60,7 @@ goes_on spec left old mid new all more p ps line so is lt same put = record {
       ∙ ap (λ (t : List ℕ). behind so.text [] (behind t [] (listed spec (left - 1) ps))) (sym same) ∙ behind_behind so.text line (listed spec (left - 1) ps);
 }
 
-ends : (old new : Option (List ℕ)) (result : Result (Unit {0}) RunFault) (all : Said) (how : Ending) → Answers how result → SoFar old new all (ended how) → IsListed old new result all
+ends : (old new : Option (List ℕ)) (result : Result (Unit {0}) RunFault) (all : Said) (how : Ending) → AnswersRun how result → SoFar old new all (only_ends how) → IsListed old new result all
 ends old new result all how answers so =
     subst (IsListed old new result) (sym so.is) (record { answer = answers; text = subst (Appends old new) (sym (append-nil so.text)) so.out })
 

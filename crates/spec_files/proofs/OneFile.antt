@@ -19,7 +19,7 @@ use Rattle.spec_files.specs.declared.fault.BlockFault.{BlockFault}
 use Rattle.spec_files.specs.declared.fault.RunFault.{RunFault}
 use Rattle.spec_files.specs.declared.fault.RunFault.TheVariants as faults
 use Rattle.spec_files.specs.Faults.{spec_fault}
-use Rattle.spec_files.specs.Blocks.{Placed, HasFault, BlocksRead, none, fault, block, behind_block, blocks_in}
+use Rattle.spec_files.specs.Blocks.{BlockWithRole, HasFault, BlocksRead, none, fault, block, behind_block, blocks_in}
 use Rattle.permutation_lists.specs.Permutations.{permutations_of}
 use Rattle.report_text.specs.Said.{Said}
 use Rattle.spec_files.specs.Lists.{listed, FileLists, refused, lists}
@@ -35,7 +35,7 @@ OneLexing = (text : List ℕ) (x y : Result (List (At SqlToken)) Fault) → SqlL
 one_block : OneLexing → (text : List ℕ) (role : Role) (x y : Result (List StmtTree) SqlFault) → ReadsAs text role x → ReadsAs text role y → x ≡ y
 one_block one text role x y r s = one_reading text role x y (one text) r s
 
-has_fault : (p : Placed) (f : SqlFault) → HasFault p f → ReadsAs p.part.sql p.role (Err f)
+has_fault : (p : BlockWithRole) (f : SqlFault) → HasFault p f → ReadsAs p.part.sql p.role (Err f)
 has_fault p Memory h = absurd h
 has_fault p _ h = h
 
@@ -50,7 +50,7 @@ stmts_are a b e = cc
 sql_fault_is : (a b : SqlFault) → ◌≡◌ {A = Result (List StmtTree) SqlFault} (Err a) (Err b) → a ≡ b
 sql_fault_is a b e = cc
 
-pub one_blocks : OneLexing → (ps : List Placed) (x y : Result Blocks BlockFault) → BlocksRead ps x → BlocksRead ps y → x ≡ y
+pub one_blocks : OneLexing → (ps : List BlockWithRole) (x y : Result Blocks BlockFault) → BlocksRead ps x → BlocksRead ps y → x ≡ y
 one_blocks one [] x y (none e) (none f) = e ∙ sym f
 one_blocks one (p ∷ ps) x y (fault f h e) (fault g k is) =
     e ∙ ap (λ (q : SqlFault). Err (record { block = p.part.at; fault = q })) (sql_fault_is f g (one_block one p.part.sql p.role (Err f) (Err g) (has_fault p f h) (has_fault p g k))) ∙ sym is

@@ -6,12 +6,12 @@ use Rattle.session_machine.specs.declared.reply.HistItem.{HistItem}
 use Rattle.session_machine.specs.Machine.{Blocks}
 use Rattle.spec_parser.specs.Trees.{EntryTree, SpecTree}
 use Rattle.permutation_plans.specs.Regular.{IsRegular}
-use Rattle.report_text.specs.Said.{Said, Ending, ended, whole, invalid, setup_failed, setup_waits, too_many}
+use Rattle.report_text.specs.Said.{Said, Ending, only_ends, whole, invalid, setup_failed, setup_waits, too_many}
 use Rattle.report_text.specs.Permutation.{permutation_says}
 use Rattle.spec_files.specs.declared.fault.RunFault.{RunFault}
 use Rattle.spec_files.specs.declared.fault.RunFault.TheVariants as faults
 use Rattle.spec_files.specs.Prints.{GoesOn, Prints}
-use Rattle.spec_files.specs.Runs.{Answers, IsTold, IsOneTold}
+use Rattle.spec_files.specs.Runs.{AnswersRun, IsTold, IsOneTold}
 use Rattle.spec_files.specs.Broken.{RunBroken}
 use Rattle.spec_files.proofs.Listing.{behind, appends_nothing, appends_more}
 
@@ -45,7 +45,7 @@ behind_behind a b c d said =
     ∙ ap (λ (t : List ℕ). record { text = (a ++ b) ++ said.text; notes = t; ending = said.ending }) (sym (append_assoc c d said.notes))
 
 -- a report that ended by itself is followed by what the others say
-others_follow : (ending : Ending) (Others : Said → Type 0) (rest : Said) → Answers ending (Ok tt) → Others rest → GoesOn ending Others rest
+others_follow : (ending : Ending) (Others : Said → Type 0) (rest : Said) → AnswersRun ending (Ok tt) → Others rest → GoesOn ending Others rest
 others_follow whole Others rest a h = h
 others_follow invalid Others rest a h = h
 others_follow (setup_failed text) Others rest a h = absurd a
@@ -94,10 +94,10 @@ pub record IsPrinted (spec : SpecTree) (blocks : Blocks) (limit : ℕ) (all : Li
   pub told : IsTold wo wn eo en result said
 
 ends : (spec : SpecTree) (blocks : Blocks) (wo wn eo en : Option (List ℕ)) (limit : ℕ) (all : List (List EntryTree)) (left : ℕ) (more : List (List EntryTree)) (result : Result (Unit {0}) RunFault) (how : Ending)
-    → SoFar spec blocks wo wn eo en limit all left more → Prints spec blocks left more (ended how) → Answers how result → IsPrinted spec blocks limit all wo wn eo en result
+    → SoFar spec blocks wo wn eo en limit all left more → Prints spec blocks left more (only_ends how) → AnswersRun how result → IsPrinted spec blocks limit all wo wn eo en result
 ends spec blocks wo wn eo en limit all left more result how so prints answers = record {
-  said = behind so.text so.notes (ended how);
-  prints = subst (λ (n : ℕ). Prints spec blocks n all (behind so.text so.notes (ended how))) so.split (so.told left (ended how) prints);
+  said = behind so.text so.notes (only_ends how);
+  prints = subst (λ (n : ℕ). Prints spec blocks n all (behind so.text so.notes (only_ends how))) so.split (so.told left (only_ends how) prints);
   told = record {
     answer = answers;
     text = subst (Appends wo wn) (sym (append-nil so.text)) so.out;
@@ -105,15 +105,15 @@ ends spec blocks wo wn eo en limit all left more result how so prints answers = 
   };
 }
 
-prints_nothing : (spec : SpecTree) (blocks : Blocks) (left : ℕ) (more : List (List EntryTree)) → more ≡ [] → Prints spec blocks left more (ended whole)
+prints_nothing : (spec : SpecTree) (blocks : Blocks) (left : ℕ) (more : List (List EntryTree)) → more ≡ [] → Prints spec blocks left more (only_ends whole)
 unfolding Prints
-prints_nothing spec blocks left more is = subst (λ (ms : List (List EntryTree)). Prints spec blocks left ms (ended whole)) (sym is) refl
+prints_nothing spec blocks left more is = subst (λ (ms : List (List EntryTree)). Prints spec blocks left ms (only_ends whole)) (sym is) refl
 
-prints_too_many : (spec : SpecTree) (blocks : Blocks) (left : ℕ) (more : List (List EntryTree)) (p : List EntryTree) (ps : List (List EntryTree)) → more ≡ p ∷ ps → left ≡ 0 → Prints spec blocks left more (ended too_many)
+prints_too_many : (spec : SpecTree) (blocks : Blocks) (left : ℕ) (more : List (List EntryTree)) (p : List EntryTree) (ps : List (List EntryTree)) → more ≡ p ∷ ps → left ≡ 0 → Prints spec blocks left more (only_ends too_many)
 unfolding Prints
 prints_too_many spec blocks left more p ps is none =
-    let here : Prints spec blocks 0 (p ∷ ps) (ended too_many) = refl in
-    subst (λ (n : ℕ). Prints spec blocks n more (ended too_many)) (sym none) (subst (λ (ms : List (List EntryTree)). Prints spec blocks 0 ms (ended too_many)) (sym is) here)
+    let here : Prints spec blocks 0 (p ∷ ps) (only_ends too_many) = refl in
+    subst (λ (n : ℕ). Prints spec blocks n more (only_ends too_many)) (sym none) (subst (λ (ms : List (List EntryTree)). Prints spec blocks 0 ms (only_ends too_many)) (sym is) here)
 
 -- all permutations ran
 pub all_ran : (spec : SpecTree) (blocks : Blocks) (wo wn eo en : Option (List ℕ)) (limit : ℕ) (all : List (List EntryTree)) (left : ℕ) (more : List (List EntryTree))
@@ -128,10 +128,10 @@ one_too_many spec blocks wo wn eo en limit all left more p ps so is none = ends 
 -- a setup failed or waits
 record Stops (ending : Ending) (Others : Said → Type 0) (result : Result (Unit {0}) RunFault) : Type 0 where
   how : Ending
-  goes : GoesOn ending Others (ended how)
-  answers : Answers how result
+  goes : GoesOn ending Others (only_ends how)
+  answers : AnswersRun how result
 
-stops : (ending : Ending) (Others : Said → Type 0) (e : RunFault) → Answers ending (Err e) → Stops ending Others (Err e)
+stops : (ending : Ending) (Others : Said → Type 0) (e : RunFault) → AnswersRun ending (Err e) → Stops ending Others (Err e)
 stops whole Others e a = absurd (err_ok e a)
   where
     err_ok : (e : RunFault) → ◌≡◌ {A = Result (Unit {0}) RunFault} (Err e) (Ok tt) → ⊥
@@ -150,14 +150,14 @@ run_stops spec blocks wo wm wn eo em en limit all left more p ps e so is lt one 
     let says = permutation_says spec p one.items in
     let stop = stops says.ending (Prints spec blocks (left - 1) ps) e one.answer in
     let n : suc (left - 1) ≡ left = omega (arith, lt) in
-    let here : Prints spec blocks left more (behind says.text says.notes (ended stop.how)) =
-    subst (λ (k : ℕ). Prints spec blocks k more (behind says.text says.notes (ended stop.how))) n
-    (subst (λ (ms : List (List EntryTree)). Prints spec blocks (suc (left - 1)) ms (behind says.text says.notes (ended stop.how))) (sym is)
-    (one_more spec blocks (left - 1) p ps one.items (ended stop.how) one.regular stop.goes)) in
-    let whole_text = so.told left (behind says.text says.notes (ended stop.how)) here in
+    let here : Prints spec blocks left more (behind says.text says.notes (only_ends stop.how)) =
+    subst (λ (k : ℕ). Prints spec blocks k more (behind says.text says.notes (only_ends stop.how))) n
+    (subst (λ (ms : List (List EntryTree)). Prints spec blocks (suc (left - 1)) ms (behind says.text says.notes (only_ends stop.how))) (sym is)
+    (one_more spec blocks (left - 1) p ps one.items (only_ends stop.how) one.regular stop.goes)) in
+    let whole_text = so.told left (behind says.text says.notes (only_ends stop.how)) here in
     record {
-      said = behind so.text so.notes (behind says.text says.notes (ended stop.how));
-      prints = subst (λ (k : ℕ). Prints spec blocks k all (behind so.text so.notes (behind says.text says.notes (ended stop.how)))) so.split whole_text;
+      said = behind so.text so.notes (behind says.text says.notes (only_ends stop.how));
+      prints = subst (λ (k : ℕ). Prints spec blocks k all (behind so.text so.notes (behind says.text says.notes (only_ends stop.how)))) so.split whole_text;
       told = record {
         answer = stop.answers;
         text = subst (λ (t : List ℕ). Appends wo wn (so.text ++ t)) (sym (append-nil says.text)) (appends_more wo wm wn so.text says.text so.out one.text);
@@ -173,9 +173,9 @@ breaks spec blocks wo wn eo en limit all left more p ps so is lt =
     let e : so.done + 0 ≡ so.done = omega arith in
     record {
       done = so.done;
-      said = behind so.text so.notes (ended too_many);
+      said = behind so.text so.notes (only_ends too_many);
       fewer = omega (arith, so.split, lt);
-      prints = subst (λ (n : ℕ). Prints spec blocks n all (behind so.text so.notes (ended too_many))) e (so.told 0 (ended too_many) (prints_too_many spec blocks 0 more p ps is refl));
+      prints = subst (λ (n : ℕ). Prints spec blocks n all (behind so.text so.notes (only_ends too_many))) e (so.told 0 (only_ends too_many) (prints_too_many spec blocks 0 more p ps is refl));
       one_more = refl;
       text = subst (Appends wo wn) (sym (append-nil so.text)) so.out;
       notes = subst (Appends eo en) (sym (append-nil so.notes)) so.noted;

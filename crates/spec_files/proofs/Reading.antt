@@ -16,12 +16,12 @@ use Rattle.spec_files.specs.declared.blocks.PlacedPart.{PlacedPart}
 use Rattle.spec_files.specs.declared.fault.BlockFault.{BlockFault}
 use Rattle.spec_files.specs.declared.fault.RunFault.{RunFault}
 use Rattle.spec_files.specs.declared.fault.RunFault.TheVariants as faults
-use Rattle.spec_files.specs.Blocks.{Placed, HasFault, BlocksRead, none, fault, block, behind_block}
+use Rattle.spec_files.specs.Blocks.{BlockWithRole, HasFault, BlocksRead, none, fault, block, behind_block}
 use Rattle.spec_files.specs.BlockAnswers.{placed_view, block_fault, Says, SayAll, HasShortText}
 
 -- ---- one block
 
-pub says_fault : (p : Placed) (f : SqlFault) → Parses p.part.sql p.role (Err f) → Says p (Err (block_fault p.part.at f))
+pub says_fault : (p : BlockWithRole) (f : SqlFault) → Parses p.part.sql p.role (Err f) → Says p (Err (block_fault p.part.at f))
 says_fault p Memory h = tt
 says_fault p (Lex f) h = (refl, h)
 says_fault p (Syntax n) h = (refl, h)
@@ -38,7 +38,7 @@ behind_all bs (Ok cs) = Ok (bs ++ cs)
 behind_all bs (Err f) = Err f
 
 -- whatever the blocks from here on read as completes those before
-pub record SoFar (ps : List Placed) (bs : Blocks) (i : ℕ) : Type 0 where
+pub record SoFar (ps : List BlockWithRole) (bs : Blocks) (i : ℕ) : Type 0 where
   pub told : (answer : Result Blocks BlockFault) → BlocksRead (drop i ps) answer → BlocksRead ps (behind_all bs answer)
 
 behind_none : (answer : Result Blocks BlockFault) → behind_all [] answer ≡ answer
@@ -51,23 +51,23 @@ unfolding behind_all
 behind_one bs stmts (Ok cs) = ap Ok (sym (append_assoc bs (stmts ∷ []) cs))
 behind_one bs stmts (Err m) = refl
 
-pub starts : (ps : List Placed) → SoFar ps [] 0
+pub starts : (ps : List BlockWithRole) → SoFar ps [] 0
 starts ps = record { told = λ answer h. subst (BlocksRead ps) (sym (behind_none answer)) h }
 
-here : (ps : List Placed) (i : ℕ) (p q : Placed) → i < length ps → get_or ps i q ≡ p → drop i ps ≡ p ∷ drop (i + 1) ps
-here ps i p q lt is = rw add-one (drop-cons ps i q lt ∙ ap (λ (r : Placed). r ∷ drop (suc i) ps) is)
+here : (ps : List BlockWithRole) (i : ℕ) (p q : BlockWithRole) → i < length ps → get_or ps i q ≡ p → drop i ps ≡ p ∷ drop (i + 1) ps
+here ps i p q lt is = rw add-one (drop-cons ps i q lt ∙ ap (λ (r : BlockWithRole). r ∷ drop (suc i) ps) is)
 
-on_block : (ps : List Placed) (bs : Blocks) (i : ℕ) (p q : Placed) (stmts : List StmtTree) → i < length ps → get_or ps i q ≡ p → Parses p.part.sql p.role (Ok stmts) → SoFar ps bs i → SoFar ps (bs ++ stmts ∷ []) (i + 1)
+on_block : (ps : List BlockWithRole) (bs : Blocks) (i : ℕ) (p q : BlockWithRole) (stmts : List StmtTree) → i < length ps → get_or ps i q ≡ p → Parses p.part.sql p.role (Ok stmts) → SoFar ps bs i → SoFar ps (bs ++ stmts ∷ []) (i + 1)
 on_block ps bs i p q stmts lt is reads so = record {
   told = λ answer h. subst (BlocksRead ps) (behind_one bs stmts answer) (so.told (behind_block stmts answer) (subst (λ qs. BlocksRead qs (behind_block stmts answer)) (sym (here ps i p q lt is)) (block stmts answer reads h refl)));
 }
 
-stopped : (ps : List Placed) (bs : Blocks) (i : ℕ) (p q : Placed) (f : BlockFault) → i < length ps → get_or ps i q ≡ p → f.block ≡ p.part.at → HasFault p f.fault → SoFar ps bs i → BlocksRead ps (Err f)
+stopped : (ps : List BlockWithRole) (bs : Blocks) (i : ℕ) (p q : BlockWithRole) (f : BlockFault) → i < length ps → get_or ps i q ≡ p → f.block ≡ p.part.at → HasFault p f.fault → SoFar ps bs i → BlocksRead ps (Err f)
 unfolding behind_all
 stopped ps bs i p q f lt is at has so =
     so.told (Err f) (subst (λ qs. BlocksRead qs (Err f)) (sym (here ps i p q lt is)) (fault f.fault has (ap (λ (n : ℕ). Err (record { block = n; fault = f.fault })) at)))
 
-on_fault : (ps : List Placed) (bs : Blocks) (i : ℕ) (p q : Placed) (e : RunFault) → i < length ps → get_or ps i q ≡ p → Says p (Err e) → SoFar ps bs i → SayAll ps (Err e)
+on_fault : (ps : List BlockWithRole) (bs : Blocks) (i : ℕ) (p q : BlockWithRole) (e : RunFault) → i < length ps → get_or ps i q ≡ p → Says p (Err e) → SoFar ps bs i → SayAll ps (Err e)
 on_fault ps bs i p q faults.Memory lt is says so = tt
 on_fault ps bs i p q (faults.Sql f) lt is says so = stopped ps bs i p q f lt is says.0 says.1 so
 on_fault ps bs i p q faults.Read lt is says so = says
@@ -81,7 +81,7 @@ on_fault ps bs i p q (faults.Threads f) lt is says so = says
 on_fault ps bs i p q faults.TooManyPermutations lt is says so = says
 on_fault ps bs i p q (faults.NotUtf8 at) lt is says so = says
 
-on_end : (ps : List Placed) (bs : Blocks) (i : ℕ) → length ps ≤ i → SoFar ps bs i → BlocksRead ps (Ok bs)
+on_end : (ps : List BlockWithRole) (bs : Blocks) (i : ℕ) → length ps ≤ i → SoFar ps bs i → BlocksRead ps (Ok bs)
 unfolding behind_all
 on_end ps bs i le so =
     let whole : BlocksRead ps (Ok (bs ++ [])) = so.told (Ok []) (subst (λ qs. BlocksRead qs (Ok [])) (sym (drop_all i ps le)) (none refl)) in
@@ -111,7 +111,7 @@ pub end_there : (parts : List PlacedPart) (bs : List Block) (i : ℕ) → length
 end_there parts bs i le so = on_end (map placed_view parts) (blocks_of bs) i (omega (arith, length-map parts placed_view)) so
 
 -- each text is short enough
-short_at : (ps : List Placed) (i : ℕ) (q : Placed) → i < length ps → AllByRecursion HasShortText ps → HasShortText (get_or ps i q)
+short_at : (ps : List BlockWithRole) (i : ℕ) (q : BlockWithRole) → i < length ps → AllByRecursion HasShortText ps → HasShortText (get_or ps i q)
 short_at [] i q lt all = absurd (omega arith)
 short_at (p ∷ ps) zero q lt all = all.0
 short_at (p ∷ ps) (suc i) q lt all = short_at ps i q (omega arith) all.1

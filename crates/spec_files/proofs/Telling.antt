@@ -15,20 +15,20 @@ use Rattle.report_text.specs.Permutation.{permutation_says}
 use Rattle.spec_files.specs.declared.fault.RunFault.{RunFault}
 use Rattle.spec_files.specs.declared.fault.RunFault.TheVariants as faults
 use Rattle.spec_files.specs.Faults.{report_fault}
-use Rattle.spec_files.specs.Runs.{Answers, IsOneTold, is_early_end, is_of_one, is_broken}
+use Rattle.spec_files.specs.Runs.{AnswersRun, IsOneTold, is_early_end, is_of_one, is_broken}
 use Rattle.spec_files.specs.Written.{told_as, IsWritten}
 
-pub answers_ok : (ending : Ending) (e : Ended) → EndsAs ending (Ok e) → Answers ending (Ok tt)
-answers_ok ending ends.Whole is = let here : Answers whole (Ok tt) = refl in subst (λ (x : Ending). Answers x (Ok tt)) is here
-answers_ok ending ends.Invalid is = let here : Answers invalid (Ok tt) = refl in subst (λ (x : Ending). Answers x (Ok tt)) is here
+pub answers_ok : (ending : Ending) (e : Ended) → EndsAs ending (Ok e) → AnswersRun ending (Ok tt)
+answers_ok ending ends.Whole is = let here : AnswersRun whole (Ok tt) = refl in subst (λ (x : Ending). AnswersRun x (Ok tt)) is here
+answers_ok ending ends.Invalid is = let here : AnswersRun invalid (Ok tt) = refl in subst (λ (x : Ending). AnswersRun x (Ok tt)) is here
 
-pub answers_err : (ending : Ending) (f : ReportFault) → EndsAs ending (Err f) → IsTrue (is_early_end (report_fault f)) → Answers ending (Err (report_fault f))
+pub answers_err : (ending : Ending) (f : ReportFault) → EndsAs ending (Err f) → IsTrue (is_early_end (report_fault f)) → AnswersRun ending (Err (report_fault f))
 answers_err ending writes.Write is early = absurd cc
 answers_err ending writes.Memory is early = absurd cc
 answers_err ending (writes.SetupFailed why) is early =
-    let here : Answers (setup_failed (string_bytes why)) (Err (faults.SetupFailed why)) = refl in
-    subst (λ (x : Ending). Answers x (Err (faults.SetupFailed why))) is here
-answers_err ending writes.SetupWaits is early = let here : Answers setup_waits (Err faults.SetupWaits) = refl in subst (λ (x : Ending). Answers x (Err faults.SetupWaits)) is here
+    let here : AnswersRun (setup_failed (string_bytes why)) (Err (faults.SetupFailed why)) = refl in
+    subst (λ (x : Ending). AnswersRun x (Err (faults.SetupFailed why))) is here
+answers_err ending writes.SetupWaits is early = let here : AnswersRun setup_waits (Err faults.SetupWaits) = refl in subst (λ (x : Ending). AnswersRun x (Err faults.SetupWaits)) is here
 
 of_ok : (spec : SpecTree) (blocks : Blocks) (entries : List EntryTree) (items : List HistItem) (wo wn eo en : Option (List ℕ)) (e : Ended) (told : Result Ended ReportFault) → IsRegular spec blocks entries items
     → ◌≡◌ {A = Result Ended RunFault} (Ok e) (told_as told) → EndsAs (permutation_says spec entries items).ending told → Puts wo wn (permutation_says spec entries items).text told → Puts eo en (permutation_says spec entries items).notes told

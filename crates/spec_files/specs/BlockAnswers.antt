@@ -11,10 +11,10 @@ use Rattle.spec_files.specs.declared.blocks.PlacedPart.{PlacedPart}
 use Rattle.spec_files.specs.declared.fault.RunFault.{RunFault}
 use Rattle.spec_files.specs.declared.fault.RunFault.TheVariants as faults
 use Rattle.spec_files.specs.declared.file.SpecFile.{SpecFile}
-use Rattle.spec_files.specs.Blocks.{Placed, HasFault, BlocksRead}
+use Rattle.spec_files.specs.Blocks.{BlockWithRole, HasFault, BlocksRead}
 use Rattle.spec_files.specs.Files.{File}
 
-abbrev pub placed_view : PlacedPart → Placed
+abbrev pub placed_view : PlacedPart → BlockWithRole
 placed_view p = record { role = p.role; part = part_view p.part }
 
 abbrev pub step_part : StepTree → PartTree
@@ -26,14 +26,14 @@ block_fault at Memory = faults.Memory
 block_fault at f = faults.Sql (record { block = at; fault = f })
 
 -- the block says these statements, or has this fault, unless memory was refused
-abbrev pub Says : Placed → Result Block RunFault → Type 0
+abbrev pub Says : BlockWithRole → Result Block RunFault → Type 0
 Says p (Ok b) = Parses p.part.sql p.role (Ok (block_of b))
 Says p (Err (faults.Sql f)) = (f.block ≡ p.part.at) × HasFault p f.fault
 Says p (Err faults.Memory) = Unit {0}
 Says p (Err _) = ⊥
 
 -- the blocks say these statements, or have this fault, unless memory was refused
-abbrev pub SayAll : List Placed → Result (Vec Block) RunFault → Type 0
+abbrev pub SayAll : List BlockWithRole → Result (Vec Block) RunFault → Type 0
 SayAll ps (Ok bs) = BlocksRead ps (Ok (blocks_of bs.items))
 SayAll ps (Err (faults.Sql f)) = BlocksRead ps (Err f)
 SayAll ps (Err faults.Memory) = Unit {0}
@@ -43,5 +43,5 @@ abbrev pub file_view : SpecFile → File
 file_view f = record { spec = spec_view f.spec; blocks = blocks_of f.blocks.items }
 
 -- short enough for its tokens to be counted
-abbrev pub HasShortText : Placed → Type 0
+abbrev pub HasShortText : BlockWithRole → Type 0
 HasShortText p = length p.part.sql < 2 ^ 32

@@ -14,15 +14,15 @@ use Rattle.spec_files.specs.declared.fault.BlockFault.{BlockFault}
 -- ---- the blocks in the order of the file
 
 -- a block of the file, what it may say, and where it stands
-pub record Placed : Type 0 where
+pub record BlockWithRole : Type 0 where
   pub role : Role
   pub part : PartTree
 
-abbrev pub block_as : Role → PartTree → Placed
+abbrev pub block_as : Role → PartTree → BlockWithRole
 block_as role part = record { role = role; part = part }
 
 -- the setups and the teardown of the file, and then the blocks of its sessions
-abbrev pub blocks_in : SpecTree → List Placed
+abbrev pub blocks_in : SpecTree → List BlockWithRole
 blocks_in spec = map (block_as Main) (spec.setups ++ option_to_list spec.teardown) ++ map (block_as Session) (flat_map session_parts spec.sessions)
 
 -- ---- what they read as
@@ -32,14 +32,14 @@ behind_block stmts (Ok blocks) = Ok (stmts ∷ blocks)
 behind_block stmts (Err f) = Err f
 
 -- this is the fault of the block's text
-abbrev pub HasFault : Placed → SqlFault → Type 0
+abbrev pub HasFault : BlockWithRole → SqlFault → Type 0
 HasFault p Memory = ⊥
 HasFault p f = Parses p.part.sql p.role (Err f)
 
 -- the blocks read as these statements, or the first of them that is no SQL has this fault
-pub data BlocksRead : List Placed → Result Blocks BlockFault → Type 0 where
+pub data BlocksRead : List BlockWithRole → Result Blocks BlockFault → Type 0 where
   none : {answer : Result Blocks BlockFault} → answer ≡ Ok [] → BlocksRead [] answer
-  fault : {p : Placed} {ps : List Placed} {answer : Result Blocks BlockFault} (f : SqlFault) → HasFault p f
+  fault : {p : BlockWithRole} {ps : List BlockWithRole} {answer : Result Blocks BlockFault} (f : SqlFault) → HasFault p f
       → answer ≡ Err (record { block = p.part.at; fault = f }) → BlocksRead (p ∷ ps) answer
-  block : {p : Placed} {ps : List Placed} {answer : Result Blocks BlockFault} (stmts : List StmtTree) (others : Result Blocks BlockFault)
+  block : {p : BlockWithRole} {ps : List BlockWithRole} {answer : Result Blocks BlockFault} (stmts : List StmtTree) (others : Result Blocks BlockFault)
       → Parses p.part.sql p.role (Ok stmts) → BlocksRead ps others → answer ≡ behind_block stmts others → BlocksRead (p ∷ ps) answer

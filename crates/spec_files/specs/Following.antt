@@ -2,12 +2,12 @@
 use Rattle.std.proofs.Common.{List, length-append, sym, subst, arith}
 use Rattle.std.proofs.lemmas.List.{take-append-le}
 use Rattle.session_machine.specs.declared.reply.HistItem.{HistItem}
-use Rattle.report_lines.specs.declared.progress.Progress.{Progress}
+use Rattle.report_lines.specs.declared.progress.PlanProgress.{PlanProgress}
 use Rattle.report_lines.specs.History.{PermutationRun}
-use Rattle.report_lines.specs.Progress.{Keeps, Follows}
-use Rattle.report_lines.specs.Fronts.{longer}
+use Rattle.report_lines.specs.Progress.{Keeps, KeepsFront}
+use Rattle.report_lines.specs.Fronts.{with_more}
 
-pub follows_longer : (c : PermutationRun) (more : List HistItem) (p : Progress) → Follows c p → Follows (longer c more) p
+pub follows_longer : (c : PermutationRun) (more : List HistItem) (p : PlanProgress) → KeepsFront c p → KeepsFront (with_more c more) p
 follows_longer c more p follows =
     let few = follows.few in
     let long = length-append c.items more in

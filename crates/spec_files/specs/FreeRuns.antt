@@ -14,7 +14,7 @@ use Rattle.spec_files.specs.declared.fault.RunFault.{RunFault}
 use Rattle.spec_files.specs.Faults.{report_fault}
 use Rattle.spec_files.specs.FirstLine.{first_line}
 use Rattle.spec_files.specs.Files.{File, FileIs}
-use Rattle.spec_files.specs.Runs.{Answers}
+use Rattle.spec_files.specs.Runs.{AnswersRun}
 
 -- a launch, as the threads are given it
 abbrev pub pair_of : PlannedLaunch → ℕ × ℕ
@@ -43,7 +43,7 @@ pub record IsFreeWritten (spec : SpecTree) (items : List HistItem) (out_old out_
 pub record IsFreeTold (spec : SpecTree) (blocks : Blocks) (out_old out_new notes_old notes_new : Option (List ℕ)) (result : Result (Unit {0}) RunFault) : Type 0 where
   pub items : List HistItem
   pub regular : IsFreeRegular spec blocks items
-  pub answer : Answers (free_says spec items).ending result
+  pub answer : AnswersRun (free_says spec items).ending result
   pub text : Appends out_old out_new (free_text spec items)
   pub notes : Appends notes_old notes_new (free_says spec items).notes
 

@@ -2,8 +2,8 @@
 use Rattle.std.specs.Prelude.{List}
 use Rattle.session_machine.specs.declared.event.Order.{Order}
 use Rattle.session_machine.specs.declared.reply.HistItem.{HistItem}
-use Rattle.report_lines.specs.declared.progress.Progress.{Progress}
-use Rattle.report_lines.specs.Progress.{Follows}
+use Rattle.report_lines.specs.declared.progress.PlanProgress.{PlanProgress}
+use Rattle.report_lines.specs.Progress.{KeepsFront}
 use Rattle.spec_parser.specs.Trees.{EntryTree}
 use Rattle.report_lines.specs.Due.{Launches}
 use Rattle.permutation_plans.specs.Launches.{plan_of, due_after}
@@ -12,7 +12,7 @@ use Rattle.permutation_plans.specs.Launches.{plan_of, due_after}
 pub record Planning : Type 0 where
   pub launches : Launches
   pub entries : List EntryTree
-  pub progress : Progress
+  pub progress : PlanProgress
 
 -- the order that is due after these items
 abbrev pub order_after : Planning → List HistItem → Order
@@ -20,4 +20,4 @@ order_after plan items = due_after plan.launches plan.entries items
 
 -- what is kept is of a front of these items
 abbrev pub IsFollowing : Planning → List HistItem → Type 0
-IsFollowing plan items = Follows (plan_of plan.launches plan.entries items).run plan.progress
+IsFollowing plan items = KeepsFront (plan_of plan.launches plan.entries items).run plan.progress

@@ -5,7 +5,7 @@ use Rattle.session_machine.specs.Machine.{Blocks}
 use Rattle.spec_parser.specs.Trees.{EntryTree, SpecTree}
 use Rattle.permutation_lists.specs.Permutations.{permutations_of}
 use Rattle.permutation_plans.specs.Regular.{IsRegular}
-use Rattle.report_text.specs.Said.{Said, Ending, ended, says, whole, invalid, too_many, ◌>>◌}
+use Rattle.report_text.specs.Said.{Said, Ending, only_ends, says, whole, invalid, too_many, ◌>>◌}
 use Rattle.report_text.specs.Permutation.{permutation_says}
 use Rattle.spec_files.specs.declared.fault.RunFault.{RunFault}
 use Rattle.spec_files.specs.FirstLine.{first_line}
@@ -15,12 +15,12 @@ use Rattle.spec_files.specs.Files.{File, FileIs}
 abbrev pub GoesOn : Ending → (Said → Type 0) → Said → Type 0
 GoesOn whole Others said = Others said
 GoesOn invalid Others said = Others said
-GoesOn ending Others said = said ≡ ended ending
+GoesOn ending Others said = said ≡ only_ends ending
 
 -- what is said of these permutations, each with its regular history, of which so many run at most
 unfoldable pub Prints : SpecTree → Blocks → ℕ → List (List EntryTree) → Said → Type 0
-Prints spec blocks limit [] said = said ≡ ended whole
-Prints spec blocks zero (p ∷ ps) said = said ≡ ended too_many
+Prints spec blocks limit [] said = said ≡ only_ends whole
+Prints spec blocks zero (p ∷ ps) said = said ≡ only_ends too_many
 Prints spec blocks (suc left) (p ∷ ps) said =
     (items : List HistItem) × (rest : Said)
     × IsRegular spec blocks p items

@@ -85,13 +85,13 @@ has_read (Ok x) = true
 has_read (Err e) = is_read_by e
 
 -- the answer to a run, of all permutations or of one, that ended so
-abbrev pub Answers : Ending → Result (Unit {0}) RunFault → Type 0
-Answers whole result = result ≡ Ok tt
-Answers invalid result = result ≡ Ok tt
-Answers (setup_failed text) (Err (faults.SetupFailed told)) = string_bytes told ≡ text
-Answers (setup_failed text) _ = ⊥
-Answers setup_waits result = result ≡ Err faults.SetupWaits
-Answers too_many result = result ≡ Err faults.TooManyPermutations
+abbrev pub AnswersRun : Ending → Result (Unit {0}) RunFault → Type 0
+AnswersRun whole result = result ≡ Ok tt
+AnswersRun invalid result = result ≡ Ok tt
+AnswersRun (setup_failed text) (Err (faults.SetupFailed told)) = string_bytes told ≡ text
+AnswersRun (setup_failed text) _ = ⊥
+AnswersRun setup_waits result = result ≡ Err faults.SetupWaits
+AnswersRun too_many result = result ≡ Err faults.TooManyPermutations
 
 -- a file that is refused, or of which a run ends early, ends the program with 1; a device, memory, a thread or a schedule that fails with 3
 abbrev pub status_of : RunFault → ℕ
@@ -99,12 +99,12 @@ status_of e = if is_refusal e then 1 else (if is_early_end e then 1 else 3)
 
 -- the run ended so, and its text went out
 pub record IsListed (old new : Option (List ℕ)) (result : Result (Unit {0}) RunFault) (said : Said) : Type 0 where
-  pub answer : Answers said.ending result
+  pub answer : AnswersRun said.ending result
   pub text : Appends old new said.text
 
 -- the run ended so, and its text and notes went out
 pub record IsTold (out_old out_new notes_old notes_new : Option (List ℕ)) (result : Result (Unit {0}) RunFault) (said : Said) : Type 0 where
-  pub answer : Answers said.ending result
+  pub answer : AnswersRun said.ending result
   pub text : Appends out_old out_new said.text
   pub notes : Appends notes_old notes_new said.notes
 
@@ -112,6 +112,6 @@ pub record IsTold (out_old out_new notes_old notes_new : Option (List ℕ)) (res
 pub record IsOneTold (spec : SpecTree) (blocks : Blocks) (entries : List EntryTree) (out_old out_new notes_old notes_new : Option (List ℕ)) (result : Result (Unit {0}) RunFault) : Type 0 where
   pub items : List HistItem
   pub regular : IsRegular spec blocks entries items
-  pub answer : Answers (permutation_says spec entries items).ending result
+  pub answer : AnswersRun (permutation_says spec entries items).ending result
   pub text : Appends out_old out_new (permutation_says spec entries items).text
   pub notes : Appends notes_old notes_new (permutation_says spec entries items).notes

@@ -15,7 +15,7 @@ use Rattle.row_versions.specs.Members.{is_none_of}
 use Rattle.unique_keys.specs.Keys.{Keys, columns_at}
 use Rattle.unique_keys.specs.Writes.{IsUpToDate}
 use Rattle.unique_keys.specs.Inner.Finding.{is_in_way, blockers_among, is_taken_among}
-use Rattle.unique_keys.specs.Checks.{KeyIsHeld, FindsKey, NamesBlockers, blockers, is_taken, found_by, found_of, key_found}
+use Rattle.unique_keys.specs.Checks.{KeyIsHeld, FindsKey, NamesBlockers, key_blockers, is_taken, found_by, found_of, key_found}
 use Rattle.unique_keys.proofs.Exact.{blockers_same, taken_same}
 
 -- some write passes the test where some transaction is found by it
@@ -28,7 +28,7 @@ any_found p (w ∷ ws) = step (p w) (any_found p ws) where
 
 -- whether a write of the index stands in the way is whether somebody blocks
 pub held_by_some : (c : Content) (index notes : List Noted) (table : TableId) (tx : TxId) (asked : List Value) (columns : List ℕ) → notes ≡ index → IsUpToDate index c
-    → list_any (is_in_way (has_committed c) (λ u. not (has_committed c u)) notes table columns asked tx) notes ≡ not (is_none_of (blockers c table tx asked columns))
+    → list_any (is_in_way (has_committed c) (λ u. not (has_committed c u)) notes table columns asked tx) notes ≡ not (is_none_of (key_blockers c table tx asked columns))
 held_by_some c index notes table tx asked columns e up =
     any_found (is_in_way (has_committed c) (λ u. not (has_committed c u)) notes table columns asked tx) notes
     ∙ ap (λ v. not (is_none_of (blockers_among (has_committed c) (λ u. not (has_committed c u)) v table tx asked columns))) e
@@ -36,7 +36,7 @@ held_by_some c index notes table tx asked columns e up =
 
 -- who is found in the index is who blocks
 pub blockers_here : (c : Content) (index notes : List Noted) (table : TableId) (tx : TxId) (asked : List Value) (columns : List ℕ) (found : List TxId) → notes ≡ index
-    → EachOnce (blockers_among (has_committed c) (λ u. not (has_committed c u)) notes table tx asked columns) found → IsUpToDate index c → EachOnce (blockers c table tx asked columns) found
+    → EachOnce (blockers_among (has_committed c) (λ u. not (has_committed c u)) notes table tx asked columns) found → IsUpToDate index c → EachOnce (key_blockers c table tx asked columns) found
 blockers_here c index notes table tx asked columns found e once up =
     subst (λ v. EachOnce v found) (ap (λ v. blockers_among (has_committed c) (λ u. not (has_committed c u)) v table tx asked columns) e ∙ blockers_same c index up table tx asked columns) once
 
@@ -51,15 +51,15 @@ none_found (u ∷ others) taken true e h = cc
 none_found (u ∷ others) taken false e h = cc
 
 -- what is found where the key is held, and where it isn't
-pub finds_held : (c : Content) (table : TableId) (tx : TxId) (except : Option RowId) (asked : List Value) (columns : List ℕ) (b : Bool) → b ≡ not (is_none_of (blockers c table tx asked columns)) → b ≡ true
+pub finds_held : (c : Content) (table : TableId) (tx : TxId) (except : Option RowId) (asked : List Value) (columns : List ℕ) (b : Bool) → b ≡ not (is_none_of (key_blockers c table tx asked columns)) → b ≡ true
     → key_found c table tx except asked columns ≡ KeyIsHeld
-finds_held c table tx except asked columns b e h = some_found (blockers c table tx asked columns) (is_taken c table tx except asked columns) b e h
+finds_held c table tx except asked columns b e h = some_found (key_blockers c table tx asked columns) (is_taken c table tx except asked columns) b e h
 
 pub finds_unheld : (c : Content) (index notes : List Noted) (table : TableId) (tx : TxId) (except : Option RowId) (asked : List Value) (columns : List ℕ) (b taken : Bool) → notes ≡ index
-    → (IsUpToDate index c → b ≡ not (is_none_of (blockers c table tx asked columns))) → b ≡ false → taken ≡ is_taken_among (has_committed c) notes table tx except asked columns
+    → (IsUpToDate index c → b ≡ not (is_none_of (key_blockers c table tx asked columns))) → b ≡ false → taken ≡ is_taken_among (has_committed c) notes table tx except asked columns
     → IsUpToDate index c → IsOpen c tx → key_found c table tx except asked columns ≡ found_by [] taken
 finds_unheld c index notes table tx except asked columns b taken e held h is up is_open =
-    none_found (blockers c table tx asked columns) (is_taken c table tx except asked columns) b (held up) h
+    none_found (key_blockers c table tx asked columns) (is_taken c table tx except asked columns) b (held up) h
     ∙ ap (λ v. found_by [] v) (sym (is ∙ ap (λ v. is_taken_among (has_committed c) v table tx except asked columns) e ∙ taken_same c index tx up is_open table except asked columns))
 
 finds_key : (by : List TxId) (taken : Bool) (f : Found) → found_by by taken ≡ found_of f → NamesBlockers by f → FindsKey (λ k. by) (λ k. taken) [] f
@@ -80,18 +80,18 @@ as_asked by taken columns (found.Held who) h = h
 
 -- the blockers of a key of the table, with the table's own parts in place of those that were lent
 pub blockers_lent : (c : Content) (tx : TxId) (t : Keys) (asked lent : List Value) (table : TableId) (columns : List ℕ) (key : ℕ) → table ≡ t.table → lent ≡ asked → columns ≡ columns_at t key
-    → blockers c table tx lent columns ≡ blockers c t.table tx asked (columns_at t key)
+    → key_blockers c table tx lent columns ≡ key_blockers c t.table tx asked (columns_at t key)
 blockers_lent c tx t asked lent table columns key e1 e2 e3 =
-    ap (λ v. blockers c v tx lent columns) e1 ∙ ap (λ v. blockers c t.table tx v columns) e2 ∙ ap (λ v. blockers c t.table tx asked v) e3
+    ap (λ v. key_blockers c v tx lent columns) e1 ∙ ap (λ v. key_blockers c t.table tx v columns) e2 ∙ ap (λ v. key_blockers c t.table tx asked v) e3
 
 -- what is found of it, likewise
 pub finds_here : (c : Content) (tx : TxId) (except : Option RowId) (t : Keys) (asked lent : List Value) (table : TableId) (columns : List ℕ) (f : Found) (key : ℕ)
     → table ≡ t.table → lent ≡ asked → columns ≡ columns_at t key
-    → key_found c table tx except lent columns ≡ found_of f → NamesBlockers (blockers c table tx lent columns) f
-    → FindsKey (blockers c t.table tx asked) (is_taken c t.table tx except asked) (columns_at t key) f
+    → key_found c table tx except lent columns ≡ found_of f → NamesBlockers (key_blockers c table tx lent columns) f
+    → FindsKey (key_blockers c t.table tx asked) (is_taken c t.table tx except asked) (columns_at t key) f
 finds_here c tx except t asked lent table columns f key e1 e2 e3 found names =
-    as_asked (blockers c t.table tx asked) (is_taken c t.table tx except asked) (columns_at t key) f
-    (finds_key (blockers c t.table tx asked (columns_at t key)) (is_taken c t.table tx except asked (columns_at t key)) f
+    as_asked (key_blockers c t.table tx asked) (is_taken c t.table tx except asked) (columns_at t key) f
+    (finds_key (key_blockers c t.table tx asked (columns_at t key)) (is_taken c t.table tx except asked (columns_at t key)) f
     (sym (ap (λ v. key_found c v tx except lent columns) e1 ∙ ap (λ v. key_found c t.table tx except v columns) e2 ∙ ap (λ v. key_found c t.table tx except asked v) e3) ∙ found)
     (subst (λ v. NamesBlockers v f) (blockers_lent c tx t asked lent table columns key e1 e2 e3) names))
 

@@ -13,7 +13,7 @@ use Rattle.row_versions.specs.Members.{same_tx}
 use Rattle.unique_keys.specs.Keys.{has_key}
 use Rattle.unique_keys.specs.Writes.{writes, stands, IsUpToDate}
 use Rattle.unique_keys.specs.Inner.Finding.{version_has, is_committed_version, committed_has, own_has, is_in_way, blockers_among, counts_for, is_version_for, is_another, newest_has, takes, is_taken_among}
-use Rattle.unique_keys.specs.Checks.{blockers, is_taken}
+use Rattle.unique_keys.specs.Checks.{key_blockers, is_taken}
 use Rattle.unique_keys.proofs.Filtered.{list_any-filter, filter-filter, last_of-filter}
 use Rattle.unique_keys.proofs.Listed.{same_is}
 
@@ -95,7 +95,7 @@ way_same c table tx asked columns w s =
     ∙ ap (λ v. committed_has (has_committed c) (writes c) columns asked w.row || v) (own_same c columns asked w.row w.tx h))
 
 pub blockers_same : (c : Content) (index : List Noted) → IsUpToDate index c → (table : TableId) (tx : TxId) (asked : List Value) (columns : List ℕ)
-    → blockers_among (has_committed c) (λ u. not (has_committed c u)) index table tx asked columns ≡ blockers c table tx asked columns
+    → blockers_among (has_committed c) (λ u. not (has_committed c u)) index table tx asked columns ≡ key_blockers c table tx asked columns
 blockers_same c index up table tx asked columns =
     ap (λ v. blockers_among (has_committed c) (λ u. not (has_committed c u)) v table tx asked columns) up
     ∙ ap (λ ws. map (λ (w : Noted). w.tx) ws) (filter-filter (stands c.fates) (is_in_way (has_committed c) (λ u. not (has_committed c u)) (filter (stands c.fates) (writes c)) table columns asked tx) (is_in_way (has_committed c) (is_open c.fates) (writes c) table columns asked tx)

@@ -29,8 +29,8 @@ holds_key c table tx asked columns w =
     || list_any (λ v. ((v.row.0 == w.row.0) && same_tx v.tx w.tx) && has_key columns asked v.values) (writes c))
 
 -- the blockers of a key request: those transactions
-abbrev pub blockers : Content → TableId → TxId → List Value → List ℕ → List TxId
-blockers c table tx asked columns = map (λ w. w.tx) (filter (holds_key c table tx asked columns) (writes c))
+abbrev pub key_blockers : Content → TableId → TxId → List Value → List ℕ → List TxId
+key_blockers c table tx asked columns = map (λ w. w.tx) (filter (holds_key c table tx asked columns) (writes c))
 
 -- the write counts for the transaction: it is committed, or its own
 abbrev pub counts_for : Content → TxId → Noted → Bool
@@ -60,7 +60,7 @@ found_by (u ∷ others) taken = KeyIsHeld
 
 -- a key is held where it has blockers; else it is taken where another row has it; else it is free
 abbrev pub key_found : Content → TableId → TxId → Option RowId → List Value → List ℕ → KeyFound
-key_found c table tx except asked columns = found_by (blockers c table tx asked columns) (is_taken c table tx except asked columns)
+key_found c table tx except asked columns = found_by (key_blockers c table tx asked columns) (is_taken c table tx except asked columns)
 
 -- the answer, without who blocks
 abbrev pub found_of : Found → KeyFound
@@ -96,4 +96,4 @@ Finds by taken t (Held key who) = (key < length t.keys) × FreeBefore by taken t
 
 -- what is found of the keys of a row that the transaction is about to write, in place of the row that is left aside or as a new one
 abbrev pub FindsKeys : Content → Keys → List Value → TxId → Option RowId → Check → Type 0
-FindsKeys c t asked tx except check = Finds (blockers c t.table tx asked) (is_taken c t.table tx except asked) t check
+FindsKeys c t asked tx except check = Finds (key_blockers c t.table tx asked) (is_taken c t.table tx except asked) t check

@@ -6,7 +6,7 @@ ghost use Rattle.unique_keys.specs.Members.{EachOnce};
 ghost use Rattle.row_versions.specs.Members.{is_none_of};
 ghost use Rattle.unique_keys.specs.Keys.{columns_at};
 ghost use Rattle.unique_keys.specs.Writes.{IsUpToDate, without};
-ghost use Rattle.unique_keys.specs.Checks.{FindsKeys, NamesBlockers, blockers, found_of, key_found};
+ghost use Rattle.unique_keys.specs.Checks.{FindsKeys, NamesBlockers, key_blockers, found_of, key_found};
 
 use crate::blocking::{blockers, is_blocked};
 use crate::keys::{Check, TableKeys};
@@ -106,7 +106,7 @@ impl KeyIndex {
         asked: &[Value],
         tx: TxId,
     ) -> bool
-        ensures { IsUpToDate self.now (V.content store.now) → result ≡ not (is_none_of (blockers (V.content store.now) table tx asked.now columns.now)) }
+        ensures { IsUpToDate self.now (V.content store.now) → result ≡ not (is_none_of (key_blockers (V.content store.now) table tx asked.now columns.now)) }
     {
         is_blocked(store, self.noted.as_slice(), table, columns, asked, tx)
     }
@@ -120,7 +120,7 @@ impl KeyIndex {
         asked: &[Value],
         tx: TxId,
     ) -> Result<SmallVec<TxId, 4>, AllocError>
-        ensures { IfOk result (λ by. IsUpToDate self.now (V.content store.now) → EachOnce (blockers (V.content store.now) table tx asked.now columns.now) by.items) }
+        ensures { IfOk result (λ by. IsUpToDate self.now (V.content store.now) → EachOnce (key_blockers (V.content store.now) table tx asked.now columns.now) by.items) }
     {
         let alloc = *self.noted.allocator();
         blockers(
@@ -147,7 +147,7 @@ impl KeyIndex {
     ) -> Result<Found, AllocError>
         ensures found { IfOk result (λ f. IsUpToDate self.now (V.content store.now) → IsOpen (V.content store.now) tx
             → key_found (V.content store.now) table tx except asked.now columns.now ≡ found_of f) }
-        ensures named { IfOk result (λ f. IsUpToDate self.now (V.content store.now) → NamesBlockers (blockers (V.content store.now) table tx asked.now columns.now) f) }
+        ensures named { IfOk result (λ f. IsUpToDate self.now (V.content store.now) → NamesBlockers (key_blockers (V.content store.now) table tx asked.now columns.now) f) }
     {
         if self.is_held(store, table, columns, asked, tx) {
             let by = self.blockers(store, table, columns, asked, tx)?;
@@ -200,7 +200,7 @@ impl KeyIndex {
         tx: TxId,
     ) -> Result<SmallVec<TxId, 4>, AllocError>
         ensures { IfOk result (λ by. IsUpToDate self.now (V.content store.now) → IsOpen (V.content store.now) tx
-            → EachOnce (blockers (V.content store.now) keys.now.table tx values.now (columns_at keys.now key)) by.items) }
+            → EachOnce (key_blockers (V.content store.now) keys.now.table tx values.now (columns_at keys.now key)) by.items) }
     {
         let columns = columns_at(keys, key as usize);
         self.blockers(store, keys.table, columns, values.values(), tx)

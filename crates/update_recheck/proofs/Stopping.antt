@@ -11,7 +11,7 @@ use Rattle.row_locks.proofs.Reaching.{or_left, is_same}
 use Rattle.row_locks.proofs.Holding.{by_what_is_held}
 use Rattle.row_locks.proofs.Pairs.{by_who_blocks}
 use Rattle.update_recheck.specs.Asked.{Asked}
-use Rattle.update_recheck.specs.Outcome.{holders, blockers, outcome, is_locked, newest_version}
+use Rattle.update_recheck.specs.Outcome.{holders, row_blockers, outcome, is_locked, newest_version}
 use Rattle.update_recheck.specs.Laws.{OutcomesByWhatIsHeld}
 use Rattle.update_recheck.specs.Outcome.Outcome.{Waits, Deadlocks}
 use Rattle.update_recheck.specs.Settling.{SameMembers}
@@ -46,10 +46,10 @@ holders_same (x ∷ xs) (y ∷ ys) b closing e h = ap (λ v. holders_of (y ∷ y
 
 pub same_holders : (held others : List Held) (waits waiting : List Waiting) (ask : Asked) → SameLocks held others → SamePairs waits waiting → holders held waits ask ≡ holders others waiting ask
 same_holders held others waits waiting ask locks pairs =
-    let each : SameMembers (blockers held ask) (blockers others ask) = λ u. by_what_is_held held others locks ask.seen.row ask.tx ask.strength u in
-    holders_same (blockers held ask) (blockers others ask) (closes waits ask.tx (blockers held ask)) (closes waiting ask.tx (blockers others ask))
-    (none_same (blockers held ask) (blockers others ask) each)
-    (by_who_blocks waits waiting pairs ask.tx (blockers held ask) (blockers others ask) each)
+    let each : SameMembers (row_blockers held ask) (row_blockers others ask) = λ u. by_what_is_held held others locks ask.seen.row ask.tx ask.strength u in
+    holders_same (row_blockers held ask) (row_blockers others ask) (closes waits ask.tx (row_blockers held ask)) (closes waiting ask.tx (row_blockers others ask))
+    (none_same (row_blockers held ask) (row_blockers others ask) each)
+    (by_who_blocks waits waiting pairs ask.tx (row_blockers held ask) (row_blockers others ask) each)
 
 pub same_outcomes : OutcomesByWhatIsHeld
 same_outcomes c held others waits waiting ask locks pairs =

@@ -68,12 +68,12 @@ is_locked ReadCommitted Nobody (Newer newer condition) = true
 is_locked level holders version = false
 
 -- the blockers of the target's request
-abbrev pub blockers : List Held → Asked → List TxId
-blockers held ask = holders_against held ask.seen.row ask.tx ask.strength
+abbrev pub row_blockers : List Held → Asked → List TxId
+row_blockers held ask = holders_against held ask.seen.row ask.tx ask.strength
 
 -- who holds the target, by the locks that are held and the waits that stand
 abbrev pub holders : List Held → List Waiting → Asked → Holders
-holders held waits ask = let by = blockers held ask in if is_none_of by then Nobody else if closes waits ask.tx by then OthersInACycle else Others
+holders held waits ask = let by = row_blockers held ask in if is_none_of by then Nobody else if closes waits ask.tx by then OthersInACycle else Others
 
 -- a version beside the one that the view shows, by its values, if it has any
 abbrev pub version_at : Asked → Seen → Option (List Value) → Version

@@ -6,7 +6,7 @@ ghost use Rattle.row_locks.specs.Held.{IsTaken, with_lock};
 ghost use Rattle.row_versions.specs.Members.{is_none_of};
 ghost use Rattle.row_locks.specs.Cycles.{closes};
 ghost use Rattle.update_recheck.specs.Asked.{Fits, asked};
-ghost use Rattle.update_recheck.specs.Outcome.{blockers, holders, is_locked, is_target_locked, outcome, rechecked, target_outcome};
+ghost use Rattle.update_recheck.specs.Outcome.{row_blockers, holders, is_locked, is_target_locked, outcome, rechecked, target_outcome};
 ghost use Rattle.update_recheck.specs.Settling.{LocksAfter, locks_after, SameMembers, WaitsFor, lock_of, outcome_of};
 ghost use Rattle.update_recheck.specs.Inner.Stopping.{stop_of};
 ghost use Rattle.update_recheck.specs.Inner.Found.{told, IsWhole};
@@ -31,7 +31,7 @@ pub fn settle<'t, V: Versions>(
 ) -> Result<Settled<'t>, AllocError>
     requires { Fits (V.content store.now) (asked ask.now) }
     ensures outcome { IfOk result (λ s. outcome_of s ≡ target_outcome (V.content store.now) locks.old waits.now (asked ask.now)) }
-    ensures blockers { IfOk result (λ s. WaitsFor (blockers locks.old (asked ask.now)) s) }
+    ensures blockers { IfOk result (λ s. WaitsFor (row_blockers locks.old (asked ask.now)) s) }
     ensures locks { OnOk result (LocksAfter (is_target_locked (V.content store.now) locks.old waits.now (asked ask.now)) locks.old (lock_of (asked ask.now)) locks.new) }
     ensures last { OnOk result (locks.new ≡ locks_after (is_target_locked (V.content store.now) locks.old waits.now (asked ask.now)) locks.old (lock_of (asked ask.now))) }
     ensures err { OnErr result (locks.new ≡ locks.old) }
@@ -53,7 +53,7 @@ fn settle_read_committed<'t>(
 ) -> Result<Settled<'t>, AllocError>
     requires { IsWhole (asked ask.now) newest }
     ensures outcome { IfOk result (λ s. outcome_of s ≡ outcome Level.ReadCommitted (asked ask.now).seen (holders locks.old waits.now (asked ask.now)) (told (asked ask.now) newest.entry)) }
-    ensures blockers { IfOk result (λ s. WaitsFor (blockers locks.old (asked ask.now)) s) }
+    ensures blockers { IfOk result (λ s. WaitsFor (row_blockers locks.old (asked ask.now)) s) }
     ensures locks { OnOk result (LocksAfter (is_locked Level.ReadCommitted (holders locks.old waits.now (asked ask.now)) (told (asked ask.now) newest.entry)) locks.old (lock_of (asked ask.now)) locks.new) }
     ensures last { OnOk result (locks.new ≡ locks_after (is_locked Level.ReadCommitted (holders locks.old waits.now (asked ask.now)) (told (asked ask.now) newest.entry)) locks.old (lock_of (asked ask.now))) }
     ensures err { OnErr result (locks.new ≡ locks.old) }
@@ -79,7 +79,7 @@ fn settle_repeatable_read<'t>(
     newest: Newest<'_>,
 ) -> Result<Settled<'t>, AllocError>
     ensures outcome { IfOk result (λ s. outcome_of s ≡ outcome Level.RepeatableRead (asked ask.now).seen (holders locks.old waits.now (asked ask.now)) (told (asked ask.now) newest.entry)) }
-    ensures blockers { IfOk result (λ s. WaitsFor (blockers locks.old (asked ask.now)) s) }
+    ensures blockers { IfOk result (λ s. WaitsFor (row_blockers locks.old (asked ask.now)) s) }
     ensures locks { OnOk result (LocksAfter (is_locked Level.RepeatableRead (holders locks.old waits.now (asked ask.now)) (told (asked ask.now) newest.entry)) locks.old (lock_of (asked ask.now)) locks.new) }
     ensures last { OnOk result (locks.new ≡ locks_after (is_locked Level.RepeatableRead (holders locks.old waits.now (asked ask.now)) (told (asked ask.now) newest.entry)) locks.old (lock_of (asked ask.now))) }
     ensures err { OnErr result (locks.new ≡ locks.old) }
@@ -101,7 +101,7 @@ fn stopped<'t>(
     ask: &Ask<'_, 't>,
 ) -> Result<Option<Settled<'t>>, AllocError>
     ensures stop { IfOk result (λ stop. option_map outcome_of stop ≡ stop_of (holders locks.now waits.now (asked ask.now))) }
-    ensures blockers { IfOk result (λ stop. IfSome stop (λ s. WaitsFor (blockers locks.now (asked ask.now)) s)) }
+    ensures blockers { IfOk result (λ stop. IfSome stop (λ s. WaitsFor (row_blockers locks.now (asked ask.now)) s)) }
 {
     let found = locks.against(ask.seen.row, ask.tx, ask.strength)?;
     if is_nobody(&found) {

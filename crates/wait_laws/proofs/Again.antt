@@ -13,8 +13,8 @@ use Rattle.session_machine.specs.declared.reply.Outcome.TheVariants.{Rows}
 use Rattle.session_machine.specs.Tables.{Database}
 use Rattle.session_machine.specs.Statements.{Surroundings}
 use Rattle.session_machine.specs.Walks.{Stop, Visit, Walk, Blocked, Fails, walked, walked_from}
-use Rattle.session_machine.specs.Rows.{columns_in, insert_at, update_at, delete_at, lock_at, passing_targets, taken_targets}
-use Rattle.session_machine.specs.Running.{going_on, comes_to, ended, done, assigned_to}
+use Rattle.session_machine.specs.Rows.{columns_in, insert_one, update_one, delete_one, lock_one, passing_targets, taken_targets}
+use Rattle.session_machine.specs.Running.{going_on, comes_to, after_walk, done, assigned_to}
 use Rattle.session_machine.specs.Inner.Pieces.{unless_stopped, lock_again}
 use Rattle.wait_laws.specs.Laws.{IsInViewOf, StatementsGoOnInTheirView}
 
@@ -40,7 +40,7 @@ walked_from_on visit db place rows (Ok targets) = walked_on visit db place rows 
 
 -- a statement that stops stands in its view
 pub stands : (before : Content) (t : OpenTransaction) (around : Surroundings) (p q : Progress) (f : List (List Value) → Outcome) (k : Walk) → p.place ≤ k.place
-    → (ended before (going_on t around p) f k).statement ≡ Some q → IsInViewOf p around q
+    → (after_walk before (going_on t around p) f k).statement ≡ Some q → IsInViewOf p around q
 stands before t around p q f k on h = by k.stop h where
   by : (o : Option Stop) → (comes_to before (going_on t around p) f k o).statement ≡ Some q → IsInViewOf p around q
   by None e = absurd (no_progress q e)
@@ -52,18 +52,18 @@ statements_go_on_in_their_view db t around p q =
     let w = going_on t around p in
     record {
       inserts = λ i h.
-          let at = insert_at w i.table (assigned_to (columns_assigned (columns_in db w) i.columns)) in
+          let at = insert_one w i.table (assigned_to (columns_assigned (columns_in db w) i.columns)) in
           stands db.content t around p q done (walked at db p.place p.rows (drop p.place i.rows)) (walked_on at db p.place p.rows (drop p.place i.rows)) h;
       updates = λ u h.
-          let at = update_at w u (assigned_to (columns_set (columns_in db w) u.sets)) in
+          let at = update_one w u (assigned_to (columns_set (columns_in db w) u.sets)) in
           let targets = passing_targets db w u.filter in
           stands db.content t around p q done (walked_from at db p.place p.rows targets) (walked_from_on at db p.place p.rows targets) h;
       deletes = λ d h.
           let targets = passing_targets db w d.filter in
-          stands db.content t around p q done (walked_from (delete_at w d) db p.place p.rows targets) (walked_from_on (delete_at w d) db p.place p.rows targets) h;
+          stands db.content t around p q done (walked_from (delete_one w d) db p.place p.rows targets) (walked_from_on (delete_one w d) db p.place p.rows targets) h;
       locks = λ s l is h.
           let shown : List (List Value) → Outcome = λ y. Rows (record { titles = titles_of (columns_in db w) s.items; rows = y }) in
           let targets = taken_targets db w s in
-          stands db.content t around p q shown (walked_from (lock_at w s l) db p.place p.rows targets) (walked_from_on (lock_at w s l) db p.place p.rows targets)
+          stands db.content t around p q shown (walked_from (lock_one w s l) db p.place p.rows targets) (walked_from_on (lock_one w s l) db p.place p.rows targets)
           (subst (λ o. (lock_again db t around s p o).statement ≡ Some q) is h);
     }

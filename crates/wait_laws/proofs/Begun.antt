@@ -29,7 +29,7 @@ use Rattle.session_machine.specs.Transactions.{begun, commits_seen, view_of}
 use Rattle.session_machine.specs.Inner.Pieces.{columns_at}
 use Rattle.session_machine.specs.Rows.{at_places}
 use Rattle.session_machine.specs.Running.{run_stmt}
-use Rattle.session_machine.specs.Machine.{Machine, Blocks, Next, next, opening, stmts_at, around, at_rest, first_place, with_session, session_of}
+use Rattle.session_machine.specs.Machine.{Machine, Blocks, Next, next, opening, stmts_of, around, at_rest, first_place, with_session, session_of}
 use Rattle.session_machine.specs.Inner.Steps.{launch_of, step_of, leave_of}
 use Rattle.session_machine.specs.Sound.{command_in, tx_in, tx_of}
 use Rattle.wait_laws.specs.Laws.{Reaches, FindsTheSame, WaitsGoOnAsBegun}
@@ -191,7 +191,7 @@ shot_next blocks mode m (Launch i block) s n at has h v there t is =
     let a = ok_else BlockNotAllowed _ _ n f in
     let b = ok_else Busy _ _ n a.1 in
     let c = ok_else NotYourTurn _ _ n b.1 in
-    let same : v ≡ record { place = first_place block (stmts_at blocks block); transaction = s.transaction; statement = None } =
+    let same : v ≡ record { place = first_place block (stmts_of blocks block); transaction = s.transaction; statement = None } =
     changed m.sessions i s _ v at (subst (λ (y : Next). slice_get y.machine.sessions i ≡ Some v) (ok_is _ n c.1) there) in
     has t (ap (λ (y : Session). y.transaction) (sym same) ∙ is)
 shot_next blocks mode m (Leave i) s n at has h v there t is =
@@ -202,7 +202,7 @@ shot_next blocks mode m (Leave i) s n at has h v there t is =
 shot_next blocks mode m (Step i) s n at has h v there t is =
     let k = stepped blocks mode m i s n (subst (λ o. step_of blocks mode m i o ≡ Ok n) at h) in
     let d = run_stmt m.db s.transaction s.statement (around m i s) k.stmt in
-    let a = after m i k.place (length (stmts_at blocks k.place.block)) d in
+    let a = after m i k.place (length (stmts_of blocks k.place.block)) d in
     let there' : slice_get (set m.sessions i a.u) i ≡ Some v =
     subst (λ (y : Machine). slice_get y.sessions i ≡ Some v) a.is (subst (λ (y : Next). slice_get y.machine.sessions i ≡ Some v) k.is there) in
     let same = changed m.sessions i s a.u v at there' in

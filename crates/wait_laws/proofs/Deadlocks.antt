@@ -10,7 +10,7 @@ use Rattle.row_versions.specs.declared.write.Seen.{Seen}
 use Rattle.row_versions.specs.Members.{is_none_of}
 use Rattle.row_locks.specs.Cycles.{leads, closes}
 use Rattle.row_locks.proofs.Waiting.{closes_says}
-use Rattle.update_recheck.specs.Outcome.{Holders, Nobody, Others, OthersInACycle, Version, Same, Gone, Newer, blockers, newest_version, outcome, rechecked}
+use Rattle.update_recheck.specs.Outcome.{Holders, Nobody, Others, OthersInACycle, Version, Same, Gone, Newer, row_blockers, newest_version, outcome, rechecked}
 use Rattle.update_recheck.specs.Inner.Stopping.{holders_of}
 use Rattle.update_recheck.specs.Outcome.Outcome.{Waits, Deadlocks}
 use Rattle.wait_laws.specs.Laws.{is_worth_a_wait, DeadlockIsExact}
@@ -75,7 +75,7 @@ false_not false h k = cc
 
 pub deadlock_is_exact : DeadlockIsExact
 deadlock_is_exact c held list ask =
-    let bs = blockers held ask in
+    let bs = row_blockers held ask in
     let closing = closes list ask.tx bs in
     let says = closes_says list ask.tx bs in
     let v = newest_version c ask in

@@ -11,8 +11,8 @@ use Rattle.sql_trees.specs.Statements.{StmtTree, KeyTree, CreateTree, InsertTree
 use Rattle.sql_values.specs.declared.value.Value.{Value}
 use Rattle.sql_values.specs.declared.fault.ValueFault.{ValueFault}
 use Rattle.query_results.specs.Results.{Results}
-use Rattle.query_results.specs.Queries.{AssignedColumn, cols_of, lacking_rows, new_values, row_values, columns_assigned, titles_of}
-use Rattle.query_results.specs.Updates.{lacking_update, columns_set, updated}
+use Rattle.query_results.specs.Queries.{AssignedColumn, cols_of, undefined_in_rows, new_values, row_values, columns_assigned, titles_of}
+use Rattle.query_results.specs.Updates.{undefined_in_update, columns_set, updated}
 use Rattle.row_versions.specs.declared.names.TxId.{TxId}
 use Rattle.row_versions.specs.declared.names.RowId.{RowId}
 use Rattle.row_versions.specs.declared.write.Write.{Write}
@@ -52,8 +52,8 @@ use Rattle.session_machine.specs.Sound.{command_in}
 use Rattle.session_machine.specs.Statements.{Surroundings, Effect, fails, turns, create, level_set, is_end}
 use Rattle.session_machine.specs.Walks.{Stop, Visit, Walk, Blocked, Fails, goes_on, walked, walked_from}
 use Rattle.session_machine.specs.AskedKeys.{AskedKey}
-use Rattle.session_machine.specs.Rows.{Work, columns_in, keys_in, cols_in, asked_key, stop_at_key, stop_at_keys, inserted, written, insert_at, ask, at_outcome, at_target, values_of, update_with, update_at, delete_with, delete_at, lock_with, lock_at, strength_of, passing_targets, taken_targets}
-use Rattle.session_machine.specs.Running.{beginning, going_on, comes_to, ended, done, insert_from, insert, assigned_to, update_from, update, delete_from, delete, lock_from, answered, select_rows, unless_wrong, select, run_open, run_closed, run_on, run_stmt}
+use Rattle.session_machine.specs.Rows.{Work, columns_in, keys_in, cols_in, asked_key, stop_at_key, stop_at_keys, inserted, written, insert_one, ask, at_outcome, at_target, values_of, update_with, update_one, delete_with, delete_one, lock_with, lock_one, strength_of, passing_targets, taken_targets}
+use Rattle.session_machine.specs.Running.{beginning, going_on, comes_to, after_walk, done, insert_from, insert, assigned_to, update_from, update, delete_from, delete, lock_from, answered, select_rows, unless_wrong, select, run_open, run_closed, run_on, run_stmt}
 use Rattle.session_machine.specs.Inner.Pieces.{drop_ended, unless_stopped, unless_stopped_by, unless_null, insert_made, update_made, lock_made, insert_fitting, insert_to, update_fitting, update_to, delete_fitting, select_in, select_at, run_first, with_table, with_drop, DroppedUpTo, dropped, dropped_at, stop_by}
 use Rattle.session_machine.proofs.Piecewise.{stops_by, drops_by}
 use Rattle.wait_laws.proofs.ByKind.{AtOnce, FromStart, FromPlace, by_kind, on_kind}
@@ -306,7 +306,7 @@ keys_refuse db w name values except (key ∷ keys) r h = by (stop_at_key db w na
   by None e later k = later k
 
 comes_update_at : (P Q : Database → Type 0) (w : Work) (u : UpdateTree) (targets : List AssignedColumn) → Keeps w.t.tx w.t.command P Q → (db : Database) (seen : Seen) → P db
-    → Comes w.t.tx P w.around.sessions (update_at w u targets db seen).db (update_at w u targets db seen).stop
+    → Comes w.t.tx P w.around.sessions (update_one w u targets db seen).db (update_one w u targets db seen).stop
 comes_update_at P Q w u targets keeps db seen p = comes_target P Q (update_with w u targets) db w a refl keeps p (λ d s q held named. made d s q held named (updated (cols_in d w) targets u.sets (values_of d s))) where
   a : Asked
   a = ask db w Exclusive u.filter seen
@@ -320,13 +320,13 @@ comes_update_at P Q w u targets keeps db seen p = comes_target P Q (update_with 
       (keys_refuse d w u.table values (Some s.row) (keys_in d w)))
 
 comes_delete_at : (P Q : Database → Type 0) (w : Work) (e : DeleteTree) → Keeps w.t.tx w.t.command P Q → (db : Database) (seen : Seen) → P db
-    → Comes w.t.tx P w.around.sessions (delete_at w e db seen).db (delete_at w e db seen).stop
+    → Comes w.t.tx P w.around.sessions (delete_one w e db seen).db (delete_one w e db seen).stop
 comes_delete_at P Q w e keeps db seen p =
     comes_target P Q (delete_with w) db w (ask db w Exclusive e.filter seen) refl keeps p
     (λ d s q held named. comes_on w.t.tx P w.around.sessions _ [] (writes P Q d w (ask db w Exclusive e.filter seen) s.row None refl refl keeps q held named))
 
 comes_lock_at : (P Q : Database → Type 0) (w : Work) (s : SelectTree) (l : Lock) → Keeps w.t.tx w.t.command P Q → (db : Database) (seen : Seen) → P db
-    → Comes w.t.tx P w.around.sessions (lock_at w s l db seen).db (lock_at w s l db seen).stop
+    → Comes w.t.tx P w.around.sessions (lock_one w s l db seen).db (lock_one w s l db seen).stop
 comes_lock_at P Q w s l keeps db seen p =
     comes_target P Q (lock_with w s) db w (ask db w (strength_of l) s.filter seen) refl keeps p (λ d v q held named. made d q (row_values (cols_in d w) s.items (values_of d v))) where
       made : (d : Database) → P d → (r : Result (List Value) ValueFault) → Comes w.t.tx P w.around.sessions (lock_made d r).db (lock_made d r).stop
@@ -334,7 +334,7 @@ comes_lock_at P Q w s l keeps db seen p =
       made d q (Ok row) = comes_on w.t.tx P w.around.sessions d (row ∷ []) q
 
 comes_insert_at : (P Q : Database → Type 0) (w : Work) (name : List ℕ) (targets : List AssignedColumn) → Keeps w.t.tx w.t.command P Q → (db : Database) (row : List Tree) → P db
-    → Comes w.t.tx P w.around.sessions (insert_at w name targets db row).db (insert_at w name targets db row).stop
+    → Comes w.t.tx P w.around.sessions (insert_one w name targets db row).db (insert_one w name targets db row).stop
 comes_insert_at P Q w name targets keeps db row p = made (new_values _ targets row) where
   made : (r : Result (List Value) ValueFault) → Comes w.t.tx P w.around.sessions (insert_made w name db r).db (insert_made w name db r).stop
   made (Err fault) = comes_fails w.t.tx P w.around.sessions db _ p
@@ -370,7 +370,7 @@ ran_if P Q V ss x n false d e h k = k
 
 -- a statement at work comes to its end, waits, or fails
 ran_ended : (P Q : Database → Type 0) (V : View → Type 0) (before : Content) (w : Work) (f : List (List Value) → Reply) (k : Walk) → Keeps w.t.tx w.t.command P Q → V w.view
-    → Comes w.t.tx P w.around.sessions k.db k.stop → Ran w.t.tx w.t.command P Q V w.around.sessions (ended before w f k)
+    → Comes w.t.tx P w.around.sessions k.db k.stop → Ran w.t.tx w.t.command P Q V w.around.sessions (after_walk before w f k)
 ran_ended P Q V before w f k keeps view c = by k.stop c.blocked where
   same_progress : (p q : Progress) → Some p ≡ Some q → p ≡ q
   same_progress p q h = cc
@@ -395,7 +395,7 @@ ran_insert_from P Q V db w i place rows keeps view p =
 ran_insert_to : (P Q : Database → Type 0) (V : View → Type 0) (db : Database) (w : Work) (i : InsertTree) (r : Result (List AssignedColumn) (List ℕ)) → Keeps w.t.tx w.t.command P Q → V w.view → P db
     → Ran w.t.tx w.t.command P Q V w.around.sessions (insert_to db w i r)
 ran_insert_to P Q V db w i (Err column) keeps view p = ran_fails P Q V w.around.sessions db w.t _ keeps p
-ran_insert_to P Q V db w i (Ok targets) keeps view p = fitting (lacking_rows i.rows) where
+ran_insert_to P Q V db w i (Ok targets) keeps view p = fitting (undefined_in_rows i.rows) where
   fitting : (o : Option (List ℕ)) → Ran w.t.tx w.t.command P Q V w.around.sessions (insert_fitting db w i targets o)
   fitting (Some name) = ran_fails P Q V w.around.sessions db w.t _ keeps p
   fitting None =
@@ -410,7 +410,7 @@ ran_update_from P Q V db w u place rows keeps view p =
 ran_update_to : (P Q : Database → Type 0) (V : View → Type 0) (db : Database) (w : Work) (u : UpdateTree) (r : Result (List AssignedColumn) (List ℕ)) → Keeps w.t.tx w.t.command P Q → V w.view → P db
     → Ran w.t.tx w.t.command P Q V w.around.sessions (update_to db w u r)
 ran_update_to P Q V db w u (Err column) keeps view p = ran_fails P Q V w.around.sessions db w.t _ keeps p
-ran_update_to P Q V db w u (Ok targets) keeps view p = fitting (lacking_update (cols_of (columns_in db w)) u) where
+ran_update_to P Q V db w u (Ok targets) keeps view p = fitting (undefined_in_update (cols_of (columns_in db w)) u) where
   fitting : (o : Option (List ℕ)) → Ran w.t.tx w.t.command P Q V w.around.sessions (update_fitting db w u o)
   fitting (Some name) = ran_fails P Q V w.around.sessions db w.t _ keeps p
   fitting None = ran_update_from P Q V db w u 0 [] keeps view p
@@ -430,7 +430,7 @@ ran_lock_from : (P Q : Database → Type 0) (V : View → Type 0) (db : Database
     → Ran w.t.tx w.t.command P Q V w.around.sessions (lock_from db w s l place rows)
 ran_lock_from P Q V db w s l place rows keeps view p =
     let shown : List (List Value) → Reply = λ y. Rows (record { titles = titles_of (columns_in db w) s.items; rows = y }) in
-    ran_ended P Q V db.content w shown (walked_from (lock_at w s l) db place rows (taken_targets db w s)) keeps view
+    ran_ended P Q V db.content w shown (walked_from (lock_one w s l) db place rows (taken_targets db w s)) keeps view
     (comes_from w.t.tx P w.around.sessions _ (comes_lock_at P Q w s l keeps) db place rows (taken_targets db w s) p)
 
 ran_answered : (P Q : Database → Type 0) (V : View → Type 0) (ss : List Session) (db : Database) (t : OpenTransaction) (r : Result Results ValueFault) → Keeps t.tx t.command P Q → P db

@@ -20,7 +20,7 @@ use Rattle.session_machine.specs.Tables.{Database}
 use Rattle.session_machine.specs.Transactions.{committed}
 use Rattle.session_machine.specs.Statements.{Effect}
 use Rattle.session_machine.specs.Running.{run_stmt}
-use Rattle.session_machine.specs.Machine.{Machine, Blocks, Next, next, stmts_at, is_failed, with_session, first_place, closed_at_end, after_stmt, around, left_behind, at_rest, session_of}
+use Rattle.session_machine.specs.Machine.{Machine, Blocks, Next, next, stmts_of, is_failed, with_session, first_place, closed_at_end, after_stmt, around, left_behind, at_rest, session_of}
 use Rattle.session_machine.specs.Waits.{is_still_blocked}
 use Rattle.session_machine.specs.Inner.Steps.{launch_of, step_stmt, step_at, step_of, leave_of, finished, waits_there, after_end}
 use Rattle.session_machine.specs.Engine.{Run}
@@ -57,14 +57,14 @@ pub record Stepped (blocks : Blocks) (m : Machine) (i : ℕ) (s : Session) (n : 
   pub place : Place
   pub stmt : StmtTree
   pub there : s.place ≡ Some place
-  pub found : slice_get (stmts_at blocks place.block) place.next ≡ Some stmt
+  pub found : slice_get (stmts_of blocks place.block) place.next ≡ Some stmt
   pub free : is_still_blocked m.db s ≡ false
-  pub is : n ≡ after_stmt m i place (length (stmts_at blocks place.block)) (run_stmt m.db s.transaction s.statement (around m i s) stmt)
+  pub is : n ≡ after_stmt m i place (length (stmts_of blocks place.block)) (run_stmt m.db s.transaction s.statement (around m i s) stmt)
 
 pub stepped : (blocks : Blocks) (mode : Mode) (m : Machine) (i : ℕ) (s : Session) (n : Next) → step_of blocks mode m i (Some s) ≡ Ok n → Stepped blocks m i s n
 stepped blocks mode m i s n h = at_place s.place refl h where
-  at_stmt : (p : Place) → s.place ≡ Some p → (o : Option StmtTree) → slice_get (stmts_at blocks p.block) p.next ≡ o
-      → step_stmt mode m i s p (length (stmts_at blocks p.block)) o ≡ Ok n → Stepped blocks m i s n
+  at_stmt : (p : Place) → s.place ≡ Some p → (o : Option StmtTree) → slice_get (stmts_of blocks p.block) p.next ≡ o
+      → step_stmt mode m i s p (length (stmts_of blocks p.block)) o ≡ Ok n → Stepped blocks m i s n
   at_stmt p e None f k = absurd (err_not Idle n k)
   at_stmt p e (Some stmt) f k =
       let a = ok_else NotYourTurn _ _ n k in
@@ -73,7 +73,7 @@ stepped blocks mode m i s n h = at_place s.place refl h where
 
   at_place : (o : Option Place) → s.place ≡ o → step_at blocks mode m i s o ≡ Ok n → Stepped blocks m i s n
   at_place None e k = absurd (err_not Idle n k)
-  at_place (Some p) e k = at_stmt p e (slice_get (stmts_at blocks p.block) p.next) refl k
+  at_place (Some p) e k = at_stmt p e (slice_get (stmts_of blocks p.block) p.next) refl k
 
 -- what is left of the database and of the session
 abbrev pub left_as : Database → Session → Effect
@@ -100,7 +100,7 @@ moved_launch P Q V blocks mode m i block s n h =
     let c = ok_else NotYourTurn _ _ n b.1 in
     record {
       e = m.db;
-      u = record { place = first_place block (stmts_at blocks block); transaction = s.transaction; statement = None };
+      u = record { place = first_place block (stmts_of blocks block); transaction = s.transaction; statement = None };
       is = ap (λ (x : Next). x.machine) (ok_is _ n c.1);
       did = inl (record { same = refl; over = refl; its = λ t k. k });
     }
@@ -221,7 +221,7 @@ pub moved_step : (P Q : Database → Type 0) (V : View → Type 0) (blocks : Blo
 moved_step P Q V blocks m i s n keeps view p k =
     let d = run_stmt m.db s.transaction s.statement (around m i s) k.stmt in
     subst (λ (x : Next). Moved P Q V m i s x.machine) (sym k.is)
-    (moved_after P Q V m i s k.place d _ keeps (does_stmt P Q V m.db s.transaction s.statement (around m i s) k.stmt keeps view p) (after m i k.place (length (stmts_at blocks k.place.block)) d))
+    (moved_after P Q V m i s k.place d _ keeps (does_stmt P Q V m.db s.transaction s.statement (around m i s) k.stmt keeps view p) (after m i k.place (length (stmts_of blocks k.place.block)) d))
 
 -- what an event does: all of the session's own doing
 pub moved : (P Q : Database → Type 0) (V : View → Type 0) (blocks : Blocks) (mode : Mode) (m : Machine) (event : Event) (s : Session) (n : Next)

@@ -19,7 +19,7 @@ use Rattle.unique_keys.specs.declared.noted.Noted.{Noted}
 use Rattle.unique_keys.specs.Keys.{has_key}
 use Rattle.unique_keys.specs.Writes.{noted_of, writes}
 use Rattle.unique_keys.specs.Inner.Finding.{version_has, is_committed_version, committed_has, own_has, is_in_way}
-use Rattle.unique_keys.specs.Checks.{blockers as key_blockers}
+use Rattle.unique_keys.specs.Checks.{key_blockers}
 use Rattle.session_machine.specs.AskedKeys.{AskedKey}
 use Rattle.session_laws.proofs.Lists.{slice_get-set_same, slice_get-set_other}
 use Rattle.wait_laws.proofs.Lists.{get_more}

@@ -36,7 +36,7 @@ use Rattle.session_machine.specs.Waits.{is_blocked, wait_of, is_still_blocked}
 use Rattle.session_machine.specs.Statements.{Effect}
 use Rattle.session_machine.specs.Inner.Pieces.{with_table, with_drop}
 use Rattle.session_machine.specs.Running.{run_stmt}
-use Rattle.session_machine.specs.Machine.{Machine, Blocks, Next, next, stmts_at, is_busy, is_failed, closed_at_end, after_stmt, around, session_of}
+use Rattle.session_machine.specs.Machine.{Machine, Blocks, Next, next, stmts_of, is_busy, is_failed, closed_at_end, after_stmt, around, session_of}
 use Rattle.session_machine.specs.Inner.Steps.{step_of, is_stopped, finished, waits_there, after_end}
 use Rattle.session_machine.specs.Engine.{Run}
 use Rattle.session_machine.specs.Sound.{command_in, tx_in, tx_of}
@@ -122,23 +122,23 @@ record Ends (given : Blocks) (m : Machine) (i : ℕ) (left : ℕ) (n : Next) : T
   pub is : n.machine.sessions ≡ set m.sessions i u
   pub fewer : left_of given u < left
 
-ends : (given : Blocks) (m : Machine) (i : ℕ) (place : Place) (d : Effect) → place.next < length (stmts_at given place.block)
-    → Ends given m i (length (stmts_at given place.block) - place.next) (after_end m i place (length (stmts_at given place.block)) d)
+ends : (given : Blocks) (m : Machine) (i : ℕ) (place : Place) (d : Effect) → place.next < length (stmts_of given place.block)
+    → Ends given m i (length (stmts_of given place.block) - place.next) (after_end m i place (length (stmts_of given place.block)) d)
 ends given m i place d within = failed (is_failed d.outcome) where
-  none : (e : Effect) → Ends given m i (length (stmts_at given place.block) - place.next) (finished m i e None)
+  none : (e : Effect) → Ends given m i (length (stmts_of given place.block) - place.next) (finished m i e None)
   none e = record { u = record { place = None; transaction = e.transaction; statement = None }; is = refl; fewer = omega arith }
 
-  goes : (b : Bool) → nat_lt (place.next + 1) (length (stmts_at given place.block)) ≡ b
+  goes : (b : Bool) → nat_lt (place.next + 1) (length (stmts_of given place.block)) ≡ b
       → (let y : Next = if b then finished m i d (Some (record { block = place.block; next = place.next + 1 })) else finished m i (closed_at_end d d.transaction) None in
-      Ends given m i (length (stmts_at given place.block) - place.next) y)
+      Ends given m i (length (stmts_of given place.block) - place.next) y)
   goes true e = let l = ltb-true _ _ e in
       record { u = record { place = Some (record { block = place.block; next = place.next + 1 }); transaction = d.transaction; statement = None }; is = refl; fewer = omega arith }
   goes false e = none (closed_at_end d d.transaction)
 
-  failed : (b : Bool) → (let y : Next = if b then finished m i d None else if nat_lt (place.next + 1) (length (stmts_at given place.block)) then finished m i d (Some (record { block = place.block; next = place.next + 1 }))
-      else finished m i (closed_at_end d d.transaction) None in Ends given m i (length (stmts_at given place.block) - place.next) y)
+  failed : (b : Bool) → (let y : Next = if b then finished m i d None else if nat_lt (place.next + 1) (length (stmts_of given place.block)) then finished m i d (Some (record { block = place.block; next = place.next + 1 }))
+      else finished m i (closed_at_end d d.transaction) None in Ends given m i (length (stmts_of given place.block) - place.next) y)
   failed true = none d
-  failed false = goes (nat_lt (place.next + 1) (length (stmts_at given place.block))) refl
+  failed false = goes (nat_lt (place.next + 1) (length (stmts_of given place.block))) refl
 
 no_progress : (p : Progress) → None ≡ Some p → ⊥
 no_progress p h = cc
@@ -171,13 +171,13 @@ nearer given mode m i n old h =
     (still_keeps (doer m.db s.transaction) (command_in s.transaction) m.db) (allows_all m.db s.transaction s.statement) (still_start m.db s.transaction old.rows.known (λ q f. old.opened i q (ap tx_of there.1 ∙ f))))) where
       by : (s : Session) → slice_get m.sessions i ≡ Some s → (k : Stepped given m i s n) → (d : Effect)
           → Idles m.db d ⊎ Ran (doer m.db s.transaction) (command_in s.transaction) (BlockedBy (doer m.db s.transaction) m.db) (λ d. Unit {0}) (λ v. Unit {0}) (around m i s).sessions d
-          → IsNearerRest given m (after_stmt m i k.place (length (stmts_at given k.place.block)) d).machine
+          → IsNearerRest given m (after_stmt m i k.place (length (stmts_of given k.place.block)) d).machine
       by s at k d did = on d.statement refl where
         count : ℕ
-        count = length (stmts_at given k.place.block)
+        count = length (stmts_of given k.place.block)
 
         within : k.place.next < count
-        within = slice_get_within (stmts_at given k.place.block) k.place.next k.stmt k.found
+        within = slice_get_within (stmts_of given k.place.block) k.place.next k.stmt k.found
 
         left : left_of given s ≡ count - k.place.next
         left = ap (left_from given) k.there

@@ -8,7 +8,7 @@ use Rattle.sql_trees.specs.declared.stmt.Lock.{Lock}
 use Rattle.sql_trees.specs.Statements.{StmtTree, CreateTree, SelectTree}
 use Rattle.sql_values.specs.declared.fault.ValueFault.{ValueFault}
 use Rattle.query_results.specs.Results.{Results}
-use Rattle.query_results.specs.Queries.{lacking_select, result_of, wrong_position}
+use Rattle.query_results.specs.Queries.{undefined_in_select, result_of, wrong_position}
 use Rattle.row_versions.specs.declared.names.TxId.{TxId}
 use Rattle.row_versions.specs.declared.write.View.{View}
 use Rattle.row_versions.specs.Log.{Content}
@@ -29,7 +29,7 @@ use Rattle.session_machine.specs.Rows.{Work, columns_in, cols_in}
 use Rattle.session_machine.specs.Running.{answered, beginning, run_on, run_stmt, select, select_rows, unless_wrong}
 use Rattle.session_machine.specs.Inner.Pieces.{drop_ended, lock_again, select_at, dropped}
 use Rattle.session_machine.proofs.Piecewise.{drops_by}
-use Rattle.session_machine.specs.Machine.{Machine, Blocks, Next, next, stmts_at, around, at_rest, first_place, session_of}
+use Rattle.session_machine.specs.Machine.{Machine, Blocks, Next, next, stmts_of, around, at_rest, first_place, session_of}
 use Rattle.session_machine.specs.Inner.Steps.{launch_of, step_of, leave_of}
 use Rattle.session_machine.specs.Sound.{command_in}
 use Rattle.wait_laws.specs.Laws.{GoesOnInItsView, IsAtWork, IsInViewOf, RunAtWork, StatementsStayAsBegun, transaction_at, view_at}
@@ -80,11 +80,11 @@ over_select db t around s h = from s.table where
   at name None = refl
   at name (Some k) =
       let w = beginning db t around k in
-      over_unless_wrong db t (lacking_select (cols_in db w) s) (wrong_position (columns_in db w) s) (select_rows db w s s.lock) (over_rows db w s s.lock h)
+      over_unless_wrong db t (undefined_in_select (cols_in db w) s) (wrong_position (columns_in db w) s) (select_rows db w s s.lock) (over_rows db w s s.lock h)
 
   from : (o : Option (List ℕ)) → (select db t around s o).statement ≡ None
   from None =
-      let r = result_of s [] ([] ∷ []) in over_unless_wrong db t (lacking_select [] s) (wrong_position [] s) (answered db t r) (over_answered db t r)
+      let r = result_of s [] ([] ∷ []) in over_unless_wrong db t (undefined_in_select [] s) (wrong_position [] s) (answered db t r) (over_answered db t r)
   from (Some name) = at name (find_table db (Some t.tx) name)
 
 over_create : (db : Database) (t : OpenTransaction) (c : CreateTree) (o : Option ℕ) → (create db t c o).statement ≡ None
@@ -179,7 +179,7 @@ steps_on blocks mode m (Launch i block) s n at h u q there is =
     let a = ok_else BlockNotAllowed _ _ n (subst (λ o. launch_of blocks mode m i block o ≡ Ok n) at h) in
     let b = ok_else Busy _ _ n a.1 in
     let c = ok_else NotYourTurn _ _ n b.1 in
-    let same : u ≡ record { place = first_place block (stmts_at blocks block); transaction = s.transaction; statement = None } =
+    let same : u ≡ record { place = first_place block (stmts_of blocks block); transaction = s.transaction; statement = None } =
     changed m.sessions i s _ u at (subst (λ (y : Next). slice_get y.machine.sessions i ≡ Some u) (ok_is _ n c.1) there) in
     absurd (none_not q (ap (λ (y : Session). y.statement) (sym same) ∙ is))
 steps_on blocks mode m (Leave i) s n at h u q there is =
@@ -189,7 +189,7 @@ steps_on blocks mode m (Leave i) s n at h u q there is =
 steps_on blocks mode m (Step i) s n at h u q there is =
     let k = stepped blocks mode m i s n (subst (λ o. step_of blocks mode m i o ≡ Ok n) at h) in
     let d = run_stmt m.db s.transaction s.statement (around m i s) k.stmt in
-    let a = after m i k.place (length (stmts_at blocks k.place.block)) d in
+    let a = after m i k.place (length (stmts_of blocks k.place.block)) d in
     let there' : slice_get (set m.sessions i a.u) i ≡ Some u =
     subst (λ (y : Machine). slice_get y.sessions i ≡ Some u) a.is (subst (λ (y : Next). slice_get y.machine.sessions i ≡ Some u) k.is there) in
     let same = changed m.sessions i s a.u u at there' in

@@ -8,8 +8,8 @@ use Rattle.sql_trees.specs.Statements.{StmtTree, CreateTree, InsertTree, UpdateT
 use Rattle.sql_values.specs.declared.value.Value.{Value}
 use Rattle.sql_values.specs.declared.fault.ValueFault.{ValueFault}
 use Rattle.query_results.specs.Results.{Results}
-use Rattle.query_results.specs.Queries.{AssignedColumn, cols_of, lacking_rows, columns_assigned, titles_of}
-use Rattle.query_results.specs.Updates.{lacking_update, columns_set}
+use Rattle.query_results.specs.Queries.{AssignedColumn, cols_of, undefined_in_rows, columns_assigned, titles_of}
+use Rattle.query_results.specs.Updates.{undefined_in_update, columns_set}
 use Rattle.row_versions.specs.Log.{Content, commit_count}
 use Rattle.session_machine.specs.declared.session.OpenTransaction.{OpenTransaction}
 use Rattle.session_machine.specs.declared.session.Transaction.{Transaction}
@@ -23,8 +23,8 @@ use Rattle.session_machine.specs.Tables.{Database, find_table}
 use Rattle.session_machine.specs.Transactions.{begun, fresh, moved_on, started}
 use Rattle.session_machine.specs.Statements.{Surroundings, Effect, fails, turns, create, level_set, is_end}
 use Rattle.session_machine.specs.Walks.{Stop, Walk, Blocked, Fails, walked, walked_from}
-use Rattle.session_machine.specs.Rows.{Work, columns_in, insert_at, update_at, delete_at, lock_at, passing_targets, taken_targets}
-use Rattle.session_machine.specs.Running.{beginning, going_on, comes_to, ended, done, insert_from, update_from, delete_from, lock_from, assigned_to, insert, update, delete, answered, select_rows, unless_wrong, select, run_open, run_closed, run_on, run_stmt}
+use Rattle.session_machine.specs.Rows.{Work, columns_in, insert_one, update_one, delete_one, lock_one, passing_targets, taken_targets}
+use Rattle.session_machine.specs.Running.{beginning, going_on, comes_to, after_walk, done, insert_from, update_from, delete_from, lock_from, assigned_to, insert, update, delete, answered, select_rows, unless_wrong, select, run_open, run_closed, run_on, run_stmt}
 use Rattle.session_machine.specs.Inner.Pieces.{drop_ended, insert_fitting, insert_to, update_fitting, update_to, delete_fitting, select_at, run_first, dropped}
 use Rattle.session_machine.proofs.Piecewise.{drops_by}
 use Rattle.wait_laws.proofs.ByKind.{AtOnce, FromStart, FromPlace, by_kind, on_kind}
@@ -71,7 +71,7 @@ shot_if : (count : ℕ) (b : Bool) (d e : Effect) → Shot count d → Shot coun
 shot_if count true d e h k = h
 shot_if count false d e h k = k
 
-shot_ended : (count : ℕ) (before : Content) (w : Work) (f : List (List Value) → Outcome) (k : Walk) → Has count w.t → commit_count before ≡ count → Shot count (ended before w f k)
+shot_ended : (count : ℕ) (before : Content) (w : Work) (f : List (List Value) → Outcome) (k : Walk) → Has count w.t → commit_count before ≡ count → Shot count (after_walk before w f k)
 shot_ended count before w f k has same = by k.stop where
   by : (o : Option Stop) → Shot count (comes_to before w f k o)
   by None = shot_query count before k.db w.t None _ has same
@@ -81,33 +81,33 @@ shot_ended count before w f k has same = by k.stop where
 shot_insert_from : (count : ℕ) (db : Database) (w : Work) (i : InsertTree) (place : ℕ) (rows : List (List Value)) → Has count w.t → commit_count db.content ≡ count
     → Shot count (insert_from db w i place rows)
 shot_insert_from count db w i place rows has same =
-    shot_ended count db.content w done (walked (insert_at w i.table (assigned_to (columns_assigned (columns_in db w) i.columns))) db place rows (drop place i.rows)) has same
+    shot_ended count db.content w done (walked (insert_one w i.table (assigned_to (columns_assigned (columns_in db w) i.columns))) db place rows (drop place i.rows)) has same
 
 shot_update_from : (count : ℕ) (db : Database) (w : Work) (u : UpdateTree) (place : ℕ) (rows : List (List Value)) → Has count w.t → commit_count db.content ≡ count
     → Shot count (update_from db w u place rows)
 shot_update_from count db w u place rows has same =
-    shot_ended count db.content w done (walked_from (update_at w u (assigned_to (columns_set (columns_in db w) u.sets))) db place rows (passing_targets db w u.filter)) has same
+    shot_ended count db.content w done (walked_from (update_one w u (assigned_to (columns_set (columns_in db w) u.sets))) db place rows (passing_targets db w u.filter)) has same
 
 shot_delete_from : (count : ℕ) (db : Database) (w : Work) (e : DeleteTree) (place : ℕ) (rows : List (List Value)) → Has count w.t → commit_count db.content ≡ count
     → Shot count (delete_from db w e place rows)
-shot_delete_from count db w e place rows has same = shot_ended count db.content w done (walked_from (delete_at w e) db place rows (passing_targets db w e.filter)) has same
+shot_delete_from count db w e place rows has same = shot_ended count db.content w done (walked_from (delete_one w e) db place rows (passing_targets db w e.filter)) has same
 
 shot_lock_from : (count : ℕ) (db : Database) (w : Work) (s : SelectTree) (l : Lock) (place : ℕ) (rows : List (List Value)) → Has count w.t → commit_count db.content ≡ count
     → Shot count (lock_from db w s l place rows)
 shot_lock_from count db w s l place rows has same =
     let shown : List (List Value) → Outcome = λ y. Rows (record { titles = titles_of (columns_in db w) s.items; rows = y }) in
-    shot_ended count db.content w shown (walked_from (lock_at w s l) db place rows (taken_targets db w s)) has same
+    shot_ended count db.content w shown (walked_from (lock_one w s l) db place rows (taken_targets db w s)) has same
 
 shot_insert_to : (count : ℕ) (db : Database) (w : Work) (i : InsertTree) (r : Result (List AssignedColumn) (List ℕ)) → Has count w.t → commit_count db.content ≡ count → Shot count (insert_to db w i r)
 shot_insert_to count db w i (Err column) has same = shot_fails count db w.t _
-shot_insert_to count db w i (Ok targets) has same = by (lacking_rows i.rows) where
+shot_insert_to count db w i (Ok targets) has same = by (undefined_in_rows i.rows) where
   by : (o : Option (List ℕ)) → Shot count (insert_fitting db w i targets o)
   by (Some name) = shot_fails count db w.t _
   by None = shot_if count _ _ _ (shot_fails count db w.t _) (shot_insert_from count db w i 0 [] has same)
 
 shot_update_to : (count : ℕ) (db : Database) (w : Work) (u : UpdateTree) (r : Result (List AssignedColumn) (List ℕ)) → Has count w.t → commit_count db.content ≡ count → Shot count (update_to db w u r)
 shot_update_to count db w u (Err column) has same = shot_fails count db w.t _
-shot_update_to count db w u (Ok targets) has same = by (lacking_update (cols_of (columns_in db w)) u) where
+shot_update_to count db w u (Ok targets) has same = by (undefined_in_update (cols_of (columns_in db w)) u) where
   by : (o : Option (List ℕ)) → Shot count (update_fitting db w u o)
   by (Some name) = shot_fails count db w.t _
   by None = shot_update_from count db w u 0 [] has same

@@ -23,7 +23,7 @@ use Rattle.session_machine.specs.Tables.{Database}
 use Rattle.session_machine.specs.Waits.{wait_of, is_still_blocked}
 use Rattle.session_machine.specs.Statements.{Effect}
 use Rattle.session_machine.specs.Running.{run_stmt}
-use Rattle.session_machine.specs.Machine.{Machine, Blocks, Next, next, opening, at_rest, stmts_at, is_busy, is_ready, free_wait, is_first_free, turn_in, is_turn, is_directed, is_failed, first_place, closed_at_end, after_stmt, around, session_of}
+use Rattle.session_machine.specs.Machine.{Machine, Blocks, Next, next, opening, at_rest, stmts_of, is_busy, is_ready, free_wait, is_first_free, turn_in, is_turn, is_directed, is_failed, first_place, closed_at_end, after_stmt, around, session_of}
 use Rattle.session_machine.specs.Inner.Steps.{launch_of, step_stmt, step_at, step_of, leave_of, is_stopped, finished, waits_there, after_end}
 use Rattle.wait_laws.specs.Laws.{Reaches}
 use Rattle.session_laws.proofs.Lists.{slice_get-set_same, slice_get-set_other}
@@ -31,7 +31,7 @@ use Rattle.wait_laws.proofs.Events.{session_there, ok_is, ok_else, stepped, alwa
 
 -- the session stands at a statement of its block, if it has one, and has one where it waits
 pub record IsPlaced (given : Blocks) (s : Session) : Type 0 where
-  pub within : (p : Place) → s.place ≡ Some p → p.next < length (stmts_at given p.block)
+  pub within : (p : Place) → s.place ≡ Some p → p.next < length (stmts_of given p.block)
   pub busy : (g : Progress) → s.statement ≡ Some g → is_busy s ≡ true
 
 abbrev pub ArePlaced : Blocks → Machine → Type 0
@@ -55,32 +55,32 @@ record Becomes (given : Blocks) (m : Machine) (i : ℕ) (n : Next) : Type 0 wher
   pub is : n.machine.sessions ≡ set m.sessions i u
   pub placed : IsPlaced given u
 
-placed_over : (given : Blocks) (place : Option Place) (tr : Transaction) → ((p : Place) → place ≡ Some p → p.next < length (stmts_at given p.block))
+placed_over : (given : Blocks) (place : Option Place) (tr : Transaction) → ((p : Place) → place ≡ Some p → p.next < length (stmts_of given p.block))
     → IsPlaced given (record { place = place; transaction = tr; statement = None })
 placed_over given place tr h = record { within = h; busy = λ g k. absurd (no_progress g k) }
 
-at_place : (given : Blocks) (p : Place) → p.next < length (stmts_at given p.block) → (q : Place) → Some p ≡ Some q → q.next < length (stmts_at given q.block)
-at_place given p h q e = subst (λ (y : Place). y.next < length (stmts_at given y.block)) (same_place p q e) h
+at_place : (given : Blocks) (p : Place) → p.next < length (stmts_of given p.block) → (q : Place) → Some p ≡ Some q → q.next < length (stmts_of given q.block)
+at_place given p h q e = subst (λ (y : Place). y.next < length (stmts_of given y.block)) (same_place p q e) h
 
-becomes_after : (given : Blocks) (m : Machine) (i : ℕ) (place : Place) (d : Effect) → place.next < length (stmts_at given place.block)
-    → Becomes given m i (after_stmt m i place (length (stmts_at given place.block)) d)
+becomes_after : (given : Blocks) (m : Machine) (i : ℕ) (place : Place) (d : Effect) → place.next < length (stmts_of given place.block)
+    → Becomes given m i (after_stmt m i place (length (stmts_of given place.block)) d)
 becomes_after given m i place d within = by (is_some d.statement) where
   none : (e : Effect) → Becomes given m i (finished m i e None)
   none e = record { u = record { place = None; transaction = e.transaction; statement = None }; is = refl; placed = placed_over given None e.transaction (λ p k. absurd (no_place p k)) }
 
-  goes : (b : Bool) → nat_lt (place.next + 1) (length (stmts_at given place.block)) ≡ b
+  goes : (b : Bool) → nat_lt (place.next + 1) (length (stmts_of given place.block)) ≡ b
       → (let y : Next = if b then finished m i d (Some (record { block = place.block; next = place.next + 1 })) else finished m i (closed_at_end d d.transaction) None in Becomes given m i y)
   goes true e =
       let on : Place = record { block = place.block; next = place.next + 1 } in
       record { u = record { place = Some on; transaction = d.transaction; statement = None }; is = refl; placed = placed_over given (Some on) d.transaction (at_place given on (ltb-true _ _ e)) }
   goes false e = none (closed_at_end d d.transaction)
 
-  failed : (b : Bool) → (let y : Next = if b then finished m i d None else if nat_lt (place.next + 1) (length (stmts_at given place.block)) then finished m i d (Some (record { block = place.block; next = place.next + 1 }))
+  failed : (b : Bool) → (let y : Next = if b then finished m i d None else if nat_lt (place.next + 1) (length (stmts_of given place.block)) then finished m i d (Some (record { block = place.block; next = place.next + 1 }))
       else finished m i (closed_at_end d d.transaction) None in Becomes given m i y)
   failed true = none d
-  failed false = goes (nat_lt (place.next + 1) (length (stmts_at given place.block))) refl
+  failed false = goes (nat_lt (place.next + 1) (length (stmts_of given place.block))) refl
 
-  by : (b : Bool) → (let y : Next = if b then waits_there m i place d else after_end m i place (length (stmts_at given place.block)) d in Becomes given m i y)
+  by : (b : Bool) → (let y : Next = if b then waits_there m i place d else after_end m i place (length (stmts_of given place.block)) d in Becomes given m i y)
   by true = record {
     u = record { place = Some place; transaction = d.transaction; statement = d.statement };
     is = refl;
@@ -88,7 +88,7 @@ becomes_after given m i place d within = by (is_some d.statement) where
   }
   by false = failed (is_failed d.outcome)
 
-first_within : (given : Blocks) (block : ℕ) (stmts : List StmtTree) → stmts_at given block ≡ stmts → (p : Place) → first_place block stmts ≡ Some p → p.next < length (stmts_at given p.block)
+first_within : (given : Blocks) (block : ℕ) (stmts : List StmtTree) → stmts_of given block ≡ stmts → (p : Place) → first_place block stmts ≡ Some p → p.next < length (stmts_of given p.block)
 first_within given block [] e p h = absurd (no_place p h)
 first_within given block (x ∷ xs) e p h =
     at_place given (record { block = block; next = 0 }) (subst (λ (ss : List StmtTree). 0 < length ss) (sym e) (omega arith)) p h
@@ -101,9 +101,9 @@ becomes given mode m (Launch i block) s n at h =
     let b = ok_else Busy _ _ n a.1 in
     let c = ok_else NotYourTurn _ _ n b.1 in
     record {
-      u = record { place = first_place block (stmts_at given block); transaction = s.transaction; statement = None };
+      u = record { place = first_place block (stmts_of given block); transaction = s.transaction; statement = None };
       is = ap (λ (y : Next). y.machine.sessions) (ok_is _ n c.1);
-      placed = placed_over given (first_place block (stmts_at given block)) s.transaction (first_within given block (stmts_at given block) refl);
+      placed = placed_over given (first_place block (stmts_of given block)) s.transaction (first_within given block (stmts_of given block) refl);
     }
 becomes given mode m (Leave i) s n at h =
     let f = subst (λ o. leave_of mode m i o ≡ Ok n) at h in
@@ -116,7 +116,7 @@ becomes given mode m (Leave i) s n at h =
 becomes given mode m (Step i) s n at h =
     let k = stepped given mode m i s n (subst (λ o. step_of given mode m i o ≡ Ok n) at h) in
     subst (λ (y : Next). Becomes given m i y) (sym k.is)
-    (becomes_after given m i k.place (run_stmt m.db s.transaction s.statement (around m i s) k.stmt) (slice_get_within (stmts_at given k.place.block) k.place.next k.stmt k.found))
+    (becomes_after given m i k.place (run_stmt m.db s.transaction s.statement (around m i s) k.stmt) (slice_get_within (stmts_of given k.place.block) k.place.next k.stmt k.found))
 
 placed_next : (given : Blocks) (mode : Mode) (m : Machine) (event : Event) (n : Next) → ArePlaced given m → next given mode m event ≡ Ok n → ArePlaced given n.machine
 placed_next given mode m event n old h j v at =
@@ -229,8 +229,8 @@ in_turn given mode count m reached k turn =
         idle : false ≡ true → ⊥
         idle f = cc
       by s at p go (Some place) e =
-          let found = get_there (stmts_at given place.block) place.next (p.within place e) in
-          let many = length (stmts_at given place.block) in
+          let found = get_there (stmts_of given place.block) place.next (p.within place e) in
+          let many = length (stmts_of given place.block) in
           let n = after_stmt m k place many (run_stmt m.db s.transaction s.statement (around m k s) found.0) in
           let taken : step_stmt mode m k s place many (Some found.0) ≡ Ok n =
           ok_taken (is_directed mode && not (is_turn (turn_in m) k)) (is_still_blocked m.db s) n (its_turn mode (turn_in m) k turn) go.free in

@@ -19,7 +19,7 @@ use Rattle.row_locks.specs.Waiting.{Waiting}
 use Rattle.row_versions.specs.Members.{is_none_of}
 use Rattle.row_locks.specs.Cycles.{blocks, Closes, NoCycle, AllEnd}
 use Rattle.update_recheck.specs.Asked.{Asked}
-use Rattle.update_recheck.specs.Outcome.{Version, Same, Gone, Newer, blockers as target_blockers, newest_version, target_outcome}
+use Rattle.update_recheck.specs.Outcome.{Version, Same, Gone, Newer, row_blockers as target_blockers, newest_version, target_outcome}
 use Rattle.update_recheck.specs.Outcome.Outcome.{Waits, Deadlocks}
 use Rattle.unique_keys.specs.Checks.{is_taken}
 use Rattle.session_machine.specs.declared.session.OpenTransaction.{OpenTransaction}
@@ -43,7 +43,7 @@ use Rattle.session_machine.specs.Statements.{Surroundings}
 use Rattle.session_machine.specs.Rows.{Work, asked_key, columns_in, names_at, passing_targets, stop_at_key, taken_targets}
 use Rattle.session_machine.specs.Walks.{Blocked, Fails}
 use Rattle.session_machine.specs.Running.{going_on, run_stmt}
-use Rattle.session_machine.specs.Machine.{Machine, Blocks, Next, next, opening, session_of, stmts_at, is_busy, turn_in}
+use Rattle.session_machine.specs.Machine.{Machine, Blocks, Next, next, opening, session_of, stmts_of, is_busy, turn_in}
 use Rattle.session_machine.specs.Engine.{Follows, Run}
 
 -- the machine comes to the state, from its opening with so many sessions
@@ -191,7 +191,7 @@ StatementsStayAsBegun = (given : Blocks) (mode : Mode) (count : ℕ) (m : Machin
 -- how many statements of its block are before a session, the one that it is at among them
 abbrev pub left_from : Blocks → Option Place → ℕ
 left_from given None = 0
-left_from given (Some place) = length (stmts_at given place.block) - place.next
+left_from given (Some place) = length (stmts_of given place.block) - place.next
 
 abbrev pub left_of : Blocks → Session → ℕ
 left_of given s = left_from given s.place

@@ -4,7 +4,7 @@ use Rattle.session_machine.specs.declared.reply.HistItem.{HistItem}
 use Rattle.spec_parser.specs.Trees.{SessionTree, SpecTree}
 use Rattle.report_lines.specs.Due.{is_over}
 use Rattle.report_text.specs.Said.{whole, Said}
-use Rattle.report_text.specs.Setups.{numbers_of}
+use Rattle.report_text.specs.Setups.{session_numbers}
 use Rattle.report_text.specs.Teardowns.{teardown_says}
 
 abbrev pub last_teardown_of : SpecTree → List ℕ
@@ -33,6 +33,6 @@ teardowns_from sessions items count k (t ∷ ts) =
 -- the sessions' teardowns, and behind the sessions' leaves that of the whole file
 abbrev pub teardowns_in_turn : SpecTree → List HistItem → ℕ → ℕ → Said
 teardowns_in_turn spec items count k =
-    let first = teardowns_from spec.sessions items count k (numbers_of (λ s. s.teardown) spec.sessions) in
+    let first = teardowns_from spec.sessions items count k (session_numbers (λ s. s.teardown) spec.sessions) in
     let last = teardowns_from spec.sessions items count (first.next + length spec.sessions) (last_teardown_of spec) in
     record { text = first.text ++ last.text; notes = first.notes ++ last.notes; ending = whole }

@@ -9,16 +9,16 @@ use Rattle.sql_trees.specs.Statements as stmt
 use Rattle.sql_values.specs.Expressions.{Cols}
 use Rattle.query_results.specs.declared.title.Title.{Title}
 use Rattle.query_results.specs.declared.title.Title.TheVariants.{Column as Named}
-use Rattle.query_results.specs.Queries.{aliased, lacking, lacking_item, own_title, title_of}
+use Rattle.query_results.specs.Queries.{aliased, undefined_column, undefined_in_item, own_title, title_of}
 
 -- the first column that an aggregate names and that isn't there
-abbrev pub lacking_agg : Cols → AggTree → Option (List ℕ)
-lacking_agg cols a = lacking_item cols (stmt.Aggregate a None)
+abbrev pub undefined_in_agg : Cols → AggTree → Option (List ℕ)
+undefined_in_agg cols a = undefined_in_item cols (stmt.Aggregate a None)
 
 -- the column that a key names and that isn't there, where the items lack none
-abbrev pub lacking_key : Cols → List ItemTree → Tree → Option (List ℕ)
-lacking_key cols is (tree.Column name) = if is_some (aliased is name) then None else lacking cols (tree.Column name)
-lacking_key cols is e = lacking cols e
+abbrev pub undefined_in_key : Cols → List ItemTree → Tree → Option (List ℕ)
+undefined_in_key cols is (tree.Column name) = if is_some (aliased is name) then None else undefined_column cols (tree.Column name)
+undefined_in_key cols is e = undefined_column cols e
 
 -- the title of an expression with this alias
 abbrev pub title_or : Tree → Option (List ℕ) → Title

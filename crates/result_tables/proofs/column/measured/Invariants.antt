@@ -1,9 +1,9 @@
 use Rattle.std.proofs.Common.{◌≡◌, map, take}
 use Rattle.result_tables.specs.Printed.{printed}
 use Rattle.result_tables.specs.Titles.{title_text}
-use Rattle.result_tables.specs.TableText.{cells, column_of}
+use Rattle.result_tables.specs.TableText.{cells, layout_of}
 use Rattle.result_tables.proofs.column.measured.Given as goal
 
 abbrev pub invariant-loop-row : goal.invariant-loop-row
 invariant-loop-row l =
-    l.column ≡ column_of (title_text l.title) (cells (map (map printed) (take l.row-index l.rows)) l.k)
+    l.column ≡ layout_of (title_text l.title) (cells (map (map printed) (take l.row-index l.rows)) l.k)

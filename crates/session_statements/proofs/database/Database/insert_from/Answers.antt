@@ -1,8 +1,8 @@
 use Rattle.std.proofs.Common.{◌≡◌, ◌∙◌, ap, drop, List, rules}
 use Rattle.sql_trees.specs.Statements.{insert_of}
 use Rattle.query_results.specs.Queries.{AssignedColumn, columns_assigned}
-use Rattle.session_machine.specs.Rows.{columns_in, insert_at}
-use Rattle.session_machine.specs.Running.{assigned_to, done, ended}
+use Rattle.session_machine.specs.Rows.{columns_in, insert_one}
+use Rattle.session_machine.specs.Running.{assigned_to, done, after_walk}
 use Rattle.session_machine.specs.Walks.{walked}
 use Rattle.session_statements.specs.Inner.Acting.{halted}
 use Rattle.session_statements.proofs.database.Database.insert_from.Goals as goal
@@ -14,7 +14,7 @@ returns g c =
     let i = insert_of c.args.stmt.now in
     let to : List AssignedColumn = assigned_to (columns_assigned (columns_in db w) i.columns) in
     let same : to ≡ c.in_ok-to.to = search rules in
-    ap (λ (ts : List AssignedColumn). ended db.content w done (walked (insert_at w i.table ts) db c.args.place c.args.rows.items (drop c.args.place i.rows))) same
+    ap (λ (ts : List AssignedColumn). after_walk db.content w done (walked (insert_one w i.table ts) db c.args.place c.args.rows.items (drop c.args.place i.rows))) same
     ∙ c.in_ok-insert_rows.ensures.walk db.content c.args.rows.items
     ∙ ap (halted db.content w done c.insert_rows.new.self c.args.rows.items) c.in-Some.is
     ∙ c.halt.ensures db.content done (search rules)

@@ -3,9 +3,9 @@ use Rattle.std.specs.Prelude.{Option, option_map}
 use Rattle.sql_trees.specs.Trees.{tree_of}
 use Rattle.sql_trees.specs.declared.expr.Expr.{Expr}
 use Rattle.sql_trees.specs.Statements.{exprs_of, name_of}
-use Rattle.session_machine.specs.Rows.{insert_at}
+use Rattle.session_machine.specs.Rows.{insert_one}
 use Rattle.session_machine.specs.Walks.{Visit}
-use Rattle.session_machine.specs.Running.{done, ended}
+use Rattle.session_machine.specs.Running.{done, after_walk}
 use Rattle.session_statements.specs.declared.act.Stop.{Stop}
 use Rattle.session_statements.specs.Inner.Acting.{stop_of}
 use Rattle.session_statements.proofs.Inserting.{row_passes, row_stops}
@@ -13,16 +13,16 @@ use Rattle.session_statements.proofs.database.Database.insert_rows.Goals as goal
 
 pub returns-in-Some-clause-walk : goal.returns-in-Some-clause-walk
 returns-in-Some-clause-walk g c before rows =
-    let visit = insert_at c.args.work.now (name_of c.args.stmt.now.table) c.args.to.now in
+    let visit = insert_one c.args.work.now (name_of c.args.stmt.now.table) c.args.to.now in
     let after : Option Stop → Visit = λ stop. record { db = c.insert_row.new.self; rows = []; stop = option_map stop_of stop } in
-    ap (ended before c.args.work.now done) (sym (c.loop-at.invariant.rest rows)
+    ap (after_walk before c.args.work.now done) (sym (c.loop-at.invariant.rest rows)
     ∙ row_stops exprs_of visit c.loop-at.self c.insert_row.new.self c.args.stmt.now.rows.items c.loop-at.at c.index.result.now (stop_of c.in-Some.stop) rows
     (search rules) c.index.ensures
     (ap (λ (es : List Expr). visit c.loop-at.self (map tree_of es)) (sym c.deref.ensures.value) ∙ c.in_ok-stop.ensures.visit ∙ ap after c.in-Some.is))
 
 pub loop-at-preserved : goal.loop-at-preserved
 loop-at-preserved g c =
-    let visit = insert_at c.args.work.now (name_of c.args.stmt.now.table) c.args.to.now in
+    let visit = insert_one c.args.work.now (name_of c.args.stmt.now.table) c.args.to.now in
     let after : Option Stop → Visit = λ stop. record { db = c.insert_row.new.self; rows = []; stop = option_map stop_of stop } in
     record {
       rest = λ rows. row_passes exprs_of visit c.loop-at.self c.insert_row.new.self c.args.stmt.now.rows.items c.loop-at.at c.index.result.now rows

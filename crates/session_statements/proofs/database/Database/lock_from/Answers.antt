@@ -8,9 +8,9 @@ use Rattle.query_results.specs.Queries.{titles_of}
 use Rattle.session_machine.specs.declared.reply.Outcome.{Outcome}
 use Rattle.session_machine.specs.declared.reply.Outcome.TheVariants.{Rows}
 use Rattle.session_machine.specs.Tables.{Database}
-use Rattle.session_machine.specs.Rows.{ask, at_target, columns_in, lock_at, lock_with, taken_targets}
+use Rattle.session_machine.specs.Rows.{ask, at_target, columns_in, lock_one, lock_with, taken_targets}
 use Rattle.session_machine.specs.Statements.{Effect}
-use Rattle.session_machine.specs.Running.{ended, lock_from}
+use Rattle.session_machine.specs.Running.{after_walk, lock_from}
 use Rattle.session_machine.specs.Walks.{Visit, walked}
 use Rattle.session_statements.specs.Inner.Left.{left}
 use Rattle.session_statements.proofs.Going.{found_targets}
@@ -24,9 +24,9 @@ returns-in-Ok g c =
     let outcome : List (List Value) → Outcome = λ shown. Rows (record { titles = titles_of (columns_in db w) s.items; rows = shown }) in
     let at : Strength → Database → Seen → Visit = λ strength d seen. at_target (lock_with w s) d w (ask d w strength s.filter seen) in
     let e : lock_from db w s c.args.lock c.args.place c.args.rows.items
-    ≡ ended db.content w outcome (walked (lock_at w s c.args.lock) db c.args.place c.args.rows.items (drop c.args.place c.deref.result.now)) =
-    ap (ended db.content w outcome) (found_targets (lock_at w s c.args.lock) db c.args.place c.args.rows.items (taken_targets db w s) c.in-Ok.targets.items c.deref.result.now
+    ≡ after_walk db.content w outcome (walked (lock_one w s c.args.lock) db c.args.place c.args.rows.items (drop c.args.place c.deref.result.now)) =
+    ap (after_walk db.content w outcome) (found_targets (lock_one w s c.args.lock) db c.args.place c.args.rows.items (taken_targets db w s) c.in-Ok.targets.items c.deref.result.now
     c.in-Ok.ensures.targets c.deref.ensures.value) in
     subst (λ (x : Effect). IfOk c.lock_over.result (λ did. x ≡ left c.lock_over.new.self did)) (sym e)
     (subst (λ (x : Strength). IfOk c.lock_over.result (λ did.
-    ended db.content w outcome (walked (at x) db c.args.place c.args.rows.items (drop c.args.place c.deref.result.now)) ≡ left c.lock_over.new.self did)) c.strength_of.ensures c.lock_over.ensures)
+    after_walk db.content w outcome (walked (at x) db c.args.place c.args.rows.items (drop c.args.place c.deref.result.now)) ≡ left c.lock_over.new.self did)) c.strength_of.ensures c.lock_over.ensures)

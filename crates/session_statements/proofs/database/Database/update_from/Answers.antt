@@ -3,8 +3,8 @@ use Rattle.std.specs.Prelude.{IfOk}
 use Rattle.sql_trees.specs.Statements.{set_of, update_of}
 use Rattle.query_results.specs.Queries.{AssignedColumn}
 use Rattle.query_results.specs.Updates.{columns_set}
-use Rattle.session_machine.specs.Rows.{columns_in, passing_targets, update_at}
-use Rattle.session_machine.specs.Running.{assigned_to, done, ended}
+use Rattle.session_machine.specs.Rows.{columns_in, passing_targets, update_one}
+use Rattle.session_machine.specs.Running.{assigned_to, done, after_walk}
 use Rattle.session_machine.specs.Walks.{walked_from}
 use Rattle.session_statements.specs.Inner.Left.{left}
 use Rattle.session_statements.proofs.database.Database.update_from.Goals as goal
@@ -19,4 +19,4 @@ returns g c =
     c.in_ok-to.ensures ∙ ap (λ cs. assigned_to (columns_set cs (map set_of c.deref.result.now))) c.columns_in.ensures
     ∙ ap (λ xs. assigned_to (columns_set (columns_in db w) (map set_of xs))) c.deref.ensures.value in
     subst (λ (x : List AssignedColumn). IfOk c.go_over_passing.result (λ did.
-    ended db.content w done (walked_from (update_at w u x) db c.args.place c.args.rows.items (passing_targets db w u.filter)) ≡ left c.go_over_passing.new.self did)) same c.go_over_passing.ensures
+    after_walk db.content w done (walked_from (update_one w u x) db c.args.place c.args.rows.items (passing_targets db w u.filter)) ≡ left c.go_over_passing.new.self did)) same c.go_over_passing.ensures

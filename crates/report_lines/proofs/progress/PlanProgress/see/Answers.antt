@@ -3,7 +3,7 @@ use Rattle.std.proofs.lemmas.Result.{on_ok_weaker}
 use Rattle.spec_parser.specs.Trees.{entry_view}
 use Rattle.report_lines.specs.History.{PermutationRun}
 use Rattle.report_lines.proofs.Keeping.{seen_order, order_waits, seen_step, step_waits}
-use Rattle.report_lines.proofs.progress.Progress.see.Goals as goal
+use Rattle.report_lines.proofs.progress.PlanProgress.see.Goals as goal
 
 pub returns-in_ok-settle-clause-kept : goal.returns-in_ok-settle-clause-kept
 returns-in_ok-settle-clause-kept c =

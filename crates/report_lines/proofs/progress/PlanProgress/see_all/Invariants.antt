@@ -5,7 +5,7 @@ use Rattle.spec_parser.specs.Trees.{entry_view}
 use Rattle.report_lines.specs.Starts.{is_order}
 use Rattle.report_lines.specs.Progress.{Keeps}
 use Rattle.report_lines.specs.Inner.Progress.{Lags}
-use Rattle.report_lines.proofs.progress.Progress.see_all.Given as goal
+use Rattle.report_lines.proofs.progress.PlanProgress.see_all.Given as goal
 
 abbrev pub invariant-loop-place : goal.invariant-loop-place
 invariant-loop-place l = record {

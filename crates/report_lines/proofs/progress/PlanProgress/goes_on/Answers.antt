@@ -3,7 +3,7 @@ use Rattle.session_machine.specs.declared.reply.HistItem.{HistItem}
 use Rattle.spec_parser.specs.Trees.{entry_view}
 use Rattle.report_lines.specs.Starts.{is_order}
 use Rattle.report_lines.proofs.Keeping.{lags_so, order_next, none_next}
-use Rattle.report_lines.proofs.progress.Progress.goes_on.Goals as goal
+use Rattle.report_lines.proofs.progress.PlanProgress.goes_on.Goals as goal
 
 pub returns-then-saturating_sub-self : goal.returns-then-saturating_sub-self
 returns-then-saturating_sub-self c = λ yes item h.

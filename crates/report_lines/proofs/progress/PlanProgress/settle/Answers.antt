@@ -4,7 +4,7 @@ use Rattle.report_lines.specs.Due.{orders}
 use Rattle.report_lines.specs.History.{PermutationRun}
 use Rattle.report_lines.specs.SoFar.{IsReportSoFar}
 use Rattle.report_lines.proofs.Keeping.{settled_already, settled_next, one_behind, room_to_tell}
-use Rattle.report_lines.proofs.progress.Progress.settle.Goals as goal
+use Rattle.report_lines.proofs.progress.PlanProgress.settle.Goals as goal
 
 pub returns-then-saturating_sub-self : goal.returns-then-saturating_sub-self
 returns-then-saturating_sub-self c =

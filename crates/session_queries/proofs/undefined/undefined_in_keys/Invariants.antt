@@ -1,10 +1,10 @@
 use Rattle.std.proofs.Common.{◌≡◌, drop, map}
 use Rattle.sql_trees.specs.Statements.{OrderTree, item_of, order_of}
 use Rattle.query_results.specs.Queries.{first_of}
-use Rattle.session_queries.specs.Inner.Parts.{lacking_key}
-use Rattle.session_queries.proofs.lacking.lacking_keys.Given as goal
+use Rattle.session_queries.specs.Inner.Parts.{undefined_in_key}
+use Rattle.session_queries.proofs.undefined.undefined_in_keys.Given as goal
 
 abbrev pub invariant-loop-key : goal.invariant-loop-key
 invariant-loop-key l =
-    let lacks = λ (k : OrderTree). lacking_key l.columns (map item_of l.items) k.expr in
+    let lacks = λ (k : OrderTree). undefined_in_key l.columns (map item_of l.items) k.expr in
     first_of lacks (map order_of l.order) ≡ first_of lacks (map order_of (drop l.key-index l.order))

@@ -1,7 +1,0 @@
-use Rattle.std.proofs.Common.{◌≡◌, [], drop, map}
-use Rattle.sql_trees.specs.Trees.{tree_of}
-use Rattle.query_results.specs.Queries.{first_of, lacking}
-use Rattle.session_queries.proofs.lacking.lacking_values.Given as goal
-
-abbrev pub invariant-loop-expr : goal.invariant-loop-expr
-invariant-loop-expr l = first_of (lacking []) (map tree_of l.row) ≡ first_of (lacking []) (map tree_of (drop l.expr-index l.row))
