@@ -60,13 +60,17 @@ front (b ∷ bs) = if is_name_start b then word_front (b ∷ bs) else ascii_fron
 
 -- ---- whole texts
 
+-- the most bytes that a spec file has
+abbrev pub longest_file : ℕ
+longest_file = 1048576
+
 -- A file that is too long has that fault alone.
 abbrev pub Lexes : List ℕ → Result (List (At Token)) Fault → Type 0
-Lexes text answer = MatchBool (nat_lt 1048576 (length text)) (answer ≡ Err (record { kind = FileTooLong; at = 1048576 })) (Reads front (length text) text answer)
+Lexes text answer = MatchBool (nat_lt longest_file (length text)) (answer ≡ Err (record { kind = FileTooLong; at = longest_file })) (Reads front (length text) text answer)
 
 -- room is wanted only of a file that isn't too long, and has a token before any fault
 pub record WantsRoom (text : List ℕ) : Type 0 where
-  pub short : length text ≤ 1048576
+  pub short : length text ≤ longest_file
   pub token : HasToken front text
 
 -- What was returned is so, unless memory ran out.

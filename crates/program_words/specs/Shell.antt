@@ -1,5 +1,5 @@
 -- What the program does with the words of its command line: its exit status, what goes to its output, and what to its errors.
-use Rattle.std.specs.Prelude.{◌≡◌, ◌⊎◌, ℕ, Bool, true, false, IsTrue, List, [], take, Option, Result, Ok, Err, IfSome, IfErr}
+use Rattle.std.specs.Prelude.{◌≡◌, ◌⊎◌, ℕ, Bool, true, false, IsTrue, List, [], Option, Result, Ok, Err, IfErr}
 use Rattle.std.specs.Bool.{OnFalse}
 use Rattle.std.specs.Io.KnownBytes.{Appends}
 use Rattle.clap.specs.Words.{IsAmong, Text, fault_of}
@@ -13,6 +13,7 @@ use Rattle.spec_files.specs.Files.{FileIs}
 use Rattle.spec_files.specs.FreeRuns.{FileFreeTold}
 use Rattle.spec_files.specs.Lists.{FileLists}
 use Rattle.spec_files.specs.Prints.{FileSays}
+use Rattle.spec_files.specs.Promises.{IfFile}
 use Rattle.spec_files.specs.Runs.{is_refusal, is_of_listing, has_broken, has_ended, status_of as fault_status, IsListed, IsTold}
 use Rattle.report_text.specs.Said.{Said}
 use Rattle.spec_files.specs.declared.fault.RunFault.{RunFault}
@@ -62,26 +63,26 @@ pub record IsRefused (words : List Text) (out_failed : Bool) (out_old out_new : 
 
 -- the permutations were listed: their lines go to the output, wherever that ends a front of them, and nothing to the errors
 pub record Listed (left : Option (List ℕ)) (limit : ℕ) (old new notes_old notes_new : Option (List ℕ)) (answer : Result (Unit {0}) RunFault) : Type 0 where
-  pub lists : IfSome left (λ bytes. IsTrue (has_ended answer) → (said : Said) × FileLists (take 1048577 bytes) limit (Ok said) × IsListed old new answer said)
-  pub refused : IfSome left (λ bytes. IfErr answer (λ e. is_refusal e ≡ true → FileLists (take 1048577 bytes) limit (Err e)))
+  pub lists : IfFile left (λ file. IsTrue (has_ended answer) → (said : Said) × FileLists file limit (Ok said) × IsListed old new answer said)
+  pub refused : IfFile left (λ file. IfErr answer (λ e. is_refusal e ≡ true → FileLists file limit (Err e)))
   pub kinds : IfErr answer (λ e. is_of_listing e ≡ true)
-  pub begun : IfSome left (λ bytes. ListBegun (take 1048577 bytes) limit old new)
+  pub begun : IfFile left (λ file. ListBegun file limit old new)
   pub noted : notes_new ≡ notes_old
 
 -- the permutations ran: their text goes to the output, and their notes to the errors, wherever that ends fronts of them
 pub record Ran (left : Option (List ℕ)) (limit : ℕ) (out_old out_new notes_old notes_new : Option (List ℕ)) (answer : Result (Unit {0}) RunFault) : Type 0 where
-  pub told : IfSome left (λ bytes. IsTrue (has_ended answer) → (said : Said) × FileSays (take 1048577 bytes) limit (Ok said) × IsTold out_old out_new notes_old notes_new answer said)
-  pub refused : IfSome left (λ bytes. IfErr answer (λ e. is_refusal e ≡ true → FileSays (take 1048577 bytes) limit (Err e)))
+  pub told : IfFile left (λ file. IsTrue (has_ended answer) → (said : Said) × FileSays file limit (Ok said) × IsTold out_old out_new notes_old notes_new answer said)
+  pub refused : IfFile left (λ file. IfErr answer (λ e. is_refusal e ≡ true → FileSays file limit (Err e)))
   pub untouched : IfErr answer (λ e. is_refusal e ≡ true → (out_new ≡ out_old) × (notes_new ≡ notes_old))
-  pub begun : IfSome left (λ bytes. Begun (FileMaySay (take 1048577 bytes) limit) out_old out_new notes_old notes_new)
-  pub broken : IfSome left (λ bytes. IsTrue (has_broken answer) → FileBroken (take 1048577 bytes) limit out_old out_new notes_old notes_new)
+  pub begun : IfFile left (λ file. Begun (FileMaySay file limit) out_old out_new notes_old notes_new)
+  pub broken : IfFile left (λ file. IsTrue (has_broken answer) → FileBroken file limit out_old out_new notes_old notes_new)
 
 -- the file ran freely: the text of a free run that it may have goes to the output, and its notes to the errors; where it is refused, or its threads come to no end, nothing is written
 pub record RanFreely (left : Option (List ℕ)) (out_old out_new notes_old notes_new : Option (List ℕ)) (answer : Result (Unit {0}) RunFault) : Type 0 where
-  pub told : IfSome left (λ bytes. IsTrue (has_ended answer) → FileFreeTold (take 1048577 bytes) out_old out_new notes_old notes_new answer)
-  pub refused : IfSome left (λ bytes. IfErr answer (λ e. is_refusal e ≡ true → FileIs (take 1048577 bytes) (Err e)))
+  pub told : IfFile left (λ file. IsTrue (has_ended answer) → FileFreeTold file out_old out_new notes_old notes_new answer)
+  pub refused : IfFile left (λ file. IfErr answer (λ e. is_refusal e ≡ true → FileIs file (Err e)))
   pub untouched : IfErr answer (λ e. is_refusal e ≡ true → (out_new ≡ out_old) × (notes_new ≡ notes_old))
-  pub begun : IfSome left (λ bytes. Begun (FileSaysFreely (take 1048577 bytes)) out_old out_new notes_old notes_new)
+  pub begun : IfFile left (λ file. Begun (FileSaysFreely file) out_old out_new notes_old notes_new)
   pub broken : IsTrue (has_broken answer) → (out_new ≡ out_old) × (notes_new ≡ notes_old)
 
 -- `--list` is looked at before all else, then `--free`, with which the limit counts for nothing

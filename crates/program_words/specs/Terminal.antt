@@ -1,5 +1,5 @@
 -- What the program does where its errors go to a terminal: it also says where it reads from, and quotes the line of a file that is refused.
-use Rattle.std.specs.Prelude.{◌≡◌, ◌⊎◌, ℕ, ◌+◌, Bool, true, false, List, [], take, Option, Some, None, Result, Ok, Err, IfSome, codes, ⊤}
+use Rattle.std.specs.Prelude.{◌≡◌, ◌⊎◌, ℕ, ◌+◌, Bool, true, false, List, [], Option, Some, None, Result, Ok, Err, codes, ⊤}
 use Rattle.std.specs.Io.KnownBytes.{Appends}
 use Rattle.iso_lexer.specs.Devices.{PutsFront}
 use Rattle.clap.specs.Words.{Text, fault_of}
@@ -8,6 +8,7 @@ use Rattle.spec_parser.specs.declared.fault.SpecFault.{SpecFault}
 use Rattle.spec_parser.specs.declared.fault.SpecFault.TheVariants as spec_faults
 use Rattle.sql_trees.specs.Faults.{place}
 use Rattle.spec_files.specs.FaultText.{shift_of}
+use Rattle.spec_files.specs.Promises.{IfFile}
 use Rattle.spec_files.specs.declared.fault.RunFault.{RunFault}
 use Rattle.spec_files.specs.declared.fault.RunFault.TheVariants as faults
 use Rattle.program_words.specs.declared.options.Options.{Options}
@@ -87,7 +88,7 @@ pub data ReadsAndRuns (options : Options) (left : Option (List ℕ)) (in_failed 
       → ReadsAndRuns options left in_failed typed out_old out_new err_failed err_old err_new status
   unread : (hinted : Option (List ℕ)) → Hints typed err_old hinted → (e : RunFault) → FailsFirst in_failed e → out_new ≡ out_old
       → TellsFault (Err e) err_failed hinted err_new → status ≡ exit_status (Err e) → ReadsAndRuns options left in_failed typed out_old out_new err_failed err_old err_new status
-  reads : (hinted : Option (List ℕ)) → Hints typed err_old hinted → (file : List ℕ) → IfSome left (λ bytes. file ≡ take 1048577 bytes)
+  reads : (hinted : Option (List ℕ)) → Hints typed err_old hinted → (file : List ℕ) → IfFile left (λ bytes. file ≡ bytes)
       → RunsFile options file out_old out_new err_failed hinted err_new status → ReadsAndRuns options left in_failed typed out_old out_new err_failed err_old err_new status
 
 -- the words are refused, or give options that run

@@ -1,9 +1,10 @@
 //! What is said to someone who reads the errors at a terminal: how to give a file, and the line of a file that is refused.
 
-ghost use Rattle.std.specs.Prelude.{◌≡◌, ◌⊎◌, IfErr, IfOk, IfSome, OnOk, OnErr, take, true};
+ghost use Rattle.std.specs.Prelude.{◌≡◌, ◌⊎◌, IfErr, IfOk, OnOk, OnErr, true};
 ghost use Rattle.iso_lexer.specs.Devices.{PutsFront};
 ghost use Rattle.program_words.specs.Shell.{Took, exit_status};
 ghost use Rattle.program_words.specs.Terminal.{Hints, IsUnread, TellsQuoted, hint, place_of, quoted_at, spec_place};
+ghost use Rattle.spec_files.specs.Promises.{IfFile};
 
 use crate::program::{end, put_fault, put_text};
 use crate::quote::quoted;
@@ -36,7 +37,7 @@ pub fn read_there<S: Source, N: Sink>(
     err: &mut N,
 ) -> Result<Vec<u8>, u8>
     ensures hints { OnOk result (Hints typed (N.put_so_far err.old) (N.put_so_far err.new)) }
-    ensures reads { IfOk result (λ file. IfSome (S.left input.old) (λ bytes. file.items ≡ take 1048577 bytes)) }
+    ensures reads { IfOk result (λ file. IfFile (S.left input.old) (λ bytes. file.items ≡ bytes)) }
     ensures unread { IfErr result (IsUnread (S.failed input.new) typed (N.failed err.new) (N.put_so_far err.old) (N.put_so_far err.new)) }
 {
     if put_hint(err, typed).is_err() {

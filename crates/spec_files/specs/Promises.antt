@@ -1,8 +1,9 @@
 -- What running a spec file promises, whatever runs its permutations, and what running it freely promises.
-use Rattle.std.specs.Prelude.{◌≡◌, ◌≢◌, ◌↔◌, ◌||◌, ℕ, true, List, take, Option, Result, Ok, Err, IsTrue, IfErr, IfSome, IsErrOf}
+use Rattle.std.specs.Prelude.{◌≡◌, ◌≢◌, ◌↔◌, ◌||◌, ℕ, ◌+◌, true, List, take, Option, Result, Ok, Err, IsTrue, IfErr, IfSome, IsErrOf}
 use Rattle.iso_lexer.specs.declared.device.Sink.{Ghosts as Sink}
 use Rattle.iso_lexer.specs.declared.device.Source.{Ghosts as Source}
 use Rattle.iso_lexer.specs.Devices.{IsFront}
+use Rattle.iso_lexer.specs.SpecText.{longest_file}
 use Rattle.spec_files.specs.declared.fault.RunFault.{RunFault}
 use Rattle.spec_files.specs.declared.fault.RunFault.TheVariants as faults
 use Rattle.spec_files.specs.Begun.{Begun, FileMaySay, FileSaysFreely, Untouched}
@@ -15,7 +16,7 @@ use Rattle.report_text.specs.Said.{Said}
 
 -- it holds of the file that is left to read, where the source tells its bytes: no more is read than one byte over the longest file
 abbrev pub IfFile : Option (List ℕ) → (List ℕ → Type 0) → Type 0
-IfFile left P = IfSome left (λ bytes. P (take 1048577 bytes))
+IfFile left P = IfSome left (λ bytes. P (take (longest_file + 1) bytes))
 
 module _ {S W N : Type 0} (source : Source S) (sink : Sink W) (noted : Sink N) (input_old input_new : S) (out_old out_new : W) (notes_old notes_new : N) where
   -- the file that is left to read was run, so many of its permutations at most
@@ -42,7 +43,7 @@ module _ {S W N : Type 0} (source : Source S) (sink : Sink W) (noted : Sink N) (
     -- Write is answered only where a sink has failed
     pub write : IsErrOf result faults.Write → (sink.failed out_new || noted.failed notes_new) ≡ true
     -- where the file was read, its bytes were taken off the source, and no others
-    pub taken : IsTrue (has_read result) → (bytes : List ℕ) × IsFront 1048577 (source.left input_old) (source.left input_new) bytes
+    pub taken : IsTrue (has_read result) → (bytes : List ℕ) × IsFront (longest_file + 1) (source.left input_old) (source.left input_new) bytes
 
   -- the file that is left to read was run freely
   pub record SpecIsRunFreely (result : Result (Unit {0}) RunFault) : Type 0 where
@@ -65,4 +66,4 @@ module _ {S W N : Type 0} (source : Source S) (sink : Sink W) (noted : Sink N) (
     -- Write is answered only where a sink has failed
     pub write : IsErrOf result faults.Write → (sink.failed out_new || noted.failed notes_new) ≡ true
     -- where the file was read, its bytes were taken off the source, and no others
-    pub taken : IsTrue (has_read result) → (bytes : List ℕ) × IsFront 1048577 (source.left input_old) (source.left input_new) bytes
+    pub taken : IsTrue (has_read result) → (bytes : List ℕ) × IsFront (longest_file + 1) (source.left input_old) (source.left input_new) bytes

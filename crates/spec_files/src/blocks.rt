@@ -22,64 +22,40 @@ pub struct PlacedPart<'a> {
     pub part: Part<'a>,
 }
 
-fn add_main<'a>(parts: &mut Vec<PlacedPart<'a>>, part: &Part<'a>) -> Result<(), AllocError>
-    ensures { OnOk result (map placed_view parts.new.items ≡ map placed_view parts.old.items ++ block_as Main (part_view part.now) ∷ []) }
+fn add<'a>(parts: &mut Vec<PlacedPart<'a>>, role: Role, part: &Part<'a>) -> Result<(), AllocError>
+    ensures { OnOk result (map placed_view parts.new.items ≡ map placed_view parts.old.items ++ block_as role (part_view part.now) ∷ []) }
 {
-    parts.push(PlacedPart {
-        role: Role::Main,
-        part: *part,
-    })?;
+    parts.push(PlacedPart { role, part: *part })?;
     Ok(())
+}
+
+fn add_if<'a>(
+    parts: &mut Vec<PlacedPart<'a>>,
+    role: Role,
+    part: &Option<Part<'a>>,
+) -> Result<(), AllocError>
+    ensures { OnOk result (map placed_view parts.new.items ≡ map placed_view parts.old.items ++ map (block_as role) (option_to_list (option_map part_view part.now))) }
+{
+    match part {
+        Some(part) => add(parts, role, part),
+        None => Ok(()),
+    }
 }
 
 fn add_mains<'a>(parts: &mut Vec<PlacedPart<'a>>, mains: &[Part<'a>]) -> Result<(), AllocError>
     ensures { OnOk result (map placed_view parts.new.items ≡ map placed_view parts.old.items ++ map (block_as Main) (map part_view mains.now)) }
 {
     for part in mains {
-        add_main(parts, part)?;
+        add(parts, Role::Main, part)?;
     }
     Ok(())
-}
-
-fn add_main_if<'a>(
-    parts: &mut Vec<PlacedPart<'a>>,
-    part: &Option<Part<'a>>,
-) -> Result<(), AllocError>
-    ensures { OnOk result (map placed_view parts.new.items ≡ map placed_view parts.old.items ++ map (block_as Main) (option_to_list (option_map part_view part.now))) }
-{
-    match part {
-        Some(part) => add_main(parts, part),
-        None => Ok(()),
-    }
-}
-
-fn add_own<'a>(parts: &mut Vec<PlacedPart<'a>>, part: &Part<'a>) -> Result<(), AllocError>
-    ensures { OnOk result (map placed_view parts.new.items ≡ map placed_view parts.old.items ++ block_as Session (part_view part.now) ∷ []) }
-{
-    parts.push(PlacedPart {
-        role: Role::Session,
-        part: *part,
-    })?;
-    Ok(())
-}
-
-fn add_own_if<'a>(
-    parts: &mut Vec<PlacedPart<'a>>,
-    part: &Option<Part<'a>>,
-) -> Result<(), AllocError>
-    ensures { OnOk result (map placed_view parts.new.items ≡ map placed_view parts.old.items ++ map (block_as Session) (option_to_list (option_map part_view part.now))) }
-{
-    match part {
-        Some(part) => add_own(parts, part),
-        None => Ok(()),
-    }
 }
 
 fn add_steps<'a>(parts: &mut Vec<PlacedPart<'a>>, steps: &[StepPart<'a>]) -> Result<(), AllocError>
     ensures { OnOk result (map placed_view parts.new.items ≡ map placed_view parts.old.items ++ map (block_as Session) (map step_part (map step_view steps.now))) }
 {
     for step in steps {
-        add_own(parts, &step.part)?;
+        add(parts, Role::Session, &step.part)?;
     }
     Ok(())
 }
@@ -90,9 +66,9 @@ fn add_session<'a>(
 ) -> Result<(), AllocError>
     ensures { OnOk result (map placed_view parts.new.items ≡ map placed_view parts.old.items ++ map (block_as Session) (session_parts (session_view session.now))) }
 {
-    add_own_if(parts, &session.setup)?;
+    add_if(parts, Role::Session, &session.setup)?;
     add_steps(parts, &session.steps)?;
-    add_own_if(parts, &session.teardown)
+    add_if(parts, Role::Session, &session.teardown)
 }
 
 fn add_sessions<'a>(
@@ -113,7 +89,7 @@ pub fn blocks_in<'a>(alloc: Global, spec: &Spec<'a>) -> Result<Vec<PlacedPart<'a
 {
     let mut parts = Vec::new(alloc);
     add_mains(&mut parts, &spec.setups)?;
-    add_main_if(&mut parts, &spec.teardown)?;
+    add_if(&mut parts, Role::Main, &spec.teardown)?;
     add_sessions(&mut parts, &spec.sessions)?;
     Ok(parts)
 }

@@ -1,14 +1,16 @@
 //! Lists the permutations of a spec file.
 
-ghost use Rattle.std.specs.Prelude.{◌≡◌, ◌≢◌, ◌↔◌, List, ℕ, Ok, Err, take, true, false, IsTrue, IfErr, IfSome, IsErrOf};
+ghost use Rattle.std.specs.Prelude.{◌≡◌, ◌≢◌, ◌↔◌, ◌+◌, List, ℕ, Ok, Err, true, false, IsTrue, IfErr, IsErrOf};
 ghost use Rattle.std.specs.Io.KnownBytes.{Appends};
 ghost use Rattle.iso_lexer.specs.Devices.{IsFront, PutsFront};
+ghost use Rattle.iso_lexer.specs.SpecText.{longest_file};
 ghost use Rattle.spec_parser.specs.Trees.{spec_view};
 ghost use Rattle.spec_parser.specs.Stands.{Stands};
 ghost use Rattle.permutation_lists.specs.Permutations.{permutations_of};
 ghost use Rattle.spec_files.specs.Lists.{listed, FileLists};
 ghost use Rattle.spec_files.specs.Runs.{is_refusal, is_of_listing, has_ended, has_read, IsListed};
 ghost use Rattle.spec_files.specs.Begun.{ListBegun};
+ghost use Rattle.spec_files.specs.Promises.{IfFile};
 ghost use Rattle.report_text.specs.Said.{Said};
 
 use crate::fault::RunFault;
@@ -69,16 +71,16 @@ pub fn list_spec<S: Source, W: Sink>(
     out: &mut W,
     limit: u64,
 ) -> Result<(), RunFault>
-    ensures lists { IfSome (S.left input.old) (λ bytes. IsTrue (has_ended result) →
-        ((said : Said) × FileLists (take 1048577 bytes) limit (Ok said) × IsListed (W.put_so_far out.old) (W.put_so_far out.new) result said)) }
-    ensures refused { IfSome (S.left input.old) (λ bytes. IfErr result (λ e. is_refusal e ≡ true → FileLists (take 1048577 bytes) limit (Err e))) }
+    ensures lists { IfFile (S.left input.old) (λ file. IsTrue (has_ended result) →
+        ((said : Said) × FileLists file limit (Ok said) × IsListed (W.put_so_far out.old) (W.put_so_far out.new) result said)) }
+    ensures refused { IfFile (S.left input.old) (λ file. IfErr result (λ e. is_refusal e ≡ true → FileLists file limit (Err e))) }
     ensures untouched { IfErr result (λ e. is_refusal e ≡ true → out.new ≡ out.old) }
-    ensures begun { IfSome (S.left input.old) (λ bytes. ListBegun (take 1048577 bytes) limit (W.put_so_far out.old) (W.put_so_far out.new)) }
+    ensures begun { IfFile (S.left input.old) (λ file. ListBegun file limit (W.put_so_far out.old) (W.put_so_far out.new)) }
     ensures read { IsErrOf result RunFault.Read ↔ (S.failed input.new ≡ true) }
     ensures unread { IsErrOf result RunFault.Read → out.new ≡ out.old }
     ensures kinds { IfErr result (λ e. is_of_listing e ≡ true) }
     ensures write { IsErrOf result RunFault.Write → W.failed out.new ≡ true }
-    ensures taken { IsTrue (has_read result) → ((bytes : List ℕ) × IsFront 1048577 (S.left input.old) (S.left input.new) bytes) }
+    ensures taken { IsTrue (has_read result) → ((bytes : List ℕ) × IsFront (longest_file + 1) (S.left input.old) (S.left input.new) bytes) }
 {
     let bytes = read_all(alloc, input, LONGEST_FILE + 1)?;
     list_file(alloc, &bytes, out, limit)
