@@ -5,6 +5,7 @@ use Rattle.std.specs.List.{AllByRecursion}
 use Rattle.std.proofs.lemmas.List.{append-nil, map-append, drop-drop}
 use Rattle.iso_lexer.specs.Lexing.{Front, gap, token, fault, Reads, ends, takes, fails, in_front, between, SpelledAt, HasToken, here, behind}
 use Rattle.iso_lexer.specs.Lexing.{passes as skips}
+use Rattle.iso_lexer.specs.Inner.Rules.{Shorter, Rules}
 use Rattle.iso_lexer.specs.declared.fault.Fault.{Fault}
 use Rattle.iso_lexer.specs.declared.fault.FaultKind.{FaultKind}
 use Rattle.iso_lexer.specs.declared.token.At.{At}
@@ -12,17 +13,6 @@ use Rattle.iso_lexer.specs.declared.token.At.{At}
 pub either : {T : Type 0} (P : Front T → Type 0) (b : Bool) (x y : Front T) → (b ≡ true → P x) → (b ≡ false → P y) → P (cond b x y)
 either P true x y p q = p refl
 either P false x y p q = q refl
-
--- a piece takes something of a text of this length
-abbrev pub Shorter : {T : Type 0} → ℕ → Front T → Type 0
-Shorter n (gap rest) = length rest < n
-Shorter n (token t rest) = length rest < n
-Shorter n (fault kind m) = m < n
-
--- what rules have to keep: nothing begins nothing, and each piece takes something
-pub record Rules {T : Type 0} (front : List ℕ → Front T) : Type 0 where
-  pub nothing : front [] ≡ gap []
-  pub shorter : (text : List ℕ) → 0 < length text → Shorter (length text) (front text)
 
 -- ---- the loop
 

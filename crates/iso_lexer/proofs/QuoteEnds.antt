@@ -10,7 +10,8 @@ use Rattle.iso_lexer.specs.declared.quoted.Quoted.{Quoted}
 use Rattle.iso_lexer.specs.declared.quoted.Quoted.TheVariants.{Closed, Broken, Unclosed}
 use Rattle.iso_lexer.specs.Lexing.{Front, gap, token, fault}
 use Rattle.iso_lexer.specs.Quotes.{longer, quoted_from, quoted_front}
-use Rattle.iso_lexer.proofs.Lexing.{Shorter, CutBy}
+use Rattle.iso_lexer.specs.Inner.Rules.{Shorter}
+use Rattle.iso_lexer.proofs.Lexing.{CutBy}
 
 longer_closed : (q : Quoted) (n : ℕ) → longer 1 q ≡ Closed n → (k : ℕ) × (q ≡ Closed k) × (n ≡ suc k)
 longer_closed (Closed k) n e = let same : 1 + k ≡ n = cc in (k, refl, omega arith)

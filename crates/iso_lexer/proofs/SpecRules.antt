@@ -1,22 +1,27 @@
 -- The rules of spec files: each piece takes something, and the whole file.
-use Rattle.std.proofs.Common.{◌≡◌, ℕ, suc, ◌+◌, ◌<◌, ◌≤◌, length, drop, take, List, [], ◌∷◌, Result, Err, Bool, true, false, cond, eqb, refl, sym, ◌∙◌, arith, length-drop, Option, Some, None}
+use Rattle.std.proofs.Common.{◌≡◌, ℕ, suc, ◌+◌, ◌<◌, ◌≤◌, length, drop, take, List, [], ◌∷◌, Result, Ok, Err, Bool, true, false, cond, eqb, refl, sym, ◌∙◌, arith, length-drop, Option, Some, None}
 use Rattle.std.specs.Prelude.{MatchBool, nat_lt, ◌==◌, ◌||◌}
 use Rattle.std.specs.List.{prefix_len, position_or_len}
 use Rattle.std.specs.Char.{is_ascii_digit}
 use Rattle.std.specs.Option.{option_map_or}
+use Rattle.std.specs.Global.{Vec}
 use Rattle.std.proofs.lemmas.Bool.{le-ltb, eqb-true}
 use Rattle.iso_lexer.specs.Bytes.{passes, is_blank, is_name_start, is_name_byte, spelled}
-use Rattle.iso_lexer.specs.SpecTokens.{Token, name, sign}
+use Rattle.iso_lexer.specs.SpecTokens.{Token, name, sign, token_view, at_views}
 use Rattle.iso_lexer.specs.Names.{quoted}
-use Rattle.iso_lexer.specs.Lexing.{Front, gap, token, fault, Reads}
+use Rattle.iso_lexer.specs.Lexing.{Front, gap, token, fault, Reads, ReadsBy}
 use Rattle.iso_lexer.specs.Quotes.{quoted_from, quoted_front}
-use Rattle.iso_lexer.specs.SpecText.{block_of, front, block_front, signs, word_front, ascii_front, Lexes}
+use Rattle.iso_lexer.specs.SpecText.{block_of, front, block_front, signs, word_front, ascii_front, Answers, Lexes, longest_file}
 use Rattle.iso_lexer.specs.declared.fault.Fault.{Fault}
+use Rattle.iso_lexer.specs.declared.fault.LexFault.{LexFault}
+use Rattle.iso_lexer.specs.declared.fault.LexFault.TheVariants as errors
+use Rattle.iso_lexer.specs.declared.spec_token.SpecTok.{SpecTok}
 use Rattle.iso_lexer.specs.declared.fault.FaultKind.TheVariants.{UnterminatedBlock, UnterminatedName, UnexpectedByte}
 use Rattle.iso_lexer.specs.declared.token.At.{At}
 use Rattle.iso_lexer.specs.declared.spec_token.Sign.{Sign}
 use Rattle.iso_lexer.specs.declared.runs.Run.TheVariants.{Comment}
-use Rattle.iso_lexer.proofs.Lexing.{either, Shorter, Rules, one_reading}
+use Rattle.iso_lexer.specs.Inner.Rules.{Shorter, Rules}
+use Rattle.iso_lexer.proofs.Lexing.{either, one_reading}
 use Rattle.iso_lexer.proofs.QuoteEnds.{quoted_shorter}
 
 pub after_shorter : (p : ℕ → Bool) (b : ℕ) (bs : List ℕ) → p b ≡ true → length (drop (prefix_len p (b ∷ bs)) (b ∷ bs)) < suc (length bs)
@@ -71,12 +76,18 @@ spec_rules = record { nothing = refl; shorter = front_shorter }
 
 -- ---- the whole file
 
-pub lexes : (text : List ℕ) (answer : Result (List (At Token)) Fault) → length text ≤ 1048576 → Reads front (length text) text answer → Lexes text answer
-lexes text answer le h = rw (le-ltb 1048576 (length text) le) h
+pub lexes : (text : List ℕ) (answer : Result (List (At Token)) Fault) → length text ≤ longest_file → Reads front (length text) text answer → Lexes text answer
+lexes text answer le h = rw (le-ltb longest_file (length text) le) h
+
+-- what is read of a file that is no longer than the longest
+pub read_whole : (text : List ℕ) (answer : Result (Vec (At SpecTok)) LexFault) → length text ≤ longest_file → ReadsBy token_view front text answer → Answers text answer
+read_whole text (Ok ts) le h = lexes text (Ok (at_views ts.items)) le h
+read_whole text (Err errors.Memory) le h = record { short = le; token = h }
+read_whole text (Err (errors.Fault f)) le h = lexes text (Err f) le h
 
 one_of_two : (b : Bool) (text : List ℕ) (f : Fault) (x y : Result (List (At Token)) Fault) → MatchBool b (x ≡ Err f) (Reads front (length text) text x) → MatchBool b (y ≡ Err f) (Reads front (length text) text y) → x ≡ y
 one_of_two true text f x y p q = p ∙ sym q
 one_of_two false text f x y p q = one_reading front (length text) text x y spec_rules.nothing p q
 
 pub one_lexing : (text : List ℕ) (x y : Result (List (At Token)) Fault) → Lexes text x → Lexes text y → x ≡ y
-one_lexing text x y p q = one_of_two (nat_lt 1048576 (length text)) text _ x y p q
+one_lexing text x y p q = one_of_two (nat_lt longest_file (length text)) text _ x y p q

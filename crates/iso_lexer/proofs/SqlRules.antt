@@ -16,7 +16,8 @@ use Rattle.iso_lexer.specs.SqlText.{sql_front, number_front, pair_front, ascii_f
 use Rattle.iso_lexer.specs.declared.fault.FaultKind.TheVariants.{NumberTooLarge, UnexpectedByte, UnterminatedName, UnterminatedString, UnterminatedComment}
 use Rattle.iso_lexer.specs.declared.sql_token.SqlSign.{SqlSign}
 use Rattle.iso_lexer.specs.declared.runs.Run.TheVariants.{Comment, Word, Digits}
-use Rattle.iso_lexer.proofs.Lexing.{either, Shorter, Rules}
+use Rattle.iso_lexer.specs.Inner.Rules.{Shorter, Rules}
+use Rattle.iso_lexer.proofs.Lexing.{either}
 use Rattle.iso_lexer.proofs.QuoteEnds.{quoted_shorter}
 use Rattle.iso_lexer.proofs.Comments.{behind, comment_further}
 use Rattle.iso_lexer.proofs.SpecRules.{after_shorter, gap_shorter, name_byte}

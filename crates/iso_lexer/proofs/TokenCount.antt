@@ -8,7 +8,8 @@ use Rattle.iso_lexer.specs.SpecTokens.{Token}
 use Rattle.iso_lexer.specs.Lexing.{Front, Reads, ends, takes, fails, in_front, gap, token}
 use Rattle.iso_lexer.specs.Lexing.{passes as skips}
 use Rattle.iso_lexer.specs.SpecText.{Lexes, front}
-use Rattle.iso_lexer.proofs.Lexing.{Rules, shorter_at}
+use Rattle.iso_lexer.specs.Inner.Rules.{Rules}
+use Rattle.iso_lexer.proofs.Lexing.{shorter_at}
 use Rattle.iso_lexer.proofs.SpecRules.{spec_rules}
 
 abbrev Few : {T : Type 0} → ℕ → Result (List (At T)) Fault → Type 0

@@ -1,7 +1,10 @@
 -- How a text splits into tokens, by rules for what stands at its front.
-use Rattle.std.specs.Prelude.{◌≡◌, ℕ, ◌+◌, ◌-◌, ◌<◌, ◌≤◌, List, [], ◌∷◌, ◌++◌, length, Result, Ok, Err, slice_range}
+use Rattle.std.specs.Prelude.{◌≡◌, ℕ, ◌+◌, ◌-◌, ◌<◌, ◌≤◌, List, [], ◌∷◌, ◌++◌, length, map, Result, Ok, Err, slice_range}
+use Rattle.std.specs.Global.{Vec}
 use Rattle.iso_lexer.specs.declared.fault.FaultKind.{FaultKind}
 use Rattle.iso_lexer.specs.declared.fault.Fault.{Fault}
+use Rattle.iso_lexer.specs.declared.fault.LexFault.{LexFault}
+use Rattle.iso_lexer.specs.declared.fault.LexFault.TheVariants as errors
 use Rattle.iso_lexer.specs.declared.token.At.{At}
 
 -- What stands at the front of a text: nothing that counts, a token, or a fault so many bytes on.
@@ -36,3 +39,13 @@ pub data HasToken {T : Type 0} (front : List ℕ → Front T) : List ℕ → Typ
 -- the slice of the text at the token's span is the token as it is spelled
 abbrev pub SpelledAt : {T : Type 0} → (T → List ℕ → Type 0) → List ℕ → At T → Type 0
 SpelledAt Spells text t = (t.span.end ≤ length text) × Spells t.tok (slice_range text t.span.start t.span.end)
+
+-- a token at its place, without where it lies in memory
+abbrev pub plain_at : {A T : Type 0} → (A → T) → At A → At T
+plain_at plain t = record { tok = plain t.tok; span = t.span }
+
+-- What was returned is what the text reads as by the rules, unless memory ran out, which is wanted only of a text that has a token before any fault.
+abbrev pub ReadsBy : {A T : Type 0} → (A → T) → (List ℕ → Front T) → List ℕ → Result (Vec (At A)) LexFault → Type 0
+ReadsBy plain front text (Ok ts) = Reads front (length text) text (Ok (map (plain_at plain) ts.items))
+ReadsBy plain front text (Err errors.Memory) = HasToken front text
+ReadsBy plain front text (Err (errors.Fault f)) = Reads front (length text) text (Err f)

@@ -1,6 +1,6 @@
 -- The tokens of SQL text, or its first fault. Words, quoted names, strings, numbers, signs and comments are those of
 -- PostgreSQL's manual, section "Lexical Structure".
-use Rattle.std.specs.Prelude.{ℕ, false, ◌||◌, ◌&&◌, ◌==◌, List, [], ◌∷◌, length, drop, Result, Ok, Err, if◌then◌else◌, codes, nat_lt, slice_index}
+use Rattle.std.specs.Prelude.{ℕ, false, ◌||◌, ◌&&◌, ◌==◌, List, [], ◌∷◌, length, drop, Result, if◌then◌else◌, codes, nat_lt, slice_index}
 use Rattle.std.specs.Global.{Vec}
 use Rattle.std.specs.Char.{is_ascii_digit}
 use Rattle.std.specs.Option.{option_map_or}
@@ -8,15 +8,14 @@ use Rattle.std.specs.Str.Parse.{digits_value}
 use Rattle.iso_lexer.specs.declared.fault.FaultKind.TheVariants.{UnterminatedName, UnterminatedString, UnterminatedComment, UnexpectedByte, NumberTooLarge}
 use Rattle.iso_lexer.specs.declared.fault.Fault.{Fault}
 use Rattle.iso_lexer.specs.declared.fault.LexFault.{LexFault}
-use Rattle.iso_lexer.specs.declared.fault.LexFault.TheVariants as errors
 use Rattle.iso_lexer.specs.declared.sql_token.SqlSign.{SqlSign}
 use Rattle.iso_lexer.specs.declared.sql_token.SqlSign.TheVariants.{NotEqual, AtMost, AtLeast, Concat, Cast, Open, Close, Comma, Semicolon, Plus, Minus, Star, Slash, Percent, Equal, Less, Greater, Dot}
 use Rattle.iso_lexer.specs.declared.sql_token.SqlTok.{SqlTok}
 use Rattle.iso_lexer.specs.declared.token.At.{At}
 use Rattle.iso_lexer.specs.declared.runs.Run.TheVariants.{Comment, Word, Digits}
 use Rattle.iso_lexer.specs.Bytes.{is_blank, is_name_start, is_name_byte, run_of, after_run, spelled}
-use Rattle.iso_lexer.specs.SqlTokens.{SqlToken, word, quoted_word, string, number, sql_sign, sql_at_views}
-use Rattle.iso_lexer.specs.Lexing.{Front, gap, token, fault, Reads, HasToken}
+use Rattle.iso_lexer.specs.SqlTokens.{SqlToken, sql_view, word, quoted_word, string, number, sql_sign}
+use Rattle.iso_lexer.specs.Lexing.{Front, gap, token, fault, Reads, ReadsBy}
 use Rattle.iso_lexer.specs.Quotes.{quoted_from, quoted_front}
 use Rattle.iso_lexer.specs.Comments.{after_comment}
 
@@ -67,6 +66,4 @@ SqlLexes text answer = Reads sql_front (length text) text answer
 
 -- What was returned is so, unless memory ran out, which is wanted only of a text that has a token before any fault.
 abbrev pub SqlAnswers : List ℕ → Result (Vec (At SqlTok)) LexFault → Type 0
-SqlAnswers text (Ok ts) = SqlLexes text (Ok (sql_at_views ts.items))
-SqlAnswers text (Err errors.Memory) = HasToken sql_front text
-SqlAnswers text (Err (errors.Fault f)) = SqlLexes text (Err f)
+SqlAnswers text answer = ReadsBy sql_view sql_front text answer

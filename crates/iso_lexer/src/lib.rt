@@ -20,6 +20,7 @@ mod sql_text;
 mod sql_token;
 mod std_device;
 mod token;
+mod tokens;
 mod whole;
 mod write;
 

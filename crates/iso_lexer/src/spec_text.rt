@@ -4,7 +4,7 @@ ghost use Rattle.std.specs.Prelude.{◌≡◌, ◌≤◌, List, ℕ, Result, Ok,
 ghost use Rattle.std.specs.List.{AllByRecursion};
 ghost use Rattle.iso_lexer.specs.SpecSpelling.{LiesAt};
 ghost use Rattle.iso_lexer.specs.SpecTokens.{Token};
-ghost use Rattle.iso_lexer.specs.SpecText.{Answers, Lexes};
+ghost use Rattle.iso_lexer.specs.SpecText.{Answers, Lexes, longest_file};
 ghost use Rattle.iso_lexer.specs.declared.fault.Fault.{Fault};
 ghost use Rattle.iso_lexer.specs.declared.token.At.{At};
 
@@ -12,9 +12,25 @@ use crate::fault::{Fault, FaultKind, LexFault};
 use crate::front::front;
 use crate::piece::Piece;
 use crate::spec_token::SpecTok;
-use crate::token::{At, Span};
+use crate::token::At;
+use crate::tokens::{Token, tokens};
 use crate::whole::LONGEST_FILE;
 use std::alloc::Global;
+
+impl<'a> Token<'a> for SpecTok<'a> {
+    ghost use Rattle.iso_lexer.specs.SpecTokens.{Token as PlainToken, token_view};
+    ghost use Rattle.iso_lexer.specs.SpecText.{front as rules_of_files};
+
+    ghost Plain = { PlainToken };
+
+    ghost plain = { token_view };
+
+    ghost rules = { rules_of_files };
+
+    fn front(text: &'a str) -> Piece<'a, SpecTok<'a>> {
+        front(text)
+    }
+}
 
 /// The tokens of a spec file, or its first fault.
 pub fn spec_tokens<'a>(alloc: Global, text: &'a str) -> Result<Vec<At<SpecTok<'a>>>, LexFault>
@@ -26,29 +42,7 @@ pub fn spec_tokens<'a>(alloc: Global, text: &'a str) -> Result<Vec<At<SpecTok<'a
             at: LONGEST_FILE,
         }));
     }
-    let mut tokens = Vec::new(alloc);
-    let mut rest = text;
-    while !rest.is_empty() {
-        let start = text.len() - rest.len();
-        match front(rest) {
-            Piece::Gap(after) => rest = after,
-            Piece::Token(tok, after) => {
-                let end = text.len() - after.len();
-                tokens.push(At {
-                    tok,
-                    span: Span { start, end },
-                })?;
-                rest = after;
-            }
-            Piece::Fault(kind, n) => {
-                return Err(LexFault::Fault(Fault {
-                    kind,
-                    at: start + n,
-                }));
-            }
-        }
-    }
-    Ok(tokens)
+    tokens(alloc, text)
 }
 
 /// A file has one list of tokens, or one first fault.
@@ -63,5 +57,5 @@ pub fn tokens_are_slices()
 
 /// A file that has tokens is no longer than the longest, and has no more tokens than bytes.
 pub fn tokens_are_few()
-    ensures { (text : List ℕ) (ts : List (At Token)) → Lexes text (Ok ts) → (length text ≤ 1048576) × (length ts ≤ length text) }
+    ensures { (text : List ℕ) (ts : List (At Token)) → Lexes text (Ok ts) → (length text ≤ longest_file) × (length ts ≤ length text) }
 {}

@@ -8,40 +8,34 @@ ghost use Rattle.iso_lexer.specs.SqlText.{SqlAnswers, SqlLexes};
 ghost use Rattle.iso_lexer.specs.declared.fault.Fault.{Fault};
 ghost use Rattle.iso_lexer.specs.declared.token.At.{At};
 
-use crate::fault::{Fault, LexFault};
+use crate::fault::LexFault;
 use crate::piece::Piece;
 use crate::sql_front::sql_front;
 use crate::sql_token::SqlTok;
-use crate::token::{At, Span};
+use crate::token::At;
+use crate::tokens::{Token, tokens};
 use std::alloc::Global;
+
+impl<'a> Token<'a> for SqlTok<'a> {
+    ghost use Rattle.iso_lexer.specs.SqlTokens.{SqlToken, sql_view};
+    ghost use Rattle.iso_lexer.specs.SqlText.{sql_front as rules_of_sql};
+
+    ghost Plain = { SqlToken };
+
+    ghost plain = { sql_view };
+
+    ghost rules = { rules_of_sql };
+
+    fn front(text: &'a str) -> Piece<'a, SqlTok<'a>> {
+        sql_front(text)
+    }
+}
 
 /// The tokens of SQL text, or its first fault.
 pub fn sql_tokens<'a>(alloc: Global, text: &'a str) -> Result<Vec<At<SqlTok<'a>>>, LexFault>
     ensures { SqlAnswers text.now result }
 {
-    let mut tokens = Vec::new(alloc);
-    let mut rest = text;
-    while !rest.is_empty() {
-        let start = text.len() - rest.len();
-        match sql_front(rest) {
-            Piece::Gap(after) => rest = after,
-            Piece::Token(tok, after) => {
-                let end = text.len() - after.len();
-                tokens.push(At {
-                    tok,
-                    span: Span { start, end },
-                })?;
-                rest = after;
-            }
-            Piece::Fault(kind, n) => {
-                return Err(LexFault::Fault(Fault {
-                    kind,
-                    at: start + n,
-                }));
-            }
-        }
-    }
-    Ok(tokens)
+    tokens(alloc, text)
 }
 
 /// SQL text has one list of tokens, or one first fault.

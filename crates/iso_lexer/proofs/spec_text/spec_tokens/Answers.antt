@@ -1,53 +1,9 @@
-use Rattle.std.proofs.Common.{◌<◌, length, sym, ap, subst, arith, rules, is_ok}
-use Rattle.std.proofs.lemmas.List.{nil_from_length}
-use Rattle.std.proofs.lemmas.Bool.{eqb-true}
-use Rattle.std.proofs.ResultArms.{chosen}
-use Rattle.iso_lexer.specs.SpecTokens.{token_view, at_view, at_views}
-use Rattle.iso_lexer.specs.SpecText.{front, WantsRoom}
-use Rattle.iso_lexer.specs.Lexing.{gap, token, fault}
-use Rattle.iso_lexer.proofs.Lexing.{SoFar, shorter_at, on_gap, on_token, on_fault, on_end, has_token, views_push}
-use Rattle.iso_lexer.proofs.SpecRules.{spec_rules, lexes}
+use Rattle.std.proofs.Common.{arith, rules}
+use Rattle.iso_lexer.proofs.SpecRules.{spec_rules, read_whole}
 use Rattle.iso_lexer.proofs.spec_text.spec_tokens.Goals as goal
 
-pub loop-rest-smaller-in-Gap : goal.loop-rest-smaller-in-Gap
-loop-rest-smaller-in-Gap c = shorter_at front spec_rules c.loop-rest.rest.now (gap c.in-Gap.after.now) (search rules) c.in-Gap.ensures
-
-pub loop-rest-preserved-in-Gap : goal.loop-rest-preserved-in-Gap
-loop-rest-preserved-in-Gap c = record {
-  so_far = on_gap front spec_rules c.args.text.now (at_views c.loop-rest.tokens.items) c.loop-rest.rest.now c.in-Gap.after.now (search rules) c.in-Gap.ensures c.loop-rest.invariant.so_far;
-  is_text = search rules;
-}
-
-pub overflow_sub-end : goal.overflow_sub-end
-overflow_sub-end c = (on_token front spec_rules c.args.text.now (at_views c.loop-rest.tokens.items) c.loop-rest.rest.now c.in-Token.after.now (token_view c.in-Token.tok) (search rules) c.in-Token.ensures c.loop-rest.invariant.so_far).within
-
-pub loop-rest-smaller : goal.loop-rest-smaller
-loop-rest-smaller c = shorter_at front spec_rules c.loop-rest.rest.now (token (token_view c.in-Token.tok) c.in-Token.after.now) (search rules) c.in-Token.ensures
-
-pub returns-in_err-push-in-Token : goal.returns-in_err-push-in-Token
-returns-in_err-push-in-Token c =
-    let room : WantsRoom c.args.text.now = record {
-      short = omega arith;
-      token = has_token front spec_rules c.args.text.now (at_views c.loop-rest.tokens.items) c.loop-rest.rest.now c.in-Token.after.now (token_view c.in-Token.tok) c.in-Token.ensures c.loop-rest.invariant.so_far;
-    } in
-    search (rules, room)
-
-pub loop-rest-preserved : goal.loop-rest-preserved
-loop-rest-preserved c =
-    let pushed = chosen _ _ _ _ c.push.ensures.items (ap is_ok c.in_ok-push-in-Token.was) in
-    let one = on_token front spec_rules c.args.text.now (at_views c.loop-rest.tokens.items) c.loop-rest.rest.now c.in-Token.after.now (token_view c.in-Token.tok) (search rules) c.in-Token.ensures c.loop-rest.invariant.so_far in
-    record {
-      so_far = subst (λ ts. SoFar front c.args.text.now ts c.in-Token.after.now) (sym (views_push at_view c.loop-rest.tokens.items _ _ pushed)) one;
-      is_text = search rules;
-    }
-
-pub overflow_add-result : goal.overflow_add-result
-overflow_add-result c =
-    let within : c.in-Fault.n < length c.loop-rest.rest.now = shorter_at front spec_rules c.loop-rest.rest.now (fault c.in-Fault.kind c.in-Fault.n) (search rules) c.in-Fault.ensures in
-    omega arith
-
-pub returns-in-Fault : goal.returns-in-Fault
-returns-in-Fault c = lexes c.args.text.now _ (omega arith) (on_fault front spec_rules c.args.text.now (at_views c.loop-rest.tokens.items) c.loop-rest.rest.now c.in-Fault.kind c.in-Fault.n c.in-Fault.ensures c.loop-rest.invariant.so_far)
+pub tokens-requires : goal.tokens-requires
+tokens-requires c = search (rules, spec_rules)
 
 pub returns : goal.returns
-returns c = lexes c.args.text.now _ (omega arith) (on_end front spec_rules c.args.text.now (at_views c.loop-rest.tokens.items) c.loop-rest.rest.now (nil_from_length c.loop-rest.rest.now (eqb-true (length c.loop-rest.rest.now) 0 (sym c.loop-rest-test.ensures))) c.loop-rest.invariant.so_far)
+returns c = read_whole c.args.text.now c.tokens.result (omega arith) c.tokens.ensures
