@@ -10,7 +10,7 @@ use Rattle.iso_lexer.specs.Lexing as lexing
 use Rattle.iso_lexer.specs.SqlText.{sql_front, SqlLexes}
 use Rattle.iso_lexer.specs.declared.sql_token.SqlTok.{SqlTok}
 use Rattle.iso_lexer.specs.SqlTokens.{SqlToken, sql_at_views}
-use Rattle.iso_lexer.proofs.Lexing.{Shorter}
+use Rattle.iso_lexer.specs.Inner.Rules.{Shorter}
 use Rattle.iso_lexer.proofs.SqlRules.{sql_rules}
 use Rattle.sql_trees.specs.declared.fault.SqlFault.{SqlFault}
 use Rattle.sql_trees.specs.declared.fault.SqlFault.TheVariants.{Memory, Lex}
