@@ -1,9 +1,9 @@
 -- What a query answers at the rows of its table, and what an INSERT makes of its values (PostgreSQL manual, SELECT and INSERT).
-use Rattle.std.specs.Prelude.{ℕ, ◌+◌, ◌-◌, ◌==◌, ℤ, Bool, not, ◌&&◌, ◌||◌, List, [], ◌∷◌, length, map, flat_map, replicate}
-use Rattle.std.specs.Prelude.{Option, Some, None, is_none, is_some, option_map, unwrap_or, find, filter_map, position, zip}
-use Rattle.std.specs.Prelude.{bytes_eq, slice_set, slice_index_or, nat_le, nat_lt, Result, Ok, Err, if◌then◌else◌}
+use Rattle.std.specs.Prelude.{ℕ, ◌+◌, ◌-◌, ◌==◌, ℤ, pos, int_le, int_lt, Bool, not, ◌&&◌, ◌||◌, List, [], ◌∷◌, ◌++◌, length, map, flat_map, replicate}
+use Rattle.std.specs.Prelude.{Option, Some, None, is_none, option_map, option_to_list, unwrap_or, find, filter_map, position, zip}
+use Rattle.std.specs.Prelude.{bytes_eq, slice_set, slice_index_or, nat_lt, Result, Ok, Err, if◌then◌else◌}
 use Rattle.std.specs.List.{enumerate_from, list_any}
-use Rattle.std.specs.Option.{option_or, option_map_or}
+use Rattle.std.specs.Option.{option_map_or}
 use Rattle.sql_trees.specs.declared.kind.Kind.{Kind}
 use Rattle.sql_trees.specs.declared.expr.AggKind.TheVariants as agg_kind
 use Rattle.sql_trees.specs.Trees.{Tree, Trees, AggTree}
@@ -25,42 +25,36 @@ use Rattle.query_results.specs.declared.title.Title.TheVariants.{Column as Named
 use Rattle.query_results.specs.Results.{Results}
 use Rattle.query_results.specs.Ordering.{rows_at, sorted_places}
 
--- the first answer that is one
-abbrev pub first_of : {A B : Type 0} → (A → Option B) → List A → Option B
-first_of f [] = None
-first_of f (x ∷ xs) = option_or (f x) (first_of f xs)
-
 -- columns as expressions know them
 abbrev pub cols_of : List ColumnTree → Cols
 cols_of columns = map (λ (c : ColumnTree). (c.name, c.kind)) columns
 
 abbrev mutual
-  -- the first column that an expression names and that isn't there, in the order of the text; a literal names none
-  pub undefined_column : Cols → Tree → Option (List ℕ)
-  undefined_column cols (tree.Column name) = if is_some (position (λ c. bytes_eq name c.0) cols) then None else Some name
-  undefined_column cols (tree.Plus a) = undefined_column cols a
-  undefined_column cols (tree.Minus a) = undefined_column cols a
-  undefined_column cols (tree.Not a) = undefined_column cols a
-  undefined_column cols (tree.Binary op a b) = option_or (undefined_column cols a) (undefined_column cols b)
-  undefined_column cols (tree.Is a negated truth) = undefined_column cols a
-  undefined_column cols (tree.In a negated items) = option_or (undefined_column cols a) (undefined_in_list cols items)
-  undefined_column cols (tree.Between a negated low high) = option_or (undefined_column cols a) (option_or (undefined_column cols low) (undefined_column cols high))
-  undefined_column cols literal = None
+  -- the columns that an expression names, in the order of the text; a literal names none
+  pub columns_named : Tree → List (List ℕ)
+  columns_named (tree.Column name) = name ∷ []
+  columns_named (tree.Plus a) = columns_named a
+  columns_named (tree.Minus a) = columns_named a
+  columns_named (tree.Not a) = columns_named a
+  columns_named (tree.Binary op a b) = columns_named a ++ columns_named b
+  columns_named (tree.Is a negated truth) = columns_named a
+  columns_named (tree.In a negated items) = columns_named a ++ columns_named_in items
+  columns_named (tree.Between a negated low high) = columns_named a ++ columns_named low ++ columns_named high
+  columns_named literal = []
 
-  pub undefined_in_list : Cols → Trees → Option (List ℕ)
-  undefined_in_list cols tree.none = None
-  undefined_in_list cols (tree.more e rest) = option_or (undefined_column cols e) (undefined_in_list cols rest)
+  pub columns_named_in : Trees → List (List ℕ)
+  columns_named_in tree.none = []
+  columns_named_in (tree.more e rest) = columns_named e ++ columns_named_in rest
 
--- the same of WHERE, which may be left out
-abbrev pub undefined_in_condition : Cols → Option Tree → Option (List ℕ)
-undefined_in_condition cols None = None
-undefined_in_condition cols (Some e) = undefined_column cols e
+-- the first column that one of the expressions names and that isn't there
+abbrev pub undefined_among : Cols → List Tree → Option (List ℕ)
+undefined_among cols es = find (λ name. is_none (position (λ c. bytes_eq name c.0) cols)) (flat_map columns_named es)
 
--- the same of an item; `*` and count(*) name none
-abbrev pub undefined_in_item : Cols → ItemTree → Option (List ℕ)
-undefined_in_item cols (stmt.Value e alias) = undefined_column cols e
-undefined_in_item cols (stmt.Aggregate (tree.Of k e) alias) = undefined_column cols e
-undefined_in_item cols i = None
+-- the expression of an item; `*` and count(*) have none
+abbrev pub item_exprs : ItemTree → List Tree
+item_exprs (stmt.Value e alias) = e ∷ []
+item_exprs (stmt.Aggregate (tree.Of k e) alias) = e ∷ []
+item_exprs i = []
 
 -- the expression of the first item that has this alias
 abbrev pub aliased : List ItemTree → List ℕ → Option Tree
@@ -73,10 +67,9 @@ abbrev pub meant : List ItemTree → Tree → Tree
 meant is (tree.Column name) = unwrap_or (aliased is name) (tree.Column name)
 meant is e = e
 
--- the first column that a SELECT names and its table lacks: of its items, then of WHERE, then of ORDER BY
-abbrev pub undefined_in_select : Cols → SelectTree → Option (List ℕ)
-undefined_in_select cols s =
-    option_or (first_of (undefined_in_item cols) s.items) (option_or (undefined_in_condition cols s.filter) (first_of (λ (k : OrderTree). undefined_column cols (meant s.items k.expr)) s.order))
+-- the expressions of a SELECT, as they are looked at: its items, then WHERE, then what its keys mean
+abbrev pub select_exprs : SelectTree → List Tree
+select_exprs s = flat_map item_exprs s.items ++ option_to_list s.filter ++ map (λ (k : OrderTree). meant s.items k.expr) s.order
 
 -- the places, counted from k, of the rows that pass WHERE
 abbrev pub passing : Cols → Option Tree → ℕ → List (List Value) → Result (List ℕ) ValueFault
@@ -110,14 +103,14 @@ item_titles columns (stmt.Aggregate a alias) = []
 abbrev pub titles_of : List ColumnTree → List ItemTree → List Title
 titles_of columns is = flat_map (item_titles columns) is
 
--- the number is none of the result's columns, which are counted from 1
-abbrev pub unlisted : ℕ → Tree → Option ℤ
-unlisted width (tree.Number negative n) = if not negative && nat_lt 0 n && nat_le n width then None else Some (signed negative n)
-unlisted width e = None
+-- the number that a key of ORDER BY is
+abbrev pub key_number : Tree → Option ℤ
+key_number (tree.Number negative n) = Some (signed negative n)
+key_number e = None
 
--- the first key of ORDER BY that is a number and no position in the select list
+-- the first number in ORDER BY that is none of the result's columns, which are counted from 1
 abbrev pub wrong_position : List ColumnTree → SelectTree → Option ℤ
-wrong_position columns s = first_of (λ (k : OrderTree). unlisted (length (titles_of columns s.items)) k.expr) s.order
+wrong_position columns s = find (λ n. not (int_lt (pos 0) n && int_le n (pos (length (titles_of columns s.items))))) (filter_map (λ (k : OrderTree). key_number k.expr) s.order)
 
 -- the value of a key of ORDER BY at a row: a number literal means that column of the result, counted from 1, or NULL where there is none
 abbrev pub key_value : Cols → List ItemTree → List Value → Tree → Answer
@@ -166,7 +159,7 @@ results_by columns is aggs taken = if_ok (each (λ a. aggregate a.0 (cols_of col
 -- the result of a SELECT whose table has these columns and shows these rows: a column that isn't there is a fault before any row is
 -- looked at; WHERE is tested at all rows, then they are sorted, and then the items are evaluated
 abbrev pub result_of : SelectTree → List ColumnTree → List (List Value) → Result Results ValueFault
-result_of s columns rows = option_map_or (λ name. Err (NoColumn name)) (undefined_in_select (cols_of columns) s)
+result_of s columns rows = option_map_or (λ name. Err (NoColumn name)) (undefined_among (cols_of columns) (select_exprs s))
     (if_ok (taken s columns rows) (λ places. results_by columns s.items (counted s.items) (rows_at rows places)))
 
 -- where a value of an INSERT or UPDATE goes: a column's place, and its kind
@@ -207,7 +200,3 @@ null_in columns values = option_map (λ (c : ColumnTree × Value). c.0.name) (fi
 -- some row has more values than there are columns for them
 abbrev pub some_too_long : ℕ → List (List Tree) → Bool
 some_too_long width rows = list_any (λ row. nat_lt width (length row)) rows
-
--- the first column that the VALUES name: they have none
-abbrev pub undefined_in_rows : List (List Tree) → Option (List ℕ)
-undefined_in_rows rows = first_of (first_of (undefined_column [])) rows

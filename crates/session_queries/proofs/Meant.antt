@@ -7,8 +7,8 @@ use Rattle.sql_trees.specs.Trees as tree
 use Rattle.sql_trees.specs.Statements.{ItemTree, OrderTree}
 use Rattle.sql_trees.specs.Statements as item
 use Rattle.sql_values.specs.Expressions.{Cols}
-use Rattle.query_results.specs.Queries.{aliased, first_of, undefined_column, undefined_in_item, meant}
-use Rattle.session_queries.specs.Inner.Parts.{undefined_in_key}
+use Rattle.query_results.specs.Queries.{aliased, meant}
+use Rattle.session_queries.specs.Inner.Undefined.{first_of, undefined_column, undefined_in_item, undefined_in_key}
 
 neither : (o rest : Option (List ℕ)) → option_or o rest ≡ None → (o ≡ None) × (rest ≡ None)
 neither None rest h = (refl, h)

@@ -7,8 +7,9 @@ use Rattle.sql_trees.specs.Trees.{Tree, AggTree}
 use Rattle.sql_trees.specs.Trees as tree
 use Rattle.sql_trees.specs.Statements as stmt
 use Rattle.sql_values.specs.Expressions.{Cols}
-use Rattle.query_results.specs.Queries.{undefined_in_item, own_title}
-use Rattle.session_queries.specs.Inner.Parts.{kind_title, undefined_in_agg}
+use Rattle.query_results.specs.Queries.{own_title}
+use Rattle.session_queries.specs.Inner.Parts.{kind_title}
+use Rattle.session_queries.specs.Inner.Undefined.{undefined_in_item, undefined_in_agg}
 
 pub item_lacks : (cols : Cols) (a : AggTree) (alias : Option (List ℕ)) → undefined_in_item cols (stmt.Aggregate a alias) ≡ undefined_in_agg cols a
 item_lacks cols tree.CountRows alias = refl

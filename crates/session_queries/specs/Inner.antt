@@ -3,3 +3,4 @@ pub mod Answers
 pub mod Assigned
 pub mod Fronts
 pub mod Parts
+pub mod Undefined

@@ -4,7 +4,8 @@ ghost use Rattle.std.specs.Prelude.{◌≡◌, ◌&&◌, length, map, nat_le, na
 ghost use Rattle.sql_trees.specs.Statements.{column_of, item_of, select_of};
 ghost use Rattle.sql_trees.specs.Trees.{tree_of};
 ghost use Rattle.sql_values.specs.Arithmetic.{signed};
-ghost use Rattle.query_results.specs.Queries.{titles_of, unlisted, wrong_position};
+ghost use Rattle.query_results.specs.Queries.{titles_of, wrong_position};
+ghost use Rattle.session_queries.specs.Inner.Undefined.{unlisted};
 
 use sql_trees::{Column, Expr, Item, Select};
 
