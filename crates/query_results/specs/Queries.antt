@@ -1,6 +1,6 @@
 -- What a query answers at the rows of its table, and what an INSERT makes of its values (PostgreSQL manual, SELECT and INSERT).
-use Rattle.std.specs.Prelude.{ℕ, ◌+◌, ◌-◌, ◌==◌, ℤ, pos, int_le, int_lt, Bool, not, ◌&&◌, ◌||◌, List, [], ◌∷◌, ◌++◌, length, map, flat_map, replicate}
-use Rattle.std.specs.Prelude.{Option, Some, None, is_none, option_map, option_to_list, unwrap_or, find, filter_map, position, zip}
+use Rattle.std.specs.Prelude.{ℕ, ◌-◌, ◌==◌, ℤ, pos, int_le, int_lt, Bool, not, ◌&&◌, ◌||◌, List, [], ◌∷◌, ◌++◌, length, map, flat_map, replicate}
+use Rattle.std.specs.Prelude.{Option, Some, None, is_none, option_map, option_to_list, find, filter, filter_map, position, zip}
 use Rattle.std.specs.Prelude.{bytes_eq, slice_set, slice_index_or, nat_lt, Result, Ok, Err, if◌then◌else◌}
 use Rattle.std.specs.List.{enumerate_from, list_any}
 use Rattle.std.specs.Option.{option_map_or}
@@ -56,25 +56,19 @@ item_exprs (stmt.Value e alias) = e ∷ []
 item_exprs (stmt.Aggregate (tree.Of k e) alias) = e ∷ []
 item_exprs i = []
 
--- the expression of the first item that has this alias
-abbrev pub aliased : List ItemTree → List ℕ → Option Tree
-aliased [] name = None
-aliased (stmt.Value e (Some alias) ∷ is) name = if bytes_eq name alias then Some e else aliased is name
-aliased (i ∷ is) name = aliased is name
-
--- a key of ORDER BY that is a bare name means the item with that alias, if there is one
+-- a key of ORDER BY that is a bare name means the first item with that alias, if there is one
 abbrev pub meant : List ItemTree → Tree → Tree
-meant is (tree.Column name) = unwrap_or (aliased is name) (tree.Column name)
-meant is e = e
+meant (stmt.Value e (Some alias) ∷ is) (tree.Column name) = if bytes_eq name alias then e else meant is (tree.Column name)
+meant (i ∷ is) key = meant is key
+meant [] key = key
 
 -- the expressions of a SELECT, as they are looked at: its items, then WHERE, then what its keys mean
 abbrev pub select_exprs : SelectTree → List Tree
 select_exprs s = flat_map item_exprs s.items ++ option_to_list s.filter ++ map (λ (k : OrderTree). meant s.items k.expr) s.order
 
--- the places, counted from k, of the rows that pass WHERE
-abbrev pub passing : Cols → Option Tree → ℕ → List (List Value) → Result (List ℕ) ValueFault
-passing cols filter k [] = Ok []
-passing cols filter k (row ∷ rows) = if_ok (passes filter cols row) (λ p. if_ok (passing cols filter (k + 1) rows) (λ rest. Ok (if p then k ∷ rest else rest)))
+-- the places of the rows that pass WHERE, once it is tested at all of them
+abbrev pub passing : Cols → Option Tree → List (List Value) → Result (List ℕ) ValueFault
+passing cols condition rows = if_ok (each (passes condition cols) rows) (λ ps. Ok (map (λ (p : ℕ × Bool). p.0) (filter (λ (p : ℕ × Bool). p.1) (enumerate_from 0 ps))))
 
 -- what an item answers at a row, in each of its columns; an aggregate has none
 abbrev pub item_values : Cols → List Value → ItemTree → List Answer
@@ -125,20 +119,15 @@ keys_of cols is order row = each (λ (k : OrderTree). key_value cols is row k.ex
 abbrev pub by_keys : List Dir → List ℕ → List (List Value) → Result (List ℕ) ValueFault
 by_keys by places keys = if can_sort by keys then Ok (map (λ i. slice_index_or places i 0) (sorted_places by keys)) else Err TypeMismatch
 
--- the places as ORDER BY sorts them: the keys of all their rows are evaluated, row by row, before any are compared
-abbrev pub ordered : Cols → List ItemTree → List OrderTree → List (List Value) → List ℕ → Result (List ℕ) ValueFault
-ordered cols is [] rows places = Ok places
-ordered cols is order rows places = if_ok (each (keys_of cols is order) (rows_at rows places)) (by_keys (map (λ (k : OrderTree). k.dir) order) places)
-
--- the places of the rows that pass WHERE, as ORDER BY sorts them
+-- the places of the rows that pass WHERE, as ORDER BY sorts them: the keys of all these rows are evaluated, row by row, before any are compared
 abbrev pub taken : SelectTree → List ColumnTree → List (List Value) → Result (List ℕ) ValueFault
-taken s columns rows = if_ok (passing (cols_of columns) s.filter 0 rows) (ordered (cols_of columns) s.items s.order rows)
+taken s columns rows = if_ok (passing (cols_of columns) s.filter rows) (λ places.
+    if_ok (each (keys_of (cols_of columns) s.items s.order) (rows_at rows places)) (by_keys (map (λ (k : OrderTree). k.dir) s.order) places))
 
--- the aggregates among the items, each with the name given to it: a SELECT that has any has nothing else
-abbrev pub counted : List ItemTree → List (AggTree × Option (List ℕ))
-counted [] = []
-counted (stmt.Aggregate a alias ∷ is) = (a, alias) ∷ counted is
-counted (i ∷ is) = counted is
+-- the aggregate that an item is, with the name given to it: a SELECT that has any has nothing else
+abbrev pub aggregate_in : ItemTree → Option (AggTree × Option (List ℕ))
+aggregate_in (stmt.Aggregate a alias) = Some (a, alias)
+aggregate_in i = None
 
 -- the title of an aggregate by what it counts, sums or compares (9.21)
 abbrev pub own_title : AggTree → Title
@@ -160,7 +149,7 @@ results_by columns is aggs taken = if_ok (each (λ a. aggregate a.0 (cols_of col
 -- looked at; WHERE is tested at all rows, then they are sorted, and then the items are evaluated
 abbrev pub result_of : SelectTree → List ColumnTree → List (List Value) → Result Results ValueFault
 result_of s columns rows = option_map_or (λ name. Err (NoColumn name)) (undefined_among (cols_of columns) (select_exprs s))
-    (if_ok (taken s columns rows) (λ places. results_by columns s.items (counted s.items) (rows_at rows places)))
+    (if_ok (taken s columns rows) (λ places. results_by columns s.items (filter_map aggregate_in s.items) (rows_at rows places)))
 
 -- where a value of an INSERT or UPDATE goes: a column's place, and its kind
 pub record AssignedColumn : Type 0 where

@@ -12,3 +12,4 @@ pub mod Meant
 pub mod Parts
 pub mod ColumnsNamed
 pub mod Picking
+pub mod Taking

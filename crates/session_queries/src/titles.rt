@@ -3,8 +3,9 @@
 ghost use Rattle.std.specs.Prelude.{◌≡◌, ◌++◌, IfOk, OnOk, length, map, option_map};
 ghost use Rattle.sql_trees.specs.Trees.{agg_of, tree_of};
 ghost use Rattle.sql_trees.specs.Statements.{All, column_of, item_of, name_of};
-ghost use Rattle.query_results.specs.Queries.{agg_title, counted, item_titles, own_title, title_of, titles_of};
+ghost use Rattle.query_results.specs.Queries.{agg_title, item_titles, own_title, title_of, titles_of};
 ghost use Rattle.session_queries.specs.Inner.Parts.{kind_title, title_or};
+ghost use Rattle.session_queries.specs.Inner.Answers.{counted};
 
 use iso_lexer::{Ident, Name};
 use query_results::Title;

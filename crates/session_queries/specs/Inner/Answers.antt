@@ -1,5 +1,5 @@
 -- What a query answers at the rows that it takes.
-use Rattle.std.specs.Prelude.{ℕ, ◌-◌, ◌==◌, nat_lt, Bool, true, false, Option, List, [], ◌∷◌, ◌++◌, length, map, Result, Ok, if◌then◌else◌}
+use Rattle.std.specs.Prelude.{ℕ, ◌-◌, ◌==◌, nat_lt, Bool, true, false, Option, List, [], ◌∷◌, ◌++◌, filter_map, length, map, Result, Ok, if◌then◌else◌}
 use Rattle.sql_trees.specs.Trees.{AggTree}
 use Rattle.sql_trees.specs.Statements.{ColumnTree, ItemTree, SelectTree}
 use Rattle.sql_trees.specs.Statements as stmt
@@ -12,7 +12,7 @@ use Rattle.sql_values.specs.Expressions.{Cols, value}
 use Rattle.sql_values.specs.Aggregates.{aggregate}
 use Rattle.query_results.specs.Results.{Results}
 use Rattle.query_results.specs.Ordering.{rows_at}
-use Rattle.query_results.specs.Queries.{agg_title, cols_of, counted, results_by, taken}
+use Rattle.query_results.specs.Queries.{agg_title, aggregate_in, cols_of, results_by, taken}
 
 -- what an item answers at a row
 abbrev pub item_row : Cols → List Value → ItemTree → Result (List Value) ValueFault
@@ -39,6 +39,10 @@ row_results columns is taken = results_by columns is [] taken
 abbrev pub agg_results : List ColumnTree → List (AggTree × Option (List ℕ)) → List (List Value) → Result Results ValueFault
 agg_results columns aggs taken =
     if_ok (each (λ a. aggregate a.0 (cols_of columns) taken) aggs) (λ row. Ok (record { titles = map agg_title aggs; rows = row ∷ [] }))
+
+-- the aggregates among the items, each with the name given to it
+abbrev pub counted : List ItemTree → List (AggTree × Option (List ℕ))
+counted is = filter_map aggregate_in is
 
 -- the items at each of the rows, or the aggregates over all of them, under their titles
 abbrev pub answered : List ColumnTree → List ItemTree → List (List Value) → Result Results ValueFault

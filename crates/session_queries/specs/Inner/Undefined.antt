@@ -7,12 +7,18 @@ use Rattle.sql_trees.specs.Statements.{ItemTree, OrderTree, SelectTree, SetTree,
 use Rattle.sql_trees.specs.Statements as stmt
 use Rattle.sql_values.specs.Arithmetic.{signed}
 use Rattle.sql_values.specs.Expressions.{Cols}
-use Rattle.query_results.specs.Queries.{aliased, meant}
+use Rattle.query_results.specs.Queries.{meant}
 
 -- the first answer that is one
 abbrev pub first_of : {A B : Type 0} → (A → Option B) → List A → Option B
 first_of f [] = None
 first_of f (x ∷ xs) = option_or (f x) (first_of f xs)
+
+-- the expression of the first item that has this alias
+abbrev pub aliased : List ItemTree → List ℕ → Option Tree
+aliased [] name = None
+aliased (stmt.Value e (Some alias) ∷ is) name = if bytes_eq name alias then Some e else aliased is name
+aliased (i ∷ is) name = aliased is name
 
 abbrev mutual
   -- the first column that an expression names and that isn't there

@@ -1,6 +1,7 @@
 use Rattle.std.proofs.Common.{◌≡◌, ◌+◌, ◌++◌, length, map, drop}
 use Rattle.sql_trees.specs.Statements.{item_of}
-use Rattle.query_results.specs.Queries.{agg_title, counted}
+use Rattle.query_results.specs.Queries.{agg_title}
+use Rattle.session_queries.specs.Inner.Answers.{counted}
 use Rattle.session_queries.proofs.titles.agg_titles.Given as goal
 
 abbrev pub invariant-loop-item : goal.invariant-loop-item
