@@ -1,8 +1,8 @@
 -- What a query answers at the rows of its table, and what an INSERT makes of its values (PostgreSQL manual, SELECT and INSERT).
 use Rattle.std.specs.Prelude.{ℕ, ◌-◌, ◌==◌, ℤ, pos, int_le, int_lt, Bool, not, ◌&&◌, ◌||◌, List, [], ◌∷◌, ◌++◌, length, map, flat_map, replicate}
 use Rattle.std.specs.Prelude.{Option, Some, None, is_none, option_map, option_to_list, find, filter, filter_map, position, zip}
-use Rattle.std.specs.Prelude.{bytes_eq, slice_set, slice_index_or, nat_lt, Result, Ok, Err, if◌then◌else◌}
-use Rattle.std.specs.List.{enumerate_from, list_any}
+use Rattle.std.specs.Prelude.{bytes_eq, slice_set, slice_index_or, Result, Ok, Err, if◌then◌else◌}
+use Rattle.std.specs.List.{enumerate_from}
 use Rattle.std.specs.Option.{option_map_or}
 use Rattle.sql_trees.specs.declared.kind.Kind.{Kind}
 use Rattle.sql_trees.specs.declared.expr.AggKind.TheVariants as agg_kind
@@ -83,15 +83,12 @@ shown cols is row = flat_map (item_values cols row) is
 abbrev pub row_values : Cols → List ItemTree → List Value → Result (List Value) ValueFault
 row_values cols is row = each (λ answer. answer) (shown cols is row)
 
--- an item without an alias has the name of the column that it is
-abbrev pub title_of : Tree → Title
-title_of (tree.Column name) = Named name
-title_of e = Unnamed
-
--- the titles of what an item shows: of an expression its alias, where it has one
+-- the titles of what an item shows: of an expression its alias, or the name of the column that it is
 abbrev pub item_titles : List ColumnTree → ItemTree → List Title
 item_titles columns stmt.All = map (λ (c : ColumnTree). Named c.name) columns
-item_titles columns (stmt.Value e alias) = option_map_or Named alias (title_of e) ∷ []
+item_titles columns (stmt.Value e (Some alias)) = Named alias ∷ []
+item_titles columns (stmt.Value (tree.Column name) None) = Named name ∷ []
+item_titles columns (stmt.Value e None) = Unnamed ∷ []
 item_titles columns (stmt.Aggregate a alias) = []
 
 abbrev pub titles_of : List ColumnTree → List ItemTree → List Title
@@ -124,11 +121,6 @@ abbrev pub taken : SelectTree → List ColumnTree → List (List Value) → Resu
 taken s columns rows = if_ok (passing (cols_of columns) s.filter rows) (λ places.
     if_ok (each (keys_of (cols_of columns) s.items s.order) (rows_at rows places)) (by_keys (map (λ (k : OrderTree). k.dir) s.order) places))
 
--- the aggregate that an item is, with the name given to it: a SELECT that has any has nothing else
-abbrev pub aggregate_in : ItemTree → Option (AggTree × Option (List ℕ))
-aggregate_in (stmt.Aggregate a alias) = Some (a, alias)
-aggregate_in i = None
-
 -- the title of an aggregate by what it counts, sums or compares (9.21)
 abbrev pub own_title : AggTree → Title
 own_title (tree.Of agg_kind.Sum e) = Sum
@@ -136,14 +128,15 @@ own_title (tree.Of agg_kind.Min e) = Min
 own_title (tree.Of agg_kind.Max e) = Max
 own_title a = Count
 
--- its alias, or where it has none its own title
-abbrev pub agg_title : AggTree × Option (List ℕ) → Title
-agg_title a = option_map_or Named a.1 (own_title a.0)
+-- the aggregate that an item is, with its alias or its own title: a SELECT that has any has nothing else
+abbrev pub aggregate_in : ItemTree → Option (AggTree × Title)
+aggregate_in (stmt.Aggregate a alias) = Some (a, option_map_or Named alias (own_title a))
+aggregate_in i = None
 
 -- what is answered from the rows that are taken: without aggregates the items at each of them, else one row, of the aggregates over all of them
-abbrev pub results_by : List ColumnTree → List ItemTree → List (AggTree × Option (List ℕ)) → List (List Value) → Result Results ValueFault
+abbrev pub results_by : List ColumnTree → List ItemTree → List (AggTree × Title) → List (List Value) → Result Results ValueFault
 results_by columns is [] taken = if_ok (each (row_values (cols_of columns) is) taken) (λ shown. Ok (record { titles = titles_of columns is; rows = shown }))
-results_by columns is aggs taken = if_ok (each (λ a. aggregate a.0 (cols_of columns) taken) aggs) (λ row. Ok (record { titles = map agg_title aggs; rows = row ∷ [] }))
+results_by columns is aggs taken = if_ok (each (λ a. aggregate a.0 (cols_of columns) taken) aggs) (λ row. Ok (record { titles = map (λ a. a.1) aggs; rows = row ∷ [] }))
 
 -- the result of a SELECT whose table has these columns and shows these rows: a column that isn't there is a fault before any row is
 -- looked at; WHERE is tested at all rows, then they are sorted, and then the items are evaluated
@@ -168,10 +161,9 @@ assigned_named columns name = option_map at_place (find (λ (c : ℕ × ColumnTr
 abbrev pub assigned_by_name : List ColumnTree → List (List ℕ) → Result (List AssignedColumn) (List ℕ)
 assigned_by_name columns names = option_map_or Err (find (λ name. is_none (assigned_named columns name)) names) (Ok (filter_map (assigned_named columns) names))
 
--- without a list of columns the values go to the first ones
+-- the columns of a list of names, where there is one; without it the values go to the first columns
 abbrev pub columns_assigned : List ColumnTree → Option (List (List ℕ)) → Result (List AssignedColumn) (List ℕ)
-columns_assigned columns None = Ok (map at_place (enumerate_from 0 columns))
-columns_assigned columns (Some names) = assigned_by_name columns names
+columns_assigned columns names = option_map_or (assigned_by_name columns) names (Ok (map at_place (enumerate_from 0 columns)))
 
 -- the row with each value at its column's place, as the column takes it
 abbrev pub filled : List AssignedColumn → List Value → List Value → Result (List Value) ValueFault
@@ -185,7 +177,3 @@ new_values width to row = if_ok (each (λ e. value e [] []) row) (λ values. fil
 -- the first column that is NULL and must not be
 abbrev pub null_in : List ColumnTree → List Value → Option (List ℕ)
 null_in columns values = option_map (λ (c : ColumnTree × Value). c.0.name) (find (λ c. c.0.not_null && is_null c.1) (zip columns values))
-
--- some row has more values than there are columns for them
-abbrev pub some_too_long : ℕ → List (List Tree) → Bool
-some_too_long width rows = list_any (λ row. nat_lt width (length row)) rows

@@ -1,6 +1,7 @@
 -- What statements do to the state, and that what is so after each effect is so after each statement.
 use Rattle.std.proofs.Common.{◌≡◌, ℕ, zero, suc, arith, ◌<◌, Bool, true, false, List, [], ◌∷◌, length, drop, refl, sym, subst}
-use Rattle.std.specs.Prelude.{ℤ, flat_map, option_to_list, Option, Some, None, is_some, unwrap_or, slice_get, Result, Ok, Err, ◌&&◌, not, if◌then◌else◌}
+use Rattle.std.specs.List.{list_any}
+use Rattle.std.specs.Prelude.{ℤ, flat_map, nat_lt, option_to_list, Option, Some, None, is_some, unwrap_or, slice_get, Result, Ok, Err, ◌&&◌, not, if◌then◌else◌}
 use Rattle.std.proofs.lemmas.Option.{slice_get_within}
 use Rattle.sql_trees.specs.declared.stmt.Level.{Level}
 use Rattle.sql_trees.specs.declared.stmt.Level.TheVariants.{ReadCommitted}
@@ -11,7 +12,7 @@ use Rattle.sql_values.specs.declared.fault.ValueFault.{ValueFault}
 use Rattle.sql_values.specs.declared.fault.ValueFault.TheVariants.{NoColumn}
 use Rattle.query_results.specs.Results.{Results}
 use Rattle.row_versions.specs.declared.write.View.{View}
-use Rattle.query_results.specs.Queries.{AssignedColumn, cols_of, result_of, select_exprs, some_too_long, columns_assigned, titles_of, undefined_among, wrong_position}
+use Rattle.query_results.specs.Queries.{AssignedColumn, cols_of, result_of, select_exprs, columns_assigned, titles_of, undefined_among, wrong_position}
 use Rattle.query_results.specs.Updates.{columns_set, update_exprs}
 use Rattle.session_machine.specs.declared.session.OpenTransaction.{OpenTransaction}
 use Rattle.session_machine.specs.declared.session.Transaction.{Transaction}
@@ -162,7 +163,7 @@ module _ (may : Bool) (db : Database) (t : OpenTransaction) (around : Surroundin
   inserts_fitting : (k : ℕ) (table : Table) → At k table → (i : InsertTree) (targets : List AssignedColumn) (o : Option (List ℕ)) → M (insert_fitting db (beginning db t around k) i targets o)
   inserts_fitting k table at i targets (Some name) = failed_here (OfValue (NoColumn name))
   inserts_fitting k table at i targets None =
-      either (some_too_long (length targets) i.rows) (fails db t TooManyValues) (insert_from db (beginning db t around k) i 0 []) (failed_here TooManyValues)
+      either (list_any (λ row. nat_lt (length targets) (length row)) i.rows) (fails db t TooManyValues) (insert_from db (beginning db t around k) i 0 []) (failed_here TooManyValues)
       (inserts_from k (view_of db.content t) table at i 0 [])
 
   inserts_to : (k : ℕ) (table : Table) → At k table → (i : InsertTree) (r : Result (List AssignedColumn) (List ℕ)) → M (insert_to db (beginning db t around k) i r)

@@ -1,5 +1,6 @@
 -- A statement is run: it begins, or goes on where it waits, by what its session's transaction is (PostgreSQL manual, the pages of the statements, and 13.2).
-use Rattle.std.specs.Prelude.{ℕ, ℤ, Bool, true, false, List, [], ◌∷◌, length, drop, flat_map, Option, Some, None, option_to_list, Result, Ok, Err, if◌then◌else◌}
+use Rattle.std.specs.Prelude.{ℕ, ℤ, Bool, true, false, List, [], ◌∷◌, length, drop, flat_map, nat_lt, Option, Some, None, option_to_list, Result, Ok, Err, if◌then◌else◌}
+use Rattle.std.specs.List.{list_any}
 use Rattle.std.specs.Option.{option_map_or}
 use Rattle.std.specs.Result.{result_unwrap_or}
 use Rattle.sql_trees.specs.declared.stmt.Level.TheVariants.{ReadCommitted}
@@ -10,7 +11,7 @@ use Rattle.sql_values.specs.declared.value.Value.{Value}
 use Rattle.sql_values.specs.declared.fault.ValueFault.{ValueFault}
 use Rattle.sql_values.specs.declared.fault.ValueFault.TheVariants.{NoColumn}
 use Rattle.query_results.specs.Results.{Results}
-use Rattle.query_results.specs.Queries.{AssignedColumn, result_of, select_exprs, some_too_long, columns_assigned, titles_of, undefined_among, wrong_position}
+use Rattle.query_results.specs.Queries.{AssignedColumn, result_of, select_exprs, columns_assigned, titles_of, undefined_among, wrong_position}
 use Rattle.query_results.specs.Updates.{columns_set, update_exprs}
 use Rattle.row_versions.specs.Log.{Content}
 use Rattle.session_machine.specs.declared.session.OpenTransaction.{OpenTransaction}
@@ -81,7 +82,7 @@ insert_from db w i place rows = after_walk db.content w done (walked (insert_one
 -- INSERT at the table that is found; no row of its VALUES may have more of them than there are columns to assign
 abbrev pub insert : Database → OpenTransaction → Surroundings → InsertTree → Option ℕ → Effect
 insert db t around i found = at_table db t around i.table found (λ w. assigning db t i.table (columns_assigned (columns_in db w) i.columns) (λ to.
-    unless_undefined db t (undefined_among [] (flat_map (λ row. row) i.rows)) (if some_too_long (length to) i.rows then fails db t TooManyValues else insert_from db w i 0 [])))
+    unless_undefined db t (undefined_among [] (flat_map (λ row. row) i.rows)) (if list_any (λ row. nat_lt (length to) (length row)) i.rows then fails db t TooManyValues else insert_from db w i 0 [])))
 
 -- UPDATE, from this place among its targets on
 abbrev pub update_from : Database → Work → UpdateTree → ℕ → List (List Value) → Effect

@@ -3,6 +3,7 @@ use Rattle.std.proofs.Common.{◌≡◌, ℕ, ◌+◌, Bool, true, false, List, 
 use Rattle.std.specs.Prelude.{Option, Result, filter}
 use Rattle.std.specs.List.{enumerate_from}
 use Rattle.std.specs.Global.{Vec}
+use Rattle.sql_trees.specs.declared.kind.Dir.{Dir}
 use Rattle.sql_trees.specs.Trees.{Tree}
 use Rattle.sql_trees.specs.Statements.{ColumnTree, ItemTree, OrderTree, SelectTree}
 use Rattle.sql_values.specs.declared.value.Value.{Value}
@@ -61,4 +62,12 @@ taken_answer s columns rows cols places result known is fact =
     let due : taken s columns rows ≡ ordered cols s.items s.order rows places =
     taken_so s columns rows ∙ sym (ap (λ cs. if_ok (passing cs s.filter rows) (ordered cs s.items s.order rows)) known)
     ∙ ap (λ (r : Result (List ℕ) ValueFault). if_ok r (ordered cols s.items s.order rows)) is in
+    subst (AnswersList result) (sym due) fact
+
+pub ordered_answer : (cols : Cols) (is : List ItemTree) (order : List OrderTree) (rows : List (List Value)) (places : List ℕ) (keys : List (List Value)) (by : List Dir) (result : Result (Vec ℕ) ValueFault)
+    → each (keys_of cols is order) (rows_at rows places) ≡ Ok keys → by ≡ map (λ (k : OrderTree). k.dir) order → AnswersList result (by_keys by places keys) → AnswersList result (ordered cols is order rows places)
+ordered_answer cols is order rows places keys by result evaluated same fact =
+    let due : ordered cols is order rows places ≡ by_keys by places keys =
+    sym (ordered_so cols is order rows places) ∙ ap (λ (r : Result (List (List Value)) ValueFault). if_ok r (by_keys (map (λ (k : OrderTree). k.dir) order) places)) evaluated
+    ∙ sym (ap (λ ds. by_keys ds places keys) same) in
     subst (AnswersList result) (sym due) fact

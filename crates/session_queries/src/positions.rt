@@ -10,6 +10,7 @@ ghost use Rattle.session_queries.specs.Inner.Undefined.{unlisted};
 use sql_trees::{Column, Expr, Item, Select};
 
 /// Whether the result has a column at that place, counted from 0.
+#[tactic(auto, using(crate::proofs::Parts::titled))]
 fn is_shown(place: u64, columns: &[Column<'_>], items: &[Item<'_>]) -> bool
     ensures { result ≡ nat_lt place (length (titles_of (map column_of columns.now) (map item_of items.now))) }
 {

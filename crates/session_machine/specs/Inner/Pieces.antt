@@ -1,5 +1,5 @@
 -- Statements piece by piece, as the code runs them.
-use Rattle.std.specs.Prelude.{ℕ, ◌+◌, ◌==◌, Bool, false, ◌&&◌, List, [], ◌∷◌, ◌++◌, flat_map, length, Option, Some, None, option_map, unwrap_or, slice_get, Result, if◌then◌else◌}
+use Rattle.std.specs.Prelude.{ℕ, ◌+◌, ◌==◌, Bool, false, ◌&&◌, List, [], ◌∷◌, ◌++◌, flat_map, nat_lt, length, Option, Some, None, option_map, unwrap_or, slice_get, Result, if◌then◌else◌}
 use Rattle.std.specs.List.{list_any}
 use Rattle.std.specs.Option.{option_map_or}
 use Rattle.sql_trees.specs.declared.stmt.Level.TheVariants.{ReadCommitted}
@@ -7,7 +7,7 @@ use Rattle.sql_trees.specs.declared.stmt.Lock.{Lock}
 use Rattle.sql_trees.specs.Statements.{StmtTree, ColumnTree, KeyTree, CreateTree, InsertTree, UpdateTree, DeleteTree, SelectTree, Selects, key_name}
 use Rattle.sql_values.specs.declared.value.Value.{Value}
 use Rattle.sql_values.specs.declared.fault.ValueFault.{ValueFault}
-use Rattle.query_results.specs.Queries.{AssignedColumn, select_exprs, some_too_long, undefined_among, wrong_position}
+use Rattle.query_results.specs.Queries.{AssignedColumn, select_exprs, undefined_among, wrong_position}
 use Rattle.query_results.specs.Updates.{update_exprs}
 use Rattle.row_versions.specs.declared.names.TxId.{TxId}
 use Rattle.row_versions.specs.declared.names.RowId.{RowId}
@@ -101,7 +101,7 @@ lock_made db values = with_values db values (λ row. goes_on db (row ∷ []))
 -- ---- before the targets
 
 abbrev pub insert_fitting : Database → Work → InsertTree → List AssignedColumn → Option (List ℕ) → Effect
-insert_fitting db w i to undefined = unless_undefined db w.t undefined (if some_too_long (length to) i.rows then fails db w.t TooManyValues else insert_from db w i 0 [])
+insert_fitting db w i to undefined = unless_undefined db w.t undefined (if list_any (λ row. nat_lt (length to) (length row)) i.rows then fails db w.t TooManyValues else insert_from db w i 0 [])
 
 abbrev pub insert_to : Database → Work → InsertTree → Result (List AssignedColumn) (List ℕ) → Effect
 insert_to db w i columns = assigning db w.t i.table columns (λ to. insert_fitting db w i to (undefined_among [] (flat_map (λ row. row) i.rows)))
