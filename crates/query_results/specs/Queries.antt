@@ -1,9 +1,9 @@
 -- What a query answers at the rows of its table, and what an INSERT makes of its values (PostgreSQL manual, SELECT and INSERT).
-use Rattle.std.specs.Prelude.{ℕ, ◌+◌, ◌-◌, ◌==◌, ℤ, Bool, not, ◌&&◌, ◌||◌, List, [], ◌∷◌, length, map, flat_map, replicate}
-use Rattle.std.specs.Prelude.{Option, Some, None, is_none, is_some, option_map, unwrap_or, find, filter_map, position, zip}
-use Rattle.std.specs.Prelude.{bytes_eq, slice_set, slice_index_or, nat_le, nat_lt, Result, Ok, Err, if◌then◌else◌}
-use Rattle.std.specs.List.{enumerate_from, list_any}
-use Rattle.std.specs.Option.{option_or, option_map_or}
+use Rattle.std.specs.Prelude.{ℕ, ◌-◌, ◌==◌, ℤ, pos, int_le, int_lt, Bool, not, ◌&&◌, ◌||◌, List, [], ◌∷◌, ◌++◌, length, map, flat_map, replicate}
+use Rattle.std.specs.Prelude.{Option, Some, None, is_none, option_map, option_to_list, find, filter, filter_map, position, zip}
+use Rattle.std.specs.Prelude.{bytes_eq, slice_set, slice_index_or, Result, Ok, Err, if◌then◌else◌}
+use Rattle.std.specs.List.{enumerate_from}
+use Rattle.std.specs.Option.{option_map_or}
 use Rattle.sql_trees.specs.declared.kind.Kind.{Kind}
 use Rattle.sql_trees.specs.declared.expr.AggKind.TheVariants as agg_kind
 use Rattle.sql_trees.specs.Trees.{Tree, Trees, AggTree}
@@ -25,63 +25,50 @@ use Rattle.query_results.specs.declared.title.Title.TheVariants.{Column as Named
 use Rattle.query_results.specs.Results.{Results}
 use Rattle.query_results.specs.Ordering.{rows_at, sorted_places}
 
--- the first answer that is one
-abbrev pub first_of : {A B : Type 0} → (A → Option B) → List A → Option B
-first_of f [] = None
-first_of f (x ∷ xs) = option_or (f x) (first_of f xs)
-
 -- columns as expressions know them
 abbrev pub cols_of : List ColumnTree → Cols
 cols_of columns = map (λ (c : ColumnTree). (c.name, c.kind)) columns
 
 abbrev mutual
-  -- the first column that an expression names and that isn't there, in the order of the text; a literal names none
-  pub undefined_column : Cols → Tree → Option (List ℕ)
-  undefined_column cols (tree.Column name) = if is_some (position (λ c. bytes_eq name c.0) cols) then None else Some name
-  undefined_column cols (tree.Plus a) = undefined_column cols a
-  undefined_column cols (tree.Minus a) = undefined_column cols a
-  undefined_column cols (tree.Not a) = undefined_column cols a
-  undefined_column cols (tree.Binary op a b) = option_or (undefined_column cols a) (undefined_column cols b)
-  undefined_column cols (tree.Is a negated truth) = undefined_column cols a
-  undefined_column cols (tree.In a negated items) = option_or (undefined_column cols a) (undefined_in_list cols items)
-  undefined_column cols (tree.Between a negated low high) = option_or (undefined_column cols a) (option_or (undefined_column cols low) (undefined_column cols high))
-  undefined_column cols literal = None
+  -- the columns that an expression names, in the order of the text; a literal names none
+  pub columns_named : Tree → List (List ℕ)
+  columns_named (tree.Column name) = name ∷ []
+  columns_named (tree.Plus a) = columns_named a
+  columns_named (tree.Minus a) = columns_named a
+  columns_named (tree.Not a) = columns_named a
+  columns_named (tree.Binary op a b) = columns_named a ++ columns_named b
+  columns_named (tree.Is a negated truth) = columns_named a
+  columns_named (tree.In a negated items) = columns_named a ++ columns_named_in items
+  columns_named (tree.Between a negated low high) = columns_named a ++ columns_named low ++ columns_named high
+  columns_named literal = []
 
-  pub undefined_in_list : Cols → Trees → Option (List ℕ)
-  undefined_in_list cols tree.none = None
-  undefined_in_list cols (tree.more e rest) = option_or (undefined_column cols e) (undefined_in_list cols rest)
+  pub columns_named_in : Trees → List (List ℕ)
+  columns_named_in tree.none = []
+  columns_named_in (tree.more e rest) = columns_named e ++ columns_named_in rest
 
--- the same of WHERE, which may be left out
-abbrev pub undefined_in_condition : Cols → Option Tree → Option (List ℕ)
-undefined_in_condition cols None = None
-undefined_in_condition cols (Some e) = undefined_column cols e
+-- the first column that one of the expressions names and that isn't there
+abbrev pub undefined_among : Cols → List Tree → Option (List ℕ)
+undefined_among cols es = find (λ name. is_none (position (λ c. bytes_eq name c.0) cols)) (flat_map columns_named es)
 
--- the same of an item; `*` and count(*) name none
-abbrev pub undefined_in_item : Cols → ItemTree → Option (List ℕ)
-undefined_in_item cols (stmt.Value e alias) = undefined_column cols e
-undefined_in_item cols (stmt.Aggregate (tree.Of k e) alias) = undefined_column cols e
-undefined_in_item cols i = None
+-- the expression of an item; `*` and count(*) have none
+abbrev pub item_exprs : ItemTree → List Tree
+item_exprs (stmt.Value e alias) = e ∷ []
+item_exprs (stmt.Aggregate (tree.Of k e) alias) = e ∷ []
+item_exprs i = []
 
--- the expression of the first item that has this alias
-abbrev pub aliased : List ItemTree → List ℕ → Option Tree
-aliased [] name = None
-aliased (stmt.Value e (Some alias) ∷ is) name = if bytes_eq name alias then Some e else aliased is name
-aliased (i ∷ is) name = aliased is name
-
--- a key of ORDER BY that is a bare name means the item with that alias, if there is one
+-- a key of ORDER BY that is a bare name means the first item with that alias, if there is one
 abbrev pub meant : List ItemTree → Tree → Tree
-meant is (tree.Column name) = unwrap_or (aliased is name) (tree.Column name)
-meant is e = e
+meant (stmt.Value e (Some alias) ∷ is) (tree.Column name) = if bytes_eq name alias then e else meant is (tree.Column name)
+meant (i ∷ is) key = meant is key
+meant [] key = key
 
--- the first column that a SELECT names and its table lacks: of its items, then of WHERE, then of ORDER BY
-abbrev pub undefined_in_select : Cols → SelectTree → Option (List ℕ)
-undefined_in_select cols s =
-    option_or (first_of (undefined_in_item cols) s.items) (option_or (undefined_in_condition cols s.filter) (first_of (λ (k : OrderTree). undefined_column cols (meant s.items k.expr)) s.order))
+-- the expressions of a SELECT, as they are looked at: its items, then WHERE, then what its keys mean
+abbrev pub select_exprs : SelectTree → List Tree
+select_exprs s = flat_map item_exprs s.items ++ option_to_list s.filter ++ map (λ (k : OrderTree). meant s.items k.expr) s.order
 
--- the places, counted from k, of the rows that pass WHERE
-abbrev pub passing : Cols → Option Tree → ℕ → List (List Value) → Result (List ℕ) ValueFault
-passing cols filter k [] = Ok []
-passing cols filter k (row ∷ rows) = if_ok (passes filter cols row) (λ p. if_ok (passing cols filter (k + 1) rows) (λ rest. Ok (if p then k ∷ rest else rest)))
+-- the places of the rows that pass WHERE, once it is tested at all of them
+abbrev pub passing : Cols → Option Tree → List (List Value) → Result (List ℕ) ValueFault
+passing cols condition rows = if_ok (each (passes condition cols) rows) (λ ps. Ok (map (λ (p : ℕ × Bool). p.0) (filter (λ (p : ℕ × Bool). p.1) (enumerate_from 0 ps))))
 
 -- what an item answers at a row, in each of its columns; an aggregate has none
 abbrev pub item_values : Cols → List Value → ItemTree → List Answer
@@ -96,28 +83,25 @@ shown cols is row = flat_map (item_values cols row) is
 abbrev pub row_values : Cols → List ItemTree → List Value → Result (List Value) ValueFault
 row_values cols is row = each (λ answer. answer) (shown cols is row)
 
--- an item without an alias has the name of the column that it is
-abbrev pub title_of : Tree → Title
-title_of (tree.Column name) = Named name
-title_of e = Unnamed
-
--- the titles of what an item shows: of an expression its alias, where it has one
+-- the titles of what an item shows: of an expression its alias, or the name of the column that it is
 abbrev pub item_titles : List ColumnTree → ItemTree → List Title
 item_titles columns stmt.All = map (λ (c : ColumnTree). Named c.name) columns
-item_titles columns (stmt.Value e alias) = option_map_or Named alias (title_of e) ∷ []
+item_titles columns (stmt.Value e (Some alias)) = Named alias ∷ []
+item_titles columns (stmt.Value (tree.Column name) None) = Named name ∷ []
+item_titles columns (stmt.Value e None) = Unnamed ∷ []
 item_titles columns (stmt.Aggregate a alias) = []
 
 abbrev pub titles_of : List ColumnTree → List ItemTree → List Title
 titles_of columns is = flat_map (item_titles columns) is
 
--- the number is none of the result's columns, which are counted from 1
-abbrev pub unlisted : ℕ → Tree → Option ℤ
-unlisted width (tree.Number negative n) = if not negative && nat_lt 0 n && nat_le n width then None else Some (signed negative n)
-unlisted width e = None
+-- the number that a key of ORDER BY is
+abbrev pub key_number : Tree → Option ℤ
+key_number (tree.Number negative n) = Some (signed negative n)
+key_number e = None
 
--- the first key of ORDER BY that is a number and no position in the select list
+-- the first number in ORDER BY that is none of the result's columns, which are counted from 1
 abbrev pub wrong_position : List ColumnTree → SelectTree → Option ℤ
-wrong_position columns s = first_of (λ (k : OrderTree). unlisted (length (titles_of columns s.items)) k.expr) s.order
+wrong_position columns s = find (λ n. not (int_lt (pos 0) n && int_le n (pos (length (titles_of columns s.items))))) (filter_map (λ (k : OrderTree). key_number k.expr) s.order)
 
 -- the value of a key of ORDER BY at a row: a number literal means that column of the result, counted from 1, or NULL where there is none
 abbrev pub key_value : Cols → List ItemTree → List Value → Tree → Answer
@@ -132,20 +116,10 @@ keys_of cols is order row = each (λ (k : OrderTree). key_value cols is row k.ex
 abbrev pub by_keys : List Dir → List ℕ → List (List Value) → Result (List ℕ) ValueFault
 by_keys by places keys = if can_sort by keys then Ok (map (λ i. slice_index_or places i 0) (sorted_places by keys)) else Err TypeMismatch
 
--- the places as ORDER BY sorts them: the keys of all their rows are evaluated, row by row, before any are compared
-abbrev pub ordered : Cols → List ItemTree → List OrderTree → List (List Value) → List ℕ → Result (List ℕ) ValueFault
-ordered cols is [] rows places = Ok places
-ordered cols is order rows places = if_ok (each (keys_of cols is order) (rows_at rows places)) (by_keys (map (λ (k : OrderTree). k.dir) order) places)
-
--- the places of the rows that pass WHERE, as ORDER BY sorts them
+-- the places of the rows that pass WHERE, as ORDER BY sorts them: the keys of all these rows are evaluated, row by row, before any are compared
 abbrev pub taken : SelectTree → List ColumnTree → List (List Value) → Result (List ℕ) ValueFault
-taken s columns rows = if_ok (passing (cols_of columns) s.filter 0 rows) (ordered (cols_of columns) s.items s.order rows)
-
--- the aggregates among the items, each with the name given to it: a SELECT that has any has nothing else
-abbrev pub counted : List ItemTree → List (AggTree × Option (List ℕ))
-counted [] = []
-counted (stmt.Aggregate a alias ∷ is) = (a, alias) ∷ counted is
-counted (i ∷ is) = counted is
+taken s columns rows = if_ok (passing (cols_of columns) s.filter rows) (λ places.
+    if_ok (each (keys_of (cols_of columns) s.items s.order) (rows_at rows places)) (by_keys (map (λ (k : OrderTree). k.dir) s.order) places))
 
 -- the title of an aggregate by what it counts, sums or compares (9.21)
 abbrev pub own_title : AggTree → Title
@@ -154,20 +128,21 @@ own_title (tree.Of agg_kind.Min e) = Min
 own_title (tree.Of agg_kind.Max e) = Max
 own_title a = Count
 
--- its alias, or where it has none its own title
-abbrev pub agg_title : AggTree × Option (List ℕ) → Title
-agg_title a = option_map_or Named a.1 (own_title a.0)
+-- the aggregate that an item is, with its alias or its own title: a SELECT that has any has nothing else
+abbrev pub aggregate_in : ItemTree → Option (AggTree × Title)
+aggregate_in (stmt.Aggregate a alias) = Some (a, option_map_or Named alias (own_title a))
+aggregate_in i = None
 
 -- what is answered from the rows that are taken: without aggregates the items at each of them, else one row, of the aggregates over all of them
-abbrev pub results_by : List ColumnTree → List ItemTree → List (AggTree × Option (List ℕ)) → List (List Value) → Result Results ValueFault
+abbrev pub results_by : List ColumnTree → List ItemTree → List (AggTree × Title) → List (List Value) → Result Results ValueFault
 results_by columns is [] taken = if_ok (each (row_values (cols_of columns) is) taken) (λ shown. Ok (record { titles = titles_of columns is; rows = shown }))
-results_by columns is aggs taken = if_ok (each (λ a. aggregate a.0 (cols_of columns) taken) aggs) (λ row. Ok (record { titles = map agg_title aggs; rows = row ∷ [] }))
+results_by columns is aggs taken = if_ok (each (λ a. aggregate a.0 (cols_of columns) taken) aggs) (λ row. Ok (record { titles = map (λ a. a.1) aggs; rows = row ∷ [] }))
 
 -- the result of a SELECT whose table has these columns and shows these rows: a column that isn't there is a fault before any row is
 -- looked at; WHERE is tested at all rows, then they are sorted, and then the items are evaluated
 abbrev pub result_of : SelectTree → List ColumnTree → List (List Value) → Result Results ValueFault
-result_of s columns rows = option_map_or (λ name. Err (NoColumn name)) (undefined_in_select (cols_of columns) s)
-    (if_ok (taken s columns rows) (λ places. results_by columns s.items (counted s.items) (rows_at rows places)))
+result_of s columns rows = option_map_or (λ name. Err (NoColumn name)) (undefined_among (cols_of columns) (select_exprs s))
+    (if_ok (taken s columns rows) (λ places. results_by columns s.items (filter_map aggregate_in s.items) (rows_at rows places)))
 
 -- where a value of an INSERT or UPDATE goes: a column's place, and its kind
 pub record AssignedColumn : Type 0 where
@@ -186,10 +161,9 @@ assigned_named columns name = option_map at_place (find (λ (c : ℕ × ColumnTr
 abbrev pub assigned_by_name : List ColumnTree → List (List ℕ) → Result (List AssignedColumn) (List ℕ)
 assigned_by_name columns names = option_map_or Err (find (λ name. is_none (assigned_named columns name)) names) (Ok (filter_map (assigned_named columns) names))
 
--- without a list of columns the values go to the first ones
+-- the columns of a list of names, where there is one; without it the values go to the first columns
 abbrev pub columns_assigned : List ColumnTree → Option (List (List ℕ)) → Result (List AssignedColumn) (List ℕ)
-columns_assigned columns None = Ok (map at_place (enumerate_from 0 columns))
-columns_assigned columns (Some names) = assigned_by_name columns names
+columns_assigned columns names = option_map_or (assigned_by_name columns) names (Ok (map at_place (enumerate_from 0 columns)))
 
 -- the row with each value at its column's place, as the column takes it
 abbrev pub filled : List AssignedColumn → List Value → List Value → Result (List Value) ValueFault
@@ -203,11 +177,3 @@ new_values width to row = if_ok (each (λ e. value e [] []) row) (λ values. fil
 -- the first column that is NULL and must not be
 abbrev pub null_in : List ColumnTree → List Value → Option (List ℕ)
 null_in columns values = option_map (λ (c : ColumnTree × Value). c.0.name) (find (λ c. c.0.not_null && is_null c.1) (zip columns values))
-
--- some row has more values than there are columns for them
-abbrev pub some_too_long : ℕ → List (List Tree) → Bool
-some_too_long width rows = list_any (λ row. nat_lt width (length row)) rows
-
--- the first column that the VALUES name: they have none
-abbrev pub undefined_in_rows : List (List Tree) → Option (List ℕ)
-undefined_in_rows rows = first_of (first_of (undefined_column [])) rows

@@ -1,6 +1,7 @@
 -- What statements do to the state, and that what is so after each effect is so after each statement.
 use Rattle.std.proofs.Common.{◌≡◌, ℕ, zero, suc, arith, ◌<◌, Bool, true, false, List, [], ◌∷◌, length, drop, refl, sym, subst}
-use Rattle.std.specs.Prelude.{ℤ, Option, Some, None, is_some, unwrap_or, slice_get, Result, Ok, Err, ◌&&◌, not, if◌then◌else◌}
+use Rattle.std.specs.List.{list_any}
+use Rattle.std.specs.Prelude.{ℤ, flat_map, nat_lt, option_to_list, Option, Some, None, is_some, unwrap_or, slice_get, Result, Ok, Err, ◌&&◌, not, if◌then◌else◌}
 use Rattle.std.proofs.lemmas.Option.{slice_get_within}
 use Rattle.sql_trees.specs.declared.stmt.Level.{Level}
 use Rattle.sql_trees.specs.declared.stmt.Level.TheVariants.{ReadCommitted}
@@ -11,8 +12,8 @@ use Rattle.sql_values.specs.declared.fault.ValueFault.{ValueFault}
 use Rattle.sql_values.specs.declared.fault.ValueFault.TheVariants.{NoColumn}
 use Rattle.query_results.specs.Results.{Results}
 use Rattle.row_versions.specs.declared.write.View.{View}
-use Rattle.query_results.specs.Queries.{AssignedColumn, cols_of, undefined_in_condition, undefined_in_rows, undefined_in_select, result_of, some_too_long, columns_assigned, titles_of, wrong_position}
-use Rattle.query_results.specs.Updates.{undefined_in_update, columns_set}
+use Rattle.query_results.specs.Queries.{AssignedColumn, cols_of, result_of, select_exprs, columns_assigned, titles_of, undefined_among, wrong_position}
+use Rattle.query_results.specs.Updates.{columns_set, update_exprs}
 use Rattle.session_machine.specs.declared.session.OpenTransaction.{OpenTransaction}
 use Rattle.session_machine.specs.declared.session.Transaction.{Transaction}
 use Rattle.session_machine.specs.declared.session.Transaction.TheVariants.{Closed, Open, Aborted}
@@ -162,12 +163,12 @@ module _ (may : Bool) (db : Database) (t : OpenTransaction) (around : Surroundin
   inserts_fitting : (k : ℕ) (table : Table) → At k table → (i : InsertTree) (targets : List AssignedColumn) (o : Option (List ℕ)) → M (insert_fitting db (beginning db t around k) i targets o)
   inserts_fitting k table at i targets (Some name) = failed_here (OfValue (NoColumn name))
   inserts_fitting k table at i targets None =
-      either (some_too_long (length targets) i.rows) (fails db t TooManyValues) (insert_from db (beginning db t around k) i 0 []) (failed_here TooManyValues)
+      either (list_any (λ row. nat_lt (length targets) (length row)) i.rows) (fails db t TooManyValues) (insert_from db (beginning db t around k) i 0 []) (failed_here TooManyValues)
       (inserts_from k (view_of db.content t) table at i 0 [])
 
   inserts_to : (k : ℕ) (table : Table) → At k table → (i : InsertTree) (r : Result (List AssignedColumn) (List ℕ)) → M (insert_to db (beginning db t around k) i r)
   inserts_to k table at i (Err column) = failed_here (NoColumnOf column i.table)
-  inserts_to k table at i (Ok targets) = inserts_fitting k table at i targets (undefined_in_rows i.rows)
+  inserts_to k table at i (Ok targets) = inserts_fitting k table at i targets (undefined_among [] (flat_map (λ row. row) i.rows))
 
   inserts : (i : InsertTree) (o : Option ℕ) → find_table db (Some t.tx) i.table ≡ o → M (insert db t around i o)
   inserts i None e = failed_here (NoTable i.table)
@@ -180,7 +181,7 @@ module _ (may : Bool) (db : Database) (t : OpenTransaction) (around : Surroundin
 
   updates_to : (k : ℕ) (table : Table) → At k table → (u : UpdateTree) (r : Result (List AssignedColumn) (List ℕ)) → M (update_to db (beginning db t around k) u r)
   updates_to k table at u (Err column) = failed_here (NoColumnOf column u.table)
-  updates_to k table at u (Ok targets) = updates_fitting k table at u (undefined_in_update (cols_of (columns_in db (beginning db t around k))) u)
+  updates_to k table at u (Ok targets) = updates_fitting k table at u (undefined_among (cols_of (columns_in db (beginning db t around k))) (update_exprs u))
 
   updates : (u : UpdateTree) (o : Option ℕ) → find_table db (Some t.tx) u.table ≡ o → M (update db t around u o)
   updates u None e = failed_here (NoTable u.table)
@@ -194,7 +195,7 @@ module _ (may : Bool) (db : Database) (t : OpenTransaction) (around : Surroundin
   deletes : (d : DeleteTree) (o : Option ℕ) → find_table db (Some t.tx) d.table ≡ o → M (delete db t around d o)
   deletes d None e = failed_here (NoTable d.table)
   deletes d (Some k) e =
-      let at = find_table_within db (Some t.tx) d.table k e in deletes_fitting k at.0 at.1 d (undefined_in_condition (cols_of (columns_at db.catalog k)) d.filter)
+      let at = find_table_within db (Some t.tx) d.table k e in deletes_fitting k at.0 at.1 d (undefined_among (cols_of (columns_at db.catalog k)) (option_to_list d.filter))
 
   -- SELECT
   answers_set : (r : Result Results ValueFault) → M (answered db t r)
@@ -215,10 +216,10 @@ module _ (may : Bool) (db : Database) (t : OpenTransaction) (around : Surroundin
   selects_at s name (Some k) e =
       let at = find_table_within db (Some t.tx) name k e in
       let w = beginning db t around k in
-      selects_unless (undefined_in_select (cols_of (columns_in db w)) s) (wrong_position (columns_in db w) s) (select_rows db w s s.lock) (selects_rows k at.0 at.1 s s.lock)
+      selects_unless (undefined_among (cols_of (columns_in db w)) (select_exprs s)) (wrong_position (columns_in db w) s) (select_rows db w s s.lock) (selects_rows k at.0 at.1 s s.lock)
 
   selects : (s : SelectTree) (o : Option (List ℕ)) → M (select db t around s o)
-  selects s None = selects_unless (undefined_in_select [] s) (wrong_position [] s) (answered db t (result_of s [] ([] ∷ []))) (answers_set (result_of s [] ([] ∷ [])))
+  selects s None = selects_unless (undefined_among [] (select_exprs s)) (wrong_position [] s) (answered db t (result_of s [] ([] ∷ []))) (answers_set (result_of s [] ([] ∷ [])))
   selects s (Some name) = selects_at s name (find_table db (Some t.tx) name) refl
 
   -- what is so after each effect is so after each statement that begins

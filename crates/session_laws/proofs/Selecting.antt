@@ -1,14 +1,14 @@
 -- What a session would see of a table is what a SELECT of all its rows shows.
-use Rattle.std.proofs.Common.{◌≡◌, ◌≢◌, ℕ, suc, ◌<◌, ◌≤◌, ◌+◌, ◌==◌, Bool, false, cond, not, ◌&&◌, ◌||◌, List, [], ◌∷◌, ◌++◌, length, refl, ap, sym, ◌∙◌, subst, arith}
-use Rattle.std.specs.Prelude.{Option, Some, None, option_map, is_some, unwrap_or, slice_get, bytes_eq, nat_lt, map, Result, Ok}
-use Rattle.std.specs.List.{list_any}
+use Rattle.std.proofs.Common.{◌≡◌, ◌≢◌, ℕ, suc, ◌<◌, ◌≤◌, ◌+◌, ◌==◌, Bool, true, false, cond, not, ◌&&◌, ◌||◌, List, [], ◌∷◌, ◌++◌, length, refl, ap, sym, ◌∙◌, subst, arith}
+use Rattle.std.specs.Prelude.{Option, Some, None, filter, option_map, is_some, unwrap_or, slice_get, bytes_eq, nat_lt, map, Result, Ok}
+use Rattle.std.specs.List.{enumerate_from, list_any}
 use Rattle.std.proofs.lemmas.Bool.{ne_eqb, le-ltb, and_right}
 use Rattle.sql_trees.specs.declared.stmt.Level.TheVariants.{ReadCommitted}
 use Rattle.sql_trees.specs.Statements.{ColumnTree, SelectTree, All}
 use Rattle.sql_values.specs.declared.value.Value.{Value}
 use Rattle.sql_values.specs.declared.fault.ValueFault.{ValueFault}
 use Rattle.sql_values.specs.Values.{Answer, each, if_ok}
-use Rattle.sql_values.specs.Expressions.{Cols}
+use Rattle.sql_values.specs.Expressions.{Cols, passes}
 use Rattle.query_results.specs.Results.{Results}
 use Rattle.row_versions.specs.declared.names.TxId.{TxId}
 use Rattle.row_versions.specs.declared.names.TableId.{TableId}
@@ -29,6 +29,7 @@ use Rattle.session_machine.specs.Tables.{Database, Table, Dropped, counts, is_me
 use Rattle.session_machine.specs.Transactions.{begun, fresh, own_of, view_of, view_now}
 use Rattle.query_results.specs.Queries.{passing, row_values, titles_of, result_of, cols_of}
 use Rattle.query_results.specs.Ordering.{rows_at}
+use Rattle.query_results.proofs.Unsorted.{unsorted}
 use Rattle.sql_values.specs.Sorting.{keys_at}
 use Rattle.session_machine.specs.Views.{rows_shown}
 use Rattle.session_machine.specs.declared.session.Progress.{Progress}
@@ -60,9 +61,22 @@ places_from k (row ∷ rows) = k ∷ places_from (k + 1) rows
 abbrev ok_places : List ℕ → Result (List ℕ) ValueFault
 ok_places places = Ok places
 
-passing_all : (cols : Cols) (k : ℕ) (rows : List (List Value)) → passing cols None k rows ≡ Ok (places_from k rows)
-passing_all cols k [] = refl
-passing_all cols k (row ∷ rows) = ap (λ (r : Result (List ℕ) ValueFault). if_ok r (λ rest. ok_places (k ∷ rest))) (passing_all cols (k + 1) rows)
+abbrev ok_tests : List Bool → Result (List Bool) ValueFault
+ok_tests tests = Ok tests
+
+abbrev chosen : ℕ → List Bool → List ℕ
+chosen k tests = map (λ (p : ℕ × Bool). p.0) (filter (λ (p : ℕ × Bool). p.1) (enumerate_from k tests))
+
+all_pass : (cols : Cols) (rows : List (List Value)) → each (passes None cols) rows ≡ Ok (map (λ row. true) rows)
+all_pass cols [] = refl
+all_pass cols (row ∷ rows) = ap (λ (r : Result (List Bool) ValueFault). if_ok r (λ ps. ok_tests (true ∷ ps))) (all_pass cols rows)
+
+all_chosen : (k : ℕ) (rows : List (List Value)) → chosen k (map (λ row. true) rows) ≡ places_from k rows
+all_chosen k [] = refl
+all_chosen k (row ∷ rows) = ap (λ (ps : List ℕ). k ∷ ps) (all_chosen (k + 1) rows)
+
+passing_all : (cols : Cols) (rows : List (List Value)) → passing cols None rows ≡ Ok (places_from 0 rows)
+passing_all cols rows = ap (λ (r : Result (List Bool) ValueFault). if_ok r (λ ps. ok_places (chosen 0 ps))) (all_pass cols rows) ∙ ap Ok (all_chosen 0 rows)
 
 picked_all : (all : List (List Value)) (k : ℕ) (rows : List (List Value)) → ((i : ℕ) → keys_at all (k + i) ≡ keys_at rows i) → rows_at all (places_from k rows) ≡ rows
 picked_all all k [] h = refl
@@ -89,7 +103,9 @@ all_of name = record { items = All ∷ []; table = Some name; filter = None; ord
 all_shown : (name : List ℕ) (columns : List ColumnTree) (rows : List (List Value)) → result_of (all_of name) columns rows ≡ Ok (record { titles = titles_of columns (All ∷ []); rows = rows })
 all_shown name columns rows =
     let f : List (List Value) → Result Results ValueFault = λ shown. Ok (record { titles = titles_of columns (All ∷ []); rows = shown }) in
-    ap (λ (r : Result (List ℕ) ValueFault). if_ok (if_ok r ok_places) (λ places. if_ok (each (row_values (cols_of columns) (All ∷ [])) (rows_at rows places)) f)) (passing_all (cols_of columns) 0 rows)
+    let show : List ℕ → Result Results ValueFault = λ places. if_ok (each (row_values (cols_of columns) (All ∷ [])) (rows_at rows places)) f in
+    (λ j. if_ok (if_ok (passing (cols_of columns) None rows) (λ places. unsorted (cols_of columns) (All ∷ []) rows places j)) show)
+    ∙ ap (λ (r : Result (List ℕ) ValueFault). if_ok (if_ok r ok_places) show) (passing_all (cols_of columns) rows)
     ∙ (ap (λ (rs : List (List Value)). if_ok (each (row_values (cols_of columns) (All ∷ [])) rs) f) (picked_all rows 0 rows (λ i. let e : 0 + i ≡ i = omega arith in ap (keys_at rows) e))
     ∙ ap (λ (r : Result (List (List Value)) ValueFault). if_ok r f) (each_all (cols_of columns) rows))
 

@@ -162,7 +162,7 @@ at_places seen (Ok places) = Ok (filter_map (slice_get seen) places)
 
 -- the targets of UPDATE and DELETE: the versions that their view shows and that pass WHERE
 abbrev pub passing_targets : Database → Work → Option Tree → Result (List Seen) ValueFault
-passing_targets db w filter = at_places (seen_by db w) (passing (cols_in db w) filter 0 (rows_shown db.content w.view w.table))
+passing_targets db w filter = at_places (seen_by db w) (passing (cols_in db w) filter (rows_shown db.content w.view w.table))
 
 -- those of a locking SELECT, as ORDER BY sorts them
 abbrev pub taken_targets : Database → Work → SelectTree → Result (List Seen) ValueFault

@@ -1,5 +1,6 @@
 -- A statement is run: it begins, or goes on where it waits, by what its session's transaction is (PostgreSQL manual, the pages of the statements, and 13.2).
-use Rattle.std.specs.Prelude.{ℕ, ℤ, Bool, true, false, List, [], ◌∷◌, length, drop, Option, Some, None, Result, Ok, Err, if◌then◌else◌}
+use Rattle.std.specs.Prelude.{ℕ, ℤ, Bool, true, false, List, [], ◌∷◌, length, drop, flat_map, nat_lt, Option, Some, None, option_to_list, Result, Ok, Err, if◌then◌else◌}
+use Rattle.std.specs.List.{list_any}
 use Rattle.std.specs.Option.{option_map_or}
 use Rattle.std.specs.Result.{result_unwrap_or}
 use Rattle.sql_trees.specs.declared.stmt.Level.TheVariants.{ReadCommitted}
@@ -10,8 +11,8 @@ use Rattle.sql_values.specs.declared.value.Value.{Value}
 use Rattle.sql_values.specs.declared.fault.ValueFault.{ValueFault}
 use Rattle.sql_values.specs.declared.fault.ValueFault.TheVariants.{NoColumn}
 use Rattle.query_results.specs.Results.{Results}
-use Rattle.query_results.specs.Queries.{AssignedColumn, undefined_in_condition, undefined_in_rows, undefined_in_select, result_of, some_too_long, columns_assigned, titles_of, wrong_position}
-use Rattle.query_results.specs.Updates.{undefined_in_update, columns_set}
+use Rattle.query_results.specs.Queries.{AssignedColumn, result_of, select_exprs, columns_assigned, titles_of, undefined_among, wrong_position}
+use Rattle.query_results.specs.Updates.{columns_set, update_exprs}
 use Rattle.row_versions.specs.Log.{Content}
 use Rattle.session_machine.specs.declared.session.OpenTransaction.{OpenTransaction}
 use Rattle.session_machine.specs.declared.session.Transaction.{Transaction}
@@ -81,7 +82,7 @@ insert_from db w i place rows = after_walk db.content w done (walked (insert_one
 -- INSERT at the table that is found; no row of its VALUES may have more of them than there are columns to assign
 abbrev pub insert : Database → OpenTransaction → Surroundings → InsertTree → Option ℕ → Effect
 insert db t around i found = at_table db t around i.table found (λ w. assigning db t i.table (columns_assigned (columns_in db w) i.columns) (λ to.
-    unless_undefined db t (undefined_in_rows i.rows) (if some_too_long (length to) i.rows then fails db t TooManyValues else insert_from db w i 0 [])))
+    unless_undefined db t (undefined_among [] (flat_map (λ row. row) i.rows)) (if list_any (λ row. nat_lt (length to) (length row)) i.rows then fails db t TooManyValues else insert_from db w i 0 [])))
 
 -- UPDATE, from this place among its targets on
 abbrev pub update_from : Database → Work → UpdateTree → ℕ → List (List Value) → Effect
@@ -90,7 +91,7 @@ update_from db w u place rows = after_walk db.content w done (walked_from (updat
 -- UPDATE at the table that is found
 abbrev pub update : Database → OpenTransaction → Surroundings → UpdateTree → Option ℕ → Effect
 update db t around u found = at_table db t around u.table found (λ w. assigning db t u.table (columns_set (columns_in db w) u.sets) (λ to.
-    unless_undefined db t (undefined_in_update (cols_in db w) u) (update_from db w u 0 [])))
+    unless_undefined db t (undefined_among (cols_in db w) (update_exprs u)) (update_from db w u 0 [])))
 
 -- DELETE, from this place among its targets on
 abbrev pub delete_from : Database → Work → DeleteTree → ℕ → List (List Value) → Effect
@@ -98,7 +99,7 @@ delete_from db w d place rows = after_walk db.content w done (walked_from (delet
 
 -- DELETE at the table that is found
 abbrev pub delete : Database → OpenTransaction → Surroundings → DeleteTree → Option ℕ → Effect
-delete db t around d found = at_table db t around d.table found (λ w. unless_undefined db t (undefined_in_condition (cols_in db w) d.filter) (delete_from db w d 0 []))
+delete db t around d found = at_table db t around d.table found (λ w. unless_undefined db t (undefined_among (cols_in db w) (option_to_list d.filter)) (delete_from db w d 0 []))
 
 -- a locking SELECT, from this place among its targets on
 abbrev pub lock_from : Database → Work → SelectTree → Lock → ℕ → List (List Value) → Effect
@@ -120,9 +121,9 @@ unless_wrong db t undefined position due = unless_undefined db t undefined (opti
 
 -- without FROM there is one row, without columns
 abbrev pub select : Database → OpenTransaction → Surroundings → SelectTree → Option (List ℕ) → Effect
-select db t around s None = unless_wrong db t (undefined_in_select [] s) (wrong_position [] s) (answered db t (result_of s [] ([] ∷ [])))
+select db t around s None = unless_wrong db t (undefined_among [] (select_exprs s)) (wrong_position [] s) (answered db t (result_of s [] ([] ∷ [])))
 select db t around s (Some name) = at_table db t around name (find_table db (Some t.tx) name) (λ w.
-    unless_wrong db t (undefined_in_select (cols_in db w) s) (wrong_position (columns_in db w) s) (select_rows db w s s.lock))
+    unless_wrong db t (undefined_among (cols_in db w) (select_exprs s)) (wrong_position (columns_in db w) s) (select_rows db w s s.lock))
 
 -- a statement that begins in an open transaction
 abbrev pub run_open : Database → OpenTransaction → Surroundings → StmtTree → Effect

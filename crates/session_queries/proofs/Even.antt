@@ -13,6 +13,7 @@ use Rattle.sql_values.specs.Expressions.{Cols, value}
 use Rattle.query_results.specs.declared.title.Title.{Title}
 use Rattle.query_results.specs.Queries.{cols_of, item_titles, row_values, titles_of}
 use Rattle.session_queries.specs.Inner.Answers.{item_row, row_by_items}
+use Rattle.session_queries.proofs.Parts.{titled}
 use Rattle.session_queries.proofs.Shown.{by_items}
 
 one : (a : Result Value ValueFault) (vs : List Value) → if_ok a (λ v. Ok (v ∷ [])) ≡ Ok vs → length vs ≡ 1
@@ -25,7 +26,7 @@ item_even : (columns : List ColumnTree) (i : ItemTree) (row vs : List Value) →
 item_even columns item.All row vs long h =
     let same : row ≡ vs = cc in
     sym (ap length same) ∙ long ∙ sym (length-map columns _)
-item_even columns (item.Value e alias) row vs long h = one (value e (cols_of columns) row) vs h
+item_even columns (item.Value e alias) row vs long h = one (value e (cols_of columns) row) vs h ∙ sym (ap length (titled columns e alias))
 item_even columns (item.Aggregate a alias) row vs long h =
     let same : [] ≡ vs = cc in
     sym (ap length same)

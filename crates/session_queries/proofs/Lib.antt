@@ -10,4 +10,6 @@ pub mod Shown
 pub mod Counting
 pub mod Meant
 pub mod Parts
+pub mod ColumnsNamed
 pub mod Picking
+pub mod Taking

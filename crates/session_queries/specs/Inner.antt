@@ -2,4 +2,6 @@
 pub mod Answers
 pub mod Assigned
 pub mod Fronts
+pub mod Ordering
 pub mod Parts
+pub mod Undefined

@@ -4,9 +4,9 @@ ghost use Rattle.std.specs.Prelude.{◌≡◌, ◌≢◌, ◌∷◌, ◌++◌, A
 ghost use Rattle.sql_trees.specs.Statements.{column_of, item_of, select_of};
 ghost use Rattle.sql_values.specs.Values.{Answers, each};
 ghost use Rattle.sql_values.specs.Aggregates.{aggregate};
-ghost use Rattle.query_results.specs.Queries.{cols_of, counted, undefined_in_select, result_of, row_values, titles_of};
+ghost use Rattle.query_results.specs.Queries.{cols_of, result_of, row_values, select_exprs, titles_of, undefined_among};
 ghost use Rattle.session_queries.specs.Fronts.{AnswersList};
-ghost use Rattle.session_queries.specs.Inner.Answers.{agg_results, answered, has_none, item_row, row_results, selected};
+ghost use Rattle.session_queries.specs.Inner.Answers.{agg_results, answered, has_none, item_row, row_results, selected, counted};
 ghost use Rattle.session_queries.specs.Inner.Fronts.{in_front};
 
 use crate::known::known;
@@ -214,7 +214,7 @@ pub fn result_of<'a>(
 ) -> Result<ResultSet<'a>, ValueFault<'a>>
     requires { All (λ row. length row.now ≡ length columns.now) rows.now }
     ensures answer { Answers result (result_of (select_of select.now) (map column_of columns.now) (map (λ row. row.now) rows.now)) }
-    ensures memory { IsErrOf result ValueFault.Memory → undefined_in_select (cols_of (map column_of columns.now)) (select_of select.now) ≡ None }
+    ensures memory { IsErrOf result ValueFault.Memory → undefined_among (cols_of (map column_of columns.now)) (select_exprs (select_of select.now)) ≡ None }
 {
     match undefined_in_select(columns, select) {
         Some(name) => Err(ValueFault::NoColumn(name)),

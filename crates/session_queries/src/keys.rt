@@ -8,7 +8,9 @@ ghost use Rattle.sql_values.specs.declared.value.Value.TheVariants.{Null as SqlN
 ghost use Rattle.sql_values.specs.Values.{Answers, each};
 ghost use Rattle.session_queries.specs.Fronts.{AnswersList};
 ghost use Rattle.query_results.specs.Ordering.{rows_at};
-ghost use Rattle.query_results.specs.Queries.{aliased, key_value, keys_of, shown};
+ghost use Rattle.query_results.specs.Queries.{keys_of, shown};
+ghost use Rattle.session_queries.specs.Inner.Ordering.{key_answer};
+ghost use Rattle.session_queries.specs.Inner.Undefined.{aliased};
 
 use iso_lexer::{Name, same_name};
 use sql_trees::{Expr, Item, OrderKey};
@@ -66,7 +68,7 @@ fn key_value<'a>(
     row: &Row,
 ) -> Result<Value, ValueFault<'a>>
     requires { length row.now ≡ length columns.now }
-    ensures { Answers result (key_value columns.now (map item_of items.now) row.now (tree_of key.now)) }
+    ensures { Answers result (key_answer columns.now (map item_of items.now) row.now (tree_of key.now)) }
 {
     match key {
         Expr::Number { negative: true, .. } | Expr::Number { digits: 0, .. } => Ok(Value::Null),

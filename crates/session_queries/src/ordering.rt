@@ -5,7 +5,8 @@ ghost use Rattle.sql_trees.specs.Statements.{column_of, item_of, order_of, selec
 ghost use Rattle.sql_trees.specs.Statements.{OrderTree};
 ghost use Rattle.session_queries.specs.Fronts.{AnswersList};
 ghost use Rattle.query_results.specs.Ordering.{rows_at};
-ghost use Rattle.query_results.specs.Queries.{by_keys, cols_of, ordered, taken};
+ghost use Rattle.query_results.specs.Queries.{by_keys, cols_of, taken};
+ghost use Rattle.session_queries.specs.Inner.Ordering.{ordered};
 
 use crate::keys::keys_at;
 use crate::known::known;

@@ -37,7 +37,7 @@ pub fn passing<'a>(
     rows: &[&Row],
 ) -> Result<Vec<usize>, ValueFault<'a>>
     requires { All (λ row. length row.now ≡ length columns.now) rows.now }
-    ensures places { AnswersList result (passing columns.now (option_map tree_of filter.now) 0 (map (λ row. row.now) rows.now)) }
+    ensures places { AnswersList result (passing columns.now (option_map tree_of filter.now) (map (λ row. row.now) rows.now)) }
     ensures within { IfOk result (λ places. All (λ p. p < length rows.now) places.items) }
 {
     let mut places = Vec::new(alloc);
@@ -57,7 +57,7 @@ pub fn passing_places<'a>(
     rows: &[&Row],
 ) -> Result<Vec<usize>, ValueFault<'a>>
     requires { All (λ row. length row.now ≡ length columns.now) rows.now }
-    ensures places { AnswersList result (passing (cols_of (map column_of columns.now)) (option_map tree_of filter.now) 0 (map (λ row. row.now) rows.now)) }
+    ensures places { AnswersList result (passing (cols_of (map column_of columns.now)) (option_map tree_of filter.now) (map (λ row. row.now) rows.now)) }
     ensures within { IfOk result (λ places. All (λ p. p < length rows.now) places.items) }
 {
     let columns = known(columns);

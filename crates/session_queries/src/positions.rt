@@ -4,11 +4,13 @@ ghost use Rattle.std.specs.Prelude.{◌≡◌, ◌&&◌, length, map, nat_le, na
 ghost use Rattle.sql_trees.specs.Statements.{column_of, item_of, select_of};
 ghost use Rattle.sql_trees.specs.Trees.{tree_of};
 ghost use Rattle.sql_values.specs.Arithmetic.{signed};
-ghost use Rattle.query_results.specs.Queries.{titles_of, unlisted, wrong_position};
+ghost use Rattle.query_results.specs.Queries.{titles_of, wrong_position};
+ghost use Rattle.session_queries.specs.Inner.Undefined.{unlisted};
 
 use sql_trees::{Column, Expr, Item, Select};
 
 /// Whether the result has a column at that place, counted from 0.
+#[tactic(auto, using(crate::proofs::Parts::titled))]
 fn is_shown(place: u64, columns: &[Column<'_>], items: &[Item<'_>]) -> bool
     ensures { result ≡ nat_lt place (length (titles_of (map column_of columns.now) (map item_of items.now))) }
 {

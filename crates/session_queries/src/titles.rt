@@ -3,8 +3,9 @@
 ghost use Rattle.std.specs.Prelude.{◌≡◌, ◌++◌, IfOk, OnOk, length, map, option_map};
 ghost use Rattle.sql_trees.specs.Trees.{agg_of, tree_of};
 ghost use Rattle.sql_trees.specs.Statements.{All, column_of, item_of, name_of};
-ghost use Rattle.query_results.specs.Queries.{agg_title, counted, item_titles, own_title, title_of, titles_of};
-ghost use Rattle.session_queries.specs.Inner.Parts.{kind_title, title_or};
+ghost use Rattle.query_results.specs.Queries.{item_titles, own_title, titles_of};
+ghost use Rattle.session_queries.specs.Inner.Parts.{agg_title, kind_title, title_of, title_or};
+ghost use Rattle.session_queries.specs.Inner.Answers.{counted};
 
 use iso_lexer::{Ident, Name};
 use query_results::Title;
@@ -41,6 +42,7 @@ fn append_columns<'a>(titles: &mut Vec<Title<'a>>, columns: &[Column<'a>]) -> Re
 }
 
 /// Appends the titles of what the item shows.
+#[tactic(auto, using(crate::proofs::Parts::titled))]
 fn append_item<'a>(
     titles: &mut Vec<Title<'a>>,
     columns: &[Column<'a>],
@@ -103,7 +105,7 @@ fn agg_title<'a>(agg: &Agg<'a>, alias: Option<Name<'a>>) -> Title<'a>
 
 /// The titles of the aggregates among the items.
 pub fn agg_titles<'a>(alloc: Global, items: &[Item<'a>]) -> Result<Vec<Title<'a>>, AllocError>
-    ensures titles { IfOk result (λ titles. titles.items ≡ map agg_title (counted (map item_of items.now))) }
+    ensures titles { IfOk result (λ titles. titles.items ≡ map (λ a. a.1) (counted (map item_of items.now))) }
     ensures long { IfOk result (λ titles. length titles.items ≡ length (counted (map item_of items.now))) }
 {
     let mut titles = Vec::new(alloc);

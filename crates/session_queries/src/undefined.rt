@@ -1,11 +1,11 @@
 //! Columns that are named and aren't there.
 
-ghost use Rattle.std.specs.Prelude.{◌≡◌, [], map, option_map};
+ghost use Rattle.std.specs.Prelude.{◌≡◌, [], flat_map, map, option_map, option_to_list};
 ghost use Rattle.sql_trees.specs.Trees.{agg_of, tree_of, trees, Column as NamedColumn};
 ghost use Rattle.sql_trees.specs.Statements.{OrderTree, SetTree, column_of, exprs_of, item_of, name_of, order_of, select_of, set_of, update_of};
-ghost use Rattle.query_results.specs.Queries.{cols_of, first_of, undefined_column, undefined_in_list, undefined_in_condition, undefined_in_item, undefined_in_rows, undefined_in_select};
-ghost use Rattle.session_queries.specs.Inner.Parts.{undefined_in_agg, undefined_in_key};
-ghost use Rattle.query_results.specs.Updates.{undefined_in_update};
+ghost use Rattle.query_results.specs.Queries.{cols_of, select_exprs, undefined_among};
+ghost use Rattle.query_results.specs.Updates.{update_exprs};
+ghost use Rattle.session_queries.specs.Inner.Undefined.{first_of, undefined_column, undefined_in_list, undefined_in_condition, undefined_in_item, undefined_in_agg, undefined_in_key};
 
 use crate::keys::aliased;
 use iso_lexer::{Ident, Name};
@@ -82,7 +82,7 @@ fn undefined_in_values<'a>(row: &[Expr<'a>]) -> Option<Ident<'a>>
 
 /// The first column that the rows of VALUES name: they have none.
 pub fn undefined_in_rows<'a>(rows: &[Vec<Expr<'a>>]) -> Option<Ident<'a>>
-    ensures { result ≡ undefined_in_rows (map exprs_of rows.now) }
+    ensures { result ≡ undefined_among [] (flat_map (λ row. row) (map exprs_of rows.now)) }
 {
     for row in rows {
         if let Some(name) = undefined_in_values(row) {
@@ -164,7 +164,7 @@ fn undefined_in_keys<'a>(
 /// The first column that the SELECT names and that isn't among these: of its items, then of its WHERE, then of its ORDER BY.
 #[tactic(auto, using(crate::proofs::ColumnLists::known_columns))]
 pub fn undefined_in_select<'a>(columns: &[Column<'_>], select: &Select<'a>) -> Option<Ident<'a>>
-    ensures { result ≡ undefined_in_select (cols_of (map column_of columns.now)) (select_of select.now) }
+    ensures { result ≡ undefined_among (cols_of (map column_of columns.now)) (select_exprs (select_of select.now)) }
 {
     let columns = Columns::of(columns);
     if let Some(name) = undefined_in_items(&columns, &select.items) {
@@ -177,12 +177,12 @@ pub fn undefined_in_select<'a>(columns: &[Column<'_>], select: &Select<'a>) -> O
 }
 
 /// The first column that WHERE names and that isn't among these.
-#[tactic(auto, using(crate::proofs::ColumnLists::known_columns))]
+#[tactic(auto, using(crate::proofs::ColumnLists::known_columns, crate::proofs::ColumnsNamed::of_condition))]
 pub fn undefined_in_filter<'a>(
     columns: &[Column<'_>],
     filter: &Option<Expr<'a>>,
 ) -> Option<Ident<'a>>
-    ensures { result ≡ undefined_in_condition (cols_of (map column_of columns.now)) (option_map tree_of filter.now) }
+    ensures { result ≡ undefined_among (cols_of (map column_of columns.now)) (option_to_list (option_map tree_of filter.now)) }
 {
     let columns = Columns::of(columns);
     undefined_in_condition(&columns, filter)
@@ -202,7 +202,7 @@ fn undefined_in_sets<'a>(columns: &Columns<'_>, sets: &[(Name<'a>, Expr<'a>)]) -
 /// The first column that the UPDATE names and that isn't among these: of its new values, then of its WHERE. It looks at no column that is assigned to.
 #[tactic(auto, using(crate::proofs::ColumnLists::known_columns))]
 pub fn undefined_in_update<'a>(columns: &[Column<'_>], update: &Update<'a>) -> Option<Ident<'a>>
-    ensures { result ≡ undefined_in_update (cols_of (map column_of columns.now)) (update_of update.now) }
+    ensures { result ≡ undefined_among (cols_of (map column_of columns.now)) (update_exprs (update_of update.now)) }
 {
     let columns = Columns::of(columns);
     match undefined_in_sets(&columns, &update.sets) {

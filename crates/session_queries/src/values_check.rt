@@ -1,9 +1,10 @@
 //! What the values of an INSERT are tested for.
 
-ghost use Rattle.std.specs.Prelude.{◌≡◌, ◌&&◌, map};
+ghost use Rattle.std.specs.Prelude.{◌≡◌, ◌&&◌, length, map, nat_lt};
+ghost use Rattle.std.specs.List.{list_any};
 ghost use Rattle.sql_trees.specs.Statements.{column_of, exprs_of};
 ghost use Rattle.sql_values.specs.Values.{is_null};
-ghost use Rattle.query_results.specs.Queries.{null_in, some_too_long};
+ghost use Rattle.query_results.specs.Queries.{null_in};
 
 use iso_lexer::Ident;
 use sql_trees::{Column, Expr};
@@ -36,7 +37,7 @@ pub fn null_in<'a>(columns: &[Column<'a>], values: &Row) -> Option<Ident<'a>>
 
 /// Whether some row of VALUES has more values than there are columns for them.
 pub fn some_too_long(width: usize, rows: &[Vec<Expr<'_>>]) -> bool
-    ensures { result ≡ some_too_long width (map exprs_of rows.now) }
+    ensures { result ≡ list_any (λ row. nat_lt width (length row)) (map exprs_of rows.now) }
 {
     for row in rows {
         if row.len() > width {

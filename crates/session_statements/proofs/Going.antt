@@ -1,19 +1,19 @@
 -- A statement goes over the targets that were found, or over what it selects.
-use Rattle.std.proofs.Common.{◌≡◌, ◌∙◌, sym, ap, ℕ, ℤ, List, drop}
-use Rattle.std.specs.Prelude.{Option, Some, None, Result, Ok, Err}
-use Rattle.sql_trees.specs.Statements.{UpdateTree}
+use Rattle.std.proofs.Common.{◌≡◌, ◌∙◌, sym, ap, ℕ, ℤ, List, [], drop}
+use Rattle.std.specs.Prelude.{Option, Some, None, option_to_list, Result, Ok, Err}
+use Rattle.sql_trees.specs.Statements.{UpdateTree, DeleteTree}
 use Rattle.sql_values.specs.declared.value.Value.{Value}
 use Rattle.sql_values.specs.declared.fault.ValueFault.{ValueFault}
 use Rattle.row_versions.specs.declared.write.Seen.{Seen}
-use Rattle.query_results.specs.Queries.{AssignedColumn}
-use Rattle.query_results.specs.Updates.{undefined_in_update, columns_set}
+use Rattle.query_results.specs.Queries.{AssignedColumn, undefined_among}
+use Rattle.query_results.specs.Updates.{columns_set, update_exprs}
 use Rattle.session_machine.specs.declared.session.OpenTransaction.{OpenTransaction}
 use Rattle.session_machine.specs.declared.fault.StmtFault.TheVariants.{NoColumnOf}
 use Rattle.session_machine.specs.Tables.{Database}
 use Rattle.session_machine.specs.Statements.{Effect, Surroundings, fails}
 use Rattle.session_machine.specs.Walks.{Visit, walked, walked_from}
 use Rattle.session_machine.specs.Rows.{cols_in}
-use Rattle.session_machine.specs.Running.{beginning, unless_wrong, update}
+use Rattle.session_machine.specs.Running.{beginning, unless_undefined, unless_wrong, update, delete, delete_from}
 use Rattle.session_machine.specs.Inner.Pieces.{update_fitting, update_to, columns_at}
 
 -- targets that were found are gone over from the place on
@@ -32,5 +32,11 @@ no_such_column db t around u found k column a b = ap (update db t around u) a �
 
 -- one whose columns are all there goes on with them
 pub such_columns : (db : Database) (t : OpenTransaction) (around : Surroundings) (u : UpdateTree) (found : Option ℕ) (k : ℕ) (to : List AssignedColumn) → found ≡ Some k
-    → columns_set (columns_at db.catalog k) u.sets ≡ Ok to → update db t around u found ≡ update_fitting db (beginning db t around k) u (undefined_in_update (cols_in db (beginning db t around k)) u)
+    → columns_set (columns_at db.catalog k) u.sets ≡ Ok to → update db t around u found ≡ update_fitting db (beginning db t around k) u (undefined_among (cols_in db (beginning db t around k)) (update_exprs u))
 such_columns db t around u found k to a b = ap (update db t around u) a ∙ ap (update_to db (beginning db t around k) u) b
+
+-- a DELETE that names no column that isn't there goes on
+pub deletes_there : (db : Database) (t : OpenTransaction) (around : Surroundings) (d : DeleteTree) (found : Option ℕ) (k : ℕ) → found ≡ Some k
+    → undefined_among (cols_in db (beginning db t around k)) (option_to_list d.filter) ≡ None → delete db t around d found ≡ delete_from db (beginning db t around k) d 0 []
+deletes_there db t around d found k a b =
+    ap (delete db t around d) a ∙ ap (λ (x : Option (List ℕ)). unless_undefined db t x (delete_from db (beginning db t around k) d 0 [])) b

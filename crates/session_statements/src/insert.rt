@@ -1,12 +1,12 @@
 //! INSERT (PostgreSQL manual, its page).
 
-ghost use Rattle.std.specs.Prelude.{◌≡◌, ◌≢◌, ◌+◌, ◌<◌, ◌^◌, [], List, Some, None, Ok, drop, length, map, option_map, IfOk, OnOk, OnErr, IsSome};
+ghost use Rattle.std.specs.Prelude.{◌≡◌, ◌≢◌, ◌+◌, ◌<◌, ◌^◌, [], List, Some, None, Ok, drop, flat_map, length, map, option_map, IfOk, OnOk, OnErr, IsSome};
 ghost use Rattle.sql_trees.specs.Trees.{tree_of};
 ghost use Rattle.sql_trees.specs.Statements.{column_of, exprs_of, insert_of, name_of, names_of};
 ghost use Rattle.sql_values.specs.declared.fault.ValueFault.TheVariants.{Memory};
 ghost use Rattle.sql_values.specs.declared.value.Value.{Value as SqlValue};
 ghost use Rattle.row_versions.specs.Log.{Content, IsOpen};
-ghost use Rattle.query_results.specs.Queries.{undefined_in_rows, columns_assigned};
+ghost use Rattle.query_results.specs.Queries.{columns_assigned, undefined_among};
 ghost use Rattle.session_machine.specs.Tables.{find_table};
 ghost use Rattle.session_machine.specs.Walks.{walked};
 ghost use Rattle.session_machine.specs.Rows.{insert_one};
@@ -154,7 +154,7 @@ impl<'a, 't, V: Versions> Database<'a, 't, V> {
         requires room { work.now.t.command + 1 < 2 ^ 64 }
         requires within { work.now.table < length self.old.catalog.tables }
         ensures { IfOk result (λ did.
-            insert_fitting self.old work.now (insert_of stmt.now) to.now (undefined_in_rows (map exprs_of stmt.now.rows.items)) ≡ left self.new did) }
+            insert_fitting self.old work.now (insert_of stmt.now) to.now (undefined_among [] (flat_map (λ row. row) (map exprs_of stmt.now.rows.items))) ≡ left self.new did) }
     {
         if let Some(name) = undefined_in_rows(stmt.rows.as_slice()) {
             return Ok(self.fail_column(&work.by, name));

@@ -7,7 +7,7 @@ ghost use Rattle.sql_values.specs.Values.{Answers};
 ghost use Rattle.query_results.specs.Results.{Results};
 ghost use Rattle.row_versions.specs.Log.{IsOpen};
 ghost use Rattle.session_machine.specs.Tables.{find_table};
-ghost use Rattle.query_results.specs.Queries.{undefined_in_select, result_of, wrong_position};
+ghost use Rattle.query_results.specs.Queries.{result_of, select_exprs, undefined_among, wrong_position};
 ghost use Rattle.session_machine.specs.Views.{rows_shown};
 ghost use Rattle.session_machine.specs.Rows.{columns_in};
 ghost use Rattle.session_machine.specs.Running.{answered, select, select_rows, unless_wrong};
@@ -140,7 +140,7 @@ impl<'a, 't, V: Versions> Database<'a, 't, V> {
         requires opened { IsOpen self.old.content by.now.tx }
         requires room { by.now.command + 1 < 2 ^ 64 }
         ensures { IfOk result (λ did.
-            unless_wrong self.old by.now (undefined_in_select [] (select_of stmt.now)) (wrong_position [] (select_of stmt.now))
+            unless_wrong self.old by.now (undefined_among [] (select_exprs (select_of stmt.now))) (wrong_position [] (select_of stmt.now))
             (answered self.old by.now (result_of (select_of stmt.now) [] ([] ∷ []))) ≡ left self.new did) }
     {
         if let Some(name) = undefined_in_select(&[], stmt) {

@@ -3,9 +3,9 @@
 ghost use Rattle.std.specs.Prelude.{◌≡◌, ◌+◌, ◌<◌, ◌^◌, Some, None, Ok, length, map, IfOk, OnErr, IsSome};
 ghost use Rattle.sql_trees.specs.Statements.{column_of, name_of, set_of, update_of};
 ghost use Rattle.row_versions.specs.Log.{IsOpen};
-ghost use Rattle.query_results.specs.Updates.{undefined_in_update, columns_set, updated};
+ghost use Rattle.query_results.specs.Updates.{columns_set, update_exprs, updated};
 ghost use Rattle.sql_values.specs.Values.{Answers};
-ghost use Rattle.query_results.specs.Queries.{cols_of};
+ghost use Rattle.query_results.specs.Queries.{cols_of, undefined_among};
 ghost use Rattle.session_machine.specs.Tables.{find_table};
 ghost use Rattle.session_machine.specs.Rows.{cols_in, columns_in, update_with, values_of};
 ghost use Rattle.session_machine.specs.Running.{assigned_to, update, update_from};
@@ -126,7 +126,7 @@ impl<'a, 't, V: Versions> Database<'a, 't, V> {
         requires within { work.now.table < length self.old.catalog.tables }
         requires orderly { IsOrderly self.old }
         ensures { IfOk result (λ did.
-            update_fitting self.old work.now (update_of stmt.now) (undefined_in_update (cols_of (columns_in self.old work.now)) (update_of stmt.now)) ≡ left self.new did) }
+            update_fitting self.old work.now (update_of stmt.now) (undefined_among (cols_of (columns_in self.old work.now)) (update_exprs (update_of stmt.now))) ≡ left self.new did) }
     {
         if let Some(name) = undefined_in_update(self.columns_in(work), stmt) {
             return Ok(self.fail_column(&work.by, name));

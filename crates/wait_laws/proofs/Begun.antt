@@ -323,7 +323,7 @@ finds db e p same = record {
       let columns : columns_at e.catalog p.table.0 ≡ columns_at db.catalog p.table.0 =
       ap (λ (o : Option Table). unwrap_or (option_map (λ (y : Table). y.made.columns) o) []) found in
       record {
-        passing = λ filter. λ i. at_places (seen i) (passing (cols_of (columns i)) filter 0 (rows i));
+        passing = λ filter. λ i. at_places (seen i) (passing (cols_of (columns i)) filter (rows i));
         taken = λ s. λ i. at_places (seen i) (taken s (columns i) (rows i));
       };
 }

@@ -1,6 +1,6 @@
 -- What a statement does, step by step: it takes locks, writes rows that it holds, makes and drops tables, and ends; and where it waits, its wait closes no cycle.
 use Rattle.std.proofs.Common.{◌≡◌, refl, sym, ◌∙◌, ap, subst, ◌⊎◌, inl, inr, Bool, true, false, not, ◌||◌, ◌==◌, ℕ, zero, suc, ◌+◌, List, [], ◌∷◌, ◌++◌}
-use Rattle.std.specs.Prelude.{ℤ, Option, Some, None, drop, slice_get, unwrap_or, Result, Ok, Err, if◌then◌else◌}
+use Rattle.std.specs.Prelude.{ℤ, flat_map, Option, Some, None, drop, slice_get, unwrap_or, Result, Ok, Err, if◌then◌else◌}
 use Rattle.std.specs.Option.{option_or}
 use Rattle.std.proofs.lemmas.Bool.{eqb-true}
 use Rattle.sql_trees.specs.declared.stmt.Level.{Level}
@@ -11,8 +11,8 @@ use Rattle.sql_trees.specs.Statements.{StmtTree, KeyTree, CreateTree, InsertTree
 use Rattle.sql_values.specs.declared.value.Value.{Value}
 use Rattle.sql_values.specs.declared.fault.ValueFault.{ValueFault}
 use Rattle.query_results.specs.Results.{Results}
-use Rattle.query_results.specs.Queries.{AssignedColumn, cols_of, undefined_in_rows, new_values, row_values, columns_assigned, titles_of}
-use Rattle.query_results.specs.Updates.{undefined_in_update, columns_set, updated}
+use Rattle.query_results.specs.Queries.{AssignedColumn, cols_of, new_values, row_values, columns_assigned, titles_of, undefined_among}
+use Rattle.query_results.specs.Updates.{columns_set, update_exprs, updated}
 use Rattle.row_versions.specs.declared.names.TxId.{TxId}
 use Rattle.row_versions.specs.declared.names.RowId.{RowId}
 use Rattle.row_versions.specs.declared.write.Write.{Write}
@@ -395,7 +395,7 @@ ran_insert_from P Q V db w i place rows keeps view p =
 ran_insert_to : (P Q : Database → Type 0) (V : View → Type 0) (db : Database) (w : Work) (i : InsertTree) (r : Result (List AssignedColumn) (List ℕ)) → Keeps w.t.tx w.t.command P Q → V w.view → P db
     → Ran w.t.tx w.t.command P Q V w.around.sessions (insert_to db w i r)
 ran_insert_to P Q V db w i (Err column) keeps view p = ran_fails P Q V w.around.sessions db w.t _ keeps p
-ran_insert_to P Q V db w i (Ok targets) keeps view p = fitting (undefined_in_rows i.rows) where
+ran_insert_to P Q V db w i (Ok targets) keeps view p = fitting (undefined_among [] (flat_map (λ row. row) i.rows)) where
   fitting : (o : Option (List ℕ)) → Ran w.t.tx w.t.command P Q V w.around.sessions (insert_fitting db w i targets o)
   fitting (Some name) = ran_fails P Q V w.around.sessions db w.t _ keeps p
   fitting None =
@@ -410,7 +410,7 @@ ran_update_from P Q V db w u place rows keeps view p =
 ran_update_to : (P Q : Database → Type 0) (V : View → Type 0) (db : Database) (w : Work) (u : UpdateTree) (r : Result (List AssignedColumn) (List ℕ)) → Keeps w.t.tx w.t.command P Q → V w.view → P db
     → Ran w.t.tx w.t.command P Q V w.around.sessions (update_to db w u r)
 ran_update_to P Q V db w u (Err column) keeps view p = ran_fails P Q V w.around.sessions db w.t _ keeps p
-ran_update_to P Q V db w u (Ok targets) keeps view p = fitting (undefined_in_update (cols_of (columns_in db w)) u) where
+ran_update_to P Q V db w u (Ok targets) keeps view p = fitting (undefined_among (cols_of (columns_in db w)) (update_exprs u)) where
   fitting : (o : Option (List ℕ)) → Ran w.t.tx w.t.command P Q V w.around.sessions (update_fitting db w u o)
   fitting (Some name) = ran_fails P Q V w.around.sessions db w.t _ keeps p
   fitting None = ran_update_from P Q V db w u 0 [] keeps view p

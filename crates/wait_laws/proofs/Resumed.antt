@@ -8,7 +8,7 @@ use Rattle.sql_trees.specs.declared.stmt.Lock.{Lock}
 use Rattle.sql_trees.specs.Statements.{StmtTree, CreateTree, SelectTree}
 use Rattle.sql_values.specs.declared.fault.ValueFault.{ValueFault}
 use Rattle.query_results.specs.Results.{Results}
-use Rattle.query_results.specs.Queries.{undefined_in_select, result_of, wrong_position}
+use Rattle.query_results.specs.Queries.{result_of, select_exprs, undefined_among, wrong_position}
 use Rattle.row_versions.specs.declared.names.TxId.{TxId}
 use Rattle.row_versions.specs.declared.write.View.{View}
 use Rattle.row_versions.specs.Log.{Content}
@@ -80,11 +80,11 @@ over_select db t around s h = from s.table where
   at name None = refl
   at name (Some k) =
       let w = beginning db t around k in
-      over_unless_wrong db t (undefined_in_select (cols_in db w) s) (wrong_position (columns_in db w) s) (select_rows db w s s.lock) (over_rows db w s s.lock h)
+      over_unless_wrong db t (undefined_among (cols_in db w) (select_exprs s)) (wrong_position (columns_in db w) s) (select_rows db w s s.lock) (over_rows db w s s.lock h)
 
   from : (o : Option (List ℕ)) → (select db t around s o).statement ≡ None
   from None =
-      let r = result_of s [] ([] ∷ []) in over_unless_wrong db t (undefined_in_select [] s) (wrong_position [] s) (answered db t r) (over_answered db t r)
+      let r = result_of s [] ([] ∷ []) in over_unless_wrong db t (undefined_among [] (select_exprs s)) (wrong_position [] s) (answered db t r) (over_answered db t r)
   from (Some name) = at name (find_table db (Some t.tx) name)
 
 over_create : (db : Database) (t : OpenTransaction) (c : CreateTree) (o : Option ℕ) → (create db t c o).statement ≡ None

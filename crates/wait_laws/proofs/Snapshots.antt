@@ -1,6 +1,6 @@
 -- A transaction's snapshot is of commits that have been.
 use Rattle.std.proofs.Common.{◌≡◌, refl, sym, subst, Bool, true, false, ℕ, ◌≤◌, List, [], arith}
-use Rattle.std.specs.Prelude.{ℤ, Option, Some, None, drop, unwrap_or, Result, Ok, Err, if◌then◌else◌}
+use Rattle.std.specs.Prelude.{ℤ, flat_map, Option, Some, None, drop, unwrap_or, Result, Ok, Err, if◌then◌else◌}
 use Rattle.sql_trees.specs.declared.stmt.Level.{Level}
 use Rattle.sql_trees.specs.declared.stmt.Level.TheVariants.{ReadCommitted}
 use Rattle.sql_trees.specs.declared.stmt.Lock.{Lock}
@@ -8,8 +8,8 @@ use Rattle.sql_trees.specs.Statements.{StmtTree, CreateTree, InsertTree, UpdateT
 use Rattle.sql_values.specs.declared.value.Value.{Value}
 use Rattle.sql_values.specs.declared.fault.ValueFault.{ValueFault}
 use Rattle.query_results.specs.Results.{Results}
-use Rattle.query_results.specs.Queries.{AssignedColumn, cols_of, undefined_in_rows, columns_assigned, titles_of}
-use Rattle.query_results.specs.Updates.{undefined_in_update, columns_set}
+use Rattle.query_results.specs.Queries.{AssignedColumn, cols_of, columns_assigned, titles_of, undefined_among}
+use Rattle.query_results.specs.Updates.{columns_set, update_exprs}
 use Rattle.row_versions.specs.Log.{Content, commit_count}
 use Rattle.session_machine.specs.declared.session.OpenTransaction.{OpenTransaction}
 use Rattle.session_machine.specs.declared.session.Transaction.{Transaction}
@@ -100,14 +100,14 @@ shot_lock_from count db w s l place rows has same =
 
 shot_insert_to : (count : ℕ) (db : Database) (w : Work) (i : InsertTree) (r : Result (List AssignedColumn) (List ℕ)) → Has count w.t → commit_count db.content ≡ count → Shot count (insert_to db w i r)
 shot_insert_to count db w i (Err column) has same = shot_fails count db w.t _
-shot_insert_to count db w i (Ok targets) has same = by (undefined_in_rows i.rows) where
+shot_insert_to count db w i (Ok targets) has same = by (undefined_among [] (flat_map (λ row. row) i.rows)) where
   by : (o : Option (List ℕ)) → Shot count (insert_fitting db w i targets o)
   by (Some name) = shot_fails count db w.t _
   by None = shot_if count _ _ _ (shot_fails count db w.t _) (shot_insert_from count db w i 0 [] has same)
 
 shot_update_to : (count : ℕ) (db : Database) (w : Work) (u : UpdateTree) (r : Result (List AssignedColumn) (List ℕ)) → Has count w.t → commit_count db.content ≡ count → Shot count (update_to db w u r)
 shot_update_to count db w u (Err column) has same = shot_fails count db w.t _
-shot_update_to count db w u (Ok targets) has same = by (undefined_in_update (cols_of (columns_in db w)) u) where
+shot_update_to count db w u (Ok targets) has same = by (undefined_among (cols_of (columns_in db w)) (update_exprs u)) where
   by : (o : Option (List ℕ)) → Shot count (update_fitting db w u o)
   by (Some name) = shot_fails count db w.t _
   by None = shot_update_from count db w u 0 [] has same

@@ -1,5 +1,5 @@
 -- Statements piece by piece, as the code runs them.
-use Rattle.std.specs.Prelude.{ℕ, ◌+◌, ◌==◌, Bool, false, ◌&&◌, List, [], ◌∷◌, ◌++◌, length, Option, Some, None, option_map, unwrap_or, slice_get, Result, if◌then◌else◌}
+use Rattle.std.specs.Prelude.{ℕ, ◌+◌, ◌==◌, Bool, false, ◌&&◌, List, [], ◌∷◌, ◌++◌, flat_map, nat_lt, length, Option, Some, None, option_map, unwrap_or, slice_get, Result, if◌then◌else◌}
 use Rattle.std.specs.List.{list_any}
 use Rattle.std.specs.Option.{option_map_or}
 use Rattle.sql_trees.specs.declared.stmt.Level.TheVariants.{ReadCommitted}
@@ -7,8 +7,8 @@ use Rattle.sql_trees.specs.declared.stmt.Lock.{Lock}
 use Rattle.sql_trees.specs.Statements.{StmtTree, ColumnTree, KeyTree, CreateTree, InsertTree, UpdateTree, DeleteTree, SelectTree, Selects, key_name}
 use Rattle.sql_values.specs.declared.value.Value.{Value}
 use Rattle.sql_values.specs.declared.fault.ValueFault.{ValueFault}
-use Rattle.query_results.specs.Queries.{AssignedColumn, undefined_in_rows, undefined_in_select, some_too_long, wrong_position}
-use Rattle.query_results.specs.Updates.{undefined_in_update}
+use Rattle.query_results.specs.Queries.{AssignedColumn, select_exprs, undefined_among, wrong_position}
+use Rattle.query_results.specs.Updates.{update_exprs}
 use Rattle.row_versions.specs.declared.names.TxId.{TxId}
 use Rattle.row_versions.specs.declared.names.RowId.{RowId}
 use Rattle.row_versions.specs.Members.{same_tx}
@@ -101,22 +101,22 @@ lock_made db values = with_values db values (λ row. goes_on db (row ∷ []))
 -- ---- before the targets
 
 abbrev pub insert_fitting : Database → Work → InsertTree → List AssignedColumn → Option (List ℕ) → Effect
-insert_fitting db w i to undefined = unless_undefined db w.t undefined (if some_too_long (length to) i.rows then fails db w.t TooManyValues else insert_from db w i 0 [])
+insert_fitting db w i to undefined = unless_undefined db w.t undefined (if list_any (λ row. nat_lt (length to) (length row)) i.rows then fails db w.t TooManyValues else insert_from db w i 0 [])
 
 abbrev pub insert_to : Database → Work → InsertTree → Result (List AssignedColumn) (List ℕ) → Effect
-insert_to db w i columns = assigning db w.t i.table columns (λ to. insert_fitting db w i to (undefined_in_rows i.rows))
+insert_to db w i columns = assigning db w.t i.table columns (λ to. insert_fitting db w i to (undefined_among [] (flat_map (λ row. row) i.rows)))
 
 abbrev pub update_fitting : Database → Work → UpdateTree → Option (List ℕ) → Effect
 update_fitting db w u undefined = unless_undefined db w.t undefined (update_from db w u 0 [])
 
 abbrev pub update_to : Database → Work → UpdateTree → Result (List AssignedColumn) (List ℕ) → Effect
-update_to db w u columns = assigning db w.t u.table columns (λ to. update_fitting db w u (undefined_in_update (cols_in db w) u))
+update_to db w u columns = assigning db w.t u.table columns (λ to. update_fitting db w u (undefined_among (cols_in db w) (update_exprs u)))
 
 abbrev pub delete_fitting : Database → Work → DeleteTree → Option (List ℕ) → Effect
 delete_fitting db w d undefined = unless_undefined db w.t undefined (delete_from db w d 0 [])
 
 abbrev pub select_in : Database → Work → SelectTree → Effect
-select_in db w s = unless_wrong db w.t (undefined_in_select (cols_in db w) s) (wrong_position (columns_in db w) s) (select_rows db w s s.lock)
+select_in db w s = unless_wrong db w.t (undefined_among (cols_in db w) (select_exprs s)) (wrong_position (columns_in db w) s) (select_rows db w s s.lock)
 
 abbrev pub select_at : Database → OpenTransaction → Surroundings → SelectTree → List ℕ → Option ℕ → Effect
 select_at db t around s name found = at_table db t around name found (λ w. select_in db w s)

@@ -1,5 +1,5 @@
 -- What a query answers at the rows that it takes.
-use Rattle.std.specs.Prelude.{ℕ, ◌-◌, ◌==◌, nat_lt, Bool, true, false, Option, List, [], ◌∷◌, ◌++◌, length, map, Result, Ok, if◌then◌else◌}
+use Rattle.std.specs.Prelude.{ℕ, ◌-◌, ◌==◌, nat_lt, Bool, true, false, List, [], ◌∷◌, ◌++◌, filter_map, length, map, Result, Ok, if◌then◌else◌}
 use Rattle.sql_trees.specs.Trees.{AggTree}
 use Rattle.sql_trees.specs.Statements.{ColumnTree, ItemTree, SelectTree}
 use Rattle.sql_trees.specs.Statements as stmt
@@ -10,9 +10,10 @@ use Rattle.sql_values.specs.Values.{Answer, each, if_ok}
 use Rattle.sql_values.specs.Sorting.{key}
 use Rattle.sql_values.specs.Expressions.{Cols, value}
 use Rattle.sql_values.specs.Aggregates.{aggregate}
+use Rattle.query_results.specs.declared.title.Title.{Title}
 use Rattle.query_results.specs.Results.{Results}
 use Rattle.query_results.specs.Ordering.{rows_at}
-use Rattle.query_results.specs.Queries.{agg_title, cols_of, counted, results_by, taken}
+use Rattle.query_results.specs.Queries.{aggregate_in, cols_of, results_by, taken}
 
 -- what an item answers at a row
 abbrev pub item_row : Cols → List Value → ItemTree → Result (List Value) ValueFault
@@ -36,9 +37,13 @@ abbrev pub row_results : List ColumnTree → List ItemTree → List (List Value)
 row_results columns is taken = results_by columns is [] taken
 
 -- the aggregates over all of the rows, one after the other, as one row
-abbrev pub agg_results : List ColumnTree → List (AggTree × Option (List ℕ)) → List (List Value) → Result Results ValueFault
+abbrev pub agg_results : List ColumnTree → List (AggTree × Title) → List (List Value) → Result Results ValueFault
 agg_results columns aggs taken =
-    if_ok (each (λ a. aggregate a.0 (cols_of columns) taken) aggs) (λ row. Ok (record { titles = map agg_title aggs; rows = row ∷ [] }))
+    if_ok (each (λ a. aggregate a.0 (cols_of columns) taken) aggs) (λ row. Ok (record { titles = map (λ a. a.1) aggs; rows = row ∷ [] }))
+
+-- the aggregates among the items, each with its title
+abbrev pub counted : List ItemTree → List (AggTree × Title)
+counted is = filter_map aggregate_in is
 
 -- the items at each of the rows, or the aggregates over all of them, under their titles
 abbrev pub answered : List ColumnTree → List ItemTree → List (List Value) → Result Results ValueFault

@@ -1,28 +1,25 @@
--- What the parts of an item lack, and how they are titled.
-use Rattle.std.specs.Prelude.{List, ℕ, None, Option, is_some, if◌then◌else◌}
+-- How the parts of an item are titled.
+use Rattle.std.specs.Prelude.{List, ℕ, Option}
 use Rattle.std.specs.Option.{option_map_or}
 use Rattle.sql_trees.specs.declared.expr.AggKind.{AggKind}
 use Rattle.sql_trees.specs.Trees.{Tree, AggTree}
 use Rattle.sql_trees.specs.Trees as tree
-use Rattle.sql_trees.specs.Statements.{ItemTree}
-use Rattle.sql_trees.specs.Statements as stmt
-use Rattle.sql_values.specs.Expressions.{Cols}
 use Rattle.query_results.specs.declared.title.Title.{Title}
-use Rattle.query_results.specs.declared.title.Title.TheVariants.{Column as Named}
-use Rattle.query_results.specs.Queries.{aliased, undefined_column, undefined_in_item, own_title, title_of}
+use Rattle.query_results.specs.declared.title.Title.TheVariants.{Column as Named, Unnamed}
+use Rattle.query_results.specs.Queries.{own_title}
 
--- the first column that an aggregate names and that isn't there
-abbrev pub undefined_in_agg : Cols → AggTree → Option (List ℕ)
-undefined_in_agg cols a = undefined_in_item cols (stmt.Aggregate a None)
-
--- the column that a key names and that isn't there, where the items lack none
-abbrev pub undefined_in_key : Cols → List ItemTree → Tree → Option (List ℕ)
-undefined_in_key cols is (tree.Column name) = if is_some (aliased is name) then None else undefined_column cols (tree.Column name)
-undefined_in_key cols is e = undefined_column cols e
+-- an item without an alias has the name of the column that it is
+abbrev pub title_of : Tree → Title
+title_of (tree.Column name) = Named name
+title_of e = Unnamed
 
 -- the title of an expression with this alias
 abbrev pub title_or : Tree → Option (List ℕ) → Title
 title_or e alias = option_map_or Named alias (title_of e)
+
+-- the title of an aggregate with this alias
+abbrev pub agg_title : AggTree × Option (List ℕ) → Title
+agg_title a = option_map_or Named a.1 (own_title a.0)
 
 -- the title of an aggregate of this kind
 abbrev pub kind_title : AggKind → Title

@@ -2,8 +2,8 @@ use Rattle.std.proofs.Common.{◌≡◌, ◌+◌, drop, length, map}
 use Rattle.sql_trees.specs.Statements.{item_of}
 use Rattle.sql_values.specs.Aggregates.{aggregate}
 use Rattle.sql_values.specs.Values.{each}
-use Rattle.query_results.specs.Queries.{counted}
 use Rattle.session_queries.specs.Inner.Fronts.{in_front}
+use Rattle.session_queries.specs.Inner.Answers.{counted}
 use Rattle.session_queries.proofs.answer.agg_values.Given as goal
 
 abbrev pub invariant-loop-item : goal.invariant-loop-item

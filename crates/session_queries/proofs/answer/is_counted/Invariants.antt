@@ -1,6 +1,6 @@
 use Rattle.std.proofs.Common.{◌≡◌, drop, map}
 use Rattle.sql_trees.specs.Statements.{item_of}
-use Rattle.query_results.specs.Queries.{counted}
+use Rattle.session_queries.specs.Inner.Answers.{counted}
 use Rattle.session_queries.proofs.answer.is_counted.Given as goal
 
 abbrev pub invariant-loop-item : goal.invariant-loop-item

@@ -1,6 +1,6 @@
 use Rattle.std.proofs.Common.{◌≡◌, drop, map}
 use Rattle.sql_trees.specs.Statements.{item_of, name_of}
-use Rattle.query_results.specs.Queries.{aliased}
+use Rattle.session_queries.specs.Inner.Undefined.{aliased}
 use Rattle.session_queries.proofs.keys.aliased.Given as goal
 
 abbrev pub invariant-loop-item : goal.invariant-loop-item

@@ -1,6 +1,6 @@
 use Rattle.std.proofs.Common.{◌≡◌, drop}
 use Rattle.sql_trees.specs.Trees.{trees}
-use Rattle.query_results.specs.Queries.{undefined_in_list}
+use Rattle.session_queries.specs.Inner.Undefined.{undefined_in_list}
 use Rattle.session_queries.proofs.undefined.+undefined.Given as goal
 
 abbrev pub invariant-undefined_in_list-loop-item : goal.invariant-undefined_in_list-loop-item

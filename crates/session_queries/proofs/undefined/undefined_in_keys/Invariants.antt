@@ -1,7 +1,6 @@
 use Rattle.std.proofs.Common.{◌≡◌, drop, map}
 use Rattle.sql_trees.specs.Statements.{OrderTree, item_of, order_of}
-use Rattle.query_results.specs.Queries.{first_of}
-use Rattle.session_queries.specs.Inner.Parts.{undefined_in_key}
+use Rattle.session_queries.specs.Inner.Undefined.{first_of, undefined_in_key}
 use Rattle.session_queries.proofs.undefined.undefined_in_keys.Given as goal
 
 abbrev pub invariant-loop-key : goal.invariant-loop-key

@@ -1,6 +1,6 @@
 use Rattle.std.proofs.Common.{◌≡◌, drop, map}
 use Rattle.sql_trees.specs.Statements.{exprs_of}
-use Rattle.query_results.specs.Queries.{undefined_in_rows}
+use Rattle.session_queries.specs.Inner.Undefined.{undefined_in_rows}
 use Rattle.session_queries.proofs.undefined.undefined_in_rows.Given as goal
 
 abbrev pub invariant-loop-row : goal.invariant-loop-row

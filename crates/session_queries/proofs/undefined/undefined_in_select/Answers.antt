@@ -4,11 +4,18 @@ use Rattle.std.specs.Option.{option_or}
 use Rattle.sql_trees.specs.declared.stmt.Item.{Item}
 use Rattle.sql_trees.specs.declared.stmt.OrderKey.{OrderKey}
 use Rattle.sql_trees.specs.Statements.{OrderTree, column_of, item_of, order_of, select_of}
-use Rattle.query_results.specs.Queries.{cols_of, first_of, undefined_column, undefined_in_condition, undefined_in_item, undefined_in_select, meant}
-use Rattle.session_queries.specs.Inner.Parts.{undefined_in_key}
+use Rattle.query_results.specs.Queries.{cols_of, meant, select_exprs, undefined_among}
 use Rattle.session_queries.proofs.ColumnLists.{known_columns}
+use Rattle.session_queries.proofs.ColumnsNamed.{of_select, select_answer}
 use Rattle.session_queries.proofs.Meant.{keys_mean}
+use Rattle.session_queries.specs.Inner.Undefined.{first_of, undefined_column, undefined_in_condition, undefined_in_item, undefined_in_key}
 use Rattle.session_queries.proofs.undefined.undefined_in_select.Goals as goal
+
+pub returns-in-Some : goal.returns-in-Some
+returns-in-Some c = select_answer (cols_of (map column_of c.args.columns.now)) (select_of c.args.select.now) _ (search (rules, known_columns))
+
+pub returns-in-Some-undefined_in_condition : goal.returns-in-Some-undefined_in_condition
+returns-in-Some-undefined_in_condition c = select_answer (cols_of (map column_of c.args.columns.now)) (select_of c.args.select.now) _ (search (rules, known_columns))
 
 pub returns-in-None : goal.returns-in-None
 returns-in-None c =
@@ -24,4 +31,4 @@ returns-in-None c =
     c.undefined_in_keys.ensures ∙ ap (λ is. of_keys is c.deref-in-None-2.result.now) c.deref-in-None.ensures.value ∙ ap (of_keys c.args.select.now.items.items) c.deref-in-None-2.ensures.value
     ∙ keys_mean cols s.items s.order in_items in
     let behind = λ (lacks : Option (List ℕ)). option_or lacks (first_of (λ (k : OrderTree). undefined_column cols (meant s.items k.expr)) s.order) in
-    in_keys ∙ sym (ap (λ cs. undefined_in_select cs s) named ∙ ap (λ lacks. option_or lacks (behind (undefined_in_condition cols s.filter))) in_items ∙ ap behind in_filter)
+    in_keys ∙ sym (ap (λ cs. undefined_among cs (select_exprs s)) named ∙ of_select cols s ∙ ap (λ lacks. option_or lacks (behind (undefined_in_condition cols s.filter))) in_items ∙ ap behind in_filter)

@@ -1,6 +1,6 @@
 use Rattle.std.proofs.Common.{◌≡◌, drop, map}
 use Rattle.sql_trees.specs.Statements.{SetTree, set_of}
-use Rattle.query_results.specs.Queries.{first_of, undefined_column}
+use Rattle.session_queries.specs.Inner.Undefined.{first_of, undefined_column}
 use Rattle.session_queries.proofs.undefined.undefined_in_sets.Given as goal
 
 abbrev pub invariant-loop-expr : goal.invariant-loop-expr

@@ -34,10 +34,10 @@ returns-clause-targets g c =
     let filter = option_map tree_of c.args.filter.now in
     let same : map now c.deref-2.result.now ≡ shown_to db w =
     ap (map now) c.deref-2.ensures.value ∙ c.in_ok-rows.ensures ∙ ap (map (λ (s : Seen). unwrap_or (values_at db.content s.place) [])) (c.deref.ensures.value ∙ c.in_ok-seen.ensures) in
-    let due = passing (cols_in db w) filter 0 (shown_to db w) in
+    let due = passing (cols_in db w) filter (shown_to db w) in
     subst (λ seen. AnswersList c.at_places.result (at_places seen due)) (c.deref-3.ensures.value ∙ c.in_ok-seen.ensures) (c.at_places.ensures.targets due
-    (subst (λ cols. AnswersList c.passing_places-places.result (passing (cols_of cols) filter 0 (shown_to db w))) c.columns_in.ensures
-    (subst (λ rows. AnswersList c.passing_places-places.result (passing (cols_of (map column_of c.columns_in.result.now)) filter 0 rows)) same c.passing_places-places.ensures.places)))
+    (subst (λ cols. AnswersList c.passing_places-places.result (passing (cols_of cols) filter (shown_to db w))) c.columns_in.ensures
+    (subst (λ rows. AnswersList c.passing_places-places.result (passing (cols_of (map column_of c.columns_in.result.now)) filter rows)) same c.passing_places-places.ensures.places)))
 
 pub returns-clause-its : goal.returns-clause-its
 returns-clause-its g c =

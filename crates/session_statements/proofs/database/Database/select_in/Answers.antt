@@ -1,7 +1,7 @@
 use Rattle.std.proofs.Common.{◌≡◌, ◌∙◌, sym, ap, subst}
 use Rattle.std.specs.Prelude.{IfOk, None}
 use Rattle.sql_trees.specs.Statements.{select_of}
-use Rattle.query_results.specs.Queries.{cols_of, undefined_in_select, wrong_position}
+use Rattle.query_results.specs.Queries.{cols_of, select_exprs, undefined_among, wrong_position}
 use Rattle.session_machine.specs.Rows.{columns_in}
 use Rattle.session_machine.specs.Statements.{Effect}
 use Rattle.session_machine.specs.Running.{select_rows}
@@ -14,9 +14,9 @@ returns g c =
     let db = c.args.self.now in
     let w = c.args.work.now in
     let s = select_of c.args.stmt.now in
-    let lacks : undefined_in_select (cols_of (columns_in db w)) s ≡ None =
-    sym (ap (λ cs. undefined_in_select (cols_of cs) s) c.columns_in-columns.ensures) ∙ sym c.undefined_in_select.ensures ∙ c.in_default.is in
+    let lacks : undefined_among (cols_of (columns_in db w)) (select_exprs s) ≡ None =
+    sym (ap (λ cs. undefined_among (cols_of cs) (select_exprs s)) c.columns_in-columns.ensures) ∙ sym c.undefined_in_select.ensures ∙ c.in_default.is in
     let position : wrong_position (columns_in db w) s ≡ None =
     sym (ap (λ cs. wrong_position cs s) c.columns_in-columns.ensures) ∙ sym c.wrong_position.ensures ∙ c.in_default-wrong_position.is in
-    let e = not_wrong db w.t (undefined_in_select (cols_of (columns_in db w)) s) (wrong_position (columns_in db w) s) (select_rows db w s s.lock) lacks position in
+    let e = not_wrong db w.t (undefined_among (cols_of (columns_in db w)) (select_exprs s)) (wrong_position (columns_in db w) s) (select_rows db w s s.lock) lacks position in
     subst (λ (x : Effect). IfOk c.select_rows.result (λ did. x ≡ left c.select_rows.new.self did)) (sym e) c.select_rows.ensures

@@ -1,7 +1,8 @@
 use Rattle.std.proofs.Common.{rules, ◌≡◌, ◌∙◌, ap, sym}
 use Rattle.std.specs.Prelude.{Some, Ok, Err}
 use Rattle.sql_trees.specs.Statements.{name_of, update_of}
-use Rattle.query_results.specs.Updates.{columns_set, undefined_in_update}
+use Rattle.query_results.specs.Updates.{columns_set, update_exprs}
+use Rattle.query_results.specs.Queries.{undefined_among}
 use Rattle.session_machine.specs.Tables.{find_table}
 use Rattle.session_machine.specs.Rows.{Work, cols_in}
 use Rattle.session_machine.specs.Inner.Pieces.{update_fitting, columns_at}
@@ -29,5 +30,5 @@ returns-clause-did g c =
     let k = c.in-Some.place in
     let is : columns_set (columns_at db.catalog k) u.sets ≡ Ok c.in_default-2.field-0 = search rules in
     let goes_on = such_columns db t c.args.around.now u (find_table db (Some t.tx) (name_of c.args.stmt.now.table)) k c.in_default-2.field-0 (search rules) is
-    ∙ ap (λ (w : Work). update_fitting db w u (undefined_in_update (cols_in db w) u)) (sym c.work-work.ensures) in
+    ∙ ap (λ (w : Work). update_fitting db w u (undefined_among (cols_in db w) (update_exprs u))) (sym c.work-work.ensures) in
     rw goes_on c.update_fitting.ensures
