@@ -10,7 +10,7 @@ use Rattle.sql_values.specs.Sorting.{keys_at, row_order}
 abbrev pub rows_at : List (List Value) → List ℕ → List (List Value)
 rows_at rows places = map (keys_at rows) places
 
--- a place among sorted ones: before those whose rows its row stands before by their keys, and behind all others
+-- a place is put in among sorted ones: before the first whose row stands behind its row by their keys, or at the end
 abbrev pub put_in : List Dir → List (List Value) → List ℕ → ℕ → List ℕ
 put_in by keys [] p = p ∷ []
 put_in by keys (q ∷ qs) p = if is_lt (row_order 0 by (keys_at keys p) (keys_at keys q)) then p ∷ q ∷ qs else q ∷ put_in by keys qs p

@@ -83,7 +83,7 @@ shown cols is row = flat_map (item_values cols row) is
 abbrev pub row_values : Cols → List ItemTree → List Value → Result (List Value) ValueFault
 row_values cols is row = each (λ answer. answer) (shown cols is row)
 
--- the titles of what an item shows: of an expression its alias, or the name of the column that it is
+-- the titles of what an item shows: of an expression its alias, or the name of the column that it is, or none
 abbrev pub item_titles : List ColumnTree → ItemTree → List Title
 item_titles columns stmt.All = map (λ (c : ColumnTree). Named c.name) columns
 item_titles columns (stmt.Value e (Some alias)) = Named alias ∷ []

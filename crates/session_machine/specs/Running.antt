@@ -79,7 +79,7 @@ unless_undefined db t undefined due = option_map_or (λ name. fails db t (OfValu
 abbrev pub insert_from : Database → Work → InsertTree → ℕ → List (List Value) → Effect
 insert_from db w i place rows = after_walk db.content w done (walked (insert_one w i.table (assigned_to (columns_assigned (columns_in db w) i.columns))) db place rows (drop place i.rows))
 
--- INSERT at the table that is found; no row of its VALUES may have more of them than there are columns to assign
+-- INSERT at the table that is found; its VALUES may name no column, and none of their rows may have more of them than there are columns to assign
 abbrev pub insert : Database → OpenTransaction → Surroundings → InsertTree → Option ℕ → Effect
 insert db t around i found = at_table db t around i.table found (λ w. assigning db t i.table (columns_assigned (columns_in db w) i.columns) (λ to.
     unless_undefined db t (undefined_among [] (flat_map (λ row. row) i.rows)) (if list_any (λ row. nat_lt (length to) (length row)) i.rows then fails db t TooManyValues else insert_from db w i 0 [])))

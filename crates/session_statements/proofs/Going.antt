@@ -1,18 +1,18 @@
 -- A statement goes over the targets that were found, or over what it selects.
 use Rattle.std.proofs.Common.{◌≡◌, ◌∙◌, sym, ap, ℕ, ℤ, List, [], drop}
 use Rattle.std.specs.Prelude.{Option, Some, None, option_to_list, Result, Ok, Err}
-use Rattle.sql_trees.specs.Statements.{UpdateTree, DeleteTree}
+use Rattle.sql_trees.specs.Statements.{ColumnTree, UpdateTree, DeleteTree}
 use Rattle.sql_values.specs.declared.value.Value.{Value}
 use Rattle.sql_values.specs.declared.fault.ValueFault.{ValueFault}
 use Rattle.row_versions.specs.declared.write.Seen.{Seen}
-use Rattle.query_results.specs.Queries.{AssignedColumn, undefined_among}
+use Rattle.query_results.specs.Queries.{AssignedColumn, cols_of, undefined_among}
 use Rattle.query_results.specs.Updates.{columns_set, update_exprs}
 use Rattle.session_machine.specs.declared.session.OpenTransaction.{OpenTransaction}
 use Rattle.session_machine.specs.declared.fault.StmtFault.TheVariants.{NoColumnOf}
 use Rattle.session_machine.specs.Tables.{Database}
 use Rattle.session_machine.specs.Statements.{Effect, Surroundings, fails}
 use Rattle.session_machine.specs.Walks.{Visit, walked, walked_from}
-use Rattle.session_machine.specs.Rows.{cols_in}
+use Rattle.session_machine.specs.Rows.{Work, cols_in}
 use Rattle.session_machine.specs.Running.{beginning, unless_undefined, unless_wrong, update, delete, delete_from}
 use Rattle.session_machine.specs.Inner.Pieces.{update_fitting, update_to, columns_at}
 
@@ -36,7 +36,11 @@ pub such_columns : (db : Database) (t : OpenTransaction) (around : Surroundings)
 such_columns db t around u found k to a b = ap (update db t around u) a ∙ ap (update_to db (beginning db t around k) u) b
 
 -- a DELETE that names no column that isn't there goes on
-pub deletes_there : (db : Database) (t : OpenTransaction) (around : Surroundings) (d : DeleteTree) (found : Option ℕ) (k : ℕ) → found ≡ Some k
-    → undefined_among (cols_in db (beginning db t around k)) (option_to_list d.filter) ≡ None → delete db t around d found ≡ delete_from db (beginning db t around k) d 0 []
-deletes_there db t around d found k a b =
-    ap (delete db t around d) a ∙ ap (λ (x : Option (List ℕ)). unless_undefined db t x (delete_from db (beginning db t around k) d 0 [])) b
+pub deletes_there : (db : Database) (t : OpenTransaction) (around : Surroundings) (d : DeleteTree) (found : Option ℕ) (k : ℕ) (columns : List ColumnTree) (undefined : Option (List ℕ)) (w : Work) (rows : List (List Value))
+    → found ≡ Some k → columns ≡ columns_at db.catalog k → undefined ≡ undefined_among (cols_of columns) (option_to_list d.filter) → undefined ≡ None → w ≡ beginning db t around k → rows ≡ []
+    → delete db t around d found ≡ delete_from db w d 0 rows
+deletes_there db t around d found k columns undefined w rows a same is none at empty =
+    let due = delete_from db (beginning db t around k) d 0 [] in
+    let lacks : undefined_among (cols_of (columns_at db.catalog k)) (option_to_list d.filter) ≡ None =
+    sym (ap (λ cs. undefined_among (cols_of cs) (option_to_list d.filter)) same) ∙ sym is ∙ none in
+    ap (delete db t around d) a ∙ ap (λ (x : Option (List ℕ)). unless_undefined db t x due) lacks ∙ λ i. delete_from db (sym at i) d 0 (sym empty i)
