@@ -7,7 +7,8 @@ use Rattle.session_machine.specs.declared.reply.HistItem.{HistItem}
 use Rattle.spec_parser.specs.Trees.{PartTree, StepTree, SessionTree, EntryTree, SpecTree}
 use Rattle.spec_parser.specs.Numbered.{step_of_entry}
 use Rattle.report_lines.specs.declared.history.PlannedLaunch.{PlannedLaunch}
-use Rattle.report_lines.specs.Due.{Launches, Planned, due}
+use Rattle.report_lines.specs.History.{PermutationRun}
+use Rattle.report_lines.specs.Due.{Launches, orders, due}
 
 abbrev pub launch_in : ℕ → PartTree → PlannedLaunch
 launch_in session part = record { session = session; block = part.block }
@@ -30,14 +31,14 @@ launches spec entries = record {
   last = map (launch_in 0) (option_to_list spec.teardown);
 }
 
--- these launches with a history of theirs
-abbrev pub plan_of : Launches → List EntryTree → List HistItem → Planned
-plan_of l entries items = record { launches = l; run = record { entries = entries; items = items; setups = length l.setups } }
+-- a history of these launches
+abbrev pub run_of : Launches → List EntryTree → List HistItem → PermutationRun
+run_of l entries items = record { entries = entries; items = items; setups = length l.setups }
 
 -- the next order after these items
 abbrev pub due_after : Launches → List EntryTree → List HistItem → Order
-due_after l entries items = due (plan_of l entries items)
+due_after l entries items = due l (run_of l entries items) (orders items)
 
 -- the next order after these items of the permutation of a spec that has these entries
 abbrev pub due_in : SpecTree → List EntryTree → List HistItem → Order
-due_in spec entries items = due (plan_of (launches spec entries) entries items)
+due_in spec entries items = let l = launches spec entries in due l (run_of l entries items) (orders items)

@@ -9,8 +9,8 @@ use Rattle.report_lines.specs.declared.history.Moment.{Moment}
 use Rattle.report_lines.specs.declared.lines_so_far.Chosen.{Chosen}
 use Rattle.report_lines.specs.declared.lines_so_far.Chosen.TheVariants.{Joined}
 use Rattle.report_lines.specs.History.{PermutationRun}
-use Rattle.report_lines.specs.Report.{is_reported, active, instances, may_report, retry, pass}
-use Rattle.report_lines.specs.Inner.Trying.{is_chosen, chosen_retry, retried_from}
+use Rattle.report_lines.specs.Report.{is_reported, active, instances, may_report, retry}
+use Rattle.report_lines.specs.Inner.Trying.{pass, is_chosen, chosen_retry, retried_from}
 use Rattle.report_lines.proofs.Waits.{active_leave, reported_push}
 use Rattle.report_lines.proofs.Rising.{Between, between_instances, between_filter, between_at, between_leave, filter_at, fold_at}
 

@@ -1,5 +1,5 @@
 -- The list of waiting entries over the lines.
-use Rattle.std.proofs.Common.{◌≡◌, ℕ, zero, suc, ◌+◌, ◌<◌, ◌≤◌, List, [], ◌∷◌, ◌++◌, refl, ap, sym, ◌∙◌, arith, true, false, Bool, not, cond, ◌==◌, ◌||◌, ◌&&◌, add-one, ◌⊎◌, inl, inr, ◌-◌, append-nil, Option, Some, None, slice_get}
+use Rattle.std.proofs.Common.{◌≡◌, length, ℕ, zero, suc, ◌+◌, ◌<◌, ◌≤◌, List, [], ◌∷◌, ◌++◌, refl, ap, sym, ◌∙◌, arith, true, false, Bool, not, cond, ◌==◌, ◌||◌, ◌&&◌, add-one, ◌⊎◌, inl, inr, ◌-◌, append-nil, Option, Some, None, slice_get}
 use Rattle.std.specs.List.{list_any, filter, fold}
 use Rattle.std.specs.Option.{option_map_or}
 use Rattle.std.proofs.lemmas.List.Folds.{list_any-append}
@@ -12,8 +12,9 @@ use Rattle.report_lines.specs.declared.history.Line.TheVariants.{AtOnce, Waiting
 use Rattle.report_lines.specs.declared.history.Moment.{Moment}
 use Rattle.spec_parser.specs.Trees.{EntryTree}
 use Rattle.spec_parser.specs.declared.tree.Marker.{Marker}
-use Rattle.report_lines.specs.History.{PermutationRun, names, is_awaited, is_empty, is_marked, markers_of}
-use Rattle.report_lines.specs.Report.{reports, is_reported, active, instances, pass, polled, polls_again}
+use Rattle.report_lines.specs.History.{PermutationRun, names, is_awaited, is_marked, markers_of}
+use Rattle.report_lines.specs.Report.{reports, is_reported, active, instances, polled, polls_again}
+use Rattle.report_lines.specs.Inner.Trying.{pass}
 use Rattle.report_lines.specs.Inner.Waiting.{IsKept}
 
 pub reported_push : (lines : List Line) (l : Line) (i : ℕ) → is_reported (lines ++ l ∷ []) i ≡ (is_reported lines i || reports i l)
@@ -138,10 +139,10 @@ polled_off c m n t old new b h is says fails =
 pub fold_more : (f : List Line → ℕ → List Line) (a : List Line) (n : ℕ) → fold f a (instances (n + 1)) ≡ f (fold f a (instances n)) n
 fold_more f a n = rw add-one (fold-append f a (instances n) (n ∷ []))
 
-unnamed : (o : Option EntryTree) (ms : List Marker) → not (is_empty ms) ≡ false → option_map_or (λ (e : EntryTree). list_any (names e) ms) o false ≡ false
+unnamed : (o : Option EntryTree) (ms : List Marker) → not (length ms == 0) ≡ false → option_map_or (λ (e : EntryTree). list_any (names e) ms) o false ≡ false
 unnamed None ms h = refl
 unnamed (Some e) [] h = refl
-unnamed (Some e) (m ∷ ms) h = let some : is_empty (m ∷ ms) ≡ false = grind arith in let no : true ≡ false = ap not (sym some) ∙ h in cc
+unnamed (Some e) (m ∷ ms) h = let some : (length (m ∷ ms) == 0) ≡ false = grind arith in let no : true ≡ false = ap not (sym some) ∙ h in cc
 
 -- an entry without markers names no step
 pub unmarked : (c : PermutationRun) (i : ℕ) (xs : List ℕ) → is_marked c i ≡ false → list_any (is_awaited c i) xs ≡ false

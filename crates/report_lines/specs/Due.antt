@@ -22,11 +22,6 @@ pub record Launches : Type 0 where
   pub sessions : ℕ
   pub last : List PlannedLaunch
 
--- what a permutation launches, and its entries with a history of theirs
-pub record Planned : Type 0 where
-  pub launches : Launches
-  pub run : PermutationRun
-
 -- the segment of this number
 abbrev pub segment : List HistItem → ℕ → List HistItem
 segment items k = slice_range items (segment_start items k) (segment_start items (k + 1))
@@ -71,12 +66,11 @@ due_entry l items count (Due e) = option_map_or launch (slice_get l.steps e) Sto
 due_entry l items count Invalid = Stop
 due_entry l items count Whole = due_last l items count (teardowns_so_far items count (length l.setups + length l.steps) l.teardowns)
 
--- the next order where so many orders of a history are there
-abbrev pub due_at : Planned → ℕ → Order
-due_at plan count =
-    unwrap_or (due_setup plan.run.items count 0 plan.launches.setups)
-    (due_entry plan.launches plan.run.items count (report plan.run (count - length plan.launches.setups)).state)
+-- the next order where so many orders of the history are there
+abbrev pub due : Launches → PermutationRun → ℕ → Order
+due l c count = unwrap_or (due_setup c.items count 0 l.setups) (due_entry l c.items count (report c (count - length l.setups)).state)
 
--- the next order after a history
-abbrev pub due : Planned → Order
-due plan = due_at plan (orders plan.run.items)
+-- what a permutation launches, and its entries with a history of theirs
+pub record Planned : Type 0 where
+  pub launches : Launches
+  pub run : PermutationRun

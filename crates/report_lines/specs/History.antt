@@ -41,11 +41,5 @@ markers_of c i = option_map_or (λ (e : EntryTree). e.markers) (slice_get c.entr
 abbrev pub is_awaited : PermutationRun → ℕ → ℕ → Bool
 is_awaited c i j = option_map_or (λ (e : EntryTree). list_any (names e) (markers_of c i)) (slice_get c.entries j) false
 
-abbrev pub is_starred : PermutationRun → ℕ → Bool
-is_starred c i = list_any is_star (markers_of c i)
-
-abbrev pub is_empty : {A : Type 0} → List A → Bool
-is_empty xs = length xs == 0
-
 abbrev pub is_marked : PermutationRun → ℕ → Bool
-is_marked c i = not (is_empty (markers_of c i))
+is_marked c i = not (length (markers_of c i) == 0)

@@ -5,8 +5,8 @@ use Rattle.std.specs.List.{list_any, filter}
 use Rattle.report_lines.specs.declared.history.Line.{Line}
 use Rattle.report_lines.specs.declared.history.Line.TheVariants.{AtOnce, Waiting, Completed}
 use Rattle.report_lines.specs.declared.history.Moment.{Moment}
-use Rattle.report_lines.specs.History.{PermutationRun, session_of_entry, has_ended, is_awaited, is_starred, is_marked}
-use Rattle.report_lines.specs.Report.{instances, before_launch, after_launch, is_of}
+use Rattle.report_lines.specs.History.{PermutationRun, session_of_entry, has_ended, is_awaited, is_star, markers_of, is_marked}
+use Rattle.report_lines.specs.Report.{instances, moment_of, is_of}
 
 -- an instance is tried at a moment
 pub record Try : Type 0 where
@@ -23,7 +23,7 @@ is_untried tries i = not (list_any (is_try_of i) tries)
 -- the condition of a try: the block has ended in the items so far, no instance of a step that a marker names is active, and, with a star, the try isn't the first
 abbrev pub may_be_reported : PermutationRun → List ℕ → Bool → Try → Bool
 may_be_reported c active is_first t =
-    has_ended c t.moment.seen t.entry && not (list_any (is_awaited c t.entry) active) && not (is_first && is_starred c t.entry)
+    has_ended c t.moment.seen t.entry && not (list_any (is_awaited c t.entry) active) && not (is_first && list_any is_star (markers_of c t.entry))
 
 -- the condition was met at one of the tries of this instance
 abbrev pub was_reported : PermutationRun → List Try → ℕ → Bool
@@ -80,17 +80,16 @@ has_active c tries e = list_any (is_of c (session_of_entry c e)) (still_active c
 -- before an entry's Launch, if its session has an active step: that step first
 abbrev pub tries_before : PermutationRun → List Try → ℕ → List Try
 tries_before c tries e =
-    if has_active c tries e
-    then all_passes c (before_launch c e) (try_each (before_launch c e) tries (filter (is_of c (session_of_entry c e)) (still_active c tries e)))
-    else tries
+    let m = moment_of c e e in
+    if has_active c tries e then all_passes c m (try_each m tries (filter (is_of c (session_of_entry c e)) (still_active c tries e))) else tries
 
 -- after an entry's segment: the new step first
 abbrev pub tries_after : PermutationRun → List Try → ℕ → List Try
-tries_after c tries e = all_passes c (after_launch c e) (record { entry = e; moment = after_launch c e } ∷ tries)
+tries_after c tries e = let m = moment_of c (e + 1) e in all_passes c m (record { entry = e; moment = m } ∷ tries)
 
 -- the tries of the entries from one on, of whose segments so many are there
 abbrev pub tries_from : PermutationRun → ℕ → ℕ → ℕ → List Try → List Try
-tries_from c e zero count tries = all_passes c (before_launch c e) tries
+tries_from c e zero count tries = all_passes c (moment_of c e e) tries
 tries_from c e (suc rest) count tries =
     let way = tries_before c tries e in
     if has_active c way e then way
