@@ -41,4 +41,4 @@ due_after l entries items = due l (run_of l entries items) (orders items)
 
 -- the next order after these items of the permutation of a spec that has these entries
 abbrev pub due_in : SpecTree → List EntryTree → List HistItem → Order
-due_in spec entries items = let l = launches spec entries in due l (run_of l entries items) (orders items)
+due_in spec entries items = let l = launches spec entries in due l (record { entries = entries; items = items; setups = length l.setups }) (orders items)

@@ -11,9 +11,10 @@ use Rattle.report_lines.specs.declared.history.Moment.{Moment}
 use Rattle.report_lines.specs.declared.history.RunState.TheVariants.{Whole, Invalid, Due}
 use Rattle.report_lines.specs.Starts.{segment_start, is_order, ends_in}
 use Rattle.session_machine.specs.Machine.{is_failed}
-use Rattle.report_lines.specs.Due.{Launches, orders, segment, is_over, went_well, launch, due_setup, teardowns_so_far, due_last, due_entry, due}
+use Rattle.report_lines.specs.Due.{Launches, orders, segment, is_over, went_well, launch, due_setup, teardowns_so_far, due_entry, due}
+use Rattle.report_lines.specs.Inner.Due.{due_last}
 use Rattle.report_lines.specs.History.{PermutationRun, session_of_entry, seen_before, has_ended, is_awaited, is_star, markers_of}
-use Rattle.report_lines.specs.Report.{Report, is_reported, active, instances, moment_of, may_report, retry, polls_again, polled, poll, is_of, has_unreported, made_way, launched, report_from, report}
+use Rattle.report_lines.specs.Report.{Report, is_reported, active, moment_of, may_report, retry, polls_again, polled, poll, is_of, has_unreported, made_way, launched, report_from, report}
 use Rattle.report_lines.specs.Fronts.{with_more}
 use Rattle.report_lines.specs.declared.history.PlannedLaunch.{PlannedLaunch}
 use Rattle.report_lines.specs.declared.history.TeardownsSoFar.{TeardownsSoFar}
@@ -21,9 +22,10 @@ use Rattle.report_lines.specs.declared.history.RunState.{RunState}
 use Rattle.session_machine.specs.declared.event.Order.{Order}
 use Rattle.session_machine.specs.declared.event.Order.TheVariants.{Leave, Stop}
 use Rattle.std.specs.Prelude.{nat_le, Option, Some, unwrap_or}
-use Rattle.report_lines.specs.Inner.Trying.{first_try, pass, own_retry}
+use Rattle.report_lines.specs.Inner.Trying.{instances, first_try, pass, own_retry}
 use Rattle.report_lines.proofs.Polls.{own_filter}
 use Rattle.report_lines.proofs.Found.{start_within}
+use Rattle.report_lines.proofs.Rising.{instances_more}
 
 -- ---- where the orders stand
 
@@ -97,10 +99,11 @@ own_same c more count m session lines i same le = ap (λ w. if is_of c session i
 fold_same : (f g : List Line → ℕ → List Line) (n : ℕ) (lines : List Line) → ((w : List Line) (i : ℕ) → i < n → f w i ≡ g w i) → fold f lines (instances n) ≡ fold g lines (instances n)
 fold_same f g zero lines same = refl
 fold_same f g (suc n) lines same =
-    fold-append f lines (instances n) (n ∷ [])
+    ap (fold f lines) (instances_more n)
+    ∙ fold-append f lines (instances n) (n ∷ [])
     ∙ same (fold f lines (instances n)) n (omega arith)
     ∙ ap (λ w. g w n) (fold_same f g n lines (λ w i less. same w i (omega (arith, less))))
-    ∙ sym (fold-append g lines (instances n) (n ∷ []))
+    ∙ sym (ap (fold g lines) (instances_more n) ∙ fold-append g lines (instances n) (n ∷ []))
 
 own_steps_same : (c : PermutationRun) (more : List HistItem) (count : ℕ) (m : Moment) (session n : ℕ) (lines : List Line) → EndAlike c more count m → n ≤ count
     → fold (retry (with_more c more) m) lines (filter (is_of c session) (instances n)) ≡ fold (retry c m) lines (filter (is_of c session) (instances n))

@@ -1,5 +1,6 @@
 -- How the report goes on at each entry.
 use Rattle.std.proofs.Common.{◌≡◌, ◌==◌, ℕ, zero, suc, ◌+◌, ◌-◌, ◌<◌, ◌≤◌, List, [], length, refl, ap, sym, ◌∙◌, arith, Bool, true, false, if◌then◌else◌, nat_lt}
+use Rattle.std.proofs.lemmas.Bool.{le-ltb}
 use Rattle.report_lines.specs.declared.history.Line.{Line}
 use Rattle.report_lines.specs.declared.history.RunState.{RunState}
 use Rattle.report_lines.specs.declared.history.RunState.TheVariants.{Due, Whole, Invalid}
@@ -20,7 +21,7 @@ report_stuck c n e lines way h is busy =
 pub report_due : (c : PermutationRun) (n e : ℕ) (lines way : List Line) → e < n → way ≡ made_way c lines e → has_unreported c way e ≡ false → report_from c e (n - e) e lines ≡ record { lines = way; state = Due e }
 report_due c n e lines way h is free =
     let more : n - e ≡ suc (n - (e + 1)) = omega arith in
-    let absent : nat_lt e e ≡ false = grind arith in
+    let absent : nat_lt e e ≡ false = le-ltb e e (omega arith) in
     let free_way : has_unreported c (made_way c lines e) e ≡ false = ap (λ (w : List Line). has_unreported c w e) (sym is) ∙ free in
     rw (more, free_way, absent, is) refl
 

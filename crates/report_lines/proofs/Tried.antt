@@ -11,11 +11,11 @@ use Rattle.report_lines.specs.declared.history.Line.TheVariants.{AtOnce, Waiting
 use Rattle.report_lines.specs.declared.history.Moment.{Moment}
 use Rattle.report_lines.specs.declared.history.RunState.TheVariants.{Due, Invalid}
 use Rattle.report_lines.specs.History.{PermutationRun, session_of_entry, has_ended, is_awaited, is_star, markers_of, is_marked}
-use Rattle.report_lines.specs.Report.{reports, is_reported, instances, active, moment_of, retry, polls_again, polled, poll, is_of, has_unreported, made_way, launched, report_from, report}
-use Rattle.report_lines.specs.Inner.Trying.{first_try, pass}
+use Rattle.report_lines.specs.Report.{reports, is_reported, active, moment_of, retry, polls_again, polled, poll, is_of, has_unreported, made_way, launched, report_from, report}
+use Rattle.report_lines.specs.Inner.Trying.{instances, first_try, pass}
 use Rattle.report_lines.specs.Tries.{Try, is_try_of, is_untried, was_reported, still_active, is_met, says, said, try_each, gone_through, wants_another, passes, all_passes, has_active, tries_before, tries_after, tries_from, tries}
 use Rattle.report_lines.proofs.Waits.{same_filter}
-use Rattle.report_lines.proofs.Rising.{Between, between_instances, between_filter, between_length}
+use Rattle.report_lines.proofs.Rising.{instances_more, Between, between_instances, between_filter, between_length}
 use Rattle.report_lines.proofs.Polls.{pass_waiting, grows, own_waiting}
 
 or_same : (h b r : Bool) → (b ≡ true → h ≡ true) → (h || false) ≡ (h || (b && r))
@@ -122,7 +122,8 @@ any_joined_case p q k n rest h (inl lt) =
     ∙ ap (λ m. list_any p (filter q (instances m))) all
 any_joined_case p q k n rest h (inr le) =
     let past : nat_lt n k ≡ false = le-ltb n k le in
-    ap (list_any (λ j. nat_lt j k && p j)) (filter-append q (instances n) (n ∷ []))
+    ap (λ xs. list_any (λ j. nat_lt j k && p j) (filter q xs)) (instances_more n)
+    ∙ ap (list_any (λ j. nat_lt j k && p j)) (filter-append q (instances n) (n ∷ []))
     ∙ list_any-append (λ j. nat_lt j k && p j) (filter q (instances n)) (filter q (n ∷ []))
     ∙ elim (q n) as (λ b. (list_any (λ j. nat_lt j k && p j) (filter q (instances n)) || list_any (λ j. nat_lt j k && p j) (cond b (n ∷ []) [])) ≡ list_any (λ j. nat_lt j k && p j) (filter q (instances n)))
     [ true ↦ rw past (or-false _) | false ↦ or-false _ ]

@@ -1,6 +1,6 @@
 -- What is said of the entries: at each moment the tries in their order, each step at the first try at which it can be reported.
 use Rattle.std.specs.Prelude.{ℕ, zero, suc, ◌+◌, ◌==◌, nat_lt, Bool, false, not, ◌&&◌, List, [], ◌∷◌, ◌++◌, length, if◌then◌else◌}
-use Rattle.std.specs.List.{list_any, filter, fold}
+use Rattle.std.specs.List.{list_any, filter, fold, range_with_len}
 use Rattle.report_lines.specs.declared.history.Line.{Line}
 use Rattle.report_lines.specs.declared.history.Line.TheVariants.{AtOnce, Waiting, Completed}
 use Rattle.report_lines.specs.declared.history.Moment.{Moment}
@@ -17,14 +17,9 @@ reports i (Completed entry seen) = i == entry
 abbrev pub is_reported : List Line → ℕ → Bool
 is_reported lines i = list_any (reports i) lines
 
--- the entries before this one, in order
-abbrev pub instances : ℕ → List ℕ
-instances zero = []
-instances (suc n) = instances n ++ n ∷ []
-
--- of so many launched instances those that are not reported
+-- of so many launched instances, which are entries by their numbers from 0, those that are not reported
 abbrev pub active : List Line → ℕ → List ℕ
-active lines launched = filter (λ j. not (is_reported lines j)) (instances launched)
+active lines launched = filter (λ j. not (is_reported lines j)) (range_with_len 0 launched)
 
 -- so many entries are launched, with their segments there, and so many of them have come to the waiting list
 abbrev pub moment_of : PermutationRun → ℕ → ℕ → Moment
@@ -45,7 +40,7 @@ polls_again c m old new = nat_lt (length old) (length new) && list_any (λ j. na
 -- the waiting list is gone through, so many times at most
 abbrev pub polled : PermutationRun → Moment → ℕ → List Line → List Line
 polled c m zero lines = lines
-polled c m (suc more) lines = let new = fold (retry c m) lines (instances m.joined) in if polls_again c m lines new then polled c m more new else new
+polled c m (suc more) lines = let new = fold (retry c m) lines (range_with_len 0 m.joined) in if polls_again c m lines new then polled c m more new else new
 
 abbrev pub poll : PermutationRun → Moment → List Line → List Line
 poll c m lines = polled c m (m.joined + 1) lines
@@ -60,7 +55,7 @@ has_unreported c lines e = list_any (is_of c (session_of_entry c e)) (active lin
 -- the tries before an entry's Launch: where its session has an active step, the session's steps first
 abbrev pub made_way : PermutationRun → List Line → ℕ → List Line
 made_way c lines e =
-    let m = moment_of c e e in if has_unreported c lines e then poll c m (fold (retry c m) lines (filter (is_of c (session_of_entry c e)) (instances e))) else lines
+    let m = moment_of c e e in if has_unreported c lines e then poll c m (fold (retry c m) lines (filter (is_of c (session_of_entry c e)) (range_with_len 0 e))) else lines
 
 -- the tries after it: the new step first, which a star keeps from being reported at once
 abbrev pub launched : PermutationRun → List Line → ℕ → List Line

@@ -1,12 +1,12 @@
 -- The report in the words of its rules: what is tried at each moment, when a try reports, and what it says.
 -- In a list of tries the latest comes first.
 use Rattle.std.specs.Prelude.{◌≡◌, ℕ, zero, suc, ◌+◌, ◌==◌, nat_lt, Bool, true, false, not, ◌&&◌, ◌||◌, List, [], ◌∷◌, ◌++◌, length, if◌then◌else◌}
-use Rattle.std.specs.List.{list_any, filter}
+use Rattle.std.specs.List.{list_any, filter, range_with_len}
 use Rattle.report_lines.specs.declared.history.Line.{Line}
 use Rattle.report_lines.specs.declared.history.Line.TheVariants.{AtOnce, Waiting, Completed}
 use Rattle.report_lines.specs.declared.history.Moment.{Moment}
 use Rattle.report_lines.specs.History.{PermutationRun, session_of_entry, has_ended, is_awaited, is_star, markers_of, is_marked}
-use Rattle.report_lines.specs.Report.{instances, moment_of, is_of}
+use Rattle.report_lines.specs.Report.{moment_of, is_of}
 
 -- an instance is tried at a moment
 pub record Try : Type 0 where
@@ -30,11 +30,11 @@ abbrev pub was_reported : PermutationRun → List Try → ℕ → Bool
 was_reported c [] i = false
 was_reported c (t ∷ earlier) i =
     was_reported c earlier i
-    || (is_try_of i t && may_be_reported c (filter (λ j. not (was_reported c earlier j)) (instances t.moment.launched)) (is_untried earlier t.entry) t)
+    || (is_try_of i t && may_be_reported c (filter (λ j. not (was_reported c earlier j)) (range_with_len 0 t.moment.launched)) (is_untried earlier t.entry) t)
 
 -- after these tries, of so many launched instances those that are still active
 abbrev pub still_active : PermutationRun → List Try → ℕ → List ℕ
-still_active c tries launched = filter (λ j. not (was_reported c tries j)) (instances launched)
+still_active c tries launched = filter (λ j. not (was_reported c tries j)) (range_with_len 0 launched)
 
 -- a try that follows these meets its condition
 abbrev pub is_met : PermutationRun → List Try → Try → Bool

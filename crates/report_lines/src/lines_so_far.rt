@@ -6,9 +6,9 @@ ghost use Rattle.report_lines.specs.SoFar.{LinesSoFar, IsAt, IsReportSoFar};
 ghost use Rattle.report_lines.specs.Inner.Waiting.{IsKept};
 ghost use Rattle.report_lines.specs.Due.{orders};
 ghost use Rattle.report_lines.specs.History.{session_of_entry, is_awaited, is_marked, has_ended, seen_before};
-ghost use Rattle.report_lines.specs.Inner.Trying.{first_try, pass, is_chosen, chosen_retry, retried_from};
+ghost use Rattle.report_lines.specs.Inner.Trying.{instances, first_try, pass, is_chosen, chosen_retry, retried_from};
 ghost use Rattle.report_lines.specs.Report.{is_reported, active, may_report, retry, polls_again, polled, poll, has_unreported, is_of};
-ghost use Rattle.report_lines.specs.Report.{made_way, launched, report, report_from, instances};
+ghost use Rattle.report_lines.specs.Report.{made_way, launched, report, report_from};
 
 use crate::history::{Line, Moment, RunState};
 use crate::run_so_far::RunSoFar;

@@ -2,7 +2,8 @@
 ghost use Rattle.std.specs.Prelude.{◌≡◌, ◌+◌, ◌-◌, ◌<◌, ◌≤◌, ◌^◌, ℕ, not, ◌&&◌, length, map, slice_get, unwrap_or, IfOk, OnOk, drop, Option, Some, None};
 ghost use Rattle.std.specs.Option.{option_map_or};
 ghost use Rattle.spec_parser.specs.Trees.{entry_view};
-ghost use Rattle.report_lines.specs.Due.{is_over, went_well, orders, launch, due_setup, teardowns_so_far, due_last, due_entry, due};
+ghost use Rattle.report_lines.specs.Due.{is_over, went_well, orders, launch, due_setup, teardowns_so_far, due_entry, due};
+ghost use Rattle.report_lines.specs.Inner.Due.{due_last};
 ghost use Rattle.report_lines.specs.Progress.{KeepsFront};
 ghost use Rattle.report_lines.specs.Inner.Progress.{IsSettled};
 
@@ -110,7 +111,8 @@ impl<'a> Model for Plan<'a> {
 }
 
 impl<'a> Plan<'a> {
-    ghost use Rattle.report_lines.specs.Due.{orders, due_last, due_entry, due};
+    ghost use Rattle.report_lines.specs.Due.{orders, due_entry, due};
+    ghost use Rattle.report_lines.specs.Inner.Due.{due_last};
 
     /// A permutation of these entries, with the launches of their steps and of what stands around them, and its history.
     pub fn new(entries: &'a [Entry], items: &'a [HistItem<'a>], schedule: &Schedule<'a>) -> Plan<'a>

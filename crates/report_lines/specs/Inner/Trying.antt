@@ -1,13 +1,17 @@
 -- How the waiting list is gone through.
 use Rattle.std.specs.Prelude.{ℕ, nat_lt, Bool, not, ◌&&◌, List, [], ◌∷◌, ◌++◌, drop, if◌then◌else◌}
-use Rattle.std.specs.List.{fold, list_any}
+use Rattle.std.specs.List.{fold, list_any, range_with_len}
 use Rattle.report_lines.specs.declared.history.Line.{Line}
 use Rattle.report_lines.specs.declared.history.Line.TheVariants.{AtOnce, Waiting}
 use Rattle.report_lines.specs.declared.history.Moment.{Moment}
 use Rattle.report_lines.specs.declared.lines_so_far.Chosen.{Chosen}
 use Rattle.report_lines.specs.declared.lines_so_far.Chosen.TheVariants.{Joined, Own}
 use Rattle.report_lines.specs.History.{PermutationRun, is_star, markers_of}
-use Rattle.report_lines.specs.Report.{active, instances, is_of, may_report, retry}
+use Rattle.report_lines.specs.Report.{active, is_of, may_report, retry}
+
+-- the entries before this one, in order
+abbrev pub instances : ℕ → List ℕ
+instances n = range_with_len 0 n
 
 -- the first try of an instance
 abbrev pub first_try : PermutationRun → Moment → List Line → ℕ → List Line
