@@ -9,7 +9,8 @@ use Rattle.report_lines.specs.declared.history.Moment.{Moment}
 use Rattle.report_lines.specs.declared.lines_so_far.Chosen.{Chosen}
 use Rattle.report_lines.specs.declared.lines_so_far.Chosen.TheVariants.{Joined}
 use Rattle.report_lines.specs.History.{PermutationRun}
-use Rattle.report_lines.specs.Report.{is_reported, active, may_report, retry}
+use Rattle.report_lines.specs.Report.{active, may_report, retry}
+use Rattle.report_lines.specs.Inner.Waiting.{is_reported}
 use Rattle.report_lines.specs.Inner.Trying.{instances, pass, is_chosen, chosen_retry, retried_from}
 use Rattle.report_lines.proofs.Waits.{active_leave, reported_push}
 use Rattle.report_lines.proofs.Rising.{instances_more, Between, between_instances, between_filter, between_at, between_leave, filter_at, fold_at}

@@ -12,10 +12,10 @@ use Rattle.report_lines.specs.declared.history.Line.TheVariants.{AtOnce, Waiting
 use Rattle.report_lines.specs.declared.history.Moment.{Moment}
 use Rattle.spec_parser.specs.Trees.{EntryTree}
 use Rattle.spec_parser.specs.declared.tree.Marker.{Marker}
-use Rattle.report_lines.specs.History.{PermutationRun, names, is_awaited, is_marked, markers_of}
-use Rattle.report_lines.specs.Report.{reports, is_reported, active, polled, polls_again}
-use Rattle.report_lines.specs.Inner.Trying.{instances, pass}
-use Rattle.report_lines.specs.Inner.Waiting.{IsKept}
+use Rattle.report_lines.specs.History.{PermutationRun, names, is_awaited, markers_of}
+use Rattle.report_lines.specs.Report.{reports, active, polled, polls_again}
+use Rattle.report_lines.specs.Inner.Trying.{is_marked, instances, pass}
+use Rattle.report_lines.specs.Inner.Waiting.{is_reported, IsKept}
 use Rattle.report_lines.proofs.Rising.{instances_more}
 
 pub reported_push : (lines : List Line) (l : Line) (i : ℕ) → is_reported (lines ++ l ∷ []) i ≡ (is_reported lines i || reports i l)

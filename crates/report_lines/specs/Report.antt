@@ -6,7 +6,7 @@ use Rattle.report_lines.specs.declared.history.Line.TheVariants.{AtOnce, Waiting
 use Rattle.report_lines.specs.declared.history.Moment.{Moment}
 use Rattle.report_lines.specs.declared.history.RunState.{RunState}
 use Rattle.report_lines.specs.declared.history.RunState.TheVariants.{Due, Whole, Invalid}
-use Rattle.report_lines.specs.History.{PermutationRun, session_of_entry, seen_before, has_ended, is_awaited, is_star, markers_of, is_marked}
+use Rattle.report_lines.specs.History.{PermutationRun, session_of_entry, seen_before, has_ended, is_awaited, is_star, markers_of}
 
 -- the line reports the instance
 abbrev pub reports : ℕ → Line → Bool
@@ -14,12 +14,9 @@ reports i (AtOnce entry seen) = i == entry
 reports i (Waiting entry) = false
 reports i (Completed entry seen) = i == entry
 
-abbrev pub is_reported : List Line → ℕ → Bool
-is_reported lines i = list_any (reports i) lines
-
 -- of so many launched instances, which are entries by their numbers from 0, those that are not reported
 abbrev pub active : List Line → ℕ → List ℕ
-active lines launched = filter (λ j. not (is_reported lines j)) (range_with_len 0 launched)
+active lines launched = filter (λ j. not (list_any (reports j) lines)) (range_with_len 0 launched)
 
 -- so many entries are launched, with their segments there, and so many of them have come to the waiting list
 abbrev pub moment_of : PermutationRun → ℕ → ℕ → Moment
@@ -31,20 +28,22 @@ may_report c m lines i = has_ended c m.seen i && not (list_any (is_awaited c i) 
 
 -- a try of an instance that isn't its first
 abbrev pub retry : PermutationRun → Moment → List Line → ℕ → List Line
-retry c m lines i = if not (is_reported lines i) && may_report c m lines i then lines ++ Completed i m.seen ∷ [] else lines
+retry c m lines i = if not (list_any (reports i) lines) && may_report c m lines i then lines ++ Completed i m.seen ∷ [] else lines
 
--- the last pass reported a step, and a step that remains has a marker
+-- the last pass reported a step, and a step that remains on the waiting list has a marker
 abbrev pub polls_again : PermutationRun → Moment → List Line → List Line → Bool
-polls_again c m old new = nat_lt (length old) (length new) && list_any (λ j. nat_lt j m.joined && is_marked c j) (active new m.launched)
+polls_again c m old new = nat_lt (length old) (length new) && list_any (λ j. nat_lt j m.joined && not (length (markers_of c j) == 0)) (active new m.launched)
 
 -- the waiting list is gone through, so many times at most
 abbrev pub polled : PermutationRun → Moment → ℕ → List Line → List Line
 polled c m zero lines = lines
 polled c m (suc more) lines = let new = fold (retry c m) lines (range_with_len 0 m.joined) in if polls_again c m lines new then polled c m more new else new
 
+-- the passes of a moment; there are never more than so many
 abbrev pub poll : PermutationRun → Moment → List Line → List Line
 poll c m lines = polled c m (m.joined + 1) lines
 
+-- the instance is one of the session
 abbrev pub is_of : PermutationRun → ℕ → ℕ → Bool
 is_of c session i = session_of_entry c i == session
 

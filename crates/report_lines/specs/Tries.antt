@@ -5,7 +5,7 @@ use Rattle.std.specs.List.{list_any, filter, range_with_len}
 use Rattle.report_lines.specs.declared.history.Line.{Line}
 use Rattle.report_lines.specs.declared.history.Line.TheVariants.{AtOnce, Waiting, Completed}
 use Rattle.report_lines.specs.declared.history.Moment.{Moment}
-use Rattle.report_lines.specs.History.{PermutationRun, session_of_entry, has_ended, is_awaited, is_star, markers_of, is_marked}
+use Rattle.report_lines.specs.History.{PermutationRun, session_of_entry, has_ended, is_awaited, is_star, markers_of}
 use Rattle.report_lines.specs.Report.{moment_of, is_of}
 
 -- an instance is tried at a moment
@@ -62,7 +62,7 @@ gone_through c m tries = try_each m tries (still_active c tries m.joined)
 
 -- in the last pass a step was reported, and a step that remains has a marker
 abbrev pub wants_another : PermutationRun → Moment → List Try → List Try → Bool
-wants_another c m old new = list_any (was_reported c new) (still_active c old m.joined) && list_any (is_marked c) (still_active c new m.joined)
+wants_another c m old new = list_any (was_reported c new) (still_active c old m.joined) && list_any (λ j. not (length (markers_of c j) == 0)) (still_active c new m.joined)
 
 abbrev pub passes : PermutationRun → Moment → ℕ → List Try → List Try
 passes c m zero tries = tries

@@ -1,5 +1,5 @@
 -- How the waiting list is gone through.
-use Rattle.std.specs.Prelude.{ℕ, nat_lt, Bool, not, ◌&&◌, List, [], ◌∷◌, ◌++◌, drop, if◌then◌else◌}
+use Rattle.std.specs.Prelude.{ℕ, nat_lt, ◌==◌, Bool, not, ◌&&◌, List, [], ◌∷◌, ◌++◌, length, drop, if◌then◌else◌}
 use Rattle.std.specs.List.{fold, list_any, range_with_len}
 use Rattle.report_lines.specs.declared.history.Line.{Line}
 use Rattle.report_lines.specs.declared.history.Line.TheVariants.{AtOnce, Waiting}
@@ -12,6 +12,10 @@ use Rattle.report_lines.specs.Report.{active, is_of, may_report, retry}
 -- the entries before this one, in order
 abbrev pub instances : ℕ → List ℕ
 instances n = range_with_len 0 n
+
+-- the instance has a marker
+abbrev pub is_marked : PermutationRun → ℕ → Bool
+is_marked c i = not (length (markers_of c i) == 0)
 
 -- the first try of an instance
 abbrev pub first_try : PermutationRun → Moment → List Line → ℕ → List Line
