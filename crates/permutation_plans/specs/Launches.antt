@@ -1,5 +1,5 @@
 -- What a permutation of a spec launches, and in which order.
-use Rattle.std.specs.Prelude.{ℕ, List, ◌++◌, length, map, flat_map, Option, option_to_list}
+use Rattle.std.specs.Prelude.{ℕ, List, ◌++◌, length, map, filter_map, Option, option_map, option_to_list}
 use Rattle.std.specs.List.{enumerate_from}
 use Rattle.std.specs.Option.{option_map_or}
 use Rattle.session_machine.specs.declared.event.Order.{Order}
@@ -15,7 +15,7 @@ launch_in session part = record { session = session; block = part.block }
 
 -- each session's part of one kind, if it has one, in its session, in file order
 abbrev pub own_launches : (SessionTree → Option PartTree) → List SessionTree → List PlannedLaunch
-own_launches part sessions = flat_map (λ (p : ℕ × SessionTree). map (launch_in p.0) (option_to_list (part p.1))) (enumerate_from 1 sessions)
+own_launches part sessions = filter_map (λ (p : ℕ × SessionTree). option_map (launch_in p.0) (part p.1)) (enumerate_from 1 sessions)
 
 -- the block of an entry's step, in its session; a spec that was read has a step for each entry
 abbrev pub launch_of_entry : SpecTree → EntryTree → PlannedLaunch

@@ -1,6 +1,6 @@
 -- What setups say.
-use Rattle.std.specs.Prelude.{ℕ, List, [], ◌∷◌, ◌++◌, length, replicate, flat_map, Option, is_some, if◌then◌else◌}
-use Rattle.std.specs.List.{enumerate_from}
+use Rattle.std.specs.Prelude.{ℕ, List, [], ◌++◌, length, map, replicate, Option, is_some, if◌then◌else◌}
+use Rattle.std.specs.List.{enumerate_from, filter}
 use Rattle.std.specs.Str.Lossy.{utf8_lossy}
 use Rattle.spec_parser.specs.Trees.{PartTree, SessionTree, SpecTree}
 use Rattle.session_machine.specs.declared.reply.HistItem.{HistItem}
@@ -15,7 +15,7 @@ use Rattle.report_text.specs.Said.{Ending, setup_failed, setup_waits, Said, only
 
 -- the numbers of the sessions that have this part
 abbrev pub session_numbers : (SessionTree → Option PartTree) → List SessionTree → List ℕ
-session_numbers part sessions = flat_map (λ (p : ℕ × SessionTree). if is_some (part p.1) then p.0 ∷ [] else []) (enumerate_from 1 sessions)
+session_numbers part sessions = map (λ (p : ℕ × SessionTree). p.0) (filter (λ (p : ℕ × SessionTree). is_some (part p.1)) (enumerate_from 1 sessions))
 
 abbrev pub setups_of : SpecTree → List ℕ
 setups_of spec = replicate (length spec.setups) 0 ++ session_numbers (λ s. s.setup) spec.sessions
