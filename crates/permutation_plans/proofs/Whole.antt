@@ -1,5 +1,5 @@
 -- As long as all goes well the next of the orders is due.
-use Rattle.std.proofs.Common.{◌≡◌, ◌≢◌, ℕ, zero, suc, ◌+◌, ◌-◌, ◌<◌, ◌≤◌, ◌⊎◌, Bool, true, false, nat_lt, List, [], ◌∷◌, ◌++◌, length, map, refl, sym, ap, subst, ◌∙◌, arith, inl, inr}
+use Rattle.std.proofs.Common.{◌≡◌, ◌≢◌, ℕ, zero, suc, ◌==◌, ◌+◌, ◌-◌, ◌<◌, ◌≤◌, ◌⊎◌, Bool, true, false, nat_lt, List, [], ◌∷◌, ◌++◌, length, map, refl, sym, ap, subst, ◌∙◌, arith, inl, inr}
 use Rattle.std.specs.Prelude.{nat_le, Option, Some, None, unwrap_or, slice_get, if◌then◌else◌}
 use Rattle.std.specs.Option.{option_map_or}
 use Rattle.std.proofs.lemmas.Bool.{cases_lt, ltb-true, ltb-false, lt-ltb, le-ltb}
@@ -12,9 +12,10 @@ use Rattle.report_lines.specs.declared.history.PlannedLaunch.{PlannedLaunch}
 use Rattle.report_lines.specs.declared.history.TeardownsSoFar.{TeardownsSoFar}
 use Rattle.report_lines.specs.declared.history.RunState.{RunState}
 use Rattle.report_lines.specs.declared.history.RunState.TheVariants.{Due, Whole, Invalid}
-use Rattle.report_lines.specs.History.{PermutationRun, is_empty}
-use Rattle.report_lines.specs.Report.{Report, before_launch, active, poll, has_unreported, made_way, launched, report_from, report}
-use Rattle.report_lines.specs.Due.{Launches, Planned, orders, went_well, is_over, launch, due_setup, teardowns_so_far, due_last, due_entry, due}
+use Rattle.report_lines.specs.History.{PermutationRun}
+use Rattle.report_lines.specs.Report.{Report, moment_of, active, poll, has_unreported, made_way, launched, report_from, report}
+use Rattle.report_lines.specs.Due.{Launches, Planned, orders, went_well, is_over, launch, due_setup, teardowns_so_far, due_entry, due}
+use Rattle.report_lines.specs.Inner.Due.{due_last}
 use Rattle.permutation_plans.specs.Launches.{launch_of_entry}
 use Rattle.permutation_plans.specs.Whole.{planned, leaves, order_at, AreWell, AreOver, GoesWell, NextIsDue}
 
@@ -189,7 +190,7 @@ entry_state e count n false false way next le lt before_it behind_it rest h =
 state_from : (c : PermutationRun) (count n rest e : ℕ) (lines : List Line) → e ≤ count → e + rest ≡ n → (report_from c e rest count lines).state ≢ Invalid → IsStateAt (report_from c e rest count lines).state count n
 state_from c count n zero e lines le all h =
     let many : n ≤ count = omega arith in
-    inr (many, end_state (is_empty (active (poll c (before_launch c e) lines) e)) h)
+    inr (many, end_state (length (active (poll c (moment_of c e e) lines) e) == 0) h)
 state_from c count n (suc rest) e lines le all h =
     let way = made_way c lines e in
     let less : e < n = omega arith in
@@ -221,7 +222,7 @@ entry_due l items count k state counted le (inr at) over last =
     ∙ sym (at_append (map launch l.steps) rest (count - k))
 
 whole_due : (p : Planned) → length p.launches.steps ≡ length p.run.entries → GoesWell p
-    → due p ≡ order_at (map launch p.launches.setups ++ (map launch p.launches.steps ++ (map launch p.launches.teardowns ++ (leaves 1 p.launches.sessions ++ map launch p.launches.last)))) (orders p.run.items)
+    → due p.launches p.run (orders p.run.items) ≡ order_at (map launch p.launches.setups ++ (map launch p.launches.steps ++ (map launch p.launches.teardowns ++ (leaves 1 p.launches.sessions ++ map launch p.launches.last)))) (orders p.run.items)
 whole_due p same well =
     let l = p.launches in
     let items = p.run.items in

@@ -8,7 +8,7 @@ use Rattle.report_lines.specs.declared.history.PlannedLaunch.{PlannedLaunch}
 use Rattle.report_lines.specs.declared.history.RunState.TheVariants.{Invalid}
 use Rattle.report_lines.specs.Report.{report}
 use Rattle.report_lines.specs.Due.{Launches, Planned, orders, went_well, is_over, launch}
-use Rattle.permutation_plans.specs.Launches.{launches, plan_of, due_in}
+use Rattle.permutation_plans.specs.Launches.{launches, run_of, due_in}
 use Rattle.permutation_plans.specs.Worked.{worked_spec, worked_entries, worked_items}
 
 -- so many sessions leave, from this one on
@@ -43,7 +43,7 @@ pub record GoesWell (p : Planned) : Type 0 where
 
 -- the permutation of a spec that has these entries, with a history of its
 abbrev pub planned : SpecTree → List EntryTree → List HistItem → Planned
-planned spec entries items = plan_of (launches spec entries) entries items
+planned spec entries items = let l = launches spec entries in record { launches = l; run = run_of l entries items }
 
 -- as long as all goes well, what is due after a history is the next of those orders
 abbrev pub NextIsDue : Type 0

@@ -3,7 +3,7 @@ ghost use Rattle.std.specs.Prelude.{◌≡◌, ◌↔◌, ◌<◌, ◌^◌, [], 
 ghost use Rattle.spec_parser.specs.Trees.{spec_view, entry_view};
 ghost use Rattle.report_lines.specs.Progress.{KeepsFront};
 ghost use Rattle.report_lines.specs.Starts.{is_order};
-ghost use Rattle.permutation_plans.specs.Launches.{plan_of, due_after, due_in};
+ghost use Rattle.permutation_plans.specs.Launches.{run_of, due_after, due_in};
 ghost use Rattle.permutation_plans.specs.Regular.{IsOrdered, FitsAfter};
 
 use crate::launches::Launches;
@@ -21,9 +21,9 @@ fn is_due(
     order: Order,
     progress: &mut PlanProgress,
 ) -> Result<bool, AllocError>
-    requires follows { KeepsFront (plan_of launches.now (map entry_view entries.now) items.now).run progress.old }
+    requires follows { KeepsFront (run_of launches.now (map entry_view entries.now) items.now) progress.old }
     ensures due { IfOk result (λ due. IsTrue due ↔ (due_after launches.now (map entry_view entries.now) items.now ≡ order)) }
-    ensures follows { OnOk result (KeepsFront (plan_of launches.now (map entry_view entries.now) items.now).run progress.new) }
+    ensures follows { OnOk result (KeepsFront (run_of launches.now (map entry_view entries.now) items.now) progress.new) }
 {
     let due = launches.go_on(alloc, entries, items, progress)?;
     Ok(due == order)
@@ -38,9 +38,9 @@ fn is_ordered(
     event: Event,
     progress: &mut PlanProgress,
 ) -> Result<bool, AllocError>
-    requires follows { KeepsFront (plan_of launches.now (map entry_view entries.now) before.now).run progress.old }
+    requires follows { KeepsFront (run_of launches.now (map entry_view entries.now) before.now) progress.old }
     ensures ordered { IfOk result (λ ordered. IsTrue ordered ↔ IsOrdered event (due_after launches.now (map entry_view entries.now) before.now)) }
-    ensures follows { OnOk result (KeepsFront (plan_of launches.now (map entry_view entries.now) before.now).run progress.new) }
+    ensures follows { OnOk result (KeepsFront (run_of launches.now (map entry_view entries.now) before.now) progress.new) }
     ensures memory { OnErr result (is_order event ≡ true) }
 {
     match event {

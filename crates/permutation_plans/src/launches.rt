@@ -3,7 +3,7 @@ ghost use Rattle.std.specs.Prelude.{◌≡◌, ◌+◌, ◌<◌, ◌^◌, ◌++�
 ghost use Rattle.std.specs.Option.{option_map_or};
 ghost use Rattle.spec_parser.specs.Trees.{StepTree, part_view, session_view, spec_view, entry_view};
 ghost use Rattle.spec_parser.specs.Numbered.{step_of_entry};
-ghost use Rattle.permutation_plans.specs.Launches.{launch_in, own_launches, launch_of_entry, launches, plan_of, due_after};
+ghost use Rattle.permutation_plans.specs.Launches.{launch_in, own_launches, launch_of_entry, launches, run_of, due_after};
 ghost use Rattle.report_lines.specs.Progress.{KeepsFront};
 
 use report_lines::{Plan, PlanProgress, PlannedLaunch, Schedule};
@@ -120,7 +120,7 @@ impl Launches {
     ghost use Rattle.std.specs.Prelude.{List};
     ghost use Rattle.session_machine.specs.declared.reply.HistItem.{HistItem};
     ghost use Rattle.report_lines.specs.Progress.{KeepsFront};
-    ghost use Rattle.permutation_plans.specs.Launches.{launches, plan_of, due_after};
+    ghost use Rattle.permutation_plans.specs.Launches.{launches, run_of, due_after};
 
     /// What a permutation of the spec launches.
     pub fn of(alloc: Global, spec: &Spec<'_>, entries: &[Entry]) -> Result<Launches, AllocError>
@@ -142,7 +142,7 @@ impl Launches {
 
     /// What is kept before anything has come.
     pub fn begin(&self, alloc: Global, entries: &[Entry]) -> Result<PlanProgress, AllocError>
-        ensures { IfOk result (λ p. (items : List HistItem) → KeepsFront (plan_of self.now (map entry_view entries.now) items).run p) }
+        ensures { IfOk result (λ p. (items : List HistItem) → KeepsFront (run_of self.now (map entry_view entries.now) items) p) }
     {
         PlanProgress::new(alloc, entries, self.setups.len())
     }
@@ -155,9 +155,9 @@ impl Launches {
         items: &[HistItem<'_>],
         progress: &mut PlanProgress,
     ) -> Result<Order, AllocError>
-        requires follows { KeepsFront (plan_of self.now (map entry_view entries.now) items.now).run progress.old }
+        requires follows { KeepsFront (run_of self.now (map entry_view entries.now) items.now) progress.old }
         ensures order { IfOk result (λ order. order ≡ due_after self.now (map entry_view entries.now) items.now) }
-        ensures follows { OnOk result (KeepsFront (plan_of self.now (map entry_view entries.now) items.now).run progress.new) }
+        ensures follows { OnOk result (KeepsFront (run_of self.now (map entry_view entries.now) items.now) progress.new) }
     {
         order_on(self, alloc, entries, items, progress)
     }
@@ -171,9 +171,9 @@ fn order_on<'a>(
     items: &'a [HistItem<'a>],
     progress: &mut PlanProgress,
 ) -> Result<Order, AllocError>
-    requires follows { KeepsFront (plan_of launches.now (map entry_view entries.now) items.now).run progress.old }
+    requires follows { KeepsFront (run_of launches.now (map entry_view entries.now) items.now) progress.old }
     ensures order { IfOk result (λ order. order ≡ due_after launches.now (map entry_view entries.now) items.now) }
-    ensures follows { OnOk result (KeepsFront (plan_of launches.now (map entry_view entries.now) items.now).run progress.new) }
+    ensures follows { OnOk result (KeepsFront (run_of launches.now (map entry_view entries.now) items.now) progress.new) }
 {
     let schedule = Schedule {
         setups: &launches.setups,

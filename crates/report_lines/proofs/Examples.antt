@@ -8,6 +8,7 @@ use Rattle.session_machine.specs.declared.reply.HistItem.{HistItem}
 use Rattle.spec_parser.specs.declared.tree.Marker.{Marker}
 use Rattle.spec_parser.specs.declared.tree.Marker.TheVariants.{Star, Step as Named}
 use Rattle.report_lines.specs.declared.history.RunState.TheVariants.{Due, Whole, Invalid}
+use Rattle.session_machine.specs.declared.event.Order.{Order}
 use Rattle.session_machine.specs.declared.event.Order.TheVariants.{Launch as LaunchOf, Leave as LeaveOf, Stop}
 use Rattle.report_lines.specs.Starts.{segment_start}
 use Rattle.report_lines.specs.Due.{due, Planned, orders, segment, is_over, went_well}
@@ -99,61 +100,64 @@ plan items = record {
   run = record { entries = entry 1 0 [] ∷ entry 2 0 [] ∷ []; items = items; setups = 1 };
 }
 
+abbrev due_of : Planned → Order
+due_of p = due p.launches p.run (orders p.run.items)
+
 abbrev leaves : ℕ → HistItem
 leaves s = record { event = Leave s; reply = record { outcome = Left; ended = true } }
 
-first_due : due (plan []) ≡ LaunchOf 0 0
+first_due : due_of (plan []) ≡ LaunchOf 0 0
 first_due = refl
 
-failed_due : due (plan (begins 0 ∷ does 0 (Failed TooManyValues) true ∷ [])) ≡ Stop
+failed_due : due_of (plan (begins 0 ∷ does 0 (Failed TooManyValues) true ∷ [])) ≡ Stop
 failed_due = refl
 
 abbrev set_up : List HistItem
 set_up = begins 0 ∷ does 0 Done true ∷ []
 
-second_due : due (plan set_up) ≡ LaunchOf 1 3
+second_due : due_of (plan set_up) ≡ LaunchOf 1 3
 second_due = refl
 
-third_due : due (plan (set_up ++ begins 1 ∷ does 1 Done true ∷ [])) ≡ LaunchOf 2 4
+third_due : due_of (plan (set_up ++ begins 1 ∷ does 1 Done true ∷ [])) ≡ LaunchOf 2 4
 third_due = refl
 
 abbrev entered : List HistItem
 entered = set_up ++ begins 1 ∷ does 1 Done true ∷ begins 2 ∷ does 2 Done true ∷ []
 
-invalid_due : due (plan (set_up ++ begins 1 ∷ does 1 Done true ∷ begins 2 ∷ does 2 Waits false ∷ [])) ≡ Stop
+invalid_due : due_of (plan (set_up ++ begins 1 ∷ does 1 Done true ∷ begins 2 ∷ does 2 Waits false ∷ [])) ≡ Stop
 invalid_due = refl
 
-fourth_due : due (plan entered) ≡ LaunchOf 2 9
+fourth_due : due_of (plan entered) ≡ LaunchOf 2 9
 fourth_due = refl
 
-waits_due : due (plan (entered ++ begins 2 ∷ does 2 Waits false ∷ [])) ≡ LeaveOf 2
+waits_due : due_of (plan (entered ++ begins 2 ∷ does 2 Waits false ∷ [])) ≡ LeaveOf 2
 waits_due = refl
 
 abbrev left_teardown : List HistItem
 left_teardown = entered ++ begins 2 ∷ does 2 Waits false ∷ leaves 2 ∷ []
 
-leave_due : due (plan left_teardown) ≡ LeaveOf 1
+leave_due : due_of (plan left_teardown) ≡ LeaveOf 1
 leave_due = refl
 
-leaves_due : due (plan (left_teardown ++ leaves 1 ∷ [])) ≡ LeaveOf 2
+leaves_due : due_of (plan (left_teardown ++ leaves 1 ∷ [])) ≡ LeaveOf 2
 leaves_due = refl
 
-last_due : due (plan (left_teardown ++ leaves 1 ∷ leaves 2 ∷ [])) ≡ LaunchOf 0 8
+last_due : due_of (plan (left_teardown ++ leaves 1 ∷ leaves 2 ∷ [])) ≡ LaunchOf 0 8
 last_due = refl
 
-over_due : due (plan (left_teardown ++ leaves 1 ∷ leaves 2 ∷ begins 0 ∷ does 0 Done true ∷ [])) ≡ Stop
+over_due : due_of (plan (left_teardown ++ leaves 1 ∷ leaves 2 ∷ begins 0 ∷ does 0 Done true ∷ [])) ≡ Stop
 over_due = refl
 
-teardown_well_due : due (plan (entered ++ begins 2 ∷ does 2 Done true ∷ [])) ≡ LeaveOf 1
+teardown_well_due : due_of (plan (entered ++ begins 2 ∷ does 2 Done true ∷ [])) ≡ LeaveOf 1
 teardown_well_due = refl
 
-failed_last_due : due (plan (left_teardown ++ leaves 1 ∷ leaves 2 ∷ begins 0 ∷ does 0 (Failed TooManyValues) true ∷ [])) ≡ Stop
+failed_last_due : due_of (plan (left_teardown ++ leaves 1 ∷ leaves 2 ∷ begins 0 ∷ does 0 (Failed TooManyValues) true ∷ [])) ≡ Stop
 failed_last_due = refl
 
-waiting_setup_due : due (plan (begins 0 ∷ does 0 Waits false ∷ [])) ≡ Stop
+waiting_setup_due : due_of (plan (begins 0 ∷ does 0 Waits false ∷ [])) ≡ Stop
 waiting_setup_due = refl
 
-late_failure_due : due (plan (begins 0 ∷ does 0 Done false ∷ does 0 (Failed TooManyValues) true ∷ [])) ≡ Stop
+late_failure_due : due_of (plan (begins 0 ∷ does 0 Done false ∷ does 0 (Failed TooManyValues) true ∷ [])) ≡ Stop
 late_failure_due = refl
 
 -- setups of the file and of session 1, and one step
@@ -163,13 +167,13 @@ two_setups items = record {
   run = record { entries = entry 1 0 [] ∷ []; items = items; setups = 2 };
 }
 
-second_setup_due : due (two_setups (begins 0 ∷ does 0 Done false ∷ does 0 Done true ∷ [])) ≡ LaunchOf 1 1
+second_setup_due : due_of (two_setups (begins 0 ∷ does 0 Done false ∷ does 0 Done true ∷ [])) ≡ LaunchOf 1 1
 second_setup_due = refl
 
-first_step_due : due (two_setups (begins 0 ∷ does 0 Done true ∷ begins 1 ∷ does 1 Done true ∷ [])) ≡ LaunchOf 1 3
+first_step_due : due_of (two_setups (begins 0 ∷ does 0 Done true ∷ begins 1 ∷ does 1 Done true ∷ [])) ≡ LaunchOf 1 3
 first_step_due = refl
 
-second_fails_due : due (two_setups (begins 0 ∷ does 0 Done true ∷ begins 1 ∷ does 1 (Failed TooManyValues) true ∷ [])) ≡ Stop
+second_fails_due : due_of (two_setups (begins 0 ∷ does 0 Done true ∷ begins 1 ∷ does 1 (Failed TooManyValues) true ∷ [])) ≡ Stop
 second_fails_due = refl
 
 -- a step that still waits at the end

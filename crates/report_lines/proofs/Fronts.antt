@@ -1,5 +1,5 @@
 -- What is said of a front of a history stays so where the history goes on with an order.
-use Rattle.std.proofs.Common.{◌≡◌, ℕ, zero, suc, ◌+◌, ◌-◌, ◌<◌, ◌≤◌, ◌⊎◌, inl, inr, List, [], ◌∷◌, ◌++◌, length, take, drop, length-drop, refl, ap, sym, ◌∙◌, arith, true, false, Bool, not, cond, ◌&&◌, nat_lt, if◌then◌else◌, slice_range}
+use Rattle.std.proofs.Common.{◌≡◌, ◌==◌, ℕ, zero, suc, ◌+◌, ◌-◌, ◌<◌, ◌≤◌, ◌⊎◌, inl, inr, List, [], ◌∷◌, ◌++◌, length, take, drop, length-drop, refl, ap, sym, ◌∙◌, arith, true, false, Bool, not, cond, ◌&&◌, nat_lt, if◌then◌else◌, slice_range}
 use Rattle.std.specs.List.{list_any, filter, fold}
 use Rattle.std.proofs.lemmas.List.{take-append-le, drop-append-le}
 use Rattle.std.proofs.lemmas.List.Sums.{fold-append}
@@ -11,19 +11,22 @@ use Rattle.report_lines.specs.declared.history.Moment.{Moment}
 use Rattle.report_lines.specs.declared.history.RunState.TheVariants.{Whole, Invalid, Due}
 use Rattle.report_lines.specs.Starts.{segment_start, is_order, ends_in}
 use Rattle.session_machine.specs.Machine.{is_failed}
-use Rattle.report_lines.specs.Due.{Launches, Planned, orders, segment, is_over, went_well, launch, due_setup, teardowns_so_far, due_last, due_entry, due_at, due}
-use Rattle.report_lines.specs.History.{PermutationRun, session_of_entry, seen_before, has_ended, is_awaited, is_starred, is_empty}
-use Rattle.report_lines.specs.Report.{Report, is_reported, active, instances, before_launch, after_launch, may_report, first_try, retry, pass, polls_again, polled, poll, is_of, has_unreported, made_way, launched, report_from, report}
-use Rattle.report_lines.specs.Fronts.{with_more, longer_plan}
+use Rattle.report_lines.specs.Due.{Launches, orders, segment, is_over, went_well, launch, due_setup, teardowns_so_far, due_entry, due}
+use Rattle.report_lines.specs.Inner.Due.{due_last}
+use Rattle.report_lines.specs.History.{PermutationRun, session_of_entry, seen_before, has_ended, is_awaited, is_star, markers_of}
+use Rattle.report_lines.specs.Report.{Report, active, moment_of, may_report, retry, polls_again, polled, poll, is_of, has_unreported, made_way, launched, report_from, report}
+use Rattle.report_lines.specs.Inner.Waiting.{is_reported}
+use Rattle.report_lines.specs.Fronts.{with_more}
 use Rattle.report_lines.specs.declared.history.PlannedLaunch.{PlannedLaunch}
 use Rattle.report_lines.specs.declared.history.TeardownsSoFar.{TeardownsSoFar}
 use Rattle.report_lines.specs.declared.history.RunState.{RunState}
 use Rattle.session_machine.specs.declared.event.Order.{Order}
 use Rattle.session_machine.specs.declared.event.Order.TheVariants.{Leave, Stop}
 use Rattle.std.specs.Prelude.{nat_le, Option, Some, unwrap_or}
-use Rattle.report_lines.specs.Inner.Trying.{own_retry}
+use Rattle.report_lines.specs.Inner.Trying.{instances, first_try, pass, own_retry}
 use Rattle.report_lines.proofs.Polls.{own_filter}
 use Rattle.report_lines.proofs.Found.{start_within}
+use Rattle.report_lines.proofs.Rising.{instances_more}
 
 -- ---- where the orders stand
 
@@ -97,10 +100,11 @@ own_same c more count m session lines i same le = ap (λ w. if is_of c session i
 fold_same : (f g : List Line → ℕ → List Line) (n : ℕ) (lines : List Line) → ((w : List Line) (i : ℕ) → i < n → f w i ≡ g w i) → fold f lines (instances n) ≡ fold g lines (instances n)
 fold_same f g zero lines same = refl
 fold_same f g (suc n) lines same =
-    fold-append f lines (instances n) (n ∷ [])
+    ap (fold f lines) (instances_more n)
+    ∙ fold-append f lines (instances n) (n ∷ [])
     ∙ same (fold f lines (instances n)) n (omega arith)
     ∙ ap (λ w. g w n) (fold_same f g n lines (λ w i less. same w i (omega (arith, less))))
-    ∙ sym (fold-append g lines (instances n) (n ∷ []))
+    ∙ sym (ap (fold g lines) (instances_more n) ∙ fold-append g lines (instances n) (n ∷ []))
 
 own_steps_same : (c : PermutationRun) (more : List HistItem) (count : ℕ) (m : Moment) (session n : ℕ) (lines : List Line) → EndAlike c more count m → n ≤ count
     → fold (retry (with_more c more) m) lines (filter (is_of c session) (instances n)) ≡ fold (retry c m) lines (filter (is_of c session) (instances n))
@@ -122,35 +126,35 @@ poll_same : (c : PermutationRun) (more : List HistItem) (count : ℕ) (m : Momen
 poll_same c more count m lines same le = polled_same c more count m (m.joined + 1) lines same le
 
 first_same : (c : PermutationRun) (more : List HistItem) (count : ℕ) (m : Moment) (lines : List Line) (i : ℕ) → EndAlike c more count m → i ≤ count → first_try (with_more c more) m lines i ≡ first_try c m lines i
-first_same c more count m lines i same le = ap (λ b. lines ++ (if b && not (is_starred c i) then AtOnce i m.seen else Waiting i) ∷ []) (may_same c more count m lines i same le)
+first_same c more count m lines i same le = ap (λ b. lines ++ (if b && not (list_any is_star (markers_of c i)) then AtOnce i m.seen else Waiting i) ∷ []) (may_same c more count m lines i same le)
 
 -- ---- the entries
 
-before_same : (c : PermutationRun) (more : List HistItem) (count e : ℕ) → Stays c more count → e ≤ count → before_launch (with_more c more) e ≡ before_launch c e
+before_same : (c : PermutationRun) (more : List HistItem) (count e : ℕ) → Stays c more count → e ≤ count → moment_of (with_more c more) e e ≡ moment_of c e e
 before_same c more count e stays le = ap (λ (s : ℕ). record { seen = s; launched = e; joined = e }) (stays.seen e le)
 
-after_same : (c : PermutationRun) (more : List HistItem) (count e : ℕ) → Stays c more count → e + 1 ≤ count → after_launch (with_more c more) e ≡ after_launch c e
+after_same : (c : PermutationRun) (more : List HistItem) (count e : ℕ) → Stays c more count → e + 1 ≤ count → moment_of (with_more c more) (e + 1) e ≡ moment_of c (e + 1) e
 after_same c more count e stays le = ap (λ (s : ℕ). record { seen = s; launched = e + 1; joined = e }) (stays.seen (e + 1) le)
 
-before_poll : (c : PermutationRun) (more : List HistItem) (count e : ℕ) (lines : List Line) → Stays c more count → e ≤ count → poll (with_more c more) (before_launch (with_more c more) e) lines ≡ poll c (before_launch c e) lines
+before_poll : (c : PermutationRun) (more : List HistItem) (count e : ℕ) (lines : List Line) → Stays c more count → e ≤ count → poll (with_more c more) (moment_of (with_more c more) e e) lines ≡ poll c (moment_of c e e) lines
 before_poll c more count e lines stays le =
     ap (λ (m : Moment). poll (with_more c more) m lines) (before_same c more count e stays le)
-    ∙ poll_same c more count (before_launch c e) lines (λ i low. stays.ended e i le low) le
+    ∙ poll_same c more count (moment_of c e e) lines (λ i low. stays.ended e i le low) le
 
 way_same : (c : PermutationRun) (more : List HistItem) (count e : ℕ) (lines : List Line) → Stays c more count → e ≤ count → made_way (with_more c more) lines e ≡ made_way c lines e
 way_same c more count e lines stays le =
-    let same : EndAlike c more count (before_launch c e) = λ i low. stays.ended e i le low in
+    let same : EndAlike c more count (moment_of c e e) = λ i low. stays.ended e i le low in
     ap (λ (m : Moment). if has_unreported c lines e then poll (with_more c more) m (fold (retry (with_more c more) m) lines (filter (is_of c (session_of_entry c e)) (instances e))) else lines) (before_same c more count e stays le)
     ∙ ap (λ (w : List Line). if has_unreported c lines e then w else lines)
-    (poll_same c more count (before_launch c e) (fold (retry (with_more c more) (before_launch c e)) lines (filter (is_of c (session_of_entry c e)) (instances e))) same le
-    ∙ ap (poll c (before_launch c e)) (own_steps_same c more count (before_launch c e) (session_of_entry c e) e lines same le))
+    (poll_same c more count (moment_of c e e) (fold (retry (with_more c more) (moment_of c e e)) lines (filter (is_of c (session_of_entry c e)) (instances e))) same le
+    ∙ ap (poll c (moment_of c e e)) (own_steps_same c more count (moment_of c e e) (session_of_entry c e) e lines same le))
 
 launched_same : (c : PermutationRun) (more : List HistItem) (count e : ℕ) (lines : List Line) → Stays c more count → e + 1 ≤ count → launched (with_more c more) lines e ≡ launched c lines e
 launched_same c more count e lines stays le =
-    let same : EndAlike c more count (after_launch c e) = λ i low. stays.ended (e + 1) i le low in
+    let same : EndAlike c more count (moment_of c (e + 1) e) = λ i low. stays.ended (e + 1) i le low in
     ap (λ (m : Moment). poll (with_more c more) m (first_try (with_more c more) m lines e)) (after_same c more count e stays le)
-    ∙ poll_same c more count (after_launch c e) (first_try (with_more c more) (after_launch c e) lines e) same (omega (arith, le))
-    ∙ ap (poll c (after_launch c e)) (first_same c more count (after_launch c e) lines e same (omega (arith, le)))
+    ∙ poll_same c more count (moment_of c (e + 1) e) (first_try (with_more c more) (moment_of c (e + 1) e) lines e) same (omega (arith, le))
+    ∙ ap (poll c (moment_of c (e + 1) e)) (first_same c more count (moment_of c (e + 1) e) lines e same (omega (arith, le)))
 
 if_same : {A : Type 0} (b : Bool) (x y z : A) → (true ≡ b → x ≡ y) → (if b then x else z) ≡ (if b then y else z)
 if_same true x y z same = same refl
@@ -158,7 +162,7 @@ if_same false x y z same = refl
 
 from_same : (c : PermutationRun) (more : List HistItem) (count e rest : ℕ) (lines : List Line) → Stays c more count → e ≤ count → report_from (with_more c more) e rest count lines ≡ report_from c e rest count lines
 from_same c more count e zero lines stays le =
-    ap (λ (all : List Line). record { lines = all; state = if is_empty (active all e) then Whole else Invalid }) (before_poll c more count e lines stays le)
+    ap (λ (all : List Line). record { lines = all; state = if length (active all e) == 0 then Whole else Invalid }) (before_poll c more count e lines stays le)
 from_same c more count e (suc rest) lines stays le =
     let way = made_way c lines e in
     ap (λ (w : List Line). if has_unreported c w e then record { lines = w; state = Invalid } else (if nat_lt e count then report_from (with_more c more) (e + 1) rest count (launched (with_more c more) w e) else record { lines = w; state = Due e })) (way_same c more count e lines stays le)
@@ -255,20 +259,18 @@ setups_first items count k (t ∷ ts) x y less le =
     case_first (nat_le count k) (went_well items k t.session) x y (launch t) Stop (due_setup items count (k + 1) ts)
     (λ past. let next : k + 1 ≤ count = grind arith in setups_first items count (k + 1) ts x y (omega (arith, less)) next)
 
-due_case : (p : Planned) (item : HistItem) (more : List HistItem) → is_order item.event ≡ true → p.run.setups ≡ length p.launches.setups → (orders p.run.items < length p.launches.setups) ⊎ (length p.launches.setups ≤ orders p.run.items) → due_at (longer_plan p (item ∷ more)) (orders p.run.items) ≡ due p
-due_case p item more ordered setups (inr le) =
-    let l = p.launches in
-    let count = orders p.run.items in
-    let split : count ≡ p.run.setups + (count - length l.setups) = omega (arith, le, setups) in
-    ap (λ (o : Option Order). unwrap_or o (due_entry l (p.run.items ++ item ∷ more) count (report (with_more p.run (item ∷ more)) (count - length l.setups)).state)) (setup_stays p.run.items item more 0 l.setups ordered)
-    ∙ ap (λ (r : Report). unwrap_or (due_setup p.run.items count 0 l.setups) (due_entry l (p.run.items ++ item ∷ more) count r.state)) (front_stays p.run item more (count - length l.setups) ordered split)
-    ∙ ap (unwrap_or (due_setup p.run.items count 0 l.setups)) (entry_stays l p.run.items item more (report p.run (count - length l.setups)).state ordered)
-due_case p item more ordered setups (inl less) =
-    let l = p.launches in
-    let count = orders p.run.items in
-    let other = due_entry l (p.run.items ++ item ∷ more) count (report (with_more p.run (item ∷ more)) (count - length l.setups)).state in
-    ap (λ (o : Option Order). unwrap_or o other) (setup_stays p.run.items item more 0 l.setups ordered)
-    ∙ setups_first p.run.items count 0 l.setups other (due_entry l p.run.items count (report p.run (count - length l.setups)).state) (omega (arith, less)) (omega arith)
+due_case : (l : Launches) (c : PermutationRun) (item : HistItem) (more : List HistItem) → is_order item.event ≡ true → c.setups ≡ length l.setups → (orders c.items < length l.setups) ⊎ (length l.setups ≤ orders c.items) → due l (with_more c (item ∷ more)) (orders c.items) ≡ due l c (orders c.items)
+due_case l c item more ordered setups (inr le) =
+    let count = orders c.items in
+    let split : count ≡ c.setups + (count - length l.setups) = omega (arith, le, setups) in
+    ap (λ (o : Option Order). unwrap_or o (due_entry l (c.items ++ item ∷ more) count (report (with_more c (item ∷ more)) (count - length l.setups)).state)) (setup_stays c.items item more 0 l.setups ordered)
+    ∙ ap (λ (r : Report). unwrap_or (due_setup c.items count 0 l.setups) (due_entry l (c.items ++ item ∷ more) count r.state)) (front_stays c item more (count - length l.setups) ordered split)
+    ∙ ap (unwrap_or (due_setup c.items count 0 l.setups)) (entry_stays l c.items item more (report c (count - length l.setups)).state ordered)
+due_case l c item more ordered setups (inl less) =
+    let count = orders c.items in
+    let other = due_entry l (c.items ++ item ∷ more) count (report (with_more c (item ∷ more)) (count - length l.setups)).state in
+    ap (λ (o : Option Order). unwrap_or o other) (setup_stays c.items item more 0 l.setups ordered)
+    ∙ setups_first c.items count 0 l.setups other (due_entry l c.items count (report c (count - length l.setups)).state) (omega (arith, less)) (omega arith)
 
-pub due_stays : (p : Planned) (item : HistItem) (more : List HistItem) → is_order item.event ≡ true → p.run.setups ≡ length p.launches.setups → due_at (longer_plan p (item ∷ more)) (orders p.run.items) ≡ due p
-due_stays p item more ordered setups = due_case p item more ordered setups (cases_lt (orders p.run.items) (length p.launches.setups))
+pub due_stays : (l : Launches) (c : PermutationRun) (item : HistItem) (more : List HistItem) → is_order item.event ≡ true → c.setups ≡ length l.setups → due l (with_more c (item ∷ more)) (orders c.items) ≡ due l c (orders c.items)
+due_stays l c item more ordered setups = due_case l c item more ordered setups (cases_lt (orders c.items) (length l.setups))

@@ -1,10 +1,10 @@
 -- A permutation is invalid exactly where the tries leave a step active that should have been reported.
-use Rattle.std.proofs.Common.{◌≡◌, ℕ, zero, suc, ◌+◌, ◌<◌, ◌≤◌, ◌⊎◌, ◌↔◌, List, [], length, refl, ap, sym, ◌∙◌, subst, arith, true, false, Bool, not, nat_lt, if◌then◌else◌, inl, inr}
+use Rattle.std.proofs.Common.{◌≡◌, ◌==◌, ℕ, zero, suc, ◌+◌, ◌<◌, ◌≤◌, ◌⊎◌, ◌↔◌, List, [], length, refl, ap, sym, ◌∙◌, subst, arith, true, false, Bool, not, nat_lt, if◌then◌else◌, inl, inr}
 use Rattle.std.proofs.lemmas.Bool.{cases_lt, le-ltb, ltb-true, ltb-false}
 use Rattle.report_lines.specs.declared.history.Line.{Line}
 use Rattle.report_lines.specs.declared.history.RunState.TheVariants.{Due, Whole, Invalid}
-use Rattle.report_lines.specs.History.{PermutationRun, is_empty}
-use Rattle.report_lines.specs.Report.{before_launch, active, poll, has_unreported, made_way, launched, report_from, report}
+use Rattle.report_lines.specs.History.{PermutationRun}
+use Rattle.report_lines.specs.Report.{moment_of, active, poll, has_unreported, made_way, launched, report_from, report}
 use Rattle.report_lines.specs.Tries.{Try, still_active, all_passes, has_active, tries_before, tries_after}
 use Rattle.report_lines.specs.Invalid.{launched_tries, tries_up_to, tries_to_the_end, IsStuck, IsInvalid}
 use Rattle.report_lines.proofs.Tried.{Follows, follows_polled, follows_busy, follows_way, follows_launch, follows_active}
@@ -25,9 +25,9 @@ no_stuck_below c count e ts l few s =
 
 -- ---- at the end
 
-end_case : (c : PermutationRun) (count e : ℕ) (ts : List Try) (b : Bool) → IsLaunched c count e ts → e ≡ length c.entries → b ≡ is_empty (still_active c (tries_to_the_end c) (length c.entries))
+end_case : (c : PermutationRun) (count e : ℕ) (ts : List Try) (b : Bool) → IsLaunched c count e ts → e ≡ length c.entries → b ≡ (length (still_active c (tries_to_the_end c) (length c.entries)) == 0)
     → (if b then Whole else Invalid) ≡ Invalid ↔ IsInvalid c count
-end_case c count e ts true l all is = (λ (h : Whole ≡ Invalid). cc, λ h. elim h [ inl s ↦ absurd (no_stuck_below c count e ts l (omega arith) s) | inr a ↦ not_both (is_empty (still_active c (tries_to_the_end c) (length c.entries))) (sym is) a.active ])
+end_case c count e ts true l all is = (λ (h : Whole ≡ Invalid). cc, λ h. elim h [ inl s ↦ absurd (no_stuck_below c count e ts l (omega arith) s) | inr a ↦ not_both (length (still_active c (tries_to_the_end c) (length c.entries)) == 0) (sym is) a.active ])
 end_case c count e ts false l all is =
     let reached = l.reached in
     (λ _. inr (record { reached = omega arith; active = sym is }), λ _. refl)
@@ -71,13 +71,13 @@ entry_case c count e rest ts way more false false l less is before_it behind_it 
 invalid_from : (c : PermutationRun) (count rest e : ℕ) (lines : List Line) (ts : List Try) → Follows c e lines ts → IsLaunched c count e ts → e + rest ≡ length c.entries
     → (report_from c e rest count lines).state ≡ Invalid ↔ IsInvalid c count
 invalid_from c count zero e lines ts f l all =
-    let m = before_launch c e in
+    let m = moment_of c e e in
     let at_end : e ≡ length c.entries = omega arith in
     let polled = follows_polled c m e (m.joined + 1) lines ts (omega arith) (omega arith) f in
-    let tries_are : all_passes c m ts ≡ tries_to_the_end c = ap (all_passes c m) l.tries_are ∙ ap (λ (n : ℕ). all_passes c (before_launch c n) (launched_tries c n)) at_end in
+    let tries_are : all_passes c m ts ≡ tries_to_the_end c = ap (all_passes c m) l.tries_are ∙ ap (λ (n : ℕ). all_passes c (moment_of c n n) (launched_tries c n)) at_end in
     let left : active (poll c m lines) e ≡ still_active c (tries_to_the_end c) (length c.entries) =
     follows_active c e (poll c m lines) (all_passes c m ts) e polled ∙ ap (λ (w : List Try). still_active c w e) tries_are ∙ ap (still_active c (tries_to_the_end c)) at_end in
-    end_case c count e ts (is_empty (active (poll c m lines) e)) l at_end (ap is_empty left)
+    end_case c count e ts (length (active (poll c m lines) e) == 0) l at_end (ap (λ (xs : List ℕ). length xs == 0) left)
 invalid_from c count (suc rest) e lines ts f l all =
     let way = follows_way c e lines ts f in
     let busy = follows_busy c e (made_way c lines e) (tries_before c ts e) way in

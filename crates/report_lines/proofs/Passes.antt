@@ -2,17 +2,18 @@
 use Rattle.std.proofs.Common.{◌≡◌, ℕ, zero, suc, ◌+◌, ◌-◌, ◌<◌, ◌≤◌, ◌⊎◌, List, [], ◌∷◌, ◌++◌, length, drop, length-drop, refl, ap, sym, ◌∙◌, arith, true, false, Bool, not, cond, ◌&&◌, Some, slice_get, nat_lt, if◌then◌else◌, inl, inr}
 use Rattle.std.specs.List.{filter, fold}
 use Rattle.std.proofs.lemmas.List.Sums.{fold-append}
-use Rattle.std.proofs.lemmas.Bool.{cases_lt, not-true, not-false}
+use Rattle.std.proofs.lemmas.Bool.{cases_lt, le-ltb, not-true, not-false}
 use Rattle.report_lines.specs.declared.history.Line.{Line}
 use Rattle.report_lines.specs.declared.history.Line.TheVariants.{Completed}
 use Rattle.report_lines.specs.declared.history.Moment.{Moment}
 use Rattle.report_lines.specs.declared.lines_so_far.Chosen.{Chosen}
 use Rattle.report_lines.specs.declared.lines_so_far.Chosen.TheVariants.{Joined}
 use Rattle.report_lines.specs.History.{PermutationRun}
-use Rattle.report_lines.specs.Report.{is_reported, active, instances, may_report, retry, pass}
-use Rattle.report_lines.specs.Inner.Trying.{is_chosen, chosen_retry, retried_from}
+use Rattle.report_lines.specs.Report.{active, may_report, retry}
+use Rattle.report_lines.specs.Inner.Waiting.{is_reported}
+use Rattle.report_lines.specs.Inner.Trying.{instances, pass, is_chosen, chosen_retry, retried_from}
 use Rattle.report_lines.proofs.Waits.{active_leave, reported_push}
-use Rattle.report_lines.proofs.Rising.{Between, between_instances, between_filter, between_at, between_leave, filter_at, fold_at}
+use Rattle.report_lines.proofs.Rising.{instances_more, Between, between_instances, between_filter, between_at, between_leave, filter_at, fold_at}
 
 rises : (lines : List Line) (n : ℕ) → Between 0 n (active lines n)
 rises lines n = between_filter (λ j. not (is_reported lines j)) 0 n (instances n) (between_instances n)
@@ -104,7 +105,7 @@ pub through_end : (c : PermutationRun) (m : Moment) (chosen : Chosen) (lines : L
 through_end c m chosen lines n place h = ap (fold (chosen_retry c m chosen) lines) (nothing_left (active lines n) place h)
 
 fold_more : (g : List Line → ℕ → List Line) (lines : List Line) (n : ℕ) → fold g lines (instances (suc n)) ≡ g (fold g lines (instances n)) n
-fold_more g lines n = fold-append g lines (instances n) (n ∷ [])
+fold_more g lines n = ap (fold g lines) (instances_more n) ∙ fold-append g lines (instances n) (n ∷ [])
 
 joined_all : (c : PermutationRun) (m : Moment) (lines : List Line) (n : ℕ) → n ≤ m.joined → fold (chosen_retry c m Joined) lines (instances n) ≡ fold (retry c m) lines (instances n)
 joined_all c m lines zero h = refl
@@ -120,7 +121,7 @@ joined_case c m lines n before h (inl lt) =
     let all : suc n ≡ m.joined = omega arith in
     joined_all c m lines (suc n) (omega arith) ∙ ap (λ k. fold (retry c m) lines (instances k)) all
 joined_case c m lines n before h (inr le) =
-    let past : nat_lt n m.joined ≡ false = grind arith in
+    let past : nat_lt n m.joined ≡ false = le-ltb n m.joined le in
     fold_more (chosen_retry c m Joined) lines n ∙ rw past (before le)
 
 -- to try those that have joined the list is a pass

@@ -6,8 +6,9 @@ use Rattle.report_lines.specs.declared.history.Line.{Line}
 use Rattle.report_lines.specs.declared.history.Line.TheVariants.{Completed}
 use Rattle.report_lines.specs.declared.history.Moment.{Moment}
 use Rattle.report_lines.specs.History.{PermutationRun}
-use Rattle.report_lines.specs.Report.{is_reported, active, instances, may_report, retry, pass, polls_again, polled, poll, is_of}
-use Rattle.report_lines.specs.Inner.Trying.{own_retry}
+use Rattle.report_lines.specs.Report.{active, may_report, retry, polls_again, polled, poll, is_of}
+use Rattle.report_lines.specs.Inner.Waiting.{is_reported}
+use Rattle.report_lines.specs.Inner.Trying.{instances, pass, own_retry}
 use Rattle.report_lines.proofs.Waits.{active_leave, reported_push, any_is}
 use Rattle.report_lines.proofs.Rising.{Between, between_instances, between_filter, between_length}
 use Rattle.report_lines.proofs.Passes.{skip_reported}

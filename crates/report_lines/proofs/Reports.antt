@@ -1,13 +1,14 @@
 -- How the report goes on at each entry.
-use Rattle.std.proofs.Common.{◌≡◌, ℕ, zero, suc, ◌+◌, ◌-◌, ◌<◌, ◌≤◌, List, [], length, refl, ap, sym, ◌∙◌, arith, Bool, true, false, if◌then◌else◌, nat_lt}
+use Rattle.std.proofs.Common.{◌≡◌, ◌==◌, ℕ, zero, suc, ◌+◌, ◌-◌, ◌<◌, ◌≤◌, List, [], length, refl, ap, sym, ◌∙◌, arith, Bool, true, false, if◌then◌else◌, nat_lt}
+use Rattle.std.proofs.lemmas.Bool.{le-ltb}
 use Rattle.report_lines.specs.declared.history.Line.{Line}
 use Rattle.report_lines.specs.declared.history.RunState.{RunState}
 use Rattle.report_lines.specs.declared.history.RunState.TheVariants.{Due, Whole, Invalid}
-use Rattle.report_lines.specs.History.{PermutationRun, is_empty}
-use Rattle.report_lines.specs.Report.{Report, report, report_from, made_way, launched, poll, before_launch, has_unreported, active}
+use Rattle.report_lines.specs.History.{PermutationRun}
+use Rattle.report_lines.specs.Report.{Report, report, report_from, made_way, launched, poll, moment_of, has_unreported, active}
 
 -- where the entries come to an end
-pub report_end : (c : PermutationRun) (n e count : ℕ) (lines : List Line) → n ≤ e → report_from c e (n - e) count lines ≡ (let all = poll c (before_launch c e) lines in record { lines = all; state = if is_empty (active all e) then Whole else Invalid })
+pub report_end : (c : PermutationRun) (n e count : ℕ) (lines : List Line) → n ≤ e → report_from c e (n - e) count lines ≡ (let all = poll c (moment_of c e e) lines in record { lines = all; state = if length (active all e) == 0 then Whole else Invalid })
 report_end c n e count lines h = let over : n - e ≡ 0 = omega arith in rw over refl
 
 -- at an entry of which no segment is there
@@ -20,7 +21,7 @@ report_stuck c n e lines way h is busy =
 pub report_due : (c : PermutationRun) (n e : ℕ) (lines way : List Line) → e < n → way ≡ made_way c lines e → has_unreported c way e ≡ false → report_from c e (n - e) e lines ≡ record { lines = way; state = Due e }
 report_due c n e lines way h is free =
     let more : n - e ≡ suc (n - (e + 1)) = omega arith in
-    let absent : nat_lt e e ≡ false = grind arith in
+    let absent : nat_lt e e ≡ false = le-ltb e e (omega arith) in
     let free_way : has_unreported c (made_way c lines e) e ≡ false = ap (λ (w : List Line). has_unreported c w e) (sym is) ∙ free in
     rw (more, free_way, absent, is) refl
 
@@ -91,7 +92,7 @@ next_case c e rest count lines way d false false is_b is_p le later h =
     }
 
 from_next : (c : PermutationRun) (e rest count : ℕ) (lines way : List Line) (d : ℕ) → e ≤ count → report_from c e rest count lines ≡ record { lines = way; state = Due d } → Next c e rest count lines way d
-from_next c e zero count lines way d le h = absurd (ends_so (is_empty (active (poll c (before_launch c e) lines) e)) d (ap (λ (r : Report). r.state) h))
+from_next c e zero count lines way d le h = absurd (ends_so (length (active (poll c (moment_of c e e) lines) e) == 0) d (ap (λ (r : Report). r.state) h))
 from_next c e (suc rest) count lines way d le h =
     next_case c e rest count lines way d (has_unreported c (made_way c lines e) e) (nat_lt e count) refl refl le
     (λ more h'. from_next c (e + 1) rest count (launched c (made_way c lines e) e) way d more h') h

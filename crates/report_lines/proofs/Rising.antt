@@ -1,7 +1,7 @@
 -- Rising lists of numbers, such as the waiting list.
-use Rattle.std.proofs.Common.{◌≡◌, ℕ, zero, suc, ◌+◌, ◌<◌, ◌≤◌, List, [], ◌∷◌, ◌++◌, length, drop, refl, ap, sym, ◌∙◌, arith, true, false, Bool, not, cond, ◌==◌, Some, slice_get, add-one}
-use Rattle.std.specs.List.{filter, fold}
-use Rattle.report_lines.specs.Report.{instances}
+use Rattle.std.proofs.Common.{◌≡◌, subst, ℕ, zero, suc, ◌+◌, ◌<◌, ◌≤◌, List, [], ◌∷◌, ◌++◌, length, drop, refl, ap, sym, ◌∙◌, arith, true, false, Bool, not, cond, ◌==◌, Some, slice_get, add-one}
+use Rattle.std.specs.List.{filter, fold, range_with_len}
+use Rattle.report_lines.specs.Inner.Trying.{instances}
 
 -- the numbers rise from low on, and stay below high
 abbrev pub Between : ℕ → ℕ → List ℕ → Type 0
@@ -20,9 +20,18 @@ between_more : (low high : ℕ) (xs : List ℕ) → Between low high xs → Betw
 between_more low high [] h = (h, omega arith)
 between_more low high (x ∷ xs) h = (h.0, between_more (x + 1) high xs h.1)
 
+range_more : (a n : ℕ) → range_with_len a (suc n) ≡ range_with_len a n ++ (a + n) ∷ []
+range_more a zero = let e : a ≡ a + 0 = omega arith in ap (λ k. k ∷ []) e
+range_more a (suc n) =
+    let e : a + 1 + n ≡ a + suc n = omega arith in
+    ap (λ xs. a ∷ xs) (range_more (a + 1) n ∙ ap (λ k. range_with_len (a + 1) n ++ k ∷ []) e)
+
+pub instances_more : (n : ℕ) → instances (suc n) ≡ instances n ++ n ∷ []
+instances_more n = let e : 0 + n ≡ n = omega arith in range_more 0 n ∙ ap (λ k. instances n ++ k ∷ []) e
+
 pub between_instances : (n : ℕ) → Between 0 n (instances n)
 between_instances zero = omega arith
-between_instances (suc n) = between_more 0 n (instances n) (between_instances n)
+between_instances (suc n) = subst (Between 0 (suc n)) (sym (instances_more n)) (between_more 0 n (instances n) (between_instances n))
 
 pub between_filter : (p : ℕ → Bool) (low high : ℕ) (xs : List ℕ) → Between low high xs → Between low high (filter p xs)
 between_filter p low high [] h = h

@@ -10,11 +10,13 @@ use Rattle.report_lines.specs.declared.history.Line.{Line}
 use Rattle.report_lines.specs.declared.history.Line.TheVariants.{AtOnce, Waiting, Completed}
 use Rattle.report_lines.specs.declared.history.Moment.{Moment}
 use Rattle.report_lines.specs.declared.history.RunState.TheVariants.{Due, Invalid}
-use Rattle.report_lines.specs.History.{PermutationRun, session_of_entry, has_ended, is_awaited, is_starred, is_marked}
-use Rattle.report_lines.specs.Report.{reports, is_reported, instances, active, before_launch, after_launch, first_try, retry, pass, polls_again, polled, poll, is_of, has_unreported, made_way, launched, report_from, report}
+use Rattle.report_lines.specs.History.{PermutationRun, session_of_entry, has_ended, is_awaited, is_star, markers_of}
+use Rattle.report_lines.specs.Report.{reports, active, moment_of, retry, polls_again, polled, poll, is_of, has_unreported, made_way, launched, report_from, report}
+use Rattle.report_lines.specs.Inner.Waiting.{is_reported}
+use Rattle.report_lines.specs.Inner.Trying.{is_marked, instances, first_try, pass}
 use Rattle.report_lines.specs.Tries.{Try, is_try_of, is_untried, was_reported, still_active, is_met, says, said, try_each, gone_through, wants_another, passes, all_passes, has_active, tries_before, tries_after, tries_from, tries}
 use Rattle.report_lines.proofs.Waits.{same_filter}
-use Rattle.report_lines.proofs.Rising.{Between, between_instances, between_filter, between_length}
+use Rattle.report_lines.proofs.Rising.{instances_more, Between, between_instances, between_filter, between_length}
 use Rattle.report_lines.proofs.Polls.{pass_waiting, grows, own_waiting}
 
 or_same : (h b r : Bool) → (b ≡ true → h ≡ true) → (h || false) ≡ (h || (b && r))
@@ -51,7 +53,7 @@ retry_case false false held starred lines l = sym (append-nil lines)
 says_retry : (c : PermutationRun) (m : Moment) (ts : List Try) (i : ℕ) → is_untried ts i ≡ false → retry c m (said c ts) i ≡ said c (record { entry = i; moment = m } ∷ ts)
 says_retry c m ts i again =
     rw (again, said_reports c ts i, said_active c ts m.launched)
-    (retry_case (was_reported c ts i) (has_ended c m.seen i) (list_any (is_awaited c i) (still_active c ts m.launched)) (is_starred c i) (said c ts) (Completed i m.seen))
+    (retry_case (was_reported c ts i) (has_ended c m.seen i) (list_any (is_awaited c i) (still_active c ts m.launched)) (list_any is_star (markers_of c i)) (said c ts) (Completed i m.seen))
 
 first_case : (ended held starred : Bool) (lines : List Line) (l k : Line) → lines ++ (if (ended && not held) && not starred then l else k) ∷ [] ≡ lines ++ (if ended && not held && not (true && starred) then l ∷ [] else k ∷ [])
 first_case true true starred lines l k = refl
@@ -62,7 +64,7 @@ first_case false held starred lines l k = refl
 says_first : (c : PermutationRun) (m : Moment) (ts : List Try) (i : ℕ) → is_untried ts i ≡ true → was_reported c ts i ≡ false → first_try c m (said c ts) i ≡ said c (record { entry = i; moment = m } ∷ ts)
 says_first c m ts i new fresh =
     rw (new, fresh, said_active c ts m.launched)
-    (first_case (has_ended c m.seen i) (list_any (is_awaited c i) (still_active c ts m.launched)) (is_starred c i) (said c ts) (AtOnce i m.seen) (Waiting i))
+    (first_case (has_ended c m.seen i) (list_any (is_awaited c i) (still_active c ts m.launched)) (list_any is_star (markers_of c i)) (said c ts) (AtOnce i m.seen) (Waiting i))
 
 untried_case : (b tried w r : Bool) → not (b || tried) ≡ true → (not tried ≡ true → w ≡ false) → (w || (b && r)) ≡ false
 untried_case true tried w r h rest = cc
@@ -121,7 +123,8 @@ any_joined_case p q k n rest h (inl lt) =
     ∙ ap (λ m. list_any p (filter q (instances m))) all
 any_joined_case p q k n rest h (inr le) =
     let past : nat_lt n k ≡ false = le-ltb n k le in
-    ap (list_any (λ j. nat_lt j k && p j)) (filter-append q (instances n) (n ∷ []))
+    ap (λ xs. list_any (λ j. nat_lt j k && p j) (filter q xs)) (instances_more n)
+    ∙ ap (list_any (λ j. nat_lt j k && p j)) (filter-append q (instances n) (n ∷ []))
     ∙ list_any-append (λ j. nat_lt j k && p j) (filter q (instances n)) (filter q (n ∷ []))
     ∙ elim (q n) as (λ b. (list_any (λ j. nat_lt j k && p j) (filter q (instances n)) || list_any (λ j. nat_lt j k && p j) (cond b (n ∷ []) [])) ≡ list_any (λ j. nat_lt j k && p j) (filter q (instances n)))
     [ true ↦ rw past (or-false _) | false ↦ or-false _ ]
@@ -176,7 +179,7 @@ way_case c e lines tried ts tried_ts a false is busy free = rw is free
 
 pub follows_way : (c : PermutationRun) (e : ℕ) (lines : List Line) (ts : List Try) → Follows c e lines ts → Follows c e (made_way c lines e) (tries_before c ts e)
 follows_way c e lines ts f =
-    let m = before_launch c e in
+    let m = moment_of c e e in
     let s = session_of_entry c e in
     way_case c e lines (poll c m (fold (retry c m) lines (filter (is_of c s) (instances e)))) ts (all_passes c m (try_each m ts (filter (is_of c s) (still_active c ts e)))) (has_unreported c lines e) (has_active c ts e) (follows_busy c e lines ts f)
     (follows_polled c m e (m.joined + 1) (fold (retry c m) lines (filter (is_of c s) (instances e))) (try_each m ts (filter (is_of c s) (still_active c ts e))) (omega arith) (omega arith) (follows_own c m s e lines ts f))
@@ -204,7 +207,7 @@ follows_first c m e lines ts f =
 
 pub follows_launch : (c : PermutationRun) (e : ℕ) (lines : List Line) (ts : List Try) → Follows c e lines ts → Follows c (e + 1) (launched c lines e) (tries_after c ts e)
 follows_launch c e lines ts f =
-    let m = after_launch c e in
+    let m = moment_of c (e + 1) e in
     follows_polled c m (e + 1) (m.joined + 1) (first_try c m lines e) (record { entry = e; moment = m } ∷ ts) (omega arith) (omega arith) (follows_first c m e lines ts f)
 
 report_case : (c : PermutationRun) (e rest count : ℕ) (way : List Line) (ts : List Try) (busy active present : Bool) → busy ≡ active → way ≡ said c ts → (report_from c (e + 1) rest count (launched c way e)).lines ≡ said c (tries_from c (e + 1) rest count (tries_after c ts e))
@@ -215,7 +218,7 @@ report_case c e rest count way ts busy false false is said_is more = rw is said_
 
 follows_report : (c : PermutationRun) (count rest e : ℕ) (lines : List Line) (ts : List Try) → Follows c e lines ts → (report_from c e rest count lines).lines ≡ said c (tries_from c e rest count ts)
 follows_report c count zero e lines ts f =
-    let m = before_launch c e in (follows_polled c m e (m.joined + 1) lines ts (omega arith) (omega arith) f).said_is
+    let m = moment_of c e e in (follows_polled c m e (m.joined + 1) lines ts (omega arith) (omega arith) f).said_is
 follows_report c count (suc rest) e lines ts f =
     let way = follows_way c e lines ts f in
     report_case c e rest count (made_way c lines e) (tries_before c ts e) (has_unreported c (made_way c lines e) e) (has_active c (tries_before c ts e) e) (nat_lt e count) (follows_busy c e (made_way c lines e) (tries_before c ts e) way) way.said_is

@@ -1,5 +1,5 @@
 -- The list of waiting entries over the lines.
-use Rattle.std.proofs.Common.{◌≡◌, ℕ, zero, suc, ◌+◌, ◌<◌, ◌≤◌, List, [], ◌∷◌, ◌++◌, refl, ap, sym, ◌∙◌, arith, true, false, Bool, not, cond, ◌==◌, ◌||◌, ◌&&◌, add-one, ◌⊎◌, inl, inr, ◌-◌, append-nil, Option, Some, None, slice_get}
+use Rattle.std.proofs.Common.{◌≡◌, length, ℕ, zero, suc, ◌+◌, ◌<◌, ◌≤◌, List, [], ◌∷◌, ◌++◌, refl, ap, sym, ◌∙◌, arith, true, false, Bool, not, cond, ◌==◌, ◌||◌, ◌&&◌, add-one, ◌⊎◌, inl, inr, ◌-◌, append-nil, Option, Some, None, slice_get}
 use Rattle.std.specs.List.{list_any, filter, fold}
 use Rattle.std.specs.Option.{option_map_or}
 use Rattle.std.proofs.lemmas.List.Folds.{list_any-append}
@@ -12,9 +12,11 @@ use Rattle.report_lines.specs.declared.history.Line.TheVariants.{AtOnce, Waiting
 use Rattle.report_lines.specs.declared.history.Moment.{Moment}
 use Rattle.spec_parser.specs.Trees.{EntryTree}
 use Rattle.spec_parser.specs.declared.tree.Marker.{Marker}
-use Rattle.report_lines.specs.History.{PermutationRun, names, is_awaited, is_empty, is_marked, markers_of}
-use Rattle.report_lines.specs.Report.{reports, is_reported, active, instances, pass, polled, polls_again}
-use Rattle.report_lines.specs.Inner.Waiting.{IsKept}
+use Rattle.report_lines.specs.History.{PermutationRun, names, is_awaited, markers_of}
+use Rattle.report_lines.specs.Report.{reports, active, polled, polls_again}
+use Rattle.report_lines.specs.Inner.Trying.{is_marked, instances, pass}
+use Rattle.report_lines.specs.Inner.Waiting.{is_reported, IsKept}
+use Rattle.report_lines.proofs.Rising.{instances_more}
 
 pub reported_push : (lines : List Line) (l : Line) (i : ℕ) → is_reported (lines ++ l ∷ []) i ≡ (is_reported lines i || reports i l)
 reported_push lines l i = list_any-append (reports i) lines (l ∷ []) ∙ ap (λ b. is_reported lines i || b) (or-false (reports i l))
@@ -47,7 +49,7 @@ active_wait lines e n =
     (λ x. ap not (reported_push lines (Waiting e) x ∙ or-false (is_reported lines x))) (instances n)
 
 pub active_more : (lines : List Line) (n : ℕ) → is_reported lines n ≡ false → active lines (n + 1) ≡ active lines n ++ n ∷ []
-active_more lines n h = rw add-one (filter-append (λ j. not (is_reported lines j)) (instances n) (n ∷ []) ∙ rw h refl)
+active_more lines n h = rw add-one (ap (filter (λ j. not (is_reported lines j))) (instances_more n) ∙ filter-append (λ j. not (is_reported lines j)) (instances n) (n ∷ []) ∙ rw h refl)
 
 active_below : (lines : List Line) (e s n : ℕ) → n ≤ e → active (lines ++ AtOnce e s ∷ []) n ≡ active lines n
 active_below lines e s zero h = refl
@@ -56,10 +58,11 @@ active_below lines e s (suc n) h =
     let before : active told n ≡ active lines n = active_below lines e s n (omega arith) in
     let differs : (n == e) ≡ false = grind arith in
     let same : is_reported told n ≡ is_reported lines n = reported_push lines (AtOnce e s) n ∙ rw differs (or-false (is_reported lines n)) in
-    filter-append (λ j. not (is_reported told j)) (instances n) (n ∷ [])
+    ap (filter (λ j. not (is_reported told j))) (instances_more n)
+    ∙ filter-append (λ j. not (is_reported told j)) (instances n) (n ∷ [])
     ∙ ap (λ (w : List ℕ). w ++ filter (λ j. not (is_reported told j)) (n ∷ [])) before
     ∙ ap (λ (b : Bool). active lines n ++ cond (not b) (n ∷ []) []) same
-    ∙ sym (filter-append (λ j. not (is_reported lines j)) (instances n) (n ∷ []))
+    ∙ sym (ap (filter (λ j. not (is_reported lines j))) (instances_more n) ∙ filter-append (λ j. not (is_reported lines j)) (instances n) (n ∷ []))
 
 or-true : (b : Bool) → (b || true) ≡ true
 or-true true = refl
@@ -70,7 +73,8 @@ active_at_once lines n s =
     let told : List Line = lines ++ AtOnce n s ∷ [] in
     let same : (n == n) ≡ true = grind arith in
     let reported : is_reported told n ≡ true = reported_push lines (AtOnce n s) n ∙ rw same (or-true (is_reported lines n)) in
-    rw add-one (filter-append (λ j. not (is_reported told j)) (instances n) (n ∷ [])
+    rw add-one (ap (filter (λ j. not (is_reported told j))) (instances_more n)
+    ∙ filter-append (λ j. not (is_reported told j)) (instances n) (n ∷ [])
     ∙ ap (λ (b : Bool). active told n ++ cond (not b) (n ∷ []) []) reported ∙ append-nil (active told n) ∙ active_below lines n s n (omega arith))
 
 none_later : (p : ℕ → Bool) (e n : ℕ) → n ≤ e → list_any (λ j. j == e) (filter p (instances n)) ≡ false
@@ -78,7 +82,8 @@ none_later p e zero h = refl
 none_later p e (suc n) h =
     let before : list_any (λ j. j == e) (filter p (instances n)) ≡ false = none_later p e n (omega arith) in
     let differs : (n == e) ≡ false = grind arith in
-    ap (list_any (λ j. j == e)) (filter-append p (instances n) (n ∷ []))
+    ap (λ xs. list_any (λ j. j == e) (filter p xs)) (instances_more n)
+    ∙ ap (list_any (λ j. j == e)) (filter-append p (instances n) (n ∷ []))
     ∙ list_any-append (λ j. j == e) (filter p (instances n)) (filter p (n ∷ []))
     ∙ ap (λ (b : Bool). b || list_any (λ j. j == e) (filter p (n ∷ []))) before
     ∙ elim (p n) as (λ b. list_any (λ j. j == e) (cond b (n ∷ []) []) ≡ false) [ true ↦ rw differs refl | false ↦ refl ]
@@ -94,7 +99,8 @@ any_last p e n a (inr h) =
 pub any_is : (p : ℕ → Bool) (e n : ℕ) → e < n → list_any (λ j. j == e) (filter p (instances n)) ≡ p e
 any_is p e zero h = absurd (omega arith)
 any_is p e (suc n) h =
-    ap (list_any (λ j. j == e)) (filter-append p (instances n) (n ∷ []))
+    ap (λ xs. list_any (λ j. j == e) (filter p xs)) (instances_more n)
+    ∙ ap (list_any (λ j. j == e)) (filter-append p (instances n) (n ∷ []))
     ∙ list_any-append (λ j. j == e) (filter p (instances n)) (filter p (n ∷ []))
     ∙ any_last p e n (list_any (λ j. j == e) (filter p (instances n)))
     (elim (cases_lt e n) [ inl lt ↦ inl (lt, any_is p e n lt) | inr le ↦ inr (omega arith, none_later p e n le) ])
@@ -136,12 +142,12 @@ polled_off c m n t old new b h is says fails =
     rw (e, off, is) refl
 
 pub fold_more : (f : List Line → ℕ → List Line) (a : List Line) (n : ℕ) → fold f a (instances (n + 1)) ≡ f (fold f a (instances n)) n
-fold_more f a n = rw add-one (fold-append f a (instances n) (n ∷ []))
+fold_more f a n = rw add-one (ap (fold f a) (instances_more n) ∙ fold-append f a (instances n) (n ∷ []))
 
-unnamed : (o : Option EntryTree) (ms : List Marker) → not (is_empty ms) ≡ false → option_map_or (λ (e : EntryTree). list_any (names e) ms) o false ≡ false
+unnamed : (o : Option EntryTree) (ms : List Marker) → not (length ms == 0) ≡ false → option_map_or (λ (e : EntryTree). list_any (names e) ms) o false ≡ false
 unnamed None ms h = refl
 unnamed (Some e) [] h = refl
-unnamed (Some e) (m ∷ ms) h = let some : is_empty (m ∷ ms) ≡ false = grind arith in let no : true ≡ false = ap not (sym some) ∙ h in cc
+unnamed (Some e) (m ∷ ms) h = let some : (length (m ∷ ms) == 0) ≡ false = grind arith in let no : true ≡ false = ap not (sym some) ∙ h in cc
 
 -- an entry without markers names no step
 pub unmarked : (c : PermutationRun) (i : ℕ) (xs : List ℕ) → is_marked c i ≡ false → list_any (is_awaited c i) xs ≡ false

@@ -22,11 +22,6 @@ pub record Launches : Type 0 where
   pub sessions : ℕ
   pub last : List PlannedLaunch
 
--- what a permutation launches, and its entries with a history of theirs
-pub record Planned : Type 0 where
-  pub launches : Launches
-  pub run : PermutationRun
-
 -- the segment of this number
 abbrev pub segment : List HistItem → ℕ → List HistItem
 segment items k = slice_range items (segment_start items k) (segment_start items (k + 1))
@@ -60,23 +55,20 @@ teardowns_so_far items count k (t ∷ ts) =
     else if is_over items k t.session then teardowns_so_far items count (k + 1) ts
     else if nat_le count (k + 1) then record { orders = k; due = Some (Leave t.session) } else teardowns_so_far items count (k + 2) ts
 
--- sessions 1 to the last leave, then the main teardown, then nothing
-abbrev pub due_last : Launches → List HistItem → ℕ → TeardownsSoFar → Order
-due_last l items count w =
-    unwrap_or w.due
-    (if nat_lt count (w.orders + l.sessions) then Leave (count - w.orders + 1) else unwrap_or (teardowns_so_far items count (w.orders + l.sessions) l.last).due Stop)
-
+-- the next order behind the setups: an entry's block; behind the entries the sessions' teardowns, then sessions 1 to the last leave, then the main teardown, then nothing
 abbrev pub due_entry : Launches → List HistItem → ℕ → RunState → Order
 due_entry l items count (Due e) = option_map_or launch (slice_get l.steps e) Stop
 due_entry l items count Invalid = Stop
-due_entry l items count Whole = due_last l items count (teardowns_so_far items count (length l.setups + length l.steps) l.teardowns)
+due_entry l items count Whole =
+    let w = teardowns_so_far items count (length l.setups + length l.steps) l.teardowns in
+    let left = w.orders + l.sessions in
+    unwrap_or w.due (if nat_lt count left then Leave (count - w.orders + 1) else unwrap_or (teardowns_so_far items count left l.last).due Stop)
 
--- the next order where so many orders of a history are there
-abbrev pub due_at : Planned → ℕ → Order
-due_at plan count =
-    unwrap_or (due_setup plan.run.items count 0 plan.launches.setups)
-    (due_entry plan.launches plan.run.items count (report plan.run (count - length plan.launches.setups)).state)
+-- the next order where so many orders of the history are there
+abbrev pub due : Launches → PermutationRun → ℕ → Order
+due l c count = unwrap_or (due_setup c.items count 0 l.setups) (due_entry l c.items count (report c (count - length l.setups)).state)
 
--- the next order after a history
-abbrev pub due : Planned → Order
-due plan = due_at plan (orders plan.run.items)
+-- what a permutation launches, and its entries with a history of theirs
+pub record Planned : Type 0 where
+  pub launches : Launches
+  pub run : PermutationRun

@@ -2,12 +2,7 @@
 use Rattle.std.specs.Prelude.{List, ◌++◌}
 use Rattle.session_machine.specs.declared.reply.HistItem.{HistItem}
 use Rattle.report_lines.specs.History.{PermutationRun}
-use Rattle.report_lines.specs.Due.{Planned}
 
 -- the same with more items behind its own
 abbrev pub with_more : PermutationRun → List HistItem → PermutationRun
 with_more c more = record { entries = c.entries; items = c.items ++ more; setups = c.setups }
-
--- the same plan with more items behind those of its history
-abbrev pub longer_plan : Planned → List HistItem → Planned
-longer_plan p more = record p { run = with_more p.run more }

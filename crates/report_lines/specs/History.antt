@@ -26,6 +26,7 @@ seen_before c i = segment_start c.items (c.setups + i)
 abbrev pub has_ended : PermutationRun → ℕ → ℕ → Bool
 has_ended c seen i = list_any (ends_in (session_of_entry c i)) (slice_range c.items (seen_before c i) seen)
 
+-- a marker names the entry's step
 abbrev pub names : EntryTree → Marker → Bool
 names e Star = false
 names e (Named session step) = (session == e.session) && (step == e.step)
@@ -34,18 +35,10 @@ abbrev pub is_star : Marker → Bool
 is_star Star = true
 is_star (Named session step) = false
 
+-- the markers of an instance
 abbrev pub markers_of : PermutationRun → ℕ → List Marker
 markers_of c i = option_map_or (λ (e : EntryTree). e.markers) (slice_get c.entries i) []
 
 -- the step of the second instance is named by a marker of the first
 abbrev pub is_awaited : PermutationRun → ℕ → ℕ → Bool
 is_awaited c i j = option_map_or (λ (e : EntryTree). list_any (names e) (markers_of c i)) (slice_get c.entries j) false
-
-abbrev pub is_starred : PermutationRun → ℕ → Bool
-is_starred c i = list_any is_star (markers_of c i)
-
-abbrev pub is_empty : {A : Type 0} → List A → Bool
-is_empty xs = length xs == 0
-
-abbrev pub is_marked : PermutationRun → ℕ → Bool
-is_marked c i = not (is_empty (markers_of c i))

@@ -3,3 +3,4 @@ pub mod Places
 pub mod Waiting
 pub mod Trying
 pub mod Progress
+pub mod Due

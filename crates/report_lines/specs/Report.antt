@@ -1,12 +1,12 @@
 -- What is said of the entries: at each moment the tries in their order, each step at the first try at which it can be reported.
 use Rattle.std.specs.Prelude.{ℕ, zero, suc, ◌+◌, ◌==◌, nat_lt, Bool, false, not, ◌&&◌, List, [], ◌∷◌, ◌++◌, length, if◌then◌else◌}
-use Rattle.std.specs.List.{list_any, filter, fold}
+use Rattle.std.specs.List.{list_any, filter, fold, range_with_len}
 use Rattle.report_lines.specs.declared.history.Line.{Line}
 use Rattle.report_lines.specs.declared.history.Line.TheVariants.{AtOnce, Waiting, Completed}
 use Rattle.report_lines.specs.declared.history.Moment.{Moment}
 use Rattle.report_lines.specs.declared.history.RunState.{RunState}
 use Rattle.report_lines.specs.declared.history.RunState.TheVariants.{Due, Whole, Invalid}
-use Rattle.report_lines.specs.History.{PermutationRun, session_of_entry, seen_before, has_ended, is_awaited, is_starred, is_empty, is_marked}
+use Rattle.report_lines.specs.History.{PermutationRun, session_of_entry, seen_before, has_ended, is_awaited, is_star, markers_of}
 
 -- the line reports the instance
 abbrev pub reports : ℕ → Line → Bool
@@ -14,51 +14,36 @@ reports i (AtOnce entry seen) = i == entry
 reports i (Waiting entry) = false
 reports i (Completed entry seen) = i == entry
 
-abbrev pub is_reported : List Line → ℕ → Bool
-is_reported lines i = list_any (reports i) lines
-
--- the entries before this one, in order
-abbrev pub instances : ℕ → List ℕ
-instances zero = []
-instances (suc n) = instances n ++ n ∷ []
-
--- of so many launched instances those that are not reported
+-- of so many launched instances, which are entries by their numbers from 0, those that are not reported
 abbrev pub active : List Line → ℕ → List ℕ
-active lines launched = filter (λ j. not (is_reported lines j)) (instances launched)
+active lines launched = filter (λ j. not (list_any (reports j) lines)) (range_with_len 0 launched)
 
-abbrev pub before_launch : PermutationRun → ℕ → Moment
-before_launch c e = record { seen = seen_before c e; launched = e; joined = e }
+-- so many entries are launched, with their segments there, and so many of them have come to the waiting list
+abbrev pub moment_of : PermutationRun → ℕ → ℕ → Moment
+moment_of c launched joined = record { seen = seen_before c launched; launched = launched; joined = joined }
 
-abbrev pub after_launch : PermutationRun → ℕ → Moment
-after_launch c e = record { seen = seen_before c (e + 1); launched = e + 1; joined = e }
-
+-- the instance's block has ended, and no step that its markers name is active
 abbrev pub may_report : PermutationRun → Moment → List Line → ℕ → Bool
 may_report c m lines i = has_ended c m.seen i && not (list_any (is_awaited c i) (active lines m.launched))
 
--- the first try of an instance
-abbrev pub first_try : PermutationRun → Moment → List Line → ℕ → List Line
-first_try c m lines i = lines ++ (if may_report c m lines i && not (is_starred c i) then AtOnce i m.seen else Waiting i) ∷ []
-
--- a later one
+-- a try of an instance that isn't its first
 abbrev pub retry : PermutationRun → Moment → List Line → ℕ → List Line
-retry c m lines i = if not (is_reported lines i) && may_report c m lines i then lines ++ Completed i m.seen ∷ [] else lines
+retry c m lines i = if not (list_any (reports i) lines) && may_report c m lines i then lines ++ Completed i m.seen ∷ [] else lines
 
--- the waiting list is gone through once
-abbrev pub pass : PermutationRun → Moment → List Line → List Line
-pass c m lines = fold (retry c m) lines (instances m.joined)
-
--- the last pass reported a step, and a step that remains has a marker
+-- the last pass reported a step, and a step that remains on the waiting list has a marker
 abbrev pub polls_again : PermutationRun → Moment → List Line → List Line → Bool
-polls_again c m old new = nat_lt (length old) (length new) && list_any (λ j. nat_lt j m.joined && is_marked c j) (active new m.launched)
+polls_again c m old new = nat_lt (length old) (length new) && list_any (λ j. nat_lt j m.joined && not (length (markers_of c j) == 0)) (active new m.launched)
 
--- so many passes at most
+-- the waiting list is gone through, so many times at most
 abbrev pub polled : PermutationRun → Moment → ℕ → List Line → List Line
 polled c m zero lines = lines
-polled c m (suc more) lines = let new = pass c m lines in if polls_again c m lines new then polled c m more new else new
+polled c m (suc more) lines = let new = fold (retry c m) lines (range_with_len 0 m.joined) in if polls_again c m lines new then polled c m more new else new
 
+-- the passes of a moment; there are never more than so many
 abbrev pub poll : PermutationRun → Moment → List Line → List Line
 poll c m lines = polled c m (m.joined + 1) lines
 
+-- the instance is one of the session
 abbrev pub is_of : PermutationRun → ℕ → ℕ → Bool
 is_of c session i = session_of_entry c i == session
 
@@ -69,11 +54,12 @@ has_unreported c lines e = list_any (is_of c (session_of_entry c e)) (active lin
 -- the tries before an entry's Launch: where its session has an active step, the session's steps first
 abbrev pub made_way : PermutationRun → List Line → ℕ → List Line
 made_way c lines e =
-    if has_unreported c lines e then poll c (before_launch c e) (fold (retry c (before_launch c e)) lines (filter (is_of c (session_of_entry c e)) (instances e))) else lines
+    let m = moment_of c e e in if has_unreported c lines e then poll c m (fold (retry c m) lines (filter (is_of c (session_of_entry c e)) (range_with_len 0 e))) else lines
 
--- the tries after it
+-- the tries after it: the new step first, which a star keeps from being reported at once
 abbrev pub launched : PermutationRun → List Line → ℕ → List Line
-launched c lines e = poll c (after_launch c e) (first_try c (after_launch c e) lines e)
+launched c lines e =
+    let m = moment_of c (e + 1) e in poll c m (lines ++ (if may_report c m lines e && not (list_any is_star (markers_of c e)) then AtOnce e m.seen else Waiting e) ∷ [])
 
 pub record Report : Type 0 where
   pub lines : List Line
@@ -82,7 +68,7 @@ pub record Report : Type 0 where
 -- the report of the entries from one on, of whose segments so many are there
 abbrev pub report_from : PermutationRun → ℕ → ℕ → ℕ → List Line → Report
 report_from c e zero count lines =
-    let all = poll c (before_launch c e) lines in record { lines = all; state = if is_empty (active all e) then Whole else Invalid }
+    let all = poll c (moment_of c e e) lines in record { lines = all; state = if length (active all e) == 0 then Whole else Invalid }
 report_from c e (suc rest) count lines =
     let way = made_way c lines e in
     if has_unreported c way e then record { lines = way; state = Invalid }

@@ -1,12 +1,12 @@
 -- The report in the words of its rules: what is tried at each moment, when a try reports, and what it says.
 -- In a list of tries the latest comes first.
 use Rattle.std.specs.Prelude.{◌≡◌, ℕ, zero, suc, ◌+◌, ◌==◌, nat_lt, Bool, true, false, not, ◌&&◌, ◌||◌, List, [], ◌∷◌, ◌++◌, length, if◌then◌else◌}
-use Rattle.std.specs.List.{list_any, filter}
+use Rattle.std.specs.List.{list_any, filter, range_with_len}
 use Rattle.report_lines.specs.declared.history.Line.{Line}
 use Rattle.report_lines.specs.declared.history.Line.TheVariants.{AtOnce, Waiting, Completed}
 use Rattle.report_lines.specs.declared.history.Moment.{Moment}
-use Rattle.report_lines.specs.History.{PermutationRun, session_of_entry, has_ended, is_awaited, is_starred, is_marked}
-use Rattle.report_lines.specs.Report.{instances, before_launch, after_launch, is_of}
+use Rattle.report_lines.specs.History.{PermutationRun, session_of_entry, has_ended, is_awaited, is_star, markers_of}
+use Rattle.report_lines.specs.Report.{moment_of, is_of}
 
 -- an instance is tried at a moment
 pub record Try : Type 0 where
@@ -23,18 +23,18 @@ is_untried tries i = not (list_any (is_try_of i) tries)
 -- the condition of a try: the block has ended in the items so far, no instance of a step that a marker names is active, and, with a star, the try isn't the first
 abbrev pub may_be_reported : PermutationRun → List ℕ → Bool → Try → Bool
 may_be_reported c active is_first t =
-    has_ended c t.moment.seen t.entry && not (list_any (is_awaited c t.entry) active) && not (is_first && is_starred c t.entry)
+    has_ended c t.moment.seen t.entry && not (list_any (is_awaited c t.entry) active) && not (is_first && list_any is_star (markers_of c t.entry))
 
 -- the condition was met at one of the tries of this instance
 abbrev pub was_reported : PermutationRun → List Try → ℕ → Bool
 was_reported c [] i = false
 was_reported c (t ∷ earlier) i =
     was_reported c earlier i
-    || (is_try_of i t && may_be_reported c (filter (λ j. not (was_reported c earlier j)) (instances t.moment.launched)) (is_untried earlier t.entry) t)
+    || (is_try_of i t && may_be_reported c (filter (λ j. not (was_reported c earlier j)) (range_with_len 0 t.moment.launched)) (is_untried earlier t.entry) t)
 
 -- after these tries, of so many launched instances those that are still active
 abbrev pub still_active : PermutationRun → List Try → ℕ → List ℕ
-still_active c tries launched = filter (λ j. not (was_reported c tries j)) (instances launched)
+still_active c tries launched = filter (λ j. not (was_reported c tries j)) (range_with_len 0 launched)
 
 -- a try that follows these meets its condition
 abbrev pub is_met : PermutationRun → List Try → Try → Bool
@@ -62,7 +62,7 @@ gone_through c m tries = try_each m tries (still_active c tries m.joined)
 
 -- in the last pass a step was reported, and a step that remains has a marker
 abbrev pub wants_another : PermutationRun → Moment → List Try → List Try → Bool
-wants_another c m old new = list_any (was_reported c new) (still_active c old m.joined) && list_any (is_marked c) (still_active c new m.joined)
+wants_another c m old new = list_any (was_reported c new) (still_active c old m.joined) && list_any (λ j. not (length (markers_of c j) == 0)) (still_active c new m.joined)
 
 abbrev pub passes : PermutationRun → Moment → ℕ → List Try → List Try
 passes c m zero tries = tries
@@ -80,17 +80,16 @@ has_active c tries e = list_any (is_of c (session_of_entry c e)) (still_active c
 -- before an entry's Launch, if its session has an active step: that step first
 abbrev pub tries_before : PermutationRun → List Try → ℕ → List Try
 tries_before c tries e =
-    if has_active c tries e
-    then all_passes c (before_launch c e) (try_each (before_launch c e) tries (filter (is_of c (session_of_entry c e)) (still_active c tries e)))
-    else tries
+    let m = moment_of c e e in
+    if has_active c tries e then all_passes c m (try_each m tries (filter (is_of c (session_of_entry c e)) (still_active c tries e))) else tries
 
 -- after an entry's segment: the new step first
 abbrev pub tries_after : PermutationRun → List Try → ℕ → List Try
-tries_after c tries e = all_passes c (after_launch c e) (record { entry = e; moment = after_launch c e } ∷ tries)
+tries_after c tries e = let m = moment_of c (e + 1) e in all_passes c m (record { entry = e; moment = m } ∷ tries)
 
 -- the tries of the entries from one on, of whose segments so many are there
 abbrev pub tries_from : PermutationRun → ℕ → ℕ → ℕ → List Try → List Try
-tries_from c e zero count tries = all_passes c (before_launch c e) tries
+tries_from c e zero count tries = all_passes c (moment_of c e e) tries
 tries_from c e (suc rest) count tries =
     let way = tries_before c tries e in
     if has_active c way e then way

@@ -1,9 +1,9 @@
 //! Entries of a permutation, and items of a history.
-ghost use Rattle.std.specs.Prelude.{◌≡◌, not, map, slice_get};
+ghost use Rattle.std.specs.Prelude.{◌≡◌, ◌==◌, not, length, map, slice_get};
 ghost use Rattle.std.specs.List.{list_any};
 ghost use Rattle.std.specs.Option.{option_map_or};
 ghost use Rattle.spec_parser.specs.Trees.{EntryTree, entry_view};
-ghost use Rattle.report_lines.specs.History.{names, is_star, is_empty};
+ghost use Rattle.report_lines.specs.History.{names, is_star};
 ghost use Rattle.session_machine.specs.Machine.{session_of};
 ghost use Rattle.report_lines.specs.Starts.{is_order, ends_in};
 
@@ -60,7 +60,7 @@ pub fn is_starred(entry: &Entry) -> bool
 }
 
 pub fn is_marked(entry: &Entry) -> bool
-    ensures { result ≡ not (is_empty entry.now.markers.items) }
+    ensures { result ≡ not (length entry.now.markers.items == 0) }
 {
     !entry.markers.is_empty()
 }

@@ -8,8 +8,8 @@ ghost use Rattle.report_lines.specs.Report.{report, reports, polled, poll};
 ghost use Rattle.report_lines.specs.Tries.{tries, said, IsReportPoint};
 ghost use Rattle.session_machine.specs.declared.reply.HistItem.{HistItem};
 ghost use Rattle.report_lines.specs.Starts.{is_order};
-ghost use Rattle.report_lines.specs.Due.{Planned, orders, due_at, due};
-ghost use Rattle.report_lines.specs.Fronts.{with_more, longer_plan};
+ghost use Rattle.report_lines.specs.Due.{Launches, orders, due};
+ghost use Rattle.report_lines.specs.Fronts.{with_more};
 ghost use Rattle.report_lines.specs.Invalid.{IsInvalid};
 ghost use Rattle.report_lines.specs.declared.history.RunState.TheVariants.{Invalid};
 
@@ -47,6 +47,6 @@ pub fn what_was_reported_stays()
 
 /// What was due before an order can be told from the whole history.
 pub fn what_was_due_stays()
-    ensures { (p : Planned) (item : HistItem) (more : List HistItem) → is_order item.event ≡ true → p.run.setups ≡ length p.launches.setups →
-        due_at (longer_plan p (item ∷ more)) (orders p.run.items) ≡ due p }
+    ensures { (l : Launches) (c : PermutationRun) (item : HistItem) (more : List HistItem) → is_order item.event ≡ true → c.setups ≡ length l.setups →
+        due l (with_more c (item ∷ more)) (orders c.items) ≡ due l c (orders c.items) }
 {}

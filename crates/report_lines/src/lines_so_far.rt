@@ -5,10 +5,10 @@ ghost use Rattle.std.specs.List.{list_any, filter, fold};
 ghost use Rattle.report_lines.specs.SoFar.{LinesSoFar, IsAt, IsReportSoFar};
 ghost use Rattle.report_lines.specs.Inner.Waiting.{IsKept};
 ghost use Rattle.report_lines.specs.Due.{orders};
-ghost use Rattle.report_lines.specs.History.{session_of_entry, is_awaited, is_marked, has_ended, seen_before};
-ghost use Rattle.report_lines.specs.Inner.Trying.{is_chosen, chosen_retry, retried_from};
-ghost use Rattle.report_lines.specs.Report.{is_reported, active, may_report, first_try, retry, pass, polls_again, polled, poll, has_unreported, is_of};
-ghost use Rattle.report_lines.specs.Report.{made_way, launched, after_launch, report, report_from, instances};
+ghost use Rattle.report_lines.specs.History.{session_of_entry, is_awaited, has_ended, seen_before};
+ghost use Rattle.report_lines.specs.Inner.Trying.{is_marked, instances, first_try, pass, is_chosen, chosen_retry, retried_from};
+ghost use Rattle.report_lines.specs.Report.{active, may_report, retry, polls_again, polled, poll, has_unreported, is_of};
+ghost use Rattle.report_lines.specs.Report.{made_way, launched, report, report_from};
 
 use crate::history::{Line, Moment, RunState};
 use crate::run_so_far::RunSoFar;

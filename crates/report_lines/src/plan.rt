@@ -2,7 +2,8 @@
 ghost use Rattle.std.specs.Prelude.{◌≡◌, ◌+◌, ◌-◌, ◌<◌, ◌≤◌, ◌^◌, ℕ, not, ◌&&◌, length, map, slice_get, unwrap_or, IfOk, OnOk, drop, Option, Some, None};
 ghost use Rattle.std.specs.Option.{option_map_or};
 ghost use Rattle.spec_parser.specs.Trees.{entry_view};
-ghost use Rattle.report_lines.specs.Due.{is_over, went_well, orders, launch, due_setup, teardowns_so_far, due_last, due_entry, due};
+ghost use Rattle.report_lines.specs.Due.{is_over, went_well, orders, launch, due_setup, teardowns_so_far, due_entry, due};
+ghost use Rattle.report_lines.specs.Inner.Due.{due_last};
 ghost use Rattle.report_lines.specs.Progress.{KeepsFront};
 ghost use Rattle.report_lines.specs.Inner.Progress.{IsSettled};
 
@@ -110,7 +111,8 @@ impl<'a> Model for Plan<'a> {
 }
 
 impl<'a> Plan<'a> {
-    ghost use Rattle.report_lines.specs.Due.{due_last, due_entry, due};
+    ghost use Rattle.report_lines.specs.Due.{orders, due_entry, due};
+    ghost use Rattle.report_lines.specs.Inner.Due.{due_last};
 
     /// A permutation of these entries, with the launches of their steps and of what stands around them, and its history.
     pub fn new(entries: &'a [Entry], items: &'a [HistItem<'a>], schedule: &Schedule<'a>) -> Plan<'a>
@@ -181,7 +183,7 @@ impl<'a> Plan<'a> {
 
     /// The next order. Fails only where memory is refused.
     pub fn due(&self, alloc: Global) -> Result<Order, AllocError>
-        ensures { IfOk result (λ order. order ≡ due self.now) }
+        ensures { IfOk result (λ order. order ≡ due self.now.launches self.now.run (orders self.now.run.items)) }
     {
         let mut progress = PlanProgress::new(alloc, self.entries, self.setups.len())?;
         self.go_on(alloc, &mut progress)
@@ -191,7 +193,7 @@ impl<'a> Plan<'a> {
     /// Fails only where memory is refused.
     pub fn go_on(&self, alloc: Global, progress: &mut PlanProgress) -> Result<Order, AllocError>
         requires follows { KeepsFront self.now.run progress.old }
-        ensures order { IfOk result (λ order. order ≡ due self.now) }
+        ensures order { IfOk result (λ order. order ≡ due self.now.launches self.now.run (orders self.now.run.items)) }
         ensures follows { OnOk result (KeepsFront self.now.run progress.new) }
     {
         progress.reach(alloc, self.entries, self.setups.len(), self.items)?;
@@ -202,7 +204,7 @@ impl<'a> Plan<'a> {
 /// The next order, by what is kept of the whole history.
 fn due_by<'a>(plan: &'a Plan<'a>, progress: &'a PlanProgress) -> Order
     requires { IsSettled plan.now.run progress.now }
-    ensures { result ≡ due plan.now }
+    ensures { result ≡ due plan.now.launches plan.now.run (orders plan.now.run.items) }
 {
     let segments = progress.segments(plan.items);
     let count = segments.count();

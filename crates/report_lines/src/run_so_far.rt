@@ -1,5 +1,6 @@
 //! The run of a permutation, as far as its history has come.
 ghost use Rattle.std.specs.Prelude.{◌≡◌, ◌+◌, ◌<◌, ◌≤◌, ◌^◌, length, map};
+ghost use Rattle.std.specs.List.{list_any};
 ghost use Rattle.spec_parser.specs.Trees.{entry_view};
 ghost use Rattle.report_lines.specs.Due.{orders};
 ghost use Rattle.report_lines.specs.Places.{IsSeen};
@@ -36,8 +37,10 @@ impl<'a> Model for RunSoFar<'a> {
 }
 
 impl<'a> RunSoFar<'a> {
-    ghost use Rattle.report_lines.specs.Report.{before_launch, after_launch};
-    ghost use Rattle.report_lines.specs.History.{seen_before, has_ended, is_awaited, is_starred, is_marked, session_of_entry};
+    ghost use Rattle.std.specs.List.{list_any};
+    ghost use Rattle.report_lines.specs.Report.{moment_of};
+    ghost use Rattle.report_lines.specs.History.{seen_before, has_ended, is_awaited, is_star, markers_of, session_of_entry};
+    ghost use Rattle.report_lines.specs.Inner.Trying.{is_marked};
     ghost use Rattle.report_lines.specs.Due.{orders};
     ghost use Rattle.report_lines.specs.Places.{IsSeen};
 
@@ -86,7 +89,7 @@ impl<'a> RunSoFar<'a> {
     pub(crate) fn before(&self, entry: usize) -> Moment
         requires entry { entry ≤ length self.now.entries }
         requires now { orders self.now.items ≤ self.now.setups + entry }
-        ensures moment { result ≡ before_launch self.now entry }
+        ensures moment { result ≡ moment_of self.now entry entry }
         ensures seen { result.seen ≡ length self.now.items }
         ensures room { length self.now.entries + 1 < 2 ^ 64 }
     {
@@ -102,7 +105,7 @@ impl<'a> RunSoFar<'a> {
     pub(crate) fn after(&self, entry: usize) -> Moment
         requires entry { entry < length self.now.entries }
         requires now { orders self.now.items ≤ self.now.setups + entry + 1 }
-        ensures moment { result ≡ after_launch self.now entry }
+        ensures moment { result ≡ moment_of self.now (entry + 1) entry }
         ensures seen { result.seen ≡ length self.now.items }
         ensures room { length self.now.entries + 1 < 2 ^ 64 }
     {
@@ -132,7 +135,7 @@ impl<'a> RunSoFar<'a> {
     }
 
     pub(crate) fn is_starred(&self, entry: usize) -> bool
-        ensures { result ≡ is_starred self.now entry }
+        ensures { result ≡ list_any is_star (markers_of self.now entry) }
     {
         match self.entries().get(entry) {
             None => false,

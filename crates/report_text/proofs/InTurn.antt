@@ -6,8 +6,8 @@ use Rattle.spec_parser.specs.Trees.{SessionTree, SpecTree}
 use Rattle.report_lines.specs.Due.{is_over}
 use Rattle.report_text.specs.Said.{Said, whole, says, ◌>>◌}
 use Rattle.report_text.specs.Setups.{session_numbers}
-use Rattle.report_text.specs.Teardowns.{teardown_says, teardowns_of, teardowns_say}
-use Rattle.report_text.specs.Inner.Teardowns.{TeardownsSaid, behind, teardown_first, teardowns_from, teardowns_in_turn}
+use Rattle.report_text.specs.Teardowns.{teardowns_of}
+use Rattle.report_text.specs.Inner.Teardowns.{teardown_said, teardowns_say, TeardownsSaid, behind, teardown_first, teardowns_from, teardowns_in_turn}
 use Rattle.report_text.proofs.Saying.{after_whole}
 
 -- teardowns that are not there say nothing
@@ -15,7 +15,7 @@ pub teardowns_gone : (sessions : List SessionTree) (items : List HistItem) (coun
 teardowns_gone sessions items count k [] h = refl
 teardowns_gone sessions items count k (t ∷ ts) h = let e : nat_le count k ≡ true = grind arith in rw e refl
 
-none_there : (sessions : List SessionTree) (items : List HistItem) (count k : ℕ) (ts : List (Option ℕ)) → count ≤ k → teardowns_say sessions items count k ts ≡ says []
+pub none_there : (sessions : List SessionTree) (items : List HistItem) (count k : ℕ) (ts : List (Option ℕ)) → count ≤ k → teardowns_say sessions items count k ts ≡ says []
 none_there sessions items count k [] h = refl
 none_there sessions items count k (None ∷ ts) h = none_there sessions items count (k + 1) ts (omega (arith, h))
 none_there sessions items count k (Some t ∷ ts) h = let e : nat_le count k ≡ true = grind arith in rw e refl
@@ -25,7 +25,7 @@ whole_if true x y h k = h
 whole_if false x y h k = k
 
 -- a teardown doesn't end the report
-goes_on : (sessions : List SessionTree) (items : List HistItem) (k session : ℕ) → (teardown_says sessions items k session).ending ≡ whole
+goes_on : (sessions : List SessionTree) (items : List HistItem) (k session : ℕ) → (teardown_said sessions items k session).ending ≡ whole
 goes_on sessions items k session = whole_if (is_over items k session) _ _ refl refl
 
 -- ---- one after the other
@@ -48,7 +48,7 @@ own_case : (b : Bool) (sessions : List SessionTree) (items : List HistItem) (cou
 own_case true sessions items count k t ts rest is h = let over : count ≤ k = grind arith in rw (sym is) (sym (none_there sessions items count k rest over))
 own_case false sessions items count k t ts rest is h =
     rw (sym is)
-    (followed_first (teardown_says sessions items k t) (teardowns_say sessions items count (behind items k t) (map Some ts ++ rest))
+    (followed_first (teardown_said sessions items k t) (teardowns_say sessions items count (behind items k t) (map Some ts ++ rest))
     (teardowns_say sessions items count (teardowns_from sessions items count (behind items k t) ts).next rest)
     (teardowns_from sessions items count (behind items k t) ts) (goes_on sessions items k t) h)
 

@@ -1,5 +1,6 @@
 pub mod Pushing
 pub mod Saying
 pub mod InTurn
+pub mod Blocks
 pub mod Counting
 pub mod FreeSaying

@@ -1,5 +1,5 @@
 -- What a free run prints and notes, by its history.
-use Rattle.std.specs.Prelude.{ℕ, ◌+◌, ◌==◌, Bool, false, List, [], ◌∷◌, ◌++◌, find, codes, decimal, Option, Some, None, option_map, option_and_then, if◌then◌else◌}
+use Rattle.std.specs.Prelude.{ℕ, ◌+◌, ◌==◌, Bool, false, List, [], ◌∷◌, ◌++◌, find, map, codes, decimal, Option, Some, None, option_map, option_and_then, if◌then◌else◌}
 use Rattle.std.specs.List.{fold}
 use Rattle.std.specs.Option.{option_map_or}
 use Rattle.spec_parser.specs.Trees.{PartTree, StepTree, SessionTree, SpecTree}
@@ -14,8 +14,8 @@ use Rattle.report_lines.specs.Due.{orders}
 use Rattle.report_text.specs.declared.standing.Standing.{Standing}
 use Rattle.report_text.specs.Replies.{outcome_text}
 use Rattle.report_text.specs.LineText.{step_name, step_sql}
-use Rattle.report_text.specs.Said.{Said}
-use Rattle.report_text.specs.Setups.{setups_of, setups_say}
+use Rattle.report_text.specs.Said.{Said, in_turn}
+use Rattle.report_text.specs.Setups.{setups_of, setup_says}
 use Rattle.report_text.specs.Teardowns.{failure_note}
 
 -- ---- where a session stands: its block, and which of that block's statements comes next, from 1
@@ -103,5 +103,5 @@ unfoldable pub free_says : SpecTree → List HistItem → Said
 free_says spec items = record {
   text = codes "\nstarting free run\n" ++ each_says (item_text spec.sessions) [] items;
   notes = each_says (item_note spec) [] items;
-  ending = (setups_say items (orders items) 0 (setups_of spec)).ending;
+  ending = (in_turn (orders items) 0 (map (setup_says items) (setups_of spec))).ending;
 }

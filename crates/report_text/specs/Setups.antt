@@ -1,6 +1,6 @@
 -- What setups say.
-use Rattle.std.specs.Prelude.{ℕ, ◌+◌, nat_le, List, [], ◌∷◌, ◌++◌, length, replicate, flat_map, Option, is_some, if◌then◌else◌}
-use Rattle.std.specs.List.{enumerate_from}
+use Rattle.std.specs.Prelude.{ℕ, List, [], ◌++◌, length, map, replicate, Option, is_some, if◌then◌else◌}
+use Rattle.std.specs.List.{enumerate_from, filter}
 use Rattle.std.specs.Str.Lossy.{utf8_lossy}
 use Rattle.spec_parser.specs.Trees.{PartTree, SessionTree, SpecTree}
 use Rattle.session_machine.specs.declared.reply.HistItem.{HistItem}
@@ -9,13 +9,13 @@ use Rattle.session_machine.specs.declared.reply.Outcome.TheVariants.{Failed}
 use Rattle.report_lines.specs.Due.{segment, went_well}
 use Rattle.report_text.specs.FaultText.{fault_text}
 use Rattle.report_text.specs.Replies.{rows_text, last_outcome}
-use Rattle.report_text.specs.Said.{Ending, setup_failed, setup_waits, Said, only_ends, says, ◌>>◌}
+use Rattle.report_text.specs.Said.{Ending, setup_failed, setup_waits, Said, only_ends, says}
 
 -- ---- whose they are, in their order: a session of the file by its number from 1, and 0 for those of the whole file
 
 -- the numbers of the sessions that have this part
 abbrev pub session_numbers : (SessionTree → Option PartTree) → List SessionTree → List ℕ
-session_numbers part sessions = flat_map (λ (p : ℕ × SessionTree). if is_some (part p.1) then p.0 ∷ [] else []) (enumerate_from 1 sessions)
+session_numbers part sessions = map (λ (p : ℕ × SessionTree). p.0) (filter (λ (p : ℕ × SessionTree). is_some (part p.1)) (enumerate_from 1 sessions))
 
 abbrev pub setups_of : SpecTree → List ℕ
 setups_of spec = replicate (length spec.setups) 0 ++ session_numbers (λ s. s.setup) spec.sessions
@@ -27,10 +27,8 @@ abbrev pub setup_ending : Outcome → Ending
 setup_ending (Failed fault) = setup_failed (utf8_lossy (fault_text fault))
 setup_ending _ = setup_waits
 
--- the setups from a segment on, of which so many segments are there: the table of each one's last reply, up to one that did not go well
-abbrev pub setups_say : List HistItem → ℕ → ℕ → List ℕ → Said
-setups_say items count k [] = says []
-setups_say items count k (session ∷ sessions) =
-    if nat_le count k then says []
-    else if went_well items k session then says (rows_text (last_outcome (segment items k))) >> setups_say items count (k + 1) sessions
-    else only_ends (setup_ending (last_outcome (segment items k)))
+-- a setup says the table of its last reply, or ends the report where it did not go well; it takes one segment
+abbrev pub setup_says : List HistItem → ℕ → ℕ → Said × ℕ
+setup_says items session k =
+    let last = last_outcome (segment items k) in
+    (if went_well items k session then says (rows_text last) else only_ends (setup_ending last), 1)

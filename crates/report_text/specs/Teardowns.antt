@@ -1,5 +1,5 @@
 -- What teardowns say.
-use Rattle.std.specs.Prelude.{ℕ, ◌+◌, nat_le, List, [], ◌∷◌, ◌++◌, length, map, replicate, codes, Option, Some, None, is_some, if◌then◌else◌}
+use Rattle.std.specs.Prelude.{ℕ, List, [], ◌∷◌, ◌++◌, length, map, replicate, codes, Option, Some, None, is_some, if◌then◌else◌}
 use Rattle.std.specs.Option.{option_map_or}
 use Rattle.iso_lexer.specs.Names.{decoded}
 use Rattle.spec_parser.specs.Trees.{SessionTree, SpecTree}
@@ -10,7 +10,7 @@ use Rattle.session_machine.specs.declared.reply.Outcome.TheVariants.{Failed}
 use Rattle.report_lines.specs.Due.{segment, is_over}
 use Rattle.report_text.specs.FaultText.{fault_text}
 use Rattle.report_text.specs.Replies.{rows_text, last_outcome}
-use Rattle.report_text.specs.Said.{Said, says, ◌>>◌}
+use Rattle.report_text.specs.Said.{Said, says}
 use Rattle.report_text.specs.Setups.{session_numbers}
 
 -- ---- notes
@@ -28,21 +28,15 @@ failure_note sessions session _ = []
 
 -- ---- what they say
 
--- a teardown that is over says the table of its last reply, with a note if that is a failure; of one that isn't there is a note that it would wait
-abbrev pub teardown_says : List SessionTree → List HistItem → ℕ → ℕ → Said
-teardown_says sessions items k session =
-    let last = last_outcome (segment items k) in
-    if is_over items k session then record (says (rows_text last)) { notes = failure_note sessions session last }
-    else record (says []) { notes = note sessions session (codes "would wait") }
-
 -- what comes behind the entries: the teardowns of sessions, by their numbers from 1; a Leave of each session, for which None stands; and with 0 the teardown of the whole file
 abbrev pub teardowns_of : SpecTree → List (Option ℕ)
 teardowns_of spec = map Some (session_numbers (λ s. s.teardown) spec.sessions) ++ replicate (length spec.sessions) None ++ (if is_some spec.teardown then Some 0 ∷ [] else [])
 
--- what these say from a segment on, of which so many segments are there: a Leave says nothing; a teardown that isn't over has one of its own behind it
-abbrev pub teardowns_say : List SessionTree → List HistItem → ℕ → ℕ → List (Option ℕ) → Said
-teardowns_say sessions items count k [] = says []
-teardowns_say sessions items count k (None ∷ ts) = teardowns_say sessions items count (k + 1) ts
-teardowns_say sessions items count k (Some session ∷ ts) =
-    if nat_le count k then says []
-    else teardown_says sessions items k session >> teardowns_say sessions items count (if is_over items k session then k + 1 else k + 2) ts
+-- a Leave says nothing; a teardown that is over says the table of its last reply, with a note if that is a failure; of one that isn't there is a note that it would wait,
+-- and behind it a Leave of its own
+abbrev pub teardown_says : List SessionTree → List HistItem → Option ℕ → ℕ → Said × ℕ
+teardown_says sessions items None k = (says [], 1)
+teardown_says sessions items (Some session) k =
+    let last = last_outcome (segment items k) in
+    if is_over items k session then (record (says (rows_text last)) { notes = failure_note sessions session last }, 1)
+    else (record (says []) { notes = note sessions session (codes "would wait") }, 2)

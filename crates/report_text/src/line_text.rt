@@ -1,9 +1,10 @@
 //! The lines that are said of a permutation's steps.
 
-ghost use Rattle.std.specs.Prelude.{◌≡◌, ◌++◌, ◌<◌, ◌≤◌, length, codes, option_map, slice_range, OnOk, OnSome};
+ghost use Rattle.std.specs.Prelude.{◌≡◌, ◌++◌, ◌<◌, ◌≤◌, length, codes, option_map, option_and_then, slice_get, slice_range, OnOk, OnSome};
 ghost use Rattle.iso_lexer.specs.Devices.{page_text};
 ghost use Rattle.spec_parser.specs.Trees.{step_view, spec_view};
-ghost use Rattle.report_text.specs.LineText.{entry_replies, step_name, step_sql, step_of_instance, line_text};
+ghost use Rattle.spec_parser.specs.Numbered.{step_of_entry};
+ghost use Rattle.report_text.specs.LineText.{entry_replies, step_name, step_sql, line_text};
 
 use crate::names::push_name;
 use crate::replies::push_replies;
@@ -96,7 +97,7 @@ fn step_at<'s, 'a>(
     run: &PermutationRun<'_>,
     entry: usize,
 ) -> Option<&'s StepPart<'a>>
-    ensures step { option_map (λ x. step_view x.now) result ≡ step_of_instance (spec_view spec.now) run.now entry }
+    ensures step { option_map (λ x. step_view x.now) result ≡ option_and_then (step_of_entry (spec_view spec.now)) (slice_get run.now.entries entry) }
     ensures there { OnSome result (entry < length run.now.entries) }
 {
     spec.step_of(run.entries().get(entry)?)

@@ -6,8 +6,9 @@ ghost use Rattle.spec_parser.specs.Trees.{entry_view, spec_view};
 ghost use Rattle.report_lines.specs.Due.{orders};
 ghost use Rattle.report_text.specs.Steps.{starting_text};
 ghost use Rattle.report_text.specs.LineText.{line_text};
-ghost use Rattle.report_text.specs.Setups.{setups_of, setups_say};
-ghost use Rattle.report_text.specs.Permutation.{state_says, entries_say, rest_says, all_says, permutation_says};
+ghost use Rattle.report_text.specs.Setups.{setups_of};
+ghost use Rattle.report_text.specs.Permutation.{state_says, permutation_says};
+ghost use Rattle.report_text.specs.Inner.Permutation.{setups_say, entries_say, rest_says, all_says};
 ghost use Rattle.report_text.specs.Answers.{ending_of, EndsAs, IsNotMemory, Puts, TellsFailure};
 
 use crate::fault::{Ended, Ending, ReportFault, answer_of};

@@ -3,7 +3,8 @@
 ghost use Rattle.std.specs.Prelude.{◌≡◌, ◌++◌, map, flat_map, OnOk};
 ghost use Rattle.iso_lexer.specs.Devices.{page_text};
 ghost use Rattle.spec_parser.specs.Trees.{entry_view, spec_view};
-ghost use Rattle.report_text.specs.Steps.{entry_name, starting_text};
+ghost use Rattle.report_text.specs.Steps.{starting_text};
+ghost use Rattle.report_text.specs.Inner.Steps.{entry_name};
 
 use crate::names::push_name;
 use iso_lexer::Page;

@@ -4,8 +4,8 @@ ghost use Rattle.std.specs.Prelude.{◌≡◌, ◌++◌, ◌+◌, ◌<◌, ◌^�
 ghost use Rattle.iso_lexer.specs.Devices.{page_text};
 ghost use Rattle.spec_parser.specs.Trees.{session_view, spec_view};
 ghost use Rattle.report_text.specs.Replies.{rows_text, last_outcome};
-ghost use Rattle.report_text.specs.Teardowns.{note, failure_note, teardown_says};
-ghost use Rattle.report_text.specs.Inner.Teardowns.{last_teardown_of, behind, teardowns_from, teardowns_in_turn};
+ghost use Rattle.report_text.specs.Teardowns.{note, failure_note};
+ghost use Rattle.report_text.specs.Inner.Teardowns.{teardown_said, last_teardown_of, behind, teardowns_from, teardowns_in_turn};
 
 use crate::notes::{push_last_note, push_would_wait};
 use crate::numbers::teardowns_of;
@@ -71,8 +71,8 @@ fn push_teardown(
     session: usize,
 ) -> Result<usize, AllocError>
     requires { number + 2 < 2 ^ 64 }
-    ensures text { OnOk result (page_text pages.new.text ≡ page_text pages.old.text ++ (teardown_says (map session_view sessions.now) segments.now number session).text) }
-    ensures notes { OnOk result (page_text pages.new.notes ≡ page_text pages.old.notes ++ (teardown_says (map session_view sessions.now) segments.now number session).notes) }
+    ensures text { OnOk result (page_text pages.new.text ≡ page_text pages.old.text ++ (teardown_said (map session_view sessions.now) segments.now number session).text) }
+    ensures notes { OnOk result (page_text pages.new.notes ≡ page_text pages.old.notes ++ (teardown_said (map session_view sessions.now) segments.now number session).notes) }
     ensures next { IfOk result (λ next. next ≡ behind segments.now number session) }
 {
     let segment = segments.segment(number);

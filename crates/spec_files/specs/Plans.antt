@@ -6,7 +6,7 @@ use Rattle.report_lines.specs.declared.progress.PlanProgress.{PlanProgress}
 use Rattle.report_lines.specs.Progress.{KeepsFront}
 use Rattle.spec_parser.specs.Trees.{EntryTree}
 use Rattle.report_lines.specs.Due.{Launches}
-use Rattle.permutation_plans.specs.Launches.{plan_of, due_after}
+use Rattle.permutation_plans.specs.Launches.{run_of, due_after}
 
 -- what is launched, the entries, and what is kept between two orders
 pub record Planning : Type 0 where
@@ -20,4 +20,4 @@ order_after plan items = due_after plan.launches plan.entries items
 
 -- what is kept is of a front of these items
 abbrev pub IsFollowing : Planning → List HistItem → Type 0
-IsFollowing plan items = KeepsFront (plan_of plan.launches plan.entries items).run plan.progress
+IsFollowing plan items = KeepsFront (run_of plan.launches plan.entries items) plan.progress

@@ -1,11 +1,27 @@
 -- Teardowns as the code goes through them: first those of the sessions, then that of the whole file. Inner clauses alone have them.
-use Rattle.std.specs.Prelude.{ℕ, ◌+◌, nat_le, List, [], ◌∷◌, ◌++◌, length, is_some, if◌then◌else◌}
+use Rattle.std.specs.Prelude.{ℕ, ◌+◌, nat_le, List, [], ◌∷◌, ◌++◌, length, codes, Option, Some, None, is_some, if◌then◌else◌}
 use Rattle.session_machine.specs.declared.reply.HistItem.{HistItem}
 use Rattle.spec_parser.specs.Trees.{SessionTree, SpecTree}
-use Rattle.report_lines.specs.Due.{is_over}
-use Rattle.report_text.specs.Said.{whole, Said}
+use Rattle.report_lines.specs.Due.{segment, is_over}
+use Rattle.report_text.specs.Replies.{rows_text, last_outcome}
+use Rattle.report_text.specs.Said.{whole, Said, says, ◌>>◌}
 use Rattle.report_text.specs.Setups.{session_numbers}
-use Rattle.report_text.specs.Teardowns.{teardown_says}
+use Rattle.report_text.specs.Teardowns.{note, failure_note}
+
+-- what a teardown says of its segment
+abbrev pub teardown_said : List SessionTree → List HistItem → ℕ → ℕ → Said
+teardown_said sessions items k session =
+    let last = last_outcome (segment items k) in
+    if is_over items k session then record (says (rows_text last)) { notes = failure_note sessions session last }
+    else record (says []) { notes = note sessions session (codes "would wait") }
+
+-- what teardowns and Leaves say from a segment on, of which so many segments are there
+abbrev pub teardowns_say : List SessionTree → List HistItem → ℕ → ℕ → List (Option ℕ) → Said
+teardowns_say sessions items count k [] = says []
+teardowns_say sessions items count k (None ∷ ts) = teardowns_say sessions items count (k + 1) ts
+teardowns_say sessions items count k (Some session ∷ ts) =
+    if nat_le count k then says []
+    else teardown_said sessions items k session >> teardowns_say sessions items count (if is_over items k session then k + 1 else k + 2) ts
 
 abbrev pub last_teardown_of : SpecTree → List ℕ
 last_teardown_of spec = if is_some spec.teardown then 0 ∷ [] else []
@@ -28,7 +44,7 @@ abbrev pub teardowns_from : List SessionTree → List HistItem → ℕ → ℕ �
 teardowns_from sessions items count k [] = record { text = []; notes = []; next = k }
 teardowns_from sessions items count k (t ∷ ts) =
     if nat_le count k then record { text = []; notes = []; next = k }
-    else teardown_first (teardown_says sessions items k t) (teardowns_from sessions items count (behind items k t) ts)
+    else teardown_first (teardown_said sessions items k t) (teardowns_from sessions items count (behind items k t) ts)
 
 -- the sessions' teardowns, and behind the sessions' leaves that of the whole file
 abbrev pub teardowns_in_turn : SpecTree → List HistItem → ℕ → ℕ → Said

@@ -1,7 +1,7 @@
 use Rattle.std.proofs.Common.{◌↔◌, [], map, take, drop}
 use Rattle.spec_parser.specs.Trees.{entry_view}
 use Rattle.report_lines.specs.Progress.{KeepsFront}
-use Rattle.permutation_plans.specs.Launches.{plan_of, due_after}
+use Rattle.permutation_plans.specs.Launches.{run_of, due_after}
 use Rattle.permutation_plans.specs.Regular.{FitsAfter}
 use Rattle.permutation_plans.proofs.fit.fits.Given as goal
 
@@ -9,5 +9,5 @@ abbrev pub invariant-loop-place : goal.invariant-loop-place
 invariant-loop-place l = record {
   fit : FitsAfter (due_after l.launches (map entry_view l.entries)) (take l.place l.items) (drop l.place l.items)
       ↔ FitsAfter (due_after l.launches (map entry_view l.entries)) [] l.items;
-  follows : KeepsFront (plan_of l.launches (map entry_view l.entries) (take l.place l.items)).run l.progress;
+  follows : KeepsFront (run_of l.launches (map entry_view l.entries) (take l.place l.items)) l.progress;
 }

@@ -1,5 +1,5 @@
-use Rattle.std.proofs.Common.{◌≡◌, ℕ, ◌+◌, ◌++◌, map, flat_map, drop}
-use Rattle.std.specs.Prelude.{option_to_list}
+use Rattle.std.proofs.Common.{◌≡◌, ℕ, ◌+◌, ◌++◌, map, drop}
+use Rattle.std.specs.Prelude.{filter_map, option_map}
 use Rattle.std.specs.List.{enumerate_from}
 use Rattle.spec_parser.specs.Trees.{SessionTree, session_view}
 use Rattle.permutation_plans.specs.Launches.{launch_in, own_launches}
@@ -7,5 +7,5 @@ use Rattle.permutation_plans.proofs.launches.push_setups.Given as goal
 
 abbrev pub invariant-loop-place : goal.invariant-loop-place
 invariant-loop-place l =
-    l.setups.items ++ flat_map (λ (p : ℕ × SessionTree). map (launch_in p.0) (option_to_list p.1.setup)) (enumerate_from (l.place + 1) (map session_view (drop l.place l.sessions)))
+    l.setups.items ++ filter_map (λ (p : ℕ × SessionTree). option_map (launch_in p.0) p.1.setup) (enumerate_from (l.place + 1) (map session_view (drop l.place l.sessions)))
     ≡ l.initial.setups.items ++ own_launches (λ s. s.setup) (map session_view l.sessions)

@@ -1,11 +1,11 @@
-use Rattle.std.proofs.Common.{◌≡◌, ℕ, [], ◌∷◌, ◌+◌, ◌++◌, drop, flat_map}
-use Rattle.std.specs.Prelude.{map, is_some, if◌then◌else◌}
-use Rattle.std.specs.List.{enumerate_from}
+use Rattle.std.proofs.Common.{◌≡◌, ℕ, ◌+◌, ◌++◌, drop}
+use Rattle.std.specs.Prelude.{map, is_some}
+use Rattle.std.specs.List.{enumerate_from, filter}
 use Rattle.spec_parser.specs.Trees.{SessionTree, session_view}
 use Rattle.report_text.specs.Setups.{session_numbers}
 use Rattle.report_text.proofs.numbers.add_setups.Given as goal
 
 abbrev pub invariant-loop-index : goal.invariant-loop-index
 invariant-loop-index l =
-    l.numbers.items ++ flat_map (λ (p : ℕ × SessionTree). if is_some p.1.setup then p.0 ∷ [] else []) (enumerate_from (l.index + 1) (map session_view (drop l.index l.sessions)))
+    l.numbers.items ++ map (λ (p : ℕ × SessionTree). p.0) (filter (λ (p : ℕ × SessionTree). is_some p.1.setup) (enumerate_from (l.index + 1) (map session_view (drop l.index l.sessions))))
     ≡ l.fn.numbers.items ++ session_numbers (λ s. s.setup) (map session_view l.sessions)

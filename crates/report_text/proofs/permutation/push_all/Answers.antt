@@ -3,8 +3,8 @@ use Rattle.spec_parser.specs.Trees.{spec_view}
 use Rattle.report_lines.specs.Due.{orders}
 use Rattle.report_text.specs.Said.{whole, is_whole}
 use Rattle.report_text.specs.Steps.{starting_text}
-use Rattle.report_text.specs.Setups.{setups_of, setups_say}
-use Rattle.report_text.specs.Permutation.{rest_says, all_says}
+use Rattle.report_text.specs.Setups.{setups_of}
+use Rattle.report_text.specs.Inner.Permutation.{setups_say, rest_says, all_says}
 use Rattle.report_text.specs.Answers.{ending_of}
 use Rattle.report_text.proofs.Saying.{setups_notes, text_well, notes_well, ends_well, text_early, notes_early, ends_early, ended}
 use Rattle.report_text.proofs.permutation.push_all.Goals as goal

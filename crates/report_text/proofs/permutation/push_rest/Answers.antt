@@ -5,9 +5,9 @@ use Rattle.session_machine.specs.declared.reply.HistItem.{HistItem}
 use Rattle.spec_parser.specs.Trees.{entry_view, spec_view}
 use Rattle.report_lines.specs.Due.{orders}
 use Rattle.report_text.specs.Said.{Said, whole}
-use Rattle.report_text.specs.Teardowns.{teardowns_of, teardowns_say}
-use Rattle.report_text.specs.Inner.Teardowns.{teardowns_in_turn}
-use Rattle.report_text.specs.Permutation.{entries_say}
+use Rattle.report_text.specs.Teardowns.{teardowns_of}
+use Rattle.report_text.specs.Inner.Teardowns.{teardowns_say, teardowns_in_turn}
+use Rattle.report_text.specs.Inner.Permutation.{entries_say}
 use Rattle.report_text.specs.Answers.{ending_of}
 use Rattle.report_text.proofs.Saying.{text_after, notes_after, ending_after, entries_notes}
 use Rattle.report_text.proofs.InTurn.{told}

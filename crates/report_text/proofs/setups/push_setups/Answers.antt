@@ -1,7 +1,7 @@
 use Rattle.std.proofs.Common.{◌≡◌, ◌≤◌, ◌++◌, [], ℕ, sym, ap, ◌∙◌, arith, drop}
 use Rattle.iso_lexer.specs.Devices.{page_text}
 use Rattle.report_text.specs.Said.{Said, says}
-use Rattle.report_text.specs.Setups.{setups_say}
+use Rattle.report_text.specs.Inner.Permutation.{setups_say}
 use Rattle.report_text.proofs.Saying.{setups_gone, gone_text}
 use Rattle.report_text.proofs.setups.push_setups.Goals as goal
 

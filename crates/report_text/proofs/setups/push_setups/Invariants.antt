@@ -1,6 +1,6 @@
 use Rattle.std.proofs.Common.{◌≡◌, ◌++◌, drop}
 use Rattle.iso_lexer.specs.Devices.{page_text}
-use Rattle.report_text.specs.Setups.{setups_say}
+use Rattle.report_text.specs.Inner.Permutation.{setups_say}
 use Rattle.report_text.proofs.setups.push_setups.Given as goal
 
 abbrev pub invariant-loop-number : goal.invariant-loop-number

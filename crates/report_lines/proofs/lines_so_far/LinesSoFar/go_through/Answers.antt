@@ -1,9 +1,9 @@
 use Rattle.std.proofs.Common.{◌≡◌, ℕ, ◌≤◌, List, length, refl, sym, ◌∙◌, ap, arith}
 use Rattle.std.specs.List.{fold}
 use Rattle.report_lines.specs.declared.history.Line.{Line}
-use Rattle.report_lines.specs.Report.{active, instances}
+use Rattle.report_lines.specs.Report.{active}
 use Rattle.report_lines.specs.SoFar.{LinesSoFar}
-use Rattle.report_lines.specs.Inner.Trying.{chosen_retry}
+use Rattle.report_lines.specs.Inner.Trying.{instances, chosen_retry}
 use Rattle.report_lines.proofs.Passes.{through_waiting, through_end}
 use Rattle.report_lines.proofs.lines_so_far.LinesSoFar.go_through.Goals as goal
 

@@ -1,7 +1,7 @@
 use Rattle.std.proofs.Common.{◌≡◌, ◌-◌, ◌≤◌, length}
 use Rattle.std.specs.List.{fold}
-use Rattle.report_lines.specs.Report.{active, instances}
-use Rattle.report_lines.specs.Inner.Trying.{chosen_retry, retried_from}
+use Rattle.report_lines.specs.Report.{active}
+use Rattle.report_lines.specs.Inner.Trying.{instances, chosen_retry, retried_from}
 use Rattle.report_lines.proofs.lines_so_far.LinesSoFar.go_through.Given as goal
 
 abbrev pub invariant-loop-turn : goal.invariant-loop-turn

@@ -1,6 +1,6 @@
 use Rattle.std.proofs.Common.{◌≡◌, ◌&&◌, drop, nat_lt}
 use Rattle.std.specs.List.{list_any}
-use Rattle.report_lines.specs.History.{is_marked}
+use Rattle.report_lines.specs.Inner.Trying.{is_marked}
 use Rattle.report_lines.proofs.lines_so_far.LinesSoFar.has_marked.Given as goal
 
 abbrev pub invariant-loop-waiting : goal.invariant-loop-waiting

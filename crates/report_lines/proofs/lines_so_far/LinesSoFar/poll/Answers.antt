@@ -1,6 +1,6 @@
 use Rattle.std.proofs.Common.{◌≡◌, ◌+◌, ◌∙◌, ap}
 use Rattle.report_lines.specs.SoFar.{LinesSoFar}
-use Rattle.report_lines.specs.Report.{pass}
+use Rattle.report_lines.specs.Inner.Trying.{pass}
 use Rattle.report_lines.proofs.Waits.{polled_on}
 use Rattle.report_lines.proofs.lines_so_far.LinesSoFar.poll.Goals as goal
 

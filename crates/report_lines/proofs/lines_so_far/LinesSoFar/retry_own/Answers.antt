@@ -2,9 +2,9 @@ use Rattle.std.proofs.Common.{◌∙◌, ap, List}
 use Rattle.std.proofs.lemmas.Result.{on_ok_weaker}
 use Rattle.report_lines.specs.SoFar.{LinesSoFar}
 use Rattle.report_lines.specs.declared.history.Line.{Line}
-use Rattle.report_lines.specs.Report.{instances}
 use Rattle.report_lines.proofs.Polls.{own_filter}
 use Rattle.report_lines.proofs.lines_so_far.LinesSoFar.retry_own.Goals as goal
+use Rattle.report_lines.specs.Inner.Trying.{instances}
 
 pub returns : goal.returns
 returns c =
