@@ -54,6 +54,9 @@ def read(lines):
             # (a row of an operator begins with what stands at its left)
             is_row = name and name.startswith("◌") and f" {name.strip('◌')} " in line.partition(" = ")[0]
             name = start[1] if start and not is_row else name
+            # (definitions that name each other stand under one name, each block of them under its own)
+            if start and name == "mutual":
+                name = f"mutual {len(found)}"
             if name:
                 found.setdefault(name, []).append(line)
     return imported, whole, found
@@ -96,7 +99,7 @@ def main(wanted):
     for module, (_, _, found) in files.items():
         for name, lines in found.items():
             for line in lines[1:]:
-                inner = re.match(r"\s+(?:pub )?([^\s:(){},]+) :", line)
+                inner = re.match(r"\s+(?:pub )?(?:data )?([^\s:(){},]+) :", line)
                 if inner:
                     holders.setdefault((module, inner[1]), (module, name))
     sizes = {(module, name): len(lines) for module, (_, _, found) in files.items() for name, lines in found.items()}
