@@ -1,6 +1,7 @@
 -- Where blocks end, and the front of a spec file by its first byte.
-use Rattle.std.proofs.Common.{◌≡◌, ℕ, ◌+◌, ◌<◌, true, false, cond, eqb, List, [], ◌∷◌, length, get_or, drop, take, refl, ◌∙◌, arith, eq-eqb, IsUtf8, Some, None, inl, inr}
-use Rattle.std.specs.Prelude.{◌==◌, ◌≤◌, position}
+use Rattle.std.proofs.Common.{◌≡◌, ℕ, ◌+◌, ◌<◌, true, false, cond, eqb, List, [], ◌∷◌, length, get_or, drop, take, refl, ap, ◌∙◌, arith, eq-eqb, IsUtf8, Some, None, inl, inr}
+use Rattle.std.specs.Prelude.{◌==◌, ◌||◌, ◌≤◌, position, bytes_eq}
+use Rattle.std.specs.Char.{is_ascii_digit}
 use Rattle.std.specs.Str.{IsCharBoundary}
 use Rattle.std.specs.List.{position_or_len}
 use Rattle.std.specs.Option.{option_map_or}
@@ -9,14 +10,17 @@ use Rattle.std.proofs.lemmas.List.Sums.{position_or_len_is, prefix_len-le-length
 use Rattle.std.proofs.lemmas.Bool.Decides.{nat_tests}
 use Rattle.std.proofs.lemmas.Str.{IsCharBoundary-after_ascii, IsCharBoundary-before_ascii}
 use Rattle.memchr.specs.Find.{IsFirstByte, is_byte}
-use Rattle.iso_lexer.specs.Names.{quoted}
-use Rattle.iso_lexer.specs.SpecTokens.{name}
-use Rattle.iso_lexer.specs.Lexing.{token, fault}
+use Rattle.iso_lexer.specs.Names.{plain, quoted}
+use Rattle.iso_lexer.specs.SpecTokens.{Token, keyword, name, digits, sign}
+use Rattle.iso_lexer.specs.Lexing.{Front, gap, token, fault, of_run}
 use Rattle.iso_lexer.proofs.Closings.{line_front}
-use Rattle.iso_lexer.specs.SpecText.{block_of, spec_front}
+use Rattle.iso_lexer.proofs.Spellings.{spelled_is}
+use Rattle.iso_lexer.specs.Inner.Runs.{run_of, after_run, spelled}
+use Rattle.iso_lexer.specs.declared.runs.Run.TheVariants.{Comment, Word, Digits}
+use Rattle.iso_lexer.specs.SpecText.{spec_keywords, spec_signs, block_of, spec_front}
 use Rattle.iso_lexer.specs.Inner.SpecFronts.{word_front, ascii_front, block_front}
-use Rattle.iso_lexer.specs.declared.fault.FaultKind.TheVariants.{UnterminatedBlock, UnterminatedName}
-use Rattle.iso_lexer.specs.Bytes.{is_name_start}
+use Rattle.iso_lexer.specs.declared.fault.FaultKind.TheVariants.{UnterminatedBlock, UnterminatedName, UnexpectedByte}
+use Rattle.iso_lexer.specs.Bytes.{is_blank, is_name_start, is_name_byte, row_of}
 
 differs : (a c : ℕ) → (eqb a c ≡ true → ⊥) → eqb a c ≡ false
 differs a c h = ne_eqb a c (λ e. h (eq-eqb a c e))
@@ -51,10 +55,25 @@ block_is bs =
       | inr ne ↦ rw (ne_eqb n (length bs) ne, lt-ltb n (length bs) (omega (arith, ne))) refl
     ]
 
+word_is : (text : List ℕ) → of_run is_name_byte (λ w. option_map_or keyword (row_of bytes_eq spec_keywords w) (name (plain w))) text ≡ word_front text
+word_is text = ap (λ k. token (option_map_or keyword k (name (plain (run_of Word text)))) (after_run Word text)) (spelled_is spec_keywords (run_of Word text))
+
+sign_is : (b : ℕ) (bs : List ℕ) → option_map_or (λ s. token (sign s) bs) (row_of bytes_eq spec_signs (b ∷ [])) (fault UnexpectedByte 0) ≡ option_map_or (λ s. token (sign s) bs) (spelled spec_signs (b ∷ [])) (fault UnexpectedByte 0)
+sign_is b bs = ap (λ s. option_map_or (λ s. token (sign s) bs) s (fault UnexpectedByte 0)) (spelled_is spec_signs (b ∷ []))
+
+-- the front by its first byte, with these for words, quoted names, blocks and signs
+abbrev by_first : ℕ → List ℕ → Front Token → Front Token → Front Token → Front Token → Front Token
+by_first b bs word quote block signs =
+    cond (is_name_start b) word
+    (cond (is_blank b || b == 10) (gap bs)
+    (cond (b == 35) (gap (after_run Comment (b ∷ bs)))
+    (cond (is_ascii_digit b) (token (digits (run_of Digits (b ∷ bs))) (after_run Digits (b ∷ bs)))
+    (cond (b == 34) quote (cond (b == 123) block signs)))))
+
 pub front_is : (text : List ℕ) → 0 < length text → spec_front text ≡ cond (is_name_start (get_or text 0 0)) (word_front text) (ascii_front (get_or text 0 0) text (drop 1 text))
 unfolding spec_front
 front_is [] lt = absurd (omega arith)
-front_is (b ∷ bs) lt = rw (block_is bs, line_front (λ s. name (quoted s)) UnterminatedName bs) refl
+front_is (b ∷ bs) lt = (λ i. by_first b bs (word_is (b ∷ bs) i) (line_front (λ s. name (quoted s)) UnterminatedName bs i) (block_is bs i) (sign_is b bs i))
 
 pub no_name_small : (b : ℕ) → is_name_start b ≡ false → b < 128
 no_name_small b h = grind (arith, nat_tests)

@@ -6,8 +6,8 @@ use Rattle.std.specs.Char.{is_ascii_digit}
 use Rattle.std.specs.Option.{option_map_or}
 use Rattle.std.specs.Global.{Vec}
 use Rattle.std.proofs.lemmas.Bool.{le-ltb, eqb-true}
-use Rattle.iso_lexer.specs.Bytes.{is_blank, is_name_start, is_name_byte, spelled}
-use Rattle.iso_lexer.specs.Inner.Runs.{passes}
+use Rattle.iso_lexer.specs.Bytes.{is_blank, is_name_start, is_name_byte}
+use Rattle.iso_lexer.specs.Inner.Runs.{passes, spelled}
 use Rattle.iso_lexer.specs.SpecTokens.{Token, name, sign, token_view, at_views}
 use Rattle.iso_lexer.specs.Names.{quoted}
 use Rattle.iso_lexer.specs.Lexing.{Front, gap, token, fault, Reads, ReadsBy}

@@ -7,8 +7,8 @@ use Rattle.std.specs.Option.{option_map_or}
 use Rattle.std.proofs.Math.Seq.{take-suc}
 use Rattle.std.proofs.lemmas.Bool.{eqb-true, eqb-false}
 use Rattle.std.proofs.lemmas.List.Sums.{prefix_len-le-length, passes_at_first}
-use Rattle.iso_lexer.specs.Bytes.{is_blank, is_name_start, spelled}
-use Rattle.iso_lexer.specs.Inner.Runs.{passes, run_of, after_run}
+use Rattle.iso_lexer.specs.Bytes.{is_blank, is_name_start}
+use Rattle.iso_lexer.specs.Inner.Runs.{passes, run_of, after_run, spelled}
 use Rattle.iso_lexer.specs.declared.fault.Fault.{Fault}
 use Rattle.iso_lexer.specs.declared.fault.FaultKind.TheVariants.{UnterminatedBlock, UnterminatedName, UnexpectedByte}
 use Rattle.iso_lexer.specs.declared.token.At.{At}
@@ -24,13 +24,14 @@ use Rattle.iso_lexer.specs.Inner.SpecFronts.{block_front, word_front, ascii_fron
 use Rattle.iso_lexer.specs.SpecSpelling.{Spells, LiesAt}
 use Rattle.iso_lexer.proofs.Lexing.{either, CutBy, reads_slices}
 use Rattle.iso_lexer.proofs.QuoteEnds.{quoted_cut}
+use Rattle.iso_lexer.proofs.Spellings.{spelled_is}
 use Rattle.iso_lexer.proofs.SpecFronts.{front_is}
 
 abbrev Spelling : List ℕ → Front Token → Type 0
 Spelling text f = CutBy Spells text f
 
 named_spells : (o : Option Keyword) (w : List ℕ) → spelled spec_keywords w ≡ o → Spells (option_map_or keyword o (name (plain w))) w
-named_spells (Some k) w e = e
+named_spells (Some k) w e = spelled_is spec_keywords w ∙ e
 named_spells None w e = refl
 
 word_cut : (text : List ℕ) → Spelling text (word_front text)
@@ -54,7 +55,7 @@ sign_front o bs = option_map_or (λ s. token (sign s) bs) o (fault UnexpectedByt
 
 sign_cut : (b : ℕ) (bs : List ℕ) (o : Option Sign) → spelled spec_signs (b ∷ []) ≡ o → Spelling (b ∷ bs) (sign_front o bs)
 sign_cut b bs None e = tt
-sign_cut b bs (Some s) e = record { len = 1; within = omega arith; after = refl; spells = e }
+sign_cut b bs (Some s) e = record { len = 1; within = omega arith; after = refl; spells = spelled_is spec_signs (b ∷ []) ∙ e }
 
 one_off : (b : ℕ) (bs : List ℕ) → Spelling (b ∷ bs) (gap bs)
 one_off b bs = (1, omega arith, refl)

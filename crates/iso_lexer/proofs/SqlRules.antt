@@ -7,8 +7,8 @@ use Rattle.std.specs.Option.{option_map_or}
 use Rattle.std.specs.Str.Parse.{digits_value}
 use Rattle.std.proofs.lemmas.Bool.{eqb-true, and_parts}
 use Rattle.std.proofs.lemmas.List.Folds.{length-prefix_len}
-use Rattle.iso_lexer.specs.Bytes.{is_blank, is_name_start, is_name_byte, spelled}
-use Rattle.iso_lexer.specs.Inner.Runs.{passes, after_run, run_of}
+use Rattle.iso_lexer.specs.Bytes.{is_blank, is_name_start, is_name_byte}
+use Rattle.iso_lexer.specs.Inner.Runs.{passes, after_run, run_of, spelled}
 use Rattle.iso_lexer.specs.SqlTokens.{SqlToken, word, quoted_word, string, number, sql_sign}
 use Rattle.iso_lexer.specs.Lexing.{Front, gap, token, fault}
 use Rattle.iso_lexer.specs.Inner.Quotes.{quoted_from, quoted_front}

@@ -1,5 +1,5 @@
 -- Each token of SQL text is the slice at its span.
-use Rattle.std.proofs.Common.{◌≡◌, ℕ, suc, ◌<◌, length, drop, List, [], ◌∷◌, Ok, true, false, refl, sym, subst, arith, Option, Some, None}
+use Rattle.std.proofs.Common.{◌≡◌, ℕ, suc, ◌<◌, length, drop, List, [], ◌∷◌, Ok, true, false, refl, sym, subst, ◌∙◌, arith, Option, Some, None}
 use Rattle.std.specs.Prelude.{◌==◌, ◌||◌, ◌&&◌, nat_lt, slice_index}
 use Rattle.std.specs.List.{prefix_len, AllByRecursion}
 use Rattle.std.specs.Char.{is_ascii_digit}
@@ -7,8 +7,8 @@ use Rattle.std.specs.Option.{option_map_or}
 use Rattle.std.specs.Str.Parse.{digits_value}
 use Rattle.std.proofs.lemmas.Bool.{eqb-true}
 use Rattle.std.proofs.lemmas.List.Sums.{prefix_len-le-length}
-use Rattle.iso_lexer.specs.Bytes.{is_blank, is_name_start, is_name_byte, spelled}
-use Rattle.iso_lexer.specs.Inner.Runs.{passes, run_of, after_run}
+use Rattle.iso_lexer.specs.Bytes.{is_blank, is_name_start, is_name_byte}
+use Rattle.iso_lexer.specs.Inner.Runs.{passes, run_of, after_run, spelled}
 use Rattle.iso_lexer.specs.declared.fault.FaultKind.TheVariants.{NumberTooLarge, UnexpectedByte, UnterminatedName, UnterminatedString, UnterminatedComment}
 use Rattle.iso_lexer.specs.declared.sql_token.SqlSign.{SqlSign}
 use Rattle.iso_lexer.specs.declared.token.At.{At}
@@ -22,6 +22,7 @@ use Rattle.iso_lexer.specs.Inner.SqlFronts.{number_front, pair_front, ascii_fron
 use Rattle.iso_lexer.specs.SqlSpelling.{SqlSpells, SqlLiesAt}
 use Rattle.iso_lexer.proofs.Lexing.{either, CutBy, reads_slices}
 use Rattle.iso_lexer.proofs.QuoteEnds.{quoted_cut}
+use Rattle.iso_lexer.proofs.Spellings.{spelled_is}
 use Rattle.iso_lexer.proofs.Comments.{behind, comment_further}
 use Rattle.iso_lexer.proofs.SqlFronts.{front_is, digits_numeral, second_of_two, second_of_opening}
 
@@ -59,8 +60,8 @@ by_signs two one bs = option_map_or (λ s. token (sql_sign s) (drop 1 bs)) two (
 
 sign_cut : (b : ℕ) (bs : List ℕ) (two one : Option SqlSign) → spelled sql_signs (b ∷ slice_index bs 0 ∷ []) ≡ two → spelled sql_signs (b ∷ []) ≡ one → Spelling (b ∷ bs) (by_signs two one bs)
 sign_cut b [] (Some s) one e f = absurd (omega (arith, (second_of_two b 0 s e).0))
-sign_cut b (c ∷ cs) (Some s) one e f = record { len = 2; within = omega arith; after = refl; spells = e }
-sign_cut b bs None (Some s) e f = record { len = 1; within = omega arith; after = refl; spells = f }
+sign_cut b (c ∷ cs) (Some s) one e f = record { len = 2; within = omega arith; after = refl; spells = spelled_is sql_signs (b ∷ c ∷ []) ∙ e }
+sign_cut b bs None (Some s) e f = record { len = 1; within = omega arith; after = refl; spells = spelled_is sql_signs (b ∷ []) ∙ f }
 sign_cut b bs None None e f = tt
 
 opening : (b c : ℕ) → (b == 47 && c == 42) ≡ true → 0 < c

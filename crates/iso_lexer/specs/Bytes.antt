@@ -1,5 +1,5 @@
 -- Classes of bytes, the fronts that they make, and rows of spellings.
-use Rattle.std.specs.Prelude.{ℕ, Bool, ◌||◌, ◌==◌, nat_le, List, drop, Option, option_map, find, bytes_eq}
+use Rattle.std.specs.Prelude.{ℕ, Bool, ◌||◌, ◌==◌, nat_le, List, drop, Option, option_map, find}
 use Rattle.std.specs.List.{prefix_len, slice_split}
 use Rattle.std.specs.Char.{is_ascii_digit, is_ascii_alphabetic}
 
@@ -25,7 +25,3 @@ words_of line = slice_split (λ c. c == 32) line
 -- what stands beside the first key that passes for this thing
 abbrev pub row_of : {K T A : Type 0} → (K → T → Bool) → List (K × A) → T → Option A
 row_of passes rows thing = option_map (λ row. row.1) (find (λ row. passes row.0 thing) rows)
-
--- what stands beside these bytes
-abbrev pub spelled : {A : Type 0} → List (List ℕ × A) → List ℕ → Option A
-spelled rows text = row_of (λ key bytes. bytes_eq bytes key) rows text

@@ -19,16 +19,13 @@ pub data Front (T : Type 0) : Type 0 where
 abbrev pub of_run : {T : Type 0} → (ℕ → Bool) → (List ℕ → T) → List ℕ → Front T
 of_run p make text = token (make (take_while p text)) (drop_while p text)
 
--- the token between two rests of a text of this many bytes
-abbrev pub between : {T : Type 0} → ℕ → List ℕ → T → List ℕ → At T
-between total text t rest = record { tok = t; span = record { start = total - length text; end = total - length rest } }
-
 -- What is left of a text of this many bytes reads, by these rules, as these tokens or as this first fault.
 pub data Reads {T : Type 0} (front : List ℕ → Front T) (total : ℕ) : List ℕ → Result (List (At T)) Fault → Type 0 where
   ends : Reads front total [] (Ok [])
   passes : {text : List ℕ} (rest : List ℕ) {answer : Result (List (At T)) Fault} → 0 < length text → front text ≡ gap rest → Reads front total rest answer → Reads front total text answer
   takes : {text : List ℕ} (t : T) (rest : List ℕ) {more answer : Result (List (At T)) Fault} → front text ≡ token t rest → Reads front total rest more
-      → answer ≡ result_map_both (λ ts. between total text t rest ∷ ts) (λ f. f) more → Reads front total text answer
+      → answer ≡ result_map_both (λ ts. record { tok = t; span = record { start = total - length text; end = total - length rest } } ∷ ts) (λ f. f) more
+      → Reads front total text answer
   fails : {text : List ℕ} (kind : FaultKind) (n : ℕ) {answer : Result (List (At T)) Fault} → front text ≡ fault kind n
       → answer ≡ Err (record { kind = kind; at = total - length text + n }) → Reads front total text answer
 

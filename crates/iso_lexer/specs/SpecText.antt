@@ -1,5 +1,5 @@
 -- The tokens of a spec file, or the first fault of one.
-use Rattle.std.specs.Prelude.{◌≡◌, ◌≤◌, ℕ, ◌+◌, ◌-◌, not, ◌||◌, ◌==◌, List, [], ◌∷◌, length, take, take_while, drop, zip, position, Result, Ok, Err, if◌then◌else◌, codes, nat_lt, MatchBool}
+use Rattle.std.specs.Prelude.{◌≡◌, ◌≤◌, ℕ, ◌+◌, ◌-◌, not, ◌||◌, ◌==◌, List, [], ◌∷◌, length, take, take_while, drop, zip, position, bytes_eq, Result, Ok, Err, if◌then◌else◌, codes, nat_lt, MatchBool}
 use Rattle.std.specs.Global.{Vec}
 use Rattle.std.specs.List.{before_first, suffix_len}
 use Rattle.std.specs.Option.{option_map_or}
@@ -14,7 +14,7 @@ use Rattle.iso_lexer.specs.declared.spec_token.Sign.{Sign}
 use Rattle.iso_lexer.specs.declared.spec_token.Sign.TheVariants.{Open, Close, Comma, Star}
 use Rattle.iso_lexer.specs.declared.spec_token.SpecTok.{SpecTok}
 use Rattle.iso_lexer.specs.declared.token.At.{At}
-use Rattle.iso_lexer.specs.Bytes.{is_blank, is_name_start, is_name_byte, drop_while, words_of, spelled}
+use Rattle.iso_lexer.specs.Bytes.{is_blank, is_name_start, is_name_byte, drop_while, words_of, row_of}
 use Rattle.iso_lexer.specs.Names.{plain, quoted}
 use Rattle.iso_lexer.specs.SpecTokens.{Token, keyword, name, digits, sign, block, at_views}
 use Rattle.iso_lexer.specs.Lexing.{Front, gap, token, fault, of_run, Reads, HasToken}
@@ -35,14 +35,14 @@ block_of inner = let text = drop_while is_blank inner in block (length (take_whi
 unfoldable pub spec_front : List ℕ → Front Token
 spec_front [] = gap []
 spec_front (b ∷ bs) =
-    if is_name_start b then of_run is_name_byte (λ w. option_map_or keyword (spelled spec_keywords w) (name (plain w))) (b ∷ bs)
+    if is_name_start b then of_run is_name_byte (λ w. option_map_or keyword (row_of bytes_eq spec_keywords w) (name (plain w))) (b ∷ bs)
     else (if is_blank b || b == 10 then gap bs
     else (if b == 35 then gap (drop_while (λ c. not (c == 10 || c == 13)) (b ∷ bs))
     else (if is_ascii_digit b then of_run is_ascii_digit digits (b ∷ bs)
     else (if b == 34 then quoted_front 34 (λ s. name (quoted s)) (before_first (λ c. c == 10) bs) bs
     (option_map_or (λ n. fault NewlineInName (n + 1)) (position (λ c. c == 10) bs) (fault UnterminatedName 0))
     else (if b == 123 then option_map_or (λ n. token (block_of (take n bs)) (drop (n + 1) bs)) (position (λ c. c == 125) bs) (fault UnterminatedBlock 0)
-    else option_map_or (λ s. token (sign s) bs) (spelled spec_signs (b ∷ [])) (fault UnexpectedByte 0))))))
+    else option_map_or (λ s. token (sign s) bs) (row_of bytes_eq spec_signs (b ∷ [])) (fault UnexpectedByte 0))))))
 
 -- ---- whole texts
 

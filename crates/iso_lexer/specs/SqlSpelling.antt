@@ -1,7 +1,7 @@
 -- How a token of SQL text is spelled.
-use Rattle.std.specs.Prelude.{◌≡◌, ℕ, List, [], ◌∷◌, ◌++◌, Some}
+use Rattle.std.specs.Prelude.{◌≡◌, ℕ, List, [], ◌∷◌, ◌++◌, Some, bytes_eq}
 use Rattle.std.specs.Str.Parse.{IsNumeral, digits_value}
-use Rattle.iso_lexer.specs.Bytes.{spelled}
+use Rattle.iso_lexer.specs.Bytes.{row_of}
 use Rattle.iso_lexer.specs.SqlTokens.{SqlToken, word, quoted_word, string, number, sql_sign}
 use Rattle.iso_lexer.specs.SqlText.{sql_signs}
 use Rattle.iso_lexer.specs.Lexing.{SpelledAt}
@@ -13,7 +13,7 @@ SqlSpells (word w) s = s ≡ w
 SqlSpells (quoted_word w) s = s ≡ 34 ∷ (w ++ 34 ∷ [])
 SqlSpells (string w) s = s ≡ 39 ∷ (w ++ 39 ∷ [])
 SqlSpells (number n) s = IsNumeral 10 s × (digits_value 10 s ≡ n)
-SqlSpells (sql_sign g) s = spelled sql_signs s ≡ Some g
+SqlSpells (sql_sign g) s = row_of bytes_eq sql_signs s ≡ Some g
 
 -- each token is the slice at its span
 abbrev pub SqlLiesAt : List ℕ → At SqlToken → Type 0

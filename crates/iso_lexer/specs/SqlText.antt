@@ -1,6 +1,6 @@
 -- The tokens of SQL text, or its first fault. Words, quoted names, strings, numbers, signs and comments are those of
 -- PostgreSQL's manual, section "Lexical Structure".
-use Rattle.std.specs.Prelude.{ℕ, not, ◌||◌, ◌&&◌, ◌==◌, List, [], ◌∷◌, ◌++◌, length, take_while, drop, zip, Result, if◌then◌else◌, codes, nat_lt, slice_index}
+use Rattle.std.specs.Prelude.{ℕ, not, ◌||◌, ◌&&◌, ◌==◌, List, [], ◌∷◌, ◌++◌, length, take_while, drop, zip, bytes_eq, Result, if◌then◌else◌, codes, nat_lt, slice_index}
 use Rattle.std.specs.Global.{Vec}
 use Rattle.std.specs.Char.{is_ascii_digit}
 use Rattle.std.specs.Option.{option_map_or}
@@ -12,7 +12,7 @@ use Rattle.iso_lexer.specs.declared.sql_token.SqlSign.{SqlSign}
 use Rattle.iso_lexer.specs.declared.sql_token.SqlSign.TheVariants.{NotEqual, AtMost, AtLeast, Concat, Cast, Open, Close, Comma, Semicolon, Plus, Minus, Star, Slash, Percent, Equal, Less, Greater, Dot}
 use Rattle.iso_lexer.specs.declared.sql_token.SqlTok.{SqlTok}
 use Rattle.iso_lexer.specs.declared.token.At.{At}
-use Rattle.iso_lexer.specs.Bytes.{is_blank, is_name_start, is_name_byte, drop_while, words_of, spelled}
+use Rattle.iso_lexer.specs.Bytes.{is_blank, is_name_start, is_name_byte, drop_while, words_of, row_of}
 use Rattle.iso_lexer.specs.SqlTokens.{SqlToken, sql_view, word, quoted_word, string, number, sql_sign}
 use Rattle.iso_lexer.specs.Lexing.{Front, gap, token, fault, of_run, Reads, ReadsBy}
 use Rattle.iso_lexer.specs.Quotes.{quoted_front}
@@ -43,8 +43,8 @@ sql_front (b ∷ bs) =
     else (if b == 39 then quoted_front 39 string bs bs (fault UnterminatedString 0)
     else (if b == 45 && c == 45 then gap (drop_while (λ a. not (a == 10 || a == 13)) (b ∷ bs))
     else (if b == 47 && c == 42 then option_map_or gap (after_comment 0 (drop 1 bs)) (fault UnterminatedComment 0)
-    else option_map_or (λ s. token (sql_sign s) (drop 1 bs)) (spelled sql_signs (b ∷ c ∷ []))
-    (option_map_or (λ s. token (sql_sign s) bs) (spelled sql_signs (b ∷ [])) (fault UnexpectedByte 0))))))))
+    else option_map_or (λ s. token (sql_sign s) (drop 1 bs)) (row_of bytes_eq sql_signs (b ∷ c ∷ []))
+    (option_map_or (λ s. token (sql_sign s) bs) (row_of bytes_eq sql_signs (b ∷ [])) (fault UnexpectedByte 0))))))))
 
 -- The text reads as these tokens, or as this first fault.
 abbrev pub SqlLexes : List ℕ → Result (List (At SqlToken)) Fault → Type 0

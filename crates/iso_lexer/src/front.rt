@@ -2,7 +2,8 @@
 
 ghost use Rattle.std.specs.Prelude.{◌≡◌, ◌<◌, true, false, [], ◌∷◌, length};
 ghost use Rattle.std.specs.Option.{option_map_or};
-ghost use Rattle.iso_lexer.specs.Bytes.{is_blank, is_name_start, spelled};
+ghost use Rattle.iso_lexer.specs.Bytes.{is_blank, is_name_start};
+ghost use Rattle.iso_lexer.specs.Inner.Runs.{spelled};
 ghost use Rattle.iso_lexer.specs.Names.{quoted};
 ghost use Rattle.iso_lexer.specs.SpecTokens.{name, sign};
 ghost use Rattle.iso_lexer.specs.Lexing.{token, fault};

@@ -4,8 +4,7 @@ ghost use Rattle.std.specs.Prelude.{◌≡◌, ◌<◌, ◌≤◌, true, false, 
 ghost use Rattle.std.specs.Option.{option_map_or};
 ghost use Rattle.std.specs.Char.{is_ascii_digit};
 ghost use Rattle.std.specs.Str.Parse.{IsNumeral, digits_value};
-ghost use Rattle.iso_lexer.specs.Bytes.{spelled};
-ghost use Rattle.iso_lexer.specs.Inner.Runs.{run_of, after_run};
+ghost use Rattle.iso_lexer.specs.Inner.Runs.{run_of, after_run, spelled};
 ghost use Rattle.iso_lexer.specs.Comments.{after_comment};
 ghost use Rattle.iso_lexer.specs.SqlTokens.{word, quoted_word, string};
 ghost use Rattle.iso_lexer.specs.Lexing.{gap, token, fault};

@@ -1,10 +1,10 @@
--- Runs of bytes as the code tells them: the longest run of a kind at the front of a text.
-use Rattle.std.specs.Prelude.{ℕ, Bool, ◌||◌, ◌==◌, not, List, length, take, ◌-◌, take_while}
+-- Runs of bytes as the code tells them: the longest run of a kind at the front of a text; and rows of spellings.
+use Rattle.std.specs.Prelude.{ℕ, Bool, ◌||◌, ◌==◌, not, List, length, take, ◌-◌, take_while, Option, bytes_eq}
 use Rattle.std.specs.List.{suffix_len}
 use Rattle.std.specs.Char.{is_ascii_digit}
 use Rattle.iso_lexer.specs.declared.runs.Run.{Run}
 use Rattle.iso_lexer.specs.declared.runs.Run.TheVariants.{Blanks, Comment, Word, Digits}
-use Rattle.iso_lexer.specs.Bytes.{is_blank, is_name_byte, drop_while}
+use Rattle.iso_lexer.specs.Bytes.{is_blank, is_name_byte, drop_while, row_of}
 
 -- the bytes that a run of this kind has: a comment goes on up to LF or CR
 abbrev pub passes : Run → ℕ → Bool
@@ -23,3 +23,7 @@ after_run run text = drop_while (passes run) text
 -- without the blanks at both ends
 abbrev pub trimmed : List ℕ → List ℕ
 trimmed text = let rest = after_run Blanks text in take (length rest - suffix_len is_blank rest) rest
+
+-- what stands beside these bytes
+abbrev pub spelled : {A : Type 0} → List (List ℕ × A) → List ℕ → Option A
+spelled rows text = row_of (λ key bytes. bytes_eq bytes key) rows text

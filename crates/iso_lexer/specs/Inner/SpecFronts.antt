@@ -5,12 +5,12 @@ use Rattle.std.specs.Option.{option_map_or}
 use Rattle.std.specs.Char.{is_ascii_digit}
 use Rattle.iso_lexer.specs.declared.fault.FaultKind.TheVariants.{UnterminatedBlock, UnterminatedName, UnexpectedByte}
 use Rattle.iso_lexer.specs.declared.runs.Run.TheVariants.{Comment, Word, Digits}
-use Rattle.iso_lexer.specs.Bytes.{is_blank, spelled}
+use Rattle.iso_lexer.specs.Bytes.{is_blank}
 use Rattle.iso_lexer.specs.Names.{plain, quoted}
 use Rattle.iso_lexer.specs.SpecTokens.{Token, keyword, name, digits, sign}
 use Rattle.iso_lexer.specs.Lexing.{Front, gap, token, fault}
 use Rattle.iso_lexer.specs.SpecText.{spec_keywords, spec_signs, block_of}
-use Rattle.iso_lexer.specs.Inner.Runs.{run_of, after_run}
+use Rattle.iso_lexer.specs.Inner.Runs.{run_of, after_run, spelled}
 use Rattle.iso_lexer.specs.Inner.Quotes.{quoted_from, quoted_front}
 
 -- the first closing brace ends a block

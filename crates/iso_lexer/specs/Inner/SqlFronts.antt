@@ -4,13 +4,13 @@ use Rattle.std.specs.Option.{option_map_or}
 use Rattle.std.specs.Char.{is_ascii_digit}
 use Rattle.iso_lexer.specs.declared.fault.FaultKind.TheVariants.{UnterminatedName, UnterminatedString, UnterminatedComment, UnexpectedByte}
 use Rattle.iso_lexer.specs.declared.runs.Run.TheVariants.{Comment, Digits}
-use Rattle.iso_lexer.specs.Bytes.{is_blank, spelled}
+use Rattle.iso_lexer.specs.Bytes.{is_blank}
 use Rattle.iso_lexer.specs.Comments.{after_comment}
 use Rattle.iso_lexer.specs.SqlTokens.{SqlToken, quoted_word, string, sql_sign}
 use Rattle.iso_lexer.specs.Lexing.{Front, gap, token, fault}
 use Rattle.iso_lexer.specs.SqlText.{sql_signs}
 use Rattle.iso_lexer.specs.SqlText.{number_front as front_of_digits}
-use Rattle.iso_lexer.specs.Inner.Runs.{run_of, after_run}
+use Rattle.iso_lexer.specs.Inner.Runs.{run_of, after_run, spelled}
 use Rattle.iso_lexer.specs.Inner.Quotes.{quoted_from, quoted_front}
 
 -- digits, with nothing of a name directly behind them
