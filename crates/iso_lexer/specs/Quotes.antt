@@ -6,12 +6,12 @@ use Rattle.iso_lexer.specs.declared.quoted.Quoted.{Quoted}
 use Rattle.iso_lexer.specs.declared.quoted.Quoted.TheVariants.{Closed, Broken, Unclosed}
 use Rattle.iso_lexer.specs.Lexing.{Front, token}
 
--- how many bytes on a quoted text is closed, by a mark that is not doubled; `alone` says that the byte before is a mark with no partner
+-- how many bytes on a quoted text is closed: a doubled mark goes on, a mark that is not doubled closes; `alone` says that the byte before is a mark with no partner
 unfoldable pub closing : ℕ → Bool → List ℕ → Option ℕ
 closing mark alone [] = if alone then Some 0 else None
 closing mark alone (b ∷ bs) = if b == mark then option_map suc (closing mark (not alone) bs) else (if alone then Some 0 else option_map suc (closing mark false bs))
 
--- the token made of the text between the marks, by what stands behind the opening one, where a front of this is closed, or else this fault
+-- the token made of the text between the marks, by what stands behind the opening one, where it is closed within this front of it; or else this fault
 abbrev pub quoted_front : {T : Type 0} → ℕ → (List ℕ → T) → List ℕ → List ℕ → Front T → Front T
 quoted_front mark make within bs unclosed = option_map_or (λ n. token (make (take (n - 1) bs)) (drop n bs)) (closing mark false within) unclosed
 

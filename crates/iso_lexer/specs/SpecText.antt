@@ -31,16 +31,16 @@ spec_signs = zip (words_of (codes "( ) , *")) (Open ∷ Close ∷ Comma ∷ Star
 abbrev pub block_of : List ℕ → Token
 block_of inner = let text = drop_while is_blank inner in block (length (take_while is_blank inner)) (take (length text - suffix_len is_blank text) text)
 
--- A rule for each first byte b. A word is a keyword, or else a plain name; a quoted name stays on its line; the first closing brace ends a block.
+-- A rule for each first byte b. A word is a keyword, or else a plain name; a quoted name is closed on its line; the first closing brace ends a block.
 unfoldable pub spec_front : List ℕ → Front Token
 spec_front [] = gap []
 spec_front (b ∷ bs) =
+    let unclosed : Front Token = option_map_or (λ n. fault NewlineInName (n + 1)) (position (λ c. c == 10) bs) (fault UnterminatedName 0) in
     if is_name_start b then of_run is_name_byte (λ w. option_map_or keyword (row_of bytes_eq spec_keywords w) (name (plain w))) (b ∷ bs)
     else (if is_blank b || b == 10 then gap bs
     else (if b == 35 then gap (drop_while (λ c. not (c == 10 || c == 13)) (b ∷ bs))
     else (if is_ascii_digit b then of_run is_ascii_digit digits (b ∷ bs)
-    else (if b == 34 then quoted_front 34 (λ s. name (quoted s)) (before_first (λ c. c == 10) bs) bs
-    (option_map_or (λ n. fault NewlineInName (n + 1)) (position (λ c. c == 10) bs) (fault UnterminatedName 0))
+    else (if b == 34 then quoted_front 34 (λ s. name (quoted s)) (before_first (λ c. c == 10) bs) bs unclosed
     else (if b == 123 then option_map_or (λ n. token (block_of (take n bs)) (drop (n + 1) bs)) (position (λ c. c == 125) bs) (fault UnterminatedBlock 0)
     else option_map_or (λ s. token (sign s) bs) (row_of bytes_eq spec_signs (b ∷ [])) (fault UnexpectedByte 0))))))
 

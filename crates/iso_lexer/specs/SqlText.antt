@@ -31,11 +31,12 @@ number_front digits rest =
     else (if is_name_byte (slice_index rest 0) then fault UnexpectedByte (length digits) else token (number (digits_value 10 digits)) rest)
 
 -- A rule for each first byte b, and the byte c behind it. Newlines may stand in quoted names and strings; two dashes begin a comment up to the
--- line's end, a slash and a star one that nests; of the signs one of two bytes comes first.
+-- line's end, a slash and a star one that nests; a sign of two bytes comes before one of one byte.
 unfoldable pub sql_front : List ℕ → Front SqlToken
 sql_front [] = gap []
 sql_front (b ∷ bs) =
     let c = slice_index bs 0 in
+    let one_byte : Front SqlToken = option_map_or (λ s. token (sql_sign s) bs) (row_of bytes_eq sql_signs (b ∷ [])) (fault UnexpectedByte 0) in
     if is_name_start b then of_run is_name_byte word (b ∷ bs)
     else (if is_blank b || b == 10 then gap bs
     else (if is_ascii_digit b then number_front (take_while is_ascii_digit (b ∷ bs)) (drop_while is_ascii_digit (b ∷ bs))
@@ -43,8 +44,7 @@ sql_front (b ∷ bs) =
     else (if b == 39 then quoted_front 39 string bs bs (fault UnterminatedString 0)
     else (if b == 45 && c == 45 then gap (drop_while (λ a. not (a == 10 || a == 13)) (b ∷ bs))
     else (if b == 47 && c == 42 then option_map_or gap (after_comment 0 (drop 1 bs)) (fault UnterminatedComment 0)
-    else option_map_or (λ s. token (sql_sign s) (drop 1 bs)) (row_of bytes_eq sql_signs (b ∷ c ∷ []))
-    (option_map_or (λ s. token (sql_sign s) bs) (row_of bytes_eq sql_signs (b ∷ [])) (fault UnexpectedByte 0))))))))
+    else option_map_or (λ s. token (sql_sign s) (drop 1 bs)) (row_of bytes_eq sql_signs (b ∷ c ∷ [])) one_byte))))))
 
 -- The text reads as these tokens, or as this first fault.
 abbrev pub SqlLexes : List ℕ → Result (List (At SqlToken)) Fault → Type 0
