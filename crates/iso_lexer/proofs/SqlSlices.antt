@@ -13,11 +13,11 @@ use Rattle.iso_lexer.specs.declared.fault.FaultKind.TheVariants.{NumberTooLarge,
 use Rattle.iso_lexer.specs.declared.sql_token.SqlSign.{SqlSign}
 use Rattle.iso_lexer.specs.declared.token.At.{At}
 use Rattle.iso_lexer.specs.declared.runs.Run.TheVariants.{Comment, Word, Digits}
-use Rattle.iso_lexer.specs.SqlTokens.{SqlToken, word, quoted_word, string, number, sql_sign}
+use Rattle.iso_lexer.specs.SqlTokens.{SqlToken, word, quoted, string, number, sign}
 use Rattle.iso_lexer.specs.Lexing.{Front, gap, token, fault}
 use Rattle.iso_lexer.specs.Inner.Quotes.{quoted_from, quoted_front}
 use Rattle.iso_lexer.specs.Comments.{after_comment}
-use Rattle.iso_lexer.specs.SqlText.{sql_front, sql_signs, SqlLexes}
+use Rattle.iso_lexer.specs.SqlText.{sql_front_of, sql_front, sql_signs, SqlLexes}
 use Rattle.iso_lexer.specs.Inner.SqlFronts.{number_front, pair_front, ascii_front}
 use Rattle.iso_lexer.specs.SqlSpelling.{SqlSpells, SqlLiesAt}
 use Rattle.iso_lexer.proofs.Lexing.{either, CutBy, reads_slices}
@@ -29,7 +29,7 @@ use Rattle.iso_lexer.proofs.SqlFronts.{front_is, digits_numeral, second_of_two, 
 abbrev Spelling : List ℕ → Front SqlToken → Type 0
 Spelling text f = CutBy SqlSpells text f
 
-word_cut : (text : List ℕ) → Spelling text (token (word (run_of Word text)) (after_run Word text))
+word_cut : (text : List ℕ) → Spelling text (token (word tt (run_of Word text)) (after_run Word text))
 word_cut text = record { len = prefix_len (passes Word) text; within = prefix_len-le-length (passes Word) text; after = refl; spells = refl }
 
 number_cut : (text : List ℕ) → is_ascii_digit (slice_index text 0) ≡ true → Spelling text (number_front text)
@@ -39,8 +39,8 @@ number_cut text h =
     (λ h0. either P (is_name_byte (slice_index (after_run Digits text) 0)) (fault UnexpectedByte (length (run_of Digits text))) (token (number (digits_value 10 (run_of Digits text))) (after_run Digits text)) (λ h1. tt)
     (λ h1. record { len = prefix_len (passes Digits) text; within = prefix_len-le-length (passes Digits) text; after = refl; spells = (digits_numeral text h, refl) }))
 
-name_cut : (b : ℕ) (bs : List ℕ) → b ≡ 34 → Spelling (b ∷ bs) (quoted_front quoted_word UnterminatedName (quoted_from 34 false false bs) bs)
-name_cut b bs is = quoted_cut SqlSpells quoted_word 34 false UnterminatedName b bs (quoted_from 34 false false bs) (λ w. refl) is refl
+name_cut : (b : ℕ) (bs : List ℕ) → b ≡ 34 → Spelling (b ∷ bs) (quoted_front quoted UnterminatedName (quoted_from 34 false false bs) bs)
+name_cut b bs is = quoted_cut SqlSpells quoted 34 false UnterminatedName b bs (quoted_from 34 false false bs) (λ w. refl) is refl
 
 string_cut : (b : ℕ) (bs : List ℕ) → b ≡ 39 → Spelling (b ∷ bs) (quoted_front string UnterminatedString (quoted_from 39 false false bs) bs)
 string_cut b bs is = quoted_cut SqlSpells string 39 false UnterminatedString b bs (quoted_from 39 false false bs) (λ w. refl) is refl
@@ -56,7 +56,7 @@ comment_cut b (c ∷ cs) (Some rest) lt e =
     (suc (suc f.n), omega (arith, f.within), f.is)
 
 abbrev by_signs : Option SqlSign → Option SqlSign → List ℕ → Front SqlToken
-by_signs two one bs = option_map_or (λ s. token (sql_sign s) (drop 1 bs)) two (option_map_or (λ s. token (sql_sign s) bs) one (fault UnexpectedByte 0))
+by_signs two one bs = option_map_or (λ s. token (sign s) (drop 1 bs)) two (option_map_or (λ s. token (sign s) bs) one (fault UnexpectedByte 0))
 
 sign_cut : (b : ℕ) (bs : List ℕ) (two one : Option SqlSign) → spelled sql_signs (b ∷ slice_index bs 0 ∷ []) ≡ two → spelled sql_signs (b ∷ []) ≡ one → Spelling (b ∷ bs) (by_signs two one bs)
 sign_cut b [] (Some s) one e f = absurd (omega (arith, (second_of_two b 0 s e).0))
@@ -79,14 +79,14 @@ one_off : (b : ℕ) (bs : List ℕ) → Spelling (b ∷ bs) (gap bs)
 one_off b bs = (1, omega arith, refl)
 
 front_cut : (text : List ℕ) → Spelling text (sql_front text)
-unfolding sql_front
+unfolding sql_front_of
 front_cut [] = (0, omega arith, refl)
 front_cut (b ∷ bs) =
     let P : Front SqlToken → Type 0 = Spelling (b ∷ bs) in
-    subst P (sym (front_is (b ∷ bs) (omega arith))) (either P (is_name_start b) (token (word (run_of Word (b ∷ bs))) (after_run Word (b ∷ bs))) (ascii_front b (b ∷ bs) bs) (λ h. word_cut (b ∷ bs))
+    subst P (sym (front_is (b ∷ bs) (omega arith))) (either P (is_name_start b) (token (word tt (run_of Word (b ∷ bs))) (after_run Word (b ∷ bs))) (ascii_front b (b ∷ bs) bs) (λ h. word_cut (b ∷ bs))
     (λ h0. either P (is_blank b || b == 10) (gap bs) _ (λ h. one_off b bs)
     (λ h1. either P (is_ascii_digit b) (number_front (b ∷ bs)) _ (λ h. number_cut (b ∷ bs) h)
-    (λ h2. either P (b == 34) (quoted_front quoted_word UnterminatedName (quoted_from 34 false false bs) bs) _ (λ h. name_cut b bs (eqb-true b 34 h))
+    (λ h2. either P (b == 34) (quoted_front quoted UnterminatedName (quoted_from 34 false false bs) bs) _ (λ h. name_cut b bs (eqb-true b 34 h))
     (λ h3. either P (b == 39) (quoted_front string UnterminatedString (quoted_from 39 false false bs) bs) _ (λ h. string_cut b bs (eqb-true b 39 h))
     (λ h4. pair_cut b bs))))))
 

@@ -13,7 +13,7 @@ use Rattle.iso_lexer.specs.declared.sql_token.SqlSign.TheVariants.{NotEqual, AtM
 use Rattle.iso_lexer.specs.declared.sql_token.SqlTok.{SqlTok}
 use Rattle.iso_lexer.specs.declared.token.At.{At}
 use Rattle.iso_lexer.specs.Bytes.{is_blank, is_name_start, is_name_byte, drop_while, words_of, row_of}
-use Rattle.iso_lexer.specs.SqlTokens.{SqlToken, sql_view, word, quoted_word, string, number, sql_sign}
+use Rattle.iso_lexer.specs.SqlTokens.{SqlTokenOf, SqlToken, sql_view, word, quoted, string, number, sign}
 use Rattle.iso_lexer.specs.Lexing.{Front, gap, token, fault, of_run, Reads, ReadsBy}
 use Rattle.iso_lexer.specs.Quotes.{quoted_front}
 use Rattle.iso_lexer.specs.Comments.{after_comment}
@@ -25,26 +25,30 @@ sql_signs =
     ++ zip (words_of (codes "( ) , ; + - * / % = < > .")) (Open ∷ Close ∷ Comma ∷ Semicolon ∷ Plus ∷ Minus ∷ Star ∷ Slash ∷ Percent ∷ Equal ∷ Less ∷ Greater ∷ Dot ∷ [])
 
 -- a number by its digits and what follows them: nothing of a name, directly
-abbrev pub number_front : List ℕ → List ℕ → Front SqlToken
+abbrev pub number_front : {W : Type 0} → List ℕ → List ℕ → Front (SqlTokenOf W)
 number_front digits rest =
     if nat_lt 9223372036854775807 (digits_value 10 digits) then fault NumberTooLarge 0
     else (if is_name_byte (slice_index rest 0) then fault UnexpectedByte (length digits) else token (number (digits_value 10 digits)) rest)
 
--- A rule for each first byte b, and the byte c behind it. Newlines may stand in quoted names and strings; two dashes begin a comment up to the
--- line's end, a slash and a star one that nests; a sign of two bytes comes before one of one byte.
-unfoldable pub sql_front : List ℕ → Front SqlToken
-sql_front [] = gap []
-sql_front (b ∷ bs) =
+-- A rule for each first byte b, and the byte c behind it, where this is told of a word. Newlines may stand in quoted names and strings; two dashes begin
+-- a comment up to the line's end, a slash and a star one that nests; a sign of two bytes comes before one of one byte.
+unfoldable pub sql_front_of : {W : Type 0} → (List ℕ → W) → List ℕ → Front (SqlTokenOf W)
+sql_front_of told [] = gap []
+sql_front_of {W} told (b ∷ bs) =
     let c = slice_index bs 0 in
-    let one_byte : Front SqlToken = option_map_or (λ s. token (sql_sign s) bs) (row_of bytes_eq sql_signs (b ∷ [])) (fault UnexpectedByte 0) in
-    if is_name_start b then of_run is_name_byte word (b ∷ bs)
+    let one_byte : Front (SqlTokenOf W) = option_map_or (λ s. token (sign s) bs) (row_of bytes_eq sql_signs (b ∷ [])) (fault UnexpectedByte 0) in
+    if is_name_start b then of_run is_name_byte (λ w. word (told w) w) (b ∷ bs)
     else (if is_blank b || b == 10 then gap bs
     else (if is_ascii_digit b then number_front (take_while is_ascii_digit (b ∷ bs)) (drop_while is_ascii_digit (b ∷ bs))
-    else (if b == 34 then quoted_front 34 quoted_word bs bs (fault UnterminatedName 0)
+    else (if b == 34 then quoted_front 34 quoted bs bs (fault UnterminatedName 0)
     else (if b == 39 then quoted_front 39 string bs bs (fault UnterminatedString 0)
     else (if b == 45 && c == 45 then gap (drop_while (λ a. not (a == 10 || a == 13)) (b ∷ bs))
     else (if b == 47 && c == 42 then option_map_or gap (after_comment 0 (drop 1 bs)) (fault UnterminatedComment 0)
-    else option_map_or (λ s. token (sql_sign s) (drop 1 bs)) (row_of bytes_eq sql_signs (b ∷ c ∷ [])) one_byte))))))
+    else option_map_or (λ s. token (sign s) (drop 1 bs)) (row_of bytes_eq sql_signs (b ∷ c ∷ [])) one_byte))))))
+
+-- the rules of the lexer, which tells nothing of a word
+abbrev pub sql_front : List ℕ → Front SqlToken
+sql_front = sql_front_of (λ w. tt)
 
 -- The text reads as these tokens, or as this first fault.
 abbrev pub SqlLexes : List ℕ → Result (List (At SqlToken)) Fault → Type 0

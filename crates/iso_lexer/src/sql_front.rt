@@ -6,7 +6,7 @@ ghost use Rattle.std.specs.Char.{is_ascii_digit};
 ghost use Rattle.std.specs.Str.Parse.{IsNumeral, digits_value};
 ghost use Rattle.iso_lexer.specs.Inner.Runs.{run_of, after_run, spelled};
 ghost use Rattle.iso_lexer.specs.Comments.{after_comment};
-ghost use Rattle.iso_lexer.specs.SqlTokens.{word, quoted_word, string};
+ghost use Rattle.iso_lexer.specs.SqlTokens.{word, quoted, string};
 ghost use Rattle.iso_lexer.specs.Lexing.{gap, token, fault};
 ghost use Rattle.iso_lexer.specs.Inner.Quotes.{quoted_from, quoted_front};
 ghost use Rattle.iso_lexer.specs.declared.runs.Run.TheVariants.{Word};
@@ -62,7 +62,7 @@ fn sign_of_one(first: u8) -> Option<SqlSign>
 }
 
 fn word_front(text: &str) -> Piece<'_, SqlTok<'_>>
-    ensures { sql_front_view result ≡ token (word (run_of Word text.now)) (after_run Word text.now) }
+    ensures { sql_front_view result ≡ token (word tt (run_of Word text.now)) (after_run Word text.now) }
 {
     let (word, rest) = split_run(Run::Word, text);
     Piece::Token(SqlTok::Word(word), rest)
@@ -109,7 +109,7 @@ fn number_front(text: &str) -> Piece<'_, SqlTok<'_>>
 
 /// A quoted name, by the text behind its opening quote.
 fn name_front(text: &str) -> Piece<'_, SqlTok<'_>>
-    ensures { sql_front_view result ≡ quoted_front quoted_word UnterminatedName (quoted_from 34 false false text.now) text.now }
+    ensures { sql_front_view result ≡ quoted_front quoted UnterminatedName (quoted_from 34 false false text.now) text.now }
 {
     match quoted_front(b'"', false, FaultKind::UnterminatedName, text) {
         Piece::Gap(rest) => Piece::Gap(rest),

@@ -6,7 +6,7 @@ use Rattle.iso_lexer.specs.declared.fault.FaultKind.TheVariants.{UnterminatedNam
 use Rattle.iso_lexer.specs.declared.runs.Run.TheVariants.{Comment, Digits}
 use Rattle.iso_lexer.specs.Bytes.{is_blank}
 use Rattle.iso_lexer.specs.Comments.{after_comment}
-use Rattle.iso_lexer.specs.SqlTokens.{SqlToken, quoted_word, string, sql_sign}
+use Rattle.iso_lexer.specs.SqlTokens.{SqlToken, quoted, string, sign}
 use Rattle.iso_lexer.specs.Lexing.{Front, gap, token, fault}
 use Rattle.iso_lexer.specs.SqlText.{sql_signs}
 use Rattle.iso_lexer.specs.SqlText.{number_front as front_of_digits}
@@ -20,8 +20,8 @@ number_front text = front_of_digits (run_of Digits text) (after_run Digits text)
 -- a sign of two bytes, else one of one byte; b stands first, c behind it
 abbrev pub sign_front : ℕ → ℕ → List ℕ → Front SqlToken
 sign_front b c rest =
-    let one = option_map_or (λ s. token (sql_sign s) rest) (spelled sql_signs (b ∷ [])) (fault UnexpectedByte 0) in
-    option_map_or (λ s. token (sql_sign s) (drop 1 rest)) (spelled sql_signs (b ∷ c ∷ [])) one
+    let one = option_map_or (λ s. token (sign s) rest) (spelled sql_signs (b ∷ [])) (fault UnexpectedByte 0) in
+    option_map_or (λ s. token (sign s) (drop 1 rest)) (spelled sql_signs (b ∷ c ∷ [])) one
 
 -- two dashes begin a comment up to the line's end, a slash and a star one that nests
 abbrev pub pair_front : ℕ → ℕ → List ℕ → List ℕ → Front SqlToken
@@ -35,6 +35,6 @@ abbrev pub ascii_front : ℕ → List ℕ → List ℕ → Front SqlToken
 ascii_front b text rest =
     if is_blank b || b == 10 then gap rest
     else (if is_ascii_digit b then number_front text
-    else (if b == 34 then quoted_front quoted_word UnterminatedName (quoted_from 34 false false rest) rest
+    else (if b == 34 then quoted_front quoted UnterminatedName (quoted_from 34 false false rest) rest
     else (if b == 39 then quoted_front string UnterminatedString (quoted_from 39 false false rest) rest
     else pair_front b (slice_index rest 0) text rest)))
