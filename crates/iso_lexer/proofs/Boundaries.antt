@@ -11,7 +11,8 @@ use Rattle.std.proofs.lemmas.List.{length-reverse, get_or-reverse}
 use Rattle.std.proofs.lemmas.List.Sums.{suffix_len-le-length, prefix_len-le-length, prefix_len_passes, prefix_len_stops}
 use Rattle.iso_lexer.specs.declared.runs.Run.{Run}
 use Rattle.iso_lexer.specs.declared.runs.Run.TheVariants.{Blanks, Comment, Word, Digits}
-use Rattle.iso_lexer.specs.Bytes.{is_blank, is_name_byte, passes}
+use Rattle.iso_lexer.specs.Bytes.{is_blank, is_name_byte}
+use Rattle.iso_lexer.specs.Inner.Runs.{passes}
 
 blank_small : (b : ℕ) → is_blank b ≡ true → b < 128
 blank_small b h = grind (arith, nat_tests)

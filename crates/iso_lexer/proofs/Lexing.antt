@@ -3,7 +3,8 @@ use Rattle.std.proofs.Common.{◌≡◌, ℕ, ◌+◌, ◌-◌, ◌<◌, ◌≤�
 use Rattle.std.specs.Prelude.{map, slice_range}
 use Rattle.std.specs.List.{AllByRecursion}
 use Rattle.std.proofs.lemmas.List.{append-nil, map-append, drop-drop}
-use Rattle.iso_lexer.specs.Lexing.{Front, gap, token, fault, Reads, ends, takes, fails, in_front, between, SpelledAt, HasToken, here, behind}
+use Rattle.iso_lexer.specs.Lexing.{Front, gap, token, fault, Reads, ends, takes, fails, SpelledAt, HasToken, here, behind}
+use Rattle.iso_lexer.specs.Inner.Rules.{in_front, between}
 use Rattle.iso_lexer.specs.Lexing.{passes as skips}
 use Rattle.iso_lexer.specs.Inner.Rules.{Shorter, Rules}
 use Rattle.iso_lexer.specs.declared.fault.Fault.{Fault}

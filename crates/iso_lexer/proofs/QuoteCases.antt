@@ -1,10 +1,11 @@
 -- A quoted name or string goes on by cases, as it is computed.
 use Rattle.std.proofs.Common.{◌≡◌, ◌≢◌, ℕ, Bool, true, false, cond, List, [], ◌∷◌, sym, refl, ap, subst, ◌∙◌, inl, inr, eq-eqb}
-use Rattle.std.specs.Prelude.{◌&&◌, ◌==◌}
+use Rattle.std.specs.Prelude.{◌&&◌, ◌==◌, ◌↔◌}
 use Rattle.std.proofs.lemmas.Bool.{ne_eqb, cases_eq, cases_Bool, eqb-true, false≢true}
 use Rattle.iso_lexer.specs.declared.quoted.Quoted.{Quoted}
 use Rattle.iso_lexer.specs.declared.quoted.Quoted.TheVariants.{Closed, Broken, Unclosed}
-use Rattle.iso_lexer.specs.Quotes.{longer, quoted_from, GoesOn, runs_out, doubled, closes, breaks, goes_on, ComputedQuotes}
+use Rattle.iso_lexer.specs.Quotes.{longer, GoesOn, runs_out, doubled, closes, breaks, goes_on}
+use Rattle.iso_lexer.specs.Inner.Quotes.{quoted_from}
 use Rattle.iso_lexer.proofs.Quotes.{longer_twice}
 
 module _ (mark : ℕ) (one_line : Bool) where
@@ -87,5 +88,5 @@ module _ (mark : ℕ) (one_line : Bool) where
         | inr ne ↦ other b (c ∷ bs) ne (goes (c ∷ bs))
       ]
 
-pub computed_quotes : ComputedQuotes
-computed_quotes mark one_line text end = (computed mark one_line text end, λ e. subst (GoesOn mark one_line text) e (goes mark one_line text))
+pub quotes_by_cases : (mark : ℕ) (one_line : Bool) (text : List ℕ) (end : Quoted) → GoesOn mark one_line text end ↔ (quoted_from mark one_line false text ≡ end)
+quotes_by_cases mark one_line text end = (computed mark one_line text end, λ e. subst (GoesOn mark one_line text) e (goes mark one_line text))

@@ -9,7 +9,8 @@ use Rattle.iso_lexer.specs.declared.fault.FaultKind.{FaultKind}
 use Rattle.iso_lexer.specs.declared.quoted.Quoted.{Quoted}
 use Rattle.iso_lexer.specs.declared.quoted.Quoted.TheVariants.{Closed, Broken, Unclosed}
 use Rattle.iso_lexer.specs.Lexing.{Front, gap, token, fault}
-use Rattle.iso_lexer.specs.Quotes.{longer, quoted_from, quoted_front}
+use Rattle.iso_lexer.specs.Quotes.{longer}
+use Rattle.iso_lexer.specs.Inner.Quotes.{quoted_from, quoted_front}
 use Rattle.iso_lexer.specs.Inner.Rules.{Shorter}
 use Rattle.iso_lexer.proofs.Lexing.{CutBy}
 

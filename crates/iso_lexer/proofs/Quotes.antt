@@ -5,7 +5,8 @@ use Rattle.std.proofs.lemmas.Bool.{ne_eqb}
 use Rattle.std.proofs.lemmas.List.{drop_all}
 use Rattle.iso_lexer.specs.declared.quoted.Quoted.{Quoted}
 use Rattle.iso_lexer.specs.declared.quoted.Quoted.TheVariants.{Closed, Broken, Unclosed}
-use Rattle.iso_lexer.specs.Quotes.{longer, quoted_from}
+use Rattle.iso_lexer.specs.Quotes.{longer}
+use Rattle.iso_lexer.specs.Inner.Quotes.{quoted_from}
 
 pub longer_twice : (i k : ℕ) (q : Quoted) → longer i (longer k q) ≡ longer (i + k) q
 longer_twice i k (Closed n) = ap Closed (sym (add_assoc i k n))

@@ -1,17 +1,26 @@
 -- Where blocks end, and the front of a spec file by its first byte.
-use Rattle.std.proofs.Common.{◌≡◌, ℕ, ◌+◌, ◌<◌, true, false, cond, eqb, List, [], ◌∷◌, length, get_or, drop, take, refl, ◌∙◌, arith, eq-eqb, IsUtf8, Some, None}
-use Rattle.std.specs.Prelude.{◌==◌}
+use Rattle.std.proofs.Common.{◌≡◌, ℕ, ◌+◌, ◌<◌, true, false, cond, eqb, List, [], ◌∷◌, length, get_or, drop, take, refl, ap, ◌∙◌, arith, eq-eqb, IsUtf8, Some, None, inl, inr}
+use Rattle.std.specs.Prelude.{◌==◌, ◌||◌, ◌≤◌, position, bytes_eq}
+use Rattle.std.specs.Char.{is_ascii_digit}
 use Rattle.std.specs.Str.{IsCharBoundary}
 use Rattle.std.specs.List.{position_or_len}
-use Rattle.std.proofs.lemmas.Bool.{ne_eqb, eqb-true}
-use Rattle.std.proofs.lemmas.List.Sums.{position_or_len_is}
+use Rattle.std.specs.Option.{option_map_or}
+use Rattle.std.proofs.lemmas.Bool.{ne_eqb, eqb-true, cases_eq, le-ltb, lt-ltb}
+use Rattle.std.proofs.lemmas.List.Sums.{position_or_len_is, prefix_len-le-length}
 use Rattle.std.proofs.lemmas.Bool.Decides.{nat_tests}
 use Rattle.std.proofs.lemmas.Str.{IsCharBoundary-after_ascii, IsCharBoundary-before_ascii}
 use Rattle.memchr.specs.Find.{IsFirstByte, is_byte}
-use Rattle.iso_lexer.specs.Lexing.{token, fault}
-use Rattle.iso_lexer.specs.SpecText.{block_of, front, word_front, ascii_front, block_front}
-use Rattle.iso_lexer.specs.declared.fault.FaultKind.TheVariants.{UnterminatedBlock}
-use Rattle.iso_lexer.specs.Bytes.{is_name_start}
+use Rattle.iso_lexer.specs.Names.{plain, quoted}
+use Rattle.iso_lexer.specs.SpecTokens.{Token, keyword, name, digits, sign}
+use Rattle.iso_lexer.specs.Lexing.{Front, gap, token, fault, of_run}
+use Rattle.iso_lexer.proofs.Closings.{line_front}
+use Rattle.iso_lexer.proofs.Spellings.{spelled_is}
+use Rattle.iso_lexer.specs.Inner.Runs.{run_of, after_run, spelled}
+use Rattle.iso_lexer.specs.declared.runs.Run.TheVariants.{Comment, Word, Digits}
+use Rattle.iso_lexer.specs.SpecText.{spec_keywords, spec_signs, block_of, spec_front}
+use Rattle.iso_lexer.specs.Inner.SpecFronts.{word_front, ascii_front, block_front}
+use Rattle.iso_lexer.specs.declared.fault.FaultKind.TheVariants.{UnterminatedBlock, UnterminatedName, UnexpectedByte}
+use Rattle.iso_lexer.specs.Bytes.{is_blank, is_name_start, is_name_byte, row_of}
 
 differs : (a c : ℕ) → (eqb a c ≡ true → ⊥) → eqb a c ≡ false
 differs a c h = ne_eqb a c (λ e. h (eq-eqb a c e))
@@ -37,10 +46,34 @@ first_some c bs n h = record {
   is = eqb-true _ c h.1;
 }
 
-pub front_is : (text : List ℕ) → 0 < length text → front text ≡ cond (is_name_start (get_or text 0 0)) (word_front text) (ascii_front (get_or text 0 0) text (drop 1 text))
-unfolding front
+block_is : (bs : List ℕ) → option_map_or (λ n. token (block_of (take n bs)) (drop (n + 1) bs)) (position (λ c. c == 125) bs) (fault UnterminatedBlock 0) ≡ block_front bs
+block_is bs =
+    let n = position_or_len (λ c. c == 125) bs in
+    let le : n ≤ length bs = prefix_len-le-length _ bs in
+    elim (cases_eq n (length bs)) [
+      | inl is ↦ rw (eq-eqb n (length bs) is, le-ltb n (length bs) (omega arith)) refl
+      | inr ne ↦ rw (ne_eqb n (length bs) ne, lt-ltb n (length bs) (omega (arith, ne))) refl
+    ]
+
+word_is : (text : List ℕ) → of_run is_name_byte (λ w. option_map_or keyword (row_of bytes_eq spec_keywords w) (name (plain w))) text ≡ word_front text
+word_is text = ap (λ k. token (option_map_or keyword k (name (plain (run_of Word text)))) (after_run Word text)) (spelled_is spec_keywords (run_of Word text))
+
+sign_is : (b : ℕ) (bs : List ℕ) → option_map_or (λ s. token (sign s) bs) (row_of bytes_eq spec_signs (b ∷ [])) (fault UnexpectedByte 0) ≡ option_map_or (λ s. token (sign s) bs) (spelled spec_signs (b ∷ [])) (fault UnexpectedByte 0)
+sign_is b bs = ap (λ s. option_map_or (λ s. token (sign s) bs) s (fault UnexpectedByte 0)) (spelled_is spec_signs (b ∷ []))
+
+-- the front by its first byte, with these for words, quoted names, blocks and signs
+abbrev by_first : ℕ → List ℕ → Front Token → Front Token → Front Token → Front Token → Front Token
+by_first b bs word quote block signs =
+    cond (is_name_start b) word
+    (cond (is_blank b || b == 10) (gap bs)
+    (cond (b == 35) (gap (after_run Comment (b ∷ bs)))
+    (cond (is_ascii_digit b) (token (digits (run_of Digits (b ∷ bs))) (after_run Digits (b ∷ bs)))
+    (cond (b == 34) quote (cond (b == 123) block signs)))))
+
+pub front_is : (text : List ℕ) → 0 < length text → spec_front text ≡ cond (is_name_start (get_or text 0 0)) (word_front text) (ascii_front (get_or text 0 0) text (drop 1 text))
+unfolding spec_front
 front_is [] lt = absurd (omega arith)
-front_is (b ∷ bs) lt = refl
+front_is (b ∷ bs) lt = (λ i. by_first b bs (word_is (b ∷ bs) i) (line_front (λ s. name (quoted s)) UnterminatedName bs i) (block_is bs i) (sign_is b bs i))
 
 pub no_name_small : (b : ℕ) → is_name_start b ≡ false → b < 128
 no_name_small b h = grind (arith, nat_tests)
@@ -67,8 +100,8 @@ brace bs xs n utf8 same h =
 pub front_boundary : (bs xs : List ℕ) → IsUtf8 bs → xs ≡ bs → 0 < length bs → is_name_start (get_or xs 0 0) ≡ false → IsCharBoundary bs 1
 front_boundary bs xs utf8 same lt h = IsCharBoundary-after_ascii bs 0 utf8 lt (no_name_small _ (rw same at h))
 
-pub front_word : (bs xs : List ℕ) → xs ≡ bs → 0 < length bs → is_name_start (get_or xs 0 0) ≡ true → front bs ≡ word_front bs
+pub front_word : (bs xs : List ℕ) → xs ≡ bs → 0 < length bs → is_name_start (get_or xs 0 0) ≡ true → spec_front bs ≡ word_front bs
 front_word bs xs same lt h = front_is bs lt ∙ rw (rw same at h) refl
 
-pub front_ascii : (bs xs rest : List ℕ) → xs ≡ bs → 0 < length bs → is_name_start (get_or xs 0 0) ≡ false → rest ≡ drop 1 bs → front bs ≡ ascii_front (get_or xs 0 0) bs rest
+pub front_ascii : (bs xs rest : List ℕ) → xs ≡ bs → 0 < length bs → is_name_start (get_or xs 0 0) ≡ false → rest ≡ drop 1 bs → spec_front bs ≡ ascii_front (get_or xs 0 0) bs rest
 front_ascii bs xs rest same lt h e = front_is bs lt ∙ rw (rw same at h, same, e) refl

@@ -1,17 +1,19 @@
 -- The rules of spec files: each piece takes something, and the whole file.
-use Rattle.std.proofs.Common.{◌≡◌, ℕ, suc, ◌+◌, ◌<◌, ◌≤◌, length, drop, take, List, [], ◌∷◌, Result, Ok, Err, Bool, true, false, cond, eqb, refl, sym, ◌∙◌, arith, length-drop, Option, Some, None}
+use Rattle.std.proofs.Common.{◌≡◌, ℕ, suc, ◌+◌, ◌<◌, ◌≤◌, length, drop, take, List, [], ◌∷◌, Result, Ok, Err, Bool, true, false, cond, eqb, refl, sym, subst, ◌∙◌, arith, length-drop, Option, Some, None}
 use Rattle.std.specs.Prelude.{MatchBool, nat_lt, ◌==◌, ◌||◌}
 use Rattle.std.specs.List.{prefix_len, position_or_len}
 use Rattle.std.specs.Char.{is_ascii_digit}
 use Rattle.std.specs.Option.{option_map_or}
 use Rattle.std.specs.Global.{Vec}
 use Rattle.std.proofs.lemmas.Bool.{le-ltb, eqb-true}
-use Rattle.iso_lexer.specs.Bytes.{passes, is_blank, is_name_start, is_name_byte, spelled}
+use Rattle.iso_lexer.specs.Bytes.{is_blank, is_name_start, is_name_byte}
+use Rattle.iso_lexer.specs.Inner.Runs.{passes, spelled}
 use Rattle.iso_lexer.specs.SpecTokens.{Token, name, sign, token_view, at_views}
 use Rattle.iso_lexer.specs.Names.{quoted}
 use Rattle.iso_lexer.specs.Lexing.{Front, gap, token, fault, Reads, ReadsBy}
-use Rattle.iso_lexer.specs.Quotes.{quoted_from, quoted_front}
-use Rattle.iso_lexer.specs.SpecText.{block_of, front, block_front, signs, word_front, ascii_front, Answers, Lexes, longest_file}
+use Rattle.iso_lexer.specs.Inner.Quotes.{quoted_from, quoted_front}
+use Rattle.iso_lexer.specs.SpecText.{block_of, spec_front, spec_signs, Answers, Lexes, longest_file}
+use Rattle.iso_lexer.specs.Inner.SpecFronts.{block_front, word_front, ascii_front}
 use Rattle.iso_lexer.specs.declared.fault.Fault.{Fault}
 use Rattle.iso_lexer.specs.declared.fault.LexFault.{LexFault}
 use Rattle.iso_lexer.specs.declared.fault.LexFault.TheVariants as errors
@@ -23,6 +25,7 @@ use Rattle.iso_lexer.specs.declared.runs.Run.TheVariants.{Comment}
 use Rattle.iso_lexer.specs.Inner.Rules.{Shorter, Rules}
 use Rattle.iso_lexer.proofs.Lexing.{either, one_reading}
 use Rattle.iso_lexer.proofs.QuoteEnds.{quoted_shorter}
+use Rattle.iso_lexer.proofs.SpecFronts.{front_is}
 
 pub after_shorter : (p : ℕ → Bool) (b : ℕ) (bs : List ℕ) → p b ≡ true → length (drop (prefix_len p (b ∷ bs)) (b ∷ bs)) < suc (length bs)
 after_shorter p b bs h =
@@ -53,12 +56,11 @@ name_byte b h = rw h refl
 comment_byte : (b : ℕ) → eqb b 35 ≡ true → passes Comment b ≡ true
 comment_byte b h = rw (eqb-true b 35 h) refl
 
-front_shorter : (text : List ℕ) → 0 < length text → Shorter (length text) (front text)
-unfolding front
+front_shorter : (text : List ℕ) → 0 < length text → Shorter (length text) (spec_front text)
 front_shorter [] lt = absurd (omega arith)
 front_shorter (b ∷ bs) lt =
     let P : Front Token → Type 0 = Shorter (suc (length bs)) in
-    either P (is_name_start b) (word_front (b ∷ bs)) (ascii_front b (b ∷ bs) bs)
+    subst P (sym (front_is (b ∷ bs) lt)) (either P (is_name_start b) (word_front (b ∷ bs)) (ascii_front b (b ∷ bs) bs)
     (λ h. after_shorter is_name_byte b bs (name_byte b h))
     (λ h0. either P (is_blank b || b == 10) (gap bs) _
     (λ h. gap_shorter bs)
@@ -66,28 +68,28 @@ front_shorter (b ∷ bs) lt =
     (λ h. after_shorter (passes Comment) b bs (comment_byte b h))
     (λ h2. either P _ _ _
     (λ h. after_shorter is_ascii_digit b bs h)
-    (λ h3. either P (b == 34) (quoted_front (λ s. name (quoted s)) UnterminatedName (quoted_from 34 true false bs) bs) (cond (b == 123) (block_front bs) (sign_front (spelled signs (b ∷ [])) bs))
+    (λ h3. either P (b == 34) (quoted_front (λ s. name (quoted s)) UnterminatedName (quoted_from 34 true false bs) bs) (cond (b == 123) (block_front bs) (sign_front (spelled spec_signs (b ∷ [])) bs))
     (λ h. name_shorter bs)
-    (λ h4. either P (b == 123) (block_front bs) (sign_front (spelled signs (b ∷ [])) bs) (λ h. block_shorter bs) (λ h5. sign_shorter (spelled signs (b ∷ [])) bs))))))
+    (λ h4. either P (b == 123) (block_front bs) (sign_front (spelled spec_signs (b ∷ [])) bs) (λ h. block_shorter bs) (λ h5. sign_shorter (spelled spec_signs (b ∷ [])) bs)))))))
 
-pub spec_rules : Rules front
-unfolding front
+pub spec_rules : Rules spec_front
+unfolding spec_front
 spec_rules = record { nothing = refl; shorter = front_shorter }
 
 -- ---- the whole file
 
-pub lexes : (text : List ℕ) (answer : Result (List (At Token)) Fault) → length text ≤ longest_file → Reads front (length text) text answer → Lexes text answer
+pub lexes : (text : List ℕ) (answer : Result (List (At Token)) Fault) → length text ≤ longest_file → Reads spec_front (length text) text answer → Lexes text answer
 lexes text answer le h = rw (le-ltb longest_file (length text) le) h
 
 -- what is read of a file that is no longer than the longest
-pub read_whole : (text : List ℕ) (answer : Result (Vec (At SpecTok)) LexFault) → length text ≤ longest_file → ReadsBy token_view front text answer → Answers text answer
+pub read_whole : (text : List ℕ) (answer : Result (Vec (At SpecTok)) LexFault) → length text ≤ longest_file → ReadsBy token_view spec_front text answer → Answers text answer
 read_whole text (Ok ts) le h = lexes text (Ok (at_views ts.items)) le h
 read_whole text (Err errors.Memory) le h = record { short = le; token = h }
 read_whole text (Err (errors.Fault f)) le h = lexes text (Err f) le h
 
-one_of_two : (b : Bool) (text : List ℕ) (f : Fault) (x y : Result (List (At Token)) Fault) → MatchBool b (x ≡ Err f) (Reads front (length text) text x) → MatchBool b (y ≡ Err f) (Reads front (length text) text y) → x ≡ y
+one_of_two : (b : Bool) (text : List ℕ) (f : Fault) (x y : Result (List (At Token)) Fault) → MatchBool b (x ≡ Err f) (Reads spec_front (length text) text x) → MatchBool b (y ≡ Err f) (Reads spec_front (length text) text y) → x ≡ y
 one_of_two true text f x y p q = p ∙ sym q
-one_of_two false text f x y p q = one_reading front (length text) text x y spec_rules.nothing p q
+one_of_two false text f x y p q = one_reading spec_front (length text) text x y spec_rules.nothing p q
 
 pub one_lexing : (text : List ℕ) (x y : Result (List (At Token)) Fault) → Lexes text x → Lexes text y → x ≡ y
 one_lexing text x y p q = one_of_two (nat_lt longest_file (length text)) text _ x y p q

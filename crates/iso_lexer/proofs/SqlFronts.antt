@@ -13,21 +13,25 @@ use Rattle.std.proofs.lemmas.List.Sums.{prefix_len_passes}
 use Rattle.std.proofs.lemmas.List.Folds.{length-prefix_len}
 use Rattle.std.proofs.lemmas.Str.{IsCharBoundary-after_ascii}
 use Rattle.std.proofs.lemmas.Str.Parse.{IsNumeralModel, numerals_by_value, tells_by_index}
-use Rattle.iso_lexer.specs.Bytes.{is_name_start, is_name_byte, run_of, after_run, spelled}
+use Rattle.iso_lexer.specs.Bytes.{is_name_start, is_name_byte}
+use Rattle.iso_lexer.specs.Inner.Runs.{run_of, after_run, spelled}
 use Rattle.iso_lexer.specs.Comments.{EndsAt}
-use Rattle.iso_lexer.specs.SqlTokens.{word, number}
+use Rattle.iso_lexer.specs.SqlTokens.{word, quoted, string, number}
 use Rattle.iso_lexer.specs.Lexing.{token, fault}
-use Rattle.iso_lexer.specs.SqlText.{sql_front, number_front, ascii_front, signs}
-use Rattle.iso_lexer.specs.declared.fault.FaultKind.TheVariants.{UnexpectedByte}
+use Rattle.iso_lexer.specs.SqlText.{sql_front_of, sql_front, sql_signs}
+use Rattle.iso_lexer.specs.Inner.SqlFronts.{number_front, ascii_front}
+use Rattle.iso_lexer.specs.declared.fault.FaultKind.TheVariants.{UnterminatedName, UnterminatedString, UnexpectedByte}
 use Rattle.iso_lexer.specs.declared.sql_token.SqlSign.{SqlSign}
+use Rattle.iso_lexer.proofs.Closings.{free_front}
+use Rattle.iso_lexer.proofs.Spellings.{spelled_is}
 use Rattle.iso_lexer.specs.declared.runs.Run.TheVariants.{Word, Digits}
 
-front_is : (text : List ℕ) → 0 < length text → sql_front text ≡ cond (is_name_start (get_or text 0 0)) (token (word (run_of Word text)) (after_run Word text)) (ascii_front (get_or text 0 0) text (drop 1 text))
-unfolding sql_front
+pub front_is : (text : List ℕ) → 0 < length text → sql_front text ≡ cond (is_name_start (get_or text 0 0)) (token (word tt (run_of Word text)) (after_run Word text)) (ascii_front (get_or text 0 0) text (drop 1 text))
+unfolding sql_front_of
 front_is [] lt = absurd (omega arith)
-front_is (b ∷ bs) lt = refl
+front_is (b ∷ bs) lt = rw (spelled_is sql_signs (b ∷ slice_index bs 0 ∷ []), spelled_is sql_signs (b ∷ []), free_front quoted UnterminatedName bs 34, free_front string UnterminatedString bs 39) refl
 
-pub front_word : (bs xs : List ℕ) → xs ≡ bs → 0 < length bs → is_name_start (get_or xs 0 0) ≡ true → sql_front bs ≡ token (word (run_of Word bs)) (after_run Word bs)
+pub front_word : (bs xs : List ℕ) → xs ≡ bs → 0 < length bs → is_name_start (get_or xs 0 0) ≡ true → sql_front bs ≡ token (word tt (run_of Word bs)) (after_run Word bs)
 front_word bs xs same lt h = front_is bs lt ∙ rw (rw same at h) refl
 
 pub front_ascii : (bs xs rest : List ℕ) → xs ≡ bs → 0 < length bs → is_name_start (get_or xs 0 0) ≡ false → rest ≡ drop 1 bs → sql_front bs ≡ ascii_front (get_or xs 0 0) bs rest
@@ -79,8 +83,8 @@ second_in b c (row ∷ rows) g r h =
       | inr other ↦ second_in b c rows g parts.1 (rw other at h)
     ]
 
-pub second_of_two : (b c : ℕ) (g : SqlSign) → spelled signs (b ∷ c ∷ []) ≡ Some g → Small c
-second_of_two b c g h = second_in b c signs g refl h
+pub second_of_two : (b c : ℕ) (g : SqlSign) → spelled sql_signs (b ∷ c ∷ []) ≡ Some g → Small c
+second_of_two b c g h = second_in b c sql_signs g refl h
 
 -- ---- numbers
 

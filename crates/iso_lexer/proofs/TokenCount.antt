@@ -5,9 +5,10 @@ use Rattle.std.proofs.lemmas.Bool.{ltb-false}
 use Rattle.iso_lexer.specs.declared.token.At.{At}
 use Rattle.iso_lexer.specs.declared.fault.Fault.{Fault}
 use Rattle.iso_lexer.specs.SpecTokens.{Token}
-use Rattle.iso_lexer.specs.Lexing.{Front, Reads, ends, takes, fails, in_front, gap, token}
+use Rattle.iso_lexer.specs.Lexing.{Front, Reads, ends, takes, fails, gap, token}
+use Rattle.iso_lexer.specs.Inner.Rules.{in_front}
 use Rattle.iso_lexer.specs.Lexing.{passes as skips}
-use Rattle.iso_lexer.specs.SpecText.{Lexes, front}
+use Rattle.iso_lexer.specs.SpecText.{Lexes, spec_front}
 use Rattle.iso_lexer.specs.Inner.Rules.{Rules}
 use Rattle.iso_lexer.proofs.Lexing.{shorter_at}
 use Rattle.iso_lexer.proofs.SpecRules.{spec_rules}
@@ -40,9 +41,9 @@ few_read front rules total text answer (fails kind n e is) = rw is tt
 no_fault : (ts : List (At Token)) (f : Fault) → ◌≡◌ {A = Result (List (At Token)) Fault} (Ok ts) (Err f) → ⊥
 no_fault ts f e = cc
 
-few_of : (b : Bool) (text : List ℕ) (ts : List (At Token)) (f : Fault) → nat_lt 1048576 (length text) ≡ b → MatchBool b (◌≡◌ {A = Result (List (At Token)) Fault} (Ok ts) (Err f)) (Reads front (length text) text (Ok ts)) → (length text ≤ 1048576) × (length ts ≤ length text)
+few_of : (b : Bool) (text : List ℕ) (ts : List (At Token)) (f : Fault) → nat_lt 1048576 (length text) ≡ b → MatchBool b (◌≡◌ {A = Result (List (At Token)) Fault} (Ok ts) (Err f)) (Reads spec_front (length text) text (Ok ts)) → (length text ≤ 1048576) × (length ts ≤ length text)
 few_of true text ts f e h = absurd (no_fault ts f h)
-few_of false text ts f e h = (ltb-false 1048576 (length text) e, few_read front spec_rules (length text) text (Ok ts) h)
+few_of false text ts f e h = (ltb-false 1048576 (length text) e, few_read spec_front spec_rules (length text) text (Ok ts) h)
 
 pub few_tokens : (text : List ℕ) (ts : List (At Token)) → Lexes text (Ok ts) → (length text ≤ 1048576) × (length ts ≤ length text)
 few_tokens text ts h = few_of (nat_lt 1048576 (length text)) text ts _ refl h

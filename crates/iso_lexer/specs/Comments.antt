@@ -11,8 +11,7 @@ pub data Comment : List ℕ → List ℕ → Type 0 where
 unfoldable pub after_comment : ℕ → List ℕ → Option (List ℕ)
 after_comment around (b ∷ c ∷ bs) =
     if b == 42 && c == 47 then (if around == 0 then Some bs else after_comment (around - 1) bs)
-    else (if b == 47 && c == 42 then after_comment (suc around) bs
-    else after_comment around (c ∷ bs))
+    else (if b == 47 && c == 42 then after_comment (suc around) bs else after_comment around (c ∷ bs))
 after_comment around _ = None
 
 -- what follows a comment is what is computed

@@ -1,11 +1,13 @@
 -- How a text splits into tokens, by rules for what stands at its front.
-use Rattle.std.specs.Prelude.{◌≡◌, ℕ, ◌+◌, ◌-◌, ◌<◌, ◌≤◌, List, [], ◌∷◌, ◌++◌, length, map, Result, Ok, Err, slice_range}
+use Rattle.std.specs.Prelude.{◌≡◌, ℕ, ◌+◌, ◌-◌, ◌<◌, ◌≤◌, Bool, List, [], ◌∷◌, length, map, take_while, Result, Ok, Err, slice_range}
+use Rattle.std.specs.Result.{result_map_both}
 use Rattle.std.specs.Global.{Vec}
 use Rattle.iso_lexer.specs.declared.fault.FaultKind.{FaultKind}
 use Rattle.iso_lexer.specs.declared.fault.Fault.{Fault}
 use Rattle.iso_lexer.specs.declared.fault.LexFault.{LexFault}
 use Rattle.iso_lexer.specs.declared.fault.LexFault.TheVariants as errors
 use Rattle.iso_lexer.specs.declared.token.At.{At}
+use Rattle.iso_lexer.specs.Bytes.{drop_while}
 
 -- What stands at the front of a text: nothing that counts, a token, or a fault so many bytes on.
 pub data Front (T : Type 0) : Type 0 where
@@ -13,21 +15,17 @@ pub data Front (T : Type 0) : Type 0 where
   token : T → List ℕ → Front T
   fault : FaultKind → ℕ → Front T
 
--- the token between two rests of a text of this many bytes
-abbrev pub between : {T : Type 0} → ℕ → List ℕ → T → List ℕ → At T
-between total text t rest = record { tok = t; span = record { start = total - length text; end = total - length rest } }
-
--- an answer with tokens before it
-abbrev pub in_front : {T : Type 0} → List (At T) → Result (List (At T)) Fault → Result (List (At T)) Fault
-in_front ts (Ok us) = Ok (ts ++ us)
-in_front ts (Err f) = Err f
+-- the token made of the longest front whose bytes all pass
+abbrev pub of_run : {T : Type 0} → (ℕ → Bool) → (List ℕ → T) → List ℕ → Front T
+of_run p make text = token (make (take_while p text)) (drop_while p text)
 
 -- What is left of a text of this many bytes reads, by these rules, as these tokens or as this first fault.
 pub data Reads {T : Type 0} (front : List ℕ → Front T) (total : ℕ) : List ℕ → Result (List (At T)) Fault → Type 0 where
   ends : Reads front total [] (Ok [])
   passes : {text : List ℕ} (rest : List ℕ) {answer : Result (List (At T)) Fault} → 0 < length text → front text ≡ gap rest → Reads front total rest answer → Reads front total text answer
   takes : {text : List ℕ} (t : T) (rest : List ℕ) {more answer : Result (List (At T)) Fault} → front text ≡ token t rest → Reads front total rest more
-      → answer ≡ in_front (between total text t rest ∷ []) more → Reads front total text answer
+      → answer ≡ result_map_both (λ ts. record { tok = t; span = record { start = total - length text; end = total - length rest } } ∷ ts) (λ f. f) more
+      → Reads front total text answer
   fails : {text : List ℕ} (kind : FaultKind) (n : ℕ) {answer : Result (List (At T)) Fault} → front text ≡ fault kind n
       → answer ≡ Err (record { kind = kind; at = total - length text + n }) → Reads front total text answer
 

@@ -1,10 +1,21 @@
 -- Where a quoted name or string ends.
-use Rattle.std.specs.Prelude.{◌≡◌, ◌≢◌, ◌↔◌, ℕ, ◌+◌, ◌-◌, Bool, true, false, not, ◌&&◌, ◌==◌, List, [], ◌∷◌, take, drop, if◌then◌else◌}
-use Rattle.iso_lexer.specs.declared.fault.FaultKind.{FaultKind}
-use Rattle.iso_lexer.specs.declared.fault.FaultKind.TheVariants.{NewlineInName}
+use Rattle.std.specs.Prelude.{◌≡◌, ◌≢◌, ◌↔◌, ℕ, suc, ◌+◌, ◌-◌, Bool, true, false, not, ◌&&◌, ◌==◌, List, [], ◌∷◌, Option, Some, None, option_map, take, drop, position, if◌then◌else◌}
+use Rattle.std.specs.List.{before_first}
+use Rattle.std.specs.Option.{option_map_or}
 use Rattle.iso_lexer.specs.declared.quoted.Quoted.{Quoted}
 use Rattle.iso_lexer.specs.declared.quoted.Quoted.TheVariants.{Closed, Broken, Unclosed}
-use Rattle.iso_lexer.specs.Lexing.{Front, token, fault}
+use Rattle.iso_lexer.specs.Lexing.{Front, token}
+
+-- how many bytes on a quoted text is closed: a doubled mark goes on, a mark that is not doubled closes; `alone` says that the byte before is a mark with no partner
+unfoldable pub closing : ℕ → Bool → List ℕ → Option ℕ
+closing mark alone [] = if alone then Some 0 else None
+closing mark alone (b ∷ bs) = if b == mark then option_map suc (closing mark (not alone) bs) else (if alone then Some 0 else option_map suc (closing mark false bs))
+
+-- the token made of the text between the marks, by what stands behind the opening one, where it is closed within this front of it; or else this fault
+abbrev pub quoted_front : {T : Type 0} → ℕ → (List ℕ → T) → List ℕ → List ℕ → Front T → Front T
+quoted_front mark make within bs unclosed = option_map_or (λ n. token (make (take (n - 1) bs)) (drop n bs)) (closing mark false within) unclosed
+
+-- ---- the same by cases
 
 -- so many bytes further on
 abbrev pub longer : ℕ → Quoted → Quoted
@@ -22,19 +33,12 @@ pub data GoesOn (mark : ℕ) (one_line : Bool) : List ℕ → Quoted → Type 0 
   goes_on : {text rest : List ℕ} {b : ℕ} {end more : Quoted} → text ≡ b ∷ rest → b ≢ mark → (one_line ≡ true → b ≢ 10) → GoesOn mark one_line rest more → end ≡ longer 1 more
       → GoesOn mark one_line text end
 
--- The same, computed. `alone` says that the byte before is a quote with no partner.
-unfoldable pub quoted_from : ℕ → Bool → Bool → List ℕ → Quoted
-quoted_from mark one_line alone [] = if alone then Closed 0 else Unclosed
-quoted_from mark one_line alone (b ∷ bs) =
-    if b == mark then longer 1 (quoted_from mark one_line (not alone) bs)
-    else (if alone then Closed 0 else (if one_line && b == 10 then Broken 0 else longer 1 (quoted_from mark one_line false bs)))
-
--- the token made of the text between the quotes, by what stands behind the opening one; without a closing quote the fault is at the opening one
-abbrev pub quoted_front : {T : Type 0} → (List ℕ → T) → FaultKind → Quoted → List ℕ → Front T
-quoted_front make unclosed (Closed n) bs = token (make (take (n - 1) bs)) (drop n bs)
-quoted_front make unclosed (Broken n) bs = fault NewlineInName (n + 1)
-quoted_front make unclosed Unclosed bs = fault unclosed 0
+-- where a quoted text is closed, before a newline where it has to stay on its line, or else where that breaks it
+abbrev pub how_quoted : ℕ → Bool → List ℕ → Quoted
+how_quoted mark one_line text =
+    let breaks : ℕ → Bool = λ b. one_line && (b == 10 && not (b == mark)) in
+    option_map_or Closed (closing mark false (before_first breaks text)) (option_map_or Broken (position breaks text) Unclosed)
 
 -- how a quoted text goes on is what is computed
 abbrev pub ComputedQuotes : Type 0
-ComputedQuotes = (mark : ℕ) (one_line : Bool) (text : List ℕ) (end : Quoted) → GoesOn mark one_line text end ↔ (quoted_from mark one_line false text ≡ end)
+ComputedQuotes = (mark : ℕ) (one_line : Bool) (text : List ℕ) (end : Quoted) → GoesOn mark one_line text end ↔ (how_quoted mark one_line text ≡ end)

@@ -1,9 +1,9 @@
 -- Where a token of a spec file lies in its text.
-use Rattle.std.specs.Prelude.{◌≡◌, ℕ, List, [], ◌∷◌, ◌++◌, Some}
+use Rattle.std.specs.Prelude.{◌≡◌, ℕ, List, [], ◌∷◌, ◌++◌, Some, bytes_eq}
 use Rattle.iso_lexer.specs.Names.{Written, plain, quoted, folded}
-use Rattle.iso_lexer.specs.Bytes.{spelled}
+use Rattle.iso_lexer.specs.Bytes.{row_of}
 use Rattle.iso_lexer.specs.SpecTokens.{Token, keyword, name, digits, sign, block}
-use Rattle.iso_lexer.specs.SpecText.{keywords, signs, block_of}
+use Rattle.iso_lexer.specs.SpecText.{spec_keywords, spec_signs, block_of}
 use Rattle.iso_lexer.specs.Lexing.{SpelledAt}
 use Rattle.iso_lexer.specs.declared.token.At.{At}
 
@@ -14,10 +14,10 @@ NameSpells (folded w) s = ⊥
 
 -- the bytes s are this token as it is written
 abbrev pub Spells : Token → List ℕ → Type 0
-Spells (keyword k) s = spelled keywords s ≡ Some k
+Spells (keyword k) s = row_of bytes_eq spec_keywords s ≡ Some k
 Spells (name n) s = NameSpells n s
 Spells (digits d) s = s ≡ d
-Spells (sign g) s = spelled signs s ≡ Some g
+Spells (sign g) s = row_of bytes_eq spec_signs s ≡ Some g
 Spells (block n b) s = (inner : List ℕ) × (s ≡ 123 ∷ (inner ++ 125 ∷ [])) × (block n b ≡ block_of inner)
 
 -- each token is the slice at its span

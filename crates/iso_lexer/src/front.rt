@@ -2,13 +2,15 @@
 
 ghost use Rattle.std.specs.Prelude.{◌≡◌, ◌<◌, true, false, [], ◌∷◌, length};
 ghost use Rattle.std.specs.Option.{option_map_or};
-ghost use Rattle.iso_lexer.specs.Bytes.{is_blank, is_name_start, spelled};
+ghost use Rattle.iso_lexer.specs.Bytes.{is_blank, is_name_start};
+ghost use Rattle.iso_lexer.specs.Inner.Runs.{spelled};
 ghost use Rattle.iso_lexer.specs.Names.{quoted};
 ghost use Rattle.iso_lexer.specs.SpecTokens.{name, sign};
 ghost use Rattle.iso_lexer.specs.Lexing.{token, fault};
-ghost use Rattle.iso_lexer.specs.Quotes.{quoted_from, quoted_front};
+ghost use Rattle.iso_lexer.specs.Inner.Quotes.{quoted_from, quoted_front};
 ghost use Rattle.iso_lexer.specs.declared.fault.FaultKind.TheVariants.{UnterminatedName, UnexpectedByte};
-ghost use Rattle.iso_lexer.specs.SpecText.{keywords, signs, front, block_front, word_front, ascii_front};
+ghost use Rattle.iso_lexer.specs.SpecText.{spec_keywords, spec_signs, spec_front};
+ghost use Rattle.iso_lexer.specs.Inner.SpecFronts.{block_front, word_front, ascii_front};
 ghost use Rattle.iso_lexer.specs.Fronts.{front_view};
 
 use crate::fault::FaultKind;
@@ -20,7 +22,7 @@ use crate::spec_token::{Keyword, Sign, SpecTok};
 use memchr::memchr;
 
 fn keyword_of(word: &str) -> Option<Keyword>
-    ensures { result ≡ spelled keywords word.now }
+    ensures { result ≡ spelled spec_keywords word.now }
 {
     match word {
         "permutation" => Some(Keyword::Permutation),
@@ -34,7 +36,7 @@ fn keyword_of(word: &str) -> Option<Keyword>
 }
 
 fn sign_of(b: u8) -> Option<Sign>
-    ensures { result ≡ spelled signs (b ∷ []) }
+    ensures { result ≡ spelled spec_signs (b ∷ []) }
 {
     match b {
         b'(' => Some(Sign::Open),
@@ -87,7 +89,7 @@ fn word_front(text: &str) -> Piece<'_, SpecTok<'_>>
 }
 
 fn sign_front(b: u8, rest: &str) -> Piece<'_, SpecTok<'_>>
-    ensures { front_view result ≡ option_map_or (λ s. token (sign s) rest.now) (spelled signs (b ∷ [])) (fault UnexpectedByte 0) }
+    ensures { front_view result ≡ option_map_or (λ s. token (sign s) rest.now) (spelled spec_signs (b ∷ [])) (fault UnexpectedByte 0) }
 {
     match sign_of(b) {
         Some(sign) => Piece::Token(SpecTok::Sign(sign), rest),
@@ -117,7 +119,7 @@ fn ascii_front<'a>(first: u8, text: &'a str, rest: &'a str) -> Piece<'a, SpecTok
 
 pub fn front(text: &str) -> Piece<'_, SpecTok<'_>>
     requires { 0 < length text.now }
-    ensures { front_view result ≡ front text.now }
+    ensures { front_view result ≡ spec_front text.now }
 {
     let first = text.as_bytes()[0];
     if is_name_start(first) {

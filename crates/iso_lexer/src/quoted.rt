@@ -1,7 +1,8 @@
 //! Where a quoted name or string ends.
 
 ghost use Rattle.std.specs.Prelude.{◌≡◌, ◌<◌, ◌==◌, ◌&&◌, false};
-ghost use Rattle.iso_lexer.specs.Quotes.{quoted_from, quoted_front, ComputedQuotes};
+ghost use Rattle.iso_lexer.specs.Quotes.{ComputedQuotes};
+ghost use Rattle.iso_lexer.specs.Inner.Quotes.{quoted_from, quoted_front};
 ghost use Rattle.iso_lexer.specs.Fronts.{piece_view};
 
 use crate::fault::FaultKind;

@@ -2,7 +2,8 @@
 
 ghost use Rattle.std.specs.Prelude.{◌≡◌, ◌||◌, ◌==◌};
 ghost use Rattle.std.specs.List.{prefix_len, suffix_len};
-ghost use Rattle.iso_lexer.specs.Bytes.{is_blank, is_name_start, is_name_byte, passes, run_of, after_run, trimmed};
+ghost use Rattle.iso_lexer.specs.Bytes.{is_blank, is_name_start, is_name_byte};
+ghost use Rattle.iso_lexer.specs.Inner.Runs.{passes, run_of, after_run, trimmed};
 
 #[derive(Clone, Copy)]
 pub enum Run {

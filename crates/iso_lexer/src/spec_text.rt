@@ -19,7 +19,7 @@ use std::alloc::Global;
 
 impl<'a> Token<'a> for SpecTok<'a> {
     ghost use Rattle.iso_lexer.specs.SpecTokens.{Token as PlainToken, token_view};
-    ghost use Rattle.iso_lexer.specs.SpecText.{front as rules_of_files};
+    ghost use Rattle.iso_lexer.specs.SpecText.{spec_front as rules_of_files};
 
     ghost Plain = { PlainToken };
 

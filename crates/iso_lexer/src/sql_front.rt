@@ -4,14 +4,15 @@ ghost use Rattle.std.specs.Prelude.{◌≡◌, ◌<◌, ◌≤◌, true, false, 
 ghost use Rattle.std.specs.Option.{option_map_or};
 ghost use Rattle.std.specs.Char.{is_ascii_digit};
 ghost use Rattle.std.specs.Str.Parse.{IsNumeral, digits_value};
-ghost use Rattle.iso_lexer.specs.Bytes.{run_of, after_run, spelled};
+ghost use Rattle.iso_lexer.specs.Inner.Runs.{run_of, after_run, spelled};
 ghost use Rattle.iso_lexer.specs.Comments.{after_comment};
-ghost use Rattle.iso_lexer.specs.SqlTokens.{word, quoted_word, string};
+ghost use Rattle.iso_lexer.specs.SqlTokens.{word, quoted, string};
 ghost use Rattle.iso_lexer.specs.Lexing.{gap, token, fault};
-ghost use Rattle.iso_lexer.specs.Quotes.{quoted_from, quoted_front};
+ghost use Rattle.iso_lexer.specs.Inner.Quotes.{quoted_from, quoted_front};
 ghost use Rattle.iso_lexer.specs.declared.runs.Run.TheVariants.{Word};
 ghost use Rattle.iso_lexer.specs.declared.fault.FaultKind.TheVariants.{UnterminatedName, UnterminatedString, UnterminatedComment};
-ghost use Rattle.iso_lexer.specs.SqlText.{signs, number_front, sign_front, pair_front, ascii_front, sql_front};
+ghost use Rattle.iso_lexer.specs.SqlText.{sql_signs, sql_front};
+ghost use Rattle.iso_lexer.specs.Inner.SqlFronts.{number_front, sign_front, pair_front, ascii_front};
 ghost use Rattle.iso_lexer.specs.Fronts.{sql_front_view};
 
 use crate::comment::{comment_end, opens_here};
@@ -25,7 +26,7 @@ const LARGEST_NUMBER: u64 = 9_223_372_036_854_775_807;
 
 /// The sign of two bytes.
 fn sign_of_two(first: u8, second: u8) -> Option<SqlSign>
-    ensures { result ≡ spelled signs (first ∷ second ∷ []) }
+    ensures { result ≡ spelled sql_signs (first ∷ second ∷ []) }
 {
     match (first, second) {
         (b'<', b'>') => Some(SqlSign::NotEqual),
@@ -40,7 +41,7 @@ fn sign_of_two(first: u8, second: u8) -> Option<SqlSign>
 
 /// The sign of one byte.
 fn sign_of_one(first: u8) -> Option<SqlSign>
-    ensures { result ≡ spelled signs (first ∷ []) }
+    ensures { result ≡ spelled sql_signs (first ∷ []) }
 {
     match first {
         b'(' => Some(SqlSign::Open),
@@ -61,7 +62,7 @@ fn sign_of_one(first: u8) -> Option<SqlSign>
 }
 
 fn word_front(text: &str) -> Piece<'_, SqlTok<'_>>
-    ensures { sql_front_view result ≡ token (word (run_of Word text.now)) (after_run Word text.now) }
+    ensures { sql_front_view result ≡ token (word tt (run_of Word text.now)) (after_run Word text.now) }
 {
     let (word, rest) = split_run(Run::Word, text);
     Piece::Token(SqlTok::Word(word), rest)
@@ -108,7 +109,7 @@ fn number_front(text: &str) -> Piece<'_, SqlTok<'_>>
 
 /// A quoted name, by the text behind its opening quote.
 fn name_front(text: &str) -> Piece<'_, SqlTok<'_>>
-    ensures { sql_front_view result ≡ quoted_front quoted_word UnterminatedName (quoted_from 34 false false text.now) text.now }
+    ensures { sql_front_view result ≡ quoted_front quoted UnterminatedName (quoted_from 34 false false text.now) text.now }
 {
     match quoted_front(b'"', false, FaultKind::UnterminatedName, text) {
         Piece::Gap(rest) => Piece::Gap(rest),

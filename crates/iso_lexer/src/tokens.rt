@@ -2,8 +2,8 @@
 
 ghost use Rattle.std.specs.Prelude.{◌≡◌, ◌<◌, ◌≤◌, List, ℕ, length};
 ghost use Rattle.iso_lexer.specs.Fronts.{piece_view};
-ghost use Rattle.iso_lexer.specs.Inner.Rules.{Rules};
-ghost use Rattle.iso_lexer.specs.Lexing.{Front, ReadsBy, between};
+ghost use Rattle.iso_lexer.specs.Inner.Rules.{Rules, between};
+ghost use Rattle.iso_lexer.specs.Lexing.{Front, ReadsBy};
 
 use crate::fault::{Fault, LexFault};
 use crate::piece::Piece;

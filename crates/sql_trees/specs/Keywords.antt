@@ -1,12 +1,11 @@
 -- The words of SQL, in lower case, each with what it is to the grammar; synonyms are one.
-use Rattle.std.specs.Prelude.{ℕ, List, [], ◌∷◌, ◌++◌, ◌==◌, map, codes}
-use Rattle.std.specs.List.{slice_split}
+use Rattle.std.specs.Prelude.{ℕ, List, [], ◌∷◌, ◌++◌, map, zip, codes}
+use Rattle.iso_lexer.specs.Bytes.{words_of}
 use Rattle.sql_trees.specs.declared.word.Word.{Word}
-use Rattle.sql_trees.specs.declared.word.Word.TheVariants as words
-
--- the words of a line, between its spaces
-abbrev pub words_of : List ℕ → List (List ℕ)
-words_of line = slice_split (λ c. c == 32) line
+use Rattle.sql_trees.specs.declared.word.Word.TheVariants.{Begin, Start, Commit, End, Rollback, Abort, Work, Transaction, Isolation, Level, Read, Committed, Uncommitted, Repeatable, Set, Session, Local, To, DeadlockTimeout}
+use Rattle.sql_trees.specs.declared.word.Word.TheVariants.{Create, Table, Drop, If, Exists, Primary, Key, Unique, Integer, Bigint, Text, Boolean}
+use Rattle.sql_trees.specs.declared.word.Word.TheVariants.{Insert, Into, Values, Update, Delete, Select, As, From, Where, Order, By, Asc, Desc, Nulls, First, Last, For, Share}
+use Rattle.sql_trees.specs.declared.word.Word.TheVariants.{And, Or, Not, Is, In, Between, Null, True, False, Unknown, Count, Sum, Min, Max, Excluded, LeftOut}
 
 -- each word of a line, as this one
 abbrev pub each : Word → List ℕ → List (List ℕ × Word)
@@ -15,32 +14,24 @@ each w line = map (λ text. (text, w)) (words_of line)
 unfoldable pub keywords : List (List ℕ × Word)
 keywords =
     -- transactions and settings
-    ((codes "begin", words.Begin) ∷ (codes "start", words.Start) ∷ (codes "commit", words.Commit) ∷ (codes "end", words.End) ∷
-    (codes "rollback", words.Rollback) ∷ (codes "abort", words.Abort) ∷ (codes "work", words.Work) ∷ (codes "transaction", words.Transaction) ∷
-    (codes "isolation", words.Isolation) ∷ (codes "level", words.Level) ∷ (codes "read", words.Read) ∷ (codes "committed", words.Committed) ∷
-    (codes "uncommitted", words.Uncommitted) ∷ (codes "repeatable", words.Repeatable) ∷ (codes "set", words.Set) ∷ (codes "session", words.Session) ∷
-    (codes "local", words.Local) ∷ (codes "to", words.To) ∷ (codes "deadlock_timeout", words.DeadlockTimeout) ∷
+    zip (words_of (codes "begin start commit end rollback abort work transaction isolation level"))
+    (Begin ∷ Start ∷ Commit ∷ End ∷ Rollback ∷ Abort ∷ Work ∷ Transaction ∷ Isolation ∷ Level ∷ [])
+    ++ zip (words_of (codes "read committed uncommitted repeatable set session local to deadlock_timeout"))
+    (Read ∷ Committed ∷ Uncommitted ∷ Repeatable ∷ Set ∷ Session ∷ Local ∷ To ∷ DeadlockTimeout ∷ [])
     -- tables and their columns
-    (codes "create", words.Create) ∷ (codes "table", words.Table) ∷ (codes "drop", words.Drop) ∷ (codes "if", words.If) ∷ (codes "exists", words.Exists) ∷
-    (codes "primary", words.Primary) ∷ (codes "key", words.Key) ∷ (codes "unique", words.Unique) ∷ (codes "integer", words.Integer) ∷
-    (codes "int", words.Integer) ∷ (codes "int4", words.Integer) ∷ (codes "bigint", words.Bigint) ∷ (codes "int8", words.Bigint) ∷
-    (codes "text", words.Text) ∷ (codes "varchar", words.Text) ∷ (codes "boolean", words.Boolean) ∷ (codes "bool", words.Boolean) ∷
+    ++ zip (words_of (codes "create table drop if exists primary key unique integer int int4 bigint int8 text varchar boolean bool"))
+    (Create ∷ Table ∷ Drop ∷ If ∷ Exists ∷ Primary ∷ Key ∷ Unique ∷ Integer ∷ Integer ∷ Integer ∷ Bigint ∷ Bigint ∷ Text ∷ Text ∷ Boolean ∷ Boolean ∷ [])
     -- rows
-    (codes "insert", words.Insert) ∷ (codes "into", words.Into) ∷ (codes "values", words.Values) ∷ (codes "update", words.Update) ∷
-    (codes "delete", words.Delete) ∷ (codes "select", words.Select) ∷ (codes "as", words.As) ∷ (codes "from", words.From) ∷ (codes "where", words.Where) ∷
-    (codes "order", words.Order) ∷ (codes "by", words.By) ∷ (codes "asc", words.Asc) ∷ (codes "desc", words.Desc) ∷ (codes "nulls", words.Nulls) ∷
-    (codes "first", words.First) ∷ (codes "last", words.Last) ∷ (codes "for", words.For) ∷ (codes "share", words.Share) ∷
+    ++ zip (words_of (codes "insert into values update delete select as from where order by asc desc nulls first last for share"))
+    (Insert ∷ Into ∷ Values ∷ Update ∷ Delete ∷ Select ∷ As ∷ From ∷ Where ∷ Order ∷ By ∷ Asc ∷ Desc ∷ Nulls ∷ First ∷ Last ∷ For ∷ Share ∷ [])
     -- expressions and aggregates
-    (codes "and", words.And) ∷ (codes "or", words.Or) ∷ (codes "not", words.Not) ∷ (codes "is", words.Is) ∷ (codes "in", words.In) ∷
-    (codes "between", words.Between) ∷ (codes "null", words.Null) ∷ (codes "true", words.True) ∷ (codes "false", words.False) ∷
-    (codes "unknown", words.Unknown) ∷ (codes "count", words.Count) ∷ (codes "sum", words.Sum) ∷ (codes "min", words.Min) ∷ (codes "max", words.Max) ∷ [])
+    ++ zip (words_of (codes "and or not is in between null true false unknown count sum min max"))
+    (And ∷ Or ∷ Not ∷ Is ∷ In ∷ Between ∷ Null ∷ True ∷ False ∷ Unknown ∷ Count ∷ Sum ∷ Min ∷ Max ∷ [])
     -- no names: they stand for a part that is left out
-    ++ each words.Excluded (codes "all any case cast check collate constraint cross default distinct else except fetch foreign full group having ilike inner")
-    ++ each words.Excluded (codes "intersect isnull join left like limit natural notnull offset on outer references returning right similar then union using")
-    ++ each words.Excluded (codes "when window with")
+    ++ each Excluded (codes "all any case cast check collate constraint cross default distinct else except fetch foreign full group having ilike inner intersect")
+    ++ each Excluded (codes "isnull join left like limit natural notnull offset on outer references returning right similar then union using when window with")
     -- names: where none can stand, they stand for a part that is left out
-    ++ each words.LeftOut (codes "alter copy deferrable execute explain index lock no nowait only prepare release savepoint sequence serializable skip")
-    ++ each words.LeftOut (codes "truncate vacuum view")
+    ++ each LeftOut (codes "alter copy deferrable execute explain index lock no nowait only prepare release savepoint sequence serializable skip truncate vacuum view")
 
 -- the words that are no name, unless they stand in quotes (PostgreSQL manual, appendix C)
 unfoldable pub reserved_words : List (List ℕ)

@@ -6,3 +6,4 @@ pub mod Tokens
 pub mod Faults
 pub mod FaultText
 pub mod Same
+pub mod Inner

@@ -28,13 +28,9 @@ use Rattle.sql_trees.specs.Trees.{Tree, AggTree, tree_of, agg_of}
 abbrev pub name_of : Name → List ℕ
 name_of n = decoded (name_view n)
 
--- the names, each behind an underscore
-abbrev pub underscored : List (List ℕ) → List ℕ
-underscored ns = concat (map (λ n. 95 ∷ n) ns)
-
--- the name that a key over these columns is given
+-- the name that a key over these columns is given: the table's, and each column's behind an underscore
 abbrev pub key_name : List ℕ → Bool → List (List ℕ) → List ℕ
-key_name table primary columns = table ++ (if primary then codes "_pkey" else underscored columns ++ codes "_key")
+key_name table primary columns = table ++ (if primary then codes "_pkey" else concat (map (λ n. 95 ∷ n) columns) ++ codes "_key")
 
 pub record ColumnTree : Type 0 where
   pub name : List ℕ

@@ -1,22 +1,17 @@
 -- Tokens of SQL text, each word with its keyword.
 use Rattle.std.specs.Prelude.{ℕ, List, ◌∷◌, map, Option, Some, None, if◌then◌else◌}
 use Rattle.iso_lexer.specs.declared.token.At.{At}
-use Rattle.iso_lexer.specs.declared.sql_token.SqlSign.{SqlSign}
-use Rattle.iso_lexer.specs.SqlTokens.{SqlToken}
-use Rattle.iso_lexer.specs.SqlTokens as lexed
+pub use Rattle.iso_lexer.specs.SqlTokens.{word, quoted, string, number, sign}
+use Rattle.iso_lexer.specs.SqlTokens.{SqlTokenOf, SqlToken, telling}
 use Rattle.iso_lexer.specs.Names as names
 use Rattle.sql_trees.specs.declared.word.Word.{Word}
 use Rattle.sql_trees.specs.declared.token.Tok.{Tok}
 use Rattle.sql_trees.specs.declared.token.Tok.TheVariants as toks
 use Rattle.sql_trees.specs.Words.{word_of, is_reserved}
 
--- a token, without where it lies in memory
-pub data Token : Type 0 where
-  word : Word → List ℕ → Token
-  quoted : List ℕ → Token
-  string : List ℕ → Token
-  number : ℕ → Token
-  sign : SqlSign → Token
+-- a token, of a word also the keyword that it is
+abbrev pub Token : Type 0
+Token = SqlTokenOf Word
 
 abbrev pub Tokens : Type 0
 Tokens = List (At Token)
@@ -36,11 +31,7 @@ tok_views ts = map tok_at ts
 
 -- a token of the text, with the keyword that it is
 abbrev pub classify : SqlToken → Token
-classify (lexed.word s) = word (word_of s) s
-classify (lexed.quoted_word s) = quoted s
-classify (lexed.string s) = string s
-classify (lexed.number n) = number n
-classify (lexed.sql_sign s) = sign s
+classify t = telling word_of t
 
 abbrev pub classify_at : At SqlToken → At Token
 classify_at t = record { tok = classify t.tok; span = t.span }

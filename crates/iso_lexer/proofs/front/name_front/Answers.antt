@@ -1,7 +1,7 @@
 use Rattle.std.specs.Prelude.{false, true}
 use Rattle.iso_lexer.specs.Names.{quoted}
 use Rattle.iso_lexer.specs.SpecTokens.{name}
-use Rattle.iso_lexer.specs.Quotes.{quoted_from}
+use Rattle.iso_lexer.specs.Inner.Quotes.{quoted_from}
 use Rattle.iso_lexer.specs.declared.fault.FaultKind.TheVariants.{UnterminatedName}
 use Rattle.iso_lexer.proofs.QuoteEnds.{made_of_quoted}
 use Rattle.iso_lexer.proofs.front.name_front.Goals as goal

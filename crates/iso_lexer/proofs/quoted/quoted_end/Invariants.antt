@@ -1,5 +1,6 @@
 use Rattle.std.proofs.Common.{◌≡◌, drop, false}
-use Rattle.iso_lexer.specs.Quotes.{longer, quoted_from}
+use Rattle.iso_lexer.specs.Quotes.{longer}
+use Rattle.iso_lexer.specs.Inner.Quotes.{quoted_from}
 use Rattle.iso_lexer.proofs.quoted.quoted_end.Given as goal
 
 abbrev pub invariant-loop-i : goal.invariant-loop-i

@@ -1,6 +1,6 @@
 use Rattle.std.specs.Prelude.{false}
 use Rattle.iso_lexer.specs.SqlTokens.{string}
-use Rattle.iso_lexer.specs.Quotes.{quoted_from}
+use Rattle.iso_lexer.specs.Inner.Quotes.{quoted_from}
 use Rattle.iso_lexer.specs.declared.fault.FaultKind.TheVariants.{UnterminatedString}
 use Rattle.iso_lexer.proofs.QuoteEnds.{made_of_quoted}
 use Rattle.iso_lexer.proofs.sql_front.string_front.Goals as goal

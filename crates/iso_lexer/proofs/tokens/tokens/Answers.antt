@@ -2,7 +2,8 @@ use Rattle.std.proofs.Common.{◌≡◌, ◌++◌, ◌∷◌, [], length, map, s
 use Rattle.std.proofs.lemmas.List.{nil_from_length}
 use Rattle.std.proofs.lemmas.Bool.{eqb-true}
 use Rattle.std.proofs.ResultArms.{chosen}
-use Rattle.iso_lexer.specs.Lexing.{gap, token, between, HasToken, plain_at}
+use Rattle.iso_lexer.specs.Lexing.{gap, token, HasToken, plain_at}
+use Rattle.iso_lexer.specs.Inner.Rules.{between}
 use Rattle.iso_lexer.proofs.Lexing.{SoFar, shorter_at, on_gap, on_token, on_fault, on_end, has_token, views_push}
 use Rattle.iso_lexer.proofs.tokens.tokens.Goals as goal
 

@@ -1,5 +1,5 @@
 use Rattle.std.proofs.Common.{◌≡◌, length, map}
-use Rattle.sql_trees.specs.Words.{first_spelled}
+use Rattle.sql_trees.specs.Inner.Spellings.{first_spelled}
 use Rattle.sql_trees.proofs.word.first_spelled.Given as goal
 
 abbrev pub invariant-loop-table : goal.invariant-loop-table

@@ -1,5 +1,6 @@
 use Rattle.std.proofs.Common.{ap, ◌∙◌}
-use Rattle.sql_trees.specs.Words.{first_spelled, word_of}
+use Rattle.sql_trees.specs.Words.{word_of}
+use Rattle.sql_trees.specs.Inner.Spellings.{first_spelled}
 use Rattle.sql_trees.proofs.Table.{table_is}
 use Rattle.sql_trees.proofs.word.word_of.Goals as goal
 
