@@ -59,15 +59,11 @@ number_of v = None
 abbrev pub is_number : Value → Bool
 is_number v = is_some (number_of v)
 
--- the numbers that two values are
-abbrev pub numbers_of : Value → Value → Option (ℤ × ℤ)
-numbers_of a b = option_zip (number_of a) (number_of b)
-
 -- numbers compare by size, texts by their bytes, false stands before true; NULL and values of other kinds don't compare (9.2)
 abbrev pub compare : Value → Value → Option Ordering
 compare (Text s) (Text t) = Some (slice_cmp nat_cmp s t)
 compare (Boolean a) (Boolean b) = Some (bool_cmp a b)
-compare a b = option_map (λ n. int_cmp n.0 n.1) (numbers_of a b)
+compare a b = option_map (λ n. int_cmp n.0 n.1) (option_zip (number_of a) (number_of b))
 
 -- what a column of the kind takes a value as: NULL as it is, a number if it fits, another value of that kind
 abbrev pub assign : Value → Kind → Answer

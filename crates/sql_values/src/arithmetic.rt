@@ -4,8 +4,9 @@ ghost use Rattle.std.specs.Prelude.{◌≡◌, ◌||◌, pos, Ok, Err, if◌then
 ghost use Rattle.sql_trees.specs.declared.expr.Operator.TheVariants.{Subtract};
 ghost use Rattle.sql_values.specs.declared.value.Value.TheVariants.{Int as SqlInt};
 ghost use Rattle.sql_values.specs.Values.{integer, bigint, is_null, is_number};
-ghost use Rattle.sql_values.specs.Arithmetic.{calculate, arithmetic, number, signed};
+ghost use Rattle.sql_values.specs.Arithmetic.{signed};
 ghost use Rattle.sql_values.specs.Expressions.{operate};
+ghost use Rattle.sql_values.specs.Inner.Operators.{calculate, arithmetic, number};
 
 use crate::fault::ValueFault;
 use crate::value::Value;
