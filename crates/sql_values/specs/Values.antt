@@ -1,5 +1,5 @@
 -- Values: their ranges, how two of them compare, and what a column of a kind takes of them.
-use Rattle.std.specs.Prelude.{ℕ, ◌^◌, ◌≡◌, ◌≢◌, ℤ, pos, neg_ℤ, int_le, int_lt, Bool, true, false, not, ◌&&◌, List, [], ◌∷◌, filter}
+use Rattle.std.specs.Prelude.{ℕ, ◌^◌, ◌≡◌, ◌≢◌, ℤ, pos, neg_ℤ, int_le, int_lt, Bool, true, false, ◌&&◌, List, [], ◌∷◌}
 use Rattle.std.specs.Prelude.{Option, Some, None, option_map, ok_or, is_some, Result, Ok, Err, if◌then◌else◌}
 use Rattle.std.specs.Option.{option_zip}
 use Rattle.std.specs.Ordering.{nat_cmp, int_cmp, bool_cmp}
@@ -46,9 +46,6 @@ bigint z = if is_within (2 ^ 63) z then Ok (Big z) else Err BigintRange
 abbrev pub is_null : Value → Bool
 is_null Null = true
 is_null v = false
-
-abbrev pub without_nulls : List Value → List Value
-without_nulls vs = filter (λ v. not (is_null v)) vs
 
 -- the number that a value is
 abbrev pub number_of : Value → Option ℤ
