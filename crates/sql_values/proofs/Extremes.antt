@@ -11,10 +11,10 @@ use Rattle.sql_values.specs.declared.value.Value.{Value}
 use Rattle.sql_values.specs.declared.value.Value.TheVariants.{Null, Int, Big, Text, Bool as Boolean}
 use Rattle.sql_values.specs.declared.fault.ValueFault.{ValueFault}
 use Rattle.sql_values.specs.declared.fault.ValueFault.TheVariants.{TypeMismatch}
-use Rattle.sql_values.specs.Values.{Answer, if_ok, is_number, compare}
+use Rattle.sql_values.specs.Values.{Answer, if_ok, compare}
 use Rattle.sql_values.specs.Sorting.{full_order}
 use Rattle.sql_values.specs.Aggregates.{extreme}
-use Rattle.sql_values.specs.Inner.Extremes.{is_text, beats, best}
+use Rattle.sql_values.specs.Inner.Extremes.{is_number, is_text, beats, best}
 use Rattle.sql_values.specs.Inner.Extremes as inner
 use Rattle.sql_values.proofs.Best.{best_of_one, best_more}
 use Rattle.sql_values.proofs.Orders.{beats_rank, full_total}

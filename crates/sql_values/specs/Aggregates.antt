@@ -11,7 +11,7 @@ use Rattle.sql_values.specs.declared.value.Value.{Value}
 use Rattle.sql_values.specs.declared.value.Value.TheVariants.{Null, Int, Text}
 use Rattle.sql_values.specs.declared.fault.ValueFault.{ValueFault}
 use Rattle.sql_values.specs.declared.fault.ValueFault.TheVariants.{TypeMismatch}
-use Rattle.sql_values.specs.Values.{Answer, if_ok, each, bigint, is_null, is_number, compare}
+use Rattle.sql_values.specs.Values.{Answer, if_ok, each, bigint, is_null, number_of, compare}
 use Rattle.sql_values.specs.Expressions.{Cols, value}
 use Rattle.sql_values.specs.Sorting.{full_order}
 
@@ -25,7 +25,7 @@ total (v ∷ vs) = Err TypeMismatch
 abbrev pub extreme : (Ordering → Bool) → List Value → Answer
 extreme is_better vs =
     let best = find (λ v. not (list_any (λ w. is_better (full_order w v)) vs)) vs in
-    if list_all is_number vs || list_all (λ v. is_some (compare v (Text []))) vs then Ok (unwrap_or best Null) else Err TypeMismatch
+    if list_all (λ v. is_some (number_of v)) vs || list_all (λ v. is_some (compare v (Text []))) vs then Ok (unwrap_or best Null) else Err TypeMismatch
 
 -- an aggregate of values, none of them NULL; the sum of none is NULL
 abbrev pub summary : AggKind → List Value → Answer

@@ -1,6 +1,6 @@
 -- The value of an expression at a row, or why it has none.
 use Rattle.std.specs.Prelude.{ℕ, ◌^◌, pos, ◌+ℤ◌, ◌-ℤ◌, ◌*ℤ◌, int_div, int_rem, Bool, true, false, ◌||◌, List, ◌++◌}
-use Rattle.std.specs.Prelude.{Option, Some, option_map, option_and_then, unwrap_or, ok_or, slice_get, position, bytes_eq}
+use Rattle.std.specs.Prelude.{Option, Some, option_map, option_and_then, unwrap_or, ok_or, is_some, slice_get, position, bytes_eq}
 use Rattle.std.specs.Prelude.{Result, Ok, Err, if◌then◌else◌}
 use Rattle.std.specs.Option.{option_map_or}
 use Rattle.std.specs.Ordering.{int_eq, is_eq, is_ne, is_lt, is_le, is_gt, is_ge}
@@ -15,7 +15,7 @@ use Rattle.sql_values.specs.declared.value.Value.{Value}
 use Rattle.sql_values.specs.declared.value.Value.TheVariants.{Null, Int, Text, Bool as Boolean}
 use Rattle.sql_values.specs.declared.fault.ValueFault.{ValueFault}
 use Rattle.sql_values.specs.declared.fault.ValueFault.TheVariants.{NoColumn, DivisionByZero, TypeMismatch}
-use Rattle.sql_values.specs.Values.{Answer, if_ok, is_within, bigint, is_null, is_number, compare}
+use Rattle.sql_values.specs.Values.{Answer, if_ok, is_within, bigint, is_null, number_of, compare}
 use Rattle.sql_values.specs.Arithmetic.{arithmetic, signed}
 use Rattle.sql_values.specs.Logic.{Known, truth, condition, decided_by, is_test}
 
@@ -61,7 +61,7 @@ abbrev mutual
   value (tree.Number negative n) cols row = let z = signed negative n in if is_within (2 ^ 31) z then Ok (Int z) else bigint z
   value (tree.Text s) cols row = if is_utf8 s then Ok (Text s) else Err TypeMismatch
   value (tree.Column name) cols row = ok_or (option_and_then (slice_get row) (position (λ c. bytes_eq name c.0) cols)) (NoColumn name)
-  value (tree.Plus a) cols row = if_ok (value a cols row) (λ v. if is_null v || is_number v then Ok v else Err TypeMismatch)
+  value (tree.Plus a) cols row = if_ok (value a cols row) (λ v. if is_null v || is_some (number_of v) then Ok v else Err TypeMismatch)
   value (tree.Minus a) cols row = if_ok (value a cols row) (operate Subtract (Int (pos 0)))
   value (tree.Not a) cols row = condition true (if_ok (value a cols row) truth)
   value (tree.Binary Or a b) cols row = condition false (decided_by true (if_ok (value a cols row) truth) (if_ok (value b cols row) truth))

@@ -1,6 +1,6 @@
 -- Values: their ranges, how two of them compare, and what a column of a kind takes of them.
 use Rattle.std.specs.Prelude.{ℕ, ◌^◌, ◌≡◌, ◌≢◌, ℤ, pos, neg_ℤ, int_le, int_lt, Bool, true, false, ◌&&◌, List, [], ◌∷◌}
-use Rattle.std.specs.Prelude.{Option, Some, None, option_map, ok_or, is_some, Result, Ok, Err, if◌then◌else◌}
+use Rattle.std.specs.Prelude.{Option, Some, None, option_map, ok_or, Result, Ok, Err, if◌then◌else◌}
 use Rattle.std.specs.Option.{option_zip}
 use Rattle.std.specs.Ordering.{nat_cmp, int_cmp, bool_cmp}
 use Rattle.std.specs.declared.cmp.Ordering.{Ordering}
@@ -52,9 +52,6 @@ abbrev pub number_of : Value → Option ℤ
 number_of (Int z) = Some z
 number_of (Big z) = Some z
 number_of v = None
-
-abbrev pub is_number : Value → Bool
-is_number v = is_some (number_of v)
 
 -- numbers compare by size, texts by their bytes, false stands before true; NULL and values of other kinds don't compare (9.2)
 abbrev pub compare : Value → Value → Option Ordering

@@ -1,5 +1,5 @@
 -- The least or the greatest of values, value by value.
-use Rattle.std.specs.Prelude.{Bool, true, false, ◌||◌, not, List, Option, find, unwrap_or, Result, Ok, Err, filter, if◌then◌else◌}
+use Rattle.std.specs.Prelude.{Bool, true, false, ◌||◌, not, List, Option, find, is_some, unwrap_or, Result, Ok, Err, filter, if◌then◌else◌}
 use Rattle.std.specs.List.{list_all, list_any}
 use Rattle.std.specs.Ordering.{is_lt}
 use Rattle.sql_trees.specs.Trees.{Tree}
@@ -7,7 +7,7 @@ use Rattle.sql_values.specs.declared.value.Value.{Value}
 use Rattle.sql_values.specs.declared.value.Value.TheVariants.{Null, Text}
 use Rattle.sql_values.specs.declared.fault.ValueFault.{ValueFault}
 use Rattle.sql_values.specs.declared.fault.ValueFault.TheVariants.{TypeMismatch}
-use Rattle.sql_values.specs.Values.{Answer, if_ok, each, is_null, is_number}
+use Rattle.sql_values.specs.Values.{Answer, if_ok, each, is_null, number_of}
 use Rattle.sql_values.specs.Expressions.{Cols, value}
 use Rattle.sql_values.specs.Sorting.{full_order}
 
@@ -17,6 +17,9 @@ without_nulls vs = filter (λ v. not (is_null v)) vs
 -- the values of the expression on the rows, in order, without NULLs
 abbrev pub values : Tree → Cols → List (List Value) → Result (List Value) ValueFault
 values e cols rows = if_ok (each (value e cols) rows) (λ vs. Ok (without_nulls vs))
+
+abbrev pub is_number : Value → Bool
+is_number v = is_some (number_of v)
 
 abbrev pub is_text : Value → Bool
 is_text (Text s) = true
