@@ -12,7 +12,7 @@ use Rattle.row_versions.specs.Rows.{is_shown, rows_of}
 use Rattle.row_versions.specs.Inner.Searching.{replaces, shows, rows_from}
 
 -- what is left behind the first of what is left
-drop_next : {X : Type 0} (n m : ℕ) (xs : List X) (x : X) (rest : List X) → m ≡ suc n → drop n xs ≡ x ∷ rest → drop m xs ≡ rest
+pub drop_next : {X : Type 0} (n m : ℕ) (xs : List X) (x : X) (rest : List X) → m ≡ suc n → drop n xs ≡ x ∷ rest → drop m xs ≡ rest
 drop_next n zero xs x rest e h = absurd (omega arith)
 drop_next zero (suc m) [] x rest e h = cc
 drop_next zero (suc m) (y ∷ xs) x rest e h =
