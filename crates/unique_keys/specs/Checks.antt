@@ -8,7 +8,7 @@ use Rattle.row_versions.specs.declared.names.RowId.{RowId}
 use Rattle.row_versions.specs.declared.names.TableId.{TableId}
 use Rattle.row_versions.specs.Members.{same_tx}
 use Rattle.row_versions.specs.declared.write.Seen.{Seen}
-use Rattle.row_versions.specs.Log.{Content, has_committed, is_open, values_at}
+use Rattle.row_versions.specs.Log.{Content, fate_of, is_open_fate, has_committed, values_at}
 use Rattle.row_versions.specs.Newest.{newest_of}
 use Rattle.unique_keys.specs.declared.keys.Check.{Check}
 use Rattle.unique_keys.specs.declared.keys.Check.TheVariants.{Free, Taken, Held}
@@ -23,7 +23,7 @@ committed_values c row = option_and_then (λ w. w.values) (find (λ w. (w.row.0 
 
 -- the blockers of a key request: the other open transactions that wrote a row of the table whose newest committed version, or any version by that transaction, has the key
 abbrev pub key_blockers : Content → TableId → TxId → List Value → List ℕ → List TxId
-key_blockers c table tx asked columns = map (λ w. w.tx) (filter (λ w. (w.table.0 == table.0) && not (same_tx w.tx tx) && is_open c.fates w.tx
+key_blockers c table tx asked columns = map (λ w. w.tx) (filter (λ w. (w.table.0 == table.0) && not (same_tx w.tx tx) && is_open_fate (fate_of c.fates w.tx)
     && (has_key columns asked (committed_values c w.row) || list_any (λ v. (v.row.0 == w.row.0) && same_tx v.tx w.tx && has_key columns asked v.values) c.log)) c.log)
 
 -- another row of the table than the one that is left aside has the key: the transaction's own write of it, or a committed one, is there, and its newest version for the transaction has the key
