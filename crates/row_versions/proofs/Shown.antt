@@ -1,6 +1,8 @@
 -- The rows that a view shows, and the writes that they come from.
 use Rattle.std.proofs.Common.{◌≡◌, ℕ, zero, suc, ◌+◌, ◌-◌, ◌<◌, ◌≤◌, Bool, true, false, not, ◌&&◌, ◌||◌, cond, ◌==◌, inl, inr, List, [], ◌∷◌, ◌++◌, length, get_or, drop, Some, is_some, IsSome, slice_get, All, AllPairs, Contains, length-append, refl, sym, ◌∙◌, ap, subst, arith}
-use Rattle.std.specs.List.{list_any}
+use mathlib.Core.Path.{fun_ext}
+use Rattle.std.specs.Prelude.{map, filter}
+use Rattle.std.specs.List.{list_any, enumerate_from}
 use Rattle.std.proofs.lemmas.Bool.{and_parts, and_from, and_left, and_right, and_cases, or_parts, or_from, not-true, not_from_false, eqb-true, eqb-false, eq-eqb, both_ways, cond-false, cases_Bool, cases_eq}
 use Rattle.std.proofs.lemmas.List.Elements.{Contains-get_or}
 use Rattle.std.proofs.lemmas.Option.{same_Some, slice_get_within}
@@ -164,22 +166,21 @@ rows-last fates view table place (v ∷ later) w unseen =
 pub rows-after_write : (c : Content) (view : View) (table : TableId) (w : Write) → sees c.fates view w ≡ false → rows_of (after_write c w) view table ≡ rows_of c view table
 rows-after_write c view table w unseen = rows_are (after_write c w) view table ∙ rows-last c.fates view table 0 c.log w unseen ∙ sym (rows_are c view table)
 
+-- the rows of a table by which writes are seen
+abbrev rows_by : (Write → Bool) → List Write → TableId → List Seen
+rows_by seen log table =
+    map (λ (e : ℕ × Write). record { row = e.1.row; place = e.0 })
+    (filter (λ e. (e.1.table.0 == table.0) && is_some e.1.values && seen e.1 && not (list_any (λ later. (later.row.0 == e.1.row.0) && seen later) (drop (e.0 + 1) log))) (enumerate_from 0 log))
+
 -- fates under which a view sees the same writes give it the same rows
-any-agree : {X : Type 0} (p q : X → Bool) (xs : List X) → ((x : X) → p x ≡ q x) → list_any p xs ≡ list_any q xs
-any-agree p q [] h = refl
-any-agree p q (x ∷ xs) h = let rest = any-agree p q xs h in λ i. h x i || rest i
-
-rows-agree : (f g : List Fate) (view : View) (table : TableId) (place : ℕ) (ws : List Write) → ((w : Write) → sees f view w ≡ sees g view w)
-    → rows_from f view table place ws ≡ rows_from g view table place ws
-rows-agree f g view table place [] h = refl
-rows-agree f g view table place (v ∷ later) h =
-    let any = any-agree (replaces f view v.row) (replaces g view v.row) later (λ w. ap (λ b. (w.row.0 == v.row.0) && b) (h w)) in
-    let rest = rows-agree f g view table (place + 1) later h in
-    λ i. cond (((v.table.0 == table.0) && is_some v.values) && (h v i && not (any i))) (record { row = v.row; place = place } ∷ rest i) (rest i)
-
 pub rows-same : (c : Content) (fates : List Fate) (view : View) (table : TableId) → ((w : Write) → sees fates view w ≡ sees c.fates view w)
     → rows_of (record c { fates = fates }) view table ≡ rows_of c view table
-rows-same c fates view table h = rows_are (record c { fates = fates }) view table ∙ rows-agree fates c.fates view table 0 c.log h ∙ sym (rows_are c view table)
+rows-same c fates view table h = ap (λ (seen : Write → Bool). rows_by seen c.log table) (fun_ext h)
+
+-- and views that see the same writes have the same rows
+pub views_agree : (c : Content) (view other : View) (table : TableId) → ((w : Write) → sees c.fates view w ≡ sees c.fates other w)
+    → rows_of c view table ≡ rows_of c other table
+views_agree c view other table h = ap (λ (seen : Write → Bool). rows_by seen c.log table) (fun_ext h)
 
 -- a last write is the last
 last_at : (ws : List Write) (w : Write) (k : ℕ) (v : Write) → slice_get (ws ++ w ∷ []) k ≡ Some v → k ≤ length ws
