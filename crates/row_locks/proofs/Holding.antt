@@ -15,7 +15,8 @@ use Rattle.row_locks.specs.declared.held.Strength.{Strength}
 use Rattle.row_locks.specs.declared.held.Strength.TheVariants.{Share, Exclusive}
 use Rattle.row_locks.specs.declared.held.Held.{Held}
 use Rattle.row_versions.specs.Members.{has, same_tx}
-use Rattle.row_locks.specs.Held.{conflicts, is_against, holders_against, same_strength, same_lock, holds, IsReleased, lock_of_write, held_locks}
+use Rattle.row_locks.specs.Inner.Searching.{is_against}
+use Rattle.row_locks.specs.Held.{conflicts, holders_against, same_strength, same_lock, holds, IsReleased, lock_of_write, held_locks}
 use Rattle.row_locks.specs.Laws.{SameLocks, SameButFor, BlockersHoldInConflict, BlockersByWhatIsHeld, DoingAddsOnlyTheDoer, EndsLetGo, BeginningsHoldNothing}
 use Rattle.row_locks.proofs.Reaching.{or_cases, or_left, or_right, and_both, both_and, same_is, is_same}
 use Rattle.row_locks.proofs.Waiting.{bool_is}

@@ -15,13 +15,10 @@ abbrev pub conflicts : Strength → Strength → Bool
 conflicts Share Share = false
 conflicts a b = true
 
--- another transaction holds the row in conflict with the request; a transaction never conflicts with itself (13.3.2)
-abbrev pub is_against : RowId → TxId → Strength → Held → Bool
-is_against row tx strength h = ((h.row.0 == row.0) && not (same_tx h.tx tx)) && conflicts h.strength strength
-
--- the blockers of a row request: the others that hold the row in conflict; they are open, since locks are let go at a transaction's end
+-- the blockers of a row request: the others that hold the row in conflict; a transaction never conflicts with itself (13.3.2),
+-- and they are open, since locks are let go at a transaction's end
 abbrev pub holders_against : List Held → RowId → TxId → Strength → List TxId
-holders_against held row tx strength = map (λ h. h.tx) (filter (is_against row tx strength) held)
+holders_against held row tx strength = map (λ h. h.tx) (filter (λ h. (h.row.0 == row.0) && not (same_tx h.tx tx) && conflicts h.strength strength) held)
 
 abbrev pub same_strength : Strength → Strength → Bool
 same_strength Share Share = true

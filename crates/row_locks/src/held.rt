@@ -1,6 +1,7 @@
 //! A lock that a transaction holds on a row.
 ghost use Rattle.std.specs.Prelude.{◌≡◌};
-ghost use Rattle.row_locks.specs.Held.{conflicts, is_against};
+ghost use Rattle.row_locks.specs.Held.{conflicts};
+ghost use Rattle.row_locks.specs.Inner.Searching.{is_against};
 
 use row_versions::{RowId, TxId};
 

@@ -3,7 +3,8 @@ ghost use Rattle.std.specs.Prelude.{◌≡◌, List, [], ◌∷◌, ◌++◌, no
 ghost use Rattle.std.specs.List.{list_any};
 ghost use Rattle.row_versions.specs.Members.{has, is_distinct, is_none_of};
 ghost use Rattle.row_locks.specs.declared.held.Held.{Held};
-ghost use Rattle.row_locks.specs.Held.{is_against, holders_against, with_lock, released, IsTaken, IsReleased};
+ghost use Rattle.row_locks.specs.Held.{holders_against, with_lock, released, IsTaken, IsReleased};
+ghost use Rattle.row_locks.specs.Inner.Searching.{is_against};
 
 use crate::held::{Held, Strength, is_against};
 use crate::members::has;

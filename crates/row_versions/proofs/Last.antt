@@ -11,9 +11,9 @@ use Rattle.row_versions.specs.declared.names.RowId.{RowId}
 use Rattle.row_versions.specs.declared.write.Write.{Write}
 use Rattle.row_versions.specs.declared.write.Seen.{Seen}
 use Rattle.row_versions.specs.declared.write.Fate.{Fate}
-use Rattle.row_versions.specs.Log.{Content, fate_of, is_committed}
-use Rattle.row_versions.specs.Newest.{is_version, newest_of}
-use Rattle.row_versions.specs.Inner.Searching.{newest_from}
+use Rattle.row_versions.specs.Log.{Content, fate_of}
+use Rattle.row_versions.specs.Newest.{newest_of}
+use Rattle.row_versions.specs.Inner.Searching.{is_committed, is_version, newest_from}
 use Rattle.row_versions.specs.Laws.{CountsFor, IsNewest, NewestIsTheLast}
 use Rattle.row_versions.proofs.Seeing.{same_tx, same_row}
 

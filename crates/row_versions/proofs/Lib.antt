@@ -1,4 +1,5 @@
 pub mod Gets
 pub mod Seeing
+pub mod Filtered
 pub mod Shown
 pub mod Last

@@ -11,7 +11,8 @@ use Rattle.row_versions.specs.declared.write.View.{View}
 use Rattle.row_versions.specs.declared.write.Fate.{Fate}
 use Rattle.row_versions.specs.declared.write.Fate.TheVariants.{Open, RolledBack, Committed}
 use Rattle.row_versions.specs.Log.{Content, IsOpen, fate_of, is_commit, commit_count, after_begin, after_commit, after_roll_back}
-use Rattle.row_versions.specs.View.{sees, committed_before, own_before}
+use Rattle.row_versions.specs.View.{sees, committed_before}
+use Rattle.row_versions.specs.Inner.Searching.{own_before}
 use Rattle.row_versions.proofs.Gets.{get-set_same}
 
 pub same_tx : (a b : TxId) → a.0 ≡ b.0 → a ≡ b

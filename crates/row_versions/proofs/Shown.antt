@@ -1,6 +1,8 @@
 -- The rows that a view shows, and the writes that they come from.
-use Rattle.std.proofs.Common.{◌≡◌, ℕ, zero, suc, ◌+◌, ◌-◌, ◌<◌, ◌≤◌, Bool, true, false, not, ◌&&◌, ◌||◌, cond, ◌==◌, inl, inr, List, [], ◌∷◌, ◌++◌, length, get_or, drop, Some, is_some, IsSome, slice_get, All, AllPairs, Contains, length-append, refl, sym, ◌∙◌, ap, arith}
-use Rattle.std.specs.List.{list_any}
+use Rattle.std.proofs.Common.{◌≡◌, ℕ, zero, suc, ◌+◌, ◌-◌, ◌<◌, ◌≤◌, Bool, true, false, not, ◌&&◌, ◌||◌, cond, ◌==◌, inl, inr, List, [], ◌∷◌, ◌++◌, length, get_or, drop, Some, is_some, IsSome, slice_get, All, AllPairs, Contains, length-append, refl, sym, ◌∙◌, ap, subst, arith}
+use mathlib.Core.Path.{fun_ext}
+use Rattle.std.specs.Prelude.{map, filter}
+use Rattle.std.specs.List.{list_any, enumerate_from}
 use Rattle.std.proofs.lemmas.Bool.{and_parts, and_from, and_left, and_right, and_cases, or_parts, or_from, not-true, not_from_false, eqb-true, eqb-false, eq-eqb, both_ways, cond-false, cases_Bool, cases_eq}
 use Rattle.std.proofs.lemmas.List.Elements.{Contains-get_or}
 use Rattle.std.proofs.lemmas.Option.{same_Some, slice_get_within}
@@ -12,22 +14,24 @@ use Rattle.row_versions.specs.declared.write.Seen.{Seen}
 use Rattle.row_versions.specs.declared.write.Fate.{Fate}
 use Rattle.row_versions.specs.Log.{Content, after_write}
 use Rattle.row_versions.specs.View.{sees}
-use Rattle.row_versions.specs.Rows.{replaces, is_shown, rows_from, rows_of}
+use Rattle.row_versions.specs.Rows.{rows_of}
+use Rattle.row_versions.specs.Inner.Searching.{replaces, shows, rows_from}
 use Rattle.row_versions.specs.Laws.{IsShown, IsAt, RowsAreTheShown, RowsFollowTheLog, EachRowOnce, ShowsOwnWrite, next_place}
 use Rattle.row_versions.proofs.Gets.{get-append_last, get-drop, member_cases, member_first, member_later, AllPairs-cond}
 use Rattle.row_versions.proofs.Seeing.{same_row, same_table}
+use Rattle.row_versions.proofs.Filtered.{rows_are}
 
 -- the version comes from the k-th write of the part of the log that begins at the place
 record ComesFrom (fates : List Fate) (view : View) (table : TableId) (place : ℕ) (ws : List Write) (seen : Seen) : Type 0 where
   pub k : ℕ
   pub write : Write
   pub there : slice_get ws k ≡ Some write
-  pub shown : is_shown fates view table write (drop (suc k) ws) ≡ true
+  pub shown : shows fates view table write (drop (suc k) ws) ≡ true
   pub its_row : write.row ≡ seen.row
   pub its_place : seen.place ≡ place + k
 
 comes_first : (fates : List Fate) (view : View) (table : TableId) (place : ℕ) (w : Write) (later : List Write) (seen : Seen)
-    → is_shown fates view table w later ≡ true → (let first : Seen = record { row = w.row; place = place } in first ≡ seen) → ComesFrom fates view table place (w ∷ later) seen
+    → shows fates view table w later ≡ true → (let first : Seen = record { row = w.row; place = place } in first ≡ seen) → ComesFrom fates view table place (w ∷ later) seen
 comes_first fates view table place w later seen t e = record {
   k = 0;
   write = w;
@@ -52,20 +56,20 @@ comes_from : (fates : List Fate) (view : View) (table : TableId) (place : ℕ) (
     → Contains (rows_from fates view table place ws) seen → ComesFrom fates view table place ws seen
 comes_from fates view table place [] seen h = absurd (omega (arith, h.1))
 comes_from fates view table place (w ∷ later) seen h =
-    elim (member_cases (is_shown fates view table w later) (record { row = w.row; place = place }) (rows_from fates view table (place + 1) later) seen h) [
+    elim (member_cases (shows fates view table w later) (record { row = w.row; place = place }) (rows_from fates view table (place + 1) later) seen h) [
       | inl first ↦ comes_first fates view table place w later seen first.0 first.1
       | inr rest ↦ comes_later fates view table place w later seen (comes_from fates view table (place + 1) later seen rest)
     ]
 
 -- and each write that the view shows is among the rows
 among : (fates : List Fate) (view : View) (table : TableId) (place : ℕ) (ws : List Write) (seen : Seen) (k : ℕ) (write : Write) → slice_get ws k ≡ Some write
-    → is_shown fates view table write (drop (suc k) ws) ≡ true → write.row ≡ seen.row → place + k ≡ seen.place → Contains (rows_from fates view table place ws) seen
+    → shows fates view table write (drop (suc k) ws) ≡ true → write.row ≡ seen.row → place + k ≡ seen.place → Contains (rows_from fates view table place ws) seen
 among fates view table place [] seen k write there shown its_row its_place = cc
 among fates view table place (w ∷ later) seen zero write there shown its_row its_place =
     let same : w ≡ write = same_Some w write there in
     let first : place ≡ seen.place = omega arith in
     member_first _ (record { row = w.row; place = place }) (rows_from fates view table (place + 1) later) seen
-    (ap (λ (v : Write). is_shown fates view table v later) same ∙ shown)
+    (ap (λ (v : Write). shows fates view table v later) same ∙ shown)
     (λ i. record { row = (ap (λ (v : Write). v.row) same ∙ its_row) i; place = first i })
 among fates view table place (w ∷ later) seen (suc k) write there shown its_row its_place =
     member_later _ (record { row = w.row; place = place }) (rows_from fates view table (place + 1) later) seen
@@ -87,7 +91,7 @@ not_replaced fates view row w h its = elim (and_cases _ _ h) [ inl e ↦ absurd 
 
 pub shown_from_rows : (c : Content) (view : View) (table : TableId) (seen : Seen) → Contains (rows_of c view table) seen → IsShown c view table seen
 shown_from_rows c view table seen h =
-    let from = comes_from c.fates view table 0 c.log seen h in
+    let from = comes_from c.fates view table 0 c.log seen (subst (λ (rows : List Seen). Contains rows seen) (rows_are c view table) h) in
     let k_is : from.k ≡ seen.place = omega (arith, from.its_place) in
     let parts = and_parts _ _ from.shown in
     let ours = and_parts _ _ parts.0 in
@@ -114,9 +118,9 @@ rows_from_shown c view table seen h =
       | inl same ↦ and_right _ _ (h.last (suc seen.place + k) w (omega arith) (sym (get-drop (suc seen.place) c.log k (suc seen.place + k) refl) ∙ e) (same_row _ _ (eqb-true _ _ same) ∙ h.its_row))
       | inr other ↦ and_left _ _ other
     ]) in
-    among c.fates view table 0 c.log seen seen.place h.write h.there
+    subst (λ (rows : List Seen). Contains rows seen) (sym (rows_are c view table)) (among c.fates view table 0 c.log seen seen.place h.write h.there
     (and_from _ _ (and_from _ _ (eq-eqb _ _ (ap (λ (t : TableId). t.0) h.its_table)) h.has_values) (and_from _ _ h.is_seen (not_from_false _ none)))
-    h.its_row (omega arith)
+    h.its_row (omega arith))
 
 pub rows_are_the_shown : RowsAreTheShown
 rows_are_the_shown c view table seen = (shown_from_rows c view table seen, rows_from_shown c view table seen)
@@ -131,18 +135,18 @@ all_after fates view table place ws = λ k d l.
 follow : (fates : List Fate) (view : View) (table : TableId) (place : ℕ) (ws : List Write) → AllPairs (λ a b. a.place < b.place) (rows_from fates view table place ws)
 follow fates view table place [] = λ i j d l m. absurd (omega arith)
 follow fates view table place (w ∷ later) =
-    AllPairs-cond (λ a b. a.place < b.place) (is_shown fates view table w later) (record { row = w.row; place = place }) (rows_from fates view table (place + 1) later)
+    AllPairs-cond (λ a b. a.place < b.place) (shows fates view table w later) (record { row = w.row; place = place }) (rows_from fates view table (place + 1) later)
     (all_after fates view table place later) (follow fates view table (place + 1) later)
 
 pub rows_follow_the_log : RowsFollowTheLog
-rows_follow_the_log c view table = follow c.fates view table 0 c.log
+rows_follow_the_log c view table = subst (λ (rows : List Seen). AllPairs (λ a b. a.place < b.place) rows) (sym (rows_are c view table)) (follow c.fates view table 0 c.log)
 
 pub each_row_once : EachRowOnce
 each_row_once c view table = λ i j d l m same.
     let rows = rows_of c view table in
     let a = shown_from_rows c view table (get_or rows i d) (Contains-get_or rows i d (omega arith)) in
     let b = shown_from_rows c view table (get_or rows j d) (Contains-get_or rows j d m) in
-    let after = follow c.fates view table 0 c.log i j d l m in
+    let after = rows_follow_the_log c view table i j d l m in
     both_ways _ (a.last (get_or rows j d).place b.write after b.there (b.its_row ∙ sym same)) b.is_seen
 
 -- a last write that the view does not see changes nothing
@@ -160,24 +164,23 @@ rows-last fates view table place (v ∷ later) w unseen =
     λ i. cond (same i) (record { row = v.row; place = place } ∷ rest i) (rest i)
 
 pub rows-after_write : (c : Content) (view : View) (table : TableId) (w : Write) → sees c.fates view w ≡ false → rows_of (after_write c w) view table ≡ rows_of c view table
-rows-after_write c view table w unseen = rows-last c.fates view table 0 c.log w unseen
+rows-after_write c view table w unseen = rows_are (after_write c w) view table ∙ rows-last c.fates view table 0 c.log w unseen ∙ sym (rows_are c view table)
+
+-- the rows of a table by which writes are seen
+abbrev rows_by : (Write → Bool) → List Write → TableId → List Seen
+rows_by seen log table =
+    map (λ (e : ℕ × Write). record { row = e.1.row; place = e.0 })
+    (filter (λ e. (e.1.table.0 == table.0) && is_some e.1.values && seen e.1 && not (list_any (λ later. (later.row.0 == e.1.row.0) && seen later) (drop (e.0 + 1) log))) (enumerate_from 0 log))
 
 -- fates under which a view sees the same writes give it the same rows
-any-agree : {X : Type 0} (p q : X → Bool) (xs : List X) → ((x : X) → p x ≡ q x) → list_any p xs ≡ list_any q xs
-any-agree p q [] h = refl
-any-agree p q (x ∷ xs) h = let rest = any-agree p q xs h in λ i. h x i || rest i
-
-rows-agree : (f g : List Fate) (view : View) (table : TableId) (place : ℕ) (ws : List Write) → ((w : Write) → sees f view w ≡ sees g view w)
-    → rows_from f view table place ws ≡ rows_from g view table place ws
-rows-agree f g view table place [] h = refl
-rows-agree f g view table place (v ∷ later) h =
-    let any = any-agree (replaces f view v.row) (replaces g view v.row) later (λ w. ap (λ b. (w.row.0 == v.row.0) && b) (h w)) in
-    let rest = rows-agree f g view table (place + 1) later h in
-    λ i. cond (((v.table.0 == table.0) && is_some v.values) && (h v i && not (any i))) (record { row = v.row; place = place } ∷ rest i) (rest i)
-
 pub rows-same : (c : Content) (fates : List Fate) (view : View) (table : TableId) → ((w : Write) → sees fates view w ≡ sees c.fates view w)
     → rows_of (record c { fates = fates }) view table ≡ rows_of c view table
-rows-same c fates view table h = rows-agree fates c.fates view table 0 c.log h
+rows-same c fates view table h = ap (λ (seen : Write → Bool). rows_by seen c.log table) (fun_ext h)
+
+-- and views that see the same writes have the same rows
+pub views_agree : (c : Content) (view other : View) (table : TableId) → ((w : Write) → sees c.fates view w ≡ sees c.fates other w)
+    → rows_of c view table ≡ rows_of c other table
+views_agree c view other table h = ap (λ (seen : Write → Bool). rows_by seen c.log table) (fun_ext h)
 
 -- a last write is the last
 last_at : (ws : List Write) (w : Write) (k : ℕ) (v : Write) → slice_get (ws ++ w ∷ []) k ≡ Some v → k ≤ length ws

@@ -37,13 +37,9 @@ abbrev pub is_commit : Fate → Bool
 is_commit (Committed k) = true
 is_commit fate = false
 
--- the fate, if there is one, is a commit
-abbrev pub is_committed : Option Fate → Bool
-is_committed fate = option_map_or is_commit fate false
-
 -- the transaction has committed
 abbrev pub has_committed : Content → TxId → Bool
-has_committed c tx = is_committed (fate_of c.fates tx)
+has_committed c tx = option_map_or is_commit (fate_of c.fates tx) false
 
 -- how many transactions have committed
 abbrev pub commit_count : Content → ℕ
@@ -61,17 +57,17 @@ new_row c = record { 0 = length c.log }
 abbrev pub after_begin : Content → Content
 after_begin c = record c { fates = c.fates ++ Open ∷ [] }
 
--- what an end leaves: this is the transaction's fate
-abbrev pub after_end : Content → TxId → Fate → Content
-after_end c tx fate = record c { fates = slice_set c.fates tx.0 fate }
-
 -- what a commit leaves: commits are numbered from 0
 abbrev pub after_commit : Content → TxId → Content
-after_commit c tx = after_end c tx (Committed (commit_count c))
+after_commit c tx = record c { fates = slice_set c.fates tx.0 (Committed (commit_count c)) }
 
 -- what a roll-back leaves: the transaction's writes stay in the log
 abbrev pub after_roll_back : Content → TxId → Content
-after_roll_back c tx = after_end c tx RolledBack
+after_roll_back c tx = record c { fates = slice_set c.fates tx.0 RolledBack }
+
+-- what either of them leaves, as an end with that fate
+abbrev pub after_end : Content → TxId → Fate → Content
+after_end c tx fate = record c { fates = slice_set c.fates tx.0 fate }
 
 -- what a write leaves: it is the last of the log
 abbrev pub after_write : Content → Write → Content

@@ -2,7 +2,6 @@
 -- transaction began, and on the earlier updates of one's own transaction.
 use Rattle.std.specs.Prelude.{ℕ, nat_lt, Bool, false, ◌&&◌, ◌||◌, List, Option, Some}
 use Rattle.std.specs.Option.{option_map_or}
-use Rattle.row_versions.specs.declared.names.TxId.{TxId}
 use Rattle.row_versions.specs.declared.write.Write.{Write}
 use Rattle.row_versions.specs.declared.write.View.{View}
 use Rattle.row_versions.specs.declared.write.Fate.{Fate}
@@ -15,10 +14,6 @@ abbrev pub committed_before : ℕ → Option Fate → Bool
 committed_before commits (Some (Committed k)) = nat_lt k commits
 committed_before commits fate = false
 
--- the view's own transaction made the write, in an earlier command
-abbrev pub own_before : Option TxId → ℕ → Write → Bool
-own_before own command w = option_map_or (λ tx. same_tx w.tx tx && nat_lt w.command command) own false
-
 -- the view sees the write: it is committed before the view, or the view's own of an earlier command
 abbrev pub sees : List Fate → View → Write → Bool
-sees fates view w = committed_before view.commits (fate_of fates w.tx) || own_before view.tx view.command w
+sees fates view w = committed_before view.commits (fate_of fates w.tx) || option_map_or (λ tx. same_tx w.tx tx && nat_lt w.command view.command) view.tx false

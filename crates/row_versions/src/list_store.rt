@@ -3,9 +3,7 @@ ghost use Rattle.std.specs.Prelude.{◌≡◌, IfOk, ◌+◌};
 ghost use Rattle.std.specs.List.{list_any};
 ghost use Rattle.row_versions.specs.Log.{Content, empty_content};
 ghost use Rattle.row_versions.specs.View.{sees};
-ghost use Rattle.row_versions.specs.Rows.{is_shown, rows_from, replaces};
-ghost use Rattle.row_versions.specs.Newest.{is_version};
-ghost use Rattle.row_versions.specs.Inner.Searching.{newest_from};
+ghost use Rattle.row_versions.specs.Inner.Searching.{replaces, shows, rows_from, is_version, newest_from};
 
 use crate::names::{RowId, TableId, TxId};
 use crate::versions::Versions;
@@ -67,7 +65,7 @@ fn is_replaced(fates: &[Fate], view: &View, row: RowId, later: &[Write]) -> bool
 }
 
 fn shows(fates: &[Fate], view: &View, table: TableId, write: &Write, later: &[Write]) -> bool
-    ensures { result ≡ is_shown fates.now view.now table write.now later.now }
+    ensures { result ≡ shows fates.now view.now table write.now later.now }
 {
     write.table.0 == table.0
         && write.values.is_some()
@@ -161,6 +159,7 @@ impl Versions for ListStore {
         }
     }
 
+    #[tactic(auto, using(crate::proofs::Filtered::rows_are))]
     fn rows(&self, view: &View, table: TableId) -> Result<Vec<Seen>, AllocError> {
         shown_rows(*self.log.allocator(), &self.log, &self.fates, view, table)
     }

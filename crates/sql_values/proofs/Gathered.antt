@@ -7,7 +7,8 @@ use Rattle.sql_values.specs.declared.value.Value.{Value}
 use Rattle.sql_values.specs.declared.fault.ValueFault.{ValueFault}
 use Rattle.sql_values.specs.declared.value.Value.TheVariants.{Int}
 use Rattle.sql_values.specs.Aggregates.{total}
-use Rattle.sql_values.specs.Values.{if_ok, is_null, without_nulls}
+use Rattle.sql_values.specs.Values.{if_ok, is_null}
+use Rattle.sql_values.specs.Inner.Extremes.{without_nulls}
 
 -- the values found, and those of the rows to come
 abbrev pub gathered : List Value → Result (List Value) ValueFault → Result (List Value) ValueFault

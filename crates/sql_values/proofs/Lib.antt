@@ -8,5 +8,6 @@ pub mod Negation
 pub mod OneOrder
 pub mod Orders
 pub mod Places
+pub mod Sortable
 pub mod Utf8
 pub mod Unique

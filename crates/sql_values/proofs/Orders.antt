@@ -6,7 +6,7 @@ use Rattle.std.specs.Cmp.{IsTotalOrder, IsStrictWeakOrder}
 use Rattle.std.specs.Cmp.Lexicographic.{slice_cmp, nat_list_cmp_total}
 use Rattle.std.specs.List.{range_with_len, AllAdjacentBelow}
 use Rattle.std.specs.List.Sorted.{IsSortedBy, IsStableBy}
-use Rattle.std.specs.Ordering.{nat_cmp, int_cmp, ordering_then, ordering_reverse, then_cmp, on, is_lt, MatchOrdering}
+use Rattle.std.specs.Ordering.{nat_cmp, int_cmp, bool_cmp, ordering_then, ordering_reverse, then_cmp, on, is_lt, MatchOrdering}
 use Rattle.std.specs.declared.cmp.Ordering.{Ordering}
 use Rattle.std.specs.declared.cmp.Ordering.TheVariants.{Less, Equal, Greater}
 use Rattle.std.proofs.lemmas.Bool.{false≢true}
@@ -16,8 +16,10 @@ use Rattle.std.proofs.lemmas.List.Sorted.{IsStrictWeakOrder-flip, ranks_by, ties
 use Rattle.sql_trees.specs.declared.kind.Dir.{Dir}
 use Rattle.sql_values.specs.declared.value.Value.{Value}
 use Rattle.sql_values.specs.declared.value.Value.TheVariants.{Null, Int, Big, Text, Bool as Boolean}
-use Rattle.sql_values.specs.Aggregates.{beats}
-use Rattle.sql_values.specs.Sorting.{kind_rank, full_order, null_place, key_order, key, row_order, keys_at, MayPrecede}
+use Rattle.sql_values.specs.Inner.Extremes.{beats}
+use Rattle.sql_values.specs.Sorting.{kind_rank, full_order, key_order, key, row_order, keys_at, MayPrecede}
+use Rattle.sql_values.specs.Inner.Sortable.{null_place}
+use Rattle.sql_values.specs.Values.{is_null}
 
 -- an order that answers as a total one is total
 total_by : {K : Type 0} {R S : K → K → Ordering} → IsTotalOrder S → ((x y : K) → R x y ≡ S x y) → IsTotalOrder R
@@ -95,8 +97,23 @@ turned_total : (desc : Bool) → IsTotalOrder (λ a b. if desc then full_order b
 turned_total true = back_total full_total
 turned_total false = full_total
 
+placed : (first a b : Bool) → (if first then bool_cmp b a else bool_cmp a b)
+    ≡ nat_cmp (if a then (if first then 0 else 2) else 1) (if b then (if first then 0 else 2) else 1)
+placed true true true = refl
+placed true true false = refl
+placed true false true = refl
+placed true false false = refl
+placed false true true = refl
+placed false true false = refl
+placed false false true = refl
+placed false false false = refl
+
+-- NULLs stand as their places do
+pub nulls_placed : (dir : Dir) (a b : Value) → (if dir.nulls_first then bool_cmp (is_null b) (is_null a) else bool_cmp (is_null a) (is_null b)) ≡ nat_cmp (null_place dir a) (null_place dir b)
+nulls_placed dir a b = placed dir.nulls_first (is_null a) (is_null b)
+
 key_total : (dir : Dir) → IsTotalOrder (key_order dir)
-key_total dir = then_total (on_total (null_place dir) nat_cmp_total) (turned_total dir.desc)
+key_total dir = then_total (total_by (on_total (null_place dir) nat_cmp_total) (nulls_placed dir)) (turned_total dir.desc)
 
 pub row_total : (k : ℕ) (by : List Dir) → IsTotalOrder (row_order k by)
 row_total k [] = record { antisymm = λ x y. refl; trans = λ x y z p q. p; congr = λ x y z p. refl }

@@ -1,5 +1,6 @@
 -- Three-valued logic (PostgreSQL manual, 9.1, and 9.2 on IS).
 use Rattle.std.specs.Prelude.{Bool, true, false, not, Option, Some, None, is_none, unwrap_or, Result, Ok, Err, if◌then◌else◌}
+use Rattle.std.specs.Bool.{beq}
 use Rattle.std.specs.Option.{option_map_or}
 use Rattle.sql_trees.specs.declared.expr.Truth.{Truth}
 use Rattle.sql_trees.specs.declared.expr.Truth.TheVariants as asked
@@ -23,19 +24,13 @@ truth v = Err TypeMismatch
 abbrev pub condition : Bool → Known → Answer
 condition negated k = if_ok k (λ known. Ok (option_map_or (λ b. Boolean (if negated then not b else b)) known Null))
 
--- a left side that is true, or that has a fault, decides; the right one is then not evaluated
-abbrev pub or_of : Known → Known → Known
-or_of (Ok (Some false)) b = b
-or_of (Ok None) (Ok (Some false)) = Ok None
-or_of (Ok None) b = b
-or_of a b = a
-
--- a left side that is false, or that has a fault, decides
-abbrev pub and_of : Known → Known → Known
-and_of (Ok (Some true)) b = b
-and_of (Ok None) (Ok (Some true)) = Ok None
-and_of (Ok None) b = b
-and_of a b = a
+-- a side that is true decides an OR, and one that is false an AND; else NULL is left of a NULL, and the right side of another left one.
+-- The right side isn't evaluated after a left one that decides or has a fault.
+abbrev pub decided_by : Bool → Known → Known → Known
+decided_by x (Ok (Some a)) b = if beq a x then Ok (Some a) else b
+decided_by x (Ok None) (Ok (Some b)) = Ok (if beq b x then Some b else None)
+decided_by x (Ok None) b = b
+decided_by x (Err e) b = Err e
 
 -- IS NULL asks of any value, the others of a condition
 abbrev pub is_test : Truth → Value → Known

@@ -1,14 +1,14 @@
 -- The order in which rows are sorted (PostgreSQL manual, 7.5).
-use Rattle.std.specs.Prelude.{ℕ, ◌+◌, ◌≤◌, ⊤, Bool, true, List, [], ◌∷◌, length, map, is_some, unwrap_or, slice_get, slice_index_or, if◌then◌else◌}
+use Rattle.std.specs.Prelude.{ℕ, ◌+◌, ◌≤◌, ⊤, Bool, ◌||◌, List, [], ◌∷◌, length, is_some, unwrap_or, slice_get, slice_index_or, if◌then◌else◌}
 use Rattle.std.specs.List.{list_all, range_with_len, AllAdjacentBelow}
 use Rattle.std.specs.List.Sorted.{IsPermutation}
-use Rattle.std.specs.Ordering.{nat_cmp, ordering_then, MatchOrdering}
+use Rattle.std.specs.Ordering.{nat_cmp, bool_cmp, ordering_then, MatchOrdering}
 use Rattle.std.specs.declared.cmp.Ordering.{Ordering}
 use Rattle.std.specs.declared.cmp.Ordering.TheVariants.{Equal}
 use Rattle.sql_trees.specs.declared.kind.Dir.{Dir}
 use Rattle.sql_values.specs.declared.value.Value.{Value}
 use Rattle.sql_values.specs.declared.value.Value.TheVariants.{Null, Text, Bool as Boolean}
-use Rattle.sql_values.specs.Values.{is_null, without_nulls, compare}
+use Rattle.sql_values.specs.Values.{is_null, compare}
 
 -- kinds that don't compare stand in this order; nothing shows it, since sorting and aggregates refuse to mix them
 abbrev pub kind_rank : Value → ℕ
@@ -21,13 +21,10 @@ kind_rank number = 1
 abbrev pub full_order : Value → Value → Ordering
 full_order a b = unwrap_or (compare a b) (nat_cmp (kind_rank a) (kind_rank b))
 
--- where NULLs stand among the values
-abbrev pub null_place : Dir → Value → ℕ
-null_place dir v = if is_null v then (if dir.nulls_first then 0 else 2) else 1
-
--- how a key sorted in this direction orders two values
+-- how a key sorted in this direction orders two values: NULLs stand first or last, and what isn't NULL rises or falls
 abbrev pub key_order : Dir → Value → Value → Ordering
-key_order dir a b = ordering_then (nat_cmp (null_place dir a) (null_place dir b)) (if dir.desc then full_order b a else full_order a b)
+key_order dir a b =
+    ordering_then (if dir.nulls_first then bool_cmp (is_null b) (is_null a) else bool_cmp (is_null a) (is_null b)) (if dir.desc then full_order b a else full_order a b)
 
 -- the value of key k of a row
 abbrev pub key : ℕ → List Value → Value
@@ -51,11 +48,7 @@ pub record IsSortedOrder (by : List Dir) (keys : List (List Value)) (places : Li
   pub each_once : IsPermutation (range_with_len 0 (length keys)) places
   pub in_order : AllAdjacentBelow (MayPrecede by keys) places (length places)
 
--- they compare with the first of them
-abbrev pub all_compare : List Value → Bool
-all_compare [] = true
-all_compare (v ∷ vs) = list_all (λ w. is_some (compare v w)) vs
-
--- the rows can be sorted by this many keys: of each, the values that aren't NULL compare
+-- the rows can be sorted by this many keys: of each, any two values compare that aren't NULL
 abbrev pub can_sort : List Dir → List (List Value) → Bool
-can_sort by keys = list_all (λ k. all_compare (without_nulls (map (key k) keys))) (range_with_len 0 (length by))
+can_sort by keys =
+    list_all (λ k. list_all (λ a. list_all (λ b. is_null (key k a) || is_null (key k b) || is_some (compare (key k a) (key k b))) keys) keys) (range_with_len 0 (length by))

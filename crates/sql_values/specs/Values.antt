@@ -1,6 +1,6 @@
 -- Values: their ranges, how two of them compare, and what a column of a kind takes of them.
-use Rattle.std.specs.Prelude.{ℕ, ◌^◌, ◌≡◌, ◌≢◌, ℤ, pos, neg_ℤ, int_le, int_lt, Bool, true, false, not, ◌&&◌, List, [], ◌∷◌, filter}
-use Rattle.std.specs.Prelude.{Option, Some, None, option_map, ok_or, is_some, Result, Ok, Err, if◌then◌else◌}
+use Rattle.std.specs.Prelude.{ℕ, ◌^◌, ◌≡◌, ◌≢◌, ℤ, pos, neg_ℤ, int_le, int_lt, Bool, true, false, ◌&&◌, List, [], ◌∷◌}
+use Rattle.std.specs.Prelude.{Option, Some, None, option_map, ok_or, Result, Ok, Err, if◌then◌else◌}
 use Rattle.std.specs.Option.{option_zip}
 use Rattle.std.specs.Ordering.{nat_cmp, int_cmp, bool_cmp}
 use Rattle.std.specs.declared.cmp.Ordering.{Ordering}
@@ -47,27 +47,17 @@ abbrev pub is_null : Value → Bool
 is_null Null = true
 is_null v = false
 
-abbrev pub without_nulls : List Value → List Value
-without_nulls vs = filter (λ v. not (is_null v)) vs
-
 -- the number that a value is
 abbrev pub number_of : Value → Option ℤ
 number_of (Int z) = Some z
 number_of (Big z) = Some z
 number_of v = None
 
-abbrev pub is_number : Value → Bool
-is_number v = is_some (number_of v)
-
--- the numbers that two values are
-abbrev pub numbers_of : Value → Value → Option (ℤ × ℤ)
-numbers_of a b = option_zip (number_of a) (number_of b)
-
 -- numbers compare by size, texts by their bytes, false stands before true; NULL and values of other kinds don't compare (9.2)
 abbrev pub compare : Value → Value → Option Ordering
 compare (Text s) (Text t) = Some (slice_cmp nat_cmp s t)
 compare (Boolean a) (Boolean b) = Some (bool_cmp a b)
-compare a b = option_map (λ n. int_cmp n.0 n.1) (numbers_of a b)
+compare a b = option_map (λ n. int_cmp n.0 n.1) (option_zip (number_of a) (number_of b))
 
 -- what a column of the kind takes a value as: NULL as it is, a number if it fits, another value of that kind
 abbrev pub assign : Value → Kind → Answer

@@ -3,8 +3,9 @@
 ghost use Rattle.std.specs.Prelude.{◌≡◌, ◌≢◌, ◌^◌, pos, neg_ℤ, ◌+ℤ◌, ◌≤ℤ◌, ◌∷◌, All, length, map, Ok, Err, Some, MatchResult, if◌then◌else◌};
 ghost use Rattle.std.specs.List.{list_all};
 ghost use Rattle.sql_trees.specs.Trees.{tree_of, agg_of, CountRows};
-ghost use Rattle.sql_values.specs.Values.{Answers, bigint, is_number};
-ghost use Rattle.sql_values.specs.Aggregates.{values, total, is_text, beats, best, extreme, summary, aggregate};
+ghost use Rattle.sql_values.specs.Values.{Answers, bigint};
+ghost use Rattle.sql_values.specs.Aggregates.{total, summary, aggregate};
+ghost use Rattle.sql_values.specs.Inner.Extremes.{values, is_number, is_text, beats, best, extreme};
 
 use crate::arithmetic::bigint;
 use crate::columns::Columns;
@@ -147,6 +148,7 @@ fn extreme<'a>(alloc: Global, greatest: bool, values: &[Value]) -> Result<Value,
 }
 
 /// The value of an aggregate over rows, which have the columns. Its expression is evaluated on all rows before its values are tested.
+#[tactic(auto, using(crate::proofs::Extremes::least_is, crate::proofs::Extremes::greatest_is, crate::proofs::Extremes::through))]
 pub fn aggregate<'a>(
     alloc: Global,
     agg: &Agg<'a>,

@@ -1,11 +1,12 @@
 //! Arithmetic on whole numbers.
 
-ghost use Rattle.std.specs.Prelude.{◌≡◌, ◌||◌, pos, Ok, Err, if◌then◌else◌};
+ghost use Rattle.std.specs.Prelude.{◌≡◌, ◌||◌, pos, is_some, Ok, Err, if◌then◌else◌};
 ghost use Rattle.sql_trees.specs.declared.expr.Operator.TheVariants.{Subtract};
 ghost use Rattle.sql_values.specs.declared.value.Value.TheVariants.{Int as SqlInt};
-ghost use Rattle.sql_values.specs.Values.{integer, bigint, is_null, is_number};
-ghost use Rattle.sql_values.specs.Arithmetic.{calculate, arithmetic, number, signed};
+ghost use Rattle.sql_values.specs.Values.{integer, bigint, is_null, number_of};
+ghost use Rattle.sql_values.specs.Arithmetic.{signed};
 ghost use Rattle.sql_values.specs.Expressions.{operate};
+ghost use Rattle.sql_values.specs.Inner.Operators.{calculate, arithmetic, number};
 
 use crate::fault::ValueFault;
 use crate::value::Value;
@@ -63,7 +64,7 @@ pub fn arithmetic<'a>(operator: Operator, a: &Value, b: &Value) -> Result<Value,
 
 /// The value behind a plus sign.
 pub fn plus<'a>(value: Value) -> Result<Value, ValueFault<'a>>
-    ensures { result ≡ (if is_null value || is_number value then Ok value else Err ValueFault.TypeMismatch) }
+    ensures { result ≡ (if is_null value || is_some (number_of value) then Ok value else Err ValueFault.TypeMismatch) }
 {
     match value {
         Value::Null => Ok(Value::Null),

@@ -5,8 +5,9 @@ ghost use Rattle.iso_lexer.specs.Names.{name_view, decoded};
 ghost use Rattle.sql_trees.specs.Trees.{tree_of, trees, Column as NamedColumn};
 ghost use Rattle.sql_trees.specs.declared.expr.Operator.TheVariants.{AtMost};
 ghost use Rattle.sql_values.specs.Values.{Answers, if_ok};
-ghost use Rattle.sql_values.specs.Logic.{and_of};
-ghost use Rattle.sql_values.specs.Expressions.{value, binary, compares, is_among, passes};
+ghost use Rattle.sql_values.specs.Logic.{decided_by};
+ghost use Rattle.sql_values.specs.Expressions.{value, compares, is_among, passes};
+ghost use Rattle.sql_values.specs.Inner.Connectives.{binary};
 
 use crate::arithmetic::{minus, number, plus};
 use crate::columns::Columns;
@@ -139,7 +140,7 @@ fn is_at_most_too<'a>(
     row: &Row,
 ) -> Result<Option<bool>, ValueFault<'a>>
     requires { length row.now ≡ length cols.now }
-    ensures { Answers result (and_of (Ok above) (compares AtMost left.now (value (tree_of high.now) cols.now row.now))) }
+    ensures { Answers result (decided_by false (Ok above) (compares AtMost left.now (value (tree_of high.now) cols.now row.now))) }
 {
     if let Some(false) = above {
         return Ok(Some(false));

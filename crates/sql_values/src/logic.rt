@@ -4,7 +4,7 @@ ghost use Rattle.std.specs.Prelude.{◌≡◌, ◌≢◌, Ok, Some, true, false,
 ghost use Rattle.std.specs.Option.{option_map_or};
 ghost use Rattle.sql_values.specs.declared.value.Value.TheVariants.{Null as SqlNull, Bool as SqlBool};
 ghost use Rattle.sql_values.specs.Values.{is_null};
-ghost use Rattle.sql_values.specs.Logic.{truth, or_of, and_of, is_test, condition};
+ghost use Rattle.sql_values.specs.Logic.{truth, is_test, condition, decided_by};
 ghost use Rattle.sql_values.specs.Inner.Asked.{asks};
 
 use crate::fault::ValueFault;
@@ -32,7 +32,7 @@ pub fn boolean(known: Option<bool>) -> Value
 }
 
 pub fn or(a: Option<bool>, b: Option<bool>) -> Option<bool>
-    ensures { or_of (Ok a) (Ok b) ≡ Ok result }
+    ensures { decided_by true (Ok a) (Ok b) ≡ Ok result }
 {
     match (a, b) {
         (Some(true), _) | (_, Some(true)) => Some(true),
@@ -42,7 +42,7 @@ pub fn or(a: Option<bool>, b: Option<bool>) -> Option<bool>
 }
 
 pub fn and(a: Option<bool>, b: Option<bool>) -> Option<bool>
-    ensures { and_of (Ok a) (Ok b) ≡ Ok result }
+    ensures { decided_by false (Ok a) (Ok b) ≡ Ok result }
 {
     match (a, b) {
         (Some(false), _) | (_, Some(false)) => Some(false),

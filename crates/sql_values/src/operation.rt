@@ -3,8 +3,8 @@
 ghost use Rattle.std.specs.Prelude.{◌≡◌, ◌++◌, IfOk, ◌↔◌, IsTrue};
 ghost use Rattle.sql_trees.specs.declared.expr.Operator.TheVariants.{Concat};
 ghost use Rattle.sql_values.specs.Values.{Answers, is_null};
-ghost use Rattle.sql_values.specs.Expressions.{operation, operate};
-ghost use Rattle.sql_values.specs.Inner.Comparisons.{holds, comparison};
+ghost use Rattle.sql_values.specs.Expressions.{operate};
+ghost use Rattle.sql_values.specs.Inner.Operators.{holds, comparison, operation};
 
 use crate::arithmetic::arithmetic;
 use crate::comparison::compare;

@@ -3,8 +3,10 @@
 ghost use Rattle.std.specs.Prelude.{◌≡◌, ◌≢◌, ◌↔◌, ◌+◌, IfOk, IfErr, All, length, map, true, false, is_some, unwrap_or, slice_get, slice_index_or};
 ghost use Rattle.std.specs.List.{list_all, range_with_len};
 ghost use Rattle.sql_values.specs.declared.value.Value.TheVariants.{Null};
-ghost use Rattle.sql_values.specs.Sorting.{kind_rank, full_order, null_place, key_order, key, keys_at, row_order, IsSortedOrder, all_compare, can_sort};
-ghost use Rattle.sql_values.specs.Values.{compare, without_nulls};
+ghost use Rattle.sql_values.specs.Sorting.{kind_rank, full_order, key_order, key, keys_at, row_order, IsSortedOrder, can_sort};
+ghost use Rattle.sql_values.specs.Values.{compare};
+ghost use Rattle.sql_values.specs.Inner.Extremes.{without_nulls};
+ghost use Rattle.sql_values.specs.Inner.Sortable.{null_place, all_compare};
 
 use crate::comparison::compare;
 use crate::fault::ValueFault;
@@ -47,6 +49,7 @@ fn null_place(dir: Dir, value: &Value) -> u8
 }
 
 /// How a key sorted in this direction orders two values.
+#[tactic(auto, using(crate::proofs::Orders::nulls_placed))]
 fn key_order(dir: Dir, a: &Value, b: &Value) -> Ordering
     ensures { result ≡ key_order dir a.now b.now }
 {

@@ -7,7 +7,8 @@ use Rattle.row_versions.specs.declared.names.RowId.{RowId}
 use Rattle.row_versions.specs.declared.names.TableId.{TableId}
 use Rattle.row_versions.specs.declared.write.Fate.{Fate}
 use Rattle.row_versions.specs.declared.write.Fate.TheVariants.{Open, RolledBack, Committed}
-use Rattle.row_versions.specs.Log.{Content, IsOpen, fate_of, has_committed, is_committed, is_open, is_open_fate}
+use Rattle.row_versions.specs.Log.{Content, IsOpen, fate_of, has_committed, is_open, is_open_fate}
+use Rattle.row_versions.specs.Inner.Searching.{is_committed}
 use Rattle.unique_keys.specs.declared.noted.Noted.{Noted}
 use Rattle.row_versions.specs.Members.{same_tx}
 use Rattle.unique_keys.specs.Keys.{has_key}
@@ -16,6 +17,7 @@ use Rattle.unique_keys.specs.Inner.Finding.{version_has, is_committed_version, c
 use Rattle.unique_keys.specs.Checks.{key_blockers, is_taken}
 use Rattle.unique_keys.proofs.Filtered.{list_any-filter, filter-filter, last_of-filter}
 use Rattle.unique_keys.proofs.Listed.{same_is}
+use Rattle.unique_keys.proofs.Logged.{blockers_are, taken_is}
 
 -- whoever stands and hasn't committed is open
 open_or_committed : (f : Option Fate) → (is_open_fate f || is_committed f) ≡ true → not (is_committed f) ≡ is_open_fate f
@@ -71,6 +73,7 @@ taken_same c index tx up h table except asked columns =
     (λ w k. counts_stands c tx h w (and_right (is_another except w.row) (counts_for (has_committed c) tx w) (and_right (w.table.0 == table.0) (is_another except w.row && counts_for (has_committed c) tx w)
     (and_left ((w.table.0 == table.0) && (is_another except w.row && counts_for (has_committed c) tx w)) (newest_has (has_committed c) (writes c) columns asked w.row tx) k))))
     (writes c)
+    ∙ sym (taken_is c table tx except asked columns)
 
 committed_same : (c : Content) (columns : List ℕ) (asked : List Value) (row : RowId)
     → committed_has (has_committed c) (filter (stands c.fates) (writes c)) columns asked row ≡ committed_has (has_committed c) (writes c) columns asked row
@@ -101,7 +104,8 @@ blockers_same c index up table tx asked columns =
     ∙ ap (λ ws. map (λ (w : Noted). w.tx) ws) (filter-filter (stands c.fates) (is_in_way (has_committed c) (λ u. not (has_committed c u)) (filter (stands c.fates) (writes c)) table columns asked tx) (is_in_way (has_committed c) (is_open c.fates) (writes c) table columns asked tx)
     (λ w s. way_same c table tx asked columns w s)
     (λ w k. or_left (is_open c.fates w.tx) (has_committed c w.tx) (active w k))
-    (writes c)) where
+    (writes c))
+    ∙ sym (blockers_are c table tx asked columns) where
       active : (w : Noted) → is_in_way (has_committed c) (is_open c.fates) (writes c) table columns asked tx w ≡ true → is_open c.fates w.tx ≡ true
       active w k =
           and_right (not (same_tx w.tx tx)) (is_open c.fates w.tx) (and_right (w.table.0 == table.0) (not (same_tx w.tx tx) && is_open c.fates w.tx)

@@ -9,7 +9,8 @@ use Rattle.row_versions.specs.declared.names.TxId.{TxId}
 use Rattle.row_versions.specs.declared.write.Write.{Write}
 use Rattle.row_versions.specs.declared.write.Fate.{Fate}
 use Rattle.row_versions.specs.declared.write.Fate.TheVariants.{Open, RolledBack, Committed}
-use Rattle.row_versions.specs.Log.{Content, IsOpen, fate_of, is_committed, commit_count, is_open_fate}
+use Rattle.row_versions.specs.Log.{Content, IsOpen, fate_of, commit_count, is_open_fate}
+use Rattle.row_versions.specs.Inner.Searching.{is_committed}
 use Rattle.unique_keys.specs.declared.noted.Noted.{Noted}
 use Rattle.row_versions.specs.Members.{same_tx}
 use Rattle.unique_keys.specs.Writes.{noted_of, writes, stands, without, IsUpToDate}

@@ -1,5 +1,7 @@
+mod Equal
 mod Filtered
 mod Listed
+pub mod Logged
 mod Exact
 mod Answered
 mod Nulls

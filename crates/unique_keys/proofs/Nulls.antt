@@ -1,5 +1,5 @@
 -- A key with a NULL is had by no version.
-use Rattle.std.proofs.Common.{◌≡◌, refl, ◌∙◌, ap, Bool, true, false, cond, not, ◌||◌, ◌&&◌, ◌==◌, ℕ, List, [], ◌∷◌, map, filter}
+use Rattle.std.proofs.Common.{◌≡◌, refl, sym, ◌∙◌, ap, Bool, true, false, cond, not, ◌||◌, ◌&&◌, ◌==◌, ℕ, List, [], ◌∷◌, map, filter}
 use Rattle.std.specs.Prelude.{Option, Some, None, unwrap_or, slice_get}
 use Rattle.std.specs.List.{list_any}
 use Rattle.sql_values.specs.declared.value.Value.{Value}
@@ -10,8 +10,9 @@ use Rattle.row_versions.specs.declared.names.RowId.{RowId}
 use Rattle.row_versions.specs.declared.names.TableId.{TableId}
 use Rattle.unique_keys.specs.declared.noted.Noted.{Noted}
 use Rattle.row_versions.specs.Members.{same_tx}
-use Rattle.unique_keys.specs.Keys.{are_equal, agree, has_key}
-use Rattle.unique_keys.specs.Inner.Finding.{last_of, version_has, is_committed_version, own_has, is_in_way, blockers_among, counts_for, is_version_for, is_another, takes, is_taken_among}
+use Rattle.unique_keys.specs.Keys.{has_key}
+use Rattle.unique_keys.proofs.Equal.{agree_is}
+use Rattle.unique_keys.specs.Inner.Finding.{are_equal, agree, last_of, version_has, is_committed_version, own_has, is_in_way, blockers_among, counts_for, is_version_for, is_another, takes, is_taken_among}
 use Rattle.unique_keys.specs.Laws.{has_null}
 
 null_is_unequal : (asked other : Option Value) → is_null (unwrap_or asked Null) ≡ true → are_equal asked other ≡ false
@@ -37,7 +38,7 @@ null_disagrees (k ∷ columns) asked values h = step (is_null (unwrap_or (slice_
 
 null_is_had_by_none : (columns : List ℕ) (asked : List Value) → has_null columns asked ≡ true → (version : Option (List Value)) → has_key columns asked version ≡ false
 null_is_had_by_none columns asked h None = refl
-null_is_had_by_none columns asked h (Some values) = null_disagrees columns asked values h
+null_is_had_by_none columns asked h (Some values) = sym (agree_is columns asked values) ∙ null_disagrees columns asked values h
 
 version_lacks : (columns : List ℕ) (asked : List Value) → has_null columns asked ≡ true → (w : Option Noted) → version_has columns asked w ≡ false
 version_lacks columns asked h None = refl

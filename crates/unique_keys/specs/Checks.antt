@@ -1,5 +1,6 @@
 -- Held, taken, free: what PostgreSQL does where a row's keys are checked (13.2.1 on what others have not committed, 5.5.3 on unique constraints).
-use Rattle.std.specs.Prelude.{◌≡◌, ◌≢◌, ℕ, ◌<◌, ◌==◌, Bool, true, false, not, ◌&&◌, ◌||◌, List, [], ◌∷◌, Option, length, map, filter, find, reverse}
+use Rattle.std.specs.Prelude.{◌≡◌, ◌≢◌, ℕ, ◌<◌, ◌==◌, Bool, true, false, not, ◌&&◌, ◌||◌}
+use Rattle.std.specs.Prelude.{List, [], ◌∷◌, length, map, filter, find, reverse, Option, option_and_then}
 use Rattle.std.specs.List.{list_any}
 use Rattle.std.specs.Option.{option_map_or}
 use Rattle.sql_values.specs.declared.value.Value.{Value}
@@ -7,44 +8,29 @@ use Rattle.row_versions.specs.declared.names.TxId.{TxId}
 use Rattle.row_versions.specs.declared.names.RowId.{RowId}
 use Rattle.row_versions.specs.declared.names.TableId.{TableId}
 use Rattle.row_versions.specs.Members.{same_tx}
-use Rattle.row_versions.specs.Log.{Content, has_committed, is_open}
-use Rattle.unique_keys.specs.declared.noted.Noted.{Noted}
+use Rattle.row_versions.specs.declared.write.Seen.{Seen}
+use Rattle.row_versions.specs.Log.{Content, fate_of, is_open_fate, has_committed, values_at}
+use Rattle.row_versions.specs.Newest.{newest_of}
 use Rattle.unique_keys.specs.declared.keys.Check.{Check}
 use Rattle.unique_keys.specs.declared.keys.Check.TheVariants.{Free, Taken, Held}
 use Rattle.unique_keys.specs.declared.key_index.Found.{Found}
 use Rattle.unique_keys.specs.declared.key_index.Found.TheVariants as found
 use Rattle.unique_keys.specs.Members.{EachOnce}
 use Rattle.unique_keys.specs.Keys.{Keys, columns_at, has_key}
-use Rattle.unique_keys.specs.Writes.{writes}
 
--- of the writes that pass the test the last gives its row the key
-abbrev pub last_has : (Noted → Bool) → Content → List Value → List ℕ → Bool
-last_has test c asked columns = option_map_or (λ (w : Noted). has_key columns asked w.values) (find test (reverse (writes c))) false
+-- what the row's newest committed version gave it
+abbrev pub committed_values : Content → RowId → Option (List Value)
+committed_values c row = option_and_then (λ w. w.values) (find (λ w. (w.row.0 == row.0) && has_committed c w.tx) (reverse c.log))
 
--- it is another open transaction's write of a row of the table whose newest committed version, or any version by that transaction, has the key
-abbrev pub holds_key : Content → TableId → TxId → List Value → List ℕ → Noted → Bool
-holds_key c table tx asked columns w =
-    ((w.table.0 == table.0) && (not (same_tx w.tx tx) && is_open c.fates w.tx))
-    && (last_has (λ v. (v.row.0 == w.row.0) && has_committed c v.tx) c asked columns
-    || list_any (λ v. ((v.row.0 == w.row.0) && same_tx v.tx w.tx) && has_key columns asked v.values) (writes c))
-
--- the blockers of a key request: those transactions
+-- the blockers of a key request: the other open transactions that wrote a row of the table whose newest committed version, or any version by that transaction, has the key
 abbrev pub key_blockers : Content → TableId → TxId → List Value → List ℕ → List TxId
-key_blockers c table tx asked columns = map (λ w. w.tx) (filter (holds_key c table tx asked columns) (writes c))
+key_blockers c table tx asked columns = map (λ w. w.tx) (filter (λ w. (w.table.0 == table.0) && not (same_tx w.tx tx) && is_open_fate (fate_of c.fates w.tx)
+    && (has_key columns asked (committed_values c w.row) || list_any (λ v. (v.row.0 == w.row.0) && same_tx v.tx w.tx && has_key columns asked v.values) c.log)) c.log)
 
--- the write counts for the transaction: it is committed, or its own
-abbrev pub counts_for : Content → TxId → Noted → Bool
-counts_for c tx w = has_committed c w.tx || same_tx w.tx tx
-
--- it is a write of a row of the table, but for the one that is left aside, whose newest version for the transaction has the key
-abbrev pub takes_key : Content → TableId → TxId → Option RowId → List Value → List ℕ → Noted → Bool
-takes_key c table tx except asked columns w =
-    ((w.table.0 == table.0) && (option_map_or (λ (other : RowId). not (w.row.0 == other.0)) except true && counts_for c tx w))
-    && last_has (λ v. (v.row.0 == w.row.0) && counts_for c tx v) c asked columns
-
--- another row of the table has the key
+-- another row of the table than the one that is left aside has the key: the transaction's own write of it, or a committed one, is there, and its newest version for the transaction has the key
 abbrev pub is_taken : Content → TableId → TxId → Option RowId → List Value → List ℕ → Bool
-is_taken c table tx except asked columns = list_any (takes_key c table tx except asked columns) (writes c)
+is_taken c table tx except asked columns = list_any (λ w. (w.table.0 == table.0) && option_map_or (λ (other : RowId). not (w.row.0 == other.0)) except true
+    && (has_committed c w.tx || same_tx w.tx tx) && has_key columns asked (option_and_then (λ (s : Seen). values_at c s.place) (newest_of c w.row tx))) c.log
 
 -- what is found of one key
 pub data KeyFound : Type 0 where

@@ -1,7 +1,7 @@
 //! Writes as the index knows them.
 ghost use Rattle.std.specs.Prelude.{◌≡◌};
-ghost use Rattle.unique_keys.specs.Keys.{agree, are_equal, has_key};
-ghost use Rattle.unique_keys.specs.Inner.Finding.{version_has};
+ghost use Rattle.unique_keys.specs.Keys.{has_key};
+ghost use Rattle.unique_keys.specs.Inner.Finding.{agree, are_equal, version_has};
 ghost use Rattle.std.specs.List.{slice_get};
 ghost use Rattle.std.specs.Option.{option_copied};
 
@@ -40,6 +40,7 @@ fn agree(columns: &[u32], asked: &[Value], values: &[Value]) -> bool
 }
 
 /// Whether the write gave its row the key.
+#[tactic(auto, using(crate::proofs::Equal::agree_is))]
 pub fn has_key(columns: &[u32], asked: &[Value], note: &Noted) -> bool
     ensures { result ≡ has_key columns.now asked.now note.now.values }
 {

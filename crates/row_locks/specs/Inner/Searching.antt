@@ -1,8 +1,16 @@
--- Words of the search for a cycle.
-use Rattle.std.specs.Prelude.{ℕ, Bool, false, List, [], Option, Some, None, slice_get}
+-- Words of the search for blockers and for a cycle.
+use Rattle.std.specs.Prelude.{ℕ, ◌==◌, Bool, false, not, ◌&&◌, List, [], Option, Some, None, slice_get}
 use Rattle.row_versions.specs.declared.names.TxId.{TxId}
-use Rattle.row_versions.specs.Members.{has}
+use Rattle.row_versions.specs.declared.names.RowId.{RowId}
+use Rattle.row_versions.specs.Members.{same_tx, has}
+use Rattle.row_locks.specs.declared.held.Strength.{Strength}
+use Rattle.row_locks.specs.declared.held.Held.{Held}
+use Rattle.row_locks.specs.Held.{conflicts}
 use Rattle.row_locks.specs.Waiting.{Waiting}
+
+-- another transaction holds the row in conflict with the request
+abbrev pub is_against : RowId → TxId → Strength → Held → Bool
+is_against row tx strength h = ((h.row.0 == row.0) && not (same_tx h.tx tx)) && conflicts h.strength strength
 
 abbrev pub blockers_in : Option Waiting → List TxId
 blockers_in None = []

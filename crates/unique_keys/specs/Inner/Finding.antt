@@ -1,15 +1,26 @@
 -- Who stands in the way of a key, and which row has it, as the code finds it. What has committed and what is open is asked of two tests, so that the same is said of
 -- the log and of what is noted of it.
-use Rattle.std.specs.Prelude.{ℕ, ◌==◌, Bool, true, false, not, ◌&&◌, ◌||◌, List, Option, map, filter, find, reverse}
-use Rattle.std.specs.List.{list_any}
+use Rattle.std.specs.Prelude.{ℕ, ◌==◌, Bool, true, false, not, ◌&&◌, ◌||◌, List, Option, Some, map, filter, find, reverse, slice_get}
+use Rattle.std.specs.List.{list_all, list_any}
+use Rattle.std.specs.Ordering.{is_eq}
 use Rattle.std.specs.Option.{option_map_or}
 use Rattle.sql_values.specs.declared.value.Value.{Value}
+use Rattle.sql_values.specs.Values.{compare}
 use Rattle.row_versions.specs.declared.names.TxId.{TxId}
 use Rattle.row_versions.specs.declared.names.RowId.{RowId}
 use Rattle.row_versions.specs.declared.names.TableId.{TableId}
 use Rattle.unique_keys.specs.declared.noted.Noted.{Noted}
 use Rattle.row_versions.specs.Members.{same_tx}
 use Rattle.unique_keys.specs.Keys.{has_key}
+
+-- the two values are there, and equal
+abbrev pub are_equal : Option Value → Option Value → Bool
+are_equal (Some a) (Some b) = option_map_or is_eq (compare a b) false
+are_equal a b = false
+
+-- the rows are equal in all columns of the key
+abbrev pub agree : List ℕ → List Value → List Value → Bool
+agree columns asked values = list_all (λ column. are_equal (slice_get asked column) (slice_get values column)) columns
 
 -- the last of the writes that passes the test
 abbrev pub last_of : (Noted → Bool) → List Noted → Option Noted

@@ -1,6 +1,6 @@
 use Rattle.std.proofs.Common.{◌≡◌, drop}
 use Rattle.std.specs.List.{list_all}
-use Rattle.sql_values.specs.Values.{is_number}
+use Rattle.sql_values.specs.Inner.Extremes.{is_number}
 use Rattle.sql_values.proofs.aggregation.are_numbers.Given as goal
 
 abbrev pub invariant-loop-value : goal.invariant-loop-value

@@ -1,6 +1,6 @@
 use Rattle.std.proofs.Common.{◌≡◌, drop}
 use Rattle.std.specs.List.{list_all}
-use Rattle.sql_values.specs.Aggregates.{is_text}
+use Rattle.sql_values.specs.Inner.Extremes.{is_text}
 use Rattle.sql_values.proofs.aggregation.are_texts.Given as goal
 
 abbrev pub invariant-loop-value : goal.invariant-loop-value

@@ -1,5 +1,5 @@
 use Rattle.std.proofs.Common.{◌≡◌, take, ◌∷◌, Some}
-use Rattle.sql_values.specs.Aggregates.{best}
+use Rattle.sql_values.specs.Inner.Extremes.{best}
 use Rattle.sql_values.proofs.aggregation.best.Given as goal
 
 abbrev pub invariant-loop-value : goal.invariant-loop-value

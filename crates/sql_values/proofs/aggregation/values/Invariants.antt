@@ -1,6 +1,6 @@
 use Rattle.std.proofs.Common.{◌≡◌, drop, map}
 use Rattle.sql_trees.specs.Trees.{tree_of}
-use Rattle.sql_values.specs.Aggregates.{values}
+use Rattle.sql_values.specs.Inner.Extremes.{values}
 use Rattle.sql_values.proofs.Gathered.{gathered}
 use Rattle.sql_values.proofs.aggregation.values.Given as goal
 

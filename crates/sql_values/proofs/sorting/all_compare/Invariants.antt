@@ -1,7 +1,7 @@
 use Rattle.std.proofs.Common.{◌≡◌, drop, map}
 use Rattle.sql_values.specs.declared.value.Value.TheVariants.{Null}
-use Rattle.sql_values.specs.Values.{without_nulls}
 use Rattle.sql_values.specs.Sorting.{key}
+use Rattle.sql_values.specs.Inner.Extremes.{without_nulls}
 use Rattle.sql_values.proofs.sorting.all_compare.Given as goal
 
 abbrev pub invariant-loop-i : goal.invariant-loop-i

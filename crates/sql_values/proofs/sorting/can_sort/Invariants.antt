@@ -1,7 +1,8 @@
 use Rattle.std.proofs.Common.{◌≡◌, ◌-◌, length, map}
 use Rattle.std.specs.List.{list_all, range_with_len}
-use Rattle.sql_values.specs.Values.{without_nulls}
-use Rattle.sql_values.specs.Sorting.{key, all_compare, can_sort}
+use Rattle.sql_values.specs.Sorting.{key, can_sort}
+use Rattle.sql_values.specs.Inner.Sortable.{all_compare}
+use Rattle.sql_values.specs.Inner.Extremes.{without_nulls}
 use Rattle.sql_values.proofs.sorting.can_sort.Given as goal
 
 abbrev pub invariant-loop-k : goal.invariant-loop-k
