@@ -17,8 +17,8 @@ use Rattle.sql_trees.specs.Trees as tree
 use Rattle.sql_expressions.specs.Build.{negated}
 use Rattle.sql_expressions.specs.Results.{◌>>=◌}
 use Rattle.sql_expressions.specs.Readers.{expect, misplaced, left_out, is_sign, place_of, after}
-use Rattle.sql_expressions.specs.Reading.{Found, comparison_op, or_op, and_op, concat_op, sum_op, product_op, is_call, truth_of, expr_at}
-use Rattle.sql_expressions.specs.Inner.Pieces.{Found_op, Found_list, Reader, leaf, deeper, join, next_op, found_op, is_and, is_not, is_is, column_at, name_at, parens_at, prim_of, prim_at, sign_at, una_of, una_at, mul_at, add_at, cat_at, in_at, between_at, not_in_of, not_in_at, inn_of, inn_more, inn_at, cmp_more, cmp_at, is_node, is_of, is_tail, is_from, is_more, is_at, negation_at, not_at, and_at, or_at, at_level, inside, list_at, list_more, list_turn, chain, chain_more, chain_end, chain_turn}
+use Rattle.sql_expressions.specs.Reading.{Found, comparison_op, is_call, truth_of, expr_at}
+use Rattle.sql_expressions.specs.Inner.Pieces.{Found_op, Found_list, or_op, and_op, concat_op, sum_op, product_op, Reader, leaf, deeper, join, next_op, found_op, is_and, is_not, is_is, column_at, name_at, parens_at, prim_of, prim_at, sign_at, una_of, una_at, mul_at, add_at, cat_at, in_at, between_at, not_in_of, not_in_at, inn_of, inn_more, inn_at, cmp_more, cmp_at, is_node, is_of, is_tail, is_from, is_more, is_at, negation_at, not_at, and_at, or_at, at_level, inside, list_at, list_more, list_turn, chain, chain_more, chain_end, chain_turn}
 use Rattle.sql_expressions.specs.Grammar.{OR, AND, NOT, ADD, MUL, UNA, Spells, goes_on}
 use Rattle.sql_expressions.specs.Laws.{Makes}
 use Rattle.sql_expressions.proofs.Same.{expr_same}

@@ -9,8 +9,9 @@ use Rattle.sql_trees.specs.declared.expr.Truth.{Truth}
 use Rattle.sql_trees.specs.Tokens.{Token, Tokens, named}
 use Rattle.sql_trees.specs.Tokens as tok
 use Rattle.sql_trees.specs.Trees.{Tree, Trees, none, more, Null, Flag, Number, Text, Column, Plus, Not, Binary, Is, In, Between, undoubled}
+use Rattle.sql_expressions.specs.declared.level.Chain.TheVariants as levels
 use Rattle.sql_expressions.specs.Build.{negated, push}
-use Rattle.sql_expressions.specs.Reading.{Found, or_op, and_op, concat_op, sum_op, product_op, comparison_op, truth_of}
+use Rattle.sql_expressions.specs.Reading.{Found, operators, comparison_op, truth_of}
 
 -- the token is this keyword, in whatever letters
 abbrev pub IsWord : Word → Token → Type 0
@@ -53,11 +54,11 @@ tighter PRIM = PRIM
 
 -- the operators whose chains group to the left
 abbrev pub binary : Level → Token → Option Operator
-binary OR = or_op
-binary AND = and_op
-binary CAT = concat_op
-binary ADD = sum_op
-binary MUL = product_op
+binary OR = operators levels.Or
+binary AND = operators levels.And
+binary CAT = operators levels.Concat
+binary ADD = operators levels.Sum
+binary MUL = operators levels.Product
 binary _ = λ t. None
 
 -- the tokens are this keyword alone

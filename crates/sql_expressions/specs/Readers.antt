@@ -1,5 +1,5 @@
 -- Reading from left to right with the first fault that is met: words of reading, for expressions and for statements.
-use Rattle.std.specs.Prelude.{ℕ, zero, suc, Bool, false, ◌||◌, List, [], ◌∷◌, length, Option, Some, None, Result, Ok, Err, if◌then◌else◌}
+use Rattle.std.specs.Prelude.{ℕ, zero, suc, Bool, false, ◌||◌, List, [], ◌∷◌, ◌++◌, length, Option, Some, None, Result, Ok, Err, if◌then◌else◌}
 use Rattle.std.specs.Option.{option_map_or}
 use denote.Enum.Bare.{sameb}
 use Rattle.iso_lexer.specs.declared.sql_token.SqlSign.{SqlSign}
@@ -76,6 +76,10 @@ one_at fault says = by_first says gives (λ ts. Err (fault ts))
 unfoldable pub more_at : {S : Type 0} → (S → Reader S) → ℕ → S → Reader S
 more_at add zero s ts = Ok (s, ts)
 more_at add (suc n) s ts = either (is_sign signs.Comma) (add s >>= more_at add n) (gives s) ts
+
+-- one more item behind these
+abbrev pub added : {X : Type 0} → Reader X → List X → Reader (List X)
+added reader xs = made (λ x. xs ++ x ∷ []) reader
 
 -- items with commas between them, each added to what was read before it
 unfoldable pub items_at : {S : Type 0} → (S → Reader S) → S → Reader S

@@ -8,8 +8,8 @@ ghost use Rattle.sql_expressions.specs.Build.{negated};
 ghost use Rattle.sql_expressions.specs.Grammar.{Begins, Ends, Spells, OR};
 ghost use Rattle.sql_expressions.specs.Results.{Gives};
 ghost use Rattle.sql_expressions.specs.Readers.{expect};
-ghost use Rattle.sql_expressions.specs.Reading.{found, comparison_op, expr_at};
-ghost use Rattle.sql_expressions.specs.Inner.Pieces.{Found_op, Found_list, found_list, found_bounds, range_node, made, node, membership_of, atom_at, closed_at, prefixed_at, list_open_at, contains_at, upper_at, not_among_at, among_at, compared_at, is_and, deeper, join, chain_op, next_op, column_first, una_at, chain_at, operand_at, in_at, between_at, inn_at, is_of, is_tail, is_more, is_at, not_at, inside, list_at};
+ghost use Rattle.sql_expressions.specs.Reading.{found, operators, comparison_op, expr_at};
+ghost use Rattle.sql_expressions.specs.Inner.Pieces.{Found_op, Found_list, found_list, found_bounds, range_node, made, node, membership_of, atom_at, closed_at, prefixed_at, list_open_at, contains_at, upper_at, not_among_at, among_at, compared_at, is_and, deeper, join, next_op, column_first, una_at, chain_at, operand_at, in_at, between_at, inn_at, is_of, is_tail, is_more, is_at, not_at, inside, list_at};
 
 use crate::cursor::{Parser, Tokens, after_comma};
 use crate::level::{Chain, Membership, Opened, Prefix};
@@ -308,7 +308,7 @@ impl Parser {
         level: Chain,
         tokens: Tokens<'t, 'a>,
     ) -> Option<(Operator, usize, Tokens<'t, 'a>)>
-        ensures { option_map (λ x. record { op = x.0; place = x.1; rest = tok_views x.2.now }) result ≡ next_op (chain_op level) (tok_views tokens.now) }
+        ensures { option_map (λ x. record { op = x.0; place = x.1; rest = tok_views x.2.now }) result ≡ next_op (operators level) (tok_views tokens.now) }
     {
         let [token, rest @ ..] = tokens else {
             return None
