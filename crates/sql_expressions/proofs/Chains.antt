@@ -16,8 +16,8 @@ use Rattle.sql_trees.specs.Trees.{tree_of, trees, more, none}
 use Rattle.sql_expressions.specs.Build.{push}
 use Rattle.sql_expressions.specs.Results.{Gives, Fails}
 use Rattle.sql_expressions.specs.Readers.{is_sign, after}
-use Rattle.sql_expressions.specs.Reading.{Found, found, operators}
-use Rattle.sql_expressions.specs.Inner.Pieces.{Found_op, Found_list, found_list, list_more, list_at, Reader, deeper, join, next_op, chain_more, chain, chain_at, operand_at, at_level, inside, or_at, and_at, cat_at, add_at, mul_at}
+use Rattle.sql_expressions.specs.Reading.{operators}
+use Rattle.sql_expressions.specs.Inner.Pieces.{Found, found, Found_op, Found_list, found_list, list_more, list_at, Reader, deeper, join, next_op, chain_more, chain, chain_at, operand_at, at_level, inside, or_at, and_at, cat_at, add_at, mul_at}
 use Rattle.sql_expressions.specs.declared.level.Opened.{Opened}
 use Rattle.sql_trees.specs.declared.fault.SqlFault.TheVariants.{Memory}
 

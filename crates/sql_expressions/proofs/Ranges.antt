@@ -11,9 +11,8 @@ use Rattle.sql_trees.specs.Trees.{Tree}
 use Rattle.sql_expressions.specs.declared.level.Opened.{Opened}
 use Rattle.sql_expressions.specs.Results.{◌>>=◌}
 use Rattle.sql_expressions.specs.Readers.{is_sign, expect}
-use Rattle.sql_expressions.specs.Reading.{Found}
 use Rattle.sql_expressions.specs.declared.level.Opened.TheVariants.{Whole}
-use Rattle.sql_expressions.specs.Inner.Pieces.{Reader, Found_list, Among, deeper, list_at, cat_at, range_node, between_at, upper_at, list_open_at, contains_at, in_at, not_in_of, not_in_at, inn_of, inn_more, inn_at, among_of, among_at, not_among_of, not_among_in}
+use Rattle.sql_expressions.specs.Inner.Pieces.{Found, Reader, Found_list, Among, deeper, list_at, cat_at, range_node, between_at, upper_at, list_open_at, contains_at, in_at, not_in_of, not_in_at, inn_of, inn_more, inn_at, among_of, among_at, not_among_of, not_among_in}
 
 -- what is made of a value may be made in two steps
 into : {A B C : Type 0} (m : Result A SqlFault) (f : A → Result B SqlFault) (g : B → Result C SqlFault) (h : A → Result C SqlFault) → ((x : A) → h x ≡ (f x >>= g)) → (m >>= h) ≡ ((m >>= f) >>= g)

@@ -7,7 +7,7 @@ use Rattle.iso_lexer.specs.Bytes.{row_of}
 use Rattle.iso_lexer.specs.declared.token.At.{At}
 use Rattle.iso_lexer.specs.declared.sql_token.SqlSign.TheVariants as signs
 use Rattle.sql_trees.specs.declared.fault.SqlFault.{SqlFault}
-use Rattle.sql_trees.specs.declared.fault.SqlFault.TheVariants.{LeftOut, TooDeep}
+use Rattle.sql_trees.specs.declared.fault.SqlFault.TheVariants.{LeftOut, TooDeep, Memory}
 use Rattle.sql_trees.specs.declared.word.Word.TheVariants as words
 use Rattle.sql_trees.specs.declared.expr.AggKind.{AggKind}
 use Rattle.sql_trees.specs.declared.expr.Operator.{Operator}
@@ -19,18 +19,18 @@ use Rattle.sql_expressions.specs.declared.level.Chain.TheVariants as levels
 use Rattle.sql_expressions.specs.declared.level.Opened.{Opened}
 use Rattle.sql_expressions.specs.declared.level.Opened.TheVariants.{Whole, Negation, Unary}
 use Rattle.sql_expressions.specs.Build.{negated, push}
-use Rattle.sql_expressions.specs.Results.{◌>>=◌}
+use Rattle.sql_expressions.specs.Results.{◌>>=◌, Gives}
 use Rattle.sql_expressions.specs.Readers.{Reader, is_word, is_sign, either, by_first, one_at, gives, added, more_at, items_at, place_of, misplaced, expect, keyword, closed}
-use Rattle.sql_expressions.specs.Reading.{Found, Part, trees_in, shallow, node, literal_of, truth_of, agg_kind, operators, comparison_op, opened, expr_at}
+use Rattle.sql_expressions.specs.Reading.{Part, trees_in, shallow, node, literal_of, truth_of, agg_kind, operators, comparison_op, opened, expr_at}
 use Rattle.sql_expressions.specs.Reading as reading
-use Rattle.sql_expressions.specs.Inner.Pieces.{Found_list, leaf, is_and, is_not, is_is, deeper, join, found_op, next_op, chain_end, chain_turn, chain_more, chain, list_turn, list_more, list_at, column_at, name_at, is_node, is_of, is_tail, is_more, parens_at, prim_of, prim_at, sign_at, una_of, una_at, mul_at, add_at, cat_at, in_at, between_at, not_in_of, not_in_at, not_in_from, inn_of, inn_more, inn_at, cmp_more, cmp_at, is_at, negation_at, not_at, and_at, or_at, inside}
+use Rattle.sql_expressions.specs.Inner.Pieces.{Found, Found_list, leaf, is_and, is_not, is_is, deeper, join, found_op, next_op, chain_end, chain_turn, chain_more, chain, list_turn, list_more, list_at, column_at, name_at, is_node, is_of, is_tail, is_more, parens_at, prim_of, prim_at, sign_at, una_of, una_at, mul_at, add_at, cat_at, in_at, between_at, not_in_of, not_in_at, not_in_from, inn_of, inn_more, inn_at, cmp_more, cmp_at, is_at, negation_at, not_at, and_at, or_at, inside}
 
 -- ---- what a part that was read is to the code
 
-abbrev part : Tree → ℕ → Part
+abbrev pub part : Tree → ℕ → Part
 part e d = record { tree = e; depth = d }
 
-abbrev as_found : Part × Tokens → Found
+abbrev pub as_found : Part × Tokens → Found
 as_found x = record { tree = x.0.tree; depth = x.0.depth; rest = x.1 }
 
 abbrev deepest : ℕ → List Part → ℕ
@@ -39,7 +39,7 @@ deepest d es = fold (λ c e. max c e.depth) d es
 abbrev as_list : List Part × Tokens → Found_list
 as_list x = record { trees = trees_in x.0; depth = deepest 0 x.0; rest = x.1 }
 
-abbrev seen : Result (Part × Tokens) SqlFault → Result Found SqlFault
+abbrev pub seen : Result (Part × Tokens) SqlFault → Result Found SqlFault
 seen r = r >>= λ x. Ok (as_found x)
 
 -- a part is read, and the code's piece finds it
@@ -424,5 +424,19 @@ inside_same last (suc n) Negation place ts = not_same last (reading.inside last 
 inside_same last (suc n) Unary place ts = una_same last (reading.inside last n) (inside last n) (inside_same last n) ts
 
 -- an expression is what the pieces find
-pub expr_same : (last : ℕ) (ts : Tokens) → expr_at last ts ≡ or_at last (inside last 64) ts
+pub expr_same : (last : ℕ) (ts : Tokens) → seen (expr_at last ts) ≡ or_at last (inside last 64) ts
 expr_same last ts = or_same last (reading.inside last 64) (inside last 64) (inside_same last 64) ts
+
+-- what the pieces find is what was read
+pub is_part : (r : Result (Part × Tokens) SqlFault) (f : Found) → seen r ≡ Ok f → r ≡ Ok (part f.tree f.depth, f.rest)
+is_part (Ok x) f e = let same : as_found x ≡ f = cc in ap (λ (g : Found). Ok (part g.tree g.depth, g.rest)) same
+is_part (Err g) f e = absurd cc
+
+pub is_fault : (r : Result (Part × Tokens) SqlFault) (e : SqlFault) → seen r ≡ Err e → r ≡ Err e
+is_fault (Ok x) e h = absurd cc
+is_fault (Err g) e h = let same : g ≡ e = cc in ap Err same
+
+pub gives_part : {X : Type 0} (view : X → Part × Tokens) (result : Result X SqlFault) (r : Result (Part × Tokens) SqlFault) → Gives (λ x. as_found (view x)) result (seen r) → Gives view result r
+gives_part view (Ok x) r h = is_part r (as_found (view x)) h
+gives_part view (Err Memory) r h = tt
+gives_part view (Err e) r h = is_fault r e h

@@ -10,8 +10,8 @@ use Rattle.sql_trees.specs.Tokens as tok
 use Rattle.sql_expressions.specs.declared.level.Opened.{Opened}
 use Rattle.sql_expressions.specs.declared.level.Prefix.{Prefix}
 use Rattle.sql_expressions.specs.Results.{◌>>=◌}
-use Rattle.sql_expressions.specs.Reading.{Found, comparison_op}
-use Rattle.sql_expressions.specs.Inner.Pieces.{Reader, Found_op, deeper, next_op, prefix_of, placed_prefix, prefix_at, opened_of, prefixed_at, atom_at, parens_at, sign_at, una_of, una_at, inn_at, cmp_at, is_more, is_at, compared_at}
+use Rattle.sql_expressions.specs.Reading.{comparison_op}
+use Rattle.sql_expressions.specs.Inner.Pieces.{Found, Reader, Found_op, deeper, next_op, prefix_of, placed_prefix, prefix_at, opened_of, prefixed_at, atom_at, parens_at, sign_at, una_of, una_at, inn_at, cmp_at, is_more, is_at, compared_at}
 
 module _ (last : ℕ) (inside : Opened → ℕ → Reader) where
   abbrev by_prefix : Option (Prefix × ℕ × Tokens) → Reader

@@ -11,7 +11,7 @@ use Rattle.sql_trees.specs.Tokens as tok
 use Rattle.sql_trees.specs.Trees.{Tree, Trees, none, more, Null, Flag, Number, Text, Column, Plus, Not, Binary, Is, In, Between, undoubled}
 use Rattle.sql_expressions.specs.declared.level.Chain.TheVariants as levels
 use Rattle.sql_expressions.specs.Build.{negated, push}
-use Rattle.sql_expressions.specs.Reading.{Found, operators, comparison_op, truth_of}
+use Rattle.sql_expressions.specs.Reading.{Part, operators, comparison_op, truth_of}
 
 -- the token is this keyword, in whatever letters
 abbrev pub IsWord : Word → Token → Type 0
@@ -155,10 +155,10 @@ abbrev pub Items : ℕ → Tokens → Trees → ℕ → Type 0
 Items = ItemsIn 64
 
 -- the tokens begin with a spelling of what was found, and the rest is left
-pub record Begins (ts : Tokens) (f : Found) : Type 0 where
+pub record Begins (ts : Tokens) (f : Part × Tokens) : Type 0 where
   pub front : Tokens
-  pub whole : ts ≡ front ++ f.rest
-  pub spells : Spells 64 OR front f.tree f.depth
+  pub whole : ts ≡ front ++ f.1
+  pub spells : Spells 64 OR front f.0.tree f.0.depth
 
 -- a token that an expression goes on with
 abbrev pub goes_on : Token → Bool

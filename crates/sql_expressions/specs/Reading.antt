@@ -1,11 +1,9 @@
 -- Reading an expression from left to right, with the first fault that is met.
 use Rattle.std.specs.Prelude.{ℕ, zero, suc, ◌+◌, max, Bool, true, false, List, [], ◌∷◌, fold, Option, Some, Result, Ok, Err, is_some, nat_lt, if◌then◌else◌}
-use Rattle.iso_lexer.specs.declared.token.At.{At}
 use Rattle.iso_lexer.specs.declared.sql_token.SqlSign.TheVariants as signs
 use Rattle.sql_trees.specs.declared.fault.SqlFault.{SqlFault}
 use Rattle.sql_trees.specs.declared.fault.SqlFault.TheVariants.{LeftOut, TooDeep}
 use Rattle.sql_trees.specs.declared.word.Word.TheVariants as words
-use Rattle.sql_trees.specs.declared.token.Tok.{Tok}
 use Rattle.sql_trees.specs.declared.expr.Operator.{Operator}
 use Rattle.sql_trees.specs.declared.expr.Operator.TheVariants as op
 use Rattle.sql_trees.specs.declared.expr.AggKind.{AggKind}
@@ -22,18 +20,7 @@ use Rattle.sql_expressions.specs.declared.level.Opened.{Opened}
 use Rattle.sql_expressions.specs.declared.level.Opened.TheVariants.{Whole, Negation, Unary}
 use Rattle.sql_expressions.specs.declared.parsed.Parsed.{Parsed}
 use Rattle.sql_expressions.specs.Build.{negated}
-use Rattle.sql_expressions.specs.Results.{◌>>=◌ as and_then}
 use Rattle.sql_expressions.specs.Readers.{Reader, ◌>>=◌, ◌>>◌, gives, made, is_word, is_sign, either, by_first, one_at, added, items_at, place_of, misplaced, expect, keyword, closed, name_at}
-
--- an expression, its depth as it was written, and the tokens after it
-pub record Found : Type 0 where
-  pub tree : Tree
-  pub depth : ℕ
-  pub rest : Tokens
-
--- what the code has found
-abbrev pub found : Parsed → List (At Tok) → Found
-found p ts = record { tree = tree_of p.expr.value; depth = p.depth; rest = tok_views ts }
 
 -- ---- what a token says
 
@@ -73,6 +60,10 @@ is_call t = is_some (agg_kind t)
 pub record Part : Type 0 where
   pub tree : Tree
   pub depth : ℕ
+
+-- what the code has read
+abbrev pub part_of : Parsed → Part
+part_of p = record { tree = tree_of p.expr.value; depth = p.depth }
 
 -- the trees of these parts
 abbrev pub trees_in : List Part → Trees
@@ -170,5 +161,5 @@ module _ (last : ℕ) where
   inside (suc n) Unary place ts = una_at (inside n) ts
 
   -- an expression
-  abbrev pub expr_at : Tokens → Result Found SqlFault
-  expr_at ts = and_then (or_at (inside 64) ts) (λ x. Ok (record { tree = x.0.tree; depth = x.0.depth; rest = x.1 }))
+  abbrev pub expr_at : Reader Part
+  expr_at = or_at (inside 64)

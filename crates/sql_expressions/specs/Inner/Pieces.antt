@@ -23,7 +23,17 @@ use Rattle.sql_expressions.specs.declared.level.Opened.TheVariants.{Whole, Negat
 use Rattle.sql_expressions.specs.Build.{negated, push}
 use Rattle.sql_expressions.specs.Results.{◌>>=◌}
 use Rattle.sql_expressions.specs.Readers.{is_sign, after, place_of, misplaced, expect}
-use Rattle.sql_expressions.specs.Reading.{Found, operators, comparison_op, is_call, truth_of}
+use Rattle.sql_expressions.specs.Reading.{operators, comparison_op, is_call, truth_of}
+
+-- an expression, its depth as it was written, and the tokens after it
+pub record Found : Type 0 where
+  pub tree : Tree
+  pub depth : ℕ
+  pub rest : Tokens
+
+-- what the code has found
+abbrev pub found : Parsed → List (At Tok) → Found
+found p ts = record { tree = tree_of p.expr.value; depth = p.depth; rest = tok_views ts }
 
 abbrev pub Reader : Type 0
 Reader = Tokens → Result Found SqlFault

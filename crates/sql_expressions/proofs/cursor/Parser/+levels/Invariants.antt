@@ -1,7 +1,7 @@
 use Rattle.std.proofs.Common.{◌+◌, ◌-◌, ◌*◌, length}
 use Rattle.sql_trees.specs.Tokens.{tok_views}
-use Rattle.sql_expressions.specs.Reading.{found, operators}
-use Rattle.sql_expressions.specs.Inner.Pieces.{found_list, list_at, chain_at, operand_at, inside}
+use Rattle.sql_expressions.specs.Reading.{operators}
+use Rattle.sql_expressions.specs.Inner.Pieces.{found, found_list, list_at, chain_at, operand_at, inside}
 use Rattle.sql_expressions.proofs.Chains.{rank_of, Goes, Lists}
 use Rattle.sql_expressions.specs.declared.level.Opened.TheVariants.{Whole}
 use Rattle.sql_expressions.proofs.cursor.Parser.+levels.Given as goal
