@@ -1,6 +1,6 @@
 -- Where an expression is too deep, a token stands that makes a node.
 use Rattle.std.proofs.Common.{◌≡◌, ℕ, zero, suc, ◌+◌, Bool, true, false, List, [], ◌∷◌, ◌++◌, length, Option, Some, None, ◌⊎◌, inl, inr, refl, sym, ap, ◌∙◌, subst, append_assoc}
-use Rattle.std.specs.Prelude.{Result, Ok, Err, max, nat_lt, if◌then◌else◌}
+use Rattle.std.specs.Prelude.{Result, Ok, Err, ok_or, max, nat_lt, if◌then◌else◌}
 use Rattle.sql_trees.specs.declared.fault.SqlFault.{SqlFault}
 use Rattle.sql_trees.specs.declared.fault.SqlFault.TheVariants.{Syntax, LeftOut, TooDeep}
 use Rattle.sql_expressions.specs.declared.level.Opened.{Opened}
@@ -159,7 +159,7 @@ module _ (last n : ℕ) (inside' : Opened → ℕ → Reader) (opens : Opens las
   expected M is_it [] q h = absurd cc
   expected M is_it (t ∷ ts) q h = of_test (is_it t.tok) (left_out t.tok) h
     where
-      of_test : (b c : Bool) → (let r : Result Tokens SqlFault = if b then Ok ts else Err (if c then LeftOut t.span.start else Syntax t.span.start) in r ≡ Err (TooDeep q)) → M q
+      of_test : (b c : Bool) → (let r : Result Tokens SqlFault = ok_or (if b then Some ts else None) (if c then LeftOut t.span.start else Syntax t.span.start) in r ≡ Err (TooDeep q)) → M q
       of_test true c g = absurd cc
       of_test false true g = absurd cc
       of_test false false g = absurd cc

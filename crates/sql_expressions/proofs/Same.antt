@@ -1,6 +1,6 @@
 -- The words of reading read an expression as the code's pieces do.
 use Rattle.std.proofs.Common.{◌≡◌, ℕ, zero, suc, ◌+◌, ◌<◌, ◌≤◌, is_some, Bool, true, false, List, [], ◌∷◌, ◌++◌, length, Option, Some, None, refl, sym, ap, ◌∙◌, subst, arith, rules, fold}
-use Rattle.std.specs.Prelude.{Result, Ok, Err, max, nat_lt, if◌then◌else◌}
+use Rattle.std.specs.Prelude.{Result, Ok, Err, ok_or, max, nat_lt, if◌then◌else◌}
 use Rattle.std.specs.Option.{option_map_or}
 use Rattle.std.proofs.lemmas.List.Sums.{fold_push}
 use Rattle.iso_lexer.specs.Bytes.{row_of}
@@ -274,7 +274,7 @@ module _ (last : ℕ) where
   and_then [] k h f = refl
   and_then (t ∷ ts) k h f = of_test (is_and t.tok) (is_and_word t.tok)
     where
-      of_test : (b : Bool) → is_word words.And t.tok ≡ b → (let q : Result Tokens SqlFault = if b then Ok ts else Err (misplaced last (t ∷ ts)) in Same (keyword last words.And (t ∷ ts) >>= k) (q >>= h))
+      of_test : (b : Bool) → is_word words.And t.tok ≡ b → (let q : Result Tokens SqlFault = ok_or (if b then Some ts else None) (misplaced last (t ∷ ts)) in Same (keyword last words.And (t ∷ ts) >>= k) (q >>= h))
       of_test true e = rw e (f ts)
       of_test false e = rw e refl
 

@@ -1,5 +1,5 @@
 -- Reading from left to right with the first fault that is met: words of reading, for expressions and for statements.
-use Rattle.std.specs.Prelude.{ℕ, zero, suc, Bool, false, ◌||◌, List, [], ◌∷◌, ◌++◌, length, Option, Some, None, Result, Ok, Err, if◌then◌else◌}
+use Rattle.std.specs.Prelude.{ℕ, zero, suc, Bool, false, ◌||◌, List, [], ◌∷◌, ◌++◌, length, Option, Some, None, Result, Ok, Err, ok_or, if◌then◌else◌}
 use Rattle.std.specs.Option.{option_map_or}
 use denote.Enum.Bare.{sameb}
 use Rattle.iso_lexer.specs.declared.sql_token.SqlSign.{SqlSign}
@@ -33,7 +33,7 @@ gives x ts = Ok (x, ts)
 
 -- what is made of the value that is read
 abbrev pub made : {X Y : Type 0} → (X → Y) → Reader X → Reader Y
-made make reader ts = and_then (reader ts) (λ x. Ok (make x.0, x.1))
+made make reader = reader >>= λ x. gives (make x)
 
 -- ---- the first token
 
@@ -100,8 +100,7 @@ module _ (last : ℕ) where
 
   -- the tokens behind the next, which has to be of this kind
   abbrev pub expect : (Token → Bool) → Tokens → Result Tokens SqlFault
-  expect is_it [] = Err (misplaced [])
-  expect is_it (t ∷ ts) = if is_it t.tok then Ok ts else Err (misplaced (t ∷ ts))
+  expect is_it ts = ok_or (after is_it ts) (misplaced ts)
 
   -- the tokens behind this keyword, which has to stand next
   abbrev pub keyword : Word → Tokens → Result Tokens SqlFault
@@ -109,7 +108,7 @@ module _ (last : ℕ) where
 
   -- what is made of what stands before a closing parenthesis
   abbrev pub closed : {X Y : Type 0} → (X → Y) → Reader X → Reader Y
-  closed make reader ts = and_then (reader ts) (λ x. and_then (expect (is_sign signs.Close) x.1) (λ rest. Ok (make x.0, rest)))
+  closed make reader = reader >>= λ x. expect (is_sign signs.Close) >> gives (make x)
 
   -- a name
   abbrev pub name_at : Reader (List ℕ)
