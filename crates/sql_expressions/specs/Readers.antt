@@ -33,7 +33,7 @@ gives x ts = Ok (x, ts)
 
 -- what is made of the value that is read
 abbrev pub made : {X Y : Type 0} → (X → Y) → Reader X → Reader Y
-made make reader = reader >>= λ x. gives (make x)
+made make reader ts = and_then (reader ts) (λ x. Ok (make x.0, x.1))
 
 -- ---- the first token
 
@@ -108,7 +108,7 @@ module _ (last : ℕ) where
 
   -- what is made of what stands before a closing parenthesis
   abbrev pub closed : {X Y : Type 0} → (X → Y) → Reader X → Reader Y
-  closed make reader = reader >>= λ x. expect (is_sign signs.Close) >> gives (make x)
+  closed make reader ts = and_then (reader ts) (λ x. and_then (expect (is_sign signs.Close) x.1) (λ rest. Ok (make x.0, rest)))
 
   -- a name
   abbrev pub name_at : Reader (List ℕ)
