@@ -84,8 +84,8 @@ module _ (last : ℕ) where
   -- behind this operand: operators of a level, each with an operand behind it, so many at most
   unfoldable pub chain_more : Reader Part → (Token → Option Operator) → ℕ → Part → Reader Part
   chain_more operand op_of zero a ts = Ok (a, ts)
-  chain_more operand op_of (suc n) a ts = by_first op_of (λ o. shallow (place_of last ts) a.depth >> operand >>= λ b.
-      node (place_of last ts) (max a.depth b.depth) (Binary o a.tree b.tree) >>= chain_more operand op_of n) (gives a) ts
+  chain_more operand op_of (suc n) a ts = let place = place_of last ts in by_first op_of (λ o. shallow place a.depth >> operand >>= λ b.
+      node place (max a.depth b.depth) (Binary o a.tree b.tree) >>= chain_more operand op_of n) (gives a) ts
 
   -- operands with operators of a level between them, which group to the left; of 65 operators the last would make too deep a node
   unfoldable pub chain : Reader Part → Chain → Reader Part
@@ -107,49 +107,47 @@ module _ (last : ℕ) where
     prim_at ts = either (is_sign signs.Open) (closed last (λ e. e) (opened Whole (λ e. e) (place_of last ts)))
         (made (λ e. record { tree = e; depth = 0 }) (by_first literal_of gives column_at)) ts
 
-    -- the same with a sign before it
+    -- the same, or one behind a sign
     abbrev pub una_at : Reader Part
     una_at ts = by_first (row_of is_sign ((signs.Minus, negated) ∷ (signs.Plus, Plus) ∷ [])) (λ make. opened Unary make (place_of last ts)) prim_at ts
 
-    -- the operators of numbers, and the looser one of texts
+    -- operands with what binds tighter than BETWEEN, IN and comparisons: * / %, then + -, then ||
     unfoldable pub cat_at : Reader Part
     cat_at = chain (chain (chain una_at levels.Product) levels.Sum) levels.Concat
 
-    -- the values of an IN or NOT IN at this place, behind this operand
+    -- what stands behind IN or NOT IN, which stands at this place behind this operand: values in parentheses
     unfoldable pub in_at : Bool → ℕ → Part → Reader Part
     in_at negated place a ts = (expect last (is_sign signs.Open) >> closed last (λ e. e) (items_at (added (inside Whole (place_of last ts))) [] >>= λ es.
         node place (fold (λ d e. max d e.depth) a.depth es) (In a.tree negated (trees_in es)))) ts
 
-    -- the bounds of a BETWEEN or NOT BETWEEN
+    -- the same of BETWEEN or NOT BETWEEN: two bounds
     unfoldable pub between_at : Bool → ℕ → Part → Reader Part
-    between_at negated place a = do
-      low ← cat_at
-      shallow place (max a.depth low.depth)
-      keyword last words.And
-      high ← cat_at
-      node place (max a.depth (max low.depth high.depth)) (Between a.tree negated low.tree high.tree)
+    between_at negated place a = cat_at >>= λ low. shallow place (max a.depth low.depth) >> keyword last words.And >> cat_at >>= λ high.
+        node place (max a.depth (max low.depth high.depth)) (Between a.tree negated low.tree high.tree)
 
-    -- what a word asks of an operand
+    -- the tests that a NOT may stand before
     abbrev pub test_of : Token → Option (Bool → ℕ → Part → Reader Part)
     test_of = row_of is_word ((words.In, in_at) ∷ (words.Between, between_at) ∷ [])
 
-    -- [NOT] IN or [NOT] BETWEEN behind an operand, if one stands there
+    -- an operand, and [NOT] IN or [NOT] BETWEEN behind it, if one stands there
     unfoldable pub inn_at : Reader Part
-    inn_at = cat_at >>= λ a ts. by_first test_of (λ test. shallow (place_of last ts) a.depth >> test false (place_of last ts) a)
-        (either (is_word words.Not) (shallow (place_of last ts) a.depth >> one_at (misplaced last) test_of >>= λ test. test true (place_of last ts) a) (gives a)) ts
+    inn_at = cat_at >>= λ a ts. let place = place_of last ts in by_first test_of (λ test. shallow place a.depth >> test false place a)
+        (either (is_word words.Not) (shallow place a.depth >> one_at (misplaced last) test_of >>= λ test. test true place a) (gives a)) ts
 
-    -- a comparison behind an operand, if one stands there
+    -- the same, or two of them with a comparison between
     unfoldable pub cmp_at : Reader Part
     cmp_at = inn_at >>= chain_more inn_at comparison_op 1
 
-    -- IS [NOT] and what it asks, if it stands there
+    -- the same, and IS [NOT] with what it asks behind it, if it stands there
     unfoldable pub is_at : Reader Part
-    is_at = cmp_at >>= λ a ts. either (is_word words.Is) (shallow (place_of last ts) a.depth >> either (is_word words.Not) (gives true) (gives false)
-        >>= λ negated. one_at (misplaced last) truth_of >>= λ asked. node (place_of last ts) a.depth (Is a.tree negated asked)) (gives a) ts
+    is_at = cmp_at >>= λ a ts. let place = place_of last ts in either (is_word words.Is) (shallow place a.depth >> either (is_word words.Not) (gives true) (gives false)
+        >>= λ negated. one_at (misplaced last) truth_of >>= λ asked. node place a.depth (Is a.tree negated asked)) (gives a) ts
 
+    -- the same, or NOT and what stands behind it
     abbrev pub not_at : Reader Part
     not_at ts = either (is_word words.Not) (opened Negation Not (place_of last ts)) is_at ts
 
+    -- the same with AND, then OR
     unfoldable pub or_at : Reader Part
     or_at = chain (chain not_at levels.And) levels.Or
 
