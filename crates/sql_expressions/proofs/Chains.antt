@@ -16,8 +16,8 @@ use Rattle.sql_trees.specs.Trees.{tree_of, trees, more, none}
 use Rattle.sql_expressions.specs.Build.{push}
 use Rattle.sql_expressions.specs.Results.{Gives, Fails}
 use Rattle.sql_expressions.specs.Readers.{is_sign, after}
-use Rattle.sql_expressions.specs.Reading.{Found, found}
-use Rattle.sql_expressions.specs.Inner.Pieces.{Found_op, Found_list, found_list, list_more, list_at, Reader, deeper, join, next_op, chain_op, chain_more, chain, chain_at, operand_at, at_level, inside, or_at, and_at, cat_at, add_at, mul_at}
+use Rattle.sql_expressions.specs.Reading.{operators}
+use Rattle.sql_expressions.specs.Inner.Pieces.{Found, found, Found_op, Found_list, found_list, list_more, list_at, Reader, deeper, join, next_op, chain_more, chain, chain_at, operand_at, at_level, inside, or_at, and_at, cat_at, add_at, mul_at}
 use Rattle.sql_expressions.specs.declared.level.Opened.{Opened}
 use Rattle.sql_trees.specs.declared.fault.SqlFault.TheVariants.{Memory}
 
@@ -103,7 +103,7 @@ module _ (operand : Reader) (op_of : Token → Option Operator) where
 
 module _ (last : ℕ) where
   -- a level is the chain of its operands
-  pub chain_at_is : (inside' : Opened → ℕ → Reader) (level : Chain) (ts : Tokens) → chain_at last inside' level ts ≡ chain (operand_at last inside' level) (chain_op level) ts
+  pub chain_at_is : (inside' : Opened → ℕ → Reader) (level : Chain) (ts : Tokens) → chain_at last inside' level ts ≡ chain (operand_at last inside' level) (operators level) ts
   unfolding or_at and_at cat_at add_at mul_at
   chain_at_is i Or ts = refl
   chain_at_is i And ts = refl

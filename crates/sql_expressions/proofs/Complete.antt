@@ -13,11 +13,11 @@ use Rattle.sql_trees.specs.declared.expr.Truth.{Truth}
 use Rattle.sql_trees.specs.Trees.{Tree, Trees, Column, Plus, Not, Binary, Is, In, Between, more, none}
 use Rattle.sql_expressions.specs.Build.{negated, push}
 use Rattle.sql_expressions.specs.Readers.{is_sign, after}
-use Rattle.sql_expressions.specs.Reading.{Found, comparison_op, truth_of, expr_at}
-use Rattle.sql_expressions.specs.Inner.Pieces.{name_at, Found_op, Found_list, Reader, leaf, deeper, join, next_op, found_op, is_and, is_not, is_is, column_at, parens_at, prim_of, prim_at, sign_at, una_of, una_at, mul_at, add_at, cat_at, in_at, between_at, not_in_of, not_in_at, inn_of, inn_more, inn_at, cmp_more, cmp_at, is_node, is_of, is_tail, is_more, is_at, negation_at, not_at, and_at, or_at, at_level, inside, list_at, list_more, chain_more}
+use Rattle.sql_expressions.specs.Reading.{comparison_op, truth_of, expr_at}
+use Rattle.sql_expressions.specs.Inner.Pieces.{Found, name_at, Found_op, Found_list, Reader, leaf, deeper, join, next_op, found_op, is_and, is_not, is_is, column_at, parens_at, prim_of, prim_at, sign_at, una_of, una_at, mul_at, add_at, cat_at, in_at, between_at, not_in_of, not_in_at, inn_of, inn_more, inn_at, cmp_more, cmp_at, is_node, is_of, is_tail, is_more, is_at, negation_at, not_at, and_at, or_at, at_level, inside, list_at, list_more, chain_more}
 use Rattle.sql_expressions.specs.Inner.Pieces as reading
 use Rattle.sql_expressions.specs.Grammar.{IsWord, Ends, goes_on, Level, OR, AND, NOT, IS, CMP, INN, CAT, ADD, MUL, UNA, PRIM, tighter, binary, Spells, SpellsIn, only, chain, negation, is, comparison, contained, between, minus, plus, parens, literal, Items, one, next, IsLeaf, number, text, column, yes, no, null, IsIn, IsBetween, IsIs}
-use Rattle.sql_expressions.proofs.Same.{expr_same}
+use Rattle.sql_expressions.proofs.Same.{expr_same, is_part}
 
 -- the words and signs that a level goes on with
 abbrev pub own : Level → Token → Bool
@@ -501,5 +501,5 @@ module _ (last : ℕ) where
       of_tok (tok.sign _) h = absurd cc
 
   -- the whole of the tokens, and so whatever is in the grammar
-  pub expr_complete : {ts : Tokens} {e : Tree} {d : ℕ} → Spells 64 OR ts e d → (rest : Tokens) → Ends rest → expr_at last (ts ++ rest) ≡ Ok (made e d rest)
-  expr_complete {ts} {e} {d} p rest s = expr_same last (ts ++ rest) ∙ reads 64 OR ts e d (complete p) rest (ends_stops rest s)
+  pub expr_complete : {ts : Tokens} {e : Tree} {d : ℕ} → Spells 64 OR ts e d → (rest : Tokens) → Ends rest → expr_at last (ts ++ rest) ≡ Ok (record { tree = e; depth = d }, rest)
+  expr_complete {ts} {e} {d} p rest s = is_part (expr_at last (ts ++ rest)) (made e d rest) (expr_same last (ts ++ rest) ∙ reads 64 OR ts e d (complete p) rest (ends_stops rest s))

@@ -1,6 +1,6 @@
 -- Where an expression is too deep, a token stands that makes a node.
 use Rattle.std.proofs.Common.{◌≡◌, ℕ, zero, suc, ◌+◌, Bool, true, false, List, [], ◌∷◌, ◌++◌, length, Option, Some, None, ◌⊎◌, inl, inr, refl, sym, ap, ◌∙◌, subst, append_assoc}
-use Rattle.std.specs.Prelude.{Result, Ok, Err, max, nat_lt, if◌then◌else◌}
+use Rattle.std.specs.Prelude.{Result, Ok, Err, ok_or, max, nat_lt, if◌then◌else◌}
 use Rattle.sql_trees.specs.declared.fault.SqlFault.{SqlFault}
 use Rattle.sql_trees.specs.declared.fault.SqlFault.TheVariants.{Syntax, LeftOut, TooDeep}
 use Rattle.sql_expressions.specs.declared.level.Opened.{Opened}
@@ -17,11 +17,11 @@ use Rattle.sql_trees.specs.Trees as tree
 use Rattle.sql_expressions.specs.Build.{negated}
 use Rattle.sql_expressions.specs.Results.{◌>>=◌}
 use Rattle.sql_expressions.specs.Readers.{expect, misplaced, left_out, is_sign, place_of, after}
-use Rattle.sql_expressions.specs.Reading.{Found, comparison_op, or_op, and_op, concat_op, sum_op, product_op, is_call, truth_of, expr_at}
-use Rattle.sql_expressions.specs.Inner.Pieces.{Found_op, Found_list, Reader, leaf, deeper, join, next_op, found_op, is_and, is_not, is_is, column_at, name_at, parens_at, prim_of, prim_at, sign_at, una_of, una_at, mul_at, add_at, cat_at, in_at, between_at, not_in_of, not_in_at, inn_of, inn_more, inn_at, cmp_more, cmp_at, is_node, is_of, is_tail, is_from, is_more, is_at, negation_at, not_at, and_at, or_at, at_level, inside, list_at, list_more, list_turn, chain, chain_more, chain_end, chain_turn}
+use Rattle.sql_expressions.specs.Reading.{comparison_op, is_call, truth_of, expr_at}
+use Rattle.sql_expressions.specs.Inner.Pieces.{Found, Found_op, Found_list, or_op, and_op, concat_op, sum_op, product_op, Reader, leaf, deeper, join, next_op, found_op, is_and, is_not, is_is, column_at, name_at, parens_at, prim_of, prim_at, sign_at, una_of, una_at, mul_at, add_at, cat_at, in_at, between_at, not_in_of, not_in_at, inn_of, inn_more, inn_at, cmp_more, cmp_at, is_node, is_of, is_tail, is_from, is_more, is_at, negation_at, not_at, and_at, or_at, at_level, inside, list_at, list_more, list_turn, chain, chain_more, chain_end, chain_turn}
 use Rattle.sql_expressions.specs.Grammar.{OR, AND, NOT, ADD, MUL, UNA, Spells, goes_on}
 use Rattle.sql_expressions.specs.Laws.{Makes}
-use Rattle.sql_expressions.proofs.Same.{expr_same}
+use Rattle.sql_expressions.proofs.Same.{seen, expr_same}
 use Rattle.sql_expressions.proofs.Steps.{expect_ok, is_open_true, after_comma_ok}
 use Rattle.sql_expressions.proofs.Sound.{Took, Sound}
 use Rattle.sql_expressions.proofs.Levels.{Opens, opens_sound, una_sound, mul_sound, add_sound, cat_sound, inn_sound, cmp_sound, not_sound, and_sound}
@@ -159,7 +159,7 @@ module _ (last n : ℕ) (inside' : Opened → ℕ → Reader) (opens : Opens las
   expected M is_it [] q h = absurd cc
   expected M is_it (t ∷ ts) q h = of_test (is_it t.tok) (left_out t.tok) h
     where
-      of_test : (b c : Bool) → (let r : Result Tokens SqlFault = if b then Ok ts else Err (if c then LeftOut t.span.start else Syntax t.span.start) in r ≡ Err (TooDeep q)) → M q
+      of_test : (b c : Bool) → (let r : Result Tokens SqlFault = ok_or (if b then Some ts else None) (if c then LeftOut t.span.start else Syntax t.span.start) in r ≡ Err (TooDeep q)) → M q
       of_test true c g = absurd cc
       of_test false true g = absurd cc
       of_test false false g = absurd cc
@@ -400,4 +400,4 @@ inside_tells last (suc n) level place ts = up _ _ (at_level last (inside last n)
 
 -- too deep is told at a token that makes a node
 pub expr_tells : (last place : ℕ) (ts : Tokens) → expr_at last ts ≡ Err (TooDeep place) → Makes place ts
-expr_tells last place ts e = or_tells last 64 (inside last 64) (opens_sound last 64) (inside_tells last 64) ts place (sym (expr_same last ts) ∙ e)
+expr_tells last place ts e = or_tells last 64 (inside last 64) (opens_sound last 64) (inside_tells last 64) ts place (sym (expr_same last ts) ∙ ap seen e)

@@ -6,36 +6,35 @@ use Rattle.sql_trees.specs.declared.fault.SqlFault.TheVariants.{Syntax, TooDeep}
 use Rattle.sql_trees.specs.Tokens.{Tokens}
 use Rattle.sql_trees.specs.Trees.{Tree}
 use Rattle.sql_expressions.specs.Readers.{place_of}
-use Rattle.sql_expressions.specs.Reading.{Found, expr_at}
+use Rattle.sql_expressions.specs.Reading.{Part, expr_at}
 use Rattle.sql_expressions.specs.Grammar.{OR}
 use Rattle.sql_expressions.specs.Laws.{head, Spelled, IsRefusal, Refuses, ended, misplaced, StopsFirst, FaultsAreFirst, first, DeepFirst, DeepIsFirst, TakesFront, FrontsAreTaken, ExpressionsAreRead}
 use Rattle.sql_expressions.proofs.Complete.{expr_complete}
 use Rattle.sql_expressions.proofs.ReadOrDeep.{read_or_deep}
 use Rattle.sql_expressions.proofs.Deep.{expr_tells}
 use Rattle.sql_expressions.proofs.Local.{put, Means, is_read}
-use Rattle.sql_expressions.proofs.Tails.{seen}
-use Rattle.sql_expressions.proofs.Stops.{expr_local}
+use Rattle.sql_expressions.proofs.Stops.{parted, expr_local}
 
-err_same : (e f : SqlFault) → ◌≡◌ {A = Result Found SqlFault} (Err e) (Err f) → e ≡ f
+err_same : (e f : SqlFault) → ◌≡◌ {A = Result (Part × Tokens) SqlFault} (Err e) (Err f) → e ≡ f
 err_same e f h = cc
 
-ok_same : (f g : Found) → ◌≡◌ {A = Result Found SqlFault} (Ok f) (Ok g) → f ≡ g
+ok_same : (f g : Part × Tokens) → ◌≡◌ {A = Result (Part × Tokens) SqlFault} (Ok f) (Ok g) → f ≡ g
 ok_same f g h = cc
 
-no_both : (f : Found) (e : SqlFault) → ◌≡◌ {A = Result Found SqlFault} (Ok f) (Err e) → ⊥
+no_both : (f : Part × Tokens) (e : SqlFault) → ◌≡◌ {A = Result (Part × Tokens) SqlFault} (Ok f) (Err e) → ⊥
 no_both f e h = cc
 
 deep_is_no_refusal : (q : ℕ) (fault : SqlFault) → TooDeep q ≡ fault → IsRefusal fault → ⊥
 deep_is_no_refusal q fault e r = subst IsRefusal (sym e) r
 
 -- what is read or too deep is not refused
-not_stopped : (last : ℕ) (fault : SqlFault) (fs bs : Tokens) → IsRefusal fault → ((e : Tree) × (d : ℕ) × (expr_at last (fs ++ bs) ≡ Ok (record { tree = e; depth = d; rest = bs }))) ⊎ ((q : ℕ) × (expr_at last (fs ++ bs) ≡ Err (TooDeep q))) → expr_at last (fs ++ bs) ≡ Err fault → ⊥
-not_stopped last fault fs bs r (inl (e, d, h)) g = no_both (record { tree = e; depth = d; rest = bs }) fault (sym h ∙ g)
+not_stopped : (last : ℕ) (fault : SqlFault) (fs bs : Tokens) → IsRefusal fault → ((p : Part) × (expr_at last (fs ++ bs) ≡ Ok (p, bs))) ⊎ ((q : ℕ) × (expr_at last (fs ++ bs) ≡ Err (TooDeep q))) → expr_at last (fs ++ bs) ≡ Err fault → ⊥
+not_stopped last fault fs bs r (inl (p, h)) g = no_both (p, bs) fault (sym h ∙ g)
 not_stopped last fault fs bs r (inr (q, h)) g = deep_is_no_refusal q fault (err_same (TooDeep q) fault (sym h ∙ g)) r
 
-stops_from : (last : ℕ) (fault : SqlFault) (ts front rest : Tokens) (out : Result (Tree × ℕ) SqlFault) → IsRefusal fault → put seen out rest ≡ Err fault → ts ≡ front ++ rest
-    → ((others : Tokens) → head others ≡ head rest → expr_at last (front ++ others) ≡ put seen out others) → Means last (Spelled OR) out front rest → StopsFirst last ts fault
-stops_from last fault ts front rest (Ok v) r is split local means = absurd (no_both (seen v rest) fault is)
+stops_from : (last : ℕ) (fault : SqlFault) (ts front rest : Tokens) (out : Result (Tree × ℕ) SqlFault) → IsRefusal fault → put parted out rest ≡ Err fault → ts ≡ front ++ rest
+    → ((others : Tokens) → head others ≡ head rest → expr_at last (front ++ others) ≡ put parted out others) → Means last (Spelled OR) out front rest → StopsFirst last ts fault
+stops_from last fault ts front rest (Ok v) r is split local means = absurd (no_both (parted v rest) fault is)
 stops_from last fault ts front rest (Err e) r is split local means =
     let same = err_same e fault is in
     record {
@@ -59,9 +58,9 @@ first_head : (ts : Tokens) → head (first ts) ≡ head ts
 first_head [] = refl
 first_head (t ∷ ts) = refl
 
-deep_from : (last place : ℕ) (ts front rest : Tokens) (out : Result (Tree × ℕ) SqlFault) → put seen out rest ≡ Err (TooDeep place) → ts ≡ front ++ rest
-    → ((others : Tokens) → head others ≡ head rest → expr_at last (front ++ others) ≡ put seen out others) → Means last (Spelled OR) out front rest → DeepFirst last ts place
-deep_from last place ts front rest (Ok v) is split local means = absurd (no_both (seen v rest) (TooDeep place) is)
+deep_from : (last place : ℕ) (ts front rest : Tokens) (out : Result (Tree × ℕ) SqlFault) → put parted out rest ≡ Err (TooDeep place) → ts ≡ front ++ rest
+    → ((others : Tokens) → head others ≡ head rest → expr_at last (front ++ others) ≡ put parted out others) → Means last (Spelled OR) out front rest → DeepFirst last ts place
+deep_from last place ts front rest (Ok v) is split local means = absurd (no_both (parted v rest) (TooDeep place) is)
 deep_from last place ts front rest (Err f) is split local means =
     let same = err_same f (TooDeep place) is in
     record {
@@ -72,7 +71,7 @@ deep_from last place ts front rest (Err f) is split local means =
       begins = means.1;
       stays = λ others h. local others h ∙ ap Err same;
       beyond = λ others fs bs e d h parts spelled ends.
-          no_both (record { tree = e; depth = d; rest = bs }) (TooDeep place) (sym (expr_complete last spelled bs ends) ∙ ap (expr_at last) (sym parts) ∙ local others h ∙ ap Err same);
+          no_both (record { tree = e; depth = d }, bs) (TooDeep place) (sym (expr_complete last spelled bs ends) ∙ ap (expr_at last) (sym parts) ∙ local others h ∙ ap Err same);
     }
 
 pub deep_is_first : DeepIsFirst
@@ -99,16 +98,16 @@ faults_are_first last place ts e =
     let s = refusals_are_first last ts (Syntax place) tt e in
     record { front = s.front; rest = s.rest; split = s.split; here = syntax_here last place s.front s.rest s.refuses; begins = s.begins; stays = s.stays }
 
-takes_from : (last : ℕ) (ts front rest : Tokens) (f : Found) (out : Result (Tree × ℕ) SqlFault) → put seen out rest ≡ Ok f → ts ≡ front ++ rest
-    → ((others : Tokens) → head others ≡ head rest → expr_at last (front ++ others) ≡ put seen out others) → TakesFront last ts f
+takes_from : (last : ℕ) (ts front rest : Tokens) (f : Part × Tokens) (out : Result (Tree × ℕ) SqlFault) → put parted out rest ≡ Ok f → ts ≡ front ++ rest
+    → ((others : Tokens) → head others ≡ head rest → expr_at last (front ++ others) ≡ put parted out others) → TakesFront last ts f
 takes_from last ts front rest f (Err e) is split local = absurd (no_both f e (sym is))
 takes_from last ts front rest f (Ok v) is split local =
-    let same = ok_same (seen v rest) f is in
-    let rests : rest ≡ f.rest = ap (λ (g : Found). g.rest) same in
+    let same = ok_same (parted v rest) f is in
+    let rests : rest ≡ f.1 = ap (λ (g : Part × Tokens). g.1) same in
     record {
       front = front;
       split = split ∙ ap (λ (r : Tokens). front ++ r) rests;
-      stays = λ others h. local others (h ∙ ap head (sym rests)) ∙ ap (λ (g : Found). Ok (record { tree = g.tree; depth = g.depth; rest = others })) same;
+      stays = λ others h. local others (h ∙ ap head (sym rests)) ∙ ap (λ (g : Part × Tokens). Ok (g.0, others)) same;
     }
 
 pub fronts_are_taken : FrontsAreTaken

@@ -15,11 +15,11 @@ use Rattle.sql_trees.specs.Trees.{Tree, Column, Plus, Not, Is, In, Between, more
 use Rattle.sql_expressions.specs.Build.{negated}
 use Rattle.sql_expressions.specs.Results.{◌>>=◌}
 use Rattle.sql_expressions.specs.Readers.{expect, is_sign, place_of}
-use Rattle.sql_expressions.specs.Reading.{is_call, Found, comparison_op, truth_of, expr_at}
-use Rattle.sql_expressions.specs.Inner.Pieces.{name_at, Found_op, Found_list, Reader, leaf, deeper, join, next_op, is_and, is_not, is_is, column_at, parens_at, prim_of, prim_at, sign_at, una_of, una_at, mul_at, add_at, cat_at, in_at, between_at, not_in_of, not_in_at, inn_of, inn_more, inn_at, cmp_more, cmp_at, is_node, is_of, is_tail, is_from, is_more, is_at, negation_at, not_at, and_at, or_at, at_level, inside, list_at, list_more}
+use Rattle.sql_expressions.specs.Reading.{Part, is_call, comparison_op, truth_of, expr_at}
+use Rattle.sql_expressions.specs.Inner.Pieces.{Found, name_at, Found_op, Found_list, Reader, leaf, deeper, join, next_op, is_and, is_not, is_is, column_at, parens_at, prim_of, prim_at, sign_at, una_of, una_at, mul_at, add_at, cat_at, in_at, between_at, not_in_of, not_in_at, inn_of, inn_more, inn_at, cmp_more, cmp_at, is_node, is_of, is_tail, is_from, is_more, is_at, negation_at, not_at, and_at, or_at, at_level, inside, list_at, list_more}
 use Rattle.sql_expressions.specs.Grammar.{Begins, IsWord, Level, OR, AND, NOT, IS, CMP, INN, CAT, ADD, MUL, UNA, PRIM, Spells, only, chain, negation, is, comparison, contained, between, minus, plus, parens, literal, Items, one, next, IsLeaf, number, text, column, yes, no, null, IsIn, IsBetween, IsIs}
 use Rattle.sql_expressions.proofs.Steps.{bind_ok, deeper_ok, expect_ok, is_close_true, is_open_true, is_and_true, is_not_true, is_is_true}
-use Rattle.sql_expressions.proofs.Same.{expr_same}
+use Rattle.sql_expressions.proofs.Same.{as_found, seen, expr_same}
 use Rattle.sql_expressions.proofs.Sound.{Took, took_up, Sound, joined_as, chain_sound, list_sound}
 
 abbrev pub level_of : Opened → Level
@@ -301,8 +301,8 @@ opens_sound last zero level place ts f e = absurd cc
 opens_sound last (suc n) level place ts f e = (n, refl, level_sound last n (inside last n) (opens_sound last n) level ts f e)
 
 -- an expression that is read is in the grammar
-pub expr_sound : (last : ℕ) → Sound (Spells 64 OR) (expr_at last)
-expr_sound last ts f e = or_sound last 64 (inside last 64) (opens_sound last 64) ts f (sym (expr_same last ts) ∙ e)
+pub expr_sound : (last : ℕ) (ts : Tokens) (f : Part × Tokens) → expr_at last ts ≡ Ok f → Took (Spells 64 OR) ts (as_found f)
+expr_sound last ts f e = or_sound last 64 (inside last 64) (opens_sound last 64) ts (as_found f) (sym (expr_same last ts) ∙ ap seen e)
 
-pub expr_begins : (last : ℕ) (ts : Tokens) (f : Found) → expr_at last ts ≡ Ok f → Begins ts f
+pub expr_begins : (last : ℕ) (ts : Tokens) (f : Part × Tokens) → expr_at last ts ≡ Ok f → Begins ts f
 expr_begins last ts f e = let k = expr_sound last ts f e in record { front = k.front; whole = k.whole; spells = k.spells }

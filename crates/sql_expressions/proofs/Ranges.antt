@@ -1,5 +1,5 @@
 -- What stands behind IN and BETWEEN is read before its node is made.
-use Rattle.std.proofs.Common.{◌≡◌, ℕ, Bool, true, false, List, [], ◌∷◌, Option, Some, None, refl, max}
+use Rattle.std.proofs.Common.{◌≡◌, ℕ, Bool, [], ◌∷◌, Option, Some, None, refl, max}
 use Rattle.std.specs.Prelude.{Result, Ok, Err, if◌then◌else◌}
 use Rattle.iso_lexer.specs.declared.token.At.{At}
 use Rattle.iso_lexer.specs.declared.sql_token.SqlSign.TheVariants as signs
@@ -10,10 +10,9 @@ use Rattle.sql_trees.specs.Tokens as tok
 use Rattle.sql_trees.specs.Trees.{Tree}
 use Rattle.sql_expressions.specs.declared.level.Opened.{Opened}
 use Rattle.sql_expressions.specs.Results.{◌>>=◌}
-use Rattle.sql_expressions.specs.Readers.{is_sign, expect, place_of}
-use Rattle.sql_expressions.specs.Reading.{Found}
+use Rattle.sql_expressions.specs.Readers.{is_sign, expect}
 use Rattle.sql_expressions.specs.declared.level.Opened.TheVariants.{Whole}
-use Rattle.sql_expressions.specs.Inner.Pieces.{Reader, Found_list, Among, is_and, deeper, list_at, cat_at, range_node, between_at, upper_at, list_open_at, contains_at, in_at, not_in_of, not_in_at, not_in_from, inn_of, inn_more, inn_at, among_of, among_at, not_among_of, not_among_in}
+use Rattle.sql_expressions.specs.Inner.Pieces.{Found, Reader, Found_list, Among, deeper, list_at, cat_at, range_node, between_at, upper_at, list_open_at, contains_at, in_at, not_in_of, not_in_at, inn_of, inn_more, inn_at, among_of, among_at, not_among_of, not_among_in}
 
 -- what is made of a value may be made in two steps
 into : {A B C : Type 0} (m : Result A SqlFault) (f : A → Result B SqlFault) (g : B → Result C SqlFault) (h : A → Result C SqlFault) → ((x : A) → h x ≡ (f x >>= g)) → (m >>= h) ≡ ((m >>= f) >>= g)

@@ -15,12 +15,12 @@ use Rattle.sql_trees.specs.Trees.{Tree, Trees, more, none, Plus, Not, Binary, Is
 use Rattle.sql_expressions.specs.Build.{negated, push}
 use Rattle.sql_expressions.specs.Results.{◌>>=◌}
 use Rattle.sql_expressions.specs.Readers.{expect, is_sign}
-use Rattle.sql_expressions.specs.Reading.{Found, comparison_op, truth_of, expr_at}
-use Rattle.sql_expressions.specs.Inner.Pieces.{Found_list, Reader, deeper, join, next_op, is_and, parens_at, prim_at, sign_at, una_at, mul_at, add_at, cat_at, in_at, between_at, inn_more, inn_at, cmp_more, cmp_at, is_more, is_at, negation_at, not_at, and_at, or_at, inside, list_at, list_more, chain_more}
+use Rattle.sql_expressions.specs.Reading.{Part, comparison_op, truth_of, expr_at}
+use Rattle.sql_expressions.specs.Inner.Pieces.{Found, Found_list, Reader, deeper, join, next_op, is_and, parens_at, prim_at, sign_at, una_at, mul_at, add_at, cat_at, in_at, between_at, inn_more, inn_at, cmp_more, cmp_at, is_more, is_at, negation_at, not_at, and_at, or_at, inside, list_at, list_more, chain_more}
 use Rattle.sql_expressions.specs.Inner.Pieces as reading
 use Rattle.sql_expressions.specs.Grammar.{IsWord, Ends, Level, OR, AND, NOT, IS, CMP, INN, CAT, ADD, MUL, UNA, PRIM, tighter, binary, SpellsIn, ItemsIn, only, chain, negation, is, comparison, contained, between, minus, plus, parens, literal, one, next, IsLeaf, IsIn, IsBetween, IsIs}
 use Rattle.sql_expressions.specs.Laws.{Spelled}
-use Rattle.sql_expressions.proofs.Same.{expr_same}
+use Rattle.sql_expressions.proofs.Same.{seen as seen_as, expr_same, is_part, is_fault}
 use Rattle.sql_expressions.proofs.Tails.{seen, listed}
 use Rattle.sql_expressions.proofs.Complete.{Stops, stops_below, op_stops, IsChain, chain_ends, Starts, spells_starts, read_of, not_first, una_first, is_end, inn_end, cmp_end, comparison_stops, truth_is_no_not, leaf_read, assoc_in, assoc_between, ends_stops}
 
@@ -274,10 +274,10 @@ module _ (last : ℕ) where
     items_beyond (one ts e d p) = list_first ts (reads OR ts (beyond p))
     items_beyond (next fs bs t es e c d p h q) = list_on fs bs t (items_beyond p) h (reads OR bs (beyond q))
 
-  sides : (rest : Tokens) (r : Result Found SqlFault) → Fits rest r → ((e : Tree) × (d : ℕ) × (r ≡ Ok (record { tree = e; depth = d; rest = rest }))) ⊎ ((place : ℕ) × (r ≡ Err (TooDeep place)))
-  sides rest r (read v h) = inl (v.0, v.1, h)
-  sides rest r (deep q h) = inr (q, h)
+  sides : (rest : Tokens) (r : Result (Part × Tokens) SqlFault) → Fits rest (seen_as r) → ((p : Part) × (r ≡ Ok (p, rest))) ⊎ ((place : ℕ) × (r ≡ Err (TooDeep place)))
+  sides rest r (read v h) = inl (record { tree = v.0; depth = v.1 }, is_part r (seen v rest) h)
+  sides rest r (deep q h) = inr (q, is_fault r (TooDeep q) h)
 
   -- what is spelled at the front of the tokens, whatever its depth, is read, or is too deep
-  pub read_or_deep : (ts rest : Tokens) → Spelled OR ts → Ends rest → ((e : Tree) × (d : ℕ) × (expr_at last (ts ++ rest) ≡ Ok (record { tree = e; depth = d; rest = rest }))) ⊎ ((place : ℕ) × (expr_at last (ts ++ rest) ≡ Err (TooDeep place)))
+  pub read_or_deep : (ts rest : Tokens) → Spelled OR ts → Ends rest → ((p : Part) × (expr_at last (ts ++ rest) ≡ Ok (p, rest))) ⊎ ((place : ℕ) × (expr_at last (ts ++ rest) ≡ Err (TooDeep place)))
   read_or_deep ts rest (m, r, e, d, p) s = sides rest (expr_at last (ts ++ rest)) (subst (Fits rest) (sym (expr_same last (ts ++ rest))) (reads OR ts (beyond p) 64 rest (ends_stops last rest s)))

@@ -10,8 +10,7 @@ use Rattle.sql_trees.specs.Trees.{Tree, Trees, Binary, more, none}
 use Rattle.sql_expressions.specs.Build.{push}
 use Rattle.sql_expressions.specs.Results.{◌>>=◌}
 use Rattle.sql_expressions.specs.Readers.{after, is_sign}
-use Rattle.sql_expressions.specs.Reading.{Found}
-use Rattle.sql_expressions.specs.Inner.Pieces.{Found_op, Found_list, Reader, deeper, join, next_op, chain_more, chain_end, chain_turn, chain, list_more, list_turn, list_at}
+use Rattle.sql_expressions.specs.Inner.Pieces.{Found, Found_op, Found_list, Reader, deeper, join, next_op, chain_more, chain_end, chain_turn, chain, list_more, list_turn, list_at}
 use Rattle.sql_expressions.proofs.Steps.{bind_ok, deeper_ok, next_op_ok, after_comma_ok}
 
 abbrev pub Spelling : Type 1

@@ -1,6 +1,6 @@
 -- What a reading that succeeds has met.
 use Rattle.std.proofs.Common.{◌≡◌, ℕ, ◌+◌, ◌<◌, Bool, true, false, [], ◌∷◌, Option, Some, None, refl, ◌∙◌, rules}
-use Rattle.std.specs.Prelude.{Result, Ok, Err, nat_lt, if◌then◌else◌}
+use Rattle.std.specs.Prelude.{Result, Ok, Err, ok_or, nat_lt, if◌then◌else◌}
 use Rattle.sql_trees.specs.declared.fault.SqlFault.{SqlFault}
 use Rattle.sql_trees.specs.declared.fault.SqlFault.TheVariants.{TooDeep}
 use Rattle.iso_lexer.specs.declared.token.At.{At}
@@ -29,7 +29,7 @@ pub expect_ok : (last : ℕ) (is_it : Token → Bool) (ts rest : Tokens) → exp
 expect_ok last is_it [] rest e = absurd cc
 expect_ok last is_it (t ∷ ts) rest e = of_test (is_it t.tok) refl e
   where
-    of_test : (b : Bool) → is_it t.tok ≡ b → (let r : Result Tokens SqlFault = if b then Ok ts else Err (misplaced last (t ∷ ts)) in r ≡ Ok rest) → (u : At Token) × (t ∷ ts ≡ u ∷ rest) × (is_it u.tok ≡ true)
+    of_test : (b : Bool) → is_it t.tok ≡ b → (let r : Result Tokens SqlFault = ok_or (if b then Some ts else None) (misplaced last (t ∷ ts)) in r ≡ Ok rest) → (u : At Token) × (t ∷ ts ≡ u ∷ rest) × (is_it u.tok ≡ true)
     of_test true h g = (t, cc, h)
     of_test false h g = absurd cc
 

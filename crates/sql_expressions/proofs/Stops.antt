@@ -1,6 +1,6 @@
 -- Each level stops where the tokens up to there say so.
 use Rattle.std.proofs.Common.{◌≡◌, ℕ, zero, suc, ◌+◌, ◌<◌, Bool, true, false, List, [], ◌∷◌, ◌++◌, length, Option, Some, None, refl, sym, ap, ◌∙◌, subst}
-use Rattle.std.specs.Prelude.{Result, Ok, max}
+use Rattle.std.specs.Prelude.{Result, Ok, Err, max}
 use Rattle.sql_trees.specs.declared.fault.SqlFault.{SqlFault}
 use Rattle.sql_expressions.specs.declared.level.Opened.{Opened}
 use Rattle.sql_expressions.specs.declared.level.Opened.TheVariants.{Whole, Negation, Unary}
@@ -16,15 +16,15 @@ use Rattle.sql_trees.specs.Trees.{Tree, Null, Flag, Number, Text, Column, Plus, 
 use Rattle.sql_expressions.specs.Build.{negated}
 use Rattle.sql_expressions.specs.Results.{◌>>=◌}
 use Rattle.sql_expressions.specs.Readers.{expect, is_sign, place_of}
-use Rattle.sql_expressions.specs.Reading.{Found, comparison_op, truth_of, expr_at}
-use Rattle.sql_expressions.specs.Inner.Pieces.{Found_list, Reader, leaf, deeper, join, next_op, is_and, is_not, is_is, column_at, name_at, parens_at, prim_of, prim_at, sign_at, una_of, una_at, mul_at, add_at, cat_at, in_at, between_at, not_in_of, not_in_at, inn_of, inn_more, inn_at, cmp_more, cmp_at, is_node, is_of, is_tail, is_more, is_at, negation_at, not_at, and_at, or_at, at_level, inside, list_at}
+use Rattle.sql_expressions.specs.Reading.{Part, comparison_op, truth_of, expr_at}
+use Rattle.sql_expressions.specs.Inner.Pieces.{Found, Found_list, Reader, leaf, deeper, join, next_op, is_and, is_not, is_is, column_at, name_at, parens_at, prim_of, prim_at, sign_at, una_of, una_at, mul_at, add_at, cat_at, in_at, between_at, not_in_of, not_in_at, inn_of, inn_more, inn_at, cmp_more, cmp_at, is_node, is_of, is_tail, is_more, is_at, negation_at, not_at, and_at, or_at, at_level, inside, list_at}
 use Rattle.sql_expressions.specs.Grammar.{IsWord, OR, AND, NOT, IS, CMP, INN, CAT, ADD, MUL, UNA, PRIM, IsLeaf, number, text, column, yes, no, null, IsIn, IsBetween, IsIs}
 use Rattle.sql_expressions.specs.Laws.{Spelled}
-use Rattle.sql_expressions.proofs.Same.{expr_same}
+use Rattle.sql_expressions.proofs.Same.{seen as seen_as, expr_same, is_part, is_fault}
 use Rattle.sql_expressions.proofs.Steps.{is_open_true, is_close_true, is_and_true, is_not_true, is_is_true}
 use Rattle.sql_expressions.proofs.Levels.{level_of}
 use Rattle.sql_expressions.proofs.Shapes.{Listed, only_spelled, comparison_spelled, negation_spelled, minus_spelled, plus_spelled, parens_spelled, leaf_spelled, is_spelled, between_spelled, contained_spelled, some_token, a_number, prim_number, una_number, mul_number, add_number, cat_number, not_number, and_number, or_number}
-use Rattle.sql_expressions.proofs.Local.{Local, Nothing, One, Inhabited, at_end, at_token, called_at, stuck_end, stuck_at, behind, in_turn, gives, deeper_then, mapped, checked, deep_always, expect_local, same_at, switch_at, switch_end}
+use Rattle.sql_expressions.proofs.Local.{put, Local, Nothing, One, Inhabited, at_end, at_token, called_at, stuck_end, stuck_at, behind, in_turn, gives, deeper_then, mapped, checked, deep_always, expect_local, switch_at, switch_end}
 use Rattle.sql_expressions.proofs.Tails.{seen, Tail, no_tail, Reads, chain_local, list_local}
 use Rattle.sql_expressions.proofs.Shapes.{one_listed}
 use Rattle.sql_expressions.proofs.Shortens.{shortens}
@@ -326,6 +326,22 @@ unfolding inside
 inside_local last zero level place ts = deep_always last seen (Spelled (level_of level)) (inside last zero level place) place ts (level_number level) (λ others. refl)
 inside_local last (suc n) level place ts = level_local last (inside last n) (λ l p us. inside_local last n l p us) (λ p us f e. shortens last n p Whole us f e) level ts
 
-pub expr_local : (last : ℕ) → Reads last OR (expr_at last)
+-- a part that was read, in front of the tokens that are left
+abbrev pub parted : Tree × ℕ → Tokens → Part × Tokens
+parted v ts = (record { tree = v.0; depth = v.1 }, ts)
+
+parted_same : (r : Result (Part × Tokens) SqlFault) (out : Result (Tree × ℕ) SqlFault) (others : Tokens) → seen_as r ≡ put seen out others → r ≡ put parted out others
+parted_same r (Ok v) others h = is_part r (seen v others) h
+parted_same r (Err e) others h = is_fault r e h
+
+pub expr_local : (last : ℕ) (ts : Tokens) → Local last parted (Spelled OR) (expr_at last) ts
 expr_local last ts =
-    same_at last (Spelled OR) (Spelled OR) (or_at last (inside last 64)) (expr_at last) ts (λ xs g. g) (λ us h. expr_same last us) (or_local last (inside last 64) (inside_local last 64) (λ p us f e. shortens last 64 p Whole us f e) ts)
+    let l = or_local last (inside last 64) (inside_local last 64) (λ p us f e. shortens last 64 p Whole us f e) ts in
+    record {
+      out = l.out;
+      front = l.front;
+      rest = l.rest;
+      split = l.split;
+      local = λ others h. parted_same (expr_at last (l.front ++ others)) l.out others (expr_same last (l.front ++ others) ∙ l.local others h);
+      means = l.means;
+    }

@@ -13,8 +13,7 @@ use Rattle.sql_trees.specs.Trees.{Tree, Trees, more, none, Binary}
 use Rattle.sql_expressions.specs.Build.{push}
 use Rattle.sql_expressions.specs.Results.{◌>>=◌}
 use Rattle.sql_expressions.specs.Readers.{is_sign}
-use Rattle.sql_expressions.specs.Reading.{Found}
-use Rattle.sql_expressions.specs.Inner.Pieces.{Found_op, Found_list, Reader, leaf, deeper, join, next_op, is_and, is_not, is_is, column_at, name_at, parens_at, prim_of, prim_at, sign_at, una_of, una_at, mul_at, add_at, cat_at, in_at, between_at, not_in_of, not_in_at, inn_of, inn_more, inn_at, cmp_more, cmp_at, is_node, is_of, is_tail, is_more, is_at, negation_at, not_at, and_at, or_at, at_level, inside, list_at, list_more, list_turn, chain_more, chain_end, chain_turn}
+use Rattle.sql_expressions.specs.Inner.Pieces.{Found, Found_op, Found_list, Reader, leaf, deeper, join, next_op, is_and, is_not, is_is, column_at, name_at, parens_at, prim_of, prim_at, sign_at, una_of, una_at, mul_at, add_at, cat_at, in_at, between_at, not_in_of, not_in_at, inn_of, inn_more, inn_at, cmp_more, cmp_at, is_node, is_of, is_tail, is_more, is_at, negation_at, not_at, and_at, or_at, at_level, inside, list_at, list_more, list_turn, chain_more, chain_end, chain_turn}
 use Rattle.sql_expressions.specs.Inner.Pieces as reading
 use Rattle.sql_expressions.specs.Grammar.{Level, OR, tighter, binary}
 use Rattle.sql_expressions.specs.Laws.{Spelled}

@@ -1,6 +1,6 @@
 -- Operands with what may stand before them, and comparisons with IS behind them.
-use Rattle.std.proofs.Common.{◌≡◌, ℕ, List, [], ◌∷◌, Option, Some, None, refl}
-use Rattle.std.specs.Prelude.{Result, Ok, Err}
+use Rattle.std.proofs.Common.{◌≡◌, ℕ, [], ◌∷◌, Option, Some, None, refl}
+use Rattle.std.specs.Prelude.{Ok, Err}
 use Rattle.iso_lexer.specs.declared.token.At.{At}
 use Rattle.iso_lexer.specs.declared.sql_token.SqlSign.TheVariants as signs
 use Rattle.sql_trees.specs.declared.fault.SqlFault.{SqlFault}
@@ -10,8 +10,8 @@ use Rattle.sql_trees.specs.Tokens as tok
 use Rattle.sql_expressions.specs.declared.level.Opened.{Opened}
 use Rattle.sql_expressions.specs.declared.level.Prefix.{Prefix}
 use Rattle.sql_expressions.specs.Results.{◌>>=◌}
-use Rattle.sql_expressions.specs.Reading.{Found, comparison_op}
-use Rattle.sql_expressions.specs.Inner.Pieces.{Reader, Found_op, deeper, next_op, join, prefix_of, placed_prefix, prefix_at, opened_of, prefixed_at, atom_of, atom_at, parens_at, sign_at, prim_of, prim_at, una_of, una_at, inn_at, cmp_at, is_more, is_at, compared_at}
+use Rattle.sql_expressions.specs.Reading.{comparison_op}
+use Rattle.sql_expressions.specs.Inner.Pieces.{Found, Reader, Found_op, deeper, next_op, prefix_of, placed_prefix, prefix_at, opened_of, prefixed_at, atom_at, parens_at, sign_at, una_of, una_at, inn_at, cmp_at, is_more, is_at, compared_at}
 
 module _ (last : ℕ) (inside : Opened → ℕ → Reader) where
   abbrev by_prefix : Option (Prefix × ℕ × Tokens) → Reader

@@ -9,8 +9,9 @@ use Rattle.sql_trees.specs.declared.expr.Truth.{Truth}
 use Rattle.sql_trees.specs.Tokens.{Token, Tokens, named}
 use Rattle.sql_trees.specs.Tokens as tok
 use Rattle.sql_trees.specs.Trees.{Tree, Trees, none, more, Null, Flag, Number, Text, Column, Plus, Not, Binary, Is, In, Between, undoubled}
+use Rattle.sql_expressions.specs.declared.level.Chain.TheVariants as levels
 use Rattle.sql_expressions.specs.Build.{negated, push}
-use Rattle.sql_expressions.specs.Reading.{Found, or_op, and_op, concat_op, sum_op, product_op, comparison_op, truth_of}
+use Rattle.sql_expressions.specs.Reading.{Part, operators, comparison_op, truth_of}
 
 -- the token is this keyword, in whatever letters
 abbrev pub IsWord : Word → Token → Type 0
@@ -53,11 +54,11 @@ tighter PRIM = PRIM
 
 -- the operators whose chains group to the left
 abbrev pub binary : Level → Token → Option Operator
-binary OR = or_op
-binary AND = and_op
-binary CAT = concat_op
-binary ADD = sum_op
-binary MUL = product_op
+binary OR = operators levels.Or
+binary AND = operators levels.And
+binary CAT = operators levels.Concat
+binary ADD = operators levels.Sum
+binary MUL = operators levels.Product
 binary _ = λ t. None
 
 -- the tokens are this keyword alone
@@ -154,10 +155,10 @@ abbrev pub Items : ℕ → Tokens → Trees → ℕ → Type 0
 Items = ItemsIn 64
 
 -- the tokens begin with a spelling of what was found, and the rest is left
-pub record Begins (ts : Tokens) (f : Found) : Type 0 where
+pub record Begins (ts : Tokens) (f : Part × Tokens) : Type 0 where
   pub front : Tokens
-  pub whole : ts ≡ front ++ f.rest
-  pub spells : Spells 64 OR front f.tree f.depth
+  pub whole : ts ≡ front ++ f.1
+  pub spells : Spells 64 OR front f.0.tree f.0.depth
 
 -- a token that an expression goes on with
 abbrev pub goes_on : Token → Bool

@@ -8,7 +8,7 @@ use Rattle.sql_trees.specs.Tokens.{Token, Tokens, named}
 use Rattle.sql_trees.specs.Tokens as tok
 use Rattle.sql_trees.specs.Trees.{Tree}
 use Rattle.sql_expressions.specs.Readers.{left_out}
-use Rattle.sql_expressions.specs.Reading.{Found, is_call, expr_at}
+use Rattle.sql_expressions.specs.Reading.{Part, is_call, expr_at}
 use Rattle.sql_expressions.specs.Grammar.{Level, OR, SpellsIn, Spells, Ends, goes_on}
 
 abbrev pub head : Tokens → Option (At Token)
@@ -73,16 +73,15 @@ DeepIsFirst = (last place : ℕ) (ts : Tokens) → expr_at last ts ≡ Err (TooD
 
 -- An expression that is read takes the front of the tokens. A list that has the same front and the same next token is read as the same
 -- expression, whatever follows.
-pub record TakesFront (last : ℕ) (ts : Tokens) (f : Found) : Type 0 where
+pub record TakesFront (last : ℕ) (ts : Tokens) (f : Part × Tokens) : Type 0 where
   pub front : Tokens
-  pub split : ts ≡ front ++ f.rest
-  pub stays : (others : Tokens) → head others ≡ head f.rest → expr_at last (front ++ others) ≡ Ok (record { tree = f.tree; depth = f.depth; rest = others })
+  pub split : ts ≡ front ++ f.1
+  pub stays : (others : Tokens) → head others ≡ head f.1 → expr_at last (front ++ others) ≡ Ok (f.0, others)
 
 abbrev pub FrontsAreTaken : Type 0
-FrontsAreTaken = (last : ℕ) (ts : Tokens) (f : Found) → expr_at last ts ≡ Ok f → TakesFront last ts f
+FrontsAreTaken = (last : ℕ) (ts : Tokens) (f : Part × Tokens) → expr_at last ts ≡ Ok f → TakesFront last ts f
 
 -- An expression at the front of the tokens, whatever its depth, is read whole, or is too deep.
 abbrev pub ExpressionsAreRead : Type 0
 ExpressionsAreRead = (last : ℕ) (ts rest : Tokens) → Spelled OR ts → Ends rest →
-    ((e : Tree) × (d : ℕ) × (expr_at last (ts ++ rest) ≡ Ok (record { tree = e; depth = d; rest = rest })))
-    ⊎ ((place : ℕ) × (expr_at last (ts ++ rest) ≡ Err (TooDeep place)))
+    ((part : Part) × (expr_at last (ts ++ rest) ≡ Ok (part, rest))) ⊎ ((place : ℕ) × (expr_at last (ts ++ rest) ≡ Err (TooDeep place)))

@@ -1,5 +1,5 @@
 -- Reading from left to right with the first fault that is met: words of reading, for expressions and for statements.
-use Rattle.std.specs.Prelude.{ℕ, zero, suc, Bool, false, ◌||◌, List, [], ◌∷◌, length, Option, Some, None, Result, Ok, Err, if◌then◌else◌}
+use Rattle.std.specs.Prelude.{ℕ, zero, suc, Bool, false, ◌||◌, List, [], ◌∷◌, ◌++◌, length, Option, Some, None, Result, Ok, Err, ok_or, if◌then◌else◌}
 use Rattle.std.specs.Option.{option_map_or}
 use denote.Enum.Bare.{sameb}
 use Rattle.iso_lexer.specs.declared.sql_token.SqlSign.{SqlSign}
@@ -77,6 +77,10 @@ unfoldable pub more_at : {S : Type 0} → (S → Reader S) → ℕ → S → Rea
 more_at add zero s ts = Ok (s, ts)
 more_at add (suc n) s ts = either (is_sign signs.Comma) (add s >>= more_at add n) (gives s) ts
 
+-- one more item behind these
+abbrev pub added : {X : Type 0} → Reader X → List X → Reader (List X)
+added reader xs = made (λ x. xs ++ x ∷ []) reader
+
 -- items with commas between them, each added to what was read before it
 unfoldable pub items_at : {S : Type 0} → (S → Reader S) → S → Reader S
 items_at add s ts = (add s >>= more_at add (length ts)) ts
@@ -96,8 +100,7 @@ module _ (last : ℕ) where
 
   -- the tokens behind the next, which has to be of this kind
   abbrev pub expect : (Token → Bool) → Tokens → Result Tokens SqlFault
-  expect is_it [] = Err (misplaced [])
-  expect is_it (t ∷ ts) = if is_it t.tok then Ok ts else Err (misplaced (t ∷ ts))
+  expect is_it ts = ok_or (after is_it ts) (misplaced ts)
 
   -- the tokens behind this keyword, which has to stand next
   abbrev pub keyword : Word → Tokens → Result Tokens SqlFault

@@ -8,8 +8,8 @@ ghost use Rattle.sql_expressions.specs.Build.{negated};
 ghost use Rattle.sql_expressions.specs.Grammar.{Begins, Ends, Spells, OR};
 ghost use Rattle.sql_expressions.specs.Results.{Gives};
 ghost use Rattle.sql_expressions.specs.Readers.{expect};
-ghost use Rattle.sql_expressions.specs.Reading.{found, comparison_op, expr_at};
-ghost use Rattle.sql_expressions.specs.Inner.Pieces.{Found_op, Found_list, found_list, found_bounds, range_node, made, node, membership_of, atom_at, closed_at, prefixed_at, list_open_at, contains_at, upper_at, not_among_at, among_at, compared_at, is_and, deeper, join, chain_op, next_op, column_first, una_at, chain_at, operand_at, in_at, between_at, inn_at, is_of, is_tail, is_more, is_at, not_at, inside, list_at};
+ghost use Rattle.sql_expressions.specs.Reading.{Part, part_of, operators, comparison_op, expr_at};
+ghost use Rattle.sql_expressions.specs.Inner.Pieces.{found, Found_op, Found_list, found_list, found_bounds, range_node, made, node, membership_of, atom_at, closed_at, prefixed_at, list_open_at, contains_at, upper_at, not_among_at, among_at, compared_at, is_and, deeper, join, next_op, column_first, una_at, chain_at, operand_at, in_at, between_at, inn_at, is_of, is_tail, is_more, is_at, not_at, inside, list_at};
 
 use crate::cursor::{Parser, Tokens, after_comma};
 use crate::level::{Chain, Membership, Opened, Prefix};
@@ -308,7 +308,7 @@ impl Parser {
         level: Chain,
         tokens: Tokens<'t, 'a>,
     ) -> Option<(Operator, usize, Tokens<'t, 'a>)>
-        ensures { option_map (λ x. record { op = x.0; place = x.1; rest = tok_views x.2.now }) result ≡ next_op (chain_op level) (tok_views tokens.now) }
+        ensures { option_map (λ x. record { op = x.0; place = x.1; rest = tok_views x.2.now }) result ≡ next_op (operators level) (tok_views tokens.now) }
     {
         let [token, rest @ ..] = tokens else {
             return None
@@ -621,13 +621,13 @@ impl Parser {
     /// The expression at the front of the tokens, and the tokens after it.
     pub fn expression<'t, 'a>(self, tokens: Tokens<'t, 'a>) -> Read<'t, 'a>
         // Which expression or fault it is.
-        ensures exact { Gives (λ x. found x.0 x.1.now) result (expr_at self.text_len (tok_views tokens.now)) }
+        ensures exact { Gives (λ x. (part_of x.0, tok_views x.1.now)) result (expr_at self.text_len (tok_views tokens.now)) }
         // What is read is in the grammar.
-        ensures found { IfOk result (λ x. Begins (tok_views tokens.now) (found x.0 x.1.now)) }
+        ensures found { IfOk result (λ x. Begins (tok_views tokens.now) (part_of x.0, tok_views x.1.now)) }
         // It takes a token at least.
         ensures shorter { IfOk result (λ x. length (tok_views x.1.now) < length (tok_views tokens.now)) }
         // What is in the grammar is read, where what follows does not go on with it.
-        ensures only { (front rest : Tokens) (e : Tree) (d : ℕ) → tok_views tokens.now ≡ front ++ rest → Spells 64 OR front e d → Ends rest → Gives (λ x. found x.0 x.1.now) result (Ok (record { tree = e; depth = d; rest = rest })) }
+        ensures only { (front rest : Tokens) (e : Tree) (d : ℕ) → tok_views tokens.now ≡ front ++ rest → Spells 64 OR front e d → Ends rest → Gives {Y = Part × Tokens} (λ x. (part_of x.0, tok_views x.1.now)) result (Ok (record { tree = e; depth = d }, rest)) }
     {
         self.chain(Chain::Or, MAX_DEPTH, tokens)
     }
@@ -640,11 +640,11 @@ pub fn parse_expr<'t, 'a>(
     tokens: &'t [At<Tok<'a>>],
 ) -> Result<(Parsed<'a>, &'t [At<Tok<'a>>]), SqlFault>
     // Which expression or fault it is.
-    ensures exact { Gives (λ x. found x.0 x.1.now) result (expr_at text_len (tok_views tokens.now)) }
+    ensures exact { Gives (λ x. (part_of x.0, tok_views x.1.now)) result (expr_at text_len (tok_views tokens.now)) }
     // What is read is in the grammar.
-    ensures found { IfOk result (λ x. Begins (tok_views tokens.now) (found x.0 x.1.now)) }
+    ensures found { IfOk result (λ x. Begins (tok_views tokens.now) (part_of x.0, tok_views x.1.now)) }
     // What is in the grammar is read, where what follows does not go on with it.
-    ensures only { (front rest : Tokens) (e : Tree) (d : ℕ) → tok_views tokens.now ≡ front ++ rest → Spells 64 OR front e d → Ends rest → Gives (λ x. found x.0 x.1.now) result (Ok (record { tree = e; depth = d; rest = rest })) }
+    ensures only { (front rest : Tokens) (e : Tree) (d : ℕ) → tok_views tokens.now ≡ front ++ rest → Spells 64 OR front e d → Ends rest → Gives {Y = Part × Tokens} (λ x. (part_of x.0, tok_views x.1.now)) result (Ok (record { tree = e; depth = d }, rest)) }
 {
     let parser = Parser { alloc, text_len };
     parser.expression(tokens)

@@ -3,8 +3,8 @@
 ghost use Rattle.std.specs.Prelude.{◌≡◌, option_map};
 ghost use Rattle.sql_trees.specs.Tokens.{tok_view, tok_views};
 ghost use Rattle.sql_expressions.specs.Readers.{left_out};
-ghost use Rattle.sql_expressions.specs.Reading.{is_call, truth_of, comparison_op};
-ghost use Rattle.sql_expressions.specs.Inner.Pieces.{chain_op, prefix_at, prefix_of};
+ghost use Rattle.sql_expressions.specs.Reading.{is_call, truth_of, operators, comparison_op};
+ghost use Rattle.sql_expressions.specs.Inner.Pieces.{prefix_at, prefix_of};
 
 use crate::cursor::Tokens;
 use crate::level::{Chain, Prefix};
@@ -85,7 +85,7 @@ pub fn prefix<'t, 'a>(tokens: Tokens<'t, 'a>) -> Option<(Prefix, usize, Tokens<'
 impl Chain {
     /// The operator of this level that the token is.
     pub fn operator(self, tok: Tok) -> Option<Operator>
-        ensures { result ≡ chain_op self (tok_view tok.entry) }
+        ensures { result ≡ operators self (tok_view tok.entry) }
     {
         match (self, tok) {
             (Chain::Or, Tok::Word(Word::Or, _)) => Some(Operator::Or),

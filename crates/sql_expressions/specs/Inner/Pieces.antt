@@ -23,7 +23,17 @@ use Rattle.sql_expressions.specs.declared.level.Opened.TheVariants.{Whole, Negat
 use Rattle.sql_expressions.specs.Build.{negated, push}
 use Rattle.sql_expressions.specs.Results.{◌>>=◌}
 use Rattle.sql_expressions.specs.Readers.{is_sign, after, place_of, misplaced, expect}
-use Rattle.sql_expressions.specs.Reading.{Found, or_op, and_op, concat_op, sum_op, product_op, comparison_op, is_call, truth_of}
+use Rattle.sql_expressions.specs.Reading.{operators, comparison_op, is_call, truth_of}
+
+-- an expression, its depth as it was written, and the tokens after it
+pub record Found : Type 0 where
+  pub tree : Tree
+  pub depth : ℕ
+  pub rest : Tokens
+
+-- what the code has found
+abbrev pub found : Parsed → List (At Tok) → Found
+found p ts = record { tree = tree_of p.expr.value; depth = p.depth; rest = tok_views ts }
 
 abbrev pub Reader : Type 0
 Reader = Tokens → Result Found SqlFault
@@ -31,12 +41,20 @@ Reader = Tokens → Result Found SqlFault
 abbrev pub leaf : Tree → Reader
 leaf t ts = Ok (record { tree = t; depth = 0; rest = ts })
 
-abbrev pub chain_op : Chain → Token → Option Operator
-chain_op chain_of.Or = or_op
-chain_op chain_of.And = and_op
-chain_op chain_of.Concat = concat_op
-chain_op chain_of.Sum = sum_op
-chain_op chain_of.Product = product_op
+abbrev pub or_op : Token → Option Operator
+or_op = operators chain_of.Or
+
+abbrev pub and_op : Token → Option Operator
+and_op = operators chain_of.And
+
+abbrev pub concat_op : Token → Option Operator
+concat_op = operators chain_of.Concat
+
+abbrev pub sum_op : Token → Option Operator
+sum_op = operators chain_of.Sum
+
+abbrev pub product_op : Token → Option Operator
+product_op = operators chain_of.Product
 
 -- a parenthesis or a sign, behind which an expression stands
 abbrev pub prefix_of : Token → Option Prefix

@@ -1,7 +1,7 @@
 use Rattle.std.proofs.Common.{◌+◌, ◌-◌, ◌*◌, length}
 use Rattle.sql_trees.specs.Tokens.{tok_views}
-use Rattle.sql_expressions.specs.Reading.{found}
-use Rattle.sql_expressions.specs.Inner.Pieces.{found_list, list_at, chain_op, chain_at, operand_at, inside}
+use Rattle.sql_expressions.specs.Reading.{operators}
+use Rattle.sql_expressions.specs.Inner.Pieces.{found, found_list, list_at, chain_at, operand_at, inside}
 use Rattle.sql_expressions.proofs.Chains.{rank_of, Goes, Lists}
 use Rattle.sql_expressions.specs.declared.level.Opened.TheVariants.{Whole}
 use Rattle.sql_expressions.proofs.cursor.Parser.+levels.Given as goal
@@ -23,7 +23,7 @@ decreases-unary l = l.room * 32 + 2
 
 abbrev pub invariant-chain-loop-operator : goal.invariant-chain-loop-operator
 invariant-chain-loop-operator l =
-    Goes (operand_at l.self.text_len (inside l.self.text_len l.room) l.level) (chain_op l.level) (found l.left l.rest) (chain_at l.self.text_len (inside l.self.text_len l.room) l.level (tok_views l.fn.tokens))
+    Goes (operand_at l.self.text_len (inside l.self.text_len l.room) l.level) (operators l.level) (found l.left l.rest) (chain_at l.self.text_len (inside l.self.text_len l.room) l.level (tok_views l.fn.tokens))
 
 abbrev pub decreases-chain-loop-operator : goal.decreases-chain-loop-operator
 decreases-chain-loop-operator l = 65 - l.left.depth
