@@ -10,7 +10,8 @@ use Rattle.sql_values.specs.Values.{if_ok, each}
 use Rattle.sql_values.specs.Sorting.{keys_at}
 use Rattle.sql_values.specs.Expressions.{Cols}
 use Rattle.query_results.specs.Ordering.{put_in, rows_at}
-use Rattle.query_results.specs.Queries.{by_keys, keys_of}
+use Rattle.query_results.specs.Queries.{by_keys}
+use Rattle.query_results.specs.Inner.Pieces.{keys_of}
 
 abbrev ok_rows : List (List Value) → Result (List (List Value)) ValueFault
 ok_rows rows = Ok rows
