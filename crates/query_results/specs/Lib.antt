@@ -2,3 +2,4 @@ pub mod Results
 pub mod Ordering
 pub mod Queries
 pub mod Updates
+pub mod Inner

@@ -1,5 +1,5 @@
 -- What a query answers at the rows of its table, and what an INSERT makes of its values (PostgreSQL manual, SELECT and INSERT).
-use Rattle.std.specs.Prelude.{ℕ, ◌-◌, ◌==◌, ℤ, pos, int_le, int_lt, Bool, not, ◌&&◌, ◌||◌, List, [], ◌∷◌, ◌++◌, length, map, flat_map, replicate}
+use Rattle.std.specs.Prelude.{ℕ, ◌-◌, ◌==◌, ℤ, pos, int_le, int_lt, not, ◌&&◌, ◌||◌, List, [], ◌∷◌, ◌++◌, length, map, flat_map, replicate}
 use Rattle.std.specs.Prelude.{Option, Some, None, is_none, option_map, option_to_list, find, filter, filter_map, position, zip}
 use Rattle.std.specs.Prelude.{bytes_eq, slice_set, slice_index_or, Result, Ok, Err, if◌then◌else◌}
 use Rattle.std.specs.List.{enumerate_from}
@@ -27,7 +27,7 @@ use Rattle.query_results.specs.Ordering.{rows_at, sorted_places}
 
 -- columns as expressions know them
 abbrev pub cols_of : List ColumnTree → Cols
-cols_of columns = map (λ (c : ColumnTree). (c.name, c.kind)) columns
+cols_of columns = map (λ c. (c.name, c.kind)) columns
 
 abbrev mutual
   -- the columns that an expression names, in the order of the text; a literal names none
@@ -50,25 +50,21 @@ abbrev mutual
 abbrev pub undefined_among : Cols → List Tree → Option (List ℕ)
 undefined_among cols es = find (λ name. is_none (position (λ c. bytes_eq name c.0) cols)) (flat_map columns_named es)
 
--- the expression of an item; `*` and count(*) have none
-abbrev pub item_exprs : ItemTree → List Tree
-item_exprs (stmt.Value e alias) = e ∷ []
-item_exprs (stmt.Aggregate (tree.Of k e) alias) = e ∷ []
-item_exprs i = []
-
 -- a key of ORDER BY that is a bare name means the first item with that alias, if there is one
 abbrev pub meant : List ItemTree → Tree → Tree
 meant (stmt.Value e (Some alias) ∷ is) (tree.Column name) = if bytes_eq name alias then e else meant is (tree.Column name)
 meant (i ∷ is) key = meant is key
 meant [] key = key
 
--- the expressions of a SELECT, as they are looked at: its items, then WHERE, then what its keys mean
+-- the expressions of a SELECT, as they are looked at: of its items, where `*` and count(*) have none, then WHERE, then what its keys mean
 abbrev pub select_exprs : SelectTree → List Tree
-select_exprs s = flat_map item_exprs s.items ++ option_to_list s.filter ++ map (λ (k : OrderTree). meant s.items k.expr) s.order
+select_exprs s =
+    flat_map (λ i. elim i [ stmt.Value e alias ↦ e ∷ [] | stmt.Aggregate (tree.Of k e) alias ↦ e ∷ [] | other ↦ [] ]) s.items
+    ++ option_to_list s.filter ++ map (λ k. meant s.items k.expr) s.order
 
 -- the places of the rows that pass WHERE, once it is tested at all of them
 abbrev pub passing : Cols → Option Tree → List (List Value) → Result (List ℕ) ValueFault
-passing cols condition rows = if_ok (each (passes condition cols) rows) (λ ps. Ok (map (λ (p : ℕ × Bool). p.0) (filter (λ (p : ℕ × Bool). p.1) (enumerate_from 0 ps))))
+passing cols condition rows = if_ok (each (passes condition cols) rows) (λ ps. Ok (map (λ p. p.0) (filter (λ p. p.1) (enumerate_from 0 ps))))
 
 -- what an item answers at a row, in each of its columns; an aggregate has none
 abbrev pub item_values : Cols → List Value → ItemTree → List Answer
@@ -76,41 +72,29 @@ item_values cols row stmt.All = map (λ v. Ok v) row
 item_values cols row (stmt.Value e alias) = value e cols row ∷ []
 item_values cols row (stmt.Aggregate a alias) = []
 
--- what the columns of the result answer at a row
-abbrev pub shown : Cols → List ItemTree → List Value → List Answer
-shown cols is row = flat_map (item_values cols row) is
-
+-- the values of the result's columns at a row
 abbrev pub row_values : Cols → List ItemTree → List Value → Result (List Value) ValueFault
-row_values cols is row = each (λ answer. answer) (shown cols is row)
+row_values cols is row = each (λ answer. answer) (flat_map (item_values cols row) is)
 
 -- the titles of what an item shows: of an expression its alias, or the name of the column that it is, or none
 abbrev pub item_titles : List ColumnTree → ItemTree → List Title
-item_titles columns stmt.All = map (λ (c : ColumnTree). Named c.name) columns
-item_titles columns (stmt.Value e (Some alias)) = Named alias ∷ []
-item_titles columns (stmt.Value (tree.Column name) None) = Named name ∷ []
-item_titles columns (stmt.Value e None) = Unnamed ∷ []
+item_titles columns stmt.All = map (λ c. Named c.name) columns
+item_titles columns (stmt.Value e alias) = option_map_or Named alias (elim e [ tree.Column name ↦ Named name | other ↦ Unnamed ]) ∷ []
 item_titles columns (stmt.Aggregate a alias) = []
 
 abbrev pub titles_of : List ColumnTree → List ItemTree → List Title
 titles_of columns is = flat_map (item_titles columns) is
 
--- the number that a key of ORDER BY is
-abbrev pub key_number : Tree → Option ℤ
-key_number (tree.Number negative n) = Some (signed negative n)
-key_number e = None
-
--- the first number in ORDER BY that is none of the result's columns, which are counted from 1
+-- the first of the numbers in ORDER BY that is none of the result's columns, which are counted from 1
 abbrev pub wrong_position : List ColumnTree → SelectTree → Option ℤ
-wrong_position columns s = find (λ n. not (int_lt (pos 0) n && int_le n (pos (length (titles_of columns s.items))))) (filter_map (λ (k : OrderTree). key_number k.expr) s.order)
+wrong_position columns s =
+    let numbers = filter_map (λ k. elim k.expr [ tree.Number negative n ↦ Some (signed negative n) | other ↦ None ]) s.order in
+    find (λ n. not (int_lt (pos 0) n && int_le n (pos (length (titles_of columns s.items))))) numbers
 
 -- the value of a key of ORDER BY at a row: a number literal means that column of the result, counted from 1, or NULL where there is none
 abbrev pub key_value : Cols → List ItemTree → List Value → Tree → Answer
-key_value cols is row (tree.Number negative n) = if negative || n == 0 then Ok Null else slice_index_or (shown cols is row) (n - 1) (Ok Null)
+key_value cols is row (tree.Number negative n) = if negative || n == 0 then Ok Null else slice_index_or (flat_map (item_values cols row) is) (n - 1) (Ok Null)
 key_value cols is row e = value (meant is e) cols row
-
--- the keys of a row, from the left
-abbrev pub keys_of : Cols → List ItemTree → List OrderTree → List Value → Result (List Value) ValueFault
-keys_of cols is order row = each (λ (k : OrderTree). key_value cols is row k.expr) order
 
 -- the places in the order of their rows' keys, if the keys can be sorted
 abbrev pub by_keys : List Dir → List ℕ → List (List Value) → Result (List ℕ) ValueFault
@@ -118,19 +102,14 @@ by_keys by places keys = if can_sort by keys then Ok (map (λ i. slice_index_or 
 
 -- the places of the rows that pass WHERE, as ORDER BY sorts them: the keys of all these rows are evaluated, row by row, before any are compared
 abbrev pub taken : SelectTree → List ColumnTree → List (List Value) → Result (List ℕ) ValueFault
-taken s columns rows = if_ok (passing (cols_of columns) s.filter rows) (λ places.
-    if_ok (each (keys_of (cols_of columns) s.items s.order) (rows_at rows places)) (by_keys (map (λ (k : OrderTree). k.dir) s.order) places))
+taken s columns rows = let cols = cols_of columns in if_ok (passing cols s.filter rows) (λ places.
+    if_ok (each (λ row. each (λ k. key_value cols s.items row k.expr) s.order) (rows_at rows places)) (by_keys (map (λ k. k.dir) s.order) places))
 
--- the title of an aggregate by what it counts, sums or compares (9.21)
-abbrev pub own_title : AggTree → Title
-own_title (tree.Of agg_kind.Sum e) = Sum
-own_title (tree.Of agg_kind.Min e) = Min
-own_title (tree.Of agg_kind.Max e) = Max
-own_title a = Count
-
--- the aggregate that an item is, with its alias or its own title: a SELECT that has any has nothing else
+-- the aggregate that an item is, titled by its alias, or by what it counts, sums or compares (9.21): a SELECT that has any has nothing else
 abbrev pub aggregate_in : ItemTree → Option (AggTree × Title)
-aggregate_in (stmt.Aggregate a alias) = Some (a, option_map_or Named alias (own_title a))
+aggregate_in (stmt.Aggregate a alias) =
+    let own : Title = elim a [ tree.Of agg_kind.Sum e ↦ Sum | tree.Of agg_kind.Min e ↦ Min | tree.Of agg_kind.Max e ↦ Max | other ↦ Count ] in
+    Some (a, option_map_or Named alias own)
 aggregate_in i = None
 
 -- what is answered from the rows that are taken: without aggregates the items at each of them, else one row, of the aggregates over all of them
@@ -155,15 +134,12 @@ at_place c = record { place = c.0; kind = c.1.kind }
 
 -- the first column of that name
 abbrev pub assigned_named : List ColumnTree → List ℕ → Option AssignedColumn
-assigned_named columns name = option_map at_place (find (λ (c : ℕ × ColumnTree). bytes_eq c.1.name name) (enumerate_from 0 columns))
+assigned_named columns name = option_map at_place (find (λ c. bytes_eq c.1.name name) (enumerate_from 0 columns))
 
--- the columns of these names, or the first name that no column has
-abbrev pub assigned_by_name : List ColumnTree → List (List ℕ) → Result (List AssignedColumn) (List ℕ)
-assigned_by_name columns names = option_map_or Err (find (λ name. is_none (assigned_named columns name)) names) (Ok (filter_map (assigned_named columns) names))
-
--- the columns of a list of names, where there is one; without it the values go to the first columns
+-- the columns of a list of names, or the first name that no column has; without a list the values go to the first columns
 abbrev pub columns_assigned : List ColumnTree → Option (List (List ℕ)) → Result (List AssignedColumn) (List ℕ)
-columns_assigned columns names = option_map_or (assigned_by_name columns) names (Ok (map at_place (enumerate_from 0 columns)))
+columns_assigned columns None = Ok (map at_place (enumerate_from 0 columns))
+columns_assigned columns (Some names) = option_map_or Err (find (λ name. is_none (assigned_named columns name)) names) (Ok (filter_map (assigned_named columns) names))
 
 -- the row with each value at its column's place, as the column takes it
 abbrev pub filled : List AssignedColumn → List Value → List Value → Result (List Value) ValueFault
@@ -176,4 +152,4 @@ new_values width to row = if_ok (each (λ e. value e [] []) row) (λ values. fil
 
 -- the first column that is NULL and must not be
 abbrev pub null_in : List ColumnTree → List Value → Option (List ℕ)
-null_in columns values = option_map (λ (c : ColumnTree × Value). c.0.name) (find (λ c. c.0.not_null && is_null c.1) (zip columns values))
+null_in columns values = option_map (λ c. c.0.name) (find (λ c. c.0.not_null && is_null c.1) (zip columns values))

@@ -10,8 +10,9 @@ use Rattle.std.proofs.lemmas.Bool.Decides.{nat_tests}
 use Rattle.std.proofs.lemmas.List.Folds.{list_all-append}
 use lib.IntN.{ℤ, pos, negsuc}
 use lib.Signed.{mag}
-use Rattle.result_tables.specs.Numeric.{is_numeric, is_numeric_byte, is_exponent}
-use Rattle.result_tables.specs.TableText.{is_textual}
+use Rattle.result_tables.specs.Numeric.{is_numeric}
+use Rattle.result_tables.specs.Inner.Numeric.{is_numeric_byte, is_exponent}
+use Rattle.result_tables.specs.Inner.Columns.{is_textual}
 
 -- some digits, and nothing else
 record AreDigits (ds : List ℕ) : Type 0 where

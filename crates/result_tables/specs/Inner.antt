@@ -1,3 +1,5 @@
 -- Definitions that only the inner functions' clauses and the proofs need: no clause of a public function has them.
 pub mod NameBytes
 pub mod Lines
+pub mod Numeric
+pub mod Columns

@@ -1,5 +1,5 @@
 -- The text of a table, in the manner of libpq's PQprint with the separator `|`.
-use Rattle.std.specs.Prelude.{ℕ, ◌-◌, ◌==◌, ◌&&◌, Bool, not, List, [], ◌∷◌, ◌++◌, length, map, fold, max, replicate, decimal, codes, flat_map, nat_lt, if◌then◌else◌}
+use Rattle.std.specs.Prelude.{ℕ, ◌-◌, ◌==◌, ◌&&◌, not, List, [], ◌∷◌, ◌++◌, length, map, fold, max, replicate, decimal, codes, flat_map, nat_lt, if◌then◌else◌}
 use Rattle.std.specs.List.{list_any, zip, range_with_len, slice_index_or, join_with_byte}
 use Rattle.query_results.specs.Results.{Results}
 use Rattle.result_tables.specs.declared.column.ColumnLayout.{ColumnLayout}
@@ -7,21 +7,13 @@ use Rattle.result_tables.specs.Numeric.{is_numeric}
 use Rattle.result_tables.specs.Printed.{printed}
 use Rattle.result_tables.specs.Titles.{title_text}
 
--- some text, and not a number
-abbrev pub is_textual : List ℕ → Bool
-is_textual text = nat_lt 0 (length text) && not (is_numeric text)
-
--- the printed values of a column, from the top
-abbrev pub cells : List (List (List ℕ)) → ℕ → List (List ℕ)
-cells rows k = map (λ row. slice_index_or row k []) rows
-
--- as wide as the longest of the title and the values; aligned to the left where some value is a word
+-- a column is as wide as the longest of its title and its values; it is aligned to the left where some value is a word: some text, and not a number
 abbrev pub layout_of : List ℕ → List (List ℕ) → ColumnLayout
-layout_of title values = record { width = fold max 0 (map length (title ∷ values)); left = list_any is_textual values }
+layout_of title values = record { width = fold max 0 (map length (title ∷ values)); left = list_any (λ text. nat_lt 0 (length text) && not (is_numeric text)) values }
 
--- a column for each title
+-- a column for each title, with what the rows have at its place
 abbrev pub layouts_of : List (List ℕ) → List (List (List ℕ)) → List ColumnLayout
-layouts_of titles rows = map (λ k. layout_of (slice_index_or titles k []) (cells rows k)) (range_with_len 0 (length titles))
+layouts_of titles rows = map (λ k. layout_of (slice_index_or titles k []) (map (λ row. slice_index_or row k []) rows)) (range_with_len 0 (length titles))
 
 -- a cell, filled up with blanks to the column's width
 abbrev pub padded : ColumnLayout → List ℕ → List ℕ

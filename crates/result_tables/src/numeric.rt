@@ -4,7 +4,8 @@ ghost use Rattle.std.specs.Prelude.{◌≡◌, ◌-◌, false, length};
 ghost use Rattle.std.specs.List.{list_all, slice_get};
 ghost use Rattle.std.specs.Option.{option_map_or};
 ghost use Rattle.std.specs.Char.{is_ascii_digit};
-ghost use Rattle.result_tables.specs.Numeric.{is_exponent, is_numeric_byte, is_numeric};
+ghost use Rattle.result_tables.specs.Numeric.{is_numeric};
+ghost use Rattle.result_tables.specs.Inner.Numeric.{is_exponent, is_numeric_byte};
 
 fn is_exponent(byte: u8) -> bool
     ensures { result ≡ is_exponent byte }

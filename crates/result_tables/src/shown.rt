@@ -4,7 +4,7 @@ ghost use Rattle.std.specs.Prelude.{◌≡◌, ℕ, List, ◌++◌, length, OnOk
 ghost use Rattle.std.specs.Fmt.{signed_decimal};
 ghost use Rattle.result_tables.specs.Printed.{printed};
 ghost use Rattle.result_tables.specs.Titles.{title_text};
-ghost use Rattle.result_tables.specs.TableText.{is_textual};
+ghost use Rattle.result_tables.specs.Inner.Columns.{is_textual};
 
 use crate::name_bytes::{append_name, name_len};
 use crate::numeric::is_numeric;

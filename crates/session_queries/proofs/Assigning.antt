@@ -4,7 +4,8 @@ use Rattle.std.specs.Prelude.{Option, bytes_eq, find, filter_map, is_none, optio
 use Rattle.std.specs.List.{cons_option, enumerate_from}
 use Rattle.std.specs.Option.{option_map_or}
 use Rattle.sql_trees.specs.Statements.{ColumnTree}
-use Rattle.query_results.specs.Queries.{AssignedColumn, assigned_by_name, assigned_named, at_place}
+use Rattle.query_results.specs.Queries.{AssignedColumn, assigned_named, at_place}
+use Rattle.query_results.specs.Inner.Pieces.{assigned_by_name}
 use Rattle.session_queries.specs.Inner.Assigned.{assigned_each, assigned_from, assigned_in_order, assigned_or}
 
 -- all of them

@@ -11,7 +11,8 @@ use Rattle.sql_trees.specs.Statements.{ColumnTree, ItemTree, OrderTree, SelectTr
 use Rattle.sql_trees.specs.Statements as item
 use Rattle.sql_values.specs.Arithmetic.{signed}
 use Rattle.sql_values.specs.Expressions.{Cols}
-use Rattle.query_results.specs.Queries.{columns_named, columns_named_in, item_exprs, key_number, meant, select_exprs, titles_of, undefined_among, wrong_position}
+use Rattle.query_results.specs.Queries.{columns_named, columns_named_in, meant, select_exprs, titles_of, undefined_among, wrong_position}
+use Rattle.query_results.specs.Inner.Pieces.{item_exprs, key_number}
 use Rattle.query_results.specs.Updates.{update_exprs}
 use Rattle.session_queries.specs.Inner.Undefined.{first_of, undefined_column, undefined_in_list, undefined_in_condition, undefined_in_item, undefined_in_rows, undefined_in_select, undefined_in_update, unlisted}
 

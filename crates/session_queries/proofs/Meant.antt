@@ -10,7 +10,8 @@ use Rattle.sql_values.specs.declared.value.Value.{Value}
 use Rattle.sql_values.specs.declared.fault.ValueFault.{ValueFault}
 use Rattle.sql_values.specs.Values.{each}
 use Rattle.sql_values.specs.Expressions.{Cols, value}
-use Rattle.query_results.specs.Queries.{key_value, keys_of, meant}
+use Rattle.query_results.specs.Queries.{key_value, meant}
+use Rattle.query_results.specs.Inner.Pieces.{keys_of}
 use Rattle.session_queries.specs.Inner.Fronts.{in_front}
 use Rattle.session_queries.specs.Inner.Ordering.{key_answer, key_answers}
 use Rattle.session_queries.specs.Inner.Undefined.{first_of, undefined_column, undefined_in_item, undefined_in_key, aliased}

@@ -8,7 +8,8 @@ use Rattle.sql_trees.specs.Trees as tree
 use Rattle.sql_trees.specs.Statements.{ColumnTree}
 use Rattle.sql_trees.specs.Statements as stmt
 use Rattle.sql_values.specs.Expressions.{Cols}
-use Rattle.query_results.specs.Queries.{item_titles, own_title}
+use Rattle.query_results.specs.Queries.{item_titles}
+use Rattle.query_results.specs.Inner.Pieces.{own_title}
 use Rattle.session_queries.specs.Inner.Parts.{kind_title, title_or}
 use Rattle.session_queries.specs.Inner.Undefined.{undefined_in_item, undefined_in_agg}
 

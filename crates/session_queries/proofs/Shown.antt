@@ -12,7 +12,8 @@ use Rattle.sql_values.specs.declared.fault.ValueFault.{ValueFault}
 use Rattle.sql_values.specs.Values.{Answer, each, if_ok}
 use Rattle.sql_values.specs.Sorting.{key}
 use Rattle.sql_values.specs.Expressions.{Cols, value}
-use Rattle.query_results.specs.Queries.{item_values, row_values, shown}
+use Rattle.query_results.specs.Queries.{item_values, row_values}
+use Rattle.query_results.specs.Inner.Pieces.{shown}
 use Rattle.session_queries.specs.Inner.Answers.{item_row, row_by_items, shown_at}
 use Rattle.session_queries.specs.Inner.Fronts.{in_front}
 

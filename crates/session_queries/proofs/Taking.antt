@@ -11,7 +11,8 @@ use Rattle.sql_values.specs.declared.fault.ValueFault.{ValueFault}
 use Rattle.sql_values.specs.Values.{if_ok, each}
 use Rattle.sql_values.specs.Expressions.{Cols, passes}
 use Rattle.query_results.specs.Ordering.{rows_at}
-use Rattle.query_results.specs.Queries.{by_keys, cols_of, keys_of, passing, taken}
+use Rattle.query_results.specs.Queries.{by_keys, cols_of, passing, taken}
+use Rattle.query_results.specs.Inner.Pieces.{keys_of}
 use Rattle.query_results.proofs.Unsorted.{unsorted}
 use Rattle.session_queries.specs.Fronts.{AnswersList}
 use Rattle.session_queries.specs.Inner.Fronts.{in_front}

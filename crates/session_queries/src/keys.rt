@@ -8,7 +8,7 @@ ghost use Rattle.sql_values.specs.declared.value.Value.TheVariants.{Null as SqlN
 ghost use Rattle.sql_values.specs.Values.{Answers, each};
 ghost use Rattle.session_queries.specs.Fronts.{AnswersList};
 ghost use Rattle.query_results.specs.Ordering.{rows_at};
-ghost use Rattle.query_results.specs.Queries.{keys_of, shown};
+ghost use Rattle.query_results.specs.Inner.Pieces.{keys_of, shown};
 ghost use Rattle.session_queries.specs.Inner.Ordering.{key_answer};
 ghost use Rattle.session_queries.specs.Inner.Undefined.{aliased};
 

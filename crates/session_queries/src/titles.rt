@@ -3,7 +3,8 @@
 ghost use Rattle.std.specs.Prelude.{◌≡◌, ◌++◌, IfOk, OnOk, length, map, option_map};
 ghost use Rattle.sql_trees.specs.Trees.{agg_of, tree_of};
 ghost use Rattle.sql_trees.specs.Statements.{All, column_of, item_of, name_of};
-ghost use Rattle.query_results.specs.Queries.{item_titles, own_title, titles_of};
+ghost use Rattle.query_results.specs.Queries.{item_titles, titles_of};
+ghost use Rattle.query_results.specs.Inner.Pieces.{own_title};
 ghost use Rattle.session_queries.specs.Inner.Parts.{agg_title, kind_title, title_of, title_or};
 ghost use Rattle.session_queries.specs.Inner.Answers.{counted};
 

@@ -2,3 +2,4 @@ pub mod Parts
 pub mod Kept
 pub mod BlockViews
 pub mod Blocks
+pub mod Inner

@@ -2,7 +2,7 @@
 use Rattle.std.specs.Prelude.{ℕ, Bool, true, false, not, ◌||◌, ◌&&◌, ◌==◌, List, [], map, Option, is_some}
 use Rattle.std.specs.List.{list_any, list_all}
 use Rattle.std.specs.Option.{option_map_or}
-use Rattle.sql_trees.specs.Statements.{ColumnTree, SetTree, ItemTree, All, Aggregate, OrderTree, SelectTree}
+use Rattle.sql_trees.specs.Statements.{ColumnTree, SetTree, ItemTree, All, Aggregate, SelectTree}
 use Rattle.sql_blocks.specs.declared.block.Role.{Role}
 use Rattle.sql_blocks.specs.declared.block.Role.TheVariants as roles
 
@@ -25,16 +25,8 @@ abbrev pub is_aggregate : ItemTree → Bool
 is_aggregate (Aggregate a n) = true
 is_aggregate _ = false
 
-abbrev pub is_all : ItemTree → Bool
-is_all All = true
-is_all _ = false
-
-abbrev pub is_sorted : List OrderTree → Bool
-is_sorted [] = false
-is_sorted _ = true
-
 -- aggregates stand alone and go with no ORDER BY and no lock; a star and a lock go with a table
 abbrev pub is_allowed : SelectTree → Bool
 is_allowed s =
-    (not (list_any is_aggregate s.items) || (list_all is_aggregate s.items && not (is_sorted s.order || is_some s.lock)))
-    && (is_some s.table || not (list_any is_all s.items || is_some s.lock))
+    (not (list_any is_aggregate s.items) || (list_all is_aggregate s.items && not (elim s.order [ [] ↦ false | keys ↦ true ] || is_some s.lock)))
+    && (is_some s.table || not (list_any (λ i. elim i [ All ↦ true | other ↦ false ]) s.items || is_some s.lock))

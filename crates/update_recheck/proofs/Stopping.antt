@@ -1,5 +1,5 @@
 -- Who stops a target, by any list of those that hold it.
-use Rattle.std.proofs.Common.{◌≡◌, refl, ap, Bool, true, false, List, [], ◌∷◌}
+use Rattle.std.proofs.Common.{◌≡◌, refl, sym, ap, ◌∙◌, Bool, true, false, List, [], ◌∷◌}
 use Rattle.std.specs.Prelude.{Some, None}
 use Rattle.row_versions.specs.declared.names.TxId.{TxId}
 use Rattle.row_versions.specs.Members.{has, same_tx, is_none_of}
@@ -11,7 +11,9 @@ use Rattle.row_locks.proofs.Reaching.{or_left, is_same}
 use Rattle.row_locks.proofs.Holding.{by_what_is_held}
 use Rattle.row_locks.proofs.Pairs.{by_who_blocks}
 use Rattle.update_recheck.specs.Asked.{Asked}
-use Rattle.update_recheck.specs.Outcome.{holders, row_blockers, outcome, is_locked, newest_version}
+use Rattle.update_recheck.specs.Outcome.{row_blockers, newest_version}
+use Rattle.update_recheck.specs.Inner.Cases.{holders, outcome, is_locked}
+use Rattle.update_recheck.proofs.Cases.{outcome_is, locked_is}
 use Rattle.update_recheck.specs.Laws.{OutcomesByWhatIsHeld}
 use Rattle.update_recheck.specs.Outcome.Outcome.{Waits, Deadlocks}
 use Rattle.update_recheck.specs.Settling.{SameMembers}
@@ -53,5 +55,7 @@ same_holders held others waits waiting ask locks pairs =
 
 pub same_outcomes : OutcomesByWhatIsHeld
 same_outcomes c held others waits waiting ask locks pairs =
-    let e = same_holders held others waits waiting ask locks pairs in
-    (ap (λ h. outcome ask.level ask.seen h (newest_version c ask)) e, ap (λ h. is_locked ask.level h (newest_version c ask)) e)
+    let e = same_holders held others waits waiting ask locks pairs in (
+      outcome_is c held waits ask ∙ ap (λ h. outcome ask.level ask.seen h (newest_version c ask)) e ∙ sym (outcome_is c others waiting ask),
+      locked_is c held waits ask ∙ ap (λ h. is_locked ask.level h (newest_version c ask)) e ∙ sym (locked_is c others waiting ask),
+    )

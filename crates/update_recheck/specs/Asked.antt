@@ -5,18 +5,16 @@ use Rattle.sql_trees.specs.Trees.{Tree, tree_of}
 use Rattle.sql_values.specs.declared.value.Value.{Value}
 use Rattle.sql_values.specs.Expressions.{Cols}
 use Rattle.row_versions.specs.declared.names.TxId.{TxId}
-use Rattle.row_versions.specs.declared.write.View.{View}
 use Rattle.row_versions.specs.declared.write.Seen.{Seen}
 use Rattle.row_versions.specs.Log.{Content, values_at}
 use Rattle.row_versions.specs.Newest.{newest_of}
 use Rattle.row_locks.specs.declared.held.Strength.{Strength}
 use Rattle.update_recheck.specs.declared.ask.Ask.{Ask}
 
--- one target: who asks, at which level, with the version that the view shows, how strongly the row is wanted, WHERE, and the table's columns
+-- one target: who asks, at which level, the version that its view shows, how strongly the row is wanted, WHERE, and the table's columns
 pub record Asked : Type 0 where
   pub tx : TxId
   pub level : Level
-  pub view : View
   pub seen : Seen
   pub strength : Strength
   pub condition : Option Tree
@@ -27,7 +25,6 @@ abbrev pub asked : Ask → Asked
 asked a = record {
   tx = a.tx;
   level = a.level;
-  view = a.view;
   seen = a.seen;
   strength = a.strength;
   condition = option_map (λ e. tree_of e.now) a.filter;

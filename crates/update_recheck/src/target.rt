@@ -6,7 +6,8 @@ ghost use Rattle.row_locks.specs.Held.{IsTaken, with_lock};
 ghost use Rattle.row_versions.specs.Members.{is_none_of};
 ghost use Rattle.row_locks.specs.Cycles.{closes};
 ghost use Rattle.update_recheck.specs.Asked.{Fits, asked};
-ghost use Rattle.update_recheck.specs.Outcome.{row_blockers, holders, is_locked, is_target_locked, outcome, rechecked, target_outcome};
+ghost use Rattle.update_recheck.specs.Outcome.{row_blockers, is_target_locked, target_outcome};
+ghost use Rattle.update_recheck.specs.Inner.Cases.{holders, is_locked, outcome, rechecked};
 ghost use Rattle.update_recheck.specs.Settling.{LocksAfter, locks_after, SameMembers, WaitsFor, lock_of, outcome_of};
 ghost use Rattle.update_recheck.specs.Inner.Stopping.{stop_of};
 ghost use Rattle.update_recheck.specs.Inner.Found.{told, IsWhole};
@@ -22,6 +23,7 @@ use std::alloc::{AllocError, Global};
 
 /// Settles one target. Where the row is locked, that lock is taken and no other; the condition is evaluated before, so
 /// that want of memory leaves the locks as they were. A fault of the condition leaves the row locked.
+#[tactic(auto, using(crate::proofs::Cases::outcome_is, crate::proofs::Cases::locked_is))]
 pub fn settle<'t, V: Versions>(
     alloc: Global,
     store: &V,

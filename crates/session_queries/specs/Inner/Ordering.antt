@@ -9,7 +9,8 @@ use Rattle.sql_values.specs.declared.fault.ValueFault.{ValueFault}
 use Rattle.sql_values.specs.Values.{Answer, each, if_ok}
 use Rattle.sql_values.specs.Expressions.{Cols, passes, value}
 use Rattle.query_results.specs.Ordering.{rows_at}
-use Rattle.query_results.specs.Queries.{by_keys, keys_of, shown}
+use Rattle.query_results.specs.Queries.{by_keys}
+use Rattle.query_results.specs.Inner.Pieces.{keys_of, shown}
 use Rattle.session_queries.specs.Inner.Undefined.{aliased}
 
 -- the places, counted from k, of the rows that pass WHERE

@@ -6,7 +6,7 @@ use Rattle.sql_trees.specs.Trees.{Tree, AggTree}
 use Rattle.sql_trees.specs.Trees as tree
 use Rattle.query_results.specs.declared.title.Title.{Title}
 use Rattle.query_results.specs.declared.title.Title.TheVariants.{Column as Named, Unnamed}
-use Rattle.query_results.specs.Queries.{own_title}
+use Rattle.query_results.specs.Inner.Pieces.{own_title}
 
 -- an item without an alias has the name of the column that it is
 abbrev pub title_of : Tree → Title

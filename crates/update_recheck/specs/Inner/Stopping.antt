@@ -6,8 +6,9 @@ use Rattle.row_versions.specs.declared.write.Seen.{Seen}
 use Rattle.row_versions.specs.Members.{is_none_of}
 use Rattle.row_versions.specs.Log.{Content, values_at}
 use Rattle.update_recheck.specs.Asked.{Asked}
-use Rattle.update_recheck.specs.Outcome.{Holders, Version, Outcome, version_at}
-use Rattle.update_recheck.specs.Outcome.Holders.{Nobody, Others, OthersInACycle}
+use Rattle.update_recheck.specs.Outcome.{Version, Outcome, version_at}
+use Rattle.update_recheck.specs.Inner.Cases.{Holders}
+use Rattle.update_recheck.specs.Inner.Cases.Holders.{Nobody, Others, OthersInACycle}
 use Rattle.update_recheck.specs.Outcome.Version.{Gone}
 use Rattle.update_recheck.specs.Outcome.Outcome.{Waits, Deadlocks}
 

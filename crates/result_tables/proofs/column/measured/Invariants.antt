@@ -1,7 +1,8 @@
 use Rattle.std.proofs.Common.{◌≡◌, map, take}
 use Rattle.result_tables.specs.Printed.{printed}
 use Rattle.result_tables.specs.Titles.{title_text}
-use Rattle.result_tables.specs.TableText.{cells, layout_of}
+use Rattle.result_tables.specs.TableText.{layout_of}
+use Rattle.result_tables.specs.Inner.Columns.{cells}
 use Rattle.result_tables.proofs.column.measured.Given as goal
 
 abbrev pub invariant-loop-row : goal.invariant-loop-row

@@ -1,7 +1,7 @@
 use Rattle.std.proofs.Common.{◌≡◌, drop, length, map}
 use Rattle.sql_trees.specs.Statements.{item_of, order_of}
 use Rattle.session_queries.specs.Inner.Fronts.{in_front}
-use Rattle.query_results.specs.Queries.{keys_of}
+use Rattle.query_results.specs.Inner.Pieces.{keys_of}
 use Rattle.session_queries.specs.Inner.Ordering.{key_answers}
 use Rattle.session_queries.proofs.keys.keys_of.Given as goal
 

@@ -2,7 +2,7 @@ use Rattle.std.proofs.Common.{◌≡◌, drop, map, Ok}
 use Rattle.std.specs.Prelude.{slice_index_or}
 use Rattle.sql_trees.specs.Statements.{item_of}
 use Rattle.sql_values.specs.declared.value.Value.TheVariants.{Null}
-use Rattle.query_results.specs.Queries.{shown}
+use Rattle.query_results.specs.Inner.Pieces.{shown}
 use Rattle.session_queries.specs.Inner.Answers.{shown_at}
 use Rattle.session_queries.proofs.keys.shown_at.Given as goal
 

@@ -2,7 +2,8 @@ use Rattle.std.proofs.Common.{rules, ◌≡◌, length, map, Ok, subst}
 use Rattle.sql_trees.specs.Statements.{OrderTree, item_of, order_of}
 use Rattle.sql_values.specs.Values.{each}
 use Rattle.query_results.specs.Ordering.{rows_at}
-use Rattle.query_results.specs.Queries.{by_keys, keys_of}
+use Rattle.query_results.specs.Queries.{by_keys}
+use Rattle.query_results.specs.Inner.Pieces.{keys_of}
 use Rattle.session_queries.specs.Fronts.{AnswersList}
 use Rattle.session_queries.proofs.Picking.{sorted_within}
 use Rattle.session_queries.proofs.Taking.{ordered_answer}

@@ -1,0 +1,49 @@
+-- The table of cases by who holds the row.
+use Rattle.std.specs.Prelude.{Bool, true, false, List, Result, Ok, Err, if◌then◌else◌}
+use Rattle.sql_trees.specs.declared.stmt.Level.{Level}
+use Rattle.sql_trees.specs.declared.stmt.Level.TheVariants.{ReadCommitted, RepeatableRead}
+use Rattle.sql_values.specs.declared.fault.ValueFault.{ValueFault}
+use Rattle.row_versions.specs.declared.write.Seen.{Seen}
+use Rattle.row_versions.specs.Members.{is_none_of}
+use Rattle.row_locks.specs.declared.held.Held.{Held}
+use Rattle.row_locks.specs.Waiting.{Waiting}
+use Rattle.row_locks.specs.Cycles.{closes}
+use Rattle.update_recheck.specs.Asked.{Asked}
+use Rattle.update_recheck.specs.Outcome.{Version, Outcome, row_blockers}
+use Rattle.update_recheck.specs.Outcome.Version.{Same, Gone, Newer}
+use Rattle.update_recheck.specs.Outcome.Outcome.{Takes, Skips, Waits, Deadlocks, Serializes, Faults}
+
+-- who holds the row against the request: nobody; others, for whom it can wait; or others, where a wait for them would close a cycle
+pub data Holders : Type 0 where
+  Nobody : Holders
+  Others : Holders
+  OthersInACycle : Holders
+
+-- what comes of the version that is used where WHERE still matches it
+abbrev pub rechecked : Seen → Result Bool ValueFault → Outcome
+rechecked newer (Ok true) = Takes newer
+rechecked newer (Ok false) = Skips
+rechecked newer (Err fault) = Faults fault
+
+-- what comes of a target, by who holds it
+abbrev pub outcome : Level → Seen → Holders → Version → Outcome
+outcome ReadCommitted found OthersInACycle version = Deadlocks
+outcome ReadCommitted found Others version = Waits
+outcome ReadCommitted found Nobody Gone = Skips
+outcome ReadCommitted found Nobody Same = Takes found
+outcome ReadCommitted found Nobody (Newer newer condition) = rechecked newer condition
+outcome RepeatableRead found holders Gone = Serializes
+outcome RepeatableRead found holders (Newer newer condition) = Serializes
+outcome RepeatableRead found OthersInACycle Same = Deadlocks
+outcome RepeatableRead found Others Same = Waits
+outcome RepeatableRead found Nobody Same = Takes found
+
+-- the target is locked: at Read Committed also where WHERE then doesn't match
+abbrev pub is_locked : Level → Holders → Version → Bool
+is_locked level Nobody Same = true
+is_locked ReadCommitted Nobody (Newer newer condition) = true
+is_locked level holders version = false
+
+-- who holds the target, by the locks that are held and the waits that stand
+abbrev pub holders : List Held → List Waiting → Asked → Holders
+holders held waits ask = let by = row_blockers held ask in if is_none_of by then Nobody else if closes waits ask.tx by then OthersInACycle else Others
