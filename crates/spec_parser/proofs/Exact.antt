@@ -13,11 +13,13 @@ use Rattle.spec_parser.specs.declared.fault.SpecFault.TheVariants as faults
 use Rattle.spec_parser.specs.Trees.{FileTree, SpecTree, EntryTree}
 use Rattle.spec_parser.specs.Faults.{stopped}
 use Rattle.spec_parser.specs.Counts.{start, past}
-use Rattle.spec_parser.specs.Reading.{Rest, Read, place, file_at}
+use Rattle.spec_parser.specs.Reading.{Rest}
+use Rattle.spec_parser.specs.Inner.Stopping.{Read, place, file_at, finished}
 use Rattle.spec_parser.specs.Grammar.{file}
 use Rattle.spec_parser.specs.Names.{StepAt, steps_of, first_repeat, session_tree, ◌>>=◌, resolved}
 use Rattle.spec_parser.specs.Inner.Known.{known_perms}
-use Rattle.spec_parser.specs.SpecText.{SpecReads, no_tokens, tokens, finished}
+use Rattle.spec_parser.proofs.Placing.{reads_as}
+use Rattle.spec_parser.specs.SpecText.{SpecReads, no_tokens, tokens}
 use Rattle.spec_parser.specs.Laws.{HasStop}
 use Rattle.spec_parser.specs.IsSpec.{WithinLimits, IsSpec}
 use Rattle.spec_parser.specs.NameFaults.{Mention, by_entry, by_marker, mentions, undefined_at, IsFirstUndefined, HasRepeat, HasUndefined}
@@ -75,11 +77,11 @@ from_read text ts x (Err s, rest) e lexes is h = absurd (past_stop s (place (len
 
 pub was_resolved : (text : List ℕ) (x : Result SpecTree SpecFault) → IsPast x → SpecReads text x → WasResolved text x
 was_resolved text x h (no_tokens f lexes) = absurd h
-was_resolved text x h (tokens ts lexes is) = from_read text ts x (file_at (start, ts)) refl lexes is h
+was_resolved text x h (tokens ts lexes is) = from_read text ts x (file_at (start, ts)) refl lexes (is ∙ reads_as (length text) (start, ts)) h
 
 -- what was resolved is read
 pub reads_so : (text : List ℕ) (ts : List (At Token)) (f : FileTree) (x : Result SpecTree SpecFault) → Lexes text (Ok ts) → file start ts f → WithinLimits f → x ≡ resolved f → SpecReads text x
-reads_so text ts f x lexes grammar limits is = tokens ts lexes (is ∙ sym (ap (finished (length text)) (is_read_whole ts f grammar limits)))
+reads_so text ts f x lexes grammar limits is = tokens ts lexes (is ∙ sym (reads_as (length text) (start, ts) ∙ ap (finished (length text)) (is_read_whole ts f grammar limits)))
 
 -- ---- the names looked up
 
@@ -236,7 +238,7 @@ not_lex at f e = cc
 
 limit_by : (text : List ℕ) (at : ℕ) (x : Result SpecTree SpecFault) → x ≡ Err (faults.Limit at) → SpecReads text x → HasLimit text at
 limit_by text at x e (no_tokens f lexes) = absurd (not_lex at f (err_same (faults.Lex f) (faults.Limit at) e))
-limit_by text at x e (tokens ts lexes is) = limit_from text ts at (file_at (start, ts)) refl lexes (sym e ∙ is)
+limit_by text at x e (tokens ts lexes is) = limit_from text ts at (file_at (start, ts)) refl lexes (sym e ∙ is ∙ reads_as (length text) (start, ts))
 
 pub limits_are_names : (text : List ℕ) (at : ℕ) → SpecReads text (Err (faults.Limit at)) → HasLimit text at
 limits_are_names text at h = limit_by text at (Err (faults.Limit at)) refl h
@@ -323,7 +325,7 @@ stop_from text ts s at (Err t, rest) e lexes is =
 
 stop_by : (text : List ℕ) (s : Stop) (at : ℕ) (x : Result SpecTree SpecFault) → x ≡ Err (stopped s at) → SpecReads text x → HasStop text s at
 stop_by text s at x e (no_tokens f lexes) = absurd (subst IsStopped (sym (err_same (faults.Lex f) (stopped s at) e)) (stop_is s at))
-stop_by text s at x e (tokens ts lexes is) = stop_from text ts s at (file_at (start, ts)) refl lexes (sym e ∙ is)
+stop_by text s at x e (tokens ts lexes is) = stop_from text ts s at (file_at (start, ts)) refl lexes (sym e ∙ is ∙ reads_as (length text) (start, ts))
 
 pub stops_are_first : (text : List ℕ) (s : Stop) (at : ℕ) → SpecReads text (Err (stopped s at)) → HasStop text s at
 stops_are_first text s at h = stop_by text s at (Err (stopped s at)) refl h

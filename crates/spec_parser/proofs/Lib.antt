@@ -1,3 +1,4 @@
+pub mod Placing
 pub mod Local
 pub mod Productions
 pub mod Loops

@@ -12,7 +12,8 @@ use Rattle.spec_parser.specs.declared.fault.Stop.{Stop}
 use Rattle.spec_parser.specs.declared.fault.Stop.TheVariants.{Expected, NoticesLeftOut, OverLimit}
 use Rattle.spec_parser.specs.Trees.{NameAt, MarkerTree, star, named}
 use Rattle.spec_parser.specs.Counts.{Counts}
-use Rattle.spec_parser.specs.Reading.{Rest, Read, next, many_at, all_at, maybe_at, name_at, block_at, end_at, block_after, maybe_block, no_notices, marker_at, markers_at, the_name, the_block, token_at}
+use Rattle.spec_parser.specs.Reading.{Rest, the_name, the_block}
+use Rattle.spec_parser.specs.Inner.Stopping.{Read, next, many_at, all_at, maybe_at, name_at, block_at, end_at, block_after, maybe_block, no_notices, marker_at, markers_at, token_at}
 use Rattle.spec_parser.specs.Inner.Pieces.{starts_word, starts_sign, word_at, sign_at, setup_at, teardown_at, setups_at, next_marker_at, next_markers_at, some_markers_at}
 use Rattle.spec_parser.specs.Grammar.{the_word, the_sign}
 use Rattle.spec_parser.proofs.Local.{◌>>=◌, taken, no_value, stops_at, goes, goes_on}

@@ -11,7 +11,8 @@ use Rattle.iso_lexer.specs.Names.{Written}
 use Rattle.iso_lexer.specs.SpecTokens.{Token, keyword, name, digits, sign, block}
 use Rattle.spec_parser.specs.Trees.{NameAt}
 use Rattle.spec_parser.specs.Counts.{Counts, past, past_token}
-use Rattle.spec_parser.specs.Reading.{is_word, is_sign, the_name}
+use Rattle.spec_parser.specs.Reading.{the_name}
+use Rattle.spec_parser.specs.Grammar.{is_word, is_sign}
 use Rattle.spec_parser.specs.Grammar.{one, the_word, the_sign}
 
 pub test_true : (b : Bool) (u : Unit {0}) → ◌≡◌ {A = Option (Unit {0})} (cond b (Some tt) None) (Some u) → b ≡ true

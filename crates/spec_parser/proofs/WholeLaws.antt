@@ -12,10 +12,14 @@ use Rattle.spec_parser.specs.declared.fault.SpecFault.{SpecFault}
 use Rattle.spec_parser.specs.declared.fault.SpecFault.TheVariants as faults
 use Rattle.spec_parser.specs.Trees.{FileTree, SpecTree}
 use Rattle.spec_parser.specs.Counts.{Counts, start, past}
-use Rattle.spec_parser.specs.Reading.{Rest, Read, end_at, file_at}
+use Rattle.spec_parser.specs.Reading.{Rest}
+use Rattle.spec_parser.specs.Inner.Stopping.{Read, end_at, file_at}
 use Rattle.spec_parser.specs.Inner.Pieces.{setups_at, teardown_at, sessions_at, perms_at}
 use Rattle.spec_parser.specs.Grammar.{file}
-use Rattle.spec_parser.specs.SpecText.{SpecReads, no_tokens, tokens, finished}
+use Rattle.spec_parser.specs.Reading.{file_at as told_file}
+use Rattle.iso_lexer.specs.Results.{if_ok}
+use Rattle.spec_parser.specs.Names.{resolved}
+use Rattle.spec_parser.specs.SpecText.{SpecReads, no_tokens, tokens}
 use Rattle.spec_parser.specs.Laws.{head, names_token, StopsFirst}
 use Rattle.spec_parser.proofs.Local.{◌>>=◌, Means, Wants, is_read, no_value, in_two}
 use Rattle.spec_parser.proofs.Productions.{file_local}
@@ -111,4 +115,4 @@ pub one_answer : OneLexing → (text : List ℕ) (x y : Result SpecTree SpecFaul
 one_answer one text x y (no_tokens f h) (no_tokens g k) = ap (λ (u : Fault). Err (faults.Lex u)) (same_fault f g (one text (Err f) (Err g) h k))
 one_answer one text x y (no_tokens f h) (tokens ts k e) = absurd (no_both f ts (one text (Err f) (Ok ts) h k))
 one_answer one text x y (tokens ts h e) (no_tokens f k) = absurd (no_both f ts (one text (Err f) (Ok ts) k h))
-one_answer one text x y (tokens ts h e) (tokens us k d) = e ∙ ap (λ (vs : List (At Token)). finished (length text) (file_at (start, vs))) (same_tokens ts us (one text (Ok ts) (Ok us) h k)) ∙ sym d
+one_answer one text x y (tokens ts h e) (tokens us k d) = e ∙ ap (λ (vs : List (At Token)). if_ok (told_file (length text) (start, vs)) (λ x. resolved x.0)) (same_tokens ts us (one text (Ok ts) (Ok us) h k)) ∙ sym d

@@ -1,14 +1,29 @@
 -- The grammar of spec files (README of src/test/isolation, "Test specification"): one definition for each production.
-use Rattle.std.specs.Prelude.{◌≡◌, ◌<◌, ℕ, List, [], ◌∷◌, ◌++◌, length, Option, Some, None, unwrap_or, if◌then◌else◌}
+use Rattle.std.specs.Prelude.{◌≡◌, ◌<◌, ℕ, Bool, false, List, [], ◌∷◌, ◌++◌, length, Option, Some, None, is_some, unwrap_or, if◌then◌else◌}
+use denote.Enum.Bare.{sameb}
 use Rattle.iso_lexer.specs.declared.token.At.{At}
 use Rattle.iso_lexer.specs.declared.spec_token.Keyword.{Keyword}
 use Rattle.iso_lexer.specs.declared.spec_token.Keyword.TheVariants.{Permutation, Session, Setup, Step, Teardown}
+use Rattle.iso_lexer.specs.contracts.spec_token.Keyword.{the_type as words}
 use Rattle.iso_lexer.specs.declared.spec_token.Sign.{Sign}
 use Rattle.iso_lexer.specs.declared.spec_token.Sign.TheVariants.{Open, Close, Comma, Star}
-use Rattle.iso_lexer.specs.SpecTokens.{Token}
+use Rattle.iso_lexer.specs.contracts.spec_token.Sign.{the_type as signs}
+use Rattle.iso_lexer.specs.SpecTokens.{Token, keyword, sign}
 use Rattle.spec_parser.specs.Trees.{PartTree, NameAt, StepOf, SessionOf, MarkerTree, star, named, NamedEntry, FileTree}
-use Rattle.spec_parser.specs.Counts.{Counts, past}
-use Rattle.spec_parser.specs.Reading.{is_word, is_sign, the_name, the_block}
+use Rattle.spec_parser.specs.Counts.{Counts, start, past}
+use Rattle.spec_parser.specs.Reading.{the_name, the_block}
+
+-- which kind a token is of
+abbrev pub is_word : Keyword → Token → Bool
+is_word k (keyword j) = sameb words j k
+is_word k _ = false
+
+abbrev pub is_sign : Sign → Token → Bool
+is_sign g (sign h) = sameb signs h g
+is_sign g _ = false
+
+abbrev pub is_name : Token → Bool
+is_name t = is_some (the_name start 0 t)
 
 -- that these tokens, behind what is counted, say this
 abbrev pub Grammar : Type 0 → Type 1

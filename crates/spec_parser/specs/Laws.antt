@@ -11,11 +11,12 @@ use Rattle.spec_parser.specs.Trees.{FileTree, SpecTree}
 use Rattle.spec_parser.specs.Counts.{start, past}
 use Rattle.iso_lexer.specs.declared.spec_token.Keyword.TheVariants.{Permutation, Session, Setup, Step, Teardown, Notices}
 use Rattle.iso_lexer.specs.declared.spec_token.Sign.TheVariants.{Close, Comma, Star}
-use Rattle.spec_parser.specs.Reading.{Rest, is_word, is_sign, is_name, the_block, starts, file_at}
-use Rattle.spec_parser.specs.Reading.{place as place_of}
+use Rattle.spec_parser.specs.Reading.{Rest, the_block}
+use Rattle.spec_parser.specs.Inner.Stopping.{starts, file_at}
+use Rattle.spec_parser.specs.Inner.Stopping.{place as place_of}
 use Rattle.spec_parser.specs.Faults.{stopped}
 use Rattle.iso_lexer.specs.SpecText.{Lexes}
-use Rattle.spec_parser.specs.Grammar.{file}
+use Rattle.spec_parser.specs.Grammar.{is_word, is_sign, is_name, file}
 use Rattle.spec_parser.specs.declared.fault.SpecFault.TheVariants as faults
 use Rattle.spec_parser.specs.SpecText.{SpecReads}
 use Rattle.spec_parser.specs.IsSpec.{WithinLimits, IsSpec}

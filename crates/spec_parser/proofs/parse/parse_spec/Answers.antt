@@ -3,7 +3,7 @@ use Rattle.std.proofs.lemmas.Result.{err_from_is_err_and}
 use Rattle.iso_lexer.specs.SpecTokens.{at_views}
 use Rattle.spec_parser.specs.Trees.{file_view, perm_view, session_draft_view, perm_names_view}
 use Rattle.spec_parser.specs.Counts.{start}
-use Rattle.spec_parser.specs.Reading.{file_at}
+use Rattle.spec_parser.specs.Inner.Stopping.{file_at}
 use Rattle.spec_parser.specs.Names.{first_repeat, session_tree}
 use Rattle.spec_parser.specs.Inner.Known.{known_perms, known_view, sessions_from, FailsWith}
 use Rattle.spec_parser.specs.Inner.Readers.{rest_of, FailsAs}
