@@ -20,8 +20,8 @@ use Rattle.spec_parser.specs.Counts.{Counts, past, past_token}
 use Rattle.spec_parser.specs.Reading.{the_name, the_block}
 use Rattle.spec_parser.specs.Grammar.{Grammar, gives, one, the_word, the_sign, Maybe, left_out, given, Many, none, more, some, first, second, block_behind, step, session, marker, markers, entry, perm, file}
 use Rattle.spec_parser.specs.Grammar.{◌>>=◌ as ◌▸◌}
-use Rattle.spec_parser.specs.Names.{step_tree, session_tree}
-use Rattle.spec_parser.specs.Inner.Known.{steps_from, sessions_from}
+use Rattle.spec_parser.specs.Names.{session_tree}
+use Rattle.spec_parser.specs.Inner.Known.{step_tree, steps_from, sessions_from}
 use Rattle.spec_parser.specs.Stands.{PartLies, NameLies, session_parts, session_names}
 use Rattle.spec_parser.proofs.Local.{past_twice}
 use Rattle.spec_parser.proofs.Tokens.{past_one, word_past, sign_past, name_past}

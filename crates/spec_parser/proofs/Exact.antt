@@ -19,8 +19,9 @@ use Rattle.spec_parser.specs.Reading.{Rest}
 use Rattle.spec_parser.specs.Inner.Stopping.{Read, place, told, file_at, finished}
 use Rattle.spec_parser.specs.Inner.Pieces.{starts_word}
 use Rattle.spec_parser.specs.Grammar.{file}
-use Rattle.spec_parser.specs.Names.{StepAt, steps_of, first_repeat, session_tree, ◌>>=◌, resolved}
-use Rattle.spec_parser.specs.Inner.Known.{known_perms}
+use Rattle.iso_lexer.specs.Results.{if_ok}
+use Rattle.spec_parser.specs.Names.{StepAt, steps_of, session_tree}
+use Rattle.spec_parser.specs.Inner.Known.{first_repeat, resolved, known_perms}
 use Rattle.spec_parser.proofs.Placing.{file_same, reads_as}
 use Rattle.spec_parser.specs.SpecText.{SpecReads, no_tokens, tokens}
 use Rattle.spec_parser.specs.Laws.{head, FaultIsFirst, HasStop}
@@ -96,7 +97,7 @@ abbrev without_repeat : Option ℕ → Result SpecTree SpecFault → Result Spec
 without_repeat o spec = option_map_or (λ at. Err (faults.DuplicateStep at)) o spec
 
 abbrev out_of : FileTree → Option ℕ → Result (List (List EntryTree)) SpecFault → Result SpecTree SpecFault
-out_of f o r = without_repeat o (r >>= λ ps. Ok (made f ps))
+out_of f o r = without_repeat o (if_ok r (λ ps. Ok (made f ps)))
 
 ok_err : (x : SpecTree) (f : SpecFault) → ◌≡◌ {A = Result SpecTree SpecFault} (Ok x) (Err f) → ⊥
 ok_err x f e = cc

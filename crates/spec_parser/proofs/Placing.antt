@@ -1,6 +1,8 @@
 -- Reading as it is told is reading as the code does it, with the place of a stop put in.
-use Rattle.std.proofs.Common.{◌≡◌, ◌≤◌, ◌<◌, ℕ, zero, suc, ◌+◌, Bool, true, false, cond, List, [], ◌∷◌, length, Option, Some, None, Result, Ok, Err, refl, sym, ap, ◌∙◌, add-one, arith}
-use Rattle.std.specs.Prelude.{nat_lt, nat_le, unwrap_or, option_map}
+use Rattle.std.proofs.Common.{◌≡◌, ◌≤◌, ◌<◌, ℕ, zero, suc, ◌+◌, Bool, true, false, cond, List, [], ◌∷◌, ◌++◌, length, take, append_assoc, length-append, Option, Some, None, Result, Ok, Err, refl, sym, ap, ◌∙◌, add-one, arith}
+use Rattle.std.specs.Prelude.{nat_lt, nat_le, unwrap_or, option_map, find, is_some, map}
+use Rattle.std.specs.List.{enumerate_from}
+use Rattle.std.proofs.Math.Seq.{take-append_seam}
 use Rattle.std.specs.Option.{option_map_or}
 use Rattle.iso_lexer.specs.declared.token.At.{At}
 use Rattle.iso_lexer.specs.declared.token.Span.{Span}
@@ -9,7 +11,7 @@ use Rattle.iso_lexer.specs.declared.spec_token.Keyword.TheVariants.{Permutation,
 use Rattle.iso_lexer.specs.declared.spec_token.Sign.{Sign}
 use Rattle.iso_lexer.specs.declared.spec_token.Sign.TheVariants.{Open, Close, Comma, Star}
 use Rattle.iso_lexer.specs.SpecTokens.{Token, keyword, name, sign, block}
-use Rattle.iso_lexer.specs.Results.{if_ok}
+use Rattle.iso_lexer.specs.Results.{if_ok, each}
 use Rattle.iso_lexer.specs.Readers.{◌>>=◌, gives, place_of}
 use Rattle.spec_parser.specs.declared.fault.What.{What}
 use Rattle.spec_parser.specs.declared.fault.What.TheVariants as what
@@ -21,7 +23,8 @@ use Rattle.spec_parser.specs.Counts.{Counts, past_token}
 use Rattle.spec_parser.specs.Reading.{Rest, SpecReader, Kind, the_keyword, the_mark, the_name, the_block, if_next, many_from, many_of, at_most, expected, one_token, spec_block}
 use Rattle.spec_parser.specs.Reading as new
 use Rattle.spec_parser.specs.Grammar.{is_word, is_sign, is_name}
-use Rattle.spec_parser.specs.Names.{resolved}
+use Rattle.spec_parser.specs.Names.{StepAt, is_named, first_repeated, steps_of, names_resolved, session_tree, known_entry}
+use Rattle.spec_parser.specs.Inner.Known.{first_repeat, resolved}
 use Rattle.spec_parser.specs.Inner.Stopping.{Read, Reader, and_then, starts, token_at, next, name_at, block_at, end_at, name_within, many_at, all_at, some_at, maybe_at, block_after, maybe_block, step_at, session_at, no_notices, marker_at, markers_at, entry_at, perm_at, file_at, told, finished}
 
 -- ---- words of reading
@@ -345,10 +348,40 @@ file_same last r =
     (λ ss. then last perms (all_at (starts (is_word Permutation)) (λ k. perm_at)) _ (λ ps. ending (file_of us t ss ps)) (all_same last (the_keyword Permutation) (starts (is_word Permutation)) (λ k at. many_of the_name (new.entry_at last) (expected last what.Name)) (λ k. perm_at) (λ k. perm_begins last))
     (λ ps. end_same last (file_of us t ss ps))))) r
 
-finished_by : (last : ℕ) (q : Read FileTree) → if_ok (told last q) (λ x. resolved x.0) ≡ finished last q
-finished_by last (Ok f, rest) = refl
+-- ---- names
+
+abbrev place_in : Option (ℕ × StepAt) → Option ℕ
+place_in o = option_map (λ (s : ℕ × StepAt). s.1.name.at) o
+
+-- a name that one of those before it has
+abbrev again : List StepAt → ℕ × StepAt → Bool
+again steps s = is_some (find (is_named s.1.name.name) (take s.0 steps))
+
+repeat_by : (s : StepAt) (b : Bool) (k : ℕ) (o : Option (ℕ × StepAt)) (p : Option ℕ) → place_in o ≡ p → place_in (cond b (Some (k, s)) o) ≡ cond b (Some s.name.at) p
+repeat_by s true k o p e = refl
+repeat_by s false k o p e = e
+
+repeat_same : (before ss : List StepAt) → place_in (find (again (before ++ ss)) (enumerate_from (length before) ss)) ≡ first_repeat before ss
+repeat_same before [] = refl
+repeat_same before (s ∷ ss) =
+    let longer : length (before ++ s ∷ []) ≡ length before + 1 = length-append before (s ∷ []) in
+    let others : place_in (find (again (before ++ s ∷ ss)) (enumerate_from (length before + 1) ss)) ≡ first_repeat (before ++ s ∷ []) ss
+    = ap (λ k. place_in (find (again (before ++ s ∷ ss)) (enumerate_from k ss))) (sym longer) ∙ ap (λ l. place_in (find (again l) (enumerate_from (length (before ++ s ∷ [])) ss))) (sym (append_assoc before (s ∷ []) ss)) ∙ repeat_same (before ++ s ∷ []) ss in
+    rw (take-append_seam before (s ∷ ss)) (repeat_by s (is_some (find (is_named s.name.name) before)) (length before) (find (again (before ++ s ∷ ss)) (enumerate_from (length before + 1) ss)) (first_repeat (before ++ s ∷ []) ss) others)
+
+by_repeat : (o : Option (ℕ × StepAt)) (r : Result SpecTree SpecFault) → option_map_or (λ (s : ℕ × StepAt). Err (faults.DuplicateStep s.1.name.at)) o r ≡ option_map_or (λ at. Err (faults.DuplicateStep at)) (place_in o) r
+by_repeat (Some s) r = refl
+by_repeat None r = refl
+
+resolved_same : (f : FileTree) → names_resolved f ≡ resolved f
+resolved_same f =
+    let others : Result SpecTree SpecFault = if_ok (each (each (known_entry (steps_of f))) f.perms) (λ perms. Ok (record { setups = f.setups; teardown = f.teardown; sessions = map session_tree f.sessions; perms = perms })) in
+    by_repeat (first_repeated (steps_of f)) others ∙ ap (λ (o : Option ℕ). option_map_or (λ at. Err (faults.DuplicateStep at)) o others) (repeat_same [] (steps_of f))
+
+finished_by : (last : ℕ) (q : Read FileTree) → if_ok (told last q) (λ x. names_resolved x.0) ≡ finished last q
+finished_by last (Ok f, rest) = resolved_same f
 finished_by last (Err s, rest) = refl
 
 -- what a file says, as it is told and as the code does it
-pub reads_as : (last : ℕ) (r : Rest) → if_ok (new.file_at last r) (λ x. resolved x.0) ≡ finished last (file_at r)
-reads_as last r = ap (λ o. if_ok o (λ x. resolved x.0)) (file_same last r) ∙ finished_by last (file_at r)
+pub reads_as : (last : ℕ) (r : Rest) → if_ok (new.file_at last r) (λ x. names_resolved x.0) ≡ finished last (file_at r)
+reads_as last r = ap (λ o. if_ok o (λ x. names_resolved x.0)) (file_same last r) ∙ finished_by last (file_at r)

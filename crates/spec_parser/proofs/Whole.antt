@@ -17,8 +17,8 @@ use Rattle.spec_parser.specs.Counts.{start}
 use Rattle.spec_parser.specs.Reading.{Rest}
 use Rattle.spec_parser.specs.Inner.Stopping.{Read, place, file_at, finished}
 use Rattle.spec_parser.specs.Inner.Readers.{FailsAs}
-use Rattle.spec_parser.specs.Names.{StepAt, first_repeat, session_tree, resolved}
-use Rattle.spec_parser.specs.Inner.Known.{sessions_from, known_perms, FailsWith}
+use Rattle.spec_parser.specs.Names.{StepAt, session_tree}
+use Rattle.spec_parser.specs.Inner.Known.{first_repeat, resolved, sessions_from, known_perms, FailsWith}
 use Rattle.spec_parser.proofs.Placing.{reads_as}
 use Rattle.spec_parser.specs.SpecText.{SpecReads, no_tokens, tokens, Answers}
 

@@ -18,7 +18,7 @@ use Rattle.spec_parser.specs.Inner.Pieces.{setups_at, teardown_at, sessions_at, 
 use Rattle.spec_parser.specs.Grammar.{file}
 use Rattle.spec_parser.specs.Reading.{file_at as told_file}
 use Rattle.iso_lexer.specs.Results.{if_ok}
-use Rattle.spec_parser.specs.Names.{resolved}
+use Rattle.spec_parser.specs.Names.{names_resolved}
 use Rattle.spec_parser.specs.SpecText.{SpecReads, no_tokens, tokens}
 use Rattle.spec_parser.specs.Laws.{head, names_token, StopsFirst}
 use Rattle.spec_parser.proofs.Placing.{file_same}
@@ -116,4 +116,4 @@ pub one_answer : OneLexing → (text : List ℕ) (x y : Result SpecTree SpecFaul
 one_answer one text x y (no_tokens f h) (no_tokens g k) = ap (λ (u : Fault). Err (faults.Lex u)) (same_fault f g (one text (Err f) (Err g) h k))
 one_answer one text x y (no_tokens f h) (tokens ts k e) = absurd (no_both f ts (one text (Err f) (Ok ts) h k))
 one_answer one text x y (tokens ts h e) (no_tokens f k) = absurd (no_both f ts (one text (Err f) (Ok ts) k h))
-one_answer one text x y (tokens ts h e) (tokens us k d) = e ∙ ap (λ (vs : List (At Token)). if_ok (told_file (length text) (start, vs)) (λ x. resolved x.0)) (same_tokens ts us (one text (Ok ts) (Ok us) h k)) ∙ sym d
+one_answer one text x y (tokens ts h e) (tokens us k d) = e ∙ ap (λ (vs : List (At Token)). if_ok (told_file (length text) (start, vs)) (λ x. names_resolved x.0)) (same_tokens ts us (one text (Ok ts) (Ok us) h k)) ∙ sym d

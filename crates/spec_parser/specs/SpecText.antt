@@ -11,13 +11,13 @@ use Rattle.spec_parser.specs.declared.tree.Spec.{Spec}
 use Rattle.spec_parser.specs.Trees.{SpecTree, spec_view}
 use Rattle.spec_parser.specs.Counts.{start}
 use Rattle.spec_parser.specs.Reading.{file_at}
-use Rattle.spec_parser.specs.Names.{resolved}
+use Rattle.spec_parser.specs.Names.{names_resolved}
 
 -- A text says this, or has this fault: the first of its tokens, else the first that reading them meets, else the first of
 -- its step names, else the first of its permutations.
 pub data SpecReads (text : List ℕ) : Result SpecTree SpecFault → Type 0 where
   no_tokens : (f : Fault) → Lexes text (Err f) → SpecReads text (Err (faults.Lex f))
-  tokens : {answer : Result SpecTree SpecFault} (ts : List (At Token)) → Lexes text (Ok ts) → answer ≡ if_ok (file_at (length text) (start, ts)) (λ x. resolved x.0) → SpecReads text answer
+  tokens : {answer : Result SpecTree SpecFault} (ts : List (At Token)) → Lexes text (Ok ts) → answer ≡ if_ok (file_at (length text) (start, ts)) (λ x. names_resolved x.0) → SpecReads text answer
 
 -- What was returned is so, unless memory ran out.
 abbrev pub Answers : List ℕ → Result Spec SpecFault → Type 0

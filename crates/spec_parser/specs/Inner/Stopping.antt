@@ -17,7 +17,7 @@ use Rattle.spec_parser.specs.Counts.{Counts, past_token}
 use Rattle.spec_parser.specs.Reading.{Rest, the_name, the_block}
 use Rattle.spec_parser.specs.Grammar.{is_word, is_sign, is_name}
 use Rattle.spec_parser.specs.Faults.{stopped}
-use Rattle.spec_parser.specs.Names.{resolved}
+use Rattle.spec_parser.specs.Inner.Known.{resolved}
 
 infixr 10 ◌>>=◌
 infixr 10 ◌>>◌
