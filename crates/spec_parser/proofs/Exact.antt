@@ -1,5 +1,5 @@
 -- What reading gives is just what the relations say.
-use Rattle.std.proofs.Common.{◌≡◌, ◌⊎◌, inl, inr, ℕ, length, Bool, true, false, List, [], ◌∷◌, map, Option, Some, None, Result, Ok, Err, refl, sym, ap, subst, ◌∙◌}
+use Rattle.std.proofs.Common.{◌≡◌, ◌⊎◌, inl, inr, ℕ, length, Bool, true, false, List, [], ◌∷◌, ◌++◌, append-nil, map, Option, Some, None, Result, Ok, Err, refl, sym, ap, subst, ◌∙◌}
 use Rattle.std.specs.Option.{option_map_or}
 use Rattle.std.proofs.lemmas.Option.{same_Some}
 use Rattle.iso_lexer.specs.declared.token.At.{At}
@@ -15,14 +15,14 @@ use Rattle.spec_parser.specs.Trees.{FileTree, SpecTree, EntryTree}
 use Rattle.spec_parser.specs.Faults.{stopped}
 use Rattle.spec_parser.specs.Counts.{Counts, start, past}
 use Rattle.spec_parser.specs.Reading as new
-use Rattle.spec_parser.specs.Reading.{Rest}
-use Rattle.spec_parser.specs.Inner.Stopping.{Read, place, told, file_at, finished}
+use Rattle.spec_parser.specs.Inner.Stopping.{Rest, Read, place, told, file_at, finished}
 use Rattle.spec_parser.specs.Inner.Pieces.{starts_word}
 use Rattle.spec_parser.specs.Grammar.{file}
 use Rattle.iso_lexer.specs.Results.{if_ok}
 use Rattle.spec_parser.specs.Names.{StepAt, steps_of, session_tree}
 use Rattle.spec_parser.specs.Inner.Known.{first_repeat, resolved, known_perms}
-use Rattle.spec_parser.proofs.Placing.{file_same, reads_as}
+use Rattle.spec_parser.proofs.Placing.{seen, seen_in, fault_is, file_same, reads_as}
+use Rattle.spec_parser.proofs.Passing.{Whole, file_passes}
 use Rattle.spec_parser.specs.SpecText.{SpecReads, no_tokens, tokens}
 use Rattle.spec_parser.specs.Laws.{head, FaultIsFirst, HasStop}
 use Rattle.spec_parser.specs.IsSpec.{WithinLimits, IsSpec}
@@ -81,11 +81,11 @@ from_read text ts x (Err s, rest) e lexes is h = absurd (past_stop s (place (len
 
 pub was_resolved : (text : List ℕ) (x : Result SpecTree SpecFault) → IsPast x → SpecReads text x → WasResolved text x
 was_resolved text x h (no_tokens f lexes) = absurd h
-was_resolved text x h (tokens ts lexes is) = from_read text ts x (file_at (start, ts)) refl lexes (is ∙ reads_as (length text) (start, ts)) h
+was_resolved text x h (tokens ts lexes is) = from_read text ts x (file_at (start, ts)) refl lexes (is ∙ reads_as (length text) ts) h
 
 -- what was resolved is read
 pub reads_so : (text : List ℕ) (ts : List (At Token)) (f : FileTree) (x : Result SpecTree SpecFault) → Lexes text (Ok ts) → file start ts f → WithinLimits f → x ≡ resolved f → SpecReads text x
-reads_so text ts f x lexes grammar limits is = tokens ts lexes (is ∙ sym (reads_as (length text) (start, ts) ∙ ap (finished (length text)) (is_read_whole ts f grammar limits)))
+reads_so text ts f x lexes grammar limits is = tokens ts lexes (is ∙ sym (reads_as (length text) ts ∙ ap (finished (length text)) (is_read_whole ts f grammar limits)))
 
 -- ---- the names looked up
 
@@ -242,7 +242,7 @@ not_lex at f e = cc
 
 limit_by : (text : List ℕ) (at : ℕ) (x : Result SpecTree SpecFault) → x ≡ Err (faults.Limit at) → SpecReads text x → HasLimit text at
 limit_by text at x e (no_tokens f lexes) = absurd (not_lex at f (err_same (faults.Lex f) (faults.Limit at) e))
-limit_by text at x e (tokens ts lexes is) = limit_from text ts at (file_at (start, ts)) refl lexes (sym e ∙ is ∙ reads_as (length text) (start, ts))
+limit_by text at x e (tokens ts lexes is) = limit_from text ts at (file_at (start, ts)) refl lexes (sym e ∙ is ∙ reads_as (length text) ts)
 
 pub limits_are_names : (text : List ℕ) (at : ℕ) → SpecReads text (Err (faults.Limit at)) → HasLimit text at
 limits_are_names text at h = limit_by text at (Err (faults.Limit at)) refl h
@@ -333,7 +333,7 @@ stop_from text ts s at (Err t, rest) e lexes is =
 
 stop_by : (text : List ℕ) (s : Stop) (at : ℕ) (x : Result SpecTree SpecFault) → x ≡ Err (stopped s at) → SpecReads text x → HasStop text s at
 stop_by text s at x e (no_tokens f lexes) = absurd (subst IsStopped (sym (err_same (faults.Lex f) (stopped s at) e)) (stop_is s at))
-stop_by text s at x e (tokens ts lexes is) = stop_from text ts s at (file_at (start, ts)) refl lexes (sym e ∙ is ∙ reads_as (length text) (start, ts))
+stop_by text s at x e (tokens ts lexes is) = stop_from text ts s at (file_at (start, ts)) refl lexes (sym e ∙ is ∙ reads_as (length text) ts)
 
 pub stops_are_first : (text : List ℕ) (s : Stop) (at : ℕ) → SpecReads text (Err (stopped s at)) → HasStop text s at
 stops_are_first text s at h = stop_by text s at (Err (stopped s at)) refl h
@@ -358,20 +358,34 @@ first_from : (last : ℕ) (ts : List (At Token)) (x : SpecFault) (q : Read FileT
 first_from last ts x (Ok f, rest) is e = absurd (not_told f rest x e)
 first_from last ts x (Err s, rest) is e = record { stop = s; rest = rest.1; is = sym (fault_told (stopped s (place last rest.1)) x e); first = stops_first ts s rest is }
 
-pub faults_first : (last : ℕ) (ts : List (At Token)) (x : SpecFault) → new.file_at last (start, ts) ≡ Err x → FaultIsFirst last ts x
-faults_first last ts x e = first_from last ts x (file_at (start, ts)) refl (sym (file_same last (start, ts)) ∙ e)
+pub faults_first : (last : ℕ) (ts : List (At Token)) (x : SpecFault) → new.file_at last ([], ts) ≡ Err x → FaultIsFirst last ts x
+faults_first last ts x e = first_from last ts x (file_at (start, ts)) refl (sym (file_same last ([], ts)) ∙ ap seen_in e)
 
-pub reads_in : (last : ℕ) (ts : List (At Token)) (f : FileTree) (rest : Rest) → new.file_at last (start, ts) ≡ Ok (f, rest) → file start ts f × WithinLimits f
-reads_in last ts f rest e = reads_within ts f rest (value_from last (file_at (start, ts)) f rest (sym (file_same last (start, ts)) ∙ e))
+pub reads_in : (last : ℕ) (ts : List (At Token)) (f : FileTree) (rest : new.Rest) → new.file_at last ([], ts) ≡ Ok (f, rest) → file start ts f × WithinLimits f
+reads_in last ts f rest e = reads_within ts f (seen rest) (value_from last (file_at (start, ts)) f (seen rest) (sym (file_same last ([], ts)) ∙ ap seen_in e))
 
 limit_told : (last : ℕ) (q : Read FileTree) → q.0 ≡ Err OverLimit → told last q ≡ Err (faults.Limit (place last q.1.1))
 limit_told last (Ok f, rest) e = let wrong : ◌≡◌ {A = Result FileTree Stop} (Ok f) (Err OverLimit) = e in absurd cc
 limit_told last (Err s, rest) e = let same : ◌≡◌ {A = Stop} s OverLimit = cc in ap (λ t. Err (stopped t (place last rest.1))) same
 
-pub files_in : (last : ℕ) (ts : List (At Token)) (f : FileTree) → file start ts f → (WithinLimits f → new.file_at last (start, ts) ≡ Ok (f, (past start ts, []))) × ((WithinLimits f → ⊥) → (at : ℕ) × (new.file_at last (start, ts) ≡ Err (faults.Limit at)))
+-- where nothing is left, all stands before
+whole_by : (ts b us : List (At Token)) (f g : FileTree) → g ≡ f → us ≡ [] → b ++ us ≡ ts → ◌≡◌ {A = Result (FileTree × new.Rest) SpecFault} (Ok (g, (b, us))) (Ok (f, (ts, [])))
+whole_by ts b us f g same nothing split =
+    let all : b ≡ ts = sym (append-nil b) ∙ ap (λ vs. b ++ vs) (sym nothing) ∙ split in
+    (λ i. Ok (same i, (all i, nothing i)))
+
+whole_is : (ts : List (At Token)) (c : Counts) (f : FileTree) (p : Result (FileTree × new.Rest) SpecFault) → seen_in p ≡ Ok (f, (c, [])) → Whole ts p → p ≡ Ok (f, (ts, []))
+whole_is ts c f (Ok (g, (b, us))) e split =
+    let same = value_told (g, seen (b, us)) (f, (c, [])) e in
+    whole_by ts b us f g (ap (λ (p : FileTree × Rest). p.0) same) (ap (λ (p : FileTree × Rest). p.1.1) same) split
+whole_is ts c f (Err x) e split = absurd (not_told f (c, []) x (sym e))
+
+pub files_in : (last : ℕ) (ts : List (At Token)) (f : FileTree) → file start ts f → (WithinLimits f → new.file_at last ([], ts) ≡ Ok (f, (ts, []))) × ((WithinLimits f → ⊥) → (at : ℕ) × (new.file_at last ([], ts) ≡ Err (faults.Limit at)))
 files_in last ts f grammar =
-    let both = files_within ts f grammar in
-    (λ limits. file_same last (start, ts) ∙ ap (told last) (both.0 limits), λ outside. (place last (file_at (start, ts)).1.1, file_same last (start, ts) ∙ limit_told last (file_at (start, ts)) (both.1 outside)))
+    let both = files_within ts f grammar in (
+      λ limits. whole_is ts (past start ts) f (new.file_at last ([], ts)) (file_same last ([], ts) ∙ ap (told last) (both.0 limits)) (file_passes last ([], ts)),
+      λ outside. let at = place last (file_at (start, ts)).1.1 in (at, fault_is (new.file_at last ([], ts)) (faults.Limit at) (file_same last ([], ts) ∙ limit_told last (file_at (start, ts)) (both.1 outside))),
+    )
 
 limits_from : (last : ℕ) (ts : List (At Token)) (at : ℕ) (q : Read FileTree) → file_at (start, ts) ≡ q → told last q ≡ Err (faults.Limit at) → (rest : List (At Token)) × (stop : LimitStop ts rest) × (at ≡ stop.name.span.start)
 limits_from last ts at (Ok f, rest) is e = absurd (not_told f rest (faults.Limit at) e)
@@ -380,5 +394,5 @@ limits_from last ts at (Err s, rest) is e =
     let stop = limit_stop ts rest (is ∙ (λ i. (Err (k.0 i), rest))) in
     (rest.1, stop, k.1 ∙ ap (place last) stop.rest_is)
 
-pub limits_first : (last : ℕ) (ts : List (At Token)) (at : ℕ) → new.file_at last (start, ts) ≡ Err (faults.Limit at) → (rest : List (At Token)) × (stop : LimitStop ts rest) × (at ≡ stop.name.span.start)
-limits_first last ts at e = limits_from last ts at (file_at (start, ts)) refl (sym (file_same last (start, ts)) ∙ e)
+pub limits_first : (last : ℕ) (ts : List (At Token)) (at : ℕ) → new.file_at last ([], ts) ≡ Err (faults.Limit at) → (rest : List (At Token)) × (stop : LimitStop ts rest) × (at ≡ stop.name.span.start)
+limits_first last ts at e = limits_from last ts at (file_at (start, ts)) refl (sym (file_same last ([], ts)) ∙ ap seen_in e)

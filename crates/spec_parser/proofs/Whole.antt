@@ -14,8 +14,7 @@ use Rattle.spec_parser.specs.declared.fault.SpecFault.TheVariants as faults
 use Rattle.spec_parser.specs.Faults.{lexer_fault, stopped, halted}
 use Rattle.spec_parser.specs.Trees.{FileTree, SpecTree, EntryTree}
 use Rattle.spec_parser.specs.Counts.{start}
-use Rattle.spec_parser.specs.Reading.{Rest}
-use Rattle.spec_parser.specs.Inner.Stopping.{Read, place, file_at, finished}
+use Rattle.spec_parser.specs.Inner.Stopping.{Rest, Read, place, file_at, finished}
 use Rattle.spec_parser.specs.Inner.Readers.{FailsAs}
 use Rattle.spec_parser.specs.Names.{StepAt, session_tree}
 use Rattle.spec_parser.specs.Inner.Known.{first_repeat, resolved, sessions_from, known_perms, FailsWith}
@@ -41,7 +40,7 @@ stop_is end (Ok f, rest) s at e is = absurd (no_stop f s e)
 stop_is end (Err t, rest) s at e is = rw (is, same_stop t s e) refl
 
 so_told : (text : List ℕ) (ts : List (At Token)) (answer : Result SpecTree SpecFault) → Lexes text (Ok ts) → answer ≡ finished (length text) (file_at (start, ts)) → SpecReads text answer
-so_told text ts answer lexes e = tokens ts lexes (e ∙ sym (reads_as (length text) (start, ts)))
+so_told text ts answer lexes e = tokens ts lexes (e ∙ sym (reads_as (length text) ts))
 
 pub on_halt : (text : List ℕ) (ts : List (At Token)) (h : Halt) → Lexes text (Ok ts) → FailsAs (length text) h (file_at (start, ts)) → Answers text (Err (halted h))
 on_halt text ts halts.Memory lexes fails = tt

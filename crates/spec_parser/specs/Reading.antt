@@ -1,5 +1,5 @@
 -- Reading tokens from left to right, up to the first one that may not stand there: words of reading, and the parts of a file.
-use Rattle.std.specs.Prelude.{ℕ, zero, suc, ◌+◌, nat_le, List, [], ◌∷◌, length, Option, Some, None, Ok, Err, if◌then◌else◌}
+use Rattle.std.specs.Prelude.{ℕ, zero, suc, ◌+◌, nat_le, List, [], ◌∷◌, ◌++◌, length, count_by, is_some, Option, Some, None, Ok, Err, if◌then◌else◌}
 use Rattle.std.specs.Option.{option_map_or}
 use denote.Enum.Bare.{sameb}
 use Rattle.iso_lexer.specs.declared.token.At.{At}
@@ -16,43 +16,42 @@ use Rattle.spec_parser.specs.declared.fault.What.TheVariants as what
 use Rattle.spec_parser.specs.declared.fault.SpecFault.{SpecFault}
 use Rattle.spec_parser.specs.declared.fault.SpecFault.TheVariants.{Expected, NoticesLeftOut, Limit}
 use Rattle.spec_parser.specs.Trees.{PartTree, NameAt, StepOf, SessionOf, MarkerTree, star, named, NamedEntry, FileTree}
-use Rattle.spec_parser.specs.Counts.{Counts, past_token}
 
--- what is left of a file: what stands before, and the tokens
+-- what is left of a file: the tokens before, and those from here on
 abbrev pub Rest : Type 0
-Rest = Counts × List (At Token)
+Rest = List (At Token) × List (At Token)
 
 abbrev pub SpecReader : Type 0 → Type 0
 SpecReader A = ReaderOf Rest SpecFault A
 
 -- ---- one token
 
--- a kind of token, by what a token of it says; that may come from what stands before it, and from the byte at which it stands
+-- a kind of token, by what one of it says
 abbrev pub Kind : Type 0 → Type 0
-Kind A = Counts → ℕ → Token → Option A
+Kind A = At Token → Option A
 
 -- this word, and this sign, each by where it stands
 abbrev pub the_keyword : Keyword → Kind ℕ
-the_keyword k c at (keyword j) = if sameb words j k then Some at else None
-the_keyword k c at _ = None
+the_keyword k t = elim t.tok [ keyword j ↦ if sameb words j k then Some t.span.start else None | _ ↦ None ]
 
 abbrev pub the_mark : Sign → Kind ℕ
-the_mark g c at (sign h) = if sameb signs h g then Some at else None
-the_mark g c at _ = None
+the_mark g t = elim t.tok [ sign h ↦ if sameb signs h g then Some t.span.start else None | _ ↦ None ]
 
 abbrev pub the_name : Kind NameAt
-the_name c at (name n) = Some (record { name = n; at = at })
-the_name c at _ = None
+the_name t = elim t.tok [ name n ↦ Some (record { name = n; at = t.span.start }) | _ ↦ None ]
 
--- a block's text begins behind its brace and blanks, and its number is how many blocks stand before it
-abbrev pub the_block : Kind PartTree
-the_block c at (block blanks sql) = Some (record { sql = sql; at = at + 1 + blanks; block = c.blocks })
-the_block c at _ = None
+-- the block of this number; its text begins behind its brace and blanks
+abbrev pub the_block : ℕ → Kind PartTree
+the_block number t = elim t.tok [ block blanks sql ↦ Some (record { sql = sql; at = t.span.start + 1 + blanks; block = number }) | _ ↦ None ]
+
+-- how many of these tokens are of the kind
+abbrev pub count : {A : Type 0} → Kind A → List (At Token) → ℕ
+count kind ts = count_by (λ t. is_some (kind t)) ts
 
 -- where a token of this kind stands next, what that lets be read behind it, else what others read
 abbrev pub if_next : {A B : Type 0} → Kind A → (A → SpecReader B) → SpecReader B → SpecReader B
-if_next kind behind others (c, []) = others (c, [])
-if_next kind behind others (c, t ∷ ts) = option_map_or (λ x. behind x (past_token t.tok c, ts)) (kind c t.span.start t.tok) (others (c, t ∷ ts))
+if_next kind behind others (before, []) = others (before, [])
+if_next kind behind others (before, t ∷ ts) = option_map_or (λ x. behind x (before ++ t ∷ [], ts)) (kind t) (others (before, t ∷ ts))
 
 -- ---- several things
 
@@ -79,8 +78,9 @@ module _ (last : ℕ) where
   abbrev pub one_token : {A : Type 0} → Kind A → What → SpecReader A
   one_token kind w = if_next kind gives (expected w)
 
+  -- a block; its number is how many stand before it
   abbrev pub spec_block : SpecReader PartTree
-  spec_block = one_token the_block what.Block
+  spec_block r = one_token (the_block (count (the_block 0) r.0)) what.Block r
 
   -- "setup" block, or "teardown" block; or nothing
   unfoldable pub maybe_block : Keyword → SpecReader (Option PartTree)
@@ -88,12 +88,12 @@ module _ (last : ℕ) where
 
   -- behind "step": name block; a file has at most 1,000
   unfoldable pub step_at : SpecReader (StepOf NameAt)
-  step_at r = (do gives (record { name = (← one_token the_name what.Name >>= at_most 1000 r.0.steps); part = (← spec_block) })) r
+  step_at r = (do gives (record { name = (← one_token the_name what.Name >>= at_most 1000 (count (the_keyword Step) r.0)); part = (← spec_block) })) r
 
   -- behind "session": name ["setup" block] step+ ["teardown" block]; a file has at most 64
   unfoldable pub session_at : SpecReader (SessionOf NameAt)
   session_at r = (do
-    n ← one_token the_name what.Name >>= at_most 64 r.0.sessions
+    n ← one_token the_name what.Name >>= at_most 64 (count (the_keyword Session) r.0)
     setup ← maybe_block Setup
     steps ← many_of (the_keyword Step) (λ k at. step_at) (expected what.Step)
     gives (record { name = n; setup = setup; steps = steps; teardown = (← maybe_block Teardown) })) r
@@ -121,4 +121,4 @@ module _ (last : ℕ) where
     teardown ← maybe_block Teardown
     sessions ← many_of (the_keyword Session) (λ k at. session_at) (expected what.Session)
     perms ← many_of (the_keyword Permutation) (λ k at. many_of the_name entry_at (expected what.Name)) (gives [])
-    if_next (λ c at t. Some at) (λ at r. Err (Expected what.Item at)) (gives (record { setups = setups; teardown = teardown; sessions = sessions; perms = perms }))
+    if_next Some (λ t r. Err (Expected what.Item t.span.start)) (gives (record { setups = setups; teardown = teardown; sessions = sessions; perms = perms }))

@@ -1,5 +1,5 @@
 -- Spec files: their text, and what it says.
-use Rattle.std.specs.Prelude.{◌≡◌, ℕ, List, length, Result, Ok, Err}
+use Rattle.std.specs.Prelude.{◌≡◌, ℕ, List, [], length, Result, Ok, Err}
 use Rattle.iso_lexer.specs.declared.token.At.{At}
 use Rattle.iso_lexer.specs.declared.fault.Fault.{Fault}
 use Rattle.iso_lexer.specs.Results.{if_ok}
@@ -9,7 +9,6 @@ use Rattle.spec_parser.specs.declared.fault.SpecFault.{SpecFault}
 use Rattle.spec_parser.specs.declared.fault.SpecFault.TheVariants as faults
 use Rattle.spec_parser.specs.declared.tree.Spec.{Spec}
 use Rattle.spec_parser.specs.Trees.{SpecTree, spec_view}
-use Rattle.spec_parser.specs.Counts.{start}
 use Rattle.spec_parser.specs.Reading.{file_at}
 use Rattle.spec_parser.specs.Names.{names_resolved}
 
@@ -17,7 +16,7 @@ use Rattle.spec_parser.specs.Names.{names_resolved}
 -- its step names, else the first of its permutations.
 pub data SpecReads (text : List ℕ) : Result SpecTree SpecFault → Type 0 where
   no_tokens : (f : Fault) → Lexes text (Err f) → SpecReads text (Err (faults.Lex f))
-  tokens : {answer : Result SpecTree SpecFault} (ts : List (At Token)) → Lexes text (Ok ts) → answer ≡ if_ok (file_at (length text) (start, ts)) (λ x. names_resolved x.0) → SpecReads text answer
+  tokens : {answer : Result SpecTree SpecFault} (ts : List (At Token)) → Lexes text (Ok ts) → answer ≡ if_ok (file_at (length text) ([], ts)) (λ x. names_resolved x.0) → SpecReads text answer
 
 -- What was returned is so, unless memory ran out.
 abbrev pub Answers : List ℕ → Result Spec SpecFault → Type 0

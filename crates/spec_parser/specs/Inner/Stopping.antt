@@ -14,13 +14,16 @@ use Rattle.spec_parser.specs.declared.fault.Stop.TheVariants.{Expected, NoticesL
 use Rattle.spec_parser.specs.Trees.{PartTree, NameAt, StepOf, SessionOf, MarkerTree, star, named, NamedEntry, FileTree, SpecTree}
 use Rattle.spec_parser.specs.declared.fault.SpecFault.{SpecFault}
 use Rattle.spec_parser.specs.Counts.{Counts, past_token}
-use Rattle.spec_parser.specs.Reading.{Rest, the_name, the_block}
-use Rattle.spec_parser.specs.Grammar.{is_word, is_sign, is_name}
+use Rattle.spec_parser.specs.Grammar.{a_name, a_block, is_word, is_sign, is_name}
 use Rattle.spec_parser.specs.Faults.{stopped}
 use Rattle.spec_parser.specs.Inner.Known.{resolved}
 
 infixr 10 ◌>>=◌
 infixr 10 ◌>>◌
+-- what is left of a file: what stands before, and the tokens
+abbrev pub Rest : Type 0
+Rest = Counts × List (At Token)
+
 -- a value, or why reading stops before the first token of the rest; and the rest
 abbrev pub Read : Type 0 → Type 0
 Read A = Result A Stop × Rest
@@ -58,23 +61,23 @@ starts p (c, []) = false
 starts p (c, t ∷ ts) = p t.tok
 
 -- what the next token says, or w, which is expected there
-abbrev pub token_at : {A : Type 0} → (Counts → ℕ → Token → Option A) → What → Reader A
+abbrev pub token_at : {A : Type 0} → (Counts → At Token → Option A) → What → Reader A
 token_at says w (c, []) = (Err (Expected w), (c, []))
-token_at says w (c, t ∷ ts) = option_map_or (λ x. (Ok x, (past_token t.tok c, ts))) (says c t.span.start t.tok) (Err (Expected w), (c, t ∷ ts))
+token_at says w (c, t ∷ ts) = option_map_or (λ x. (Ok x, (past_token t.tok c, ts))) (says c t) (Err (Expected w), (c, t ∷ ts))
 
 -- a token of this kind, or what is expected there
 unfoldable pub next : (Token → Bool) → What → Reader (Unit {0})
-next p = token_at (λ c at t. if p t then Some tt else None)
+next p = token_at (λ c t. if p t.tok then Some tt else None)
 
 -- a word with which an item of the file begins
 abbrev pub word : Keyword → Reader (Unit {0})
 word k = next (is_word k) what.Item
 
 unfoldable pub name_at : What → Reader NameAt
-name_at = token_at the_name
+name_at = token_at a_name
 
 unfoldable pub block_at : Reader PartTree
-block_at = token_at the_block what.Block
+block_at = token_at a_block what.Block
 
 -- the end of the file
 unfoldable pub end_at : Reader (Unit {0})
