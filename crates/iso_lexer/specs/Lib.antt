@@ -3,6 +3,8 @@ pub mod Names
 pub mod SpecTokens
 pub mod SqlTokens
 pub mod Lexing
+pub mod Results
+pub mod Readers
 pub mod Quotes
 pub mod Comments
 pub mod SpecText

@@ -14,9 +14,9 @@ use Rattle.spec_parser.specs.declared.fault.What.TheVariants as what
 use Rattle.spec_parser.specs.declared.fault.Stop.TheVariants.{Expected, OverLimit}
 use Rattle.spec_parser.specs.Trees.{PartTree, NameAt, StepOf, SessionOf, MarkerTree, star, named, NamedEntry, FileTree}
 use Rattle.spec_parser.specs.Counts.{Counts, past, past_token}
-use Rattle.spec_parser.specs.Reading.{Rest, Read, is_word, is_sign, is_name, the_name, the_block, token_at, next, many_at, all_at, some_at, maybe_at, name_at, block_at, end_at, name_within, block_after, maybe_block, step_at, session_at, no_notices, marker_at, markers_at, entry_at, perm_at, file_at}
+use Rattle.spec_parser.specs.Inner.Stopping.{Rest, Read, token_at, next, many_at, all_at, some_at, maybe_at, name_at, block_at, end_at, name_within, block_after, maybe_block, step_at, session_at, no_notices, marker_at, markers_at, entry_at, perm_at, file_at}
+use Rattle.spec_parser.specs.Grammar.{a_name, a_block, is_word, is_sign, is_name, Grammar, gives, one, the_word, the_sign, Maybe, left_out, given, Many, none, more, some, first, second, block_behind, step, session, marker, markers, entry, perm, file}
 use Rattle.spec_parser.specs.Inner.Pieces.{starts_name, word_at, sign_at, setup_at, teardown_at, setups_at, steps_at, sessions_at, next_marker_at, next_markers_at, some_markers_at, entries_at, perms_at}
-use Rattle.spec_parser.specs.Grammar.{Grammar, gives, one, the_word, the_sign, Maybe, left_out, given, Many, none, more, some, first, second, block_behind, step, session, marker, markers, entry, perm, file}
 use Rattle.spec_parser.specs.Grammar.{◌>>=◌ as ◌▸◌}
 use Rattle.spec_parser.proofs.Tokens.{test_true, keyword_in, sign_in, named_in, word_past, grows}
 use Rattle.spec_parser.proofs.Local.{first_is, ◌>>=◌, past_twice, stops_at, goes_on, goes, TakesOne, first_takes}
@@ -102,12 +102,12 @@ seq G H p f F E reads next leads = seq_or Never Never G H p f F E (λ c x ts z h
 gives_again : {A : Type 0} {L : A → Type 0} (v : A) (F : List (At Token) → Type 0) → CompletesOr L (gives v) (λ r. (Ok v, r)) F
 gives_again v F c xs rest x follows (nothing, is) = rw (nothing, is) (whole refl)
 
-token_again : {A : Type 0} (f : Counts → ℕ → Token → Option A) (w : What) → Completes (one f) (token_at f w) Any
+token_again : {A : Type 0} (f : Counts → At Token → Option A) (w : What) → Completes (one f) (token_at f w) Any
 token_again f w c xs rest x follows (t, e, is) = rw e (whole (rw is refl))
 
 -- ---- the first token
 
-begins : {A B : Type 0} (f : Counts → ℕ → Token → Option A) (H : A → Grammar B) (p : Token → Bool) (c : Counts) (ts rest : List (At Token)) (z : B) (b : Bool) → ((t : At Token) (x : A) → f c t.span.start t.tok ≡ Some x → p t.tok ≡ b) → (one f ▸ H) c ts z → first_is p (ts ++ rest) ≡ b
+begins : {A B : Type 0} (f : Counts → At Token → Option A) (H : A → Grammar B) (p : Token → Bool) (c : Counts) (ts rest : List (At Token)) (z : B) (b : Bool) → ((t : At Token) (x : A) → f c t ≡ Some x → p t.tok ≡ b) → (one f ▸ H) c ts z → first_is p (ts ++ rest) ≡ b
 begins f H p c ts rest z b says (x, xs, ys, e, (t, te, is), h) =
     let front : ts ≡ (t ∷ []) ++ ys = e ∙ ap (λ (r : List (At Token)). r ++ ys) te in
     ap (λ (r : List (At Token)). first_is p (r ++ rest)) front ∙ says t x is
@@ -118,16 +118,16 @@ begins_word k H p c ts rest z h = begins (the_word k) H p c ts rest z (p (keywor
 begins_sign : {B : Type 0} (g : Sign) (H : Unit {0} → Grammar B) (p : Token → Bool) (c : Counts) (ts rest : List (At Token)) (z : B) → (one (the_sign g) ▸ H) c ts z → first_is p (ts ++ rest) ≡ p (sign g)
 begins_sign g H p c ts rest z h = begins (the_sign g) H p c ts rest z (p (sign g)) (λ t x is. ap p (sign_in g t.tok (test_true (is_sign g t.tok) x is))) h
 
-begins_name : {B : Type 0} (H : NameAt → Grammar B) (p : Token → Bool) (b : Bool) → ((m : Written) → p (name m) ≡ b) → (c : Counts) (ts rest : List (At Token)) (z : B) → (one the_name ▸ H) c ts z → first_is p (ts ++ rest) ≡ b
-begins_name H p b of_names c ts rest z h = begins the_name H p c ts rest z b (λ t n is. let m = named_in c t.span.start t.tok n is in ap p m.1 ∙ of_names m.0) h
+begins_name : {B : Type 0} (H : NameAt → Grammar B) (p : Token → Bool) (b : Bool) → ((m : Written) → p (name m) ≡ b) → (c : Counts) (ts rest : List (At Token)) (z : B) → (one a_name ▸ H) c ts z → first_is p (ts ++ rest) ≡ b
+begins_name H p b of_names c ts rest z h = begins a_name H p c ts rest z b (λ t n is. let m = named_in c t n is in ap p m.1 ∙ of_names m.0) h
 
 -- ---- one token, under a limit
 
-within_case : (b : Bool) (before most : ℕ) (c : Counts) (t : At Token) (rest : List (At Token)) (n : NameAt) → nat_lt before most ≡ b → the_name c t.span.start t.tok ≡ Some n → Again (λ _. most ≤ before) n (past_token t.tok c, rest) (cond b (token_at the_name what.Name (c, t ∷ rest)) (cond (is_name t.tok) (Err OverLimit, (c, t ∷ rest)) (Err (Expected what.Name), (c, t ∷ rest))))
+within_case : (b : Bool) (before most : ℕ) (c : Counts) (t : At Token) (rest : List (At Token)) (n : NameAt) → nat_lt before most ≡ b → a_name c t ≡ Some n → Again (λ _. most ≤ before) n (past_token t.tok c, rest) (cond b (token_at a_name what.Name (c, t ∷ rest)) (cond (is_name t.tok) (Err OverLimit, (c, t ∷ rest)) (Err (Expected what.Name), (c, t ∷ rest))))
 within_case true before most c t rest n lt is = whole (rw is refl)
-within_case false before most c t rest n lt is = let m = named_in c t.span.start t.tok n is in over (rw m.1 refl) (long (ltb-false before most lt))
+within_case false before most c t rest n lt is = let m = named_in c t n is in over (rw m.1 refl) (long (ltb-false before most lt))
 
-name_within_again : (before most : ℕ) → CompletesOr (λ _. most ≤ before) (one the_name) (name_within before most) Any
+name_within_again : (before most : ℕ) → CompletesOr (λ _. most ≤ before) (one a_name) (name_within before most) Any
 unfolding name_within name_at
 name_within_again before most c xs rest n follows (t, e, is) = rw e (within_case (nat_lt before most) before most c t rest n refl is)
 
@@ -139,13 +139,13 @@ sign_again : (g : Sign) (w : What) → Completes (one (the_sign g)) (sign_at g w
 unfolding next
 sign_again g w = token_again (the_sign g) w
 
-name_again : (w : What) → Completes (one the_name) (name_at w) Any
+name_again : (w : What) → Completes (one a_name) (name_at w) Any
 unfolding name_at
-name_again w = token_again the_name w
+name_again w = token_again a_name w
 
-block_again : Completes (one the_block) block_at Any
+block_again : Completes (one a_block) block_at Any
 unfolding block_at
-block_again = token_again the_block what.Block
+block_again = token_again a_block what.Block
 
 -- ---- one, or none
 
@@ -231,13 +231,13 @@ stays F ts rest e h = subst F (sym (ap (λ (r : List (At Token)). r ++ rest) e))
 
 block_after_again : (k : Keyword) → Completes (block_behind k) (block_after k) Any
 unfolding block_after
-block_after_again k = seq (one (the_word k)) (λ _. one the_block) (word_at k what.Item) (λ key. block_at key.1) Any Any (word_again k what.Item) (λ _. block_again) (λ d x ys rest z f h. tt)
+block_after_again k = seq (one (the_word k)) (λ _. one a_block) (word_at k what.Item) (λ key. block_at key.1) Any Any (word_again k what.Item) (λ _. block_again) (λ d x ys rest z f h. tt)
 
 setup_begins : (p : Token → Bool) → Begins p (p (keyword Setup)) (block_behind Setup)
-setup_begins p c xs rest x h = begins_word Setup (λ _. one the_block) p c xs rest x h
+setup_begins p c xs rest x h = begins_word Setup (λ _. one a_block) p c xs rest x h
 
 teardown_begins : (p : Token → Bool) → Begins p (p (keyword Teardown)) (block_behind Teardown)
-teardown_begins p c xs rest x h = begins_word Teardown (λ _. one the_block) p c xs rest x h
+teardown_begins p c xs rest x h = begins_word Teardown (λ _. one a_block) p c xs rest x h
 
 setup_again : Completes (Maybe (block_behind Setup)) setup_at (NotFirst (is_word Setup))
 unfolding maybe_block
@@ -248,20 +248,20 @@ unfolding maybe_block
 teardown_again = maybe_again (block_behind Teardown) (is_word Teardown) (block_after Teardown) (block_after_again Teardown) (teardown_begins (is_word Teardown))
 
 setups_again : Completes (Many (block_behind Setup)) setups_at (λ rest. NotFirst (is_word Setup) rest × Any rest)
-setups_again = all_again (block_behind Setup) (is_word Setup) (λ k. block_after Setup) Any (λ k. block_after_again Setup) (setup_begins (is_word Setup)) (first_takes (the_word Setup) (λ _. one the_block)) (λ c xs rest x g. tt)
+setups_again = all_again (block_behind Setup) (is_word Setup) (λ k. block_after Setup) Any (λ k. block_after_again Setup) (setup_begins (is_word Setup)) (first_takes (the_word Setup) (λ _. one a_block)) (λ c xs rest x g. tt)
 
 abbrev step_of : NameAt → PartTree → StepOf NameAt
 step_of n b = record { name = n; part = b }
 
-step_end_again : (n : NameAt) → Completes (one the_block ▸ λ b. gives (step_of n b)) (λ r. block_at r >>= λ b. (Ok (step_of n b.0), b.1)) Any
-step_end_again n = seq (one the_block) (λ b. gives (step_of n b)) block_at (λ b. (Ok (step_of n b.0), b.1)) Any Any block_again (λ b. gives_again (step_of n b) Any) (λ d x ys rest z f h. tt)
+step_end_again : (n : NameAt) → Completes (one a_block ▸ λ b. gives (step_of n b)) (λ r. block_at r >>= λ b. (Ok (step_of n b.0), b.1)) Any
+step_end_again n = seq (one a_block) (λ b. gives (step_of n b)) block_at (λ b. (Ok (step_of n b.0), b.1)) Any Any block_again (λ b. gives_again (step_of n b) Any) (λ d x ys rest z f h. tt)
 
 abbrev AfterStep : Grammar (StepOf NameAt)
-AfterStep = one the_name ▸ λ n. one the_block ▸ λ b. gives (step_of n b)
+AfterStep = one a_name ▸ λ n. one a_block ▸ λ b. gives (step_of n b)
 
 named_step_again : (d : Counts) → CompletesOr (λ _. 1000 ≤ d.steps) AfterStep (λ r. name_within d.steps 1000 r >>= λ n. block_at n.1 >>= λ b. (Ok (step_of n.0 b.0), b.1)) Any
-named_step_again d = seq_or (λ _. 1000 ≤ d.steps) (λ _. 1000 ≤ d.steps) (one the_name) (λ n. one the_block ▸ λ b. gives (step_of n b)) (name_within d.steps 1000) (λ n. block_at n.1 >>= λ b. (Ok (step_of n.0 b.0), b.1)) Any Any (λ c x ts z h k. k) (name_within_again d.steps 1000)
-    (λ n. weaken (λ _. 1000 ≤ d.steps) (one the_block ▸ λ b. gives (step_of n b)) (λ r. block_at r >>= λ b. (Ok (step_of n b.0), b.1)) Any (step_end_again n)) (λ e x ys rest z f h. tt)
+named_step_again d = seq_or (λ _. 1000 ≤ d.steps) (λ _. 1000 ≤ d.steps) (one a_name) (λ n. one a_block ▸ λ b. gives (step_of n b)) (name_within d.steps 1000) (λ n. block_at n.1 >>= λ b. (Ok (step_of n.0 b.0), b.1)) Any Any (λ c x ts z h k. k) (name_within_again d.steps 1000)
+    (λ n. weaken (λ _. 1000 ≤ d.steps) (one a_block ▸ λ b. gives (step_of n b)) (λ r. block_at r >>= λ b. (Ok (step_of n b.0), b.1)) Any (step_end_again n)) (λ e x ys rest z f h. tt)
 
 step_again : Completes step step_at Any
 unfolding step_at
@@ -271,10 +271,10 @@ step_again = seq_from Never (λ d _. 1000 ≤ d.steps) Never (one (the_word Step
     (word_again Step what.Item) (λ d _. named_step_again d) (λ d x ys rest z f h. tt)
 
 step_begins : (p : Token → Bool) → Begins p (p (keyword Step)) step
-step_begins p c xs rest x h = begins_word Step (λ _. one the_name ▸ λ n. one the_block ▸ λ b. gives (step_of n b)) p c xs rest x h
+step_begins p c xs rest x h = begins_word Step (λ _. one a_name ▸ λ n. one a_block ▸ λ b. gives (step_of n b)) p c xs rest x h
 
 steps_again : Completes (some step) steps_at (λ rest. NotFirst (is_word Step) rest × Any rest)
-steps_again = some_again step what.Step (is_word Step) (λ k. step_at) Any (λ k. step_again) (step_begins (is_word Step)) (first_takes (the_word Step) (λ _. one the_name ▸ λ n. one the_block ▸ λ b. gives (step_of n b))) (λ c xs rest x g. tt)
+steps_again = some_again step what.Step (is_word Step) (λ k. step_at) Any (λ k. step_again) (step_begins (is_word Step)) (first_takes (the_word Step) (λ _. one a_name ▸ λ n. one a_block ▸ λ b. gives (step_of n b))) (λ c xs rest x g. tt)
 
 -- ---- sessions
 
@@ -312,25 +312,25 @@ set_up_again : (n : NameAt) → Completes (SetUp n) (λ r. setup_at r >>= λ set
 set_up_again n = seq (Maybe (block_behind Setup)) (Stepped n) setup_at (λ setup. steps_at setup.1 >>= λ steps. teardown_at steps.1 >>= λ teardown. (Ok (session_of n setup.0 steps.0 teardown.0), teardown.1)) (NotFirst (is_word Setup)) BehindSession setup_again (stepped_again n)
     (λ d x ys rest z f h. no_setup_first n x d ys rest z h)
 
-named_session_again : (d : Counts) → CompletesOr (λ _. 64 ≤ d.sessions) (one the_name ▸ SetUp) (λ r. name_within d.sessions 64 r >>= λ n. setup_at n.1 >>= λ setup. steps_at setup.1 >>= λ steps. teardown_at steps.1 >>= λ teardown. (Ok (session_of n.0 setup.0 steps.0 teardown.0), teardown.1)) BehindSession
-named_session_again d = seq_or (λ _. 64 ≤ d.sessions) (λ _. 64 ≤ d.sessions) (one the_name) SetUp (name_within d.sessions 64) (λ n. setup_at n.1 >>= λ setup. steps_at setup.1 >>= λ steps. teardown_at steps.1 >>= λ teardown. (Ok (session_of n.0 setup.0 steps.0 teardown.0), teardown.1)) Any BehindSession (λ c x ts z h k. k) (name_within_again d.sessions 64)
+named_session_again : (d : Counts) → CompletesOr (λ _. 64 ≤ d.sessions) (one a_name ▸ SetUp) (λ r. name_within d.sessions 64 r >>= λ n. setup_at n.1 >>= λ setup. steps_at setup.1 >>= λ steps. teardown_at steps.1 >>= λ teardown. (Ok (session_of n.0 setup.0 steps.0 teardown.0), teardown.1)) BehindSession
+named_session_again d = seq_or (λ _. 64 ≤ d.sessions) (λ _. 64 ≤ d.sessions) (one a_name) SetUp (name_within d.sessions 64) (λ n. setup_at n.1 >>= λ setup. steps_at setup.1 >>= λ steps. teardown_at steps.1 >>= λ teardown. (Ok (session_of n.0 setup.0 steps.0 teardown.0), teardown.1)) Any BehindSession (λ c x ts z h k. k) (name_within_again d.sessions 64)
     (λ n. weaken (λ _. 64 ≤ d.sessions) (SetUp n) (λ r. setup_at r >>= λ setup. steps_at setup.1 >>= λ steps. teardown_at steps.1 >>= λ teardown. (Ok (session_of n setup.0 steps.0 teardown.0), teardown.1)) BehindSession (set_up_again n)) (λ e x ys rest z f h. tt)
 
 session_again : Completes session session_at BehindSession
 unfolding session_at
-session_again = seq_from Never (λ d _. 64 ≤ d.sessions) Never (one (the_word Session)) (λ _. one the_name ▸ SetUp) (word_at Session what.Item)
+session_again = seq_from Never (λ d _. 64 ≤ d.sessions) Never (one (the_word Session)) (λ _. one a_name ▸ SetUp) (word_at Session what.Item)
     (λ d key. name_within d.sessions 64 key.1 >>= λ n. setup_at n.1 >>= λ setup. steps_at setup.1 >>= λ steps. teardown_at steps.1 >>= λ teardown. (Ok (session_of n.0 setup.0 steps.0 teardown.0), teardown.1)) Any BehindSession (λ c x xs ys z h k. absurd k)
     (λ c x xs ys z w lt. many_sessions (omega (arith, lt, ap (λ (d : Counts). d.sessions) (word_past Session c xs x w), (grows (past c xs) ys).0)))
     (word_again Session what.Item) (λ d _. named_session_again d) (λ d x ys rest z f h. tt)
 
 session_begins : (p : Token → Bool) → Begins p (p (keyword Session)) session
-session_begins p c xs rest x h = begins_word Session (λ _. one the_name ▸ SetUp) p c xs rest x h
+session_begins p c xs rest x h = begins_word Session (λ _. one a_name ▸ SetUp) p c xs rest x h
 
 abbrev BehindSessions : List (At Token) → Type 0
 BehindSessions rest = NotFirst (is_word Session) rest × BehindSession rest
 
 sessions_again : Completes (some session) sessions_at BehindSessions
-sessions_again = some_again session what.Session (is_word Session) (λ k. session_at) BehindSession (λ k. session_again) (session_begins (is_word Session)) (first_takes (the_word Session) (λ _. one the_name ▸ SetUp)) (λ c xs rest x g. (session_begins (is_word Step) c xs rest x g, session_begins (is_word Teardown) c xs rest x g))
+sessions_again = some_again session what.Session (is_word Session) (λ k. session_at) BehindSession (λ k. session_again) (session_begins (is_word Session)) (first_takes (the_word Session) (λ _. one a_name ▸ SetUp)) (λ c xs rest x g. (session_begins (is_word Step) c xs rest x g, session_begins (is_word Teardown) c xs rest x g))
 
 -- ---- markers
 
@@ -344,8 +344,8 @@ no_notices_again n c xs rest x follows (nothing, is) = rw (nothing, is) (rw foll
 star_again : Completes (one (the_sign Star) ▸ λ _. gives star) (λ r. sign_at Star what.Marker r >>= λ key. (Ok star, key.1)) Any
 star_again = seq (one (the_sign Star)) (λ _. gives star) (sign_at Star what.Marker) (λ key. (Ok star, key.1)) Any Any (sign_again Star what.Marker) (λ _. gives_again star Any) (λ d x ys rest z f h. tt)
 
-named_again : Completes (one the_name ▸ λ n. gives (named n)) (λ r. name_at what.Marker r >>= λ n. no_notices n.0 n.1) BehindMarker
-named_again = seq (one the_name) (λ n. gives (named n)) (name_at what.Marker) (λ n. no_notices n.0 n.1) Any BehindMarker (name_again what.Marker) no_notices_again (λ d x ys rest z f h. tt)
+named_again : Completes (one a_name ▸ λ n. gives (named n)) (λ r. name_at what.Marker r >>= λ n. no_notices n.0 n.1) BehindMarker
+named_again = seq (one a_name) (λ n. gives (named n)) (name_at what.Marker) (λ n. no_notices n.0 n.1) Any BehindMarker (name_again what.Marker) no_notices_again (λ d x ys rest z f h. tt)
 
 marker_again : Completes marker marker_at BehindMarker
 unfolding marker_at
@@ -415,7 +415,7 @@ marks_again n = seq (Maybe markers) (λ ms. gives (entry_of n ms)) some_markers_
 
 entry_again : (k : ℕ) → CompletesOr (λ _. 1000 ≤ k) entry (entry_at k) BehindEntry
 unfolding entry_at
-entry_again k = seq_or (λ _. 1000 ≤ k) (λ _. 1000 ≤ k) (one the_name) Marks (name_within k 1000) (λ n. some_markers_at n.1 >>= λ ms. (Ok (entry_of n.0 ms.0), ms.1)) Any BehindEntry (λ c x ts z h k. k) (name_within_again k 1000)
+entry_again k = seq_or (λ _. 1000 ≤ k) (λ _. 1000 ≤ k) (one a_name) Marks (name_within k 1000) (λ n. some_markers_at n.1 >>= λ ms. (Ok (entry_of n.0 ms.0), ms.1)) Any BehindEntry (λ c x ts z h k. k) (name_within_again k 1000)
     (λ n. weaken (λ _. 1000 ≤ k) (Marks n) (λ r. some_markers_at r >>= λ ms. (Ok (entry_of n ms.0), ms.1)) BehindEntry (marks_again n)) (λ d x ys rest z f h. tt)
 
 abbrev BehindEntries : List (At Token) → Type 0
@@ -428,7 +428,7 @@ IsLong es = 1000 < length es
 entries_again : CompletesOr IsLong (some entry) entries_at BehindEntries
 entries_again = reword (λ es. 1000 < 0 + length es) IsLong (some entry) (some_at what.Name starts_name entry_at) BehindEntries (λ es h. omega (arith, h))
     (some_or (λ k _. 1000 ≤ k) (λ k es. 1000 < k + length es) entry what.Name is_name entry_at BehindEntry (λ k x xs h. omega (arith, h)) (λ k x xs h. omega (arith, h)) entry_again
-    (begins_name (λ n. Maybe markers ▸ λ ms. gives (entry_of n ms)) is_name true (λ m. refl)) (first_takes the_name (λ n. Maybe markers ▸ λ ms. gives (entry_of n ms))) (begins_name (λ n. Maybe markers ▸ λ ms. gives (entry_of n ms)) (is_sign Open) false (λ m. refl)))
+    (begins_name (λ n. Maybe markers ▸ λ ms. gives (entry_of n ms)) is_name true (λ m. refl)) (first_takes a_name (λ n. Maybe markers ▸ λ ms. gives (entry_of n ms))) (begins_name (λ n. Maybe markers ▸ λ ms. gives (entry_of n ms)) (is_sign Open) false (λ m. refl)))
 
 perm_again : CompletesOr IsLong perm perm_at BehindEntries
 unfolding perm_at

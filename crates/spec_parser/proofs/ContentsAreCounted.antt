@@ -7,6 +7,7 @@ use Rattle.std.proofs.lemmas.List.Folds.{length-prefix_len}
 use Rattle.std.proofs.lemmas.List.Sums.{prefix_len-le-length}
 use Rattle.std.proofs.lemmas.Option.{same_Some}
 use Rattle.iso_lexer.specs.declared.token.At.{At}
+use Rattle.iso_lexer.specs.declared.token.Span.{Span}
 use Rattle.iso_lexer.specs.declared.spec_token.Keyword.{Keyword}
 use Rattle.iso_lexer.specs.declared.spec_token.Keyword.TheVariants.{Permutation, Session, Setup, Step, Teardown}
 use Rattle.iso_lexer.specs.declared.spec_token.Sign.TheVariants.{Open, Close, Comma, Star}
@@ -17,11 +18,10 @@ use Rattle.iso_lexer.specs.SpecText.{block_of}
 use Rattle.iso_lexer.specs.SpecSpelling.{NameSpells, Spells, LiesAt}
 use Rattle.spec_parser.specs.Trees.{PartTree, StepTree, NameAt, StepOf, SessionOf, star, named, FileTree}
 use Rattle.spec_parser.specs.Counts.{Counts, past, past_token}
-use Rattle.spec_parser.specs.Reading.{the_name, the_block}
-use Rattle.spec_parser.specs.Grammar.{Grammar, gives, one, the_word, the_sign, Maybe, left_out, given, Many, none, more, some, first, second, block_behind, step, session, marker, markers, entry, perm, file}
+use Rattle.spec_parser.specs.Grammar.{a_name, a_block, Grammar, gives, one, the_word, the_sign, Maybe, left_out, given, Many, none, more, some, first, second, block_behind, step, session, marker, markers, entry, perm, file}
 use Rattle.spec_parser.specs.Grammar.{◌>>=◌ as ◌▸◌}
-use Rattle.spec_parser.specs.Names.{step_tree, session_tree}
-use Rattle.spec_parser.specs.Inner.Known.{steps_from, sessions_from}
+use Rattle.spec_parser.specs.Names.{session_tree}
+use Rattle.spec_parser.specs.Inner.Known.{step_tree, steps_from, sessions_from}
 use Rattle.spec_parser.specs.Stands.{PartLies, NameLies, session_parts, session_names}
 use Rattle.spec_parser.proofs.Local.{past_twice}
 use Rattle.spec_parser.proofs.Tokens.{past_one, word_past, sign_past, name_past}
@@ -113,25 +113,25 @@ pub step_word : (c : Counts) (ts : List (At Token)) (u : Unit {0}) → one (the_
 step_word c ts u h = word_has Step c ts u a_step h (record { blocks = omega arith; sessions = omega arith; steps = omega arith; numbered = refl; parts_lie = λ text all. tt; names_lie = λ text all. tt })
 
 -- a name, where it is that of a session or step
-abbrev a_name : NameAt → Contents
-a_name n = record { parts = []; names = n ∷ []; sessions = 0; steps = 0 }
+abbrev only_name : NameAt → Contents
+only_name n = record { parts = []; names = n ∷ []; sessions = 0; steps = 0 }
 
-named_is : (text : List ℕ) (c : Counts) (start end : ℕ) (t : Token) (n : NameAt) → the_name c start t ≡ Some n → Spells t (slice_range text start end) → NameSpells n.name (slice_range text n.at end)
-named_is text c start end (name m) n e h = subst (λ (k : NameAt). NameSpells k.name (slice_range text k.at end)) (same_Some _ _ e) h
-named_is text c start end (keyword k) n e h = absurd cc
-named_is text c start end (digits d) n e h = absurd cc
-named_is text c start end (sign g) n e h = absurd cc
-named_is text c start end (block k b) n e h = absurd cc
+named_is : (text : List ℕ) (c : Counts) (tok : Token) (span : Span) (n : NameAt) → a_name c (record { tok = tok; span = span }) ≡ Some n → Spells tok (slice_range text span.start span.end) → NameSpells n.name (slice_range text n.at span.end)
+named_is text c (name m) span n e h = subst (λ (k : NameAt). NameSpells k.name (slice_range text k.at span.end)) (same_Some _ _ e) h
+named_is text c (keyword k) span n e h = absurd cc
+named_is text c (digits d) span n e h = absurd cc
+named_is text c (sign g) span n e h = absurd cc
+named_is text c (block k b) span n e h = absurd cc
 
-name_has : (c : Counts) (ts : List (At Token)) (n : NameAt) → one the_name c ts n → Holds c (past c ts) ts (a_name n)
+name_has : (c : Counts) (ts : List (At Token)) (n : NameAt) → one a_name c ts n → Holds c (past c ts) ts (only_name n)
 name_has c ts n (t, e, is) =
-    subst (λ d. Holds c d ts (a_name n)) (sym (name_past c ts n (t, e, is))) (record {
+    subst (λ d. Holds c d ts (only_name n)) (sym (name_past c ts n (t, e, is))) (record {
       blocks = omega arith;
       sessions = omega arith;
       steps = omega arith;
       numbered = refl;
       parts_lie = λ text all. tt;
-      names_lie = λ text all. let lies = (subst (AllByRecursion (LiesAt text)) e all).0 in (record { end = t.span.end; within = lies.0; slice = named_is text c t.span.start t.span.end t.tok n is lies.1 }, tt);
+      names_lie = λ text all. let lies = (subst (AllByRecursion (LiesAt text)) e all).0 in (record { end = t.span.end; within = lies.0; slice = named_is text c t.tok t.span n is lies.1 }, tt);
     })
 
 -- ---- a block lies where it says
@@ -172,12 +172,12 @@ block_lies text inner b start end n k e is =
       slice = cut_inside text inner rest b start n open_at le cut;
     }
 
-block_is : (c : Counts) (at : ℕ) (t : Token) (p : PartTree) → the_block c at t ≡ Some p → (n : ℕ) × (b : List ℕ) × (t ≡ block n b) × (p ≡ record { sql = b; at = at + 1 + n; block = c.blocks })
-block_is c at (block n b) p e = (n, b, refl, sym (same_Some _ _ e))
-block_is c at (keyword k) p e = absurd cc
-block_is c at (name m) p e = absurd cc
-block_is c at (digits d) p e = absurd cc
-block_is c at (sign g) p e = absurd cc
+block_is : (c : Counts) (tok : Token) (span : Span) (p : PartTree) → a_block c (record { tok = tok; span = span }) ≡ Some p → (n : ℕ) × (b : List ℕ) × (tok ≡ block n b) × (p ≡ record { sql = b; at = span.start + 1 + n; block = c.blocks })
+block_is c (block n b) span p e = (n, b, refl, sym (same_Some _ _ e))
+block_is c (keyword k) span p e = absurd cc
+block_is c (name m) span p e = absurd cc
+block_is c (digits d) span p e = absurd cc
+block_is c (sign g) span p e = absurd cc
 
 token_lies : (text inner b : List ℕ) (start end n k : ℕ) → Spells (block n b) (slice_range text start end) → PartLies text (record { sql = b; at = start + 1 + n; block = k })
 token_lies text _ b start end n k (inner, e, is) = block_lies text inner b start end n k e is
@@ -185,9 +185,9 @@ token_lies text _ b start end n k (inner, e, is) = block_lies text inner b start
 abbrev pub only_parts : List PartTree → Contents
 only_parts ps = record { parts = ps; names = []; sessions = 0; steps = 0 }
 
-block_has : (c : Counts) (ts : List (At Token)) (p : PartTree) → one the_block c ts p → Holds c (past c ts) ts (only_parts (p ∷ []))
+block_has : (c : Counts) (ts : List (At Token)) (p : PartTree) → one a_block c ts p → Holds c (past c ts) ts (only_parts (p ∷ []))
 block_has c ts p (t, e, is) =
-    let k = block_is c t.span.start t.tok p is in
+    let k = block_is c t.tok t.span p is in
     subst (λ d. Holds c d ts (only_parts (p ∷ []))) (sym (past_one c ts t (block k.0 k.1) e k.2)) (record {
       blocks = omega arith;
       sessions = omega arith;
@@ -233,7 +233,7 @@ step_contents s = record { parts = s.part ∷ []; names = s.name ∷ []; session
 pub step_has : Has step step_contents
 step_has c ts z (u, xs, ys, e, w, (n, us, vs, d, nm, (b, ws, zs, f, bl, (nil, is)))) =
     let block_on = then_has (past (past c xs) us) vs ws zs (only_parts (b ∷ [])) nothing f (block_has (past (past c xs) us) ws b bl) (nil_has (past (past (past c xs) us) ws) zs nil) in
-    let name_on = then_has (past c xs) ys us vs (a_name n) (only_parts (b ∷ [])) d (name_has (past c xs) us n nm) block_on in
+    let name_on = then_has (past c xs) ys us vs (only_name n) (only_parts (b ∷ [])) d (name_has (past c xs) us n nm) block_on in
     subst (λ (s : StepOf NameAt). Holds c (past c ts) ts (step_contents s)) (sym is) (then_has c ts xs ys a_step _ e (step_word c xs u w) name_on)
 
 steps_parts : (ss : List (StepOf NameAt)) → (all_contents step_contents ss).parts ≡ map (λ (x : StepTree). x.part) (map step_tree ss)
@@ -270,7 +270,7 @@ session_has c ts z (u, xs, ys, e, w, (n, us, vs, d, nm, (o, ws, zs, f, mo, (ss, 
     let teardown_on = then_has c4 qs rs os (only_parts (option_to_list t)) nothing h (maybe_has (block_behind Teardown) teardown_has c4 rs t mt) (nil_has (past c4 rs) os nil) in
     let steps_on = then_has c3 zs ps qs (steps_contents ss) _ g (steps_have c3 ps ss st.0) teardown_on in
     let setup_on = then_has c2 vs ws zs (only_parts (option_to_list o)) _ f (maybe_has (block_behind Setup) setup_has c2 ws o mo) steps_on in
-    let name_on = then_has c1 ys us vs (a_name n) _ d (name_has c1 us n nm) setup_on in
+    let name_on = then_has c1 ys us vs (only_name n) _ d (name_has c1 us n nm) setup_on in
     let whole = then_has c ts xs ys a_session _ e (session_word c xs u w) name_on in
     let s : SessionOf NameAt = record { name = n; setup = o; steps = ss; teardown = t } in
     subst (λ (s : SessionOf NameAt). Holds c (past c ts) ts (session_contents s)) (sym is) (like c (past c ts) ts _ (session_parts (session_tree s)) (session_names s) 1 (length ss) whole
@@ -345,7 +345,7 @@ many_quiet G q c ts all (more {x = x} {others = os} xs ys e m others) = ap (past
 
 marker_quiet : Quiet marker
 marker_quiet c ts x (first h) = seq_quiet (one (the_sign Star)) (λ _. gives star) (sign_past Star) (λ _. gives_quiet star) c ts x h
-marker_quiet c ts x (second h) = seq_quiet (one the_name) (λ n. gives (named n)) name_past (λ n. gives_quiet (named n)) c ts x h
+marker_quiet c ts x (second h) = seq_quiet (one a_name) (λ n. gives (named n)) name_past (λ n. gives_quiet (named n)) c ts x h
 
 markers_quiet : Quiet markers
 markers_quiet = seq_quiet (one (the_sign Open)) _ (sign_past Open) (λ _. seq_quiet marker _ marker_quiet (λ m. seq_quiet (Many (one (the_sign Comma) ▸ λ _. marker)) _
@@ -353,7 +353,7 @@ markers_quiet = seq_quiet (one (the_sign Open)) _ (sign_past Open) (λ _. seq_qu
     (λ others. seq_quiet (one (the_sign Close)) (λ _. gives (m ∷ others)) (sign_past Close) (λ _. gives_quiet (m ∷ others)))))
 
 entry_quiet : Quiet entry
-entry_quiet = seq_quiet (one the_name) _ name_past (λ n. seq_quiet (Maybe markers) _ (maybe_quiet markers markers_quiet) (λ ms. gives_quiet _))
+entry_quiet = seq_quiet (one a_name) _ name_past (λ n. seq_quiet (Maybe markers) _ (maybe_quiet markers markers_quiet) (λ ms. gives_quiet _))
 
 word_quiet : Quiet (one (the_word Permutation))
 word_quiet c ts u h = word_past Permutation c ts u h

@@ -1,9 +1,10 @@
 -- What reading gives is just what the relations say.
-use Rattle.std.proofs.Common.{◌≡◌, ◌⊎◌, inl, inr, ℕ, length, List, [], map, Option, Some, None, Result, Ok, Err, refl, sym, ap, subst, ◌∙◌}
+use Rattle.std.proofs.Common.{◌≡◌, ◌⊎◌, inl, inr, ℕ, length, Bool, true, false, List, [], ◌∷◌, ◌++◌, append-nil, map, Option, Some, None, Result, Ok, Err, refl, sym, ap, subst, ◌∙◌}
 use Rattle.std.specs.Option.{option_map_or}
 use Rattle.std.proofs.lemmas.Option.{same_Some}
 use Rattle.iso_lexer.specs.declared.token.At.{At}
 use Rattle.iso_lexer.specs.declared.fault.Fault.{Fault}
+use Rattle.iso_lexer.specs.declared.spec_token.Keyword.TheVariants.{Notices}
 use Rattle.iso_lexer.specs.SpecTokens.{Token}
 use Rattle.iso_lexer.specs.SpecText.{Lexes}
 use Rattle.spec_parser.specs.declared.fault.Stop.{Stop}
@@ -12,19 +13,24 @@ use Rattle.spec_parser.specs.declared.fault.SpecFault.{SpecFault}
 use Rattle.spec_parser.specs.declared.fault.SpecFault.TheVariants as faults
 use Rattle.spec_parser.specs.Trees.{FileTree, SpecTree, EntryTree}
 use Rattle.spec_parser.specs.Faults.{stopped}
-use Rattle.spec_parser.specs.Counts.{start, past}
-use Rattle.spec_parser.specs.Reading.{Rest, Read, place, file_at}
+use Rattle.spec_parser.specs.Counts.{Counts, start, past}
+use Rattle.spec_parser.specs.Reading as new
+use Rattle.spec_parser.specs.Inner.Stopping.{Rest, Read, place, told, file_at, finished}
+use Rattle.spec_parser.specs.Inner.Pieces.{starts_word}
 use Rattle.spec_parser.specs.Grammar.{file}
-use Rattle.spec_parser.specs.Names.{StepAt, steps_of, first_repeat, session_tree, ◌>>=◌, resolved}
-use Rattle.spec_parser.specs.Inner.Known.{known_perms}
-use Rattle.spec_parser.specs.SpecText.{SpecReads, no_tokens, tokens, finished}
-use Rattle.spec_parser.specs.Laws.{HasStop}
+use Rattle.iso_lexer.specs.Results.{if_ok}
+use Rattle.spec_parser.specs.Names.{StepAt, steps_of, session_tree}
+use Rattle.spec_parser.specs.Inner.Known.{first_repeat, resolved, known_perms}
+use Rattle.spec_parser.proofs.Placing.{seen, seen_in, fault_is, file_same, reads_as}
+use Rattle.spec_parser.proofs.Passing.{Whole, file_passes}
+use Rattle.spec_parser.specs.SpecText.{SpecReads, no_tokens, tokens}
+use Rattle.spec_parser.specs.Laws.{head, FaultIsFirst, HasStop}
 use Rattle.spec_parser.specs.IsSpec.{WithinLimits, IsSpec}
 use Rattle.spec_parser.specs.NameFaults.{Mention, by_entry, by_marker, mentions, undefined_at, IsFirstUndefined, HasRepeat, HasUndefined}
 use Rattle.spec_parser.proofs.Complete.{Again, whole, over, LongFile}
 use Rattle.spec_parser.proofs.WholeLaws.{read_or_over, reads_are_files, files_are_read, stops_first}
 use Rattle.spec_parser.proofs.Limits.{within, is_read_whole}
-use Rattle.spec_parser.specs.LimitFaults.{HasLimit}
+use Rattle.spec_parser.specs.LimitFaults.{IsWord, LimitStop, HasLimit}
 use Rattle.spec_parser.proofs.StopsAreAtLimits.{limit_stop}
 use Rattle.spec_parser.proofs.Notices.{file_ends}
 use Rattle.spec_parser.proofs.NamesAreFound.{names_differ, no_repeat, repeats_first, first_repeats, perms_are, perms_ok, undefined_first, first_undefined}
@@ -75,11 +81,11 @@ from_read text ts x (Err s, rest) e lexes is h = absurd (past_stop s (place (len
 
 pub was_resolved : (text : List ℕ) (x : Result SpecTree SpecFault) → IsPast x → SpecReads text x → WasResolved text x
 was_resolved text x h (no_tokens f lexes) = absurd h
-was_resolved text x h (tokens ts lexes is) = from_read text ts x (file_at (start, ts)) refl lexes is h
+was_resolved text x h (tokens ts lexes is) = from_read text ts x (file_at (start, ts)) refl lexes (is ∙ reads_as (length text) ts) h
 
 -- what was resolved is read
 pub reads_so : (text : List ℕ) (ts : List (At Token)) (f : FileTree) (x : Result SpecTree SpecFault) → Lexes text (Ok ts) → file start ts f → WithinLimits f → x ≡ resolved f → SpecReads text x
-reads_so text ts f x lexes grammar limits is = tokens ts lexes (is ∙ sym (ap (finished (length text)) (is_read_whole ts f grammar limits)))
+reads_so text ts f x lexes grammar limits is = tokens ts lexes (is ∙ sym (reads_as (length text) ts ∙ ap (finished (length text)) (is_read_whole ts f grammar limits)))
 
 -- ---- the names looked up
 
@@ -91,7 +97,7 @@ abbrev without_repeat : Option ℕ → Result SpecTree SpecFault → Result Spec
 without_repeat o spec = option_map_or (λ at. Err (faults.DuplicateStep at)) o spec
 
 abbrev out_of : FileTree → Option ℕ → Result (List (List EntryTree)) SpecFault → Result SpecTree SpecFault
-out_of f o r = without_repeat o (r >>= λ ps. Ok (made f ps))
+out_of f o r = without_repeat o (if_ok r (λ ps. Ok (made f ps)))
 
 ok_err : (x : SpecTree) (f : SpecFault) → ◌≡◌ {A = Result SpecTree SpecFault} (Ok x) (Err f) → ⊥
 ok_err x f e = cc
@@ -236,7 +242,7 @@ not_lex at f e = cc
 
 limit_by : (text : List ℕ) (at : ℕ) (x : Result SpecTree SpecFault) → x ≡ Err (faults.Limit at) → SpecReads text x → HasLimit text at
 limit_by text at x e (no_tokens f lexes) = absurd (not_lex at f (err_same (faults.Lex f) (faults.Limit at) e))
-limit_by text at x e (tokens ts lexes is) = limit_from text ts at (file_at (start, ts)) refl lexes (sym e ∙ is)
+limit_by text at x e (tokens ts lexes is) = limit_from text ts at (file_at (start, ts)) refl lexes (sym e ∙ is ∙ reads_as (length text) ts)
 
 pub limits_are_names : (text : List ℕ) (at : ℕ) → SpecReads text (Err (faults.Limit at)) → HasLimit text at
 limits_are_names text at h = limit_by text at (Err (faults.Limit at)) refl h
@@ -315,15 +321,78 @@ same_stop : (s t : Stop) (at p : ℕ) → stopped s at ≡ stopped t p → (t �
 same_stop s t at p e =
     (same_Some t s (sym (of_stop t p).0 ∙ sym (ap stop_in e) ∙ (of_stop s at).0), sym (of_stop s at).1 ∙ ap place_in e ∙ (of_stop t p).1)
 
+notices_first : (c : Counts) (ts : List (At Token)) → starts_word Notices (c, ts) ≡ true → (token : At Token) × (head ts ≡ Some token) × IsWord Notices token
+notices_first c [] e = absurd cc
+notices_first c (t ∷ ts) e = (t, refl, e)
+
 stop_from : (text : List ℕ) (ts : List (At Token)) (s : Stop) (at : ℕ) (q : Read FileTree) → file_at (start, ts) ≡ q → Lexes text (Ok ts) → Err (stopped s at) ≡ finished (length text) q → HasStop text s at
 stop_from text ts s at (Ok f, rest) e lexes is = absurd (no_stop_in f (stopped s at) (first_repeat [] (steps_of f)) (known_perms (steps_of f) f.perms) (stop_is s at) (λ x d. is_undefined (steps_of f) (mentions f.perms) x (undefined_first (steps_of f) f.perms x d)) is)
 stop_from text ts s at (Err t, rest) e lexes is =
     let k = same_stop s t at (place (length text) rest.1) (err_same (stopped s at) (stopped t (place (length text) rest.1)) is) in
-    record { tokens = ts; lexes = lexes; rest = rest.1; first = stops_first ts s rest (e ∙ (λ i. (Err (k.0 i), rest))); place = k.1; notices = λ h. file_ends (start, ts) rest (e ∙ (λ i. (Err ((k.0 ∙ h) i), rest))) }
+    record { tokens = ts; lexes = lexes; rest = rest.1; first = stops_first ts s rest (e ∙ (λ i. (Err (k.0 i), rest))); place = k.1; notices = λ h. notices_first rest.0 rest.1 (file_ends (start, ts) rest (e ∙ (λ i. (Err ((k.0 ∙ h) i), rest)))) }
 
 stop_by : (text : List ℕ) (s : Stop) (at : ℕ) (x : Result SpecTree SpecFault) → x ≡ Err (stopped s at) → SpecReads text x → HasStop text s at
 stop_by text s at x e (no_tokens f lexes) = absurd (subst IsStopped (sym (err_same (faults.Lex f) (stopped s at) e)) (stop_is s at))
-stop_by text s at x e (tokens ts lexes is) = stop_from text ts s at (file_at (start, ts)) refl lexes (sym e ∙ is)
+stop_by text s at x e (tokens ts lexes is) = stop_from text ts s at (file_at (start, ts)) refl lexes (sym e ∙ is ∙ reads_as (length text) ts)
 
 pub stops_are_first : (text : List ℕ) (s : Stop) (at : ℕ) → SpecReads text (Err (stopped s at)) → HasStop text s at
 stops_are_first text s at h = stop_by text s at (Err (stopped s at)) refl h
+
+-- ---- of tokens, with the places put in
+
+not_told : (f : FileTree) (rest : Rest) (x : SpecFault) → ◌≡◌ {A = Result (FileTree × Rest) SpecFault} (Ok (f, rest)) (Err x) → ⊥
+not_told f rest x e = cc
+
+fault_told : (x y : SpecFault) → ◌≡◌ {A = Result (FileTree × Rest) SpecFault} (Err x) (Err y) → x ≡ y
+fault_told x y e = cc
+
+value_told : (p q : FileTree × Rest) → ◌≡◌ {A = Result (FileTree × Rest) SpecFault} (Ok p) (Ok q) → p ≡ q
+value_told p q e = cc
+
+-- what is told as read was read, and what is told as a fault was a stop
+value_from : (last : ℕ) (q : Read FileTree) (f : FileTree) (rest : Rest) → told last q ≡ Ok (f, rest) → q ≡ (Ok f, rest)
+value_from last (Ok g, m) f rest e = ap (λ (p : FileTree × Rest). (Ok p.0, p.1)) (value_told (g, m) (f, rest) e)
+value_from last (Err s, m) f rest e = absurd (not_told f rest (stopped s (place last m.1)) (sym e))
+
+first_from : (last : ℕ) (ts : List (At Token)) (x : SpecFault) (q : Read FileTree) → file_at (start, ts) ≡ q → told last q ≡ Err x → FaultIsFirst last ts x
+first_from last ts x (Ok f, rest) is e = absurd (not_told f rest x e)
+first_from last ts x (Err s, rest) is e = record { stop = s; rest = rest.1; is = sym (fault_told (stopped s (place last rest.1)) x e); first = stops_first ts s rest is }
+
+pub faults_first : (last : ℕ) (ts : List (At Token)) (x : SpecFault) → new.file_at last ([], ts) ≡ Err x → FaultIsFirst last ts x
+faults_first last ts x e = first_from last ts x (file_at (start, ts)) refl (sym (file_same last ([], ts)) ∙ ap seen_in e)
+
+pub reads_in : (last : ℕ) (ts : List (At Token)) (f : FileTree) (rest : new.Rest) → new.file_at last ([], ts) ≡ Ok (f, rest) → file start ts f × WithinLimits f
+reads_in last ts f rest e = reads_within ts f (seen rest) (value_from last (file_at (start, ts)) f (seen rest) (sym (file_same last ([], ts)) ∙ ap seen_in e))
+
+limit_told : (last : ℕ) (q : Read FileTree) → q.0 ≡ Err OverLimit → told last q ≡ Err (faults.Limit (place last q.1.1))
+limit_told last (Ok f, rest) e = let wrong : ◌≡◌ {A = Result FileTree Stop} (Ok f) (Err OverLimit) = e in absurd cc
+limit_told last (Err s, rest) e = let same : ◌≡◌ {A = Stop} s OverLimit = cc in ap (λ t. Err (stopped t (place last rest.1))) same
+
+-- where nothing is left, all stands before
+whole_by : (ts b us : List (At Token)) (f g : FileTree) → g ≡ f → us ≡ [] → b ++ us ≡ ts → ◌≡◌ {A = Result (FileTree × new.Rest) SpecFault} (Ok (g, (b, us))) (Ok (f, (ts, [])))
+whole_by ts b us f g same nothing split =
+    let all : b ≡ ts = sym (append-nil b) ∙ ap (λ vs. b ++ vs) (sym nothing) ∙ split in
+    (λ i. Ok (same i, (all i, nothing i)))
+
+whole_is : (ts : List (At Token)) (c : Counts) (f : FileTree) (p : Result (FileTree × new.Rest) SpecFault) → seen_in p ≡ Ok (f, (c, [])) → Whole ts p → p ≡ Ok (f, (ts, []))
+whole_is ts c f (Ok (g, (b, us))) e split =
+    let same = value_told (g, seen (b, us)) (f, (c, [])) e in
+    whole_by ts b us f g (ap (λ (p : FileTree × Rest). p.0) same) (ap (λ (p : FileTree × Rest). p.1.1) same) split
+whole_is ts c f (Err x) e split = absurd (not_told f (c, []) x (sym e))
+
+pub files_in : (last : ℕ) (ts : List (At Token)) (f : FileTree) → file start ts f → (WithinLimits f → new.file_at last ([], ts) ≡ Ok (f, (ts, []))) × ((WithinLimits f → ⊥) → (at : ℕ) × (new.file_at last ([], ts) ≡ Err (faults.Limit at)))
+files_in last ts f grammar =
+    let both = files_within ts f grammar in (
+      λ limits. whole_is ts (past start ts) f (new.file_at last ([], ts)) (file_same last ([], ts) ∙ ap (told last) (both.0 limits)) (file_passes last ([], ts)),
+      λ outside. let at = place last (file_at (start, ts)).1.1 in (at, fault_is (new.file_at last ([], ts)) (faults.Limit at) (file_same last ([], ts) ∙ limit_told last (file_at (start, ts)) (both.1 outside))),
+    )
+
+limits_from : (last : ℕ) (ts : List (At Token)) (at : ℕ) (q : Read FileTree) → file_at (start, ts) ≡ q → told last q ≡ Err (faults.Limit at) → (rest : List (At Token)) × (stop : LimitStop ts rest) × (at ≡ stop.name.span.start)
+limits_from last ts at (Ok f, rest) is e = absurd (not_told f rest (faults.Limit at) e)
+limits_from last ts at (Err s, rest) is e =
+    let k = limit_stopped at (place last rest.1) s (sym (fault_told (stopped s (place last rest.1)) (faults.Limit at) e)) in
+    let stop = limit_stop ts rest (is ∙ (λ i. (Err (k.0 i), rest))) in
+    (rest.1, stop, k.1 ∙ ap (place last) stop.rest_is)
+
+pub limits_first : (last : ℕ) (ts : List (At Token)) (at : ℕ) → new.file_at last ([], ts) ≡ Err (faults.Limit at) → (rest : List (At Token)) × (stop : LimitStop ts rest) × (at ≡ stop.name.span.start)
+limits_first last ts at e = limits_from last ts at (file_at (start, ts)) refl (sym (file_same last ([], ts)) ∙ ap seen_in e)

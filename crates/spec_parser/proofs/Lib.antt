@@ -1,3 +1,5 @@
+pub mod Placing
+pub mod Passing
 pub mod Local
 pub mod Productions
 pub mod Loops

@@ -12,9 +12,9 @@ use Rattle.spec_parser.specs.declared.fault.Stop.{Stop}
 use Rattle.spec_parser.specs.declared.fault.Stop.TheVariants.{Expected, OverLimit}
 use Rattle.spec_parser.specs.Trees.{PartTree, NameAt, StepOf, SessionOf, NamedEntry, FileTree}
 use Rattle.spec_parser.specs.Counts.{Counts, start, past}
-use Rattle.spec_parser.specs.Reading.{Rest, Read, many_at, all_at, some_at, name_at, end_at, name_within, step_at, session_at, entry_at, perm_at, file_at, the_name}
+use Rattle.spec_parser.specs.Inner.Stopping.{Rest, Read, many_at, all_at, some_at, name_at, end_at, name_within, step_at, session_at, entry_at, perm_at, file_at}
+use Rattle.spec_parser.specs.Grammar.{a_name, Grammar, one, the_word, Maybe, Many, block_behind, perm, file}
 use Rattle.spec_parser.specs.Inner.Pieces.{starts_word, starts_name, word_at, setup_at, teardown_at, setups_at, steps_at, sessions_at, perms_at}
-use Rattle.spec_parser.specs.Grammar.{Grammar, one, the_word, Maybe, Many, block_behind, perm, file}
 use Rattle.spec_parser.specs.Grammar.{step as step_grammar}
 use Rattle.spec_parser.specs.IsSpec.{IsShort, WithinLimits}
 use Rattle.spec_parser.proofs.Local.{◌>>=◌, AreLocal, LocalRead, local_read, Means, is_read, no_value, in_two, stops_at, goes, goes_on}
@@ -172,7 +172,7 @@ session_end_keeps n = keeps_then setup_at (λ setup. steps_at setup.1 >>= λ ss.
     (λ ss. keeps_then teardown_at (λ teardown. (Ok (session_of n setup ss teardown.0), teardown.1)) teardown_keeps (λ teardown. gives_keep (session_of n setup ss teardown))))
 
 pub name_keeps : (before most : ℕ) → Keeps (name_within before most)
-name_keeps before most = quiet_keeps (one the_name) (name_within before most) (name_within_local before most) (λ c ts n h. (ap (λ (d : Counts). d.sessions) (name_past c ts n h), ap (λ (d : Counts). d.steps) (name_past c ts n h)))
+name_keeps before most = quiet_keeps (one a_name) (name_within before most) (name_within_local before most) (λ c ts n h. (ap (λ (d : Counts). d.sessions) (name_past c ts n h), ap (λ (d : Counts). d.steps) (name_past c ts n h)))
 
 pub session_keeps : (k : ℕ) → Keeps session_at
 unfolding session_at

@@ -8,7 +8,7 @@ use Rattle.spec_parser.specs.declared.fault.What.{What}
 use Rattle.spec_parser.specs.declared.fault.Stop.{Stop}
 use Rattle.spec_parser.specs.declared.fault.Stop.TheVariants.{Expected, NoticesLeftOut, OverLimit}
 use Rattle.spec_parser.specs.Counts.{Counts, past, past_token}
-use Rattle.spec_parser.specs.Reading.{Rest, Read, and_then, token_at, many_at, all_at, some_at, maybe_at}
+use Rattle.spec_parser.specs.Inner.Stopping.{Rest, Read, and_then, token_at, many_at, all_at, some_at, maybe_at}
 use Rattle.spec_parser.specs.Grammar.{Grammar, gives, one, Maybe, left_out, given, Many, none, more, some}
 use Rattle.spec_parser.specs.Grammar.{◌>>=◌ as ◌▸◌}
 use Rattle.spec_parser.specs.Laws.{head, names_token}
@@ -105,25 +105,25 @@ at_once G out c ts m = record { out = out; front = []; rest = ts; split = refl; 
 
 -- ---- one token
 
-fails_there : {A : Type 0} (f : Counts → ℕ → Token → Option A) (w : What) (c : Counts) (t : At Token) (others : List (At Token)) → f c t.span.start t.tok ≡ None → head others ≡ Some t → token_at f w (c, others) ≡ (Err (Expected w), (c, others))
+fails_there : {A : Type 0} (f : Counts → At Token → Option A) (w : What) (c : Counts) (t : At Token) (others : List (At Token)) → f c t ≡ None → head others ≡ Some t → token_at f w (c, others) ≡ (Err (Expected w), (c, others))
 fails_there f w c t [] e h = absurd (none_some t h)
 fails_there f w c t (s ∷ others) e h = rw (some_same s t h, e) refl
 
-token_case : {A : Type 0} (f : Counts → ℕ → Token → Option A) (w : What) → Begins w (one f) → (c : Counts) (t : At Token) (ts : List (At Token)) (o : Option A) → f c t.span.start t.tok ≡ o → Local (one f) (token_at f w) c (t ∷ ts)
+token_case : {A : Type 0} (f : Counts → At Token → Option A) (w : What) → Begins w (one f) → (c : Counts) (t : At Token) (ts : List (At Token)) (o : Option A) → f c t ≡ o → Local (one f) (token_at f w) c (t ∷ ts)
 token_case f w some c t ts (Some x) e = record { out = Ok x; rest = ts; front = t ∷ []; split = refl; local = λ others h. rw e refl; means = (t, refl, e) }
 token_case f w some c t ts None e = record { out = Err (Expected w); rest = t ∷ ts; front = []; split = refl; local = λ others h. fails_there f w c t others e h; means = some c }
 
-at_end : {A : Type 0} (f : Counts → ℕ → Token → Option A) (w : What) (c : Counts) (others : List (At Token)) → head others ≡ None → token_at f w (c, others) ≡ (Err (Expected w), (c, others))
+at_end : {A : Type 0} (f : Counts → At Token → Option A) (w : What) (c : Counts) (others : List (At Token)) → head others ≡ None → token_at f w (c, others) ≡ (Err (Expected w), (c, others))
 at_end f w c [] h = refl
 at_end f w c (t ∷ others) h = absurd (some_none t h)
 
-pub token_local : {A : Type 0} (f : Counts → ℕ → Token → Option A) (w : What) → Begins w (one f) → AreLocal (one f) (token_at f w)
+pub token_local : {A : Type 0} (f : Counts → At Token → Option A) (w : What) → Begins w (one f) → AreLocal (one f) (token_at f w)
 token_local f w some c [] = record { out = Err (Expected w); rest = []; front = []; split = refl; local = λ others h. at_end f w c others h; means = some c }
-token_local f w some c (t ∷ ts) = token_case f w some c t ts (f c t.span.start t.tok) refl
+token_local f w some c (t ∷ ts) = token_case f w some c t ts (f c t) refl
 
 -- a token that says nothing but that it is there
-abbrev pub is_there : (Token → Bool) → Counts → ℕ → Token → Option (Unit {0})
-is_there p c at t = cond (p t) (Some tt) None
+abbrev pub is_there : (Token → Bool) → Counts → At Token → Option (Unit {0})
+is_there p c t = cond (p t.tok) (Some tt) None
 
 pub there_local : (p : Token → Bool) (w : What) → LocalFrom (λ r. first_is p r.1) (one (is_there p)) (token_at (is_there p) w)
 there_local p w c [] e = let wrong : ◌≡◌ {A = Bool} false true = e in absurd cc
@@ -467,5 +467,5 @@ shortens {A} G p takes local r after x e =
     let rest_is : l.rest ≡ after.1 = ap (λ (q : Read A). q.1.1) both in
     omega (arith, ap (λ (us : List (At Token)). length us) rest_is, ap (λ (us : List (At Token)). length us) l.split, length-append l.front l.rest, front_takes G r.0 l.front l.out x takes out_is l.means)
 
-pub first_takes : {A B : Type 0} (f : Counts → ℕ → Token → Option A) (H : A → Grammar B) → TakesOne (one f ▸ H)
+pub first_takes : {A B : Type 0} (f : Counts → At Token → Option A) (H : A → Grammar B) → TakesOne (one f ▸ H)
 first_takes f H c ts z (x, xs, ys, e, (t, te, is), h) = omega (arith, ap (λ (us : List (At Token)). length us) e, length-append xs ys, ap (λ (us : List (At Token)). length us) te)

@@ -7,7 +7,7 @@ use Rattle.std.proofs.lemmas.List.{append-nil, map-append, length-map}
 use Rattle.spec_parser.specs.declared.fault.Stop.{Stop}
 use Rattle.spec_parser.specs.declared.fault.Halt.{Halt}
 use Rattle.spec_parser.specs.declared.fault.Halt.TheVariants as halts
-use Rattle.spec_parser.specs.Reading.{Rest, Read, many_at, all_at}
+use Rattle.spec_parser.specs.Inner.Stopping.{Rest, Read, many_at, all_at}
 use Rattle.iso_lexer.specs.SpecTokens.{Token}
 use Rattle.spec_parser.specs.Inner.Readers.{FailsAs, behind, rest_of}
 use Rattle.spec_parser.proofs.Local.{first_is, ◌>>=◌, stops_at, goes_on, goes}

@@ -13,8 +13,9 @@ use Rattle.spec_parser.specs.declared.tree.Marker.TheVariants as markers
 use Rattle.spec_parser.specs.declared.fault.SpecFault.{SpecFault}
 use Rattle.spec_parser.specs.declared.fault.SpecFault.TheVariants.{UndefinedStep, UndefinedMarker}
 use Rattle.spec_parser.specs.Trees.{EntryTree, NameAt, MarkerTree, star, named, NamedEntry}
-use Rattle.spec_parser.specs.Names.{StepAt, is_named, first_repeat, ◌>>=◌, each, known_marker, known_entry}
-use Rattle.spec_parser.specs.Inner.Known.{known_perms}
+use Rattle.iso_lexer.specs.Results.{if_ok, each}
+use Rattle.spec_parser.specs.Names.{StepAt, is_named, known_marker, known_entry}
+use Rattle.spec_parser.specs.Inner.Known.{first_repeat, known_perms}
 use Rattle.spec_parser.specs.IsSpec.{SameName, HasOtherName, NamesDiffer, Names, MarkerIs, EntryIs, PermIs}
 use Rattle.spec_parser.specs.NameFaults.{IsFirstRepeat, Mention, by_entry, by_marker, mentioned, of_marker, of_entry, mentions, IsDefined, undefined_at, IsFirstUndefined}
 
@@ -168,7 +169,7 @@ first_repeats steps at h = ap (first_repeat []) h.split ∙ first_from [] h.fron
 
 -- ---- what is found is meant
 
-each_by : {B : Type 0} (r : Result B SpecFault) (q : Result (List B) SpecFault) (ys : List B) → (r >>= λ y. q >>= λ zs. Ok (y ∷ zs)) ≡ Ok ys → (y : B) × (zs : List B) × (r ≡ Ok y) × (q ≡ Ok zs) × (ys ≡ y ∷ zs)
+each_by : {B : Type 0} (r : Result B SpecFault) (q : Result (List B) SpecFault) (ys : List B) → (if_ok r (λ y. if_ok q (λ zs. Ok (y ∷ zs)))) ≡ Ok ys → (y : B) × (zs : List B) × (r ≡ Ok y) × (q ≡ Ok zs) × (ys ≡ y ∷ zs)
 each_by (Ok y) (Ok zs) ys e = (y, zs, refl, refl, sym (ok_same (y ∷ zs) ys e))
 each_by (Ok y) (Err f) ys e = absurd (ok_err ys f (sym e))
 each_by (Err f) q ys e = absurd (ok_err ys f (sym e))
@@ -202,7 +203,7 @@ marker_is : (known : List StepAt) (t : MarkerTree) (m : Marker) → known_marker
 marker_is known star m e = subst (MarkerIs known star) (ok_same markers.Star m e) tt
 marker_is known (named n) m e = marker_by known n (find (is_named n.name) known) m refl e
 
-entry_by : (known : List StepAt) (e : NamedEntry) (o : Option StepAt) (r : Result (List Marker) SpecFault) (x : EntryTree) → find (is_named e.name.name) known ≡ o → each (known_marker known) e.markers ≡ r → (step_of e.name o >>= λ s. r >>= λ ms. Ok (record { session = s.session; step = s.step; markers = ms })) ≡ Ok x → EntryIs known e x
+entry_by : (known : List StepAt) (e : NamedEntry) (o : Option StepAt) (r : Result (List Marker) SpecFault) (x : EntryTree) → find (is_named e.name.name) known ≡ o → each (known_marker known) e.markers ≡ r → (if_ok (step_of e.name o) (λ s. if_ok r (λ ms. Ok (record { session = s.session; step = s.step; markers = ms })))) ≡ Ok x → EntryIs known e x
 entry_by known e (Some s) (Ok ms) x is ms_are h = subst (EntryIs known e) (ok_same _ x h) (record { step = names_found known e.name s is; markers = each_is (known_marker known) (MarkerIs known) (marker_is known) e.markers ms ms_are })
 entry_by known e (Some s) (Err f) x is ms_are h = absurd (ok_err x f (sym h))
 entry_by known e None r x is ms_are h = absurd (ok_err x (UndefinedStep e.name.at) (sym h))
@@ -258,7 +259,7 @@ first_append : (known : List StepAt) (ms ns : List Mention) → first_of known (
 first_append known [] ns = refl
 first_append known (m ∷ ms) ns = ap (or_else (check known m)) (first_append known ms ns) ∙ or_assoc (check known m) (first_of known ms) (first_of known ns)
 
-err_bind : {A : Type 0} (r : Result A SpecFault) (q : Result (List A) SpecFault) → err_of {B = List A} (r >>= λ y. q >>= λ zs. Ok (y ∷ zs)) ≡ or_else (err_of r) (err_of q)
+err_bind : {A : Type 0} (r : Result A SpecFault) (q : Result (List A) SpecFault) → err_of {B = List A} (if_ok r (λ y. if_ok q (λ zs. Ok (y ∷ zs)))) ≡ or_else (err_of r) (err_of q)
 err_bind (Ok y) (Ok zs) = refl
 err_bind (Ok y) (Err f) = refl
 err_bind (Err f) q = refl
@@ -275,7 +276,7 @@ err_marker : (known : List StepAt) (t : MarkerTree) → err_of (known_marker kno
 err_marker known star = refl
 err_marker known (named n) = err_marker_by n (find (is_named n.name) known)
 
-err_entry_by : (e : NamedEntry) (o : Option StepAt) (r : Result (List Marker) SpecFault) → err_of {B = EntryTree} (step_of e.name o >>= λ s. r >>= λ ms. Ok (record { session = s.session; step = s.step; markers = ms })) ≡ or_else (check_by (by_entry e.name) o) (err_of r)
+err_entry_by : (e : NamedEntry) (o : Option StepAt) (r : Result (List Marker) SpecFault) → err_of {B = EntryTree} (if_ok (step_of e.name o) (λ s. if_ok r (λ ms. Ok (record { session = s.session; step = s.step; markers = ms })))) ≡ or_else (check_by (by_entry e.name) o) (err_of r)
 err_entry_by e (Some s) (Ok ms) = refl
 err_entry_by e (Some s) (Err f) = refl
 err_entry_by e None r = refl

@@ -12,9 +12,9 @@ use Rattle.spec_parser.specs.declared.fault.Stop.{Stop}
 use Rattle.spec_parser.specs.declared.fault.Stop.TheVariants.{Expected, NoticesLeftOut, OverLimit}
 use Rattle.spec_parser.specs.Trees.{NameAt, MarkerTree, star, named}
 use Rattle.spec_parser.specs.Counts.{Counts}
-use Rattle.spec_parser.specs.Reading.{Rest, Read, next, many_at, all_at, maybe_at, name_at, block_at, end_at, block_after, maybe_block, no_notices, marker_at, markers_at, the_name, the_block, token_at}
+use Rattle.spec_parser.specs.Inner.Stopping.{Rest, Read, next, many_at, all_at, maybe_at, name_at, block_at, end_at, block_after, maybe_block, no_notices, marker_at, markers_at, token_at}
+use Rattle.spec_parser.specs.Grammar.{a_name, a_block, the_word, the_sign}
 use Rattle.spec_parser.specs.Inner.Pieces.{starts_word, starts_sign, word_at, sign_at, setup_at, teardown_at, setups_at, next_marker_at, next_markers_at, some_markers_at}
-use Rattle.spec_parser.specs.Grammar.{the_word, the_sign}
 use Rattle.spec_parser.proofs.Local.{◌>>=◌, taken, no_value, stops_at, goes, goes_on}
 
 -- ---- readings that never stop at a limit
@@ -32,9 +32,9 @@ taken_never : {A : Type 0} (o : Option A) (w : What) (c : Counts) (t : At Token)
 taken_never (Some x) w c t ts after e = not_value x _ after e
 taken_never {A} None w c t ts after e = not_expected {A = A} w _ after e
 
-token_never : {A : Type 0} (f : Counts → ℕ → Token → Option A) (w : What) (c : Counts) (ts : List (At Token)) (after : Rest) → token_at f w (c, ts) ≡ (Err OverLimit, after) → ⊥
+token_never : {A : Type 0} (f : Counts → At Token → Option A) (w : What) (c : Counts) (ts : List (At Token)) (after : Rest) → token_at f w (c, ts) ≡ (Err OverLimit, after) → ⊥
 token_never {A} f w c [] after e = not_expected {A = A} w _ after e
-token_never f w c (t ∷ ts) after e = taken_never (f c t.span.start t.tok) w c t ts after e
+token_never f w c (t ∷ ts) after e = taken_never (f c t) w c t ts after e
 
 pub word_never : (k : Keyword) (w : What) → Never (word_at k w)
 unfolding next
@@ -46,11 +46,11 @@ sign_never g w r after e = token_never (the_sign g) w r.0 r.1 after e
 
 pub name_never : (w : What) → Never (name_at w)
 unfolding name_at
-name_never w r after e = token_never the_name w r.0 r.1 after e
+name_never w r after e = token_never a_name w r.0 r.1 after e
 
 pub block_never : Never block_at
 unfolding block_at
-block_never r after e = token_never the_block what.Block r.0 r.1 after e
+block_never r after e = token_never a_block what.Block r.0 r.1 after e
 
 end_by : (c : Counts) (ts : List (At Token)) (after : Rest) → end_at (c, ts) ≡ (Err OverLimit, after) → ⊥
 unfolding end_at

@@ -13,9 +13,9 @@ use Rattle.spec_parser.specs.declared.fault.Stop.{Stop}
 use Rattle.spec_parser.specs.declared.fault.Stop.TheVariants.{Expected, NoticesLeftOut, OverLimit}
 use Rattle.spec_parser.specs.Trees.{PartTree, NameAt, StepOf, SessionOf, MarkerTree, star, named, NamedEntry, FileTree}
 use Rattle.spec_parser.specs.Counts.{Counts}
-use Rattle.spec_parser.specs.Reading.{Rest, Read, next, many_at, all_at, some_at, maybe_at, name_at, block_at, end_at, name_within, block_after, maybe_block, step_at, session_at, no_notices, marker_at, markers_at, entry_at, perm_at, file_at, the_name, the_block, token_at}
+use Rattle.spec_parser.specs.Inner.Stopping.{Rest, Read, next, many_at, all_at, some_at, maybe_at, name_at, block_at, end_at, name_within, block_after, maybe_block, step_at, session_at, no_notices, marker_at, markers_at, entry_at, perm_at, file_at, token_at}
+use Rattle.spec_parser.specs.Grammar.{a_name, a_block, the_word, the_sign}
 use Rattle.spec_parser.specs.Inner.Pieces.{starts_word, starts_sign, starts_name, word_at, sign_at, setup_at, teardown_at, setups_at, steps_at, sessions_at, next_marker_at, next_markers_at, some_markers_at, entries_at, perms_at}
-use Rattle.spec_parser.specs.Grammar.{the_word, the_sign}
 use Rattle.spec_parser.proofs.Local.{◌>>=◌, taken, no_value}
 use Rattle.spec_parser.proofs.NeverAtLimit.{err_two, many_zero, Stopped, stopped}
 
@@ -40,9 +40,9 @@ taken_ends : {A : Type 0} (o : Option A) (w : What) (c : Counts) (t : At Token) 
 taken_ends (Some x) w c t ts after e = not_value x _ after e
 taken_ends {A} None w c t ts after e = not_expected {A = A} w _ after e
 
-token_ends : {A : Type 0} (f : Counts → ℕ → Token → Option A) (w : What) (c : Counts) (ts : List (At Token)) (after : Rest) → token_at f w (c, ts) ≡ (Err NoticesLeftOut, after) → ⊥
+token_ends : {A : Type 0} (f : Counts → At Token → Option A) (w : What) (c : Counts) (ts : List (At Token)) (after : Rest) → token_at f w (c, ts) ≡ (Err NoticesLeftOut, after) → ⊥
 token_ends {A} f w c [] after e = not_expected {A = A} w _ after e
-token_ends f w c (t ∷ ts) after e = taken_ends (f c t.span.start t.tok) w c t ts after e
+token_ends f w c (t ∷ ts) after e = taken_ends (f c t) w c t ts after e
 
 word_ends : (k : Keyword) (w : What) → Ends (word_at k w)
 unfolding next
@@ -54,11 +54,11 @@ sign_ends g w r after e = absurd (token_ends (the_sign g) w r.0 r.1 after e)
 
 name_ends : (w : What) → Ends (name_at w)
 unfolding name_at
-name_ends w r after e = absurd (token_ends the_name w r.0 r.1 after e)
+name_ends w r after e = absurd (token_ends a_name w r.0 r.1 after e)
 
 block_ends : Ends block_at
 unfolding block_at
-block_ends r after e = absurd (token_ends the_block what.Block r.0 r.1 after e)
+block_ends r after e = absurd (token_ends a_block what.Block r.0 r.1 after e)
 
 end_by : (c : Counts) (ts : List (At Token)) (after : Rest) → end_at (c, ts) ≡ (Err NoticesLeftOut, after) → ⊥
 unfolding end_at

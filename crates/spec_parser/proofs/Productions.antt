@@ -17,9 +17,9 @@ use Rattle.spec_parser.specs.declared.fault.What.TheVariants as what
 use Rattle.spec_parser.specs.declared.fault.Stop.TheVariants.{Expected, NoticesLeftOut, OverLimit}
 use Rattle.spec_parser.specs.Trees.{PartTree, NameAt, StepOf, SessionOf, MarkerTree, star, named, NamedEntry, FileTree}
 use Rattle.spec_parser.specs.Counts.{Counts}
-use Rattle.spec_parser.specs.Reading.{Rest, is_word, is_sign, is_name, the_name, the_block, next, name_at, block_at, end_at, name_within, block_after, maybe_block, step_at, session_at, no_notices, marker_at, markers_at, entry_at, perm_at, file_at}
+use Rattle.spec_parser.specs.Inner.Stopping.{Rest, next, name_at, block_at, end_at, name_within, block_after, maybe_block, step_at, session_at, no_notices, marker_at, markers_at, entry_at, perm_at, file_at}
+use Rattle.spec_parser.specs.Grammar.{a_name, a_block, is_word, is_sign, is_name, Grammar, gives, one, the_word, the_sign, Maybe, Many, none, some, first, second, block_behind, step, session, marker, markers, entry, perm, file}
 use Rattle.spec_parser.specs.Inner.Pieces.{starts_word, starts_sign, starts_name, word_at, sign_at, setup_at, teardown_at, setups_at, steps_at, sessions_at, next_marker_at, next_markers_at, some_markers_at, entries_at, perms_at}
-use Rattle.spec_parser.specs.Grammar.{Grammar, gives, one, the_word, the_sign, Maybe, Many, none, some, first, second, block_behind, step, session, marker, markers, entry, perm, file}
 use Rattle.spec_parser.specs.Grammar.{◌>>=◌ as ◌▸◌}
 use Rattle.spec_parser.specs.Laws.{head, names_token}
 use Rattle.spec_parser.proofs.Local.{◌>>=◌, AreLocal, LocalFrom, LocalRead, local_read, Inhabited, Begins, inhabited, Within, token_local, there_local, was_there, was_first, then, start_then, then_from, seq_inhabited, seq_begins, gives_inhabited, gives_local, by_head, choice, wider, start_wider, at_once, maybe_local, maybe_inhabited, many_local, many_inhabited, many_begins, many_twice, some_local, some_begins, first_takes, shortens}
@@ -43,19 +43,19 @@ sign_begins : (w : What) (g : Sign) → names_token w (sign g) ≡ true → Begi
 unfolding made
 sign_begins w g e c = (made (sign g) ∷ [], tt, (made (sign g), refl, rw (same_sign_itself g) refl), e)
 
-name_begins : (w : What) → names_token w (name (plain [])) ≡ true → Begins w (one the_name)
+name_begins : (w : What) → names_token w (name (plain [])) ≡ true → Begins w (one a_name)
 unfolding made
 name_begins w e c = (made (name (plain [])) ∷ [], record { name = plain []; at = 0 }, (made (name (plain [])), refl, refl), e)
 
-name_inhabited : Inhabited (one the_name)
-name_inhabited = inhabited what.Name (one the_name) (name_begins what.Name refl)
+name_inhabited : Inhabited (one a_name)
+name_inhabited = inhabited what.Name (one a_name) (name_begins what.Name refl)
 
-block_begins : Begins what.Block (one the_block)
+block_begins : Begins what.Block (one a_block)
 unfolding made
 block_begins c = (made (block 0 []) ∷ [], record { sql = []; at = 1; block = c.blocks }, (made (block 0 []), refl, refl), refl)
 
-block_inhabited : Inhabited (one the_block)
-block_inhabited = inhabited what.Block (one the_block) block_begins
+block_inhabited : Inhabited (one a_block)
+block_inhabited = inhabited what.Block (one a_block) block_begins
 
 -- the word with which a part begins, where it stands
 word_local : (k : Keyword) (w : What) → LocalFrom (starts_word k) (one (the_word k)) (word_at k w)
@@ -74,26 +74,26 @@ close_local : AreLocal (one (the_sign Close)) (sign_at Close what.CommaOrClose)
 unfolding next
 close_local = token_local (the_sign Close) what.CommaOrClose (sign_begins what.CommaOrClose Close refl)
 
-name_local : (w : What) → names_token w (name (plain [])) ≡ true → AreLocal (one the_name) (name_at w)
+name_local : (w : What) → names_token w (name (plain [])) ≡ true → AreLocal (one a_name) (name_at w)
 unfolding name_at
-name_local w e = token_local the_name w (name_begins w e)
+name_local w e = token_local a_name w (name_begins w e)
 
-block_local : AreLocal (one the_block) block_at
+block_local : AreLocal (one a_block) block_at
 unfolding block_at
-block_local = token_local the_block what.Block block_begins
+block_local = token_local a_block what.Block block_begins
 
-pub name_within_local : (before most : ℕ) → AreLocal (one the_name) (name_within before most)
+pub name_within_local : (before most : ℕ) → AreLocal (one a_name) (name_within before most)
 unfolding name_within
 name_within_local before most = choice (λ r. nat_lt before most) (name_at what.Name) _ (λ c d xs ys h. refl) (λ c ts e. name_local what.Name refl c ts)
     (choice starts_name (λ r. (Err OverLimit, r)) (λ r. (Err (Expected what.Name), r)) (by_head is_name)
-    (λ c ts e. let a = name_inhabited c in at_once (one the_name) (Err OverLimit) c ts (a.0, a.1, a.2, tt))
-    (λ c ts. at_once (one the_name) (Err (Expected what.Name)) c ts (name_begins what.Name refl c)))
+    (λ c ts e. let a = name_inhabited c in at_once (one a_name) (Err OverLimit) c ts (a.0, a.1, a.2, tt))
+    (λ c ts. at_once (one a_name) (Err (Expected what.Name)) c ts (name_begins what.Name refl c)))
 
 -- ---- blocks
 
 block_after_local : (k : Keyword) → LocalFrom (starts_word k) (block_behind k) (block_after k)
 unfolding block_after
-block_after_local k = start_then {G = one (the_word k)} {H = λ _. one the_block} (starts_word k) (word_at k what.Item) (λ key. block_at key.1) (word_local k what.Item) (λ _. block_inhabited) (λ _. block_local)
+block_after_local k = start_then {G = one (the_word k)} {H = λ _. one a_block} (starts_word k) (word_at k what.Item) (λ key. block_at key.1) (word_local k what.Item) (λ _. block_inhabited) (λ _. block_local)
 
 block_after_read : (k : Keyword) → LocalRead (block_behind k) (block_after k)
 unfolding block_after next
@@ -108,37 +108,37 @@ unfolding maybe_block
 teardown_local = maybe_local (block_behind Teardown) (starts_word Teardown) (block_after Teardown) (by_head (is_word Teardown)) (block_after_local Teardown)
 
 pub setups_local : AreLocal (Many (block_behind Setup)) setups_at
-setups_local = many_local (block_behind Setup) (starts_word Setup) (λ k. block_after Setup) (by_head (is_word Setup)) (λ c. refl) (first_takes (the_word Setup) (λ _. one the_block)) (λ k. block_after_local Setup)
+setups_local = many_local (block_behind Setup) (starts_word Setup) (λ k. block_after Setup) (by_head (is_word Setup)) (λ c. refl) (first_takes (the_word Setup) (λ _. one a_block)) (λ k. block_after_local Setup)
 
 -- ---- steps
 
 abbrev step_of : NameAt → PartTree → StepOf NameAt
 step_of n b = record { name = n; part = b }
 
-step_end_inhabited : (n : NameAt) → Inhabited (one the_block ▸ λ b. gives (step_of n b))
-step_end_inhabited n = seq_inhabited (one the_block) (λ b. gives (step_of n b)) block_inhabited (λ b. gives_inhabited (step_of n b))
+step_end_inhabited : (n : NameAt) → Inhabited (one a_block ▸ λ b. gives (step_of n b))
+step_end_inhabited n = seq_inhabited (one a_block) (λ b. gives (step_of n b)) block_inhabited (λ b. gives_inhabited (step_of n b))
 
-after_step_inhabited : Inhabited (one the_name ▸ λ n. one the_block ▸ λ b. gives (step_of n b))
-after_step_inhabited = seq_inhabited (one the_name) (λ n. one the_block ▸ λ b. gives (step_of n b)) name_inhabited step_end_inhabited
+after_step_inhabited : Inhabited (one a_name ▸ λ n. one a_block ▸ λ b. gives (step_of n b))
+after_step_inhabited = seq_inhabited (one a_name) (λ n. one a_block ▸ λ b. gives (step_of n b)) name_inhabited step_end_inhabited
 
 step_begins : Begins what.Step step
-step_begins = seq_begins what.Step (one (the_word Step)) (λ _. one the_name ▸ λ n. one the_block ▸ λ b. gives (step_of n b)) (word_begins what.Step Step refl) (λ _. after_step_inhabited)
+step_begins = seq_begins what.Step (one (the_word Step)) (λ _. one a_name ▸ λ n. one a_block ▸ λ b. gives (step_of n b)) (word_begins what.Step Step refl) (λ _. after_step_inhabited)
 
-step_end_local : (n : NameAt) → AreLocal (one the_block ▸ λ b. gives (step_of n b)) (λ r. block_at r >>= λ b. (Ok (step_of n b.0), b.1))
-step_end_local n = then {G = one the_block} {H = λ b. gives (step_of n b)} block_at (λ b. (Ok (step_of n b.0), b.1)) block_local (λ b. gives_inhabited (step_of n b)) (λ b. gives_local (step_of n b))
+step_end_local : (n : NameAt) → AreLocal (one a_block ▸ λ b. gives (step_of n b)) (λ r. block_at r >>= λ b. (Ok (step_of n b.0), b.1))
+step_end_local n = then {G = one a_block} {H = λ b. gives (step_of n b)} block_at (λ b. (Ok (step_of n b.0), b.1)) block_local (λ b. gives_inhabited (step_of n b)) (λ b. gives_local (step_of n b))
 
 step_local : LocalFrom (starts_word Step) step step_at
 unfolding step_at
-step_local = then_from {G = one (the_word Step)} {H = λ _. one the_name ▸ λ n. one the_block ▸ λ b. gives (step_of n b)} (starts_word Step) (word_at Step what.Item)
+step_local = then_from {G = one (the_word Step)} {H = λ _. one a_name ▸ λ n. one a_block ▸ λ b. gives (step_of n b)} (starts_word Step) (word_at Step what.Item)
     (λ d key. name_within d.steps 1000 key.1 >>= λ n. block_at n.1 >>= λ b. (Ok (step_of n.0 b.0), b.1)) (word_local Step what.Item) (λ _. after_step_inhabited)
-    (λ d _. then {G = one the_name} {H = λ n. one the_block ▸ λ b. gives (step_of n b)} (name_within d.steps 1000) (λ n. block_at n.1 >>= λ b. (Ok (step_of n.0 b.0), b.1)) (name_within_local d.steps 1000) step_end_inhabited step_end_local)
+    (λ d _. then {G = one a_name} {H = λ n. one a_block ▸ λ b. gives (step_of n b)} (name_within d.steps 1000) (λ n. block_at n.1 >>= λ b. (Ok (step_of n.0 b.0), b.1)) (name_within_local d.steps 1000) step_end_inhabited step_end_local)
 
 pub step_read : LocalRead step step_at
 unfolding step_at next
 step_read r after s e = step_local r.0 r.1 (was_first (is_word Step) what.Item _ r after s e)
 
 pub steps_local : AreLocal (some step) steps_at
-steps_local = some_local step what.Step (starts_word Step) (λ k. step_at) step_begins (by_head (is_word Step)) (λ c. refl) (first_takes (the_word Step) (λ _. one the_name ▸ λ n. one the_block ▸ λ b. gives (step_of n b))) (λ k. step_local)
+steps_local = some_local step what.Step (starts_word Step) (λ k. step_at) step_begins (by_head (is_word Step)) (λ c. refl) (first_takes (the_word Step) (λ _. one a_name ▸ λ n. one a_block ▸ λ b. gives (step_of n b))) (λ k. step_local)
 
 -- ---- sessions
 
@@ -163,11 +163,11 @@ stepped_inhabited n setup = seq_inhabited (some step) (TornDown n setup) (inhabi
 set_up_inhabited : (n : NameAt) → Inhabited (SetUp n)
 set_up_inhabited n = seq_inhabited (Maybe (block_behind Setup)) (Stepped n) (maybe_inhabited (block_behind Setup)) (stepped_inhabited n)
 
-named_inhabited : Inhabited (one the_name ▸ SetUp)
-named_inhabited = seq_inhabited (one the_name) SetUp name_inhabited set_up_inhabited
+named_inhabited : Inhabited (one a_name ▸ SetUp)
+named_inhabited = seq_inhabited (one a_name) SetUp name_inhabited set_up_inhabited
 
 session_begins : Begins what.Session session
-session_begins = seq_begins what.Session (one (the_word Session)) (λ _. one the_name ▸ SetUp) (word_begins what.Session Session refl) (λ _. named_inhabited)
+session_begins = seq_begins what.Session (one (the_word Session)) (λ _. one a_name ▸ SetUp) (word_begins what.Session Session refl) (λ _. named_inhabited)
 
 torn_local : (n : NameAt) (setup : Option PartTree) (steps : List (StepOf NameAt)) → AreLocal (TornDown n setup steps) (λ r. teardown_at r >>= λ teardown. (Ok (session_of n setup steps teardown.0), teardown.1))
 torn_local n setup steps = then {G = Maybe (block_behind Teardown)} {H = λ teardown. gives (session_of n setup steps teardown)} teardown_at (λ teardown. (Ok (session_of n setup steps teardown.0), teardown.1)) teardown_local (λ teardown. gives_inhabited (session_of n setup steps teardown)) (λ teardown. gives_local (session_of n setup steps teardown))
@@ -180,16 +180,16 @@ set_up_local n = then {G = Maybe (block_behind Setup)} {H = Stepped n} setup_at 
 
 session_local : LocalFrom (starts_word Session) session session_at
 unfolding session_at
-session_local = then_from {G = one (the_word Session)} {H = λ _. one the_name ▸ SetUp} (starts_word Session) (word_at Session what.Item)
+session_local = then_from {G = one (the_word Session)} {H = λ _. one a_name ▸ SetUp} (starts_word Session) (word_at Session what.Item)
     (λ d key. name_within d.sessions 64 key.1 >>= λ n. setup_at n.1 >>= λ setup. steps_at setup.1 >>= λ steps. teardown_at steps.1 >>= λ teardown. (Ok (session_of n.0 setup.0 steps.0 teardown.0), teardown.1)) (word_local Session what.Item) (λ _. named_inhabited)
-    (λ d _. then {G = one the_name} {H = SetUp} (name_within d.sessions 64) (λ n. setup_at n.1 >>= λ setup. steps_at setup.1 >>= λ steps. teardown_at steps.1 >>= λ teardown. (Ok (session_of n.0 setup.0 steps.0 teardown.0), teardown.1)) (name_within_local d.sessions 64) set_up_inhabited set_up_local)
+    (λ d _. then {G = one a_name} {H = SetUp} (name_within d.sessions 64) (λ n. setup_at n.1 >>= λ setup. steps_at setup.1 >>= λ steps. teardown_at steps.1 >>= λ teardown. (Ok (session_of n.0 setup.0 steps.0 teardown.0), teardown.1)) (name_within_local d.sessions 64) set_up_inhabited set_up_local)
 
 pub session_read : LocalRead session session_at
 unfolding session_at next
 session_read r after s e = session_local r.0 r.1 (was_first (is_word Session) what.Item _ r after s e)
 
 pub sessions_local : AreLocal (some session) sessions_at
-sessions_local = some_local session what.Session (starts_word Session) (λ k. session_at) session_begins (by_head (is_word Session)) (λ c. refl) (first_takes (the_word Session) (λ _. one the_name ▸ SetUp)) (λ k. session_local)
+sessions_local = some_local session what.Session (starts_word Session) (λ k. session_at) session_begins (by_head (is_word Session)) (λ c. refl) (first_takes (the_word Session) (λ _. one a_name ▸ SetUp)) (λ k. session_local)
 
 -- ---- markers
 
@@ -203,7 +203,7 @@ abbrev AStar : Grammar MarkerTree
 AStar = one (the_sign Star) ▸ λ _. gives star
 
 abbrev AName : Grammar MarkerTree
-AName = one the_name ▸ λ n. gives (named n)
+AName = one a_name ▸ λ n. gives (named n)
 
 star_is : Within AStar marker
 star_is c ts x h = first h
@@ -212,13 +212,13 @@ name_is : Within AName marker
 name_is c ts x h = second h
 
 marker_inhabited : Inhabited marker
-marker_inhabited c = let a = seq_inhabited (one the_name) (λ n. gives (named n)) name_inhabited (λ n. gives_inhabited (named n)) c in (a.0, a.1, second a.2)
+marker_inhabited c = let a = seq_inhabited (one a_name) (λ n. gives (named n)) name_inhabited (λ n. gives_inhabited (named n)) c in (a.0, a.1, second a.2)
 
 pub marker_local : AreLocal marker marker_at
 unfolding marker_at
 marker_local = choice (starts_sign Star) (λ r. sign_at Star what.Marker r >>= λ key. (Ok star, key.1)) (λ r. name_at what.Marker r >>= λ n. no_notices n.0 n.1) (by_head (is_sign Star))
     (start_wider {G = AStar} {K = marker} (starts_sign Star) (λ r. sign_at Star what.Marker r >>= λ key. (Ok star, key.1)) star_is (start_then {G = one (the_sign Star)} {H = λ _. gives star} (starts_sign Star) (sign_at Star what.Marker) (λ key. (Ok star, key.1)) (sign_local Star what.Marker) (λ _. gives_inhabited star) (λ _. gives_local star)))
-    (wider {G = AName} {K = marker} (λ r. name_at what.Marker r >>= λ n. no_notices n.0 n.1) name_is (then {G = one the_name} {H = λ n. gives (named n)} (name_at what.Marker) (λ n. no_notices n.0 n.1) (name_local what.Marker refl) (λ n. gives_inhabited (named n)) no_notices_local))
+    (wider {G = AName} {K = marker} (λ r. name_at what.Marker r >>= λ n. no_notices n.0 n.1) name_is (then {G = one a_name} {H = λ n. gives (named n)} (name_at what.Marker) (λ n. no_notices n.0 n.1) (name_local what.Marker refl) (λ n. gives_inhabited (named n)) no_notices_local))
 
 abbrev NextMarker : Grammar MarkerTree
 NextMarker = one (the_sign Comma) ▸ λ _. marker
@@ -272,15 +272,15 @@ after_entry_inhabited : (n : NameAt) → Inhabited (Maybe markers ▸ λ ms. giv
 after_entry_inhabited n = seq_inhabited (Maybe markers) (λ ms. gives (entry_of n ms)) (maybe_inhabited markers) (λ ms. gives_inhabited (entry_of n ms))
 
 entry_begins : Begins what.Name entry
-entry_begins = seq_begins what.Name (one the_name) (λ n. Maybe markers ▸ λ ms. gives (entry_of n ms)) (name_begins what.Name refl) after_entry_inhabited
+entry_begins = seq_begins what.Name (one a_name) (λ n. Maybe markers ▸ λ ms. gives (entry_of n ms)) (name_begins what.Name refl) after_entry_inhabited
 
 pub entry_local : (k : ℕ) → AreLocal entry (entry_at k)
 unfolding entry_at
-entry_local k = then {G = one the_name} {H = λ n. Maybe markers ▸ λ ms. gives (entry_of n ms)} (name_within k 1000) (λ n. some_markers_at n.1 >>= λ ms. (Ok (entry_of n.0 ms.0), ms.1)) (name_within_local k 1000) after_entry_inhabited
+entry_local k = then {G = one a_name} {H = λ n. Maybe markers ▸ λ ms. gives (entry_of n ms)} (name_within k 1000) (λ n. some_markers_at n.1 >>= λ ms. (Ok (entry_of n.0 ms.0), ms.1)) (name_within_local k 1000) after_entry_inhabited
     (λ n. then {G = Maybe markers} {H = λ ms. gives (entry_of n ms)} some_markers_at (λ ms. (Ok (entry_of n ms.0), ms.1)) some_markers_local (λ ms. gives_inhabited (entry_of n ms)) (λ ms. gives_local (entry_of n ms)))
 
 pub entries_local : AreLocal (some entry) entries_at
-entries_local = some_local entry what.Name starts_name entry_at entry_begins (by_head is_name) (λ c. refl) (first_takes the_name (λ n. Maybe markers ▸ λ ms. gives (entry_of n ms))) (λ k c ts e. entry_local k c ts)
+entries_local = some_local entry what.Name starts_name entry_at entry_begins (by_head is_name) (λ c. refl) (first_takes a_name (λ n. Maybe markers ▸ λ ms. gives (entry_of n ms))) (λ k c ts e. entry_local k c ts)
 
 entries_inhabited : Inhabited (some entry)
 entries_inhabited = inhabited what.Name (some entry) (some_begins what.Name entry entry_begins)
@@ -384,19 +384,19 @@ file_local = then {G = Many (block_behind Setup)} {H = Ended} setups_at (λ setu
 -- ---- what is read is shorter
 
 pub block_shorter : (k : Keyword) (r after : Rest) (b : PartTree) → block_after k r ≡ (Ok b, after) → length after.1 < length r.1
-block_shorter k = shortens (block_behind k) (block_after k) (first_takes (the_word k) (λ _. one the_block)) (block_after_read k)
+block_shorter k = shortens (block_behind k) (block_after k) (first_takes (the_word k) (λ _. one a_block)) (block_after_read k)
 
 pub step_shorter : (r after : Rest) (s : StepOf NameAt) → step_at r ≡ (Ok s, after) → length after.1 < length r.1
-step_shorter = shortens step step_at (first_takes (the_word Step) (λ _. one the_name ▸ λ n. one the_block ▸ λ b. gives (step_of n b))) step_read
+step_shorter = shortens step step_at (first_takes (the_word Step) (λ _. one a_name ▸ λ n. one a_block ▸ λ b. gives (step_of n b))) step_read
 
 pub session_shorter : (r after : Rest) (s : SessionOf NameAt) → session_at r ≡ (Ok s, after) → length after.1 < length r.1
-session_shorter = shortens session session_at (first_takes (the_word Session) (λ _. one the_name ▸ SetUp)) session_read
+session_shorter = shortens session session_at (first_takes (the_word Session) (λ _. one a_name ▸ SetUp)) session_read
 
 pub next_marker_shorter : (r after : Rest) (m : MarkerTree) → next_marker_at r ≡ (Ok m, after) → length after.1 < length r.1
 next_marker_shorter = shortens NextMarker next_marker_at (first_takes (the_sign Comma) (λ _. marker)) next_marker_read
 
 pub entry_shorter : (k : ℕ) (r after : Rest) (e : NamedEntry) → entry_at k r ≡ (Ok e, after) → length after.1 < length r.1
-entry_shorter k = shortens entry (entry_at k) (first_takes the_name (λ n. Maybe markers ▸ λ ms. gives (entry_of n ms))) (local_read (entry_local k))
+entry_shorter k = shortens entry (entry_at k) (first_takes a_name (λ n. Maybe markers ▸ λ ms. gives (entry_of n ms))) (local_read (entry_local k))
 
 pub perm_shorter : (r after : Rest) (es : List NamedEntry) → perm_at r ≡ (Ok es, after) → length after.1 < length r.1
 perm_shorter = shortens perm perm_at (first_takes (the_word Permutation) (λ _. some entry)) perm_read

@@ -1,7 +1,7 @@
 -- The loops over what is looked up.
 use Rattle.std.proofs.Common.{◌≡◌, ℕ, suc, ◌+◌, ◌<◌, List, [], ◌∷◌, ◌++◌, length, drop, get_or, Result, Ok, Err, refl, sym, ap, ◌∙◌, arith, append_assoc, drop-cons}
 use Rattle.spec_parser.specs.declared.fault.SpecFault.{SpecFault}
-use Rattle.spec_parser.specs.Names.{◌>>=◌}
+use Rattle.iso_lexer.specs.Results.{if_ok}
 
 abbrev pub prepend : {B : Type 0} → List B → Result (List B) SpecFault → Result (List B) SpecFault
 prepend front (Ok ys) = Ok (front ++ ys)
@@ -11,7 +11,7 @@ pub prepend_nothing : {B : Type 0} (r : Result (List B) SpecFault) → prepend [
 prepend_nothing (Ok ys) = refl
 prepend_nothing (Err e) = refl
 
-pub prepend_one : {B : Type 0} (front : List B) (y : B) (r : Result (List B) SpecFault) → prepend front (r >>= λ ys. Ok (y ∷ ys)) ≡ prepend (front ++ y ∷ []) r
+pub prepend_one : {B : Type 0} (front : List B) (y : B) (r : Result (List B) SpecFault) → prepend front (if_ok r (λ ys. Ok (y ∷ ys))) ≡ prepend (front ++ y ∷ []) r
 prepend_one front y (Ok ys) = ap Ok (sym (append_assoc front (y ∷ []) ys))
 prepend_one front y (Err e) = refl
 

@@ -13,8 +13,8 @@ use Rattle.spec_parser.specs.Trees.{PartTree, SessionTree, EntryTree, SpecTree, 
 use Rattle.spec_parser.specs.Counts.{Counts, start}
 use Rattle.spec_parser.specs.Grammar.{Grammar, Many, none, more, perm, file}
 use Rattle.spec_parser.specs.Grammar.{session as session_grammar}
-use Rattle.spec_parser.specs.Names.{StepAt, step_tree, session_tree}
-use Rattle.spec_parser.specs.Inner.Known.{steps_from, sessions_from}
+use Rattle.spec_parser.specs.Names.{StepAt, session_tree}
+use Rattle.spec_parser.specs.Inner.Known.{step_tree, steps_from, sessions_from}
 use Rattle.spec_parser.specs.IsSpec.{IsShort, Names, MarkerIs, EntryIs, PermIs, IsSpec}
 use Rattle.spec_parser.specs.Stands.{StepStands, MarkerStands, EntryStands, PermStands, session_parts, parts_of, names_of, PartLies, NameLies, Stands, LiesIn}
 use Rattle.spec_parser.proofs.ContentsAreCounted.{file_has, steps_len}

@@ -12,9 +12,9 @@ use Rattle.spec_parser.specs.declared.fault.What.TheVariants as what
 use Rattle.spec_parser.specs.declared.fault.Stop.TheVariants.{Expected, OverLimit}
 use Rattle.spec_parser.specs.Trees.{PartTree, NameAt, StepOf, SessionOf, MarkerTree, NamedEntry, FileTree}
 use Rattle.spec_parser.specs.Counts.{Counts, start, past}
-use Rattle.spec_parser.specs.Reading.{Rest, Read, is_name, is_word, many_at, all_at, some_at, name_at, block_at, end_at, name_within, step_at, session_at, entry_at, perm_at, file_at, the_name}
+use Rattle.spec_parser.specs.Inner.Stopping.{Rest, Read, many_at, all_at, some_at, name_at, block_at, end_at, name_within, step_at, session_at, entry_at, perm_at, file_at}
+use Rattle.spec_parser.specs.Grammar.{a_name, is_name, is_word, Grammar, one, the_word, Maybe, Many, none, more, some, block_behind, entry, perm}
 use Rattle.spec_parser.specs.Inner.Pieces.{starts_word, starts_name, word_at, setup_at, teardown_at, setups_at, steps_at, sessions_at, some_markers_at, perms_at}
-use Rattle.spec_parser.specs.Grammar.{Grammar, one, the_word, Maybe, Many, none, more, some, block_behind, entry, perm}
 use Rattle.spec_parser.specs.Grammar.{step as step_grammar, session as session_grammar}
 use Rattle.spec_parser.specs.IsSpec.{IsShort}
 use Rattle.spec_parser.specs.LimitFaults.{IsWord, IsOverAt, at_session, at_step, at_entry, LimitStop}
@@ -168,7 +168,7 @@ session_name r mid after u few word (inl e) =
     record { fs = []; mid = r; split = refl; place = refl; few = few; is_named = subst (λ (m : Rest). starts_name m ≡ true) o.2 o.1; here = here_session t.0 (t.1 ∙ ap (λ (m : Rest). t.0 ∷ m.1) o.2) t.2 o.0 }
 session_name r mid after u few word (inr (n, m, is, e)) =
     let w = was_front (one (the_word Session)) (word_at Session what.Item) (word_read Session what.Item) r mid u word in
-    let v = was_front (one the_name) (name_within r.0.sessions 64) (local_read (name_within_local r.0.sessions 64)) mid m n is in
+    let v = was_front (one a_name) (name_within r.0.sessions 64) (local_read (name_within_local r.0.sessions 64)) mid m n is in
     let lt = within_is r.0.sessions 64 mid m n is in
     let c = session_word r.0 w.0 u w.3 in
     let few1 : Few mid.0 = record { sessions = omega (arith, lt, c.sessions, ap (λ (c : Counts). c.sessions) w.2); steps = omega (arith, few.steps, c.steps, ap (λ (c : Counts). c.steps) w.2) } in

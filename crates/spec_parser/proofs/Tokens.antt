@@ -2,6 +2,7 @@
 use Rattle.std.proofs.Common.{◌≡◌, ◌≤◌, arith, ℕ, Bool, true, false, cond, List, [], ◌∷◌, Option, Some, None, refl, ap, ◌∙◌}
 use denote.Enum.Bare.{sameb, same_true}
 use Rattle.iso_lexer.specs.declared.token.At.{At}
+use Rattle.iso_lexer.specs.declared.token.Span.{Span}
 use Rattle.iso_lexer.specs.declared.spec_token.Keyword.{Keyword}
 use Rattle.iso_lexer.specs.declared.spec_token.Keyword.TheVariants.{Permutation, Session, Setup, Step, Teardown, Notices}
 use Rattle.iso_lexer.specs.contracts.spec_token.Keyword.{the_type as words}
@@ -11,8 +12,7 @@ use Rattle.iso_lexer.specs.Names.{Written}
 use Rattle.iso_lexer.specs.SpecTokens.{Token, keyword, name, digits, sign, block}
 use Rattle.spec_parser.specs.Trees.{NameAt}
 use Rattle.spec_parser.specs.Counts.{Counts, past, past_token}
-use Rattle.spec_parser.specs.Reading.{is_word, is_sign, the_name}
-use Rattle.spec_parser.specs.Grammar.{one, the_word, the_sign}
+use Rattle.spec_parser.specs.Grammar.{a_name, is_word, is_sign, one, the_word, the_sign}
 
 pub test_true : (b : Bool) (u : Unit {0}) → ◌≡◌ {A = Option (Unit {0})} (cond b (Some tt) None) (Some u) → b ≡ true
 test_true true u e = refl
@@ -38,12 +38,15 @@ sign_in g (name n) e = absurd cc
 sign_in g (digits d) e = absurd cc
 sign_in g (block n b) e = absurd cc
 
-pub named_in : (c : Counts) (at : ℕ) (t : Token) (n : NameAt) → the_name c at t ≡ Some n → (m : Written) × (t ≡ name m)
-named_in c at (name m) n e = (m, refl)
-named_in c at (keyword k) n e = absurd cc
-named_in c at (digits d) n e = absurd cc
-named_in c at (sign s) n e = absurd cc
-named_in c at (block k b) n e = absurd cc
+named_of : (c : Counts) (tok : Token) (span : Span) (n : NameAt) → a_name c (record { tok = tok; span = span }) ≡ Some n → (m : Written) × (tok ≡ name m)
+named_of c (name m) span n e = (m, refl)
+named_of c (keyword k) span n e = absurd cc
+named_of c (digits d) span n e = absurd cc
+named_of c (sign s) span n e = absurd cc
+named_of c (block k b) span n e = absurd cc
+
+pub named_in : (c : Counts) (t : At Token) (n : NameAt) → a_name c t ≡ Some n → (m : Written) × (t.tok ≡ name m)
+named_in c t n e = named_of c t.tok t.span n e
 
 -- ---- what stands before
 
@@ -56,8 +59,8 @@ word_past k c ts u (t, e, is) = past_one c ts t (keyword k) e (keyword_in k t.to
 pub sign_past : (g : Sign) (c : Counts) (ts : List (At Token)) (u : Unit {0}) → one (the_sign g) c ts u → past c ts ≡ c
 sign_past g c ts u (t, e, is) = past_one c ts t (sign g) e (sign_in g t.tok (test_true (is_sign g t.tok) u is))
 
-pub name_past : (c : Counts) (ts : List (At Token)) (n : NameAt) → one the_name c ts n → past c ts ≡ c
-name_past c ts n (t, e, is) = let m = named_in c t.span.start t.tok n is in past_one c ts t (name m.0) e m.1
+pub name_past : (c : Counts) (ts : List (At Token)) (n : NameAt) → one a_name c ts n → past c ts ≡ c
+name_past c ts n (t, e, is) = let m = named_in c t n is in past_one c ts t (name m.0) e m.1
 
 -- no count falls
 abbrev pub NoLess : Counts → Counts → Type 0

@@ -14,11 +14,12 @@ use Rattle.spec_parser.specs.declared.fault.SpecFault.TheVariants as faults
 use Rattle.spec_parser.specs.Faults.{lexer_fault, stopped, halted}
 use Rattle.spec_parser.specs.Trees.{FileTree, SpecTree, EntryTree}
 use Rattle.spec_parser.specs.Counts.{start}
-use Rattle.spec_parser.specs.Reading.{Rest, Read, place, file_at}
+use Rattle.spec_parser.specs.Inner.Stopping.{Rest, Read, place, file_at, finished}
 use Rattle.spec_parser.specs.Inner.Readers.{FailsAs}
-use Rattle.spec_parser.specs.Names.{StepAt, first_repeat, session_tree, resolved}
-use Rattle.spec_parser.specs.Inner.Known.{sessions_from, known_perms, FailsWith}
-use Rattle.spec_parser.specs.SpecText.{SpecReads, no_tokens, tokens, finished, Answers}
+use Rattle.spec_parser.specs.Names.{StepAt, session_tree}
+use Rattle.spec_parser.specs.Inner.Known.{first_repeat, resolved, sessions_from, known_perms, FailsWith}
+use Rattle.spec_parser.proofs.Placing.{reads_as}
+use Rattle.spec_parser.specs.SpecText.{SpecReads, no_tokens, tokens, Answers}
 
 abbrev LexAnswers : List ℕ → LexFault → Type 0
 LexAnswers text lexer.Memory = WantsRoom text
@@ -38,11 +39,14 @@ stop_is : (end : ℕ) (read : Read FileTree) (s : Stop) (at : ℕ) → read.0 �
 stop_is end (Ok f, rest) s at e is = absurd (no_stop f s e)
 stop_is end (Err t, rest) s at e is = rw (is, same_stop t s e) refl
 
+so_told : (text : List ℕ) (ts : List (At Token)) (answer : Result SpecTree SpecFault) → Lexes text (Ok ts) → answer ≡ finished (length text) (file_at (start, ts)) → SpecReads text answer
+so_told text ts answer lexes e = tokens ts lexes (e ∙ sym (reads_as (length text) ts))
+
 pub on_halt : (text : List ℕ) (ts : List (At Token)) (h : Halt) → Lexes text (Ok ts) → FailsAs (length text) h (file_at (start, ts)) → Answers text (Err (halted h))
 on_halt text ts halts.Memory lexes fails = tt
-on_halt text ts (halts.At (Expected w) at) lexes fails = tokens ts lexes (stop_is (length text) (file_at (start, ts)) (Expected w) at fails.0 fails.1)
-on_halt text ts (halts.At NoticesLeftOut at) lexes fails = tokens ts lexes (stop_is (length text) (file_at (start, ts)) NoticesLeftOut at fails.0 fails.1)
-on_halt text ts (halts.At OverLimit at) lexes fails = tokens ts lexes (stop_is (length text) (file_at (start, ts)) OverLimit at fails.0 fails.1)
+on_halt text ts (halts.At (Expected w) at) lexes fails = so_told text ts _ lexes (stop_is (length text) (file_at (start, ts)) (Expected w) at fails.0 fails.1)
+on_halt text ts (halts.At NoticesLeftOut at) lexes fails = so_told text ts _ lexes (stop_is (length text) (file_at (start, ts)) NoticesLeftOut at fails.0 fails.1)
+on_halt text ts (halts.At OverLimit at) lexes fails = so_told text ts _ lexes (stop_is (length text) (file_at (start, ts)) OverLimit at fails.0 fails.1)
 
 -- the file was read whole
 pub record WasRead (text : List ℕ) (ts : List (At Token)) (file : FileTree) (known : List StepAt) : Type 0 where
@@ -52,7 +56,7 @@ pub record WasRead (text : List ℕ) (ts : List (At Token)) (file : FileTree) (k
   pub known_is : known ≡ sessions_from 1 file.sessions
 
 read_is : (text : List ℕ) (ts : List (At Token)) (file : FileTree) (known : List StepAt) (answer : Result SpecTree SpecFault) → WasRead text ts file known → answer ≡ resolved file → SpecReads text answer
-read_is text ts file known answer was e = tokens ts was.lexes (e ∙ sym (ap (finished (length text)) was.read))
+read_is text ts file known answer was e = so_told text ts answer was.lexes (e ∙ sym (ap (finished (length text)) was.read))
 
 pub on_repeat : (text : List ℕ) (ts : List (At Token)) (file : FileTree) (known : List StepAt) (at : ℕ) → WasRead text ts file known → Some at ≡ first_repeat [] known → SpecReads text (Err (faults.DuplicateStep at))
 on_repeat text ts file known at was e = read_is text ts file known _ was (rw (← was.known_is, ← e) refl)

@@ -12,11 +12,16 @@ use Rattle.spec_parser.specs.declared.fault.SpecFault.{SpecFault}
 use Rattle.spec_parser.specs.declared.fault.SpecFault.TheVariants as faults
 use Rattle.spec_parser.specs.Trees.{FileTree, SpecTree}
 use Rattle.spec_parser.specs.Counts.{Counts, start, past}
-use Rattle.spec_parser.specs.Reading.{Rest, Read, end_at, file_at}
+use Rattle.spec_parser.specs.Inner.Stopping.{Rest, Read, place, end_at, file_at, told}
 use Rattle.spec_parser.specs.Inner.Pieces.{setups_at, teardown_at, sessions_at, perms_at}
+use Rattle.spec_parser.specs.Faults.{stopped}
 use Rattle.spec_parser.specs.Grammar.{file}
-use Rattle.spec_parser.specs.SpecText.{SpecReads, no_tokens, tokens, finished}
+use Rattle.spec_parser.specs.Reading.{file_at as told_file}
+use Rattle.iso_lexer.specs.Results.{if_ok}
+use Rattle.spec_parser.specs.Names.{names_resolved}
+use Rattle.spec_parser.specs.SpecText.{SpecReads, no_tokens, tokens}
 use Rattle.spec_parser.specs.Laws.{head, names_token, StopsFirst}
+use Rattle.spec_parser.proofs.Placing.{fault_is, file_same}
 use Rattle.spec_parser.proofs.Local.{◌>>=◌, Means, Wants, is_read, no_value, in_two}
 use Rattle.spec_parser.proofs.Productions.{file_local}
 use Rattle.spec_parser.proofs.Complete.{Again, whole, over, LongFile, file_again}
@@ -84,7 +89,7 @@ stops_from ts front rest after (Err t) s e is split local means = record {
   begins = (means.0, means.1, means.2);
   expects = λ w is_w. wanted w front means.0 means.1 means.2 (subst (λ u. Wants u means.0) (err_same t s e ∙ is_w) means.3);
   stuck = λ others f h in_grammar. sym (err_same t s e) ∙ stopped_at (file_at (start, front ++ others)) f (past start (front ++ others), []) (past start front, others) t (local others (h ∙ ap head (sym is))) (read_or_over (front ++ others) f in_grammar);
-  stays = λ others h. local others (h ∙ ap head (sym is)) ∙ ap (λ (u : Stop). (Err u, (past start front, others))) (err_same t s e);
+  stays = λ last others h. fault_is (told_file last ([], front ++ others)) (stopped s (place last others)) (file_same last ([], front ++ others) ∙ ap (told last) (local others (h ∙ ap head (sym is)) ∙ ap (λ (u : Stop). (Err u, (past start front, others))) (err_same t s e)));
 }
 
 pub stops_first : (ts : List (At Token)) (s : Stop) (rest : Rest) → file_at (start, ts) ≡ (Err s, rest) → StopsFirst ts s rest.1
@@ -111,4 +116,4 @@ pub one_answer : OneLexing → (text : List ℕ) (x y : Result SpecTree SpecFaul
 one_answer one text x y (no_tokens f h) (no_tokens g k) = ap (λ (u : Fault). Err (faults.Lex u)) (same_fault f g (one text (Err f) (Err g) h k))
 one_answer one text x y (no_tokens f h) (tokens ts k e) = absurd (no_both f ts (one text (Err f) (Ok ts) h k))
 one_answer one text x y (tokens ts h e) (no_tokens f k) = absurd (no_both f ts (one text (Err f) (Ok ts) k h))
-one_answer one text x y (tokens ts h e) (tokens us k d) = e ∙ ap (λ (vs : List (At Token)). finished (length text) (file_at (start, vs))) (same_tokens ts us (one text (Ok ts) (Ok us) h k)) ∙ sym d
+one_answer one text x y (tokens ts h e) (tokens us k d) = e ∙ ap (λ (vs : List (At Token)). if_ok (told_file (length text) ([], vs)) (λ x. names_resolved x.0)) (same_tokens ts us (one text (Ok ts) (Ok us) h k)) ∙ sym d

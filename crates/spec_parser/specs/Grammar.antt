@@ -1,14 +1,34 @@
 -- The grammar of spec files (README of src/test/isolation, "Test specification"): one definition for each production.
-use Rattle.std.specs.Prelude.{◌≡◌, ◌<◌, ℕ, List, [], ◌∷◌, ◌++◌, length, Option, Some, None, unwrap_or, if◌then◌else◌}
+use Rattle.std.specs.Prelude.{◌≡◌, ◌<◌, ℕ, Bool, true, false, List, [], ◌∷◌, ◌++◌, length, Option, Some, None, unwrap_or, if◌then◌else◌}
+use denote.Enum.Bare.{sameb}
 use Rattle.iso_lexer.specs.declared.token.At.{At}
 use Rattle.iso_lexer.specs.declared.spec_token.Keyword.{Keyword}
 use Rattle.iso_lexer.specs.declared.spec_token.Keyword.TheVariants.{Permutation, Session, Setup, Step, Teardown}
+use Rattle.iso_lexer.specs.contracts.spec_token.Keyword.{the_type as words}
 use Rattle.iso_lexer.specs.declared.spec_token.Sign.{Sign}
 use Rattle.iso_lexer.specs.declared.spec_token.Sign.TheVariants.{Open, Close, Comma, Star}
-use Rattle.iso_lexer.specs.SpecTokens.{Token}
+use Rattle.iso_lexer.specs.contracts.spec_token.Sign.{the_type as signs}
+use Rattle.iso_lexer.specs.SpecTokens.{Token, keyword, name, sign, block}
 use Rattle.spec_parser.specs.Trees.{PartTree, NameAt, StepOf, SessionOf, MarkerTree, star, named, NamedEntry, FileTree}
 use Rattle.spec_parser.specs.Counts.{Counts, past}
-use Rattle.spec_parser.specs.Reading.{is_word, is_sign, the_name, the_block}
+use Rattle.spec_parser.specs.Reading.{the_name, the_block}
+
+-- which kind a token is of
+abbrev pub is_word : Keyword → Token → Bool
+is_word k (keyword j) = sameb words j k
+is_word k _ = false
+
+abbrev pub is_sign : Sign → Token → Bool
+is_sign g (sign h) = sameb signs h g
+is_sign g _ = false
+
+abbrev pub is_name : Token → Bool
+is_name (name n) = true
+is_name _ = false
+
+abbrev pub is_block : Token → Bool
+is_block (block blanks sql) = true
+is_block _ = false
 
 -- that these tokens, behind what is counted, say this
 abbrev pub Grammar : Type 0 → Type 1
@@ -24,15 +44,22 @@ abbrev pub gives : {A : Type 0} → A → Grammar A
 gives v c ts x = (ts ≡ []) × (x ≡ v)
 
 -- one token, which says this
-abbrev pub one : {A : Type 0} → (Counts → ℕ → Token → Option A) → Grammar A
-one f c ts x = (t : At Token) × (ts ≡ t ∷ []) × (f c t.span.start t.tok ≡ Some x)
+abbrev pub one : {A : Type 0} → (Counts → At Token → Option A) → Grammar A
+one f c ts x = (t : At Token) × (ts ≡ t ∷ []) × (f c t ≡ Some x)
 
 -- nothing but that the token is this word, or this sign
-abbrev pub the_word : Keyword → Counts → ℕ → Token → Option (Unit {0})
-the_word k c at t = if is_word k t then Some tt else None
+abbrev pub the_word : Keyword → Counts → At Token → Option (Unit {0})
+the_word k c t = if is_word k t.tok then Some tt else None
 
-abbrev pub the_sign : Sign → Counts → ℕ → Token → Option (Unit {0})
-the_sign g c at t = if is_sign g t then Some tt else None
+abbrev pub the_sign : Sign → Counts → At Token → Option (Unit {0})
+the_sign g c t = if is_sign g t.tok then Some tt else None
+
+-- a name; and a block, whose number is how many stand before it
+abbrev pub a_name : Counts → At Token → Option NameAt
+a_name c = the_name
+
+abbrev pub a_block : Counts → At Token → Option PartTree
+a_block c = the_block c.blocks
 
 -- it, or no token
 pub data Maybe {A : Type 0} (G : Grammar A) (c : Counts) : List (At Token) → Option A → Type 0 where
@@ -58,21 +85,21 @@ pub data Either {A : Type 0} (G H : Grammar A) (c : Counts) (ts : List (At Token
 abbrev pub block_behind : Keyword → Grammar PartTree
 block_behind k = do
   _ ← one (the_word k)
-  one the_block
+  one a_block
 
 -- "step" name block
 abbrev pub step : Grammar (StepOf NameAt)
 step = do
   _ ← one (the_word Step)
-  n ← one the_name
-  b ← one the_block
+  n ← one a_name
+  b ← one a_block
   gives (record { name = n; part = b })
 
 -- "session" name ["setup" block] step+ ["teardown" block]
 abbrev pub session : Grammar (SessionOf NameAt)
 session = do
   _ ← one (the_word Session)
-  n ← one the_name
+  n ← one a_name
   setup ← Maybe (block_behind Setup)
   steps ← some step
   teardown ← Maybe (block_behind Teardown)
@@ -80,7 +107,7 @@ session = do
 
 -- "*" | name
 abbrev pub marker : Grammar MarkerTree
-marker = Either (one (the_sign Star) >>= λ _. gives star) (one the_name >>= λ n. gives (named n))
+marker = Either (one (the_sign Star) >>= λ _. gives star) (one a_name >>= λ n. gives (named n))
 
 -- "(" marker {"," marker} ")"
 abbrev pub markers : Grammar (List MarkerTree)
@@ -94,7 +121,7 @@ markers = do
 -- name [markers]
 abbrev pub entry : Grammar NamedEntry
 entry = do
-  n ← one the_name
+  n ← one a_name
   ms ← Maybe markers
   gives (record { name = n; markers = unwrap_or ms [] })
 

@@ -3,3 +3,4 @@ pub mod Pieces
 pub mod Places
 pub mod Readers
 pub mod Known
+pub mod Stopping

@@ -1,5 +1,5 @@
 -- What is so of every list of tokens, and of every text.
-use Rattle.std.specs.Prelude.{◌≡◌, ℕ, Bool, true, ◌||◌, List, [], ◌∷◌, ◌++◌, length, Option, Some, None, is_some, Result, Ok, Err}
+use Rattle.std.specs.Prelude.{◌≡◌, ℕ, Bool, true, ◌||◌, List, [], ◌∷◌, ◌++◌, length, Option, Some, None, Result, Ok, Err}
 use Rattle.iso_lexer.specs.declared.token.At.{At}
 use Rattle.iso_lexer.specs.SpecTokens.{Token}
 use Rattle.spec_parser.specs.declared.fault.What.{What}
@@ -8,18 +8,18 @@ use Rattle.spec_parser.specs.declared.fault.Stop.{Stop}
 use Rattle.spec_parser.specs.declared.fault.Stop.TheVariants.{Expected, NoticesLeftOut, OverLimit}
 use Rattle.spec_parser.specs.declared.fault.SpecFault.{SpecFault}
 use Rattle.spec_parser.specs.Trees.{FileTree, SpecTree}
-use Rattle.spec_parser.specs.Counts.{start, past}
+use Rattle.spec_parser.specs.Counts.{start}
 use Rattle.iso_lexer.specs.declared.spec_token.Keyword.TheVariants.{Permutation, Session, Setup, Step, Teardown, Notices}
 use Rattle.iso_lexer.specs.declared.spec_token.Sign.TheVariants.{Close, Comma, Star}
-use Rattle.spec_parser.specs.Reading.{Rest, is_word, is_sign, is_name, the_block, starts, file_at}
-use Rattle.spec_parser.specs.Reading.{place as place_of}
+use Rattle.iso_lexer.specs.Readers.{place_of}
+use Rattle.spec_parser.specs.Reading.{Rest, file_at}
 use Rattle.spec_parser.specs.Faults.{stopped}
 use Rattle.iso_lexer.specs.SpecText.{Lexes}
-use Rattle.spec_parser.specs.Grammar.{file}
+use Rattle.spec_parser.specs.Grammar.{is_word, is_sign, is_name, is_block, file}
 use Rattle.spec_parser.specs.declared.fault.SpecFault.TheVariants as faults
 use Rattle.spec_parser.specs.SpecText.{SpecReads}
 use Rattle.spec_parser.specs.IsSpec.{WithinLimits, IsSpec}
-use Rattle.spec_parser.specs.LimitFaults.{LimitStop, HasLimit}
+use Rattle.spec_parser.specs.LimitFaults.{IsWord, LimitStop, HasLimit}
 use Rattle.spec_parser.specs.NameFaults.{HasRepeat, HasUndefined}
 use Rattle.spec_parser.specs.Stands.{Stands, LiesIn}
 
@@ -32,7 +32,7 @@ abbrev pub names_token : What → Token → Bool
 names_token what.Session t = is_word Session t
 names_token what.Step t = is_word Step t
 names_token what.Name t = is_name t
-names_token what.Block t = is_some (the_block start 0 t)
+names_token what.Block t = is_block t
 names_token what.Marker t = is_sign Star t || is_name t
 names_token what.CommaOrClose t = is_sign Comma t || is_sign Close t
 names_token what.Item t = is_word Setup t || is_word Teardown t || is_word Session t || is_word Permutation t
@@ -45,24 +45,31 @@ pub record StopsFirst (ts : List (At Token)) (stop : Stop) (rest : List (At Toke
   pub split : ts ≡ front ++ rest
   pub begins : (more : List (At Token)) × (f : FileTree) × file start (front ++ more) f
   pub expects : (w : What) → stop ≡ Expected w → (token : At Token) × (more : List (At Token)) × (f : FileTree) × (names_token w token.tok ≡ true) × file start (front ++ token ∷ more) f
-  pub stays : (others : List (At Token)) → head others ≡ head rest → file_at (start, front ++ others) ≡ (Err stop, (past start front, others))
+  pub stays : (last : ℕ) (others : List (At Token)) → head others ≡ head rest → file_at last ([], front ++ others) ≡ Err (stopped stop (place_of last others))
   pub stuck : (others : List (At Token)) (f : FileTree) → head others ≡ head rest → file start (front ++ others) f → stop ≡ OverLimit
 
+-- the fault is such a stop, at the place of the rest
+pub record FaultIsFirst (last : ℕ) (ts : List (At Token)) (fault : SpecFault) : Type 0 where
+  pub stop : Stop
+  pub rest : List (At Token)
+  pub is : fault ≡ stopped stop (place_of last rest)
+  pub first : StopsFirst ts stop rest
+
 abbrev pub FaultsAreFirst : Type 0
-FaultsAreFirst = (ts : List (At Token)) (stop : Stop) (rest : Rest) → file_at (start, ts) ≡ (Err stop, rest) → StopsFirst ts stop rest.1
+FaultsAreFirst = (last : ℕ) (ts : List (At Token)) (fault : SpecFault) → file_at last ([], ts) ≡ Err fault → FaultIsFirst last ts fault
 
 -- What is read whole is a file of the grammar, within the limits.
 abbrev pub ReadsAreFiles : Type 0
-ReadsAreFiles = (ts : List (At Token)) (f : FileTree) (rest : Rest) → file_at (start, ts) ≡ (Ok f, rest) → file start ts f × WithinLimits f
+ReadsAreFiles = (last : ℕ) (ts : List (At Token)) (f : FileTree) (rest : Rest) → file_at last ([], ts) ≡ Ok (f, rest) → file start ts f × WithinLimits f
 
 -- A file of the grammar is read whole where it is within the limits, and else reading stops at a limit.
 abbrev pub FilesAreRead : Type 0
-FilesAreRead = (ts : List (At Token)) (f : FileTree) → file start ts f
-    → (WithinLimits f → file_at (start, ts) ≡ (Ok f, (past start ts, []))) × ((WithinLimits f → ⊥) → (file_at (start, ts)).0 ≡ Err OverLimit)
+FilesAreRead = (last : ℕ) (ts : List (At Token)) (f : FileTree) → file start ts f
+    → (WithinLimits f → file_at last ([], ts) ≡ Ok (f, (ts, []))) × ((WithinLimits f → ⊥) → (at : ℕ) × (file_at last ([], ts) ≡ Err (faults.Limit at)))
 
 -- Reading stops at a limit before the name that is over it.
 abbrev pub LimitsAreFirst : Type 0
-LimitsAreFirst = (ts : List (At Token)) (rest : Rest) → file_at (start, ts) ≡ (Err OverLimit, rest) → LimitStop ts rest.1
+LimitsAreFirst = (last : ℕ) (ts : List (At Token)) (at : ℕ) → file_at last ([], ts) ≡ Err (faults.Limit at) → (rest : List (At Token)) × (stop : LimitStop ts rest) × (at ≡ stop.name.span.start)
 
 -- ---- texts
 
@@ -77,7 +84,7 @@ pub record HasStop (text : List ℕ) (stop : Stop) (at : ℕ) : Type 0 where
   pub rest : List (At Token)
   pub first : StopsFirst tokens stop rest
   pub place : at ≡ place_of (length text) rest
-  pub notices : stop ≡ NoticesLeftOut → starts (is_word Notices) (past start first.front, rest) ≡ true
+  pub notices : stop ≡ NoticesLeftOut → (token : At Token) × (head rest ≡ Some token) × IsWord Notices token
 
 -- A text is refused as Expected, NoticesLeftOut or Limit only at such a byte.
 abbrev pub StopsAreFirst : Type 0

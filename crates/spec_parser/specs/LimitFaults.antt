@@ -7,8 +7,7 @@ use Rattle.iso_lexer.specs.SpecTokens.{Token}
 use Rattle.iso_lexer.specs.SpecText.{Lexes}
 use Rattle.spec_parser.specs.Trees.{NamedEntry}
 use Rattle.spec_parser.specs.Counts.{start, past}
-use Rattle.spec_parser.specs.Reading.{is_word, is_name}
-use Rattle.spec_parser.specs.Grammar.{Many, entry, perm}
+use Rattle.spec_parser.specs.Grammar.{is_word, is_name, Many, entry, perm}
 use Rattle.spec_parser.specs.IsSpec.{IsShort}
 
 abbrev pub IsWord : Keyword → At Token → Type 0

@@ -1,5 +1,5 @@
 -- Reading tokens from left to right, up to the first one that may not stand there: words of reading, and the parts of a file.
-use Rattle.std.specs.Prelude.{ℕ, zero, suc, Bool, true, false, List, [], ◌∷◌, length, ◌+◌, nat_lt, Option, Some, None, is_some, unwrap_or, Result, Ok, Err, if◌then◌else◌}
+use Rattle.std.specs.Prelude.{ℕ, zero, suc, ◌+◌, nat_le, List, [], ◌∷◌, ◌++◌, length, count_by, is_some, Option, Some, None, Ok, Err, if◌then◌else◌}
 use Rattle.std.specs.Option.{option_map_or}
 use denote.Enum.Bare.{sameb}
 use Rattle.iso_lexer.specs.declared.token.At.{At}
@@ -10,175 +10,115 @@ use Rattle.iso_lexer.specs.declared.spec_token.Sign.{Sign}
 use Rattle.iso_lexer.specs.declared.spec_token.Sign.TheVariants.{Open, Close, Comma, Star}
 use Rattle.iso_lexer.specs.contracts.spec_token.Sign.{the_type as signs}
 use Rattle.iso_lexer.specs.SpecTokens.{Token, keyword, name, sign, block}
+use Rattle.iso_lexer.specs.Readers.{ReaderOf, ◌>>=◌, gives, place_of}
 use Rattle.spec_parser.specs.declared.fault.What.{What}
 use Rattle.spec_parser.specs.declared.fault.What.TheVariants as what
-use Rattle.spec_parser.specs.declared.fault.Stop.{Stop}
-use Rattle.spec_parser.specs.declared.fault.Stop.TheVariants.{Expected, NoticesLeftOut, OverLimit}
+use Rattle.spec_parser.specs.declared.fault.SpecFault.{SpecFault}
+use Rattle.spec_parser.specs.declared.fault.SpecFault.TheVariants.{Expected, NoticesLeftOut, Limit}
 use Rattle.spec_parser.specs.Trees.{PartTree, NameAt, StepOf, SessionOf, MarkerTree, star, named, NamedEntry, FileTree}
-use Rattle.spec_parser.specs.Counts.{Counts, start, past_token}
 
-infixr 10 ◌>>=◌
-infixr 10 ◌>>◌
--- what is left of a file: what stands before, and the tokens
+-- what is left of a file: the tokens before, and those from here on
 abbrev pub Rest : Type 0
-Rest = Counts × List (At Token)
+Rest = List (At Token) × List (At Token)
 
--- a value, or why reading stops before the first token of the rest; and the rest
-abbrev pub Read : Type 0 → Type 0
-Read A = Result A Stop × Rest
-
--- what reads a value
-abbrev pub Reader : Type 0 → Type 0
-Reader A = Rest → Read A
-
--- what is made of a value and of what is left behind it; a stop stays
-abbrev pub and_then : {A B : Type 0} → Read A → (A × Rest → Read B) → Read B
-and_then (Ok x, rest) f = f (x, rest)
-and_then (Err s, rest) f = (Err s, rest)
-
--- One reader, and behind it the one that its value chooses. A do block has a line for each; there (← r) is the value that r reads, behind those before it.
-abbrev pub ◌>>=◌ : {A B : Type 0} → Reader A → (A → Reader B) → Reader B
-◌>>=◌ first next r = and_then (first r) (λ x. next x.0 x.1)
-
--- one reader, and another behind it
-abbrev pub ◌>>◌ : {A B : Type 0} → Reader A → Reader B → Reader B
-◌>>◌ first next r = and_then (first r) (λ x. next x.1)
-
--- this value, for which nothing is read
-abbrev pub gives : {A : Type 0} → A → Reader A
-gives x r = (Ok x, r)
-
--- the place of a stop in a file of this many bytes: that of the token, or the end
-abbrev pub place : ℕ → List (At Token) → ℕ
-place end [] = end
-place end (t ∷ ts) = t.span.start
+abbrev pub SpecReader : Type 0 → Type 0
+SpecReader A = ReaderOf Rest SpecFault A
 
 -- ---- one token
 
--- which kind a token is of
-abbrev pub is_word : Keyword → Token → Bool
-is_word k (keyword j) = sameb words j k
-is_word k _ = false
+-- a kind of token, by what one of it says
+abbrev pub Kind : Type 0 → Type 0
+Kind A = At Token → Option A
 
-abbrev pub is_sign : Sign → Token → Bool
-is_sign g (sign h) = sameb signs h g
-is_sign g _ = false
+-- this word, and this sign, each by where it stands
+abbrev pub the_keyword : Keyword → Kind ℕ
+the_keyword k t = elim t.tok [ keyword j ↦ if sameb words j k then Some t.span.start else None | _ ↦ None ]
 
--- the name that a token is, where it is one; `at` is the byte at which it stands, and c what stands before it
-abbrev pub the_name : Counts → ℕ → Token → Option NameAt
-the_name c at (name n) = Some (record { name = n; at = at })
-the_name c at _ = None
+abbrev pub the_mark : Sign → Kind ℕ
+the_mark g t = elim t.tok [ sign h ↦ if sameb signs h g then Some t.span.start else None | _ ↦ None ]
 
--- a block's text begins behind its brace and blanks, and its number is how many blocks stand before it
-abbrev pub the_block : Counts → ℕ → Token → Option PartTree
-the_block c at (block blanks sql) = Some (record { sql = sql; at = at + 1 + blanks; block = c.blocks })
-the_block c at _ = None
+abbrev pub the_name : Kind NameAt
+the_name t = elim t.tok [ name n ↦ Some (record { name = n; at = t.span.start }) | _ ↦ None ]
 
-abbrev pub is_name : Token → Bool
-is_name t = is_some (the_name start 0 t)
+-- the block of this number; its text begins behind its brace and blanks
+abbrev pub the_block : ℕ → Kind PartTree
+the_block number t = elim t.tok [ block blanks sql ↦ Some (record { sql = sql; at = t.span.start + 1 + blanks; block = number }) | _ ↦ None ]
 
--- a token of this kind stands next
-abbrev pub starts : (Token → Bool) → Rest → Bool
-starts p (c, []) = false
-starts p (c, t ∷ ts) = p t.tok
+-- how many of these tokens are of the kind
+abbrev pub count : {A : Type 0} → Kind A → List (At Token) → ℕ
+count kind ts = count_by (λ t. is_some (kind t)) ts
 
--- what the next token says, or w, which is expected there
-abbrev pub token_at : {A : Type 0} → (Counts → ℕ → Token → Option A) → What → Reader A
-token_at says w (c, []) = (Err (Expected w), (c, []))
-token_at says w (c, t ∷ ts) = option_map_or (λ x. (Ok x, (past_token t.tok c, ts))) (says c t.span.start t.tok) (Err (Expected w), (c, t ∷ ts))
-
--- a token of this kind, or what is expected there
-unfoldable pub next : (Token → Bool) → What → Reader (Unit {0})
-next p = token_at (λ c at t. if p t then Some tt else None)
-
--- a word with which an item of the file begins
-abbrev pub word : Keyword → Reader (Unit {0})
-word k = next (is_word k) what.Item
-
-unfoldable pub name_at : What → Reader NameAt
-name_at = token_at the_name
-
-unfoldable pub block_at : Reader PartTree
-block_at = token_at the_block what.Block
-
--- the end of the file
-unfoldable pub end_at : Reader (Unit {0})
-end_at r = if starts (λ t. true) r then (Err (Expected what.Item), r) else (Ok tt, r)
-
--- the name of a thing behind so many others of its kind, of which there may be `most`
-unfoldable pub name_within : ℕ → ℕ → Reader NameAt
-name_within before most r = if nat_lt before most then name_at what.Name r else (if starts is_name r then (Err OverLimit, r) else (Err (Expected what.Name), r))
+-- where a token of this kind stands next, what that lets be read behind it, else what others read
+abbrev pub if_next : {A B : Type 0} → Kind A → (A → SpecReader B) → SpecReader B → SpecReader B
+if_next kind behind others (before, []) = others (before, [])
+if_next kind behind others (before, t ∷ ts) = option_map_or (λ x. behind x (before ++ t ∷ [], ts)) (kind t) (others (before, t ∷ ts))
 
 -- ---- several things
 
--- as many as start here, one after another: item k reads the one behind k others, and there are at most n
-unfoldable pub many_at : {A : Type 0} → (Rest → Bool) → (ℕ → Reader A) → ℕ → ℕ → Reader (List A)
-many_at begins item k zero r = (Ok [], r)
-many_at begins item k (suc n) r = if begins r then (item k >>= λ x. many_at begins item (k + 1) n >>= λ xs. gives (x ∷ xs)) r else (Ok [], r)
+-- as many as there are tokens of this kind, one after another, and n at most; item k is what is read behind its token; and what is read where the first isn't there
+unfoldable pub many_from : {A B : Type 0} → Kind A → (ℕ → A → SpecReader B) → ℕ → ℕ → SpecReader (List B) → SpecReader (List B)
+many_from kind item k zero none = none
+many_from kind item k (suc n) none = if_next kind (λ x. item k x >>= λ y. many_from kind item (k + 1) n (gives []) >>= λ ys. gives (y ∷ ys)) none
 
--- each takes a token at least
-unfoldable pub all_at : {A : Type 0} → (Rest → Bool) → (ℕ → Reader A) → Reader (List A)
-all_at begins item r = many_at begins item 0 (length r.1) r
+-- items from number 1 on
+abbrev pub many_of : {A B : Type 0} → Kind A → (ℕ → A → SpecReader B) → SpecReader (List B) → SpecReader (List B)
+many_of kind item none r = many_from kind item 1 (length r.1) none r
 
--- one at least; w is what is expected where none starts
-unfoldable pub some_at : {A : Type 0} → What → (Rest → Bool) → (ℕ → Reader A) → Reader (List A)
-some_at w begins item r = if begins r then all_at begins item r else (Err (Expected w), r)
+-- the name of a thing of this number, of which there may be so many at most
+abbrev pub at_most : ℕ → ℕ → NameAt → SpecReader NameAt
+at_most most number n r = if nat_le number most then Ok (n, r) else Err (Limit n.at)
 
--- one, if it starts here
-unfoldable pub maybe_at : {A : Type 0} → (Rest → Bool) → Reader A → Reader (Option A)
-maybe_at begins item r = if begins r then (item >>= λ x. gives (Some x)) r else (Ok None, r)
+-- ---- the parts of a file, in a text of so many bytes
 
--- ---- the parts of a file
+module _ (last : ℕ) where
+  -- this is expected here
+  abbrev pub expected : {A : Type 0} → What → SpecReader A
+  expected w r = Err (Expected w (place_of last r.1))
 
--- "setup" block, or "teardown" block
-unfoldable pub block_after : Keyword → Reader PartTree
-block_after k = word k >> block_at
+  abbrev pub one_token : {A : Type 0} → Kind A → What → SpecReader A
+  one_token kind w = if_next kind gives (expected w)
 
--- the same, or nothing
-unfoldable pub maybe_block : Keyword → Reader (Option PartTree)
-maybe_block k = maybe_at (starts (is_word k)) (block_after k)
+  -- a block; its number is how many stand before it
+  abbrev pub spec_block : SpecReader PartTree
+  spec_block r = one_token (the_block (count (the_block 0) r.0)) what.Block r
 
--- "step" name block; a file has at most 1,000
-unfoldable pub step_at : Reader (StepOf NameAt)
-step_at r = (word Step >> name_within r.0.steps 1000 >>= λ n. block_at >>= λ b. gives (record { name = n; part = b })) r
+  -- "setup" block, or "teardown" block; or nothing
+  unfoldable pub maybe_block : Keyword → SpecReader (Option PartTree)
+  maybe_block k = if_next (the_keyword k) (λ at. spec_block >>= λ b. gives (Some b)) (gives None)
 
--- "session" name ["setup" block] step+ ["teardown" block]; a file has at most 64
-unfoldable pub session_at : Reader (SessionOf NameAt)
-session_at r = (word Session >> do
-  n ← name_within r.0.sessions 64
-  setup ← maybe_block Setup
-  steps ← some_at what.Step (starts (is_word Step)) (λ k. step_at)
-  gives (record { name = n; setup = setup; steps = steps; teardown = (← maybe_block Teardown) })) r
+  -- behind "step": name block; a file has at most 1,000
+  unfoldable pub step_at : SpecReader (StepOf NameAt)
+  step_at r = (do gives (record { name = (← one_token the_name what.Name >>= at_most 1000 (count (the_keyword Step) r.0)); part = (← spec_block) })) r
 
--- a marker that is a name; `notices` may not follow it
-unfoldable pub no_notices : NameAt → Reader MarkerTree
-no_notices n r = if starts (is_word Notices) r then (Err NoticesLeftOut, r) else (Ok (named n), r)
+  -- behind "session": name ["setup" block] step+ ["teardown" block]; a file has at most 64
+  unfoldable pub session_at : SpecReader (SessionOf NameAt)
+  session_at r = (do
+    n ← one_token the_name what.Name >>= at_most 64 (count (the_keyword Session) r.0)
+    setup ← maybe_block Setup
+    steps ← many_of (the_keyword Step) (λ k at. step_at) (expected what.Step)
+    gives (record { name = n; setup = setup; steps = steps; teardown = (← maybe_block Teardown) })) r
 
--- "*" or a name
-unfoldable pub marker_at : Reader MarkerTree
-marker_at r = if starts (is_sign Star) r then (next (is_sign Star) what.Marker >> gives star) r else (name_at what.Marker >>= no_notices) r
+  -- "*" or a name, which `notices` may not follow
+  unfoldable pub marker_at : SpecReader MarkerTree
+  marker_at = if_next (the_mark Star) (λ at. gives star) (one_token the_name what.Marker >>= λ n. if_next (the_keyword Notices) (λ at r. Err (NoticesLeftOut at)) (gives (named n)))
 
--- "(" marker {"," marker} ")"
-unfoldable pub markers_at : Reader (List MarkerTree)
-markers_at = next (is_sign Open) what.Item >> do
-  m ← marker_at
-  others ← all_at (starts (is_sign Comma)) (λ k. next (is_sign Comma) what.CommaOrClose >> marker_at)
-  next (is_sign Close) what.CommaOrClose
-  gives (m ∷ others)
+  -- behind "(": marker {"," marker} ")"
+  unfoldable pub markers_at : SpecReader (List MarkerTree)
+  markers_at = do
+    m ← marker_at
+    others ← many_of (the_mark Comma) (λ k at. marker_at) (gives [])
+    closed ← one_token (the_mark Close) what.CommaOrClose
+    gives (m ∷ others)
 
--- name [markers], behind k other entries; a permutation has at most 1,000
-unfoldable pub entry_at : ℕ → Reader NamedEntry
-entry_at k = name_within k 1000 >>= λ n. maybe_at (starts (is_sign Open)) markers_at >>= λ ms. gives (record { name = n; markers = unwrap_or ms [] })
+  -- behind the name of entry k: [markers]; a permutation has at most 1,000
+  unfoldable pub entry_at : ℕ → NameAt → SpecReader NamedEntry
+  entry_at k n = do gives (record { name = (← at_most 1000 k n); markers = (← if_next (the_mark Open) (λ at. markers_at) (gives [])) })
 
--- "permutation" entry+
-unfoldable pub perm_at : Reader (List NamedEntry)
-perm_at = word Permutation >> some_at what.Name (starts is_name) entry_at
-
--- {"setup" block} ["teardown" block] session+ {perm}, and nothing else
-unfoldable pub file_at : Reader FileTree
-file_at = do
-  setups ← all_at (starts (is_word Setup)) (λ k. block_after Setup)
-  teardown ← maybe_block Teardown
-  sessions ← some_at what.Session (starts (is_word Session)) (λ k. session_at)
-  perms ← all_at (starts (is_word Permutation)) (λ k. perm_at)
-  end_at >> gives (record { setups = setups; teardown = teardown; sessions = sessions; perms = perms })
+  -- {"setup" block} ["teardown" block] session+ {"permutation" entry+}, and nothing else
+  unfoldable pub file_at : SpecReader FileTree
+  file_at = do
+    setups ← many_of (the_keyword Setup) (λ k at. spec_block) (gives [])
+    teardown ← maybe_block Teardown
+    sessions ← many_of (the_keyword Session) (λ k at. session_at) (expected what.Session)
+    perms ← many_of (the_keyword Permutation) (λ k at. many_of the_name entry_at (expected what.Name)) (gives [])
+    if_next Some (λ t r. Err (Expected what.Item t.span.start)) (gives (record { setups = setups; teardown = teardown; sessions = sessions; perms = perms }))

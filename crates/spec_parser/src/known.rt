@@ -2,8 +2,8 @@
 
 ghost use Rattle.std.specs.Prelude.{◌≡◌, ◌<◌, ◌^◌, ◌++◌, [], length, map, find, take, drop, option_map, IfOk, OnOk};
 ghost use Rattle.spec_parser.specs.Trees.{draft_view, session_draft_view};
-ghost use Rattle.spec_parser.specs.Names.{is_named, first_repeat};
-ghost use Rattle.spec_parser.specs.Inner.Known.{known_view, steps_from, sessions_from};
+ghost use Rattle.spec_parser.specs.Names.{is_named};
+ghost use Rattle.spec_parser.specs.Inner.Known.{first_repeat, known_view, steps_from, sessions_from};
 ghost use Rattle.iso_lexer.specs.Names.{name_view};
 
 use crate::draft::{PlacedName, SessionDraft, StepDraft};

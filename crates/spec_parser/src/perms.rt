@@ -11,11 +11,11 @@ const MOST_ENTRIES: usize = 1000;
 impl<'t, 'a> Reader<'t, 'a> {
     ghost use Rattle.std.specs.Prelude.{◌≢◌, Err, option_map, map};
     ghost use Rattle.spec_parser.specs.Trees.{placed_view, marker_view, entry_name_view, perm_names_view};
-    ghost use Rattle.spec_parser.specs.Reading.{no_notices, marker_at, markers_at, entry_at, perm_at, all_at};
+    ghost use Rattle.spec_parser.specs.Inner.Stopping.{no_notices, marker_at, markers_at, entry_at, perm_at, all_at};
     ghost use Rattle.spec_parser.specs.Inner.Pieces.{next_marker_at, next_markers_at, entries_at, perms_at, starts_name};
     ghost use Rattle.spec_parser.specs.Inner.Readers.{end_of, rest_of, Same, Gives, behind};
 
-    #[tactic(auto, unfolding(crate::specs::Reading::no_notices))]
+    #[tactic(auto, unfolding(crate::specs::Inner::Stopping::no_notices))]
     fn no_notices(&self, name: PlacedName<'a>) -> Result<MarkerName<'a>, Halt>
         ensures reads { Gives (end_of self.now) (λ x. (marker_view x, rest_of self.now)) result (no_notices (placed_view name.entry) (rest_of self.now)) }
         ensures calm { result ≢ Err Halt.Memory }
@@ -26,7 +26,7 @@ impl<'t, 'a> Reader<'t, 'a> {
         Ok(MarkerName::Named(name))
     }
 
-    #[tactic(auto, unfolding(crate::specs::Reading::marker_at))]
+    #[tactic(auto, unfolding(crate::specs::Inner::Stopping::marker_at))]
     fn marker(&mut self) -> Result<MarkerName<'a>, Halt>
         ensures same { Same self.old self.new }
         ensures reads { Gives (end_of self.old) (λ x. (marker_view x, rest_of self.new)) result (marker_at (rest_of self.old)) }
@@ -50,7 +50,7 @@ impl<'t, 'a> Reader<'t, 'a> {
     }
 
     /// The markers from here on, behind the first.
-    #[tactic(auto, unfolding(crate::specs::Reading::all_at))]
+    #[tactic(auto, unfolding(crate::specs::Inner::Stopping::all_at))]
     fn next_markers(&mut self, mut items: Vec<MarkerName<'a>>) -> Result<Vec<MarkerName<'a>>, Halt>
         ensures same { Same self.old self.new }
         ensures reads { Gives (end_of self.old) (λ x. (map marker_view x.items, rest_of self.new)) result (behind (map marker_view items.entry.items) (next_markers_at (rest_of self.old))) }
@@ -62,7 +62,7 @@ impl<'t, 'a> Reader<'t, 'a> {
         Ok(items)
     }
 
-    #[tactic(auto, unfolding(crate::specs::Reading::markers_at, crate::specs::Reading::all_at, crate::specs::Reading::many_at, crate::specs::Reading::next))]
+    #[tactic(auto, unfolding(crate::specs::Inner::Stopping::markers_at, crate::specs::Inner::Stopping::all_at, crate::specs::Inner::Stopping::many_at, crate::specs::Inner::Stopping::next))]
     fn markers(&mut self, alloc: Global) -> Result<Vec<MarkerName<'a>>, Halt>
         ensures same { Same self.old self.new }
         ensures reads { Gives (end_of self.old) (λ x. (map marker_view x.items, rest_of self.new)) result (markers_at (rest_of self.old)) }
@@ -76,7 +76,7 @@ impl<'t, 'a> Reader<'t, 'a> {
         Ok(markers)
     }
 
-    #[tactic(auto, unfolding(crate::specs::Reading::entry_at, crate::specs::Reading::maybe_at))]
+    #[tactic(auto, unfolding(crate::specs::Inner::Stopping::entry_at, crate::specs::Inner::Stopping::maybe_at))]
     fn entry(&mut self, alloc: Global, before: usize) -> Result<EntryName<'a>, Halt>
         ensures same { Same self.old self.new }
         ensures reads { Gives (end_of self.old) (λ x. (entry_name_view x, rest_of self.new)) result (entry_at before (rest_of self.old)) }
@@ -90,7 +90,7 @@ impl<'t, 'a> Reader<'t, 'a> {
         Ok(EntryName { name, markers })
     }
 
-    #[tactic(auto, unfolding(crate::specs::Reading::some_at))]
+    #[tactic(auto, unfolding(crate::specs::Inner::Stopping::some_at))]
     fn entries(&mut self, alloc: Global) -> Result<Vec<EntryName<'a>>, Halt>
         ensures same { Same self.old self.new }
         ensures reads { Gives (end_of self.old) (λ x. (perm_names_view x, rest_of self.new)) result (entries_at (rest_of self.old)) }
@@ -101,7 +101,7 @@ impl<'t, 'a> Reader<'t, 'a> {
         self.each_entry(alloc)
     }
 
-    #[tactic(auto, unfolding(crate::specs::Reading::all_at))]
+    #[tactic(auto, unfolding(crate::specs::Inner::Stopping::all_at))]
     fn each_entry(&mut self, alloc: Global) -> Result<Vec<EntryName<'a>>, Halt>
         ensures same { Same self.old self.new }
         ensures reads { Gives (end_of self.old) (λ x. (perm_names_view x, rest_of self.new)) result (all_at starts_name entry_at (rest_of self.old)) }
@@ -114,7 +114,7 @@ impl<'t, 'a> Reader<'t, 'a> {
         Ok(items)
     }
 
-    #[tactic(auto, unfolding(crate::specs::Reading::perm_at))]
+    #[tactic(auto, unfolding(crate::specs::Inner::Stopping::perm_at))]
     fn perm(&mut self, alloc: Global) -> Result<Vec<EntryName<'a>>, Halt>
         ensures same { Same self.old self.new }
         ensures reads { Gives (end_of self.old) (λ x. (perm_names_view x, rest_of self.new)) result (perm_at (rest_of self.old)) }
@@ -123,7 +123,7 @@ impl<'t, 'a> Reader<'t, 'a> {
         self.entries(alloc)
     }
 
-    #[tactic(auto, unfolding(crate::specs::Reading::all_at))]
+    #[tactic(auto, unfolding(crate::specs::Inner::Stopping::all_at))]
     pub fn perms(&mut self, alloc: Global) -> Result<Vec<Vec<EntryName<'a>>>, Halt>
         ensures same { Same self.old self.new }
         ensures reads { Gives (end_of self.old) (λ x. (map perm_names_view x.items, rest_of self.new)) result (perms_at (rest_of self.old)) }

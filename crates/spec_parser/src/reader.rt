@@ -30,7 +30,7 @@ impl<'t, 'a> Reader<'t, 'a> {
     ghost use Rattle.iso_lexer.specs.SpecTokens.{at_view, at_views, name, block};
     ghost use Rattle.spec_parser.specs.Trees.{part_view, placed_view};
     ghost use Rattle.spec_parser.specs.Counts.{start};
-    ghost use Rattle.spec_parser.specs.Reading.{place, name_at, block_at, end_at};
+    ghost use Rattle.spec_parser.specs.Inner.Stopping.{place, name_at, block_at, end_at};
     ghost use Rattle.spec_parser.specs.Inner.Pieces.{starts_word, starts_sign, starts_name, word_at, sign_at};
     ghost use Rattle.spec_parser.specs.Inner.Readers.{end_of, rest_of, IsNext, Same, Gives, StopsAt};
 
@@ -126,7 +126,7 @@ impl<'t, 'a> Reader<'t, 'a> {
         }
     }
 
-    #[tactic(auto, unfolding(crate::specs::Reading::end_at))]
+    #[tactic(auto, unfolding(crate::specs::Inner::Stopping::end_at))]
     pub fn end(&self) -> Result<(), Halt>
         ensures reads { Gives (end_of self.now) (λ x. (x, rest_of self.now)) result (end_at (rest_of self.now)) }
         ensures calm { result ≢ Err Halt.Memory }
@@ -137,7 +137,7 @@ impl<'t, 'a> Reader<'t, 'a> {
         }
     }
 
-    #[tactic(auto, unfolding(crate::specs::Reading::next))]
+    #[tactic(auto, unfolding(crate::specs::Inner::Stopping::next))]
     pub fn word(&mut self, word: Keyword, what: What) -> Result<(), Halt>
         ensures same { Same self.old self.new }
         ensures reads { Gives (end_of self.old) (λ x. (x, rest_of self.new)) result (word_at word what (rest_of self.old)) }
@@ -160,7 +160,7 @@ impl<'t, 'a> Reader<'t, 'a> {
         }
     }
 
-    #[tactic(auto, unfolding(crate::specs::Reading::next))]
+    #[tactic(auto, unfolding(crate::specs::Inner::Stopping::next))]
     pub fn sign(&mut self, sign: Sign, what: What) -> Result<(), Halt>
         ensures same { Same self.old self.new }
         ensures reads { Gives (end_of self.old) (λ x. (x, rest_of self.new)) result (sign_at sign what (rest_of self.old)) }
@@ -178,7 +178,7 @@ impl<'t, 'a> Reader<'t, 'a> {
         }
     }
 
-    #[tactic(auto, unfolding(crate::specs::Reading::name_at))]
+    #[tactic(auto, unfolding(crate::specs::Inner::Stopping::name_at))]
     pub fn name(&mut self, what: What) -> Result<PlacedName<'a>, Halt>
         ensures same { Same self.old self.new }
         ensures reads { Gives (end_of self.old) (λ x. (placed_view x, rest_of self.new)) result (name_at what (rest_of self.old)) }
@@ -199,7 +199,7 @@ impl<'t, 'a> Reader<'t, 'a> {
         }
     }
 
-    #[tactic(auto, unfolding(crate::specs::Reading::block_at))]
+    #[tactic(auto, unfolding(crate::specs::Inner::Stopping::block_at))]
     pub fn block(&mut self) -> Result<Part<'a>, Halt>
         ensures same { Same self.old self.new }
         ensures reads { Gives (end_of self.old) (λ x. (part_view x, rest_of self.new)) result (block_at (rest_of self.old)) }

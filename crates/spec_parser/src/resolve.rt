@@ -2,8 +2,9 @@
 
 ghost use Rattle.std.specs.Prelude.{◌≡◌, ◌<◌, length, map, IfOk, IsErrOf};
 ghost use Rattle.spec_parser.specs.Trees.{step_view, session_view, entry_view, perm_view, draft_view, session_draft_view, marker_view, entry_name_view, perm_names_view};
-ghost use Rattle.spec_parser.specs.Names.{each, known_marker, known_entry, step_tree, session_tree};
-ghost use Rattle.spec_parser.specs.Inner.Known.{known_perms, known_view, IsAs, WantsRoom};
+ghost use Rattle.iso_lexer.specs.Results.{each};
+ghost use Rattle.spec_parser.specs.Names.{known_marker, known_entry, session_tree};
+ghost use Rattle.spec_parser.specs.Inner.Known.{step_tree, known_perms, known_view, IsAs, WantsRoom};
 
 use crate::draft::{EntryName, MarkerName, SessionDraft, StepDraft};
 use crate::fault::SpecFault;

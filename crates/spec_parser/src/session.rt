@@ -15,12 +15,12 @@ impl<'t, 'a> Reader<'t, 'a> {
     ghost use Rattle.std.specs.Prelude.{◌≢◌, ◌<◌, ◌^◌, Err, IfOk, vec_len, option_map, map};
     ghost use Rattle.iso_lexer.specs.declared.spec_token.Keyword.TheVariants.{Session, Step};
     ghost use Rattle.spec_parser.specs.Trees.{part_view, placed_view, draft_view, session_draft_view};
-    ghost use Rattle.spec_parser.specs.Reading.{name_within, block_after, step_at, session_at, all_at};
+    ghost use Rattle.spec_parser.specs.Inner.Stopping.{name_within, block_after, step_at, session_at, all_at};
     ghost use Rattle.spec_parser.specs.Inner.Pieces.{setup_at, teardown_at, setups_at, steps_at, sessions_at, starts_word};
     ghost use Rattle.spec_parser.specs.Inner.Readers.{end_of, rest_of, Same, Gives};
 
     /// The name of a thing behind `before` others of its kind, of which there may be `most`.
-    #[tactic(auto, unfolding(crate::specs::Reading::name_within))]
+    #[tactic(auto, unfolding(crate::specs::Inner::Stopping::name_within))]
     pub fn name_within(&mut self, before: usize, most: usize) -> Result<PlacedName<'a>, Halt>
         ensures same { Same self.old self.new }
         ensures reads { Gives (end_of self.old) (λ x. (placed_view x, rest_of self.new)) result (name_within before most (rest_of self.old)) }
@@ -35,7 +35,7 @@ impl<'t, 'a> Reader<'t, 'a> {
         }
     }
 
-    #[tactic(auto, unfolding(crate::specs::Reading::block_after))]
+    #[tactic(auto, unfolding(crate::specs::Inner::Stopping::block_after))]
     fn block_after(&mut self, word: Keyword) -> Result<Part<'a>, Halt>
         ensures same { Same self.old self.new }
         ensures reads { Gives (end_of self.old) (λ x. (part_view x, rest_of self.new)) result (block_after word (rest_of self.old)) }
@@ -45,7 +45,7 @@ impl<'t, 'a> Reader<'t, 'a> {
         self.block()
     }
 
-    #[tactic(auto, unfolding(crate::specs::Reading::maybe_block, crate::specs::Reading::maybe_at))]
+    #[tactic(auto, unfolding(crate::specs::Inner::Stopping::maybe_block, crate::specs::Inner::Stopping::maybe_at))]
     fn setup(&mut self) -> Result<Option<Part<'a>>, Halt>
         ensures same { Same self.old self.new }
         ensures reads { Gives (end_of self.old) (λ x. (option_map part_view x, rest_of self.new)) result (setup_at (rest_of self.old)) }
@@ -58,7 +58,7 @@ impl<'t, 'a> Reader<'t, 'a> {
         Ok(Some(part))
     }
 
-    #[tactic(auto, unfolding(crate::specs::Reading::maybe_block, crate::specs::Reading::maybe_at))]
+    #[tactic(auto, unfolding(crate::specs::Inner::Stopping::maybe_block, crate::specs::Inner::Stopping::maybe_at))]
     pub fn teardown(&mut self) -> Result<Option<Part<'a>>, Halt>
         ensures same { Same self.old self.new }
         ensures reads { Gives (end_of self.old) (λ x. (option_map part_view x, rest_of self.new)) result (teardown_at (rest_of self.old)) }
@@ -71,7 +71,7 @@ impl<'t, 'a> Reader<'t, 'a> {
         Ok(Some(part))
     }
 
-    #[tactic(auto, unfolding(crate::specs::Reading::all_at))]
+    #[tactic(auto, unfolding(crate::specs::Inner::Stopping::all_at))]
     pub fn setups(&mut self, alloc: Global) -> Result<Vec<Part<'a>>, Halt>
         ensures same { Same self.old self.new }
         ensures reads { Gives (end_of self.old) (λ x. (map part_view x.items, rest_of self.new)) result (setups_at (rest_of self.old)) }
@@ -84,7 +84,7 @@ impl<'t, 'a> Reader<'t, 'a> {
         Ok(items)
     }
 
-    #[tactic(auto, unfolding(crate::specs::Reading::step_at))]
+    #[tactic(auto, unfolding(crate::specs::Inner::Stopping::step_at))]
     fn step(&mut self) -> Result<StepDraft<'a>, Halt>
         ensures same { Same self.old self.new }
         ensures reads { Gives (end_of self.old) (λ x. (draft_view x, rest_of self.new)) result (step_at (rest_of self.old)) }
@@ -97,7 +97,7 @@ impl<'t, 'a> Reader<'t, 'a> {
         Ok(StepDraft { name, part })
     }
 
-    #[tactic(auto, unfolding(crate::specs::Reading::some_at))]
+    #[tactic(auto, unfolding(crate::specs::Inner::Stopping::some_at))]
     fn steps(&mut self, alloc: Global) -> Result<Vec<StepDraft<'a>>, Halt>
         ensures same { Same self.old self.new }
         ensures few { IfOk result (λ x. vec_len x < 2 ^ 32) }
@@ -109,7 +109,7 @@ impl<'t, 'a> Reader<'t, 'a> {
         self.each_step(alloc)
     }
 
-    #[tactic(auto, unfolding(crate::specs::Reading::all_at))]
+    #[tactic(auto, unfolding(crate::specs::Inner::Stopping::all_at))]
     fn each_step(&mut self, alloc: Global) -> Result<Vec<StepDraft<'a>>, Halt>
         ensures same { Same self.old self.new }
         ensures few { IfOk result (λ x. vec_len x < 2 ^ 32) }
@@ -123,7 +123,7 @@ impl<'t, 'a> Reader<'t, 'a> {
         Ok(items)
     }
 
-    #[tactic(auto, unfolding(crate::specs::Reading::session_at, crate::specs::Reading::some_at, crate::specs::Reading::all_at, crate::specs::Reading::many_at))]
+    #[tactic(auto, unfolding(crate::specs::Inner::Stopping::session_at, crate::specs::Inner::Stopping::some_at, crate::specs::Inner::Stopping::all_at, crate::specs::Inner::Stopping::many_at))]
     fn session(&mut self, alloc: Global) -> Result<SessionDraft<'a>, Halt>
         ensures same { Same self.old self.new }
         ensures reads { Gives (end_of self.old) (λ x. (session_draft_view x, rest_of self.new)) result (session_at (rest_of self.old)) }
@@ -142,7 +142,7 @@ impl<'t, 'a> Reader<'t, 'a> {
         })
     }
 
-    #[tactic(auto, unfolding(crate::specs::Reading::some_at))]
+    #[tactic(auto, unfolding(crate::specs::Inner::Stopping::some_at))]
     pub fn sessions(&mut self, alloc: Global) -> Result<Vec<SessionDraft<'a>>, Halt>
         ensures same { Same self.old self.new }
         ensures few { IfOk result (λ x. vec_len x < 2 ^ 32) }
@@ -154,7 +154,7 @@ impl<'t, 'a> Reader<'t, 'a> {
         self.each_session(alloc)
     }
 
-    #[tactic(auto, unfolding(crate::specs::Reading::all_at))]
+    #[tactic(auto, unfolding(crate::specs::Inner::Stopping::all_at))]
     fn each_session(&mut self, alloc: Global) -> Result<Vec<SessionDraft<'a>>, Halt>
         ensures same { Same self.old self.new }
         ensures few { IfOk result (λ x. vec_len x < 2 ^ 32) }

@@ -1,14 +1,34 @@
 -- What contracts see of the steps by name, and of what was resolved.
-use Rattle.std.specs.Prelude.{◌≡◌, ◌<◌, ℕ, List, length, find, map, flat_map, IsSome, Result, Ok, Err}
+use Rattle.std.specs.Prelude.{◌≡◌, ◌<◌, ℕ, List, [], ◌∷◌, ◌++◌, length, find, map, flat_map, Option, Some, None, is_some, IsSome, Result, Ok, Err, if◌then◌else◌}
 use Rattle.std.specs.List.{enumerate_from}
+use Rattle.std.specs.Option.{option_map_or}
 use Rattle.spec_parser.specs.declared.known.KnownStep.{KnownStep}
 use Rattle.spec_parser.specs.declared.fault.SpecFault.{SpecFault}
 use Rattle.spec_parser.specs.declared.fault.SpecFault.TheVariants as faults
-use Rattle.spec_parser.specs.Trees.{EntryTree, placed_view, NameAt, StepOf, SessionOf, NamedEntry}
-use Rattle.spec_parser.specs.Names.{StepAt, steps_in, is_named, each, known_entry}
+use Rattle.spec_parser.specs.Trees.{StepTree, EntryTree, SpecTree, placed_view, NameAt, StepOf, SessionOf, NamedEntry, FileTree}
+use Rattle.iso_lexer.specs.Results.{if_ok, each}
+use Rattle.spec_parser.specs.Names.{StepAt, is_named, known_entry, session_tree, steps_of}
 
 abbrev pub known_view : KnownStep → StepAt
 known_view s = record { name = placed_view s.name; session = s.session; step = s.step }
+
+-- a step without the place of its name
+abbrev pub step_tree : StepOf NameAt → StepTree
+step_tree s = record { name = s.name.name; part = s.part }
+
+-- the steps of a session, which stands behind its number
+abbrev pub steps_in : ℕ × SessionOf NameAt → List StepAt
+steps_in s = map (λ (x : ℕ × StepOf NameAt). record { name = x.1.name; session = s.0; step = x.0 }) (enumerate_from 0 s.1.steps)
+
+-- the place of the first name that a step before it has
+abbrev pub first_repeat : List StepAt → List StepAt → Option ℕ
+first_repeat before [] = None
+first_repeat before (s ∷ ss) = if is_some (find (is_named s.name.name) before) then Some s.name.at else first_repeat (before ++ s ∷ []) ss
+
+-- a file with its names looked up, as the code does it
+abbrev pub resolved : FileTree → Result SpecTree SpecFault
+resolved f = option_map_or (λ at. Err (faults.DuplicateStep at)) (first_repeat [] (steps_of f))
+    (if_ok (each (each (known_entry (steps_of f))) f.perms) (λ perms. Ok (record { setups = f.setups; teardown = f.teardown; sessions = map session_tree f.sessions; perms = perms })))
 
 -- the steps of session k, from number j on
 abbrev pub steps_from : ℕ → ℕ → List (StepOf NameAt) → List StepAt

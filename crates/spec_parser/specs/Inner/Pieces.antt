@@ -7,8 +7,8 @@ use Rattle.iso_lexer.specs.declared.spec_token.Sign.TheVariants.{Open, Comma}
 use Rattle.spec_parser.specs.declared.fault.What.{What}
 use Rattle.spec_parser.specs.declared.fault.What.TheVariants as what
 use Rattle.spec_parser.specs.Trees.{PartTree, NameAt, StepOf, SessionOf, MarkerTree, NamedEntry}
-use Rattle.spec_parser.specs.Reading.{Rest, Reader, ◌>>◌, is_word, is_sign, is_name, starts, next, all_at, some_at, maybe_at}
-use Rattle.spec_parser.specs.Reading.{block_after, maybe_block, step_at, session_at, marker_at, markers_at, entry_at, perm_at}
+use Rattle.spec_parser.specs.Inner.Stopping.{Rest, Reader, ◌>>◌, starts, next, all_at, some_at, maybe_at, block_after, maybe_block, step_at, session_at, marker_at, markers_at, entry_at, perm_at}
+use Rattle.spec_parser.specs.Grammar.{is_word, is_sign, is_name}
 
 -- ---- one token
 

@@ -7,7 +7,7 @@ use Rattle.spec_parser.specs.declared.fault.Halt.{Halt}
 use Rattle.spec_parser.specs.declared.fault.Halt.TheVariants as halts
 use Rattle.spec_parser.specs.declared.reader.Reader.{Reader}
 use Rattle.spec_parser.specs.Inner.Places.{text_start}
-use Rattle.spec_parser.specs.Reading.{Rest, Read, place}
+use Rattle.spec_parser.specs.Inner.Stopping.{Rest, Read, place}
 
 abbrev pub rest_of : Reader → Rest
 rest_of r = (record { blocks = r.blocks; sessions = r.sessions; steps = r.steps }, at_views (drop r.at r.tokens.now))

@@ -1,5 +1,5 @@
 use Rattle.std.proofs.Common.{◌≡◌, drop, take, map, []}
-use Rattle.spec_parser.specs.Names.{first_repeat}
+use Rattle.spec_parser.specs.Inner.Known.{first_repeat}
 use Rattle.spec_parser.specs.Inner.Known.{known_view}
 use Rattle.spec_parser.proofs.known.first_repeat.Given as goal
 

@@ -3,9 +3,9 @@ use Rattle.std.proofs.lemmas.Result.{err_from_is_err_and}
 use Rattle.iso_lexer.specs.SpecTokens.{at_views}
 use Rattle.spec_parser.specs.Trees.{file_view, perm_view, session_draft_view, perm_names_view}
 use Rattle.spec_parser.specs.Counts.{start}
-use Rattle.spec_parser.specs.Reading.{file_at}
-use Rattle.spec_parser.specs.Names.{first_repeat, session_tree}
-use Rattle.spec_parser.specs.Inner.Known.{known_perms, known_view, sessions_from, FailsWith}
+use Rattle.spec_parser.specs.Inner.Stopping.{file_at}
+use Rattle.spec_parser.specs.Names.{session_tree}
+use Rattle.spec_parser.specs.Inner.Known.{first_repeat, known_perms, known_view, sessions_from, FailsWith}
 use Rattle.spec_parser.specs.Inner.Readers.{rest_of, FailsAs}
 use Rattle.spec_parser.proofs.TokenCount.{few_views, all_fit}
 use Rattle.spec_parser.proofs.Whole.{WasRead, on_lexer_fault, on_halt, on_repeat, on_undefined, on_spec}

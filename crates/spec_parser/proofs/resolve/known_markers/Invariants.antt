@@ -1,6 +1,7 @@
 use Rattle.std.proofs.Common.{◌≡◌, drop, map}
 use Rattle.spec_parser.specs.Trees.{marker_view}
-use Rattle.spec_parser.specs.Names.{each, known_marker}
+use Rattle.iso_lexer.specs.Results.{each}
+use Rattle.spec_parser.specs.Names.{known_marker}
 use Rattle.spec_parser.specs.Inner.Known.{known_view}
 use Rattle.spec_parser.proofs.Resolving.{prepend}
 use Rattle.spec_parser.proofs.resolve.known_markers.Given as goal

@@ -1,6 +1,7 @@
 use Rattle.std.proofs.Common.{◌≡◌, drop, map}
 use Rattle.spec_parser.specs.Trees.{entry_name_view, entry_view}
-use Rattle.spec_parser.specs.Names.{each, known_entry}
+use Rattle.iso_lexer.specs.Results.{each}
+use Rattle.spec_parser.specs.Names.{known_entry}
 use Rattle.spec_parser.specs.Inner.Known.{known_view}
 use Rattle.spec_parser.proofs.Resolving.{prepend}
 use Rattle.spec_parser.proofs.resolve.known_perm.Given as goal

@@ -1,6 +1,6 @@
 use Rattle.std.proofs.Common.{◌≡◌, ◌++◌, drop, map}
 use Rattle.spec_parser.specs.Trees.{draft_view, step_view}
-use Rattle.spec_parser.specs.Names.{step_tree}
+use Rattle.spec_parser.specs.Inner.Known.{step_tree}
 use Rattle.spec_parser.proofs.resolve.step_parts.Given as goal
 
 abbrev pub invariant-loop-step : goal.invariant-loop-step

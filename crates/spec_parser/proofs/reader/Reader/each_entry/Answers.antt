@@ -2,7 +2,8 @@ use Rattle.std.proofs.Common.{◌≡◌, [], length, ap, sym, subst, ◌∙◌, 
 use Rattle.std.proofs.lemmas.Result.{err_from_is_err_and}
 use Rattle.std.proofs.ResultArms.{chosen}
 use Rattle.spec_parser.specs.Trees.{entry_name_view}
-use Rattle.spec_parser.specs.Reading.{entry_at, all_at, is_name}
+use Rattle.spec_parser.specs.Grammar.{is_name}
+use Rattle.spec_parser.specs.Inner.Stopping.{entry_at, all_at}
 use Rattle.spec_parser.specs.Inner.Pieces.{starts_name}
 use Rattle.spec_parser.specs.Inner.Readers.{FailsAs, rest_of}
 use Rattle.spec_parser.proofs.Loops.{SoFar, on_end, on_item, on_stop, behind_nothing, views_push, views_len, starts_nonempty}

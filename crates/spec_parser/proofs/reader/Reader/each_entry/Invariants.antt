@@ -1,7 +1,7 @@
 use Rattle.std.proofs.Common.{[], length}
 use Rattle.std.specs.Prelude.{map}
 use Rattle.spec_parser.specs.Trees.{entry_name_view}
-use Rattle.spec_parser.specs.Reading.{entry_at}
+use Rattle.spec_parser.specs.Inner.Stopping.{entry_at}
 use Rattle.spec_parser.specs.Inner.Pieces.{starts_name}
 use Rattle.spec_parser.specs.Inner.Readers.{rest_of, Same}
 use Rattle.spec_parser.proofs.Loops.{SoFar}

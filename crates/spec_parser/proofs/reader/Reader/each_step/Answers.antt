@@ -3,7 +3,8 @@ use Rattle.std.proofs.lemmas.Result.{err_from_is_err_and}
 use Rattle.std.proofs.ResultArms.{chosen}
 use Rattle.iso_lexer.specs.declared.spec_token.Keyword.TheVariants.{Step}
 use Rattle.spec_parser.specs.Trees.{draft_view}
-use Rattle.spec_parser.specs.Reading.{step_at, all_at, is_word}
+use Rattle.spec_parser.specs.Grammar.{is_word}
+use Rattle.spec_parser.specs.Inner.Stopping.{step_at, all_at}
 use Rattle.spec_parser.specs.Inner.Pieces.{starts_word}
 use Rattle.spec_parser.specs.Inner.Readers.{FailsAs, rest_of}
 use Rattle.spec_parser.proofs.Loops.{SoFar, on_end, on_item, on_stop, behind_nothing, views_push, views_len, starts_nonempty, rest_len}

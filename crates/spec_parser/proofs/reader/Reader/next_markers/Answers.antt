@@ -3,7 +3,7 @@ use Rattle.std.proofs.lemmas.Result.{err_from_is_err_and}
 use Rattle.std.proofs.ResultArms.{chosen}
 use Rattle.iso_lexer.specs.declared.spec_token.Sign.TheVariants.{Comma}
 use Rattle.spec_parser.specs.Trees.{marker_view}
-use Rattle.spec_parser.specs.Reading.{is_sign}
+use Rattle.spec_parser.specs.Grammar.{is_sign}
 use Rattle.spec_parser.specs.Inner.Pieces.{starts_sign, next_marker_at}
 use Rattle.spec_parser.specs.Inner.Readers.{FailsAs, rest_of}
 use Rattle.spec_parser.proofs.Loops.{SoFar, on_end, on_item, on_stop, views_push, starts_nonempty}

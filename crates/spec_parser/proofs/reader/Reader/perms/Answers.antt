@@ -3,7 +3,8 @@ use Rattle.std.proofs.lemmas.Result.{err_from_is_err_and}
 use Rattle.std.proofs.ResultArms.{chosen}
 use Rattle.iso_lexer.specs.declared.spec_token.Keyword.TheVariants.{Permutation}
 use Rattle.spec_parser.specs.Trees.{perm_names_view}
-use Rattle.spec_parser.specs.Reading.{perm_at, is_word}
+use Rattle.spec_parser.specs.Grammar.{is_word}
+use Rattle.spec_parser.specs.Inner.Stopping.{perm_at}
 use Rattle.spec_parser.specs.Inner.Pieces.{starts_word, perms_at}
 use Rattle.spec_parser.specs.Inner.Readers.{FailsAs, rest_of}
 use Rattle.spec_parser.proofs.Loops.{SoFar, on_end, on_item, on_stop, behind_nothing, views_push, starts_nonempty}

@@ -2,7 +2,7 @@ use Rattle.std.proofs.Common.{[], length}
 use Rattle.std.specs.Prelude.{map}
 use Rattle.iso_lexer.specs.declared.spec_token.Keyword.TheVariants.{Permutation}
 use Rattle.spec_parser.specs.Trees.{perm_names_view}
-use Rattle.spec_parser.specs.Reading.{perm_at}
+use Rattle.spec_parser.specs.Inner.Stopping.{perm_at}
 use Rattle.spec_parser.specs.Inner.Pieces.{starts_word}
 use Rattle.spec_parser.specs.Inner.Readers.{rest_of, Same}
 use Rattle.spec_parser.proofs.Loops.{SoFar}

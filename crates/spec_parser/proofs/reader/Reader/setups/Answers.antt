@@ -3,7 +3,8 @@ use Rattle.std.proofs.lemmas.Result.{err_from_is_err_and}
 use Rattle.std.proofs.ResultArms.{chosen}
 use Rattle.iso_lexer.specs.declared.spec_token.Keyword.TheVariants.{Setup}
 use Rattle.spec_parser.specs.Trees.{part_view}
-use Rattle.spec_parser.specs.Reading.{block_after, is_word}
+use Rattle.spec_parser.specs.Grammar.{is_word}
+use Rattle.spec_parser.specs.Inner.Stopping.{block_after}
 use Rattle.spec_parser.specs.Inner.Pieces.{starts_word, setups_at}
 use Rattle.spec_parser.specs.Inner.Readers.{FailsAs, rest_of}
 use Rattle.spec_parser.proofs.Loops.{SoFar, on_end, on_item, on_stop, behind_nothing, views_push, starts_nonempty}
