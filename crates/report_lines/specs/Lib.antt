@@ -1,6 +1,7 @@
 pub mod Starts
 pub mod History
 pub mod Report
+pub mod Walk
 pub mod Places
 pub mod SoFar
 pub mod Due

@@ -5,7 +5,7 @@ use Rattle.session_machine.specs.declared.reply.HistItem.{HistItem}
 use Rattle.spec_parser.specs.Trees.{EntryTree, SpecTree}
 use Rattle.report_lines.specs.History.{PermutationRun}
 use Rattle.report_lines.specs.Due.{went_well}
-use Rattle.report_lines.specs.Report.{report}
+use Rattle.report_lines.specs.Walk.{report}
 use Rattle.report_lines.specs.declared.history.RunState.{RunState}
 use Rattle.report_lines.specs.declared.history.RunState.TheVariants.{Due, Whole, Invalid}
 use Rattle.report_text.specs.Said.{Ending, whole, Said, says, is_whole, ◌>>◌}

@@ -6,7 +6,8 @@ use Rattle.spec_parser.specs.Trees.{StepTree, SpecTree}
 use Rattle.spec_parser.specs.Numbered.{step_of_entry}
 use Rattle.report_lines.specs.declared.history.Line.{Line}
 use Rattle.report_lines.specs.declared.history.Line.TheVariants.{AtOnce, Waiting, Completed}
-use Rattle.report_lines.specs.History.{PermutationRun, session_of_entry, seen_before}
+use Rattle.report_lines.specs.History.{PermutationRun, seen_before}
+use Rattle.report_lines.specs.Walk.{session_of_entry}
 use Rattle.report_text.specs.Replies.{replies_text}
 
 -- the replies to an entry's block that are among so many items

@@ -5,7 +5,7 @@ use Rattle.session_machine.specs.declared.reply.HistItem.{HistItem}
 use Rattle.report_lines.specs.declared.history.RunState.{RunState}
 use Rattle.report_lines.specs.declared.history.RunState.TheVariants.{Invalid}
 use Rattle.report_lines.specs.History.{PermutationRun}
-use Rattle.report_lines.specs.Report.{report}
+use Rattle.report_lines.specs.Walk.{report}
 use Rattle.report_lines.specs.Due.{orders}
 use Rattle.report_text.specs.Steps.{starting_text}
 use Rattle.report_text.specs.LineText.{line_text}

@@ -3,7 +3,7 @@ use Rattle.std.specs.Prelude.{ℕ, ◌+◌, ◌-◌, nat_le, List, [], ◌∷◌
 use Rattle.spec_parser.specs.Trees.{SpecTree}
 use Rattle.session_machine.specs.declared.reply.HistItem.{HistItem}
 use Rattle.report_lines.specs.History.{PermutationRun}
-use Rattle.report_lines.specs.Report.{report}
+use Rattle.report_lines.specs.Walk.{report}
 use Rattle.report_lines.specs.Due.{segment, went_well, orders}
 use Rattle.report_text.specs.Steps.{starting_text}
 use Rattle.report_text.specs.LineText.{line_text}
