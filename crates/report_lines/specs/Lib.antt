@@ -5,6 +5,7 @@ pub mod Walk
 pub mod Places
 pub mod SoFar
 pub mod Due
+pub mod Orders
 pub mod Tries
 pub mod Fronts
 pub mod Progress

@@ -2,7 +2,7 @@
 ghost use Rattle.std.specs.Prelude.{◌≡◌, ◌+◌, ◌-◌, ◌<◌, ◌^◌, ◌++◌, ◌⊎◌, [], ◌∷◌, length, IfOk, OnOk, IsTrue, true};
 ghost use Rattle.report_lines.specs.Starts.{is_order};
 ghost use Rattle.report_lines.specs.Due.{orders};
-ghost use Rattle.report_lines.specs.Walk.{report};
+ghost use Rattle.report_lines.specs.Report.{report};
 ghost use Rattle.report_lines.specs.Places.{starts_from};
 ghost use Rattle.report_lines.specs.Inner.Places.{starts_after, ended_behind, ends_after, IsZeros};
 ghost use Rattle.report_lines.specs.Progress.{Keeps, KeepsFront, permutation_run};
