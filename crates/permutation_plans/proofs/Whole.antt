@@ -13,7 +13,8 @@ use Rattle.report_lines.specs.declared.history.TeardownsSoFar.{TeardownsSoFar}
 use Rattle.report_lines.specs.declared.history.RunState.{RunState}
 use Rattle.report_lines.specs.declared.history.RunState.TheVariants.{Due, Whole, Invalid}
 use Rattle.report_lines.specs.History.{PermutationRun}
-use Rattle.report_lines.specs.Report.{Report, moment_of, active, poll, has_unreported, made_way, launched, report_from, report}
+use Rattle.report_lines.specs.Report.{Report, moment_of, active}
+use Rattle.report_lines.specs.Walk.{poll, has_unreported, made_way, launched, report_from, report}
 use Rattle.report_lines.specs.Due.{Launches, Planned, orders, went_well, is_over, launch, due_setup, teardowns_so_far, due_entry, due}
 use Rattle.report_lines.specs.Inner.Due.{due_last}
 use Rattle.permutation_plans.specs.Launches.{launch_of_entry}

@@ -6,7 +6,7 @@ use Rattle.session_machine.specs.declared.reply.HistItem.{HistItem}
 use Rattle.spec_parser.specs.Trees.{EntryTree, SpecTree}
 use Rattle.report_lines.specs.declared.history.PlannedLaunch.{PlannedLaunch}
 use Rattle.report_lines.specs.declared.history.RunState.TheVariants.{Invalid}
-use Rattle.report_lines.specs.Report.{report}
+use Rattle.report_lines.specs.Walk.{report}
 use Rattle.report_lines.specs.Due.{Launches, Planned, orders, went_well, is_over, launch}
 use Rattle.permutation_plans.specs.Launches.{launches, run_of, due_in}
 use Rattle.permutation_plans.specs.Worked.{worked_spec, worked_entries, worked_items}

@@ -6,7 +6,8 @@ use Rattle.std.proofs.lemmas.List.{get_or_default}
 use Rattle.session_machine.specs.declared.reply.HistItem.{HistItem}
 use Rattle.report_lines.specs.Starts.{segment_start, is_order, ends_in}
 use Rattle.report_lines.specs.Due.{orders}
-use Rattle.report_lines.specs.History.{PermutationRun, session_of_entry, seen_before, has_ended}
+use Rattle.report_lines.specs.History.{PermutationRun, seen_before}
+use Rattle.report_lines.specs.Walk.{session_of_entry, has_ended}
 use Rattle.report_lines.specs.Places.{starts_from, last_end, IsTimed}
 use Rattle.report_lines.specs.Inner.Places.{IsFound}
 

@@ -13,8 +13,10 @@ use Rattle.report_lines.specs.Starts.{segment_start, is_order, ends_in}
 use Rattle.session_machine.specs.Machine.{is_failed}
 use Rattle.report_lines.specs.Due.{Launches, orders, segment, is_over, went_well, launch, due_setup, teardowns_so_far, due_entry, due}
 use Rattle.report_lines.specs.Inner.Due.{due_last}
-use Rattle.report_lines.specs.History.{PermutationRun, session_of_entry, seen_before, has_ended, is_awaited, is_star, markers_of}
-use Rattle.report_lines.specs.Report.{Report, active, moment_of, may_report, retry, polls_again, polled, poll, is_of, has_unreported, made_way, launched, report_from, report}
+use Rattle.report_lines.specs.History.{PermutationRun, seen_before}
+use Rattle.report_lines.specs.Walk.{session_of_entry, has_ended, is_awaited, is_star, markers_of}
+use Rattle.report_lines.specs.Report.{Report, active, moment_of}
+use Rattle.report_lines.specs.Walk.{may_report, retry, polls_again, polled, poll, is_of, has_unreported, made_way, launched, report_from, report}
 use Rattle.report_lines.specs.Inner.Waiting.{is_reported}
 use Rattle.report_lines.specs.Fronts.{with_more}
 use Rattle.report_lines.specs.declared.history.PlannedLaunch.{PlannedLaunch}

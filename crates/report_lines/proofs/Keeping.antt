@@ -14,7 +14,7 @@ use Rattle.session_machine.specs.Machine.{session_of}
 use Rattle.report_lines.specs.Starts.{is_order, ends_in}
 use Rattle.report_lines.specs.Due.{orders}
 use Rattle.report_lines.specs.History.{PermutationRun}
-use Rattle.report_lines.specs.Report.{report, report_from, launched}
+use Rattle.report_lines.specs.Walk.{report, report_from, launched}
 use Rattle.report_lines.specs.SoFar.{LinesSoFar, IsAt, IsReportSoFar}
 use Rattle.report_lines.specs.Places.{starts_from, last_end, IsTimed, IsSeen}
 use Rattle.report_lines.specs.Inner.Places.{ended_behind, ends_after, starts_after}

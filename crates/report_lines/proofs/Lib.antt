@@ -10,3 +10,4 @@ pub mod Examples
 pub mod Fronts
 pub mod Keeping
 pub mod Invalid
+pub mod Same

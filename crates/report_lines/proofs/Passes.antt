@@ -9,7 +9,8 @@ use Rattle.report_lines.specs.declared.history.Moment.{Moment}
 use Rattle.report_lines.specs.declared.lines_so_far.Chosen.{Chosen}
 use Rattle.report_lines.specs.declared.lines_so_far.Chosen.TheVariants.{Joined}
 use Rattle.report_lines.specs.History.{PermutationRun}
-use Rattle.report_lines.specs.Report.{active, may_report, retry}
+use Rattle.report_lines.specs.Report.{active}
+use Rattle.report_lines.specs.Walk.{may_report, retry}
 use Rattle.report_lines.specs.Inner.Waiting.{is_reported}
 use Rattle.report_lines.specs.Inner.Trying.{instances, pass, is_chosen, chosen_retry, retried_from}
 use Rattle.report_lines.proofs.Waits.{active_leave, reported_push}

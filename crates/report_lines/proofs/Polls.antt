@@ -6,7 +6,8 @@ use Rattle.report_lines.specs.declared.history.Line.{Line}
 use Rattle.report_lines.specs.declared.history.Line.TheVariants.{Completed}
 use Rattle.report_lines.specs.declared.history.Moment.{Moment}
 use Rattle.report_lines.specs.History.{PermutationRun}
-use Rattle.report_lines.specs.Report.{active, may_report, retry, polls_again, polled, poll, is_of}
+use Rattle.report_lines.specs.Report.{active}
+use Rattle.report_lines.specs.Walk.{may_report, retry, polls_again, polled, poll, is_of}
 use Rattle.report_lines.specs.Inner.Waiting.{is_reported}
 use Rattle.report_lines.specs.Inner.Trying.{instances, pass, own_retry}
 use Rattle.report_lines.proofs.Waits.{active_leave, reported_push, any_is}
@@ -36,7 +37,7 @@ no_reason A B C (inr p) = inr p.1
 pub keeps_reported : (c : PermutationRun) (m : Moment) (lines : List Line) (j i : ℕ) → is_reported lines i ≡ true → is_reported (retry c m lines j) i ≡ true
 keeps_reported c m lines j i h = keeps_case lines (retry c m lines j) (Completed j m.seen) i h (no_reason _ _ _ (retry_cases c m lines j))
 
-fold_keeps : (c : PermutationRun) (m : Moment) (xs : List ℕ) (lines : List Line) (i : ℕ) → is_reported lines i ≡ true → is_reported (fold (retry c m) lines xs) i ≡ true
+pub fold_keeps : (c : PermutationRun) (m : Moment) (xs : List ℕ) (lines : List Line) (i : ℕ) → is_reported lines i ≡ true → is_reported (fold (retry c m) lines xs) i ≡ true
 fold_keeps c m [] lines i h = h
 fold_keeps c m (x ∷ xs) lines i h = fold_keeps c m xs (retry c m lines x) i (keeps_reported c m lines x i h)
 
@@ -62,7 +63,7 @@ stuck_case c m xs lines new l rest h (inr e) =
     absurd (omega arith)
 
 -- where the lines didn't grow they are the same
-stuck : (c : PermutationRun) (m : Moment) (xs : List ℕ) (lines : List Line) → length (fold (retry c m) lines xs) ≤ length lines → fold (retry c m) lines xs ≡ lines
+pub stuck : (c : PermutationRun) (m : Moment) (xs : List ℕ) (lines : List Line) → length (fold (retry c m) lines xs) ≤ length lines → fold (retry c m) lines xs ≡ lines
 stuck c m [] lines h = refl
 stuck c m (x ∷ xs) lines h = stuck_case c m xs lines (retry c m lines x) (Completed x m.seen) (stuck c m xs (retry c m lines x)) h (no_reason _ _ _ (retry_cases c m lines x))
 

@@ -7,7 +7,8 @@ use Rattle.std.proofs.lemmas.Bool.{eqb-true, eq-eqb}
 use Rattle.report_lines.specs.declared.history.Line.{Line}
 use Rattle.report_lines.specs.declared.history.Line.TheVariants.{AtOnce, Waiting, Completed}
 use Rattle.report_lines.specs.History.{PermutationRun}
-use Rattle.report_lines.specs.Report.{reports, report}
+use Rattle.report_lines.specs.Report.{reports}
+use Rattle.report_lines.specs.Walk.{report}
 use Rattle.report_lines.specs.Tries.{Try, is_untried, was_reported, is_met, says, said, tries, IsReportPoint}
 use Rattle.report_lines.proofs.Tried.{lines_are_said}
 

@@ -5,7 +5,8 @@ use Rattle.report_lines.specs.declared.history.Line.{Line}
 use Rattle.report_lines.specs.declared.history.RunState.{RunState}
 use Rattle.report_lines.specs.declared.history.RunState.TheVariants.{Due, Whole, Invalid}
 use Rattle.report_lines.specs.History.{PermutationRun}
-use Rattle.report_lines.specs.Report.{Report, report, report_from, made_way, launched, poll, moment_of, has_unreported, active}
+use Rattle.report_lines.specs.Report.{Report, moment_of, active}
+use Rattle.report_lines.specs.Walk.{report, report_from, made_way, launched, poll, has_unreported}
 
 -- where the entries come to an end
 pub report_end : (c : PermutationRun) (n e count : ℕ) (lines : List Line) → n ≤ e → report_from c e (n - e) count lines ≡ (let all = poll c (moment_of c e e) lines in record { lines = all; state = if length (active all e) == 0 then Whole else Invalid })

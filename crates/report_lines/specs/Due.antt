@@ -12,7 +12,7 @@ use Rattle.report_lines.specs.declared.history.RunState.{RunState}
 use Rattle.report_lines.specs.declared.history.RunState.TheVariants.{Due, Whole, Invalid}
 use Rattle.report_lines.specs.Starts.{segment_start, ends_in, is_order}
 use Rattle.report_lines.specs.History.{PermutationRun}
-use Rattle.report_lines.specs.Report.{report}
+use Rattle.report_lines.specs.Walk.{report}
 
 -- the blocks of a permutation, each with its session: of the setups, of the entries, of the sessions' teardowns, of the main teardown; and how many sessions there are
 pub record Launches : Type 0 where

@@ -1,12 +1,15 @@
--- What is said of the entries: at each moment the tries in their order, each step at the first try at which it can be reported.
-use Rattle.std.specs.Prelude.{ℕ, zero, suc, ◌+◌, ◌==◌, nat_lt, Bool, false, not, ◌&&◌, List, [], ◌∷◌, ◌++◌, length, if◌then◌else◌}
+-- What is said of the entries: at each moment the tries in their order, each step at the first try at which it can be reported. An instance is an entry by its number from 0.
+use Rattle.std.specs.Prelude.{ℕ, zero, suc, ◌+◌, ◌==◌, nat_lt, Bool, true, false, not, ◌&&◌, List, [], ◌∷◌, ◌++◌, length, filter_map, slice_get, if◌then◌else◌}
 use Rattle.std.specs.List.{list_any, filter, fold, range_with_len}
+use Rattle.spec_parser.specs.Trees.{EntryTree}
+use Rattle.spec_parser.specs.declared.tree.Marker.{Marker}
+use Rattle.spec_parser.specs.declared.tree.Marker.TheVariants.{Star, Step as Named}
 use Rattle.report_lines.specs.declared.history.Line.{Line}
 use Rattle.report_lines.specs.declared.history.Line.TheVariants.{AtOnce, Waiting, Completed}
 use Rattle.report_lines.specs.declared.history.Moment.{Moment}
 use Rattle.report_lines.specs.declared.history.RunState.{RunState}
 use Rattle.report_lines.specs.declared.history.RunState.TheVariants.{Due, Whole, Invalid}
-use Rattle.report_lines.specs.History.{PermutationRun, session_of_entry, seen_before, has_ended, is_awaited, is_star, markers_of}
+use Rattle.report_lines.specs.History.{PermutationRun, entry_at, seen_before, has_ended}
 
 -- the line reports the instance
 abbrev pub reports : ℕ → Line → Bool
@@ -14,7 +17,7 @@ reports i (AtOnce entry seen) = i == entry
 reports i (Waiting entry) = false
 reports i (Completed entry seen) = i == entry
 
--- of so many launched instances, which are entries by their numbers from 0, those that are not reported
+-- of so many launched instances those that are not reported
 abbrev pub active : List Line → ℕ → List ℕ
 active lines launched = filter (λ j. not (list_any (reports j) lines)) (range_with_len 0 launched)
 
@@ -22,44 +25,34 @@ active lines launched = filter (λ j. not (list_any (reports j) lines)) (range_w
 abbrev pub moment_of : PermutationRun → ℕ → ℕ → Moment
 moment_of c launched joined = record { seen = seen_before c launched; launched = launched; joined = joined }
 
--- the instance's block has ended, and no step that its markers name is active
-abbrev pub may_report : PermutationRun → Moment → List Line → ℕ → Bool
-may_report c m lines i = has_ended c m.seen i && not (list_any (is_awaited c i) (active lines m.launched))
+-- a marker holds an instance back: a star at its first try, and else while an active instance is of the step that the marker names
+abbrev pub holds : PermutationRun → List ℕ → Bool → Marker → Bool
+holds c waiting is_first Star = is_first
+holds c waiting is_first (Named session step) = list_any (λ (e : EntryTree). (session == e.session) && (step == e.step)) (filter_map (slice_get c.entries) waiting)
+
+-- a try of an instance reports it: its block has ended, and none of its markers holds it back
+abbrev pub may_report : PermutationRun → Moment → List Line → Bool → ℕ → Bool
+may_report c m lines is_first i = has_ended c m.seen i && not (list_any (holds c (active lines m.launched) is_first) (entry_at c i).markers)
 
 -- a try of an instance that isn't its first
 abbrev pub retry : PermutationRun → Moment → List Line → ℕ → List Line
-retry c m lines i = if not (list_any (reports i) lines) && may_report c m lines i then lines ++ Completed i m.seen ∷ [] else lines
+retry c m lines i = if not (list_any (reports i) lines) && may_report c m lines false i then lines ++ Completed i m.seen ∷ [] else lines
 
--- the last pass reported a step, and a step that remains on the waiting list has a marker
-abbrev pub polls_again : PermutationRun → Moment → List Line → List Line → Bool
-polls_again c m old new = nat_lt (length old) (length new) && list_any (λ j. nat_lt j m.joined && not (length (markers_of c j) == 0)) (active new m.launched)
-
--- the waiting list is gone through, so many times at most
-abbrev pub polled : PermutationRun → Moment → ℕ → List Line → List Line
-polled c m zero lines = lines
-polled c m (suc more) lines = let new = fold (retry c m) lines (range_with_len 0 m.joined) in if polls_again c m lines new then polled c m more new else new
-
--- the passes of a moment; there are never more than so many
+-- the waiting list is gone through again and again, and so often that once more would report nothing
 abbrev pub poll : PermutationRun → Moment → List Line → List Line
-poll c m lines = polled c m (m.joined + 1) lines
+poll c m lines = fold (λ told turn. fold (retry c m) told (range_with_len 0 m.joined)) lines (range_with_len 0 (m.joined + 1))
 
--- the instance is one of the session
-abbrev pub is_of : PermutationRun → ℕ → ℕ → Bool
-is_of c session i = session_of_entry c i == session
-
--- the session of an entry that is to be launched has an active step
-abbrev pub has_unreported : PermutationRun → List Line → ℕ → Bool
-has_unreported c lines e = list_any (is_of c (session_of_entry c e)) (active lines e)
+-- of the launched instances, which come before this entry, the active ones of its session
+abbrev pub rivals : PermutationRun → List Line → ℕ → List ℕ
+rivals c lines e = filter (λ i. (entry_at c i).session == (entry_at c e).session) (active lines e)
 
 -- the tries before an entry's Launch: where its session has an active step, the session's steps first
 abbrev pub made_way : PermutationRun → List Line → ℕ → List Line
-made_way c lines e =
-    let m = moment_of c e e in if has_unreported c lines e then poll c m (fold (retry c m) lines (filter (is_of c (session_of_entry c e)) (range_with_len 0 e))) else lines
+made_way c lines e = let m = moment_of c e e in if length (rivals c lines e) == 0 then lines else poll c m (fold (retry c m) lines (rivals c lines e))
 
--- the tries after it: the new step first, which a star keeps from being reported at once
+-- the tries after it: the new step first
 abbrev pub launched : PermutationRun → List Line → ℕ → List Line
-launched c lines e =
-    let m = moment_of c (e + 1) e in poll c m (lines ++ (if may_report c m lines e && not (list_any is_star (markers_of c e)) then AtOnce e m.seen else Waiting e) ∷ [])
+launched c lines e = let m = moment_of c (e + 1) e in poll c m (lines ++ (if may_report c m lines true e then AtOnce e m.seen else Waiting e) ∷ [])
 
 pub record Report : Type 0 where
   pub lines : List Line
@@ -71,7 +64,7 @@ report_from c e zero count lines =
     let all = poll c (moment_of c e e) lines in record { lines = all; state = if length (active all e) == 0 then Whole else Invalid }
 report_from c e (suc rest) count lines =
     let way = made_way c lines e in
-    if has_unreported c way e then record { lines = way; state = Invalid }
+    if not (length (rivals c way e) == 0) then record { lines = way; state = Invalid }
     else if nat_lt e count then report_from c (e + 1) rest count (launched c way e) else record { lines = way; state = Due e }
 
 abbrev pub report : PermutationRun → ℕ → Report

@@ -5,8 +5,10 @@ use Rattle.std.specs.List.{list_any, filter, range_with_len}
 use Rattle.report_lines.specs.declared.history.Line.{Line}
 use Rattle.report_lines.specs.declared.history.Line.TheVariants.{AtOnce, Waiting, Completed}
 use Rattle.report_lines.specs.declared.history.Moment.{Moment}
-use Rattle.report_lines.specs.History.{PermutationRun, session_of_entry, has_ended, is_awaited, is_star, markers_of}
-use Rattle.report_lines.specs.Report.{moment_of, is_of}
+use Rattle.report_lines.specs.History.{PermutationRun}
+use Rattle.report_lines.specs.Walk.{session_of_entry, has_ended, is_awaited, is_star, markers_of}
+use Rattle.report_lines.specs.Report.{moment_of}
+use Rattle.report_lines.specs.Walk.{is_of}
 
 -- an instance is tried at a moment
 pub record Try : Type 0 where

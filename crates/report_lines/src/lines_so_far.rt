@@ -5,10 +5,12 @@ ghost use Rattle.std.specs.List.{list_any, filter, fold};
 ghost use Rattle.report_lines.specs.SoFar.{LinesSoFar, IsAt, IsReportSoFar};
 ghost use Rattle.report_lines.specs.Inner.Waiting.{IsKept};
 ghost use Rattle.report_lines.specs.Due.{orders};
-ghost use Rattle.report_lines.specs.History.{session_of_entry, is_awaited, has_ended, seen_before};
+ghost use Rattle.report_lines.specs.History.{seen_before};
+ghost use Rattle.report_lines.specs.Walk.{session_of_entry, is_awaited, has_ended};
 ghost use Rattle.report_lines.specs.Inner.Trying.{is_marked, instances, first_try, pass, is_chosen, chosen_retry, retried_from};
-ghost use Rattle.report_lines.specs.Report.{active, may_report, retry, polls_again, polled, poll, has_unreported, is_of};
-ghost use Rattle.report_lines.specs.Report.{made_way, launched, report, report_from};
+ghost use Rattle.report_lines.specs.Report.{active};
+ghost use Rattle.report_lines.specs.Walk.{may_report, retry, polls_again, polled, poll, has_unreported, is_of};
+ghost use Rattle.report_lines.specs.Walk.{made_way, launched, report, report_from};
 
 use crate::history::{Line, Moment, RunState};
 use crate::run_so_far::RunSoFar;

@@ -39,7 +39,8 @@ impl<'a> Model for RunSoFar<'a> {
 impl<'a> RunSoFar<'a> {
     ghost use Rattle.std.specs.List.{list_any};
     ghost use Rattle.report_lines.specs.Report.{moment_of};
-    ghost use Rattle.report_lines.specs.History.{seen_before, has_ended, is_awaited, is_star, markers_of, session_of_entry};
+    ghost use Rattle.report_lines.specs.History.{seen_before};
+    ghost use Rattle.report_lines.specs.Walk.{has_ended, is_awaited, is_star, markers_of, session_of_entry};
     ghost use Rattle.report_lines.specs.Inner.Trying.{is_marked};
     ghost use Rattle.report_lines.specs.Due.{orders};
     ghost use Rattle.report_lines.specs.Places.{IsSeen};

@@ -8,13 +8,16 @@ use Rattle.spec_parser.specs.Trees.{EntryTree, SessionTree, SpecTree}
 use Rattle.report_lines.specs.Due.{segment, is_over, went_well, orders}
 use Rattle.report_text.specs.Replies.{rows_text, last_outcome}
 use Rattle.report_text.specs.Steps.{starting_text}
-use Rattle.report_text.specs.Said.{Said, only_ends, says, ◌>>◌, in_turn}
-use Rattle.report_text.specs.Setups.{setups_of, setup_ending, setup_says}
-use Rattle.report_text.specs.Teardowns.{teardowns_of, teardown_says}
-use Rattle.report_text.specs.Permutation.{permutation_says}
+use Rattle.report_text.specs.Said.{Said, only_ends, says, ◌>>◌}
+use Rattle.report_text.specs.Turns.{in_turn}
+use Rattle.report_text.specs.Turns.{setup_numbers, setup_ending, setup_turn}
+use Rattle.report_text.specs.Turns.{teardown_numbers, teardown_turn}
+use Rattle.report_text.specs.Turns.{permutation_in_turn}
 use Rattle.report_text.specs.Inner.Teardowns.{teardowns_say}
 use Rattle.report_text.specs.Inner.Permutation.{setups_say, entries_say, all_says}
 use Rattle.report_text.proofs.InTurn.{none_there}
+use Rattle.report_text.specs.Permutation.{permutation_says}
+use Rattle.report_text.proofs.Ordered.{permutation_turn}
 use Rattle.report_text.proofs.Saying.{permutation_run}
 
 setup_case : (gone well : Bool) (rows : List ℕ) (o : Outcome) (rest pieces : Said) → rest ≡ pieces
@@ -25,11 +28,11 @@ setup_case false false rows (Failed fault) rest pieces h = refl
 setup_case false false rows o rest pieces h = refl
 
 -- the setups
-pub setups_are : (items : List HistItem) (count k : ℕ) (ss : List ℕ) → in_turn count k (map (setup_says items) ss) ≡ setups_say items count k ss
+pub setups_are : (items : List HistItem) (count k : ℕ) (ss : List ℕ) → in_turn count k (map (setup_turn items) ss) ≡ setups_say items count k ss
 setups_are items count k [] = refl
 setups_are items count k (s ∷ ss) =
     let last = last_outcome (segment items k) in
-    setup_case (nat_le count k) (went_well items k s) (rows_text last) last (in_turn count (k + 1) (map (setup_says items) ss)) (setups_say items count (k + 1) ss) (setups_are items count (k + 1) ss)
+    setup_case (nat_le count k) (went_well items k s) (rows_text last) last (in_turn count (k + 1) (map (setup_turn items) ss)) (setups_say items count (k + 1) ss) (setups_are items count (k + 1) ss)
 
 leave_case : (gone : Bool) (rest pieces : Said) → rest ≡ pieces → (gone ≡ true → pieces ≡ says []) → (if gone then says [] else (says [] >> rest)) ≡ pieces
 leave_case true rest pieces h none = sym (none refl)
@@ -42,20 +45,23 @@ teardown_case false true a b rest pieces k h = ap (λ (s : Said). a >> s) (h (k 
 teardown_case false false a b rest pieces k h = ap (λ (s : Said). b >> s) (h (k + 2))
 
 -- the teardowns and the Leaves
-pub teardowns_are : (sessions : List SessionTree) (items : List HistItem) (count k : ℕ) (ts : List (Option ℕ)) → in_turn count k (map (teardown_says sessions items) ts) ≡ teardowns_say sessions items count k ts
+pub teardowns_are : (sessions : List SessionTree) (items : List HistItem) (count k : ℕ) (ts : List (Option ℕ)) → in_turn count k (map (teardown_turn sessions items) ts) ≡ teardowns_say sessions items count k ts
 teardowns_are sessions items count k [] = refl
 teardowns_are sessions items count k (None ∷ ts) =
-    leave_case (nat_le count k) (in_turn count (k + 1) (map (teardown_says sessions items) ts)) (teardowns_say sessions items count (k + 1) ts) (teardowns_are sessions items count (k + 1) ts)
+    leave_case (nat_le count k) (in_turn count (k + 1) (map (teardown_turn sessions items) ts)) (teardowns_say sessions items count (k + 1) ts) (teardowns_are sessions items count (k + 1) ts)
     (λ gone. let past : count ≤ k + 1 = grind arith in none_there sessions items count (k + 1) ts past)
 teardowns_are sessions items count k (Some session ∷ ts) =
-    teardown_case (nat_le count k) (is_over items k session) _ _ (λ j. in_turn count j (map (teardown_says sessions items) ts)) (λ j. teardowns_say sessions items count j ts) k (λ j. teardowns_are sessions items count j ts)
+    teardown_case (nat_le count k) (is_over items k session) _ _ (λ j. in_turn count j (map (teardown_turn sessions items) ts)) (λ j. teardowns_say sessions items count j ts) k (λ j. teardowns_are sessions items count j ts)
 
-pub permutation_is : (spec : SpecTree) (entries : List EntryTree) (items : List HistItem) → permutation_says spec entries items ≡ all_says spec (permutation_run entries items (length (setups_of spec)))
-unfolding permutation_says all_says
-permutation_is spec entries items =
+turns_are : (spec : SpecTree) (entries : List EntryTree) (items : List HistItem) → permutation_in_turn spec entries items ≡ all_says spec (permutation_run entries items (length (setup_numbers spec)))
+unfolding permutation_in_turn all_says
+turns_are spec entries items =
     let start = starting_text spec entries in
     let n = orders items in
-    let k = length (setups_of spec) + length entries in
-    let told = entries_say spec (permutation_run entries items (length (setups_of spec))) (n - length (setups_of spec)) in
-    ap (λ (s : Said). says start >> s >> told >> in_turn n k (map (teardown_says spec.sessions items) (teardowns_of spec))) (setups_are items n 0 (setups_of spec))
-    ∙ ap (λ (s : Said). says start >> setups_say items n 0 (setups_of spec) >> told >> s) (teardowns_are spec.sessions items n k (teardowns_of spec))
+    let k = length (setup_numbers spec) + length entries in
+    let told = entries_say spec (permutation_run entries items (length (setup_numbers spec))) (n - length (setup_numbers spec)) in
+    ap (λ (s : Said). says start >> s >> told >> in_turn n k (map (teardown_turn spec.sessions items) (teardown_numbers spec))) (setups_are items n 0 (setup_numbers spec))
+    ∙ ap (λ (s : Said). says start >> setups_say items n 0 (setup_numbers spec) >> told >> s) (teardowns_are spec.sessions items n k (teardown_numbers spec))
+
+pub permutation_is : (spec : SpecTree) (entries : List EntryTree) (items : List HistItem) → permutation_says spec entries items ≡ all_says spec (permutation_run entries items (length (setup_numbers spec)))
+permutation_is spec entries items = permutation_turn spec entries items ∙ turns_are spec entries items

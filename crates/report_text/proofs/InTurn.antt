@@ -5,8 +5,8 @@ use Rattle.session_machine.specs.declared.reply.HistItem.{HistItem}
 use Rattle.spec_parser.specs.Trees.{SessionTree, SpecTree}
 use Rattle.report_lines.specs.Due.{is_over}
 use Rattle.report_text.specs.Said.{Said, whole, says, ◌>>◌}
-use Rattle.report_text.specs.Setups.{session_numbers}
-use Rattle.report_text.specs.Teardowns.{teardowns_of}
+use Rattle.report_text.specs.Turns.{session_numbers}
+use Rattle.report_text.specs.Turns.{teardown_numbers}
 use Rattle.report_text.specs.Inner.Teardowns.{teardown_said, teardowns_say, TeardownsSaid, behind, teardown_first, teardowns_from, teardowns_in_turn}
 use Rattle.report_text.proofs.Saying.{after_whole}
 
@@ -75,7 +75,7 @@ last true sessions items count k =
     ∙ ap (λ (l : List ℕ). let x : Said = record { text = t.text; notes = l; ending = whole } in x) (append-nil t.notes)
 last false sessions items count k = refl
 
-pub told : (spec : SpecTree) (items : List HistItem) (count k : ℕ) → teardowns_say spec.sessions items count k (teardowns_of spec) ≡ teardowns_in_turn spec items count k
+pub told : (spec : SpecTree) (items : List HistItem) (count k : ℕ) → teardowns_say spec.sessions items count k (teardown_numbers spec) ≡ teardowns_in_turn spec items count k
 told spec items count k =
     let numbers = session_numbers (λ s. s.teardown) spec.sessions in
     let first = teardowns_from spec.sessions items count k numbers in

@@ -4,3 +4,4 @@ pub mod InTurn
 pub mod Blocks
 pub mod Counting
 pub mod FreeSaying
+pub mod Ordered

@@ -8,9 +8,10 @@ use Rattle.report_lines.specs.Due.{went_well}
 use Rattle.report_lines.specs.Report.{report}
 use Rattle.report_lines.specs.declared.history.RunState.{RunState}
 use Rattle.report_lines.specs.declared.history.RunState.TheVariants.{Due, Whole, Invalid}
-use Rattle.report_text.specs.Said.{Ending, whole, Said, says, is_whole, ◌>>◌}
+use Rattle.report_text.specs.Said.{Ending, whole, invalid, setup_failed, setup_waits, too_many, Said, says, ◌>>◌}
+use Rattle.report_text.specs.Turns.{is_whole}
 use Rattle.report_text.specs.Inner.Permutation.{setups_say, entries_say}
-use Rattle.report_text.specs.Permutation.{state_says}
+use Rattle.report_text.specs.Turns.{state_says}
 use Rattle.report_text.specs.Answers.{ending_of}
 use Rattle.report_text.specs.declared.fault.Ending.{Ending as Found}
 use Rattle.report_text.specs.declared.fault.Ending.TheVariants as found
@@ -18,8 +19,15 @@ use Rattle.report_text.specs.declared.fault.Ending.TheVariants as found
 pub after_whole : (a b : Said) → a.ending ≡ whole → (a >> b) ≡ record { text = a.text ++ b.text; notes = a.notes ++ b.notes; ending = b.ending }
 after_whole a b e = rw e refl
 
+end_case : (text notes : List ℕ) (ending : Ending) (b : Said) → is_whole ending ≡ false → (let a : Said = record { text = text; notes = notes; ending = ending } in (a >> b) ≡ a)
+end_case text notes whole b h = cc
+end_case text notes invalid b h = refl
+end_case text notes (setup_failed why) b h = refl
+end_case text notes setup_waits b h = refl
+end_case text notes too_many b h = refl
+
 pub at_end : (a b : Said) → is_whole a.ending ≡ false → (a >> b) ≡ a
-at_end a b e = rw e refl
+at_end a b e = end_case a.text a.notes a.ending b e
 
 -- setups that are not there say nothing
 pub setups_gone : (items : List HistItem) (count k : ℕ) (ss : List ℕ) → count ≤ k → setups_say items count k ss ≡ says []

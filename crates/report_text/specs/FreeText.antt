@@ -14,8 +14,9 @@ use Rattle.report_lines.specs.Due.{orders}
 use Rattle.report_text.specs.declared.standing.Standing.{Standing}
 use Rattle.report_text.specs.Replies.{outcome_text}
 use Rattle.report_text.specs.LineText.{step_name, step_sql}
-use Rattle.report_text.specs.Said.{Said, in_turn}
-use Rattle.report_text.specs.Setups.{setups_of, setup_says}
+use Rattle.report_text.specs.Said.{Said}
+use Rattle.report_text.specs.Turns.{in_turn}
+use Rattle.report_text.specs.Turns.{setup_numbers, setup_turn}
 use Rattle.report_text.specs.Teardowns.{failure_note}
 
 -- ---- where a session stands: its block, and which of that block's statements comes next, from 1
@@ -103,5 +104,5 @@ unfoldable pub free_says : SpecTree → List HistItem → Said
 free_says spec items = record {
   text = codes "\nstarting free run\n" ++ each_says (item_text spec.sessions) [] items;
   notes = each_says (item_note spec) [] items;
-  ending = (in_turn (orders items) 0 (map (setup_says items) (setups_of spec))).ending;
+  ending = (in_turn (orders items) 0 (map (setup_turn items) (setup_numbers spec))).ending;
 }

@@ -6,12 +6,12 @@ use Rattle.spec_parser.specs.Trees.{StepTree, SpecTree}
 use Rattle.spec_parser.specs.Numbered.{step_of_entry}
 use Rattle.report_lines.specs.declared.history.Line.{Line}
 use Rattle.report_lines.specs.declared.history.Line.TheVariants.{AtOnce, Waiting, Completed}
-use Rattle.report_lines.specs.History.{PermutationRun, session_of_entry, seen_before}
+use Rattle.report_lines.specs.History.{PermutationRun, entry_at, seen_before}
 use Rattle.report_text.specs.Replies.{replies_text}
 
 -- the replies to an entry's block that are among so many items
 abbrev pub entry_replies : PermutationRun → ℕ → ℕ → List ℕ
-entry_replies c i seen = replies_text (session_of_entry c i) (slice_range c.items (seen_before c i) seen)
+entry_replies c i seen = replies_text (entry_at c i).session (slice_range c.items (seen_before c i) seen)
 
 abbrev pub step_name : StepTree → List ℕ
 step_name s = codes "step " ++ decoded s.name ++ codes ": "

@@ -1,5 +1,5 @@
 -- What a permutation's report says, piece by piece, and the run of a file's permutations.
-use Rattle.std.specs.Prelude.{ℕ, ◌+◌, nat_le, Bool, true, false, List, [], ◌∷◌, ◌++◌, if◌then◌else◌}
+use Rattle.std.specs.Prelude.{ℕ, List, [], ◌++◌}
 
 -- how a report or a run ends: after all that it has to say; where the permutation is found invalid; at a setup that fails, with its text; at one that waits; where one more
 -- permutation is there than may run
@@ -23,16 +23,7 @@ only_ends ending = record { text = []; notes = []; ending = ending }
 abbrev pub says : List ℕ → Said
 says text = record { text = text; notes = []; ending = whole }
 
-abbrev pub is_whole : Ending → Bool
-is_whole whole = true
-is_whole _ = false
-
 -- one thing and then another, unless the first ends the report
 infixr 10 ◌>>◌
 abbrev pub ◌>>◌ : Said → Said → Said
-a >> b = if is_whole a.ending then record { text = a.text ++ b.text; notes = a.notes ++ b.notes; ending = b.ending } else a
-
--- blocks one after another, from a segment on, of which so many segments are there: each has what it says of its segment, and how many segments it takes
-abbrev pub in_turn : ℕ → ℕ → List (ℕ → Said × ℕ) → Said
-in_turn count k [] = says []
-in_turn count k (block ∷ blocks) = if nat_le count k then says [] else (block k).0 >> in_turn count (k + (block k).1) blocks
+a >> b = elim a.ending [ whole ↦ record { text = a.text ++ b.text; notes = a.notes ++ b.notes; ending = b.ending } | _ ↦ a ]

@@ -1,9 +1,11 @@
 -- What teardowns say.
-use Rattle.std.specs.Prelude.{ℕ, List, [], ◌∷◌, ◌++◌, length, map, replicate, codes, Option, Some, None, is_some, if◌then◌else◌}
+use Rattle.std.specs.Prelude.{ℕ, List, [], ◌++◌, codes, if◌then◌else◌}
 use Rattle.std.specs.Option.{option_map_or}
 use Rattle.iso_lexer.specs.Names.{decoded}
-use Rattle.spec_parser.specs.Trees.{SessionTree, SpecTree}
+use Rattle.spec_parser.specs.Trees.{SessionTree}
 use Rattle.spec_parser.specs.Numbered.{session_numbered}
+use Rattle.session_machine.specs.declared.event.Order.{Order}
+use Rattle.session_machine.specs.declared.event.Order.TheVariants.{Launch}
 use Rattle.session_machine.specs.declared.reply.HistItem.{HistItem}
 use Rattle.session_machine.specs.declared.reply.Outcome.{Outcome}
 use Rattle.session_machine.specs.declared.reply.Outcome.TheVariants.{Failed}
@@ -11,9 +13,6 @@ use Rattle.report_lines.specs.Due.{segment, is_over}
 use Rattle.report_text.specs.FaultText.{fault_text}
 use Rattle.report_text.specs.Replies.{rows_text, last_outcome}
 use Rattle.report_text.specs.Said.{Said, says}
-use Rattle.report_text.specs.Setups.{session_numbers}
-
--- ---- notes
 
 abbrev pub of_session : SessionTree → List ℕ
 of_session s = codes " of session " ++ decoded s.name
@@ -26,17 +25,11 @@ abbrev pub failure_note : List SessionTree → ℕ → Outcome → List ℕ
 failure_note sessions session (Failed fault) = note sessions session (fault_text fault)
 failure_note sessions session _ = []
 
--- ---- what they say
-
--- what comes behind the entries: the teardowns of sessions, by their numbers from 1; a Leave of each session, for which None stands; and with 0 the teardown of the whole file
-abbrev pub teardowns_of : SpecTree → List (Option ℕ)
-teardowns_of spec = map Some (session_numbers (λ s. s.teardown) spec.sessions) ++ replicate (length spec.sessions) None ++ (if is_some spec.teardown then Some 0 ∷ [] else [])
-
--- a Leave says nothing; a teardown that is over says the table of its last reply, with a note if that is a failure; of one that isn't there is a note that it would wait,
--- and behind it a Leave of its own
-abbrev pub teardown_says : List SessionTree → List HistItem → Option ℕ → ℕ → Said × ℕ
-teardown_says sessions items None k = (says [], 1)
-teardown_says sessions items (Some session) k =
+-- The order of this number is a teardown's, or a Leave, which says nothing. A teardown that is over says the table of its last reply, with a note if that is a failure; of one that
+-- isn't there is a note that it would wait.
+abbrev pub teardown_says : List SessionTree → List HistItem → ℕ → Order → Said
+teardown_says sessions items k (Launch session block) =
     let last = last_outcome (segment items k) in
-    if is_over items k session then (record (says (rows_text last)) { notes = failure_note sessions session last }, 1)
-    else (record (says []) { notes = note sessions session (codes "would wait") }, 2)
+    if is_over items k session then record (says (rows_text last)) { notes = failure_note sessions session last }
+    else record (says []) { notes = note sessions session (codes "would wait") }
+teardown_says sessions items k _ = says []

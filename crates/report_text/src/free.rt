@@ -4,7 +4,7 @@ ghost use Rattle.std.specs.Prelude.{◌≡◌, ◌++◌, [], map, OnOk, IfOk};
 ghost use Rattle.iso_lexer.specs.Devices.{page_text};
 ghost use Rattle.spec_parser.specs.Trees.{session_view, spec_view};
 ghost use Rattle.report_lines.specs.Due.{orders};
-ghost use Rattle.report_text.specs.Setups.{setups_of};
+ghost use Rattle.report_text.specs.Turns.{setup_numbers};
 ghost use Rattle.report_text.specs.Inner.Permutation.{setups_say};
 ghost use Rattle.report_text.specs.FreeText.{item_text, item_note, each_says, free_says};
 ghost use Rattle.report_text.specs.Answers.{ending_of, EndsAs, Puts, TellsFailure};
@@ -56,7 +56,7 @@ fn setups_ending(
     spec: &Spec<'_>,
     items: &[HistItem<'_>],
 ) -> Result<Ending, AllocError>
-    ensures { IfOk result (λ ending. ending_of ending ≡ (setups_say items.now (orders items.now) 0 (setups_of (spec_view spec.now))).ending) }
+    ensures { IfOk result (λ ending. ending_of ending ≡ (setups_say items.now (orders items.now) 0 (setup_numbers (spec_view spec.now))).ending) }
 {
     let setups = setups_of(alloc, spec)?;
     let no_entries = Vec::new(alloc);

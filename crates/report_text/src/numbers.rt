@@ -2,7 +2,7 @@
 
 ghost use Rattle.std.specs.Prelude.{◌≡◌, ◌++◌, ◌∷◌, [], map, OnOk, IfOk, if◌then◌else◌};
 ghost use Rattle.spec_parser.specs.Trees.{session_view, spec_view};
-ghost use Rattle.report_text.specs.Setups.{session_numbers, setups_of};
+ghost use Rattle.report_text.specs.Turns.{session_numbers, setup_numbers};
 
 use spec_parser::{SessionPart, Spec};
 use std::alloc::{AllocError, Global};
@@ -36,7 +36,7 @@ fn add_teardowns(numbers: &mut Vec<usize>, sessions: &[SessionPart<'_>]) -> Resu
 
 /// The sessions of the setups, in their order.
 pub fn setups_of(alloc: Global, spec: &Spec<'_>) -> Result<Vec<usize>, AllocError>
-    ensures { IfOk result (λ numbers. numbers.items ≡ setups_of (spec_view spec.now)) }
+    ensures { IfOk result (λ numbers. numbers.items ≡ setup_numbers (spec_view spec.now)) }
 {
     let mut numbers = Vec::new(alloc);
     numbers.resize(spec.setups.len(), 0)?;

@@ -6,8 +6,9 @@ ghost use Rattle.spec_parser.specs.Trees.{entry_view, spec_view};
 ghost use Rattle.report_lines.specs.Due.{orders};
 ghost use Rattle.report_text.specs.Steps.{starting_text};
 ghost use Rattle.report_text.specs.LineText.{line_text};
-ghost use Rattle.report_text.specs.Setups.{setups_of};
-ghost use Rattle.report_text.specs.Permutation.{state_says, permutation_says};
+ghost use Rattle.report_text.specs.Turns.{setup_numbers};
+ghost use Rattle.report_text.specs.Permutation.{permutation_says};
+ghost use Rattle.report_text.specs.Turns.{state_says};
 ghost use Rattle.report_text.specs.Inner.Permutation.{setups_say, entries_say, rest_says, all_says};
 ghost use Rattle.report_text.specs.Answers.{ending_of, EndsAs, IsNotMemory, Puts, TellsFailure};
 
@@ -30,10 +31,10 @@ fn push_front(
     run: &PermutationRun<'_>,
     setups: &[usize],
 ) -> Result<Ending, AllocError>
-    requires { setups.now ≡ setups_of (spec_view spec.now) }
+    requires { setups.now ≡ setup_numbers (spec_view spec.now) }
     ensures text { OnOk result (page_text page.new ≡ page_text page.old
-        ++ (starting_text (spec_view spec.now) run.now.entries ++ (setups_say run.now.items (orders run.now.items) 0 (setups_of (spec_view spec.now))).text)) }
-    ensures ending { IfOk result (λ ending. ending_of ending ≡ (setups_say run.now.items (orders run.now.items) 0 (setups_of (spec_view spec.now))).ending) }
+        ++ (starting_text (spec_view spec.now) run.now.entries ++ (setups_say run.now.items (orders run.now.items) 0 (setup_numbers (spec_view spec.now))).text)) }
+    ensures ending { IfOk result (λ ending. ending_of ending ≡ (setups_say run.now.items (orders run.now.items) 0 (setup_numbers (spec_view spec.now))).ending) }
 {
     push_starting(page, spec, run.entries())?;
     push_setups(page, &run.segments(), setups)
@@ -114,7 +115,7 @@ fn push_all(
     setups: &[usize],
 ) -> Result<Ending, AllocError>
     requires orders { orders run.now.items + 2 < 2 ^ 64 }
-    requires setups { setups.now ≡ setups_of (spec_view spec.now) }
+    requires setups { setups.now ≡ setup_numbers (spec_view spec.now) }
     requires count { run.now.setups ≡ length setups.now }
     requires room { length setups.now + length run.now.entries + 1 < 2 ^ 64 }
     ensures text { OnOk result (page_text pages.new.text ≡ page_text pages.old.text ++ (all_says (spec_view spec.now) run.now).text) }

@@ -6,8 +6,10 @@ use Rattle.report_lines.specs.declared.history.Line.TheVariants.{AtOnce, Waiting
 use Rattle.report_lines.specs.declared.history.Moment.{Moment}
 use Rattle.report_lines.specs.declared.lines_so_far.Chosen.{Chosen}
 use Rattle.report_lines.specs.declared.lines_so_far.Chosen.TheVariants.{Joined, Own}
-use Rattle.report_lines.specs.History.{PermutationRun, is_star, markers_of}
-use Rattle.report_lines.specs.Report.{active, is_of, may_report, retry}
+use Rattle.report_lines.specs.History.{PermutationRun}
+use Rattle.report_lines.specs.Walk.{is_star, markers_of}
+use Rattle.report_lines.specs.Report.{active}
+use Rattle.report_lines.specs.Walk.{is_of, may_report, retry}
 
 -- the entries before this one, in order
 abbrev pub instances : ℕ → List ℕ

@@ -9,9 +9,9 @@ use Rattle.report_text.specs.Steps.{starting_text}
 use Rattle.report_text.specs.LineText.{line_text}
 use Rattle.report_text.specs.Replies.{rows_text, last_outcome}
 use Rattle.report_text.specs.Said.{Said, only_ends, says, ◌>>◌}
-use Rattle.report_text.specs.Setups.{setups_of, setup_ending}
-use Rattle.report_text.specs.Teardowns.{teardowns_of}
-use Rattle.report_text.specs.Permutation.{state_says}
+use Rattle.report_text.specs.Turns.{setup_numbers, setup_ending}
+use Rattle.report_text.specs.Turns.{teardown_numbers}
+use Rattle.report_text.specs.Turns.{state_says}
 use Rattle.report_text.specs.Inner.Teardowns.{teardowns_say}
 
 -- the setups from a segment on, of which so many segments are there: the table of each one's last reply, up to one that did not go well
@@ -28,8 +28,8 @@ entries_say spec c count = says (flat_map (line_text spec c) (report c count).li
 
 -- the entries' lines and the teardowns, where so many segments are there
 abbrev pub rest_says : SpecTree → PermutationRun → ℕ → Said
-rest_says spec c count = entries_say spec c (count - c.setups) >> teardowns_say spec.sessions c.items count (c.setups + length c.entries) (teardowns_of spec)
+rest_says spec c count = entries_say spec c (count - c.setups) >> teardowns_say spec.sessions c.items count (c.setups + length c.entries) (teardown_numbers spec)
 
 -- the starting line, the setups, the entries' lines and the teardowns
 unfoldable pub all_says : SpecTree → PermutationRun → Said
-all_says spec c = says (starting_text spec c.entries) >> setups_say c.items (orders c.items) 0 (setups_of spec) >> rest_says spec c (orders c.items)
+all_says spec c = says (starting_text spec c.entries) >> setups_say c.items (orders c.items) 0 (setup_numbers spec) >> rest_says spec c (orders c.items)

@@ -5,7 +5,7 @@ use Rattle.session_machine.specs.declared.reply.HistItem.{HistItem}
 use Rattle.spec_parser.specs.Trees.{entry_view, spec_view}
 use Rattle.report_lines.specs.Due.{orders}
 use Rattle.report_text.specs.Said.{Said, whole}
-use Rattle.report_text.specs.Teardowns.{teardowns_of}
+use Rattle.report_text.specs.Turns.{teardown_numbers}
 use Rattle.report_text.specs.Inner.Teardowns.{teardowns_say, teardowns_in_turn}
 use Rattle.report_text.specs.Inner.Permutation.{entries_say}
 use Rattle.report_text.specs.Answers.{ending_of}
@@ -18,7 +18,7 @@ returns-in_ok-push_teardowns-in-Whole-clause-text c =
     let spec = spec_view c.args.spec.now in
     let run = c.args.run.now in
     let said = entries_say spec run (orders run.items - run.setups) in
-    let rest = teardowns_say spec.sessions run.items (orders run.items) (run.setups + length run.entries) (teardowns_of spec) in
+    let rest = teardowns_say spec.sessions run.items (orders run.items) (run.setups + length run.entries) (teardown_numbers spec) in
     let well : said.ending ≡ whole = sym c.in_ok-early.ensures.ending ∙ ap ending_of c.in-Whole.is in
     let long : length c.entries.result.now ≡ length run.entries = sym (length-map c.entries.result.now entry_view) ∙ ap length c.entries.ensures in
     let from : c.args.setups + length c.entries.result.now ≡ run.setups + length run.entries = omega (arith, c.requires.setups, long) in
@@ -37,7 +37,7 @@ returns-in_ok-push_teardowns-in-Whole-clause-notes c =
     let spec = spec_view c.args.spec.now in
     let run = c.args.run.now in
     let said = entries_say spec run (orders run.items - run.setups) in
-    let rest = teardowns_say spec.sessions run.items (orders run.items) (run.setups + length run.entries) (teardowns_of spec) in
+    let rest = teardowns_say spec.sessions run.items (orders run.items) (run.setups + length run.entries) (teardown_numbers spec) in
     let well : said.ending ≡ whole = sym c.in_ok-early.ensures.ending ∙ ap ending_of c.in-Whole.is in
     let long : length c.entries.result.now ≡ length run.entries = sym (length-map c.entries.result.now entry_view) ∙ ap length c.entries.ensures in
     let from : c.args.setups + length c.entries.result.now ≡ run.setups + length run.entries = omega (arith, c.requires.setups, long) in
@@ -55,6 +55,6 @@ returns-in_ok-push_teardowns-in-Whole-clause-ending c =
     let spec = spec_view c.args.spec.now in
     let run = c.args.run.now in
     let said = entries_say spec run (orders run.items - run.setups) in
-    let rest = teardowns_say spec.sessions run.items (orders run.items) (run.setups + length run.entries) (teardowns_of spec) in
+    let rest = teardowns_say spec.sessions run.items (orders run.items) (run.setups + length run.entries) (teardown_numbers spec) in
     let well : said.ending ≡ whole = sym c.in_ok-early.ensures.ending ∙ ap ending_of c.in-Whole.is in
     ending_after said rest well (ap (λ (t : Said). t.ending) (told spec run.items (orders run.items) (run.setups + length run.entries)))

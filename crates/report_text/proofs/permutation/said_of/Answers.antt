@@ -2,7 +2,7 @@ use Rattle.std.proofs.Common.{◌≡◌, ℕ, ◌++◌, length, sym, ap, ◌∙�
 use Rattle.std.specs.Prelude.{map}
 use Rattle.report_lines.specs.History.{PermutationRun}
 use Rattle.spec_parser.specs.Trees.{entry_view, spec_view}
-use Rattle.report_text.specs.Setups.{setups_of}
+use Rattle.report_text.specs.Turns.{setup_numbers}
 use Rattle.report_text.specs.Said.{Said}
 use Rattle.report_text.specs.Inner.Permutation.{all_says}
 use Rattle.report_text.proofs.Counting.{orders-le}
@@ -17,7 +17,7 @@ push_all-requires-clause-orders c =
 
 pub returns-clause-text : goal.returns-clause-text
 returns-clause-text c =
-    let count : c.len.result ≡ length (setups_of (spec_view c.args.spec.now)) = c.len.ensures ∙ sym c.deref.ensures.len ∙ ap length (c.deref.ensures.value ∙ c.in_ok-setups.ensures) in
+    let count : c.len.result ≡ length (setup_numbers (spec_view c.args.spec.now)) = c.len.ensures ∙ sym c.deref.ensures.len ∙ ap length (c.deref.ensures.value ∙ c.in_ok-setups.ensures) in
     let run = c.in_ok-run.ensures ∙ ap (λ (n : ℕ). permutation_run (map entry_view c.args.entries.now) c.args.items.now n) count in
     c.in_ok-ending.ensures.text
     ∙ ap (λ l. l ++ (all_says (spec_view c.args.spec.now) c.in_ok-run.run').text) c.new-pages.ensures.text
@@ -26,7 +26,7 @@ returns-clause-text c =
 
 pub returns-clause-notes : goal.returns-clause-notes
 returns-clause-notes c =
-    let count : c.len.result ≡ length (setups_of (spec_view c.args.spec.now)) = c.len.ensures ∙ sym c.deref.ensures.len ∙ ap length (c.deref.ensures.value ∙ c.in_ok-setups.ensures) in
+    let count : c.len.result ≡ length (setup_numbers (spec_view c.args.spec.now)) = c.len.ensures ∙ sym c.deref.ensures.len ∙ ap length (c.deref.ensures.value ∙ c.in_ok-setups.ensures) in
     let run = c.in_ok-run.ensures ∙ ap (λ (n : ℕ). permutation_run (map entry_view c.args.entries.now) c.args.items.now n) count in
     c.in_ok-ending.ensures.notes
     ∙ ap (λ l. l ++ (all_says (spec_view c.args.spec.now) c.in_ok-run.run').notes) c.new-pages.ensures.notes
@@ -35,7 +35,7 @@ returns-clause-notes c =
 
 pub returns-clause-ending : goal.returns-clause-ending
 returns-clause-ending c =
-    let count : c.len.result ≡ length (setups_of (spec_view c.args.spec.now)) = c.len.ensures ∙ sym c.deref.ensures.len ∙ ap length (c.deref.ensures.value ∙ c.in_ok-setups.ensures) in
+    let count : c.len.result ≡ length (setup_numbers (spec_view c.args.spec.now)) = c.len.ensures ∙ sym c.deref.ensures.len ∙ ap length (c.deref.ensures.value ∙ c.in_ok-setups.ensures) in
     let run = c.in_ok-run.ensures ∙ ap (λ (n : ℕ). permutation_run (map entry_view c.args.entries.now) c.args.items.now n) count in
     c.in_ok-ending.ensures.ending ∙ ap (λ (s : PermutationRun). (all_says (spec_view c.args.spec.now) s).ending) run
     ∙ ap (λ (s : Said). s.ending) (sym (permutation_is (spec_view c.args.spec.now) (map entry_view c.args.entries.now) c.args.items.now))

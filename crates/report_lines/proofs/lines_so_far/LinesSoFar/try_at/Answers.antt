@@ -1,5 +1,6 @@
 use Rattle.std.proofs.Common.{◌≡◌, ◌<◌, ◌&&◌, true, false, Some, slice_get, length, sym, ◌∙◌, ap, arith}
-use Rattle.report_lines.specs.Report.{active, may_report}
+use Rattle.report_lines.specs.Report.{active}
+use Rattle.report_lines.specs.Walk.{may_report}
 use Rattle.report_lines.specs.SoFar.{LinesSoFar}
 use Rattle.report_lines.specs.Inner.Trying.{is_chosen, retried_from}
 use Rattle.report_lines.proofs.Passes.{try_reports, try_fewer, try_passes, waits_below}
