@@ -12,7 +12,8 @@ use Rattle.row_versions.specs.declared.write.View.{View}
 use Rattle.row_versions.specs.declared.write.Seen.{Seen}
 use Rattle.row_versions.specs.declared.write.Fate.{Fate}
 use Rattle.row_versions.specs.declared.write.Fate.TheVariants.{RolledBack, Committed, Open as OpenFate}
-use Rattle.row_versions.specs.Log.{Content, commit_count, fate_of, is_committed, has_committed, values_at}
+use Rattle.row_versions.specs.Log.{Content, commit_count, fate_of, has_committed, values_at}
+use Rattle.row_versions.specs.Inner.Searching.{is_committed}
 use Rattle.row_versions.specs.View.{sees, committed_before}
 use Rattle.row_versions.specs.Rows.{rows_of}
 use Rattle.row_versions.specs.Laws.{IsShown}

@@ -17,9 +17,11 @@ use Rattle.row_versions.specs.declared.write.View.{View}
 use Rattle.row_versions.specs.declared.write.Seen.{Seen}
 use Rattle.row_versions.specs.declared.write.Fate.{Fate}
 use Rattle.row_versions.specs.declared.write.Fate.TheVariants.{Open as OpenFate}
-use Rattle.row_versions.specs.Log.{Content, fate_of, is_committed, has_committed, values_at, next_tx, after_begin}
+use Rattle.row_versions.specs.Log.{Content, fate_of, has_committed, values_at, next_tx, after_begin}
+use Rattle.row_versions.specs.Inner.Searching.{is_committed}
 use Rattle.row_versions.specs.View.{sees, committed_before}
-use Rattle.row_versions.specs.Rows.{replaces, rows_from}
+use Rattle.row_versions.specs.Inner.Searching.{rows_from}
+use Rattle.row_versions.specs.Inner.Searching.{replaces}
 use Rattle.row_versions.proofs.Gets.{get-append_left}
 use Rattle.session_machine.specs.declared.session.OpenTransaction.{OpenTransaction}
 use Rattle.session_machine.specs.declared.session.Transaction.{Transaction}

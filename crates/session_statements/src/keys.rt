@@ -1,7 +1,8 @@
 //! Keys: what stops a statement that is about to write a row (PostgreSQL manual, 5.5.3).
 
 ghost use Rattle.std.specs.Prelude.{◌≡◌, ◌<◌, ◌++◌, ◌∷◌, List, length, map, option_map, IfOk};
-ghost use Rattle.sql_trees.specs.Statements.{column_of, key_name, key_of, name_of, underscored};
+ghost use Rattle.sql_trees.specs.Statements.{column_of, key_name, key_of, name_of};
+ghost use Rattle.sql_trees.specs.Inner.KeyNames.{underscored};
 ghost use Rattle.row_versions.specs.declared.names.TxId.{TxId as TxFacts};
 ghost use Rattle.row_versions.specs.Log.{IsOpen};
 ghost use Rattle.row_locks.specs.Cycles.{closes};

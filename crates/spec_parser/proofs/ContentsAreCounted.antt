@@ -12,7 +12,8 @@ use Rattle.iso_lexer.specs.declared.spec_token.Keyword.{Keyword}
 use Rattle.iso_lexer.specs.declared.spec_token.Keyword.TheVariants.{Permutation, Session, Setup, Step, Teardown}
 use Rattle.iso_lexer.specs.declared.spec_token.Sign.TheVariants.{Open, Close, Comma, Star}
 use Rattle.iso_lexer.specs.declared.runs.Run.TheVariants.{Blanks}
-use Rattle.iso_lexer.specs.Bytes.{passes as passes_run, is_blank, run_of, trimmed}
+use Rattle.iso_lexer.specs.Bytes.{is_blank}
+use Rattle.iso_lexer.specs.Inner.Runs.{passes as passes_run, run_of, trimmed}
 use Rattle.iso_lexer.specs.SpecTokens.{Token, keyword, name, digits, sign, block}
 use Rattle.iso_lexer.specs.SpecText.{block_of}
 use Rattle.iso_lexer.specs.SpecSpelling.{NameSpells, Spells, LiesAt}

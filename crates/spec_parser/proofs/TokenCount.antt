@@ -4,10 +4,10 @@ use Rattle.std.specs.Prelude.{◌^◌, slice_range}
 use Rattle.std.specs.List.{AllByRecursion}
 use Rattle.std.proofs.lemmas.List.{length-map}
 use Rattle.std.specs.List.{prefix_len}
-use Rattle.iso_lexer.specs.Bytes.{passes as passes_run}
+use Rattle.iso_lexer.specs.Inner.Runs.{passes as passes_run}
 use Rattle.iso_lexer.specs.declared.token.At.{At}
 use Rattle.iso_lexer.specs.declared.spec_token.SpecTok.{SpecTok}
-use Rattle.iso_lexer.specs.Bytes.{run_of}
+use Rattle.iso_lexer.specs.Inner.Runs.{run_of}
 use Rattle.iso_lexer.specs.declared.runs.Run.TheVariants.{Blanks}
 use Rattle.iso_lexer.specs.SpecTokens.{Token, keyword, name, digits, sign, block, at_view, at_views}
 use Rattle.iso_lexer.specs.SpecText.{block_of}

@@ -5,35 +5,28 @@ use denote.Enum.Bare.{sameb}
 use Rattle.iso_lexer.specs.declared.sql_token.SqlSign.{SqlSign}
 use Rattle.iso_lexer.specs.declared.sql_token.SqlSign.TheVariants as signs
 use Rattle.iso_lexer.specs.contracts.sql_token.SqlSign.{the_type}
+pub use Rattle.iso_lexer.specs.Readers.{◌>>=◌, gives, place_of}
+use Rattle.iso_lexer.specs.Readers.{ReaderOf}
+use Rattle.iso_lexer.specs.Results.{if_ok}
 use Rattle.sql_trees.specs.declared.fault.SqlFault.{SqlFault}
 use Rattle.sql_trees.specs.declared.fault.SqlFault.TheVariants.{Syntax, LeftOut}
 use Rattle.sql_trees.specs.declared.word.Word.{Word}
 use Rattle.sql_trees.specs.Words.{is_left_out, same_word}
 use Rattle.sql_trees.specs.Tokens.{Token, Tokens, named}
 use Rattle.sql_trees.specs.Tokens as tok
-use Rattle.sql_expressions.specs.Results.{◌>>=◌ as and_then}
 
-infixr 10 ◌>>=◌
 infixr 10 ◌>>◌
 -- what reads a value: it answers the value and the tokens behind it, or the first fault
 abbrev pub Reader : Type 0 → Type 0
-Reader X = Tokens → Result (X × Tokens) SqlFault
-
--- One reader, and behind it the one that its value chooses. A do block has a line for each; there (← r) is the value that r reads, behind those before it.
-abbrev pub ◌>>=◌ : {X Y : Type 0} → Reader X → (X → Reader Y) → Reader Y
-◌>>=◌ first next ts = and_then (first ts) (λ x. next x.0 x.1)
+Reader X = ReaderOf Tokens SqlFault X
 
 -- what has to stand next, and a reader behind it
 abbrev pub ◌>>◌ : {X : Type 0} → (Tokens → Result Tokens SqlFault) → Reader X → Reader X
-◌>>◌ pass reader ts = and_then (pass ts) reader
-
--- this value, for which nothing is read
-abbrev pub gives : {X : Type 0} → X → Reader X
-gives x ts = Ok (x, ts)
+◌>>◌ pass reader ts = if_ok (pass ts) reader
 
 -- what is made of the value that is read
 abbrev pub made : {X Y : Type 0} → (X → Y) → Reader X → Reader Y
-made make reader ts = and_then (reader ts) (λ x. Ok (make x.0, x.1))
+made make reader ts = if_ok (reader ts) (λ x. Ok (make x.0, x.1))
 
 -- ---- the first token
 
@@ -88,11 +81,6 @@ items_at add s ts = (add s >>= more_at add (length ts)) ts
 -- ---- with the text's length
 
 module _ (last : ℕ) where
-  -- where the first token stands
-  abbrev pub place_of : Tokens → ℕ
-  place_of [] = last
-  place_of (t ∷ ts) = t.span.start
-
   -- the fault at the first token that no rule allows
   abbrev pub misplaced : Tokens → SqlFault
   misplaced [] = Syntax last
@@ -108,7 +96,7 @@ module _ (last : ℕ) where
 
   -- what is made of what stands before a closing parenthesis
   abbrev pub closed : {X Y : Type 0} → (X → Y) → Reader X → Reader Y
-  closed make reader ts = and_then (reader ts) (λ x. and_then (expect (is_sign signs.Close) x.1) (λ rest. Ok (make x.0, rest)))
+  closed make reader ts = if_ok (reader ts) (λ x. if_ok (expect (is_sign signs.Close) x.1) (λ rest. Ok (make x.0, rest)))
 
   -- a name
   abbrev pub name_at : Reader (List ℕ)

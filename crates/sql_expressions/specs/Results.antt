@@ -1,12 +1,13 @@
 -- What reading answers: a value, or the first fault.
 use Rattle.std.specs.Prelude.{◌≡◌, Result, Ok, Err}
+use Rattle.iso_lexer.specs.Results.{if_ok}
 use Rattle.sql_trees.specs.declared.fault.SqlFault.{SqlFault}
 use Rattle.sql_trees.specs.declared.fault.SqlFault.TheVariants.{Memory}
 
 infixl 10 ◌>>=◌
+-- what is made of the value, as proofs write it
 abbrev pub ◌>>=◌ : {A B : Type 0} → Result A SqlFault → (A → Result B SqlFault) → Result B SqlFault
-(Ok x) >>= f = f x
-(Err e) >>= f = Err e
+answer >>= f = if_ok answer f
 
 -- What a function returned, seen by view, is what reading gives, unless a growth of memory was refused.
 abbrev pub Fails : {Y : Type 0} → SqlFault → Result Y SqlFault → Type 0

@@ -16,7 +16,8 @@ use Rattle.sql_trees.specs.Tokens.{Token, Tokens, named}
 use Rattle.sql_trees.specs.Tokens as tok
 use Rattle.sql_trees.specs.Trees.{Tree, AggTree}
 use Rattle.sql_expressions.specs.Readers.{misplaced, is_word, is_sign, after}
-use Rattle.sql_expressions.specs.Reading.{Found, agg_kind, expr_at}
+use Rattle.sql_expressions.specs.Reading.{agg_kind, expr_at}
+use Rattle.sql_expressions.specs.Inner.Pieces.{Found}
 use Rattle.sql_expressions.specs.Inner.Pieces.{chain, or_at, and_at, is_at, cmp_at, inn_at, cat_at, add_at, mul_at}
 use Rattle.sql_expressions.specs.Grammar.{Ends, goes_on}
 use Rattle.sql_expressions.proofs.Complete.{expr_complete}

@@ -16,7 +16,8 @@ use Rattle.sql_expressions.specs.declared.level.Opened.TheVariants.{Whole, Negat
 use Rattle.sql_expressions.specs.Build.{negated}
 use Rattle.sql_expressions.specs.Results.{◌>>=◌}
 use Rattle.sql_expressions.specs.Readers.{misplaced, place_of, left_out, is_sign, expect, after}
-use Rattle.sql_expressions.specs.Reading.{Found, is_call, truth_of, product_op, sum_op, concat_op, comparison_op, and_op, or_op, expr_at}
+use Rattle.sql_expressions.specs.Reading.{is_call, truth_of, comparison_op, expr_at}
+use Rattle.sql_expressions.specs.Inner.Pieces.{Found, product_op, sum_op, concat_op, and_op, or_op}
 use Rattle.sql_expressions.specs.Inner.Pieces.{Found_op, Found_list, Reader, leaf, is_and, is_not, is_is, deeper, next_op, join, chain_end, chain_turn, chain_more, chain, list_turn, list_more, list_at, column_at, name_at, is_node, is_of, is_tail, is_from, is_more, parens_at, prim_of, prim_at, sign_at, una_of, una_at, mul_at, add_at, cat_at, in_at, between_at, not_in_of, not_in_at, not_in_from, inn_of, inn_more, inn_at, cmp_more, cmp_at, is_at, negation_at, not_at, and_at, or_at, at_level, inside}
 use Rattle.sql_expressions.proofs.Same.{expr_same}
 

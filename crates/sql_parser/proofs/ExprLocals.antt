@@ -9,7 +9,8 @@ use Rattle.sql_trees.specs.Tokens.{Token, Tokens, named}
 use Rattle.sql_trees.specs.Tokens as tok
 use Rattle.sql_trees.specs.Trees.{Tree, Column, Number}
 use Rattle.sql_expressions.specs.Results.{◌>>=◌}
-use Rattle.sql_expressions.specs.Reading.{Found, expr_at}
+use Rattle.sql_expressions.specs.Reading.{expr_at}
+use Rattle.sql_expressions.specs.Inner.Pieces.{Found}
 use Rattle.sql_expressions.specs.Grammar.{OR, AND, NOT, IS, CMP, INN, CAT, ADD, MUL, UNA, SpellsIn, only, literal, IsLeaf, column, number}
 use Rattle.sql_expressions.specs.Laws.{Spelled, StopsFirst, DeepFirst}
 use Rattle.sql_expressions.proofs.Complete.{expr_complete, spells_starts}

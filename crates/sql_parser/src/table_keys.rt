@@ -2,7 +2,8 @@
 
 ghost use Rattle.std.specs.Prelude.{◌≡◌, ◌<◌, ◌^◌, ◌++◌, ◌&&◌, [], IfOk, length, map, slice_index};
 ghost use Rattle.std.specs.List.{list_any};
-ghost use Rattle.sql_trees.specs.Statements.{underscored, name_of, stmt_of, column_of, key_of};
+ghost use Rattle.sql_trees.specs.Statements.{name_of, stmt_of, column_of, key_of};
+ghost use Rattle.sql_trees.specs.Inner.KeyNames.{underscored};
 ghost use Rattle.sql_trees.specs.Tokens.{tok_views};
 ghost use Rattle.sql_expressions.specs.Results.{Gives};
 ghost use Rattle.sql_blocks.specs.Parts.{column_names};

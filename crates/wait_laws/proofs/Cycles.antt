@@ -13,7 +13,8 @@ use Rattle.row_versions.proofs.Gets.{get-append_left}
 use Rattle.row_locks.specs.declared.held.Strength.{Strength}
 use Rattle.row_locks.specs.declared.held.Held.{Held}
 use Rattle.row_versions.specs.Members.{has, same_tx}
-use Rattle.row_locks.specs.Held.{is_against, holders_against, lock_of_write, released, with_lock}
+use Rattle.row_locks.specs.Held.{holders_against, lock_of_write, released, with_lock}
+use Rattle.row_locks.specs.Inner.Searching.{is_against}
 use Rattle.row_locks.specs.Cycles.{blocks, NoCycle, closes}
 use Rattle.row_locks.proofs.Paths.{run_kept, wait_kept, no_cycle_less}
 use Rattle.row_locks.proofs.Reaching.{or_cases, or_left, or_right, is_same, same_is}

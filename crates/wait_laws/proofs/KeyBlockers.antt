@@ -11,7 +11,8 @@ use Rattle.row_versions.specs.declared.names.RowId.{RowId}
 use Rattle.row_versions.specs.declared.write.Write.{Write}
 use Rattle.row_versions.specs.declared.write.Fate.{Fate}
 use Rattle.row_versions.specs.declared.write.Fate.TheVariants.{RolledBack, Committed, Open as OpenFate}
-use Rattle.row_versions.specs.Log.{Content, IsOpen, commit_count, fate_of, is_committed, has_committed, after_begin, after_write, after_commit, after_roll_back, is_open, is_open_fate}
+use Rattle.row_versions.specs.Log.{Content, IsOpen, commit_count, fate_of, has_committed, after_begin, after_write, after_commit, after_roll_back, is_open, is_open_fate}
+use Rattle.row_versions.specs.Inner.Searching.{is_committed}
 use Rattle.row_versions.proofs.Gets.{get-append_left}
 use Rattle.row_versions.specs.Members.{has, same_tx, is_none_of}
 use Rattle.row_locks.proofs.Reaching.{or_cases, or_left, or_right, and_both, both_and, is_same, same_is}

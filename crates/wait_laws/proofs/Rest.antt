@@ -12,7 +12,8 @@ use Rattle.row_versions.specs.Log.{IsOpen, after_begin, after_write}
 use Rattle.row_versions.proofs.Gets.{get-append_last}
 use Rattle.row_locks.specs.declared.held.Held.{Held}
 use Rattle.row_versions.specs.Members.{has, is_none_of}
-use Rattle.row_locks.specs.Held.{is_against, lock_of_write, with_lock}
+use Rattle.row_locks.specs.Held.{lock_of_write, with_lock}
+use Rattle.row_locks.specs.Inner.Searching.{is_against}
 use Rattle.row_locks.proofs.Against.{some_are_against}
 use Rattle.row_locks.proofs.Reaching.{or_left, and_both, both_and}
 use Rattle.std.specs.List.{list_any}

@@ -7,7 +7,8 @@ use Rattle.row_versions.specs.declared.write.Write.{Write}
 use Rattle.row_versions.specs.declared.write.View.{View}
 use Rattle.row_versions.specs.declared.write.Fate.TheVariants.{Open as OpenFate}
 use Rattle.row_versions.specs.Log.{Content, IsOpen, after_write}
-use Rattle.row_versions.specs.View.{sees, own_before, committed_before}
+use Rattle.row_versions.specs.View.{sees, committed_before}
+use Rattle.row_versions.specs.Inner.Searching.{own_before}
 use Rattle.row_versions.proofs.Gets.{get-append_left}
 use Rattle.row_versions.proofs.Seeing.{other_unseen}
 use Rattle.row_versions.proofs.Shown.{rows-after_write}

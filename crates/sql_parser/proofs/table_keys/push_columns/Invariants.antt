@@ -1,5 +1,5 @@
 use Rattle.std.proofs.Common.{◌≡◌, ◌++◌, length, map}
-use Rattle.sql_trees.specs.Statements.{underscored}
+use Rattle.sql_trees.specs.Inner.KeyNames.{underscored}
 use Rattle.sql_parser.specs.Tables.{placed_names}
 use Rattle.sql_parser.specs.Views.{placed_of}
 use Rattle.sql_parser.proofs.table_keys.push_columns.Given as goal
