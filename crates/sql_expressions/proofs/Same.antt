@@ -20,7 +20,7 @@ use Rattle.sql_expressions.specs.declared.level.Opened.{Opened}
 use Rattle.sql_expressions.specs.declared.level.Opened.TheVariants.{Whole, Negation, Unary}
 use Rattle.sql_expressions.specs.Build.{negated, push}
 use Rattle.sql_expressions.specs.Results.{◌>>=◌, Gives}
-use Rattle.sql_expressions.specs.Readers.{Reader, is_word, is_sign, either, by_first, one_at, gives, added, more_at, items_at, place_of, misplaced, expect, keyword, closed}
+use Rattle.sql_expressions.specs.Readers.{Reader, made, is_word, is_sign, either, by_first, one_at, gives, added, more_at, items_at, place_of, misplaced, expect, keyword, closed}
 use Rattle.sql_expressions.specs.Reading.{Part, trees_in, shallow, node, literal_of, truth_of, agg_kind, operators, comparison_op, opened, expr_at}
 use Rattle.sql_expressions.specs.Reading as reading
 use Rattle.sql_expressions.specs.Inner.Pieces.{Found, Found_list, leaf, is_and, is_not, is_is, deeper, join, found_op, next_op, chain_end, chain_turn, chain_more, chain, list_turn, list_more, list_at, column_at, name_at, is_node, is_of, is_tail, is_more, parens_at, prim_of, prim_at, sign_at, una_of, una_at, mul_at, add_at, cat_at, in_at, between_at, not_in_of, not_in_at, not_in_from, inn_of, inn_more, inn_at, cmp_more, cmp_at, is_at, negation_at, not_at, and_at, or_at, inside}
@@ -297,7 +297,11 @@ module _ (last : ℕ) where
         ap seen (bind_assoc (within Whole place ts) (λ x. node place x.0.depth x.0.tree x.1) shut)
         ∙ then_same (within Whole place ts) (inside' Whole place ts) (λ x. node place x.0.depth x.0.tree x.1 >>= shut) (λ e. deeper place e.depth >>= λ d. expect last (is_sign signs.Close) e.rest >>= λ rest. Ok (record { tree = e.tree; depth = d; rest = rest })) (same Whole place ts) (λ x. shut_same place x.0.depth x.0.tree x.1)
 
-    prim_same : (ts : Tokens) → Same (reading.prim_at last within ts) (prim_at last inside' ts)
+    -- an operand with no sign before it
+    abbrev unsigned_at : Reader Part
+    unsigned_at ts = either (is_sign signs.Open) (closed last (λ e. e) (opened last within Whole (λ e. e) (place_of last ts))) (made (λ e. part e 0) (by_first literal_of gives (reading.column_at last))) ts
+
+    prim_same : (ts : Tokens) → Same (unsigned_at ts) (prim_at last inside' ts)
     prim_same [] = refl
     prim_same (t ∷ ts) = of_tok t.tok (column_same t ts)
       where
@@ -315,7 +319,7 @@ module _ (last : ℕ) where
     una_same [] = prim_same []
     una_same (t ∷ ts) = of_tok t.tok
       where
-        of_tok : (x : Token) → Same (option_map_or (λ make. opened last within Unary make t.span.start ts) (row_of is_sign ((signs.Minus, negated) ∷ (signs.Plus, Plus) ∷ []) x) (reading.prim_at last within (t ∷ ts))) (una_of last inside' x t ts)
+        of_tok : (x : Token) → Same (option_map_or (λ make. opened last within Unary make t.span.start ts) (row_of is_sign ((signs.Minus, negated) ∷ (signs.Plus, Plus) ∷ []) x) (unsigned_at (t ∷ ts))) (una_of last inside' x t ts)
         of_tok (tok.sign signs.Minus) = opened_same Unary negated t.span.start ts
         of_tok (tok.sign signs.Plus) = opened_same Unary Plus t.span.start ts
         of_tok _ = prim_same (t ∷ ts)

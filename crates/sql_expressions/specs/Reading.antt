@@ -102,14 +102,11 @@ module _ (last : ℕ) where
     abbrev pub opened : Opened → (Tree → Tree) → ℕ → Reader Part
     opened level make place = inside level place >>= λ e. node place e.depth (make e.tree)
 
-    -- an expression in parentheses, a literal, or a column
-    abbrev pub prim_at : Reader Part
-    prim_at ts = either (is_sign signs.Open) (closed last (λ e. e) (opened Whole (λ e. e) (place_of last ts)))
-        (made (λ e. record { tree = e; depth = 0 }) (by_first literal_of gives column_at)) ts
-
-    -- the same, or one behind a sign
+    -- an operand: one more behind a sign, an expression in parentheses, a literal, or a column
     abbrev pub una_at : Reader Part
-    una_at ts = by_first (row_of is_sign ((signs.Minus, negated) ∷ (signs.Plus, Plus) ∷ [])) (λ make. opened Unary make (place_of last ts)) prim_at ts
+    una_at ts = by_first (row_of is_sign ((signs.Minus, negated) ∷ (signs.Plus, Plus) ∷ [])) (λ make. opened Unary make (place_of last ts))
+        (either (is_sign signs.Open) (closed last (λ e. e) (opened Whole (λ e. e) (place_of last ts)))
+        (made (λ e. record { tree = e; depth = 0 }) (by_first literal_of gives column_at))) ts
 
     -- operands with what binds tighter than BETWEEN, IN and comparisons: * / %, then + -, then ||
     unfoldable pub cat_at : Reader Part
