@@ -1,5 +1,5 @@
 -- What is read goes over to what stands before: no token is lost.
-use Rattle.std.proofs.Common.{◌≡◌, ℕ, zero, suc, ◌+◌, Bool, true, false, cond, List, [], ◌∷◌, ◌++◌, length, append_assoc, append-nil, Option, Some, None, Result, Ok, Err, refl, sym, ap, subst, ◌∙◌}
+use Rattle.std.proofs.Common.{◌≡◌, ℕ, zero, suc, ◌+◌, Bool, true, false, cond, List, [], ◌∷◌, ◌++◌, length, append_assoc, Option, Some, None, Result, Ok, Err, refl, subst}
 use Rattle.std.specs.Prelude.{nat_le}
 use Rattle.std.specs.Option.{option_map_or}
 use Rattle.iso_lexer.specs.declared.token.At.{At}
@@ -14,9 +14,13 @@ use Rattle.spec_parser.specs.declared.fault.What.TheVariants as what
 use Rattle.spec_parser.specs.declared.fault.SpecFault.{SpecFault}
 use Rattle.spec_parser.specs.declared.fault.SpecFault.TheVariants as faults
 use Rattle.spec_parser.specs.Trees.{PartTree, NameAt, StepOf, SessionOf, MarkerTree, star, named, NamedEntry, FileTree}
-use Rattle.spec_parser.specs.Reading.{Rest, SpecReader, Kind, the_keyword, the_mark, the_name, the_block, count, if_next, many_from, many_of, at_most, expected, one_token, spec_block, maybe_block, step_at, session_at, marker_at, markers_at, entry_at, file_at}
+use Rattle.spec_parser.specs.Reading.{SpecReader, Kind, the_keyword, the_mark, the_name, the_block, count, if_next, many_from, many_of, at_most, expected, one_token, spec_block, maybe_block, step_at, session_at, marker_at, markers_at, entry_at, file_at}
 
--- what stands before, and what is left, are these tokens
+-- the tokens before, and those from here on
+abbrev pub Rest : Type 0
+Rest = List (At Token) × List (At Token)
+
+-- both are these tokens
 abbrev pub Whole : {A : Type 0} → List (At Token) → Result (A × Rest) SpecFault → Type 0
 Whole ts (Ok x) = x.1.0 ++ x.1.1 ≡ ts
 Whole ts (Err e) = Unit {0}

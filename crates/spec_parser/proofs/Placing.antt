@@ -1,6 +1,6 @@
 -- Reading as it is told is reading as the code does it, with the place of a stop put in.
-use Rattle.std.proofs.Common.{◌≡◌, ◌≤◌, ◌<◌, ℕ, zero, suc, ◌+◌, Bool, true, false, cond, List, [], ◌∷◌, ◌++◌, length, take, append_assoc, length-append, Option, Some, None, Result, Ok, Err, refl, sym, ap, ◌∙◌, add-one, arith}
-use Rattle.std.specs.Prelude.{nat_lt, nat_le, unwrap_or, option_map, find, is_some, map, count_by}
+use Rattle.std.proofs.Common.{◌≡◌, ℕ, zero, suc, ◌+◌, Bool, true, false, cond, List, [], ◌∷◌, ◌++◌, length, take, append_assoc, length-append, Option, Some, None, Result, Ok, Err, refl, sym, ap, ◌∙◌, add-one, arith}
+use Rattle.std.specs.Prelude.{nat_lt, nat_le, unwrap_or, option_map, find, is_some, map}
 use Rattle.std.specs.List.{enumerate_from}
 use Rattle.std.proofs.Math.Seq.{take-append_seam}
 use Rattle.std.proofs.lemmas.List.Sums.{sum_by-cons}
@@ -11,17 +11,17 @@ use Rattle.iso_lexer.specs.declared.spec_token.Keyword.{Keyword}
 use Rattle.iso_lexer.specs.declared.spec_token.Keyword.TheVariants.{Permutation, Session, Setup, Step, Teardown, Notices}
 use Rattle.iso_lexer.specs.declared.spec_token.Sign.{Sign}
 use Rattle.iso_lexer.specs.declared.spec_token.Sign.TheVariants.{Open, Close, Comma, Star}
-use Rattle.iso_lexer.specs.SpecTokens.{Token, keyword, name, digits, sign, block}
+use Rattle.iso_lexer.specs.SpecTokens.{Token, keyword, name, sign, block}
 use Rattle.iso_lexer.specs.Results.{if_ok, each}
-use Rattle.iso_lexer.specs.Readers.{◌>>=◌, gives, place_of}
+use Rattle.iso_lexer.specs.Readers.{◌>>=◌, gives}
 use Rattle.spec_parser.specs.declared.fault.What.{What}
 use Rattle.spec_parser.specs.declared.fault.What.TheVariants as what
-use Rattle.spec_parser.specs.declared.fault.Stop.TheVariants.{Expected, NoticesLeftOut, OverLimit}
+use Rattle.spec_parser.specs.declared.fault.Stop.TheVariants.{Expected, NoticesLeftOut}
 use Rattle.spec_parser.specs.declared.fault.SpecFault.{SpecFault}
 use Rattle.spec_parser.specs.declared.fault.SpecFault.TheVariants as faults
 use Rattle.spec_parser.specs.Trees.{PartTree, NameAt, StepOf, SessionOf, MarkerTree, star, named, NamedEntry, FileTree, SpecTree}
 use Rattle.spec_parser.specs.Counts.{Counts, start, past, past_token}
-use Rattle.spec_parser.specs.Reading.{Rest, SpecReader, Kind, the_keyword, the_mark, the_name, the_block, count, if_next, many_from, many_of, at_most, expected, one_token, spec_block}
+use Rattle.spec_parser.specs.Reading.{SpecReader, Kind, the_keyword, the_mark, the_name, the_block, count, if_next, many_from, many_of, at_most, expected, one_token, spec_block}
 use Rattle.spec_parser.specs.Reading as new
 use Rattle.spec_parser.specs.Grammar.{is_word, is_sign, is_name, a_name, a_block}
 use Rattle.spec_parser.specs.Names.{StepAt, is_named, first_repeated, steps_of, names_resolved, session_tree, known_entry}
@@ -29,6 +29,7 @@ use Rattle.spec_parser.specs.Faults.{stopped}
 use Rattle.spec_parser.specs.Inner.Known.{first_repeat, resolved}
 use Rattle.spec_parser.specs.Inner.Stopping.{Rest as Left, Read, Reader, and_then, starts, token_at, next, name_at, block_at, end_at, name_within, many_at, all_at, some_at, maybe_at, place, block_after, maybe_block, step_at, session_at, no_notices, marker_at, markers_at, entry_at, perm_at, file_at, told, finished}
 use Rattle.spec_parser.proofs.Local.{past_twice}
+use Rattle.spec_parser.proofs.Passing.{Rest}
 
 -- ---- words of reading
 

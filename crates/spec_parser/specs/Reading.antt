@@ -17,12 +17,9 @@ use Rattle.spec_parser.specs.declared.fault.SpecFault.{SpecFault}
 use Rattle.spec_parser.specs.declared.fault.SpecFault.TheVariants.{Expected, NoticesLeftOut, Limit}
 use Rattle.spec_parser.specs.Trees.{PartTree, NameAt, StepOf, SessionOf, MarkerTree, star, named, NamedEntry, FileTree}
 
--- what is left of a file: the tokens before, and those from here on
-abbrev pub Rest : Type 0
-Rest = List (At Token) × List (At Token)
-
+-- what reads a part of a file: of the tokens before it, and those from here on
 abbrev pub SpecReader : Type 0 → Type 0
-SpecReader A = ReaderOf Rest SpecFault A
+SpecReader A = ReaderOf (List (At Token) × List (At Token)) SpecFault A
 
 -- ---- one token
 
@@ -30,7 +27,7 @@ SpecReader A = ReaderOf Rest SpecFault A
 abbrev pub Kind : Type 0 → Type 0
 Kind A = At Token → Option A
 
--- this word, and this sign, each by where it stands
+-- this word, told by where it stands, and this sign
 abbrev pub the_keyword : Keyword → Kind ℕ
 the_keyword k t = elim t.tok [ keyword j ↦ if sameb words j k then Some t.span.start else None | _ ↦ None ]
 
@@ -55,12 +52,12 @@ if_next kind behind others (before, t ∷ ts) = option_map_or (λ x. behind x (b
 
 -- ---- several things
 
--- as many as there are tokens of this kind, one after another, and n at most; item k is what is read behind its token; and what is read where the first isn't there
+-- items one after another, as long as a token of this kind stands next: item k is read behind it, there are n at most, and `none` is read where the first isn't there
 unfoldable pub many_from : {A B : Type 0} → Kind A → (ℕ → A → SpecReader B) → ℕ → ℕ → SpecReader (List B) → SpecReader (List B)
 many_from kind item k zero none = none
 many_from kind item k (suc n) none = if_next kind (λ x. item k x >>= λ y. many_from kind item (k + 1) n (gives []) >>= λ ys. gives (y ∷ ys)) none
 
--- items from number 1 on
+-- the items from number 1 on, each of a token at least
 abbrev pub many_of : {A B : Type 0} → Kind A → (ℕ → A → SpecReader B) → SpecReader (List B) → SpecReader (List B)
 many_of kind item none r = many_from kind item 1 (length r.1) none r
 
@@ -100,7 +97,8 @@ module _ (last : ℕ) where
 
   -- "*" or a name, which `notices` may not follow
   unfoldable pub marker_at : SpecReader MarkerTree
-  marker_at = if_next (the_mark Star) (λ at. gives star) (one_token the_name what.Marker >>= λ n. if_next (the_keyword Notices) (λ at r. Err (NoticesLeftOut at)) (gives (named n)))
+  marker_at = if_next (the_mark Star) (λ at. gives star)
+      (one_token the_name what.Marker >>= λ n. if_next (the_keyword Notices) (λ at r. Err (NoticesLeftOut at)) (gives (named n)))
 
   -- behind "(": marker {"," marker} ")"
   unfoldable pub markers_at : SpecReader (List MarkerTree)
