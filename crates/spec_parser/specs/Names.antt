@@ -24,7 +24,7 @@ steps_of f = flat_map (λ s. map (λ x. record { name = x.1.name; session = s.0;
 abbrev pub is_named : Written → StepAt → Bool
 is_named n s = bytes_eq (decoded s.name.name) (decoded n)
 
--- the first step whose name one of those before it has, behind their count
+-- the first step whose name one of those before it has, behind how many these are
 abbrev pub first_repeated : List StepAt → Option (ℕ × StepAt)
 first_repeated steps = find (λ s. is_some (find (is_named s.1.name.name) (take s.0 steps))) (enumerate_from 0 steps)
 

@@ -23,11 +23,11 @@ SpecReader A = ReaderOf (List (At Token) × List (At Token)) SpecFault A
 
 -- ---- one token
 
--- a kind of token, by what one of it says
+-- a kind of tokens, by what each of them says
 abbrev pub Kind : Type 0 → Type 0
 Kind A = At Token → Option A
 
--- this word, told by where it stands, and this sign
+-- this word, by where it stands, and this sign
 abbrev pub the_word : Keyword → Kind ℕ
 the_word k t = elim t.tok [ keyword j ↦ if sameb words j k then Some t.span.start else None | _ ↦ None ]
 
@@ -68,7 +68,7 @@ at_most most number n r = if nat_le number most then Ok (n, r) else Err (Limit n
 -- ---- the parts of a file, in a text of so many bytes
 
 module _ (last : ℕ) where
-  -- this is expected here
+  -- nothing but this is expected here
   abbrev pub expected : {A : Type 0} → What → SpecReader A
   expected w r = Err (Expected w (place_of last r.1))
 
