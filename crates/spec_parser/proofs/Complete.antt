@@ -15,7 +15,7 @@ use Rattle.spec_parser.specs.declared.fault.Stop.TheVariants.{Expected, OverLimi
 use Rattle.spec_parser.specs.Trees.{PartTree, NameAt, StepOf, SessionOf, MarkerTree, star, named, NamedEntry, FileTree}
 use Rattle.spec_parser.specs.Counts.{Counts, past, past_token}
 use Rattle.spec_parser.specs.Inner.Stopping.{Rest, Read, token_at, next, many_at, all_at, some_at, maybe_at, name_at, block_at, end_at, name_within, block_after, maybe_block, step_at, session_at, no_notices, marker_at, markers_at, entry_at, perm_at, file_at}
-use Rattle.spec_parser.specs.Grammar.{a_name, a_block, is_word, is_sign, is_name, Grammar, gives, one, the_word, the_sign, Maybe, left_out, given, Many, none, more, some, first, second, block_behind, step, session, marker, markers, entry, perm, file}
+use Rattle.spec_parser.specs.Grammar.{a_name, a_block, is_word, is_sign, is_name, Grammar, gives, one, a_word, a_sign, Maybe, left_out, given, Many, none, more, some, first, second, block_behind, step, session, marker, markers, entry, perm, file}
 use Rattle.spec_parser.specs.Inner.Pieces.{starts_name, word_at, sign_at, setup_at, teardown_at, setups_at, steps_at, sessions_at, next_marker_at, next_markers_at, some_markers_at, entries_at, perms_at}
 use Rattle.spec_parser.specs.Grammar.{◌>>=◌ as ◌▸◌}
 use Rattle.spec_parser.proofs.Tokens.{test_true, keyword_in, sign_in, named_in, word_past, grows}
@@ -112,11 +112,11 @@ begins f H p c ts rest z b says (x, xs, ys, e, (t, te, is), h) =
     let front : ts ≡ (t ∷ []) ++ ys = e ∙ ap (λ (r : List (At Token)). r ++ ys) te in
     ap (λ (r : List (At Token)). first_is p (r ++ rest)) front ∙ says t x is
 
-begins_word : {B : Type 0} (k : Keyword) (H : Unit {0} → Grammar B) (p : Token → Bool) (c : Counts) (ts rest : List (At Token)) (z : B) → (one (the_word k) ▸ H) c ts z → first_is p (ts ++ rest) ≡ p (keyword k)
-begins_word k H p c ts rest z h = begins (the_word k) H p c ts rest z (p (keyword k)) (λ t x is. ap p (keyword_in k t.tok (test_true (is_word k t.tok) x is))) h
+begins_word : {B : Type 0} (k : Keyword) (H : Unit {0} → Grammar B) (p : Token → Bool) (c : Counts) (ts rest : List (At Token)) (z : B) → (one (a_word k) ▸ H) c ts z → first_is p (ts ++ rest) ≡ p (keyword k)
+begins_word k H p c ts rest z h = begins (a_word k) H p c ts rest z (p (keyword k)) (λ t x is. ap p (keyword_in k t.tok (test_true (is_word k t.tok) x is))) h
 
-begins_sign : {B : Type 0} (g : Sign) (H : Unit {0} → Grammar B) (p : Token → Bool) (c : Counts) (ts rest : List (At Token)) (z : B) → (one (the_sign g) ▸ H) c ts z → first_is p (ts ++ rest) ≡ p (sign g)
-begins_sign g H p c ts rest z h = begins (the_sign g) H p c ts rest z (p (sign g)) (λ t x is. ap p (sign_in g t.tok (test_true (is_sign g t.tok) x is))) h
+begins_sign : {B : Type 0} (g : Sign) (H : Unit {0} → Grammar B) (p : Token → Bool) (c : Counts) (ts rest : List (At Token)) (z : B) → (one (a_sign g) ▸ H) c ts z → first_is p (ts ++ rest) ≡ p (sign g)
+begins_sign g H p c ts rest z h = begins (a_sign g) H p c ts rest z (p (sign g)) (λ t x is. ap p (sign_in g t.tok (test_true (is_sign g t.tok) x is))) h
 
 begins_name : {B : Type 0} (H : NameAt → Grammar B) (p : Token → Bool) (b : Bool) → ((m : Written) → p (name m) ≡ b) → (c : Counts) (ts rest : List (At Token)) (z : B) → (one a_name ▸ H) c ts z → first_is p (ts ++ rest) ≡ b
 begins_name H p b of_names c ts rest z h = begins a_name H p c ts rest z b (λ t n is. let m = named_in c t n is in ap p m.1 ∙ of_names m.0) h
@@ -131,13 +131,13 @@ name_within_again : (before most : ℕ) → CompletesOr (λ _. most ≤ before) 
 unfolding name_within name_at
 name_within_again before most c xs rest n follows (t, e, is) = rw e (within_case (nat_lt before most) before most c t rest n refl is)
 
-word_again : (k : Keyword) (w : What) → Completes (one (the_word k)) (word_at k w) Any
+word_again : (k : Keyword) (w : What) → Completes (one (a_word k)) (word_at k w) Any
 unfolding next
-word_again k w = token_again (the_word k) w
+word_again k w = token_again (a_word k) w
 
-sign_again : (g : Sign) (w : What) → Completes (one (the_sign g)) (sign_at g w) Any
+sign_again : (g : Sign) (w : What) → Completes (one (a_sign g)) (sign_at g w) Any
 unfolding next
-sign_again g w = token_again (the_sign g) w
+sign_again g w = token_again (a_sign g) w
 
 name_again : (w : What) → Completes (one a_name) (name_at w) Any
 unfolding name_at
@@ -231,7 +231,7 @@ stays F ts rest e h = subst F (sym (ap (λ (r : List (At Token)). r ++ rest) e))
 
 block_after_again : (k : Keyword) → Completes (block_behind k) (block_after k) Any
 unfolding block_after
-block_after_again k = seq (one (the_word k)) (λ _. one a_block) (word_at k what.Item) (λ key. block_at key.1) Any Any (word_again k what.Item) (λ _. block_again) (λ d x ys rest z f h. tt)
+block_after_again k = seq (one (a_word k)) (λ _. one a_block) (word_at k what.Item) (λ key. block_at key.1) Any Any (word_again k what.Item) (λ _. block_again) (λ d x ys rest z f h. tt)
 
 setup_begins : (p : Token → Bool) → Begins p (p (keyword Setup)) (block_behind Setup)
 setup_begins p c xs rest x h = begins_word Setup (λ _. one a_block) p c xs rest x h
@@ -248,7 +248,7 @@ unfolding maybe_block
 teardown_again = maybe_again (block_behind Teardown) (is_word Teardown) (block_after Teardown) (block_after_again Teardown) (teardown_begins (is_word Teardown))
 
 setups_again : Completes (Many (block_behind Setup)) setups_at (λ rest. NotFirst (is_word Setup) rest × Any rest)
-setups_again = all_again (block_behind Setup) (is_word Setup) (λ k. block_after Setup) Any (λ k. block_after_again Setup) (setup_begins (is_word Setup)) (first_takes (the_word Setup) (λ _. one a_block)) (λ c xs rest x g. tt)
+setups_again = all_again (block_behind Setup) (is_word Setup) (λ k. block_after Setup) Any (λ k. block_after_again Setup) (setup_begins (is_word Setup)) (first_takes (a_word Setup) (λ _. one a_block)) (λ c xs rest x g. tt)
 
 abbrev step_of : NameAt → PartTree → StepOf NameAt
 step_of n b = record { name = n; part = b }
@@ -265,7 +265,7 @@ named_step_again d = seq_or (λ _. 1000 ≤ d.steps) (λ _. 1000 ≤ d.steps) (o
 
 step_again : Completes step step_at Any
 unfolding step_at
-step_again = seq_from Never (λ d _. 1000 ≤ d.steps) Never (one (the_word Step)) (λ _. AfterStep) (word_at Step what.Item)
+step_again = seq_from Never (λ d _. 1000 ≤ d.steps) Never (one (a_word Step)) (λ _. AfterStep) (word_at Step what.Item)
     (λ d key. name_within d.steps 1000 key.1 >>= λ n. block_at n.1 >>= λ b. (Ok (step_of n.0 b.0), b.1)) Any Any (λ c x xs ys z h k. absurd k)
     (λ c x xs ys z w lt. many_steps (omega (arith, lt, ap (λ (d : Counts). d.steps) (word_past Step c xs x w), (grows (past c xs) ys).1)))
     (word_again Step what.Item) (λ d _. named_step_again d) (λ d x ys rest z f h. tt)
@@ -274,7 +274,7 @@ step_begins : (p : Token → Bool) → Begins p (p (keyword Step)) step
 step_begins p c xs rest x h = begins_word Step (λ _. one a_name ▸ λ n. one a_block ▸ λ b. gives (step_of n b)) p c xs rest x h
 
 steps_again : Completes (some step) steps_at (λ rest. NotFirst (is_word Step) rest × Any rest)
-steps_again = some_again step what.Step (is_word Step) (λ k. step_at) Any (λ k. step_again) (step_begins (is_word Step)) (first_takes (the_word Step) (λ _. one a_name ▸ λ n. one a_block ▸ λ b. gives (step_of n b))) (λ c xs rest x g. tt)
+steps_again = some_again step what.Step (is_word Step) (λ k. step_at) Any (λ k. step_again) (step_begins (is_word Step)) (first_takes (a_word Step) (λ _. one a_name ▸ λ n. one a_block ▸ λ b. gives (step_of n b))) (λ c xs rest x g. tt)
 
 -- ---- sessions
 
@@ -318,7 +318,7 @@ named_session_again d = seq_or (λ _. 64 ≤ d.sessions) (λ _. 64 ≤ d.session
 
 session_again : Completes session session_at BehindSession
 unfolding session_at
-session_again = seq_from Never (λ d _. 64 ≤ d.sessions) Never (one (the_word Session)) (λ _. one a_name ▸ SetUp) (word_at Session what.Item)
+session_again = seq_from Never (λ d _. 64 ≤ d.sessions) Never (one (a_word Session)) (λ _. one a_name ▸ SetUp) (word_at Session what.Item)
     (λ d key. name_within d.sessions 64 key.1 >>= λ n. setup_at n.1 >>= λ setup. steps_at setup.1 >>= λ steps. teardown_at steps.1 >>= λ teardown. (Ok (session_of n.0 setup.0 steps.0 teardown.0), teardown.1)) Any BehindSession (λ c x xs ys z h k. absurd k)
     (λ c x xs ys z w lt. many_sessions (omega (arith, lt, ap (λ (d : Counts). d.sessions) (word_past Session c xs x w), (grows (past c xs) ys).0)))
     (word_again Session what.Item) (λ d _. named_session_again d) (λ d x ys rest z f h. tt)
@@ -330,7 +330,7 @@ abbrev BehindSessions : List (At Token) → Type 0
 BehindSessions rest = NotFirst (is_word Session) rest × BehindSession rest
 
 sessions_again : Completes (some session) sessions_at BehindSessions
-sessions_again = some_again session what.Session (is_word Session) (λ k. session_at) BehindSession (λ k. session_again) (session_begins (is_word Session)) (first_takes (the_word Session) (λ _. one a_name ▸ SetUp)) (λ c xs rest x g. (session_begins (is_word Step) c xs rest x g, session_begins (is_word Teardown) c xs rest x g))
+sessions_again = some_again session what.Session (is_word Session) (λ k. session_at) BehindSession (λ k. session_again) (session_begins (is_word Session)) (first_takes (a_word Session) (λ _. one a_name ▸ SetUp)) (λ c xs rest x g. (session_begins (is_word Step) c xs rest x g, session_begins (is_word Teardown) c xs rest x g))
 
 -- ---- markers
 
@@ -341,8 +341,8 @@ no_notices_again : (n : NameAt) → Completes (gives (named n)) (no_notices n) B
 unfolding no_notices
 no_notices_again n c xs rest x follows (nothing, is) = rw (nothing, is) (rw follows (whole refl))
 
-star_again : Completes (one (the_sign Star) ▸ λ _. gives star) (λ r. sign_at Star what.Marker r >>= λ key. (Ok star, key.1)) Any
-star_again = seq (one (the_sign Star)) (λ _. gives star) (sign_at Star what.Marker) (λ key. (Ok star, key.1)) Any Any (sign_again Star what.Marker) (λ _. gives_again star Any) (λ d x ys rest z f h. tt)
+star_again : Completes (one (a_sign Star) ▸ λ _. gives star) (λ r. sign_at Star what.Marker r >>= λ key. (Ok star, key.1)) Any
+star_again = seq (one (a_sign Star)) (λ _. gives star) (sign_at Star what.Marker) (λ key. (Ok star, key.1)) Any Any (sign_again Star what.Marker) (λ _. gives_again star Any) (λ d x ys rest z f h. tt)
 
 named_again : Completes (one a_name ▸ λ n. gives (named n)) (λ r. name_at what.Marker r >>= λ n. no_notices n.0 n.1) BehindMarker
 named_again = seq (one a_name) (λ n. gives (named n)) (name_at what.Marker) (λ n. no_notices n.0 n.1) Any BehindMarker (name_again what.Marker) no_notices_again (λ d x ys rest z f h. tt)
@@ -353,10 +353,10 @@ marker_again c xs rest x follows (first h) = rw (begins_sign Star (λ _. gives s
 marker_again c xs rest x follows (second h) = rw (begins_name (λ n. gives (named n)) (is_sign Star) false (λ m. refl) c xs rest x h) (named_again c xs rest x follows h)
 
 abbrev NextMarker : Grammar MarkerTree
-NextMarker = one (the_sign Comma) ▸ λ _. marker
+NextMarker = one (a_sign Comma) ▸ λ _. marker
 
 next_marker_again : Completes NextMarker next_marker_at BehindMarker
-next_marker_again = seq (one (the_sign Comma)) (λ _. marker) (sign_at Comma what.CommaOrClose) (λ comma. marker_at comma.1) Any BehindMarker (sign_again Comma what.CommaOrClose) (λ _. marker_again) (λ d x ys rest z f h. tt)
+next_marker_again = seq (one (a_sign Comma)) (λ _. marker) (sign_at Comma what.CommaOrClose) (λ comma. marker_at comma.1) Any BehindMarker (sign_again Comma what.CommaOrClose) (λ _. marker_again) (λ d x ys rest z f h. tt)
 
 next_begins : (p : Token → Bool) → Begins p (p (sign Comma)) NextMarker
 next_begins p c xs rest x h = begins_sign Comma (λ _. marker) p c xs rest x h
@@ -365,10 +365,10 @@ abbrev BehindMarkers : List (At Token) → Type 0
 BehindMarkers rest = NotFirst (is_sign Comma) rest × BehindMarker rest
 
 next_markers_again : Completes (Many NextMarker) next_markers_at BehindMarkers
-next_markers_again = all_again NextMarker (is_sign Comma) (λ k. next_marker_at) BehindMarker (λ k. next_marker_again) (next_begins (is_sign Comma)) (first_takes (the_sign Comma) (λ _. marker)) (next_begins (is_word Notices))
+next_markers_again = all_again NextMarker (is_sign Comma) (λ k. next_marker_at) BehindMarker (λ k. next_marker_again) (next_begins (is_sign Comma)) (first_takes (a_sign Comma) (λ _. marker)) (next_begins (is_word Notices))
 
 abbrev Closed : MarkerTree → List MarkerTree → Grammar (List MarkerTree)
-Closed m others = one (the_sign Close) ▸ λ _. gives (m ∷ others)
+Closed m others = one (a_sign Close) ▸ λ _. gives (m ∷ others)
 
 abbrev Marked : MarkerTree → Grammar (List MarkerTree)
 Marked m = Many NextMarker ▸ Closed m
@@ -377,7 +377,7 @@ closed_begins : (m : MarkerTree) (others : List MarkerTree) (p : Token → Bool)
 closed_begins m others p c xs rest x h = begins_sign Close (λ _. gives (m ∷ others)) p c xs rest x h
 
 closed_again : (m : MarkerTree) (others : List MarkerTree) → Completes (Closed m others) (λ r. sign_at Close what.CommaOrClose r >>= λ closed. (Ok (m ∷ others), closed.1)) Any
-closed_again m others = seq (one (the_sign Close)) (λ _. gives (m ∷ others)) (sign_at Close what.CommaOrClose) (λ closed. (Ok (m ∷ others), closed.1)) Any Any (sign_again Close what.CommaOrClose) (λ _. gives_again (m ∷ others) Any) (λ d x ys rest z f h. tt)
+closed_again m others = seq (one (a_sign Close)) (λ _. gives (m ∷ others)) (sign_at Close what.CommaOrClose) (λ closed. (Ok (m ∷ others), closed.1)) Any Any (sign_again Close what.CommaOrClose) (λ _. gives_again (m ∷ others) Any) (λ d x ys rest z f h. tt)
 
 marked_again : (m : MarkerTree) → Completes (Marked m) (λ r. next_markers_at r >>= λ others. sign_at Close what.CommaOrClose others.1 >>= λ closed. (Ok (m ∷ others.0), closed.1)) Any
 marked_again m = seq (Many NextMarker) (Closed m) next_markers_at (λ others. sign_at Close what.CommaOrClose others.1 >>= λ closed. (Ok (m ∷ others.0), closed.1)) BehindMarkers Any next_markers_again (closed_again m)
@@ -388,7 +388,7 @@ no_notices_first m d ts rest z (others, xs, ys, e, many, h) = regroup BehindMark
 
 markers_again : Completes markers markers_at Any
 unfolding markers_at
-markers_again = seq (one (the_sign Open)) (λ _. marker ▸ Marked) (sign_at Open what.Item)
+markers_again = seq (one (a_sign Open)) (λ _. marker ▸ Marked) (sign_at Open what.Item)
     (λ opened. marker_at opened.1 >>= λ m. next_markers_at m.1 >>= λ others. sign_at Close what.CommaOrClose others.1 >>= λ closed. (Ok (m.0 ∷ others.0), closed.1)) Any Any (sign_again Open what.Item)
     (λ _. seq marker Marked marker_at (λ m. next_markers_at m.1 >>= λ others. sign_at Close what.CommaOrClose others.1 >>= λ closed. (Ok (m.0 ∷ others.0), closed.1)) BehindMarker Any marker_again marked_again (λ d x ys rest z f h. no_notices_first x d ys rest z h))
     (λ d x ys rest z f h. tt)
@@ -432,7 +432,7 @@ entries_again = reword (λ es. 1000 < 0 + length es) IsLong (some entry) (some_a
 
 perm_again : CompletesOr IsLong perm perm_at BehindEntries
 unfolding perm_at
-perm_again = seq_or Never IsLong (one (the_word Permutation)) (λ _. some entry) (word_at Permutation what.Item) (λ key. entries_at key.1) Any BehindEntries (λ c x ts z h k. absurd k) (word_again Permutation what.Item) (λ _. entries_again) (λ d x ys rest z f h. tt)
+perm_again = seq_or Never IsLong (one (a_word Permutation)) (λ _. some entry) (word_at Permutation what.Item) (λ key. entries_at key.1) Any BehindEntries (λ c x ts z h k. absurd k) (word_again Permutation what.Item) (λ _. entries_again) (λ d x ys rest z f h. tt)
 
 perm_begins : (p : Token → Bool) → Begins p (p (keyword Permutation)) perm
 perm_begins p c xs rest x h = begins_word Permutation (λ _. some entry) p c xs rest x h
@@ -446,7 +446,7 @@ SomeLong [] = ⊥
 SomeLong (es ∷ ps) = IsLong es ⊎ SomeLong ps
 
 perms_again : CompletesOr SomeLong (Many perm) perms_at BehindPerms
-perms_again = all_or (λ _. IsLong) (λ _. SomeLong) perm (is_word Permutation) (λ k. perm_at) BehindEntries (λ k x xs h. inl h) (λ k x xs h. inr h) (λ k. perm_again) (perm_begins (is_word Permutation)) (first_takes (the_word Permutation) (λ _. some entry)) (λ c xs rest x g. (perm_begins is_name c xs rest x g, perm_begins (is_sign Open) c xs rest x g))
+perms_again = all_or (λ _. IsLong) (λ _. SomeLong) perm (is_word Permutation) (λ k. perm_at) BehindEntries (λ k x xs h. inl h) (λ k x xs h. inr h) (λ k. perm_again) (perm_begins (is_word Permutation)) (first_takes (a_word Permutation) (λ _. some entry)) (λ c xs rest x g. (perm_begins is_name c xs rest x g, perm_begins (is_sign Open) c xs rest x g))
 
 -- ---- the file
 

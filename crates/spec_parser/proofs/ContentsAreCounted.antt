@@ -19,7 +19,7 @@ use Rattle.iso_lexer.specs.SpecText.{block_of}
 use Rattle.iso_lexer.specs.SpecSpelling.{NameSpells, Spells, LiesAt}
 use Rattle.spec_parser.specs.Trees.{PartTree, StepTree, NameAt, StepOf, SessionOf, star, named, FileTree}
 use Rattle.spec_parser.specs.Counts.{Counts, past, past_token}
-use Rattle.spec_parser.specs.Grammar.{a_name, a_block, Grammar, gives, one, the_word, the_sign, Maybe, left_out, given, Many, none, more, some, first, second, block_behind, step, session, marker, markers, entry, perm, file}
+use Rattle.spec_parser.specs.Grammar.{a_name, a_block, Grammar, gives, one, a_word, a_sign, Maybe, left_out, given, Many, none, more, some, first, second, block_behind, step, session, marker, markers, entry, perm, file}
 use Rattle.spec_parser.specs.Grammar.{◌>>=◌ as ◌▸◌}
 use Rattle.spec_parser.specs.Names.{session_tree}
 use Rattle.spec_parser.specs.Inner.Known.{step_tree, steps_from, sessions_from}
@@ -98,7 +98,7 @@ quiet c ts = record { blocks = omega arith; sessions = omega arith; steps = omeg
 
 -- ---- one token
 
-word_has : (k : Keyword) (c : Counts) (ts : List (At Token)) (u : Unit {0}) (g : Contents) → one (the_word k) c ts u → Holds c (past_token (keyword k) c) ts g → Holds c (past c ts) ts g
+word_has : (k : Keyword) (c : Counts) (ts : List (At Token)) (u : Unit {0}) (g : Contents) → one (a_word k) c ts u → Holds c (past_token (keyword k) c) ts g → Holds c (past c ts) ts g
 word_has k c ts u g h m = subst (λ d. Holds c d ts g) (sym (word_past k c ts u h)) m
 
 abbrev pub a_session : Contents
@@ -107,10 +107,10 @@ a_session = record { parts = []; names = []; sessions = 1; steps = 0 }
 abbrev pub a_step : Contents
 a_step = record { parts = []; names = []; sessions = 0; steps = 1 }
 
-pub session_word : (c : Counts) (ts : List (At Token)) (u : Unit {0}) → one (the_word Session) c ts u → Holds c (past c ts) ts a_session
+pub session_word : (c : Counts) (ts : List (At Token)) (u : Unit {0}) → one (a_word Session) c ts u → Holds c (past c ts) ts a_session
 session_word c ts u h = word_has Session c ts u a_session h (record { blocks = omega arith; sessions = omega arith; steps = omega arith; numbered = refl; parts_lie = λ text all. tt; names_lie = λ text all. tt })
 
-pub step_word : (c : Counts) (ts : List (At Token)) (u : Unit {0}) → one (the_word Step) c ts u → Holds c (past c ts) ts a_step
+pub step_word : (c : Counts) (ts : List (At Token)) (u : Unit {0}) → one (a_word Step) c ts u → Holds c (past c ts) ts a_step
 step_word c ts u h = word_has Step c ts u a_step h (record { blocks = omega arith; sessions = omega arith; steps = omega arith; numbered = refl; parts_lie = λ text all. tt; names_lie = λ text all. tt })
 
 -- a name, where it is that of a session or step
@@ -345,22 +345,22 @@ many_quiet G q c ts all none = refl
 many_quiet G q c ts all (more {x = x} {others = os} xs ys e m others) = ap (past c) e ∙ past_twice c xs ys ∙ many_quiet G q (past c xs) ys os others ∙ q c xs x m
 
 marker_quiet : Quiet marker
-marker_quiet c ts x (first h) = seq_quiet (one (the_sign Star)) (λ _. gives star) (sign_past Star) (λ _. gives_quiet star) c ts x h
+marker_quiet c ts x (first h) = seq_quiet (one (a_sign Star)) (λ _. gives star) (sign_past Star) (λ _. gives_quiet star) c ts x h
 marker_quiet c ts x (second h) = seq_quiet (one a_name) (λ n. gives (named n)) name_past (λ n. gives_quiet (named n)) c ts x h
 
 markers_quiet : Quiet markers
-markers_quiet = seq_quiet (one (the_sign Open)) _ (sign_past Open) (λ _. seq_quiet marker _ marker_quiet (λ m. seq_quiet (Many (one (the_sign Comma) ▸ λ _. marker)) _
-    (many_quiet (one (the_sign Comma) ▸ λ _. marker) (seq_quiet (one (the_sign Comma)) (λ _. marker) (sign_past Comma) (λ _. marker_quiet)))
-    (λ others. seq_quiet (one (the_sign Close)) (λ _. gives (m ∷ others)) (sign_past Close) (λ _. gives_quiet (m ∷ others)))))
+markers_quiet = seq_quiet (one (a_sign Open)) _ (sign_past Open) (λ _. seq_quiet marker _ marker_quiet (λ m. seq_quiet (Many (one (a_sign Comma) ▸ λ _. marker)) _
+    (many_quiet (one (a_sign Comma) ▸ λ _. marker) (seq_quiet (one (a_sign Comma)) (λ _. marker) (sign_past Comma) (λ _. marker_quiet)))
+    (λ others. seq_quiet (one (a_sign Close)) (λ _. gives (m ∷ others)) (sign_past Close) (λ _. gives_quiet (m ∷ others)))))
 
 entry_quiet : Quiet entry
 entry_quiet = seq_quiet (one a_name) _ name_past (λ n. seq_quiet (Maybe markers) _ (maybe_quiet markers markers_quiet) (λ ms. gives_quiet _))
 
-word_quiet : Quiet (one (the_word Permutation))
+word_quiet : Quiet (one (a_word Permutation))
 word_quiet c ts u h = word_past Permutation c ts u h
 
 perm_quiet : Quiet perm
-perm_quiet = seq_quiet (one (the_word Permutation)) (λ _. some entry) word_quiet (λ _ c ts es h. many_quiet entry entry_quiet c ts es h.0)
+perm_quiet = seq_quiet (one (a_word Permutation)) (λ _. some entry) word_quiet (λ _ c ts es h. many_quiet entry entry_quiet c ts es h.0)
 
 pub perms_quiet : Quiet (Many perm)
 perms_quiet = many_quiet perm perm_quiet

@@ -1,5 +1,5 @@
 -- What reading gives is just what the relations say.
-use Rattle.std.proofs.Common.{◌≡◌, ◌⊎◌, inl, inr, ℕ, length, Bool, true, false, List, [], ◌∷◌, ◌++◌, append-nil, map, Option, Some, None, Result, Ok, Err, refl, sym, ap, subst, ◌∙◌}
+use Rattle.std.proofs.Common.{◌≡◌, ◌⊎◌, inl, inr, ℕ, length, true, List, [], ◌∷◌, ◌++◌, append-nil, map, Option, Some, None, Result, Ok, Err, refl, sym, ap, subst, ◌∙◌}
 use Rattle.std.specs.Option.{option_map_or}
 use Rattle.std.proofs.lemmas.Option.{same_Some}
 use Rattle.iso_lexer.specs.declared.token.At.{At}
@@ -22,7 +22,7 @@ use Rattle.iso_lexer.specs.Results.{if_ok}
 use Rattle.spec_parser.specs.Names.{StepAt, steps_of, session_tree}
 use Rattle.spec_parser.specs.Inner.Known.{first_repeat, resolved, known_perms}
 use Rattle.spec_parser.proofs.Placing.{seen, seen_in, fault_is, file_same, reads_as}
-use Rattle.spec_parser.proofs.Passing.{Whole, file_passes}
+use Rattle.spec_parser.proofs.Passing.{Rest as Ahead, Whole, file_passes}
 use Rattle.spec_parser.specs.SpecText.{SpecReads, no_tokens, tokens}
 use Rattle.spec_parser.specs.Laws.{head, FaultIsFirst, HasStop}
 use Rattle.spec_parser.specs.IsSpec.{WithinLimits, IsSpec}
@@ -361,7 +361,7 @@ first_from last ts x (Err s, rest) is e = record { stop = s; rest = rest.1; is =
 pub faults_first : (last : ℕ) (ts : List (At Token)) (x : SpecFault) → new.file_at last ([], ts) ≡ Err x → FaultIsFirst last ts x
 faults_first last ts x e = first_from last ts x (file_at (start, ts)) refl (sym (file_same last ([], ts)) ∙ ap seen_in e)
 
-pub reads_in : (last : ℕ) (ts : List (At Token)) (f : FileTree) (rest : new.Rest) → new.file_at last ([], ts) ≡ Ok (f, rest) → file start ts f × WithinLimits f
+pub reads_in : (last : ℕ) (ts : List (At Token)) (f : FileTree) (rest : Ahead) → new.file_at last ([], ts) ≡ Ok (f, rest) → file start ts f × WithinLimits f
 reads_in last ts f rest e = reads_within ts f (seen rest) (value_from last (file_at (start, ts)) f (seen rest) (sym (file_same last ([], ts)) ∙ ap seen_in e))
 
 limit_told : (last : ℕ) (q : Read FileTree) → q.0 ≡ Err OverLimit → told last q ≡ Err (faults.Limit (place last q.1.1))
@@ -369,12 +369,12 @@ limit_told last (Ok f, rest) e = let wrong : ◌≡◌ {A = Result FileTree Stop
 limit_told last (Err s, rest) e = let same : ◌≡◌ {A = Stop} s OverLimit = cc in ap (λ t. Err (stopped t (place last rest.1))) same
 
 -- where nothing is left, all stands before
-whole_by : (ts b us : List (At Token)) (f g : FileTree) → g ≡ f → us ≡ [] → b ++ us ≡ ts → ◌≡◌ {A = Result (FileTree × new.Rest) SpecFault} (Ok (g, (b, us))) (Ok (f, (ts, [])))
+whole_by : (ts b us : List (At Token)) (f g : FileTree) → g ≡ f → us ≡ [] → b ++ us ≡ ts → ◌≡◌ {A = Result (FileTree × Ahead) SpecFault} (Ok (g, (b, us))) (Ok (f, (ts, [])))
 whole_by ts b us f g same nothing split =
     let all : b ≡ ts = sym (append-nil b) ∙ ap (λ vs. b ++ vs) (sym nothing) ∙ split in
     (λ i. Ok (same i, (all i, nothing i)))
 
-whole_is : (ts : List (At Token)) (c : Counts) (f : FileTree) (p : Result (FileTree × new.Rest) SpecFault) → seen_in p ≡ Ok (f, (c, [])) → Whole ts p → p ≡ Ok (f, (ts, []))
+whole_is : (ts : List (At Token)) (c : Counts) (f : FileTree) (p : Result (FileTree × Ahead) SpecFault) → seen_in p ≡ Ok (f, (c, [])) → Whole ts p → p ≡ Ok (f, (ts, []))
 whole_is ts c f (Ok (g, (b, us))) e split =
     let same = value_told (g, seen (b, us)) (f, (c, [])) e in
     whole_by ts b us f g (ap (λ (p : FileTree × Rest). p.0) same) (ap (λ (p : FileTree × Rest). p.1.1) same) split

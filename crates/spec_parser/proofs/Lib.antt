@@ -1,5 +1,5 @@
-pub mod Placing
 pub mod Passing
+pub mod Placing
 pub mod Local
 pub mod Productions
 pub mod Loops

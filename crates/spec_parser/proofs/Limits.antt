@@ -13,7 +13,7 @@ use Rattle.spec_parser.specs.declared.fault.Stop.TheVariants.{Expected, OverLimi
 use Rattle.spec_parser.specs.Trees.{PartTree, NameAt, StepOf, SessionOf, NamedEntry, FileTree}
 use Rattle.spec_parser.specs.Counts.{Counts, start, past}
 use Rattle.spec_parser.specs.Inner.Stopping.{Rest, Read, many_at, all_at, some_at, name_at, end_at, name_within, step_at, session_at, entry_at, perm_at, file_at}
-use Rattle.spec_parser.specs.Grammar.{a_name, Grammar, one, the_word, Maybe, Many, block_behind, perm, file}
+use Rattle.spec_parser.specs.Grammar.{a_name, Grammar, one, a_word, Maybe, Many, block_behind, perm, file}
 use Rattle.spec_parser.specs.Inner.Pieces.{starts_word, starts_name, word_at, setup_at, teardown_at, setups_at, steps_at, sessions_at, perms_at}
 use Rattle.spec_parser.specs.Grammar.{step as step_grammar}
 use Rattle.spec_parser.specs.IsSpec.{IsShort, WithinLimits}
@@ -94,7 +94,7 @@ pub within_is : (before most : ℕ) (r after : Rest) (n : NameAt) → name_withi
 unfolding name_within
 within_is before most r after n e = within_by (nat_lt before most) (starts_name r) before most r after n refl e
 
-word_keeps_steps : (c d : Counts) (ts : List (At Token)) (u : Unit {0}) → one (the_word Session) c ts u → d ≡ past c ts → d.steps ≡ c.steps
+word_keeps_steps : (c d : Counts) (ts : List (At Token)) (u : Unit {0}) → one (a_word Session) c ts u → d ≡ past c ts → d.steps ≡ c.steps
 word_keeps_steps c d ts u h e = omega (arith, ap (λ (d : Counts). d.steps) e, (session_word c ts u h).steps)
 
 -- one more than before, where there were fewer
@@ -180,7 +180,7 @@ session_keeps k r after s e few =
     let key = in_two (word_at Session what.Item r) _ s after e in
     let n = in_two (name_within r.0.sessions 64 key.1) _ s after key.3 in
     let lt = within_is r.0.sessions 64 key.1 n.1 n.0 n.2 in
-    let w = was_in (one (the_word Session)) (word_at Session what.Item) (word_read Session what.Item) r key.1 key.0 key.2 in
+    let w = was_in (one (a_word Session)) (word_at Session what.Item) (word_read Session what.Item) r key.1 key.0 key.2 in
     let m = session_word r.0 w.0 key.0 w.2 in
     let few1 : Few key.1.0 = record { sessions = omega (arith, lt, m.sessions, ap (λ (c : Counts). c.sessions) w.1); steps = omega (arith, few.steps, m.steps, ap (λ (c : Counts). c.steps) w.1) } in
     session_end_keeps n.0 n.1 after s n.3 (name_keeps r.0.sessions 64 key.1 n.1 n.0 n.2 few1)

@@ -13,7 +13,7 @@ use Rattle.spec_parser.specs.declared.fault.Stop.TheVariants.{Expected, NoticesL
 use Rattle.spec_parser.specs.Trees.{NameAt, MarkerTree, star, named}
 use Rattle.spec_parser.specs.Counts.{Counts}
 use Rattle.spec_parser.specs.Inner.Stopping.{Rest, Read, next, many_at, all_at, maybe_at, name_at, block_at, end_at, block_after, maybe_block, no_notices, marker_at, markers_at, token_at}
-use Rattle.spec_parser.specs.Grammar.{a_name, a_block, the_word, the_sign}
+use Rattle.spec_parser.specs.Grammar.{a_name, a_block, a_word, a_sign}
 use Rattle.spec_parser.specs.Inner.Pieces.{starts_word, starts_sign, word_at, sign_at, setup_at, teardown_at, setups_at, next_marker_at, next_markers_at, some_markers_at}
 use Rattle.spec_parser.proofs.Local.{◌>>=◌, taken, no_value, stops_at, goes, goes_on}
 
@@ -38,11 +38,11 @@ token_never f w c (t ∷ ts) after e = taken_never (f c t) w c t ts after e
 
 pub word_never : (k : Keyword) (w : What) → Never (word_at k w)
 unfolding next
-word_never k w r after e = token_never (the_word k) w r.0 r.1 after e
+word_never k w r after e = token_never (a_word k) w r.0 r.1 after e
 
 sign_never : (g : Sign) (w : What) → Never (sign_at g w)
 unfolding next
-sign_never g w r after e = token_never (the_sign g) w r.0 r.1 after e
+sign_never g w r after e = token_never (a_sign g) w r.0 r.1 after e
 
 pub name_never : (w : What) → Never (name_at w)
 unfolding name_at

@@ -14,7 +14,7 @@ use Rattle.spec_parser.specs.declared.fault.Stop.TheVariants.{Expected, NoticesL
 use Rattle.spec_parser.specs.Trees.{PartTree, NameAt, StepOf, SessionOf, MarkerTree, star, named, NamedEntry, FileTree}
 use Rattle.spec_parser.specs.Counts.{Counts}
 use Rattle.spec_parser.specs.Inner.Stopping.{Rest, Read, next, many_at, all_at, some_at, maybe_at, name_at, block_at, end_at, name_within, block_after, maybe_block, step_at, session_at, no_notices, marker_at, markers_at, entry_at, perm_at, file_at, token_at}
-use Rattle.spec_parser.specs.Grammar.{a_name, a_block, the_word, the_sign}
+use Rattle.spec_parser.specs.Grammar.{a_name, a_block, a_word, a_sign}
 use Rattle.spec_parser.specs.Inner.Pieces.{starts_word, starts_sign, starts_name, word_at, sign_at, setup_at, teardown_at, setups_at, steps_at, sessions_at, next_marker_at, next_markers_at, some_markers_at, entries_at, perms_at}
 use Rattle.spec_parser.proofs.Local.{◌>>=◌, taken, no_value}
 use Rattle.spec_parser.proofs.NeverAtLimit.{err_two, many_zero, Stopped, stopped}
@@ -46,11 +46,11 @@ token_ends f w c (t ∷ ts) after e = taken_ends (f c t) w c t ts after e
 
 word_ends : (k : Keyword) (w : What) → Ends (word_at k w)
 unfolding next
-word_ends k w r after e = absurd (token_ends (the_word k) w r.0 r.1 after e)
+word_ends k w r after e = absurd (token_ends (a_word k) w r.0 r.1 after e)
 
 sign_ends : (g : Sign) (w : What) → Ends (sign_at g w)
 unfolding next
-sign_ends g w r after e = absurd (token_ends (the_sign g) w r.0 r.1 after e)
+sign_ends g w r after e = absurd (token_ends (a_sign g) w r.0 r.1 after e)
 
 name_ends : (w : What) → Ends (name_at w)
 unfolding name_at

@@ -1,5 +1,5 @@
 -- What is read goes over to what stands before: no token is lost.
-use Rattle.std.proofs.Common.{◌≡◌, ℕ, zero, suc, ◌+◌, Bool, true, false, cond, List, [], ◌∷◌, ◌++◌, length, append_assoc, append-nil, Option, Some, None, Result, Ok, Err, refl, sym, ap, subst, ◌∙◌}
+use Rattle.std.proofs.Common.{◌≡◌, ℕ, zero, suc, ◌+◌, Bool, true, false, cond, List, [], ◌∷◌, ◌++◌, length, append_assoc, Option, Some, None, Result, Ok, Err, refl, subst}
 use Rattle.std.specs.Prelude.{nat_le}
 use Rattle.std.specs.Option.{option_map_or}
 use Rattle.iso_lexer.specs.declared.token.At.{At}
@@ -14,9 +14,13 @@ use Rattle.spec_parser.specs.declared.fault.What.TheVariants as what
 use Rattle.spec_parser.specs.declared.fault.SpecFault.{SpecFault}
 use Rattle.spec_parser.specs.declared.fault.SpecFault.TheVariants as faults
 use Rattle.spec_parser.specs.Trees.{PartTree, NameAt, StepOf, SessionOf, MarkerTree, star, named, NamedEntry, FileTree}
-use Rattle.spec_parser.specs.Reading.{Rest, SpecReader, Kind, the_keyword, the_mark, the_name, the_block, count, if_next, many_from, many_of, at_most, expected, one_token, spec_block, maybe_block, step_at, session_at, marker_at, markers_at, entry_at, file_at}
+use Rattle.spec_parser.specs.Reading.{SpecReader, Kind, the_word, the_sign, the_name, the_block, count, if_next, many_from, many_of, at_most, expected, one_token, spec_block, maybe_block, step_at, session_at, marker_at, markers_at, entry_at, file_at}
 
--- what stands before, and what is left, are these tokens
+-- the tokens before, and those from here on
+abbrev pub Rest : Type 0
+Rest = List (At Token) × List (At Token)
+
+-- both are these tokens
 abbrev pub Whole : {A : Type 0} → List (At Token) → Result (A × Rest) SpecFault → Type 0
 Whole ts (Ok x) = x.1.0 ++ x.1.1 ≡ ts
 Whole ts (Err e) = Unit {0}
@@ -69,7 +73,7 @@ block_passes last r = one_passes last (the_block (count (the_block 0) r.0)) what
 
 maybe_passes : (last : ℕ) (k : Keyword) → Passes (maybe_block last k)
 unfolding maybe_block
-maybe_passes last k = next_passes (the_keyword k) (λ at. spec_block last >>= λ b. gives (Some b)) (gives None) (λ at. then (spec_block last) (λ b. gives (Some b)) (block_passes last) (λ b. gives_passes (Some b))) (λ r. refl)
+maybe_passes last k = next_passes (the_word k) (λ at. spec_block last >>= λ b. gives (Some b)) (gives None) (λ at. then (spec_block last) (λ b. gives (Some b)) (block_passes last) (λ b. gives_passes (Some b))) (λ r. refl)
 
 within_passes : (last most number : ℕ) → Passes (one_token last the_name what.Name >>= at_most most number)
 within_passes last most number = then (one_token last the_name what.Name) (at_most most number) (one_passes last the_name what.Name) (most_passes most number)
@@ -79,7 +83,7 @@ step_of n b = record { name = n; part = b }
 
 step_passes : (last : ℕ) → Passes (step_at last)
 unfolding step_at
-step_passes last r = then (one_token last the_name what.Name >>= at_most 1000 (count (the_keyword Step) r.0)) (λ n. spec_block last >>= λ b. gives (step_of n b)) (within_passes last 1000 (count (the_keyword Step) r.0))
+step_passes last r = then (one_token last the_name what.Name >>= at_most 1000 (count (the_word Step) r.0)) (λ n. spec_block last >>= λ b. gives (step_of n b)) (within_passes last 1000 (count (the_word Step) r.0))
     (λ n. then (spec_block last) (λ b. gives (step_of n b)) (block_passes last) (λ b. gives_passes (step_of n b))) r
 
 abbrev session_of : NameAt → Option PartTree → List (StepOf NameAt) → Option PartTree → SessionOf NameAt
@@ -88,31 +92,31 @@ session_of n setup ss teardown = record { name = n; setup = setup; steps = ss; t
 session_passes : (last : ℕ) → Passes (session_at last)
 unfolding session_at
 session_passes last r =
-    let steps = many_of (the_keyword Step) (λ k at. step_at last) (expected last what.Step) in
+    let steps = many_of (the_word Step) (λ k at. step_at last) (expected last what.Step) in
     let fourth : NameAt → Option PartTree → List (StepOf NameAt) → SpecReader (SessionOf NameAt) = λ n setup ss. maybe_block last Teardown >>= λ teardown. gives (session_of n setup ss teardown) in
     let third : NameAt → Option PartTree → SpecReader (SessionOf NameAt) = λ n setup. steps >>= fourth n setup in
     let second : NameAt → SpecReader (SessionOf NameAt) = λ n. maybe_block last Setup >>= third n in
-    then (one_token last the_name what.Name >>= at_most 64 (count (the_keyword Session) r.0)) second (within_passes last 64 (count (the_keyword Session) r.0))
+    then (one_token last the_name what.Name >>= at_most 64 (count (the_word Session) r.0)) second (within_passes last 64 (count (the_word Session) r.0))
     (λ n. then (maybe_block last Setup) (third n) (maybe_passes last Setup)
-    (λ setup. then steps (fourth n setup) (all_pass (the_keyword Step) (λ k at. step_at last) (λ k at. step_passes last) (expected last what.Step) (λ r. tt))
+    (λ setup. then steps (fourth n setup) (all_pass (the_word Step) (λ k at. step_at last) (λ k at. step_passes last) (expected last what.Step) (λ r. tt))
     (λ ss. then (maybe_block last Teardown) (λ teardown. gives (session_of n setup ss teardown)) (maybe_passes last Teardown) (λ teardown. gives_passes (session_of n setup ss teardown))))) r
 
 marker_passes : (last : ℕ) → Passes (marker_at last)
 unfolding marker_at
 marker_passes last =
-    let no_notices : NameAt → SpecReader MarkerTree = λ n. if_next (the_keyword Notices) (λ at r. Err (faults.NoticesLeftOut at)) (gives (named n)) in
-    next_passes (the_mark Star) (λ at. gives star) (one_token last the_name what.Marker >>= no_notices) (λ at. gives_passes star)
-    (then (one_token last the_name what.Marker) no_notices (one_passes last the_name what.Marker) (λ n. next_passes (the_keyword Notices) (λ at r. Err (faults.NoticesLeftOut at)) (gives (named n)) (λ at r. tt) (gives_passes (named n))))
+    let no_notices : NameAt → SpecReader MarkerTree = λ n. if_next (the_word Notices) (λ at r. Err (faults.NoticesLeftOut at)) (gives (named n)) in
+    next_passes (the_sign Star) (λ at. gives star) (one_token last the_name what.Marker >>= no_notices) (λ at. gives_passes star)
+    (then (one_token last the_name what.Marker) no_notices (one_passes last the_name what.Marker) (λ n. next_passes (the_word Notices) (λ at r. Err (faults.NoticesLeftOut at)) (gives (named n)) (λ at r. tt) (gives_passes (named n))))
 
 markers_pass : (last : ℕ) → Passes (markers_at last)
 unfolding markers_at
 markers_pass last =
-    let others = many_of (the_mark Comma) (λ k at. marker_at last) (gives []) in
-    let third : MarkerTree → List MarkerTree → SpecReader (List MarkerTree) = λ m ms. one_token last (the_mark Close) what.CommaOrClose >>= λ closed. gives (m ∷ ms) in
+    let others = many_of (the_sign Comma) (λ k at. marker_at last) (gives []) in
+    let third : MarkerTree → List MarkerTree → SpecReader (List MarkerTree) = λ m ms. one_token last (the_sign Close) what.CommaOrClose >>= λ closed. gives (m ∷ ms) in
     let second : MarkerTree → SpecReader (List MarkerTree) = λ m. others >>= third m in
     then (marker_at last) second (marker_passes last)
-    (λ m. then others (third m) (all_pass (the_mark Comma) (λ k at. marker_at last) (λ k at. marker_passes last) (gives []) (λ r. refl))
-    (λ ms. then (one_token last (the_mark Close) what.CommaOrClose) (λ closed. gives (m ∷ ms)) (one_passes last (the_mark Close) what.CommaOrClose) (λ closed. gives_passes (m ∷ ms))))
+    (λ m. then others (third m) (all_pass (the_sign Comma) (λ k at. marker_at last) (λ k at. marker_passes last) (gives []) (λ r. refl))
+    (λ ms. then (one_token last (the_sign Close) what.CommaOrClose) (λ closed. gives (m ∷ ms)) (one_passes last (the_sign Close) what.CommaOrClose) (λ closed. gives_passes (m ∷ ms))))
 
 abbrev entry_of : NameAt → List MarkerTree → NamedEntry
 entry_of n ms = record { name = n; markers = ms }
@@ -120,9 +124,9 @@ entry_of n ms = record { name = n; markers = ms }
 entry_passes : (last k : ℕ) (n : NameAt) → Passes (entry_at last k n)
 unfolding entry_at
 entry_passes last k n =
-    let markers = if_next (the_mark Open) (λ at. markers_at last) (gives []) in
+    let markers = if_next (the_sign Open) (λ at. markers_at last) (gives []) in
     then (at_most 1000 k n) (λ n. markers >>= λ ms. gives (entry_of n ms)) (most_passes 1000 k n)
-    (λ n. then markers (λ ms. gives (entry_of n ms)) (next_passes (the_mark Open) (λ at. markers_at last) (gives []) (λ at. markers_pass last) (λ r. refl)) (λ ms. gives_passes (entry_of n ms)))
+    (λ n. then markers (λ ms. gives (entry_of n ms)) (next_passes (the_sign Open) (λ at. markers_at last) (gives []) (λ at. markers_pass last) (λ r. refl)) (λ ms. gives_passes (entry_of n ms)))
 
 abbrev file_of : List PartTree → Option PartTree → List (SessionOf NameAt) → List (List NamedEntry) → FileTree
 file_of setups teardown ss perms = record { setups = setups; teardown = teardown; sessions = ss; perms = perms }
@@ -131,16 +135,16 @@ file_of setups teardown ss perms = record { setups = setups; teardown = teardown
 pub file_passes : (last : ℕ) (r : Rest) → Whole (r.0 ++ r.1) (file_at last r)
 unfolding file_at
 file_passes last =
-    let setups = many_of (the_keyword Setup) (λ k at. spec_block last) (gives []) in
-    let sessions = many_of (the_keyword Session) (λ k at. session_at last) (expected last what.Session) in
+    let setups = many_of (the_word Setup) (λ k at. spec_block last) (gives []) in
+    let sessions = many_of (the_word Session) (λ k at. session_at last) (expected last what.Session) in
     let entries = many_of the_name (entry_at last) (expected last what.Name) in
-    let perms = many_of (the_keyword Permutation) (λ k at. entries) (gives []) in
+    let perms = many_of (the_word Permutation) (λ k at. entries) (gives []) in
     let ending : FileTree → SpecReader FileTree = λ f. if_next Some (λ t r. Err (faults.Expected what.Item t.span.start)) (gives f) in
     let fourth : List PartTree → Option PartTree → List (SessionOf NameAt) → SpecReader FileTree = λ us t ss. perms >>= λ ps. ending (file_of us t ss ps) in
     let third : List PartTree → Option PartTree → SpecReader FileTree = λ us t. sessions >>= fourth us t in
     let second : List PartTree → SpecReader FileTree = λ us. maybe_block last Teardown >>= third us in
-    then setups second (all_pass (the_keyword Setup) (λ k at. spec_block last) (λ k at. block_passes last) (gives []) (λ r. refl))
+    then setups second (all_pass (the_word Setup) (λ k at. spec_block last) (λ k at. block_passes last) (gives []) (λ r. refl))
     (λ us. then (maybe_block last Teardown) (third us) (maybe_passes last Teardown)
-    (λ t. then sessions (fourth us t) (all_pass (the_keyword Session) (λ k at. session_at last) (λ k at. session_passes last) (expected last what.Session) (λ r. tt))
-    (λ ss. then perms (λ ps. ending (file_of us t ss ps)) (all_pass (the_keyword Permutation) (λ k at. entries) (λ k at. all_pass the_name (entry_at last) (entry_passes last) (expected last what.Name) (λ r. tt)) (gives []) (λ r. refl))
+    (λ t. then sessions (fourth us t) (all_pass (the_word Session) (λ k at. session_at last) (λ k at. session_passes last) (expected last what.Session) (λ r. tt))
+    (λ ss. then perms (λ ps. ending (file_of us t ss ps)) (all_pass (the_word Permutation) (λ k at. entries) (λ k at. all_pass the_name (entry_at last) (entry_passes last) (expected last what.Name) (λ r. tt)) (gives []) (λ r. refl))
     (λ ps. next_passes Some (λ t r. Err (faults.Expected what.Item t.span.start)) (gives (file_of us t ss ps)) (λ t r. tt) (gives_passes (file_of us t ss ps))))))

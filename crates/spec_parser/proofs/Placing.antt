@@ -1,6 +1,6 @@
 -- Reading as it is told is reading as the code does it, with the place of a stop put in.
-use Rattle.std.proofs.Common.{◌≡◌, ◌≤◌, ◌<◌, ℕ, zero, suc, ◌+◌, Bool, true, false, cond, List, [], ◌∷◌, ◌++◌, length, take, append_assoc, length-append, Option, Some, None, Result, Ok, Err, refl, sym, ap, ◌∙◌, add-one, arith}
-use Rattle.std.specs.Prelude.{nat_lt, nat_le, unwrap_or, option_map, find, is_some, map, count_by}
+use Rattle.std.proofs.Common.{◌≡◌, ℕ, zero, suc, ◌+◌, Bool, true, false, cond, List, [], ◌∷◌, ◌++◌, length, take, append_assoc, length-append, Option, Some, None, Result, Ok, Err, refl, sym, ap, ◌∙◌, add-one, arith}
+use Rattle.std.specs.Prelude.{nat_lt, nat_le, unwrap_or, option_map, find, is_some, map}
 use Rattle.std.specs.List.{enumerate_from}
 use Rattle.std.proofs.Math.Seq.{take-append_seam}
 use Rattle.std.proofs.lemmas.List.Sums.{sum_by-cons}
@@ -11,17 +11,17 @@ use Rattle.iso_lexer.specs.declared.spec_token.Keyword.{Keyword}
 use Rattle.iso_lexer.specs.declared.spec_token.Keyword.TheVariants.{Permutation, Session, Setup, Step, Teardown, Notices}
 use Rattle.iso_lexer.specs.declared.spec_token.Sign.{Sign}
 use Rattle.iso_lexer.specs.declared.spec_token.Sign.TheVariants.{Open, Close, Comma, Star}
-use Rattle.iso_lexer.specs.SpecTokens.{Token, keyword, name, digits, sign, block}
+use Rattle.iso_lexer.specs.SpecTokens.{Token, keyword, name, sign, block}
 use Rattle.iso_lexer.specs.Results.{if_ok, each}
-use Rattle.iso_lexer.specs.Readers.{◌>>=◌, gives, place_of}
+use Rattle.iso_lexer.specs.Readers.{◌>>=◌, gives}
 use Rattle.spec_parser.specs.declared.fault.What.{What}
 use Rattle.spec_parser.specs.declared.fault.What.TheVariants as what
-use Rattle.spec_parser.specs.declared.fault.Stop.TheVariants.{Expected, NoticesLeftOut, OverLimit}
+use Rattle.spec_parser.specs.declared.fault.Stop.TheVariants.{Expected, NoticesLeftOut}
 use Rattle.spec_parser.specs.declared.fault.SpecFault.{SpecFault}
 use Rattle.spec_parser.specs.declared.fault.SpecFault.TheVariants as faults
 use Rattle.spec_parser.specs.Trees.{PartTree, NameAt, StepOf, SessionOf, MarkerTree, star, named, NamedEntry, FileTree, SpecTree}
 use Rattle.spec_parser.specs.Counts.{Counts, start, past, past_token}
-use Rattle.spec_parser.specs.Reading.{Rest, SpecReader, Kind, the_keyword, the_mark, the_name, the_block, count, if_next, many_from, many_of, at_most, expected, one_token, spec_block}
+use Rattle.spec_parser.specs.Reading.{SpecReader, Kind, the_word, the_sign, the_name, the_block, count, if_next, many_from, many_of, at_most, expected, one_token, spec_block}
 use Rattle.spec_parser.specs.Reading as new
 use Rattle.spec_parser.specs.Grammar.{is_word, is_sign, is_name, a_name, a_block}
 use Rattle.spec_parser.specs.Names.{StepAt, is_named, first_repeated, steps_of, names_resolved, session_tree, known_entry}
@@ -29,6 +29,7 @@ use Rattle.spec_parser.specs.Faults.{stopped}
 use Rattle.spec_parser.specs.Inner.Known.{first_repeat, resolved}
 use Rattle.spec_parser.specs.Inner.Stopping.{Rest as Left, Read, Reader, and_then, starts, token_at, next, name_at, block_at, end_at, name_within, many_at, all_at, some_at, maybe_at, place, block_after, maybe_block, step_at, session_at, no_notices, marker_at, markers_at, entry_at, perm_at, file_at, told, finished}
 use Rattle.spec_parser.proofs.Local.{past_twice}
+use Rattle.spec_parser.proofs.Passing.{Rest}
 
 -- ---- words of reading
 
@@ -80,13 +81,13 @@ blocks_at (keyword Session) span c = omega arith
 blocks_at (keyword Step) span c = omega arith
 blocks_at _ span c = omega arith
 
-steps_at : (tok : Token) (span : Span) (c : Counts) → (past_token tok c).steps ≡ c.steps + cond (is_some (the_keyword Step (record { tok = tok; span = span }))) 1 0
+steps_at : (tok : Token) (span : Span) (c : Counts) → (past_token tok c).steps ≡ c.steps + cond (is_some (the_word Step (record { tok = tok; span = span }))) 1 0
 steps_at (keyword Step) span c = refl
 steps_at (keyword Session) span c = omega arith
 steps_at (block n b) span c = omega arith
 steps_at _ span c = omega arith
 
-sessions_at : (tok : Token) (span : Span) (c : Counts) → (past_token tok c).sessions ≡ c.sessions + cond (is_some (the_keyword Session (record { tok = tok; span = span }))) 1 0
+sessions_at : (tok : Token) (span : Span) (c : Counts) → (past_token tok c).sessions ≡ c.sessions + cond (is_some (the_word Session (record { tok = tok; span = span }))) 1 0
 sessions_at (keyword Session) span c = refl
 sessions_at (keyword Step) span c = omega arith
 sessions_at (block n b) span c = omega arith
@@ -97,11 +98,11 @@ counted : {A : Type 0} (kind : Kind A) (of : Counts → ℕ) → ((t : At Token)
 counted kind of one c [] = omega arith
 counted kind of one c (t ∷ ts) = let here = one t c in let later = counted kind of one (past_token t.tok c) ts in let more = sum_by-cons (λ u. cond (is_some (kind u)) 1 0) t ts in omega arith
 
-steps_counted : (b : List (At Token)) → (past start b).steps ≡ count (the_keyword Step) b
-steps_counted b = let all = counted (the_keyword Step) (λ c. c.steps) (λ t c. steps_at t.tok t.span c) start b in omega arith
+steps_counted : (b : List (At Token)) → (past start b).steps ≡ count (the_word Step) b
+steps_counted b = let all = counted (the_word Step) (λ c. c.steps) (λ t c. steps_at t.tok t.span c) start b in omega arith
 
-sessions_counted : (b : List (At Token)) → (past start b).sessions ≡ count (the_keyword Session) b
-sessions_counted b = let all = counted (the_keyword Session) (λ c. c.sessions) (λ t c. sessions_at t.tok t.span c) start b in omega arith
+sessions_counted : (b : List (At Token)) → (past start b).sessions ≡ count (the_word Session) b
+sessions_counted b = let all = counted (the_word Session) (λ c. c.sessions) (λ t c. sessions_at t.tok t.span c) start b in omega arith
 
 blocks_counted : (b : List (At Token)) → (past start b).blocks ≡ count (the_block 0) b
 blocks_counted b = let all = counted (the_block 0) (λ c. c.blocks) (λ t c. blocks_at t.tok t.span c) start b in omega arith
@@ -215,28 +216,28 @@ unfolding taken
 place_begins last kind p says w behind item same (b, []) = no refl refl
 place_begins last kind p says w behind item same (b, t ∷ ts) = place_by last kind p w behind item same b t ts (p t.tok) refl (says t)
 
-word_says : (k : Keyword) (tok : Token) (span : Span) → the_keyword k (record { tok = tok; span = span }) ≡ cond (is_word k tok) (Some span.start) None
+word_says : (k : Keyword) (tok : Token) (span : Span) → the_word k (record { tok = tok; span = span }) ≡ cond (is_word k tok) (Some span.start) None
 word_says k (keyword j) span = refl
 word_says k _ span = refl
 
-word_begins : {B : Type 0} (last : ℕ) (k : Keyword) (w : What) (behind : ℕ → SpecReader B) (item : Reader B) → ((at : ℕ) → Same last (behind at) item) → (r : Rest) → Begins last (the_keyword k) (starts (is_word k)) behind (λ r. and_then (next (is_word k) w r) (λ x. item x.1)) r
-word_begins last k = place_begins last (the_keyword k) (is_word k) (λ t. word_says k t.tok t.span)
+word_begins : {B : Type 0} (last : ℕ) (k : Keyword) (w : What) (behind : ℕ → SpecReader B) (item : Reader B) → ((at : ℕ) → Same last (behind at) item) → (r : Rest) → Begins last (the_word k) (starts (is_word k)) behind (λ r. and_then (next (is_word k) w r) (λ x. item x.1)) r
+word_begins last k = place_begins last (the_word k) (is_word k) (λ t. word_says k t.tok t.span)
 
-sign_says : (g : Sign) (tok : Token) (span : Span) → the_mark g (record { tok = tok; span = span }) ≡ cond (is_sign g tok) (Some span.start) None
+sign_says : (g : Sign) (tok : Token) (span : Span) → the_sign g (record { tok = tok; span = span }) ≡ cond (is_sign g tok) (Some span.start) None
 sign_says g (sign h) span = refl
 sign_says g _ span = refl
 
-sign_begins : {B : Type 0} (last : ℕ) (g : Sign) (w : What) (behind : ℕ → SpecReader B) (item : Reader B) → ((at : ℕ) → Same last (behind at) item) → (r : Rest) → Begins last (the_mark g) (starts (is_sign g)) behind (λ r. and_then (next (is_sign g) w r) (λ x. item x.1)) r
-sign_begins last g = place_begins last (the_mark g) (is_sign g) (λ t. sign_says g t.tok t.span)
+sign_begins : {B : Type 0} (last : ℕ) (g : Sign) (w : What) (behind : ℕ → SpecReader B) (item : Reader B) → ((at : ℕ) → Same last (behind at) item) → (r : Rest) → Begins last (the_sign g) (starts (is_sign g)) behind (λ r. and_then (next (is_sign g) w r) (λ x. item x.1)) r
+sign_begins last g = place_begins last (the_sign g) (is_sign g) (λ t. sign_says g t.tok t.span)
 
 -- a sign that has to stand here
-mark_by : {B : Type 0} (last : ℕ) (g : Sign) (w : What) (v : B) (b : List (At Token)) (t : At Token) (ts : List (At Token)) (is : Bool) → is_sign g t.tok ≡ is → the_mark g t ≡ cond is (Some t.span.start) None
-    → Sees last (if_ok (one_token last (the_mark g) w (b, t ∷ ts)) (λ x. gives v x.1)) (and_then (next (is_sign g) w (seen (b, t ∷ ts))) (λ x. (Ok v, x.1)))
+mark_by : {B : Type 0} (last : ℕ) (g : Sign) (w : What) (v : B) (b : List (At Token)) (t : At Token) (ts : List (At Token)) (is : Bool) → is_sign g t.tok ≡ is → the_sign g t ≡ cond is (Some t.span.start) None
+    → Sees last (if_ok (one_token last (the_sign g) w (b, t ∷ ts)) (λ x. gives v x.1)) (and_then (next (is_sign g) w (seen (b, t ∷ ts))) (λ x. (Ok v, x.1)))
 unfolding next
 mark_by last g w v b t ts true e says = rw (says, e) (ap (λ c. Ok (v, (c, ts))) (step_past b t))
 mark_by last g w v b t ts false e says = rw (says, e) refl
 
-mark_same : {B : Type 0} (last : ℕ) (g : Sign) (w : What) (v : B) (r : Rest) → Sees last (if_ok (one_token last (the_mark g) w r) (λ x. gives v x.1)) (and_then (next (is_sign g) w (seen r)) (λ x. (Ok v, x.1)))
+mark_same : {B : Type 0} (last : ℕ) (g : Sign) (w : What) (v : B) (r : Rest) → Sees last (if_ok (one_token last (the_sign g) w r) (λ x. gives v x.1)) (and_then (next (is_sign g) w (seen r)) (λ x. (Ok v, x.1)))
 unfolding next
 mark_same last g w v (b, []) = refl
 mark_same last g w v (b, t ∷ ts) = mark_by last g w v b t ts (is_sign g t.tok) refl (sign_says g t.tok t.span)
@@ -246,8 +247,8 @@ mark_same last g w v (b, t ∷ ts) = mark_by last g w v b t ts (is_sign g t.tok)
 maybe_block_same : (last : ℕ) (k : Keyword) → Same last (new.maybe_block last k) (maybe_block k)
 unfolding new.maybe_block maybe_block maybe_at block_after
 maybe_block_same last k r =
-    choice_by last (the_keyword k) (starts (is_word k)) (λ at. spec_block last >>= λ b. gives (Some b)) (λ m. and_then (block_after k m) (λ b. (Ok (Some b.0), b.1))) (gives None) (λ m. (Ok None, m)) r
-    (begins_then last (the_keyword k) (starts (is_word k)) (λ at. spec_block last) (block_after k) (λ b. (Ok (Some b.0), b.1)) (λ b. gives (Some b)) (λ b m. refl) r
+    choice_by last (the_word k) (starts (is_word k)) (λ at. spec_block last >>= λ b. gives (Some b)) (λ m. and_then (block_after k m) (λ b. (Ok (Some b.0), b.1))) (gives None) (λ m. (Ok None, m)) r
+    (begins_then last (the_word k) (starts (is_word k)) (λ at. spec_block last) (block_after k) (λ b. (Ok (Some b.0), b.1)) (λ b. gives (Some b)) (λ b m. refl) r
     (word_begins last k what.Item (λ at. spec_block last) block_at (λ at. block_same last) r)) refl
 
 next_number : (number k most : ℕ) → number ≡ k + 1 → nat_le number most ≡ nat_lt k most
@@ -277,12 +278,12 @@ step_of n b = record { name = n; part = b }
 abbrev behind_step : ℕ → Reader (StepOf NameAt)
 behind_step before m = and_then (name_within before 1000 m) (λ n. and_then (block_at n.1) (λ b. (Ok (step_of n.0 b.0), b.1)))
 
-step_body : (last before : ℕ) (m : Rest) → count (the_keyword Step) m.0 ≡ before + 1 → Sees last (new.step_at last m) (behind_step before (seen m))
+step_body : (last before : ℕ) (m : Rest) → count (the_word Step) m.0 ≡ before + 1 → Sees last (new.step_at last m) (behind_step before (seen m))
 unfolding new.step_at
-step_body last before m is = then last (one_token last the_name what.Name >>= at_most 1000 (count (the_keyword Step) m.0)) (name_within before 1000) _ (λ n. spec_block last >>= λ b. gives (step_of n b)) (within_same last (count (the_keyword Step) m.0) before 1000 is)
+step_body last before m is = then last (one_token last the_name what.Name >>= at_most 1000 (count (the_word Step) m.0)) (name_within before 1000) _ (λ n. spec_block last >>= λ b. gives (step_of n b)) (within_same last (count (the_word Step) m.0) before 1000 is)
     (λ n l. then last (spec_block last) block_at _ (λ b. gives (step_of n b)) (block_same last) (λ b o. refl) l) m
 
-step_at_token : (last : ℕ) (b : List (At Token)) (tok : Token) (span : Span) (ts : List (At Token)) → Begins last (the_keyword Step) (starts (is_word Step)) (λ at. new.step_at last) step_at (b, record { tok = tok; span = span } ∷ ts)
+step_at_token : (last : ℕ) (b : List (At Token)) (tok : Token) (span : Span) (ts : List (At Token)) → Begins last (the_word Step) (starts (is_word Step)) (λ at. new.step_at last) step_at (b, record { tok = tok; span = span } ∷ ts)
 unfolding taken next step_at
 step_at_token last b (keyword Step) span ts =
     let t : At Token = record { tok = keyword Step; span = span } in
@@ -290,7 +291,7 @@ step_at_token last b (keyword Step) span ts =
     (step_body last (past start b).steps (b ++ t ∷ [], ts) (sym (steps_counted (b ++ t ∷ [])) ∙ ap (λ (c : Counts). c.steps) (step_past b t)) ∙ ap (λ c. told last (behind_step (past start b).steps (c, ts))) (step_past b t))
 step_at_token last b _ span ts = no refl refl
 
-step_begins : (last : ℕ) (r : Rest) → Begins last (the_keyword Step) (starts (is_word Step)) (λ at. new.step_at last) step_at r
+step_begins : (last : ℕ) (r : Rest) → Begins last (the_word Step) (starts (is_word Step)) (λ at. new.step_at last) step_at r
 unfolding taken
 step_begins last (b, []) = no refl refl
 step_begins last (b, t ∷ ts) = step_at_token last b t.tok t.span ts
@@ -302,19 +303,19 @@ abbrev behind_session : ℕ → Reader (SessionOf NameAt)
 behind_session before m = and_then (name_within before 64 m) (λ n. and_then (maybe_block Setup n.1) (λ setup. and_then (some_at what.Step (starts (is_word Step)) (λ k. step_at) setup.1)
     (λ ss. and_then (maybe_block Teardown ss.1) (λ teardown. (Ok (session_of n.0 setup.0 ss.0 teardown.0), teardown.1)))))
 
-session_body : (last before : ℕ) (m : Rest) → count (the_keyword Session) m.0 ≡ before + 1 → Sees last (new.session_at last m) (behind_session before (seen m))
+session_body : (last before : ℕ) (m : Rest) → count (the_word Session) m.0 ≡ before + 1 → Sees last (new.session_at last m) (behind_session before (seen m))
 unfolding new.session_at
 session_body last before m is =
-    let steps = many_of (the_keyword Step) (λ k at. new.step_at last) (expected last what.Step) in
+    let steps = many_of (the_word Step) (λ k at. new.step_at last) (expected last what.Step) in
     let fourth : NameAt → Option PartTree → List (StepOf NameAt) → SpecReader (SessionOf NameAt) = λ n setup ss. new.maybe_block last Teardown >>= λ teardown. gives (session_of n setup ss teardown) in
     let third : NameAt → Option PartTree → SpecReader (SessionOf NameAt) = λ n setup. steps >>= fourth n setup in
     let second : NameAt → SpecReader (SessionOf NameAt) = λ n. new.maybe_block last Setup >>= third n in
-    then last (one_token last the_name what.Name >>= at_most 64 (count (the_keyword Session) m.0)) (name_within before 64) _ second (within_same last (count (the_keyword Session) m.0) before 64 is)
+    then last (one_token last the_name what.Name >>= at_most 64 (count (the_word Session) m.0)) (name_within before 64) _ second (within_same last (count (the_word Session) m.0) before 64 is)
     (λ n. then last (new.maybe_block last Setup) (maybe_block Setup) _ (third n) (maybe_block_same last Setup)
-    (λ setup. then last steps (some_at what.Step (starts (is_word Step)) (λ k. step_at)) _ (fourth n setup) (some_same last (the_keyword Step) (starts (is_word Step)) (λ k at. new.step_at last) (λ k. step_at) (λ k. step_begins last) what.Step)
+    (λ setup. then last steps (some_at what.Step (starts (is_word Step)) (λ k. step_at)) _ (fourth n setup) (some_same last (the_word Step) (starts (is_word Step)) (λ k at. new.step_at last) (λ k. step_at) (λ k. step_begins last) what.Step)
     (λ ss. then last (new.maybe_block last Teardown) (maybe_block Teardown) _ (λ teardown. gives (session_of n setup ss teardown)) (maybe_block_same last Teardown) (λ teardown o. refl)))) m
 
-session_at_token : (last : ℕ) (b : List (At Token)) (tok : Token) (span : Span) (ts : List (At Token)) → Begins last (the_keyword Session) (starts (is_word Session)) (λ at. new.session_at last) session_at (b, record { tok = tok; span = span } ∷ ts)
+session_at_token : (last : ℕ) (b : List (At Token)) (tok : Token) (span : Span) (ts : List (At Token)) → Begins last (the_word Session) (starts (is_word Session)) (λ at. new.session_at last) session_at (b, record { tok = tok; span = span } ∷ ts)
 unfolding taken next session_at
 session_at_token last b (keyword Session) span ts =
     let t : At Token = record { tok = keyword Session; span = span } in
@@ -322,18 +323,18 @@ session_at_token last b (keyword Session) span ts =
     (session_body last (past start b).sessions (b ++ t ∷ [], ts) (sym (sessions_counted (b ++ t ∷ [])) ∙ ap (λ (c : Counts). c.sessions) (step_past b t)) ∙ ap (λ c. told last (behind_session (past start b).sessions (c, ts))) (step_past b t))
 session_at_token last b _ span ts = no refl refl
 
-session_begins : (last : ℕ) (r : Rest) → Begins last (the_keyword Session) (starts (is_word Session)) (λ at. new.session_at last) session_at r
+session_begins : (last : ℕ) (r : Rest) → Begins last (the_word Session) (starts (is_word Session)) (λ at. new.session_at last) session_at r
 unfolding taken
 session_begins last (b, []) = no refl refl
 session_begins last (b, t ∷ ts) = session_at_token last b t.tok t.span ts
 
-notices_by : (last : ℕ) (n : NameAt) (b : List (At Token)) (t : At Token) (ts : List (At Token)) (is : Bool) → is_word Notices t.tok ≡ is → the_keyword Notices t ≡ cond is (Some t.span.start) None
-    → Sees last (if_next (the_keyword Notices) (λ at r. Err (faults.NoticesLeftOut at)) (gives (named n)) (b, t ∷ ts)) (no_notices n (seen (b, t ∷ ts)))
+notices_by : (last : ℕ) (n : NameAt) (b : List (At Token)) (t : At Token) (ts : List (At Token)) (is : Bool) → is_word Notices t.tok ≡ is → the_word Notices t ≡ cond is (Some t.span.start) None
+    → Sees last (if_next (the_word Notices) (λ at r. Err (faults.NoticesLeftOut at)) (gives (named n)) (b, t ∷ ts)) (no_notices n (seen (b, t ∷ ts)))
 unfolding no_notices
 notices_by last n b t ts true e says = rw (says, e) refl
 notices_by last n b t ts false e says = rw (says, e) refl
 
-notices_same : (last : ℕ) (n : NameAt) (r : Rest) → Sees last (if_next (the_keyword Notices) (λ at r. Err (faults.NoticesLeftOut at)) (gives (named n)) r) (no_notices n (seen r))
+notices_same : (last : ℕ) (n : NameAt) (r : Rest) → Sees last (if_next (the_word Notices) (λ at r. Err (faults.NoticesLeftOut at)) (gives (named n)) r) (no_notices n (seen r))
 unfolding no_notices
 notices_same last n (b, []) = refl
 notices_same last n (b, t ∷ ts) = notices_by last n b t ts (is_word Notices t.tok) refl (word_says Notices t.tok t.span)
@@ -341,31 +342,31 @@ notices_same last n (b, t ∷ ts) = notices_by last n b t ts (is_word Notices t.
 marker_same : (last : ℕ) → Same last (new.marker_at last) marker_at
 unfolding new.marker_at marker_at
 marker_same last r =
-    choice_by last (the_mark Star) (starts (is_sign Star)) (λ at. gives star) (λ m. and_then (next (is_sign Star) what.Marker m) (λ x. (Ok star, x.1)))
-    (one_token last the_name what.Marker >>= λ n. if_next (the_keyword Notices) (λ at r. Err (faults.NoticesLeftOut at)) (gives (named n))) (λ m. and_then (name_at what.Marker m) (λ n. no_notices n.0 n.1)) r
+    choice_by last (the_sign Star) (starts (is_sign Star)) (λ at. gives star) (λ m. and_then (next (is_sign Star) what.Marker m) (λ x. (Ok star, x.1)))
+    (one_token last the_name what.Marker >>= λ n. if_next (the_word Notices) (λ at r. Err (faults.NoticesLeftOut at)) (gives (named n))) (λ m. and_then (name_at what.Marker m) (λ n. no_notices n.0 n.1)) r
     (sign_begins last Star what.Marker (λ at. gives star) (λ m. (Ok star, m)) (λ at m. refl) r)
-    (then last (one_token last the_name what.Marker) (name_at what.Marker) _ (λ n. if_next (the_keyword Notices) (λ at r. Err (faults.NoticesLeftOut at)) (gives (named n))) (name_same last what.Marker) (notices_same last) r)
+    (then last (one_token last the_name what.Marker) (name_at what.Marker) _ (λ n. if_next (the_word Notices) (λ at r. Err (faults.NoticesLeftOut at)) (gives (named n))) (name_same last what.Marker) (notices_same last) r)
 
 -- one more marker, as the code reads it
 abbrev next_marker : Reader MarkerTree
 next_marker r = and_then (next (is_sign Comma) what.CommaOrClose r) (λ x. marker_at x.1)
 
-next_marker_begins : (last : ℕ) (r : Rest) → Begins last (the_mark Comma) (starts (is_sign Comma)) (λ at. new.marker_at last) next_marker r
+next_marker_begins : (last : ℕ) (r : Rest) → Begins last (the_sign Comma) (starts (is_sign Comma)) (λ at. new.marker_at last) next_marker r
 next_marker_begins last r = sign_begins last Comma what.CommaOrClose (λ at. new.marker_at last) marker_at (λ at. marker_same last) r
 
 markers_behind : (last : ℕ) (r : Rest) → Sees last (new.markers_at last r) (and_then (marker_at (seen r)) (λ m. and_then (all_at (starts (is_sign Comma)) (λ k. next_marker) m.1)
     (λ others. and_then (next (is_sign Close) what.CommaOrClose others.1) (λ x. (Ok (m.0 ∷ others.0), x.1)))))
 unfolding new.markers_at
 markers_behind last r =
-    let others = many_of (the_mark Comma) (λ k at. new.marker_at last) (gives []) in
-    let third : MarkerTree → List MarkerTree → SpecReader (List MarkerTree) = λ m ms. one_token last (the_mark Close) what.CommaOrClose >>= λ closed. gives (m ∷ ms) in
+    let others = many_of (the_sign Comma) (λ k at. new.marker_at last) (gives []) in
+    let third : MarkerTree → List MarkerTree → SpecReader (List MarkerTree) = λ m ms. one_token last (the_sign Close) what.CommaOrClose >>= λ closed. gives (m ∷ ms) in
     let second : MarkerTree → SpecReader (List MarkerTree) = λ m. others >>= third m in
     then last (new.marker_at last) marker_at _ second (marker_same last)
     (λ m. then last others (all_at (starts (is_sign Comma)) (λ k. next_marker)) _ (third m)
-    (all_same last (the_mark Comma) (starts (is_sign Comma)) (λ k at. new.marker_at last) (λ k. next_marker) (λ k. next_marker_begins last))
+    (all_same last (the_sign Comma) (starts (is_sign Comma)) (λ k at. new.marker_at last) (λ k. next_marker) (λ k. next_marker_begins last))
     (λ ms. mark_same last Close what.CommaOrClose (m ∷ ms))) r
 
-markers_begin : (last : ℕ) (r : Rest) → Begins last (the_mark Open) (starts (is_sign Open)) (λ at. new.markers_at last) markers_at r
+markers_begin : (last : ℕ) (r : Rest) → Begins last (the_sign Open) (starts (is_sign Open)) (λ at. new.markers_at last) markers_at r
 unfolding markers_at
 markers_begin last r = sign_begins last Open what.Item (λ at. new.markers_at last) _ (λ at. markers_behind last) r
 
@@ -374,7 +375,7 @@ entry_of n ms = record { name = n; markers = ms }
 
 -- the rest of an entry, as it is told, and as the code reads it
 abbrev entry_told : ℕ → NameAt → SpecReader NamedEntry
-entry_told last n = if_next (the_mark Open) (λ at. new.markers_at last) (gives []) >>= λ ms. gives (entry_of n ms)
+entry_told last n = if_next (the_sign Open) (λ at. new.markers_at last) (gives []) >>= λ ms. gives (entry_of n ms)
 
 abbrev entry_read : NameAt → Reader NamedEntry
 entry_read n r = and_then (maybe_at (starts (is_sign Open)) markers_at r) (λ ms. (Ok (entry_of n (unwrap_or ms.0 [])), ms.1))
@@ -383,10 +384,10 @@ made_some : (last : ℕ) (n : NameAt) (q : Read (List MarkerTree)) → told last
 made_some last n (Ok ms, m) = refl
 made_some last n (Err s, m) = refl
 
-maybe_by : (last : ℕ) (n : NameAt) (r : Rest) → Begins last (the_mark Open) (starts (is_sign Open)) (λ at. new.markers_at last) markers_at r → Sees last (entry_told last n r) (entry_read n (seen r))
+maybe_by : (last : ℕ) (n : NameAt) (r : Rest) → Begins last (the_sign Open) (starts (is_sign Open)) (λ at. new.markers_at last) markers_at r → Sees last (entry_told last n r) (entry_read n (seen r))
 unfolding maybe_at
-maybe_by last n r (no t b) = ap (λ o. seen_in (if_ok o (λ ms. gives (entry_of n ms.0) ms.1))) (by_taken (the_mark Open) (λ at. new.markers_at last) (gives []) r) ∙ rw (t, b) refl
-maybe_by last n r (yes x m t b is) = ap (λ o. seen_in (if_ok o (λ ms. gives (entry_of n ms.0) ms.1))) (by_taken (the_mark Open) (λ at. new.markers_at last) (gives []) r)
+maybe_by last n r (no t b) = ap (λ o. seen_in (if_ok o (λ ms. gives (entry_of n ms.0) ms.1))) (by_taken (the_sign Open) (λ at. new.markers_at last) (gives []) r) ∙ rw (t, b) refl
+maybe_by last n r (yes x m t b is) = ap (λ o. seen_in (if_ok o (λ ms. gives (entry_of n ms.0) ms.1))) (by_taken (the_sign Open) (λ at. new.markers_at last) (gives []) r)
     ∙ rw (t, b) (seq last (new.markers_at last m) (markers_at (seen r)) (λ ms. (Ok (entry_of n ms.0), ms.1)) (λ ms. gives (entry_of n ms)) is (λ ms l. refl) ∙ made_some last n (markers_at (seen r)))
 
 entry_at_token : (last k : ℕ) (b : List (At Token)) (tok : Token) (span : Span) (ts : List (At Token)) → Begins last the_name (starts is_name) (new.entry_at last (k + 1)) (entry_at k) (b, record { tok = tok; span = span } ∷ ts)
@@ -404,7 +405,7 @@ unfolding taken
 entry_begins last k (b, []) = no refl refl
 entry_begins last k (b, t ∷ ts) = entry_at_token last k b t.tok t.span ts
 
-perm_begins : (last : ℕ) (r : Rest) → Begins last (the_keyword Permutation) (starts (is_word Permutation)) (λ at. many_of the_name (new.entry_at last) (expected last what.Name)) perm_at r
+perm_begins : (last : ℕ) (r : Rest) → Begins last (the_word Permutation) (starts (is_word Permutation)) (λ at. many_of the_name (new.entry_at last) (expected last what.Name)) perm_at r
 unfolding perm_at
 perm_begins last r =
     word_begins last Permutation what.Item (λ at. many_of the_name (new.entry_at last) (expected last what.Name)) (some_at what.Name (starts is_name) entry_at) (λ at. some_same last the_name (starts is_name) (new.entry_at last) entry_at (entry_begins last) what.Name) r
@@ -417,9 +418,9 @@ end_same last f (b, t ∷ ts) = refl
 abbrev file_of : List PartTree → Option PartTree → List (SessionOf NameAt) → List (List NamedEntry) → FileTree
 file_of setups teardown ss perms = record { setups = setups; teardown = teardown; sessions = ss; perms = perms }
 
-setups_same : (last : ℕ) → Same last (many_of (the_keyword Setup) (λ k at. spec_block last) (gives [])) (all_at (starts (is_word Setup)) (λ k. block_after Setup))
+setups_same : (last : ℕ) → Same last (many_of (the_word Setup) (λ k at. spec_block last) (gives [])) (all_at (starts (is_word Setup)) (λ k. block_after Setup))
 unfolding block_after
-setups_same last = all_same last (the_keyword Setup) (starts (is_word Setup)) (λ k at. spec_block last) (λ k. block_after Setup) (λ k. word_begins last Setup what.Item (λ at. spec_block last) block_at (λ at. block_same last))
+setups_same last = all_same last (the_word Setup) (starts (is_word Setup)) (λ k at. spec_block last) (λ k. block_after Setup) (λ k. word_begins last Setup what.Item (λ at. spec_block last) block_at (λ at. block_same last))
 
 -- what the code reads as a fault is told as that fault
 pub fault_is : (p : Result (FileTree × Rest) SpecFault) (x : SpecFault) → seen_in p ≡ Err x → p ≡ Err x
@@ -429,17 +430,17 @@ fault_is (Err y) x e = ap Err (err_same {A = FileTree} y x e)
 pub file_same : (last : ℕ) → Same last (new.file_at last) file_at
 unfolding new.file_at file_at
 file_same last r =
-    let setups = many_of (the_keyword Setup) (λ k at. spec_block last) (gives []) in
-    let sessions = many_of (the_keyword Session) (λ k at. new.session_at last) (expected last what.Session) in
-    let perms = many_of (the_keyword Permutation) (λ k at. many_of the_name (new.entry_at last) (expected last what.Name)) (gives []) in
+    let setups = many_of (the_word Setup) (λ k at. spec_block last) (gives []) in
+    let sessions = many_of (the_word Session) (λ k at. new.session_at last) (expected last what.Session) in
+    let perms = many_of (the_word Permutation) (λ k at. many_of the_name (new.entry_at last) (expected last what.Name)) (gives []) in
     let ending : FileTree → SpecReader FileTree = λ f. if_next Some (λ t r. Err (faults.Expected what.Item t.span.start)) (gives f) in
     let fourth : List PartTree → Option PartTree → List (SessionOf NameAt) → SpecReader FileTree = λ us t ss. perms >>= λ ps. ending (file_of us t ss ps) in
     let third : List PartTree → Option PartTree → SpecReader FileTree = λ us t. sessions >>= fourth us t in
     let second : List PartTree → SpecReader FileTree = λ us. new.maybe_block last Teardown >>= third us in
     then last setups (all_at (starts (is_word Setup)) (λ k. block_after Setup)) _ second (setups_same last)
     (λ us. then last (new.maybe_block last Teardown) (maybe_block Teardown) _ (third us) (maybe_block_same last Teardown)
-    (λ t. then last sessions (some_at what.Session (starts (is_word Session)) (λ k. session_at)) _ (fourth us t) (some_same last (the_keyword Session) (starts (is_word Session)) (λ k at. new.session_at last) (λ k. session_at) (λ k. session_begins last) what.Session)
-    (λ ss. then last perms (all_at (starts (is_word Permutation)) (λ k. perm_at)) _ (λ ps. ending (file_of us t ss ps)) (all_same last (the_keyword Permutation) (starts (is_word Permutation)) (λ k at. many_of the_name (new.entry_at last) (expected last what.Name)) (λ k. perm_at) (λ k. perm_begins last))
+    (λ t. then last sessions (some_at what.Session (starts (is_word Session)) (λ k. session_at)) _ (fourth us t) (some_same last (the_word Session) (starts (is_word Session)) (λ k at. new.session_at last) (λ k. session_at) (λ k. session_begins last) what.Session)
+    (λ ss. then last perms (all_at (starts (is_word Permutation)) (λ k. perm_at)) _ (λ ps. ending (file_of us t ss ps)) (all_same last (the_word Permutation) (starts (is_word Permutation)) (λ k at. many_of the_name (new.entry_at last) (expected last what.Name)) (λ k. perm_at) (λ k. perm_begins last))
     (λ ps. end_same last (file_of us t ss ps))))) r
 
 -- ---- names

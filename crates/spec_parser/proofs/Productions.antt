@@ -18,7 +18,7 @@ use Rattle.spec_parser.specs.declared.fault.Stop.TheVariants.{Expected, NoticesL
 use Rattle.spec_parser.specs.Trees.{PartTree, NameAt, StepOf, SessionOf, MarkerTree, star, named, NamedEntry, FileTree}
 use Rattle.spec_parser.specs.Counts.{Counts}
 use Rattle.spec_parser.specs.Inner.Stopping.{Rest, next, name_at, block_at, end_at, name_within, block_after, maybe_block, step_at, session_at, no_notices, marker_at, markers_at, entry_at, perm_at, file_at}
-use Rattle.spec_parser.specs.Grammar.{a_name, a_block, is_word, is_sign, is_name, Grammar, gives, one, the_word, the_sign, Maybe, Many, none, some, first, second, block_behind, step, session, marker, markers, entry, perm, file}
+use Rattle.spec_parser.specs.Grammar.{a_name, a_block, is_word, is_sign, is_name, Grammar, gives, one, a_word, a_sign, Maybe, Many, none, some, first, second, block_behind, step, session, marker, markers, entry, perm, file}
 use Rattle.spec_parser.specs.Inner.Pieces.{starts_word, starts_sign, starts_name, word_at, sign_at, setup_at, teardown_at, setups_at, steps_at, sessions_at, next_marker_at, next_markers_at, some_markers_at, entries_at, perms_at}
 use Rattle.spec_parser.specs.Grammar.{◌>>=◌ as ◌▸◌}
 use Rattle.spec_parser.specs.Laws.{head, names_token}
@@ -35,11 +35,11 @@ same_itself k = true_same words k k refl
 same_sign_itself : (g : Sign) → is_sign g (sign g) ≡ true
 same_sign_itself g = true_same signs g g refl
 
-word_begins : (w : What) (k : Keyword) → names_token w (keyword k) ≡ true → Begins w (one (the_word k))
+word_begins : (w : What) (k : Keyword) → names_token w (keyword k) ≡ true → Begins w (one (a_word k))
 unfolding made
 word_begins w k e c = (made (keyword k) ∷ [], tt, (made (keyword k), refl, rw (same_itself k) refl), e)
 
-sign_begins : (w : What) (g : Sign) → names_token w (sign g) ≡ true → Begins w (one (the_sign g))
+sign_begins : (w : What) (g : Sign) → names_token w (sign g) ≡ true → Begins w (one (a_sign g))
 unfolding made
 sign_begins w g e c = (made (sign g) ∷ [], tt, (made (sign g), refl, rw (same_sign_itself g) refl), e)
 
@@ -58,21 +58,21 @@ block_inhabited : Inhabited (one a_block)
 block_inhabited = inhabited what.Block (one a_block) block_begins
 
 -- the word with which a part begins, where it stands
-word_local : (k : Keyword) (w : What) → LocalFrom (starts_word k) (one (the_word k)) (word_at k w)
+word_local : (k : Keyword) (w : What) → LocalFrom (starts_word k) (one (a_word k)) (word_at k w)
 unfolding next
 word_local k w = there_local (is_word k) w
 
-pub word_read : (k : Keyword) (w : What) → LocalRead (one (the_word k)) (word_at k w)
+pub word_read : (k : Keyword) (w : What) → LocalRead (one (a_word k)) (word_at k w)
 unfolding next
 word_read k w r after u e = word_local k w r.0 r.1 (was_there (is_word k) w r after u e)
 
-sign_local : (g : Sign) (w : What) → LocalFrom (starts_sign g) (one (the_sign g)) (sign_at g w)
+sign_local : (g : Sign) (w : What) → LocalFrom (starts_sign g) (one (a_sign g)) (sign_at g w)
 unfolding next
 sign_local g w = there_local (is_sign g) w
 
-close_local : AreLocal (one (the_sign Close)) (sign_at Close what.CommaOrClose)
+close_local : AreLocal (one (a_sign Close)) (sign_at Close what.CommaOrClose)
 unfolding next
-close_local = token_local (the_sign Close) what.CommaOrClose (sign_begins what.CommaOrClose Close refl)
+close_local = token_local (a_sign Close) what.CommaOrClose (sign_begins what.CommaOrClose Close refl)
 
 name_local : (w : What) → names_token w (name (plain [])) ≡ true → AreLocal (one a_name) (name_at w)
 unfolding name_at
@@ -93,7 +93,7 @@ name_within_local before most = choice (λ r. nat_lt before most) (name_at what.
 
 block_after_local : (k : Keyword) → LocalFrom (starts_word k) (block_behind k) (block_after k)
 unfolding block_after
-block_after_local k = start_then {G = one (the_word k)} {H = λ _. one a_block} (starts_word k) (word_at k what.Item) (λ key. block_at key.1) (word_local k what.Item) (λ _. block_inhabited) (λ _. block_local)
+block_after_local k = start_then {G = one (a_word k)} {H = λ _. one a_block} (starts_word k) (word_at k what.Item) (λ key. block_at key.1) (word_local k what.Item) (λ _. block_inhabited) (λ _. block_local)
 
 block_after_read : (k : Keyword) → LocalRead (block_behind k) (block_after k)
 unfolding block_after next
@@ -108,7 +108,7 @@ unfolding maybe_block
 teardown_local = maybe_local (block_behind Teardown) (starts_word Teardown) (block_after Teardown) (by_head (is_word Teardown)) (block_after_local Teardown)
 
 pub setups_local : AreLocal (Many (block_behind Setup)) setups_at
-setups_local = many_local (block_behind Setup) (starts_word Setup) (λ k. block_after Setup) (by_head (is_word Setup)) (λ c. refl) (first_takes (the_word Setup) (λ _. one a_block)) (λ k. block_after_local Setup)
+setups_local = many_local (block_behind Setup) (starts_word Setup) (λ k. block_after Setup) (by_head (is_word Setup)) (λ c. refl) (first_takes (a_word Setup) (λ _. one a_block)) (λ k. block_after_local Setup)
 
 -- ---- steps
 
@@ -122,14 +122,14 @@ after_step_inhabited : Inhabited (one a_name ▸ λ n. one a_block ▸ λ b. giv
 after_step_inhabited = seq_inhabited (one a_name) (λ n. one a_block ▸ λ b. gives (step_of n b)) name_inhabited step_end_inhabited
 
 step_begins : Begins what.Step step
-step_begins = seq_begins what.Step (one (the_word Step)) (λ _. one a_name ▸ λ n. one a_block ▸ λ b. gives (step_of n b)) (word_begins what.Step Step refl) (λ _. after_step_inhabited)
+step_begins = seq_begins what.Step (one (a_word Step)) (λ _. one a_name ▸ λ n. one a_block ▸ λ b. gives (step_of n b)) (word_begins what.Step Step refl) (λ _. after_step_inhabited)
 
 step_end_local : (n : NameAt) → AreLocal (one a_block ▸ λ b. gives (step_of n b)) (λ r. block_at r >>= λ b. (Ok (step_of n b.0), b.1))
 step_end_local n = then {G = one a_block} {H = λ b. gives (step_of n b)} block_at (λ b. (Ok (step_of n b.0), b.1)) block_local (λ b. gives_inhabited (step_of n b)) (λ b. gives_local (step_of n b))
 
 step_local : LocalFrom (starts_word Step) step step_at
 unfolding step_at
-step_local = then_from {G = one (the_word Step)} {H = λ _. one a_name ▸ λ n. one a_block ▸ λ b. gives (step_of n b)} (starts_word Step) (word_at Step what.Item)
+step_local = then_from {G = one (a_word Step)} {H = λ _. one a_name ▸ λ n. one a_block ▸ λ b. gives (step_of n b)} (starts_word Step) (word_at Step what.Item)
     (λ d key. name_within d.steps 1000 key.1 >>= λ n. block_at n.1 >>= λ b. (Ok (step_of n.0 b.0), b.1)) (word_local Step what.Item) (λ _. after_step_inhabited)
     (λ d _. then {G = one a_name} {H = λ n. one a_block ▸ λ b. gives (step_of n b)} (name_within d.steps 1000) (λ n. block_at n.1 >>= λ b. (Ok (step_of n.0 b.0), b.1)) (name_within_local d.steps 1000) step_end_inhabited step_end_local)
 
@@ -138,7 +138,7 @@ unfolding step_at next
 step_read r after s e = step_local r.0 r.1 (was_first (is_word Step) what.Item _ r after s e)
 
 pub steps_local : AreLocal (some step) steps_at
-steps_local = some_local step what.Step (starts_word Step) (λ k. step_at) step_begins (by_head (is_word Step)) (λ c. refl) (first_takes (the_word Step) (λ _. one a_name ▸ λ n. one a_block ▸ λ b. gives (step_of n b))) (λ k. step_local)
+steps_local = some_local step what.Step (starts_word Step) (λ k. step_at) step_begins (by_head (is_word Step)) (λ c. refl) (first_takes (a_word Step) (λ _. one a_name ▸ λ n. one a_block ▸ λ b. gives (step_of n b))) (λ k. step_local)
 
 -- ---- sessions
 
@@ -167,7 +167,7 @@ named_inhabited : Inhabited (one a_name ▸ SetUp)
 named_inhabited = seq_inhabited (one a_name) SetUp name_inhabited set_up_inhabited
 
 session_begins : Begins what.Session session
-session_begins = seq_begins what.Session (one (the_word Session)) (λ _. one a_name ▸ SetUp) (word_begins what.Session Session refl) (λ _. named_inhabited)
+session_begins = seq_begins what.Session (one (a_word Session)) (λ _. one a_name ▸ SetUp) (word_begins what.Session Session refl) (λ _. named_inhabited)
 
 torn_local : (n : NameAt) (setup : Option PartTree) (steps : List (StepOf NameAt)) → AreLocal (TornDown n setup steps) (λ r. teardown_at r >>= λ teardown. (Ok (session_of n setup steps teardown.0), teardown.1))
 torn_local n setup steps = then {G = Maybe (block_behind Teardown)} {H = λ teardown. gives (session_of n setup steps teardown)} teardown_at (λ teardown. (Ok (session_of n setup steps teardown.0), teardown.1)) teardown_local (λ teardown. gives_inhabited (session_of n setup steps teardown)) (λ teardown. gives_local (session_of n setup steps teardown))
@@ -180,7 +180,7 @@ set_up_local n = then {G = Maybe (block_behind Setup)} {H = Stepped n} setup_at 
 
 session_local : LocalFrom (starts_word Session) session session_at
 unfolding session_at
-session_local = then_from {G = one (the_word Session)} {H = λ _. one a_name ▸ SetUp} (starts_word Session) (word_at Session what.Item)
+session_local = then_from {G = one (a_word Session)} {H = λ _. one a_name ▸ SetUp} (starts_word Session) (word_at Session what.Item)
     (λ d key. name_within d.sessions 64 key.1 >>= λ n. setup_at n.1 >>= λ setup. steps_at setup.1 >>= λ steps. teardown_at steps.1 >>= λ teardown. (Ok (session_of n.0 setup.0 steps.0 teardown.0), teardown.1)) (word_local Session what.Item) (λ _. named_inhabited)
     (λ d _. then {G = one a_name} {H = SetUp} (name_within d.sessions 64) (λ n. setup_at n.1 >>= λ setup. steps_at setup.1 >>= λ steps. teardown_at steps.1 >>= λ teardown. (Ok (session_of n.0 setup.0 steps.0 teardown.0), teardown.1)) (name_within_local d.sessions 64) set_up_inhabited set_up_local)
 
@@ -189,7 +189,7 @@ unfolding session_at next
 session_read r after s e = session_local r.0 r.1 (was_first (is_word Session) what.Item _ r after s e)
 
 pub sessions_local : AreLocal (some session) sessions_at
-sessions_local = some_local session what.Session (starts_word Session) (λ k. session_at) session_begins (by_head (is_word Session)) (λ c. refl) (first_takes (the_word Session) (λ _. one a_name ▸ SetUp)) (λ k. session_local)
+sessions_local = some_local session what.Session (starts_word Session) (λ k. session_at) session_begins (by_head (is_word Session)) (λ c. refl) (first_takes (a_word Session) (λ _. one a_name ▸ SetUp)) (λ k. session_local)
 
 -- ---- markers
 
@@ -200,7 +200,7 @@ no_notices_local n = choice (starts_word Notices) (λ r. (Err NoticesLeftOut, r)
     (gives_local (named n))
 
 abbrev AStar : Grammar MarkerTree
-AStar = one (the_sign Star) ▸ λ _. gives star
+AStar = one (a_sign Star) ▸ λ _. gives star
 
 abbrev AName : Grammar MarkerTree
 AName = one a_name ▸ λ n. gives (named n)
@@ -217,30 +217,30 @@ marker_inhabited c = let a = seq_inhabited (one a_name) (λ n. gives (named n)) 
 pub marker_local : AreLocal marker marker_at
 unfolding marker_at
 marker_local = choice (starts_sign Star) (λ r. sign_at Star what.Marker r >>= λ key. (Ok star, key.1)) (λ r. name_at what.Marker r >>= λ n. no_notices n.0 n.1) (by_head (is_sign Star))
-    (start_wider {G = AStar} {K = marker} (starts_sign Star) (λ r. sign_at Star what.Marker r >>= λ key. (Ok star, key.1)) star_is (start_then {G = one (the_sign Star)} {H = λ _. gives star} (starts_sign Star) (sign_at Star what.Marker) (λ key. (Ok star, key.1)) (sign_local Star what.Marker) (λ _. gives_inhabited star) (λ _. gives_local star)))
+    (start_wider {G = AStar} {K = marker} (starts_sign Star) (λ r. sign_at Star what.Marker r >>= λ key. (Ok star, key.1)) star_is (start_then {G = one (a_sign Star)} {H = λ _. gives star} (starts_sign Star) (sign_at Star what.Marker) (λ key. (Ok star, key.1)) (sign_local Star what.Marker) (λ _. gives_inhabited star) (λ _. gives_local star)))
     (wider {G = AName} {K = marker} (λ r. name_at what.Marker r >>= λ n. no_notices n.0 n.1) name_is (then {G = one a_name} {H = λ n. gives (named n)} (name_at what.Marker) (λ n. no_notices n.0 n.1) (name_local what.Marker refl) (λ n. gives_inhabited (named n)) no_notices_local))
 
 abbrev NextMarker : Grammar MarkerTree
-NextMarker = one (the_sign Comma) ▸ λ _. marker
+NextMarker = one (a_sign Comma) ▸ λ _. marker
 
 next_marker_local : LocalFrom (starts_sign Comma) NextMarker next_marker_at
-next_marker_local = start_then {G = one (the_sign Comma)} {H = λ _. marker} (starts_sign Comma) (sign_at Comma what.CommaOrClose) (λ comma. marker_at comma.1) (sign_local Comma what.CommaOrClose) (λ _. marker_inhabited) (λ _. marker_local)
+next_marker_local = start_then {G = one (a_sign Comma)} {H = λ _. marker} (starts_sign Comma) (sign_at Comma what.CommaOrClose) (λ comma. marker_at comma.1) (sign_local Comma what.CommaOrClose) (λ _. marker_inhabited) (λ _. marker_local)
 
 next_marker_read : LocalRead NextMarker next_marker_at
 unfolding next
 next_marker_read r after m e = next_marker_local r.0 r.1 (was_first (is_sign Comma) what.CommaOrClose _ r after m e)
 
 pub next_markers_local : AreLocal (Many NextMarker) next_markers_at
-next_markers_local = many_local NextMarker (starts_sign Comma) (λ k. next_marker_at) (by_head (is_sign Comma)) (λ c. refl) (first_takes (the_sign Comma) (λ _. marker)) (λ k. next_marker_local)
+next_markers_local = many_local NextMarker (starts_sign Comma) (λ k. next_marker_at) (by_head (is_sign Comma)) (λ c. refl) (first_takes (a_sign Comma) (λ _. marker)) (λ k. next_marker_local)
 
 abbrev Closed : MarkerTree → List MarkerTree → Grammar (List MarkerTree)
-Closed m others = one (the_sign Close) ▸ λ _. gives (m ∷ others)
+Closed m others = one (a_sign Close) ▸ λ _. gives (m ∷ others)
 
 abbrev Marked : MarkerTree → Grammar (List MarkerTree)
 Marked m = Many NextMarker ▸ Closed m
 
 closed_inhabited : (m : MarkerTree) (others : List MarkerTree) → Inhabited (Closed m others)
-closed_inhabited m others = seq_inhabited (one (the_sign Close)) (λ _. gives (m ∷ others)) (inhabited what.CommaOrClose (one (the_sign Close)) (sign_begins what.CommaOrClose Close refl)) (λ _. gives_inhabited (m ∷ others))
+closed_inhabited m others = seq_inhabited (one (a_sign Close)) (λ _. gives (m ∷ others)) (inhabited what.CommaOrClose (one (a_sign Close)) (sign_begins what.CommaOrClose Close refl)) (λ _. gives_inhabited (m ∷ others))
 
 marked_inhabited : (m : MarkerTree) → Inhabited (Marked m)
 marked_inhabited m = seq_inhabited (Many NextMarker) (Closed m) (many_inhabited NextMarker) (closed_inhabited m)
@@ -249,14 +249,14 @@ opened_inhabited : Inhabited (marker ▸ Marked)
 opened_inhabited = seq_inhabited marker Marked marker_inhabited marked_inhabited
 
 closed_local : (m : MarkerTree) (others : List MarkerTree) → AreLocal (Closed m others) (λ r. sign_at Close what.CommaOrClose r >>= λ closed. (Ok (m ∷ others), closed.1))
-closed_local m others = then {G = one (the_sign Close)} {H = λ _. gives (m ∷ others)} (sign_at Close what.CommaOrClose) (λ closed. (Ok (m ∷ others), closed.1)) close_local (λ _. gives_inhabited (m ∷ others)) (λ _. gives_local (m ∷ others))
+closed_local m others = then {G = one (a_sign Close)} {H = λ _. gives (m ∷ others)} (sign_at Close what.CommaOrClose) (λ closed. (Ok (m ∷ others), closed.1)) close_local (λ _. gives_inhabited (m ∷ others)) (λ _. gives_local (m ∷ others))
 
 marked_local : (m : MarkerTree) → AreLocal (Marked m) (λ r. next_markers_at r >>= λ others. sign_at Close what.CommaOrClose others.1 >>= λ closed. (Ok (m ∷ others.0), closed.1))
 marked_local m = then {G = Many NextMarker} {H = Closed m} next_markers_at (λ others. sign_at Close what.CommaOrClose others.1 >>= λ closed. (Ok (m ∷ others.0), closed.1)) next_markers_local (closed_inhabited m) (closed_local m)
 
 markers_local : LocalFrom (starts_sign Open) markers markers_at
 unfolding markers_at
-markers_local = start_then {G = one (the_sign Open)} {H = λ _. marker ▸ Marked} (starts_sign Open) (sign_at Open what.Item)
+markers_local = start_then {G = one (a_sign Open)} {H = λ _. marker ▸ Marked} (starts_sign Open) (sign_at Open what.Item)
     (λ opened. marker_at opened.1 >>= λ m. next_markers_at m.1 >>= λ others. sign_at Close what.CommaOrClose others.1 >>= λ closed. (Ok (m.0 ∷ others.0), closed.1)) (sign_local Open what.Item) (λ _. opened_inhabited)
     (λ _. then {G = marker} {H = Marked} marker_at (λ m. next_markers_at m.1 >>= λ others. sign_at Close what.CommaOrClose others.1 >>= λ closed. (Ok (m.0 ∷ others.0), closed.1)) marker_local marked_inhabited marked_local)
 
@@ -286,18 +286,18 @@ entries_inhabited : Inhabited (some entry)
 entries_inhabited = inhabited what.Name (some entry) (some_begins what.Name entry entry_begins)
 
 perm_begins : Begins what.Item perm
-perm_begins = seq_begins what.Item (one (the_word Permutation)) (λ _. some entry) (word_begins what.Item Permutation refl) (λ _. entries_inhabited)
+perm_begins = seq_begins what.Item (one (a_word Permutation)) (λ _. some entry) (word_begins what.Item Permutation refl) (λ _. entries_inhabited)
 
 perm_local : LocalFrom (starts_word Permutation) perm perm_at
 unfolding perm_at
-perm_local = start_then {G = one (the_word Permutation)} {H = λ _. some entry} (starts_word Permutation) (word_at Permutation what.Item) (λ key. entries_at key.1) (word_local Permutation what.Item) (λ _. entries_inhabited) (λ _. entries_local)
+perm_local = start_then {G = one (a_word Permutation)} {H = λ _. some entry} (starts_word Permutation) (word_at Permutation what.Item) (λ key. entries_at key.1) (word_local Permutation what.Item) (λ _. entries_inhabited) (λ _. entries_local)
 
 pub perm_read : LocalRead perm perm_at
 unfolding perm_at next
 perm_read r after es e = perm_local r.0 r.1 (was_first (is_word Permutation) what.Item _ r after es e)
 
 pub perms_local : AreLocal (Many perm) perms_at
-perms_local = many_local perm (starts_word Permutation) (λ k. perm_at) (by_head (is_word Permutation)) (λ c. refl) (first_takes (the_word Permutation) (λ _. some entry)) (λ k. perm_local)
+perms_local = many_local perm (starts_word Permutation) (λ k. perm_at) (by_head (is_word Permutation)) (λ c. refl) (first_takes (a_word Permutation) (λ _. some entry)) (λ k. perm_local)
 
 -- ---- the file
 
@@ -384,19 +384,19 @@ file_local = then {G = Many (block_behind Setup)} {H = Ended} setups_at (λ setu
 -- ---- what is read is shorter
 
 pub block_shorter : (k : Keyword) (r after : Rest) (b : PartTree) → block_after k r ≡ (Ok b, after) → length after.1 < length r.1
-block_shorter k = shortens (block_behind k) (block_after k) (first_takes (the_word k) (λ _. one a_block)) (block_after_read k)
+block_shorter k = shortens (block_behind k) (block_after k) (first_takes (a_word k) (λ _. one a_block)) (block_after_read k)
 
 pub step_shorter : (r after : Rest) (s : StepOf NameAt) → step_at r ≡ (Ok s, after) → length after.1 < length r.1
-step_shorter = shortens step step_at (first_takes (the_word Step) (λ _. one a_name ▸ λ n. one a_block ▸ λ b. gives (step_of n b))) step_read
+step_shorter = shortens step step_at (first_takes (a_word Step) (λ _. one a_name ▸ λ n. one a_block ▸ λ b. gives (step_of n b))) step_read
 
 pub session_shorter : (r after : Rest) (s : SessionOf NameAt) → session_at r ≡ (Ok s, after) → length after.1 < length r.1
-session_shorter = shortens session session_at (first_takes (the_word Session) (λ _. one a_name ▸ SetUp)) session_read
+session_shorter = shortens session session_at (first_takes (a_word Session) (λ _. one a_name ▸ SetUp)) session_read
 
 pub next_marker_shorter : (r after : Rest) (m : MarkerTree) → next_marker_at r ≡ (Ok m, after) → length after.1 < length r.1
-next_marker_shorter = shortens NextMarker next_marker_at (first_takes (the_sign Comma) (λ _. marker)) next_marker_read
+next_marker_shorter = shortens NextMarker next_marker_at (first_takes (a_sign Comma) (λ _. marker)) next_marker_read
 
 pub entry_shorter : (k : ℕ) (r after : Rest) (e : NamedEntry) → entry_at k r ≡ (Ok e, after) → length after.1 < length r.1
 entry_shorter k = shortens entry (entry_at k) (first_takes a_name (λ n. Maybe markers ▸ λ ms. gives (entry_of n ms))) (local_read (entry_local k))
 
 pub perm_shorter : (r after : Rest) (es : List NamedEntry) → perm_at r ≡ (Ok es, after) → length after.1 < length r.1
-perm_shorter = shortens perm perm_at (first_takes (the_word Permutation) (λ _. some entry)) perm_read
+perm_shorter = shortens perm perm_at (first_takes (a_word Permutation) (λ _. some entry)) perm_read

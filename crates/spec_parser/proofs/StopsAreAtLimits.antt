@@ -13,7 +13,7 @@ use Rattle.spec_parser.specs.declared.fault.Stop.TheVariants.{Expected, OverLimi
 use Rattle.spec_parser.specs.Trees.{PartTree, NameAt, StepOf, SessionOf, MarkerTree, NamedEntry, FileTree}
 use Rattle.spec_parser.specs.Counts.{Counts, start, past}
 use Rattle.spec_parser.specs.Inner.Stopping.{Rest, Read, many_at, all_at, some_at, name_at, block_at, end_at, name_within, step_at, session_at, entry_at, perm_at, file_at}
-use Rattle.spec_parser.specs.Grammar.{a_name, is_name, is_word, Grammar, one, the_word, Maybe, Many, none, more, some, block_behind, entry, perm}
+use Rattle.spec_parser.specs.Grammar.{a_name, is_name, is_word, Grammar, one, a_word, Maybe, Many, none, more, some, block_behind, entry, perm}
 use Rattle.spec_parser.specs.Inner.Pieces.{starts_word, starts_name, word_at, setup_at, teardown_at, setups_at, steps_at, sessions_at, some_markers_at, perms_at}
 use Rattle.spec_parser.specs.Grammar.{step as step_grammar, session as session_grammar}
 use Rattle.spec_parser.specs.IsSpec.{IsShort}
@@ -116,7 +116,7 @@ name_over before most r after e = name_by (nat_lt before most) (starts_name r) b
 
 word_token : (k : Keyword) (w : What) (r mid : Rest) (u : Unit {0}) → word_at k w r ≡ (Ok u, mid) → (t : At Token) × (r.1 ≡ t ∷ mid.1) × IsWord k t × (mid.0 ≡ past r.0 (t ∷ []))
 word_token k w r mid u e =
-    let f = was_front (one (the_word k)) (word_at k w) (word_read k w) r mid u e in
+    let f = was_front (one (a_word k)) (word_at k w) (word_read k w) r mid u e in
     let t = f.3.0 in
     (t, f.1 ∙ ap (λ (us : List (At Token)). us ++ mid.1) f.3.1, test_true (is_word k t.tok) u f.3.2, f.2 ∙ ap (past r.0) f.3.1)
 
@@ -167,7 +167,7 @@ session_name r mid after u few word (inl e) =
     let t = word_token Session what.Item r mid u word in
     record { fs = []; mid = r; split = refl; place = refl; few = few; is_named = subst (λ (m : Rest). starts_name m ≡ true) o.2 o.1; here = here_session t.0 (t.1 ∙ ap (λ (m : Rest). t.0 ∷ m.1) o.2) t.2 o.0 }
 session_name r mid after u few word (inr (n, m, is, e)) =
-    let w = was_front (one (the_word Session)) (word_at Session what.Item) (word_read Session what.Item) r mid u word in
+    let w = was_front (one (a_word Session)) (word_at Session what.Item) (word_read Session what.Item) r mid u word in
     let v = was_front (one a_name) (name_within r.0.sessions 64) (local_read (name_within_local r.0.sessions 64)) mid m n is in
     let lt = within_is r.0.sessions 64 mid m n is in
     let c = session_word r.0 w.0 u w.3 in

@@ -1,5 +1,5 @@
 -- What one token is, and what stands before the place behind it.
-use Rattle.std.proofs.Common.{◌≡◌, ◌≤◌, arith, ℕ, Bool, true, false, cond, List, [], ◌∷◌, Option, Some, None, refl, ap, ◌∙◌}
+use Rattle.std.proofs.Common.{◌≡◌, ◌≤◌, arith, Bool, true, false, cond, List, [], ◌∷◌, Option, Some, None, refl, ap, ◌∙◌}
 use denote.Enum.Bare.{sameb, same_true}
 use Rattle.iso_lexer.specs.declared.token.At.{At}
 use Rattle.iso_lexer.specs.declared.token.Span.{Span}
@@ -12,7 +12,7 @@ use Rattle.iso_lexer.specs.Names.{Written}
 use Rattle.iso_lexer.specs.SpecTokens.{Token, keyword, name, digits, sign, block}
 use Rattle.spec_parser.specs.Trees.{NameAt}
 use Rattle.spec_parser.specs.Counts.{Counts, past, past_token}
-use Rattle.spec_parser.specs.Grammar.{a_name, is_word, is_sign, one, the_word, the_sign}
+use Rattle.spec_parser.specs.Grammar.{a_name, is_word, is_sign, one, a_word, a_sign}
 
 pub test_true : (b : Bool) (u : Unit {0}) → ◌≡◌ {A = Option (Unit {0})} (cond b (Some tt) None) (Some u) → b ≡ true
 test_true true u e = refl
@@ -53,10 +53,10 @@ named_in c t n e = named_of c t.tok t.span n e
 pub past_one : (c : Counts) (ts : List (At Token)) (t : At Token) (u : Token) → ts ≡ t ∷ [] → t.tok ≡ u → past c ts ≡ past_token u c
 past_one c ts t u e is = ap (past c) e ∙ ap (λ w. past_token w c) is
 
-pub word_past : (k : Keyword) (c : Counts) (ts : List (At Token)) (u : Unit {0}) → one (the_word k) c ts u → past c ts ≡ past_token (keyword k) c
+pub word_past : (k : Keyword) (c : Counts) (ts : List (At Token)) (u : Unit {0}) → one (a_word k) c ts u → past c ts ≡ past_token (keyword k) c
 word_past k c ts u (t, e, is) = past_one c ts t (keyword k) e (keyword_in k t.tok (test_true (is_word k t.tok) u is))
 
-pub sign_past : (g : Sign) (c : Counts) (ts : List (At Token)) (u : Unit {0}) → one (the_sign g) c ts u → past c ts ≡ c
+pub sign_past : (g : Sign) (c : Counts) (ts : List (At Token)) (u : Unit {0}) → one (a_sign g) c ts u → past c ts ≡ c
 sign_past g c ts u (t, e, is) = past_one c ts t (sign g) e (sign_in g t.tok (test_true (is_sign g t.tok) u is))
 
 pub name_past : (c : Counts) (ts : List (At Token)) (n : NameAt) → one a_name c ts n → past c ts ≡ c

@@ -1,5 +1,5 @@
 -- The grammar of spec files (README of src/test/isolation, "Test specification"): one definition for each production.
-use Rattle.std.specs.Prelude.{◌≡◌, ◌<◌, ℕ, Bool, true, false, List, [], ◌∷◌, ◌++◌, length, Option, Some, None, unwrap_or, if◌then◌else◌}
+use Rattle.std.specs.Prelude.{◌≡◌, ◌<◌, Bool, true, false, List, [], ◌∷◌, ◌++◌, length, Option, Some, None, unwrap_or, if◌then◌else◌}
 use denote.Enum.Bare.{sameb}
 use Rattle.iso_lexer.specs.declared.token.At.{At}
 use Rattle.iso_lexer.specs.declared.spec_token.Keyword.{Keyword}
@@ -48,11 +48,11 @@ abbrev pub one : {A : Type 0} → (Counts → At Token → Option A) → Grammar
 one f c ts x = (t : At Token) × (ts ≡ t ∷ []) × (f c t ≡ Some x)
 
 -- nothing but that the token is this word, or this sign
-abbrev pub the_word : Keyword → Counts → At Token → Option (Unit {0})
-the_word k c t = if is_word k t.tok then Some tt else None
+abbrev pub a_word : Keyword → Counts → At Token → Option (Unit {0})
+a_word k c t = if is_word k t.tok then Some tt else None
 
-abbrev pub the_sign : Sign → Counts → At Token → Option (Unit {0})
-the_sign g c t = if is_sign g t.tok then Some tt else None
+abbrev pub a_sign : Sign → Counts → At Token → Option (Unit {0})
+a_sign g c t = if is_sign g t.tok then Some tt else None
 
 -- a name; and a block, whose number is how many stand before it
 abbrev pub a_name : Counts → At Token → Option NameAt
@@ -84,13 +84,13 @@ pub data Either {A : Type 0} (G H : Grammar A) (c : Counts) (ts : List (At Token
 
 abbrev pub block_behind : Keyword → Grammar PartTree
 block_behind k = do
-  _ ← one (the_word k)
+  _ ← one (a_word k)
   one a_block
 
 -- "step" name block
 abbrev pub step : Grammar (StepOf NameAt)
 step = do
-  _ ← one (the_word Step)
+  _ ← one (a_word Step)
   n ← one a_name
   b ← one a_block
   gives (record { name = n; part = b })
@@ -98,7 +98,7 @@ step = do
 -- "session" name ["setup" block] step+ ["teardown" block]
 abbrev pub session : Grammar (SessionOf NameAt)
 session = do
-  _ ← one (the_word Session)
+  _ ← one (a_word Session)
   n ← one a_name
   setup ← Maybe (block_behind Setup)
   steps ← some step
@@ -107,15 +107,15 @@ session = do
 
 -- "*" | name
 abbrev pub marker : Grammar MarkerTree
-marker = Either (one (the_sign Star) >>= λ _. gives star) (one a_name >>= λ n. gives (named n))
+marker = Either (one (a_sign Star) >>= λ _. gives star) (one a_name >>= λ n. gives (named n))
 
 -- "(" marker {"," marker} ")"
 abbrev pub markers : Grammar (List MarkerTree)
 markers = do
-  _ ← one (the_sign Open)
+  _ ← one (a_sign Open)
   m ← marker
-  others ← Many (one (the_sign Comma) >>= λ _. marker)
-  _ ← one (the_sign Close)
+  others ← Many (one (a_sign Comma) >>= λ _. marker)
+  _ ← one (a_sign Close)
   gives (m ∷ others)
 
 -- name [markers]
@@ -128,7 +128,7 @@ entry = do
 -- "permutation" entry+
 abbrev pub perm : Grammar (List NamedEntry)
 perm = do
-  _ ← one (the_word Permutation)
+  _ ← one (a_word Permutation)
   some entry
 
 -- {"setup" block} ["teardown" block] session+ {perm}

@@ -12,7 +12,7 @@ use Rattle.spec_parser.specs.Counts.{start}
 use Rattle.iso_lexer.specs.declared.spec_token.Keyword.TheVariants.{Permutation, Session, Setup, Step, Teardown, Notices}
 use Rattle.iso_lexer.specs.declared.spec_token.Sign.TheVariants.{Close, Comma, Star}
 use Rattle.iso_lexer.specs.Readers.{place_of}
-use Rattle.spec_parser.specs.Reading.{Rest, file_at}
+use Rattle.spec_parser.specs.Reading.{file_at}
 use Rattle.spec_parser.specs.Faults.{stopped}
 use Rattle.iso_lexer.specs.SpecText.{Lexes}
 use Rattle.spec_parser.specs.Grammar.{is_word, is_sign, is_name, is_block, file}
@@ -60,7 +60,7 @@ FaultsAreFirst = (last : ℕ) (ts : List (At Token)) (fault : SpecFault) → fil
 
 -- What is read whole is a file of the grammar, within the limits.
 abbrev pub ReadsAreFiles : Type 0
-ReadsAreFiles = (last : ℕ) (ts : List (At Token)) (f : FileTree) (rest : Rest) → file_at last ([], ts) ≡ Ok (f, rest) → file start ts f × WithinLimits f
+ReadsAreFiles = (last : ℕ) (ts : List (At Token)) (f : FileTree) (rest : List (At Token) × List (At Token)) → file_at last ([], ts) ≡ Ok (f, rest) → file start ts f × WithinLimits f
 
 -- A file of the grammar is read whole where it is within the limits, and else reading stops at a limit.
 abbrev pub FilesAreRead : Type 0

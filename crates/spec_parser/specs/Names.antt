@@ -8,7 +8,7 @@ use Rattle.spec_parser.specs.declared.tree.Marker.{Marker}
 use Rattle.spec_parser.specs.declared.tree.Marker.TheVariants as markers
 use Rattle.spec_parser.specs.declared.fault.SpecFault.{SpecFault}
 use Rattle.spec_parser.specs.declared.fault.SpecFault.TheVariants.{DuplicateStep, UndefinedStep, UndefinedMarker}
-use Rattle.spec_parser.specs.Trees.{SessionTree, EntryTree, SpecTree, NameAt, StepOf, SessionOf, MarkerTree, star, named, NamedEntry, FileTree}
+use Rattle.spec_parser.specs.Trees.{SessionTree, EntryTree, SpecTree, NameAt, SessionOf, MarkerTree, star, named, NamedEntry, FileTree}
 
 -- a step of the file: its name, its session, numbered from 1, and its number in that, from 0
 pub record StepAt : Type 0 where
@@ -18,16 +18,15 @@ pub record StepAt : Type 0 where
 
 -- the steps of a file, in file order; its sessions have the numbers from 1, and the steps of each the numbers from 0
 abbrev pub steps_of : FileTree → List StepAt
-steps_of f = flat_map (λ (s : ℕ × SessionOf NameAt). map (λ (x : ℕ × StepOf NameAt). record { name = x.1.name; session = s.0; step = x.0 }) (enumerate_from 0 s.1.steps))
-    (enumerate_from 1 f.sessions)
+steps_of f = flat_map (λ s. map (λ x. record { name = x.1.name; session = s.0; step = x.0 }) (enumerate_from 0 s.1.steps)) (enumerate_from 1 f.sessions)
 
 -- names are the same where they stand for the same bytes
 abbrev pub is_named : Written → StepAt → Bool
 is_named n s = bytes_eq (decoded s.name.name) (decoded n)
 
--- the first step whose name one of those before it has, behind their count
+-- the first step whose name one of those before it has, behind how many these are
 abbrev pub first_repeated : List StepAt → Option (ℕ × StepAt)
-first_repeated steps = find (λ (s : ℕ × StepAt). is_some (find (is_named s.1.name.name) (take s.0 steps))) (enumerate_from 0 steps)
+first_repeated steps = find (λ s. is_some (find (is_named s.1.name.name) (take s.0 steps))) (enumerate_from 0 steps)
 
 -- what a marker, or an entry, stands for; or its first name that no step has
 abbrev pub known_marker : List StepAt → MarkerTree → Result Marker SpecFault
@@ -40,7 +39,7 @@ known_entry known e = if_ok (ok_or (find (is_named e.name.name) known) (Undefine
 
 -- a session without the places of its names
 abbrev pub session_tree : SessionOf NameAt → SessionTree
-session_tree s = record { name = s.name.name; setup = s.setup; steps = map (λ (x : StepOf NameAt). record { name = x.name.name; part = x.part }) s.steps; teardown = s.teardown }
+session_tree s = record { name = s.name.name; setup = s.setup; steps = map (λ x. record { name = x.name.name; part = x.part }) s.steps; teardown = s.teardown }
 
 -- a file whose step names differ, and whose permutations name steps of it; else the first name that stands again, or the first that no step has
 abbrev pub names_resolved : FileTree → Result SpecTree SpecFault

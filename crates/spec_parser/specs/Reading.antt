@@ -17,25 +17,22 @@ use Rattle.spec_parser.specs.declared.fault.SpecFault.{SpecFault}
 use Rattle.spec_parser.specs.declared.fault.SpecFault.TheVariants.{Expected, NoticesLeftOut, Limit}
 use Rattle.spec_parser.specs.Trees.{PartTree, NameAt, StepOf, SessionOf, MarkerTree, star, named, NamedEntry, FileTree}
 
--- what is left of a file: the tokens before, and those from here on
-abbrev pub Rest : Type 0
-Rest = List (At Token) × List (At Token)
-
+-- what reads a part of a file: of the tokens before it, and those from here on
 abbrev pub SpecReader : Type 0 → Type 0
-SpecReader A = ReaderOf Rest SpecFault A
+SpecReader A = ReaderOf (List (At Token) × List (At Token)) SpecFault A
 
 -- ---- one token
 
--- a kind of token, by what one of it says
+-- a kind of tokens, by what each of them says
 abbrev pub Kind : Type 0 → Type 0
 Kind A = At Token → Option A
 
--- this word, and this sign, each by where it stands
-abbrev pub the_keyword : Keyword → Kind ℕ
-the_keyword k t = elim t.tok [ keyword j ↦ if sameb words j k then Some t.span.start else None | _ ↦ None ]
+-- this word, by where it stands, and this sign
+abbrev pub the_word : Keyword → Kind ℕ
+the_word k t = elim t.tok [ keyword j ↦ if sameb words j k then Some t.span.start else None | _ ↦ None ]
 
-abbrev pub the_mark : Sign → Kind ℕ
-the_mark g t = elim t.tok [ sign h ↦ if sameb signs h g then Some t.span.start else None | _ ↦ None ]
+abbrev pub the_sign : Sign → Kind ℕ
+the_sign g t = elim t.tok [ sign h ↦ if sameb signs h g then Some t.span.start else None | _ ↦ None ]
 
 abbrev pub the_name : Kind NameAt
 the_name t = elim t.tok [ name n ↦ Some (record { name = n; at = t.span.start }) | _ ↦ None ]
@@ -55,12 +52,12 @@ if_next kind behind others (before, t ∷ ts) = option_map_or (λ x. behind x (b
 
 -- ---- several things
 
--- as many as there are tokens of this kind, one after another, and n at most; item k is what is read behind its token; and what is read where the first isn't there
+-- items one after another, as long as a token of this kind stands next: item k is read behind it, there are n at most, and `none` is read where the first isn't there
 unfoldable pub many_from : {A B : Type 0} → Kind A → (ℕ → A → SpecReader B) → ℕ → ℕ → SpecReader (List B) → SpecReader (List B)
 many_from kind item k zero none = none
 many_from kind item k (suc n) none = if_next kind (λ x. item k x >>= λ y. many_from kind item (k + 1) n (gives []) >>= λ ys. gives (y ∷ ys)) none
 
--- items from number 1 on
+-- the items from number 1 on, each of a token at least
 abbrev pub many_of : {A B : Type 0} → Kind A → (ℕ → A → SpecReader B) → SpecReader (List B) → SpecReader (List B)
 many_of kind item none r = many_from kind item 1 (length r.1) none r
 
@@ -71,7 +68,7 @@ at_most most number n r = if nat_le number most then Ok (n, r) else Err (Limit n
 -- ---- the parts of a file, in a text of so many bytes
 
 module _ (last : ℕ) where
-  -- this is expected here
+  -- nothing but this is expected here
   abbrev pub expected : {A : Type 0} → What → SpecReader A
   expected w r = Err (Expected w (place_of last r.1))
 
@@ -84,41 +81,42 @@ module _ (last : ℕ) where
 
   -- "setup" block, or "teardown" block; or nothing
   unfoldable pub maybe_block : Keyword → SpecReader (Option PartTree)
-  maybe_block k = if_next (the_keyword k) (λ at. spec_block >>= λ b. gives (Some b)) (gives None)
+  maybe_block k = if_next (the_word k) (λ at. spec_block >>= λ b. gives (Some b)) (gives None)
 
   -- behind "step": name block; a file has at most 1,000
   unfoldable pub step_at : SpecReader (StepOf NameAt)
-  step_at r = (do gives (record { name = (← one_token the_name what.Name >>= at_most 1000 (count (the_keyword Step) r.0)); part = (← spec_block) })) r
+  step_at r = (do gives (record { name = (← one_token the_name what.Name >>= at_most 1000 (count (the_word Step) r.0)); part = (← spec_block) })) r
 
   -- behind "session": name ["setup" block] step+ ["teardown" block]; a file has at most 64
   unfoldable pub session_at : SpecReader (SessionOf NameAt)
   session_at r = (do
-    n ← one_token the_name what.Name >>= at_most 64 (count (the_keyword Session) r.0)
+    n ← one_token the_name what.Name >>= at_most 64 (count (the_word Session) r.0)
     setup ← maybe_block Setup
-    steps ← many_of (the_keyword Step) (λ k at. step_at) (expected what.Step)
+    steps ← many_of (the_word Step) (λ k at. step_at) (expected what.Step)
     gives (record { name = n; setup = setup; steps = steps; teardown = (← maybe_block Teardown) })) r
 
   -- "*" or a name, which `notices` may not follow
   unfoldable pub marker_at : SpecReader MarkerTree
-  marker_at = if_next (the_mark Star) (λ at. gives star) (one_token the_name what.Marker >>= λ n. if_next (the_keyword Notices) (λ at r. Err (NoticesLeftOut at)) (gives (named n)))
+  marker_at = if_next (the_sign Star) (λ at. gives star)
+      (one_token the_name what.Marker >>= λ n. if_next (the_word Notices) (λ at r. Err (NoticesLeftOut at)) (gives (named n)))
 
   -- behind "(": marker {"," marker} ")"
   unfoldable pub markers_at : SpecReader (List MarkerTree)
   markers_at = do
     m ← marker_at
-    others ← many_of (the_mark Comma) (λ k at. marker_at) (gives [])
-    closed ← one_token (the_mark Close) what.CommaOrClose
+    others ← many_of (the_sign Comma) (λ k at. marker_at) (gives [])
+    closed ← one_token (the_sign Close) what.CommaOrClose
     gives (m ∷ others)
 
   -- behind the name of entry k: [markers]; a permutation has at most 1,000
   unfoldable pub entry_at : ℕ → NameAt → SpecReader NamedEntry
-  entry_at k n = do gives (record { name = (← at_most 1000 k n); markers = (← if_next (the_mark Open) (λ at. markers_at) (gives [])) })
+  entry_at k n = do gives (record { name = (← at_most 1000 k n); markers = (← if_next (the_sign Open) (λ at. markers_at) (gives [])) })
 
   -- {"setup" block} ["teardown" block] session+ {"permutation" entry+}, and nothing else
   unfoldable pub file_at : SpecReader FileTree
   file_at = do
-    setups ← many_of (the_keyword Setup) (λ k at. spec_block) (gives [])
+    setups ← many_of (the_word Setup) (λ k at. spec_block) (gives [])
     teardown ← maybe_block Teardown
-    sessions ← many_of (the_keyword Session) (λ k at. session_at) (expected what.Session)
-    perms ← many_of (the_keyword Permutation) (λ k at. many_of the_name entry_at (expected what.Name)) (gives [])
+    sessions ← many_of (the_word Session) (λ k at. session_at) (expected what.Session)
+    perms ← many_of (the_word Permutation) (λ k at. many_of the_name entry_at (expected what.Name)) (gives [])
     if_next Some (λ t r. Err (Expected what.Item t.span.start)) (gives (record { setups = setups; teardown = teardown; sessions = sessions; perms = perms }))

@@ -1,4 +1,4 @@
--- Reading as the code does it: what stops it is told apart from where it stops, and the place is put in behind all.
+-- Reading as the code does it: it has counts of what stands before, and tells what stops it apart from where it stops; the place is put in behind all.
 use Rattle.std.specs.Prelude.{ℕ, zero, suc, Bool, true, false, List, [], ◌∷◌, length, ◌+◌, nat_lt, Option, Some, None, unwrap_or, Result, Ok, Err, if◌then◌else◌}
 use Rattle.std.specs.Option.{option_map_or}
 use Rattle.iso_lexer.specs.declared.token.At.{At}
