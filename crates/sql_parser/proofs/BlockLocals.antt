@@ -16,12 +16,18 @@ use Rattle.sql_expressions.specs.Results.{◌>>=◌}
 use Rattle.sql_expressions.specs.Readers.{expect, is_word, is_sign, misplaced, name_at, items_at, Reader}
 use Rattle.sql_blocks.specs.declared.block.Role.{Role}
 use Rattle.sql_blocks.specs.Parts.{is_session, column_names}
-use Rattle.sql_parser.specs.Readers.{past, tree_at}
-use Rattle.sql_parser.specs.Transactions.{is_work, begin_at, start_at, set_at}
-use Rattle.sql_parser.specs.Tables.{TableRead, empty_table, table_add, keys_fault, finished, create_at, drop_at, created}
-use Rattle.sql_parser.specs.Changes.{insert_at, update_at, delete_at}
-use Rattle.sql_parser.specs.Queries.{select_at}
-use Rattle.sql_parser.specs.Blocks.{is_ddl, simple_of, stmt_at, whole_at}
+use Rattle.sql_parser.specs.Inner.Parts.{past}
+use Rattle.sql_parser.specs.Readers.{tree_at}
+use Rattle.sql_parser.specs.Transactions.{is_work}
+use Rattle.sql_parser.specs.Inner.Transactions.{begin_at, start_at, set_at}
+use Rattle.sql_parser.specs.Tables.{TableRead, created}
+use Rattle.sql_parser.specs.Grammar.{empty_table}
+use Rattle.sql_parser.specs.Inner.Tables.{table_add, keys_fault, finished, create_at, drop_at}
+use Rattle.sql_parser.specs.Inner.Changes.{insert_at, update_at}
+use Rattle.sql_parser.specs.Changes.{delete_at}
+use Rattle.sql_parser.specs.Inner.Queries.{select_at}
+use Rattle.sql_parser.specs.Grammar.{is_ddl}
+use Rattle.sql_parser.specs.Inner.Blocks.{simple_of, stmt_at, whole_at}
 use Rattle.sql_parser.specs.Inner.Pieces.{begun_at}
 use Rattle.sql_parser.specs.Grammar.{Is, Key, Names, nothing, Commas, AddsPart, Spells, commit, end, rollback, abort, create}
 use Rattle.sql_parser.specs.Stops.{WantsWords}

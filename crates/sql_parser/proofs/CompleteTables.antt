@@ -20,7 +20,9 @@ use Rattle.sql_trees.specs.Tokens as tok
 use Rattle.sql_expressions.specs.Readers.{is_word, is_sign}
 use Rattle.sql_blocks.specs.Parts.{column_names}
 use Rattle.sql_blocks.specs.Kept.{all_differ, places_differ, key_fits, tree_name, table_kept}
-use Rattle.sql_parser.specs.Tables.{Placed, KeyRead, TableRead, Constraints, is_among, placed_names, empty_table, with_key, with_column, kind_of, key_add, key_at, constraints_at, column_at, table_add, made_name, first_lacking, text_fault, keys_fault, completed, place_among, resolved, declared, finished, create_at, created}
+use Rattle.sql_parser.specs.Tables.{Placed, KeyRead, TableRead, is_among, placed_names, with_key, completed, created}
+use Rattle.sql_parser.specs.Grammar.{Constraints, empty_table, with_column, kind_of}
+use Rattle.sql_parser.specs.Inner.Tables.{key_add, key_at, constraints_at, column_at, table_add, made_name, first_lacking, text_fault, keys_fault, place_among, resolved, declared, finished, create_at}
 use Rattle.sql_parser.specs.Inner.OneConstraint.{is_constraint}
 use Rattle.sql_parser.specs.Inner.Pieces.{is_kept, resolved_keys}
 use Rattle.sql_parser.specs.Grammar.{Is, Key, Names, Commas, placed, AddsColumn, adds_column, Says, no_more, not_null, primary_key, unique_key, AddsPart, a_column, a_primary, a_unique, Shallow}

@@ -8,9 +8,10 @@ use Rattle.sql_trees.specs.Tokens.{Tokens}
 use Rattle.sql_expressions.specs.Results.{◌>>=◌}
 use Rattle.sql_expressions.specs.Readers.{is_sign, misplaced, Reader}
 use Rattle.sql_blocks.specs.declared.block.Role.{Role}
-use Rattle.sql_parser.specs.Blocks.{simple_of, begun_of, piece_at, stmts_at}
-use Rattle.sql_parser.specs.Queries.{item_of}
-use Rattle.sql_parser.specs.Tables.{KeyRead, resolved}
+use Rattle.sql_parser.specs.Inner.Blocks.{simple_of, begun_of, piece_at, stmts_at}
+use Rattle.sql_parser.specs.Inner.Queries.{item_of}
+use Rattle.sql_parser.specs.Tables.{KeyRead}
+use Rattle.sql_parser.specs.Inner.Tables.{resolved}
 
 module _ (last : ℕ) where
   -- an item behind the open parenthesis of its aggregate
