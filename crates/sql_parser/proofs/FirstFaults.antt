@@ -11,7 +11,6 @@ use Rattle.sql_expressions.specs.Readers.{misplaced}
 use Rattle.sql_expressions.specs.Laws.{head}
 use Rattle.sql_expressions.proofs.Local.{first_is}
 use Rattle.sql_blocks.specs.declared.block.Role.{Role}
-use Rattle.sql_blocks.specs.Parts.{column_names}
 use Rattle.sql_parser.specs.Inner.Blocks.{stmt_at, at_end, whole_at}
 use Rattle.sql_parser.specs.Grammar.{Spells, OfAnyDepth}
 use Rattle.sql_parser.specs.Stops.{Refuses, at_next, WantsWords, IsStop}
@@ -20,7 +19,6 @@ use Rattle.sql_parser.proofs.Locals.{Begins, stands_behind, Local, took, stopped
 use Rattle.sql_parser.proofs.ExprLocals.{some_of_any_depth, of_any_depth_starts, any_depth_local, one_name}
 use Rattle.sql_parser.proofs.QueryLocals.{Shown, shown, no_columns, no_query, Whole}
 use Rattle.sql_parser.proofs.BlockLocals.{barred, barred_is, stmt_local}
-use Rattle.sql_parser.proofs.Created.{fault_is}
 use Rattle.sql_parser.proofs.BlockReadings.{whole_stops, whole_stopped}
 use Rattle.sql_parser.proofs.BlocksRead.{whole_reads}
 
@@ -49,7 +47,7 @@ module _ (last : ℕ) (role : Role) (ts : Tokens) (f : SqlFault) (stops : IsStop
 
   of_shown : (us : Tokens) → ts ≡ us → (r : Result StmtTree SqlFault) (s : StmtTree) → Shown us r s → r ≡ Err f → Spells OfAnyDepth ts s → Stops last role ts f
   of_shown us same _ _ (shown s) h q = absurd (no_both s f h)
-  of_shown us same _ _ (no_columns place name t k) h q = elsewhere (whole_table name t place (sym (err_same (BadColumns place) f h)) (fault_is name (column_names t.columns) [] t.keys ∙ k) q)
+  of_shown us same _ _ (no_columns place name t k) h q = elsewhere (whole_table name t place (sym (err_same (BadColumns place) f h)) k q)
   of_shown us same _ _ (no_query s vs q n k) h p = elsewhere (whole_query s vs q (same ∙ n) (sym (err_same (LeftOut s.span.start) f h)) k p)
 
   -- a token behind the statement

@@ -25,8 +25,7 @@ use Rattle.sql_blocks.specs.Parts.{column_names, is_allowed}
 use Rattle.sql_expressions.specs.Reading.{agg_kind}
 use Rattle.sql_parser.specs.Readers.{tree_at}
 use Rattle.sql_parser.specs.Inner.Parts.{added}
-use Rattle.sql_parser.specs.Tables.{TableRead, created}
-use Rattle.sql_parser.specs.Inner.Tables.{keys_fault}
+use Rattle.sql_parser.specs.Tables.{TableRead, keys_fault, created}
 use Rattle.sql_parser.specs.Changes.{filter_at}
 use Rattle.sql_parser.specs.Inner.Queries.{call_at, maybe_name, direction_at, agg_at, item_of, item_at, from_at, nulls_at, order_add, order_at, lock_at, query_of, select_at}
 use Rattle.sql_parser.specs.Queries.{alias_at}

@@ -1,5 +1,5 @@
 -- What is read of CREATE TABLE and SELECT is what the code reads, with what is told of the whole once all tokens have been read.
-use Rattle.std.proofs.Common.{◌≡◌, ℕ, zero, suc, Bool, true, false, List, [], ◌∷◌, ◌++◌, length, Option, Some, None, refl, sym, ap, ◌∙◌}
+use Rattle.std.proofs.Common.{◌≡◌, ℕ, zero, suc, Bool, true, false, List, [], ◌∷◌, ◌++◌, length, Option, Some, None, refl, sym, ap, subst, ◌∙◌}
 use Rattle.std.specs.Prelude.{Result, Ok, Err, if◌then◌else◌, option_map}
 use Rattle.std.specs.Option.{option_map_or}
 use Rattle.iso_lexer.specs.declared.token.At.{At}
@@ -15,19 +15,29 @@ use Rattle.sql_trees.specs.Tokens as tok
 use Rattle.sql_expressions.specs.Results.{◌>>=◌}
 use Rattle.sql_expressions.specs.Readers.{Reader, after, expect, is_sign, is_word, keyword, misplaced, name_at, items_at}
 use Rattle.sql_blocks.specs.Parts.{column_names}
-use Rattle.sql_parser.specs.Grammar.{Constraints, empty_table, with_column, key_limit}
+use Rattle.sql_parser.specs.Grammar.{Constraints, empty_table, with_column, key_limit, Commas, AddsPart, Shallow}
 use Rattle.sql_parser.specs.Readers.{known_of, list_of, whole}
 use Rattle.sql_parser.specs.Tables.{Placed, TableRead, placed_names, with_key, new_name, names_at, said_at, column_at, table_add, keys_fault, created, create_at}
 use Rattle.sql_parser.specs.Inner.Tables as tables
 use Rattle.sql_parser.specs.Inner.Blocks.{at_end}
-use Rattle.sql_parser.proofs.Created.{fault_is}
+use Rattle.sql_parser.proofs.Created.{are_full, fault_is, parts_full}
+use Rattle.sql_parser.proofs.Steps.{ok_same}
+use Rattle.sql_parser.proofs.Locals.{Local, took, stopped}
+use Rattle.sql_parser.proofs.TableLocals.{parts_local}
 use Rattle.sql_parser.proofs.Readings.{turned, bind_on, bind_twice, option_on, items_alike}
 use Rattle.sql_parser.proofs.StmtReadings.{name_then, keys_same}
 
 -- ---- one after another
 
+bind_of : {A B : Type 0} (r : Result A SqlFault) (f g : A → Result B SqlFault) → ((x : A) → r ≡ Ok x → f x ≡ g x) → (r >>= f) ≡ (r >>= g)
+bind_of (Ok x) f g h = h x refl
+bind_of (Err e) f g h = refl
+
 pub chain : {A C D : Type 0} (r q : Result A SqlFault) (k : A → Result C SqlFault) (l : A → Result D SqlFault) (e : D → Result C SqlFault) → r ≡ q → ((x : A) → k x ≡ (l x >>= e)) → (r >>= k) ≡ ((q >>= l) >>= e)
 chain r q k l e same h = ap (λ (p : Result _ SqlFault). p >>= k) same ∙ (bind_on q k (λ x. l x >>= e) h ∙ sym (bind_twice q l e))
+
+pub chain_of : {A C D : Type 0} (r q : Result A SqlFault) (k : A → Result C SqlFault) (l : A → Result D SqlFault) (e : D → Result C SqlFault) → r ≡ q → ((x : A) → q ≡ Ok x → k x ≡ (l x >>= e)) → (r >>= k) ≡ ((q >>= l) >>= e)
+chain_of r q k l e same h = ap (λ (p : Result _ SqlFault). p >>= k) same ∙ (bind_of q k (λ x. l x >>= e) h ∙ sym (bind_twice q l e))
 
 pub turned_option : {X A B : Type 0} (f : A → B) (o : Option X) (g : X → Result (A × Tokens) SqlFault) (d : Result (A × Tokens) SqlFault) → turned f (option_map_or g o d) ≡ option_map_or (λ x. turned f (g x)) o (turned f d)
 turned_option f None g d = refl
@@ -135,14 +145,25 @@ module _ (last : ℕ) where
   abbrev finishes : List ℕ → TableRead × Tokens → Result (StmtTree × Tokens) SqlFault
   finishes name x = whole last (option_map BadColumns (keys_fault name (column_names x.0.columns) [] x.0.keys)) x.1 >>= stated (created name x.0)
 
-  finished_same : (name : List ℕ) (t : TableRead) (ts : Tokens) → finishes name (t, ts) ≡ ended (tables.finished name t, ts)
+  finished_same : (name : List ℕ) (t : TableRead) (ts : Tokens) → are_full t.keys ≡ true → finishes name (t, ts) ≡ ended (tables.finished name t, ts)
   unfolding tables.finished
-  finished_same name t (u ∷ us) = refl
-  finished_same name t [] = rw (fault_is name (column_names t.columns) [] t.keys) (of_fault (tables.keys_fault name (column_names t.columns) [] t.keys))
+  finished_same name t (u ∷ us) full = refl
+  finished_same name t [] full = rw (fault_is name (column_names t.columns) [] t.keys full) (of_fault (tables.keys_fault name (column_names t.columns) [] t.keys))
     where
       of_fault : (o : Option ℕ) → (option_map_or (λ f. Err f) (option_map BadColumns o) (Ok []) >>= stated (created name t)) ≡ (option_map_or (λ place. Err (BadColumns place)) o (Ok (created name t)) >>= λ s. stated s [])
       of_fault None = refl
       of_fault (Some place) = refl
+
+  -- a key that is read has a column
+  read_full : (ts : Tokens) (x : TableRead × Tokens) → items_at (tables.table_add last) empty_table ts ≡ Ok x → are_full x.0.keys ≡ true
+  read_full ts x e = of_local (parts_local last Shallow (Unit {0}) ⊥ tt ts)
+    where
+      no_both : (y : TableRead × Tokens) (f : SqlFault) → ◌≡◌ {A = Result (TableRead × Tokens) SqlFault} (Ok y) (Err f) → ⊥
+      no_both y f h = cc
+
+      of_local : Local last Shallow (Unit {0}) ⊥ (Commas AddsPart empty_table) (items_at (tables.table_add last) empty_table) ts → are_full x.0.keys ≡ true
+      of_local (took v front rest split local q) = subst (λ (y : TableRead × Tokens). are_full y.0.keys ≡ true) (ok_same (v, rest) x (sym (ap (items_at (tables.table_add last) empty_table) split ∙ local rest refl) ∙ e)) (parts_full q refl)
+      of_local (stopped f front rest split local b) = absurd (no_both x f (sym e ∙ (ap (items_at (tables.table_add last) empty_table) split ∙ local rest refl)))
 
   pub create_same : (ts : Tokens) → create_at last ts ≡ (tables.create_at last ts >>= ended)
   unfolding create_at tables.create_at
@@ -151,6 +172,6 @@ module _ (last : ℕ) where
       chain (name_at last us) (name_at last us) _ _ ended refl (λ n.
       chain (expect last (is_sign signs.Open) n.1) (expect last (is_sign signs.Open) n.1) _ _ ended refl (λ vs.
       bind_twice (items_at (table_add last) empty_table vs) _ (finishes n.0)
-      ∙ chain (items_at (table_add last) empty_table vs) (items_at (tables.table_add last) empty_table vs) _ _ ended (sym (items_alike (table_add last) (tables.table_add last) add_same empty_table vs)) (λ t.
+      ∙ chain_of (items_at (table_add last) empty_table vs) (items_at (tables.table_add last) empty_table vs) _ _ ended (sym (items_alike (table_add last) (tables.table_add last) add_same empty_table vs)) (λ t e.
       bind_twice (expect last (is_sign signs.Close) t.1) _ (finishes n.0)
-      ∙ chain (expect last (is_sign signs.Close) t.1) (expect last (is_sign signs.Close) t.1) _ _ ended refl (λ rest. finished_same n.0 t.0 rest)))))
+      ∙ chain (expect last (is_sign signs.Close) t.1) (expect last (is_sign signs.Close) t.1) _ _ ended refl (λ rest. finished_same n.0 t.0 rest (read_full vs t e))))))

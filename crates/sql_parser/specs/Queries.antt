@@ -30,7 +30,8 @@ module _ (last : ℕ) where
   unfoldable pub item_at : Reader ItemTree
   item_at ts =
       let value : Reader ItemTree = tree_at last >>= λ e. made (Value e) alias_at in
-      either (is_sign signs.Star) (gives All) (by_first agg_kind (λ k. either (is_sign signs.Open) (call_at k >>= λ a. made (Aggregate a) alias_at) (λ us. value ts)) value) ts
+      either (is_sign signs.Star) (gives All) (by_first agg_kind
+      (λ k. either (is_sign signs.Open) (call_at k >>= λ a. made (Aggregate a) alias_at) (λ us. value ts)) value) ts
 
   -- a key of ORDER BY: without NULLS FIRST or LAST, NULL is sorted as the greatest value
   unfoldable pub key_at : Reader OrderTree

@@ -31,7 +31,8 @@ module _ (last : ℕ) where
 
   -- the same, where each other unquoted word is left out
   abbrev pub known_of : {X : Type 0} → List (Word × X) → Reader X
-  known_of rows = one_at (λ ts. either (λ t. elim t [ tok.word w s ↦ true | _ ↦ false ]) (λ us. LeftOut (place_of last ts)) (misplaced last) ts) (row_of is_word rows)
+  known_of rows =
+      one_at (λ ts. either (λ t. elim t [ tok.word w s ↦ true | _ ↦ false ]) (λ us. LeftOut (place_of last ts)) (misplaced last) ts) (row_of is_word rows)
 
   -- an expression's tree
   abbrev pub tree_at : Reader Tree

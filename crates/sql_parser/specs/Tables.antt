@@ -1,5 +1,5 @@
 -- CREATE TABLE and DROP TABLE (PostgreSQL manual: CREATE TABLE, DROP TABLE).
-use Rattle.std.specs.Prelude.{ℕ, zero, suc, Bool, true, false, not, ◌||◌, ◌&&◌, List, [], ◌∷◌, ◌++◌, length, map, filter, find, slice_index, bytes_eq}
+use Rattle.std.specs.Prelude.{ℕ, zero, suc, Bool, true, false, not, ◌||◌, ◌&&◌, List, [], ◌∷◌, ◌++◌, length, map, filter, find, bytes_eq}
 use Rattle.std.specs.Prelude.{Option, Some, None, option_map, is_some, unwrap_or, Ok, Err, if◌then◌else◌}
 use Rattle.std.specs.List.{list_any, position_or_len}
 use Rattle.std.specs.Option.{option_or}
@@ -74,13 +74,13 @@ module _ (last : ℕ) where
 
 -- ---- what has to hold of the whole
 
--- the place of the first fault of the keys, in the order of the text: of the first column of a key whose name was made before, or of one that the table lacks
+-- the place of the first column of the keys, in the order of the text, that the table lacks, or whose key has a name that was made earlier
 unfoldable pub keys_fault : List ℕ → List (List ℕ) → List (List ℕ) → List KeyRead → Option ℕ
 keys_fault table columns earlier [] = None
 keys_fault table columns earlier (k ∷ ks) =
     let name = key_name table k.primary (placed_names k.columns) in
-    let lacking = option_map (λ n. n.place) (find (λ n. not (is_among n.name columns)) k.columns) in
-    option_or (if is_among name earlier then Some (slice_index (map (λ n. n.place) k.columns) 0) else lacking) (keys_fault table columns (earlier ++ name ∷ []) ks)
+    let wrong = find (λ n. is_among name earlier || not (is_among n.name columns)) k.columns in
+    option_or (option_map (λ n. n.place) wrong) (keys_fault table columns (earlier ++ name ∷ []) ks)
 
 -- a column of a primary key is NOT NULL
 abbrev pub completed : List KeyRead → ColumnTree → ColumnTree

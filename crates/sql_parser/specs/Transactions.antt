@@ -26,8 +26,9 @@ module _ (last : ℕ) where
 
   -- what stands behind SET: TRANSACTION and a level, or the only parameter that is known, and its value
   unfoldable pub set_at : Reader StmtTree
-  set_at = either (is_word words.Transaction) (keyword last words.Isolation >> made SetTransaction level_at) (past (λ t. is_word words.Session t || is_word words.Local t) (do
-    set ← known_of last ((words.DeadlockTimeout, SetDeadlockTimeout) ∷ [])
-    expect last (λ t. is_sign signs.Equal t || is_word words.To t)
-    expect last (λ t. elim t [ tok.number n ↦ true | tok.string s ↦ true | _ ↦ false ])
-    gives set))
+  set_at = either (is_word words.Transaction) (keyword last words.Isolation >> made SetTransaction level_at)
+      (past (λ t. is_word words.Session t || is_word words.Local t) (do
+        set ← known_of last ((words.DeadlockTimeout, SetDeadlockTimeout) ∷ [])
+        expect last (λ t. is_sign signs.Equal t || is_word words.To t)
+        expect last (λ t. elim t [ tok.number n ↦ true | tok.string s ↦ true | _ ↦ false ])
+        gives set))
