@@ -1,18 +1,17 @@
 -- What is read of statements by their first words, and of blocks, is what the code reads.
-use Rattle.std.proofs.Common.{◌≡◌, ℕ, zero, suc, ◌+◌, ◌<◌, Bool, true, false, List, [], ◌∷◌, ◌++◌, length, map, Some, None, refl, sym, ap, ◌∙◌, append_assoc, append-nil, length-append, arith, rules}
+use Rattle.std.proofs.Common.{◌≡◌, ℕ, zero, suc, ◌+◌, Bool, true, false, List, [], ◌∷◌, ◌++◌, length, map, None, refl, sym, ap, ◌∙◌, append_assoc, append-nil, length-append, arith, rules}
 use Rattle.std.proofs.lemmas.Bool.{lt-ltb}
 use Rattle.std.specs.List.{filter, zip, slice_split, onto_first}
 use Rattle.std.specs.Prelude.{Result, Ok, Err, nat_lt, if◌then◌else◌, ◌&&◌}
 use Rattle.iso_lexer.specs.declared.token.At.{At}
 use Rattle.iso_lexer.specs.declared.sql_token.SqlSign.TheVariants as signs
 use Rattle.sql_trees.specs.declared.fault.SqlFault.{SqlFault}
-use Rattle.sql_trees.specs.declared.fault.SqlFault.TheVariants.{TooMany, DdlInSession}
 use Rattle.sql_trees.specs.declared.word.Word.TheVariants as words
 use Rattle.sql_trees.specs.Statements.{StmtTree, Commit, Rollback}
 use Rattle.sql_trees.specs.Tokens.{Token, Tokens}
 use Rattle.sql_trees.specs.Tokens as tok
 use Rattle.sql_expressions.specs.Results.{◌>>=◌}
-use Rattle.sql_expressions.specs.Readers.{Reader, after, is_sign, is_word, misplaced, place_of}
+use Rattle.sql_expressions.specs.Readers.{Reader, is_sign}
 use Rattle.sql_blocks.specs.declared.block.Role.{Role}
 use Rattle.sql_blocks.specs.Parts.{is_session}
 use Rattle.sql_parser.specs.Grammar.{is_ddl}
@@ -24,7 +23,7 @@ use Rattle.sql_parser.specs.Inner.Transactions as transactions
 use Rattle.sql_parser.specs.Inner.Tables as tables
 use Rattle.sql_parser.specs.Inner.Queries as queries
 use Rattle.sql_parser.specs.Inner.Blocks as blocks
-use Rattle.sql_parser.proofs.Readings.{bind_on, begin_same, start_same, set_same}
+use Rattle.sql_parser.proofs.Readings.{begin_same, start_same, set_same}
 use Rattle.sql_parser.proofs.StmtReadings.{drop_same, insert_same, update_same}
 use Rattle.sql_parser.proofs.TableReadings.{ended, stated, create_same}
 use Rattle.sql_parser.proofs.QueryReadings.{select_same}

@@ -1,15 +1,15 @@
 -- A table by its columns and keys, as the code makes it.
-use Rattle.std.proofs.Common.{◌≡◌, ℕ, Bool, true, false, List, [], ◌∷◌, ◌++◌, map, Some, refl, sym, ap, ◌∙◌}
+use Rattle.std.proofs.Common.{◌≡◌, ℕ, Bool, true, false, List, [], ◌∷◌, ◌++◌, map, Some, refl, ap}
 use Rattle.std.proofs.lemmas.Bool.{and_parts}
 use Rattle.std.proofs.lemmas.List.{map-append}
 use Rattle.std.specs.List.{filter, list_all}
 use Rattle.std.specs.Prelude.{not, ◌||◌, find, option_map, slice_index, if◌then◌else◌}
-use Rattle.sql_trees.specs.Statements.{StmtTree, KeyTree, Create}
+use Rattle.sql_trees.specs.Statements.{KeyTree, Create}
 use Rattle.sql_trees.specs.Tokens.{Tokens}
 use Rattle.sql_blocks.specs.Parts.{column_names}
 use Rattle.sql_parser.specs.Tables.{is_among, Placed, KeyRead, TableRead, completed, created, keys_fault}
 use Rattle.sql_parser.specs.Grammar.{Constraints, Commas, last_item, next_item, placed, AddsColumn, adds_column, Says, no_more, not_null, primary_key, unique_key, AddsPart, a_column, a_primary, a_unique}
-use Rattle.sql_parser.specs.Inner.Tables.{place_among, resolved, declared, table_of, made_name, first_lacking, text_fault}
+use Rattle.sql_parser.specs.Inner.Tables.{place_among, resolved, table_of, made_name, first_lacking, text_fault}
 use Rattle.sql_parser.specs.Inner.Tables as inner
 use Rattle.sql_parser.proofs.Steps.{push_all}
 

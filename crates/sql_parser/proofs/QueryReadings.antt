@@ -3,7 +3,6 @@ use Rattle.std.proofs.Common.{◌≡◌, ℕ, Bool, true, false, List, [], ◌�
 use Rattle.std.specs.Prelude.{Result, Ok, Err, if◌then◌else◌, option_map}
 use Rattle.std.specs.Option.{option_map_or}
 use Rattle.iso_lexer.specs.Bytes.{row_of}
-use Rattle.iso_lexer.specs.declared.token.At.{At}
 use Rattle.iso_lexer.specs.declared.sql_token.SqlSign.TheVariants as signs
 use Rattle.sql_trees.specs.declared.fault.SqlFault.{SqlFault}
 use Rattle.sql_trees.specs.declared.fault.SqlFault.TheVariants.{LeftOut}
@@ -12,21 +11,20 @@ use Rattle.sql_trees.specs.declared.expr.AggKind.{AggKind}
 use Rattle.sql_trees.specs.declared.expr.AggKind.TheVariants as aggs
 use Rattle.sql_trees.specs.declared.stmt.Lock.{Lock}
 use Rattle.sql_trees.specs.declared.stmt.Lock.TheVariants as locks
-use Rattle.sql_trees.specs.Statements.{StmtTree, ItemTree, OrderTree, SelectTree, Selects, Value, Aggregate}
-use Rattle.sql_trees.specs.Tokens.{Token, Tokens}
+use Rattle.sql_trees.specs.Statements.{ItemTree, OrderTree, SelectTree, Selects, Value, Aggregate}
+use Rattle.sql_trees.specs.Tokens.{Tokens}
 use Rattle.sql_trees.specs.Trees.{Tree, AggTree, CountRows, Of}
 use Rattle.sql_expressions.specs.Results.{◌>>=◌}
-use Rattle.sql_expressions.specs.Readers.{Reader, after, by_first, expect, gives, is_sign, is_word, keyword, name_at, items_at}
+use Rattle.sql_expressions.specs.Readers.{after, by_first, expect, gives, is_sign, is_word, keyword, items_at}
 use Rattle.sql_expressions.specs.Reading.{agg_kind}
 use Rattle.sql_blocks.specs.Parts.{is_allowed}
 use Rattle.sql_parser.specs.Readers.{maybe, list_of, one_of, tree_at, whole}
 use Rattle.sql_parser.specs.Changes.{filter_at}
 use Rattle.sql_parser.specs.Queries.{alias_at, call_at, item_at, key_at, select_at}
 use Rattle.sql_parser.specs.Inner.Queries as queries
-use Rattle.sql_parser.specs.Inner.Blocks.{at_end}
 use Rattle.sql_parser.specs.Inner.Parts.{added}
-use Rattle.sql_parser.proofs.Readings.{turned, bind_on, bind_twice, option_on, items_alike, two_words}
-use Rattle.sql_parser.proofs.TableReadings.{chain, turned_option, ended, stated}
+use Rattle.sql_parser.proofs.Readings.{turned, bind_on, option_on, items_alike, two_words}
+use Rattle.sql_parser.proofs.TableReadings.{chain, ended, stated}
 
 -- ASC, DESC or none of them
 direction_same : (ts : Tokens) → by_first (row_of is_word ((words.Asc, false) ∷ (words.Desc, true) ∷ [])) gives (gives false) ts ≡ queries.direction_at ts

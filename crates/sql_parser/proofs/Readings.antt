@@ -1,23 +1,21 @@
 -- What is read of statements is what the code reads, piece by piece.
-use Rattle.std.proofs.Common.{◌≡◌, ℕ, zero, suc, Bool, true, false, List, [], ◌∷◌, ◌++◌, length, Option, Some, None, refl, sym, ap, ◌∙◌}
-use Rattle.std.specs.Prelude.{Result, Ok, Err, if◌then◌else◌, option_map, unwrap_or, is_some}
-use Rattle.std.specs.Option.{option_map_or, option_or}
-use Rattle.std.specs.List.{slice_get}
+use Rattle.std.proofs.Common.{◌≡◌, ℕ, zero, suc, Bool, true, false, [], ◌∷◌, length, Option, Some, None, refl, sym, ap, ◌∙◌}
+use Rattle.std.specs.Prelude.{Result, Ok, Err, unwrap_or}
+use Rattle.std.specs.Option.{option_map_or}
 use Rattle.iso_lexer.specs.declared.token.At.{At}
 use Rattle.iso_lexer.specs.declared.sql_token.SqlSign.TheVariants as signs
 use Rattle.sql_trees.specs.declared.fault.SqlFault.{SqlFault}
-use Rattle.sql_trees.specs.declared.fault.SqlFault.TheVariants.{Syntax, BadColumns}
 use Rattle.sql_trees.specs.declared.word.Word.{Word}
 use Rattle.sql_trees.specs.declared.word.Word.TheVariants as words
 use Rattle.sql_trees.specs.declared.stmt.Level.{Level}
-use Rattle.sql_trees.specs.declared.stmt.Level.TheVariants.{ReadCommitted, RepeatableRead}
-use Rattle.sql_trees.specs.Statements.{StmtTree, Begin, SetTransaction, SetDeadlockTimeout, DropTables}
+use Rattle.sql_trees.specs.declared.stmt.Level.TheVariants.{ReadCommitted}
+use Rattle.sql_trees.specs.Statements.{StmtTree, Begin, SetTransaction, SetDeadlockTimeout}
 use Rattle.sql_trees.specs.Tokens.{Token, Tokens}
 use Rattle.sql_trees.specs.Tokens as tok
 use Rattle.sql_expressions.specs.Results.{◌>>=◌}
-use Rattle.sql_expressions.specs.Readers.{Reader, after, expect, is_sign, is_word, keyword, misplaced, place_of, name_at, more_at, items_at, either}
+use Rattle.sql_expressions.specs.Readers.{Reader, after, expect, is_sign, is_word, keyword, more_at, items_at}
 use Rattle.sql_parser.specs.Grammar.{is_to, is_setting, is_scope}
-use Rattle.sql_parser.specs.Readers.{one_of, known_of, list_of, past}
+use Rattle.sql_parser.specs.Readers.{one_of, known_of}
 use Rattle.sql_parser.specs.Transactions.{level_at, begin_at, set_at}
 use Rattle.sql_parser.specs.Inner.Transactions as inner
 use Rattle.sql_parser.specs.Inner.Parts as parts

@@ -1,30 +1,28 @@
 -- What is read of INSERT, UPDATE, CREATE, DROP and SELECT is what the code reads.
-use Rattle.std.proofs.Common.{◌≡◌, ℕ, zero, suc, Bool, true, false, List, [], ◌∷◌, ◌++◌, length, map, Option, Some, None, refl, sym, ap, ◌∙◌}
+use Rattle.std.proofs.Common.{◌≡◌, ℕ, Bool, true, false, List, [], ◌∷◌, ◌++◌, length, Option, Some, None, refl, sym, ap, ◌∙◌}
 use Rattle.std.proofs.lemmas.Bool.Decides.{Decides-eqb}
 use Rattle.std.proofs.lemmas.List.{map-append}
-use Rattle.std.specs.Prelude.{Result, Ok, Err, if◌then◌else◌, option_map, unwrap_or, is_some, ◌==◌}
+use Rattle.std.specs.Prelude.{Result, Ok, Err, if◌then◌else◌, option_map, unwrap_or, is_some}
 use Rattle.std.specs.Option.{option_map_or, option_or}
 use Rattle.std.specs.List.{slice_get}
-use Rattle.iso_lexer.specs.declared.token.At.{At}
 use Rattle.iso_lexer.specs.declared.sql_token.SqlSign.TheVariants as signs
 use Rattle.sql_trees.specs.declared.fault.SqlFault.{SqlFault}
 use Rattle.sql_trees.specs.declared.fault.SqlFault.TheVariants.{Syntax, BadColumns}
 use Rattle.sql_trees.specs.declared.word.Word.TheVariants as words
 use Rattle.sql_trees.specs.Statements.{StmtTree, SetTree, DropTables, Inserts, Updates}
 use Rattle.sql_trees.specs.Trees.{Tree}
-use Rattle.sql_trees.specs.Tokens.{Token, Tokens}
+use Rattle.sql_trees.specs.Tokens.{Tokens}
 use Rattle.sql_expressions.specs.Results.{◌>>=◌}
-use Rattle.sql_expressions.specs.Readers.{Reader, after, expect, is_sign, is_word, keyword, misplaced, place_of, name_at, items_at}
+use Rattle.sql_expressions.specs.Readers.{Reader, after, expect, is_sign, keyword, place_of, name_at, items_at}
 use Rattle.sql_blocks.specs.Parts.{fits, set_columns}
 use Rattle.sql_parser.specs.Grammar.{Rows}
 use Rattle.sql_parser.specs.Readers.{maybe, list_of, tree_at}
-use Rattle.sql_parser.specs.Tables.{is_among, Placed, TableRead, placed_names, new_name, names_at, drop_at}
+use Rattle.sql_parser.specs.Tables.{is_among, Placed, placed_names, new_name, names_at, drop_at}
 use Rattle.sql_parser.specs.Changes.{row_at, set_of, filter_at, insert_at, update_at}
 use Rattle.sql_parser.specs.Inner.Parts.{added}
 use Rattle.sql_parser.specs.Inner.Tables as tables
 use Rattle.sql_parser.specs.Inner.Changes as changes
-use Rattle.sql_parser.proofs.Lists.{views_twice}
-use Rattle.sql_parser.proofs.Readings.{turned, bind_on, bind_twice, option_on, items_same, items_alike, pair_again}
+use Rattle.sql_parser.proofs.Readings.{turned, bind_on, bind_twice, option_on, items_same, items_alike}
 
 -- ---- names
 

@@ -1,8 +1,7 @@
 -- What is read of CREATE TABLE and SELECT is what the code reads, with what is told of the whole once all tokens have been read.
-use Rattle.std.proofs.Common.{◌≡◌, ℕ, zero, suc, Bool, true, false, List, [], ◌∷◌, ◌++◌, length, Option, Some, None, refl, sym, ap, subst, ◌∙◌}
-use Rattle.std.specs.Prelude.{Result, Ok, Err, if◌then◌else◌, option_map}
+use Rattle.std.proofs.Common.{◌≡◌, ℕ, zero, suc, Bool, true, false, List, [], ◌∷◌, length, Option, Some, None, refl, sym, ap, subst, ◌∙◌}
+use Rattle.std.specs.Prelude.{Result, Ok, Err, option_map}
 use Rattle.std.specs.Option.{option_map_or}
-use Rattle.iso_lexer.specs.declared.token.At.{At}
 use Rattle.iso_lexer.specs.declared.sql_token.SqlSign.TheVariants as signs
 use Rattle.sql_trees.specs.declared.fault.SqlFault.{SqlFault}
 use Rattle.sql_trees.specs.declared.fault.SqlFault.TheVariants.{BadColumns}
@@ -13,7 +12,7 @@ use Rattle.sql_trees.specs.Statements.{StmtTree, ColumnTree}
 use Rattle.sql_trees.specs.Tokens.{Token, Tokens}
 use Rattle.sql_trees.specs.Tokens as tok
 use Rattle.sql_expressions.specs.Results.{◌>>=◌}
-use Rattle.sql_expressions.specs.Readers.{Reader, after, expect, is_sign, is_word, keyword, misplaced, name_at, items_at}
+use Rattle.sql_expressions.specs.Readers.{after, expect, is_sign, is_word, keyword, name_at, items_at}
 use Rattle.sql_blocks.specs.Parts.{column_names}
 use Rattle.sql_parser.specs.Grammar.{Constraints, empty_table, with_column, key_limit, Commas, AddsPart, Shallow}
 use Rattle.sql_parser.specs.Readers.{known_of, list_of, whole}
