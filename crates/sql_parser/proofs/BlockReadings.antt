@@ -130,9 +130,6 @@ onto_one (u ∷ us) t ps = ap (onto_first u) (onto_one us t ps)
 abbrev is_end : At Token → Bool
 is_end t = is_sign signs.Semicolon t.tok
 
-abbrev is_full : Tokens × ℕ → Bool
-is_full p = nat_lt 0 (length p.0)
-
 -- the pieces of tokens behind those that have passed since the last semicolon
 abbrev pieces_from : ℕ → Tokens → Tokens → List (Tokens × ℕ)
 pieces_from last piece ts = zip (onto piece (slice_split is_end ts)) (map (λ (t : At Token). t.span.start) (filter is_end ts) ++ last ∷ [])
@@ -140,10 +137,10 @@ pieces_from last piece ts = zip (onto piece (slice_split is_end ts)) (map (λ (t
 module _ (role : Role) where
   -- the statements of these pieces, behind those that have been read
   abbrev rest_of : List StmtTree → ℕ → List (Tokens × ℕ) → Result (List StmtTree) SqlFault
-  rest_of ss n ps = stmts_at role n (filter is_full ps) >>= λ more. Ok (ss ++ more)
+  rest_of ss n ps = stmts_at role n ps >>= λ more. Ok (ss ++ more)
 
-  rest_behind : (ss : List StmtTree) (s : StmtTree) (n : ℕ) (ps : List (Tokens × ℕ)) → rest_of (ss ++ s ∷ []) n ps ≡ ((stmts_at role n (filter is_full ps) >>= λ more. Ok (s ∷ more)) >>= λ more. Ok (ss ++ more))
-  rest_behind ss s n ps = of_rest (stmts_at role n (filter is_full ps))
+  rest_behind : (ss : List StmtTree) (s : StmtTree) (n : ℕ) (ps : List (Tokens × ℕ)) → rest_of (ss ++ s ∷ []) n ps ≡ ((stmts_at role n ps >>= λ more. Ok (s ∷ more)) >>= λ more. Ok (ss ++ more))
+  rest_behind ss s n ps = of_rest (stmts_at role n ps)
     where
       of_rest : (r : Result (List StmtTree) SqlFault) → (r >>= λ more. Ok ((ss ++ s ∷ []) ++ more)) ≡ ((r >>= λ more. Ok (s ∷ more)) >>= λ more. Ok (ss ++ more))
       of_rest (Ok more) = ap Ok (append_assoc ss (s ∷ []) more)
@@ -153,7 +150,7 @@ module _ (role : Role) where
     abbrev Goes : Type 0
     Goes = (n : ℕ) (us : List StmtTree) → n + length us ≡ 256 → next us ≡ rest_of us n ps
 
-    read_one : Goes → (ss : List StmtTree) (n : ℕ) → suc n + length ss ≡ 256 → (r : Result StmtTree SqlFault) → ((r >>= λ s. Ok (ss ++ s ∷ [])) >>= next) ≡ (((r >>= all_read) >>= λ x. stmts_at role n (filter is_full ps) >>= λ more. Ok (x.0 ∷ more)) >>= λ more. Ok (ss ++ more))
+    read_one : Goes → (ss : List StmtTree) (n : ℕ) → suc n + length ss ≡ 256 → (r : Result StmtTree SqlFault) → ((r >>= λ s. Ok (ss ++ s ∷ [])) >>= next) ≡ (((r >>= all_read) >>= λ x. stmts_at role n ps >>= λ more. Ok (x.0 ∷ more)) >>= λ more. Ok (ss ++ more))
     read_one go ss n e (Ok s) = go n (ss ++ s ∷ []) (omega (arith, length-append ss (s ∷ []))) ∙ rest_behind ss s n ps
     read_one go ss n e (Err f) = refl
 
@@ -161,13 +158,11 @@ module _ (role : Role) where
     unfolding stmts_at blocks.piece_at
     piece_same go [] ss n e = go n ss e
     piece_same go (t ∷ ts) ss zero e =
-        let full : nat_lt 0 (length (t ∷ ts)) ≡ true = lt-ltb 0 (length (t ∷ ts)) (omega arith) in
         let many : nat_lt (length ss) 256 ≡ false = search (arith, rules) in
-        rw (full, many) refl
+        rw many refl
     piece_same go (t ∷ ts) ss (suc n) e =
-        let full : nat_lt 0 (length (t ∷ ts)) ≡ true = lt-ltb 0 (length (t ∷ ts)) (omega arith) in
         let few : nat_lt (length ss) 256 ≡ true = lt-ltb (length ss) 256 (omega arith) in
-        rw (full, few, whole_same place role (t ∷ ts)) (read_one go ss n e (blocks.whole_at place role (t ∷ ts)))
+        rw (few, whole_same place role (t ∷ ts)) (read_one go ss n e (blocks.whole_at place role (t ∷ ts)))
 
   only_same : (r : Result (List StmtTree) SqlFault) → r ≡ (r >>= λ us. Ok us)
   only_same (Ok us) = refl
@@ -190,7 +185,7 @@ module _ (role : Role) where
       of_test false h go = go n ss (piece ++ t ∷ []) e ∙ rw (h, onto_one) refl
 
 pub block_same : (last : ℕ) (role : Role) (ts : Tokens) → block_at last role ts ≡ blocks.block_at last role ts
-block_same last role ts = sym (stmts_same role last ts [] [] 256 refl ∙ of_rest (stmts_at role 256 (filter is_full (pieces last ts))))
+block_same last role ts = sym (stmts_same role last ts [] [] 256 refl ∙ of_rest (stmts_at role 256 (pieces last ts)))
   where
     of_rest : (r : Result (List StmtTree) SqlFault) → (r >>= λ more. Ok ([] ++ more)) ≡ r
     of_rest (Ok us) = refl

@@ -20,7 +20,7 @@ use Rattle.sql_expressions.specs.Reading.{agg_kind}
 use Rattle.sql_blocks.specs.Parts.{is_allowed}
 use Rattle.sql_parser.specs.Readers.{maybe, list_of, one_of, tree_at, whole}
 use Rattle.sql_parser.specs.Changes.{filter_at}
-use Rattle.sql_parser.specs.Queries.{alias_at, call_at, item_at, key_at, select_at}
+use Rattle.sql_parser.specs.Queries.{alias_at, call_at, item_at, sort_key_at, select_at}
 use Rattle.sql_parser.specs.Inner.Queries as queries
 use Rattle.sql_parser.specs.Inner.Parts.{added}
 use Rattle.sql_parser.proofs.Readings.{turned, bind_on, option_on, items_alike, two_words}
@@ -96,8 +96,8 @@ module _ (last : ℕ) where
   abbrev key_of : Tree → Bool → Bool → OrderTree
   key_of e desc nulls = record { expr = e; dir = record { desc = desc; nulls_first = nulls } }
 
-  order_same : (ks : List OrderTree) (ts : Tokens) → queries.order_add last ks ts ≡ turned (λ k. ks ++ k ∷ []) (key_at last ts)
-  unfolding key_at queries.order_add
+  order_same : (ks : List OrderTree) (ts : Tokens) → queries.order_add last ks ts ≡ turned (λ k. ks ++ k ∷ []) (sort_key_at last ts)
+  unfolding sort_key_at queries.order_add
   order_same ks ts = of_tree (tree_at last ts)
     where
       of_nulls : (e : Tree) (desc : Bool) (r : Result (Bool × Tokens) SqlFault) → (r >>= λ n. Ok (ks ++ key_of e desc n.0 ∷ [], n.1)) ≡ turned (λ k. ks ++ k ∷ []) (r >>= λ n. Ok (key_of e desc n.0, n.1))
@@ -112,10 +112,10 @@ module _ (last : ℕ) where
       of_tree (Ok e) = of_desc e.0 (queries.direction_at e.1) ∙ ap (λ (r : Result (Bool × Tokens) SqlFault). turned (λ k. ks ++ k ∷ []) (r >>= λ d. option_map_or (one_of last ((words.First, true) ∷ (words.Last, false) ∷ [])) (after (is_word words.Nulls) d.1) (Ok (d.0, d.1)) >>= λ n. Ok (key_of e.0 d.0 n.0, n.1))) (sym (direction_same e.1))
       of_tree (Err f) = refl
 
-  keys_read : (ts : Tokens) → list_of (λ keys. key_at last) ts ≡ items_at (queries.order_add last) [] ts
-  keys_read ts = sym (items_alike (λ ks us. turned (λ k. ks ++ k ∷ []) (key_at last us)) (queries.order_add last) order_same [] ts)
+  keys_read : (ts : Tokens) → list_of (λ keys. sort_key_at last) ts ≡ items_at (queries.order_add last) [] ts
+  keys_read ts = sym (items_alike (λ ks us. turned (λ k. ks ++ k ∷ []) (sort_key_at last us)) (queries.order_add last) order_same [] ts)
 
-  sorted_same : (ts : Tokens) → option_map_or (λ us. keyword last words.By us >>= list_of (λ keys. key_at last)) (after (is_word words.Order) ts) (Ok ([], ts)) ≡ queries.order_at last ts
+  sorted_same : (ts : Tokens) → option_map_or (λ us. keyword last words.By us >>= list_of (λ keys. sort_key_at last)) (after (is_word words.Order) ts) (Ok ([], ts)) ≡ queries.order_at last ts
   unfolding queries.order_at
   sorted_same ts = option_on (after (is_word words.Order) ts) _ _ _ _ (λ us. bind_on (keyword last words.By us) _ _ keys_read) refl
 
@@ -147,6 +147,6 @@ module _ (last : ℕ) where
       chain (list_of (λ items. item_at last) ts) (items_at (added (queries.item_at last)) [] ts) _ _ (ended last) (items_read ts) (λ i.
       chain (queries.from_at last i.1) (queries.from_at last i.1) _ _ (ended last) refl (λ t.
       chain (filter_at last t.1) (filter_at last t.1) _ _ (ended last) refl (λ f.
-      chain (option_map_or (λ us. keyword last words.By us >>= list_of (λ keys. key_at last)) (after (is_word words.Order) f.1) (Ok ([], f.1))) (queries.order_at last f.1) _ _ (ended last) (sorted_same f.1) (λ o.
+      chain (option_map_or (λ us. keyword last words.By us >>= list_of (λ keys. sort_key_at last)) (after (is_word words.Order) f.1) (Ok ([], f.1))) (queries.order_at last f.1) _ _ (ended last) (sorted_same f.1) (λ o.
       chain (maybe (is_word words.For) (one_of last ((words.Update, locks.Update) ∷ (words.Share, locks.Share) ∷ [])) o.1) (queries.lock_at last o.1) _ _ (ended last) (lock_same o.1) (λ l.
       queried_same place (record { items = i.0; table = t.0; filter = f.0; order = o.0; lock = l.0 }) l.1)))))

@@ -18,7 +18,7 @@ use Rattle.sql_blocks.specs.Parts.{fits, set_columns}
 use Rattle.sql_parser.specs.Grammar.{Rows}
 use Rattle.sql_parser.specs.Readers.{maybe, list_of, tree_at}
 use Rattle.sql_parser.specs.Tables.{is_among, Placed, placed_names, new_name, names_at, drop_at}
-use Rattle.sql_parser.specs.Changes.{row_at, set_of, filter_at, insert_at, update_at}
+use Rattle.sql_parser.specs.Changes.{row_at, one_set, filter_at, insert_at, update_at}
 use Rattle.sql_parser.specs.Inner.Parts.{added}
 use Rattle.sql_parser.specs.Inner.Tables as tables
 use Rattle.sql_parser.specs.Inner.Changes as changes
@@ -58,8 +58,8 @@ module _ (last : ℕ) where
 
   -- ---- UPDATE
 
-  set_same : (ss : List SetTree) (ts : Tokens) → changes.set_add last ss ts ≡ turned (λ s. ss ++ s ∷ []) (set_of last ss ts)
-  unfolding set_of changes.set_add
+  set_same : (ss : List SetTree) (ts : Tokens) → changes.set_add last ss ts ≡ turned (λ s. ss ++ s ∷ []) (one_set last ss ts)
+  unfolding one_set changes.set_add
   set_same ss ts =
       name_then (set_columns ss) (λ n. changes.set_value last n.name ss) ts
       ∙ (bind_on (new_name last (set_columns ss) ts) (λ x. changes.set_value last x.0.name ss x.1) (λ x. turned (λ s. ss ++ s ∷ []) (expect last (is_sign signs.Equal) x.1 >>= λ us. turned (λ e. record { column = x.0.name; value = e }) (tree_at last us))) of_sign
@@ -81,7 +81,7 @@ module _ (last : ℕ) where
 
   pub update_same : (ts : Tokens) → update_at last ts ≡ changes.update_at last ts
   unfolding update_at changes.update_at
-  update_same ts = bind_on (name_at last ts) _ _ (λ x. bind_on (keyword last words.Set x.1) _ _ (λ us. ap (λ (r : Result (List SetTree × Tokens) SqlFault). r >>= updated x.0) (sym (items_alike (λ ss vs. turned (λ s. ss ++ s ∷ []) (set_of last ss vs)) (changes.set_add last) set_same [] us))))
+  update_same ts = bind_on (name_at last ts) _ _ (λ x. bind_on (keyword last words.Set x.1) _ _ (λ us. ap (λ (r : Result (List SetTree × Tokens) SqlFault). r >>= updated x.0) (sym (items_alike (λ ss vs. turned (λ s. ss ++ s ∷ []) (one_set last ss vs)) (changes.set_add last) set_same [] us))))
 
   -- ---- INSERT
 

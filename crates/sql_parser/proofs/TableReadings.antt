@@ -16,7 +16,7 @@ use Rattle.sql_expressions.specs.Readers.{after, expect, is_sign, is_word, keywo
 use Rattle.sql_blocks.specs.Parts.{column_names}
 use Rattle.sql_parser.specs.Grammar.{Constraints, empty_table, with_column, key_limit, Commas, AddsPart, Shallow}
 use Rattle.sql_parser.specs.Readers.{known_of, list_of, whole}
-use Rattle.sql_parser.specs.Tables.{Placed, TableRead, placed_names, with_key, new_name, names_at, said_at, column_at, table_add, keys_fault, created, create_at}
+use Rattle.sql_parser.specs.Tables.{Placed, TableRead, placed_names, with_key, new_name, names_at, constraints_at, column_at, table_add, keys_fault, created, create_at}
 use Rattle.sql_parser.specs.Inner.Tables as tables
 use Rattle.sql_parser.specs.Inner.Blocks.{at_end}
 use Rattle.sql_parser.proofs.Created.{are_full, fault_is, parts_full}
@@ -56,22 +56,22 @@ module _ (last : ℕ) where
     abbrev with_said : Constraints → TableRead
     with_said s = with_column name kind s t
 
-    said_same : (n : ℕ) (s : Constraints) (ts : Tokens) → said_at last name n (column_of s.not_null) (record t { keys = s.keys }) ts ≡ turned with_said (tables.constraints_at last name n s ts)
-    unfolding said_at tables.constraints_at
+    said_same : (n : ℕ) (s : Constraints) (ts : Tokens) → constraints_at last name n (column_of s.not_null) (record t { keys = s.keys }) ts ≡ turned with_said (tables.constraints_at last name n s ts)
+    unfolding constraints_at tables.constraints_at
     said_same zero s ts = refl
     said_same (suc n) s ts = of_not (λ u us. said_same n u us) (after (is_word words.Not) ts) (after (is_word words.Primary) ts) (after (is_word words.Unique) ts)
       where
         Goes : Type 0
-        Goes = (u : Constraints) (us : Tokens) → said_at last name n (column_of u.not_null) (record t { keys = u.keys }) us ≡ turned with_said (tables.constraints_at last name n u us)
+        Goes = (u : Constraints) (us : Tokens) → constraints_at last name n (column_of u.not_null) (record t { keys = u.keys }) us ≡ turned with_said (tables.constraints_at last name n u us)
 
-        of_word : Goes → (r : Result Tokens SqlFault) (u : Constraints) → (r >>= said_at last name n (column_of u.not_null) (record t { keys = u.keys })) ≡ turned with_said (r >>= tables.constraints_at last name n u)
+        of_word : Goes → (r : Result Tokens SqlFault) (u : Constraints) → (r >>= constraints_at last name n (column_of u.not_null) (record t { keys = u.keys })) ≡ turned with_said (r >>= tables.constraints_at last name n u)
         of_word go (Ok us) u = go u us
         of_word go (Err e) u = refl
 
         of_not : Goes → (o p q : Option Tokens) →
-            option_map_or (λ us. keyword last words.Null us >>= said_at last name n (column_of true) (record t { keys = s.keys })) o
-            (option_map_or (λ us. keyword last words.Key us >>= said_at last name n (column_of s.not_null) (with_key true (name ∷ []) (record t { keys = s.keys }))) p
-            (option_map_or (said_at last name n (column_of s.not_null) (with_key false (name ∷ []) (record t { keys = s.keys }))) q
+            option_map_or (λ us. keyword last words.Null us >>= constraints_at last name n (column_of true) (record t { keys = s.keys })) o
+            (option_map_or (λ us. keyword last words.Key us >>= constraints_at last name n (column_of s.not_null) (with_key true (name ∷ []) (record t { keys = s.keys }))) p
+            (option_map_or (constraints_at last name n (column_of s.not_null) (with_key false (name ∷ []) (record t { keys = s.keys }))) q
             (Ok (with_said s, ts))))
             ≡ turned with_said
             (option_map_or (λ us. keyword last words.Null us >>= tables.constraints_at last name n (record s { not_null = true })) o
@@ -98,7 +98,7 @@ module _ (last : ℕ) where
       of_token (tok.sign s) h = rw h refl
 
   abbrev said_behind : TableRead → Placed → Kind × Tokens → Result (TableRead × Tokens) SqlFault
-  said_behind t name k = said_at last name (length k.1) (record { name = name.name; kind = k.0; not_null = false }) t k.1
+  said_behind t name k = constraints_at last name (length k.1) (record { name = name.name; kind = k.0; not_null = false }) t k.1
 
   limits_same : (t : TableRead) (name : Placed) (ts : Tokens) → (kind_known ts >>= said_behind t name) ≡ tables.column_behind last name t ts
   unfolding tables.column_behind tables.limits_at

@@ -1,5 +1,5 @@
 -- Statements and blocks.
-use Rattle.std.specs.Prelude.{ℕ, zero, suc, ◌&&◌, ◌||◌, List, [], ◌∷◌, ◌++◌, length, map, filter, None, Result, Ok, Err, nat_lt}
+use Rattle.std.specs.Prelude.{ℕ, zero, suc, ◌&&◌, ◌||◌, List, [], ◌∷◌, ◌++◌, map, filter, None, Result, Ok, Err}
 use Rattle.std.specs.List.{slice_split, zip}
 use Rattle.iso_lexer.specs.declared.sql_token.SqlSign.TheVariants as signs
 use Rattle.sql_trees.specs.declared.fault.SqlFault.{SqlFault}
@@ -39,12 +39,13 @@ module _ (last : ℕ) where
 abbrev pub pieces : ℕ → Tokens → List (Tokens × ℕ)
 pieces last ts = zip (slice_split (λ t. is_sign signs.Semicolon t.tok) ts) (map (λ t. t.span.start) (filter (λ t. is_sign signs.Semicolon t.tok) ts) ++ last ∷ [])
 
--- the statements of these pieces, of which there may be so many
+-- the statements of these pieces, of which there may be so many: an empty piece has none
 unfoldable pub stmts_at : Role → ℕ → List (Tokens × ℕ) → Result (List StmtTree) SqlFault
 stmts_at role n [] = Ok []
-stmts_at role zero (p ∷ ps) = Err (TooMany (place_of p.1 p.0))
-stmts_at role (suc n) (p ∷ ps) = and_then (whole_at p.1 role p.0) (λ x. and_then (stmts_at role n ps) (λ ss. Ok (x.0 ∷ ss)))
+stmts_at role n (([], end) ∷ ps) = stmts_at role n ps
+stmts_at role zero ((t ∷ ts, end) ∷ ps) = Err (TooMany t.span.start)
+stmts_at role (suc n) ((t ∷ ts, end) ∷ ps) = and_then (whole_at end role (t ∷ ts)) (λ x. and_then (stmts_at role n ps) (λ ss. Ok (x.0 ∷ ss)))
 
--- the statements of a block: of each piece that isn't empty one, 256 at most
+-- the statements of a block, 256 at most
 abbrev pub block_at : ℕ → Role → Tokens → Result (List StmtTree) SqlFault
-block_at last role ts = stmts_at role 256 (filter (λ p. nat_lt 0 (length p.0)) (pieces last ts))
+block_at last role ts = stmts_at role 256 (pieces last ts)

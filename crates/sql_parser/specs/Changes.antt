@@ -1,14 +1,13 @@
 -- INSERT, UPDATE and DELETE (PostgreSQL manual: INSERT, UPDATE, DELETE).
-use Rattle.std.specs.Prelude.{ℕ, List, [], length, Option, option_map, Err, if◌then◌else◌}
+use Rattle.std.specs.Prelude.{ℕ, true, ◌==◌, List, [], length, map, Option, option_map, Err, if◌then◌else◌}
 use Rattle.std.specs.List.{slice_get}
-use Rattle.std.specs.Option.{option_or}
+use Rattle.std.specs.Option.{option_or, option_map_or}
 use Rattle.iso_lexer.specs.declared.sql_token.SqlSign.TheVariants as signs
 use Rattle.sql_trees.specs.declared.fault.SqlFault.TheVariants.{Syntax}
 use Rattle.sql_trees.specs.declared.word.Word.TheVariants as words
 use Rattle.sql_trees.specs.Statements.{StmtTree, SetTree, Inserts, Updates, Deletes}
 use Rattle.sql_trees.specs.Trees.{Tree}
 use Rattle.sql_expressions.specs.Readers.{place_of, expect, is_sign, is_word, Reader, gives, made, keyword, closed, name_at, ◌>>=◌, ◌>>◌}
-use Rattle.sql_blocks.specs.Parts.{fits, set_columns}
 use Rattle.sql_parser.specs.Readers.{maybe, list_of, tree_at}
 use Rattle.sql_parser.specs.Tables.{placed_names, new_name, names_at}
 
@@ -18,7 +17,7 @@ module _ (last : ℕ) where
   row_at width ts = (do
     expect last (is_sign signs.Open)
     values ← closed last (λ vs. vs) (list_of (λ vs. tree_at last))
-    if fits width (length values) then gives values else (λ rest. Err (Syntax (place_of last ts)))) ts
+    if option_map_or (λ n. n == length values) width true then gives values else (λ rest. Err (Syntax (place_of last ts)))) ts
 
   -- what stands behind INSERT: each row has as many values as columns are listed, else as many as the first
   unfoldable pub insert_at : Reader StmtTree
@@ -35,9 +34,9 @@ module _ (last : ℕ) where
   filter_at = maybe (is_word words.Where) (tree_at last)
 
   -- a column, which none of these is, with its new value
-  unfoldable pub set_of : List SetTree → Reader SetTree
-  set_of sets = do
-    column ← new_name last (set_columns sets)
+  unfoldable pub one_set : List SetTree → Reader SetTree
+  one_set sets = do
+    column ← new_name last (map (λ set. set.column) sets)
     expect last (is_sign signs.Equal)
     gives (record { column = column.name; value = (← tree_at last) })
 
@@ -46,7 +45,7 @@ module _ (last : ℕ) where
   update_at = do
     table ← name_at last
     keyword last words.Set
-    gives (Updates (record { table = table; sets = (← list_of set_of); filter = (← filter_at) }))
+    gives (Updates (record { table = table; sets = (← list_of one_set); filter = (← filter_at) }))
 
   -- what stands behind DELETE
   unfoldable pub delete_at : Reader StmtTree

@@ -34,8 +34,8 @@ module _ (last : ℕ) where
       (λ k. either (is_sign signs.Open) (call_at k >>= λ a. made (Aggregate a) alias_at) (λ us. value ts)) value) ts
 
   -- a key of ORDER BY: without NULLS FIRST or LAST, NULL is sorted as the greatest value
-  unfoldable pub key_at : Reader OrderTree
-  key_at = do
+  unfoldable pub sort_key_at : Reader OrderTree
+  sort_key_at = do
     e ← tree_at last
     desc ← by_first (row_of is_word ((words.Asc, false) ∷ (words.Desc, true) ∷ [])) gives (gives false)
     nulls_first ← either (is_word words.Nulls) (one_of last ((words.First, true) ∷ (words.Last, false) ∷ [])) (gives desc)
@@ -47,7 +47,7 @@ module _ (last : ℕ) where
     items ← list_of (λ items. item_at)
     table ← maybe (is_word words.From) (name_at last)
     filter ← filter_at last
-    order ← either (is_word words.Order) (keyword last words.By >> list_of (λ keys. key_at)) (gives [])
+    order ← either (is_word words.Order) (keyword last words.By >> list_of (λ keys. sort_key_at)) (gives [])
     lock ← maybe (is_word words.For) (one_of last ((words.Update, locks.Update) ∷ (words.Share, locks.Share) ∷ []))
     let query : SelectTree = record { items = items; table = table; filter = filter; order = order; lock = lock } in
         (whole last (if is_allowed query then None else Some (LeftOut place)) >> gives (Selects query))

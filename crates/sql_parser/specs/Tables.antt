@@ -54,18 +54,18 @@ module _ (last : ℕ) where
   abbrev pub key_or : {X : Type 0} → (Bool → Reader X) → Reader X → Reader X
   key_or key others = either (is_word words.Primary) (keyword last words.Key >> key true) (either (is_word words.Unique) (key false) others)
 
-  -- the table with this column of this name, and with NOT NULL, PRIMARY KEY and UNIQUE behind it, so many times at most
-  unfoldable pub said_at : Placed → ℕ → ColumnTree → TableRead → Reader TableRead
-  said_at name zero c t = gives (record t { columns = t.columns ++ c ∷ [] })
-  said_at name (suc n) c t = either (is_word words.Not) (keyword last words.Null >> said_at name n (record c { not_null = true }) t)
-      (key_or (λ primary. said_at name n c (with_key primary (name ∷ []) t)) (gives (record t { columns = t.columns ++ c ∷ [] })))
+  -- the table with this column, behind which NOT NULL, PRIMARY KEY and UNIQUE stand, so many times at most; the name stands beside its place
+  unfoldable pub constraints_at : Placed → ℕ → ColumnTree → TableRead → Reader TableRead
+  constraints_at name zero c t = gives (record t { columns = t.columns ++ c ∷ [] })
+  constraints_at name (suc n) c t = either (is_word words.Not) (keyword last words.Null >> constraints_at name n (record c { not_null = true }) t)
+      (key_or (λ primary. constraints_at name n c (with_key primary (name ∷ []) t)) (gives (record t { columns = t.columns ++ c ∷ [] })))
 
   -- one more column, whose name may not stand there twice
   unfoldable pub column_at : TableRead → Reader TableRead
   column_at t = do
     name ← new_name (column_names t.columns)
     kind ← known_of last ((words.Integer, kinds.Int) ∷ (words.Bigint, kinds.Big) ∷ (words.Text, kinds.Text) ∷ (words.Boolean, kinds.Bool) ∷ [])
-    λ ts. said_at name (length ts) (record { name = name.name; kind = kind; not_null = false }) t ts
+    λ ts. constraints_at name (length ts) (record { name = name.name; kind = kind; not_null = false }) t ts
 
   -- one more column or key
   unfoldable pub table_add : TableRead → Reader TableRead
