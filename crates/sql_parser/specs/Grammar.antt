@@ -53,12 +53,15 @@ is_unquoted _ = false
 abbrev pub is_ddl : Token → Bool
 is_ddl t = is_word words.Create t || is_word words.Drop t
 
+-- SESSION or LOCAL
 abbrev pub is_scope : Token → Bool
 is_scope t = is_word words.Session t || is_word words.Local t
 
+-- "=" or TO
 abbrev pub is_to : Token → Bool
 is_to t = is_sign signs.Equal t || is_word words.To t
 
+-- a number or a string
 abbrev pub is_setting : Token → Bool
 is_setting (tok.number n) = true
 is_setting (tok.string s) = true
@@ -109,6 +112,7 @@ pub record Constraints : Type 0 where
   pub not_null : Bool
   pub keys : List KeyRead
 
+-- no column yet, and no key
 abbrev pub empty_table : TableRead
 empty_table = record { columns = []; keys = [] }
 
