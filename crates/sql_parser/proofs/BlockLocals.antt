@@ -20,16 +20,14 @@ use Rattle.sql_parser.specs.Inner.Parts.{past}
 use Rattle.sql_parser.specs.Readers.{tree_at}
 use Rattle.sql_parser.specs.Transactions.{is_work}
 use Rattle.sql_parser.specs.Inner.Transactions.{begin_at, start_at, set_at}
-use Rattle.sql_parser.specs.Tables.{TableRead, created}
-use Rattle.sql_parser.specs.Grammar.{empty_table}
-use Rattle.sql_parser.specs.Inner.Tables.{table_add, keys_fault, finished, create_at, drop_at}
+use Rattle.sql_parser.specs.Tables.{TableRead, created, drop_at}
+use Rattle.sql_parser.specs.Grammar.{empty_table, is_ddl, Is, Key, Names, nothing, Commas, AddsPart, Spells, commit, end, rollback, abort, create}
+use Rattle.sql_parser.specs.Inner.Tables.{table_add, keys_fault, finished, create_at}
 use Rattle.sql_parser.specs.Inner.Changes.{insert_at, update_at}
 use Rattle.sql_parser.specs.Changes.{delete_at}
 use Rattle.sql_parser.specs.Inner.Queries.{select_at}
-use Rattle.sql_parser.specs.Grammar.{is_ddl}
 use Rattle.sql_parser.specs.Inner.Blocks.{simple_of, stmt_at, whole_at}
 use Rattle.sql_parser.specs.Inner.Pieces.{begun_at}
-use Rattle.sql_parser.specs.Grammar.{Is, Key, Names, nothing, Commas, AddsPart, Spells, commit, end, rollback, abort, create}
 use Rattle.sql_parser.specs.Stops.{WantsWords}
 use Rattle.sql_parser.proofs.Created.{are_full, fault_is, parts_full}
 use Rattle.sql_parser.proofs.Locals.{Inhabited, Local, behind, switch_at, in_turn, mapped, token_then, token_last, name_then, no_rule_at, no_rule_end}

@@ -24,7 +24,7 @@ use Rattle.sql_parser.specs.Inner.Tables as tables
 use Rattle.sql_parser.specs.Inner.Queries as queries
 use Rattle.sql_parser.specs.Inner.Blocks as blocks
 use Rattle.sql_parser.proofs.Readings.{begin_same, start_same, set_same}
-use Rattle.sql_parser.proofs.StmtReadings.{drop_same, insert_same, update_same}
+use Rattle.sql_parser.proofs.StmtReadings.{insert_same, update_same}
 use Rattle.sql_parser.proofs.TableReadings.{ended, stated, create_same}
 use Rattle.sql_parser.proofs.QueryReadings.{select_same}
 
@@ -85,7 +85,7 @@ module _ (last : ℕ) where
   begun_same t ts (tok.word words.End s) h = rw h (simple_same _ _ (past_same (stated last Commit) (stated last Commit) (λ us. refl) ts))
   begun_same t ts (tok.word words.Rollback s) h = rw h (simple_same _ _ (past_same (stated last Rollback) (stated last Rollback) (λ us. refl) ts))
   begun_same t ts (tok.word words.Abort s) h = rw h (simple_same _ _ (past_same (stated last Rollback) (stated last Rollback) (λ us. refl) ts))
-  begun_same t ts (tok.word words.Drop s) h = rw h (simple_same _ _ (drop_same last ts))
+  begun_same t ts (tok.word words.Drop s) h = rw h (simple_same _ _ refl)
   begun_same t ts (tok.word words.Insert s) h = rw h (simple_same _ _ (insert_same last ts))
   begun_same t ts (tok.word words.Update s) h = rw h (simple_same _ _ (update_same last ts))
   begun_same t ts (tok.word words.Delete s) h = rw h (simple_same _ _ refl)

@@ -18,10 +18,9 @@ use Rattle.sql_expressions.specs.Readers.{is_sign, misplaced}
 use Rattle.sql_blocks.specs.declared.block.Role.{Role}
 use Rattle.sql_blocks.specs.Parts.{is_session, set_columns, is_allowed}
 use Rattle.sql_blocks.specs.Kept.{is_shallow, maybe_shallow, item_shallow, all_differ, columns_differ, rows_fit, is_kept, makes_or_drops, is_kept_in}
-use Rattle.sql_parser.specs.Grammar.{is_ddl}
+use Rattle.sql_parser.specs.Grammar.{is_ddl, Is, Spells, begin, start, commit, end, rollback, abort, set_transaction, set_timeout, create, drop, drop_if, insert, update, delete, select, PieceIs, no_stmt, a_stmt, BlockIs, last_piece, next_piece, Shallow}
 use Rattle.sql_parser.specs.Inner.Blocks.{simple_of, begun_of, stmt_at, at_end, whole_at, piece_at, stmts_at, block_at}
 use Rattle.sql_parser.specs.Inner.Pieces.{begun_at}
-use Rattle.sql_parser.specs.Grammar.{Is, Spells, begin, start, commit, end, rollback, abort, set_transaction, set_timeout, create, drop, drop_if, insert, update, delete, select, PieceIs, no_stmt, a_stmt, BlockIs, last_piece, next_piece, Shallow}
 use Rattle.sql_parser.specs.Laws.{BlocksAreRead}
 use Rattle.sql_parser.specs.Tables.{created}
 use Rattle.sql_parser.proofs.BlocksKept.{block_kept}

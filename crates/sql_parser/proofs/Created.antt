@@ -7,14 +7,13 @@ use Rattle.std.specs.Prelude.{not, ◌||◌, find, option_map, slice_index, if�
 use Rattle.sql_trees.specs.Statements.{KeyTree, Create}
 use Rattle.sql_trees.specs.Tokens.{Tokens}
 use Rattle.sql_blocks.specs.Parts.{column_names}
-use Rattle.sql_parser.specs.Tables.{is_among, Placed, KeyRead, TableRead, completed, created, keys_fault}
+use Rattle.sql_parser.specs.Tables.{is_among, Placed, KeyRead, TableRead, completed, created, keys_fault, resolved}
 use Rattle.sql_parser.specs.Grammar.{Constraints, Commas, last_item, next_item, placed, AddsColumn, adds_column, Says, no_more, not_null, primary_key, unique_key, AddsPart, a_column, a_primary, a_unique}
-use Rattle.sql_parser.specs.Inner.Tables.{place_among, resolved, table_of, made_name, first_lacking, text_fault}
+use Rattle.sql_parser.specs.Inner.Tables.{table_of, made_name, first_lacking, text_fault}
 use Rattle.sql_parser.specs.Inner.Tables as inner
 use Rattle.sql_parser.proofs.Steps.{push_all}
 
 pub created_is : (name : List ℕ) (t : TableRead) → created name t ≡ table_of name t
-unfolding place_among
 created_is name t =
     let columns = column_names t.columns in
     ap (λ (keys : List KeyTree). Create (record { name = name; columns = map (completed t.keys) t.columns; keys = keys }))

@@ -17,9 +17,9 @@ use Rattle.sql_expressions.specs.Results.{◌>>=◌}
 use Rattle.sql_expressions.specs.Readers.{expect, is_sign, is_word, items_at, keyword, name_at}
 use Rattle.sql_blocks.specs.Parts.{column_names}
 use Rattle.sql_blocks.specs.Kept.{all_differ, places_differ, names_at, key_fits, tree_name, table_kept}
-use Rattle.sql_parser.specs.Tables.{Placed, KeyRead, TableRead, is_among, placed_names, completed, created}
+use Rattle.sql_parser.specs.Tables.{Placed, KeyRead, TableRead, is_among, placed_names, completed, created, resolved}
 use Rattle.sql_parser.specs.Grammar.{empty_table}
-use Rattle.sql_parser.specs.Inner.Tables.{made_name, first_lacking, text_fault, keys_fault, place_among, resolved, declared, finished, table_add, create_at}
+use Rattle.sql_parser.specs.Inner.Tables.{made_name, first_lacking, text_fault, keys_fault, place_among, declared, finished, table_add, create_at}
 use Rattle.sql_parser.specs.Inner.Pieces.{is_kept, resolved_keys}
 use Rattle.sql_trees.specs.declared.fault.SqlFault.TheVariants.{BadColumns}
 use Rattle.sql_parser.proofs.Created.{created_is}
@@ -65,7 +65,6 @@ pub record PlaceOk (columns : List (List ℕ)) (n : List ℕ) (place : ℕ) : Ty
   back : get_or columns place [] ≡ n
 
 place_ok : (columns : List (List ℕ)) (n : List ℕ) → is_among n columns ≡ true → PlaceOk columns n (place_among columns n)
-unfolding place_among
 place_ok [] n e = absurd cc
 place_ok (m ∷ ms) n e = of_test (bytes_eq m n) refl (place_ok ms n) e
   where

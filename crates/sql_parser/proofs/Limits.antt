@@ -16,9 +16,8 @@ use Rattle.sql_expressions.specs.Laws as expr
 use Rattle.sql_blocks.specs.declared.block.Role.{Role}
 use Rattle.sql_blocks.specs.Parts.{is_session}
 use Rattle.sql_blocks.specs.Kept.{is_kept_in}
-use Rattle.sql_parser.specs.Grammar.{is_ddl}
+use Rattle.sql_parser.specs.Grammar.{is_ddl, Is, PieceIs, no_stmt, a_stmt, EndedAre, no_pieces, ended_piece, Shallow, OfAnyDepth}
 use Rattle.sql_parser.specs.Inner.Blocks.{stmt_at, at_end, whole_at, piece_at, stmts_at, block_at}
-use Rattle.sql_parser.specs.Grammar.{Is, PieceIs, no_stmt, a_stmt, EndedAre, no_pieces, ended_piece, Shallow, OfAnyDepth}
 use Rattle.sql_parser.specs.Stops.{Refuses, at_next, at_word, at_name, at_row, in_expression, too_deep}
 use Rattle.sql_parser.specs.Laws.{BeginsDdl, DdlIsRefused, BeginsOneMore, TooManyIsRefused}
 use Rattle.sql_parser.proofs.BlockReadings.{whole_stops, whole_stopped, block_same}

@@ -2,14 +2,14 @@
 use Rattle.std.proofs.Common.{◌≡◌, ℕ, Bool, true, false, List, [], ◌∷◌, ◌++◌, length, Option, Some, None, refl, sym, ap, ◌∙◌}
 use Rattle.std.proofs.lemmas.Bool.Decides.{Decides-eqb}
 use Rattle.std.proofs.lemmas.List.{map-append}
-use Rattle.std.specs.Prelude.{Result, Ok, Err, if◌then◌else◌, option_map, unwrap_or, is_some}
-use Rattle.std.specs.Option.{option_map_or, option_or}
+use Rattle.std.specs.Prelude.{Result, Ok, Err, if◌then◌else◌, option_map}
+use Rattle.std.specs.Option.{option_or}
 use Rattle.std.specs.List.{slice_get}
 use Rattle.iso_lexer.specs.declared.sql_token.SqlSign.TheVariants as signs
 use Rattle.sql_trees.specs.declared.fault.SqlFault.{SqlFault}
 use Rattle.sql_trees.specs.declared.fault.SqlFault.TheVariants.{Syntax, BadColumns}
 use Rattle.sql_trees.specs.declared.word.Word.TheVariants as words
-use Rattle.sql_trees.specs.Statements.{StmtTree, SetTree, DropTables, Inserts, Updates}
+use Rattle.sql_trees.specs.Statements.{StmtTree, SetTree, Inserts, Updates}
 use Rattle.sql_trees.specs.Trees.{Tree}
 use Rattle.sql_trees.specs.Tokens.{Tokens}
 use Rattle.sql_expressions.specs.Results.{◌>>=◌}
@@ -17,7 +17,7 @@ use Rattle.sql_expressions.specs.Readers.{Reader, after, expect, is_sign, keywor
 use Rattle.sql_blocks.specs.Parts.{fits, set_columns}
 use Rattle.sql_parser.specs.Grammar.{Rows}
 use Rattle.sql_parser.specs.Readers.{maybe, list_of, tree_at}
-use Rattle.sql_parser.specs.Tables.{is_among, Placed, placed_names, new_name, names_at, drop_at}
+use Rattle.sql_parser.specs.Tables.{is_among, Placed, placed_names, new_name, names_at}
 use Rattle.sql_parser.specs.Changes.{row_at, one_set, filter_at, insert_at, update_at}
 use Rattle.sql_parser.specs.Inner.Parts.{added}
 use Rattle.sql_parser.specs.Inner.Tables as tables
@@ -45,16 +45,6 @@ module _ (last : ℕ) where
 
     pub name_then : tables.new_name last names next ts ≡ (new_name last names ts >>= goes)
     name_then = of_name (name_at last ts)
-
-  -- ---- DROP
-
-  pub drop_same : (ts : Tokens) → drop_at last ts ≡ tables.drop_at last ts
-  unfolding drop_at tables.drop_at
-  drop_same ts = bind_on (keyword last words.Table ts) _ _ (λ us. of_if us (tables.after_if us))
-    where
-      of_if : (us : Tokens) (o : Option Tokens) → turned (λ ns. DropTables (record { if_exists = is_some o; names = ns })) (list_of (λ ns. name_at last) (unwrap_or o us)) ≡ option_map_or (tables.drop_of last true) o (tables.drop_of last false us)
-      of_if us None = refl
-      of_if us (Some vs) = refl
 
   -- ---- UPDATE
 

@@ -1,8 +1,8 @@
 -- CREATE TABLE and DROP TABLE (PostgreSQL manual: CREATE TABLE, DROP TABLE).
 use Rattle.std.specs.Prelude.{ℕ, zero, suc, Bool, true, false, not, ◌||◌, ◌&&◌, List, [], ◌∷◌, ◌++◌, length, map, filter, find, bytes_eq}
-use Rattle.std.specs.Prelude.{Option, None, option_map, is_some, unwrap_or, Ok, Err, if◌then◌else◌}
+use Rattle.std.specs.Prelude.{Option, None, option_map, Ok, Err, if◌then◌else◌}
 use Rattle.std.specs.List.{list_any, position_or_len}
-use Rattle.std.specs.Option.{option_or}
+use Rattle.std.specs.Option.{option_or, option_map_or}
 use Rattle.iso_lexer.specs.declared.sql_token.SqlSign.TheVariants as signs
 use Rattle.sql_trees.specs.declared.fault.SqlFault.TheVariants.{BadColumns}
 use Rattle.sql_trees.specs.declared.word.Word.TheVariants as words
@@ -108,8 +108,10 @@ module _ (last : ℕ) where
     whole last (option_map BadColumns (keys_fault name (column_names table.columns) [] table.keys))
     gives (created name table)
 
+  -- the tables that a DROP names
+  abbrev pub drop_of : Bool → Reader StmtTree
+  drop_of if_exists = made (λ ns. DropTables (record { if_exists = if_exists; names = ns })) (list_of (λ ns. name_at last))
+
   -- what stands behind DROP: IF is a name where no EXISTS follows
   unfoldable pub drop_at : Reader StmtTree
-  drop_at = keyword last words.Table >> λ ts.
-      let behind = either (is_word words.If) (after (is_word words.Exists)) (λ us. None) ts in
-      made (λ ns. DropTables (record { if_exists = is_some behind; names = ns })) (list_of (λ ns. name_at last)) (unwrap_or behind ts)
+  drop_at = keyword last words.Table >> λ ts. option_map_or (drop_of true) (either (is_word words.If) (after (is_word words.Exists)) (λ us. None) ts) (drop_of false ts)

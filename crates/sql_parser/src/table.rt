@@ -6,9 +6,9 @@ ghost use Rattle.sql_trees.specs.Tokens.{tok_view, tok_views};
 ghost use Rattle.sql_expressions.specs.Results.{Gives};
 ghost use Rattle.sql_expressions.specs.Readers.{items_at};
 ghost use Rattle.sql_blocks.specs.Parts.{column_names};
-ghost use Rattle.sql_parser.specs.Tables.{is_among, placed_names};
+ghost use Rattle.sql_parser.specs.Tables.{is_among, placed_names, drop_at};
 ghost use Rattle.sql_parser.specs.Grammar.{empty_table, kind_of};
-ghost use Rattle.sql_parser.specs.Inner.Tables.{kind_at, key_add, key_at, limits_at, column_behind, column_at, table_add, after_if, drop_at};
+ghost use Rattle.sql_parser.specs.Inner.Tables.{kind_at, key_add, key_at, limits_at, column_behind, column_at, table_add, after_if};
 ghost use Rattle.sql_parser.specs.Inner.OneConstraint.{is_constraint, constraint_at, constrained};
 ghost use Rattle.sql_parser.specs.Views.{placed_of, key_text_of, table_text_of};
 
@@ -318,7 +318,7 @@ fn after_if<'t, 'a>(tokens: Tokens<'t, 'a>) -> Option<Tokens<'t, 'a>>
 }
 
 /// What stands behind DROP.
-#[tactic(auto, unfolding(crate::specs::Inner::Tables::drop_at))]
+#[tactic(auto, unfolding(crate::specs::Tables::drop_at))]
 pub fn drop_table<'t, 'a>(parser: Parser, tokens: Tokens<'t, 'a>) -> ReadStmt<'t, 'a>
     ensures { Gives (λ x. (stmt_of x.0, tok_views x.1.now)) result (drop_at parser.text_len (tok_views tokens.now)) }
 {

@@ -8,8 +8,8 @@ ghost use Rattle.sql_expressions.specs.Results.{Gives};
 ghost use Rattle.sql_blocks.specs.Parts.{column_names};
 ghost use Rattle.sql_parser.specs.Inner.Calls.{seen};
 ghost use Rattle.sql_parser.specs.Inner.Pieces.{is_kept, resolved_keys};
-ghost use Rattle.sql_parser.specs.Tables.{is_among, completed, placed_names};
-ghost use Rattle.sql_parser.specs.Inner.Tables.{made_name, first_lacking, text_fault, keys_fault, place_among, resolved, finished, create_at};
+ghost use Rattle.sql_parser.specs.Tables.{is_among, completed, placed_names, resolved};
+ghost use Rattle.sql_parser.specs.Inner.Tables.{made_name, first_lacking, text_fault, keys_fault, place_among, finished, create_at};
 ghost use Rattle.sql_parser.specs.Views.{placed_of, key_text_of, table_text_of};
 
 use crate::part::{close, keyword, name, open};
@@ -152,7 +152,6 @@ fn completed<'a>(
 }
 
 // A column's place in the table.
-#[tactic(auto, unfolding(crate::specs::Inner::Tables::place_among))]
 fn place_in(mut columns: &[Column], name: &Name) -> u32
     requires { length columns.now < 2 ^ 32 }
     ensures { result ≡ place_among (column_names (map column_of columns.entry.now)) (name_of name.now) }

@@ -20,7 +20,8 @@ use Rattle.sql_parser.specs.Transactions.{is_work}
 use Rattle.sql_parser.specs.Changes.{delete_at}
 use Rattle.sql_parser.specs.Inner.Parts.{past}
 use Rattle.sql_parser.specs.Inner.Transactions.{begin_at, start_at, set_at}
-use Rattle.sql_parser.specs.Inner.Tables.{create_at, drop_at}
+use Rattle.sql_parser.specs.Inner.Tables.{create_at}
+use Rattle.sql_parser.specs.Tables.{drop_at}
 use Rattle.sql_parser.specs.Inner.Changes.{insert_at, update_at}
 use Rattle.sql_parser.specs.Inner.Queries.{select_at}
 

@@ -8,14 +8,14 @@ use Rattle.sql_trees.specs.declared.fault.SqlFault.{SqlFault}
 use Rattle.sql_trees.specs.declared.fault.SqlFault.TheVariants.{BadColumns}
 use Rattle.sql_trees.specs.declared.word.Word.TheVariants as words
 use Rattle.sql_trees.specs.declared.kind.Kind.{Kind}
-use Rattle.sql_trees.specs.Statements.{StmtTree, KeyTree, Create, DropTables, key_name}
+use Rattle.sql_trees.specs.Statements.{StmtTree, KeyTree, Create, key_name}
 use Rattle.sql_trees.specs.Tokens.{Tokens}
 use Rattle.sql_expressions.specs.Results.{◌>>=◌ as and_then}
 use Rattle.sql_expressions.specs.Readers.{after, place_of, expect, is_sign, is_word, Reader, gives, made, either, one_at, keyword, closed, name_at, items_at, ◌>>=◌, ◌>>◌}
 use Rattle.sql_blocks.specs.Parts.{column_names}
 use Rattle.sql_parser.specs.Grammar.{Constraints, empty_table, with_column, key_limit, kind_of}
-use Rattle.sql_parser.specs.Tables.{is_among, Placed, KeyRead, TableRead, placed_names, with_key, completed, created}
-use Rattle.sql_parser.specs.Inner.Parts.{misplaced_word, added}
+use Rattle.sql_parser.specs.Tables.{is_among, Placed, KeyRead, TableRead, placed_names, with_key, completed, resolved, created}
+use Rattle.sql_parser.specs.Inner.Parts.{misplaced_word}
 
 -- the tokens behind IF EXISTS
 abbrev pub after_if : Tokens → Option Tokens
@@ -83,12 +83,8 @@ keys_fault table columns earlier [] = None
 keys_fault table columns earlier (k ∷ ks) = option_or (text_fault (made_name table k) columns earlier k) (keys_fault table columns (earlier ++ made_name table k ∷ []) ks)
 
 -- the place of the first column of this name, counted from 0
-unfoldable pub place_among : List (List ℕ) → List ℕ → ℕ
+abbrev pub place_among : List (List ℕ) → List ℕ → ℕ
 place_among columns n = position_or_len (λ m. bytes_eq m n) columns
-
--- a key with its columns' places in the table
-abbrev pub resolved : List (List ℕ) → KeyRead → KeyTree
-resolved columns k = record { primary = k.primary; columns = map (λ n. place_among columns n.name) k.columns }
 
 -- the primary key first, then the others in the order of the text
 abbrev pub declared : List (List ℕ) → List KeyRead → List KeyTree
@@ -112,10 +108,3 @@ module _ (last : ℕ) where
     name ← name_at last
     expect last (is_sign signs.Open)
     closed last (finished name) (items_at (table_add last) empty_table)
-
-  abbrev pub drop_of : Bool → Reader StmtTree
-  drop_of if_exists = made (λ ns. DropTables (record { if_exists = if_exists; names = ns })) (items_at (added (name_at last)) [])
-
-  -- what stands behind DROP
-  unfoldable pub drop_at : Reader StmtTree
-  drop_at = keyword last words.Table >> λ ts. option_map_or (drop_of true) (after_if ts) (drop_of false ts)
