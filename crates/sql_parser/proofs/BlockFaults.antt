@@ -19,7 +19,7 @@ use Rattle.sql_expressions.specs.Laws.{head, Makes, first}
 use Rattle.sql_expressions.specs.Laws as expr
 use Rattle.sql_blocks.specs.declared.block.Role.{Role}
 use Rattle.sql_blocks.specs.Kept.{is_kept_in}
-use Rattle.sql_parser.specs.Blocks.{whole_at, piece_at, stmts_at}
+use Rattle.sql_parser.specs.Inner.Blocks.{whole_at, piece_at, stmts_at}
 use Rattle.sql_parser.specs.Grammar.{Is, RowIs, is_row, Spells, PieceIs, no_stmt, a_stmt, BlockIs, last_piece, next_piece, EndedAre, no_pieces, ended_piece, Shallow, OfAnyDepth}
 use Rattle.sql_parser.specs.Stops.{Refuses, at_next, at_word, at_name, at_row, in_expression, too_deep, WantsWords, IsStop}
 use Rattle.sql_parser.specs.Laws.{BeginsStatement, Excepted, Stops, BlockStops, at_block_token, in_a_statement, BlockFaultsAreFirst, at_token, elsewhere}
@@ -29,7 +29,8 @@ use Rattle.sql_parser.proofs.BlockLocals.{stmt_local}
 use Rattle.sql_parser.proofs.BlocksKept.{whole_kept}
 use Rattle.sql_parser.proofs.BlocksRead.{free_of, whole_taken, whole_sound, piece_of, last_of}
 use Rattle.sql_parser.proofs.Frees.{is_free, Free}
-use Rattle.sql_parser.proofs.FirstFaults.{faults_are_first}
+use Rattle.sql_parser.proofs.BlockReadings.{block_same}
+use Rattle.sql_parser.proofs.FirstFaults.{stops_first}
 
 no_both : {A : Type 0} (x : A) (e : SqlFault) → ◌≡◌ {A = Result A SqlFault} (Ok x) (Err e) → ⊥
 no_both x e h = cc
@@ -245,7 +246,7 @@ module _ (role : Role) (f : SqlFault) (stops : IsStop f) where
   whole_block : (last : ℕ) (m : ℕ) (ss : List StmtTree) (ts : Tokens) → length ts ≤ m → Split ts → stmts_at last role ss [] ts ≡ Err f → Ends last ts
   whole_block last m ss _ le (whole ts free) e =
       let p = piece_fault last ss ts (sym (last_of last role ss [] ts free) ∙ e) in
-      subst (Ends last) (append-nil ts) (in_piece last [] (λ c us k. absurd cc) ts free p.0 (faults_are_first last role ts f stops p.1))
+      subst (Ends last) (append-nil ts) (in_piece last [] (λ c us k. absurd cc) ts free p.0 (stops_first last role ts f stops p.1))
   whole_block last zero ss _ le (ended ts us c free hc) e = absurd (omega (arith, length-append ts (c ∷ us)))
   whole_block last (suc m) ss _ le (ended ts us c free hc) e = of_piece (piece_at c.span.start role ss ts) refl (sym (piece_of last role ss [] ts us c free hc) ∙ e) (λ more g. whole_block last m more us (omega (arith, length-append ts (c ∷ us))) (split us) g)
     where
@@ -253,10 +254,10 @@ module _ (role : Role) (f : SqlFault) (stops : IsStop f) where
       of_piece (Ok more) is h go = let p = piece_any c.span.start role ss more ts is in behind_piece last ts us c p.0 free hc p.1 (go more h)
       of_piece (Err g) is h go =
           let p = piece_fault c.span.start ss ts (is ∙ h) in
-          in_piece last (c ∷ us) (λ d vs k. subst (λ (x : At Token). is_sign signs.Semicolon x.tok ≡ true) (first_same c d us vs k) hc) ts free p.0 (faults_are_first c.span.start role ts f stops p.1)
+          in_piece last (c ∷ us) (λ d vs k. subst (λ (x : At Token). is_sign signs.Semicolon x.tok ≡ true) (first_same c d us vs k) hc) ts free p.0 (stops_first c.span.start role ts f stops p.1)
 
 pub block_faults_are_first : BlockFaultsAreFirst
-block_faults_are_first last role ts f stops e = of_ends (whole_block role f stops last (length ts) [] ts (omega arith) (split ts) e)
+block_faults_are_first last role ts f stops e = of_ends (whole_block role f stops last (length ts) [] ts (omega arith) (split ts) (sym (block_same last role ts) ∙ e))
   where
     of_ends : Ends role f stops last ts → BlockStops last role ts f
     of_ends (halts s) = at_block_token (record {
@@ -265,6 +266,6 @@ block_faults_are_first last role ts f stops e = of_ends (whole_block role f stop
       split = s.parts;
       refuses = s.refuses;
       begins = s.begins;
-      none = λ n others ss h less read. s.none n [] ss others h less read;
+      none = λ n others ss h less read. s.none n [] ss others h less (sym (block_same n role (s.front ++ others)) ∙ read);
     })
     of_ends (leaves before stmt behind split' x) = in_a_statement before stmt behind split' x

@@ -16,28 +16,33 @@ use Rattle.sql_expressions.specs.Results.{◌>>=◌}
 use Rattle.sql_expressions.specs.Readers.{expect, is_word, is_sign, misplaced, name_at, items_at, Reader}
 use Rattle.sql_blocks.specs.declared.block.Role.{Role}
 use Rattle.sql_blocks.specs.Parts.{is_session, column_names}
-use Rattle.sql_parser.specs.Readers.{past, tree_at}
-use Rattle.sql_parser.specs.Transactions.{is_work, begin_at, start_at, set_at}
-use Rattle.sql_parser.specs.Tables.{TableRead, empty_table, table_add, keys_fault, finished, create_at, drop_at, created}
-use Rattle.sql_parser.specs.Changes.{insert_at, update_at, delete_at}
-use Rattle.sql_parser.specs.Queries.{select_at}
-use Rattle.sql_parser.specs.Blocks.{is_ddl, simple_of, stmt_at, whole_at}
+use Rattle.sql_parser.specs.Inner.Parts.{past}
+use Rattle.sql_parser.specs.Readers.{tree_at}
+use Rattle.sql_parser.specs.Transactions.{is_work}
+use Rattle.sql_parser.specs.Inner.Transactions.{begin_at, start_at, set_at}
+use Rattle.sql_parser.specs.Tables.{TableRead, created, drop_at}
+use Rattle.sql_parser.specs.Grammar.{empty_table, is_ddl, Is, Key, Names, nothing, Commas, AddsPart, Spells, commit, end, rollback, abort, create}
+use Rattle.sql_parser.specs.Inner.Tables.{table_add, keys_fault, finished, create_at}
+use Rattle.sql_parser.specs.Inner.Changes.{insert_at, update_at}
+use Rattle.sql_parser.specs.Changes.{delete_at}
+use Rattle.sql_parser.specs.Inner.Queries.{select_at}
+use Rattle.sql_parser.specs.Inner.Blocks.{simple_of, stmt_at, whole_at}
 use Rattle.sql_parser.specs.Inner.Pieces.{begun_at}
-use Rattle.sql_parser.specs.Grammar.{Is, Key, Names, nothing, Commas, AddsPart, Spells, commit, end, rollback, abort, create}
 use Rattle.sql_parser.specs.Stops.{WantsWords}
+use Rattle.sql_parser.proofs.Created.{are_full, fault_is, parts_full}
 use Rattle.sql_parser.proofs.Locals.{Inhabited, Local, behind, switch_at, in_turn, mapped, token_then, token_last, name_then, no_rule_at, no_rule_end}
 use Rattle.sql_parser.proofs.StmtLocals.{a_word, a_sign, a_name, the_name, key_is, begun_local, start_local, word_local, set_local, drop_local}
 use Rattle.sql_parser.proofs.TableLocals.{parts_local, some_parts}
 use Rattle.sql_parser.proofs.ChangeLocals.{insert_local, update_local, delete_local}
 use Rattle.sql_parser.proofs.QueryLocals.{Shown, shown, no_columns, Whole, select_local}
 
-finished_shown : (ts : Tokens) (name : List ℕ) (t : TableRead) → Shown ts (finished name t) (created name t)
+finished_shown : (ts : Tokens) (name : List ℕ) (t : TableRead) → are_full t.keys ≡ true → Shown ts (finished name t) (created name t)
 unfolding finished
-finished_shown ts name t = of_fault (keys_fault name (column_names t.columns) [] t.keys) refl
+finished_shown ts name t full = of_fault (keys_fault name (column_names t.columns) [] t.keys) refl
   where
     of_fault : (o : Option ℕ) → keys_fault name (column_names t.columns) [] t.keys ≡ o → Shown ts (option_map_or (λ place. Err (BadColumns place)) o (Ok (created name t))) (created name t)
     of_fault None h = shown (created name t)
-    of_fault (Some place) h = no_columns place name t h
+    of_fault (Some place) h = no_columns place name t (fault_is name (column_names t.columns) [] t.keys full ∙ h)
 
 or_first : (a b : Bool) → a ≡ true → (a || b) ≡ true
 or_first a b h = rw h refl
@@ -67,7 +72,7 @@ module _ (last : ℕ) (E : Tokens → Tree → Type 0) (W Any : Type 0) (an_expr
   whole_table c t n o z name ts parts hc ht hn ho q hz = record {
     stmt = created name parts;
     spells = create c t n o z name ts parts hc ht hn ho q hz;
-    shows = finished_shown (c ∷ t ∷ n ∷ o ∷ (ts ++ z ∷ [])) name parts;
+    shows = finished_shown (c ∷ t ∷ n ∷ o ∷ (ts ++ z ∷ [])) name parts (parts_full q refl);
   }
 
   create_local : W → (c : At Token) → Key words.Create c → (ts : Tokens) → Local last E W Any (λ xs r. Whole E (c ∷ xs) r) (create_at last) ts

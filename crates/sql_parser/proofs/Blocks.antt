@@ -14,7 +14,7 @@ use Rattle.sql_trees.specs.Tokens.{Tokens, tok_at, tok_view, tok_views}
 use Rattle.sql_expressions.specs.Readers.{is_sign, misplaced}
 use Rattle.sql_expressions.specs.Results.{Gives, ◌>>=◌}
 use Rattle.sql_blocks.specs.declared.block.Role.{Role}
-use Rattle.sql_parser.specs.Blocks.{at_end, stmt_at, whole_at, piece_at, stmts_at}
+use Rattle.sql_parser.specs.Inner.Blocks.{at_end, stmt_at, whole_at, piece_at, stmts_at}
 use Rattle.sql_parser.specs.Inner.Calls.{seen}
 use Rattle.sql_parser.specs.Inner.Pieces.{piece_len, block_from, SplitsAs}
 use Rattle.sql_parser.proofs.Lists.{gives_seen}

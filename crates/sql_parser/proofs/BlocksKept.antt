@@ -17,10 +17,13 @@ use Rattle.sql_expressions.specs.Readers.{is_sign, after, expect, is_word, items
 use Rattle.sql_blocks.specs.declared.block.Role.{Role}
 use Rattle.sql_blocks.specs.Parts.{is_session}
 use Rattle.sql_blocks.specs.Kept.{is_kept, is_kept_in, makes_or_drops}
-use Rattle.sql_parser.specs.Readers.{past, added, misplaced_word}
-use Rattle.sql_parser.specs.Transactions.{is_work, is_scope, is_to, is_setting, level_at, begin_at, start_at, parameter_at, set_at}
-use Rattle.sql_parser.specs.Tables.{drop_of, drop_at, after_if}
-use Rattle.sql_parser.specs.Blocks.{is_ddl, simple_of, begun_of, stmt_at, at_end, whole_at, piece_at, stmts_at, block_at}
+use Rattle.sql_parser.specs.Inner.Parts.{past, added, misplaced_word}
+use Rattle.sql_parser.specs.Transactions.{is_work}
+use Rattle.sql_parser.specs.Grammar.{is_scope, is_to, is_setting, is_ddl}
+use Rattle.sql_parser.specs.Inner.Transactions.{level_at, begin_at, start_at, parameter_at, set_at}
+use Rattle.sql_parser.specs.Inner.Tables.{after_if}
+use Rattle.sql_parser.specs.Tables.{drop_of, drop_at}
+use Rattle.sql_parser.specs.Inner.Blocks.{simple_of, begun_of, stmt_at, at_end, whole_at, piece_at, stmts_at, block_at}
 use Rattle.sql_parser.specs.Inner.Pieces.{simple_at, begun_at}
 use Rattle.sql_parser.proofs.Keeping.{Fine, FineOrNot, insert_fine, update_fine, delete_fine, select_fine}
 use Rattle.sql_parser.proofs.KeysKept.{create_fine}

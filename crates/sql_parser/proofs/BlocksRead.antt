@@ -18,12 +18,14 @@ use Rattle.sql_expressions.specs.Readers.{is_sign, misplaced}
 use Rattle.sql_blocks.specs.declared.block.Role.{Role}
 use Rattle.sql_blocks.specs.Parts.{is_session, set_columns, is_allowed}
 use Rattle.sql_blocks.specs.Kept.{is_shallow, maybe_shallow, item_shallow, all_differ, columns_differ, rows_fit, is_kept, makes_or_drops, is_kept_in}
-use Rattle.sql_parser.specs.Blocks.{is_ddl, simple_of, begun_of, stmt_at, at_end, whole_at, piece_at, stmts_at, block_at}
+use Rattle.sql_parser.specs.Grammar.{is_ddl, Is, Spells, begin, start, commit, end, rollback, abort, set_transaction, set_timeout, create, drop, drop_if, insert, update, delete, select, PieceIs, no_stmt, a_stmt, BlockIs, last_piece, next_piece, Shallow}
+use Rattle.sql_parser.specs.Inner.Blocks.{simple_of, begun_of, stmt_at, at_end, whole_at, piece_at, stmts_at, block_at}
 use Rattle.sql_parser.specs.Inner.Pieces.{begun_at}
-use Rattle.sql_parser.specs.Grammar.{Is, Spells, begin, start, commit, end, rollback, abort, set_transaction, set_timeout, create, drop, drop_if, insert, update, delete, select, PieceIs, no_stmt, a_stmt, BlockIs, last_piece, next_piece, Shallow}
 use Rattle.sql_parser.specs.Laws.{BlocksAreRead}
 use Rattle.sql_parser.specs.Tables.{created}
 use Rattle.sql_parser.proofs.BlocksKept.{block_kept}
+use Rattle.sql_parser.proofs.Created.{created_is}
+use Rattle.sql_parser.proofs.BlockReadings.{block_same}
 use Rattle.sql_parser.proofs.Steps.{bind_ok, ok_same, when_ok}
 use Rattle.sql_parser.proofs.Locals.{Local, took, stopped}
 use Rattle.sql_parser.proofs.ExprLocals.{some_shallow, shallow_starts, shallow_local, one_name}
@@ -140,7 +142,7 @@ module _ (last : ℕ) where
   whole_reads role _ _ (create c t n o z name ts parts hc ht hn ho q hz) k =
       let w = word_is words.Create c.tok hc in
       let r = role_of role (created name parts) k in
-      whole_one role c (t ∷ n ∷ o ∷ (ts ++ z ∷ [])) _ (rw w.1 r.1) (begun_simple c (t ∷ n ∷ o ∷ (ts ++ z ∷ [])) _ (tok.word words.Create w.0) w.1 (create_reads last t n o z name ts parts ht hn ho q hz (table_fits name parts r.0)))
+      whole_one role c (t ∷ n ∷ o ∷ (ts ++ z ∷ [])) _ (rw w.1 r.1) (begun_simple c (t ∷ n ∷ o ∷ (ts ++ z ∷ [])) _ (tok.word words.Create w.0) w.1 (create_reads last t n o z name ts parts ht hn ho q hz (table_fits name parts (subst (λ x. is_kept x ≡ true) (created_is name parts) r.0))))
   whole_reads role _ _ (drop d t ts ns hd ht q) k =
       let w = word_is words.Drop d.tok hd in
       whole_one role d (t ∷ ts) _ (rw w.1 (role_of role (DropTables (record { if_exists = false; names = ns })) k).1) (begun_simple d (t ∷ ts) _ (tok.word words.Drop w.0) w.1 (rw (w.1, drop_reads last t ts ns ht q) refl))
@@ -235,7 +237,7 @@ block_sound last role ss more piece (t ∷ ts) e = of_test (is_sign signs.Semico
     of_test false h go k = subst (λ us. Added last ss more us (BlockIs Shallow)) (append_assoc piece (t ∷ []) ts) (go ss (piece ++ t ∷ []) k)
 
 pub blocks_are_read : BlocksAreRead
-blocks_are_read last role ts ss less = (sound, complete)
+blocks_are_read last role ts ss less = (λ e. sound (sym (block_same last role ts) ∙ e), λ b. block_same last role ts ∙ complete b)
   where
     sound : block_at last role ts ≡ Ok ss → BlockIs Shallow ts ss × (length ss ≤ 256) × (list_all (is_kept_in role) ss ≡ true)
     sound e =

@@ -13,10 +13,12 @@ use Rattle.sql_expressions.specs.Results.{◌>>=◌}
 use Rattle.sql_expressions.specs.Readers.{place_of, expect, is_word, is_sign, keyword, name_at, items_at, Reader}
 use Rattle.sql_expressions.specs.Laws.{head}
 use Rattle.sql_blocks.specs.Parts.{fits, set_columns}
-use Rattle.sql_parser.specs.Readers.{tree_at, added}
+use Rattle.sql_parser.specs.Readers.{tree_at}
+use Rattle.sql_parser.specs.Inner.Parts.{added}
 use Rattle.sql_parser.specs.Tables.{is_among}
-use Rattle.sql_parser.specs.Changes.{Rows, distinct_add, row_add, columns_at, insert_at, filter_at, set_value, set_add, update_at, delete_at}
-use Rattle.sql_parser.specs.Grammar.{Key, Names, Commas, AddsName, adds_name, AddsValue, adds_value, RowIs, is_row, with_row, no_rows, AddsRow, adds_row, ColumnsAre, unlisted, listed_columns, AddsSet, adds_set, WhereIs, unfiltered, filtered, Spells, insert, update, delete}
+use Rattle.sql_parser.specs.Grammar.{Rows, Key, Names, Commas, AddsName, adds_name, AddsValue, adds_value, RowIs, is_row, with_row, no_rows, AddsRow, adds_row, ColumnsAre, unlisted, listed_columns, AddsSet, adds_set, WhereIs, unfiltered, filtered, Spells, insert, update, delete}
+use Rattle.sql_parser.specs.Inner.Changes.{distinct_add, row_add, columns_at, insert_at, set_value, set_add, update_at}
+use Rattle.sql_parser.specs.Changes.{filter_at, delete_at}
 use Rattle.sql_parser.specs.Stops.{at_row}
 use Rattle.sql_parser.proofs.Locals.{Inhabited, Local, took, stopped, gives, begun_as, in_turn, mapped, token_then, token_last, name_then, list_local, some_list, chosen}
 use Rattle.sql_parser.proofs.StmtLocals.{a_word, a_sign, a_name, the_name, key_is, adds_some_name}

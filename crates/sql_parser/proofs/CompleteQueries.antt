@@ -23,9 +23,10 @@ use Rattle.sql_expressions.specs.Grammar.{Ends, goes_on}
 use Rattle.sql_expressions.proofs.Complete.{expr_complete}
 use Rattle.sql_expressions.proofs.Same.{expr_same}
 use Rattle.sql_blocks.specs.Parts.{is_allowed}
-use Rattle.sql_parser.specs.Queries.{call_at, rows_of, maybe_name, direction_at, alias_at, agg_at, item_at, from_at, nulls_at, order_add, order_at, lock_at, select_at}
+use Rattle.sql_parser.specs.Inner.Queries.{call_at, rows_of, maybe_name, direction_at, agg_at, item_at, from_at, nulls_at, order_add, order_at, lock_at, select_at}
+use Rattle.sql_parser.specs.Queries.{alias_at}
 use Rattle.sql_parser.specs.Grammar.{Is, Commas, AliasIs, no_alias, as_alias, bare_alias, AggIs, all_rows, of_values, AddsItem, a_star, a_value, an_aggregate, FromIs, no_table, from_table, DirectionIs, as_ever, ascending, descending, NullsAre, unsaid, nulls_first, nulls_last, AddsKey, adds_key, OrderIs, unordered, ordered, LockIs, no_lock, for_update, for_share, WhereIs, unfiltered, filtered, Shallow}
-use Rattle.sql_parser.specs.Readers.{added}
+use Rattle.sql_parser.specs.Inner.Parts.{added}
 use Rattle.sql_parser.proofs.StmtLocals.{word_is}
 use Rattle.sql_parser.proofs.Completes.{other_word, not_key, ends_part, Parted, part_ends, no_name_next, no_part_word, comma_is_parted, close_ends, tree_reads, list_reads}
 use Rattle.sql_parser.proofs.CompleteStmts.{where_reads}

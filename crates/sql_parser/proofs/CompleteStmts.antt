@@ -19,11 +19,15 @@ use Rattle.sql_expressions.specs.Readers.{is_word, is_sign, after, items_at, nam
 use Rattle.sql_expressions.specs.Grammar.{Ends}
 use Rattle.sql_blocks.specs.Parts.{fits, set_columns}
 use Rattle.sql_blocks.specs.Kept.{all_differ, rows_fit, columns_differ}
-use Rattle.sql_parser.specs.Readers.{past, added, tree_at}
-use Rattle.sql_parser.specs.Transactions.{is_work, is_scope, is_to, is_setting, level_at, begin_at, start_at, parameter_at, set_at}
-use Rattle.sql_parser.specs.Tables.{is_among, drop_at, after_if}
-use Rattle.sql_parser.specs.Changes.{Rows, distinct_add, row_add, columns_at, insert_at, filter_at, set_add, update_at, delete_at}
-use Rattle.sql_parser.specs.Grammar.{Is, Key, Names, Perhaps, nothing, one_is, Commas, last_item, next_item, AddsName, adds_name, IsolationIs, uncommitted, committed, repeatable, MaybeLevel, no_level, a_level, AddsValue, adds_value, RowIs, is_row, with_row, no_rows, AddsRow, adds_row, ColumnsAre, unlisted, listed_columns, AddsSet, adds_set, WhereIs, unfiltered, filtered, Shallow}
+use Rattle.sql_parser.specs.Inner.Parts.{past, added}
+use Rattle.sql_parser.specs.Readers.{tree_at}
+use Rattle.sql_parser.specs.Transactions.{is_work}
+use Rattle.sql_parser.specs.Grammar.{is_scope, is_to, is_setting, Rows, Is, Key, Names, Perhaps, nothing, one_is, Commas, last_item, next_item, AddsName, adds_name, IsolationIs, uncommitted, committed, repeatable, MaybeLevel, no_level, a_level, AddsValue, adds_value, RowIs, is_row, with_row, no_rows, AddsRow, adds_row, ColumnsAre, unlisted, listed_columns, AddsSet, adds_set, WhereIs, unfiltered, filtered, Shallow}
+use Rattle.sql_parser.specs.Inner.Transactions.{level_at, begin_at, start_at, parameter_at, set_at}
+use Rattle.sql_parser.specs.Tables.{is_among, drop_at}
+use Rattle.sql_parser.specs.Inner.Tables.{after_if}
+use Rattle.sql_parser.specs.Inner.Changes.{distinct_add, row_add, columns_at, insert_at, set_add, update_at}
+use Rattle.sql_parser.specs.Changes.{filter_at, delete_at}
 use Rattle.sql_parser.proofs.Keeping.{width_behind, behind_push}
 use Rattle.sql_parser.proofs.StmtLocals.{word_is}
 use Rattle.sql_parser.proofs.Completes.{other_word, not_key, comma_ends, close_ends, no_comma_at_close, no_comma_at_key, perhaps_past, tree_reads, list_reads}

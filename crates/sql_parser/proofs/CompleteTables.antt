@@ -20,10 +20,11 @@ use Rattle.sql_trees.specs.Tokens as tok
 use Rattle.sql_expressions.specs.Readers.{is_word, is_sign}
 use Rattle.sql_blocks.specs.Parts.{column_names}
 use Rattle.sql_blocks.specs.Kept.{all_differ, places_differ, key_fits, tree_name, table_kept}
-use Rattle.sql_parser.specs.Tables.{Placed, KeyRead, TableRead, Constraints, is_among, placed_names, empty_table, with_key, with_column, kind_of, key_add, key_at, constraints_at, column_at, table_add, made_name, first_lacking, text_fault, keys_fault, completed, place_among, resolved, declared, finished, create_at, created}
+use Rattle.sql_parser.specs.Tables.{Placed, KeyRead, TableRead, is_among, placed_names, with_key, completed, created, resolved}
+use Rattle.sql_parser.specs.Grammar.{Constraints, empty_table, with_column, kind_of, Is, Key, Names, Commas, placed, AddsColumn, adds_column, Says, no_more, not_null, primary_key, unique_key, AddsPart, a_column, a_primary, a_unique, Shallow}
+use Rattle.sql_parser.specs.Inner.Tables.{key_add, key_at, constraints_at, column_at, table_add, made_name, first_lacking, text_fault, keys_fault, place_among, declared, finished, create_at}
 use Rattle.sql_parser.specs.Inner.OneConstraint.{is_constraint}
 use Rattle.sql_parser.specs.Inner.Pieces.{is_kept, resolved_keys}
-use Rattle.sql_parser.specs.Grammar.{Is, Key, Names, Commas, placed, AddsColumn, adds_column, Says, no_more, not_null, primary_key, unique_key, AddsPart, a_column, a_primary, a_unique, Shallow}
 use Rattle.sql_parser.proofs.Keeping.{or_none}
 use Rattle.sql_parser.proofs.KeysKept.{key_among, places_in, names_kept, made, names_stay}
 use Rattle.sql_parser.proofs.TablesKept.{key_differs}
@@ -41,7 +42,6 @@ one_less : (m n : ℕ) → nat_lt (1 + m) (suc n) ≡ true → nat_lt m n ≡ tr
 one_less m n h = lt-ltb m n (omega (arith, below (1 + m) (suc n) h))
 
 within_among : (columns : List (List ℕ)) (n : List ℕ) → nat_lt (place_among columns n) (length columns) ≡ true → is_among n columns ≡ true
-unfolding place_among
 within_among [] n e = absurd cc
 within_among (m ∷ ms) n e = of_test (bytes_eq m n) refl (within_among ms n) e
   where

@@ -13,7 +13,8 @@ use Rattle.sql_expressions.specs.Results.{◌>>=◌}
 use Rattle.sql_expressions.specs.Readers.{expect, is_word, is_sign, after, more_at, items_at, Reader}
 use Rattle.sql_expressions.specs.Grammar.{Ends, goes_on}
 use Rattle.sql_expressions.proofs.Complete.{expr_complete}
-use Rattle.sql_parser.specs.Readers.{past, tree_at}
+use Rattle.sql_parser.specs.Inner.Parts.{past}
+use Rattle.sql_parser.specs.Readers.{tree_at}
 use Rattle.sql_parser.specs.Grammar.{Is, Key, Perhaps, nothing, one_is, Commas, last_item, next_item, Shallow}
 use Rattle.sql_parser.proofs.StmtLocals.{word_is}
 

@@ -16,7 +16,9 @@ use Rattle.sql_expressions.specs.Results.{◌>>=◌}
 use Rattle.sql_expressions.specs.Readers.{after, is_sign, expect, is_word, place_of, items_at, keyword, more_at, name_at}
 use Rattle.sql_blocks.specs.Parts.{column_names}
 use Rattle.sql_parser.proofs.Steps.{bind_ok, ok_same}
-use Rattle.sql_parser.specs.Tables.{Placed, KeyRead, TableRead, column_at, column_behind, empty_table, is_among, key_add, key_at, limits_at, table_add, with_column, with_key}
+use Rattle.sql_parser.specs.Tables.{Placed, KeyRead, TableRead, is_among, with_key}
+use Rattle.sql_parser.specs.Inner.Tables.{column_at, column_behind, key_add, key_at, limits_at, table_add}
+use Rattle.sql_parser.specs.Grammar.{empty_table, with_column}
 
 abbrev OneMore : TableRead → TableRead × Tokens → Type 0
 OneMore t x = length x.0.columns ≤ suc (length t.columns)

@@ -11,7 +11,7 @@ use Rattle.sql_expressions.specs.Readers.{misplaced}
 use Rattle.sql_expressions.specs.Laws.{head}
 use Rattle.sql_expressions.proofs.Local.{first_is}
 use Rattle.sql_blocks.specs.declared.block.Role.{Role}
-use Rattle.sql_parser.specs.Blocks.{stmt_at, at_end, whole_at}
+use Rattle.sql_parser.specs.Inner.Blocks.{stmt_at, at_end, whole_at}
 use Rattle.sql_parser.specs.Grammar.{Spells, OfAnyDepth}
 use Rattle.sql_parser.specs.Stops.{Refuses, at_next, WantsWords, IsStop}
 use Rattle.sql_parser.specs.Laws.{BeginsStatement, StopsFirst, Stops, at_token, elsewhere, whole_query, whole_table, FaultsAreFirst}
@@ -19,6 +19,7 @@ use Rattle.sql_parser.proofs.Locals.{Begins, stands_behind, Local, took, stopped
 use Rattle.sql_parser.proofs.ExprLocals.{some_of_any_depth, of_any_depth_starts, any_depth_local, one_name}
 use Rattle.sql_parser.proofs.QueryLocals.{Shown, shown, no_columns, no_query, Whole}
 use Rattle.sql_parser.proofs.BlockLocals.{barred, barred_is, stmt_local}
+use Rattle.sql_parser.proofs.BlockReadings.{whole_stops, whole_stopped}
 use Rattle.sql_parser.proofs.BlocksRead.{whole_reads}
 
 err_same : {A : Type 0} (e f : SqlFault) → ◌≡◌ {A = Result A SqlFault} (Err e) (Err f) → e ≡ f
@@ -36,7 +37,7 @@ module _ (last : ℕ) (role : Role) (ts : Tokens) (f : SqlFault) (stops : IsStop
     split = split;
     refuses = refuses;
     begins = begins;
-    stays = stays;
+    stays = λ others h. whole_stops last role (front ++ others) f (stays others h);
     none = λ others s h q kept. no_both s f (sym (whole_reads last role (front ++ others) s q kept) ∙ stays others h);
   }
 
@@ -71,8 +72,8 @@ module _ (last : ℕ) (role : Role) (ts : Tokens) (f : SqlFault) (stops : IsStop
       at_token (first front rest split (subst (Refuses last OfAnyDepth (WantsWords ts) BeginsStatement front rest) same (stands_behind last OfAnyDepth (WantsWords ts) (Begins (Whole OfAnyDepth)) BeginsStatement [] of_whole front rest g c.stands)) (of_whole front c.begins)
       (λ others h. whole_is (front ++ others) [] (Err g) (local others h) ∙ ap Err same))
 
-pub faults_are_first : FaultsAreFirst
-faults_are_first last role ts f stops e = of_test (barred role ts) refl
+pub stops_first : (last : ℕ) (role : Role) (ts : Tokens) (f : SqlFault) → IsStop f → whole_at last role ts ≡ Err f → Stops last role ts f
+stops_first last role ts f stops e = of_test (barred role ts) refl
   where
     no_ddl : (us : Tokens) → barred role us ≡ true → whole_at last role us ≡ Err f → ⊥
     no_ddl [] h g = cc
@@ -81,3 +82,6 @@ faults_are_first last role ts f stops e = of_test (barred role ts) refl
     of_test : (b : Bool) → barred role ts ≡ b → Stops last role ts f
     of_test true h = absurd (no_ddl ts h e)
     of_test false h = of_local last role ts f stops e (stmt_local last OfAnyDepth (WantsWords ts) (Unit {0}) some_of_any_depth (any_depth_local last (WantsWords ts)) of_any_depth_starts (one_name last) role ts h (λ w. w))
+
+pub faults_are_first : FaultsAreFirst
+faults_are_first last role ts f stops e = stops_first last role ts f stops (whole_stopped last role ts f e)

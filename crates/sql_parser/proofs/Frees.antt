@@ -23,11 +23,10 @@ use Rattle.sql_trees.specs.Trees.{Tree, Trees, AggTree}
 use Rattle.sql_expressions.specs.Readers.{is_word, is_sign}
 use Rattle.sql_expressions.specs.Reading.{comparison_op, truth_of, agg_kind}
 use Rattle.sql_expressions.specs.Grammar.{IsWord, Level, OR, AND, CAT, ADD, MUL, binary, SpellsIn, ItemsIn, only, chain, negation, is, comparison, contained, between, minus, plus, parens, literal, one, next, IsLeaf, number, text, column, yes, no, null, IsIn, IsBetween, IsIs}
-use Rattle.sql_parser.specs.Transactions.{is_work, is_scope, is_to, is_setting}
-use Rattle.sql_parser.specs.Tables.{Placed, TableRead, Constraints, kind_of}
-use Rattle.sql_parser.specs.Changes.{Rows}
+use Rattle.sql_parser.specs.Transactions.{is_work}
+use Rattle.sql_parser.specs.Grammar.{is_scope, is_to, is_setting, Constraints, kind_of, Rows, Is, Key, Names, Perhaps, nothing, one_is, Commas, last_item, next_item, AddsName, adds_name, IsolationIs, uncommitted, committed, repeatable, MaybeLevel, no_level, a_level, AddsColumn, adds_column, Says, no_more, not_null, primary_key, unique_key, AddsPart, a_column, a_primary, a_unique, AddsValue, adds_value, RowIs, is_row, AddsRow, adds_row, ColumnsAre, unlisted, listed_columns, AddsSet, adds_set, WhereIs, unfiltered, filtered, AliasIs, no_alias, as_alias, bare_alias, AggIs, all_rows, of_values, AddsItem, a_star, a_value, an_aggregate, FromIs, no_table, from_table, DirectionIs, as_ever, ascending, descending, NullsAre, unsaid, nulls_first, nulls_last, AddsKey, adds_key, OrderIs, unordered, ordered, LockIs, no_lock, for_update, for_share, Spells, begin, start, commit, end, rollback, abort, set_transaction, set_timeout, create, drop, drop_if, insert, update, delete, select, Shallow}
+use Rattle.sql_parser.specs.Tables.{Placed, TableRead}
 use Rattle.sql_parser.specs.Grammar as grammar
-use Rattle.sql_parser.specs.Grammar.{Is, Key, Names, Perhaps, nothing, one_is, Commas, last_item, next_item, AddsName, adds_name, IsolationIs, uncommitted, committed, repeatable, MaybeLevel, no_level, a_level, AddsColumn, adds_column, Says, no_more, not_null, primary_key, unique_key, AddsPart, a_column, a_primary, a_unique, AddsValue, adds_value, RowIs, is_row, AddsRow, adds_row, ColumnsAre, unlisted, listed_columns, AddsSet, adds_set, WhereIs, unfiltered, filtered, AliasIs, no_alias, as_alias, bare_alias, AggIs, all_rows, of_values, AddsItem, a_star, a_value, an_aggregate, FromIs, no_table, from_table, DirectionIs, as_ever, ascending, descending, NullsAre, unsaid, nulls_first, nulls_last, AddsKey, adds_key, OrderIs, unordered, ordered, LockIs, no_lock, for_update, for_share, Spells, begin, start, commit, end, rollback, abort, set_transaction, set_timeout, create, drop, drop_if, insert, update, delete, select, Shallow}
 
 abbrev pub is_free : At Token → Bool
 is_free t = not (is_sign signs.Semicolon t.tok)

@@ -8,7 +8,9 @@ use Rattle.sql_trees.specs.Tokens as tok
 use Rattle.sql_expressions.specs.Results.{◌>>=◌}
 use Rattle.sql_expressions.specs.Readers.{keyword}
 use Rattle.sql_trees.specs.declared.kind.Kind.{Kind}
-use Rattle.sql_parser.specs.Tables.{Placed, KeyRead, Constraints, key_limit, constraints_at, kind_at, limits_at}
+use Rattle.sql_parser.specs.Tables.{Placed, KeyRead}
+use Rattle.sql_parser.specs.Grammar.{Constraints, key_limit}
+use Rattle.sql_parser.specs.Inner.Tables.{constraints_at, kind_at, limits_at}
 use Rattle.sql_parser.specs.Inner.OneConstraint.{constraint_at, constrained}
 
 -- the constraints so far, and enough turns for the tokens that are left, give what the whole gives

@@ -18,10 +18,14 @@ use Rattle.sql_expressions.specs.Results.{◌>>=◌}
 use Rattle.sql_expressions.specs.Readers.{after, expect, is_sign, is_word, place_of, items_at, keyword, name_at, closed}
 use Rattle.sql_blocks.specs.Parts.{fits, set_columns, is_allowed}
 use Rattle.sql_blocks.specs.Kept.{is_shallow, maybe_shallow, item_shallow, all_differ, columns_differ, rows_fit, is_kept, makes_or_drops}
-use Rattle.sql_parser.specs.Readers.{tree_at, added}
+use Rattle.sql_parser.specs.Readers.{tree_at}
+use Rattle.sql_parser.specs.Inner.Parts.{added}
 use Rattle.sql_parser.specs.Tables.{is_among}
-use Rattle.sql_parser.specs.Changes.{Rows, distinct_add, row_add, columns_at, insert_at, filter_at, set_value, set_add, update_at, delete_at}
-use Rattle.sql_parser.specs.Queries.{call_at, rows_of, direction_at, nulls_at, alias_at, agg_at, item_of, item_at, from_at, order_add, order_at, lock_at, query_of, select_at}
+use Rattle.sql_parser.specs.Grammar.{Rows}
+use Rattle.sql_parser.specs.Inner.Changes.{distinct_add, row_add, columns_at, insert_at, set_value, set_add, update_at}
+use Rattle.sql_parser.specs.Changes.{filter_at, delete_at}
+use Rattle.sql_parser.specs.Inner.Queries.{call_at, rows_of, direction_at, nulls_at, agg_at, item_of, item_at, from_at, order_add, order_at, lock_at, query_of, select_at}
+use Rattle.sql_parser.specs.Queries.{alias_at}
 use Rattle.sql_parser.proofs.Depths.{read_shallow}
 use Rattle.sql_parser.proofs.Steps.{bind_ok, ok_same, unless_ok, when_ok, items_hold, push_all}
 

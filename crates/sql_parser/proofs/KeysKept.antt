@@ -17,9 +17,12 @@ use Rattle.sql_expressions.specs.Results.{◌>>=◌}
 use Rattle.sql_expressions.specs.Readers.{expect, is_sign, is_word, items_at, keyword, name_at}
 use Rattle.sql_blocks.specs.Parts.{column_names}
 use Rattle.sql_blocks.specs.Kept.{all_differ, places_differ, names_at, key_fits, tree_name, table_kept}
-use Rattle.sql_parser.specs.Tables.{Placed, KeyRead, TableRead, is_among, placed_names, empty_table, made_name, first_lacking, text_fault, keys_fault, completed, place_among, resolved, declared, finished, table_add, create_at, created}
+use Rattle.sql_parser.specs.Tables.{Placed, KeyRead, TableRead, is_among, placed_names, completed, created, resolved}
+use Rattle.sql_parser.specs.Grammar.{empty_table}
+use Rattle.sql_parser.specs.Inner.Tables.{made_name, first_lacking, text_fault, keys_fault, place_among, declared, finished, table_add, create_at}
 use Rattle.sql_parser.specs.Inner.Pieces.{is_kept, resolved_keys}
 use Rattle.sql_trees.specs.declared.fault.SqlFault.TheVariants.{BadColumns}
+use Rattle.sql_parser.proofs.Created.{created_is}
 use Rattle.sql_parser.proofs.Keeping.{FineOrNot, differ_push, or_none}
 use Rattle.sql_parser.proofs.Steps.{bind_ok, ok_same}
 use Rattle.sql_parser.proofs.TablesKept.{TableWithin, key_differs, table_within, expect_shorter, name_shorter}
@@ -62,7 +65,6 @@ pub record PlaceOk (columns : List (List ℕ)) (n : List ℕ) (place : ℕ) : Ty
   back : get_or columns place [] ≡ n
 
 place_ok : (columns : List (List ℕ)) (n : List ℕ) → is_among n columns ≡ true → PlaceOk columns n (place_among columns n)
-unfolding place_among
 place_ok [] n e = absurd cc
 place_ok (m ∷ ms) n e = of_test (bytes_eq m n) refl (place_ok ms n) e
   where
@@ -251,7 +253,7 @@ finished_fine name bound t ts w less = of_fault (keys_fault name (column_names t
         let named : map (tree_name name cols) (declared cols t.keys) ≡ made name true t.keys ++ made name false t.keys =
         map-append (tree_name name cols) (resolved_keys true cols t.keys) (resolved_keys false cols t.keys)
         ∙ (ap (λ xs. xs ++ map (tree_name name cols) (resolved_keys false cols t.keys)) (names_kept name cols true t.keys n.1) ∙ ap (λ ys. made name true t.keys ++ ys) (names_kept name cols false t.keys n.1)) in
-        record {
+        subst (λ x. FineOrNot true (Ok x)) (sym (created_is name t)) (record {
           kept = parts_kept name cols (map (completed t.keys) t.columns) (declared cols t.keys) (record {
             same = names_stay t.keys t.columns;
             few_columns = omega (arith, w.columns, less, length-map t.columns (λ (c : ColumnTree). c.name));
@@ -261,7 +263,7 @@ finished_fine name bound t ts w less = of_fault (keys_fault name (column_names t
             named = ap all_differ named ∙ differ_parts name t.keys n.0;
           });
           made = refl;
-        }
+        })
 
 module _ (last : ℕ) where
   pub create_fine : (ts : Tokens) (x : Result StmtTree SqlFault × Tokens) → create_at last ts ≡ Ok x → length ts < 2 ^ 32 → FineOrNot true x.0

@@ -1,5 +1,11 @@
 pub mod Steps
 pub mod Lists
+pub mod Created
+pub mod Readings
+pub mod StmtReadings
+pub mod TableReadings
+pub mod QueryReadings
+pub mod BlockReadings
 pub mod Locals
 pub mod StmtLocals
 pub mod TableLocals

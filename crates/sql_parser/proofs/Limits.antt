@@ -16,10 +16,11 @@ use Rattle.sql_expressions.specs.Laws as expr
 use Rattle.sql_blocks.specs.declared.block.Role.{Role}
 use Rattle.sql_blocks.specs.Parts.{is_session}
 use Rattle.sql_blocks.specs.Kept.{is_kept_in}
-use Rattle.sql_parser.specs.Blocks.{is_ddl, stmt_at, at_end, whole_at, piece_at, stmts_at, block_at}
-use Rattle.sql_parser.specs.Grammar.{Is, PieceIs, no_stmt, a_stmt, EndedAre, no_pieces, ended_piece, Shallow, OfAnyDepth}
+use Rattle.sql_parser.specs.Grammar.{is_ddl, Is, PieceIs, no_stmt, a_stmt, EndedAre, no_pieces, ended_piece, Shallow, OfAnyDepth}
+use Rattle.sql_parser.specs.Inner.Blocks.{stmt_at, at_end, whole_at, piece_at, stmts_at, block_at}
 use Rattle.sql_parser.specs.Stops.{Refuses, at_next, at_word, at_name, at_row, in_expression, too_deep}
 use Rattle.sql_parser.specs.Laws.{BeginsDdl, DdlIsRefused, BeginsOneMore, TooManyIsRefused}
+use Rattle.sql_parser.proofs.BlockReadings.{whole_stops, whole_stopped, block_same}
 use Rattle.sql_parser.proofs.Steps.{bind_ok, when_ok, ok_same}
 use Rattle.sql_parser.proofs.Locals.{Local, took, stopped}
 use Rattle.sql_parser.proofs.ExprLocals.{some_of_any_depth, of_any_depth_starts, any_depth_local, one_name}
@@ -95,7 +96,7 @@ ddl_place : (m n : ℕ) → ◌≡◌ {A = SqlFault} (DdlInSession m) (DdlInSess
 ddl_place m n h = cc
 
 pub ddl_is_refused : DdlIsRefused
-ddl_is_refused last place role ts = (there ts, back ts)
+ddl_is_refused last place role ts = (λ e. there ts (whole_stopped last role ts (DdlInSession place) e), λ b. whole_stops last role ts (DdlInSession place) (back ts b))
   where
     there : (us : Tokens) → whole_at last role us ≡ Err (DdlInSession place) → BeginsDdl role us place
     there [] e = stmt_fault last role [] (DdlInSession place) refl e
@@ -270,7 +271,7 @@ many_from (suc m) last role ss _ place (ended ts us c free hc) le less few e =
     of_piece (Err g) is h go = piece_many c.span.start role ss ts (c ∷ us) place free few (is ∙ h)
 
 pub too_many_is_refused : TooManyIsRefused
-too_many_is_refused last place role ts less = (there, back)
+too_many_is_refused last place role ts less = (λ e. there (sym (block_same last role ts) ∙ e), λ b. block_same last role ts ∙ back b)
   where
     there : block_at last role ts ≡ Err (TooMany place) → BeginsOneMore role ts place
     there e =

@@ -23,10 +23,12 @@ use Rattle.sql_expressions.specs.Laws.{head}
 use Rattle.sql_expressions.proofs.Local.{first_is, head_after}
 use Rattle.sql_blocks.specs.Parts.{column_names, is_allowed}
 use Rattle.sql_expressions.specs.Reading.{agg_kind}
-use Rattle.sql_parser.specs.Readers.{tree_at, added}
+use Rattle.sql_parser.specs.Readers.{tree_at}
+use Rattle.sql_parser.specs.Inner.Parts.{added}
 use Rattle.sql_parser.specs.Tables.{TableRead, keys_fault, created}
 use Rattle.sql_parser.specs.Changes.{filter_at}
-use Rattle.sql_parser.specs.Queries.{call_at, maybe_name, direction_at, alias_at, agg_at, item_of, item_at, from_at, nulls_at, order_add, order_at, lock_at, query_of, select_at}
+use Rattle.sql_parser.specs.Inner.Queries.{call_at, maybe_name, direction_at, agg_at, item_of, item_at, from_at, nulls_at, order_add, order_at, lock_at, query_of, select_at}
+use Rattle.sql_parser.specs.Queries.{alias_at}
 use Rattle.sql_parser.specs.Grammar.{Is, Key, Names, Commas, AliasIs, no_alias, as_alias, bare_alias, AggIs, all_rows, of_values, AddsItem, a_star, a_value, an_aggregate, FromIs, no_table, from_table, DirectionIs, as_ever, ascending, descending, NullsAre, unsaid, nulls_first, nulls_last, AddsKey, adds_key, OrderIs, unordered, ordered, LockIs, no_lock, for_update, for_share, WhereIs, unfiltered, Spells, select}
 use Rattle.sql_parser.proofs.Locals.{Inhabited, Local, Begun, took, stopped, gives, gives_at, gives_end, behind, same_at, switch_at, switch_end, in_turn, mapped, token_then, token_last, name_then, list_local, some_list, chosen}
 use Rattle.sql_parser.proofs.StmtLocals.{a_word, a_sign, a_name, the_name, key_is}

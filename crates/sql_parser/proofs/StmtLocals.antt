@@ -20,10 +20,12 @@ use Rattle.sql_trees.specs.Trees.{Tree}
 use Rattle.sql_expressions.specs.Results.{◌>>=◌}
 use Rattle.sql_expressions.specs.Readers.{expect, is_word, after, keyword, items_at, Reader, name_at}
 use Rattle.sql_expressions.proofs.Shapes.{some_token}
-use Rattle.sql_parser.specs.Readers.{is_unquoted, past, misplaced_word, added}
-use Rattle.sql_parser.specs.Transactions.{is_work, is_scope, is_to, is_setting, level_at, begin_at, start_at, parameter_at, set_at}
-use Rattle.sql_parser.specs.Tables.{drop_of, drop_at, after_if}
-use Rattle.sql_parser.specs.Grammar.{Key, Names, Perhaps, nothing, one_is, Commas, NameIs, is_name, AddsName, adds_name, IsolationIs, uncommitted, committed, repeatable, MaybeLevel, no_level, a_level, Spells, begin, start, set_transaction, set_timeout, drop, drop_if}
+use Rattle.sql_parser.specs.Grammar.{is_unquoted, is_scope, is_to, is_setting, Key, Names, Perhaps, nothing, one_is, Commas, NameIs, is_name, AddsName, adds_name, IsolationIs, uncommitted, committed, repeatable, MaybeLevel, no_level, a_level, Spells, begin, start, set_transaction, set_timeout, drop, drop_if}
+use Rattle.sql_parser.specs.Inner.Parts.{past, misplaced_word, added}
+use Rattle.sql_parser.specs.Transactions.{is_work}
+use Rattle.sql_parser.specs.Inner.Transactions.{level_at, begin_at, start_at, parameter_at, set_at}
+use Rattle.sql_parser.specs.Inner.Tables.{after_if}
+use Rattle.sql_parser.specs.Tables.{drop_of, drop_at}
 use Rattle.sql_parser.specs.Stops.{Refuses, at_next, at_word}
 use Rattle.sql_parser.proofs.Locals.{Inhabited, Begins, Local, gives, stuck_at, stuck_end, behind, same_at, switch_at, switch_end, mapped, token_then, token_last, name_then, either, list_local, some_list, Tail, left_of, tail_local, joined, items_is, chosen}
 

@@ -16,10 +16,11 @@ use Rattle.sql_trees.specs.Trees.{Tree}
 use Rattle.sql_expressions.specs.Results.{◌>>=◌}
 use Rattle.sql_expressions.specs.Readers.{place_of, expect, is_word, is_sign, after, keyword, name_at, items_at, Reader}
 use Rattle.sql_blocks.specs.Parts.{column_names}
-use Rattle.sql_parser.specs.Readers.{misplaced_word}
-use Rattle.sql_parser.specs.Tables.{Placed, KeyRead, TableRead, Constraints, is_among, placed_names, empty_table, with_key, with_column, key_limit, kind_of, kind_at, key_add, key_at, constraints_at, limits_at, column_behind, column_at, table_add}
+use Rattle.sql_parser.specs.Inner.Parts.{misplaced_word}
+use Rattle.sql_parser.specs.Tables.{Placed, KeyRead, TableRead, is_among, placed_names, with_key}
+use Rattle.sql_parser.specs.Grammar.{Constraints, empty_table, with_column, key_limit, kind_of, Is, Key, Names, Commas, placed, AddsColumn, adds_column, Says, no_more, not_null, primary_key, unique_key, AddsPart, a_column, a_primary, a_unique}
+use Rattle.sql_parser.specs.Inner.Tables.{kind_at, key_add, key_at, constraints_at, limits_at, column_behind, column_at, table_add}
 use Rattle.sql_parser.specs.Inner.OneConstraint.{is_constraint, constraint_of, constraint_at}
-use Rattle.sql_parser.specs.Grammar.{Is, Key, Names, Commas, placed, AddsColumn, adds_column, Says, no_more, not_null, primary_key, unique_key, AddsPart, a_column, a_primary, a_unique}
 use Rattle.sql_parser.specs.Stops.{at_name}
 use Rattle.sql_parser.proofs.Locals.{Inhabited, Local, gives, gives_at, gives_end, stuck_at, goes_on, no_rule_at, no_rule_end, behind, same_at, switch_at, switch_end, in_turn, mapped, token_in, token_then, token_last, list_local, some_list, chosen}
 use Rattle.sql_parser.proofs.Steps.{bind_ok, ok_same}

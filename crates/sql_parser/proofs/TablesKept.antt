@@ -16,8 +16,10 @@ use Rattle.sql_expressions.specs.Results.{◌>>=◌}
 use Rattle.sql_expressions.specs.Readers.{after, is_sign, expect, misplaced, is_word, place_of, items_at, keyword, name_at}
 use Rattle.sql_blocks.specs.Parts.{column_names}
 use Rattle.sql_blocks.specs.Kept.{all_differ}
-use Rattle.sql_parser.specs.Readers.{misplaced_word}
-use Rattle.sql_parser.specs.Tables.{Placed, KeyRead, TableRead, Constraints, is_among, placed_names, empty_table, with_key, with_column, key_limit, kind_of, kind_at, key_add, key_at, constraints_at, limits_at, column_behind, column_at, table_add}
+use Rattle.sql_parser.specs.Inner.Parts.{misplaced_word}
+use Rattle.sql_parser.specs.Tables.{Placed, KeyRead, TableRead, is_among, placed_names, with_key}
+use Rattle.sql_parser.specs.Grammar.{Constraints, empty_table, with_column, key_limit, kind_of}
+use Rattle.sql_parser.specs.Inner.Tables.{kind_at, key_add, key_at, constraints_at, limits_at, column_behind, column_at, table_add}
 use Rattle.sql_parser.specs.Inner.OneConstraint.{constraint_of, constraint_at, constrained}
 use Rattle.sql_parser.proofs.Keeping.{differ_push}
 use Rattle.sql_parser.proofs.Going.{turn_is}

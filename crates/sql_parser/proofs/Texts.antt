@@ -20,8 +20,11 @@ use Rattle.sql_trees.specs.declared.token.Tok.{Tok}
 use Rattle.sql_trees.specs.Tokens.{classify_at, tok_at, tok_views}
 use Rattle.sql_expressions.specs.Results.{Gives, ◌>>=◌}
 use Rattle.sql_blocks.specs.declared.block.Role.{Role}
+use Rattle.sql_parser.proofs.Lists.{gives_same}
+use Rattle.sql_parser.proofs.BlockReadings.{block_same}
 use Rattle.sql_parser.specs.Inner.Calls.{seen}
 use Rattle.sql_parser.specs.Blocks.{block_at}
+use Rattle.sql_parser.specs.Inner.Blocks as blocks
 use Rattle.sql_parser.specs.Texts.{ReadsAs, Parses}
 
 some_token : (text : List ℕ) (t : SqlToken) (rest : List ℕ) → sql_front text ≡ token t rest → 0 < length text
@@ -50,11 +53,15 @@ few (lexing.fails kind n e eq) ts same = absurd cc
 pub few_tokens : (text : List ℕ) (ts : List (At SqlToken)) → SqlLexes text (Ok ts) → length ts ≤ length text
 few_tokens text ts r = few r ts refl
 
--- what the tokens read as, the text reads as
-pub parses : {B : Type 0} (view : B → List StmtTree) (text : List ℕ) (role : Role) (ts : List (At SqlToken)) (r : Result B SqlFault) → SqlLexes text (Ok ts) → Gives view r (block_at (length text) role (map classify_at ts)) → Parses text role (seen view r)
-parses view text role ts (Ok b) l g = record { lexed = Ok ts; lexes = l; reads = g }
-parses view text role ts (Err Memory) l g = tt
-parses view text role ts (Err _) l g = record { lexed = Ok ts; lexes = l; reads = g }
+module _ {B : Type 0} (view : B → List StmtTree) (text : List ℕ) (role : Role) (ts : List (At SqlToken)) where
+  reads : (r : Result B SqlFault) → SqlLexes text (Ok ts) → Gives view r (block_at (length text) role (map classify_at ts)) → Parses text role (seen view r)
+  reads (Ok b) l g = record { lexed = Ok ts; lexes = l; reads = g }
+  reads (Err Memory) l g = tt
+  reads (Err _) l g = record { lexed = Ok ts; lexes = l; reads = g }
+
+  -- what the tokens read as, the text reads as
+  pub parses : (r : Result B SqlFault) → SqlLexes text (Ok ts) → Gives view r (blocks.block_at (length text) role (map classify_at ts)) → Parses text role (seen view r)
+  parses r l g = reads r l (gives_same view r (block_at (length text) role (map classify_at ts)) (blocks.block_at (length text) role (map classify_at ts)) (block_same (length text) role (map classify_at ts)) g)
 
 -- where a text's tokens are one thing, what it is read as is one thing
 pub one_reading : (text : List ℕ) (role : Role) (x y : Result (List StmtTree) SqlFault) → ((a b : Result (List (At SqlToken)) Fault) → SqlLexes text a → SqlLexes text b → a ≡ b) → ReadsAs text role x → ReadsAs text role y → x ≡ y

@@ -1,72 +1,51 @@
 -- Statements and blocks.
-use Rattle.std.specs.Prelude.{ℕ, Bool, ◌&&◌, ◌||◌, List, [], ◌∷◌, ◌++◌, length, Result, Ok, Err, nat_lt, if◌then◌else◌}
-use Rattle.std.specs.Option.{option_map_or}
-use Rattle.iso_lexer.specs.declared.token.At.{At}
+use Rattle.std.specs.Prelude.{ℕ, zero, suc, ◌&&◌, ◌||◌, List, [], ◌∷◌, ◌++◌, map, filter, None, Result, Ok, Err}
+use Rattle.std.specs.List.{slice_split, zip}
 use Rattle.iso_lexer.specs.declared.sql_token.SqlSign.TheVariants as signs
 use Rattle.sql_trees.specs.declared.fault.SqlFault.{SqlFault}
 use Rattle.sql_trees.specs.declared.fault.SqlFault.TheVariants.{TooMany, DdlInSession}
 use Rattle.sql_trees.specs.declared.word.Word.{Word}
 use Rattle.sql_trees.specs.declared.word.Word.TheVariants as words
-use Rattle.iso_lexer.specs.Bytes.{row_of}
 use Rattle.sql_trees.specs.Statements.{StmtTree, Commit, Rollback}
-use Rattle.sql_trees.specs.Tokens.{Token, Tokens}
-use Rattle.sql_trees.specs.Tokens as tok
-use Rattle.sql_expressions.specs.Results.{◌>>=◌}
-use Rattle.sql_expressions.specs.Readers.{is_sign, is_word, misplaced, Reader, made}
+use Rattle.sql_trees.specs.Tokens.{Tokens}
+use Rattle.sql_expressions.specs.Results.{◌>>=◌ as and_then}
+use Rattle.sql_expressions.specs.Readers.{is_sign, is_word, place_of, Reader, gives, either, keyword, ◌>>=◌, ◌>>◌}
 use Rattle.sql_blocks.specs.declared.block.Role.{Role}
 use Rattle.sql_blocks.specs.Parts.{is_session}
-use Rattle.sql_parser.specs.Readers.{past}
-use Rattle.sql_parser.specs.Transactions.{is_work, begin_at, start_at, set_at}
+use Rattle.sql_parser.specs.Readers.{past, one_of, whole}
+use Rattle.sql_parser.specs.Transactions.{is_work, begin_at, set_at}
 use Rattle.sql_parser.specs.Tables.{create_at, drop_at}
 use Rattle.sql_parser.specs.Changes.{insert_at, update_at, delete_at}
 use Rattle.sql_parser.specs.Queries.{select_at}
 
-abbrev pub is_ddl : Token → Bool
-is_ddl t = is_word words.Create t || is_word words.Drop t
-
 module _ (last : ℕ) where
-  -- the statements of which nothing has to hold as a whole: the first word of each, and what is read behind it
-  abbrev pub simple : List (Word × Reader StmtTree)
-  simple =
-      (words.Begin, λ ts. begin_at last (past is_work ts)) ∷ (words.Start, start_at last) ∷ (words.Set, set_at last) ∷
-      (words.Commit, λ ts. Ok (Commit, past is_work ts)) ∷ (words.End, λ ts. Ok (Commit, past is_work ts)) ∷
-      (words.Rollback, λ ts. Ok (Rollback, past is_work ts)) ∷ (words.Abort, λ ts. Ok (Rollback, past is_work ts)) ∷
-      (words.Drop, drop_at last) ∷ (words.Insert, insert_at last) ∷ (words.Update, update_at last) ∷ (words.Delete, delete_at last) ∷ []
+  -- what is read behind each first word, which stands at this place
+  abbrev pub statements : ℕ → List (Word × Reader StmtTree)
+  statements place =
+      (words.Begin, past is_work (begin_at last)) ∷ (words.Start, keyword last words.Transaction >> begin_at last) ∷ (words.Set, set_at last) ∷
+      (words.Commit, past is_work (gives Commit)) ∷ (words.End, past is_work (gives Commit)) ∷
+      (words.Rollback, past is_work (gives Rollback)) ∷ (words.Abort, past is_work (gives Rollback)) ∷ (words.Create, create_at last) ∷ (words.Drop, drop_at last) ∷
+      (words.Insert, insert_at last) ∷ (words.Update, update_at last) ∷ (words.Delete, delete_at last) ∷ (words.Select, select_at last place) ∷ []
 
-  unfoldable pub simple_of : Token → At Token → Reader StmtTree
-  simple_of first t ts = option_map_or (λ read. read ts) (row_of is_word simple first) (Err (misplaced last (t ∷ ts)))
+  -- a statement behind which nothing stands; one that makes or drops a table is none of a session
+  unfoldable pub whole_at : Role → Reader StmtTree
+  whole_at role ts = either (λ t. is_session role && (is_word words.Create t || is_word words.Drop t)) (λ us. Err (DdlInSession (place_of last ts))) (do
+    behind ← one_of last (statements (place_of last ts))
+    statement ← behind
+    whole last None
+    gives statement) ts
 
-  -- a statement by its first token, or what is wrong with the whole of it
-  abbrev pub begun_of : Token → At Token → Reader (Result StmtTree SqlFault)
-  begun_of (tok.word words.Create s) t ts = create_at last ts
-  begun_of (tok.word words.Select s) t ts = select_at last t.span.start ts
-  begun_of _ t ts = made (λ s. Ok s) (simple_of t.tok t) ts
+-- the tokens between semicolons, each with the place of the semicolon behind it, or of the text's end
+abbrev pub pieces : ℕ → Tokens → List (Tokens × ℕ)
+pieces last ts = zip (slice_split (λ t. is_sign signs.Semicolon t.tok) ts) (map (λ t. t.span.start) (filter (λ t. is_sign signs.Semicolon t.tok) ts) ++ last ∷ [])
 
-  -- a statement, which makes and drops no table in a session's block
-  unfoldable pub stmt_at : Role → Reader (Result StmtTree SqlFault)
-  stmt_at role [] = Err (misplaced last [])
-  stmt_at role (t ∷ ts) = if is_session role && is_ddl t.tok then Err (DdlInSession t.span.start) else begun_of t.tok t ts
+-- the statements of these pieces, of which there may be so many: an empty piece has none
+unfoldable pub stmts_at : Role → ℕ → List (Tokens × ℕ) → Result (List StmtTree) SqlFault
+stmts_at role n [] = Ok []
+stmts_at role n (([], end) ∷ ps) = stmts_at role n ps
+stmts_at role zero ((t ∷ ts, end) ∷ ps) = Err (TooMany t.span.start)
+stmts_at role (suc n) ((t ∷ ts, end) ∷ ps) = and_then (whole_at end role (t ∷ ts)) (λ x. and_then (stmts_at role n ps) (λ ss. Ok (x.0 ∷ ss)))
 
-  -- the tokens have all been read
-  abbrev pub at_end : {A : Type 0} → Result A SqlFault → Tokens → Result A SqlFault
-  at_end answer [] = answer
-  at_end answer (t ∷ ts) = Err (misplaced last (t ∷ ts))
-
-  -- a statement behind which nothing stands
-  unfoldable pub whole_at : Role → Tokens → Result StmtTree SqlFault
-  whole_at role ts = stmt_at role ts >>= λ x. at_end x.0 x.1
-
-  -- what stands between two semicolons, the second of them or the text's end at last: nothing or one more statement, of which a block has at most 256
-  unfoldable pub piece_at : Role → List StmtTree → Tokens → Result (List StmtTree) SqlFault
-  piece_at role ss [] = Ok ss
-  piece_at role ss (t ∷ ts) = if nat_lt (length ss) 256 then (whole_at role (t ∷ ts) >>= λ s. Ok (ss ++ s ∷ [])) else Err (TooMany t.span.start)
-
--- the statements of a block behind these, where piece is what has passed since the last semicolon
-unfoldable pub stmts_at : ℕ → Role → List StmtTree → Tokens → Tokens → Result (List StmtTree) SqlFault
-stmts_at last role ss piece [] = piece_at last role ss piece
-stmts_at last role ss piece (t ∷ ts) =
-    if is_sign signs.Semicolon t.tok then (piece_at t.span.start role ss piece >>= λ more. stmts_at last role more [] ts) else stmts_at last role ss (piece ++ t ∷ []) ts
-
--- the statements of a block
+-- the statements of a block, 256 at most
 abbrev pub block_at : ℕ → Role → Tokens → Result (List StmtTree) SqlFault
-block_at last role ts = stmts_at last role [] [] ts
+block_at last role ts = stmts_at role 256 (pieces last ts)

@@ -1,12 +1,14 @@
 -- The grammar of statements and blocks: which tokens spell which trees. Above each rule stands what is kept of the synopsis on the command's page of
 -- PostgreSQL 17's manual; numbers are sections of it. E says which tokens spell an expression.
-use Rattle.std.specs.Prelude.{◌≡◌, ℕ, Bool, true, false, List, [], ◌∷◌, ◌++◌, length, Option, Some, None, option_map}
+use Rattle.std.specs.Prelude.{◌≡◌, ℕ, Bool, true, false, ◌||◌, List, [], ◌∷◌, ◌++◌, length, Option, Some, None, option_map}
 use Rattle.iso_lexer.specs.declared.token.At.{At}
+use Rattle.iso_lexer.specs.Bytes.{row_of}
 use Rattle.iso_lexer.specs.declared.sql_token.SqlSign.{SqlSign}
 use Rattle.iso_lexer.specs.declared.sql_token.SqlSign.TheVariants as signs
 use Rattle.sql_trees.specs.declared.word.Word.{Word}
 use Rattle.sql_trees.specs.declared.word.Word.TheVariants as words
 use Rattle.sql_trees.specs.declared.kind.Kind.{Kind}
+use Rattle.sql_trees.specs.declared.kind.Kind.TheVariants as kinds
 use Rattle.sql_trees.specs.declared.expr.AggKind.{AggKind}
 use Rattle.sql_trees.specs.declared.expr.AggKind.TheVariants as aggs
 use Rattle.sql_trees.specs.declared.stmt.Level.{Level}
@@ -16,13 +18,13 @@ use Rattle.sql_trees.specs.declared.stmt.Lock.TheVariants as locks
 use Rattle.sql_trees.specs.Statements.{StmtTree, Begin, Commit, Rollback, SetTransaction, SetDeadlockTimeout, DropTables, Inserts, Updates, Deletes, Selects}
 use Rattle.sql_trees.specs.Statements.{SetTree, ItemTree, OrderTree, All, Value, Aggregate}
 use Rattle.sql_trees.specs.Tokens.{Token, Tokens, named}
+use Rattle.sql_trees.specs.Tokens as tok
 use Rattle.sql_trees.specs.Trees.{Tree, AggTree, CountRows, Of}
 use Rattle.sql_expressions.specs.Readers.{is_word, is_sign}
 use Rattle.sql_expressions.specs.Reading.{agg_kind}
 use Rattle.sql_expressions.specs.Grammar.{OR, SpellsIn}
-use Rattle.sql_parser.specs.Transactions.{is_work, is_scope, is_to, is_setting}
-use Rattle.sql_parser.specs.Tables.{Placed, TableRead, Constraints, empty_table, with_key, with_column, key_limit, kind_of, created}
-use Rattle.sql_parser.specs.Changes.{Rows}
+use Rattle.sql_parser.specs.Transactions.{is_work}
+use Rattle.sql_parser.specs.Tables.{Placed, KeyRead, TableRead, with_key, created}
 
 -- ---- tokens
 
@@ -41,6 +43,29 @@ Sign s token = is_sign s token.tok ≡ true
 -- the token is this name
 abbrev pub Names : List ℕ → At Token → Type 0
 Names name token = named token.tok ≡ Some name
+
+-- a word without quotes
+abbrev pub is_unquoted : Token → Bool
+is_unquoted (tok.word w s) = true
+is_unquoted _ = false
+
+-- the first word of a statement that makes or drops a table
+abbrev pub is_ddl : Token → Bool
+is_ddl t = is_word words.Create t || is_word words.Drop t
+
+-- SESSION or LOCAL
+abbrev pub is_scope : Token → Bool
+is_scope t = is_word words.Session t || is_word words.Local t
+
+-- "=" or TO
+abbrev pub is_to : Token → Bool
+is_to t = is_sign signs.Equal t || is_word words.To t
+
+-- a number or a string
+abbrev pub is_setting : Token → Bool
+is_setting (tok.number n) = true
+is_setting (tok.string s) = true
+is_setting _ = false
 
 -- nothing, or one token of this kind
 pub data Perhaps (is_it : Token → Bool) : Tokens → Type 0 where
@@ -81,6 +106,27 @@ pub data MaybeLevel : Tokens → Option Level → Type 0 where
   a_level : (mode : Tokens) (level : Level) → IsolationIs mode level → MaybeLevel mode (Some level)
 
 -- ---- CREATE TABLE
+
+-- what is said of one column, behind the keys before it
+pub record Constraints : Type 0 where
+  pub not_null : Bool
+  pub keys : List KeyRead
+
+-- no column yet, and no key
+abbrev pub empty_table : TableRead
+empty_table = record { columns = []; keys = [] }
+
+-- with a column, behind its keys
+abbrev pub with_column : Placed → Kind → Constraints → TableRead → TableRead
+with_column c kind s t = record { columns = t.columns ++ (record { name = c.name; kind = kind; not_null = s.not_null }) ∷ []; keys = s.keys }
+
+-- with a key of this column alone
+abbrev pub key_limit : Bool → Placed → Constraints → Constraints
+key_limit primary c s = record s { keys = s.keys ++ (record { primary = primary; columns = c ∷ [] }) ∷ [] }
+
+-- the kind that a word names
+abbrev pub kind_of : Token → Option Kind
+kind_of = row_of is_word ((words.Integer, kinds.Int) ∷ (words.Bigint, kinds.Big) ∷ (words.Text, kinds.Text) ∷ (words.Boolean, kinds.Bool) ∷ [])
 
 abbrev pub placed : List ℕ → At Token → Placed
 placed name token = record { name = name; place = token.span.start }
@@ -125,6 +171,11 @@ pub data RowIs (E : Tokens → Tree → Type 0) : Tokens → List Tree → Type 
   is_row : (opening closing : At Token) (list : Tokens) (values : List Tree) →
       Sign signs.Open opening → Commas (AddsValue E) [] list values → Sign signs.Close closing →
       RowIs E (opening ∷ (list ++ closing ∷ [])) values
+
+-- the rows of VALUES so far, and how many values each has to have
+pub record Rows : Type 0 where
+  pub rows : List (List Tree)
+  pub width : Option ℕ
 
 abbrev pub with_row : Rows → List Tree → Rows
 with_row s es = record { rows = s.rows ++ es ∷ []; width = Some (length es) }

@@ -12,9 +12,9 @@ use Rattle.sql_expressions.specs.Laws.{head}
 use Rattle.sql_blocks.specs.declared.block.Role.{Role}
 use Rattle.sql_blocks.specs.Parts.{is_session, column_names, is_allowed}
 use Rattle.sql_blocks.specs.Kept.{is_kept_in}
-use Rattle.sql_parser.specs.Blocks.{is_ddl, block_at, whole_at}
+use Rattle.sql_parser.specs.Blocks.{block_at, whole_at}
 use Rattle.sql_parser.specs.Tables.{TableRead, keys_fault, created}
-use Rattle.sql_parser.specs.Grammar.{BlockIs, EndedAre, Spells, Shallow, OfAnyDepth}
+use Rattle.sql_parser.specs.Grammar.{is_ddl, BlockIs, EndedAre, Spells, Shallow, OfAnyDepth}
 use Rattle.sql_parser.specs.Stops.{Refuses, WantsWords, IsStop}
 
 -- The tokens are read as these statements exactly where they spell them, there are 256 at most, and each is one that a block keeps.

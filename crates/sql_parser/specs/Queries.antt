@@ -1,91 +1,53 @@
 -- SELECT (PostgreSQL manual: SELECT).
-use Rattle.std.specs.Prelude.{ℕ, Bool, true, false, List, [], ◌∷◌, ◌++◌, Option, Some, None, Result, Ok, Err, option_map, if◌then◌else◌}
-use Rattle.std.specs.Option.{option_map_or}
+use Rattle.std.specs.Prelude.{ℕ, true, false, List, [], ◌∷◌, Option, Some, None, if◌then◌else◌}
 use Rattle.iso_lexer.specs.declared.sql_token.SqlSign.TheVariants as signs
-use Rattle.sql_trees.specs.declared.fault.SqlFault.{SqlFault}
 use Rattle.sql_trees.specs.declared.fault.SqlFault.TheVariants.{LeftOut}
 use Rattle.sql_trees.specs.declared.word.Word.TheVariants as words
 use Rattle.sql_trees.specs.declared.expr.AggKind.{AggKind}
 use Rattle.sql_trees.specs.declared.expr.AggKind.TheVariants as aggs
-use Rattle.sql_trees.specs.declared.stmt.Lock.{Lock}
 use Rattle.sql_trees.specs.declared.stmt.Lock.TheVariants as locks
+use Rattle.iso_lexer.specs.Bytes.{row_of}
 use Rattle.sql_trees.specs.Statements.{StmtTree, ItemTree, All, Value, Aggregate, OrderTree, SelectTree, Selects}
-use Rattle.sql_trees.specs.Tokens.{Tokens, named}
+use Rattle.sql_trees.specs.Tokens.{named}
 use Rattle.sql_trees.specs.Trees.{AggTree, CountRows, Of}
-use Rattle.sql_expressions.specs.Readers.{after, expect, is_sign, is_word, Reader, gives, made, either, by_first, keyword, closed, name_at, items_at, ◌>>=◌, ◌>>◌}
+use Rattle.sql_expressions.specs.Readers.{is_sign, is_word, Reader, gives, made, either, by_first, keyword, closed, name_at, ◌>>=◌, ◌>>◌}
 use Rattle.sql_expressions.specs.Reading.{agg_kind}
 use Rattle.sql_blocks.specs.Parts.{is_allowed}
-use Rattle.sql_parser.specs.Readers.{maybe, tree_at, added}
+use Rattle.sql_parser.specs.Readers.{maybe, list_of, one_of, tree_at, whole}
 use Rattle.sql_parser.specs.Changes.{filter_at}
-
--- an aggregate's name with an open parenthesis behind it, and the tokens behind that
-abbrev pub call_at : Tokens → Option (AggKind × Tokens)
-call_at = by_first agg_kind (λ k ts. option_map (λ us. (k, us)) (after (is_sign signs.Open) ts)) (λ ts. None)
-
--- the star of count(*)
-abbrev pub rows_of : AggKind → Tokens → Option Tokens
-rows_of aggs.Count ts = after (is_sign signs.Star) ts
-rows_of _ ts = None
-
--- the name that stands next, if one does
-abbrev pub maybe_name : Reader (Option (List ℕ))
-maybe_name = by_first named (λ n. gives (Some n)) (gives None)
-
--- ASC, DESC or none of them: whether sorting goes down
-unfoldable pub direction_at : Reader Bool
-direction_at = either (is_word words.Asc) (gives false) (either (is_word words.Desc) (gives true) (gives false))
 
 module _ (last : ℕ) where
   -- the name given to an item, with or without AS
   unfoldable pub alias_at : Reader (Option (List ℕ))
-  alias_at = either (is_word words.As) (made (λ n. Some n) (name_at last)) maybe_name
+  alias_at = either (is_word words.As) (made (λ n. Some n) (name_at last)) (by_first named (λ n. gives (Some n)) (gives None))
 
-  -- an aggregate behind its open parenthesis
-  unfoldable pub agg_at : AggKind → Reader AggTree
-  agg_at k ts = option_map_or (expect last (is_sign signs.Close) >> gives CountRows) (rows_of k ts) (closed last (Of k) (tree_at last) ts)
+  -- an aggregate behind its open parenthesis: COUNT may have a star there
+  unfoldable pub call_at : AggKind → Reader AggTree
+  call_at aggs.Count = closed last (λ a. a) (either (is_sign signs.Star) (gives CountRows) (made (Of aggs.Count) (tree_at last)))
+  call_at k = closed last (Of k) (tree_at last)
 
-  -- an aggregate or an expression, and the name given to it
-  abbrev pub item_of : Option (AggKind × Tokens) → Reader ItemTree
-  item_of (Some c) ts = (agg_at c.0 >>= λ a. made (Aggregate a) alias_at) c.1
-  item_of None ts = (tree_at last >>= λ e. made (Value e) alias_at) ts
-
-  -- an item of a SELECT
+  -- an item of a SELECT: a star, an aggregate or an expression
   unfoldable pub item_at : Reader ItemTree
-  item_at = either (is_sign signs.Star) (gives All) (λ ts. item_of (call_at ts) ts)
+  item_at ts =
+      let value : Reader ItemTree = tree_at last >>= λ e. made (Value e) alias_at in
+      either (is_sign signs.Star) (gives All) (by_first agg_kind
+      (λ k. either (is_sign signs.Open) (call_at k >>= λ a. made (Aggregate a) alias_at) (λ us. value ts)) value) ts
 
-  -- FROM and its table, if any
-  unfoldable pub from_at : Reader (Option (List ℕ))
-  from_at = maybe (is_word words.From) (name_at last)
-
-  -- NULLS FIRST or NULLS LAST; else NULL is sorted as the greatest value
-  unfoldable pub nulls_at : Bool → Reader Bool
-  nulls_at down = either (is_word words.Nulls) (either (is_word words.First) (gives true) (keyword last words.Last >> gives false)) (gives down)
-
-  -- one more key of ORDER BY
-  unfoldable pub order_add : List OrderTree → Reader (List OrderTree)
-  order_add ks = do
+  -- a key of ORDER BY: without NULLS FIRST or LAST, NULL is sorted as the greatest value
+  unfoldable pub sort_key_at : Reader OrderTree
+  sort_key_at = do
     e ← tree_at last
-    desc ← direction_at
-    gives (ks ++ (record { expr = e; dir = record { desc = desc; nulls_first = (← nulls_at desc) } }) ∷ [])
+    desc ← by_first (row_of is_word ((words.Asc, false) ∷ (words.Desc, true) ∷ [])) gives (gives false)
+    nulls_first ← either (is_word words.Nulls) (one_of last ((words.First, true) ∷ (words.Last, false) ∷ [])) (gives desc)
+    gives (record { expr = e; dir = record { desc = desc; nulls_first = nulls_first } })
 
-  -- ORDER BY and its keys, if any
-  unfoldable pub order_at : Reader (List OrderTree)
-  order_at = either (is_word words.Order) (keyword last words.By >> items_at order_add []) (gives [])
-
-  -- FOR UPDATE or FOR SHARE, if any
-  unfoldable pub lock_at : Reader (Option Lock)
-  lock_at = either (is_word words.For) (either (is_word words.Update) (gives (Some locks.Update)) (keyword last words.Share >> gives (Some locks.Share))) (gives None)
-
--- ---- what has to hold of the whole
-
-abbrev pub query_of : ℕ → SelectTree → Result StmtTree SqlFault
-query_of place s = if is_allowed s then Ok (Selects s) else Err (LeftOut place)
-
-module _ (last : ℕ) where
   -- what stands behind a SELECT at this place
-  unfoldable pub select_at : ℕ → Reader (Result StmtTree SqlFault)
+  unfoldable pub select_at : ℕ → Reader StmtTree
   select_at place = do
-    items ← items_at (added (item_at last)) []
-    table ← from_at last
+    items ← list_of (λ items. item_at)
+    table ← maybe (is_word words.From) (name_at last)
     filter ← filter_at last
-    gives (query_of place (record { items = items; table = table; filter = filter; order = (← order_at last); lock = (← lock_at last) }))
+    order ← either (is_word words.Order) (keyword last words.By >> list_of (λ keys. sort_key_at)) (gives [])
+    lock ← maybe (is_word words.For) (one_of last ((words.Update, locks.Update) ∷ (words.Share, locks.Share) ∷ []))
+    let query : SelectTree = record { items = items; table = table; filter = filter; order = order; lock = lock } in
+        (whole last (if is_allowed query then None else Some (LeftOut place)) >> gives (Selects query))

@@ -9,8 +9,7 @@ use Rattle.sql_trees.specs.Trees.{Tree}
 use Rattle.sql_expressions.specs.Readers.{misplaced, place_of, is_word}
 use Rattle.sql_expressions.specs.Laws.{Makes, first}
 use Rattle.sql_expressions.specs.Laws as expr
-use Rattle.sql_parser.specs.Readers.{is_unquoted}
-use Rattle.sql_parser.specs.Grammar.{Names, RowIs}
+use Rattle.sql_parser.specs.Grammar.{is_unquoted, Names, RowIs}
 
 -- a fault of one token that can't stand there
 abbrev pub IsStop : SqlFault → Type 0

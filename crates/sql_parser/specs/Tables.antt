@@ -1,21 +1,17 @@
 -- CREATE TABLE and DROP TABLE (PostgreSQL manual: CREATE TABLE, DROP TABLE).
-use Rattle.std.specs.Prelude.{ℕ, zero, suc, Bool, true, false, not, ◌||◌, ◌&&◌, List, [], ◌∷◌, ◌++◌, length, map, filter, find, slice_index, bytes_eq}
-use Rattle.std.specs.Prelude.{Option, Some, None, option_map, Result, Ok, Err, if◌then◌else◌}
+use Rattle.std.specs.Prelude.{ℕ, zero, suc, Bool, true, false, not, ◌||◌, ◌&&◌, List, [], ◌∷◌, ◌++◌, length, map, filter, find, bytes_eq}
+use Rattle.std.specs.Prelude.{Option, None, option_map, Ok, Err, if◌then◌else◌}
 use Rattle.std.specs.List.{list_any, position_or_len}
 use Rattle.std.specs.Option.{option_or, option_map_or}
 use Rattle.iso_lexer.specs.declared.sql_token.SqlSign.TheVariants as signs
-use Rattle.sql_trees.specs.declared.fault.SqlFault.{SqlFault}
 use Rattle.sql_trees.specs.declared.fault.SqlFault.TheVariants.{BadColumns}
 use Rattle.sql_trees.specs.declared.word.Word.TheVariants as words
-use Rattle.sql_trees.specs.declared.kind.Kind.{Kind}
 use Rattle.sql_trees.specs.declared.kind.Kind.TheVariants as kinds
-use Rattle.iso_lexer.specs.Bytes.{row_of}
 use Rattle.sql_trees.specs.Statements.{StmtTree, ColumnTree, KeyTree, Create, DropTables, key_name}
-use Rattle.sql_trees.specs.Tokens.{Token, Tokens}
 use Rattle.sql_expressions.specs.Results.{◌>>=◌ as and_then}
-use Rattle.sql_expressions.specs.Readers.{after, place_of, expect, is_sign, is_word, Reader, gives, made, either, one_at, keyword, closed, name_at, items_at, ◌>>=◌, ◌>>◌}
+use Rattle.sql_expressions.specs.Readers.{after, place_of, expect, is_sign, is_word, Reader, gives, made, either, keyword, closed, name_at, items_at, ◌>>=◌, ◌>>◌}
 use Rattle.sql_blocks.specs.Parts.{column_names}
-use Rattle.sql_parser.specs.Readers.{misplaced_word, added}
+use Rattle.sql_parser.specs.Readers.{list_of, known_of, whole}
 
 -- the name is one of these
 abbrev pub is_among : List ℕ → List (List ℕ) → Bool
@@ -38,135 +34,84 @@ pub record TableRead : Type 0 where
   pub columns : List ColumnTree
   pub keys : List KeyRead
 
--- what is said of one column, behind the keys before it
-pub record Constraints : Type 0 where
-  pub not_null : Bool
-  pub keys : List KeyRead
-
 abbrev pub placed_names : List Placed → List (List ℕ)
 placed_names ns = map (λ n. n.name) ns
-
-abbrev pub empty_table : TableRead
-empty_table = record { columns = []; keys = [] }
 
 abbrev pub with_key : Bool → List Placed → TableRead → TableRead
 with_key primary columns t = record t { keys = t.keys ++ (record { primary = primary; columns = columns }) ∷ [] }
 
--- with a column, behind its keys
-abbrev pub with_column : Placed → Kind → Constraints → TableRead → TableRead
-with_column c kind s t = record { columns = t.columns ++ (record { name = c.name; kind = kind; not_null = s.not_null }) ∷ []; keys = s.keys }
-
--- with a key of this column alone
-abbrev pub key_limit : Bool → Placed → Constraints → Constraints
-key_limit primary c s = record s { keys = s.keys ++ (record { primary = primary; columns = c ∷ [] }) ∷ [] }
-
--- the kind that a word names
-abbrev pub kind_of : Token → Option Kind
-kind_of = row_of is_word ((words.Integer, kinds.Int) ∷ (words.Bigint, kinds.Big) ∷ (words.Text, kinds.Text) ∷ (words.Boolean, kinds.Bool) ∷ [])
-
--- the tokens behind IF EXISTS
-abbrev pub after_if : Tokens → Option Tokens
-after_if = either (is_word words.If) (after (is_word words.Exists)) (λ ts. None)
-
 module _ (last : ℕ) where
-  -- a name that is none of these, and what is read behind it
-  abbrev pub new_name : {X : Type 0} → List (List ℕ) → (Placed → Reader X) → Reader X
-  new_name names next ts =
-      and_then (name_at last ts) (λ x. if is_among x.0 names then Err (BadColumns (place_of last ts)) else next (record { name = x.0; place = place_of last ts }) x.1)
+  -- a name that is none of these
+  abbrev pub new_name : List (List ℕ) → Reader Placed
+  new_name names ts =
+      and_then (name_at last ts) (λ x. if is_among x.0 names then Err (BadColumns (place_of last ts)) else Ok (record { name = x.0; place = place_of last ts }, x.1))
 
-  abbrev pub kind_at : Reader Kind
-  kind_at = one_at (misplaced_word last) kind_of
+  -- names that all differ, behind an open parenthesis
+  unfoldable pub names_at : Reader (List Placed)
+  names_at = closed last (λ ns. ns) (list_of (λ ns. new_name (placed_names ns)))
 
-  -- one more column of a key, which may not stand there twice
-  abbrev pub key_add : List Placed → Reader (List Placed)
-  key_add ns = new_name (placed_names ns) (λ n. gives (ns ++ n ∷ []))
+  -- behind PRIMARY KEY or UNIQUE, what is read of such a key, else what others read
+  abbrev pub key_or : {X : Type 0} → (Bool → Reader X) → Reader X → Reader X
+  key_or key others = either (is_word words.Primary) (keyword last words.Key >> key true) (either (is_word words.Unique) (key false) others)
 
-  -- the columns of a key in parentheses
-  unfoldable pub key_at : Bool → TableRead → Reader TableRead
-  key_at primary t = expect last (is_sign signs.Open) >> closed last (λ ns. with_key primary ns t) (items_at key_add [])
+  -- the table with this column, behind which NOT NULL, PRIMARY KEY and UNIQUE stand, so many times at most; the name stands beside its place
+  unfoldable pub constraints_at : Placed → ℕ → ColumnTree → TableRead → Reader TableRead
+  constraints_at name zero c t = gives (record t { columns = t.columns ++ c ∷ [] })
+  constraints_at name (suc n) c t = either (is_word words.Not) (keyword last words.Null >> constraints_at name n (record c { not_null = true }) t)
+      (key_or (λ primary. constraints_at name n c (with_key primary (name ∷ []) t)) (gives (record t { columns = t.columns ++ c ∷ [] })))
 
-  -- NOT NULL, PRIMARY KEY and UNIQUE behind a column, so many times at most
-  unfoldable pub constraints_at : Placed → ℕ → Constraints → Reader Constraints
-  constraints_at c zero s ts = Ok (s, ts)
-  constraints_at c (suc n) s ts =
-      either (is_word words.Not) (keyword last words.Null >> constraints_at c n (record s { not_null = true }))
-      (either (is_word words.Primary) (keyword last words.Key >> constraints_at c n (key_limit true c s))
-      (either (is_word words.Unique) (constraints_at c n (key_limit false c s)) (gives s))) ts
-
-  -- a column's kind and all that is said of it, behind the keys before it
-  unfoldable pub limits_at : Placed → List KeyRead → Reader (Kind × Constraints)
-  limits_at c keys = do
-    kind ← kind_at
-    gives (kind, (← λ ts. constraints_at c (length ts) (record { not_null = false; keys = keys }) ts))
-
-  -- a column behind its name
-  unfoldable pub column_behind : Placed → TableRead → Reader TableRead
-  column_behind c t = made (λ x. with_column c x.0 x.1 t) (limits_at c t.keys)
-
-  -- a column, whose name may not stand there twice
+  -- one more column, whose name may not stand there twice
   unfoldable pub column_at : TableRead → Reader TableRead
-  column_at t = new_name (column_names t.columns) (λ c. column_behind c t)
+  column_at t = do
+    name ← new_name (column_names t.columns)
+    kind ← known_of last ((words.Integer, kinds.Int) ∷ (words.Bigint, kinds.Big) ∷ (words.Text, kinds.Text) ∷ (words.Boolean, kinds.Bool) ∷ [])
+    λ ts. constraints_at name (length ts) (record { name = name.name; kind = kind; not_null = false }) t ts
 
   -- one more column or key
   unfoldable pub table_add : TableRead → Reader TableRead
-  table_add t = either (is_word words.Primary) (keyword last words.Key >> key_at true t) (either (is_word words.Unique) (key_at false t) (column_at t))
+  table_add t = key_or (λ primary. expect last (is_sign signs.Open) >> made (λ ns. with_key primary ns t) names_at) (column_at t)
 
 -- ---- what has to hold of the whole
 
-abbrev pub made_name : List ℕ → KeyRead → List ℕ
-made_name table k = key_name table k.primary (placed_names k.columns)
-
--- where the first column stands that is none of these
-abbrev pub first_lacking : List (List ℕ) → List Placed → Option ℕ
-first_lacking columns ns = option_map (λ n. n.place) (find (λ n. not (is_among n.name columns)) ns)
-
--- the place of the fault of a key with this name: of its first column, if the name was made before, else of the first column that the table lacks
-unfoldable pub text_fault : List ℕ → List (List ℕ) → List (List ℕ) → KeyRead → Option ℕ
-text_fault name columns earlier k = if is_among name earlier then Some (slice_index (map (λ n. n.place) k.columns) 0) else first_lacking columns k.columns
-
--- the place of the first fault of the keys, in the order of the text; earlier are the names made before
+-- the place of the first column of the keys, in the order of the text, that the table lacks, or whose key has a name that was made earlier
 unfoldable pub keys_fault : List ℕ → List (List ℕ) → List (List ℕ) → List KeyRead → Option ℕ
 keys_fault table columns earlier [] = None
-keys_fault table columns earlier (k ∷ ks) = option_or (text_fault (made_name table k) columns earlier k) (keys_fault table columns (earlier ++ made_name table k ∷ []) ks)
+keys_fault table columns earlier (k ∷ ks) =
+    let name = key_name table k.primary (placed_names k.columns) in
+    let wrong = find (λ n. is_among name earlier || not (is_among n.name columns)) k.columns in
+    option_or (option_map (λ n. n.place) wrong) (keys_fault table columns (earlier ++ name ∷ []) ks)
 
 -- a column of a primary key is NOT NULL
 abbrev pub completed : List KeyRead → ColumnTree → ColumnTree
 completed ks c = record c { not_null = c.not_null || list_any (λ k. k.primary && is_among c.name (placed_names k.columns)) ks }
 
--- the place of the first column of this name, counted from 0
-unfoldable pub place_among : List (List ℕ) → List ℕ → ℕ
-place_among columns n = position_or_len (λ m. bytes_eq m n) columns
-
--- a key with its columns' places in the table
+-- a key with its columns' places in the table, counted from 0
 abbrev pub resolved : List (List ℕ) → KeyRead → KeyTree
-resolved columns k = record { primary = k.primary; columns = map (λ n. place_among columns n.name) k.columns }
+resolved columns k = record { primary = k.primary; columns = map (λ n. position_or_len (λ m. bytes_eq m n.name) columns) k.columns }
 
--- the primary key first, then the others in the order of the text
-abbrev pub declared : List (List ℕ) → List KeyRead → List KeyTree
-declared columns ks = map (resolved columns) (filter (λ k. k.primary) ks) ++ map (resolved columns) (filter (λ k. not k.primary) ks)
-
--- the table of these columns and keys: a column of a primary key is NOT NULL, and the primary key stands first
+-- the table of these columns and keys: the primary key stands first, then the others in the order of the text
 abbrev pub created : List ℕ → TableRead → StmtTree
-created name t = Create (record { name = name; columns = map (completed t.keys) t.columns; keys = declared (column_names t.columns) t.keys })
-
--- the table as it was read, or the fault of its keys
-unfoldable pub finished : List ℕ → TableRead → Result StmtTree SqlFault
-finished name t = option_map_or (λ place. Err (BadColumns place)) (keys_fault name (column_names t.columns) [] t.keys) (Ok (created name t))
+created name t =
+    let keys = filter (λ k. k.primary) t.keys ++ filter (λ k. not k.primary) t.keys in
+    Create (record { name = name; columns = map (completed t.keys) t.columns; keys = map (resolved (column_names t.columns)) keys })
 
 -- ---- statements
 
 module _ (last : ℕ) where
   -- what stands behind CREATE
-  unfoldable pub create_at : Reader (Result StmtTree SqlFault)
+  unfoldable pub create_at : Reader StmtTree
   create_at = do
     keyword last words.Table
     name ← name_at last
     expect last (is_sign signs.Open)
-    closed last (finished name) (items_at (table_add last) empty_table)
+    table ← closed last (λ t. t) (items_at (table_add last) (record { columns = []; keys = [] }))
+    whole last (option_map BadColumns (keys_fault name (column_names table.columns) [] table.keys))
+    gives (created name table)
 
+  -- the tables that a DROP names
   abbrev pub drop_of : Bool → Reader StmtTree
-  drop_of if_exists = made (λ ns. DropTables (record { if_exists = if_exists; names = ns })) (items_at (added (name_at last)) [])
+  drop_of if_exists = made (λ ns. DropTables (record { if_exists = if_exists; names = ns })) (list_of (λ ns. name_at last))
 
-  -- what stands behind DROP
+  -- what stands behind DROP: IF is a name where no EXISTS follows
   unfoldable pub drop_at : Reader StmtTree
-  drop_at = keyword last words.Table >> λ ts. option_map_or (drop_of true) (after_if ts) (drop_of false ts)
+  drop_at = keyword last words.Table >> λ ts. option_map_or (drop_of true) (either (is_word words.If) (after (is_word words.Exists)) (λ us. None) ts) (drop_of false ts)

@@ -1,48 +1,34 @@
 -- Statements on transactions (PostgreSQL manual: BEGIN, START TRANSACTION, COMMIT, ROLLBACK, SET TRANSACTION, SET).
-use Rattle.std.specs.Prelude.{ℕ, Bool, true, false, ◌||◌, Some, None, Err}
+use Rattle.std.specs.Prelude.{ℕ, Bool, true, false, ◌||◌, [], ◌∷◌}
 use Rattle.iso_lexer.specs.declared.sql_token.SqlSign.TheVariants as signs
 use Rattle.sql_trees.specs.declared.word.Word.TheVariants as words
 use Rattle.sql_trees.specs.declared.stmt.Level.{Level}
 use Rattle.sql_trees.specs.declared.stmt.Level.TheVariants.{ReadCommitted, RepeatableRead}
 use Rattle.sql_trees.specs.Statements.{StmtTree, Begin, SetTransaction, SetDeadlockTimeout}
-use Rattle.sql_trees.specs.Tokens.{Token, Tokens}
+use Rattle.sql_trees.specs.Tokens.{Token}
 use Rattle.sql_trees.specs.Tokens as tok
-use Rattle.sql_expressions.specs.Readers.{expect, is_sign, is_word, Reader, gives, made, either, keyword, ◌>>◌}
-use Rattle.sql_parser.specs.Readers.{past, misplaced_word}
+use Rattle.sql_expressions.specs.Readers.{expect, is_sign, is_word, Reader, gives, made, either, keyword, ◌>>=◌, ◌>>◌}
+use Rattle.sql_parser.specs.Readers.{maybe, past, one_of, known_of}
 
+-- the word that may stand behind BEGIN, COMMIT and ROLLBACK
 abbrev pub is_work : Token → Bool
 is_work t = is_word words.Work t || is_word words.Transaction t
-
-abbrev pub is_scope : Token → Bool
-is_scope t = is_word words.Session t || is_word words.Local t
-
-abbrev pub is_to : Token → Bool
-is_to t = is_sign signs.Equal t || is_word words.To t
-
-abbrev pub is_setting : Token → Bool
-is_setting (tok.number n) = true
-is_setting (tok.string s) = true
-is_setting _ = false
 
 module _ (last : ℕ) where
   -- what stands behind ISOLATION: LEVEL and READ UNCOMMITTED, READ COMMITTED or REPEATABLE READ
   unfoldable pub level_at : Reader Level
-  level_at = keyword last words.Level >> either (is_word words.Read)
-      (either (is_word words.Committed) (gives ReadCommitted) (keyword last words.Uncommitted >> gives ReadCommitted))
+  level_at = keyword last words.Level >> either (is_word words.Read) (one_of last ((words.Committed, ReadCommitted) ∷ (words.Uncommitted, ReadCommitted) ∷ []))
       (keyword last words.Repeatable >> keyword last words.Read >> gives RepeatableRead)
 
-  -- what stands behind BEGIN and WORK or TRANSACTION
+  -- what stands behind BEGIN and WORK or TRANSACTION, and behind START TRANSACTION
   unfoldable pub begin_at : Reader StmtTree
-  begin_at = either (is_word words.Isolation) (made (λ l. Begin (Some l)) level_at) (gives (Begin None))
+  begin_at = made Begin (maybe (is_word words.Isolation) level_at)
 
-  -- what stands behind START
-  unfoldable pub start_at : Reader StmtTree
-  start_at = keyword last words.Transaction >> begin_at
-
-  -- the name of the only parameter that is known, and its value
-  unfoldable pub parameter_at : Reader StmtTree
-  parameter_at = either (is_word words.DeadlockTimeout) (expect last is_to >> expect last is_setting >> gives SetDeadlockTimeout) (λ ts. Err (misplaced_word last ts))
-
-  -- what stands behind SET
+  -- what stands behind SET: TRANSACTION and a level, or the only parameter that is known, and its value
   unfoldable pub set_at : Reader StmtTree
-  set_at = either (is_word words.Transaction) (keyword last words.Isolation >> made SetTransaction level_at) (λ ts. parameter_at (past is_scope ts))
+  set_at = either (is_word words.Transaction) (keyword last words.Isolation >> made SetTransaction level_at)
+      (past (λ t. is_word words.Session t || is_word words.Local t) (do
+        set ← known_of last ((words.DeadlockTimeout, SetDeadlockTimeout) ∷ [])
+        expect last (λ t. is_sign signs.Equal t || is_word words.To t)
+        expect last (λ t. elim t [ tok.number n ↦ true | tok.string s ↦ true | _ ↦ false ])
+        gives set))

@@ -5,7 +5,7 @@ use Rattle.sql_parser.specs.declared.names.RowList.{RowList}
 use Rattle.sql_parser.specs.declared.table.PlacedName.{PlacedName}
 use Rattle.sql_parser.specs.declared.table.KeyText.{KeyText}
 use Rattle.sql_parser.specs.declared.table.TableText.{TableText}
-use Rattle.sql_parser.specs.Changes.{Rows}
+use Rattle.sql_parser.specs.Grammar.{Rows}
 use Rattle.sql_parser.specs.Tables.{Placed, KeyRead, TableRead}
 
 abbrev pub rows_of : RowList → Rows

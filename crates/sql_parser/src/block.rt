@@ -8,7 +8,7 @@ ghost use Rattle.sql_expressions.specs.Readers.{is_sign};
 ghost use Rattle.sql_expressions.specs.Results.{Gives};
 ghost use Rattle.sql_parser.specs.Inner.Calls.{seen};
 ghost use Rattle.sql_parser.specs.Texts.{Parses};
-ghost use Rattle.sql_parser.specs.Blocks.{at_end, whole_at, piece_at, block_at};
+ghost use Rattle.sql_parser.specs.Inner.Blocks.{at_end, whole_at, piece_at, block_at};
 ghost use Rattle.sql_parser.specs.Inner.Pieces.{piece_len, SplitsAs};
 
 use crate::statement::stmt;
@@ -65,7 +65,7 @@ fn all_read(parser: Parser, tokens: Tokens) -> Result<(), SqlFault>
 }
 
 // A statement behind which nothing stands, and of which all holds that has to hold of the whole.
-#[tactic(auto, unfolding(crate::specs::Blocks::whole_at))]
+#[tactic(auto, unfolding(crate::specs::Inner::Blocks::whole_at))]
 fn whole_stmt<'a>(parser: Parser, role: Role, piece: Tokens<'_, 'a>) -> Result<Stmt<'a>, SqlFault>
     requires { length piece.now < 2 ^ 32 }
     ensures { Gives stmt_of result (whole_at parser.text_len role (tok_views piece.now)) }
@@ -75,7 +75,7 @@ fn whole_stmt<'a>(parser: Parser, role: Role, piece: Tokens<'_, 'a>) -> Result<S
 }
 
 // The statements with the one of this piece, if it has one.
-#[tactic(auto, unfolding(crate::specs::Blocks::piece_at))]
+#[tactic(auto, unfolding(crate::specs::Inner::Blocks::piece_at))]
 fn with_piece<'a>(
     parser: Parser,
     role: Role,

@@ -9,7 +9,8 @@ ghost use Rattle.sql_expressions.specs.Results.{Gives};
 ghost use Rattle.sql_expressions.specs.Readers.{is_sign, expect, items_at};
 ghost use Rattle.sql_blocks.specs.Parts.{set_columns};
 ghost use Rattle.sql_parser.specs.Tables.{is_among};
-ghost use Rattle.sql_parser.specs.Changes.{set_value, set_add, columns_at, filter_at, insert_at, update_at, delete_at};
+ghost use Rattle.sql_parser.specs.Inner.Changes.{set_value, set_add, columns_at, insert_at, update_at};
+ghost use Rattle.sql_parser.specs.Changes.{filter_at, delete_at};
 
 use crate::list::{List, items};
 use crate::names::{DistinctNames, RowList, distinct_names, rows};
@@ -74,7 +75,7 @@ impl<'a> SetList<'a> {
 impl<'a> List<'a> for SetList<'a> {
     ghost adds = { λ last s ts r. Gives (λ x. (map set_of x.0.sets.items, x.1)) r (set_add last (map set_of s.sets.items) ts) };
 
-    #[tactic(auto, unfolding(crate::specs::Changes::set_add))]
+    #[tactic(auto, unfolding(crate::specs::Inner::Changes::set_add))]
     fn add<'t>(
         &mut self,
         parser: Parser,
@@ -104,7 +105,7 @@ fn sets<'t, 'a>(
 }
 
 // The columns in parentheses, if any.
-#[tactic(auto, unfolding(crate::specs::Changes::columns_at))]
+#[tactic(auto, unfolding(crate::specs::Inner::Changes::columns_at))]
 fn columns<'t, 'a>(
     parser: Parser,
     tokens: Tokens<'t, 'a>,
@@ -145,7 +146,7 @@ pub fn unboxed<'a>(condition: Option<Box<Expr<'a>>>) -> Option<Expr<'a>>
 }
 
 /// What stands behind INSERT.
-#[tactic(auto, unfolding(crate::specs::Changes::insert_at))]
+#[tactic(auto, unfolding(crate::specs::Inner::Changes::insert_at))]
 pub fn insert<'t, 'a>(parser: Parser, tokens: Tokens<'t, 'a>) -> ReadStmt<'t, 'a>
     ensures { Gives (λ x. (stmt_of x.0, tok_views x.1.now)) result (insert_at parser.text_len (tok_views tokens.now)) }
 {
@@ -176,7 +177,7 @@ fn width_of(columns: &Option<Vec<Name>>) -> Option<usize>
 }
 
 /// What stands behind UPDATE.
-#[tactic(auto, unfolding(crate::specs::Changes::update_at))]
+#[tactic(auto, unfolding(crate::specs::Inner::Changes::update_at))]
 pub fn update<'t, 'a>(parser: Parser, tokens: Tokens<'t, 'a>) -> ReadStmt<'t, 'a>
     ensures { Gives (λ x. (stmt_of x.0, tok_views x.1.now)) result (update_at parser.text_len (tok_views tokens.now)) }
 {

@@ -5,8 +5,9 @@ ghost use Rattle.sql_trees.specs.Statements.{name_of, exprs_of};
 ghost use Rattle.sql_trees.specs.Tokens.{tok_views};
 ghost use Rattle.sql_expressions.specs.Results.{Gives};
 ghost use Rattle.sql_expressions.specs.Readers.{items_at, name_at};
-ghost use Rattle.sql_parser.specs.Readers.{added, tree_at};
-ghost use Rattle.sql_parser.specs.Changes.{distinct_add, row_add};
+ghost use Rattle.sql_parser.specs.Inner.Parts.{added};
+ghost use Rattle.sql_parser.specs.Readers.{tree_at};
+ghost use Rattle.sql_parser.specs.Inner.Changes.{distinct_add, row_add};
 ghost use Rattle.sql_parser.specs.Views.{rows_of};
 
 use crate::list::{List, items};
@@ -88,7 +89,7 @@ pub struct RowList<'a> {
 impl<'a> List<'a> for RowList<'a> {
     ghost adds = { λ last s ts r. Gives (λ x. (rows_of x.0, x.1)) r (row_add last (rows_of s) ts) };
 
-    #[tactic(auto, unfolding(crate::specs::Changes::row_add))]
+    #[tactic(auto, unfolding(crate::specs::Inner::Changes::row_add))]
     fn add<'t>(
         &mut self,
         parser: Parser,

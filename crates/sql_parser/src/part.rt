@@ -8,7 +8,8 @@ ghost use Rattle.sql_trees.specs.Statements.{name_of};
 ghost use Rattle.sql_expressions.specs.Results.{Gives};
 ghost use Rattle.sql_expressions.specs.Readers.{expect, is_sign, after, is_word, keyword, name_at};
 ghost use Rattle.sql_parser.specs.Tables.{is_among};
-ghost use Rattle.sql_parser.specs.Readers.{misplaced_word, tree_at};
+ghost use Rattle.sql_parser.specs.Inner.Parts.{misplaced_word};
+ghost use Rattle.sql_parser.specs.Readers.{tree_at};
 
 use iso_lexer::{At, Name, SqlSign, same_name};
 use sql_expressions::{Parsed, Parser, Tokens, parse_expr};

@@ -10,10 +10,11 @@ ghost use Rattle.sql_expressions.specs.Readers.{is_sign, after, items_at};
 ghost use Rattle.sql_expressions.specs.Reading.{agg_kind};
 ghost use Rattle.sql_blocks.specs.Parts.{is_aggregate, is_allowed};
 ghost use Rattle.sql_blocks.specs.Inner.Parts.{is_all, is_sorted};
-ghost use Rattle.sql_parser.specs.Readers.{added};
+ghost use Rattle.sql_parser.specs.Inner.Parts.{added};
 ghost use Rattle.sql_parser.specs.Inner.Calls.{seen};
 ghost use Rattle.sql_parser.specs.Inner.Pieces.{agg_item_at};
-ghost use Rattle.sql_parser.specs.Queries.{call_at, rows_of, maybe_name, direction_at, alias_at, item_at, from_at, nulls_at, order_add, order_at, lock_at, select_at};
+ghost use Rattle.sql_parser.specs.Inner.Queries.{call_at, rows_of, maybe_name, direction_at, item_at, from_at, nulls_at, order_add, order_at, lock_at, select_at};
+ghost use Rattle.sql_parser.specs.Queries.{alias_at};
 
 use crate::change::{filter, unboxed};
 use crate::list::{List, items};
@@ -118,7 +119,7 @@ fn alias<'t, 'a>(
 }
 
 // The item of an aggregate, behind its `(`.
-#[tactic(auto, unfolding(crate::specs::Queries::agg_at))]
+#[tactic(auto, unfolding(crate::specs::Inner::Queries::agg_at))]
 fn agg_item<'t, 'a>(
     parser: Parser,
     kind: AggKind,
@@ -140,7 +141,7 @@ fn agg_item<'t, 'a>(
 }
 
 // An item of a SELECT.
-#[tactic(auto, unfolding(crate::specs::Queries::item_at))]
+#[tactic(auto, unfolding(crate::specs::Inner::Queries::item_at))]
 fn item<'t, 'a>(
     parser: Parser,
     tokens: Tokens<'t, 'a>,
@@ -188,7 +189,7 @@ fn item_list<'t, 'a>(
 }
 
 // FROM and its table, if any.
-#[tactic(auto, unfolding(crate::specs::Queries::from_at))]
+#[tactic(auto, unfolding(crate::specs::Inner::Queries::from_at))]
 fn from<'t, 'a>(
     parser: Parser,
     tokens: Tokens<'t, 'a>,
@@ -203,7 +204,7 @@ fn from<'t, 'a>(
 }
 
 // ASC, DESC or none of them: whether sorting goes down.
-#[tactic(auto, unfolding(crate::specs::Queries::direction_at))]
+#[tactic(auto, unfolding(crate::specs::Inner::Queries::direction_at))]
 fn direction<'t, 'a>(tokens: Tokens<'t, 'a>) -> (bool, Tokens<'t, 'a>)
     ensures exact { direction_at (tok_views tokens.now) ≡ Ok (result.0, tok_views result.1.now) }
     ensures shorter { length result.1.now ≤ length tokens.now }
@@ -218,7 +219,7 @@ fn direction<'t, 'a>(tokens: Tokens<'t, 'a>) -> (bool, Tokens<'t, 'a>)
 }
 
 // NULLS FIRST or NULLS LAST; else NULL is sorted as the greatest value.
-#[tactic(auto, unfolding(crate::specs::Queries::nulls_at))]
+#[tactic(auto, unfolding(crate::specs::Inner::Queries::nulls_at))]
 fn nulls<'t, 'a>(
     parser: Parser,
     desc: bool,
@@ -240,7 +241,7 @@ fn nulls<'t, 'a>(
 impl<'a> List<'a> for OrderList<'a> {
     ghost adds = { λ last s ts r. Gives (λ x. (map order_of x.0.keys.items, x.1)) r (order_add last (map order_of s.keys.items) ts) };
 
-    #[tactic(auto, unfolding(crate::specs::Queries::order_add))]
+    #[tactic(auto, unfolding(crate::specs::Inner::Queries::order_add))]
     fn add<'t>(
         &mut self,
         parser: Parser,
@@ -271,7 +272,7 @@ fn order_list<'t, 'a>(
 }
 
 // ORDER BY and its keys, if any.
-#[tactic(auto, unfolding(crate::specs::Queries::order_at))]
+#[tactic(auto, unfolding(crate::specs::Inner::Queries::order_at))]
 fn order<'t, 'a>(
     parser: Parser,
     tokens: Tokens<'t, 'a>,
@@ -287,7 +288,7 @@ fn order<'t, 'a>(
 }
 
 // FOR UPDATE or FOR SHARE, if any.
-#[tactic(auto, unfolding(crate::specs::Queries::lock_at))]
+#[tactic(auto, unfolding(crate::specs::Inner::Queries::lock_at))]
 fn lock<'t, 'a>(
     parser: Parser,
     tokens: Tokens<'t, 'a>,
@@ -370,7 +371,7 @@ fn is_allowed(select: &Select) -> bool
 }
 
 /// What stands behind a SELECT at this place.
-#[tactic(auto, unfolding(crate::specs::Queries::select_at))]
+#[tactic(auto, unfolding(crate::specs::Inner::Queries::select_at))]
 pub fn select<'t, 'a>(
     parser: Parser,
     place: usize,

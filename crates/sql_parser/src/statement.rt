@@ -5,7 +5,8 @@ ghost use Rattle.sql_trees.specs.Statements.{stmt_of};
 ghost use Rattle.sql_trees.specs.Tokens.{tok_view, tok_views};
 ghost use Rattle.sql_expressions.specs.Results.{Gives};
 ghost use Rattle.sql_parser.specs.Inner.Calls.{seen};
-ghost use Rattle.sql_parser.specs.Blocks.{is_ddl, stmt_at};
+ghost use Rattle.sql_parser.specs.Grammar.{is_ddl};
+ghost use Rattle.sql_parser.specs.Inner.Blocks.{stmt_at};
 ghost use Rattle.sql_parser.specs.Inner.Pieces.{simple_at, begun_at};
 
 use crate::change::{delete, insert, update};
@@ -27,7 +28,7 @@ fn is_ddl(tok: Tok) -> bool
 }
 
 // A statement of which nothing has to hold as a whole, by its first token.
-#[tactic(auto, unfolding(crate::specs::Blocks::simple_of))]
+#[tactic(auto, unfolding(crate::specs::Inner::Blocks::simple_of))]
 fn simple<'t, 'a>(parser: Parser, tokens: Tokens<'t, 'a>) -> ReadStmt<'t, 'a>
     ensures { Gives (λ x. (stmt_of x.0, tok_views x.1.now)) result (simple_at parser.text_len (tok_views tokens.now)) }
 {
@@ -67,7 +68,7 @@ fn begun<'t, 'a>(parser: Parser, tokens: Tokens<'t, 'a>) -> ReadWhole<'t, 'a>
 }
 
 /// A statement. A session's block makes and drops no table.
-#[tactic(auto, unfolding(crate::specs::Blocks::stmt_at))]
+#[tactic(auto, unfolding(crate::specs::Inner::Blocks::stmt_at))]
 pub fn stmt<'t, 'a>(parser: Parser, role: Role, tokens: Tokens<'t, 'a>) -> ReadWhole<'t, 'a>
     requires { length tokens.now < 2 ^ 32 }
     ensures { Gives (λ x. (seen stmt_of x.0, tok_views x.1.now)) result (stmt_at parser.text_len role (tok_views tokens.now)) }

@@ -6,7 +6,9 @@ ghost use Rattle.sql_trees.specs.Tokens.{tok_view, tok_views};
 ghost use Rattle.sql_expressions.specs.Results.{Gives};
 ghost use Rattle.sql_expressions.specs.Readers.{items_at};
 ghost use Rattle.sql_blocks.specs.Parts.{column_names};
-ghost use Rattle.sql_parser.specs.Tables.{is_among, placed_names, empty_table, kind_of, kind_at, key_add, key_at, limits_at, column_behind, column_at, table_add, after_if, drop_at};
+ghost use Rattle.sql_parser.specs.Tables.{is_among, placed_names, drop_at};
+ghost use Rattle.sql_parser.specs.Grammar.{empty_table, kind_of};
+ghost use Rattle.sql_parser.specs.Inner.Tables.{kind_at, key_add, key_at, limits_at, column_behind, column_at, table_add, after_if};
 ghost use Rattle.sql_parser.specs.Inner.OneConstraint.{is_constraint, constraint_at, constrained};
 ghost use Rattle.sql_parser.specs.Views.{placed_of, key_text_of, table_text_of};
 
@@ -194,7 +196,7 @@ fn read_limit<'t, 'a>(
 }
 
 // Reads a column's kind and all that is said of it, its keys behind these: the kind, and whether it is NOT NULL.
-#[tactic(auto, unfolding(crate::specs::Tables::limits_at))]
+#[tactic(auto, unfolding(crate::specs::Inner::Tables::limits_at))]
 fn read_limits<'t, 'a>(
     parser: Parser,
     column: PlacedName<'a>,
@@ -214,7 +216,7 @@ fn read_limits<'t, 'a>(
 
 impl<'a> TableText<'a> {
     // Adds a key over the columns in parentheses.
-    #[tactic(auto, unfolding(crate::specs::Tables::key_at))]
+    #[tactic(auto, unfolding(crate::specs::Inner::Tables::key_at))]
     fn add_key<'t>(
         &mut self,
         parser: Parser,
@@ -231,7 +233,7 @@ impl<'a> TableText<'a> {
     }
 
     // Adds a column whose name has been read.
-    #[tactic(auto, unfolding(crate::specs::Tables::column_behind))]
+    #[tactic(auto, unfolding(crate::specs::Inner::Tables::column_behind))]
     fn add_named<'t>(
         &mut self,
         parser: Parser,
@@ -252,7 +254,7 @@ impl<'a> TableText<'a> {
     }
 
     // Adds the column that stands next.
-    #[tactic(auto, unfolding(crate::specs::Tables::column_at))]
+    #[tactic(auto, unfolding(crate::specs::Inner::Tables::column_at))]
     fn add_column<'t>(
         &mut self,
         parser: Parser,
@@ -273,7 +275,7 @@ impl<'a> TableText<'a> {
 impl<'a> List<'a> for TableText<'a> {
     ghost adds = { λ last s ts r. Gives (λ x. (table_text_of x.0, x.1)) r (table_add last (table_text_of s) ts) };
 
-    #[tactic(auto, unfolding(crate::specs::Tables::table_add))]
+    #[tactic(auto, unfolding(crate::specs::Inner::Tables::table_add))]
     fn add<'t>(
         &mut self,
         parser: Parser,

@@ -9,7 +9,8 @@ ghost use Rattle.sql_expressions.specs.Results.{Gives};
 ghost use Rattle.sql_blocks.specs.Parts.{column_names};
 ghost use Rattle.sql_parser.specs.Inner.Calls.{seen};
 ghost use Rattle.sql_parser.specs.Inner.Pieces.{is_kept, resolved_keys};
-ghost use Rattle.sql_parser.specs.Tables.{is_among, made_name, first_lacking, text_fault, keys_fault, place_among, completed, resolved, placed_names, finished, create_at};
+ghost use Rattle.sql_parser.specs.Tables.{is_among, completed, placed_names, resolved};
+ghost use Rattle.sql_parser.specs.Inner.Tables.{made_name, first_lacking, text_fault, keys_fault, place_among, finished, create_at};
 ghost use Rattle.sql_parser.specs.Views.{placed_of, key_text_of, table_text_of};
 
 use crate::part::{close, keyword, name, open};
@@ -86,7 +87,7 @@ fn first_place(names: &[PlacedName]) -> usize
 }
 
 // The place of a key's fault: a name that was made before, or a column that the table lacks.
-#[tactic(auto, unfolding(crate::specs::Tables::text_fault))]
+#[tactic(auto, unfolding(crate::specs::Inner::Tables::text_fault))]
 fn key_fault(text: &[u8], made: &[Vec<u8>], columns: &[Column], key: &KeyText) -> Option<usize>
     ensures { result ≡ text_fault text.now (column_names (map column_of columns.now)) (map (λ v. v.items) made.now) (key_text_of key.now) }
 {
@@ -98,7 +99,7 @@ fn key_fault(text: &[u8], made: &[Vec<u8>], columns: &[Column], key: &KeyText) -
 }
 
 // The place of the first fault of the keys.
-#[tactic(auto, unfolding(crate::specs::Tables::keys_fault))]
+#[tactic(auto, unfolding(crate::specs::Inner::Tables::keys_fault))]
 fn keys_fault(
     alloc: Global,
     table: &Name,
@@ -152,7 +153,6 @@ fn completed<'a>(
 }
 
 // A column's place in the table.
-#[tactic(auto, unfolding(crate::specs::Tables::place_among))]
 fn place_in(mut columns: &[Column], name: &Name) -> u32
     requires { length columns.now < 2 ^ 32 }
     ensures { result ≡ place_among (column_names (map column_of columns.entry.now)) (name_of name.now) }
@@ -223,7 +223,7 @@ fn push_keys(
 }
 
 // The table as it was read, or the fault of its keys.
-#[tactic(auto, unfolding(crate::specs::Tables::finished))]
+#[tactic(auto, unfolding(crate::specs::Inner::Tables::finished))]
 fn finished<'a>(
     alloc: Global,
     name: Name<'a>,
@@ -246,7 +246,7 @@ fn finished<'a>(
 }
 
 /// What stands behind CREATE.
-#[tactic(auto, unfolding(crate::specs::Tables::create_at))]
+#[tactic(auto, unfolding(crate::specs::Inner::Tables::create_at))]
 pub fn create_table<'t, 'a>(parser: Parser, tokens: Tokens<'t, 'a>) -> ReadWhole<'t, 'a>
     requires { length tokens.now < 2 ^ 32 }
     ensures { Gives (λ x. (seen stmt_of x.0, tok_views x.1.now)) result (create_at parser.text_len (tok_views tokens.now)) }

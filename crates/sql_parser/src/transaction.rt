@@ -5,8 +5,10 @@ ghost use Rattle.sql_trees.specs.Tokens.{tok_view, tok_views};
 ghost use Rattle.sql_trees.specs.Statements.{stmt_of};
 ghost use Rattle.sql_expressions.specs.Results.{Gives};
 ghost use Rattle.sql_expressions.specs.Readers.{expect};
-ghost use Rattle.sql_parser.specs.Readers.{past};
-ghost use Rattle.sql_parser.specs.Transactions.{is_work, is_scope, is_to, is_setting, level_at, begin_at, start_at, parameter_at, set_at};
+ghost use Rattle.sql_parser.specs.Inner.Parts.{past};
+ghost use Rattle.sql_parser.specs.Transactions.{is_work};
+ghost use Rattle.sql_parser.specs.Grammar.{is_scope, is_to, is_setting};
+ghost use Rattle.sql_parser.specs.Inner.Transactions.{level_at, begin_at, start_at, parameter_at, set_at};
 
 use crate::part::{after_word, is_word, keyword, misplaced_word};
 use iso_lexer::SqlSign;
@@ -39,7 +41,7 @@ fn past_scope<'t, 'a>(tokens: Tokens<'t, 'a>) -> Tokens<'t, 'a>
 }
 
 // What stands behind ISOLATION: LEVEL and a level.
-#[tactic(auto, unfolding(crate::specs::Transactions::level_at))]
+#[tactic(auto, unfolding(crate::specs::Inner::Transactions::level_at))]
 fn level<'t, 'a>(
     parser: Parser,
     tokens: Tokens<'t, 'a>,
@@ -60,7 +62,7 @@ fn level<'t, 'a>(
 }
 
 /// What stands behind BEGIN and WORK or TRANSACTION.
-#[tactic(auto, unfolding(crate::specs::Transactions::begin_at))]
+#[tactic(auto, unfolding(crate::specs::Inner::Transactions::begin_at))]
 pub fn begin<'t, 'a>(parser: Parser, tokens: Tokens<'t, 'a>) -> ReadStmt<'t, 'a>
     ensures { Gives (λ x. (stmt_of x.0, tok_views x.1.now)) result (begin_at parser.text_len (tok_views tokens.now)) }
 {
@@ -72,7 +74,7 @@ pub fn begin<'t, 'a>(parser: Parser, tokens: Tokens<'t, 'a>) -> ReadStmt<'t, 'a>
 }
 
 /// What stands behind START.
-#[tactic(auto, unfolding(crate::specs::Transactions::start_at))]
+#[tactic(auto, unfolding(crate::specs::Inner::Transactions::start_at))]
 pub fn start<'t, 'a>(parser: Parser, tokens: Tokens<'t, 'a>) -> ReadStmt<'t, 'a>
     ensures { Gives (λ x. (stmt_of x.0, tok_views x.1.now)) result (start_at parser.text_len (tok_views tokens.now)) }
 {
@@ -115,7 +117,7 @@ fn setting<'t, 'a>(parser: Parser, tokens: Tokens<'t, 'a>) -> Result<Tokens<'t, 
 }
 
 // A parameter and its value.
-#[tactic(auto, unfolding(crate::specs::Transactions::parameter_at))]
+#[tactic(auto, unfolding(crate::specs::Inner::Transactions::parameter_at))]
 fn parameter<'t, 'a>(parser: Parser, tokens: Tokens<'t, 'a>) -> ReadStmt<'t, 'a>
     ensures { Gives (λ x. (stmt_of x.0, tok_views x.1.now)) result (parameter_at parser.text_len (tok_views tokens.now)) }
 {
@@ -128,7 +130,7 @@ fn parameter<'t, 'a>(parser: Parser, tokens: Tokens<'t, 'a>) -> ReadStmt<'t, 'a>
 }
 
 /// What stands behind SET.
-#[tactic(auto, unfolding(crate::specs::Transactions::set_at))]
+#[tactic(auto, unfolding(crate::specs::Inner::Transactions::set_at))]
 pub fn set<'t, 'a>(parser: Parser, tokens: Tokens<'t, 'a>) -> ReadStmt<'t, 'a>
     ensures { Gives (λ x. (stmt_of x.0, tok_views x.1.now)) result (set_at parser.text_len (tok_views tokens.now)) }
 {

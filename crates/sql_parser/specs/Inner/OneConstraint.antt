@@ -4,7 +4,8 @@ use Rattle.sql_trees.specs.declared.word.Word.TheVariants as words
 use Rattle.sql_trees.specs.Tokens.{Token, Tokens}
 use Rattle.sql_trees.specs.Tokens as tok
 use Rattle.sql_expressions.specs.Readers.{misplaced, Reader, gives, keyword, ◌>>◌}
-use Rattle.sql_parser.specs.Tables.{Placed, Constraints, key_limit}
+use Rattle.sql_parser.specs.Tables.{Placed}
+use Rattle.sql_parser.specs.Grammar.{Constraints, key_limit}
 
 abbrev pub is_constraint : Token → Bool
 is_constraint (tok.word words.Not s) = true

@@ -8,8 +8,8 @@ use Rattle.sql_trees.specs.Tokens.{Tokens}
 use Rattle.sql_expressions.specs.Results.{◌>>=◌}
 use Rattle.sql_expressions.specs.Readers.{is_sign, misplaced, Reader}
 use Rattle.sql_blocks.specs.declared.block.Role.{Role}
-use Rattle.sql_parser.specs.Blocks.{simple_of, begun_of, piece_at, stmts_at}
-use Rattle.sql_parser.specs.Queries.{item_of}
+use Rattle.sql_parser.specs.Inner.Blocks.{simple_of, begun_of, piece_at, stmts_at}
+use Rattle.sql_parser.specs.Inner.Queries.{item_of}
 use Rattle.sql_parser.specs.Tables.{KeyRead, resolved}
 
 module _ (last : ℕ) where

@@ -3,7 +3,7 @@ use Rattle.sql_trees.specs.Statements.{stmt_of}
 use Rattle.sql_trees.specs.Tokens.{tok_views, classify_at}
 use Rattle.iso_lexer.specs.SqlTokens.{sql_at_views}
 use Rattle.sql_expressions.specs.Results.{Gives}
-use Rattle.sql_parser.specs.Blocks.{block_at}
+use Rattle.sql_parser.specs.Inner.Blocks.{block_at}
 use Rattle.sql_parser.proofs.Texts.{parses, tokens_fit}
 use Rattle.sql_parser.proofs.block.parse_block.Goals as goal
 

@@ -1,6 +1,6 @@
 use Rattle.std.proofs.Common.{◌≡◌, ◌≤◌, length, map}
 use Rattle.std.proofs.Common.{vec_len}
-use Rattle.sql_parser.specs.Blocks.{block_at}
+use Rattle.sql_parser.specs.Inner.Blocks.{block_at}
 use Rattle.sql_parser.specs.Inner.Pieces.{block_from}
 use Rattle.sql_trees.specs.Statements.{stmt_of}
 use Rattle.sql_trees.specs.Tokens.{tok_views}

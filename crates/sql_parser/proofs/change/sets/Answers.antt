@@ -1,7 +1,7 @@
 use Rattle.std.proofs.Common.{map}
 use Rattle.sql_parser.proofs.Lists.{items_give}
 use Rattle.sql_trees.specs.Statements.{set_of}
-use Rattle.sql_parser.specs.Changes.{set_add}
+use Rattle.sql_parser.specs.Inner.Changes.{set_add}
 use Rattle.sql_parser.proofs.change.sets.Goals as goal
 
 pub returns-clause-exact : goal.returns-clause-exact

@@ -1,7 +1,7 @@
 use Rattle.std.proofs.Common.{map}
 use Rattle.sql_parser.proofs.Lists.{items_give}
 use Rattle.sql_trees.specs.Statements.{name_of}
-use Rattle.sql_parser.specs.Changes.{distinct_add}
+use Rattle.sql_parser.specs.Inner.Changes.{distinct_add}
 use Rattle.sql_parser.proofs.names.distinct_names.Goals as goal
 
 pub returns-clause-exact : goal.returns-clause-exact

@@ -1,6 +1,6 @@
 use Rattle.sql_parser.proofs.Lists.{items_give}
 use Rattle.sql_parser.specs.Views.{rows_of}
-use Rattle.sql_parser.specs.Changes.{row_add}
+use Rattle.sql_parser.specs.Inner.Changes.{row_add}
 use Rattle.sql_parser.proofs.names.rows.Goals as goal
 
 pub returns-clause-exact : goal.returns-clause-exact

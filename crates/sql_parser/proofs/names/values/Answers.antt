@@ -1,4 +1,5 @@
-use Rattle.sql_parser.specs.Readers.{added, tree_at}
+use Rattle.sql_parser.specs.Inner.Parts.{added}
+use Rattle.sql_parser.specs.Readers.{tree_at}
 use Rattle.sql_parser.proofs.Lists.{items_give}
 use Rattle.sql_trees.specs.Statements.{exprs_of}
 use Rattle.sql_parser.proofs.names.values.Goals as goal

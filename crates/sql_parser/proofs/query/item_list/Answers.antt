@@ -1,8 +1,8 @@
 use Rattle.std.proofs.Common.{map}
-use Rattle.sql_parser.specs.Readers.{added}
+use Rattle.sql_parser.specs.Inner.Parts.{added}
 use Rattle.sql_parser.proofs.Lists.{items_give}
 use Rattle.sql_trees.specs.Statements.{item_of}
-use Rattle.sql_parser.specs.Queries.{item_at}
+use Rattle.sql_parser.specs.Inner.Queries.{item_at}
 use Rattle.sql_parser.proofs.query.item_list.Goals as goal
 
 pub returns-clause-exact : goal.returns-clause-exact

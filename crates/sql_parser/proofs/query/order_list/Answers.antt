@@ -1,7 +1,7 @@
 use Rattle.std.proofs.Common.{map}
 use Rattle.sql_parser.proofs.Lists.{items_give}
 use Rattle.sql_trees.specs.Statements.{order_of}
-use Rattle.sql_parser.specs.Queries.{order_add}
+use Rattle.sql_parser.specs.Inner.Queries.{order_add}
 use Rattle.sql_parser.proofs.query.order_list.Goals as goal
 
 pub returns-clause-exact : goal.returns-clause-exact

@@ -1,5 +1,5 @@
 use Rattle.std.proofs.Common.{◌≤◌, length, map, false}
-use Rattle.sql_parser.specs.Tables.{constraints_at}
+use Rattle.sql_parser.specs.Inner.Tables.{constraints_at}
 use Rattle.sql_parser.specs.Views.{placed_of, key_text_of}
 use Rattle.sql_trees.specs.Tokens.{tok_views}
 use Rattle.sql_parser.proofs.Going.{Going}

@@ -1,6 +1,6 @@
 use Rattle.sql_parser.proofs.Lists.{items_give}
 use Rattle.sql_parser.specs.Views.{table_text_of}
-use Rattle.sql_parser.specs.Tables.{table_add}
+use Rattle.sql_parser.specs.Inner.Tables.{table_add}
 use Rattle.sql_parser.proofs.table.table_items.Goals as goal
 
 pub returns-clause-exact : goal.returns-clause-exact

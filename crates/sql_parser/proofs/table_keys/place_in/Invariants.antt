@@ -1,7 +1,7 @@
 use Rattle.std.proofs.Common.{◌≡◌, length, map}
 use Rattle.std.specs.Prelude.{◌+◌}
 use Rattle.sql_blocks.specs.Parts.{column_names}
-use Rattle.sql_parser.specs.Tables.{place_among}
+use Rattle.sql_parser.specs.Inner.Tables.{place_among}
 use Rattle.sql_trees.specs.Statements.{column_of, name_of}
 use Rattle.sql_parser.proofs.table_keys.place_in.Given as goal
 

@@ -1,0 +1,54 @@
+-- INSERT and UPDATE as the code reads them.
+use Rattle.std.specs.Prelude.{ℕ, List, [], ◌∷◌, ◌++◌, length, Option, Some, None, option_map, Ok, Err, if◌then◌else◌}
+use Rattle.iso_lexer.specs.declared.sql_token.SqlSign.TheVariants as signs
+use Rattle.sql_trees.specs.declared.fault.SqlFault.TheVariants.{Syntax}
+use Rattle.sql_trees.specs.declared.word.Word.TheVariants as words
+use Rattle.sql_trees.specs.Statements.{StmtTree, SetTree, Inserts, Updates}
+use Rattle.sql_expressions.specs.Readers.{place_of, expect, is_sign, Reader, gives, made, either, keyword, closed, name_at, items_at, ◌>>=◌, ◌>>◌}
+use Rattle.sql_blocks.specs.Parts.{fits, set_columns}
+use Rattle.sql_parser.specs.Readers.{tree_at}
+use Rattle.sql_parser.specs.Grammar.{Rows}
+use Rattle.sql_parser.specs.Changes.{filter_at}
+use Rattle.sql_parser.specs.Inner.Parts.{added}
+use Rattle.sql_parser.specs.Inner.Tables.{new_name}
+
+module _ (last : ℕ) where
+  -- one more name, which may not stand there twice
+  abbrev pub distinct_add : List (List ℕ) → Reader (List (List ℕ))
+  distinct_add ns = new_name last ns (λ n. gives (ns ++ n.name ∷ []))
+
+  -- one more row, which has to have as many values as those before it
+  unfoldable pub row_add : Rows → Reader Rows
+  row_add s ts = (expect last (is_sign signs.Open) >> (do
+    values ← items_at (added (tree_at last)) []
+    expect last (is_sign signs.Close)
+    λ rest. if fits s.width (length values) then Ok (record { rows = s.rows ++ values ∷ []; width = Some (length values) }, rest) else Err (Syntax (place_of last ts)))) ts
+
+  -- the columns in parentheses, if any
+  unfoldable pub columns_at : Reader (Option (List (List ℕ)))
+  columns_at = either (is_sign signs.Open) (closed last (λ ns. Some ns) (items_at distinct_add [])) (gives None)
+
+  -- what stands behind INSERT
+  unfoldable pub insert_at : Reader StmtTree
+  insert_at = do
+    keyword last words.Into
+    table ← name_at last
+    columns ← columns_at
+    keyword last words.Values
+    read ← items_at row_add (record { rows = []; width = option_map length columns })
+    gives (Inserts (record { table = table; columns = columns; rows = read.rows }))
+
+  -- the new value of a column of this name
+  abbrev pub set_value : List ℕ → List SetTree → Reader (List SetTree)
+  set_value n ss = expect last (is_sign signs.Equal) >> made (λ e. ss ++ (record { column = n; value = e }) ∷ []) (tree_at last)
+
+  -- one more column with its new value; the column may not stand there twice
+  unfoldable pub set_add : List SetTree → Reader (List SetTree)
+  set_add ss = new_name last (set_columns ss) (λ n. set_value n.name ss)
+
+  -- what stands behind UPDATE
+  unfoldable pub update_at : Reader StmtTree
+  update_at = do
+    table ← name_at last
+    keyword last words.Set
+    gives (Updates (record { table = table; sets = (← items_at set_add []); filter = (← filter_at last) }))

@@ -1,0 +1,20 @@
+-- Parts of readings as the code reads them.
+use Rattle.std.specs.Prelude.{ℕ, Bool, List, [], ◌∷◌, ◌++◌, Ok, unwrap_or}
+use Rattle.sql_trees.specs.declared.fault.SqlFault.{SqlFault}
+use Rattle.sql_trees.specs.declared.fault.SqlFault.TheVariants.{LeftOut}
+use Rattle.sql_trees.specs.Tokens.{Token, Tokens}
+use Rattle.sql_expressions.specs.Results.{◌>>=◌ as and_then}
+use Rattle.sql_expressions.specs.Readers.{Reader, after, either, place_of, misplaced}
+use Rattle.sql_parser.specs.Grammar.{is_unquoted}
+
+-- the tokens without the first, if it is of this kind
+abbrev pub past : (Token → Bool) → Tokens → Tokens
+past is_it ts = unwrap_or (after is_it ts) ts
+
+-- an item that is added behind the others
+abbrev pub added : {X : Type 0} → Reader X → List X → Reader (List X)
+added reader xs ts = and_then (reader ts) (λ x. Ok (xs ++ x.0 ∷ [], x.1))
+
+-- the fault at the first token, where each unquoted word is left out
+abbrev pub misplaced_word : ℕ → Tokens → SqlFault
+misplaced_word last ts = either is_unquoted (λ us. LeftOut (place_of last ts)) (misplaced last) ts
