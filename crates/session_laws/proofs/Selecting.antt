@@ -18,6 +18,7 @@ use Rattle.row_versions.specs.declared.write.Seen.{Seen}
 use Rattle.row_versions.specs.declared.write.Fate.{Fate}
 use Rattle.row_versions.specs.declared.write.Fate.TheVariants.{Open as OpenFate}
 use Rattle.row_versions.specs.Log.{Content, fate_of, has_committed, values_at, next_tx, after_begin}
+use Rattle.row_versions.proofs.Filtered.{rows_are}
 use Rattle.row_versions.specs.Inner.Searching.{is_committed}
 use Rattle.row_versions.specs.View.{sees, committed_before}
 use Rattle.row_versions.specs.Inner.Searching.{rows_from}
@@ -163,10 +164,12 @@ fresh_sees c k =
     let same = (hides-begin view c).same_count in
     shown_stays view c (after_begin c) k (hides-begin view c).stays
     ∙ ap (map (λ (s : Seen). unwrap_or (values_at c s.place) []))
-    (rows_same c.fates view (view_now c Closed None) table 0 c.log
+    (rows_are c view table
+    ∙ (rows_same c.fates view (view_now c Closed None) table 0 c.log
     (λ w.
     let none : ((w.tx.0 == length c.fates) && nat_lt w.command 0) ≡ false = (let low : 0 ≤ w.command = omega arith in and_right _ _ (le-ltb w.command 0 low)) in
-    λ i. committed_before (same i) (fate_of c.fates w.tx) || none i))
+    λ i. committed_before (same i) (fate_of c.fates w.tx) || none i)
+    ∙ sym (rows_are c (view_now c Closed None) table)))
 
 map_same : {A B : Type 0} (f g : A → B) (o : Option A) → ((x : A) → f x ≡ g x) → option_map f o ≡ option_map g o
 map_same f g None h = refl

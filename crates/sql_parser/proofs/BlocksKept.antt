@@ -13,11 +13,11 @@ use Rattle.sql_trees.specs.Statements.{StmtTree, Begin, Commit, Rollback, SetTra
 use Rattle.sql_trees.specs.Tokens.{Token, Tokens}
 use Rattle.sql_trees.specs.Tokens as tok
 use Rattle.sql_expressions.specs.Results.{◌>>=◌}
-use Rattle.sql_expressions.specs.Readers.{is_sign, after, expect, is_word, items_at, keyword, name_at}
+use Rattle.sql_expressions.specs.Readers.{is_sign, after, expect, is_word, items_at, keyword, name_at, added}
 use Rattle.sql_blocks.specs.declared.block.Role.{Role}
 use Rattle.sql_blocks.specs.Parts.{is_session}
 use Rattle.sql_blocks.specs.Kept.{is_kept, is_kept_in, makes_or_drops}
-use Rattle.sql_parser.specs.Inner.Parts.{past, added, misplaced_word}
+use Rattle.sql_parser.specs.Inner.Parts.{past, misplaced_word}
 use Rattle.sql_parser.specs.Transactions.{is_work}
 use Rattle.sql_parser.specs.Grammar.{is_scope, is_to, is_setting, is_ddl}
 use Rattle.sql_parser.specs.Inner.Transactions.{level_at, begin_at, start_at, parameter_at, set_at}

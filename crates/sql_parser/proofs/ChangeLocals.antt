@@ -10,11 +10,10 @@ use Rattle.sql_trees.specs.Statements.{StmtTree, SetTree, Inserts, Updates, Dele
 use Rattle.sql_trees.specs.Tokens.{Token, Tokens}
 use Rattle.sql_trees.specs.Trees.{Tree}
 use Rattle.sql_expressions.specs.Results.{◌>>=◌}
-use Rattle.sql_expressions.specs.Readers.{place_of, expect, is_word, is_sign, keyword, name_at, items_at, Reader}
+use Rattle.sql_expressions.specs.Readers.{place_of, expect, is_word, is_sign, keyword, name_at, items_at, Reader, added}
 use Rattle.sql_expressions.specs.Laws.{head}
 use Rattle.sql_blocks.specs.Parts.{fits, set_columns}
 use Rattle.sql_parser.specs.Readers.{tree_at}
-use Rattle.sql_parser.specs.Inner.Parts.{added}
 use Rattle.sql_parser.specs.Tables.{is_among}
 use Rattle.sql_parser.specs.Grammar.{Rows, Key, Names, Commas, AddsName, adds_name, AddsValue, adds_value, RowIs, is_row, with_row, no_rows, AddsRow, adds_row, ColumnsAre, unlisted, listed_columns, AddsSet, adds_set, WhereIs, unfiltered, filtered, Spells, insert, update, delete}
 use Rattle.sql_parser.specs.Inner.Changes.{distinct_add, row_add, columns_at, insert_at, set_value, set_add, update_at}

@@ -15,18 +15,16 @@ use Rattle.sql_trees.specs.Statements.{ItemTree, OrderTree, SelectTree, Selects,
 use Rattle.sql_trees.specs.Tokens.{Token, Tokens, named}
 use Rattle.sql_trees.specs.Tokens as tok
 use Rattle.sql_trees.specs.Trees.{Tree, AggTree}
-use Rattle.sql_expressions.specs.Readers.{misplaced, is_word, is_sign, after}
-use Rattle.sql_expressions.specs.Reading.{agg_kind, expr_at}
-use Rattle.sql_expressions.specs.Inner.Pieces.{Found}
+use Rattle.sql_expressions.specs.Readers.{misplaced, is_word, is_sign, after, added}
+use Rattle.sql_expressions.specs.Reading.{Part, agg_kind, expr_at}
 use Rattle.sql_expressions.specs.Inner.Pieces.{chain, or_at, and_at, is_at, cmp_at, inn_at, cat_at, add_at, mul_at}
 use Rattle.sql_expressions.specs.Grammar.{Ends, goes_on}
 use Rattle.sql_expressions.proofs.Complete.{expr_complete}
-use Rattle.sql_expressions.proofs.Same.{expr_same}
+use Rattle.sql_expressions.proofs.Same.{is_fault, expr_same}
 use Rattle.sql_blocks.specs.Parts.{is_allowed}
 use Rattle.sql_parser.specs.Inner.Queries.{call_at, rows_of, maybe_name, direction_at, agg_at, item_at, from_at, nulls_at, order_add, order_at, lock_at, select_at}
 use Rattle.sql_parser.specs.Queries.{alias_at}
 use Rattle.sql_parser.specs.Grammar.{Is, Commas, AliasIs, no_alias, as_alias, bare_alias, AggIs, all_rows, of_values, AddsItem, a_star, a_value, an_aggregate, FromIs, no_table, from_table, DirectionIs, as_ever, ascending, descending, NullsAre, unsaid, nulls_first, nulls_last, AddsKey, adds_key, OrderIs, unordered, ordered, LockIs, no_lock, for_update, for_share, WhereIs, unfiltered, filtered, Shallow}
-use Rattle.sql_parser.specs.Inner.Parts.{added}
 use Rattle.sql_parser.proofs.StmtLocals.{word_is}
 use Rattle.sql_parser.proofs.Completes.{other_word, not_key, ends_part, Parted, part_ends, no_name_next, no_part_word, comma_is_parted, close_ends, tree_reads, list_reads}
 use Rattle.sql_parser.proofs.CompleteStmts.{where_reads}
@@ -40,21 +38,21 @@ no_both x e h = cc
 module _ (last : ℕ) where
   star_faults : (t : At Token) (ts : Tokens) (x : Token) → t.tok ≡ x → is_sign signs.Star x ≡ true → expr_at last (t ∷ ts) ≡ Err (misplaced last (t ∷ ts))
   unfolding chain or_at and_at is_at cmp_at inn_at cat_at add_at mul_at
-  star_faults t ts (tok.sign signs.Star) h e = expr_same last (t ∷ ts) ∙ rw h refl
+  star_faults t ts (tok.sign signs.Star) h e = is_fault (expr_at last (t ∷ ts)) (misplaced last (t ∷ ts)) (expr_same last (t ∷ ts) ∙ rw h refl)
   star_faults t ts _ h e = absurd cc
 
   call_faults : (t o : At Token) (ts : Tokens) (k : AggKind) (x : Token) → t.tok ≡ x → agg_kind x ≡ Some k → is_sign signs.Open o.tok ≡ true → expr_at last (t ∷ o ∷ ts) ≡ Err (LeftOut t.span.start)
   unfolding is_reserved chain or_at and_at is_at cmp_at inn_at cat_at add_at mul_at
-  call_faults t o ts k (tok.word words.Count s) h e g = expr_same last (t ∷ o ∷ ts) ∙ rw (h, g) refl
-  call_faults t o ts k (tok.word words.Sum s) h e g = expr_same last (t ∷ o ∷ ts) ∙ rw (h, g) refl
-  call_faults t o ts k (tok.word words.Min s) h e g = expr_same last (t ∷ o ∷ ts) ∙ rw (h, g) refl
-  call_faults t o ts k (tok.word words.Max s) h e g = expr_same last (t ∷ o ∷ ts) ∙ rw (h, g) refl
+  call_faults t o ts k (tok.word words.Count s) h e g = is_fault (expr_at last (t ∷ o ∷ ts)) (LeftOut t.span.start) (expr_same last (t ∷ o ∷ ts) ∙ rw (h, g) refl)
+  call_faults t o ts k (tok.word words.Sum s) h e g = is_fault (expr_at last (t ∷ o ∷ ts)) (LeftOut t.span.start) (expr_same last (t ∷ o ∷ ts) ∙ rw (h, g) refl)
+  call_faults t o ts k (tok.word words.Min s) h e g = is_fault (expr_at last (t ∷ o ∷ ts)) (LeftOut t.span.start) (expr_same last (t ∷ o ∷ ts) ∙ rw (h, g) refl)
+  call_faults t o ts k (tok.word words.Max s) h e g = is_fault (expr_at last (t ∷ o ∷ ts)) (LeftOut t.span.start) (expr_same last (t ∷ o ∷ ts) ∙ rw (h, g) refl)
   call_faults t o ts k _ h e g = absurd cc
 
   no_star : (ts rest : Tokens) (e : Tree) → Shallow ts e → Ends rest → after (is_sign signs.Star) (ts ++ rest) ≡ None
   no_star ts rest e s g = of_first (ts ++ rest) (expr_complete last s.1 rest g)
     where
-      of_first : (us : Tokens) → {f : Found} → expr_at last us ≡ Ok f → after (is_sign signs.Star) us ≡ None
+      of_first : (us : Tokens) → {f : Part × Tokens} → expr_at last us ≡ Ok f → after (is_sign signs.Star) us ≡ None
       of_first [] h = refl
       of_first (t ∷ us) {f} h = of_test (is_sign signs.Star t.tok) refl
         where
@@ -65,7 +63,7 @@ module _ (last : ℕ) where
   no_call : (ts rest : Tokens) (e : Tree) → Shallow ts e → Ends rest → call_at (ts ++ rest) ≡ None
   no_call ts rest e s g = of_first (ts ++ rest) (expr_complete last s.1 rest g)
     where
-      of_next : (t : At Token) (us : Tokens) (k : AggKind) → {f : Found} → agg_kind t.tok ≡ Some k → expr_at last (t ∷ us) ≡ Ok f → after (is_sign signs.Open) us ≡ None
+      of_next : (t : At Token) (us : Tokens) (k : AggKind) → {f : Part × Tokens} → agg_kind t.tok ≡ Some k → expr_at last (t ∷ us) ≡ Ok f → after (is_sign signs.Open) us ≡ None
       of_next t [] k n h = refl
       of_next t (o ∷ us) k {f} n h = of_test (is_sign signs.Open o.tok) refl
         where
@@ -73,7 +71,7 @@ module _ (last : ℕ) where
           of_test false j = refl
           of_test true j = absurd (no_both f (LeftOut t.span.start) (sym h ∙ call_faults t o us k t.tok refl n j))
 
-      of_first : (us : Tokens) → {f : Found} → expr_at last us ≡ Ok f → call_at us ≡ None
+      of_first : (us : Tokens) → {f : Part × Tokens} → expr_at last us ≡ Ok f → call_at us ≡ None
       of_first [] h = refl
       of_first (t ∷ us) {f} h = of_kind (agg_kind t.tok) refl
         where

@@ -15,11 +15,11 @@ use Rattle.sql_trees.specs.Statements.{SetTree, Begin, SetTransaction, SetDeadlo
 use Rattle.sql_trees.specs.Tokens.{Token, Tokens, named}
 use Rattle.sql_trees.specs.Tokens as tok
 use Rattle.sql_trees.specs.Trees.{Tree}
-use Rattle.sql_expressions.specs.Readers.{is_word, is_sign, after, items_at, name_at}
+use Rattle.sql_expressions.specs.Readers.{is_word, is_sign, after, items_at, name_at, added}
 use Rattle.sql_expressions.specs.Grammar.{Ends}
 use Rattle.sql_blocks.specs.Parts.{fits, set_columns}
 use Rattle.sql_blocks.specs.Kept.{all_differ, rows_fit, columns_differ}
-use Rattle.sql_parser.specs.Inner.Parts.{past, added}
+use Rattle.sql_parser.specs.Inner.Parts.{past}
 use Rattle.sql_parser.specs.Readers.{tree_at}
 use Rattle.sql_parser.specs.Transactions.{is_work}
 use Rattle.sql_parser.specs.Grammar.{is_scope, is_to, is_setting, Rows, Is, Key, Names, Perhaps, nothing, one_is, Commas, last_item, next_item, AddsName, adds_name, IsolationIs, uncommitted, committed, repeatable, MaybeLevel, no_level, a_level, AddsValue, adds_value, RowIs, is_row, with_row, no_rows, AddsRow, adds_row, ColumnsAre, unlisted, listed_columns, AddsSet, adds_set, WhereIs, unfiltered, filtered, Shallow}

@@ -128,7 +128,7 @@ perhaps_past is_it _ rest nothing h = rw h refl
 perhaps_past is_it _ rest (one_is t g) h = rw g refl
 
 pub tree_reads : (last : ℕ) (ts rest : Tokens) (e : Tree) → Shallow ts e → Ends rest → tree_at last (ts ++ rest) ≡ Ok (e, rest)
-tree_reads last ts rest e s h = ap (λ r. r >>= λ f. Ok (f.tree, f.rest)) (expr_complete last s.1 rest h)
+tree_reads last ts rest e s h = ap (λ r. r >>= λ f. Ok (f.0.tree, f.1)) (expr_complete last s.1 rest h)
 
 pub expect_reads : (last : ℕ) (is_it : Token → Bool) (t : At Token) (us : Tokens) → Is is_it t → expect last is_it (t ∷ us) ≡ Ok us
 expect_reads last is_it t us h = rw h refl

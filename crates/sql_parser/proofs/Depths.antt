@@ -80,7 +80,7 @@ mutual
 
 pub read_shallow : (last : ℕ) (ts : Tokens) (x : Tree × Tokens) → tree_at last ts ≡ Ok x → is_shallow x.0 ≡ true
 read_shallow last ts x e =
-    let s = bind_ok (expr_at last ts) (λ f. Ok (f.tree, f.rest)) x e in
+    let s = bind_ok (expr_at last ts) (λ f. Ok (f.0.tree, f.1)) x e in
     let w = spelled (expr_begins last ts s.0 s.1).spells in
-    let same = ok_same (s.0.tree, s.0.rest) x s.2 in
-    subst (λ (y : Tree × Tokens). is_shallow y.0 ≡ true) same (lt-ltb (tree_depth s.0.tree) 65 (omega (arith, w.as_written, w.bounded)))
+    let same = ok_same (s.0.0.tree, s.0.1) x s.2 in
+    subst (λ (y : Tree × Tokens). is_shallow y.0 ≡ true) same (lt-ltb (tree_depth s.0.0.tree) 65 (omega (arith, w.as_written, w.bounded)))

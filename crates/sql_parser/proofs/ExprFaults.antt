@@ -1,6 +1,6 @@
 -- An expression that isn't read is refused as Syntax, LeftOut or TooDeep.
-use Rattle.std.proofs.Common.{◌≡◌, ℕ, zero, suc, ◌+◌, Bool, true, false, List, [], ◌∷◌, length, Option, Some, None, sym, ◌∙◌, subst}
-use Rattle.std.specs.Prelude.{Result, Ok, Err, max, nat_lt, if◌then◌else◌}
+use Rattle.std.proofs.Common.{ap, ◌≡◌, ℕ, zero, suc, ◌+◌, Bool, true, false, List, [], ◌∷◌, length, Option, Some, None, sym, ◌∙◌, subst}
+use Rattle.std.specs.Prelude.{ok_or, Result, Ok, Err, max, nat_lt, if◌then◌else◌}
 use Rattle.iso_lexer.specs.declared.token.At.{At}
 use Rattle.iso_lexer.specs.declared.sql_token.SqlSign.TheVariants as signs
 use Rattle.sql_trees.specs.declared.fault.SqlFault.{SqlFault}
@@ -19,7 +19,7 @@ use Rattle.sql_expressions.specs.Readers.{misplaced, place_of, left_out, is_sign
 use Rattle.sql_expressions.specs.Reading.{is_call, truth_of, comparison_op, expr_at}
 use Rattle.sql_expressions.specs.Inner.Pieces.{Found, product_op, sum_op, concat_op, and_op, or_op}
 use Rattle.sql_expressions.specs.Inner.Pieces.{Found_op, Found_list, Reader, leaf, is_and, is_not, is_is, deeper, next_op, join, chain_end, chain_turn, chain_more, chain, list_turn, list_more, list_at, column_at, name_at, is_node, is_of, is_tail, is_from, is_more, parens_at, prim_of, prim_at, sign_at, una_of, una_at, mul_at, add_at, cat_at, in_at, between_at, not_in_of, not_in_at, not_in_from, inn_of, inn_more, inn_at, cmp_more, cmp_at, is_at, negation_at, not_at, and_at, or_at, at_level, inside}
-use Rattle.sql_expressions.proofs.Same.{expr_same}
+use Rattle.sql_expressions.proofs.Same.{seen, expr_same}
 
 abbrev pub IsExprFault : SqlFault → Type 0
 IsExprFault (Syntax n) = Unit {0}
@@ -90,7 +90,7 @@ module _ (last : ℕ) where
   expect_told is_it [] = tt
   expect_told is_it (t ∷ ts) = of_test (is_it t.tok)
     where
-      of_test : (b : Bool) → Told (if b then Ok ts else Err (misplaced last (t ∷ ts)))
+      of_test : (b : Bool) → Told (ok_or (if b then Some ts else None) (misplaced last (t ∷ ts)))
       of_test true = tt
       of_test false = misplaced_told (t ∷ ts)
 
@@ -253,4 +253,4 @@ module _ (last : ℕ) where
   inside_told (suc n) l place ts = level_told (inside last n) (inside_told n) l ts
 
   pub expr_told : (ts : Tokens) (e : SqlFault) → expr_at last ts ≡ Err e → IsExprFault e
-  expr_told ts e h = subst Told (sym (expr_same last ts) ∙ h) (or_told (inside last 64) (inside_told 64) ts)
+  expr_told ts e h = subst Told (sym (expr_same last ts) ∙ ap seen h) (or_told (inside last 64) (inside_told 64) ts)

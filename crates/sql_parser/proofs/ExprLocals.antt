@@ -9,8 +9,7 @@ use Rattle.sql_trees.specs.Tokens.{Token, Tokens, named}
 use Rattle.sql_trees.specs.Tokens as tok
 use Rattle.sql_trees.specs.Trees.{Tree, Column, Number}
 use Rattle.sql_expressions.specs.Results.{◌>>=◌}
-use Rattle.sql_expressions.specs.Reading.{expr_at}
-use Rattle.sql_expressions.specs.Inner.Pieces.{Found}
+use Rattle.sql_expressions.specs.Reading.{Part, expr_at}
 use Rattle.sql_expressions.specs.Grammar.{OR, AND, NOT, IS, CMP, INN, CAT, ADD, MUL, UNA, SpellsIn, only, literal, IsLeaf, column, number}
 use Rattle.sql_expressions.specs.Laws.{Spelled, StopsFirst, DeepFirst}
 use Rattle.sql_expressions.proofs.Complete.{expr_complete, spells_starts}
@@ -46,27 +45,27 @@ deepened xs e s = (64, 64, s.0, s.1)
 
 module _ (last : ℕ) where
   pub one_name : (t : At Token) (n : List ℕ) → Names n t → (e : Tree) × (tree_at last (t ∷ []) ≡ Ok (e, []))
-  one_name t n h = (Column n, ap (λ r. r >>= λ f. Ok (f.tree, f.rest)) (expr_complete last (leaf_spells t (Column n) (column t.tok n h)) [] tt))
+  one_name t n h = (Column n, ap (λ r. r >>= λ f. Ok (f.0.tree, f.1)) (expr_complete last (leaf_spells t (Column n) (column t.tok n h)) [] tt))
 
   local_of : (E : Tokens → Tree → Type 0) (W Any : Type 0) → ((front : Tokens) (e : Tree) → Shallow front e → E front e) → (Any → (front more : Tokens) → Spelled OR (front ++ more) → (e : Tree) × E (front ++ more) e) → (ts : Tokens) → Local last E W Any E (tree_at last) ts
   local_of E W Any up ups ts = of_result (expr_at last ts) refl
     where
       refused : (f : SqlFault) (k : StopsFirst last ts f) → Local last E W Any E (tree_at last) ts
-      refused f k = stopped f k.front k.rest k.split (λ others h. ap (λ r. r >>= λ g. Ok (g.tree, g.rest)) (k.stays others h)) (λ any.
+      refused f k = stopped f k.front k.rest k.split (λ others h. ap (λ r. r >>= λ g. Ok (g.0.tree, g.1)) (k.stays others h)) (λ any.
           let u = ups any k.front k.begins.0 k.begins.1 in
           record { begins = (k.begins.0, u.0, u.1); stands = in_expression [] k.front k.rest f k.refuses })
 
       too_far : (place : ℕ) (k : DeepFirst last ts place) → Local last E W Any E (tree_at last) ts
-      too_far place k = stopped (TooDeep place) k.front k.rest k.split (λ others h. ap (λ r. r >>= λ g. Ok (g.tree, g.rest)) (k.stays others h)) (λ any.
+      too_far place k = stopped (TooDeep place) k.front k.rest k.split (λ others h. ap (λ r. r >>= λ g. Ok (g.0.tree, g.1)) (k.stays others h)) (λ any.
           let u = ups any k.front k.begins.0 k.begins.1 in
           record { begins = (k.begins.0, u.0, u.1); stands = too_deep [] k.front k.rest place k.makes })
 
-      of_result : (r : Result Found SqlFault) → expr_at last ts ≡ r → Local last E W Any E (tree_at last) ts
+      of_result : (r : Result (Part × Tokens) SqlFault) → expr_at last ts ≡ r → Local last E W Any E (tree_at last) ts
       of_result (Ok f) is =
           let k = fronts_are_taken last ts f is in
           let b = expr_begins last ts f is in
-          let same : b.front ≡ k.front = append_cancel_right b.front k.front f.rest (sym b.whole ∙ k.split) in
-          took f.tree k.front f.rest k.split (λ others h. ap (λ r. r >>= λ g. Ok (g.tree, g.rest)) (k.stays others h)) (up k.front f.tree (f.depth, subst (λ xs. SpellsIn 64 64 OR xs f.tree f.depth) same b.spells))
+          let same : b.front ≡ k.front = append_cancel_right b.front k.front f.1 (sym b.whole ∙ k.split) in
+          took f.0.tree k.front f.1 k.split (λ others h. ap (λ r. r >>= λ g. Ok (g.0.tree, g.1)) (k.stays others h)) (up k.front f.0.tree (f.0.depth, subst (λ xs. SpellsIn 64 64 OR xs f.0.tree f.0.depth) same b.spells))
       of_result (Err (Syntax p)) is = refused (Syntax p) (refusals_are_first last ts (Syntax p) tt is)
       of_result (Err (LeftOut p)) is = refused (LeftOut p) (refusals_are_first last ts (LeftOut p) tt is)
       of_result (Err (TooDeep p)) is = too_far p (deep_is_first last p ts is)

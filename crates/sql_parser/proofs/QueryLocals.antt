@@ -18,13 +18,12 @@ use Rattle.sql_trees.specs.Tokens.{Token, Tokens, named}
 use Rattle.sql_trees.specs.Tokens as tok
 use Rattle.sql_trees.specs.Trees.{Tree, AggTree, CountRows, Of}
 use Rattle.sql_expressions.specs.Results.{◌>>=◌}
-use Rattle.sql_expressions.specs.Readers.{expect, is_word, is_sign, after, keyword, name_at, items_at, Reader}
+use Rattle.sql_expressions.specs.Readers.{expect, is_word, is_sign, after, keyword, name_at, items_at, Reader, added}
 use Rattle.sql_expressions.specs.Laws.{head}
 use Rattle.sql_expressions.proofs.Local.{first_is, head_after}
 use Rattle.sql_blocks.specs.Parts.{column_names, is_allowed}
 use Rattle.sql_expressions.specs.Reading.{agg_kind}
 use Rattle.sql_parser.specs.Readers.{tree_at}
-use Rattle.sql_parser.specs.Inner.Parts.{added}
 use Rattle.sql_parser.specs.Tables.{TableRead, keys_fault, created}
 use Rattle.sql_parser.specs.Changes.{filter_at}
 use Rattle.sql_parser.specs.Inner.Queries.{call_at, maybe_name, direction_at, agg_at, item_of, item_at, from_at, nulls_at, order_add, order_at, lock_at, query_of, select_at}

@@ -15,14 +15,13 @@ use Rattle.sql_trees.specs.Statements.{ItemTree, OrderTree, SelectTree, Selects,
 use Rattle.sql_trees.specs.Tokens.{Tokens}
 use Rattle.sql_trees.specs.Trees.{Tree, AggTree, CountRows, Of}
 use Rattle.sql_expressions.specs.Results.{◌>>=◌}
-use Rattle.sql_expressions.specs.Readers.{after, by_first, expect, gives, is_sign, is_word, keyword, items_at}
+use Rattle.sql_expressions.specs.Readers.{after, by_first, expect, gives, is_sign, is_word, keyword, items_at, added}
 use Rattle.sql_expressions.specs.Reading.{agg_kind}
 use Rattle.sql_blocks.specs.Parts.{is_allowed}
 use Rattle.sql_parser.specs.Readers.{maybe, list_of, one_of, tree_at, whole}
 use Rattle.sql_parser.specs.Changes.{filter_at}
 use Rattle.sql_parser.specs.Queries.{alias_at, call_at, item_at, sort_key_at, select_at}
 use Rattle.sql_parser.specs.Inner.Queries as queries
-use Rattle.sql_parser.specs.Inner.Parts.{added}
 use Rattle.sql_parser.proofs.Readings.{turned, bind_on, option_on, items_alike, two_words}
 use Rattle.sql_parser.proofs.TableReadings.{chain, ended, stated}
 

@@ -18,10 +18,10 @@ use Rattle.sql_trees.specs.Tokens.{Token, Tokens, named}
 use Rattle.sql_trees.specs.Tokens as tok
 use Rattle.sql_trees.specs.Trees.{Tree}
 use Rattle.sql_expressions.specs.Results.{◌>>=◌}
-use Rattle.sql_expressions.specs.Readers.{expect, is_word, after, keyword, items_at, Reader, name_at}
+use Rattle.sql_expressions.specs.Readers.{expect, is_word, after, keyword, items_at, Reader, name_at, added}
 use Rattle.sql_expressions.proofs.Shapes.{some_token}
 use Rattle.sql_parser.specs.Grammar.{is_unquoted, is_scope, is_to, is_setting, Key, Names, Perhaps, nothing, one_is, Commas, NameIs, is_name, AddsName, adds_name, IsolationIs, uncommitted, committed, repeatable, MaybeLevel, no_level, a_level, Spells, begin, start, set_transaction, set_timeout, drop, drop_if}
-use Rattle.sql_parser.specs.Inner.Parts.{past, misplaced_word, added}
+use Rattle.sql_parser.specs.Inner.Parts.{past, misplaced_word}
 use Rattle.sql_parser.specs.Transactions.{is_work}
 use Rattle.sql_parser.specs.Inner.Transactions.{level_at, begin_at, start_at, parameter_at, set_at}
 use Rattle.sql_parser.specs.Inner.Tables.{after_if}

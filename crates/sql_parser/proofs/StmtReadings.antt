@@ -13,13 +13,12 @@ use Rattle.sql_trees.specs.Statements.{StmtTree, SetTree, Inserts, Updates}
 use Rattle.sql_trees.specs.Trees.{Tree}
 use Rattle.sql_trees.specs.Tokens.{Tokens}
 use Rattle.sql_expressions.specs.Results.{◌>>=◌}
-use Rattle.sql_expressions.specs.Readers.{Reader, after, expect, is_sign, keyword, place_of, name_at, items_at}
+use Rattle.sql_expressions.specs.Readers.{Reader, after, expect, is_sign, keyword, place_of, name_at, items_at, added}
 use Rattle.sql_blocks.specs.Parts.{fits, set_columns}
 use Rattle.sql_parser.specs.Grammar.{Rows}
 use Rattle.sql_parser.specs.Readers.{maybe, list_of, tree_at}
 use Rattle.sql_parser.specs.Tables.{is_among, Placed, placed_names, new_name, names_at}
 use Rattle.sql_parser.specs.Changes.{row_at, one_set, filter_at, insert_at, update_at}
-use Rattle.sql_parser.specs.Inner.Parts.{added}
 use Rattle.sql_parser.specs.Inner.Tables as tables
 use Rattle.sql_parser.specs.Inner.Changes as changes
 use Rattle.sql_parser.proofs.Readings.{turned, bind_on, bind_twice, option_on, items_same, items_alike}

@@ -2,7 +2,7 @@
 use Rattle.std.proofs.Common.{◌≡◌, ℕ, zero, suc, ◌+◌, ◌<◌, ◌≤◌, List, [], ◌∷◌, ◌++◌, length, Option, Some, None, refl, sym, ap, subst, ◌∙◌, arith, length-append}
 use Rattle.std.proofs.lemmas.List.{map-append}
 use Rattle.std.specs.List.{list_all}
-use Rattle.std.specs.Prelude.{Result, Ok, Err, Bool, true, false, if◌then◌else◌}
+use Rattle.std.specs.Prelude.{ok_or, Result, Ok, Err, Bool, true, false, if◌then◌else◌}
 use Rattle.std.specs.Option.{option_map_or}
 use Rattle.iso_lexer.specs.declared.sql_token.SqlSign.TheVariants as signs
 use Rattle.sql_trees.specs.declared.fault.SqlFault.{SqlFault}
@@ -48,7 +48,7 @@ module _ (last : ℕ) where
   expect_shorter is_it [] us e = absurd cc
   expect_shorter is_it (t ∷ ts) us e = of_test (is_it t.tok) e
     where
-      of_test : (b : Bool) → (if b then Ok ts else Err (misplaced last (t ∷ ts))) ≡ Ok us → length us < length (t ∷ ts)
+      of_test : (b : Bool) → ok_or (if b then Some ts else None) (misplaced last (t ∷ ts)) ≡ Ok us → length us < length (t ∷ ts)
       of_test true h = subst (λ vs. length vs < length (t ∷ ts)) (ok_same ts us h) (omega arith)
       of_test false h = absurd cc
 

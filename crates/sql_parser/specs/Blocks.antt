@@ -8,7 +8,7 @@ use Rattle.sql_trees.specs.declared.word.Word.{Word}
 use Rattle.sql_trees.specs.declared.word.Word.TheVariants as words
 use Rattle.sql_trees.specs.Statements.{StmtTree, Commit, Rollback}
 use Rattle.sql_trees.specs.Tokens.{Tokens}
-use Rattle.sql_expressions.specs.Results.{◌>>=◌ as and_then}
+use Rattle.iso_lexer.specs.Results.{if_ok}
 use Rattle.sql_expressions.specs.Readers.{is_sign, is_word, place_of, Reader, gives, either, keyword, ◌>>=◌, ◌>>◌}
 use Rattle.sql_blocks.specs.declared.block.Role.{Role}
 use Rattle.sql_blocks.specs.Parts.{is_session}
@@ -44,7 +44,7 @@ unfoldable pub stmts_at : Role → ℕ → List (Tokens × ℕ) → Result (List
 stmts_at role n [] = Ok []
 stmts_at role n (([], end) ∷ ps) = stmts_at role n ps
 stmts_at role zero ((t ∷ ts, end) ∷ ps) = Err (TooMany t.span.start)
-stmts_at role (suc n) ((t ∷ ts, end) ∷ ps) = and_then (whole_at end role (t ∷ ts)) (λ x. and_then (stmts_at role n ps) (λ ss. Ok (x.0 ∷ ss)))
+stmts_at role (suc n) ((t ∷ ts, end) ∷ ps) = if_ok (whole_at end role (t ∷ ts)) (λ x. if_ok (stmts_at role n ps) (λ ss. Ok (x.0 ∷ ss)))
 
 -- the statements of a block, 256 at most
 abbrev pub block_at : ℕ → Role → Tokens → Result (List StmtTree) SqlFault

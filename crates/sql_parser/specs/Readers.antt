@@ -8,8 +8,7 @@ use Rattle.sql_trees.specs.declared.word.Word.{Word}
 use Rattle.sql_trees.specs.Tokens.{Token, Tokens}
 use Rattle.sql_trees.specs.Tokens as tok
 use Rattle.sql_trees.specs.Trees.{Tree}
-use Rattle.sql_expressions.specs.Results.{◌>>=◌ as and_then}
-use Rattle.sql_expressions.specs.Readers.{Reader, gives, made, either, one_at, items_at, is_word, place_of, misplaced}
+use Rattle.sql_expressions.specs.Readers.{Reader, gives, made, either, one_at, items_at, is_word, place_of, misplaced, added}
 use Rattle.sql_expressions.specs.Reading.{expr_at}
 
 -- where the first token is of this kind, what is read behind it, else nothing
@@ -22,7 +21,7 @@ past is_it reader = either is_it reader reader
 
 -- items with commas between them, each read with those before it in view
 abbrev pub list_of : {X : Type 0} → (List X → Reader X) → Reader (List X)
-list_of item = items_at (λ xs. made (λ x. xs ++ x ∷ []) (item xs)) []
+list_of item = items_at (λ xs. added (item xs) xs) []
 
 module _ (last : ℕ) where
   -- what the next word stands for, which has to be one of these
@@ -36,7 +35,7 @@ module _ (last : ℕ) where
 
   -- an expression's tree
   abbrev pub tree_at : Reader Tree
-  tree_at ts = and_then (expr_at last ts) (λ f. Ok (f.tree, f.rest))
+  tree_at = made (λ e. e.tree) (expr_at last)
 
   -- nothing stands behind, and this, if anything, is wrong with the whole
   abbrev pub whole : Option SqlFault → Tokens → Result Tokens SqlFault

@@ -8,7 +8,7 @@ use Rattle.sql_trees.specs.declared.fault.SqlFault.TheVariants.{BadColumns}
 use Rattle.sql_trees.specs.declared.word.Word.TheVariants as words
 use Rattle.sql_trees.specs.declared.kind.Kind.TheVariants as kinds
 use Rattle.sql_trees.specs.Statements.{StmtTree, ColumnTree, KeyTree, Create, DropTables, key_name}
-use Rattle.sql_expressions.specs.Results.{◌>>=◌ as and_then}
+use Rattle.iso_lexer.specs.Results.{if_ok}
 use Rattle.sql_expressions.specs.Readers.{after, place_of, expect, is_sign, is_word, Reader, gives, made, either, keyword, closed, name_at, items_at, ◌>>=◌, ◌>>◌}
 use Rattle.sql_blocks.specs.Parts.{column_names}
 use Rattle.sql_parser.specs.Readers.{list_of, known_of, whole}
@@ -44,7 +44,7 @@ module _ (last : ℕ) where
   -- a name that is none of these
   abbrev pub new_name : List (List ℕ) → Reader Placed
   new_name names ts =
-      and_then (name_at last ts) (λ x. if is_among x.0 names then Err (BadColumns (place_of last ts)) else Ok (record { name = x.0; place = place_of last ts }, x.1))
+      if_ok (name_at last ts) (λ x. if is_among x.0 names then Err (BadColumns (place_of last ts)) else Ok (record { name = x.0; place = place_of last ts }, x.1))
 
   -- names that all differ, behind an open parenthesis
   unfoldable pub names_at : Reader (List Placed)

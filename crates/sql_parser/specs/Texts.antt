@@ -9,7 +9,7 @@ use Rattle.sql_trees.specs.declared.fault.SqlFault.{SqlFault}
 use Rattle.sql_trees.specs.declared.fault.SqlFault.TheVariants.{Memory, Lex}
 use Rattle.sql_trees.specs.Statements.{StmtTree}
 use Rattle.sql_trees.specs.Tokens.{classify_at}
-use Rattle.sql_expressions.specs.Results.{◌>>=◌}
+use Rattle.iso_lexer.specs.Results.{if_ok}
 use Rattle.sql_blocks.specs.declared.block.Role.{Role}
 use Rattle.sql_parser.specs.Blocks.{block_at}
 
@@ -17,7 +17,7 @@ use Rattle.sql_parser.specs.Blocks.{block_at}
 pub record ReadsAs (text : List ℕ) (role : Role) (answer : Result (List StmtTree) SqlFault) : Type 0 where
   pub lexed : Result (List (At SqlToken)) Fault
   pub lexes : SqlLexes text lexed
-  pub reads : (result_map_both (map classify_at) Lex lexed >>= block_at (length text) role) ≡ answer
+  pub reads : if_ok (result_map_both (map classify_at) Lex lexed) (block_at (length text) role) ≡ answer
 
 -- What was answered is so, unless a growth of memory was refused.
 abbrev pub Parses : List ℕ → Role → Result (List StmtTree) SqlFault → Type 0

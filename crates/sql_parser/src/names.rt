@@ -4,8 +4,7 @@ ghost use Rattle.std.specs.Prelude.{◌≡◌, ◌≤◌, [], IfOk, length, map}
 ghost use Rattle.sql_trees.specs.Statements.{name_of, exprs_of};
 ghost use Rattle.sql_trees.specs.Tokens.{tok_views};
 ghost use Rattle.sql_expressions.specs.Results.{Gives};
-ghost use Rattle.sql_expressions.specs.Readers.{items_at, name_at};
-ghost use Rattle.sql_parser.specs.Inner.Parts.{added};
+ghost use Rattle.sql_expressions.specs.Readers.{items_at, name_at, added};
 ghost use Rattle.sql_parser.specs.Readers.{tree_at};
 ghost use Rattle.sql_parser.specs.Inner.Changes.{distinct_add, row_add};
 ghost use Rattle.sql_parser.specs.Views.{rows_of};

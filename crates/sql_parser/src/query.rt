@@ -6,11 +6,10 @@ ghost use Rattle.iso_lexer.specs.declared.sql_token.SqlSign.TheVariants as signs
 ghost use Rattle.sql_trees.specs.Statements.{name_of, stmt_of, item_of, order_of, select_of};
 ghost use Rattle.sql_trees.specs.Tokens.{tok_view, tok_views};
 ghost use Rattle.sql_expressions.specs.Results.{Gives};
-ghost use Rattle.sql_expressions.specs.Readers.{is_sign, after, items_at};
+ghost use Rattle.sql_expressions.specs.Readers.{is_sign, after, items_at, added};
 ghost use Rattle.sql_expressions.specs.Reading.{agg_kind};
 ghost use Rattle.sql_blocks.specs.Parts.{is_aggregate, is_allowed};
 ghost use Rattle.sql_blocks.specs.Inner.Parts.{is_all, is_sorted};
-ghost use Rattle.sql_parser.specs.Inner.Parts.{added};
 ghost use Rattle.sql_parser.specs.Inner.Calls.{seen};
 ghost use Rattle.sql_parser.specs.Inner.Pieces.{agg_item_at};
 ghost use Rattle.sql_parser.specs.Inner.Queries.{call_at, rows_of, maybe_name, direction_at, item_at, from_at, nulls_at, order_add, order_at, lock_at, select_at};

@@ -4,12 +4,11 @@ use Rattle.iso_lexer.specs.declared.sql_token.SqlSign.TheVariants as signs
 use Rattle.sql_trees.specs.declared.fault.SqlFault.TheVariants.{Syntax}
 use Rattle.sql_trees.specs.declared.word.Word.TheVariants as words
 use Rattle.sql_trees.specs.Statements.{StmtTree, SetTree, Inserts, Updates}
-use Rattle.sql_expressions.specs.Readers.{place_of, expect, is_sign, Reader, gives, made, either, keyword, closed, name_at, items_at, ◌>>=◌, ◌>>◌}
+use Rattle.sql_expressions.specs.Readers.{place_of, expect, is_sign, Reader, gives, made, either, keyword, closed, name_at, items_at, ◌>>=◌, ◌>>◌, added}
 use Rattle.sql_blocks.specs.Parts.{fits, set_columns}
 use Rattle.sql_parser.specs.Readers.{tree_at}
 use Rattle.sql_parser.specs.Grammar.{Rows}
 use Rattle.sql_parser.specs.Changes.{filter_at}
-use Rattle.sql_parser.specs.Inner.Parts.{added}
 use Rattle.sql_parser.specs.Inner.Tables.{new_name}
 
 module _ (last : ℕ) where

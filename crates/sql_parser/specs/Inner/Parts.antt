@@ -11,10 +11,6 @@ use Rattle.sql_parser.specs.Grammar.{is_unquoted}
 abbrev pub past : (Token → Bool) → Tokens → Tokens
 past is_it ts = unwrap_or (after is_it ts) ts
 
--- an item that is added behind the others
-abbrev pub added : {X : Type 0} → Reader X → List X → Reader (List X)
-added reader xs ts = and_then (reader ts) (λ x. Ok (xs ++ x.0 ∷ [], x.1))
-
 -- the fault at the first token, where each unquoted word is left out
 abbrev pub misplaced_word : ℕ → Tokens → SqlFault
 misplaced_word last ts = either is_unquoted (λ us. LeftOut (place_of last ts)) (misplaced last) ts

@@ -12,13 +12,12 @@ use Rattle.sql_trees.specs.declared.stmt.Lock.TheVariants as locks
 use Rattle.sql_trees.specs.Statements.{StmtTree, ItemTree, All, Value, Aggregate, OrderTree, SelectTree, Selects}
 use Rattle.sql_trees.specs.Tokens.{Tokens, named}
 use Rattle.sql_trees.specs.Trees.{AggTree, CountRows, Of}
-use Rattle.sql_expressions.specs.Readers.{after, expect, is_sign, is_word, Reader, gives, made, either, by_first, keyword, closed, name_at, items_at, ◌>>=◌, ◌>>◌}
+use Rattle.sql_expressions.specs.Readers.{after, expect, is_sign, is_word, Reader, gives, made, either, by_first, keyword, closed, name_at, items_at, ◌>>=◌, ◌>>◌, added}
 use Rattle.sql_expressions.specs.Reading.{agg_kind}
 use Rattle.sql_blocks.specs.Parts.{is_allowed}
 use Rattle.sql_parser.specs.Readers.{maybe, tree_at}
 use Rattle.sql_parser.specs.Changes.{filter_at}
 use Rattle.sql_parser.specs.Queries.{alias_at}
-use Rattle.sql_parser.specs.Inner.Parts.{added}
 
 -- an aggregate's name with an open parenthesis behind it, and the tokens behind that
 abbrev pub call_at : Tokens → Option (AggKind × Tokens)

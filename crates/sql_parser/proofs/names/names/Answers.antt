@@ -1,6 +1,5 @@
 use Rattle.std.proofs.Common.{map}
-use Rattle.sql_expressions.specs.Readers.{name_at}
-use Rattle.sql_parser.specs.Inner.Parts.{added}
+use Rattle.sql_expressions.specs.Readers.{name_at, added}
 use Rattle.sql_parser.proofs.Lists.{items_give}
 use Rattle.sql_trees.specs.Statements.{name_of}
 use Rattle.sql_parser.proofs.names.names.Goals as goal

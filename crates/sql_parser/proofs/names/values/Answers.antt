@@ -1,4 +1,4 @@
-use Rattle.sql_parser.specs.Inner.Parts.{added}
+use Rattle.sql_expressions.specs.Readers.{added}
 use Rattle.sql_parser.specs.Readers.{tree_at}
 use Rattle.sql_parser.proofs.Lists.{items_give}
 use Rattle.sql_trees.specs.Statements.{exprs_of}

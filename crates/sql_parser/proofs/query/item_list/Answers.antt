@@ -1,5 +1,5 @@
 use Rattle.std.proofs.Common.{map}
-use Rattle.sql_parser.specs.Inner.Parts.{added}
+use Rattle.sql_expressions.specs.Readers.{added}
 use Rattle.sql_parser.proofs.Lists.{items_give}
 use Rattle.sql_trees.specs.Statements.{item_of}
 use Rattle.sql_parser.specs.Inner.Queries.{item_at}
