@@ -1,7 +1,7 @@
 -- What a session would see of a table is what a SELECT of all its rows shows.
 use Rattle.std.proofs.Common.{◌≡◌, ◌≢◌, ℕ, suc, ◌<◌, ◌≤◌, ◌+◌, ◌==◌, Bool, true, false, cond, not, ◌&&◌, ◌||◌, List, [], ◌∷◌, ◌++◌, length, refl, ap, sym, ◌∙◌, subst, arith}
-use Rattle.std.specs.Prelude.{Option, Some, None, filter, option_map, is_some, unwrap_or, slice_get, bytes_eq, nat_lt, map, Result, Ok}
-use Rattle.std.specs.List.{enumerate_from, list_any}
+use Rattle.std.specs.Prelude.{Option, Some, None, filter, option_map, unwrap_or, slice_get, bytes_eq, nat_lt, map, Result, Ok}
+use Rattle.std.specs.List.{enumerate_from}
 use Rattle.std.proofs.lemmas.Bool.{ne_eqb, le-ltb, and_right}
 use Rattle.sql_trees.specs.declared.stmt.Level.TheVariants.{ReadCommitted}
 use Rattle.sql_trees.specs.Statements.{ColumnTree, SelectTree, All}
@@ -12,18 +12,13 @@ use Rattle.sql_values.specs.Expressions.{Cols, passes}
 use Rattle.query_results.specs.Results.{Results}
 use Rattle.row_versions.specs.declared.names.TxId.{TxId}
 use Rattle.row_versions.specs.declared.names.TableId.{TableId}
-use Rattle.row_versions.specs.declared.write.Write.{Write}
-use Rattle.row_versions.specs.declared.write.View.{View}
 use Rattle.row_versions.specs.declared.write.Seen.{Seen}
-use Rattle.row_versions.specs.declared.write.Fate.{Fate}
 use Rattle.row_versions.specs.declared.write.Fate.TheVariants.{Open as OpenFate}
 use Rattle.row_versions.specs.Log.{Content, fate_of, has_committed, values_at, next_tx, after_begin}
-use Rattle.row_versions.proofs.Filtered.{rows_are}
 use Rattle.row_versions.specs.Inner.Searching.{is_committed}
-use Rattle.row_versions.specs.View.{sees, committed_before}
-use Rattle.row_versions.specs.Inner.Searching.{rows_from}
-use Rattle.row_versions.specs.Inner.Searching.{replaces}
+use Rattle.row_versions.specs.View.{committed_before}
 use Rattle.row_versions.proofs.Gets.{get-append_left}
+use Rattle.row_versions.proofs.Shown.{views_agree}
 use Rattle.session_machine.specs.declared.session.OpenTransaction.{OpenTransaction}
 use Rattle.session_machine.specs.declared.session.Transaction.{Transaction}
 use Rattle.session_machine.specs.declared.session.Transaction.TheVariants.{Closed, Open, Aborted}
@@ -143,19 +138,6 @@ found_same c drops name k (t ∷ ts) h l =
     let rest = found_same c drops name (k + 1) ts h (λ j x at. l (suc j) x at) in
     λ i. cond (first i) (Some k) (rest i)
 
--- two views that see the same writes show the same rows
-any_same : {X : Type 0} (p q : X → Bool) (xs : List X) → ((x : X) → p x ≡ q x) → list_any p xs ≡ list_any q xs
-any_same p q [] h = refl
-any_same p q (x ∷ xs) h = let rest = any_same p q xs h in λ i. h x i || rest i
-
-rows_same : (fates : List Fate) (view other : View) (table : TableId) (place : ℕ) (ws : List Write) → ((w : Write) → sees fates view w ≡ sees fates other w)
-    → rows_from fates view table place ws ≡ rows_from fates other table place ws
-rows_same fates view other table place [] h = refl
-rows_same fates view other table place (v ∷ later) h =
-    let any = any_same (replaces fates view v.row) (replaces fates other v.row) later (λ w. ap (λ b. (w.row.0 == v.row.0) && b) (h w)) in
-    let rest = rows_same fates view other table (place + 1) later h in
-    λ i. cond (((v.table.0 == table.0) && is_some v.values) && (h v i && not (any i))) (record { row = v.row; place = place } ∷ rest i) (rest i)
-
 -- a transaction of which nothing was asked yet sees what is committed
 fresh_sees : (c : Content) (k : ℕ) → rows_shown (after_begin c) (view_of (after_begin c) (fresh c ReadCommitted false)) k ≡ rows_shown c (view_now c Closed None) k
 fresh_sees c k =
@@ -164,12 +146,10 @@ fresh_sees c k =
     let same = (hides-begin view c).same_count in
     shown_stays view c (after_begin c) k (hides-begin view c).stays
     ∙ ap (map (λ (s : Seen). unwrap_or (values_at c s.place) []))
-    (rows_are c view table
-    ∙ (rows_same c.fates view (view_now c Closed None) table 0 c.log
+    (views_agree c view (view_now c Closed None) table
     (λ w.
     let none : ((w.tx.0 == length c.fates) && nat_lt w.command 0) ≡ false = (let low : 0 ≤ w.command = omega arith in and_right _ _ (le-ltb w.command 0 low)) in
-    λ i. committed_before (same i) (fate_of c.fates w.tx) || none i)
-    ∙ sym (rows_are c (view_now c Closed None) table)))
+    λ i. committed_before (same i) (fate_of c.fates w.tx) || none i))
 
 map_same : {A B : Type 0} (f g : A → B) (o : Option A) → ((x : A) → f x ≡ g x) → option_map f o ≡ option_map g o
 map_same f g None h = refl

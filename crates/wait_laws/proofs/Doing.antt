@@ -19,10 +19,8 @@ use Rattle.row_versions.specs.declared.write.Write.{Write}
 use Rattle.row_versions.specs.declared.write.View.{View}
 use Rattle.row_versions.specs.declared.write.Seen.{Seen}
 use Rattle.row_versions.specs.Log.{Content, next_tx, new_row, values_at, after_write, fate_of}
-use Rattle.row_versions.specs.Inner.Searching.{is_committed}
 use Rattle.row_versions.specs.Newest.{newest_of}
-use Rattle.row_versions.specs.Inner.Searching.{is_version}
-use Rattle.row_versions.specs.Inner.Searching.{newest_from}
+use Rattle.row_versions.specs.Inner.Searching.{is_committed, is_version, newest_from}
 use Rattle.row_versions.proofs.Last.{newest_is}
 use Rattle.row_locks.specs.declared.held.Strength.{Strength}
 use Rattle.row_locks.specs.declared.held.Strength.TheVariants.{Exclusive}

@@ -21,6 +21,7 @@ use Rattle.unique_keys.specs.Keys.{has_key}
 use Rattle.unique_keys.specs.Writes.{noted_of, writes}
 use Rattle.unique_keys.specs.Inner.Finding.{version_has, is_committed_version, committed_has, own_has, is_in_way}
 use Rattle.unique_keys.specs.Checks.{key_blockers}
+use Rattle.unique_keys.proofs.Logged.{blockers_are}
 use Rattle.session_machine.specs.AskedKeys.{AskedKey}
 use Rattle.session_laws.proofs.Lists.{slice_get-set_same, slice_get-set_other}
 use Rattle.wait_laws.proofs.Lists.{get_more}
@@ -81,6 +82,13 @@ found_to p (v ∷ log) u (suc place) w there its e = at (p (noted_of v)) (found_
   at : (b : Bool) → has (owners p log) u ≡ true → has (map (λ (n : Noted). n.tx) (cond b (noted_of v ∷ filter p (map noted_of log)) (filter p (map noted_of log)))) u ≡ true
   at true k = or_right (same_tx v.tx u) (has (owners p log) u) k
   at false k = k
+
+-- who blocks the key has a write that stands in its way
+blocks_from : (c : Content) (k : AskedKey) (tx u : TxId) → has (blocking c k tx) u ≡ true → Found (ways c k tx) c.log u
+blocks_from c k tx u h = found_from (ways c k tx) c.log u (subst (λ us. has us u ≡ true) (blockers_are c k.table tx k.values k.columns) h)
+
+blocks_to : (c : Content) (k : AskedKey) (tx u : TxId) (place : ℕ) (w : Write) → slice_get c.log place ≡ Some w → w.tx ≡ u → ways c k tx (noted_of w) ≡ true → has (blocking c k tx) u ≡ true
+blocks_to c k tx u place w there its e = subst (λ us. has us u ≡ true) (sym (blockers_are c k.table tx k.values k.columns)) (found_to (ways c k tx) c.log u place w there its e)
 
 -- ---- what of it may change
 
@@ -176,9 +184,9 @@ not_of_other w row u columns values ne = by (w.row.0 == row.0) (same_tx w.tx u) 
 
 pub less_written : (c : Content) (w : Write) (k : AskedKey) (tx u : TxId) → IsOpen c w.tx → (u ≡ w.tx → ⊥) → has (blocking (after_write c w) k tx) u ≡ true → has (blocking c k tx) u ≡ true
 less_written c w k tx u is_open_now ne h =
-    let f = found_from (ways (after_write c w) k tx) (c.log ++ w ∷ []) u h in
+    let f = blocks_from (after_write c w) k tx u h in
     ⊎_elim
-    (λ at. found_to (ways c k tx) c.log u f.place f.write at f.its
+    (λ at. blocks_to c k tx u f.place f.write at f.its
     (way_kept (after_write c w) c k tx f.write (λ o. o) (committed_more (has_committed c) c.log w k.columns k.values f.write.row (uncommitted c w.tx is_open_now))
     (any_less _ c.log w (not_of_other w f.write.row f.write.tx k.columns k.values (λ e. ne (sym (e ∙ f.its))))) f.passes))
     (λ is. absurd (ne (sym (ap (λ (y : Write). y.tx) is ∙ f.its))))
@@ -186,8 +194,8 @@ less_written c w k tx u is_open_now ne h =
 
 pub more_written : (c : Content) (w : Write) (k : AskedKey) (tx u : TxId) → IsOpen c w.tx → has (blocking c k tx) u ≡ true → has (blocking (after_write c w) k tx) u ≡ true
 more_written c w k tx u is_open_now h =
-    let f = found_from (ways c k tx) c.log u h in
-    found_to (ways (after_write c w) k tx) (c.log ++ w ∷ []) u f.place f.write (get-append_left c.log (w ∷ []) f.place (slice_get_within c.log f.place f.write f.there) ∙ f.there) f.its
+    let f = blocks_from c k tx u h in
+    blocks_to (after_write c w) k tx u f.place f.write (get-append_left c.log (w ∷ []) f.place (slice_get_within c.log f.place f.write f.there) ∙ f.there) f.its
     (way_kept c (after_write c w) k tx f.write (λ o. o) (sym (committed_more (has_committed c) c.log w k.columns k.values f.write.row (uncommitted c w.tx is_open_now)))
     (any_more _ c.log w) f.passes)
 
@@ -202,15 +210,15 @@ fate_kept c u l = get-append_left c.fates (OpenFate ∷ []) u.0 l
 
 pub less_begun : (c : Content) (k : AskedKey) (tx u : TxId) → AllBegun c → has (blocking (after_begin c) k tx) u ≡ true → has (blocking c k tx) u ≡ true
 less_begun c k tx u known h =
-    let f = found_from (ways (after_begin c) k tx) c.log u h in
-    found_to (ways c k tx) c.log u f.place f.write f.there f.its
+    let f = blocks_from (after_begin c) k tx u h in
+    blocks_to c k tx u f.place f.write f.there f.its
     (way_kept (after_begin c) c k tx f.write (λ o. sym (ap is_open_fate (fate_kept c f.write.tx (known f.place f.write f.there))) ∙ o)
     (committed_as (has_committed (after_begin c)) (has_committed c) c.log k.columns k.values f.write.row (λ place w there at. ap is_committed (fate_kept c w.tx (known place w there)))) (λ o. o) f.passes)
 
 pub more_begun : (c : Content) (k : AskedKey) (tx u : TxId) → AllBegun c → has (blocking c k tx) u ≡ true → has (blocking (after_begin c) k tx) u ≡ true
 more_begun c k tx u known h =
-    let f = found_from (ways c k tx) c.log u h in
-    found_to (ways (after_begin c) k tx) c.log u f.place f.write f.there f.its
+    let f = blocks_from c k tx u h in
+    blocks_to (after_begin c) k tx u f.place f.write f.there f.its
     (way_kept c (after_begin c) k tx f.write (λ o. ap is_open_fate (fate_kept c f.write.tx (known f.place f.write f.there)) ∙ o)
     (committed_as (has_committed c) (has_committed (after_begin c)) c.log k.columns k.values f.write.row (λ place w there at. sym (ap is_committed (fate_kept c w.tx (known place w there))))) (λ o. o) f.passes)
 
@@ -228,12 +236,12 @@ less_ended : (c : Content) (x : TxId) (fate : Fate) (k : AskedKey) (tx u : TxId)
     → has_committed (ended c x fate) w.tx ≡ has_committed c w.tx)
     → has (blocking (ended c x fate) k tx) u ≡ true → has (blocking c k tx) u ≡ true
 less_ended c x fate k tx u ne same h =
-    let f = found_from (ways (ended c x fate) k tx) c.log u h in
+    let f = blocks_from (ended c x fate) k tx u h in
     let other : f.write.tx ≡ x → ⊥ = λ e. ne (sym f.its ∙ e) in
     let mk : ℕ → TxId = λ n. record { 0 = n } in
     let fates : slice_get (set c.fates x.0 fate) f.write.tx.0 ≡ slice_get c.fates f.write.tx.0 = slice_get-set_other c.fates x.0 f.write.tx.0 fate (λ e. other (ap mk e)) in
     let was_open : is_open c.fates f.write.tx ≡ true = sym (ap is_open_fate fates) ∙ active_in (ended c x fate) k tx f.write f.passes in
-    found_to (ways c k tx) c.log u f.place f.write f.there f.its
+    blocks_to c k tx u f.place f.write f.there f.its
     (way_kept (ended c x fate) c k tx f.write (λ o. was_open)
     (committed_as (has_committed (ended c x fate)) (has_committed c) c.log k.columns k.values f.write.row (same f.write f.place f.there (open_is _ was_open) other)) (λ o. o) f.passes)
 
