@@ -25,14 +25,16 @@ fate_of fates tx = slice_get fates tx.0
 abbrev pub IsOpen : Content → TxId → Type 0
 IsOpen c tx = fate_of c.fates tx ≡ Some Open
 
+-- it is the fate of a transaction that has begun and has not ended
 abbrev pub is_open_fate : Option Fate → Bool
 is_open_fate (Some Open) = true
 is_open_fate fate = false
 
--- the same as a test
+-- the transaction has begun and has not ended, as a test
 abbrev pub is_open : List Fate → TxId → Bool
 is_open fates tx = is_open_fate (fate_of fates tx)
 
+-- it is the fate of a transaction that has committed
 abbrev pub is_commit : Fate → Bool
 is_commit (Committed k) = true
 is_commit fate = false

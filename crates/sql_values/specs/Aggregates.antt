@@ -5,7 +5,7 @@ use Rattle.std.specs.Ordering.{is_lt, is_gt}
 use Rattle.std.specs.declared.cmp.Ordering.{Ordering}
 use Rattle.sql_trees.specs.declared.expr.AggKind.{AggKind}
 use Rattle.sql_trees.specs.declared.expr.AggKind.TheVariants.{Count, Sum, Min, Max}
-use Rattle.sql_trees.specs.Trees.{Tree, AggTree}
+use Rattle.sql_trees.specs.Trees.{AggTree}
 use Rattle.sql_trees.specs.Trees as tree
 use Rattle.sql_values.specs.declared.value.Value.{Value}
 use Rattle.sql_values.specs.declared.value.Value.TheVariants.{Null, Int, Text}

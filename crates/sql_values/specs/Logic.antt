@@ -1,5 +1,5 @@
 -- Three-valued logic (PostgreSQL manual, 9.1, and 9.2 on IS).
-use Rattle.std.specs.Prelude.{Bool, true, false, not, Option, Some, None, is_none, unwrap_or, Result, Ok, Err, if◌then◌else◌}
+use Rattle.std.specs.Prelude.{Bool, false, not, Option, Some, None, is_none, unwrap_or, Result, Ok, Err, if◌then◌else◌}
 use Rattle.std.specs.Bool.{beq}
 use Rattle.std.specs.Option.{option_map_or}
 use Rattle.sql_trees.specs.declared.expr.Truth.{Truth}
@@ -24,8 +24,8 @@ truth v = Err TypeMismatch
 abbrev pub condition : Bool → Known → Answer
 condition negated k = if_ok k (λ known. Ok (option_map_or (λ b. Boolean (if negated then not b else b)) known Null))
 
--- a side that is true decides an OR, and one that is false an AND; else NULL is left of a NULL, and the right side of another left one.
--- The right side isn't evaluated after a left one that decides or has a fault.
+-- true decides an OR, and false an AND: a side that is so is the result; else it is NULL where a side is NULL, and else the right side.
+-- The right side isn't evaluated after a left one that decides or has a fault
 abbrev pub decided_by : Bool → Known → Known → Known
 decided_by x (Ok (Some a)) b = if beq a x then Ok (Some a) else b
 decided_by x (Ok None) (Ok (Some b)) = Ok (if beq b x then Some b else None)

@@ -1,10 +1,9 @@
 -- What is said of the log is what is found among all that is noted of it.
-use Rattle.std.proofs.Common.{◌≡◌, refl, sym, ◌∙◌, ap, Bool, true, false, cond, not, ◌&&◌, ◌||◌, ◌==◌, ℕ, zero, suc, ◌+◌, List, [], ◌∷◌, map, filter, drop, reverse, arith}
+use Rattle.std.proofs.Common.{◌≡◌, refl, ◌∙◌, ap, Bool, true, false, cond, not, ◌&&◌, ◌||◌, ◌==◌, ℕ, zero, suc, ◌+◌, List, [], ◌∷◌, map, filter, drop, reverse, arith}
 use mathlib.Core.Path.{fun_ext}
 use mathlib.Core.List.{reverse_aux}
 use Rattle.std.specs.Prelude.{Option, Some, None, option_map, option_and_then, find, slice_get}
 use Rattle.std.specs.List.{list_any, enumerate_from}
-use Rattle.std.specs.Option.{option_map_or}
 use Rattle.sql_values.specs.declared.value.Value.{Value}
 use Rattle.row_versions.specs.declared.names.TxId.{TxId}
 use Rattle.row_versions.specs.declared.names.RowId.{RowId}
