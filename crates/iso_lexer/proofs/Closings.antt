@@ -1,5 +1,5 @@
 -- Where a quoted text is closed is where the code finds its end.
-use Rattle.std.proofs.Common.{◌≡◌, ◌≢◌, ℕ, suc, ◌+◌, ◌<◌, ◌≤◌, Bool, true, false, cond, List, [], ◌∷◌, length, Option, Some, None, sym, refl, ap, subst, ◌∙◌, arith, inl, inr, eq-eqb}
+use Rattle.std.proofs.Common.{◌≡◌, ◌≢◌, ℕ, suc, ◌+◌, Bool, true, false, List, [], ◌∷◌, length, Option, Some, None, sym, refl, ap, ◌∙◌, arith, inl, inr, eq-eqb}
 use Rattle.std.specs.Prelude.{◌&&◌, ◌==◌, ◌-◌, not, take, drop, position, option_map}
 use Rattle.std.specs.List.{before_first, position_or_len}
 use Rattle.std.specs.Option.{option_map_or}
@@ -9,7 +9,7 @@ use Rattle.iso_lexer.specs.declared.fault.FaultKind.{FaultKind}
 use Rattle.iso_lexer.specs.declared.fault.FaultKind.TheVariants.{NewlineInName}
 use Rattle.iso_lexer.specs.declared.quoted.Quoted.{Quoted}
 use Rattle.iso_lexer.specs.declared.quoted.Quoted.TheVariants.{Closed, Broken, Unclosed}
-use Rattle.iso_lexer.specs.Lexing.{Front, token, fault}
+use Rattle.iso_lexer.specs.Lexing.{token, fault}
 use Rattle.iso_lexer.specs.Quotes.{longer, closing, quoted_front, how_quoted, ComputedQuotes}
 use Rattle.iso_lexer.specs.Inner.Quotes.{quoted_from}
 use Rattle.iso_lexer.specs.Inner.Quotes.{quoted_front as front_of}

@@ -1,6 +1,6 @@
 -- What stands beside bytes, whichever of two texts is compared with the other.
-use Rattle.std.proofs.Common.{◌≡◌, ℕ, Bool, false, List, [], ◌∷◌, Option, sym, refl, ap, inl, inr, eq-eqb}
-use Rattle.std.specs.Prelude.{◌==◌, ◌&&◌, ◌≢◌, bytes_eq, option_map, find}
+use Rattle.std.proofs.Common.{◌≡◌, ℕ, Bool, List, [], ◌∷◌, sym, refl, ap, inl, inr, eq-eqb}
+use Rattle.std.specs.Prelude.{◌==◌, ◌&&◌, bytes_eq}
 use Rattle.std.proofs.lemmas.Bool.{ne_eqb, cases_eq}
 use Rattle.iso_lexer.specs.Bytes.{row_of}
 use Rattle.iso_lexer.specs.Inner.Runs.{spelled}

@@ -6,7 +6,7 @@ use Rattle.iso_lexer.specs.declared.quoted.Quoted.{Quoted}
 use Rattle.iso_lexer.specs.declared.quoted.Quoted.TheVariants.{Closed, Broken, Unclosed}
 use Rattle.iso_lexer.specs.Lexing.{Front, token}
 
--- how many bytes on a quoted text is closed: a doubled mark goes on, a mark that is not doubled closes; `alone` says that the byte before is a mark with no partner
+-- how many bytes on a quoted text is closed, by a mark that is not doubled; `alone` says that the byte before is a mark with no partner
 unfoldable pub closing : ℕ → Bool → List ℕ → Option ℕ
 closing mark alone [] = if alone then Some 0 else None
 closing mark alone (b ∷ bs) = if b == mark then option_map suc (closing mark (not alone) bs) else (if alone then Some 0 else option_map suc (closing mark false bs))

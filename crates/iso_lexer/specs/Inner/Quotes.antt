@@ -1,5 +1,5 @@
 -- Where a quoted name or string ends, as the code finds it: byte by byte.
-use Rattle.std.specs.Prelude.{ℕ, ◌+◌, ◌-◌, Bool, true, false, not, ◌&&◌, ◌==◌, List, [], ◌∷◌, take, drop, if◌then◌else◌}
+use Rattle.std.specs.Prelude.{ℕ, ◌+◌, ◌-◌, Bool, false, not, ◌&&◌, ◌==◌, List, [], ◌∷◌, take, drop, if◌then◌else◌}
 use Rattle.iso_lexer.specs.declared.fault.FaultKind.{FaultKind}
 use Rattle.iso_lexer.specs.declared.fault.FaultKind.TheVariants.{NewlineInName}
 use Rattle.iso_lexer.specs.declared.quoted.Quoted.{Quoted}
