@@ -33,7 +33,7 @@ abbrev pub OneLexing : Type 0
 OneLexing = (text : List ℕ) (x y : Result (List (At SqlToken)) Fault) → SqlLexes text x → SqlLexes text y → x ≡ y
 
 one_block : OneLexing → (text : List ℕ) (role : Role) (x y : Result (List StmtTree) SqlFault) → ReadsAs text role x → ReadsAs text role y → x ≡ y
-one_block one text role x y r s = one_reading text role x y (one text) r s
+one_block one text role x y r s = one_reading text role x y r s
 
 has_fault : (p : BlockWithRole) (f : SqlFault) → HasFault p f → ReadsAs p.part.sql p.role (Err f)
 has_fault p Memory h = absurd h

@@ -6,18 +6,20 @@ use Rattle.std.specs.Result.{result_map_both}
 use Rattle.iso_lexer.specs.declared.fault.Fault.{Fault}
 use Rattle.iso_lexer.specs.declared.token.At.{At}
 use Rattle.iso_lexer.specs.Lexing.{Front, gap, token, fault, Reads}
-use Rattle.iso_lexer.specs.Inner.Rules.{between, in_front}
 use Rattle.iso_lexer.specs.Lexing as lexing
-use Rattle.iso_lexer.specs.SqlText.{sql_front, SqlLexes}
+use Rattle.iso_lexer.specs.SqlText.{sql_front_of, sql_front, SqlLexes}
 use Rattle.iso_lexer.specs.declared.sql_token.SqlTok.{SqlTok}
 use Rattle.iso_lexer.specs.SqlTokens.{SqlToken, sql_at_views}
-use Rattle.iso_lexer.specs.Inner.Rules.{Shorter}
+use Rattle.iso_lexer.specs.Inner.Rules.{Shorter, between, in_front}
 use Rattle.iso_lexer.proofs.SqlRules.{sql_rules}
+use Rattle.iso_lexer.proofs.Lexing as lexing_proofs
+use Rattle.iso_lexer.proofs.Telling.{reads_told, nothing_told}
 use Rattle.sql_trees.specs.declared.fault.SqlFault.{SqlFault}
 use Rattle.sql_trees.specs.declared.fault.SqlFault.TheVariants.{Memory, Lex}
 use Rattle.sql_trees.specs.Statements.{StmtTree}
 use Rattle.sql_trees.specs.declared.token.Tok.{Tok}
-use Rattle.sql_trees.specs.Tokens.{classify_at, tok_at, tok_views}
+use Rattle.sql_trees.specs.Words.{word_of}
+use Rattle.sql_trees.specs.Tokens.{Tokens, classify_at, tok_at, tok_views}
 use Rattle.sql_expressions.specs.Results.{Gives, ◌>>=◌}
 use Rattle.sql_blocks.specs.declared.block.Role.{Role}
 use Rattle.sql_parser.proofs.Lists.{gives_same}
@@ -55,18 +57,23 @@ few_tokens text ts r = few r ts refl
 
 module _ {B : Type 0} (view : B → List StmtTree) (text : List ℕ) (role : Role) (ts : List (At SqlToken)) where
   reads : (r : Result B SqlFault) → SqlLexes text (Ok ts) → Gives view r (block_at (length text) role (map classify_at ts)) → Parses text role (seen view r)
-  reads (Ok b) l g = record { lexed = Ok ts; lexes = l; reads = g }
+  reads (Ok b) l g = record { lexed = Ok (map classify_at ts); lexes = reads_told word_of text (Ok ts) l; reads = g }
   reads (Err Memory) l g = tt
-  reads (Err _) l g = record { lexed = Ok ts; lexes = l; reads = g }
+  reads (Err _) l g = record { lexed = Ok (map classify_at ts); lexes = reads_told word_of text (Ok ts) l; reads = g }
 
   -- what the tokens read as, the text reads as
   pub parses : (r : Result B SqlFault) → SqlLexes text (Ok ts) → Gives view r (blocks.block_at (length text) role (map classify_at ts)) → Parses text role (seen view r)
   parses r l g = reads r l (gives_same view r (block_at (length text) role (map classify_at ts)) (blocks.block_at (length text) role (map classify_at ts)) (block_same (length text) role (map classify_at ts)) g)
 
--- where a text's tokens are one thing, what it is read as is one thing
-pub one_reading : (text : List ℕ) (role : Role) (x y : Result (List StmtTree) SqlFault) → ((a b : Result (List (At SqlToken)) Fault) → SqlLexes text a → SqlLexes text b → a ≡ b) → ReadsAs text role x → ReadsAs text role y → x ≡ y
-one_reading text role x y one r s =
-    sym r.reads ∙ ap (λ (l : Result (List (At SqlToken)) Fault). result_map_both (map classify_at) Lex l >>= block_at (length text) role) (one r.lexed s.lexed r.lexes s.lexes) ∙ s.reads
+-- a text with a fault of its tokens has that fault
+pub has_fault : (text : List ℕ) (role : Role) (f : Fault) → SqlLexes text (Err f) → Parses text role (Err (Lex f))
+has_fault text role f l = record { lexed = Err f; lexes = reads_told word_of text (Err f) l; reads = refl }
+
+-- what a text is read as is one thing
+pub one_reading : (text : List ℕ) (role : Role) (x y : Result (List StmtTree) SqlFault) → ReadsAs text role x → ReadsAs text role y → x ≡ y
+one_reading text role x y r s =
+    let one : r.lexed ≡ s.lexed = lexing_proofs.one_reading (sql_front_of word_of) (length text) text r.lexed s.lexed (nothing_told word_of) r.lexes s.lexes in
+    sym r.reads ∙ ap (λ (l : Result Tokens Fault). result_map_both (λ ts. ts) Lex l >>= block_at (length text) role) one ∙ s.reads
 
 -- nor has it more with their keywords
 pub tokens_fit : (text : List ℕ) (xs : List (At SqlTok)) (ys : List (At Tok)) → SqlLexes text (Ok (sql_at_views xs)) → tok_views ys ≡ map classify_at (sql_at_views xs) → length ys ≤ length text
