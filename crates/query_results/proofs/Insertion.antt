@@ -1,9 +1,11 @@
 -- Insertion sorts.
-use Rattle.std.proofs.Common.{◌≡◌, ℕ, zero, suc, ◌+◌, ◌<◌, ◌≤◌, Bool, true, false, List, [], ◌∷◌, ◌++◌, length, refl, sym, subst, arith, add-one, append-nil, append_assoc, if◌then◌else◌}
+use Rattle.std.proofs.Common.{◌≡◌, ℕ, zero, suc, ◌+◌, ◌<◌, ◌≤◌, Bool, true, false, List, [], ◌∷◌, ◌++◌, length, refl, sym, ap, ◌∙◌, subst, arith, add-one, append-nil, append_assoc, if◌then◌else◌}
 use Rattle.std.specs.Prelude.{⊤, All, fold, slice_index_or}
 use Rattle.std.specs.List.{range_with_len, AllAdjacentBelow}
 use Rattle.std.specs.List.Sorted.{IsPermutation}
-use Rattle.std.specs.Ordering.{is_lt, ordering_reverse, MatchOrdering}
+use Rattle.std.specs.BTreeSet.{insert_key}
+use Rattle.std.specs.Cmp.{nat_cmp_is}
+use Rattle.std.specs.Ordering.{is_lt, match_ordering, nat_cmp, ordering_reverse, ordering_then, MatchOrdering}
 use Rattle.std.specs.declared.cmp.Ordering.{Ordering}
 use Rattle.std.specs.declared.cmp.Ordering.TheVariants.{Less, Equal, Greater}
 use Rattle.std.proofs.lemmas.List.FromFn.{get_or-range_with_len, length-range_with_len}
@@ -11,7 +13,8 @@ use Rattle.std.proofs.lemmas.List.Sorted.{IsPermutation-refl, IsPermutation-cons
 use Rattle.sql_trees.specs.declared.kind.Dir.{Dir}
 use Rattle.sql_values.specs.declared.value.Value.{Value}
 use Rattle.sql_values.specs.Sorting.{keys_at, row_order, MayPrecede, IsSortedOrder}
-use Rattle.query_results.specs.Ordering.{put_in, sorted_places}
+use Rattle.query_results.specs.Ordering.{sorted_places}
+use Rattle.query_results.specs.Inner.Insertion.{put_in, put_all}
 
 -- two rows stand the other way round where they are exchanged
 abbrev pub Turns : Type 0
@@ -116,11 +119,54 @@ each_once by keys sorted (p ∷ ps) =
     subst (λ (all : List ℕ). IsPermutation all (next ++ ps)) (append_assoc sorted (p ∷ []) ps) (IsPermutation-append_left ps (sorted ++ p ∷ []) next one) in
     IsPermutation-trans (sorted ++ (p ∷ ps)) (next ++ ps) (fold (put_in by keys) next ps) this (each_once by keys next ps)
 
-pub insertion_sorts : (turns : Turns) (by : List Dir) (keys : List (List Value)) → IsSortedOrder by keys (sorted_places by keys)
-insertion_sorts turns by keys = record {
+all_in_order : (turns : Turns) (by : List Dir) (keys : List (List Value)) → IsSortedOrder by keys (put_all by keys)
+all_in_order turns by keys = record {
   each_once = each_once by keys [] (range_with_len 0 (length keys));
-  in_order = adjacent by keys (sorted_places by keys) (range_in_turn turns by keys 0 (length keys) [] tt tt);
+  in_order = adjacent by keys (put_all by keys) (range_in_turn turns by keys 0 (length keys) [] tt tt);
 }
+
+-- each place is below p
+abbrev Below : ℕ → List ℕ → Type 0
+Below p [] = Unit {0}
+Below p (q ∷ qs) = (q < p) × Below p qs
+
+none_above : (p : ℕ) (qs : List ℕ) → Below p qs → NoneAbove p qs
+none_above p [] h = tt
+none_above p (q ∷ qs) h = let low = h.0 in (omega arith, none_above p qs h.1)
+
+below_next : (p : ℕ) (qs : List ℕ) → NoneAbove p qs → Below (p + 1) qs
+below_next p [] h = tt
+below_next p (q ∷ qs) h = let low = h.0 in (omega arith, below_next p qs h.1)
+
+-- places are compared by their rows' keys, and then as numbers
+abbrev in_turn_with : List Dir → List (List Value) → ℕ → ℕ → Ordering
+in_turn_with by keys p q = ordering_then (stands by keys p q) (nat_cmp p q)
+
+inserted_by : (r n : Ordering) (p q : ℕ) (qs these those : List ℕ) → n ≡ Greater → these ≡ those
+    → match_ordering (ordering_then r n) (p ∷ q ∷ qs) (q ∷ qs) (q ∷ these) ≡ (if is_lt r then p ∷ q ∷ qs else q ∷ those)
+inserted_by Less n p q qs these those behind same = refl
+inserted_by Equal n p q qs these those behind same = ap (λ o. match_ordering o (p ∷ q ∷ qs) (q ∷ qs) (q ∷ these)) behind ∙ ap (λ xs. q ∷ xs) same
+inserted_by Greater n p q qs these those behind same = ap (λ xs. q ∷ xs) same
+
+-- behind places that are all below it, a place goes by its row's keys alone
+inserted : (by : List Dir) (keys : List (List Value)) (p : ℕ) (qs : List ℕ) → Below p qs → insert_key (in_turn_with by keys) qs p ≡ put_in by keys qs p
+inserted by keys p [] low = refl
+inserted by keys p (q ∷ qs) low =
+    inserted_by (stands by keys p q) (nat_cmp p q) p q qs (insert_key (in_turn_with by keys) qs p) (put_in by keys qs p)
+    (sym (nat_cmp_is p q Greater low.0)) (inserted by keys p qs low.1)
+
+inserted_from : (by : List Dir) (keys : List (List Value)) (k n : ℕ) (sorted : List ℕ) → Below k sorted
+    → fold (insert_key (in_turn_with by keys)) sorted (range_with_len k n) ≡ fold (put_in by keys) sorted (range_with_len k n)
+inserted_from by keys k zero sorted low = refl
+inserted_from by keys k (suc n) sorted low =
+    ap (λ s. fold (insert_key (in_turn_with by keys)) s (range_with_len (k + 1) n)) (inserted by keys k sorted low)
+    ∙ inserted_from by keys (k + 1) n (put_in by keys sorted k) (below_next k (put_in by keys sorted k) (none_above_put by keys k k sorted (omega arith) (none_above k sorted low)))
+
+pub all_inserted : (by : List Dir) (keys : List (List Value)) → sorted_places by keys ≡ put_all by keys
+all_inserted by keys = inserted_from by keys 0 (length keys) [] tt
+
+pub insertion_sorts : (turns : Turns) (by : List Dir) (keys : List (List Value)) → IsSortedOrder by keys (sorted_places by keys)
+insertion_sorts turns by keys = subst (IsSortedOrder by keys) (sym (all_inserted by keys)) (all_in_order turns by keys)
 
 range_within : (n : ℕ) → All (λ i. i < n) (range_with_len 0 n)
 range_within n k d less =
@@ -135,4 +181,5 @@ order_within by keys sorted n h long =
 
 pub places_within : (by : List Dir) (keys : List (List Value)) (n : ℕ) → length keys ≡ n → All (λ i. i < n) (sorted_places by keys)
 places_within by keys n long =
-    rw (← long) (All-permutation (λ i. i < length keys) (range_with_len 0 (length keys)) (sorted_places by keys) (each_once by keys [] (range_with_len 0 (length keys))) (range_within (length keys)))
+    subst (All (λ i. i < n)) (sym (all_inserted by keys))
+    (rw (← long) (All-permutation (λ i. i < length keys) (range_with_len 0 (length keys)) (put_all by keys) (each_once by keys [] (range_with_len 0 (length keys))) (range_within (length keys))))

@@ -9,7 +9,9 @@ use Rattle.sql_values.specs.declared.fault.ValueFault.{ValueFault}
 use Rattle.sql_values.specs.Values.{if_ok, each}
 use Rattle.sql_values.specs.Sorting.{keys_at}
 use Rattle.sql_values.specs.Expressions.{Cols}
-use Rattle.query_results.specs.Ordering.{put_in, rows_at}
+use Rattle.query_results.specs.Ordering.{rows_at}
+use Rattle.query_results.specs.Inner.Insertion.{put_in}
+use Rattle.query_results.proofs.Insertion.{all_inserted}
 use Rattle.query_results.specs.Queries.{by_keys}
 use Rattle.query_results.specs.Inner.Pieces.{keys_of}
 
@@ -51,6 +53,6 @@ pub unsorted : (cols : Cols) (is : List ItemTree) (rows : List (List Value)) (pl
 unsorted cols is rows places =
     let keys = no_keys (rows_at rows places) in
     ap (λ (r : Result (List (List Value)) ValueFault). if_ok r (by_keys [] places)) (each_none cols is (rows_at rows places))
-    ∙ ap (λ ps. Ok (map (λ i. slice_index_or places i 0) ps)) (put_as_they_are keys [] (range_with_len 0 (length keys)))
+    ∙ ap (λ ps. Ok (map (λ i. slice_index_or places i 0) ps)) (all_inserted [] keys ∙ put_as_they_are keys [] (range_with_len 0 (length keys)))
     ∙ ap (λ n. Ok (map (λ i. slice_index_or places i 0) (range_with_len 0 n))) (as_many rows places)
     ∙ ap Ok (read_all places)

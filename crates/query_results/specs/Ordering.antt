@@ -1,7 +1,8 @@
 -- How rows are sorted by their keys, as a function (PostgreSQL manual, 7.5).
-use Rattle.std.specs.Prelude.{ℕ, List, [], ◌∷◌, length, map, fold, if◌then◌else◌}
+use Rattle.std.specs.Prelude.{ℕ, List, [], length, map, fold}
 use Rattle.std.specs.List.{range_with_len}
-use Rattle.std.specs.Ordering.{is_lt}
+use Rattle.std.specs.BTreeSet.{insert_key}
+use Rattle.std.specs.Ordering.{nat_cmp, ordering_then}
 use Rattle.sql_trees.specs.declared.kind.Dir.{Dir}
 use Rattle.sql_values.specs.declared.value.Value.{Value}
 use Rattle.sql_values.specs.Sorting.{keys_at, row_order}
@@ -10,11 +11,6 @@ use Rattle.sql_values.specs.Sorting.{keys_at, row_order}
 abbrev pub rows_at : List (List Value) → List ℕ → List (List Value)
 rows_at rows places = map (keys_at rows) places
 
--- a place is put in among sorted ones: before the first whose row stands behind its row by their keys, or at the end
-abbrev pub put_in : List Dir → List (List Value) → List ℕ → ℕ → List ℕ
-put_in by keys [] p = p ∷ []
-put_in by keys (q ∷ qs) p = if is_lt (row_order 0 by (keys_at keys p) (keys_at keys q)) then p ∷ q ∷ qs else q ∷ put_in by keys qs p
-
--- the places of the rows with these keys, from 0, as they are sorted: one after the other is put in, so that rows with equal keys stay in their order
+-- the places of the rows with these keys, from 0, as they are sorted: one after the other is put in by its row's keys, and where these are equal by the place itself
 abbrev pub sorted_places : List Dir → List (List Value) → List ℕ
-sorted_places by keys = fold (put_in by keys) [] (range_with_len 0 (length keys))
+sorted_places by keys = fold (insert_key (λ p q. ordering_then (row_order 0 by (keys_at keys p) (keys_at keys q)) (nat_cmp p q))) [] (range_with_len 0 (length keys))
