@@ -1,5 +1,5 @@
 -- What a query answers at the rows of its table, and what an INSERT makes of its values (PostgreSQL manual, SELECT and INSERT).
-use Rattle.std.specs.Prelude.{ℕ, ◌-◌, ◌==◌, ℤ, pos, int_le, int_lt, Bool, not, ◌&&◌, ◌||◌, List, [], ◌∷◌, ◌++◌, length, map, flat_map, replicate}
+use Rattle.std.specs.Prelude.{ℕ, ◌-◌, ◌==◌, ℤ, pos, int_le, int_lt, not, ◌&&◌, ◌||◌, List, [], ◌∷◌, ◌++◌, length, map, flat_map, replicate}
 use Rattle.std.specs.Prelude.{Option, Some, None, is_none, option_map, option_to_list, find, filter, filter_map, position, zip}
 use Rattle.std.specs.Prelude.{bytes_eq, slice_set, slice_index_or, Result, Ok, Err, if◌then◌else◌}
 use Rattle.std.specs.List.{enumerate_from}
@@ -27,7 +27,7 @@ use Rattle.query_results.specs.Ordering.{rows_at, sorted_places}
 
 -- columns as expressions know them
 abbrev pub cols_of : List ColumnTree → Cols
-cols_of columns = map (λ (c : ColumnTree). (c.name, c.kind)) columns
+cols_of columns = map (λ c. (c.name, c.kind)) columns
 
 abbrev mutual
   -- the columns that an expression names, in the order of the text; a literal names none
@@ -60,11 +60,11 @@ meant [] key = key
 abbrev pub select_exprs : SelectTree → List Tree
 select_exprs s =
     flat_map (λ i. elim i [ stmt.Value e alias ↦ e ∷ [] | stmt.Aggregate (tree.Of k e) alias ↦ e ∷ [] | other ↦ [] ]) s.items
-    ++ option_to_list s.filter ++ map (λ (k : OrderTree). meant s.items k.expr) s.order
+    ++ option_to_list s.filter ++ map (λ k. meant s.items k.expr) s.order
 
 -- the places of the rows that pass WHERE, once it is tested at all of them
 abbrev pub passing : Cols → Option Tree → List (List Value) → Result (List ℕ) ValueFault
-passing cols condition rows = if_ok (each (passes condition cols) rows) (λ ps. Ok (map (λ (p : ℕ × Bool). p.0) (filter (λ (p : ℕ × Bool). p.1) (enumerate_from 0 ps))))
+passing cols condition rows = if_ok (each (passes condition cols) rows) (λ ps. Ok (map (λ p. p.0) (filter (λ p. p.1) (enumerate_from 0 ps))))
 
 -- what an item answers at a row, in each of its columns; an aggregate has none
 abbrev pub item_values : Cols → List Value → ItemTree → List Answer
@@ -78,7 +78,7 @@ row_values cols is row = each (λ answer. answer) (flat_map (item_values cols ro
 
 -- the titles of what an item shows: of an expression its alias, or the name of the column that it is, or none
 abbrev pub item_titles : List ColumnTree → ItemTree → List Title
-item_titles columns stmt.All = map (λ (c : ColumnTree). Named c.name) columns
+item_titles columns stmt.All = map (λ c. Named c.name) columns
 item_titles columns (stmt.Value e alias) = option_map_or Named alias (elim e [ tree.Column name ↦ Named name | other ↦ Unnamed ]) ∷ []
 item_titles columns (stmt.Aggregate a alias) = []
 
@@ -88,7 +88,7 @@ titles_of columns is = flat_map (item_titles columns) is
 -- the first of the numbers in ORDER BY that is none of the result's columns, which are counted from 1
 abbrev pub wrong_position : List ColumnTree → SelectTree → Option ℤ
 wrong_position columns s =
-    let numbers = filter_map (λ (k : OrderTree). elim k.expr [ tree.Number negative n ↦ Some (signed negative n) | other ↦ None ]) s.order in
+    let numbers = filter_map (λ k. elim k.expr [ tree.Number negative n ↦ Some (signed negative n) | other ↦ None ]) s.order in
     find (λ n. not (int_lt (pos 0) n && int_le n (pos (length (titles_of columns s.items))))) numbers
 
 -- the value of a key of ORDER BY at a row: a number literal means that column of the result, counted from 1, or NULL where there is none
@@ -103,7 +103,7 @@ by_keys by places keys = if can_sort by keys then Ok (map (λ i. slice_index_or 
 -- the places of the rows that pass WHERE, as ORDER BY sorts them: the keys of all these rows are evaluated, row by row, before any are compared
 abbrev pub taken : SelectTree → List ColumnTree → List (List Value) → Result (List ℕ) ValueFault
 taken s columns rows = let cols = cols_of columns in if_ok (passing cols s.filter rows) (λ places.
-    if_ok (each (λ row. each (λ (k : OrderTree). key_value cols s.items row k.expr) s.order) (rows_at rows places)) (by_keys (map (λ (k : OrderTree). k.dir) s.order) places))
+    if_ok (each (λ row. each (λ k. key_value cols s.items row k.expr) s.order) (rows_at rows places)) (by_keys (map (λ k. k.dir) s.order) places))
 
 -- the aggregate that an item is, titled by its alias, or by what it counts, sums or compares (9.21): a SELECT that has any has nothing else
 abbrev pub aggregate_in : ItemTree → Option (AggTree × Title)
@@ -134,7 +134,7 @@ at_place c = record { place = c.0; kind = c.1.kind }
 
 -- the first column of that name
 abbrev pub assigned_named : List ColumnTree → List ℕ → Option AssignedColumn
-assigned_named columns name = option_map at_place (find (λ (c : ℕ × ColumnTree). bytes_eq c.1.name name) (enumerate_from 0 columns))
+assigned_named columns name = option_map at_place (find (λ c. bytes_eq c.1.name name) (enumerate_from 0 columns))
 
 -- the columns of a list of names, or the first name that no column has; without a list the values go to the first columns
 abbrev pub columns_assigned : List ColumnTree → Option (List (List ℕ)) → Result (List AssignedColumn) (List ℕ)
@@ -152,4 +152,4 @@ new_values width to row = if_ok (each (λ e. value e [] []) row) (λ values. fil
 
 -- the first column that is NULL and must not be
 abbrev pub null_in : List ColumnTree → List Value → Option (List ℕ)
-null_in columns values = option_map (λ (c : ColumnTree × Value). c.0.name) (find (λ c. c.0.not_null && is_null c.1) (zip columns values))
+null_in columns values = option_map (λ c. c.0.name) (find (λ c. c.0.not_null && is_null c.1) (zip columns values))
