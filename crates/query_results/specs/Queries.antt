@@ -58,8 +58,7 @@ meant [] key = key
 
 -- the expressions of a SELECT, as they are looked at: of its items, where `*` and count(*) have none, then WHERE, then what its keys mean
 abbrev pub select_exprs : SelectTree → List Tree
-select_exprs s =
-    flat_map (λ i. elim i [ stmt.Value e alias ↦ e ∷ [] | stmt.Aggregate (tree.Of k e) alias ↦ e ∷ [] | other ↦ [] ]) s.items
+select_exprs s = flat_map (λ i. elim i [ stmt.Value e alias ↦ e ∷ [] | stmt.Aggregate (tree.Of k e) alias ↦ e ∷ [] | other ↦ [] ]) s.items
     ++ option_to_list s.filter ++ map (λ k. meant s.items k.expr) s.order
 
 -- the places of the rows that pass WHERE, once it is tested at all of them
@@ -87,9 +86,8 @@ titles_of columns is = flat_map (item_titles columns) is
 
 -- the first of the numbers in ORDER BY that is none of the result's columns, which are counted from 1
 abbrev pub wrong_position : List ColumnTree → SelectTree → Option ℤ
-wrong_position columns s =
-    let numbers = filter_map (λ k. elim k.expr [ tree.Number negative n ↦ Some (signed negative n) | other ↦ None ]) s.order in
-    find (λ n. not (int_lt (pos 0) n && int_le n (pos (length (titles_of columns s.items))))) numbers
+wrong_position columns s = find (λ n. not (int_lt (pos 0) n && int_le n (pos (length (titles_of columns s.items)))))
+    (filter_map (λ k. elim k.expr [ tree.Number negative n ↦ Some (signed negative n) | other ↦ None ]) s.order)
 
 -- the value of a key of ORDER BY at a row: a number literal means that column of the result, counted from 1, or NULL where there is none
 abbrev pub key_value : Cols → List ItemTree → List Value → Tree → Answer
@@ -102,8 +100,8 @@ by_keys by places keys = if can_sort by keys then Ok (map (λ i. slice_index_or 
 
 -- the places of the rows that pass WHERE, as ORDER BY sorts them: the keys of all these rows are evaluated, row by row, before any are compared
 abbrev pub taken : SelectTree → List ColumnTree → List (List Value) → Result (List ℕ) ValueFault
-taken s columns rows = let cols = cols_of columns in if_ok (passing cols s.filter rows) (λ places.
-    if_ok (each (λ row. each (λ k. key_value cols s.items row k.expr) s.order) (rows_at rows places)) (by_keys (map (λ k. k.dir) s.order) places))
+taken s columns rows = if_ok (passing (cols_of columns) s.filter rows) (λ places.
+    if_ok (each (λ row. each (λ k. key_value (cols_of columns) s.items row k.expr) s.order) (rows_at rows places)) (by_keys (map (λ k. k.dir) s.order) places))
 
 -- the aggregate that an item is, titled by its alias, or by what it counts, sums or compares (9.21): a SELECT that has any has nothing else
 abbrev pub aggregate_in : ItemTree → Option (AggTree × Title)
