@@ -17,9 +17,11 @@ use Rattle.row_versions.proofs.Last.{newest_is_the_last}
 use Rattle.row_locks.specs.declared.held.Held.{Held}
 use Rattle.row_locks.specs.Waiting.{Waiting}
 use Rattle.update_recheck.specs.Asked.{Asked}
-use Rattle.update_recheck.specs.Outcome.{Holders, Version, rechecked, outcome, holders, version_at, target_outcome}
+use Rattle.update_recheck.specs.Outcome.{Version, version_at, target_outcome}
 use Rattle.update_recheck.specs.Inner.Stopping.{version_of}
-use Rattle.update_recheck.specs.Outcome.Holders.{Nobody, Others, OthersInACycle}
+use Rattle.update_recheck.proofs.Cases.{outcome_is}
+use Rattle.update_recheck.specs.Inner.Cases.{Holders, rechecked, outcome, holders}
+use Rattle.update_recheck.specs.Inner.Cases.Holders.{Nobody, Others, OthersInACycle}
 use Rattle.update_recheck.specs.Outcome.Version.{Same, Gone, Newer}
 use Rattle.update_recheck.specs.Outcome.Outcome.{Takes}
 use Rattle.session_laws.proofs.Fitting.{its_values}
@@ -67,7 +69,7 @@ newer_is RepeatableRead found newer s Others r e = cc
 newer_is RepeatableRead found newer s OthersInACycle r e = cc
 
 pub takes_version : (c : Content) (held : List Held) (waits : List Waiting) (a : Asked) (s : Seen) → target_outcome c held waits a ≡ Takes s → IsVersion c a.seen.row s
-takes_version c held waits a s h = at_newest (newest_of c a.seen.row a.tx) refl h where
+takes_version c held waits a s h = at_newest (newest_of c a.seen.row a.tx) refl (sym (outcome_is c held waits a) ∙ h) where
   who : Holders
   who = holders held waits a
 

@@ -25,9 +25,11 @@ use Rattle.query_results.specs.Queries.{AssignedColumn, null_in}
 use Rattle.query_results.specs.Updates.{updated}
 use Rattle.query_results.proofs.Placing.{length-updated}
 use Rattle.update_recheck.specs.Asked.{Asked}
-use Rattle.update_recheck.specs.Outcome.{Holders, Version, Outcome, rechecked, outcome, holders, version_at, newest_version, target_outcome}
+use Rattle.update_recheck.specs.Outcome.{Version, Outcome, version_at, newest_version, target_outcome}
 use Rattle.update_recheck.specs.Inner.Stopping.{version_of}
-use Rattle.update_recheck.specs.Outcome.Holders.{Nobody, Others, OthersInACycle}
+use Rattle.update_recheck.specs.Inner.Cases.{Holders, rechecked, outcome, holders}
+use Rattle.update_recheck.specs.Inner.Cases.Holders.{Nobody, Others, OthersInACycle}
+use Rattle.update_recheck.proofs.Cases.{outcome_is}
 use Rattle.update_recheck.specs.Outcome.Version.{Same, Gone, Newer}
 use Rattle.update_recheck.specs.Outcome.Outcome.{Takes, Skips, Waits, Deadlocks, Serializes, Faults}
 use Rattle.session_machine.specs.Tables.{Database, Catalog, Table}
@@ -101,8 +103,9 @@ pub outcome_fits : (db : Database) (w : Work) (act : Act) (seen : Seen) (waits :
     → Comes (IsFit db w) (target_outcome db.content db.held waits (asks db w act seen))
 outcome_fits db w act seen waits orderly its =
     let a = asks db w act seen in
-    outcome_comes (IsFit db w) w.t.level seen (holders db.held waits a) (newest_version db.content a)
-    (newest_comes (IsFit db w) db.content a (newest_of db.content seen.row w.t.tx) newest) where
+    subst (Comes (IsFit db w)) (sym (outcome_is db.content db.held waits a))
+    (outcome_comes (IsFit db w) w.t.level seen (holders db.held waits a) (newest_version db.content a)
+    (newest_comes (IsFit db w) db.content a (newest_of db.content seen.row w.t.tx) newest)) where
       long : (m : Seen) (values : List Value) → newest_of db.content seen.row w.t.tx ≡ Some m → values_at db.content m.place ≡ Some values → length (values_of db m) ≡ length (columns_in db w)
       long m values e has =
           ap (λ (o : Option (List Value)). length (unwrap_or o [])) has

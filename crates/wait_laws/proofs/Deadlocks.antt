@@ -1,5 +1,5 @@
 -- When a target is answered as a deadlock, and when as a wait.
-use Rattle.std.proofs.Common.{◌≡◌, ◌↔◌, refl, Bool, true, false, List, [], ◌∷◌}
+use Rattle.std.proofs.Common.{◌≡◌, ◌↔◌, refl, sym, ◌∙◌, Bool, true, false, List, [], ◌∷◌}
 use Rattle.std.specs.Prelude.{Result, Ok, Err}
 use Rattle.std.specs.List.{list_any}
 use Rattle.sql_trees.specs.declared.stmt.Level.{Level}
@@ -10,7 +10,9 @@ use Rattle.row_versions.specs.declared.write.Seen.{Seen}
 use Rattle.row_versions.specs.Members.{is_none_of}
 use Rattle.row_locks.specs.Cycles.{leads, closes}
 use Rattle.row_locks.proofs.Waiting.{closes_says}
-use Rattle.update_recheck.specs.Outcome.{Holders, Nobody, Others, OthersInACycle, Version, Same, Gone, Newer, row_blockers, newest_version, outcome, rechecked}
+use Rattle.update_recheck.specs.Outcome.{Version, Same, Gone, Newer, row_blockers, newest_version}
+use Rattle.update_recheck.specs.Inner.Cases.{Holders, Nobody, Others, OthersInACycle, outcome, rechecked}
+use Rattle.update_recheck.proofs.Cases.{outcome_is}
 use Rattle.update_recheck.specs.Inner.Stopping.{holders_of}
 use Rattle.update_recheck.specs.Outcome.Outcome.{Waits, Deadlocks}
 use Rattle.wait_laws.specs.Laws.{is_worth_a_wait, DeadlockIsExact}
@@ -79,15 +81,16 @@ deadlock_is_exact c held list ask =
     let closing = closes list ask.tx bs in
     let says = closes_says list ask.tx bs in
     let v = newest_version c ask in
+    let is = outcome_is c held list ask in
     let d = deadlocks ask.level ask.seen (holders_of bs closing) v in
     let w = waits ask.level ask.seen (holders_of bs closing) v in
     record {
       deadlocks = (
-        λ h. let k = d.0 h in (k.0, says.0 ((in_a_cycle bs closing).0 k.1).1),
-        λ h. d.1 (h.0, (in_a_cycle bs closing).1 (some_of (λ b. leads list b ask.tx) bs (says.1 h.1), says.1 h.1)),
+        λ h. let k = d.0 (sym is ∙ h) in (k.0, says.0 ((in_a_cycle bs closing).0 k.1).1),
+        λ h. is ∙ d.1 (h.0, (in_a_cycle bs closing).1 (some_of (λ b. leads list b ask.tx) bs (says.1 h.1), says.1 h.1)),
       );
       waits_else = (
-        λ h. let k = w.0 h in let o = (others bs closing).0 k.1 in (k.0, o.0, λ e. false_not closing o.1 (says.1 e)),
-        λ h. w.1 (h.0, (others bs closing).1 (h.1, false_is closing (λ e. h.2 (says.0 e)))),
+        λ h. let k = w.0 (sym is ∙ h) in let o = (others bs closing).0 k.1 in (k.0, o.0, λ e. false_not closing o.1 (says.1 e)),
+        λ h. is ∙ w.1 (h.0, (others bs closing).1 (h.1, false_is closing (λ e. h.2 (says.0 e)))),
       );
     }

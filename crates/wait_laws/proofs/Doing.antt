@@ -31,7 +31,9 @@ use Rattle.row_locks.specs.Cycles.{closes}
 use Rattle.row_locks.proofs.Reaching.{and_both}
 use Rattle.unique_keys.specs.Checks.{KeyFound, KeyIsFree, KeyIsTaken, KeyIsHeld, found_by, key_found}
 use Rattle.update_recheck.specs.Asked.{Asked}
-use Rattle.update_recheck.specs.Outcome.{Holders, Nobody, Others, OthersInACycle, Version, Same, Gone, Newer, holders, is_locked, newest_version, outcome, version_at}
+use Rattle.update_recheck.specs.Outcome.{Version, Same, Gone, Newer, newest_version, version_at}
+use Rattle.update_recheck.specs.Inner.Cases.{Holders, Nobody, Others, OthersInACycle, holders, is_locked, outcome}
+use Rattle.update_recheck.proofs.Cases.{outcome_is, locked_is}
 use Rattle.update_recheck.specs.Inner.Stopping.{holders_of, version_of}
 use Rattle.update_recheck.specs.Settling.{lock_of, locks_after}
 use Rattle.session_machine.specs.declared.session.OpenTransaction.{OpenTransaction}
@@ -244,11 +246,17 @@ comes_target : (P Q : Database → Type 0) (act : Database → Seen → Visit) (
     → ((d : Database) (seen : Seen) → P d → holds d.held (lock_of a) ≡ true → seen.row ≡ a.seen.row → Comes w.t.tx P w.around.sessions (act d seen).db (act d seen).stop)
     → Comes w.t.tx P w.around.sessions (at_target act db w a).db (at_target act db w a).stop
 comes_target P Q act db w a own keeps p does =
-    at_case w.t.tx P w.around.sessions act db a a.level (holders db.held (waits_in db w.around.sessions) a) (newest_version db.content a) p
+    let waits = waits_in db w.around.sessions in
+    let who = holders db.held waits a in
+    let v = newest_version db.content a in
+    let by_case : at_outcome act (record db { held = locks_after (is_locked a.level who v) db.held (lock_of a) }) a (outcome a.level a.seen who v) ≡ at_target act db w a =
+    λ i. at_outcome act (record db { held = locks_after (sym (locked_is db.content db.held waits a) i) db.held (lock_of a) }) a (sym (outcome_is db.content db.held waits a) i) in
+    subst (λ (y : Visit). Comes w.t.tx P w.around.sessions y.db y.stop) by_case
+    (at_case w.t.tx P w.around.sessions act db a a.level who v p
     (λ none is. let t = version_there db.content a is in
     keeps.lock db (lock_of a) own (record { free = nobody_says _ _ none; place = t.place; write = t.write; there = t.there; its = t.its }) p) does
     (λ e. let o = others_say _ _ e in subst (λ t. Refused t w.around.sessions db (Row a.seen.row a.strength)) own (record { free = o.0; stopped = o.1 }))
-    (newer_row db.content a)
+    (newer_row db.content a))
 
 -- a write of a held row
 writes : (P Q : Database → Type 0) (d : Database) (w : Work) (a : Asked) (row : RowId) (values : Option (List Value)) → a.tx ≡ w.t.tx → a.strength ≡ Exclusive → Keeps w.t.tx w.t.command P Q → P d

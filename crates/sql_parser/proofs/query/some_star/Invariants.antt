@@ -1,6 +1,6 @@
 use Rattle.std.proofs.Common.{◌≡◌, length, map}
 use Rattle.std.specs.List.{list_any}
-use Rattle.sql_blocks.specs.Parts.{is_all}
+use Rattle.sql_blocks.specs.Inner.Parts.{is_all}
 use Rattle.sql_trees.specs.Statements.{item_of}
 use Rattle.sql_parser.proofs.query.some_star.Given as goal
 
