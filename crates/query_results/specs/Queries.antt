@@ -1,7 +1,7 @@
 -- What a query answers at the rows of its table, and what an INSERT makes of its values (PostgreSQL manual, SELECT and INSERT).
 use Rattle.std.specs.Prelude.{ℕ, ◌-◌, ◌==◌, ℤ, pos, int_le, int_lt, not, ◌&&◌, ◌||◌, List, [], ◌∷◌, ◌++◌, length, map, flat_map, replicate}
 use Rattle.std.specs.Prelude.{Option, Some, None, is_none, option_map, option_to_list, find, filter, filter_map, position, zip}
-use Rattle.std.specs.Prelude.{bytes_eq, slice_set, slice_index_or, Result, Ok, Err, if◌then◌else◌}
+use Rattle.std.specs.Prelude.{bytes_eq, slice_set, slice_index_or, ok_or, Result, Ok, Err, if◌then◌else◌}
 use Rattle.std.specs.List.{enumerate_from}
 use Rattle.std.specs.Option.{option_map_or}
 use Rattle.sql_trees.specs.declared.kind.Kind.{Kind}
@@ -130,14 +130,10 @@ pub record AssignedColumn : Type 0 where
 abbrev pub at_place : ℕ × ColumnTree → AssignedColumn
 at_place c = record { place = c.0; kind = c.1.kind }
 
--- the first column of that name
-abbrev pub assigned_named : List ColumnTree → List ℕ → Option AssignedColumn
-assigned_named columns name = option_map at_place (find (λ c. bytes_eq c.1.name name) (enumerate_from 0 columns))
-
--- the columns of a list of names, or the first name that no column has; without a list the values go to the first columns
+-- the columns of a list of names, of each the first, or the first name that no column has; without a list the values go to the first columns
 abbrev pub columns_assigned : List ColumnTree → Option (List (List ℕ)) → Result (List AssignedColumn) (List ℕ)
 columns_assigned columns None = Ok (map at_place (enumerate_from 0 columns))
-columns_assigned columns (Some names) = option_map_or Err (find (λ name. is_none (assigned_named columns name)) names) (Ok (filter_map (assigned_named columns) names))
+columns_assigned columns (Some names) = each (λ name. ok_or (option_map at_place (find (λ c. bytes_eq c.1.name name) (enumerate_from 0 columns))) name) names
 
 -- the row with each value at its column's place, as the column takes it
 abbrev pub filled : List AssignedColumn → List Value → List Value → Result (List Value) ValueFault

@@ -22,12 +22,12 @@ Answers (Ok x) answer = answer ≡ Ok x
 Answers (Err e) answer = e ≢ Memory → answer ≡ Err e
 
 -- what follows a first answer; the first one's fault ends both
-abbrev pub if_ok : {A B : Type 0} → Result A ValueFault → (A → Result B ValueFault) → Result B ValueFault
+abbrev pub if_ok : {A B E : Type 0} → Result A E → (A → Result B E) → Result B E
 if_ok (Ok x) f = f x
 if_ok (Err e) f = Err e
 
 -- what is answered at each, up to the first fault
-abbrev pub each : {A B : Type 0} → (A → Result B ValueFault) → List A → Result (List B) ValueFault
+abbrev pub each : {A B E : Type 0} → (A → Result B E) → List A → Result (List B) E
 each f [] = Ok []
 each f (x ∷ xs) = if_ok (f x) (λ y. if_ok (each f xs) (λ ys. Ok (y ∷ ys)))
 
