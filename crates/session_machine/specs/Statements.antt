@@ -1,18 +1,18 @@
 -- What a statement leaves and answers that is no query of rows: how transactions begin and end, how tables are made and dropped
 -- (PostgreSQL manual, the pages of the statements, and 13.2).
-use Rattle.std.specs.Prelude.{ℕ, Bool, true, false, not, ◌&&◌, List, [], ◌∷◌, ◌++◌, Option, Some, None, is_some, unwrap_or, if◌then◌else◌}
+use Rattle.std.specs.Prelude.{ℕ, Bool, true, false, not, ◌&&◌, List, ◌∷◌, ◌++◌, Option, Some, None, is_some, unwrap_or, if◌then◌else◌, []}
 use Rattle.std.specs.Option.{option_map_or}
 use Rattle.sql_trees.specs.declared.stmt.Level.{Level}
 use Rattle.sql_trees.specs.declared.stmt.Level.TheVariants.{ReadCommitted, RepeatableRead}
-use Rattle.sql_trees.specs.Statements.{StmtTree, CreateTree, Commit, Rollback}
+use Rattle.sql_trees.specs.Statements.{CreateTree}
 use Rattle.row_versions.specs.Log.{Content}
 use Rattle.session_machine.specs.declared.session.OpenTransaction.{OpenTransaction}
 use Rattle.session_machine.specs.declared.session.Transaction.{Transaction}
-use Rattle.session_machine.specs.declared.session.Transaction.TheVariants.{Closed, Open, Aborted as AbortedOne}
+use Rattle.session_machine.specs.declared.session.Transaction.TheVariants.{Open}
 use Rattle.session_machine.specs.declared.session.Progress.{Progress}
 use Rattle.session_machine.specs.declared.session.Session.{Session}
 use Rattle.session_machine.specs.declared.fault.StmtFault.{StmtFault}
-use Rattle.session_machine.specs.declared.fault.StmtFault.TheVariants.{NoTableToDrop, TableExists, Aborted, LevelTooLate}
+use Rattle.session_machine.specs.declared.fault.StmtFault.TheVariants.{NoTableToDrop, TableExists, LevelTooLate}
 use Rattle.session_machine.specs.declared.reply.Outcome.{Outcome}
 use Rattle.session_machine.specs.declared.reply.Outcome.TheVariants.{Done, Failed}
 use Rattle.session_machine.specs.Tables.{Database, find_table}
@@ -68,12 +68,3 @@ level_set db t explicit level =
 -- BEGIN makes an implicit transaction explicit; in an explicit one it has no effect
 abbrev pub begin_in : Database → OpenTransaction → Option Level → Effect
 begin_in db t level = if t.explicit then turns db (Open t) else level_set db t true (unwrap_or level t.level)
-
-abbrev pub is_end : StmtTree → Bool
-is_end Commit = true
-is_end Rollback = true
-is_end stmt = false
-
--- in an aborted transaction all but COMMIT and ROLLBACK fail
-abbrev pub run_aborted : Database → StmtTree → Effect
-run_aborted db stmt = if is_end stmt then turns db Closed else record { db = db; transaction = AbortedOne; statement = None; outcome = Failed Aborted }

@@ -1,11 +1,9 @@
 -- How a statement goes from one of its targets to the next, up to the one at which it stops.
-use Rattle.std.specs.Prelude.{ℕ, ◌+◌, List, [], ◌∷◌, ◌++◌, drop, Option, Some, None, Result, Ok, Err}
+use Rattle.std.specs.Prelude.{ℕ, ◌+◌, List, ◌∷◌, ◌++◌, Option, Some, None, []}
 use Rattle.std.specs.Option.{option_map_or}
 use Rattle.sql_values.specs.declared.value.Value.{Value}
-use Rattle.sql_values.specs.declared.fault.ValueFault.{ValueFault}
 use Rattle.session_machine.specs.declared.session.Request.{Request}
 use Rattle.session_machine.specs.declared.fault.StmtFault.{StmtFault}
-use Rattle.session_machine.specs.declared.fault.StmtFault.TheVariants.{Value as OfValue}
 use Rattle.session_machine.specs.Tables.{Database}
 
 -- what stops a statement: it has to wait for this, or fails
@@ -38,8 +36,3 @@ walked visit db place rows [] = record { db = db; place = place; rows = rows; st
 walked visit db place rows (x ∷ xs) =
     let v = visit db x in
     option_map_or (λ stop. record { db = v.db; place = place; rows = rows; stop = Some stop }) v.stop (walked visit v.db (place + 1) (rows ++ v.rows) xs)
-
--- a statement goes on from its place among these targets; where they couldn't be found, it fails
-abbrev pub walked_from : {A : Type 0} → (Database → A → Visit) → Database → ℕ → List (List Value) → Result (List A) ValueFault → Walk
-walked_from visit db place rows (Err fault) = record { db = db; place = place; rows = rows; stop = Some (Fails (OfValue fault)) }
-walked_from visit db place rows (Ok targets) = walked visit db place rows (drop place targets)

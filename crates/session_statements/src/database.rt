@@ -13,8 +13,9 @@ ghost use Rattle.row_versions.specs.declared.write.Seen.{Seen as SeenFacts};
 ghost use Rattle.row_versions.specs.Rows.{rows_of};
 ghost use Rattle.session_machine.specs.Inner.Pieces.{columns_at, with_table, with_drop};
 ghost use Rattle.session_machine.specs.declared.session.OpenTransaction.{OpenTransaction as OpenFacts};
-ghost use Rattle.session_machine.specs.Running.{beginning};
-ghost use Rattle.session_machine.specs.Rows.{columns_in, inserted, keys_in, seen_by, values_of, written};
+ghost use Rattle.session_machine.specs.Rows.{columns_in, inserted, values_of, written};
+ghost use Rattle.session_machine.specs.Inner.Statements.{beginning, keys_in};
+ghost use Rattle.session_machine.specs.Targets.{seen_by};
 ghost use Rattle.session_machine.specs.Machine.{empty_database, visible_to};
 
 use crate::catalog::Catalog;

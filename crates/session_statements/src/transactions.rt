@@ -6,7 +6,8 @@ ghost use Rattle.row_versions.specs.Log.{IsOpen};
 ghost use Rattle.session_machine.specs.Tables.{Database as DatabaseFacts};
 ghost use Rattle.session_machine.specs.Transactions.{after_failure};
 ghost use Rattle.session_statements.specs.Inner.Left.{left};
-ghost use Rattle.session_machine.specs.Statements.{fails, is_level, level_set, begin_in, is_end, run_aborted};
+ghost use Rattle.session_machine.specs.Statements.{fails, is_level, level_set, begin_in};
+ghost use Rattle.session_machine.specs.Inner.Statements.{is_end, run_aborted};
 
 use crate::database::Database;
 use crate::effect::Effect;

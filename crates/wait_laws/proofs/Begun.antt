@@ -27,7 +27,7 @@ use Rattle.session_machine.specs.declared.fault.Refusal.TheVariants.{Busy, NotYo
 use Rattle.session_machine.specs.Tables.{Database, Table}
 use Rattle.session_machine.specs.Transactions.{begun, commits_seen, view_of}
 use Rattle.session_machine.specs.Inner.Pieces.{columns_at}
-use Rattle.session_machine.specs.Rows.{at_places}
+use Rattle.session_machine.specs.Targets.{at_places}
 use Rattle.session_machine.specs.Running.{run_stmt}
 use Rattle.session_machine.specs.Machine.{Machine, Blocks, Next, next, opening, stmts_of, around, at_rest, first_place, with_session, session_of}
 use Rattle.session_machine.specs.Inner.Steps.{launch_of, step_of, leave_of}
