@@ -13,10 +13,10 @@ use Rattle.session_machine.specs.declared.session.Transaction.{Transaction}
 use Rattle.session_machine.specs.declared.session.Transaction.TheVariants.{Closed, Open, Aborted}
 use Rattle.session_machine.specs.declared.session.Progress.{Progress}
 use Rattle.session_machine.specs.Tables.{Database}
-use Rattle.session_machine.specs.Transactions.{fresh, begun, started, after_failure, moved_on}
+use Rattle.session_machine.specs.Transactions.{fresh, started}
 use Rattle.session_machine.specs.Statements.{Surroundings, Effect}
 use Rattle.session_machine.specs.Running.{run_stmt}
-use Rattle.session_machine.specs.Inner.Statements.{run_piecewise}
+use Rattle.session_machine.specs.Inner.Statements.{run_piecewise, begun, after_failure, moved_on}
 use Rattle.session_machine.proofs.ByKind.{runs_by_kind}
 use Rattle.session_machine.specs.Sound.{tx_in, command_in}
 use Rattle.session_laws.proofs.Lists.{slice_get-set_other, slice_get-append_left, slice_get-append_seam}

@@ -19,12 +19,13 @@ use Rattle.session_machine.specs.declared.event.Mode.{Mode}
 use Rattle.session_machine.specs.declared.reply.HistItem.{HistItem}
 use Rattle.session_machine.specs.declared.fault.StmtFault.TheVariants.{LevelTooLate}
 use Rattle.session_machine.specs.Tables.{Database}
-use Rattle.session_machine.specs.Statements.{Surroundings, Effect, fails, turns, is_level, level_set, begin_in}
+use Rattle.session_machine.specs.Statements.{Surroundings, Effect, fails, turns, level_set}
 use Rattle.session_machine.specs.Running.{run_stmt}
-use Rattle.session_machine.specs.Inner.Statements.{run_open, run_on, run_closed, run_piecewise}
+use Rattle.session_machine.specs.Inner.Statements.{run_open, run_on, run_closed, run_piecewise, is_level, begin_in}
 use Rattle.session_machine.proofs.ByKind.{runs_by_kind}
-use Rattle.session_machine.specs.Machine.{Machine, Blocks, Next, next, around, with_session, at_rest, opening, stmts_of, left_behind, closed_at_end, session_of}
-use Rattle.session_machine.specs.Engine.{Run}
+use Rattle.session_machine.specs.Machine.{Machine, Blocks, Next, next, with_session, at_rest, opening, stmts_of, closed_at_end, session_of}
+use Rattle.session_machine.specs.Inner.Steps.{around, left_behind}
+use Rattle.session_machine.specs.Machine.{Run}
 use Rattle.session_machine.specs.Sound.{IsSoundMachine, tx_in, tx_of}
 use Rattle.session_laws.proofs.Lists.{slice_get-set_same, slice_get-set_other}
 use Rattle.session_laws.proofs.Effects.{may_turn, after_aborted}

@@ -26,7 +26,7 @@ use Rattle.session_machine.specs.declared.session.Transaction.{Transaction}
 use Rattle.session_machine.specs.declared.session.Transaction.TheVariants.{Closed, Open, Aborted}
 use Rattle.session_machine.specs.declared.fault.Refusal.{Refusal}
 use Rattle.session_machine.specs.Tables.{Database, Table, Dropped, counts, is_meant, find_table}
-use Rattle.session_machine.specs.Transactions.{begun, fresh, own_of, view_of, view_now}
+use Rattle.session_machine.specs.Transactions.{fresh, own_of, view_of, view_now}
 use Rattle.query_results.specs.Queries.{passing, row_values, titles_of, result_of, cols_of}
 use Rattle.query_results.specs.Ordering.{rows_at}
 use Rattle.query_results.proofs.Unsorted.{unsorted}
@@ -36,11 +36,12 @@ use Rattle.session_machine.specs.declared.session.Progress.{Progress}
 use Rattle.session_machine.specs.declared.session.Session.{Session}
 use Rattle.session_machine.specs.Statements.{Surroundings, Effect}
 use Rattle.session_machine.specs.Running.{run_stmt}
-use Rattle.session_machine.specs.Inner.Statements.{answered, run_piecewise}
+use Rattle.session_machine.specs.Inner.Statements.{answered, run_piecewise, begun}
 use Rattle.session_machine.specs.Inner.Pieces.{select_at, is_dropped, columns_at, find_from}
 use Rattle.session_machine.proofs.Piecewise.{finds_by}
 use Rattle.session_machine.proofs.ByKind.{runs_by_kind}
-use Rattle.session_machine.specs.Machine.{Next, next, around, visible_to, visible_for}
+use Rattle.session_machine.specs.Machine.{Next, next, visible_to, visible_for}
+use Rattle.session_machine.specs.Inner.Steps.{around}
 use Rattle.session_laws.specs.Laws.{VisibleIsSelected, select_all, shown_by}
 use Rattle.session_laws.proofs.Staying.{hides-begin, shown_stays}
 use Rattle.session_laws.proofs.Unseen.{after_outcome}

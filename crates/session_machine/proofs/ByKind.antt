@@ -11,7 +11,7 @@ use Rattle.sql_trees.specs.Statements.{Begin, Commit, Rollback, SetTransaction, 
 use Rattle.sql_values.specs.declared.value.Value.{Value}
 use Rattle.sql_values.specs.declared.fault.ValueFault.{ValueFault}
 use Rattle.sql_values.specs.declared.fault.ValueFault.TheVariants.{NoColumn}
-use Rattle.query_results.specs.Queries.{AssignedColumn, columns_assigned, new_values, null_in, passing, row_values, result_of, select_exprs, taken, undefined_among, wrong_position}
+use Rattle.query_results.specs.Queries.{AssignedColumn, columns_assigned, new_values, null_in, passing, row_values, titles_of, result_of, select_exprs, taken, undefined_among, wrong_position}
 use Rattle.query_results.specs.Results.{Results}
 use Rattle.query_results.specs.Updates.{columns_set, update_exprs, updated}
 use Rattle.row_versions.specs.declared.names.RowId.{RowId}
@@ -25,17 +25,18 @@ use Rattle.session_machine.specs.declared.session.Transaction.{Transaction}
 use Rattle.session_machine.specs.declared.session.Transaction.TheVariants.{Closed, Open, Aborted}
 use Rattle.session_machine.specs.declared.session.Progress.{Progress}
 use Rattle.session_machine.specs.declared.fault.StmtFault.{StmtFault}
-use Rattle.session_machine.specs.declared.fault.StmtFault.TheVariants.{Value as OfValue, NullValue, NoColumnOf, NoPosition, NoTable, TooManyValues}
+use Rattle.session_machine.specs.declared.fault.StmtFault.TheVariants.{Value as OfValue, NullValue, NoColumnOf, NoPosition, NoTable, TooManyValues, NotSerializable, Deadlock}
 use Rattle.session_machine.specs.Tables.{Database, Catalog, find_table}
-use Rattle.session_machine.specs.Transactions.{fresh, begun}
+use Rattle.session_machine.specs.Transactions.{fresh}
 use Rattle.session_machine.specs.Views.{rows_shown}
 use Rattle.session_machine.specs.Waits.{waits_in}
 use Rattle.session_machine.specs.Statements.{Surroundings, Effect, answers, fails}
 use Rattle.session_machine.specs.declared.reply.Outcome.TheVariants.{Rows}
-use Rattle.session_machine.specs.Walks.{Stop, Visit, Fails, stops, goes_on, walked}
+use Rattle.session_machine.specs.declared.session.Request.TheVariants.{Row}
+use Rattle.session_machine.specs.Walks.{Walk, Blocked, Fails, passed, stopped, over, Stop}
 use Rattle.session_machine.specs.Rows.{Work, columns_in, cols_in, values_of, written, inserted, stop_at_key, put_row, insert_row, act_on, visit_target, strength_of, over_targets, walk_of}
-use Rattle.session_machine.specs.Running.{answer_of, leads_to, at_once, begin_at, fault_in, run_in, run_stmt}
-use Rattle.session_machine.specs.Inner.Statements.{keys_in, stop_at_keys, checked, with_values, insert_one, ask, settled, at_outcome, update_with, update_one, delete_one, lock_with, lock_one, walked_from}
+use Rattle.session_machine.specs.Running.{leads_to, at_once, begin_at, fault_in, run_in, run_stmt}
+use Rattle.session_machine.specs.Inner.Statements.{keys_in, stop_at_keys, checked, with_values, insert_one, ask, settled, at_outcome, update_with, update_one, delete_with, delete_one, lock_with, lock_one, walked_from, Visit, stops, goes_on, walked, begun}
 use Rattle.session_machine.specs.Inner.Statements.{beginning, after_walk, done, assigned_to, unless_undefined, unless_wrong, run_aborted, insert_from, insert, update_from, update, delete, lock_from, answered, select_rows, select, run_open, run_closed, run_on, run_piecewise}
 use Rattle.session_machine.specs.Targets.{seen_by, at_places, going_on}
 use Rattle.session_machine.specs.Inner.Pieces.{unless_stopped, insert_to, update_to, select_at}
@@ -54,25 +55,36 @@ stops_first db w name values except (key ∷ keys) = by (stop_at_key db w name v
   by None rest = rest
   by (Some stop) rest = refl
 
+-- what is done at one target, put onto the walk so far
+abbrev onto : Walk → Visit → Walk
+onto walk v =
+    option_map_or (λ stop. record { db = v.db; place = walk.place; rows = walk.rows; stop = Some stop }) v.stop
+    (record { db = v.db; place = walk.place + 1; rows = walk.rows ++ v.rows; stop = None })
+
 -- a NULL stops it before any key
-stops_so : (db after : Database) (name : List ℕ) (null : Option (List ℕ)) (first stop : Option Stop) → first ≡ stop
-    → option_map_or (stops db) (option_or (option_map (λ column. Fails (NullValue column name)) null) first) (goes_on after [])
-    ≡ option_map_or (λ column. stops db (Fails (NullValue column name))) null (option_map_or (stops db) stop (goes_on after []))
-stops_so db after name (Some column) first stop same = refl
-stops_so db after name None first stop same = ap (λ (o : Option Stop). option_map_or (stops db) o (goes_on after [])) same
+stops_so : (walk : Walk) (after : Database) (name : List ℕ) (null : Option (List ℕ)) (first stop : Option Stop) → first ≡ stop
+    → option_map_or (stopped walk) (option_or (option_map (λ column. Fails (NullValue column name)) null) first) (passed walk after [])
+    ≡ onto walk (option_map_or (λ column. stops walk.db (Fails (NullValue column name))) null (option_map_or (stops walk.db) stop (goes_on after [])))
+stops_so walk after name (Some column) first stop same = refl
+stops_so walk after name None first stop same = ap (λ (o : Option Stop). option_map_or (stopped walk) o (passed walk after [])) same ∙ by stop where
+  by : (o : Option Stop) → option_map_or (stopped walk) o (passed walk after []) ≡ onto walk (option_map_or (stops walk.db) o (goes_on after []))
+  by None = refl
+  by (Some stop) = refl
 
-puts_new : (db : Database) (w : Work) (name : List ℕ) (r : Result (List Value) ValueFault)
-    → put_row db w name None r ≡ with_values db r (λ values. checked w name db None values (inserted db w values))
-puts_new db w name (Err fault) = refl
-puts_new db w name (Ok values) =
-    stops_so db (inserted db w values) name (null_in (columns_in db w) values) _ (stop_at_keys db w name values None (keys_in db w)) (stops_first db w name values None (keys_in db w))
+puts_new : (w : Work) (name : List ℕ) (r : Result (List Value) ValueFault) (walk : Walk)
+    → put_row w name None r walk ≡ onto walk (with_values walk.db r (λ values. checked w name walk.db None values (inserted walk.db w values)))
+puts_new w name (Err fault) walk = refl
+puts_new w name (Ok values) walk =
+    let keys = keys_in walk.db w in
+    stops_so walk (inserted walk.db w values) name (null_in (columns_in walk.db w) values) _ (stop_at_keys walk.db w name values None keys) (stops_first walk.db w name values None keys)
 
-puts_over : (db : Database) (w : Work) (name : List ℕ) (row : RowId) (r : Result (List Value) ValueFault)
-    → put_row db w name (Some row) r ≡ with_values db r (λ values. checked w name db (Some row) values (written db w row (Some values)))
-puts_over db w name row (Err fault) = refl
-puts_over db w name row (Ok values) =
-    stops_so db (written db w row (Some values)) name (null_in (columns_in db w) values) _ (stop_at_keys db w name values (Some row) (keys_in db w))
-    (stops_first db w name values (Some row) (keys_in db w))
+puts_over : (w : Work) (name : List ℕ) (row : RowId) (r : Result (List Value) ValueFault) (walk : Walk)
+    → put_row w name (Some row) r walk ≡ onto walk (with_values walk.db r (λ values. checked w name walk.db (Some row) values (written walk.db w row (Some values))))
+puts_over w name row (Err fault) walk = refl
+puts_over w name row (Ok values) walk =
+    let keys = keys_in walk.db w in
+    stops_so walk (written walk.db w row (Some values)) name (null_in (columns_in walk.db w) values) _ (stop_at_keys walk.db w name values (Some row) keys)
+    (stops_first walk.db w name values (Some row) keys)
 
 -- ---- tables stay as they are from one target to the next
 
@@ -119,93 +131,105 @@ update_stays w u to db seen = at (target_outcome db.content db.held (waits_in db
 
 -- ---- over the targets
 
--- two ways that do the same over tables that stay as they are lead to the same
-walks_so : {A : Type 0} (c : Catalog) (new old : Database → A → Visit) → ((d : Database) (x : A) → d.catalog ≡ c → new d x ≡ old d x)
-    → ((d : Database) (x : A) → (old d x).db.catalog ≡ d.catalog) → (db : Database) (place : ℕ) (rows : List (List Value)) (xs : List A) → db.catalog ≡ c
-    → walked new db place rows xs ≡ walked old db place rows xs
-walks_so c new old same stays db place rows [] at = refl
-walks_so c new old same stays db place rows (x ∷ xs) at =
-    let v = old db x in
-    ap (λ (v : Visit). unless_stopped v place rows v.stop (walked new v.db (place + 1) (rows ++ v.rows) xs)) (same db x at)
-    ∙ ap (unless_stopped v place rows v.stop) (walks_so c new old same stays v.db (place + 1) (rows ++ v.rows) xs (stays db x ∙ at))
+abbrev at_walk : Database → ℕ → List (List Value) → Walk
+at_walk db place rows = record { db = db; place = place; rows = rows; stop = None }
 
-walks_alike : {A : Type 0} (new old : Database → A → Visit) → ((d : Database) (x : A) → new d x ≡ old d x) → (db : Database) (place : ℕ) (rows : List (List Value)) (r : Result (List A) ValueFault)
-    → walked_from new db place rows r ≡ walked_from old db place rows r
-walks_alike new old same db place rows r = ap (λ (v : Database → _ → Visit). walked_from v db place rows r) (λ i d x. same d x i)
+-- a walk that is stopped visits nothing more
+rests : {A : Type 0} (visit : Walk → A → Walk) (db : Database) (place : ℕ) (rows : List (List Value)) (stop : Stop) (xs : List A)
+    → (let walk : Walk = record { db = db; place = place; rows = rows; stop = Some stop } in over visit walk xs ≡ walk)
+rests visit db place rows stop [] = refl
+rests visit db place rows stop (x ∷ xs) = rests visit db place rows stop xs
 
-goes_over : (visit : Database → Seen → Visit) (db : Database) (w : Work) (place : ℕ) (rows : List (List Value)) (r : Result (List ℕ) ValueFault)
-    → over_targets visit db w place rows r ≡ walked_from visit db place rows (at_places (seen_by db w) r)
-goes_over visit db w place rows (Ok places) = refl
-goes_over visit db w place rows (Err fault) = refl
+-- a walk over targets that are visited one after the other, where at each of them the same is done
+walks_so : {A : Type 0} (P : Database → Type 0) (new : Walk → A → Walk) (old : Database → A → Visit) → ((walk : Walk) (x : A) → P walk.db → new walk x ≡ onto walk (old walk.db x))
+    → ((d : Database) (x : A) → P d → P (old d x).db) → (db : Database) (place : ℕ) (rows : List (List Value)) (xs : List A) → P db
+    → over new (at_walk db place rows) xs ≡ walked old db place rows xs
+walks_so P new old same stays db place rows [] p = refl
+walks_so P new old same stays db place rows (x ∷ xs) p =
+    ap (λ (walk : Walk). over new walk xs) (same (at_walk db place rows) x p)
+    ∙ by (old db x).stop (walks_so P new old same stays (old db x).db (place + 1) (rows ++ (old db x).rows) xs (stays db x p)) where
+      by : (o : Option Stop) → over new (at_walk (old db x).db (place + 1) (rows ++ (old db x).rows)) xs ≡ walked old (old db x).db (place + 1) (rows ++ (old db x).rows) xs
+          → over new (option_map_or (λ stop. record { db = (old db x).db; place = place; rows = rows; stop = Some stop }) o (at_walk (old db x).db (place + 1) (rows ++ (old db x).rows))) xs
+          ≡ unless_stopped (old db x) place rows o (walked old (old db x).db (place + 1) (rows ++ (old db x).rows) xs)
+      by None on = on
+      by (Some stop) on = rests new (old db x).db place rows stop xs
 
--- ---- what is done with a version, and at a target
+goes_over : (P : Database → Type 0) (w : Work) (new : Walk → Seen → Walk) (old : Database → Seen → Visit) → ((walk : Walk) (x : Seen) → P walk.db → new walk x ≡ onto walk (old walk.db x))
+    → ((d : Database) (x : Seen) → P d → P (old d x).db) → (db : Database) (place : ℕ) (rows : List (List Value)) (r : Result (List ℕ) ValueFault) → P db
+    → over_targets w new (at_walk db place rows) r ≡ walked_from old db place rows (at_places (seen_by db w) r)
+goes_over P w new old same stays db place rows (Ok places) p = walks_so P new old same stays db place rows (drop place (filter_map (slice_get (seen_by db w)) places)) p
+goes_over P w new old same stays db place rows (Err fault) p = refl
 
-updates_so : (w : Work) (u : UpdateTree) (c : Catalog) (to : List AssignedColumn) → ((d : Database) → d.catalog ≡ c → assigned_to (columns_set (columns_in d w) u.sets) ≡ to)
-    → (d : Database) (seen : Seen) → d.catalog ≡ c → visit_target w (Updates u) Exclusive u.filter d seen ≡ update_one w u to d seen
-updates_so w u c to its d seen at = by (target_outcome d.content d.held (waits_in d w.around.sessions) a) where
-  a : Asked
-  a = ask d w Exclusive u.filter seen
+-- ---- what is done at a target
 
-  e : Database
-  e = settled d w a
+-- by what it comes to
+abbrev settles : (Walk → Seen → Walk) → Walk → Asked → Outcome → Walk
+settles act at a (Takes seen) = act at seen
+settles act at a Skips = passed at at.db []
+settles act at a Waits = stopped at (Blocked (Row a.seen.row a.strength))
+settles act at a Deadlocks = stopped at (Fails Deadlock)
+settles act at a Serializes = stopped at (Fails NotSerializable)
+settles act at a (Faults fault) = stopped at (Fails (OfValue fault))
 
-  by : (o : Outcome) → at_outcome (act_on w (Updates u)) e a o ≡ at_outcome (update_with w u to) e a o
-  by (Takes version) =
-      puts_over e w u.table version.row (updated (cols_in e w) (assigned_to (columns_set (columns_in e w) u.sets)) u.sets (values_of e version))
-      ∙ ap (λ (xs : List AssignedColumn). update_with w u xs e version) (its e at)
-  by Skips = refl
-  by Waits = refl
-  by Deadlocks = refl
-  by Serializes = refl
-  by (Faults fault) = refl
+settles_so : (new : Walk → Seen → Walk) (old : Database → Seen → Visit) (at : Walk) (a : Asked) (o : Outcome) → ((version : Seen) → new at version ≡ onto at (old at.db version))
+    → settles new at a o ≡ onto at (at_outcome old at.db a o)
+settles_so new old at a (Takes seen) same = same seen
+settles_so new old at a Skips same = refl
+settles_so new old at a Waits same = refl
+settles_so new old at a Deadlocks same = refl
+settles_so new old at a Serializes same = refl
+settles_so new old at a (Faults fault) same = refl
 
-deletes_so : (w : Work) (d : DeleteTree) (db : Database) (seen : Seen) → visit_target w (Deletes d) Exclusive d.filter db seen ≡ delete_one w d db seen
-deletes_so w d db seen = refl
+module _ (w : Work) where
+  updates_so : (u : UpdateTree) (c : Catalog) (to : List AssignedColumn) → ((d : Database) → d.catalog ≡ c → assigned_to (columns_set (columns_in d w) u.sets) ≡ to)
+      → (walk : Walk) (seen : Seen) → walk.db.catalog ≡ c → visit_target w (Updates u) Exclusive u.filter walk seen ≡ onto walk (update_one w u to walk.db seen)
+  updates_so u c to its walk seen same =
+      let a = ask walk.db w Exclusive u.filter seen in
+      let at : Walk = record walk { db = settled walk.db w a } in
+      settles_so (act_on w (Updates u)) (update_with w u to) at a (target_outcome walk.db.content walk.db.held (waits_in walk.db w.around.sessions) a)
+      (λ version.
+      puts_over w u.table version.row (updated (cols_in at.db w) (assigned_to (columns_set (columns_in at.db w) u.sets)) u.sets (values_of at.db version)) at
+      ∙ ap (λ (xs : List AssignedColumn). onto at (update_with w u xs at.db version)) (its at.db same))
 
-locks_so : (w : Work) (s : SelectTree) (l : Lock) (db : Database) (seen : Seen) → visit_target w (Selects s) (strength_of l) s.filter db seen ≡ lock_one w s l db seen
-locks_so w s l db seen = by (target_outcome db.content db.held (waits_in db w.around.sessions) a) where
-  a : Asked
-  a = ask db w (strength_of l) s.filter seen
+  deletes_so : (d : DeleteTree) (walk : Walk) (seen : Seen) → visit_target w (Deletes d) Exclusive d.filter walk seen ≡ onto walk (delete_one w d walk.db seen)
+  deletes_so d walk seen =
+      let a = ask walk.db w Exclusive d.filter seen in
+      let at : Walk = record walk { db = settled walk.db w a } in
+      settles_so (act_on w (Deletes d)) (delete_with w) at a (target_outcome walk.db.content walk.db.held (waits_in walk.db w.around.sessions) a) (λ version. refl)
 
-  e : Database
-  e = settled db w a
-
-  shown : (r : Result (List Value) ValueFault)
-      → (elim r [ Ok row ↦ goes_on e (row ∷ []) | Err fault ↦ stops e (Fails (OfValue fault)) ]) ≡ with_values e r (λ row. goes_on e (row ∷ []))
-  shown (Ok row) = refl
-  shown (Err fault) = refl
-
-  by : (o : Outcome) → at_outcome (act_on w (Selects s)) e a o ≡ at_outcome (lock_with w s) e a o
-  by (Takes version) = shown (row_values (cols_in e w) s.items (values_of e version))
-  by Skips = refl
-  by Waits = refl
-  by Deadlocks = refl
-  by Serializes = refl
-  by (Faults fault) = refl
+  locks_so : (s : SelectTree) (l : Lock) (walk : Walk) (seen : Seen) → visit_target w (Selects s) (strength_of l) s.filter walk seen ≡ onto walk (lock_one w s l walk.db seen)
+  locks_so s l walk seen =
+      let a = ask walk.db w (strength_of l) s.filter seen in
+      let at : Walk = record walk { db = settled walk.db w a } in
+      settles_so (act_on w (Selects s)) (lock_with w s) at a (target_outcome walk.db.content walk.db.held (waits_in walk.db w.around.sessions) a)
+      (λ version. shown at (row_values (cols_in at.db w) s.items (values_of at.db version))) where
+        shown : (at : Walk) (r : Result (List Value) ValueFault)
+            → (elim r [ Ok row ↦ passed at at.db (row ∷ []) | Err fault ↦ stopped at (Fails (OfValue fault)) ]) ≡ onto at (with_values at.db r (λ row. goes_on at.db (row ∷ [])))
+        shown at (Ok row) = refl
+        shown at (Err fault) = refl
 
 -- ---- what a walk leads to
 
 inserts_from : (db : Database) (w : Work) (i : InsertTree) (place : ℕ) (rows : List (List Value))
-    → leads_to db w (Inserts i) (walked (insert_row w i) db place rows (drop place i.rows)) ≡ insert_from db w i place rows
+    → leads_to db w (Inserts i) (over (insert_row w i) (at_walk db place rows) (drop place i.rows)) ≡ insert_from db w i place rows
 inserts_from db w i place rows =
     ap (after_walk db.content w done)
-    (walks_so db.catalog (insert_row w i) (insert_one w i.table (to_in db)) same (insert_stays w i.table (to_in db)) db place rows (drop place i.rows) refl) where
+    (walks_so (λ d. d.catalog ≡ db.catalog) (insert_row w i) (insert_one w i.table (to_in db)) same (λ d x at. insert_stays w i.table (to_in db) d x ∙ at) db place rows (drop place i.rows) refl) where
       to_in : Database → List AssignedColumn
       to_in d = assigned_to (columns_assigned (columns_in d w) i.columns)
 
-      same : (d : Database) (row : List Tree) → d.catalog ≡ db.catalog → insert_row w i d row ≡ insert_one w i.table (to_in db) d row
-      same d row at =
-          puts_new d w i.table (new_values (length (columns_in d w)) (to_in d) row)
-          ∙ ap (λ (xs : List AssignedColumn). insert_one w i.table xs d row) (ap (λ (c : Catalog). to_in (record d { catalog = c })) at)
+      same : (walk : Walk) (row : List Tree) → walk.db.catalog ≡ db.catalog → insert_row w i walk row ≡ onto walk (insert_one w i.table (to_in db) walk.db row)
+      same walk row at =
+          puts_new w i.table (new_values (length (columns_in walk.db w)) (to_in walk.db) row) walk
+          ∙ ap (λ (xs : List AssignedColumn). onto walk (insert_one w i.table xs walk.db row)) (ap (λ (c : Catalog). to_in (record walk.db { catalog = c })) at)
 
 updates_from : (db : Database) (w : Work) (u : UpdateTree) (place : ℕ) (rows : List (List Value)) (r : Result (List ℕ) ValueFault)
-    → leads_to db w (Updates u) (over_targets (visit_target w (Updates u) Exclusive u.filter) db w place rows r)
+    → leads_to db w (Updates u) (over_targets w (visit_target w (Updates u) Exclusive u.filter) (at_walk db place rows) r)
     ≡ after_walk db.content w done (walked_from (update_one w u (assigned_to (columns_set (columns_in db w) u.sets))) db place rows (at_places (seen_by db w) r))
-updates_from db w u place rows (Err fault) = refl
-updates_from db w u place rows (Ok places) =
+updates_from db w u place rows r =
     ap (after_walk db.content w done)
-    (walks_so db.catalog (visit_target w (Updates u) Exclusive u.filter) (update_one w u (to_in db)) (updates_so w u db.catalog (to_in db) same) (update_stays w u (to_in db)) db place rows
-    (drop place (filter_map (slice_get (seen_by db w)) places)) refl) where
+    (goes_over (λ d. d.catalog ≡ db.catalog) w (visit_target w (Updates u) Exclusive u.filter) (update_one w u (to_in db)) (updates_so w u db.catalog (to_in db) same)
+    (λ d x at. update_stays w u (to_in db) d x ∙ at) db place rows r refl) where
       to_in : Database → List AssignedColumn
       to_in d = assigned_to (columns_set (columns_in d w) u.sets)
 
@@ -213,18 +237,18 @@ updates_from db w u place rows (Ok places) =
       same d at = ap (λ (c : Catalog). to_in (record d { catalog = c })) at
 
 deletes_from : (db : Database) (w : Work) (d : DeleteTree) (place : ℕ) (rows : List (List Value)) (r : Result (List ℕ) ValueFault)
-    → leads_to db w (Deletes d) (over_targets (visit_target w (Deletes d) Exclusive d.filter) db w place rows r)
+    → leads_to db w (Deletes d) (over_targets w (visit_target w (Deletes d) Exclusive d.filter) (at_walk db place rows) r)
     ≡ after_walk db.content w done (walked_from (delete_one w d) db place rows (at_places (seen_by db w) r))
-deletes_from db w d place rows (Err fault) = refl
-deletes_from db w d place rows (Ok places) = refl
+deletes_from db w d place rows r =
+    ap (after_walk db.content w done)
+    (goes_over (λ e. Unit {0}) w (visit_target w (Deletes d) Exclusive d.filter) (delete_one w d) (λ walk seen p. deletes_so w d walk seen) (λ e x p. tt) db place rows r tt)
 
 locks_from : (db : Database) (w : Work) (s : SelectTree) (l : Lock) (place : ℕ) (rows : List (List Value)) (r : Result (List ℕ) ValueFault)
-    → leads_to db w (Selects s) (over_targets (visit_target w (Selects s) (strength_of l) s.filter) db w place rows r)
-    ≡ after_walk db.content w (answer_of (columns_in db w) (Selects s)) (walked_from (lock_one w s l) db place rows (at_places (seen_by db w) r))
+    → leads_to db w (Selects s) (over_targets w (visit_target w (Selects s) (strength_of l) s.filter) (at_walk db place rows) r)
+    ≡ after_walk db.content w (λ shown. Rows (record { titles = titles_of (columns_in db w) s.items; rows = shown })) (walked_from (lock_one w s l) db place rows (at_places (seen_by db w) r))
 locks_from db w s l place rows r =
-    ap (after_walk db.content w (answer_of (columns_in db w) (Selects s)))
-    (goes_over (visit_target w (Selects s) (strength_of l) s.filter) db w place rows r
-    ∙ ap (λ (v : Database → Seen → Visit). walked_from v db place rows (at_places (seen_by db w) r)) (λ i d x. locks_so w s l d x i))
+    ap (after_walk db.content w (λ shown. Rows (record { titles = titles_of (columns_in db w) s.items; rows = shown })))
+    (goes_over (λ e. Unit {0}) w (visit_target w (Selects s) (strength_of l) s.filter) (lock_one w s l) (λ walk seen p. locks_so w s l walk seen) (λ e x p. tt) db place rows r tt)
 
 -- ---- a statement that begins
 
@@ -292,7 +316,7 @@ at_found db t around name stmt None = fails db t (NoTable name)
 at_found db t around name stmt (Some k) =
     let w = beginning db t around k in
     option_map_or (fails db t) (fault_in (columns_in db w) stmt)
-    (option_map_or (leads_to db w stmt) (walk_of db w stmt 0 []) (at_once db t (columns_in db w) (rows_shown db.content w.view k) stmt))
+    (option_map_or (leads_to db w stmt) (walk_of w stmt (at_walk db 0 [])) (at_once db t (columns_in db w) (rows_shown db.content w.view k) stmt))
 
 module _ (db : Database) (t : OpenTransaction) (around : Surroundings) where
   insert_begins : (i : InsertTree) (o : Option ℕ) → at_found db t around i.table (Inserts i) o ≡ insert db t around i o
@@ -315,7 +339,7 @@ module _ (db : Database) (t : OpenTransaction) (around : Surroundings) where
 
   rows_so : (w : Work) (s : SelectTree) (l : Option Lock)
       → option_map_or (leads_to db w (Selects s))
-      (option_map (λ l. over_targets (visit_target w (Selects s) (strength_of l) s.filter) db w 0 [] (taken s (columns_in db w) (rows_shown db.content w.view w.table))) l)
+      (option_map (λ l. over_targets w (visit_target w (Selects s) (strength_of l) s.filter) (at_walk db 0 []) (taken s (columns_in db w) (rows_shown db.content w.view w.table))) l)
       (at_once db w.t (columns_in db w) (rows_shown db.content w.view w.table) (Selects s)) ≡ select_rows db w s l
   rows_so w s None = answers_so db w.t (result_of s (columns_in db w) (rows_shown db.content w.view w.table))
   rows_so w s (Some l) = locks_from db w s l 0 [] (taken s (columns_in db w) (rows_shown db.content w.view w.table))
@@ -352,7 +376,7 @@ module _ (db : Database) (t : OpenTransaction) (around : Surroundings) where
   select_goes_on : (p : Progress) (s : SelectTree) (l : Option Lock)
       → (let w = going_on t around p in
       option_map_or (leads_to db w (Selects s))
-      (option_map (λ l. over_targets (visit_target w (Selects s) (strength_of l) s.filter) db w p.place p.rows (taken s (columns_in db w) (rows_shown db.content w.view w.table))) l)
+      (option_map (λ l. over_targets w (visit_target w (Selects s) (strength_of l) s.filter) (at_walk db p.place p.rows) (taken s (columns_in db w) (rows_shown db.content w.view w.table))) l)
       (run_in db t around (Selects s)) ≡ option_map_or (λ l. lock_from db w s l p.place p.rows) l (select db t around s s.table))
   select_goes_on p s None = select_so s s.table
   select_goes_on p s (Some l) = let w = going_on t around p in locks_from db w s l p.place p.rows (taken s (columns_in db w) (rows_shown db.content w.view w.table))

@@ -17,8 +17,8 @@ use Rattle.session_machine.specs.Tables.{Database, Dropped, Table, find_table, i
 use Rattle.session_machine.specs.Waits.{blockers}
 use Rattle.session_machine.specs.Statements.{Effect, drop_tables, fails}
 use Rattle.session_machine.specs.Walks.{Stop, Fails}
-use Rattle.session_machine.specs.Rows.{Work, columns_in, names_at, stop_at_key}
-use Rattle.session_machine.specs.Targets.{asked_key}
+use Rattle.session_machine.specs.Rows.{Work, columns_in, stop_at_key}
+use Rattle.session_machine.specs.Targets.{asked_key, names_at}
 use Rattle.session_machine.specs.Inner.Pieces.{DroppedUpTo, drop_ended, dropped, dropped_at, find_from, held_by_others, stop_by, with_drop}
 
 -- the table that a name means, by looking at one after the other

@@ -35,7 +35,7 @@ use Rattle.session_machine.specs.Views.{rows_shown}
 use Rattle.session_machine.specs.AskedKeys.{AskedKey}
 use Rattle.session_machine.specs.Waits.{blockers, waits_in}
 use Rattle.session_machine.specs.Statements.{Surroundings}
-use Rattle.session_machine.specs.Walks.{Stop, Visit, Walk, Blocked, Fails, stops, goes_on, walked}
+use Rattle.session_machine.specs.Walks.{Stop, Walk, Blocked, Fails, passed, stopped, over}
 
 -- a statement at work: in this transaction, at the table of this place, with this view, and what it finds around it
 pub record Work : Type 0 where
@@ -63,57 +63,59 @@ written db w row values = record db { content = after_write db.content (record {
 abbrev pub inserted : Database → Work → List Value → Database
 inserted db w values = record (written db w (new_row db.content) (Some values)) { held = with_lock db.held (record { row = new_row db.content; tx = w.t.tx; strength = Exclusive }) }
 
--- the names of the columns at these places
-abbrev pub names_at : List ColumnTree → List ℕ → List (List ℕ)
-names_at columns places = map (λ place. unwrap_or (option_map (λ (c : ColumnTree). c.name) (slice_get columns place)) []) places
-
 -- a row with these values is about to be written, in place of a row or as a new one. Where others hold the key the statement waits for them, or fails where
 -- that wait would close a cycle; else it fails where another row of the table has the key
 abbrev pub stop_at_key : Database → Work → List ℕ → List Value → Option RowId → KeyTree → Option Stop
 stop_at_key db w name values except key =
     let asked : AskedKey = record { table = record { 0 = w.table }; columns = key.columns; values = values } in
     let by = blockers db (Key asked) w.t.tx in
+    let names = map (λ place. unwrap_or (option_map (λ (c : ColumnTree). c.name) (slice_get (columns_in db w) place)) []) key.columns in
     if not (is_none_of by) then Some (if closes (waits_in db w.around.sessions) w.t.tx by then Fails Deadlock else Blocked (Key asked))
-    else if is_taken db.content asked.table w.t.tx except values key.columns then Some (Fails (KeyTaken (key_name name key.primary (names_at (columns_in db w) key.columns))))
+    else if is_taken db.content asked.table w.t.tx except values key.columns then Some (Fails (KeyTaken (key_name name key.primary names)))
     else None
 
--- a row of the table of this name is to have these values, in place of that row or as a new one. What they can't be evaluated for stops the statement, then a
--- NULL where none may be, then the first key in declared order that isn't free (5.5.3); else the row is written
-abbrev pub put_row : Database → Work → List ℕ → Option RowId → Result (List Value) ValueFault → Visit
-put_row db w name row (Err fault) = stops db (Fails (OfValue fault))
-put_row db w name row (Ok values) =
-    let null = option_map (λ column. Fails (NullValue column name)) (null_in (columns_in db w) values) in
-    let keys = unwrap_or (option_map (λ (t : Table). t.made.keys) (slice_get db.catalog.tables w.table)) [] in
-    let stop = option_or null (slice_get (filter_map (stop_at_key db w name values row) keys) 0) in
-    option_map_or (stops db) stop (goes_on (option_map_or (λ place. written db w place (Some values)) row (inserted db w values)) [])
+-- a row of the table of this name is to have these values, in place of that row or as a new one. Where they have no value the statement stops, then at a NULL
+-- where none may be, then at the first key in declared order that isn't free (5.5.3); else the row is written
+abbrev pub put_row : Work → List ℕ → Option RowId → Result (List Value) ValueFault → Walk → Walk
+put_row w name row (Err fault) walk = stopped walk (Fails (OfValue fault))
+put_row w name row (Ok values) walk =
+    let null = option_map (λ column. Fails (NullValue column name)) (null_in (columns_in walk.db w) values) in
+    let keys = unwrap_or (option_map (λ (t : Table). t.made.keys) (slice_get walk.db.catalog.tables w.table)) [] in
+    let stop = option_or null (slice_get (filter_map (stop_at_key walk.db w name values row) keys) 0) in
+    option_map_or (stopped walk) stop (passed walk (option_map_or (λ place. written walk.db w place (Some values)) row (inserted walk.db w values)) [])
 
 -- INSERT at a row of its VALUES
-abbrev pub insert_row : Work → InsertTree → Database → List Tree → Visit
-insert_row w i db row =
-    let columns = columns_in db w in
-    put_row db w i.table None (new_values (length columns) (result_unwrap_or (columns_assigned columns i.columns) []) row)
+abbrev pub insert_row : Work → InsertTree → Walk → List Tree → Walk
+insert_row w i walk row =
+    let columns = columns_in walk.db w in
+    put_row w i.table None (new_values (length columns) (result_unwrap_or (columns_assigned columns i.columns) []) row) walk
 
 -- what a statement does with the version that a target takes: UPDATE writes a new one, DELETE one without values, and a locking SELECT answers its items
-abbrev pub act_on : Work → StmtTree → Database → Seen → Visit
-act_on w (Updates u) db version =
-    put_row db w u.table (Some version.row) (updated (cols_in db w) (result_unwrap_or (columns_set (columns_in db w) u.sets) []) u.sets (values_of db version))
-act_on w (Deletes d) db version = goes_on (written db w version.row None) []
-act_on w (Selects s) db version = elim (row_values (cols_in db w) s.items (values_of db version)) [ Ok row ↦ goes_on db (row ∷ []) | Err fault ↦ stops db (Fails (OfValue fault)) ]
-act_on w stmt db version = goes_on db []
+abbrev pub act_on : Work → StmtTree → Walk → Seen → Walk
+act_on w (Updates u) walk version =
+    let to = result_unwrap_or (columns_set (columns_in walk.db w) u.sets) [] in
+    put_row w u.table (Some version.row) (updated (cols_in walk.db w) to u.sets (values_of walk.db version)) walk
+act_on w (Deletes d) walk version = passed walk (written walk.db w version.row None) []
+act_on w (Selects s) walk version = elim (row_values (cols_in walk.db w) s.items (values_of walk.db version)) [
+  | Ok row ↦ passed walk walk.db (row ∷ [])
+  | Err fault ↦ stopped walk (Fails (OfValue fault))
+]
+act_on w stmt walk version = passed walk walk.db []
 
 -- a target, which the statement wants this strongly, is settled first, and locked where that takes it; then the statement acts on it, passes it over, or stops there
-abbrev pub visit_target : Work → StmtTree → Strength → Option Tree → Database → Seen → Visit
-visit_target w stmt strength filter db seen =
-    let ask : Asked = record { tx = w.t.tx; level = w.t.level; view = w.view; seen = seen; strength = strength; condition = filter; cols = cols_in db w } in
-    let waits = waits_in db w.around.sessions in
-    let after = record db { held = if is_target_locked db.content db.held waits ask then with_lock db.held (lock_of ask) else db.held } in
-    elim (target_outcome db.content db.held waits ask) [
-      | Takes version ↦ act_on w stmt after version
-      | Skips ↦ goes_on after []
-      | Waits ↦ stops after (Blocked (Row seen.row strength))
-      | Deadlocks ↦ stops after (Fails Deadlock)
-      | Serializes ↦ stops after (Fails NotSerializable)
-      | Faults fault ↦ stops after (Fails (OfValue fault))
+abbrev pub visit_target : Work → StmtTree → Strength → Option Tree → Walk → Seen → Walk
+visit_target w stmt strength filter walk seen =
+    let ask : Asked = record { tx = w.t.tx; level = w.t.level; view = w.view; seen = seen; strength = strength; condition = filter; cols = cols_in walk.db w } in
+    let held = walk.db.held in
+    let waits = waits_in walk.db w.around.sessions in
+    let at = record walk { db = record walk.db { held = if is_target_locked walk.db.content held waits ask then with_lock held (lock_of ask) else held } } in
+    elim (target_outcome walk.db.content held waits ask) [
+      | Takes version ↦ act_on w stmt at version
+      | Skips ↦ passed at at.db []
+      | Waits ↦ stopped at (Blocked (Row seen.row strength))
+      | Deadlocks ↦ stopped at (Fails Deadlock)
+      | Serializes ↦ stopped at (Fails NotSerializable)
+      | Faults fault ↦ stopped at (Fails (OfValue fault))
     ]
 
 -- FOR SHARE shares the row; FOR UPDATE holds it alone
@@ -122,16 +124,18 @@ strength_of lock.Share = Share
 strength_of lock.Update = Exclusive
 
 -- a statement goes over its targets, which are versions that its view shows, at these places; where they couldn't be found, it fails
-abbrev pub over_targets : (Database → Seen → Visit) → Database → Work → ℕ → List (List Value) → Result (List ℕ) ValueFault → Walk
-over_targets visit db w place rows (Ok places) = walked visit db place rows (drop place (filter_map (slice_get (rows_of db.content w.view (record { 0 = w.table }))) places))
-over_targets visit db w place rows (Err fault) = record { db = db; place = place; rows = rows; stop = Some (Fails (OfValue fault)) }
+abbrev pub over_targets : Work → (Walk → Seen → Walk) → Walk → Result (List ℕ) ValueFault → Walk
+over_targets w visit walk (Ok places) = over visit walk (drop walk.place (filter_map (slice_get (rows_of walk.db.content w.view (record { 0 = w.table }))) places))
+over_targets w visit walk (Err fault) = stopped walk (Fails (OfValue fault))
 
--- the statement goes from its target at this place on, with the rows so far: INSERT over the rows of its VALUES, UPDATE and DELETE over the versions that pass WHERE,
+-- the statement goes on from where it has come to: INSERT over the rows of its VALUES, UPDATE and DELETE over the versions that pass WHERE,
 -- and a locking SELECT over them as ORDER BY sorts them; the others have no targets
-abbrev pub walk_of : Database → Work → StmtTree → ℕ → List (List Value) → Option Walk
-walk_of db w (Inserts i) place rows = Some (walked (insert_row w i) db place rows (drop place i.rows))
-walk_of db w (Updates u) place rows = Some (over_targets (visit_target w (Updates u) Exclusive u.filter) db w place rows (passing (cols_in db w) u.filter (rows_shown db.content w.view w.table)))
-walk_of db w (Deletes d) place rows = Some (over_targets (visit_target w (Deletes d) Exclusive d.filter) db w place rows (passing (cols_in db w) d.filter (rows_shown db.content w.view w.table)))
-walk_of db w (Selects s) place rows =
-    option_map (λ l. over_targets (visit_target w (Selects s) (strength_of l) s.filter) db w place rows (taken s (columns_in db w) (rows_shown db.content w.view w.table))) s.lock
-walk_of db w stmt place rows = None
+abbrev pub walk_of : Work → StmtTree → Walk → Option Walk
+walk_of w (Inserts i) walk = Some (over (insert_row w i) walk (drop walk.place i.rows))
+walk_of w (Updates u) walk =
+    Some (over_targets w (visit_target w (Updates u) Exclusive u.filter) walk (passing (cols_in walk.db w) u.filter (rows_shown walk.db.content w.view w.table)))
+walk_of w (Deletes d) walk =
+    Some (over_targets w (visit_target w (Deletes d) Exclusive d.filter) walk (passing (cols_in walk.db w) d.filter (rows_shown walk.db.content w.view w.table)))
+walk_of w (Selects s) walk =
+    option_map (λ l. over_targets w (visit_target w (Selects s) (strength_of l) s.filter) walk (taken s (columns_in walk.db w) (rows_shown walk.db.content w.view w.table))) s.lock
+walk_of w stmt walk = None

@@ -1,5 +1,5 @@
 -- A statement is run: it begins, or goes on where it waits, by what its session's transaction is (PostgreSQL manual, the pages of the statements, and 13.2).
-use Rattle.std.specs.Prelude.{ℕ, Bool, true, false, List, ◌∷◌, length, flat_map, nat_lt, Option, Some, None, option_map, option_to_list, Ok, Err, if◌then◌else◌, []}
+use Rattle.std.specs.Prelude.{ℕ, Bool, true, false, List, ◌∷◌, length, flat_map, nat_lt, Option, Some, None, option_map, option_to_list, unwrap_or, Ok, Err, if◌then◌else◌, []}
 use Rattle.std.specs.List.{list_any}
 use Rattle.std.specs.Option.{option_map_or, option_or}
 use Rattle.sql_trees.specs.declared.stmt.Level.TheVariants.{ReadCommitted}
@@ -17,12 +17,12 @@ use Rattle.session_machine.specs.declared.session.Transaction.TheVariants.{Close
 use Rattle.session_machine.specs.declared.session.Progress.{Progress}
 use Rattle.session_machine.specs.declared.fault.StmtFault.{StmtFault}
 use Rattle.session_machine.specs.declared.fault.StmtFault.TheVariants.{Value as OfValue, NoColumnOf, NoPosition, NoTable, TooManyValues, Aborted}
-use Rattle.session_machine.specs.declared.reply.Outcome.{Outcome}
 use Rattle.session_machine.specs.declared.reply.Outcome.TheVariants.{Done, Rows, Waits, Failed}
 use Rattle.session_machine.specs.Tables.{Database, find_table}
-use Rattle.session_machine.specs.Transactions.{fresh, begun, committed, rolled_back, view_of, started}
+use Rattle.row_versions.specs.Log.{after_begin}
+use Rattle.session_machine.specs.Transactions.{fresh, committed, rolled_back, view_of, started}
 use Rattle.session_machine.specs.Views.{rows_shown}
-use Rattle.session_machine.specs.Statements.{Surroundings, Effect, fails, answers, turns, create, drop_tables, level_set, begin_in}
+use Rattle.session_machine.specs.Statements.{Surroundings, Effect, fails, answers, turns, create, drop_tables, level_set}
 use Rattle.session_machine.specs.Walks.{Walk, Blocked, Fails}
 use Rattle.session_machine.specs.Rows.{Work, columns_in, walk_of}
 
@@ -42,15 +42,10 @@ fault_in columns (Deletes d) = undefined_in (cols_of columns) (option_to_list d.
 fault_in columns (Selects s) = option_or (undefined_in (cols_of columns) (select_exprs s)) (option_map NoPosition (wrong_position columns s))
 fault_in columns stmt = None
 
--- what is answered at the end of a walk: the rows of a locking SELECT
-abbrev pub answer_of : List ColumnTree → StmtTree → List (List Value) → Outcome
-answer_of columns (Selects s) rows = Rows (record { titles = titles_of columns s.items; rows = rows })
-answer_of columns stmt rows = Done
-
--- what a statement comes to that has gone so far: it is done; or it waits where it stands, its transaction's snapshot taken; or it fails
+-- what a statement comes to that has gone so far: it is done, and a locking SELECT answers its rows; or it waits where it stands, its transaction's snapshot taken; or it fails
 abbrev pub leads_to : Database → Work → StmtTree → Walk → Effect
 leads_to db w stmt walk = elim walk.stop [
-  | None ↦ answers db.content walk.db w.t (answer_of (columns_in db w) stmt walk.rows)
+  | None ↦ answers db.content walk.db w.t (elim stmt [ Selects s ↦ Rows (record { titles = titles_of (columns_in db w) s.items; rows = walk.rows }) | other ↦ Done ])
   | Some (Blocked request) ↦
       let at : Progress = record { table = record { 0 = w.table }; view = w.view; place = walk.place; rows = walk.rows; wait = record { number = w.around.number; request = request } } in
       record { db = walk.db; transaction = Open (started db.content w.t); statement = Some at; outcome = Waits }
@@ -69,12 +64,13 @@ begin_at db t around name stmt = elim (find_table db (Some t.tx) name) [
   | Some k ↦
       let w : Work = record { t = t; table = k; view = view_of db.content t; around = around } in
       let shown = at_once db t (columns_in db w) (rows_shown db.content w.view k) stmt in
-      option_map_or (fails db t) (fault_in (columns_in db w) stmt) (option_map_or (leads_to db w stmt) (walk_of db w stmt 0 []) shown)
+      let walk = walk_of w stmt (record { db = db; place = 0; rows = []; stop = None }) in
+      option_map_or (fails db t) (fault_in (columns_in db w) stmt) (option_map_or (leads_to db w stmt) walk shown)
 ]
 
 -- a statement that begins in an open transaction; a SELECT without FROM has one row, without columns
 abbrev pub run_in : Database → OpenTransaction → Surroundings → StmtTree → Effect
-run_in db t around (Begin level) = begin_in db t level
+run_in db t around (Begin level) = if t.explicit then turns db (Open t) else level_set db t true (unwrap_or level t.level)
 run_in db t around Commit = turns (committed db t.tx) Closed
 run_in db t around Rollback = turns (rolled_back db t.tx) Closed
 run_in db t around (SetTransaction level) = level_set db t t.explicit level
@@ -93,11 +89,11 @@ abbrev pub run_stmt : Database → Transaction → Option Progress → Surroundi
 run_stmt db (Open t) None around stmt = run_in db t around stmt
 run_stmt db (Open t) (Some p) around stmt =
     let w : Work = record { t = t; table = p.table.0; view = p.view; around = around } in
-    option_map_or (leads_to db w stmt) (walk_of db w stmt p.place p.rows) (run_in db t around stmt)
+    option_map_or (leads_to db w stmt) (walk_of w stmt (record { db = db; place = p.place; rows = p.rows; stop = None })) (run_in db t around stmt)
 run_stmt db transaction statement around Commit = turns db Closed
 run_stmt db transaction statement around Rollback = turns db Closed
 run_stmt db Closed statement around SetDeadlockTimeout = turns db Closed
-run_stmt db Closed statement around stmt = run_in (begun db) (fresh db.content ReadCommitted false) around stmt
+run_stmt db Closed statement around stmt = run_in (record db { content = after_begin db.content }) (fresh db.content ReadCommitted false) around stmt
 run_stmt db AbortedOne statement around stmt = record { db = db; transaction = AbortedOne; statement = None; outcome = Failed Aborted }
 
 abbrev pub is_definition : StmtTree → Bool

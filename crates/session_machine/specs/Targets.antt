@@ -1,7 +1,7 @@
 -- What a statement asks for and goes over, in the words of the laws.
-use Rattle.std.specs.Prelude.{ℕ, List, Option, slice_get, filter_map, Result, Ok, Err}
+use Rattle.std.specs.Prelude.{ℕ, List, [], map, unwrap_or, option_map, Option, slice_get, filter_map, Result, Ok, Err}
 use Rattle.sql_trees.specs.Trees.{Tree}
-use Rattle.sql_trees.specs.Statements.{KeyTree, SelectTree}
+use Rattle.sql_trees.specs.Statements.{ColumnTree, KeyTree, SelectTree}
 use Rattle.sql_values.specs.declared.value.Value.{Value}
 use Rattle.sql_values.specs.declared.fault.ValueFault.{ValueFault}
 use Rattle.query_results.specs.Queries.{passing, taken}
@@ -22,6 +22,10 @@ going_on t around p = record { t = t; table = p.table.0; view = p.view; around =
 -- the key, asked for with a row of these values
 abbrev pub asked_key : Work → List Value → KeyTree → AskedKey
 asked_key w values key = record { table = record { 0 = w.table }; columns = key.columns; values = values }
+
+-- the names of the columns at these places
+abbrev pub names_at : List ColumnTree → List ℕ → List (List ℕ)
+names_at columns places = map (λ place. unwrap_or (option_map (λ (c : ColumnTree). c.name) (slice_get columns place)) []) places
 
 -- the versions that the statement's view shows of its table
 abbrev pub seen_by : Database → Work → List Seen

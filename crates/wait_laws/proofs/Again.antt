@@ -14,9 +14,9 @@ use Rattle.session_machine.specs.declared.reply.Outcome.{Outcome}
 use Rattle.session_machine.specs.declared.reply.Outcome.TheVariants.{Rows}
 use Rattle.session_machine.specs.Tables.{Database}
 use Rattle.session_machine.specs.Statements.{Surroundings, Effect}
-use Rattle.session_machine.specs.Walks.{Stop, Visit, Walk, Blocked, Fails, walked}
+use Rattle.session_machine.specs.Walks.{Stop, Walk, Blocked, Fails}
 use Rattle.session_machine.specs.Rows.{columns_in}
-use Rattle.session_machine.specs.Inner.Statements.{walked_from, insert_one, update_one, delete_one, lock_one, comes_to, after_walk, done, assigned_to, run_on}
+use Rattle.session_machine.specs.Inner.Statements.{walked_from, insert_one, update_one, delete_one, lock_one, comes_to, after_walk, done, assigned_to, run_on, Visit, walked}
 use Rattle.session_machine.specs.Running.{run_stmt}
 use Rattle.session_machine.proofs.ByKind.{runs_by_kind}
 use Rattle.session_machine.specs.Targets.{passing_targets, taken_targets, going_on}

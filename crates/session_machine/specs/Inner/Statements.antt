@@ -1,9 +1,12 @@
 -- Statements kind by kind: what the code's inner functions do, and what the proofs go by. `proofs/ByKind` shows that it is the same.
-use Rattle.std.specs.Prelude.{ℕ, ℤ, Bool, true, false, List, ◌∷◌, length, drop, flat_map, nat_lt, Option, Some, None, option_map, option_to_list, unwrap_or, slice_get, Result, Ok, Err, if◌then◌else◌, []}
+use Rattle.std.specs.Prelude.{ℕ, ◌+◌, ◌++◌, ℤ, Bool, true, false, List, ◌∷◌, length, drop, flat_map, nat_lt, Option, Some, None, option_map, option_to_list, unwrap_or, slice_get, Result, Ok, Err, if◌then◌else◌, []}
 use Rattle.std.specs.List.{list_any}
 use Rattle.std.specs.Option.{option_map_or, option_or}
 use Rattle.std.specs.Result.{result_unwrap_or}
-use Rattle.sql_trees.specs.declared.stmt.Level.TheVariants.{ReadCommitted}
+use denote.Enum.Bare.{sameb}
+use Rattle.sql_trees.specs.declared.stmt.Level.{Level}
+use Rattle.sql_trees.specs.contracts.stmt.Level.{the_type as the_level}
+use Rattle.sql_trees.specs.declared.stmt.Level.TheVariants.{ReadCommitted, RepeatableRead}
 use Rattle.sql_trees.specs.declared.stmt.Lock.{Lock}
 use Rattle.sql_trees.specs.Trees.{Tree}
 use Rattle.sql_trees.specs.Statements.{KeyTree, StmtTree, InsertTree, UpdateTree, DeleteTree, SelectTree}
@@ -16,7 +19,7 @@ use Rattle.query_results.specs.Queries.{AssignedColumn, new_values, null_in, row
 use Rattle.query_results.specs.Updates.{columns_set, update_exprs, updated}
 use Rattle.row_versions.specs.declared.names.RowId.{RowId}
 use Rattle.row_versions.specs.declared.write.Seen.{Seen}
-use Rattle.row_versions.specs.Log.{Content}
+use Rattle.row_versions.specs.Log.{Content, commit_count, after_begin}
 use Rattle.row_locks.specs.declared.held.Strength.{Strength}
 use Rattle.row_locks.specs.declared.held.Strength.TheVariants.{Exclusive}
 use Rattle.row_locks.specs.Held.{with_lock}
@@ -34,13 +37,62 @@ use Rattle.session_machine.specs.declared.fault.StmtFault.TheVariants.{Value as 
 use Rattle.session_machine.specs.declared.reply.Outcome.{Outcome}
 use Rattle.session_machine.specs.declared.reply.Outcome.TheVariants.{Done, Rows, Waits, Failed}
 use Rattle.session_machine.specs.Tables.{Database, Table, find_table}
-use Rattle.session_machine.specs.Transactions.{fresh, begun, committed, rolled_back, view_of, started}
+use Rattle.session_machine.specs.Transactions.{fresh, committed, rolled_back, view_of, started}
 use Rattle.session_machine.specs.Views.{rows_shown}
 use Rattle.session_machine.specs.Waits.{waits_in}
-use Rattle.session_machine.specs.Statements.{Surroundings, Effect, fails, answers, turns, create, drop_tables, level_set, begin_in}
-use Rattle.session_machine.specs.Walks.{Stop, Visit, Walk, Blocked, Fails, stops, goes_on, walked}
+use Rattle.session_machine.specs.Statements.{Surroundings, Effect, fails, answers, turns, create, drop_tables, level_set}
+use Rattle.session_machine.specs.Walks.{Stop, Walk, Blocked, Fails}
 use Rattle.session_machine.specs.Targets.{going_on, passing_targets, taken_targets}
 use Rattle.session_machine.specs.Rows.{Work, columns_in, cols_in, values_of, written, inserted, stop_at_key, strength_of}
+
+-- ---- transactions
+
+abbrev pub begun : Database → Database
+begun db = record db { content = after_begin db.content }
+
+-- the commits before the transaction's first query, which is the present one if there was none (13.2.2)
+abbrev pub first_commits : Content → OpenTransaction → ℕ
+first_commits c t = unwrap_or t.snapshot (commit_count c)
+
+-- in Read Committed a query sees what was committed when it began, in Repeatable Read what was when the transaction's first query began
+abbrev pub commits_seen : Level → Content → OpenTransaction → ℕ
+commits_seen level c t = elim level [ ReadCommitted ↦ commit_count c | RepeatableRead ↦ first_commits c t ]
+
+-- the transaction after a query
+abbrev pub moved_on : Content → OpenTransaction → OpenTransaction
+moved_on c t = record t { snapshot = Some (first_commits c t); command = t.command + 1 }
+
+abbrev pub after_failure : OpenTransaction → Transaction
+after_failure t = if t.explicit then AbortedOne else Closed
+
+-- the levels are the same
+abbrev pub is_level : Level → Level → Bool
+is_level a b = sameb the_level a b
+
+-- BEGIN makes an implicit transaction explicit; in an explicit one it has no effect
+abbrev pub begin_in : Database → OpenTransaction → Option Level → Effect
+begin_in db t level = if t.explicit then turns db (Open t) else level_set db t true (unwrap_or level t.level)
+
+-- ---- from one target to the next
+
+-- what was done at one target: the database after it, the rows that are answered for it, and what stops the statement there
+pub record Visit : Type 0 where
+  pub db : Database
+  pub rows : List (List Value)
+  pub stop : Option Stop
+
+abbrev pub stops : Database → Stop → Visit
+stops db stop = record { db = db; rows = []; stop = Some stop }
+
+abbrev pub goes_on : Database → List (List Value) → Visit
+goes_on db rows = record { db = db; rows = rows; stop = None }
+
+-- one target after the other is visited, from this place on, up to the one at which the statement stops
+abbrev pub walked : {A : Type 0} → (Database → A → Visit) → Database → ℕ → List (List Value) → List A → Walk
+walked visit db place rows [] = record { db = db; place = place; rows = rows; stop = None }
+walked visit db place rows (x ∷ xs) =
+    let v = visit db x in
+    option_map_or (λ stop. record { db = v.db; place = place; rows = rows; stop = Some stop }) v.stop (walked visit v.db (place + 1) (rows ++ v.rows) xs)
 
 -- ---- at a row
 
