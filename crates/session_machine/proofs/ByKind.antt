@@ -16,6 +16,7 @@ use Rattle.query_results.specs.Results.{Results}
 use Rattle.query_results.specs.Updates.{columns_set, update_exprs, updated}
 use Rattle.row_versions.specs.declared.names.RowId.{RowId}
 use Rattle.row_versions.specs.declared.write.Seen.{Seen}
+use Rattle.row_locks.specs.declared.held.Strength.{Strength}
 use Rattle.row_locks.specs.declared.held.Strength.TheVariants.{Exclusive}
 use Rattle.update_recheck.specs.Asked.{Asked}
 use Rattle.update_recheck.specs.Outcome.{Outcome, target_outcome}
@@ -154,11 +155,13 @@ walks_so P new old same stays db place rows (x ∷ xs) p =
       by None on = on
       by (Some stop) on = rests new (old db x).db place rows stop xs
 
-goes_over : (P : Database → Type 0) (w : Work) (new : Walk → Seen → Walk) (old : Database → Seen → Visit) → ((walk : Walk) (x : Seen) → P walk.db → new walk x ≡ onto walk (old walk.db x))
+goes_over : (P : Database → Type 0) (w : Work) (stmt : StmtTree) (strength : Strength) (filter : Option Tree) (old : Database → Seen → Visit)
+    → ((walk : Walk) (x : Seen) → P walk.db → visit_target w stmt strength filter walk x ≡ onto walk (old walk.db x))
     → ((d : Database) (x : Seen) → P d → P (old d x).db) → (db : Database) (place : ℕ) (rows : List (List Value)) (r : Result (List ℕ) ValueFault) → P db
-    → over_targets w new (at_walk db place rows) r ≡ walked_from old db place rows (at_places (seen_by db w) r)
-goes_over P w new old same stays db place rows (Ok places) p = walks_so P new old same stays db place rows (drop place (filter_map (slice_get (seen_by db w)) places)) p
-goes_over P w new old same stays db place rows (Err fault) p = refl
+    → over_targets w stmt strength filter (at_walk db place rows) r ≡ walked_from old db place rows (at_places (seen_by db w) r)
+goes_over P w stmt strength filter old same stays db place rows (Ok places) p =
+    walks_so P (visit_target w stmt strength filter) old same stays db place rows (drop place (filter_map (slice_get (seen_by db w)) places)) p
+goes_over P w stmt strength filter old same stays db place rows (Err fault) p = refl
 
 -- ---- what is done at a target
 
@@ -224,11 +227,11 @@ inserts_from db w i place rows =
           ∙ ap (λ (xs : List AssignedColumn). onto walk (insert_one w i.table xs walk.db row)) (ap (λ (c : Catalog). to_in (record walk.db { catalog = c })) at)
 
 updates_from : (db : Database) (w : Work) (u : UpdateTree) (place : ℕ) (rows : List (List Value)) (r : Result (List ℕ) ValueFault)
-    → leads_to db w (Updates u) (over_targets w (visit_target w (Updates u) Exclusive u.filter) (at_walk db place rows) r)
+    → leads_to db w (Updates u) (over_targets w (Updates u) Exclusive u.filter (at_walk db place rows) r)
     ≡ after_walk db.content w done (walked_from (update_one w u (assigned_to (columns_set (columns_in db w) u.sets))) db place rows (at_places (seen_by db w) r))
 updates_from db w u place rows r =
     ap (after_walk db.content w done)
-    (goes_over (λ d. d.catalog ≡ db.catalog) w (visit_target w (Updates u) Exclusive u.filter) (update_one w u (to_in db)) (updates_so w u db.catalog (to_in db) same)
+    (goes_over (λ d. d.catalog ≡ db.catalog) w (Updates u) Exclusive u.filter (update_one w u (to_in db)) (updates_so w u db.catalog (to_in db) same)
     (λ d x at. update_stays w u (to_in db) d x ∙ at) db place rows r refl) where
       to_in : Database → List AssignedColumn
       to_in d = assigned_to (columns_set (columns_in d w) u.sets)
@@ -237,18 +240,18 @@ updates_from db w u place rows r =
       same d at = ap (λ (c : Catalog). to_in (record d { catalog = c })) at
 
 deletes_from : (db : Database) (w : Work) (d : DeleteTree) (place : ℕ) (rows : List (List Value)) (r : Result (List ℕ) ValueFault)
-    → leads_to db w (Deletes d) (over_targets w (visit_target w (Deletes d) Exclusive d.filter) (at_walk db place rows) r)
+    → leads_to db w (Deletes d) (over_targets w (Deletes d) Exclusive d.filter (at_walk db place rows) r)
     ≡ after_walk db.content w done (walked_from (delete_one w d) db place rows (at_places (seen_by db w) r))
 deletes_from db w d place rows r =
     ap (after_walk db.content w done)
-    (goes_over (λ e. Unit {0}) w (visit_target w (Deletes d) Exclusive d.filter) (delete_one w d) (λ walk seen p. deletes_so w d walk seen) (λ e x p. tt) db place rows r tt)
+    (goes_over (λ e. Unit {0}) w (Deletes d) Exclusive d.filter (delete_one w d) (λ walk seen p. deletes_so w d walk seen) (λ e x p. tt) db place rows r tt)
 
 locks_from : (db : Database) (w : Work) (s : SelectTree) (l : Lock) (place : ℕ) (rows : List (List Value)) (r : Result (List ℕ) ValueFault)
-    → leads_to db w (Selects s) (over_targets w (visit_target w (Selects s) (strength_of l) s.filter) (at_walk db place rows) r)
+    → leads_to db w (Selects s) (over_targets w (Selects s) (strength_of l) s.filter (at_walk db place rows) r)
     ≡ after_walk db.content w (λ shown. Rows (record { titles = titles_of (columns_in db w) s.items; rows = shown })) (walked_from (lock_one w s l) db place rows (at_places (seen_by db w) r))
 locks_from db w s l place rows r =
     ap (after_walk db.content w (λ shown. Rows (record { titles = titles_of (columns_in db w) s.items; rows = shown })))
-    (goes_over (λ e. Unit {0}) w (visit_target w (Selects s) (strength_of l) s.filter) (lock_one w s l) (λ walk seen p. locks_so w s l walk seen) (λ e x p. tt) db place rows r tt)
+    (goes_over (λ e. Unit {0}) w (Selects s) (strength_of l) s.filter (lock_one w s l) (λ walk seen p. locks_so w s l walk seen) (λ e x p. tt) db place rows r tt)
 
 -- ---- a statement that begins
 
@@ -339,7 +342,7 @@ module _ (db : Database) (t : OpenTransaction) (around : Surroundings) where
 
   rows_so : (w : Work) (s : SelectTree) (l : Option Lock)
       → option_map_or (leads_to db w (Selects s))
-      (option_map (λ l. over_targets w (visit_target w (Selects s) (strength_of l) s.filter) (at_walk db 0 []) (taken s (columns_in db w) (rows_shown db.content w.view w.table))) l)
+      (option_map (λ l. over_targets w (Selects s) (strength_of l) s.filter (at_walk db 0 []) (taken s (columns_in db w) (rows_shown db.content w.view w.table))) l)
       (at_once db w.t (columns_in db w) (rows_shown db.content w.view w.table) (Selects s)) ≡ select_rows db w s l
   rows_so w s None = answers_so db w.t (result_of s (columns_in db w) (rows_shown db.content w.view w.table))
   rows_so w s (Some l) = locks_from db w s l 0 [] (taken s (columns_in db w) (rows_shown db.content w.view w.table))
@@ -376,7 +379,7 @@ module _ (db : Database) (t : OpenTransaction) (around : Surroundings) where
   select_goes_on : (p : Progress) (s : SelectTree) (l : Option Lock)
       → (let w = going_on t around p in
       option_map_or (leads_to db w (Selects s))
-      (option_map (λ l. over_targets w (visit_target w (Selects s) (strength_of l) s.filter) (at_walk db p.place p.rows) (taken s (columns_in db w) (rows_shown db.content w.view w.table))) l)
+      (option_map (λ l. over_targets w (Selects s) (strength_of l) s.filter (at_walk db p.place p.rows) (taken s (columns_in db w) (rows_shown db.content w.view w.table))) l)
       (run_in db t around (Selects s)) ≡ option_map_or (λ l. lock_from db w s l p.place p.rows) l (select db t around s s.table))
   select_goes_on p s None = select_so s s.table
   select_goes_on p s (Some l) = let w = going_on t around p in locks_from db w s l p.place p.rows (taken s (columns_in db w) (rows_shown db.content w.view w.table))

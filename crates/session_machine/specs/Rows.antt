@@ -87,14 +87,12 @@ put_row w name row (Ok values) walk =
 -- INSERT at a row of its VALUES
 abbrev pub insert_row : Work → InsertTree → Walk → List Tree → Walk
 insert_row w i walk row =
-    let columns = columns_in walk.db w in
-    put_row w i.table None (new_values (length columns) (result_unwrap_or (columns_assigned columns i.columns) []) row) walk
+    put_row w i.table None (new_values (length (columns_in walk.db w)) (result_unwrap_or (columns_assigned (columns_in walk.db w) i.columns) []) row) walk
 
 -- what a statement does with the version that a target takes: UPDATE writes a new one, DELETE one without values, and a locking SELECT answers its items
 abbrev pub act_on : Work → StmtTree → Walk → Seen → Walk
 act_on w (Updates u) walk version =
-    let to = result_unwrap_or (columns_set (columns_in walk.db w) u.sets) [] in
-    put_row w u.table (Some version.row) (updated (cols_in walk.db w) to u.sets (values_of walk.db version)) walk
+    put_row w u.table (Some version.row) (updated (cols_in walk.db w) (result_unwrap_or (columns_set (columns_in walk.db w) u.sets) []) u.sets (values_of walk.db version)) walk
 act_on w (Deletes d) walk version = passed walk (written walk.db w version.row None) []
 act_on w (Selects s) walk version = elim (row_values (cols_in walk.db w) s.items (values_of walk.db version)) [
   | Ok row ↦ passed walk walk.db (row ∷ [])
@@ -124,18 +122,17 @@ strength_of lock.Share = Share
 strength_of lock.Update = Exclusive
 
 -- a statement goes over its targets, which are versions that its view shows, at these places; where they couldn't be found, it fails
-abbrev pub over_targets : Work → (Walk → Seen → Walk) → Walk → Result (List ℕ) ValueFault → Walk
-over_targets w visit walk (Ok places) = over visit walk (drop walk.place (filter_map (slice_get (rows_of walk.db.content w.view (record { 0 = w.table }))) places))
-over_targets w visit walk (Err fault) = stopped walk (Fails (OfValue fault))
+abbrev pub over_targets : Work → StmtTree → Strength → Option Tree → Walk → Result (List ℕ) ValueFault → Walk
+over_targets w stmt strength filter walk (Err fault) = stopped walk (Fails (OfValue fault))
+over_targets w stmt strength filter walk (Ok places) =
+    over (visit_target w stmt strength filter) walk (drop walk.place (filter_map (slice_get (rows_of walk.db.content w.view (record { 0 = w.table }))) places))
 
 -- the statement goes on from where it has come to: INSERT over the rows of its VALUES, UPDATE and DELETE over the versions that pass WHERE,
 -- and a locking SELECT over them as ORDER BY sorts them; the others have no targets
 abbrev pub walk_of : Work → StmtTree → Walk → Option Walk
 walk_of w (Inserts i) walk = Some (over (insert_row w i) walk (drop walk.place i.rows))
-walk_of w (Updates u) walk =
-    Some (over_targets w (visit_target w (Updates u) Exclusive u.filter) walk (passing (cols_in walk.db w) u.filter (rows_shown walk.db.content w.view w.table)))
-walk_of w (Deletes d) walk =
-    Some (over_targets w (visit_target w (Deletes d) Exclusive d.filter) walk (passing (cols_in walk.db w) d.filter (rows_shown walk.db.content w.view w.table)))
+walk_of w (Updates u) walk = Some (over_targets w (Updates u) Exclusive u.filter walk (passing (cols_in walk.db w) u.filter (rows_shown walk.db.content w.view w.table)))
+walk_of w (Deletes d) walk = Some (over_targets w (Deletes d) Exclusive d.filter walk (passing (cols_in walk.db w) d.filter (rows_shown walk.db.content w.view w.table)))
 walk_of w (Selects s) walk =
-    option_map (λ l. over_targets w (visit_target w (Selects s) (strength_of l) s.filter) walk (taken s (columns_in walk.db w) (rows_shown walk.db.content w.view w.table))) s.lock
+    option_map (λ l. over_targets w (Selects s) (strength_of l) s.filter walk (taken s (columns_in walk.db w) (rows_shown walk.db.content w.view w.table))) s.lock
 walk_of w stmt walk = None
