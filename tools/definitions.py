@@ -40,7 +40,7 @@ def read(lines):
         if re.match(r"module _ .* where$", line):
             depth, name = depth + 1, None
             continue
-        given = re.match(r"use Rattle\.([\w.]+?)(?:\.\{(.*)\})?(?: as (\S+))?$", line)
+        given = re.match(r"(?:pub )?use Rattle\.([\w.]+?)(?:\.\{(.*)\})?(?: as (\S+))?$", line)
         if given:
             module, names, alias = given.groups()
             for it in (names or "").split(", "):
@@ -72,6 +72,9 @@ def named_from(wanted, files, holders, without=()):
     named = set()
     while left:
         at = left.pop()
+        # (a file may hand on what it imports)
+        while at[1] not in files.get(at[0], ({}, {}, {}))[2] and at[1] in files.get(at[0], ({}, {}, {}))[0]:
+            at = files[at[0]][0][at[1]]
         at = at if at[1] in files.get(at[0], ({}, {}, {}))[2] else holders.get(at)
         if not at or at in named or at[1] in without:
             continue
