@@ -121,7 +121,7 @@ insert_one w name to db row = with_values db (new_values (length (columns_in db 
 
 -- one target, as it is asked for
 abbrev pub ask : Database → Work → Strength → Option Tree → Seen → Asked
-ask db w strength filter seen = record { tx = w.t.tx; level = w.t.level; view = w.view; seen = seen; strength = strength; condition = filter; cols = cols_in db w }
+ask db w strength filter seen = record { tx = w.t.tx; level = w.t.level; seen = seen; strength = strength; condition = filter; cols = cols_in db w }
 
 -- the locks once the target is settled
 abbrev pub settled : Database → Work → Asked → Database
