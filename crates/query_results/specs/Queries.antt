@@ -1,7 +1,7 @@
 -- What a query answers at the rows of its table, and what an INSERT makes of its values (PostgreSQL manual, SELECT and INSERT).
 use Rattle.std.specs.Prelude.{ℕ, ◌-◌, ◌==◌, ℤ, pos, int_le, int_lt, not, ◌&&◌, ◌||◌, List, [], ◌∷◌, ◌++◌, length, map, flat_map, replicate}
 use Rattle.std.specs.Prelude.{Option, Some, None, is_none, option_map, option_to_list, find, filter, filter_map, position, zip}
-use Rattle.std.specs.Prelude.{bytes_eq, slice_set, slice_index_or, Result, Ok, Err, if◌then◌else◌}
+use Rattle.std.specs.Prelude.{bytes_eq, slice_set, slice_index_or, ok_or, Result, Ok, Err, if◌then◌else◌}
 use Rattle.std.specs.List.{enumerate_from}
 use Rattle.std.specs.Option.{option_map_or}
 use Rattle.sql_trees.specs.declared.kind.Kind.{Kind}
@@ -58,8 +58,7 @@ meant [] key = key
 
 -- the expressions of a SELECT, as they are looked at: of its items, where `*` and count(*) have none, then WHERE, then what its keys mean
 abbrev pub select_exprs : SelectTree → List Tree
-select_exprs s =
-    flat_map (λ i. elim i [ stmt.Value e alias ↦ e ∷ [] | stmt.Aggregate (tree.Of k e) alias ↦ e ∷ [] | other ↦ [] ]) s.items
+select_exprs s = flat_map (λ i. elim i [ stmt.Value e alias ↦ e ∷ [] | stmt.Aggregate (tree.Of k e) alias ↦ e ∷ [] | other ↦ [] ]) s.items
     ++ option_to_list s.filter ++ map (λ k. meant s.items k.expr) s.order
 
 -- the places of the rows that pass WHERE, once it is tested at all of them
@@ -87,9 +86,8 @@ titles_of columns is = flat_map (item_titles columns) is
 
 -- the first of the numbers in ORDER BY that is none of the result's columns, which are counted from 1
 abbrev pub wrong_position : List ColumnTree → SelectTree → Option ℤ
-wrong_position columns s =
-    let numbers = filter_map (λ k. elim k.expr [ tree.Number negative n ↦ Some (signed negative n) | other ↦ None ]) s.order in
-    find (λ n. not (int_lt (pos 0) n && int_le n (pos (length (titles_of columns s.items))))) numbers
+wrong_position columns s = find (λ n. not (int_lt (pos 0) n && int_le n (pos (length (titles_of columns s.items)))))
+    (filter_map (λ k. elim k.expr [ tree.Number negative n ↦ Some (signed negative n) | other ↦ None ]) s.order)
 
 -- the value of a key of ORDER BY at a row: a number literal means that column of the result, counted from 1, or NULL where there is none
 abbrev pub key_value : Cols → List ItemTree → List Value → Tree → Answer
@@ -102,8 +100,8 @@ by_keys by places keys = if can_sort by keys then Ok (map (λ i. slice_index_or 
 
 -- the places of the rows that pass WHERE, as ORDER BY sorts them: the keys of all these rows are evaluated, row by row, before any are compared
 abbrev pub taken : SelectTree → List ColumnTree → List (List Value) → Result (List ℕ) ValueFault
-taken s columns rows = let cols = cols_of columns in if_ok (passing cols s.filter rows) (λ places.
-    if_ok (each (λ row. each (λ k. key_value cols s.items row k.expr) s.order) (rows_at rows places)) (by_keys (map (λ k. k.dir) s.order) places))
+taken s columns rows = if_ok (passing (cols_of columns) s.filter rows) (λ places.
+    if_ok (each (λ row. each (λ k. key_value (cols_of columns) s.items row k.expr) s.order) (rows_at rows places)) (by_keys (map (λ k. k.dir) s.order) places))
 
 -- the aggregate that an item is, titled by its alias, or by what it counts, sums or compares (9.21): a SELECT that has any has nothing else
 abbrev pub aggregate_in : ItemTree → Option (AggTree × Title)
@@ -132,14 +130,10 @@ pub record AssignedColumn : Type 0 where
 abbrev pub at_place : ℕ × ColumnTree → AssignedColumn
 at_place c = record { place = c.0; kind = c.1.kind }
 
--- the first column of that name
-abbrev pub assigned_named : List ColumnTree → List ℕ → Option AssignedColumn
-assigned_named columns name = option_map at_place (find (λ c. bytes_eq c.1.name name) (enumerate_from 0 columns))
-
--- the columns of a list of names, or the first name that no column has; without a list the values go to the first columns
+-- the columns of a list of names, of each the first, or the first name that no column has; without a list the values go to the first columns
 abbrev pub columns_assigned : List ColumnTree → Option (List (List ℕ)) → Result (List AssignedColumn) (List ℕ)
 columns_assigned columns None = Ok (map at_place (enumerate_from 0 columns))
-columns_assigned columns (Some names) = option_map_or Err (find (λ name. is_none (assigned_named columns name)) names) (Ok (filter_map (assigned_named columns) names))
+columns_assigned columns (Some names) = each (λ name. ok_or (option_map at_place (find (λ c. bytes_eq c.1.name name) (enumerate_from 0 columns))) name) names
 
 -- the row with each value at its column's place, as the column takes it
 abbrev pub filled : List AssignedColumn → List Value → List Value → Result (List Value) ValueFault

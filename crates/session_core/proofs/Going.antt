@@ -8,8 +8,8 @@ use Rattle.session_machine.specs.declared.event.Mode.{Mode}
 use Rattle.session_machine.specs.declared.reply.Reply.{Reply}
 use Rattle.session_machine.specs.declared.reply.HistItem.{HistItem}
 use Rattle.session_machine.specs.declared.fault.Refusal.{Refusal}
-use Rattle.session_machine.specs.Machine.{Machine, Blocks, Next, next, opening, visible, visible_for, visible_to}
-use Rattle.session_machine.specs.Engine.{Engine, Goes, IsDue, IsLegal, Run}
+use Rattle.session_machine.specs.Machine.{Machine, Blocks, Next, next, opening, visible, visible_for, visible_to, Run}
+use Rattle.session_machine.specs.Engine.{Engine, Goes, IsDue, IsLegal}
 use Rattle.session_core.specs.Inner.Answers.{answered}
 use Rattle.session_machine.specs.Sound.{IsSoundMachine, StaysSound}
 use Rattle.session_core.proofs.Replaying.{answered_ok, answered_err, goes_on}

@@ -2,8 +2,8 @@
 use Rattle.std.proofs.Common.{◌≡◌, ℕ, ◌≤◌, List, [], length, refl, sym, ap, subst}
 use Rattle.session_machine.specs.declared.event.Mode.{Mode}
 use Rattle.session_machine.specs.declared.reply.HistItem.{HistItem}
-use Rattle.session_machine.specs.Machine.{Blocks, Machine, opening}
-use Rattle.session_machine.specs.Engine.{IsLegal, Run}
+use Rattle.session_machine.specs.Machine.{Blocks, Machine, opening, Run}
+use Rattle.session_machine.specs.Engine.{IsLegal}
 use Rattle.session_machine.specs.Sound.{IsSoundMachine, StaysSound}
 
 pub opens : StaysSound → (blocks : Blocks) (mode : Mode) (count : ℕ) (m : Machine) (items : List HistItem) → count ≤ 64 → m ≡ opening count → items ≡ []

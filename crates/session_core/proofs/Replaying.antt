@@ -6,8 +6,8 @@ use Rattle.session_machine.specs.declared.event.Mode.{Mode}
 use Rattle.session_machine.specs.declared.reply.Reply.{Reply}
 use Rattle.session_machine.specs.declared.reply.HistItem.{HistItem}
 use Rattle.session_machine.specs.declared.fault.Refusal.{Refusal}
-use Rattle.session_machine.specs.Machine.{Machine, Blocks, Next, next}
-use Rattle.session_machine.specs.Engine.{Follows, Run}
+use Rattle.session_machine.specs.Machine.{Machine, Blocks, Next, next, Run}
+use Rattle.session_machine.specs.Engine.{Follows}
 use Rattle.session_laws.proofs.Replaying.{run_more, one_follows}
 use Rattle.session_core.specs.Inner.Answers.{Answered, answered}
 use Rattle.session_machine.specs.Sound.{IsSoundMachine, StaysSound}

@@ -3,8 +3,7 @@ use Rattle.std.proofs.Common.{◌≡◌, ℕ, List, Option, Some, subst}
 use Rattle.std.specs.Prelude.{IfSome}
 use Rattle.session_machine.specs.declared.event.Mode.{Mode}
 use Rattle.session_machine.specs.declared.reply.HistItem.{HistItem}
-use Rattle.session_machine.specs.Machine.{Machine, Blocks, opening}
-use Rattle.session_machine.specs.Engine.{Run}
+use Rattle.session_machine.specs.Machine.{Machine, Blocks, opening, Run}
 use Rattle.wait_laws.specs.Laws.{Reaches}
 
 pub reached : (given : Blocks) (mode : Mode) (count : ℕ) (items : List HistItem) (at : Option Machine) (m : Machine)

@@ -19,9 +19,9 @@ use Rattle.session_machine.specs.declared.fault.Refusal.TheVariants.{StillBlocke
 use Rattle.session_machine.specs.Tables.{Database}
 use Rattle.session_machine.specs.Statements.{Effect}
 use Rattle.session_machine.specs.Running.{run_stmt}
-use Rattle.session_machine.specs.Machine.{Machine, Blocks, Next, after_stmt, around, closed_at_end, is_failed, next, stmts_of, with_session}
+use Rattle.session_machine.specs.Machine.{Machine, Blocks, Next, after_stmt, closed_at_end, is_failed, next, stmts_of, with_session}
 use Rattle.session_machine.specs.Waits.{is_still_blocked}
-use Rattle.session_machine.specs.Inner.Steps.{step_of, step_at, step_stmt, finished, waits_there}
+use Rattle.session_machine.specs.Inner.Steps.{step_of, step_at, step_stmt, finished, waits_there, around}
 use Rattle.session_machine.specs.Sound.{IsSoundMachine, StaysSound, tx_in, tx_of, command_in, command_of, progress_of}
 
 -- an open transaction of a session is open, and has had at most as many commands as there were events

@@ -5,8 +5,8 @@ ghost use Rattle.sql_blocks.specs.Blocks.{blocks_of};
 ghost use Rattle.sql_values.specs.declared.value.Value.{Value as SqlValue};
 ghost use Rattle.row_versions.specs.Log.{empty_content};
 ghost use Rattle.session_machine.specs.declared.reply.Reply.{Reply as ReplyFacts};
-ghost use Rattle.session_machine.specs.Machine.{opening};
-ghost use Rattle.session_machine.specs.Engine.{EngineAnswered, IsDue, IsLegal, Run, engine_after, fault_of, is_quiet_in, opened, spent_engine, turn_of, visible_in};
+ghost use Rattle.session_machine.specs.Machine.{opening, Run};
+ghost use Rattle.session_machine.specs.Engine.{EngineAnswered, IsDue, IsLegal, engine_after, fault_of, is_quiet_in, opened, spent_engine, turn_of, visible_in};
 ghost use Rattle.session_core.specs.Engines.{IsOf};
 
 use crate::live::Live;
@@ -34,8 +34,8 @@ pub struct EngineState<'a, 't, V: Versions> {
 impl<'a, 't, V: Versions> Model for EngineState<'a, 't, V> {
     ghost use Rattle.std.specs.Prelude.{◌≡◌, false, length, Some, None, if◌then◌else◌};
     ghost use Rattle.sql_blocks.specs.Blocks.{blocks_of};
-    ghost use Rattle.session_machine.specs.Machine.{opening};
-    ghost use Rattle.session_machine.specs.Engine.{Engine, IsLegal, Run};
+    ghost use Rattle.session_machine.specs.Machine.{opening, Run};
+    ghost use Rattle.session_machine.specs.Engine.{Engine, IsLegal};
     ghost use Rattle.session_machine.specs.Sound.{IsSoundMachine};
     ghost use Rattle.session_machine.specs.Inner.TreeCodes.{tree_code};
     ghost use Rattle.std.specs.Coded.{codes};

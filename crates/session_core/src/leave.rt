@@ -2,8 +2,8 @@
 ghost use Rattle.std.specs.Prelude.{◌≡◌, ◌<◌, ◌+◌, ◌^◌, true, IfOk, IfErr, Ok, Err, length, slice_get};
 ghost use Rattle.row_versions.specs.Log.{IsOpen};
 ghost use Rattle.session_machine.specs.declared.session.OpenTransaction.{OpenTransaction};
-ghost use Rattle.session_machine.specs.Machine.{at_rest, left_behind, with_session};
-ghost use Rattle.session_machine.specs.Inner.Steps.{leave_of};
+ghost use Rattle.session_machine.specs.Machine.{at_rest, with_session};
+ghost use Rattle.session_machine.specs.Inner.Steps.{leave_of, left_behind};
 ghost use Rattle.session_core.specs.Inner.Answers.{answered};
 ghost use Rattle.session_machine.specs.Sound.{IsSoundMachine};
 

@@ -2,8 +2,8 @@
 ghost use Rattle.std.specs.Prelude.{◌≡◌, ◌↔◌, ◌+◌, ◌<◌, ◌≤◌, ◌^◌, ℕ, IsTrue, IfOk, true, false, length};
 ghost use Rattle.sql_blocks.specs.Blocks.{blocks_of};
 ghost use Rattle.session_machine.specs.Sound.{IsSoundMachine};
-ghost use Rattle.session_machine.specs.Machine.{Machine, opening};
-ghost use Rattle.session_machine.specs.Engine.{Follows, IsLegal, Run};
+ghost use Rattle.session_machine.specs.Machine.{Machine, opening, Run};
+ghost use Rattle.session_machine.specs.Engine.{Follows, IsLegal};
 
 use crate::live::Live;
 use row_versions::{ListStore, Versions};

@@ -8,8 +8,8 @@ ghost use Rattle.session_machine.specs.declared.session.Session.{Session as Sess
 ghost use Rattle.session_machine.specs.Running.{run_stmt};
 ghost use Rattle.session_machine.specs.Sound.{IsSoundMachine};
 ghost use Rattle.session_core.specs.Inner.Answers.{answered};
-ghost use Rattle.session_machine.specs.Machine.{Machine, after_stmt, around, closed_at_end, is_failed, next, with_session};
-ghost use Rattle.session_machine.specs.Inner.Steps.{after_end, finished};
+ghost use Rattle.session_machine.specs.Machine.{Machine, after_stmt, closed_at_end, is_failed, next, with_session};
+ghost use Rattle.session_machine.specs.Inner.Steps.{after_end, finished, around};
 ghost use Rattle.session_machine.specs.Waits.{is_still_blocked};
 ghost use Rattle.session_machine.specs.Engine.{Goes};
 

@@ -1,7 +1,8 @@
 //! Whose turn it is.
 ghost use Rattle.std.specs.Prelude.{◌≡◌, ◌<◌, not, ◌&&◌, IfSome, length};
 ghost use Rattle.std.specs.List.{position_from};
-ghost use Rattle.session_machine.specs.Machine.{is_directed, is_quiet, is_ready, is_turn, turn_in};
+ghost use Rattle.session_machine.specs.Machine.{is_directed, is_quiet, turn_in};
+ghost use Rattle.session_machine.specs.Inner.Steps.{is_ready, is_turn};
 
 use crate::live::Live;
 use crate::waits::freed_session;

@@ -24,14 +24,17 @@ use Rattle.session_machine.specs.declared.fault.StmtFault.TheVariants.{Value as 
 use Rattle.session_machine.specs.declared.reply.Outcome.{Outcome}
 use Rattle.session_machine.specs.declared.reply.Outcome.TheVariants.{Done, Rows, Failed}
 use Rattle.session_machine.specs.Tables.{Database, Table, find_table}
-use Rattle.session_machine.specs.Transactions.{fresh, begun, committed, rolled_back, view_of}
+use Rattle.session_machine.specs.Transactions.{fresh, committed, rolled_back, view_of}
 use Rattle.session_machine.specs.Views.{rows_shown}
-use Rattle.session_machine.specs.Statements.{Surroundings, Effect, fails, answers, turns, create, drop_tables, is_level, level_set, begin_in, run_aborted, is_end}
-use Rattle.session_machine.specs.Walks.{Stop, Walk, Blocked, Fails, walked, walked_from}
-use Rattle.session_machine.specs.Rows.{Work, columns_in, insert_one, update_one, delete_one, lock_one, passing_targets, taken_targets}
-use Rattle.session_machine.specs.Running.{beginning, pauses, comes_to, after_walk, done, assigned_to, insert_from, insert, update_from, update, delete_from, delete, lock_from, answered, select_rows, unless_wrong, select, run_open, run_closed, run_on, run_stmt}
+use Rattle.session_machine.specs.Statements.{Surroundings, Effect, fails, answers, turns, create, drop_tables, level_set}
+use Rattle.session_machine.specs.Walks.{Stop, Walk, Blocked, Fails}
+use Rattle.session_machine.specs.Rows.{Work, columns_in}
+use Rattle.session_machine.specs.Running.{run_stmt}
+use Rattle.session_machine.specs.Inner.Statements.{run_piecewise, run_aborted, is_end, walked_from, insert_one, update_one, delete_one, lock_one, beginning, pauses, comes_to, after_walk, done, assigned_to, insert_from, insert, update_from, update, delete_from, delete, lock_from, answered, select_rows, unless_wrong, select, run_open, run_closed, run_on, begun, is_level, begin_in, walked}
+use Rattle.session_machine.specs.Targets.{passing_targets, taken_targets}
 use Rattle.session_machine.specs.Inner.Pieces.{drop_ended, insert_fitting, insert_to, update_fitting, update_to, delete_fitting, select_at, lock_again, columns_at, with_table, with_drop, DroppedUpTo, dropped_at, dropped}
 use Rattle.session_machine.proofs.Piecewise.{drops_by}
+use Rattle.session_machine.proofs.ByKind.{runs_by_kind}
 use Rattle.session_machine.specs.Sound.{RowsFit, RowsStay}
 use Rattle.session_laws.proofs.Fitting.{find_table_within, fit_tables}
 use Rattle.session_laws.proofs.Writing.{Lasts, Works, passing_of, taken_of, works_inserts, works_updates, works_deletes, works_locks}
@@ -278,6 +281,23 @@ found_within [] i l = absurd (omega arith)
 found_within (x ∷ xs) zero l = (x, refl)
 found_within (x ∷ xs) (suc i) l = found_within xs i (omega arith)
 
+effects_by_kind : (may : Bool) (db : Database) (t : Transaction) (statement : Option Progress) (around : Surroundings) (stmt : StmtTree) (P : OpenTransaction → Database → Type 0) (M : Effect → Type 0)
+    → (may_turn stmt ≡ true → may ≡ true) → ((p : Progress) → statement ≡ Some p → p.table.0 < length db.catalog.tables)
+    → ((u : OpenTransaction) → t ≡ Open u → EffectsIf may db u around (P u) M)
+    → (t ≡ Closed → M (turns db Closed) × ((level : Level) (explicit : Bool) → M (turns (begun db) (Open (fresh db.content level explicit))))
+    × EffectsIf may (begun db) (fresh db.content ReadCommitted false) around (P (fresh db.content ReadCommitted false)) M)
+    → (t ≡ Aborted → M (turns db Closed) × M (record { db = db; transaction = Aborted; statement = None; outcome = Failed AbortedFault }))
+    → M (run_piecewise db t statement around stmt)
+effects_by_kind may db Closed statement around stmt P M h within opens closed aborted =
+    let u = fresh db.content ReadCommitted false in
+    let c = closed refl in
+    after_closed db around M stmt c.0 c.1 (λ none. after_open may (begun db) u around (P u) M c.2 stmt (λ e. h e))
+effects_by_kind may db (Open u) None around stmt P M h within opens closed aborted = after_open may db u around (P u) M (opens u refl) stmt h
+effects_by_kind may db (Open u) (Some p) around stmt P M h within opens closed aborted =
+    let table = found_within db.catalog.tables p.table.0 (within p refl) in
+    after_on may db u around (P u) M (opens u refl) p table.0 table.1 stmt h
+effects_by_kind may db Aborted statement around stmt P M h within opens closed aborted = let a = aborted refl in after_aborted db M a.0 a.1 stmt
+
 -- what is so after each effect, whatever the session's transaction, is so after each statement
 pub run_effects : (may : Bool) (db : Database) (t : Transaction) (statement : Option Progress) (around : Surroundings) (stmt : StmtTree) (P : OpenTransaction → Database → Type 0) (M : Effect → Type 0)
     → (may_turn stmt ≡ true → may ≡ true) → ((p : Progress) → statement ≡ Some p → p.table.0 < length db.catalog.tables)
@@ -286,12 +306,5 @@ pub run_effects : (may : Bool) (db : Database) (t : Transaction) (statement : Op
     × EffectsIf may (begun db) (fresh db.content ReadCommitted false) around (P (fresh db.content ReadCommitted false)) M)
     → (t ≡ Aborted → M (turns db Closed) × M (record { db = db; transaction = Aborted; statement = None; outcome = Failed AbortedFault }))
     → M (run_stmt db t statement around stmt)
-run_effects may db Closed statement around stmt P M h within opens closed aborted =
-    let u = fresh db.content ReadCommitted false in
-    let c = closed refl in
-    after_closed db around M stmt c.0 c.1 (λ none. after_open may (begun db) u around (P u) M c.2 stmt (λ e. h e))
-run_effects may db (Open u) None around stmt P M h within opens closed aborted = after_open may db u around (P u) M (opens u refl) stmt h
-run_effects may db (Open u) (Some p) around stmt P M h within opens closed aborted =
-    let table = found_within db.catalog.tables p.table.0 (within p refl) in
-    after_on may db u around (P u) M (opens u refl) p table.0 table.1 stmt h
-run_effects may db Aborted statement around stmt P M h within opens closed aborted = let a = aborted refl in after_aborted db M a.0 a.1 stmt
+run_effects may db t statement around stmt P M h within opens closed aborted =
+    subst M (sym (runs_by_kind db t statement around stmt)) (effects_by_kind may db t statement around stmt P M h within opens closed aborted)

@@ -13,9 +13,11 @@ use Rattle.session_machine.specs.declared.session.Transaction.{Transaction}
 use Rattle.session_machine.specs.declared.session.Transaction.TheVariants.{Closed, Open, Aborted}
 use Rattle.session_machine.specs.declared.session.Progress.{Progress}
 use Rattle.session_machine.specs.Tables.{Database}
-use Rattle.session_machine.specs.Transactions.{fresh, begun, started, after_failure, moved_on}
+use Rattle.session_machine.specs.Transactions.{fresh, started}
 use Rattle.session_machine.specs.Statements.{Surroundings, Effect}
 use Rattle.session_machine.specs.Running.{run_stmt}
+use Rattle.session_machine.specs.Inner.Statements.{run_piecewise, begun, after_failure, moved_on}
+use Rattle.session_machine.proofs.ByKind.{runs_by_kind}
 use Rattle.session_machine.specs.Sound.{tx_in, command_in}
 use Rattle.session_laws.proofs.Lists.{slice_get-set_other, slice_get-append_left, slice_get-append_seam}
 use Rattle.session_laws.proofs.Writing.{Lasts}
@@ -181,10 +183,9 @@ Leaving db t number d = Leaves db.content t d.db.content d.transaction × IsLeft
 begun-firm : (db : Database) → IsFirm db → IsFirm (begun db)
 begun-firm db f = record { fit = f.fit; stay = f.stay }
 
--- a statement keeps the open transactions of others open, and its own if it has one
-pub leaving-run : (db : Database) (t : Transaction) (statement : Option Progress) (around : Surroundings) (stmt : StmtTree) → IsLive db.content t → IsFirm db
-    → ((p : Progress) → statement ≡ Some p → p.table.0 < length db.catalog.tables) → Leaving db t around.number (run_stmt db t statement around stmt)
-leaving-run db Closed statement around stmt live firm within =
+leaving_by_kind : (db : Database) (t : Transaction) (statement : Option Progress) (around : Surroundings) (stmt : StmtTree) → IsLive db.content t → IsFirm db
+    → ((p : Progress) → statement ≡ Some p → p.table.0 < length db.catalog.tables) → Leaving db t around.number (run_piecewise db t statement around stmt)
+leaving_by_kind db Closed statement around stmt live firm within =
     after_closed db around (Leaving db Closed around.number) stmt
     (leaves _ _ _ _ (kept-none db.content Closed Closed refl refl), left-over db around.number _ firm (le_refl _) refl)
     (λ level explicit. (leaves-opened db level explicit, left-over db around.number _ (begun-firm db firm) (le_refl _) refl))
@@ -193,15 +194,21 @@ leaving-run db Closed statement around stmt live firm within =
     let live = fresh-live db.content ReadCommitted false in
     let k = after_open true (begun db) t around (IsGrown (begun db)) (KeptAndLeft (begun db) t around.number) (effects-kept (begun db) t around live (begun-firm db firm)) stmt (λ e. refl) in
     (leaves-begun db.content ReadCommitted false _ _ k.0, record { firm = k.1.firm; longer = k.1.longer; within = k.1.within; now = k.1.now }))
-leaving-run db (Open t) None around stmt live firm within =
+leaving_by_kind db (Open t) None around stmt live firm within =
     let k = after_open true db t around (IsGrown db) (KeptAndLeft db t around.number) (effects-kept db t around live firm) stmt (λ e. refl) in
     (leaves _ _ _ _ k.0, k.1)
-leaving-run db (Open t) (Some p) around stmt live firm within =
+leaving_by_kind db (Open t) (Some p) around stmt live firm within =
     let table = found_within db.catalog.tables p.table.0 (within p refl) in
     let k = after_on true db t around (IsGrown db) (KeptAndLeft db t around.number) (effects-kept db t around live firm) p table.0 table.1 stmt (λ e. refl) in
     (leaves _ _ _ _ k.0, k.1)
-leaving-run db Aborted statement around stmt live firm within =
+leaving_by_kind db Aborted statement around stmt live firm within =
     after_aborted db (Leaving db Aborted around.number)
     (leaves _ _ _ _ (kept-none db.content Aborted Closed refl refl), left-over db around.number _ firm (le_refl _) refl)
     (leaves _ _ _ _ (kept-none db.content Aborted Aborted refl refl), left-over db around.number _ firm (le_refl _) refl)
     stmt
+
+-- a statement keeps the open transactions of others open, and its own if it has one
+pub leaving-run : (db : Database) (t : Transaction) (statement : Option Progress) (around : Surroundings) (stmt : StmtTree) → IsLive db.content t → IsFirm db
+    → ((p : Progress) → statement ≡ Some p → p.table.0 < length db.catalog.tables) → Leaving db t around.number (run_stmt db t statement around stmt)
+leaving-run db t statement around stmt live firm within =
+    subst (Leaving db t around.number) (sym (runs_by_kind db t statement around stmt)) (leaving_by_kind db t statement around stmt live firm within)

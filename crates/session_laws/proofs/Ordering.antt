@@ -19,10 +19,13 @@ use Rattle.session_machine.specs.declared.event.Mode.{Mode}
 use Rattle.session_machine.specs.declared.reply.HistItem.{HistItem}
 use Rattle.session_machine.specs.declared.fault.StmtFault.TheVariants.{LevelTooLate}
 use Rattle.session_machine.specs.Tables.{Database}
-use Rattle.session_machine.specs.Statements.{Surroundings, Effect, fails, turns, is_level, level_set, begin_in}
-use Rattle.session_machine.specs.Running.{run_open, run_on, run_closed, run_stmt}
-use Rattle.session_machine.specs.Machine.{Machine, Blocks, Next, next, around, with_session, at_rest, opening, stmts_of, left_behind, closed_at_end, session_of}
-use Rattle.session_machine.specs.Engine.{Run}
+use Rattle.session_machine.specs.Statements.{Surroundings, Effect, fails, turns, level_set}
+use Rattle.session_machine.specs.Running.{run_stmt}
+use Rattle.session_machine.specs.Inner.Statements.{run_open, run_on, run_closed, run_piecewise, is_level, begin_in}
+use Rattle.session_machine.proofs.ByKind.{runs_by_kind}
+use Rattle.session_machine.specs.Machine.{Machine, Blocks, Next, next, with_session, at_rest, opening, stmts_of, closed_at_end, session_of}
+use Rattle.session_machine.specs.Inner.Steps.{around, left_behind}
+use Rattle.session_machine.specs.Machine.{Run}
 use Rattle.session_machine.specs.Sound.{IsSoundMachine, tx_in, tx_of}
 use Rattle.session_laws.proofs.Lists.{slice_get-set_same, slice_get-set_other}
 use Rattle.session_laws.proofs.Effects.{may_turn, after_aborted}
@@ -69,11 +72,14 @@ closed_over db around (SetTransaction level) h = refl
 closed_over db around SetDeadlockTimeout h = refl
 closed_over db around _ h = cc
 
+over_by_kind : (db : Database) (t : Transaction) (statement : Option Progress) (around : Surroundings) (stmt : StmtTree) → may_turn stmt ≡ true → (run_piecewise db t statement around stmt).statement ≡ None
+over_by_kind db Closed statement around stmt h = closed_over db around stmt h
+over_by_kind db (Open t) None around stmt h = open_over db t around stmt h
+over_by_kind db (Open t) (Some p) around stmt h = on_over db t around p stmt h
+over_by_kind db Aborted statement around stmt h = after_aborted db (λ d. d.statement ≡ None) refl refl stmt
+
 turning_over : (db : Database) (t : Transaction) (statement : Option Progress) (around : Surroundings) (stmt : StmtTree) → may_turn stmt ≡ true → (run_stmt db t statement around stmt).statement ≡ None
-turning_over db Closed statement around stmt h = closed_over db around stmt h
-turning_over db (Open t) None around stmt h = open_over db t around stmt h
-turning_over db (Open t) (Some p) around stmt h = on_over db t around p stmt h
-turning_over db Aborted statement around stmt h = after_aborted db (λ d. d.statement ≡ None) refl refl stmt
+turning_over db t statement around stmt h = subst (λ d. d.statement ≡ None) (sym (runs_by_kind db t statement around stmt)) (over_by_kind db t statement around stmt h)
 
 -- all sessions are behind, all is known, and no statement that may change its transaction alone is in the middle of its targets
 pub record IsOrderly (blocks : Blocks) (m : Machine) : Type 0 where

@@ -16,10 +16,12 @@ use Rattle.session_machine.specs.declared.session.Transaction.{Transaction}
 use Rattle.session_machine.specs.declared.session.Transaction.TheVariants.{Closed, Open, Aborted}
 use Rattle.session_machine.specs.declared.session.Progress.{Progress}
 use Rattle.session_machine.specs.Tables.{Database, Table, Dropped}
-use Rattle.session_machine.specs.Transactions.{fresh, begun, committed, after_failure}
+use Rattle.session_machine.specs.Transactions.{fresh, committed}
+use Rattle.session_machine.specs.Inner.Statements.{begun, after_failure}
 use Rattle.session_machine.specs.Statements.{Surroundings, Effect, turns}
 use Rattle.session_machine.specs.Running.{run_stmt}
-use Rattle.session_machine.specs.Machine.{around, closed_at_end}
+use Rattle.session_machine.specs.Machine.{closed_at_end}
+use Rattle.session_machine.specs.Inner.Steps.{around}
 use Rattle.session_machine.specs.Sound.{tx_in}
 use Rattle.session_laws.proofs.Lists.{slice_get-append_seam}
 use Rattle.session_laws.proofs.Writing.{Lasts}

@@ -31,10 +31,11 @@ use Rattle.session_machine.specs.Tables.{Database}
 use Rattle.session_machine.specs.Transactions.{committed, view_now}
 use Rattle.session_machine.specs.Views.{rows_shown}
 use Rattle.session_machine.specs.declared.session.Progress.{Progress}
-use Rattle.session_machine.specs.Statements.{Surroundings, Effect, turns, is_level}
+use Rattle.session_machine.specs.Statements.{Surroundings, Effect, turns}
+use Rattle.session_machine.specs.Inner.Statements.{is_level}
 use Rattle.session_machine.specs.Running.{run_stmt}
-use Rattle.session_machine.specs.Machine.{Machine, Blocks, Next, next, around, stmts_of, after_stmt}
-use Rattle.session_machine.specs.Inner.Steps.{step_of, step_at, step_stmt, finished}
+use Rattle.session_machine.specs.Machine.{Machine, Blocks, Next, next, stmts_of, after_stmt}
+use Rattle.session_machine.specs.Inner.Steps.{step_of, step_at, step_stmt, finished, around}
 use Rattle.session_machine.specs.Sound.{tx_in}
 use Rattle.session_laws.specs.Laws.{CommitsCount, CommitsAreSeen, OwnWritesAreSeen, IsLastOf, due_stmt, sees_all_committed}
 use Rattle.session_laws.proofs.Sound.{ok_step, sound_open, ran}

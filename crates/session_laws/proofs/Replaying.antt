@@ -6,8 +6,8 @@ use Rattle.session_machine.specs.declared.event.Mode.{Mode}
 use Rattle.session_machine.specs.declared.reply.Reply.{Reply}
 use Rattle.session_machine.specs.declared.reply.HistItem.{HistItem}
 use Rattle.session_machine.specs.declared.fault.Refusal.{Refusal}
-use Rattle.session_machine.specs.Machine.{Machine, Blocks, Next, next}
-use Rattle.session_machine.specs.Engine.{Follows, Run}
+use Rattle.session_machine.specs.Machine.{Machine, Blocks, Next, next, Run}
+use Rattle.session_machine.specs.Engine.{Follows}
 
 abbrev ok_next : Next → Result Next Refusal
 ok_next n = Ok n

@@ -24,7 +24,7 @@ use Rattle.session_machine.specs.declared.session.Transaction.{Transaction}
 use Rattle.session_machine.specs.declared.session.Transaction.TheVariants.{Closed, Open, Aborted}
 use Rattle.session_machine.specs.declared.fault.Refusal.{Refusal}
 use Rattle.session_machine.specs.Tables.{Database, Table, Dropped, counts, is_meant, find_table}
-use Rattle.session_machine.specs.Transactions.{begun, fresh, own_of, view_of, view_now}
+use Rattle.session_machine.specs.Transactions.{fresh, own_of, view_of, view_now}
 use Rattle.query_results.specs.Queries.{passing, row_values, titles_of, result_of, cols_of}
 use Rattle.query_results.specs.Ordering.{rows_at}
 use Rattle.query_results.proofs.Unsorted.{unsorted}
@@ -33,10 +33,13 @@ use Rattle.session_machine.specs.Views.{rows_shown}
 use Rattle.session_machine.specs.declared.session.Progress.{Progress}
 use Rattle.session_machine.specs.declared.session.Session.{Session}
 use Rattle.session_machine.specs.Statements.{Surroundings, Effect}
-use Rattle.session_machine.specs.Running.{answered, run_stmt}
+use Rattle.session_machine.specs.Running.{run_stmt}
+use Rattle.session_machine.specs.Inner.Statements.{answered, run_piecewise, begun}
 use Rattle.session_machine.specs.Inner.Pieces.{select_at, is_dropped, columns_at, find_from}
 use Rattle.session_machine.proofs.Piecewise.{finds_by}
-use Rattle.session_machine.specs.Machine.{Next, next, around, visible_to, visible_for}
+use Rattle.session_machine.proofs.ByKind.{runs_by_kind}
+use Rattle.session_machine.specs.Machine.{Next, next, visible_to, visible_for}
+use Rattle.session_machine.specs.Inner.Steps.{around}
 use Rattle.session_laws.specs.Laws.{VisibleIsSelected, select_all, shown_by}
 use Rattle.session_laws.proofs.Staying.{hides-begin, shown_stays}
 use Rattle.session_laws.proofs.Unseen.{after_outcome}
@@ -158,16 +161,19 @@ map_same f g (Some x) h = ap Some (h x)
 abbrev session_in : Transaction → Session
 session_in t = record { place = None; transaction = t; statement = None }
 
-select_shows : (db : Database) (t : Transaction) (a : Surroundings) (name : List ℕ) → IsKnown db → t ≢ Aborted → shown_by (run_stmt db t None a (select_all name)).outcome ≡ Some (visible_to db (session_in t) name)
-select_shows db Closed a name known other =
+shows_by_kind : (db : Database) (t : Transaction) (a : Surroundings) (name : List ℕ) → IsKnown db → t ≢ Aborted → shown_by (run_piecewise db t None a (select_all name)).outcome ≡ Some (visible_to db (session_in t) name)
+shows_by_kind db Closed a name known other =
     let c = db.content in
     shown_in (begun db) (fresh c ReadCommitted false) a name (find_table (begun db) (Some (next_tx c)) name)
     ∙ ap Some
     (ap (option_map (rows_shown (after_begin c) (view_of (after_begin c) (fresh c ReadCommitted false))))
     (finds_by (begun db) (Some (next_tx c)) name ∙ (found_same c db.catalog.drops name 0 db.catalog.tables known.drops known.tables ∙ sym (finds_by db None name)))
     ∙ map_same (rows_shown (after_begin c) (view_of (after_begin c) (fresh c ReadCommitted false))) (rows_shown c (view_now c Closed None)) (find_table db None name) (fresh_sees c))
-select_shows db (Open t) a name known other = shown_in db t a name (find_table db (Some t.tx) name)
-select_shows db Aborted a name known other = absurd (other refl)
+shows_by_kind db (Open t) a name known other = shown_in db t a name (find_table db (Some t.tx) name)
+shows_by_kind db Aborted a name known other = absurd (other refl)
+
+select_shows : (db : Database) (t : Transaction) (a : Surroundings) (name : List ℕ) → IsKnown db → t ≢ Aborted → shown_by (run_stmt db t None a (select_all name)).outcome ≡ Some (visible_to db (session_in t) name)
+select_shows db t a name known other = ap (λ (d : Effect). shown_by d.outcome) (runs_by_kind db t None a (select_all name)) ∙ shows_by_kind db t a name known other
 
 ok_same : {A : Type 0} {a b : A} → (let x : Result A Refusal = Ok a in let y : Result A Refusal = Ok b in x ≡ y) → a ≡ b
 ok_same h = cc

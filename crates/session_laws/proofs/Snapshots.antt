@@ -16,11 +16,13 @@ use Rattle.session_machine.specs.declared.event.Event.{Event}
 use Rattle.session_machine.specs.declared.event.Mode.{Mode}
 use Rattle.session_machine.specs.declared.reply.HistItem.{HistItem}
 use Rattle.session_machine.specs.Tables.{Database}
-use Rattle.session_machine.specs.Transactions.{begun, committed, fresh, after_failure, moved_on}
+use Rattle.session_machine.specs.Transactions.{committed, fresh}
+use Rattle.session_machine.specs.Inner.Statements.{begun, after_failure, moved_on}
 use Rattle.session_machine.specs.Statements.{Surroundings, Effect}
 use Rattle.session_machine.specs.Running.{run_stmt}
-use Rattle.session_machine.specs.Machine.{Machine, Blocks, Next, next, around, at_rest, opening, closed_at_end, session_of}
-use Rattle.session_machine.specs.Engine.{Run}
+use Rattle.session_machine.specs.Machine.{Machine, Blocks, Next, next, at_rest, opening, closed_at_end, session_of}
+use Rattle.session_machine.specs.Inner.Steps.{around}
+use Rattle.session_machine.specs.Machine.{Run}
 use Rattle.session_machine.specs.Sound.{IsSoundMachine}
 use Rattle.session_laws.proofs.Lists.{slice_get-set_same, slice_get-set_other}
 use Rattle.session_laws.proofs.Effects.{IsFirm, Effects, run_effects}

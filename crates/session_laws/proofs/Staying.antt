@@ -27,11 +27,13 @@ use Rattle.session_machine.specs.declared.session.Session.{Session}
 use Rattle.session_machine.specs.declared.event.Event.{Event}
 use Rattle.session_machine.specs.declared.event.Mode.{Mode}
 use Rattle.session_machine.specs.Tables.{Database}
-use Rattle.session_machine.specs.Transactions.{fresh, begun, committed}
+use Rattle.session_machine.specs.Transactions.{fresh, committed}
+use Rattle.session_machine.specs.Inner.Statements.{begun}
 use Rattle.session_machine.specs.Views.{rows_shown}
 use Rattle.session_machine.specs.Statements.{Surroundings, Effect}
 use Rattle.session_machine.specs.Running.{run_stmt}
-use Rattle.session_machine.specs.Machine.{Machine, Blocks, Next, next, is_failed, around, left_behind, closed_at_end, session_of}
+use Rattle.session_machine.specs.Machine.{Machine, Blocks, Next, next, is_failed, closed_at_end, session_of}
+use Rattle.session_machine.specs.Inner.Steps.{around, left_behind}
 use Rattle.session_machine.specs.Sound.{IsSoundMachine, tx_in, tx_of}
 use Rattle.session_laws.proofs.Lists.{slice_get-append_seam}
 use Rattle.session_laws.proofs.Writing.{Lasts}

@@ -16,12 +16,13 @@ use Rattle.session_machine.specs.declared.event.Mode.{Mode}
 use Rattle.session_machine.specs.declared.fault.StmtFault.{StmtFault}
 use Rattle.session_machine.specs.declared.reply.Outcome.TheVariants.{Failed}
 use Rattle.session_machine.specs.Tables.{Database}
-use Rattle.session_machine.specs.Transactions.{committed, commits_seen, view_of, view_now}
+use Rattle.session_machine.specs.Transactions.{committed, view_of, view_now}
+use Rattle.session_machine.specs.Inner.Statements.{commits_seen}
 use Rattle.session_machine.specs.Views.{rows_shown}
 use Rattle.session_machine.specs.declared.session.Progress.{Progress}
 use Rattle.session_machine.specs.Statements.{Effect}
-use Rattle.session_machine.specs.Machine.{Machine, Blocks, Next, next, around, opening, is_failed, after_stmt, closed_at_end, session_of}
-use Rattle.session_machine.specs.Inner.Steps.{waits_there, after_end, finished}
+use Rattle.session_machine.specs.Machine.{Machine, Blocks, Next, next, opening, is_failed, after_stmt, closed_at_end, session_of}
+use Rattle.session_machine.specs.Inner.Steps.{waits_there, after_end, finished, around}
 use Rattle.session_machine.specs.Sound.{IsSoundMachine, tx_in}
 use Rattle.session_laws.specs.Laws.{SnapshotsStay, FailuresAreUnseen}
 use Rattle.session_laws.proofs.Sound.{sound_live, sound_firm, sound_within, ran}

@@ -29,8 +29,10 @@ use Rattle.update_recheck.specs.Outcome.Outcome.{Takes, Skips, Waits, Deadlocks,
 use Rattle.session_machine.specs.declared.session.OpenTransaction.{OpenTransaction}
 use Rattle.session_machine.specs.Tables.{Database, Table}
 use Rattle.session_machine.specs.Waits.{waits_in}
-use Rattle.session_machine.specs.Walks.{Visit, Stop, walked, walked_from}
-use Rattle.session_machine.specs.Rows.{Work, columns_in, cols_in, keys_in, written, inserted, stop_at_keys, insert_one, ask, settled, at_outcome, at_target, values_of, update_with, update_one, delete_with, delete_one, lock_with, strength_of, lock_one, seen_by, at_places, passing_targets, taken_targets}
+use Rattle.session_machine.specs.Walks.{Stop}
+use Rattle.session_machine.specs.Rows.{Work, columns_in, cols_in, written, inserted, values_of, strength_of}
+use Rattle.session_machine.specs.Inner.Statements.{walked_from, keys_in, stop_at_keys, insert_one, ask, settled, at_outcome, at_target, update_with, update_one, delete_with, delete_one, lock_with, lock_one, Visit, walked}
+use Rattle.session_machine.specs.Targets.{seen_by, at_places, passing_targets, taken_targets}
 use Rattle.session_machine.specs.Inner.Pieces.{unless_stopped, unless_stopped_by, unless_null, insert_made, update_made, lock_made, with_table, with_drop}
 use Rattle.session_machine.specs.Sound.{RowsFit, RowsStay}
 use Rattle.session_laws.proofs.Lists.{slice_get-append_left}

@@ -1,5 +1,7 @@
 -- What follows from the definitions, in the words of sessions and histories. Each law stands on the contract of a function of `laws`.
 use Rattle.std.specs.Prelude.{◌≡◌, ◌≢◌, ◌<◌, ◌≤◌, ◌||◌, ℕ, Bool, true, List, [], ◌∷◌, ◌++◌, map, Contains, Option, Some, None, is_none, option_and_then, slice_get, Ok}
+use denote.Enum.Bare.{sameb}
+use Rattle.sql_trees.specs.contracts.stmt.Level.{the_type as the_level}
 use Rattle.sql_trees.specs.declared.stmt.Level.TheVariants.{ReadCommitted, RepeatableRead}
 use Rattle.sql_trees.specs.Statements.{StmtTree, Commit, Selects, All}
 use Rattle.sql_values.specs.declared.value.Value.{Value}
@@ -21,9 +23,8 @@ use Rattle.session_machine.specs.declared.event.Mode.{Mode}
 use Rattle.session_machine.specs.declared.reply.HistItem.{HistItem}
 use Rattle.session_machine.specs.Transactions.{view_of, view_now}
 use Rattle.session_machine.specs.Views.{rows_shown}
-use Rattle.session_machine.specs.Statements.{is_level}
-use Rattle.session_machine.specs.Machine.{Machine, Blocks, opening, session_of, stmts_of, visible}
-use Rattle.session_machine.specs.Engine.{Run, Follows, IsLegal}
+use Rattle.session_machine.specs.Machine.{Machine, Blocks, opening, session_of, stmts_of, visible, Run}
+use Rattle.session_machine.specs.Engine.{Follows, IsLegal}
 
 -- a history leads to one state
 abbrev pub OneState : Type 0
@@ -74,7 +75,7 @@ pub record IsLastOf (c : Content) (place : ℕ) (w : Write) (values : List Value
 -- a query that begins now sees all that has committed: it is in Read Committed, or its transaction's first,
 -- or the first of a transaction that begins with it (13.2)
 abbrev pub sees_all_committed : Transaction → Bool
-sees_all_committed (Open t) = is_level t.level ReadCommitted || is_none t.snapshot
+sees_all_committed (Open t) = sameb the_level t.level ReadCommitted || is_none t.snapshot
 sees_all_committed transaction = true
 
 -- a transaction has committed once its session's COMMIT is done

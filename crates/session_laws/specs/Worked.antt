@@ -17,8 +17,8 @@ use Rattle.session_machine.specs.declared.reply.Outcome.{Outcome}
 use Rattle.session_machine.specs.declared.reply.Outcome.TheVariants.{Launched, Done, Rows, Left}
 use Rattle.session_machine.specs.declared.reply.HistItem.{HistItem}
 use Rattle.session_machine.specs.declared.fault.Refusal.TheVariants.{Busy, NotYourTurn, Idle, NoSession, BlockNotAllowed}
-use Rattle.session_machine.specs.Machine.{Machine, Blocks, next, opening, visible}
-use Rattle.session_machine.specs.Engine.{Run, IsLegal}
+use Rattle.session_machine.specs.Machine.{Machine, Blocks, next, opening, visible, Run}
+use Rattle.session_machine.specs.Engine.{IsLegal}
 use Rattle.session_laws.specs.Laws.{IsLastOf}
 
 abbrev pub t : List ℕ

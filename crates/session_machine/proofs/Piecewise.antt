@@ -1,5 +1,5 @@
 -- Statements do the same piece by piece.
-use Rattle.std.proofs.Common.{◌≡◌, refl, Bool, true, false, cond, ℕ, ◌+◌, List, [], ◌∷◌}
+use Rattle.std.proofs.Common.{◌≡◌, refl, Bool, true, false, cond, ℕ, ◌+◌, List, ◌∷◌, []}
 use Rattle.std.specs.Prelude.{Option, Some, None, not, find, option_map, if◌then◌else◌}
 use Rattle.std.specs.List.{enumerate_from}
 use Rattle.std.specs.Option.{option_map_or}
@@ -17,7 +17,8 @@ use Rattle.session_machine.specs.Tables.{Database, Dropped, Table, find_table, i
 use Rattle.session_machine.specs.Waits.{blockers}
 use Rattle.session_machine.specs.Statements.{Effect, drop_tables, fails}
 use Rattle.session_machine.specs.Walks.{Stop, Fails}
-use Rattle.session_machine.specs.Rows.{Work, asked_key, columns_in, names_at, stop_at_key}
+use Rattle.session_machine.specs.Rows.{Work, columns_in, stop_at_key}
+use Rattle.session_machine.specs.Targets.{asked_key, names_at}
 use Rattle.session_machine.specs.Inner.Pieces.{DroppedUpTo, drop_ended, dropped, dropped_at, find_from, held_by_others, stop_by, with_drop}
 
 -- the table that a name means, by looking at one after the other

@@ -12,16 +12,11 @@ use Rattle.session_machine.specs.declared.fault.Refusal.TheVariants.{Busy, NotYo
 use Rattle.session_machine.specs.declared.fault.EngineFault.{EngineFault}
 use Rattle.session_machine.specs.declared.fault.EngineFault.TheVariants.{Busy as BusyFault, NotYourTurn as TurnFault, StillBlocked as BlockedFault, Idle as IdleFault}
 use Rattle.session_machine.specs.declared.fault.EngineFault.TheVariants.{Spent as SpentFault, NoSession as SessionFault, BlockNotAllowed as BlockFault}
-use Rattle.session_machine.specs.Machine.{Machine, Blocks, Next, is_quiet, next, opening, turn_in, visible}
+use Rattle.session_machine.specs.Machine.{Machine, Blocks, Next, Run, is_quiet, next, opening, turn_in, visible}
 
 -- the item is the machine's next one, and leads on to the state
 abbrev pub Follows : Blocks → Mode → Machine → HistItem → Machine → Type 0
 Follows blocks mode m item after = next blocks mode m item.event ≡ Ok (record { machine = after; reply = item.reply })
-
--- the items lead from the one state to the other
-abbrev pub Run : Blocks → Mode → Machine → List HistItem → Machine → Type 0
-Run blocks mode m [] after = after ≡ m
-Run blocks mode m (item ∷ items) after = (mid : Machine) × Follows blocks mode m item mid × Run blocks mode mid items after
 
 -- a history is legal that is a run of the machine from its opening state
 abbrev pub IsLegal : Blocks → ℕ → Mode → List HistItem → Type 0

@@ -1,4 +1,5 @@
 -- Definitions that only the inner functions' clauses and the proofs need: no clause of a public function has them.
 pub mod TreeCodes
+pub mod Statements
 pub mod Pieces
 pub mod Steps

@@ -6,6 +6,7 @@ pub mod Waits
 pub mod Statements
 pub mod Walks
 pub mod Rows
+pub mod Targets
 pub mod Running
 pub mod Machine
 pub mod Engine

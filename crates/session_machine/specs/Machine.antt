@@ -1,5 +1,5 @@
 -- The machine of all sessions: what an event makes of it and answers, or why it is refused.
-use Rattle.std.specs.Prelude.{ℕ, ◌+◌, ◌==◌, nat_le, nat_lt, Bool, true, false, not, ◌&&◌, ◌||◌, List, [], ◌∷◌, length, replicate}
+use Rattle.std.specs.Prelude.{◌≡◌, ℕ, ◌+◌, ◌==◌, nat_le, nat_lt, Bool, true, false, not, ◌&&◌, ◌||◌, List, [], ◌∷◌, length, replicate}
 use Rattle.std.specs.Prelude.{Option, Some, None, option_map, is_some, is_none, unwrap_or, slice_get, slice_set, if◌then◌else◌, Result, Ok, Err}
 use Rattle.std.specs.List.{list_all, list_any, position_from}
 use Rattle.std.specs.Option.{option_map_or, option_or}
@@ -19,6 +19,7 @@ use Rattle.session_machine.specs.declared.event.Mode.TheVariants.{Directed, Free
 use Rattle.session_machine.specs.declared.reply.Outcome.{Outcome}
 use Rattle.session_machine.specs.declared.reply.Outcome.TheVariants.{Launched, Failed, Left}
 use Rattle.session_machine.specs.declared.reply.Reply.{Reply}
+use Rattle.session_machine.specs.declared.reply.HistItem.{HistItem}
 use Rattle.session_machine.specs.declared.fault.Refusal.{Refusal}
 use Rattle.session_machine.specs.declared.fault.Refusal.TheVariants.{Busy, NotYourTurn, StillBlocked, Idle, NoSession, BlockNotAllowed}
 use Rattle.session_machine.specs.Tables.{Database, find_table}
@@ -58,10 +59,6 @@ may_launch blocks session k = nat_lt k (length blocks) && ((session == 0) || not
 abbrev pub is_busy : Session → Bool
 is_busy s = is_some s.place
 
--- the session is in its block and doesn't wait
-abbrev pub is_ready : Session → Bool
-is_ready s = is_busy s && is_none (wait_of s)
-
 -- the number of a wait that nothing blocks any more
 abbrev pub free_wait : Database → Session → Option ℕ
 free_wait db s = if is_still_blocked db s then None else option_map (λ (w : Waiting). w.number) (wait_of s)
@@ -72,13 +69,10 @@ is_first_free db sessions s = option_map_or (λ n. list_all (λ other. option_ma
 
 -- whose turn it is: the least session that can go on without waiting, else the one with the earliest wait that nothing blocks; quiet, where there is neither
 abbrev pub turn_in : Machine → Option ℕ
-turn_in m = option_or (position_from is_ready 0 m.sessions) (position_from (is_first_free m.db m.sessions) 0 m.sessions)
+turn_in m = option_or (position_from (λ s. is_busy s && is_none (wait_of s)) 0 m.sessions) (position_from (is_first_free m.db m.sessions) 0 m.sessions)
 
 abbrev pub is_quiet : Machine → Bool
 is_quiet m = is_none (turn_in m)
-
-abbrev pub is_turn : Option ℕ → ℕ → Bool
-is_turn turn session = option_map_or (λ k. k == session) turn false
 
 abbrev pub is_directed : Mode → Bool
 is_directed Directed = true
@@ -121,28 +115,20 @@ after_stmt m session place count effect =
     else if nat_lt (place.next + 1) count then leaves m session effect None (Some (record { block = place.block; next = place.next + 1 }))
     else leaves m session (closed_at_end effect effect.transaction) None None
 
--- what a statement of the session finds around it: while it runs, the session doesn't wait
-abbrev pub around : Machine → ℕ → Session → Surroundings
-around m session s = record { sessions = slice_set m.sessions session (record s { statement = None }); number = m.events }
-
--- a session does the statement at its place, of so many in its block
+-- a session does the statement at its place, of so many in its block. What that finds around it: while it runs, the session doesn't wait
 abbrev pub step_with : Mode → Machine → ℕ → Session → Place → ℕ → StmtTree → Result Next Refusal
 step_with mode m session s place count stmt =
-    if is_directed mode && not (is_turn (turn_in m) session) then Err NotYourTurn
+    let around : Surroundings = record { sessions = slice_set m.sessions session (record s { statement = None }); number = m.events } in
+    if is_directed mode && not (option_map_or (λ k. k == session) (turn_in m) false) then Err NotYourTurn
     else if is_still_blocked m.db s then Err StillBlocked
-    else Ok (after_stmt m session place count (run_stmt m.db s.transaction s.statement (around m session s) stmt))
+    else Ok (after_stmt m session place count (run_stmt m.db s.transaction s.statement around stmt))
 
 -- it does the statement at this place, where its block has one there
 abbrev pub step_from : Blocks → Mode → Machine → ℕ → Session → Place → Result Next Refusal
 step_from blocks mode m session s place =
     option_map_or (step_with mode m session s place (length (stmts_of blocks place.block))) (slice_get (stmts_of blocks place.block) place.next) (Err Idle)
 
--- a session that leaves rolls its open transaction back
-abbrev pub left_behind : Database → Transaction → Database
-left_behind db (Open t) = rolled_back db t.tx
-left_behind db transaction = db
-
--- what the event makes of the machine where this session does it, or why it is refused
+-- what the event makes of the machine where this session does it, or why it is refused; a session that leaves rolls its open transaction back
 abbrev pub next_for : Blocks → Mode → Machine → Session → Event → Result Next Refusal
 next_for blocks mode m s (Launch session block) =
     if not (may_launch blocks session block) then Err BlockNotAllowed
@@ -151,7 +137,8 @@ next_for blocks mode m s (Launch session block) =
     else Ok (comes_out m m.db session (record { place = first_place block (stmts_of blocks block); transaction = s.transaction; statement = None }) Launched)
 next_for blocks mode m s (Step session) = option_map_or (step_from blocks mode m session s) s.place (Err Idle)
 next_for blocks mode m s (Leave session) =
-    if is_directed mode && not (is_quiet m) then Err NotYourTurn else Ok (comes_out m (left_behind m.db s.transaction) session at_rest Left)
+    let left : Database = elim s.transaction [ Open t ↦ rolled_back m.db t.tx | other ↦ m.db ] in
+    if is_directed mode && not (is_quiet m) then Err NotYourTurn else Ok (comes_out m left session at_rest Left)
 
 -- the session that does an event
 abbrev pub session_of : Event → ℕ
@@ -162,6 +149,11 @@ session_of (Leave session) = session
 -- what an event makes of the machine, with the reply to it, or why it is refused
 abbrev pub next : Blocks → Mode → Machine → Event → Result Next Refusal
 next blocks mode m event = option_map_or (λ s. next_for blocks mode m s event) (slice_get m.sessions (session_of event)) (Err NoSession)
+
+-- the items lead from the one state to the other
+abbrev pub Run : Blocks → Mode → Machine → List HistItem → Machine → Type 0
+Run blocks mode m [] after = after ≡ m
+Run blocks mode m (item ∷ items) after = (mid : Machine) × (next blocks mode m item.event ≡ Ok (record { machine = mid; reply = item.reply })) × Run blocks mode mid items after
 
 -- what a SELECT that begins now would show of the table: none where there is no such table
 abbrev pub visible_to : Database → Session → List ℕ → Option (List (List Value))

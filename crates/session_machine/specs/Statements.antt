@@ -1,22 +1,23 @@
 -- What a statement leaves and answers that is no query of rows: how transactions begin and end, how tables are made and dropped
 -- (PostgreSQL manual, the pages of the statements, and 13.2).
-use Rattle.std.specs.Prelude.{ℕ, Bool, true, false, not, ◌&&◌, List, [], ◌∷◌, ◌++◌, Option, Some, None, is_some, unwrap_or, if◌then◌else◌}
+use Rattle.std.specs.Prelude.{ℕ, ◌+◌, Bool, not, ◌&&◌, List, ◌∷◌, ◌++◌, Option, Some, None, is_some, if◌then◌else◌, []}
 use Rattle.std.specs.Option.{option_map_or}
+use denote.Enum.Bare.{sameb}
 use Rattle.sql_trees.specs.declared.stmt.Level.{Level}
-use Rattle.sql_trees.specs.declared.stmt.Level.TheVariants.{ReadCommitted, RepeatableRead}
-use Rattle.sql_trees.specs.Statements.{StmtTree, CreateTree, Commit, Rollback}
+use Rattle.sql_trees.specs.contracts.stmt.Level.{the_type as the_level}
+use Rattle.sql_trees.specs.Statements.{CreateTree}
 use Rattle.row_versions.specs.Log.{Content}
 use Rattle.session_machine.specs.declared.session.OpenTransaction.{OpenTransaction}
 use Rattle.session_machine.specs.declared.session.Transaction.{Transaction}
-use Rattle.session_machine.specs.declared.session.Transaction.TheVariants.{Closed, Open, Aborted as AbortedOne}
+use Rattle.session_machine.specs.declared.session.Transaction.TheVariants.{Closed, Open, Aborted}
 use Rattle.session_machine.specs.declared.session.Progress.{Progress}
 use Rattle.session_machine.specs.declared.session.Session.{Session}
 use Rattle.session_machine.specs.declared.fault.StmtFault.{StmtFault}
-use Rattle.session_machine.specs.declared.fault.StmtFault.TheVariants.{NoTableToDrop, TableExists, Aborted, LevelTooLate}
+use Rattle.session_machine.specs.declared.fault.StmtFault.TheVariants.{NoTableToDrop, TableExists, LevelTooLate}
 use Rattle.session_machine.specs.declared.reply.Outcome.{Outcome}
 use Rattle.session_machine.specs.declared.reply.Outcome.TheVariants.{Done, Failed}
 use Rattle.session_machine.specs.Tables.{Database, find_table}
-use Rattle.session_machine.specs.Transactions.{rolled_back, moved_on, after_failure}
+use Rattle.session_machine.specs.Transactions.{rolled_back, started}
 
 -- what a statement leaves of the database and of its session's transaction, where it is in the middle of its targets, and what came of it
 pub record Effect : Type 0 where
@@ -32,11 +33,11 @@ pub record Surroundings : Type 0 where
 
 -- a failed statement undoes its transaction, and its locks are free at once
 abbrev pub fails : Database → OpenTransaction → StmtFault → Effect
-fails db t fault = record { db = rolled_back db t.tx; transaction = after_failure t; statement = None; outcome = Failed fault }
+fails db t fault = record { db = rolled_back db t.tx; transaction = if t.explicit then Aborted else Closed; statement = None; outcome = Failed fault }
 
 -- a query did this; it began at the content that is given
 abbrev pub answers : Content → Database → OpenTransaction → Outcome → Effect
-answers before db t outcome = record { db = db; transaction = Open (moved_on before t); statement = None; outcome = outcome }
+answers before db t outcome = record { db = db; transaction = Open (record (started before t) { command = t.command + 1 }); statement = None; outcome = outcome }
 
 -- nothing but the transaction changes
 abbrev pub turns : Database → Transaction → Effect
@@ -54,26 +55,7 @@ drop_tables db t if_exists (name ∷ names) =
     option_map_or (λ k. drop_tables (record db { catalog = record db.catalog { drops = db.catalog.drops ++ record { table = k; by = t.tx } ∷ [] } }) t if_exists names)
     (find_table db (Some t.tx) name) (if if_exists then drop_tables db t if_exists names else fails db t (NoTableToDrop name))
 
--- the levels are the same
-abbrev pub is_level : Level → Level → Bool
-is_level ReadCommitted ReadCommitted = true
-is_level RepeatableRead RepeatableRead = true
-is_level a b = false
-
 -- the level is set before the transaction's first query, or stays
 abbrev pub level_set : Database → OpenTransaction → Bool → Level → Effect
 level_set db t explicit level =
-    if is_some t.snapshot && not (is_level t.level level) then fails db t LevelTooLate else turns db (Open (record t { explicit = explicit; level = level }))
-
--- BEGIN makes an implicit transaction explicit; in an explicit one it has no effect
-abbrev pub begin_in : Database → OpenTransaction → Option Level → Effect
-begin_in db t level = if t.explicit then turns db (Open t) else level_set db t true (unwrap_or level t.level)
-
-abbrev pub is_end : StmtTree → Bool
-is_end Commit = true
-is_end Rollback = true
-is_end stmt = false
-
--- in an aborted transaction all but COMMIT and ROLLBACK fail
-abbrev pub run_aborted : Database → StmtTree → Effect
-run_aborted db stmt = if is_end stmt then turns db Closed else record { db = db; transaction = AbortedOne; statement = None; outcome = Failed Aborted }
+    if is_some t.snapshot && not (sameb the_level t.level level) then fails db t LevelTooLate else turns db (Open (record t { explicit = explicit; level = level }))

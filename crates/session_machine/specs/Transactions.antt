@@ -1,14 +1,14 @@
 -- Transactions of sessions: how they begin, what their statements see, and how they end (PostgreSQL manual, 13.2).
-use Rattle.std.specs.Prelude.{ℕ, ◌+◌, Bool, Option, Some, None, unwrap_or, if◌then◌else◌}
+use Rattle.std.specs.Prelude.{◌+◌, Bool, Option, Some, None, unwrap_or}
 use Rattle.sql_trees.specs.declared.stmt.Level.{Level}
 use Rattle.sql_trees.specs.declared.stmt.Level.TheVariants.{ReadCommitted, RepeatableRead}
 use Rattle.row_versions.specs.declared.names.TxId.{TxId}
 use Rattle.row_versions.specs.declared.write.View.{View}
 use Rattle.row_locks.specs.Held.{released}
-use Rattle.row_versions.specs.Log.{Content, commit_count, next_tx, after_begin, after_commit, after_roll_back}
+use Rattle.row_versions.specs.Log.{Content, commit_count, next_tx, after_commit, after_roll_back}
 use Rattle.session_machine.specs.declared.session.OpenTransaction.{OpenTransaction}
 use Rattle.session_machine.specs.declared.session.Transaction.{Transaction}
-use Rattle.session_machine.specs.declared.session.Transaction.TheVariants.{Closed, Open, Aborted}
+use Rattle.session_machine.specs.declared.session.Transaction.TheVariants.{Open}
 use Rattle.session_machine.specs.declared.session.Progress.{Progress}
 use Rattle.session_machine.specs.Tables.{Database}
 
@@ -16,38 +16,20 @@ use Rattle.session_machine.specs.Tables.{Database}
 abbrev pub fresh : Content → Level → Bool → OpenTransaction
 fresh c level explicit = record { tx = next_tx c; explicit = explicit; level = level; snapshot = None; command = 0 }
 
-abbrev pub begun : Database → Database
-begun db = record db { content = after_begin db.content }
-
 abbrev pub committed : Database → TxId → Database
 committed db tx = record db { content = after_commit db.content tx; held = released tx db.held }
 
 abbrev pub rolled_back : Database → TxId → Database
 rolled_back db tx = record db { content = after_roll_back db.content tx; held = released tx db.held }
 
--- the commits before the transaction's first query, which is the present one if there was none (13.2.2)
-abbrev pub first_commits : Content → OpenTransaction → ℕ
-first_commits c t = unwrap_or t.snapshot (commit_count c)
-
--- in Read Committed a query sees what was committed when it began, in Repeatable Read what was when the transaction's first query began
-abbrev pub commits_seen : Level → Content → OpenTransaction → ℕ
-commits_seen ReadCommitted c t = commit_count c
-commits_seen RepeatableRead c t = first_commits c t
-
--- what the transaction's next query sees: also what its own queries before wrote
+-- what the transaction's next query sees: also what its own queries before wrote. In Read Committed it sees what was committed when it began, in Repeatable Read
+-- what was when the transaction's first query began, which is the present one if there was none (13.2.1, 13.2.2)
 abbrev pub view_of : Content → OpenTransaction → View
-view_of c t = record { tx = Some t.tx; commits = commits_seen t.level c t; command = t.command }
+view_of c t = record { tx = Some t.tx; commits = elim t.level [ ReadCommitted ↦ commit_count c | RepeatableRead ↦ unwrap_or t.snapshot (commit_count c) ]; command = t.command }
 
 -- the transaction once a query has begun: its snapshot is taken
 abbrev pub started : Content → OpenTransaction → OpenTransaction
-started c t = record t { snapshot = Some (first_commits c t) }
-
--- the transaction after a query
-abbrev pub moved_on : Content → OpenTransaction → OpenTransaction
-moved_on c t = record t { snapshot = Some (first_commits c t); command = t.command + 1 }
-
-abbrev pub after_failure : OpenTransaction → Transaction
-after_failure t = if t.explicit then Aborted else Closed
+started c t = record t { snapshot = Some (unwrap_or t.snapshot (commit_count c)) }
 
 -- who sees, and what, in a query that begins now: without a transaction what is committed
 abbrev pub own_of : Transaction → Option TxId

@@ -1,5 +1,5 @@
 -- Who waits for whom, in the present state (PostgreSQL manual, 13.3.2, and 5.5.3 of keys).
-use Rattle.std.specs.Prelude.{Bool, false, not, List, Option, Some, None, option_map, filter_map}
+use Rattle.std.specs.Prelude.{Bool, false, not, List, Option, None, option_map, filter_map}
 use Rattle.std.specs.Option.{option_map_or}
 use Rattle.row_versions.specs.declared.names.TxId.{TxId}
 use Rattle.row_versions.specs.Members.{is_none_of}
@@ -9,7 +9,6 @@ use Rattle.unique_keys.specs.Checks.{key_blockers}
 use Rattle.session_machine.specs.declared.session.Request.{Request}
 use Rattle.session_machine.specs.declared.session.Request.TheVariants.{Row, Key}
 use Rattle.session_machine.specs.declared.session.Waiting.{Waiting as Wait}
-use Rattle.session_machine.specs.declared.session.Transaction.{Transaction}
 use Rattle.session_machine.specs.declared.session.Transaction.TheVariants.{Open}
 use Rattle.session_machine.specs.declared.session.Progress.{Progress}
 use Rattle.session_machine.specs.declared.session.Session.{Session}
@@ -27,13 +26,9 @@ is_blocked db request tx = not (is_none_of (blockers db request tx))
 abbrev pub wait_of : Session → Option Wait
 wait_of s = option_map (λ (p : Progress). p.wait) s.statement
 
-abbrev pub waiting : Database → Transaction → Option Wait → Option Waiting
-waiting db (Open t) (Some w) = Some (record { tx = t.tx; blockers = blockers db w.request t.tx })
-waiting db transaction wait = None
-
--- the session's transaction, with those that it waits for
+-- the session's transaction, with those that it waits for, if it waits
 abbrev pub waiting_in : Database → Session → Option Waiting
-waiting_in db s = waiting db s.transaction (wait_of s)
+waiting_in db s = elim s.transaction [ Open t ↦ option_map (λ (w : Wait). record { tx = t.tx; blockers = blockers db w.request t.tx }) (wait_of s) | other ↦ None ]
 
 -- the session waits, and what it asked for is still held against it
 abbrev pub is_still_blocked : Database → Session → Bool

@@ -1,11 +1,10 @@
 -- The columns that values are assigned to are those that are found one after the other.
 use Rattle.std.proofs.Common.{◌≡◌, ℕ, ◌+◌, Bool, true, false, cond, List, [], ◌∷◌, map, Some, None, Ok, Err, refl, ap, ◌∙◌, if◌then◌else◌}
-use Rattle.std.specs.Prelude.{Option, bytes_eq, find, filter_map, is_none, option_map}
-use Rattle.std.specs.List.{cons_option, enumerate_from}
-use Rattle.std.specs.Option.{option_map_or}
+use Rattle.std.specs.Prelude.{Option, Result, bytes_eq, find, ok_or, option_map}
+use Rattle.std.specs.List.{enumerate_from}
 use Rattle.sql_trees.specs.Statements.{ColumnTree}
-use Rattle.query_results.specs.Queries.{AssignedColumn, assigned_named, at_place}
-use Rattle.query_results.specs.Inner.Pieces.{assigned_by_name}
+use Rattle.sql_values.specs.Values.{if_ok}
+use Rattle.query_results.specs.Queries.{AssignedColumn, at_place, columns_assigned}
 use Rattle.session_queries.specs.Inner.Assigned.{assigned_each, assigned_from, assigned_in_order, assigned_or}
 
 -- all of them
@@ -25,16 +24,15 @@ named_from k [] name = refl
 named_from k (c ∷ cs) name =
     by_test (bytes_eq c.name name) k c (find (λ (c : ℕ × ColumnTree). bytes_eq c.1.name name) (enumerate_from (k + 1) cs)) (assigned_from (k + 1) cs name) (named_from (k + 1) cs name)
 
-by_column : (name : List ℕ) (o : Option AssignedColumn) (lacks : Option (List ℕ)) (ts : List AssignedColumn)
-    → option_map_or Err (cond (is_none o) (Some name) lacks) (Ok (cons_option o ts)) ≡ assigned_or name o (option_map_or Err lacks (Ok ts))
-by_column name None lacks ts = refl
-by_column name (Some t) None ts = refl
-by_column name (Some t) (Some lack) ts = refl
+by_column : (name : List ℕ) (o : Option AssignedColumn) (r : Result (List AssignedColumn) (List ℕ)) → if_ok (ok_or o name) (λ t. if_ok r (λ ts. (let all : Result (List AssignedColumn) (List ℕ) = Ok (t ∷ ts) in all))) ≡ assigned_or name o r
+by_column name None r = refl
+by_column name (Some t) (Ok ts) = refl
+by_column name (Some t) (Err lacks) = refl
 
 -- those of these names
-pub each_by_name : (columns : List ColumnTree) (names : List (List ℕ)) → assigned_by_name columns names ≡ assigned_each columns names
+pub each_by_name : (columns : List ColumnTree) (names : List (List ℕ)) → columns_assigned columns (Some names) ≡ assigned_each columns names
 each_by_name columns [] = refl
 each_by_name columns (name ∷ names) =
-    by_column name (assigned_named columns name) (find (λ n. is_none (assigned_named columns n)) names) (filter_map (assigned_named columns) names)
-    ∙ ap (λ (o : Option AssignedColumn). assigned_or name o (assigned_by_name columns names)) (named_from 0 columns name)
+    by_column name (option_map at_place (find (λ (c : ℕ × ColumnTree). bytes_eq c.1.name name) (enumerate_from 0 columns))) (columns_assigned columns (Some names))
+    ∙ ap (λ (o : Option AssignedColumn). assigned_or name o (columns_assigned columns (Some names))) (named_from 0 columns name)
     ∙ ap (assigned_or name (assigned_from 0 columns name)) (each_by_name columns names)

@@ -11,9 +11,8 @@ use Rattle.session_machine.specs.declared.session.OpenTransaction.{OpenTransacti
 use Rattle.session_machine.specs.declared.fault.StmtFault.TheVariants.{NoColumnOf}
 use Rattle.session_machine.specs.Tables.{Database}
 use Rattle.session_machine.specs.Statements.{Effect, Surroundings, fails}
-use Rattle.session_machine.specs.Walks.{Visit, walked, walked_from}
 use Rattle.session_machine.specs.Rows.{Work, cols_in}
-use Rattle.session_machine.specs.Running.{beginning, unless_undefined, unless_wrong, update, delete, delete_from}
+use Rattle.session_machine.specs.Inner.Statements.{walked_from, beginning, unless_undefined, unless_wrong, update, delete, delete_from, Visit, walked}
 use Rattle.session_machine.specs.Inner.Pieces.{update_fitting, update_to, columns_at}
 
 -- targets that were found are gone over from the place on

@@ -4,7 +4,8 @@ use Rattle.std.proofs.lemmas.List.{get_or-map, length-map}
 use Rattle.std.specs.Prelude.{Some}
 use Rattle.sql_values.specs.declared.value.Value.{Value}
 use Rattle.session_machine.specs.Tables.{Database}
-use Rattle.session_machine.specs.Walks.{Visit, Stop, goes_on, stops, walked}
+use Rattle.session_machine.specs.Walks.{Stop}
+use Rattle.session_machine.specs.Inner.Statements.{Visit, goes_on, stops, walked}
 use Rattle.session_statements.proofs.Lists.{drop_at}
 use Rattle.session_statements.proofs.Visiting.{append_none, stepped, walk_step}
 

@@ -34,9 +34,10 @@ use Rattle.update_recheck.specs.Outcome.Version.{Same, Gone, Newer}
 use Rattle.update_recheck.specs.Outcome.Outcome.{Takes, Skips, Waits, Deadlocks, Serializes, Faults}
 use Rattle.session_machine.specs.Tables.{Database, Catalog, Table}
 use Rattle.session_machine.specs.Walks as walk
-use Rattle.session_machine.specs.Walks.{Visit, Walk, goes_on, walked}
+use Rattle.session_machine.specs.Walks.{Walk}
 use Rattle.session_machine.specs.Waits.{waits_in}
-use Rattle.session_machine.specs.Rows.{Work, columns_in, cols_in, keys_in, values_of, written, stop_at_keys, settled, at_outcome}
+use Rattle.session_machine.specs.Rows.{Work, columns_in, cols_in, values_of, written}
+use Rattle.session_machine.specs.Inner.Statements.{keys_in, stop_at_keys, settled, at_outcome, Visit, goes_on, walked}
 use Rattle.session_machine.specs.Inner.Pieces.{unless_stopped, unless_null, unless_stopped_by, update_made, lock_made}
 use Rattle.session_machine.specs.Sound.{RowsFit, RowsStay}
 use Rattle.session_statements.specs.declared.act.Act.{Act}

@@ -5,7 +5,8 @@ ghost use Rattle.sql_trees.specs.Statements.{name_of};
 ghost use Rattle.row_versions.specs.Log.{IsOpen};
 ghost use Rattle.query_results.specs.Queries.{null_in};
 ghost use Rattle.session_machine.specs.Tables.{Database as DatabaseFacts};
-ghost use Rattle.session_machine.specs.Rows.{columns_in, keys_in, stop_at_keys};
+ghost use Rattle.session_machine.specs.Rows.{columns_in};
+ghost use Rattle.session_machine.specs.Inner.Statements.{keys_in, stop_at_keys};
 ghost use Rattle.session_machine.specs.Inner.Pieces.{unless_null, unless_stopped_by};
 ghost use Rattle.session_statements.specs.Inner.Acting.{stop_of};
 

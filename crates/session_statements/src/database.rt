@@ -8,13 +8,14 @@ ghost use Rattle.sql_values.specs.declared.value.Value.{Value};
 ghost use Rattle.row_versions.specs.Log.{empty_content, new_row, values_at, IsOpen};
 ghost use Rattle.session_machine.specs.Tables.{find_table};
 ghost use Rattle.session_machine.specs.Waits.{is_blocked};
-ghost use Rattle.session_machine.specs.Transactions.{committed, rolled_back, begun, fresh, first_commits, commits_seen, view_of, moved_on, started, own_of, view_now};
+ghost use Rattle.session_machine.specs.Transactions.{committed, rolled_back, fresh, view_of, started, own_of, view_now};
 ghost use Rattle.row_versions.specs.declared.write.Seen.{Seen as SeenFacts};
 ghost use Rattle.row_versions.specs.Rows.{rows_of};
 ghost use Rattle.session_machine.specs.Inner.Pieces.{columns_at, with_table, with_drop};
 ghost use Rattle.session_machine.specs.declared.session.OpenTransaction.{OpenTransaction as OpenFacts};
-ghost use Rattle.session_machine.specs.Running.{beginning};
-ghost use Rattle.session_machine.specs.Rows.{columns_in, inserted, keys_in, seen_by, values_of, written};
+ghost use Rattle.session_machine.specs.Rows.{columns_in, inserted, values_of, written};
+ghost use Rattle.session_machine.specs.Inner.Statements.{beginning, keys_in, begun, first_commits, commits_seen, moved_on};
+ghost use Rattle.session_machine.specs.Targets.{seen_by};
 ghost use Rattle.session_machine.specs.Machine.{empty_database, visible_to};
 
 use crate::catalog::Catalog;

@@ -4,8 +4,7 @@ ghost use Rattle.std.specs.Prelude.{◌≡◌, ◌+◌, ◌<◌, ◌^◌, Some, 
 ghost use Rattle.sql_trees.specs.Statements.{delete_of, name_of};
 ghost use Rattle.row_versions.specs.Log.{IsOpen};
 ghost use Rattle.session_machine.specs.Tables.{find_table};
-ghost use Rattle.session_machine.specs.Rows.{delete_with};
-ghost use Rattle.session_machine.specs.Running.{delete, delete_from};
+ghost use Rattle.session_machine.specs.Inner.Statements.{delete_with, delete, delete_from};
 ghost use Rattle.session_statements.specs.Inner.Acting.{visit_of};
 ghost use Rattle.session_statements.specs.Inner.Keeping.{IsOrderly};
 ghost use Rattle.session_statements.specs.Inner.Left.{left};

@@ -4,10 +4,11 @@ ghost use Rattle.std.specs.Prelude.{◌≡◌, ◌+◌, ◌<◌, ◌^◌, Some, 
 ghost use Rattle.sql_trees.specs.Statements.{stmt_of};
 ghost use Rattle.row_versions.specs.Log.{IsOpen};
 ghost use Rattle.session_machine.specs.declared.session.OpenTransaction.{OpenTransaction as OpenFacts};
-ghost use Rattle.session_machine.specs.Transactions.{begun, fresh};
+ghost use Rattle.session_machine.specs.Transactions.{fresh};
 ghost use Rattle.session_machine.specs.declared.session.Progress.{Progress as ProgressFacts};
 ghost use Rattle.session_machine.specs.Statements.{turns};
-ghost use Rattle.session_machine.specs.Running.{run_open, run_closed, run_on, run_stmt};
+ghost use Rattle.session_machine.specs.Running.{run_stmt};
+ghost use Rattle.session_machine.specs.Inner.Statements.{run_open, run_closed, run_on, begun};
 ghost use Rattle.session_machine.specs.Inner.Pieces.{run_first};
 ghost use Rattle.session_machine.specs.Sound.{RowsFit, RowsStay};
 ghost use Rattle.session_statements.specs.Inner.Keeping.{IsOrderly};

@@ -10,7 +10,7 @@ ghost use Rattle.session_machine.specs.Tables.{find_table};
 ghost use Rattle.query_results.specs.Queries.{result_of, select_exprs, undefined_among, wrong_position};
 ghost use Rattle.session_machine.specs.Views.{rows_shown};
 ghost use Rattle.session_machine.specs.Rows.{columns_in};
-ghost use Rattle.session_machine.specs.Running.{answered, select, select_rows, unless_wrong};
+ghost use Rattle.session_machine.specs.Inner.Statements.{answered, select, select_rows, unless_wrong};
 ghost use Rattle.session_machine.specs.Inner.Pieces.{select_at, select_in};
 ghost use Rattle.session_machine.specs.Sound.{RowsFit};
 ghost use Rattle.session_statements.specs.Inner.Keeping.{IsOrderly};

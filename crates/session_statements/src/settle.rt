@@ -8,7 +8,8 @@ ghost use Rattle.update_recheck.specs.Asked.{Fits, asked};
 ghost use Rattle.update_recheck.specs.Outcome.{is_target_locked, target_outcome};
 ghost use Rattle.update_recheck.specs.Settling.{lock_of, locks_after, outcome_of};
 ghost use Rattle.session_machine.specs.Waits.{waits_in};
-ghost use Rattle.session_machine.specs.Rows.{at_outcome, columns_in, settled, values_of};
+ghost use Rattle.session_machine.specs.Rows.{columns_in, values_of};
+ghost use Rattle.session_machine.specs.Inner.Statements.{at_outcome, settled};
 ghost use Rattle.session_statements.specs.Inner.Acting.{act_with, asks, visit_at, visit_of};
 ghost use Rattle.session_statements.specs.Inner.Keeping.{CanTake, IsOrderly, RowIn};
 

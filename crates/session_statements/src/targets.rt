@@ -5,8 +5,8 @@ ghost use Rattle.sql_trees.specs.Trees.{tree_of};
 ghost use Rattle.sql_trees.specs.Statements.{select_of};
 ghost use Rattle.sql_values.specs.declared.fault.ValueFault.{ValueFault as ValueFaultFacts};
 ghost use Rattle.row_versions.specs.Log.{Content};
-ghost use Rattle.session_machine.specs.Rows.{at_places, passing_targets, taken_targets};
-ghost use Rattle.session_machine.specs.Running.{assigned_to};
+ghost use Rattle.session_machine.specs.Inner.Statements.{assigned_to};
+ghost use Rattle.session_machine.specs.Targets.{at_places, passing_targets, taken_targets};
 ghost use Rattle.session_queries.specs.Fronts.{AnswersList};
 ghost use Rattle.session_statements.specs.Inner.Keeping.{IsOrderly, RowsIn};
 

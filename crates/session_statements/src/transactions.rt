@@ -4,9 +4,9 @@ ghost use Rattle.std.specs.Prelude.{◌≡◌, ◌≢◌, is_some, IfOk, OnOk, O
 ghost use Rattle.sql_trees.specs.Statements.{stmt_of};
 ghost use Rattle.row_versions.specs.Log.{IsOpen};
 ghost use Rattle.session_machine.specs.Tables.{Database as DatabaseFacts};
-ghost use Rattle.session_machine.specs.Transactions.{after_failure};
 ghost use Rattle.session_statements.specs.Inner.Left.{left};
-ghost use Rattle.session_machine.specs.Statements.{fails, is_level, level_set, begin_in, is_end, run_aborted};
+ghost use Rattle.session_machine.specs.Statements.{fails, level_set};
+ghost use Rattle.session_machine.specs.Inner.Statements.{is_end, run_aborted, after_failure, is_level, begin_in};
 
 use crate::database::Database;
 use crate::effect::Effect;

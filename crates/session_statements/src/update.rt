@@ -7,8 +7,8 @@ ghost use Rattle.query_results.specs.Updates.{columns_set, update_exprs, updated
 ghost use Rattle.sql_values.specs.Values.{Answers};
 ghost use Rattle.query_results.specs.Queries.{cols_of, undefined_among};
 ghost use Rattle.session_machine.specs.Tables.{find_table};
-ghost use Rattle.session_machine.specs.Rows.{cols_in, columns_in, update_with, values_of};
-ghost use Rattle.session_machine.specs.Running.{assigned_to, update, update_from};
+ghost use Rattle.session_machine.specs.Rows.{cols_in, columns_in, values_of};
+ghost use Rattle.session_machine.specs.Inner.Statements.{update_with, assigned_to, update, update_from};
 ghost use Rattle.session_machine.specs.Inner.Pieces.{update_made, update_fitting};
 ghost use Rattle.session_statements.specs.Inner.Acting.{visit_of};
 ghost use Rattle.session_statements.specs.Inner.Keeping.{IsOrderly};

@@ -27,6 +27,5 @@ is_aggregate _ = false
 
 -- aggregates stand alone and go with no ORDER BY and no lock; a star and a lock go with a table
 abbrev pub is_allowed : SelectTree → Bool
-is_allowed s =
-    (not (list_any is_aggregate s.items) || (list_all is_aggregate s.items && not (elim s.order [ [] ↦ false | keys ↦ true ] || is_some s.lock)))
+is_allowed s = (not (list_any is_aggregate s.items) || (list_all is_aggregate s.items && not (elim s.order [ [] ↦ false | keys ↦ true ] || is_some s.lock)))
     && (is_some s.table || not (list_any (λ i. elim i [ All ↦ true | other ↦ false ]) s.items || is_some s.lock))

@@ -5,6 +5,7 @@ use Rattle.std.specs.Option.{option_zip}
 use Rattle.std.specs.Ordering.{nat_cmp, int_cmp, bool_cmp}
 use Rattle.std.specs.declared.cmp.Ordering.{Ordering}
 use Rattle.std.specs.Cmp.Lexicographic.{slice_cmp}
+pub use Rattle.iso_lexer.specs.Results.{if_ok, each}
 use Rattle.sql_trees.specs.declared.kind.Kind.{Kind}
 use Rattle.sql_trees.specs.declared.kind.Kind.TheVariants as kind
 use Rattle.sql_values.specs.declared.value.Value.{Value}
@@ -20,16 +21,6 @@ Answer = Result Value ValueFault
 abbrev pub Answers : {A : Type 0} → Result A ValueFault → Result A ValueFault → Type 0
 Answers (Ok x) answer = answer ≡ Ok x
 Answers (Err e) answer = e ≢ Memory → answer ≡ Err e
-
--- what follows a first answer; the first one's fault ends both
-abbrev pub if_ok : {A B : Type 0} → Result A ValueFault → (A → Result B ValueFault) → Result B ValueFault
-if_ok (Ok x) f = f x
-if_ok (Err e) f = Err e
-
--- what is answered at each, up to the first fault
-abbrev pub each : {A B : Type 0} → (A → Result B ValueFault) → List A → Result (List B) ValueFault
-each f [] = Ok []
-each f (x ∷ xs) = if_ok (f x) (λ y. if_ok (each f xs) (λ ys. Ok (y ∷ ys)))
 
 -- the number is at least -half and below half
 abbrev pub is_within : ℕ → ℤ → Bool

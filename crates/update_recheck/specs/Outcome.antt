@@ -33,10 +33,9 @@ pub data Outcome : Type 0 where
   Serializes : Outcome
   Faults : ValueFault → Outcome
 
--- A row that is as it was found is used so, unless others stop it: also one that was only locked, or whose change was rolled back.
--- Repeatable Read can't modify or lock a row that others changed after its view (13.2.2).
--- Read Committed waits for the others to end. Where the row was then deleted it is ignored; where it was updated WHERE is evaluated again on
--- the updated version, and where it still matches, that version is used (13.2.1)
+-- What stops the target comes first, but that Repeatable Read can't modify or lock a row that others changed after its view (13.2.2).
+-- A row that is as it was found is used so: also one that was only locked, or whose change was rolled back.
+-- At Read Committed a row that was deleted is ignored; of one that was updated WHERE is evaluated again, and where it still matches, that version is used (13.2.1)
 abbrev pub outcome : Level → Seen → Option Outcome → Version → Outcome
 outcome level found stop Same = unwrap_or stop (Takes found)
 outcome RepeatableRead found stop changed = Serializes
@@ -45,9 +44,13 @@ outcome ReadCommitted found stop (Newer newer (Ok true)) = unwrap_or stop (Takes
 outcome ReadCommitted found stop (Newer newer (Ok false)) = unwrap_or stop Skips
 outcome ReadCommitted found stop (Newer newer (Err fault)) = unwrap_or stop (Faults fault)
 
--- what stops the target, by the locks that are held and the waits that stand: others hold it, for whom it waits, or a wait for them would close a cycle
+-- the blockers of the target's request
+abbrev pub row_blockers : List Held → Asked → List TxId
+row_blockers held ask = holders_against held ask.seen.row ask.tx ask.strength
+
+-- what stops the target, by the locks that are held and the waits that stand: it waits for its blockers, if it has any, unless that wait would close a cycle
 abbrev pub stop : List Held → List Waiting → Asked → Option Outcome
-stop held waits ask = let by = holders_against held ask.seen.row ask.tx ask.strength in if is_none_of by then None else Some (if closes waits ask.tx by then Deadlocks else Waits)
+stop held waits ask = let by = row_blockers held ask in if is_none_of by then None else Some (if closes waits ask.tx by then Deadlocks else Waits)
 
 -- a version beside the one that the view shows, by its values, if it has any
 abbrev pub version_at : Asked → Seen → Option (List Value) → Version
@@ -64,7 +67,3 @@ target_outcome c held waits ask = outcome ask.level ask.seen (stop held waits as
 -- the target is locked where without WHERE it would be used: a row that WHERE then passes over stays locked
 abbrev pub is_target_locked : Content → List Held → List Waiting → Asked → Bool
 is_target_locked c held waits ask = elim (target_outcome c held waits (record ask { condition = None })) [ Takes seen ↦ true | other ↦ false ]
-
--- the blockers of the target's request
-abbrev pub row_blockers : List Held → Asked → List TxId
-row_blockers held ask = holders_against held ask.seen.row ask.tx ask.strength

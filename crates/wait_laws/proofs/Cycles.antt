@@ -29,10 +29,12 @@ use Rattle.session_machine.specs.declared.session.Session.{Session}
 use Rattle.session_machine.specs.declared.event.Event.{Event}
 use Rattle.session_machine.specs.declared.event.Mode.{Mode}
 use Rattle.session_machine.specs.Tables.{Catalog, Database}
-use Rattle.session_machine.specs.Transactions.{begun, committed, rolled_back}
+use Rattle.session_machine.specs.Transactions.{committed, rolled_back}
+use Rattle.session_machine.specs.Inner.Statements.{begun}
 use Rattle.session_machine.specs.Inner.Pieces.{with_table, with_drop}
 use Rattle.session_machine.specs.Waits.{blockers, waits_in}
-use Rattle.session_machine.specs.Machine.{Machine, Blocks, Next, next, opening, around, at_rest, empty_database, session_of}
+use Rattle.session_machine.specs.Machine.{Machine, Blocks, Next, next, opening, at_rest, empty_database, session_of}
+use Rattle.session_machine.specs.Inner.Steps.{around}
 use Rattle.session_machine.specs.Sound.{command_in, tx_in, tx_of}
 use Rattle.wait_laws.specs.Laws.{Reaches, NoCycleOfWaits}
 use Rattle.session_laws.proofs.Lists.{slice_get-set_same, slice_get-set_other}

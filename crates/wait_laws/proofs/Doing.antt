@@ -48,16 +48,19 @@ use Rattle.session_machine.specs.declared.reply.Outcome.{Outcome as Reply}
 use Rattle.session_machine.specs.declared.reply.Outcome.TheVariants.{Rows, Failed}
 use Rattle.session_machine.specs.declared.fault.StmtFault.TheVariants.{Aborted as AbortedFault, Deadlock}
 use Rattle.session_machine.specs.Tables.{Database, find_table}
-use Rattle.session_machine.specs.Transactions.{begun, committed, fresh, rolled_back, view_of}
+use Rattle.session_machine.specs.Transactions.{committed, fresh, rolled_back, view_of}
 use Rattle.session_machine.specs.Waits.{blockers, is_blocked, waits_in}
 use Rattle.session_machine.specs.Sound.{command_in}
-use Rattle.session_machine.specs.Statements.{Surroundings, Effect, fails, turns, create, level_set, is_end}
-use Rattle.session_machine.specs.Walks.{Stop, Visit, Walk, Blocked, Fails, goes_on, walked, walked_from}
+use Rattle.session_machine.specs.Statements.{Surroundings, Effect, fails, turns, create, level_set}
+use Rattle.session_machine.specs.Walks.{Stop, Walk, Blocked, Fails}
 use Rattle.session_machine.specs.AskedKeys.{AskedKey}
-use Rattle.session_machine.specs.Rows.{Work, columns_in, keys_in, cols_in, asked_key, stop_at_key, stop_at_keys, inserted, written, insert_one, ask, at_outcome, at_target, values_of, update_with, update_one, delete_with, delete_one, lock_with, lock_one, strength_of, passing_targets, taken_targets}
-use Rattle.session_machine.specs.Running.{beginning, going_on, comes_to, after_walk, done, insert_from, insert, assigned_to, update_from, update, delete_from, delete, lock_from, answered, select_rows, unless_wrong, select, run_open, run_closed, run_on, run_stmt}
+use Rattle.session_machine.specs.Rows.{Work, columns_in, cols_in, stop_at_key, inserted, written, values_of, strength_of}
+use Rattle.session_machine.specs.Running.{run_stmt}
+use Rattle.session_machine.specs.Inner.Statements.{run_piecewise, is_end, walked_from, keys_in, stop_at_keys, insert_one, ask, at_outcome, at_target, update_with, update_one, delete_with, delete_one, lock_with, lock_one, beginning, comes_to, after_walk, done, insert_from, insert, assigned_to, update_from, update, delete_from, delete, lock_from, answered, select_rows, unless_wrong, select, run_open, run_closed, run_on, begun, Visit, goes_on, walked}
+use Rattle.session_machine.specs.Targets.{asked_key, passing_targets, taken_targets, going_on}
 use Rattle.session_machine.specs.Inner.Pieces.{drop_ended, unless_stopped, unless_stopped_by, unless_null, insert_made, update_made, lock_made, insert_fitting, insert_to, update_fitting, update_to, delete_fitting, select_in, select_at, run_first, with_table, with_drop, DroppedUpTo, dropped, dropped_at, stop_by}
 use Rattle.session_machine.proofs.Piecewise.{stops_by, drops_by}
+use Rattle.session_machine.proofs.ByKind.{runs_by_kind}
 use Rattle.wait_laws.proofs.ByKind.{AtOnce, FromStart, FromPlace, by_kind, on_kind}
 use Rattle.wait_laws.proofs.Lists.{holds_last}
 
@@ -573,17 +576,16 @@ pub record Idles (db : Database) (d : Effect) : Type 0 where
   pub over : d.statement ≡ None
   pub shut : (u : OpenTransaction) → d.transaction ≡ Open u → ⊥
 
--- a statement did nothing, or what its transaction may do
-pub does_stmt : (P Q : Database → Type 0) (V : View → Type 0) (db : Database) (tr : Transaction) (statement : Option Progress) (around : Surroundings) (stmt : StmtTree)
+does_stmt_by_kind : (P Q : Database → Type 0) (V : View → Type 0) (db : Database) (tr : Transaction) (statement : Option Progress) (around : Surroundings) (stmt : StmtTree)
     → Keeps (doer db tr) (command_in tr) P Q → Allows V db tr statement → P (start db tr)
-    → Idles db (run_stmt db tr statement around stmt) ⊎ Ran (doer db tr) (command_in tr) P Q V around.sessions (run_stmt db tr statement around stmt)
-does_stmt P Q V db Aborted statement around stmt keeps view p = inl (by (is_end stmt)) where
+    → Idles db (run_piecewise db tr statement around stmt) ⊎ Ran (doer db tr) (command_in tr) P Q V around.sessions (run_piecewise db tr statement around stmt)
+does_stmt_by_kind P Q V db Aborted statement around stmt keeps view p = inl (by (is_end stmt)) where
   by : (b : Bool) → (let d : Effect = if b then turns db Closed else record { db = db; transaction = Aborted; statement = None; outcome = Failed AbortedFault } in Idles db d)
   by true = record { same = refl; over = refl; shut = λ u h. cc }
   by false = record { same = refl; over = refl; shut = λ u h. cc }
-does_stmt P Q V db (Open t) None around stmt keeps view p = inr (ran_begins P Q V db t around stmt keeps view p)
-does_stmt P Q V db (Open t) (Some g) around stmt keeps view p = inr (ran_on P Q V db t around g stmt keeps view.0 view.1 p)
-does_stmt P Q V db Closed statement around stmt keeps view p = by stmt where
+does_stmt_by_kind P Q V db (Open t) None around stmt keeps view p = inr (ran_begins P Q V db t around stmt keeps view p)
+does_stmt_by_kind P Q V db (Open t) (Some g) around stmt keeps view p = inr (ran_on P Q V db t around g stmt keeps view.0 view.1 p)
+does_stmt_by_kind P Q V db Closed statement around stmt keeps view p = by stmt where
   first : OpenTransaction
   first = fresh db.content ReadCommitted false
 
@@ -600,3 +602,9 @@ does_stmt P Q V db Closed statement around stmt keeps view p = by stmt where
   by (SetTransaction level) = inr (ran_open P Q V around.sessions (begun db) first (fresh db.content level false) _ refl keeps p)
   by SetDeadlockTimeout = inl idles
   by s = run s
+
+-- a statement did nothing, or what its transaction may do
+pub does_stmt : (P Q : Database → Type 0) (V : View → Type 0) (db : Database) (tr : Transaction) (statement : Option Progress) (around : Surroundings) (stmt : StmtTree)
+    → Keeps (doer db tr) (command_in tr) P Q → Allows V db tr statement → P (start db tr)
+    → Idles db (run_stmt db tr statement around stmt) ⊎ Ran (doer db tr) (command_in tr) P Q V around.sessions (run_stmt db tr statement around stmt)
+does_stmt P Q V db tr statement around stmt keeps view p = subst (λ (d : Effect). Idles db d ⊎ Ran (doer db tr) (command_in tr) P Q V around.sessions d) (sym (runs_by_kind db tr statement around stmt)) (does_stmt_by_kind P Q V db tr statement around stmt keeps view p)

@@ -21,7 +21,7 @@ use Rattle.row_locks.proofs.Waiting.{bool_is}
 use Rattle.session_machine.specs.declared.session.Transaction.{Transaction}
 use Rattle.session_machine.specs.declared.session.Transaction.TheVariants.{Closed, Open, Aborted}
 use Rattle.session_machine.specs.Tables.{Database}
-use Rattle.session_machine.specs.Transactions.{begun}
+use Rattle.session_machine.specs.Inner.Statements.{begun}
 use Rattle.session_machine.specs.Sound.{tx_in}
 use Rattle.session_laws.proofs.Lists.{slice_get-set_other}
 use Rattle.wait_laws.proofs.Lists.{get_more, holds_before, holds_last, holds_more, holds_released}

@@ -12,7 +12,8 @@ use Rattle.session_machine.specs.declared.session.Request.TheVariants.{Key}
 use Rattle.session_machine.specs.declared.fault.StmtFault.TheVariants.{Deadlock, KeyTaken}
 use Rattle.session_machine.specs.Waits.{waits_in}
 use Rattle.session_machine.specs.Walks.{Stop, Blocked, Fails}
-use Rattle.session_machine.specs.Rows.{asked_key, columns_in, names_at}
+use Rattle.session_machine.specs.Rows.{columns_in}
+use Rattle.session_machine.specs.Targets.{asked_key, names_at}
 use Rattle.session_machine.specs.Inner.Pieces.{stop_by}
 use Rattle.session_machine.proofs.Piecewise.{stops_by}
 use Rattle.wait_laws.specs.Laws.{KeyIsExact, has_another, key_holders}

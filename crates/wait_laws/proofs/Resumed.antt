@@ -5,7 +5,7 @@ use Rattle.std.proofs.lemmas.Bool.{cases_eq}
 use Rattle.std.proofs.lemmas.Option.{slice_get_within}
 use Rattle.sql_trees.specs.declared.stmt.Level.{Level}
 use Rattle.sql_trees.specs.declared.stmt.Lock.{Lock}
-use Rattle.sql_trees.specs.Statements.{StmtTree, CreateTree, SelectTree}
+use Rattle.sql_trees.specs.Statements.{StmtTree, CreateTree, SelectTree, Inserts, Updates, Deletes, Selects}
 use Rattle.sql_values.specs.declared.fault.ValueFault.{ValueFault}
 use Rattle.query_results.specs.Results.{Results}
 use Rattle.query_results.specs.Queries.{result_of, select_exprs, undefined_among, wrong_position}
@@ -26,11 +26,13 @@ use Rattle.session_machine.specs.Tables.{Database, find_table}
 use Rattle.session_machine.specs.Transactions.{view_of}
 use Rattle.session_machine.specs.Statements.{Surroundings, Effect, create, level_set}
 use Rattle.session_machine.specs.Rows.{Work, columns_in, cols_in}
-use Rattle.session_machine.specs.Running.{answered, beginning, run_on, run_stmt, select, select_rows, unless_wrong}
+use Rattle.session_machine.specs.Running.{run_stmt}
+use Rattle.session_machine.specs.Inner.Statements.{answered, beginning, run_on, select, select_rows, unless_wrong}
 use Rattle.session_machine.specs.Inner.Pieces.{drop_ended, lock_again, select_at, dropped}
 use Rattle.session_machine.proofs.Piecewise.{drops_by}
-use Rattle.session_machine.specs.Machine.{Machine, Blocks, Next, next, stmts_of, around, at_rest, first_place, session_of}
-use Rattle.session_machine.specs.Inner.Steps.{launch_of, step_of, leave_of}
+use Rattle.session_machine.proofs.ByKind.{runs_by_kind}
+use Rattle.session_machine.specs.Machine.{Machine, Blocks, Next, next, stmts_of, at_rest, first_place, session_of}
+use Rattle.session_machine.specs.Inner.Steps.{launch_of, step_of, leave_of, around}
 use Rattle.session_machine.specs.Sound.{command_in}
 use Rattle.wait_laws.specs.Laws.{GoesOnInItsView, IsAtWork, IsInViewOf, RunAtWork, StatementsStayAsBegun, transaction_at, view_at}
 use Rattle.wait_laws.proofs.ByKind.{on_kind}
@@ -107,11 +109,14 @@ in_its_view db t around p q stmt = on_kind db t around In (record {
   drops = λ d. let e = dropped db t d.if_exists d.names in over _ (ap (λ (x : Effect). x.statement) (drops_by db t d.if_exists d.names) ∙ over_drop db.content t e.db e.missing);
   shows = λ s e. over _ (over_select db t around s e);
 }) p (record {
-  inserts = again.inserts;
-  updates = again.updates;
-  deletes = again.deletes;
-  locks = λ s l e h. again.locks s l e (subst (λ o. (lock_again db t around s p o).statement ≡ Some q) (sym e) h);
+  inserts = λ i h. again.inserts i (by (Inserts i) h);
+  updates = λ u h. again.updates u (by (Updates u) h);
+  deletes = λ d h. again.deletes d (by (Deletes d) h);
+  locks = λ s l e h. again.locks s l e (by (Selects s) (subst (λ o. (lock_again db t around s p o).statement ≡ Some q) (sym e) h));
 }) stmt where
+  by : (s : StmtTree) → (run_on db t around p s).statement ≡ Some q → (run_stmt db (Open t) (Some p) around s).statement ≡ Some q
+  by s h = ap (λ (d : Effect). d.statement) (runs_by_kind db (Open t) (Some p) around s) ∙ h
+
   In : Effect → Type 0
   In d = d.statement ≡ Some q → IsInViewOf p around q
 
@@ -156,7 +161,10 @@ waits_at : (db : Database) (tr : Transaction) (st : Option Progress) (around : S
 waits_at db tr None around q stmt is_open h = record { view = in_first_view db tr around q stmt h; goes_on = λ p e. absurd (none_not p e) }
 waits_at db tr (Some g) around q stmt is_open h =
     let t = (is_open g refl).0 in
-    let in_view = in_its_view db t around g q stmt (subst (λ (y : Transaction). (run_stmt db y (Some g) around stmt).statement ≡ Some q) (is_open g refl).1 h) in
+    let in_view =
+    in_its_view db t around g q stmt
+    (ap (λ (d : Effect). d.statement) (sym (runs_by_kind db (Open t) (Some g) around stmt))
+    ∙ subst (λ (y : Transaction). (run_stmt db y (Some g) around stmt).statement ≡ Some q) (is_open g refl).1 h) in
     record {
       view = in_view.view;
       goes_on = λ p e. subst (λ (y : Progress). (q.table ≡ y.table) × (y.place ≤ q.place)) (same_progress g p e) (in_view.table, in_view.onward);

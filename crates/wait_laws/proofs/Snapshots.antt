@@ -20,13 +20,16 @@ use Rattle.session_machine.specs.declared.fault.StmtFault.TheVariants.{Aborted a
 use Rattle.session_machine.specs.declared.reply.Outcome.{Outcome}
 use Rattle.session_machine.specs.declared.reply.Outcome.TheVariants.{Failed, Rows}
 use Rattle.session_machine.specs.Tables.{Database, find_table}
-use Rattle.session_machine.specs.Transactions.{begun, fresh, moved_on, started}
-use Rattle.session_machine.specs.Statements.{Surroundings, Effect, fails, turns, create, level_set, is_end}
-use Rattle.session_machine.specs.Walks.{Stop, Walk, Blocked, Fails, walked, walked_from}
-use Rattle.session_machine.specs.Rows.{Work, columns_in, insert_one, update_one, delete_one, lock_one, passing_targets, taken_targets}
-use Rattle.session_machine.specs.Running.{beginning, going_on, comes_to, after_walk, done, insert_from, update_from, delete_from, lock_from, assigned_to, insert, update, delete, answered, select_rows, unless_wrong, select, run_open, run_closed, run_on, run_stmt}
+use Rattle.session_machine.specs.Transactions.{fresh, started}
+use Rattle.session_machine.specs.Statements.{Surroundings, Effect, fails, turns, create, level_set}
+use Rattle.session_machine.specs.Walks.{Stop, Walk, Blocked, Fails}
+use Rattle.session_machine.specs.Rows.{Work, columns_in}
+use Rattle.session_machine.specs.Running.{run_stmt}
+use Rattle.session_machine.specs.Inner.Statements.{run_piecewise, is_end, walked_from, insert_one, update_one, delete_one, lock_one, beginning, comes_to, after_walk, done, insert_from, update_from, delete_from, lock_from, assigned_to, insert, update, delete, answered, select_rows, unless_wrong, select, run_open, run_closed, run_on, begun, moved_on, walked}
+use Rattle.session_machine.specs.Targets.{passing_targets, taken_targets, going_on}
 use Rattle.session_machine.specs.Inner.Pieces.{drop_ended, insert_fitting, insert_to, update_fitting, update_to, delete_fitting, select_at, run_first, dropped}
 use Rattle.session_machine.proofs.Piecewise.{drops_by}
+use Rattle.session_machine.proofs.ByKind.{runs_by_kind}
 use Rattle.wait_laws.proofs.ByKind.{AtOnce, FromStart, FromPlace, by_kind, on_kind}
 use Rattle.session_laws.proofs.Staying.{count-begin}
 
@@ -196,19 +199,18 @@ shot_on count db t around g stmt has same = on_kind db t around (Shot count) (sh
 none_not : (k : ℕ) → None ≡ Some k → ⊥
 none_not k h = cc
 
--- whatever a statement did, its transaction's snapshot is of commits before it
-pub shot_stmt : (db : Database) (tr : Transaction) (statement : Option Progress) (around : Surroundings) (stmt : StmtTree) → ((t : OpenTransaction) → tr ≡ Open t → Has (commit_count db.content) t)
-    → Shot (commit_count db.content) (run_stmt db tr statement around stmt)
-shot_stmt db Aborted statement around stmt has = by (is_end stmt) where
+shot_stmt_by_kind : (db : Database) (tr : Transaction) (statement : Option Progress) (around : Surroundings) (stmt : StmtTree) → ((t : OpenTransaction) → tr ≡ Open t → Has (commit_count db.content) t)
+    → Shot (commit_count db.content) (run_piecewise db tr statement around stmt)
+shot_stmt_by_kind db Aborted statement around stmt has = by (is_end stmt) where
   aborted_not : (u : OpenTransaction) → Aborted ≡ Open u → ⊥
   aborted_not u k = cc
 
   by : (b : Bool) → (let d : Effect = if b then turns db Closed else record { db = db; transaction = Aborted; statement = None; outcome = Failed AbortedFault } in Shot (commit_count db.content) d)
   by true = shot_closed (commit_count db.content) db
   by false = record { its = λ u h. absurd (aborted_not u h) }
-shot_stmt db (Open t) None around stmt has = shot_begins (commit_count db.content) db t around stmt (has t refl) refl
-shot_stmt db (Open t) (Some g) around stmt has = shot_on (commit_count db.content) db t around g stmt (has t refl) refl
-shot_stmt db Closed statement around stmt has = by stmt where
+shot_stmt_by_kind db (Open t) None around stmt has = shot_begins (commit_count db.content) db t around stmt (has t refl) refl
+shot_stmt_by_kind db (Open t) (Some g) around stmt has = shot_on (commit_count db.content) db t around g stmt (has t refl) refl
+shot_stmt_by_kind db Closed statement around stmt has = by stmt where
   none : (level : Level) (explicit : Bool) → Has (commit_count db.content) (fresh db.content level explicit)
   none level explicit k h = absurd (none_not k h)
 
@@ -222,3 +224,8 @@ shot_stmt db Closed statement around stmt has = by stmt where
   by (SetTransaction level) = shot_open (commit_count db.content) (begun db) (fresh db.content level false) None _ (none level false)
   by SetDeadlockTimeout = shot_closed (commit_count db.content) db
   by s = run s
+
+-- whatever a statement did, its transaction's snapshot is of commits before it
+pub shot_stmt : (db : Database) (tr : Transaction) (statement : Option Progress) (around : Surroundings) (stmt : StmtTree) → ((t : OpenTransaction) → tr ≡ Open t → Has (commit_count db.content) t)
+    → Shot (commit_count db.content) (run_stmt db tr statement around stmt)
+shot_stmt db tr statement around stmt has = subst (Shot (commit_count db.content)) (sym (runs_by_kind db tr statement around stmt)) (shot_stmt_by_kind db tr statement around stmt has)

@@ -40,11 +40,12 @@ use Rattle.session_machine.specs.Views.{rows_shown}
 use Rattle.session_machine.specs.Transactions.{fresh, view_of}
 use Rattle.session_machine.specs.Waits.{blockers, is_blocked, waits_in, is_still_blocked}
 use Rattle.session_machine.specs.Statements.{Surroundings}
-use Rattle.session_machine.specs.Rows.{Work, asked_key, columns_in, names_at, passing_targets, stop_at_key, taken_targets}
+use Rattle.session_machine.specs.Rows.{Work, columns_in, stop_at_key}
 use Rattle.session_machine.specs.Walks.{Blocked, Fails}
-use Rattle.session_machine.specs.Running.{going_on, run_stmt}
-use Rattle.session_machine.specs.Machine.{Machine, Blocks, Next, next, opening, session_of, stmts_of, is_busy, turn_in}
-use Rattle.session_machine.specs.Engine.{Follows, Run}
+use Rattle.session_machine.specs.Running.{run_stmt}
+use Rattle.session_machine.specs.Targets.{asked_key, passing_targets, taken_targets, going_on, names_at}
+use Rattle.session_machine.specs.Machine.{Machine, Blocks, Next, next, opening, session_of, stmts_of, is_busy, turn_in, Run}
+use Rattle.session_machine.specs.Engine.{Follows}
 
 -- the machine comes to the state, from its opening with so many sessions
 abbrev pub Reaches : Blocks → Mode → ℕ → Machine → Type 0

@@ -1,6 +1,5 @@
 -- What a query answers, piece by piece.
-use Rattle.std.specs.Prelude.{ℕ, ℤ, List, [], ◌∷◌, flat_map, Option, Some, None, is_none, find, filter_map, Result, Ok, Err}
-use Rattle.std.specs.Option.{option_map_or}
+use Rattle.std.specs.Prelude.{ℤ, List, [], ◌∷◌, flat_map, Option, Some, None, Result}
 use Rattle.sql_trees.specs.declared.expr.AggKind.TheVariants as agg_kind
 use Rattle.sql_trees.specs.Trees.{Tree, AggTree}
 use Rattle.sql_trees.specs.Trees as tree
@@ -13,7 +12,7 @@ use Rattle.sql_values.specs.Arithmetic.{signed}
 use Rattle.sql_values.specs.Expressions.{Cols}
 use Rattle.query_results.specs.declared.title.Title.{Title}
 use Rattle.query_results.specs.declared.title.Title.TheVariants.{Count, Sum, Min, Max}
-use Rattle.query_results.specs.Queries.{AssignedColumn, assigned_named, item_values, key_value}
+use Rattle.query_results.specs.Queries.{item_values, key_value}
 
 -- the expression of an item; `*` and count(*) have none
 abbrev pub item_exprs : ItemTree → List Tree
@@ -40,7 +39,3 @@ own_title (tree.Of agg_kind.Sum e) = Sum
 own_title (tree.Of agg_kind.Min e) = Min
 own_title (tree.Of agg_kind.Max e) = Max
 own_title a = Count
-
--- the columns of these names, or the first name that no column has
-abbrev pub assigned_by_name : List ColumnTree → List (List ℕ) → Result (List AssignedColumn) (List ℕ)
-assigned_by_name columns names = option_map_or Err (find (λ name. is_none (assigned_named columns name)) names) (Ok (filter_map (assigned_named columns) names))

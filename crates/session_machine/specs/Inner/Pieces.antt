@@ -1,5 +1,5 @@
 -- Statements piece by piece, as the code runs them.
-use Rattle.std.specs.Prelude.{ℕ, ◌+◌, ◌==◌, Bool, false, ◌&&◌, List, [], ◌∷◌, ◌++◌, flat_map, nat_lt, length, Option, Some, None, option_map, unwrap_or, slice_get, Result, if◌then◌else◌}
+use Rattle.std.specs.Prelude.{ℕ, ◌+◌, ◌==◌, Bool, false, ◌&&◌, List, ◌∷◌, ◌++◌, flat_map, nat_lt, length, Option, Some, None, option_map, unwrap_or, slice_get, Result, if◌then◌else◌, []}
 use Rattle.std.specs.List.{list_any}
 use Rattle.std.specs.Option.{option_map_or}
 use Rattle.sql_trees.specs.declared.stmt.Level.TheVariants.{ReadCommitted}
@@ -24,11 +24,12 @@ use Rattle.session_machine.specs.declared.reply.Outcome.TheVariants.{Done}
 use Rattle.session_machine.specs.Tables.{Database, Catalog, Table, Dropped, counts, is_meant, find_table}
 use Rattle.session_machine.specs.Waits.{blockers, waits_in}
 use Rattle.session_machine.specs.Views.{rows_shown}
-use Rattle.session_machine.specs.Transactions.{fresh, begun}
+use Rattle.session_machine.specs.Transactions.{fresh}
 use Rattle.session_machine.specs.Statements.{Surroundings, Effect, fails, answers}
-use Rattle.session_machine.specs.Walks.{Stop, Visit, Walk, Blocked, Fails, stops, goes_on}
-use Rattle.session_machine.specs.Rows.{Work, asked_key, columns_in, cols_in, names_at, written, inserted, checked, with_values}
-use Rattle.session_machine.specs.Running.{going_on, at_table, assigning, unless_undefined, insert_from, update_from, delete_from, lock_from, select_rows, unless_wrong, run_open}
+use Rattle.session_machine.specs.Walks.{Stop, Walk, Blocked, Fails}
+use Rattle.session_machine.specs.Rows.{Work, columns_in, cols_in, written, inserted}
+use Rattle.session_machine.specs.Inner.Statements.{checked, with_values, at_table, assigning, unless_undefined, insert_from, update_from, delete_from, lock_from, select_rows, unless_wrong, run_open, Visit, stops, goes_on, begun}
+use Rattle.session_machine.specs.Targets.{asked_key, going_on, names_at}
 
 -- ---- parts of the catalog
 

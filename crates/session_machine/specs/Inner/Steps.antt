@@ -1,9 +1,11 @@
 -- Events piece by piece, as the code does them.
-use Rattle.std.specs.Prelude.{ℕ, ◌+◌, nat_lt, Bool, false, not, [], Option, Some, None, Result, Err, if◌then◌else◌}
+use Rattle.std.specs.Prelude.{option_map, ℕ, ◌+◌, ◌==◌, ◌&&◌, is_none, slice_set, nat_lt, Bool, false, not, [], Option, Some, None, Result, Err, if◌then◌else◌}
 use Rattle.std.specs.Option.{option_map_or}
 use Rattle.sql_trees.specs.Statements.{StmtTree}
 use Rattle.row_versions.specs.Members.{is_none_of}
 use Rattle.row_locks.specs.Waiting.{Waiting as BlockedOne}
+use Rattle.session_machine.specs.declared.session.Transaction.TheVariants.{Open}
+use Rattle.session_machine.specs.Transactions.{rolled_back}
 use Rattle.session_machine.specs.declared.session.Place.{Place}
 use Rattle.session_machine.specs.declared.session.Transaction.{Transaction}
 use Rattle.session_machine.specs.declared.session.Waiting.{Waiting}
@@ -14,9 +16,28 @@ use Rattle.session_machine.specs.declared.reply.Outcome.TheVariants.{Launched}
 use Rattle.session_machine.specs.declared.fault.Refusal.{Refusal}
 use Rattle.session_machine.specs.declared.fault.Refusal.TheVariants.{Idle, NoSession}
 use Rattle.session_machine.specs.Tables.{Database}
-use Rattle.session_machine.specs.Waits.{waiting}
-use Rattle.session_machine.specs.Statements.{Effect}
-use Rattle.session_machine.specs.Machine.{Machine, Blocks, Next, closed_at_end, comes_out, is_failed, leaves, next_for, step_from, step_with}
+use Rattle.session_machine.specs.Waits.{blockers, wait_of}
+use Rattle.session_machine.specs.Statements.{Effect, Surroundings}
+use Rattle.session_machine.specs.Machine.{Machine, Blocks, Next, is_busy, closed_at_end, comes_out, is_failed, leaves, next_for, step_from, step_with}
+
+abbrev pub waiting : Database → Transaction → Option Waiting → Option BlockedOne
+waiting db transaction wait = elim transaction [ Open t ↦ option_map (λ (w : Waiting). record { tx = t.tx; blockers = blockers db w.request t.tx }) wait | other ↦ None ]
+
+-- the session is in its block and doesn't wait
+abbrev pub is_ready : Session → Bool
+is_ready s = is_busy s && is_none (wait_of s)
+
+abbrev pub is_turn : Option ℕ → ℕ → Bool
+is_turn turn session = option_map_or (λ k. k == session) turn false
+
+-- what a statement of the session finds around it: while it runs, the session doesn't wait
+abbrev pub around : Machine → ℕ → Session → Surroundings
+around m session s = record { sessions = slice_set m.sessions session (record s { statement = None }); number = m.events }
+
+-- a session that leaves rolls its open transaction back
+abbrev pub left_behind : Database → Transaction → Database
+left_behind db (Open t) = rolled_back db t.tx
+left_behind db transaction = db
 
 -- what the session waits for is still held against it
 abbrev pub is_stopped : Database → Transaction → Option Waiting → Bool

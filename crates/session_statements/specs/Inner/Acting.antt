@@ -12,9 +12,8 @@ use Rattle.session_machine.specs.declared.reply.Outcome.{Outcome}
 use Rattle.session_machine.specs.Tables.{Database}
 use Rattle.session_machine.specs.Statements.{Effect, answers}
 use Rattle.session_machine.specs.Walks as walk
-use Rattle.session_machine.specs.Walks.{Visit, stops, goes_on}
-use Rattle.session_machine.specs.Rows.{Work, ask, at_target, update_with, delete_with, lock_with}
-use Rattle.session_machine.specs.Running.{comes_to}
+use Rattle.session_machine.specs.Rows.{Work}
+use Rattle.session_machine.specs.Inner.Statements.{ask, at_target, update_with, delete_with, lock_with, comes_to, Visit, stops, goes_on}
 use Rattle.session_statements.specs.declared.act.Act.{Act}
 use Rattle.session_statements.specs.declared.act.Act.TheVariants.{Update, Delete, Lock}
 use Rattle.session_statements.specs.declared.act.Stop.{Stop}

@@ -1,6 +1,6 @@
 use Rattle.std.proofs.Common.{◌≡◌, drop}
 use Rattle.std.specs.List.{position_from}
-use Rattle.session_machine.specs.Machine.{is_ready}
+use Rattle.session_machine.specs.Inner.Steps.{is_ready}
 use Rattle.session_core.proofs.turns.ready_session.Given as goal
 
 -- of the sessions that are left the first ready one is that of all

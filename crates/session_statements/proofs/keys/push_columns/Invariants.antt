@@ -1,7 +1,7 @@
 use Rattle.std.proofs.Common.{◌≡◌, ◌++◌, drop, map}
 use Rattle.sql_trees.specs.Statements.{column_of}
 use Rattle.sql_trees.specs.Inner.KeyNames.{underscored}
-use Rattle.session_machine.specs.Rows.{names_at}
+use Rattle.session_machine.specs.Targets.{names_at}
 use Rattle.session_statements.proofs.keys.push_columns.Given as goal
 
 abbrev pub invariant-loop-place : goal.invariant-loop-place

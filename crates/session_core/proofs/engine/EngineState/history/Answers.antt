@@ -1,7 +1,7 @@
 use Rattle.std.specs.Prelude.{IfSome}
 use Rattle.sql_blocks.specs.Blocks.{blocks_of}
-use Rattle.session_machine.specs.Machine.{opening}
-use Rattle.session_machine.specs.Engine.{Engine, Run}
+use Rattle.session_machine.specs.Machine.{opening, Run}
+use Rattle.session_machine.specs.Engine.{Engine}
 use Rattle.session_core.proofs.Going.{of_machine}
 use Rattle.std.proofs.Common.{subst}
 use Rattle.session_core.proofs.engine.EngineState.history.Goals as goal

@@ -2,7 +2,8 @@ use Rattle.std.proofs.Common.{rules, ◌≡◌, ◌∙◌, sym, ap, ℕ}
 use Rattle.std.specs.Prelude.{Option, None, option_map}
 use Rattle.std.specs.List.{position_from}
 use Rattle.std.specs.Option.{option_or}
-use Rattle.session_machine.specs.Machine.{Machine, is_first_free, is_ready}
+use Rattle.session_machine.specs.Machine.{Machine, is_first_free}
+use Rattle.session_machine.specs.Inner.Steps.{is_ready}
 use Rattle.session_core.specs.Inner.Freed.{FreeWait, earliest_free}
 use Rattle.session_core.proofs.Freed.{first_free}
 use Rattle.session_core.proofs.live.Live.turn.Goals as goal

@@ -1,5 +1,5 @@
 use Rattle.std.proofs.Common.{rules, ◌∙◌, ap}
-use Rattle.session_machine.specs.Running.{done}
+use Rattle.session_machine.specs.Inner.Statements.{done}
 use Rattle.session_statements.specs.Inner.Acting.{halted}
 use Rattle.session_statements.proofs.database.Database.go_over.Goals as goal
 

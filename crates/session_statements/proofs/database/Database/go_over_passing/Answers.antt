@@ -1,10 +1,9 @@
 use Rattle.std.proofs.Common.{◌≡◌, sym, ap, subst, drop}
 use Rattle.std.specs.Prelude.{IfOk, option_map}
 use Rattle.sql_trees.specs.Trees.{tree_of}
-use Rattle.session_machine.specs.Rows.{passing_targets}
 use Rattle.session_machine.specs.Statements.{Effect}
-use Rattle.session_machine.specs.Running.{done, after_walk}
-use Rattle.session_machine.specs.Walks.{walked, walked_from}
+use Rattle.session_machine.specs.Inner.Statements.{done, after_walk, walked_from, walked}
+use Rattle.session_machine.specs.Targets.{passing_targets}
 use Rattle.session_statements.specs.Inner.Acting.{visit_at}
 use Rattle.session_statements.specs.Inner.Left.{left}
 use Rattle.session_statements.proofs.Going.{found_targets}

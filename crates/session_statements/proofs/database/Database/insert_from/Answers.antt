@@ -1,9 +1,8 @@
 use Rattle.std.proofs.Common.{◌≡◌, ◌∙◌, ap, drop, List, rules}
 use Rattle.sql_trees.specs.Statements.{insert_of}
 use Rattle.query_results.specs.Queries.{AssignedColumn, columns_assigned}
-use Rattle.session_machine.specs.Rows.{columns_in, insert_one}
-use Rattle.session_machine.specs.Running.{assigned_to, done, after_walk}
-use Rattle.session_machine.specs.Walks.{walked}
+use Rattle.session_machine.specs.Rows.{columns_in}
+use Rattle.session_machine.specs.Inner.Statements.{insert_one, assigned_to, done, after_walk, walked}
 use Rattle.session_statements.specs.Inner.Acting.{halted}
 use Rattle.session_statements.proofs.database.Database.insert_from.Goals as goal
 

@@ -3,9 +3,7 @@ use Rattle.std.specs.Prelude.{Option, option_map}
 use Rattle.sql_trees.specs.Trees.{tree_of}
 use Rattle.sql_trees.specs.declared.expr.Expr.{Expr}
 use Rattle.sql_trees.specs.Statements.{exprs_of, name_of}
-use Rattle.session_machine.specs.Rows.{insert_one}
-use Rattle.session_machine.specs.Walks.{Visit}
-use Rattle.session_machine.specs.Running.{done, after_walk}
+use Rattle.session_machine.specs.Inner.Statements.{insert_one, done, after_walk, Visit}
 use Rattle.session_statements.specs.declared.act.Stop.{Stop}
 use Rattle.session_statements.specs.Inner.Acting.{stop_of}
 use Rattle.session_statements.proofs.Inserting.{row_passes, row_stops}

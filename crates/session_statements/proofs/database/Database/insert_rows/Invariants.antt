@@ -1,8 +1,7 @@
 use Rattle.std.proofs.Common.{◌≡◌, List, drop, map}
 use Rattle.sql_trees.specs.Statements.{exprs_of, name_of}
 use Rattle.sql_values.specs.declared.value.Value.{Value}
-use Rattle.session_machine.specs.Walks.{walked}
-use Rattle.session_machine.specs.Rows.{insert_one}
+use Rattle.session_machine.specs.Inner.Statements.{insert_one, walked}
 use Rattle.session_statements.proofs.database.Database.insert_rows.Given as goal
 
 abbrev pub invariant-loop-at : goal.invariant-loop-at

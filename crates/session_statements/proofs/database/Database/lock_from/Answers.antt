@@ -8,10 +8,10 @@ use Rattle.query_results.specs.Queries.{titles_of}
 use Rattle.session_machine.specs.declared.reply.Outcome.{Outcome}
 use Rattle.session_machine.specs.declared.reply.Outcome.TheVariants.{Rows}
 use Rattle.session_machine.specs.Tables.{Database}
-use Rattle.session_machine.specs.Rows.{ask, at_target, columns_in, lock_one, lock_with, taken_targets}
+use Rattle.session_machine.specs.Rows.{columns_in}
 use Rattle.session_machine.specs.Statements.{Effect}
-use Rattle.session_machine.specs.Running.{after_walk, lock_from}
-use Rattle.session_machine.specs.Walks.{Visit, walked}
+use Rattle.session_machine.specs.Inner.Statements.{ask, at_target, lock_one, lock_with, after_walk, lock_from, Visit, walked}
+use Rattle.session_machine.specs.Targets.{taken_targets}
 use Rattle.session_statements.specs.Inner.Left.{left}
 use Rattle.session_statements.proofs.Going.{found_targets}
 use Rattle.session_statements.proofs.database.Database.lock_from.Goals as goal

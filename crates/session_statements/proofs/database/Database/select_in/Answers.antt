@@ -4,7 +4,7 @@ use Rattle.sql_trees.specs.Statements.{select_of}
 use Rattle.query_results.specs.Queries.{cols_of, select_exprs, undefined_among, wrong_position}
 use Rattle.session_machine.specs.Rows.{columns_in}
 use Rattle.session_machine.specs.Statements.{Effect}
-use Rattle.session_machine.specs.Running.{select_rows}
+use Rattle.session_machine.specs.Inner.Statements.{select_rows}
 use Rattle.session_statements.specs.Inner.Left.{left}
 use Rattle.session_statements.proofs.Going.{not_wrong}
 use Rattle.session_statements.proofs.database.Database.select_in.Goals as goal

@@ -7,7 +7,8 @@ use Rattle.update_recheck.specs.Outcome.{Outcome, is_target_locked, target_outco
 use Rattle.update_recheck.specs.Settling.{lock_of, locks_after, outcome_of}
 use Rattle.session_machine.specs.Waits.{waits_in}
 use Rattle.session_machine.specs.Tables.{Database}
-use Rattle.session_machine.specs.Rows.{Work, settled}
+use Rattle.session_machine.specs.Rows.{Work}
+use Rattle.session_machine.specs.Inner.Statements.{settled}
 use Rattle.session_statements.specs.Inner.Acting.{asks}
 use Rattle.session_statements.proofs.database.Database.settle_target.Goals as goal
 

@@ -1,6 +1,6 @@
 use Rattle.std.proofs.Common.{◌≡◌, drop, map}
 use Rattle.sql_trees.specs.Statements.{key_of, name_of}
-use Rattle.session_machine.specs.Rows.{keys_in, stop_at_keys}
+use Rattle.session_machine.specs.Inner.Statements.{keys_in, stop_at_keys}
 use Rattle.session_statements.proofs.database.Database.stop_before_write.Given as goal
 
 abbrev pub invariant-loop-key : goal.invariant-loop-key

@@ -7,7 +7,8 @@ use Rattle.row_versions.specs.declared.write.Seen.{Seen}
 use Rattle.row_versions.specs.Log.{values_at}
 use Rattle.session_queries.specs.Fronts.{AnswersList}
 use Rattle.query_results.specs.Queries.{taken}
-use Rattle.session_machine.specs.Rows.{at_places, columns_in}
+use Rattle.session_machine.specs.Rows.{columns_in}
+use Rattle.session_machine.specs.Targets.{at_places}
 use Rattle.session_machine.specs.Inner.Pieces.{shown_to, columns_at}
 use Rattle.session_statements.specs.Inner.Keeping.{RowsIn}
 use Rattle.session_statements.proofs.Lent.{lent_fit}

@@ -3,9 +3,9 @@ use Rattle.std.specs.Prelude.{IfOk}
 use Rattle.sql_trees.specs.Statements.{set_of, update_of}
 use Rattle.query_results.specs.Queries.{AssignedColumn}
 use Rattle.query_results.specs.Updates.{columns_set}
-use Rattle.session_machine.specs.Rows.{columns_in, passing_targets, update_one}
-use Rattle.session_machine.specs.Running.{assigned_to, done, after_walk}
-use Rattle.session_machine.specs.Walks.{walked_from}
+use Rattle.session_machine.specs.Rows.{columns_in}
+use Rattle.session_machine.specs.Inner.Statements.{update_one, assigned_to, done, after_walk, walked_from}
+use Rattle.session_machine.specs.Targets.{passing_targets}
 use Rattle.session_statements.specs.Inner.Left.{left}
 use Rattle.session_statements.proofs.database.Database.update_from.Goals as goal
 

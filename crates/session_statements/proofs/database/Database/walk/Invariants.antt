@@ -1,5 +1,5 @@
 use Rattle.std.proofs.Common.{◌≡◌, drop}
-use Rattle.session_machine.specs.Walks.{walked}
+use Rattle.session_machine.specs.Inner.Statements.{walked}
 use Rattle.session_statements.specs.Inner.Acting.{visit_at}
 use Rattle.session_statements.specs.Inner.Keeping.{IsKept}
 use Rattle.session_statements.proofs.database.Database.walk.Given as goal

@@ -1,0 +1,419 @@
+-- A statement that is run does what its kind does.
+use Rattle.std.proofs.Common.{◌≡◌, refl, ap, ◌∙◌, Bool, true, false, ℕ, ◌+◌, List, [], ◌∷◌, ◌++◌, drop, length}
+use Rattle.std.specs.Prelude.{ℤ, Option, Some, None, option_map, slice_get, filter_map, flat_map, nat_lt, option_to_list, Result, Ok, Err, if◌then◌else◌}
+use Rattle.std.specs.List.{cons_option, list_any}
+use Rattle.std.specs.Option.{option_map_or, option_or}
+use Rattle.sql_trees.specs.declared.stmt.Level.TheVariants.{ReadCommitted}
+use Rattle.sql_trees.specs.declared.stmt.Lock.{Lock}
+use Rattle.sql_trees.specs.Trees.{Tree}
+use Rattle.sql_trees.specs.Statements.{KeyTree, StmtTree, InsertTree, UpdateTree, DeleteTree, SelectTree}
+use Rattle.sql_trees.specs.Statements.{Begin, Commit, Rollback, SetTransaction, SetDeadlockTimeout, Create, DropTables, Inserts, Updates, Deletes, Selects}
+use Rattle.sql_values.specs.declared.value.Value.{Value}
+use Rattle.sql_values.specs.declared.fault.ValueFault.{ValueFault}
+use Rattle.sql_values.specs.declared.fault.ValueFault.TheVariants.{NoColumn}
+use Rattle.query_results.specs.Queries.{AssignedColumn, columns_assigned, new_values, null_in, passing, row_values, titles_of, result_of, select_exprs, taken, undefined_among, wrong_position}
+use Rattle.query_results.specs.Results.{Results}
+use Rattle.query_results.specs.Updates.{columns_set, update_exprs, updated}
+use Rattle.row_versions.specs.declared.names.RowId.{RowId}
+use Rattle.row_versions.specs.declared.write.Seen.{Seen}
+use Rattle.row_locks.specs.declared.held.Strength.{Strength}
+use Rattle.row_locks.specs.declared.held.Strength.TheVariants.{Exclusive}
+use Rattle.update_recheck.specs.Asked.{Asked}
+use Rattle.update_recheck.specs.Outcome.{Outcome, target_outcome}
+use Rattle.update_recheck.specs.Outcome.Outcome.{Takes, Skips, Waits, Deadlocks, Serializes, Faults}
+use Rattle.session_machine.specs.declared.session.OpenTransaction.{OpenTransaction}
+use Rattle.session_machine.specs.declared.session.Transaction.{Transaction}
+use Rattle.session_machine.specs.declared.session.Transaction.TheVariants.{Closed, Open, Aborted}
+use Rattle.session_machine.specs.declared.session.Progress.{Progress}
+use Rattle.session_machine.specs.declared.fault.StmtFault.{StmtFault}
+use Rattle.session_machine.specs.declared.fault.StmtFault.TheVariants.{Value as OfValue, NullValue, NoColumnOf, NoPosition, NoTable, TooManyValues, NotSerializable, Deadlock}
+use Rattle.session_machine.specs.Tables.{Database, Catalog, find_table}
+use Rattle.session_machine.specs.Transactions.{fresh}
+use Rattle.session_machine.specs.Views.{rows_shown}
+use Rattle.session_machine.specs.Waits.{waits_in}
+use Rattle.session_machine.specs.Statements.{Surroundings, Effect, answers, fails}
+use Rattle.session_machine.specs.declared.reply.Outcome.TheVariants.{Rows}
+use Rattle.session_machine.specs.declared.session.Request.TheVariants.{Row}
+use Rattle.session_machine.specs.Walks.{Walk, Blocked, Fails, passed, stopped, over, Stop}
+use Rattle.session_machine.specs.Rows.{Work, columns_in, cols_in, values_of, written, inserted, stop_at_key, put_row, insert_row, act_on, visit_target, strength_of, over_targets, walk_of}
+use Rattle.session_machine.specs.Running.{leads_to, at_once, begin_at, fault_in, run_in, run_stmt}
+use Rattle.session_machine.specs.Inner.Statements.{keys_in, stop_at_keys, checked, with_values, insert_one, ask, settled, at_outcome, update_with, update_one, delete_with, delete_one, lock_with, lock_one, walked_from, Visit, stops, goes_on, walked, begun}
+use Rattle.session_machine.specs.Inner.Statements.{beginning, after_walk, done, assigned_to, unless_undefined, unless_wrong, run_aborted, insert_from, insert, update_from, update, delete, lock_from, answered, select_rows, select, run_open, run_closed, run_on, run_piecewise}
+use Rattle.session_machine.specs.Targets.{seen_by, at_places, going_on}
+use Rattle.session_machine.specs.Inner.Pieces.{unless_stopped, insert_to, update_to, select_at}
+
+-- ---- at a row
+
+-- the first key that stops a statement, by looking at one after the other
+stops_first : (db : Database) (w : Work) (name : List ℕ) (values : List Value) (except : Option RowId) (keys : List KeyTree)
+    → slice_get (filter_map (stop_at_key db w name values except) keys) 0 ≡ stop_at_keys db w name values except keys
+stops_first db w name values except [] = refl
+stops_first db w name values except (key ∷ keys) = by (stop_at_key db w name values except key) (stops_first db w name values except keys) where
+  others : List Stop
+  others = filter_map (stop_at_key db w name values except) keys
+
+  by : (o : Option Stop) → slice_get others 0 ≡ stop_at_keys db w name values except keys → slice_get (cons_option o others) 0 ≡ option_or o (stop_at_keys db w name values except keys)
+  by None rest = rest
+  by (Some stop) rest = refl
+
+-- what is done at one target, put onto the walk so far
+abbrev onto : Walk → Visit → Walk
+onto walk v =
+    option_map_or (λ stop. record { db = v.db; place = walk.place; rows = walk.rows; stop = Some stop }) v.stop
+    (record { db = v.db; place = walk.place + 1; rows = walk.rows ++ v.rows; stop = None })
+
+-- a NULL stops it before any key
+stops_so : (walk : Walk) (after : Database) (name : List ℕ) (null : Option (List ℕ)) (first stop : Option Stop) → first ≡ stop
+    → option_map_or (stopped walk) (option_or (option_map (λ column. Fails (NullValue column name)) null) first) (passed walk after [])
+    ≡ onto walk (option_map_or (λ column. stops walk.db (Fails (NullValue column name))) null (option_map_or (stops walk.db) stop (goes_on after [])))
+stops_so walk after name (Some column) first stop same = refl
+stops_so walk after name None first stop same = ap (λ (o : Option Stop). option_map_or (stopped walk) o (passed walk after [])) same ∙ by stop where
+  by : (o : Option Stop) → option_map_or (stopped walk) o (passed walk after []) ≡ onto walk (option_map_or (stops walk.db) o (goes_on after []))
+  by None = refl
+  by (Some stop) = refl
+
+puts_new : (w : Work) (name : List ℕ) (r : Result (List Value) ValueFault) (walk : Walk)
+    → put_row w name None r walk ≡ onto walk (with_values walk.db r (λ values. checked w name walk.db None values (inserted walk.db w values)))
+puts_new w name (Err fault) walk = refl
+puts_new w name (Ok values) walk =
+    let keys = keys_in walk.db w in
+    stops_so walk (inserted walk.db w values) name (null_in (columns_in walk.db w) values) _ (stop_at_keys walk.db w name values None keys) (stops_first walk.db w name values None keys)
+
+puts_over : (w : Work) (name : List ℕ) (row : RowId) (r : Result (List Value) ValueFault) (walk : Walk)
+    → put_row w name (Some row) r walk ≡ onto walk (with_values walk.db r (λ values. checked w name walk.db (Some row) values (written walk.db w row (Some values))))
+puts_over w name row (Err fault) walk = refl
+puts_over w name row (Ok values) walk =
+    let keys = keys_in walk.db w in
+    stops_so walk (written walk.db w row (Some values)) name (null_in (columns_in walk.db w) values) _ (stop_at_keys walk.db w name values (Some row) keys)
+    (stops_first walk.db w name values (Some row) keys)
+
+-- ---- tables stay as they are from one target to the next
+
+checked_stays : (w : Work) (name : List ℕ) (db : Database) (except : Option RowId) (values : List Value) (after : Database) → after.catalog ≡ db.catalog
+    → (checked w name db except values after).db.catalog ≡ db.catalog
+checked_stays w name db except values after same = at_null (null_in (columns_in db w) values) where
+  at_key : (o : Option Stop) → (option_map_or (stops db) o (goes_on after [])).db.catalog ≡ db.catalog
+  at_key None = same
+  at_key (Some stop) = refl
+
+  keys : Visit
+  keys = option_map_or (stops db) (stop_at_keys db w name values except (keys_in db w)) (goes_on after [])
+
+  at_null : (o : Option (List ℕ)) → (option_map_or (λ column. stops db (Fails (NullValue column name))) o keys).db.catalog ≡ db.catalog
+  at_null None = at_key (stop_at_keys db w name values except (keys_in db w))
+  at_null (Some column) = refl
+
+insert_stays : (w : Work) (name : List ℕ) (to : List AssignedColumn) (db : Database) (row : List Tree) → (insert_one w name to db row).db.catalog ≡ db.catalog
+insert_stays w name to db row = by (new_values (length (columns_in db w)) to row) where
+  by : (r : Result (List Value) ValueFault) → (with_values db r (λ values. checked w name db None values (inserted db w values))).db.catalog ≡ db.catalog
+  by (Err fault) = refl
+  by (Ok values) = checked_stays w name db None values (inserted db w values) refl
+
+update_stays : (w : Work) (u : UpdateTree) (to : List AssignedColumn) (db : Database) (seen : Seen) → (update_one w u to db seen).db.catalog ≡ db.catalog
+update_stays w u to db seen = at (target_outcome db.content db.held (waits_in db w.around.sessions) a) where
+  a : Asked
+  a = ask db w Exclusive u.filter seen
+
+  d : Database
+  d = settled db w a
+
+  by : (version : Seen) (r : Result (List Value) ValueFault)
+      → (with_values d r (λ values. checked w u.table d (Some version.row) values (written d w version.row (Some values)))).db.catalog ≡ db.catalog
+  by version (Err fault) = refl
+  by version (Ok values) = checked_stays w u.table d (Some version.row) values (written d w version.row (Some values)) refl
+
+  at : (o : Outcome) → (at_outcome (update_with w u to) d a o).db.catalog ≡ db.catalog
+  at (Takes version) = by version (updated (cols_in d w) to u.sets (values_of d version))
+  at Skips = refl
+  at Waits = refl
+  at Deadlocks = refl
+  at Serializes = refl
+  at (Faults fault) = refl
+
+-- ---- over the targets
+
+abbrev at_walk : Database → ℕ → List (List Value) → Walk
+at_walk db place rows = record { db = db; place = place; rows = rows; stop = None }
+
+-- a walk that is stopped visits nothing more
+rests : {A : Type 0} (visit : Walk → A → Walk) (db : Database) (place : ℕ) (rows : List (List Value)) (stop : Stop) (xs : List A)
+    → (let walk : Walk = record { db = db; place = place; rows = rows; stop = Some stop } in over visit walk xs ≡ walk)
+rests visit db place rows stop [] = refl
+rests visit db place rows stop (x ∷ xs) = rests visit db place rows stop xs
+
+-- a walk over targets that are visited one after the other, where at each of them the same is done
+walks_so : {A : Type 0} (P : Database → Type 0) (new : Walk → A → Walk) (old : Database → A → Visit) → ((walk : Walk) (x : A) → P walk.db → new walk x ≡ onto walk (old walk.db x))
+    → ((d : Database) (x : A) → P d → P (old d x).db) → (db : Database) (place : ℕ) (rows : List (List Value)) (xs : List A) → P db
+    → over new (at_walk db place rows) xs ≡ walked old db place rows xs
+walks_so P new old same stays db place rows [] p = refl
+walks_so P new old same stays db place rows (x ∷ xs) p =
+    ap (λ (walk : Walk). over new walk xs) (same (at_walk db place rows) x p)
+    ∙ by (old db x).stop (walks_so P new old same stays (old db x).db (place + 1) (rows ++ (old db x).rows) xs (stays db x p)) where
+      by : (o : Option Stop) → over new (at_walk (old db x).db (place + 1) (rows ++ (old db x).rows)) xs ≡ walked old (old db x).db (place + 1) (rows ++ (old db x).rows) xs
+          → over new (option_map_or (λ stop. record { db = (old db x).db; place = place; rows = rows; stop = Some stop }) o (at_walk (old db x).db (place + 1) (rows ++ (old db x).rows))) xs
+          ≡ unless_stopped (old db x) place rows o (walked old (old db x).db (place + 1) (rows ++ (old db x).rows) xs)
+      by None on = on
+      by (Some stop) on = rests new (old db x).db place rows stop xs
+
+goes_over : (P : Database → Type 0) (w : Work) (stmt : StmtTree) (strength : Strength) (filter : Option Tree) (old : Database → Seen → Visit)
+    → ((walk : Walk) (x : Seen) → P walk.db → visit_target w stmt strength filter walk x ≡ onto walk (old walk.db x))
+    → ((d : Database) (x : Seen) → P d → P (old d x).db) → (db : Database) (place : ℕ) (rows : List (List Value)) (r : Result (List ℕ) ValueFault) → P db
+    → over_targets w stmt strength filter (at_walk db place rows) r ≡ walked_from old db place rows (at_places (seen_by db w) r)
+goes_over P w stmt strength filter old same stays db place rows (Ok places) p =
+    walks_so P (visit_target w stmt strength filter) old same stays db place rows (drop place (filter_map (slice_get (seen_by db w)) places)) p
+goes_over P w stmt strength filter old same stays db place rows (Err fault) p = refl
+
+-- ---- what is done at a target
+
+-- by what it comes to
+abbrev settles : (Walk → Seen → Walk) → Walk → Asked → Outcome → Walk
+settles act at a (Takes seen) = act at seen
+settles act at a Skips = passed at at.db []
+settles act at a Waits = stopped at (Blocked (Row a.seen.row a.strength))
+settles act at a Deadlocks = stopped at (Fails Deadlock)
+settles act at a Serializes = stopped at (Fails NotSerializable)
+settles act at a (Faults fault) = stopped at (Fails (OfValue fault))
+
+settles_so : (new : Walk → Seen → Walk) (old : Database → Seen → Visit) (at : Walk) (a : Asked) (o : Outcome) → ((version : Seen) → new at version ≡ onto at (old at.db version))
+    → settles new at a o ≡ onto at (at_outcome old at.db a o)
+settles_so new old at a (Takes seen) same = same seen
+settles_so new old at a Skips same = refl
+settles_so new old at a Waits same = refl
+settles_so new old at a Deadlocks same = refl
+settles_so new old at a Serializes same = refl
+settles_so new old at a (Faults fault) same = refl
+
+module _ (w : Work) where
+  updates_so : (u : UpdateTree) (c : Catalog) (to : List AssignedColumn) → ((d : Database) → d.catalog ≡ c → assigned_to (columns_set (columns_in d w) u.sets) ≡ to)
+      → (walk : Walk) (seen : Seen) → walk.db.catalog ≡ c → visit_target w (Updates u) Exclusive u.filter walk seen ≡ onto walk (update_one w u to walk.db seen)
+  updates_so u c to its walk seen same =
+      let a = ask walk.db w Exclusive u.filter seen in
+      let at : Walk = record walk { db = settled walk.db w a } in
+      settles_so (act_on w (Updates u)) (update_with w u to) at a (target_outcome walk.db.content walk.db.held (waits_in walk.db w.around.sessions) a)
+      (λ version.
+      puts_over w u.table version.row (updated (cols_in at.db w) (assigned_to (columns_set (columns_in at.db w) u.sets)) u.sets (values_of at.db version)) at
+      ∙ ap (λ (xs : List AssignedColumn). onto at (update_with w u xs at.db version)) (its at.db same))
+
+  deletes_so : (d : DeleteTree) (walk : Walk) (seen : Seen) → visit_target w (Deletes d) Exclusive d.filter walk seen ≡ onto walk (delete_one w d walk.db seen)
+  deletes_so d walk seen =
+      let a = ask walk.db w Exclusive d.filter seen in
+      let at : Walk = record walk { db = settled walk.db w a } in
+      settles_so (act_on w (Deletes d)) (delete_with w) at a (target_outcome walk.db.content walk.db.held (waits_in walk.db w.around.sessions) a) (λ version. refl)
+
+  locks_so : (s : SelectTree) (l : Lock) (walk : Walk) (seen : Seen) → visit_target w (Selects s) (strength_of l) s.filter walk seen ≡ onto walk (lock_one w s l walk.db seen)
+  locks_so s l walk seen =
+      let a = ask walk.db w (strength_of l) s.filter seen in
+      let at : Walk = record walk { db = settled walk.db w a } in
+      settles_so (act_on w (Selects s)) (lock_with w s) at a (target_outcome walk.db.content walk.db.held (waits_in walk.db w.around.sessions) a)
+      (λ version. shown at (row_values (cols_in at.db w) s.items (values_of at.db version))) where
+        shown : (at : Walk) (r : Result (List Value) ValueFault)
+            → (elim r [ Ok row ↦ passed at at.db (row ∷ []) | Err fault ↦ stopped at (Fails (OfValue fault)) ]) ≡ onto at (with_values at.db r (λ row. goes_on at.db (row ∷ [])))
+        shown at (Ok row) = refl
+        shown at (Err fault) = refl
+
+-- ---- what a walk leads to
+
+inserts_from : (db : Database) (w : Work) (i : InsertTree) (place : ℕ) (rows : List (List Value))
+    → leads_to db w (Inserts i) (over (insert_row w i) (at_walk db place rows) (drop place i.rows)) ≡ insert_from db w i place rows
+inserts_from db w i place rows =
+    ap (after_walk db.content w done)
+    (walks_so (λ d. d.catalog ≡ db.catalog) (insert_row w i) (insert_one w i.table (to_in db)) same (λ d x at. insert_stays w i.table (to_in db) d x ∙ at) db place rows (drop place i.rows) refl) where
+      to_in : Database → List AssignedColumn
+      to_in d = assigned_to (columns_assigned (columns_in d w) i.columns)
+
+      same : (walk : Walk) (row : List Tree) → walk.db.catalog ≡ db.catalog → insert_row w i walk row ≡ onto walk (insert_one w i.table (to_in db) walk.db row)
+      same walk row at =
+          puts_new w i.table (new_values (length (columns_in walk.db w)) (to_in walk.db) row) walk
+          ∙ ap (λ (xs : List AssignedColumn). onto walk (insert_one w i.table xs walk.db row)) (ap (λ (c : Catalog). to_in (record walk.db { catalog = c })) at)
+
+updates_from : (db : Database) (w : Work) (u : UpdateTree) (place : ℕ) (rows : List (List Value)) (r : Result (List ℕ) ValueFault)
+    → leads_to db w (Updates u) (over_targets w (Updates u) Exclusive u.filter (at_walk db place rows) r)
+    ≡ after_walk db.content w done (walked_from (update_one w u (assigned_to (columns_set (columns_in db w) u.sets))) db place rows (at_places (seen_by db w) r))
+updates_from db w u place rows r =
+    ap (after_walk db.content w done)
+    (goes_over (λ d. d.catalog ≡ db.catalog) w (Updates u) Exclusive u.filter (update_one w u (to_in db)) (updates_so w u db.catalog (to_in db) same)
+    (λ d x at. update_stays w u (to_in db) d x ∙ at) db place rows r refl) where
+      to_in : Database → List AssignedColumn
+      to_in d = assigned_to (columns_set (columns_in d w) u.sets)
+
+      same : (d : Database) → d.catalog ≡ db.catalog → to_in d ≡ to_in db
+      same d at = ap (λ (c : Catalog). to_in (record d { catalog = c })) at
+
+deletes_from : (db : Database) (w : Work) (d : DeleteTree) (place : ℕ) (rows : List (List Value)) (r : Result (List ℕ) ValueFault)
+    → leads_to db w (Deletes d) (over_targets w (Deletes d) Exclusive d.filter (at_walk db place rows) r)
+    ≡ after_walk db.content w done (walked_from (delete_one w d) db place rows (at_places (seen_by db w) r))
+deletes_from db w d place rows r =
+    ap (after_walk db.content w done)
+    (goes_over (λ e. Unit {0}) w (Deletes d) Exclusive d.filter (delete_one w d) (λ walk seen p. deletes_so w d walk seen) (λ e x p. tt) db place rows r tt)
+
+locks_from : (db : Database) (w : Work) (s : SelectTree) (l : Lock) (place : ℕ) (rows : List (List Value)) (r : Result (List ℕ) ValueFault)
+    → leads_to db w (Selects s) (over_targets w (Selects s) (strength_of l) s.filter (at_walk db place rows) r)
+    ≡ after_walk db.content w (λ shown. Rows (record { titles = titles_of (columns_in db w) s.items; rows = shown })) (walked_from (lock_one w s l) db place rows (at_places (seen_by db w) r))
+locks_from db w s l place rows r =
+    ap (after_walk db.content w (λ shown. Rows (record { titles = titles_of (columns_in db w) s.items; rows = shown })))
+    (goes_over (λ e. Unit {0}) w (Selects s) (strength_of l) s.filter (lock_one w s l) (λ walk seen p. locks_so w s l walk seen) (λ e x p. tt) db place rows r tt)
+
+-- ---- a statement that begins
+
+-- where something is wrong with it, it fails
+fails_so : (db : Database) (t : OpenTransaction) (undefined : Option (List ℕ)) (other : Option StmtFault) (due else_due : Effect)
+    → option_map_or (fails db t) other due ≡ else_due
+    → option_map_or (fails db t) (option_or (option_map (λ name. OfValue (NoColumn name)) undefined) other) due ≡ unless_undefined db t undefined else_due
+fails_so db t (Some name) other due else_due same = refl
+fails_so db t None other due else_due same = same
+
+undefined_so : (db : Database) (t : OpenTransaction) (undefined : Option (List ℕ)) (due : Effect)
+    → option_map_or (fails db t) (option_map (λ name. OfValue (NoColumn name)) undefined) due ≡ unless_undefined db t undefined due
+undefined_so db t (Some name) due = refl
+undefined_so db t None due = refl
+
+wrong_so : (db : Database) (t : OpenTransaction) (undefined : Option (List ℕ)) (position : Option ℤ) (due : Effect)
+    → option_map_or (fails db t) (option_or (option_map (λ name. OfValue (NoColumn name)) undefined) (option_map NoPosition position)) due ≡ unless_wrong db t undefined position due
+wrong_so db t (Some name) position due = refl
+wrong_so db t None (Some n) due = refl
+wrong_so db t None None due = refl
+
+many_so : (db : Database) (t : OpenTransaction) (b : Bool) (due else_due : Effect) → due ≡ else_due
+    → option_map_or (fails db t) (if b then Some TooManyValues else None) due ≡ (if b then fails db t TooManyValues else else_due)
+many_so db t true due else_due same = refl
+many_so db t false due else_due same = same
+
+inserts_so : (db : Database) (w : Work) (i : InsertTree) (due : Effect) → due ≡ insert_from db w i 0 []
+    → option_map_or (fails db w.t) (fault_in (columns_in db w) (Inserts i)) due ≡ insert_to db w i (columns_assigned (columns_in db w) i.columns)
+inserts_so db w i due same = by (columns_assigned (columns_in db w) i.columns) where
+  undefined : Option (List ℕ)
+  undefined = undefined_among [] (flat_map (λ row. row) i.rows)
+
+  has_more : List AssignedColumn → Bool
+  has_more to = list_any (λ row. nat_lt (length to) (length row)) i.rows
+
+  by : (r : Result (List AssignedColumn) (List ℕ))
+      → option_map_or (fails db w.t) (elim r [
+        | Err column ↦ Some (NoColumnOf column i.table)
+        | Ok to ↦ option_or (option_map (λ name. OfValue (NoColumn name)) undefined) (if has_more to then Some TooManyValues else None)
+      ]) due ≡ insert_to db w i r
+  by (Err column) = refl
+  by (Ok to) =
+      fails_so db w.t undefined (if has_more to then Some TooManyValues else None) due (if has_more to then fails db w.t TooManyValues else insert_from db w i 0 [])
+      (many_so db w.t (has_more to) due (insert_from db w i 0 []) same)
+
+updates_to_so : (db : Database) (w : Work) (u : UpdateTree) (due : Effect) → due ≡ update_from db w u 0 []
+    → option_map_or (fails db w.t) (fault_in (columns_in db w) (Updates u)) due ≡ update_to db w u (columns_set (columns_in db w) u.sets)
+updates_to_so db w u due same = by (columns_set (columns_in db w) u.sets) where
+  undefined : Option (List ℕ)
+  undefined = undefined_among (cols_in db w) (update_exprs u)
+
+  by : (r : Result (List AssignedColumn) (List ℕ))
+      → option_map_or (fails db w.t) (elim r [ Err column ↦ Some (NoColumnOf column u.table) | Ok to ↦ option_map (λ name. OfValue (NoColumn name)) undefined ]) due ≡ update_to db w u r
+  by (Err column) = refl
+  by (Ok to) = undefined_so db w.t undefined due ∙ ap (unless_undefined db w.t undefined) same
+
+answers_so : (db : Database) (t : OpenTransaction) (r : Result Results ValueFault)
+    → (elim r [ Ok set ↦ answers db.content db t (Rows set) | Err fault ↦ fails db t (OfValue fault) ]) ≡ answered db t r
+answers_so db t (Ok set) = refl
+answers_so db t (Err fault) = refl
+
+-- the statement at the table of that place, or at none
+abbrev at_found : Database → OpenTransaction → Surroundings → List ℕ → StmtTree → Option ℕ → Effect
+at_found db t around name stmt None = fails db t (NoTable name)
+at_found db t around name stmt (Some k) =
+    let w = beginning db t around k in
+    option_map_or (fails db t) (fault_in (columns_in db w) stmt)
+    (option_map_or (leads_to db w stmt) (walk_of w stmt (at_walk db 0 [])) (at_once db t (columns_in db w) (rows_shown db.content w.view k) stmt))
+
+module _ (db : Database) (t : OpenTransaction) (around : Surroundings) where
+  insert_begins : (i : InsertTree) (o : Option ℕ) → at_found db t around i.table (Inserts i) o ≡ insert db t around i o
+  insert_begins i None = refl
+  insert_begins i (Some k) = let w = beginning db t around k in inserts_so db w i _ (inserts_from db w i 0 [])
+
+  update_begins : (u : UpdateTree) (o : Option ℕ) → at_found db t around u.table (Updates u) o ≡ update db t around u o
+  update_begins u None = refl
+  update_begins u (Some k) =
+      let w = beginning db t around k in
+      updates_to_so db w u _ (updates_from db w u 0 [] (passing (cols_in db w) u.filter (rows_shown db.content w.view w.table)))
+
+  delete_begins : (d : DeleteTree) (o : Option ℕ) → at_found db t around d.table (Deletes d) o ≡ delete db t around d o
+  delete_begins d None = refl
+  delete_begins d (Some k) =
+      let w = beginning db t around k in
+      let undefined = undefined_among (cols_in db w) (option_to_list d.filter) in
+      undefined_so db t undefined _
+      ∙ ap (unless_undefined db t undefined) (deletes_from db w d 0 [] (passing (cols_in db w) d.filter (rows_shown db.content w.view w.table)))
+
+  rows_so : (w : Work) (s : SelectTree) (l : Option Lock)
+      → option_map_or (leads_to db w (Selects s))
+      (option_map (λ l. over_targets w (Selects s) (strength_of l) s.filter (at_walk db 0 []) (taken s (columns_in db w) (rows_shown db.content w.view w.table))) l)
+      (at_once db w.t (columns_in db w) (rows_shown db.content w.view w.table) (Selects s)) ≡ select_rows db w s l
+  rows_so w s None = answers_so db w.t (result_of s (columns_in db w) (rows_shown db.content w.view w.table))
+  rows_so w s (Some l) = locks_from db w s l 0 [] (taken s (columns_in db w) (rows_shown db.content w.view w.table))
+
+  select_begins : (s : SelectTree) (name : List ℕ) (o : Option ℕ) → at_found db t around name (Selects s) o ≡ select_at db t around s name o
+  select_begins s name None = refl
+  select_begins s name (Some k) =
+      let w = beginning db t around k in
+      let undefined = undefined_among (cols_in db w) (select_exprs s) in
+      let position = wrong_position (columns_in db w) s in
+      wrong_so db t undefined position _ ∙ ap (unless_wrong db t undefined position) (rows_so w s s.lock)
+
+  select_so : (s : SelectTree) (o : Option (List ℕ))
+      → option_map_or (λ name. begin_at db t around name (Selects s)) o (option_map_or (fails db t) (fault_in [] (Selects s)) (at_once db t [] ([] ∷ []) (Selects s))) ≡ select db t around s o
+  select_so s (Some name) = select_begins s name (find_table db (Some t.tx) name)
+  select_so s None =
+      wrong_so db t (undefined_among [] (select_exprs s)) (wrong_position [] s) _
+      ∙ ap (unless_wrong db t (undefined_among [] (select_exprs s)) (wrong_position [] s)) (answers_so db t (result_of s [] ([] ∷ [])))
+
+  pub opens_by_kind : (stmt : StmtTree) → run_in db t around stmt ≡ run_open db t around stmt
+  opens_by_kind (Begin level) = refl
+  opens_by_kind Commit = refl
+  opens_by_kind Rollback = refl
+  opens_by_kind (SetTransaction level) = refl
+  opens_by_kind SetDeadlockTimeout = refl
+  opens_by_kind (Create c) = refl
+  opens_by_kind (DropTables d) = refl
+  opens_by_kind (Inserts i) = insert_begins i (find_table db (Some t.tx) i.table)
+  opens_by_kind (Updates u) = update_begins u (find_table db (Some t.tx) u.table)
+  opens_by_kind (Deletes d) = delete_begins d (find_table db (Some t.tx) d.table)
+  opens_by_kind (Selects s) = select_so s s.table
+
+  -- one that goes on
+  select_goes_on : (p : Progress) (s : SelectTree) (l : Option Lock)
+      → (let w = going_on t around p in
+      option_map_or (leads_to db w (Selects s))
+      (option_map (λ l. over_targets w (Selects s) (strength_of l) s.filter (at_walk db p.place p.rows) (taken s (columns_in db w) (rows_shown db.content w.view w.table))) l)
+      (run_in db t around (Selects s)) ≡ option_map_or (λ l. lock_from db w s l p.place p.rows) l (select db t around s s.table))
+  select_goes_on p s None = select_so s s.table
+  select_goes_on p s (Some l) = let w = going_on t around p in locks_from db w s l p.place p.rows (taken s (columns_in db w) (rows_shown db.content w.view w.table))
+
+  goes_on_by_kind : (p : Progress) (stmt : StmtTree) → run_stmt db (Open t) (Some p) around stmt ≡ run_on db t around p stmt
+  goes_on_by_kind p (Begin level) = refl
+  goes_on_by_kind p Commit = refl
+  goes_on_by_kind p Rollback = refl
+  goes_on_by_kind p (SetTransaction level) = refl
+  goes_on_by_kind p SetDeadlockTimeout = refl
+  goes_on_by_kind p (Create c) = refl
+  goes_on_by_kind p (DropTables d) = refl
+  goes_on_by_kind p (Inserts i) = inserts_from db (going_on t around p) i p.place p.rows
+  goes_on_by_kind p (Updates u) =
+      let w = going_on t around p in updates_from db w u p.place p.rows (passing (cols_in db w) u.filter (rows_shown db.content w.view w.table))
+  goes_on_by_kind p (Deletes d) =
+      let w = going_on t around p in deletes_from db w d p.place p.rows (passing (cols_in db w) d.filter (rows_shown db.content w.view w.table))
+  goes_on_by_kind p (Selects s) = select_goes_on p s s.lock
+
+closed_by_kind : (db : Database) (statement : Option Progress) (around : Surroundings) (stmt : StmtTree) → run_stmt db Closed statement around stmt ≡ run_closed db around stmt
+closed_by_kind db statement around Commit = refl
+closed_by_kind db statement around Rollback = refl
+closed_by_kind db statement around SetDeadlockTimeout = refl
+closed_by_kind db statement around stmt = opens_by_kind (begun db) (fresh db.content ReadCommitted false) around stmt
+
+aborted_by_kind : (db : Database) (statement : Option Progress) (around : Surroundings) (stmt : StmtTree) → run_stmt db Aborted statement around stmt ≡ run_aborted db stmt
+aborted_by_kind db statement around Commit = refl
+aborted_by_kind db statement around Rollback = refl
+aborted_by_kind db statement around stmt = refl
+
+-- a statement does what its kind does, whatever its session's transaction is
+pub runs_by_kind : (db : Database) (transaction : Transaction) (statement : Option Progress) (around : Surroundings) (stmt : StmtTree)
+    → run_stmt db transaction statement around stmt ≡ run_piecewise db transaction statement around stmt
+runs_by_kind db Closed statement around stmt = closed_by_kind db statement around stmt
+runs_by_kind db (Open t) None around stmt = opens_by_kind db t around stmt
+runs_by_kind db (Open t) (Some p) around stmt = goes_on_by_kind db t around p stmt
+runs_by_kind db Aborted statement around stmt = aborted_by_kind db statement around stmt
