@@ -55,10 +55,6 @@ stmts_of blocks k = unwrap_or (slice_get blocks k) []
 abbrev pub may_launch : Blocks → ℕ → ℕ → Bool
 may_launch blocks session k = nat_lt k (length blocks) && ((session == 0) || not (list_any is_definition (stmts_of blocks k)))
 
--- the session is in its block
-abbrev pub is_busy : Session → Bool
-is_busy s = is_some s.place
-
 -- the number of a wait that nothing blocks any more
 abbrev pub free_wait : Database → Session → Option ℕ
 free_wait db s = if is_still_blocked db s then None else option_map (λ (w : Waiting). w.number) (wait_of s)
@@ -69,7 +65,7 @@ is_first_free db sessions s = option_map_or (λ n. list_all (λ other. option_ma
 
 -- whose turn it is: the least session that can go on without waiting, else the one with the earliest wait that nothing blocks; quiet, where there is neither
 abbrev pub turn_in : Machine → Option ℕ
-turn_in m = option_or (position_from (λ s. is_busy s && is_none (wait_of s)) 0 m.sessions) (position_from (is_first_free m.db m.sessions) 0 m.sessions)
+turn_in m = option_or (position_from (λ s. is_some s.place && is_none (wait_of s)) 0 m.sessions) (position_from (is_first_free m.db m.sessions) 0 m.sessions)
 
 abbrev pub is_quiet : Machine → Bool
 is_quiet m = is_none (turn_in m)
@@ -125,7 +121,7 @@ abbrev pub next_for : Blocks → Mode → Machine → Session → Event → Resu
 next_for blocks mode m s (Launch session block) =
     let place : Option Place = elim (stmts_of blocks block) [ [] ↦ None | stmt ∷ stmts ↦ Some (record { block = block; next = 0 }) ] in
     if not (may_launch blocks session block) then Err BlockNotAllowed
-    else if is_busy s then Err Busy
+    else if is_some s.place then Err Busy
     else if is_directed mode && not (is_quiet m) then Err NotYourTurn
     else Ok (comes_out m m.db session (record { place = place; transaction = s.transaction; statement = None }) Launched)
 next_for blocks mode m s (Step session) = option_map_or (step_from blocks mode m session s) s.place (Err Idle)

@@ -24,10 +24,10 @@ use Rattle.session_machine.specs.declared.reply.HistItem.{HistItem}
 use Rattle.session_machine.specs.declared.fault.Refusal.TheVariants.{Busy, NotYourTurn, BlockNotAllowed}
 use Rattle.session_machine.specs.Tables.{Database, find_table}
 use Rattle.session_machine.specs.Transactions.{view_of}
-use Rattle.session_machine.specs.Statements.{Surroundings, Effect, create, level_set}
+use Rattle.session_machine.specs.Statements.{Surroundings, Effect, level_set}
 use Rattle.session_machine.specs.Rows.{Work, columns_in, cols_in}
 use Rattle.session_machine.specs.Running.{run_stmt}
-use Rattle.session_machine.specs.Inner.Statements.{answered, beginning, run_on, select, select_rows, unless_wrong}
+use Rattle.session_machine.specs.Inner.Statements.{answered, beginning, run_on, select, select_rows, unless_wrong, create}
 use Rattle.session_machine.specs.Inner.Pieces.{drop_ended, lock_again, select_at, dropped}
 use Rattle.session_machine.proofs.Piecewise.{drops_by}
 use Rattle.session_machine.proofs.ByKind.{runs_by_kind}

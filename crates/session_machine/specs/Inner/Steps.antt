@@ -1,5 +1,5 @@
 -- Events piece by piece, as the code does them.
-use Rattle.std.specs.Prelude.{option_map, ℕ, ◌+◌, ◌==◌, ◌&&◌, is_none, slice_set, nat_lt, Bool, false, not, List, [], ◌∷◌, Option, Ok, Some, None, Result, Err, if◌then◌else◌}
+use Rattle.std.specs.Prelude.{option_map, ℕ, ◌+◌, ◌==◌, ◌&&◌, is_none, is_some, slice_set, nat_lt, Bool, false, not, List, [], ◌∷◌, Option, Ok, Some, None, Result, Err, if◌then◌else◌}
 use Rattle.std.specs.Option.{option_map_or}
 use Rattle.sql_trees.specs.Statements.{StmtTree}
 use Rattle.row_versions.specs.Members.{is_none_of}
@@ -19,10 +19,14 @@ use Rattle.session_machine.specs.Tables.{Database}
 use Rattle.session_machine.specs.Waits.{blockers, wait_of, is_still_blocked}
 use Rattle.session_machine.specs.Statements.{Effect, Surroundings}
 use Rattle.session_machine.specs.Running.{run_stmt}
-use Rattle.session_machine.specs.Machine.{Machine, Blocks, Next, is_busy, closed_at_end, comes_out, is_failed, leaves, next_for, step_from, after_stmt, is_directed, turn_in}
+use Rattle.session_machine.specs.Machine.{Machine, Blocks, Next, closed_at_end, comes_out, is_failed, leaves, next_for, step_from, after_stmt, is_directed, turn_in}
 
 abbrev pub waiting : Database → Transaction → Option Waiting → Option BlockedOne
 waiting db transaction wait = elim transaction [ Open t ↦ option_map (λ (w : Waiting). record { tx = t.tx; blockers = blockers db w.request t.tx }) wait | other ↦ None ]
+
+-- the session is in its block
+abbrev pub is_busy : Session → Bool
+is_busy s = is_some s.place
 
 -- the session is in its block and doesn't wait
 abbrev pub is_ready : Session → Bool
