@@ -4,7 +4,8 @@ ghost use Rattle.std.specs.List.{list_any};
 ghost use Rattle.sql_trees.specs.Statements.{stmt_of};
 ghost use Rattle.sql_blocks.specs.Blocks.{blocks_of};
 ghost use Rattle.session_machine.specs.Running.{is_definition};
-ghost use Rattle.session_machine.specs.Machine.{first_place, may_launch, next, stmts_of, with_session};
+ghost use Rattle.session_machine.specs.Machine.{may_launch, next, stmts_of, with_session};
+ghost use Rattle.session_machine.specs.Inner.Steps.{first_place};
 ghost use Rattle.session_core.specs.Inner.Answers.{answered};
 
 use crate::block_stmts::block_stmts;

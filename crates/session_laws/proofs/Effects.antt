@@ -26,11 +26,11 @@ use Rattle.session_machine.specs.declared.reply.Outcome.TheVariants.{Done, Rows,
 use Rattle.session_machine.specs.Tables.{Database, Table, find_table}
 use Rattle.session_machine.specs.Transactions.{fresh, committed, rolled_back, view_of}
 use Rattle.session_machine.specs.Views.{rows_shown}
-use Rattle.session_machine.specs.Statements.{Surroundings, Effect, fails, answers, turns, create, drop_tables, level_set}
+use Rattle.session_machine.specs.Statements.{Surroundings, Effect, fails, answers, turns, drop_tables, level_set}
 use Rattle.session_machine.specs.Walks.{Stop, Walk, Blocked, Fails}
 use Rattle.session_machine.specs.Rows.{Work, columns_in}
 use Rattle.session_machine.specs.Running.{run_stmt}
-use Rattle.session_machine.specs.Inner.Statements.{run_piecewise, run_aborted, is_end, walked_from, insert_one, update_one, delete_one, lock_one, beginning, pauses, comes_to, after_walk, done, assigned_to, insert_from, insert, update_from, update, delete_from, delete, lock_from, answered, select_rows, unless_wrong, select, run_open, run_closed, run_on, begun, is_level, begin_in, walked}
+use Rattle.session_machine.specs.Inner.Statements.{run_piecewise, run_aborted, is_end, walked_from, insert_one, update_one, delete_one, lock_one, beginning, pauses, comes_to, after_walk, done, assigned_to, insert_from, insert, update_from, update, delete_from, delete, lock_from, answered, select_rows, unless_wrong, select, run_open, run_closed, run_on, begun, is_level, begin_in, walked, create}
 use Rattle.session_machine.specs.Targets.{passing_targets, taken_targets}
 use Rattle.session_machine.specs.Inner.Pieces.{drop_ended, insert_fitting, insert_to, update_fitting, update_to, delete_fitting, select_at, lock_again, columns_at, with_table, with_drop, DroppedUpTo, dropped_at, dropped}
 use Rattle.session_machine.proofs.Piecewise.{drops_by}

@@ -10,8 +10,8 @@ use Rattle.session_machine.specs.declared.event.Event.TheVariants.{Launch, Step,
 use Rattle.session_machine.specs.declared.event.Mode.{Mode}
 use Rattle.session_machine.specs.declared.fault.Refusal.TheVariants.{Busy, NotYourTurn, BlockNotAllowed}
 use Rattle.session_machine.specs.Statements.{Effect}
-use Rattle.session_machine.specs.Machine.{Machine, Blocks, Next, next, stmts_of, is_failed, may_launch, is_directed, is_quiet, first_place, after_stmt, closed_at_end, session_of}
-use Rattle.session_machine.specs.Inner.Steps.{launched, launch_of, step_of, step_at, step_stmt, leave_of, after_end, waits_there, finished}
+use Rattle.session_machine.specs.Machine.{Machine, Blocks, Next, next, stmts_of, is_failed, may_launch, is_directed, is_quiet, after_stmt, closed_at_end, session_of}
+use Rattle.session_machine.specs.Inner.Steps.{launched, launch_of, step_of, step_at, step_stmt, leave_of, after_end, waits_there, finished, first_place}
 use Rattle.session_laws.proofs.Sound.{if_ok, ok_launch, ok_step, ok_leave, ran, left_by}
 
 -- a session that is launched is in no block

@@ -24,9 +24,9 @@ use Rattle.session_machine.specs.Tables.{Database}
 use Rattle.session_machine.specs.Transactions.{committed}
 use Rattle.session_machine.specs.Statements.{Effect}
 use Rattle.session_machine.specs.Running.{run_stmt}
-use Rattle.session_machine.specs.Machine.{Machine, Blocks, Next, next, with_session, at_rest, opening, stmts_of, may_launch, is_busy, is_directed, is_quiet, turn_in, is_failed, first_place, after_stmt, closed_at_end}
+use Rattle.session_machine.specs.Machine.{Machine, Blocks, Next, next, with_session, at_rest, opening, stmts_of, may_launch, is_directed, is_quiet, turn_in, is_failed, after_stmt, closed_at_end}
 use Rattle.session_machine.specs.Waits.{is_still_blocked}
-use Rattle.session_machine.specs.Inner.Steps.{launched, launch_of, step_of, step_at, step_stmt, leave_of, after_end, waits_there, finished, around, is_turn, left_behind}
+use Rattle.session_machine.specs.Inner.Steps.{launched, launch_of, step_of, step_at, step_stmt, leave_of, after_end, waits_there, finished, around, is_turn, left_behind, first_place, is_busy}
 use Rattle.session_machine.specs.Sound.{IsSound, IsSoundMachine, StaysSound, tx_in, tx_of, command_in, command_of, progress_of}
 use Rattle.session_laws.proofs.Lists.{slice_get-set_same, slice_get-set_other}
 use Rattle.session_laws.proofs.Effects.{IsFirm}

@@ -6,7 +6,7 @@ use Rattle.std.specs.Option.{option_map_or, option_or}
 use Rattle.sql_trees.specs.declared.stmt.Level.TheVariants.{ReadCommitted}
 use Rattle.sql_trees.specs.declared.stmt.Lock.{Lock}
 use Rattle.sql_trees.specs.Trees.{Tree}
-use Rattle.sql_trees.specs.Statements.{KeyTree, StmtTree, InsertTree, UpdateTree, DeleteTree, SelectTree}
+use Rattle.sql_trees.specs.Statements.{KeyTree, StmtTree, CreateTree, InsertTree, UpdateTree, DeleteTree, SelectTree}
 use Rattle.sql_trees.specs.Statements.{Begin, Commit, Rollback, SetTransaction, SetDeadlockTimeout, Create, DropTables, Inserts, Updates, Deletes, Selects}
 use Rattle.sql_values.specs.declared.value.Value.{Value}
 use Rattle.sql_values.specs.declared.fault.ValueFault.{ValueFault}
@@ -26,21 +26,21 @@ use Rattle.session_machine.specs.declared.session.Transaction.{Transaction}
 use Rattle.session_machine.specs.declared.session.Transaction.TheVariants.{Closed, Open, Aborted}
 use Rattle.session_machine.specs.declared.session.Progress.{Progress}
 use Rattle.session_machine.specs.declared.fault.StmtFault.{StmtFault}
-use Rattle.session_machine.specs.declared.fault.StmtFault.TheVariants.{Value as OfValue, NullValue, NoColumnOf, NoPosition, NoTable, TooManyValues, NotSerializable, Deadlock}
+use Rattle.session_machine.specs.declared.fault.StmtFault.TheVariants.{Value as OfValue, NullValue, NoColumnOf, NoPosition, NoTable, TableExists, TooManyValues, NotSerializable, Deadlock}
 use Rattle.session_machine.specs.Tables.{Database, Catalog, find_table}
 use Rattle.session_machine.specs.Transactions.{fresh}
 use Rattle.session_machine.specs.Views.{rows_shown}
 use Rattle.session_machine.specs.Waits.{waits_in}
 use Rattle.session_machine.specs.Statements.{Surroundings, Effect, answers, fails}
-use Rattle.session_machine.specs.declared.reply.Outcome.TheVariants.{Rows}
+use Rattle.session_machine.specs.declared.reply.Outcome.TheVariants.{Done, Rows}
 use Rattle.session_machine.specs.declared.session.Request.TheVariants.{Row}
 use Rattle.session_machine.specs.Walks.{Walk, Blocked, Fails, passed, stopped, over, Stop}
 use Rattle.session_machine.specs.Rows.{Work, columns_in, cols_in, values_of, written, inserted, stop_at_key, put_row, insert_row, act_on, visit_target, strength_of, over_targets, walk_of}
 use Rattle.session_machine.specs.Running.{leads_to, at_once, begin_at, fault_in, run_in, run_stmt}
 use Rattle.session_machine.specs.Inner.Statements.{keys_in, stop_at_keys, checked, with_values, insert_one, ask, settled, at_outcome, update_with, update_one, delete_with, delete_one, lock_with, lock_one, walked_from, Visit, stops, goes_on, walked, begun}
-use Rattle.session_machine.specs.Inner.Statements.{beginning, after_walk, done, assigned_to, unless_undefined, unless_wrong, run_aborted, insert_from, insert, update_from, update, delete, lock_from, answered, select_rows, select, run_open, run_closed, run_on, run_piecewise}
+use Rattle.session_machine.specs.Inner.Statements.{create, beginning, after_walk, done, assigned_to, unless_undefined, unless_wrong, run_aborted, insert_from, insert, update_from, update, delete, lock_from, answered, select_rows, select, run_open, run_closed, run_on, run_piecewise}
 use Rattle.session_machine.specs.Targets.{seen_by, at_places, going_on}
-use Rattle.session_machine.specs.Inner.Pieces.{unless_stopped, insert_to, update_to, select_at}
+use Rattle.session_machine.specs.Inner.Pieces.{with_table, unless_stopped, insert_to, update_to, select_at}
 
 -- ---- at a row
 
@@ -362,13 +362,18 @@ module _ (db : Database) (t : OpenTransaction) (around : Surroundings) where
       wrong_so db t (undefined_among [] (select_exprs s)) (wrong_position [] s) _
       ∙ ap (unless_wrong db t (undefined_among [] (select_exprs s)) (wrong_position [] s)) (answers_so db t (result_of s [] ([] ∷ [])))
 
+  creates_so : (c : CreateTree) (o : Option ℕ)
+      → option_map_or (λ k. fails db t (TableExists c.name)) o (answers db.content (record db { catalog = with_table db.catalog c t.tx }) t Done) ≡ create db t c o
+  creates_so c None = refl
+  creates_so c (Some k) = refl
+
   pub opens_by_kind : (stmt : StmtTree) → run_in db t around stmt ≡ run_open db t around stmt
   opens_by_kind (Begin level) = refl
   opens_by_kind Commit = refl
   opens_by_kind Rollback = refl
   opens_by_kind (SetTransaction level) = refl
   opens_by_kind SetDeadlockTimeout = refl
-  opens_by_kind (Create c) = refl
+  opens_by_kind (Create c) = creates_so c (find_table db (Some t.tx) c.name)
   opens_by_kind (DropTables d) = refl
   opens_by_kind (Inserts i) = insert_begins i (find_table db (Some t.tx) i.table)
   opens_by_kind (Updates u) = update_begins u (find_table db (Some t.tx) u.table)
@@ -390,7 +395,7 @@ module _ (db : Database) (t : OpenTransaction) (around : Surroundings) where
   goes_on_by_kind p Rollback = refl
   goes_on_by_kind p (SetTransaction level) = refl
   goes_on_by_kind p SetDeadlockTimeout = refl
-  goes_on_by_kind p (Create c) = refl
+  goes_on_by_kind p (Create c) = opens_by_kind (Create c)
   goes_on_by_kind p (DropTables d) = refl
   goes_on_by_kind p (Inserts i) = inserts_from db (going_on t around p) i p.place p.rows
   goes_on_by_kind p (Updates u) =

@@ -55,10 +55,6 @@ stmts_of blocks k = unwrap_or (slice_get blocks k) []
 abbrev pub may_launch : Blocks → ℕ → ℕ → Bool
 may_launch blocks session k = nat_lt k (length blocks) && ((session == 0) || not (list_any is_definition (stmts_of blocks k)))
 
--- the session is in its block
-abbrev pub is_busy : Session → Bool
-is_busy s = is_some s.place
-
 -- the number of a wait that nothing blocks any more
 abbrev pub free_wait : Database → Session → Option ℕ
 free_wait db s = if is_still_blocked db s then None else option_map (λ (w : Waiting). w.number) (wait_of s)
@@ -69,7 +65,7 @@ is_first_free db sessions s = option_map_or (λ n. list_all (λ other. option_ma
 
 -- whose turn it is: the least session that can go on without waiting, else the one with the earliest wait that nothing blocks; quiet, where there is neither
 abbrev pub turn_in : Machine → Option ℕ
-turn_in m = option_or (position_from (λ s. is_busy s && is_none (wait_of s)) 0 m.sessions) (position_from (is_first_free m.db m.sessions) 0 m.sessions)
+turn_in m = option_or (position_from (λ s. is_some s.place && is_none (wait_of s)) 0 m.sessions) (position_from (is_first_free m.db m.sessions) 0 m.sessions)
 
 abbrev pub is_quiet : Machine → Bool
 is_quiet m = is_none (turn_in m)
@@ -88,11 +84,6 @@ with_session m db k s = record { db = db; sessions = slice_set m.sessions k s; e
 -- an event is done: the database, what the session is now, and what came of it; a block is over for a session that isn't in it any more
 abbrev pub comes_out : Machine → Database → ℕ → Session → Outcome → Next
 comes_out m db session s outcome = record { machine = with_session m db session s; reply = record { outcome = outcome; ended = is_none s.place } }
-
--- where a session stands that is given these statements: a block without statements ends at once
-abbrev pub first_place : ℕ → List StmtTree → Option Place
-first_place block [] = None
-first_place block (stmt ∷ stmts) = Some (record { block = block; next = 0 })
 
 abbrev pub is_failed : Outcome → Bool
 is_failed (Failed fault) = true
@@ -115,26 +106,24 @@ after_stmt m session place count effect =
     else if nat_lt (place.next + 1) count then leaves m session effect None (Some (record { block = place.block; next = place.next + 1 }))
     else leaves m session (closed_at_end effect effect.transaction) None None
 
--- a session does the statement at its place, of so many in its block. What that finds around it: while it runs, the session doesn't wait
-abbrev pub step_with : Mode → Machine → ℕ → Session → Place → ℕ → StmtTree → Result Next Refusal
-step_with mode m session s place count stmt =
-    let around : Surroundings = record { sessions = slice_set m.sessions session (record s { statement = None }); number = m.events } in
-    if is_directed mode && not (option_map_or (λ k. k == session) (turn_in m) false) then Err NotYourTurn
-    else if is_still_blocked m.db s then Err StillBlocked
-    else Ok (after_stmt m session place count (run_stmt m.db s.transaction s.statement around stmt))
-
--- it does the statement at this place, where its block has one there
+-- a session does the statement at its place, where its block has one there. What that finds around it: while it runs, the session doesn't wait
 abbrev pub step_from : Blocks → Mode → Machine → ℕ → Session → Place → Result Next Refusal
 step_from blocks mode m session s place =
-    option_map_or (step_with mode m session s place (length (stmts_of blocks place.block))) (slice_get (stmts_of blocks place.block) place.next) (Err Idle)
+    let stmts = stmts_of blocks place.block in
+    let around : Surroundings = record { sessions = slice_set m.sessions session (record s { statement = None }); number = m.events } in
+    option_map_or (λ stmt.
+    if is_directed mode && not (option_map_or (λ k. k == session) (turn_in m) false) then Err NotYourTurn
+    else if is_still_blocked m.db s then Err StillBlocked
+    else Ok (after_stmt m session place (length stmts) (run_stmt m.db s.transaction s.statement around stmt))) (slice_get stmts place.next) (Err Idle)
 
--- what the event makes of the machine where this session does it, or why it is refused; a session that leaves rolls its open transaction back
+-- what the event makes of the machine where this session does it, or why it is refused; a block without statements ends at once, and a session that leaves rolls its open transaction back
 abbrev pub next_for : Blocks → Mode → Machine → Session → Event → Result Next Refusal
 next_for blocks mode m s (Launch session block) =
+    let place : Option Place = elim (stmts_of blocks block) [ [] ↦ None | stmt ∷ stmts ↦ Some (record { block = block; next = 0 }) ] in
     if not (may_launch blocks session block) then Err BlockNotAllowed
-    else if is_busy s then Err Busy
+    else if is_some s.place then Err Busy
     else if is_directed mode && not (is_quiet m) then Err NotYourTurn
-    else Ok (comes_out m m.db session (record { place = first_place block (stmts_of blocks block); transaction = s.transaction; statement = None }) Launched)
+    else Ok (comes_out m m.db session (record { place = place; transaction = s.transaction; statement = None }) Launched)
 next_for blocks mode m s (Step session) = option_map_or (step_from blocks mode m session s) s.place (Err Idle)
 next_for blocks mode m s (Leave session) =
     let left : Database = elim s.transaction [ Open t ↦ rolled_back m.db t.tx | other ↦ m.db ] in

@@ -1,5 +1,5 @@
 -- A statement is run: it begins, or goes on where it waits, by what its session's transaction is (PostgreSQL manual, the pages of the statements, and 13.2).
-use Rattle.std.specs.Prelude.{ℕ, Bool, true, false, List, ◌∷◌, length, flat_map, nat_lt, Option, Some, None, option_map, option_to_list, unwrap_or, Ok, Err, if◌then◌else◌, []}
+use Rattle.std.specs.Prelude.{ℕ, ◌++◌, Bool, true, false, List, ◌∷◌, length, flat_map, nat_lt, Option, Some, None, option_map, option_to_list, unwrap_or, Ok, Err, if◌then◌else◌, []}
 use Rattle.std.specs.List.{list_any}
 use Rattle.std.specs.Option.{option_map_or, option_or}
 use Rattle.sql_trees.specs.declared.stmt.Level.TheVariants.{ReadCommitted}
@@ -16,13 +16,13 @@ use Rattle.session_machine.specs.declared.session.Transaction.{Transaction}
 use Rattle.session_machine.specs.declared.session.Transaction.TheVariants.{Closed, Open, Aborted as AbortedOne}
 use Rattle.session_machine.specs.declared.session.Progress.{Progress}
 use Rattle.session_machine.specs.declared.fault.StmtFault.{StmtFault}
-use Rattle.session_machine.specs.declared.fault.StmtFault.TheVariants.{Value as OfValue, NoColumnOf, NoPosition, NoTable, TooManyValues, Aborted}
+use Rattle.session_machine.specs.declared.fault.StmtFault.TheVariants.{Value as OfValue, NoColumnOf, NoPosition, NoTable, TableExists, TooManyValues, Aborted}
 use Rattle.session_machine.specs.declared.reply.Outcome.TheVariants.{Done, Rows, Waits, Failed}
 use Rattle.session_machine.specs.Tables.{Database, find_table}
 use Rattle.row_versions.specs.Log.{after_begin}
 use Rattle.session_machine.specs.Transactions.{fresh, committed, rolled_back, view_of, started}
 use Rattle.session_machine.specs.Views.{rows_shown}
-use Rattle.session_machine.specs.Statements.{Surroundings, Effect, fails, answers, turns, create, drop_tables, level_set}
+use Rattle.session_machine.specs.Statements.{Surroundings, Effect, fails, answers, turns, drop_tables, level_set}
 use Rattle.session_machine.specs.Walks.{Walk, Blocked, Fails}
 use Rattle.session_machine.specs.Rows.{Work, columns_in, walk_of}
 
@@ -68,14 +68,15 @@ begin_at db t around name stmt = elim (find_table db (Some t.tx) name) [
       option_map_or (fails db t) (fault_in (columns_in db w) stmt) (option_map_or (leads_to db w stmt) walk shown)
 ]
 
--- a statement that begins in an open transaction; a SELECT without FROM has one row, without columns
+-- a statement that begins in an open transaction; a CREATE is one table more, where its name means none, and a SELECT without FROM has one row, without columns
 abbrev pub run_in : Database → OpenTransaction → Surroundings → StmtTree → Effect
 run_in db t around (Begin level) = if t.explicit then turns db (Open t) else level_set db t true (unwrap_or level t.level)
 run_in db t around Commit = turns (committed db t.tx) Closed
 run_in db t around Rollback = turns (rolled_back db t.tx) Closed
 run_in db t around (SetTransaction level) = level_set db t t.explicit level
 run_in db t around SetDeadlockTimeout = turns db (Open t)
-run_in db t around (Create c) = create db t c (find_table db (Some t.tx) c.name)
+run_in db t around (Create c) = option_map_or (λ k. fails db t (TableExists c.name)) (find_table db (Some t.tx) c.name)
+    (answers db.content (record db { catalog = record db.catalog { tables = db.catalog.tables ++ record { made = c; by = t.tx } ∷ [] } }) t Done)
 run_in db t around (DropTables d) = drop_tables db t d.if_exists d.names
 run_in db t around (Inserts i) = begin_at db t around i.table (Inserts i)
 run_in db t around (Updates u) = begin_at db t around u.table (Updates u)

@@ -5,7 +5,6 @@ use Rattle.std.specs.Option.{option_map_or}
 use denote.Enum.Bare.{sameb}
 use Rattle.sql_trees.specs.declared.stmt.Level.{Level}
 use Rattle.sql_trees.specs.contracts.stmt.Level.{the_type as the_level}
-use Rattle.sql_trees.specs.Statements.{CreateTree}
 use Rattle.row_versions.specs.Log.{Content}
 use Rattle.session_machine.specs.declared.session.OpenTransaction.{OpenTransaction}
 use Rattle.session_machine.specs.declared.session.Transaction.{Transaction}
@@ -13,7 +12,7 @@ use Rattle.session_machine.specs.declared.session.Transaction.TheVariants.{Close
 use Rattle.session_machine.specs.declared.session.Progress.{Progress}
 use Rattle.session_machine.specs.declared.session.Session.{Session}
 use Rattle.session_machine.specs.declared.fault.StmtFault.{StmtFault}
-use Rattle.session_machine.specs.declared.fault.StmtFault.TheVariants.{NoTableToDrop, TableExists, LevelTooLate}
+use Rattle.session_machine.specs.declared.fault.StmtFault.TheVariants.{NoTableToDrop, LevelTooLate}
 use Rattle.session_machine.specs.declared.reply.Outcome.{Outcome}
 use Rattle.session_machine.specs.declared.reply.Outcome.TheVariants.{Done, Failed}
 use Rattle.session_machine.specs.Tables.{Database, find_table}
@@ -42,11 +41,6 @@ answers before db t outcome = record { db = db; transaction = Open (record (star
 -- nothing but the transaction changes
 abbrev pub turns : Database → Transaction → Effect
 turns db t = record { db = db; transaction = t; statement = None; outcome = Done }
-
--- a CREATE is one table more, where its name means none
-abbrev pub create : Database → OpenTransaction → CreateTree → Option ℕ → Effect
-create db t made (Some k) = fails db t (TableExists made.name)
-create db t made None = answers db.content (record db { catalog = record db.catalog { tables = db.catalog.tables ++ record { made = made; by = t.tx } ∷ [] } }) t Done
 
 -- tables are dropped one after the other, up to the first that isn't there, at which the statement fails; with IF EXISTS it is passed over
 abbrev pub drop_tables : Database → OpenTransaction → Bool → List (List ℕ) → Effect

@@ -5,7 +5,8 @@ ghost use Rattle.sql_trees.specs.Statements.{create_of, drop_of, name_of};
 ghost use Rattle.row_versions.specs.Log.{IsOpen};
 ghost use Rattle.session_machine.specs.Tables.{find_table};
 ghost use Rattle.session_statements.specs.Inner.Left.{left};
-ghost use Rattle.session_machine.specs.Statements.{create, drop_tables};
+ghost use Rattle.session_machine.specs.Statements.{drop_tables};
+ghost use Rattle.session_machine.specs.Inner.Statements.{create};
 ghost use Rattle.session_machine.specs.Inner.Pieces.{dropped};
 
 use crate::database::Database;

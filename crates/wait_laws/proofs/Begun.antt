@@ -30,8 +30,8 @@ use Rattle.session_machine.specs.Inner.Statements.{begun, commits_seen}
 use Rattle.session_machine.specs.Inner.Pieces.{columns_at}
 use Rattle.session_machine.specs.Targets.{at_places}
 use Rattle.session_machine.specs.Running.{run_stmt}
-use Rattle.session_machine.specs.Machine.{Machine, Blocks, Next, next, opening, stmts_of, at_rest, first_place, with_session, session_of}
-use Rattle.session_machine.specs.Inner.Steps.{launch_of, step_of, leave_of, around}
+use Rattle.session_machine.specs.Machine.{Machine, Blocks, Next, next, opening, stmts_of, at_rest, with_session, session_of}
+use Rattle.session_machine.specs.Inner.Steps.{launch_of, step_of, leave_of, around, first_place}
 use Rattle.session_machine.specs.Sound.{command_in, tx_in, tx_of}
 use Rattle.wait_laws.specs.Laws.{Reaches, FindsTheSame, WaitsGoOnAsBegun}
 use Rattle.session_laws.proofs.Lists.{slice_get-set_same, slice_get-set_other}

@@ -9,8 +9,8 @@ use Rattle.session_machine.specs.declared.session.Transaction.TheVariants.{Close
 use Rattle.session_machine.specs.declared.session.Progress.{Progress}
 use Rattle.session_machine.specs.Tables.{Database, find_table}
 use Rattle.session_machine.specs.Transactions.{committed, rolled_back}
-use Rattle.session_machine.specs.Statements.{Surroundings, Effect, turns, create, drop_tables, level_set}
-use Rattle.session_machine.specs.Inner.Statements.{insert_from, update_from, delete_from, lock_from, insert, update, delete, select, run_open, run_on, begin_in}
+use Rattle.session_machine.specs.Statements.{Surroundings, Effect, turns, drop_tables, level_set}
+use Rattle.session_machine.specs.Inner.Statements.{insert_from, update_from, delete_from, lock_from, insert, update, delete, select, run_open, run_on, begin_in, create}
 use Rattle.session_machine.specs.Targets.{going_on}
 use Rattle.session_machine.specs.Inner.Pieces.{lock_again}
 

@@ -51,12 +51,12 @@ use Rattle.session_machine.specs.Tables.{Database, find_table}
 use Rattle.session_machine.specs.Transactions.{committed, fresh, rolled_back, view_of}
 use Rattle.session_machine.specs.Waits.{blockers, is_blocked, waits_in}
 use Rattle.session_machine.specs.Sound.{command_in}
-use Rattle.session_machine.specs.Statements.{Surroundings, Effect, fails, turns, create, level_set}
+use Rattle.session_machine.specs.Statements.{Surroundings, Effect, fails, turns, level_set}
 use Rattle.session_machine.specs.Walks.{Stop, Walk, Blocked, Fails}
 use Rattle.session_machine.specs.AskedKeys.{AskedKey}
 use Rattle.session_machine.specs.Rows.{Work, columns_in, cols_in, stop_at_key, inserted, written, values_of, strength_of}
 use Rattle.session_machine.specs.Running.{run_stmt}
-use Rattle.session_machine.specs.Inner.Statements.{run_piecewise, is_end, walked_from, keys_in, stop_at_keys, insert_one, ask, at_outcome, at_target, update_with, update_one, delete_with, delete_one, lock_with, lock_one, beginning, comes_to, after_walk, done, insert_from, insert, assigned_to, update_from, update, delete_from, delete, lock_from, answered, select_rows, unless_wrong, select, run_open, run_closed, run_on, begun, Visit, goes_on, walked}
+use Rattle.session_machine.specs.Inner.Statements.{run_piecewise, is_end, walked_from, keys_in, stop_at_keys, insert_one, ask, at_outcome, at_target, update_with, update_one, delete_with, delete_one, lock_with, lock_one, beginning, comes_to, after_walk, done, insert_from, insert, assigned_to, update_from, update, delete_from, delete, lock_from, answered, select_rows, unless_wrong, select, run_open, run_closed, run_on, begun, Visit, goes_on, walked, create}
 use Rattle.session_machine.specs.Targets.{asked_key, passing_targets, taken_targets, going_on}
 use Rattle.session_machine.specs.Inner.Pieces.{drop_ended, unless_stopped, unless_stopped_by, unless_null, insert_made, update_made, lock_made, insert_fitting, insert_to, update_fitting, update_to, delete_fitting, select_in, select_at, run_first, with_table, with_drop, DroppedUpTo, dropped, dropped_at, stop_by}
 use Rattle.session_machine.proofs.Piecewise.{stops_by, drops_by}

@@ -20,9 +20,9 @@ use Rattle.session_machine.specs.Tables.{Database}
 use Rattle.session_machine.specs.Transactions.{committed}
 use Rattle.session_machine.specs.Statements.{Effect}
 use Rattle.session_machine.specs.Running.{run_stmt}
-use Rattle.session_machine.specs.Machine.{Machine, Blocks, Next, next, stmts_of, is_failed, with_session, first_place, closed_at_end, after_stmt, at_rest, session_of, Run}
+use Rattle.session_machine.specs.Machine.{Machine, Blocks, Next, next, stmts_of, is_failed, with_session, closed_at_end, after_stmt, at_rest, session_of, Run}
 use Rattle.session_machine.specs.Waits.{is_still_blocked}
-use Rattle.session_machine.specs.Inner.Steps.{launch_of, step_stmt, step_at, step_of, leave_of, finished, waits_there, after_end, around, left_behind}
+use Rattle.session_machine.specs.Inner.Steps.{launch_of, step_stmt, step_at, step_of, leave_of, finished, waits_there, after_end, around, left_behind, first_place}
 use Rattle.session_machine.specs.Sound.{command_in}
 use Rattle.wait_laws.proofs.Doing.{Keeps, Refused, Ran, Idles, doer, start, Allows, does_stmt}
 

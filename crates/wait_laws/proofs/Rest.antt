@@ -37,8 +37,8 @@ use Rattle.session_machine.specs.Waits.{is_blocked, wait_of, is_still_blocked}
 use Rattle.session_machine.specs.Statements.{Effect}
 use Rattle.session_machine.specs.Inner.Pieces.{with_table, with_drop}
 use Rattle.session_machine.specs.Running.{run_stmt}
-use Rattle.session_machine.specs.Machine.{Machine, Blocks, Next, next, stmts_of, is_busy, is_failed, closed_at_end, after_stmt, session_of, Run}
-use Rattle.session_machine.specs.Inner.Steps.{step_of, is_stopped, finished, waits_there, after_end, around}
+use Rattle.session_machine.specs.Machine.{Machine, Blocks, Next, next, stmts_of, is_failed, closed_at_end, after_stmt, session_of, Run}
+use Rattle.session_machine.specs.Inner.Steps.{step_of, is_stopped, finished, waits_there, after_end, around, is_busy}
 use Rattle.session_machine.specs.Sound.{command_in, tx_in, tx_of}
 use Rattle.wait_laws.specs.Laws.{left_from, left_of, statements_left, can_step, able, IsNearerRest, AreSteps, RestIsReached}
 use Rattle.wait_laws.proofs.Counting.{sum_set, count_set, count_most}

@@ -24,15 +24,15 @@ use Rattle.session_machine.specs.declared.reply.HistItem.{HistItem}
 use Rattle.session_machine.specs.declared.fault.Refusal.TheVariants.{Busy, NotYourTurn, BlockNotAllowed}
 use Rattle.session_machine.specs.Tables.{Database, find_table}
 use Rattle.session_machine.specs.Transactions.{view_of}
-use Rattle.session_machine.specs.Statements.{Surroundings, Effect, create, level_set}
+use Rattle.session_machine.specs.Statements.{Surroundings, Effect, level_set}
 use Rattle.session_machine.specs.Rows.{Work, columns_in, cols_in}
 use Rattle.session_machine.specs.Running.{run_stmt}
-use Rattle.session_machine.specs.Inner.Statements.{answered, beginning, run_on, select, select_rows, unless_wrong}
+use Rattle.session_machine.specs.Inner.Statements.{answered, beginning, run_on, select, select_rows, unless_wrong, create}
 use Rattle.session_machine.specs.Inner.Pieces.{drop_ended, lock_again, select_at, dropped}
 use Rattle.session_machine.proofs.Piecewise.{drops_by}
 use Rattle.session_machine.proofs.ByKind.{runs_by_kind}
-use Rattle.session_machine.specs.Machine.{Machine, Blocks, Next, next, stmts_of, at_rest, first_place, session_of}
-use Rattle.session_machine.specs.Inner.Steps.{launch_of, step_of, leave_of, around}
+use Rattle.session_machine.specs.Machine.{Machine, Blocks, Next, next, stmts_of, at_rest, session_of}
+use Rattle.session_machine.specs.Inner.Steps.{launch_of, step_of, leave_of, around, first_place}
 use Rattle.session_machine.specs.Sound.{command_in}
 use Rattle.wait_laws.specs.Laws.{GoesOnInItsView, IsAtWork, IsInViewOf, RunAtWork, StatementsStayAsBegun, transaction_at, view_at}
 use Rattle.wait_laws.proofs.ByKind.{on_kind}

@@ -21,11 +21,11 @@ use Rattle.session_machine.specs.declared.reply.Outcome.{Outcome}
 use Rattle.session_machine.specs.declared.reply.Outcome.TheVariants.{Failed, Rows}
 use Rattle.session_machine.specs.Tables.{Database, find_table}
 use Rattle.session_machine.specs.Transactions.{fresh, started}
-use Rattle.session_machine.specs.Statements.{Surroundings, Effect, fails, turns, create, level_set}
+use Rattle.session_machine.specs.Statements.{Surroundings, Effect, fails, turns, level_set}
 use Rattle.session_machine.specs.Walks.{Stop, Walk, Blocked, Fails}
 use Rattle.session_machine.specs.Rows.{Work, columns_in}
 use Rattle.session_machine.specs.Running.{run_stmt}
-use Rattle.session_machine.specs.Inner.Statements.{run_piecewise, is_end, walked_from, insert_one, update_one, delete_one, lock_one, beginning, comes_to, after_walk, done, insert_from, update_from, delete_from, lock_from, assigned_to, insert, update, delete, answered, select_rows, unless_wrong, select, run_open, run_closed, run_on, begun, moved_on, walked}
+use Rattle.session_machine.specs.Inner.Statements.{run_piecewise, is_end, walked_from, insert_one, update_one, delete_one, lock_one, beginning, comes_to, after_walk, done, insert_from, update_from, delete_from, lock_from, assigned_to, insert, update, delete, answered, select_rows, unless_wrong, select, run_open, run_closed, run_on, begun, moved_on, walked, create}
 use Rattle.session_machine.specs.Targets.{passing_targets, taken_targets, going_on}
 use Rattle.session_machine.specs.Inner.Pieces.{drop_ended, insert_fitting, insert_to, update_fitting, update_to, delete_fitting, select_at, run_first, dropped}
 use Rattle.session_machine.proofs.Piecewise.{drops_by}

@@ -23,8 +23,8 @@ use Rattle.session_machine.specs.Tables.{Database}
 use Rattle.session_machine.specs.Waits.{wait_of, is_still_blocked}
 use Rattle.session_machine.specs.Statements.{Effect}
 use Rattle.session_machine.specs.Running.{run_stmt}
-use Rattle.session_machine.specs.Machine.{Machine, Blocks, Next, next, opening, at_rest, stmts_of, is_busy, free_wait, is_first_free, turn_in, is_directed, is_failed, first_place, closed_at_end, after_stmt, session_of}
-use Rattle.session_machine.specs.Inner.Steps.{launch_of, step_stmt, step_at, step_of, leave_of, is_stopped, finished, waits_there, after_end, is_ready, is_turn, around}
+use Rattle.session_machine.specs.Machine.{Machine, Blocks, Next, next, opening, at_rest, stmts_of, free_wait, is_first_free, turn_in, is_directed, is_failed, closed_at_end, after_stmt, session_of}
+use Rattle.session_machine.specs.Inner.Steps.{launch_of, step_stmt, step_at, step_of, leave_of, is_stopped, finished, waits_there, after_end, is_ready, is_turn, around, first_place, is_busy}
 use Rattle.wait_laws.specs.Laws.{Reaches}
 use Rattle.session_laws.proofs.Lists.{slice_get-set_same, slice_get-set_other}
 use Rattle.wait_laws.proofs.Events.{session_there, ok_is, ok_else, stepped, always}

@@ -1,5 +1,5 @@
 -- What holds of waits in every state that the machine comes to (PostgreSQL manual, 13.3.2 and 13.3.4). Each law stands on the contract of a function of `laws`.
-use Rattle.std.specs.Prelude.{◌≡◌, ◌≢◌, ◌↔◌, ◌⊎◌, ℕ, ◌+◌, ◌-◌, ◌*◌, ◌<◌, ◌≤◌, Bool, true, false, not, ◌&&◌, List, [], ◌∷◌, length, count_by, sum_by, Option, Some, None, slice_get, Ok, IsTrue}
+use Rattle.std.specs.Prelude.{◌≡◌, ◌≢◌, ◌↔◌, ◌⊎◌, ℕ, ◌+◌, ◌-◌, ◌*◌, ◌<◌, ◌≤◌, Bool, true, false, not, ◌&&◌, List, [], ◌∷◌, length, count_by, sum_by, Option, Some, None, is_some, slice_get, Ok, IsTrue}
 use Rattle.sql_trees.specs.declared.stmt.Level.{Level}
 use Rattle.sql_trees.specs.declared.stmt.Level.TheVariants.{ReadCommitted, RepeatableRead}
 use Rattle.sql_trees.specs.declared.stmt.Lock.{Lock}
@@ -44,7 +44,7 @@ use Rattle.session_machine.specs.Rows.{Work, columns_in, stop_at_key}
 use Rattle.session_machine.specs.Walks.{Blocked, Fails}
 use Rattle.session_machine.specs.Running.{run_stmt}
 use Rattle.session_machine.specs.Targets.{asked_key, passing_targets, taken_targets, going_on, names_at}
-use Rattle.session_machine.specs.Machine.{Machine, Blocks, Next, next, opening, session_of, stmts_of, is_busy, turn_in, Run}
+use Rattle.session_machine.specs.Machine.{Machine, Blocks, Next, next, opening, session_of, stmts_of, turn_in, Run}
 use Rattle.session_machine.specs.Engine.{Follows}
 
 -- the machine comes to the state, from its opening with so many sessions
@@ -203,7 +203,7 @@ statements_left given m = sum_by (left_of given) m.sessions
 
 -- the session is in its block, and what it waits for, if it waits, isn't held against it any more
 abbrev pub can_step : Database → Session → Bool
-can_step db s = is_busy s && not (is_still_blocked db s)
+can_step db s = is_some s.place && not (is_still_blocked db s)
 
 -- how many sessions can step
 abbrev pub able : Machine → ℕ

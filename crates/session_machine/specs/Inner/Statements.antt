@@ -9,7 +9,7 @@ use Rattle.sql_trees.specs.contracts.stmt.Level.{the_type as the_level}
 use Rattle.sql_trees.specs.declared.stmt.Level.TheVariants.{ReadCommitted, RepeatableRead}
 use Rattle.sql_trees.specs.declared.stmt.Lock.{Lock}
 use Rattle.sql_trees.specs.Trees.{Tree}
-use Rattle.sql_trees.specs.Statements.{KeyTree, StmtTree, InsertTree, UpdateTree, DeleteTree, SelectTree}
+use Rattle.sql_trees.specs.Statements.{KeyTree, StmtTree, CreateTree, InsertTree, UpdateTree, DeleteTree, SelectTree}
 use Rattle.sql_trees.specs.Statements.{Begin, Commit, Rollback, SetTransaction, SetDeadlockTimeout, Create, DropTables, Inserts, Updates, Deletes, Selects}
 use Rattle.sql_values.specs.declared.value.Value.{Value}
 use Rattle.sql_values.specs.declared.fault.ValueFault.{ValueFault}
@@ -33,14 +33,14 @@ use Rattle.session_machine.specs.declared.session.Transaction.TheVariants.{Close
 use Rattle.session_machine.specs.declared.session.Progress.{Progress}
 use Rattle.session_machine.specs.declared.session.Request.{Request}
 use Rattle.session_machine.specs.declared.session.Request.TheVariants.{Row}
-use Rattle.session_machine.specs.declared.fault.StmtFault.TheVariants.{Value as OfValue, NullValue, NotSerializable, Deadlock, NoColumnOf, NoPosition, NoTable, TooManyValues, Aborted}
+use Rattle.session_machine.specs.declared.fault.StmtFault.TheVariants.{Value as OfValue, NullValue, NotSerializable, Deadlock, TableExists, NoColumnOf, NoPosition, NoTable, TooManyValues, Aborted}
 use Rattle.session_machine.specs.declared.reply.Outcome.{Outcome}
 use Rattle.session_machine.specs.declared.reply.Outcome.TheVariants.{Done, Rows, Waits, Failed}
 use Rattle.session_machine.specs.Tables.{Database, Table, find_table}
 use Rattle.session_machine.specs.Transactions.{fresh, committed, rolled_back, view_of, started}
 use Rattle.session_machine.specs.Views.{rows_shown}
 use Rattle.session_machine.specs.Waits.{waits_in}
-use Rattle.session_machine.specs.Statements.{Surroundings, Effect, fails, answers, turns, create, drop_tables, level_set}
+use Rattle.session_machine.specs.Statements.{Surroundings, Effect, fails, answers, turns, drop_tables, level_set}
 use Rattle.session_machine.specs.Walks.{Stop, Walk, Blocked, Fails}
 use Rattle.session_machine.specs.Targets.{going_on, passing_targets, taken_targets}
 use Rattle.session_machine.specs.Rows.{Work, columns_in, cols_in, values_of, written, inserted, stop_at_key, strength_of}
@@ -72,6 +72,13 @@ is_level a b = sameb the_level a b
 -- BEGIN makes an implicit transaction explicit; in an explicit one it has no effect
 abbrev pub begin_in : Database → OpenTransaction → Option Level → Effect
 begin_in db t level = if t.explicit then turns db (Open t) else level_set db t true (unwrap_or level t.level)
+
+-- ---- tables
+
+-- a CREATE is one table more, where its name means none
+abbrev pub create : Database → OpenTransaction → CreateTree → Option ℕ → Effect
+create db t made (Some k) = fails db t (TableExists made.name)
+create db t made None = answers db.content (record db { catalog = record db.catalog { tables = db.catalog.tables ++ record { made = made; by = t.tx } ∷ [] } }) t Done
 
 -- ---- from one target to the next
 

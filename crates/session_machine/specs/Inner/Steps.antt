@@ -1,5 +1,5 @@
 -- Events piece by piece, as the code does them.
-use Rattle.std.specs.Prelude.{option_map, ℕ, ◌+◌, ◌==◌, ◌&&◌, is_none, slice_set, nat_lt, Bool, false, not, [], Option, Some, None, Result, Err, if◌then◌else◌}
+use Rattle.std.specs.Prelude.{option_map, ℕ, ◌+◌, ◌==◌, ◌&&◌, is_none, is_some, slice_set, nat_lt, Bool, false, not, List, [], ◌∷◌, Option, Ok, Some, None, Result, Err, if◌then◌else◌}
 use Rattle.std.specs.Option.{option_map_or}
 use Rattle.sql_trees.specs.Statements.{StmtTree}
 use Rattle.row_versions.specs.Members.{is_none_of}
@@ -14,14 +14,19 @@ use Rattle.session_machine.specs.declared.event.Event.TheVariants.{Launch, Step,
 use Rattle.session_machine.specs.declared.event.Mode.{Mode}
 use Rattle.session_machine.specs.declared.reply.Outcome.TheVariants.{Launched}
 use Rattle.session_machine.specs.declared.fault.Refusal.{Refusal}
-use Rattle.session_machine.specs.declared.fault.Refusal.TheVariants.{Idle, NoSession}
+use Rattle.session_machine.specs.declared.fault.Refusal.TheVariants.{Idle, NoSession, NotYourTurn, StillBlocked}
 use Rattle.session_machine.specs.Tables.{Database}
-use Rattle.session_machine.specs.Waits.{blockers, wait_of}
+use Rattle.session_machine.specs.Waits.{blockers, wait_of, is_still_blocked}
 use Rattle.session_machine.specs.Statements.{Effect, Surroundings}
-use Rattle.session_machine.specs.Machine.{Machine, Blocks, Next, is_busy, closed_at_end, comes_out, is_failed, leaves, next_for, step_from, step_with}
+use Rattle.session_machine.specs.Running.{run_stmt}
+use Rattle.session_machine.specs.Machine.{Machine, Blocks, Next, closed_at_end, comes_out, is_failed, leaves, next_for, step_from, after_stmt, is_directed, turn_in}
 
 abbrev pub waiting : Database → Transaction → Option Waiting → Option BlockedOne
 waiting db transaction wait = elim transaction [ Open t ↦ option_map (λ (w : Waiting). record { tx = t.tx; blockers = blockers db w.request t.tx }) wait | other ↦ None ]
+
+-- the session is in its block
+abbrev pub is_busy : Session → Bool
+is_busy s = is_some s.place
 
 -- the session is in its block and doesn't wait
 abbrev pub is_ready : Session → Bool
@@ -38,6 +43,18 @@ around m session s = record { sessions = slice_set m.sessions session (record s 
 abbrev pub left_behind : Database → Transaction → Database
 left_behind db (Open t) = rolled_back db t.tx
 left_behind db transaction = db
+
+-- where a session stands that is given these statements: a block without statements ends at once
+abbrev pub first_place : ℕ → List StmtTree → Option Place
+first_place block [] = None
+first_place block (stmt ∷ stmts) = Some (record { block = block; next = 0 })
+
+-- a session does the statement at its place, of so many in its block.
+abbrev pub step_with : Mode → Machine → ℕ → Session → Place → ℕ → StmtTree → Result Next Refusal
+step_with mode m session s place count stmt =
+    if is_directed mode && not (is_turn (turn_in m) session) then Err NotYourTurn
+    else if is_still_blocked m.db s then Err StillBlocked
+    else Ok (after_stmt m session place count (run_stmt m.db s.transaction s.statement (around m session s) stmt))
 
 -- what the session waits for is still held against it
 abbrev pub is_stopped : Database → Transaction → Option Waiting → Bool
