@@ -13,9 +13,8 @@ use Rattle.session_machine.specs.declared.reply.Reply.{Reply}
 use Rattle.session_machine.specs.declared.reply.HistItem.{HistItem}
 use Rattle.session_machine.specs.declared.fault.Refusal.{Refusal}
 use Rattle.session_machine.specs.declared.fault.Refusal.TheVariants.{Busy, NotYourTurn, StillBlocked, BlockNotAllowed}
-use Rattle.session_machine.specs.Machine.{Machine, Blocks, Next, next, turn_in, is_quiet, is_turn}
-use Rattle.session_machine.specs.Inner.Steps.{launch_of, leave_of, step_of, step_at, step_stmt}
-use Rattle.session_machine.specs.Engine.{Run}
+use Rattle.session_machine.specs.Machine.{Machine, Blocks, Next, next, turn_in, is_quiet, Run}
+use Rattle.session_machine.specs.Inner.Steps.{launch_of, leave_of, step_of, step_at, step_stmt, is_turn}
 use Rattle.spec_parser.specs.Trees.{EntryTree, SpecTree}
 use Rattle.permutation_plans.specs.Launches.{due_in}
 use Rattle.permutation_plans.specs.Regular.{IsOrdered, FitsAfter, IsRegular}

@@ -6,8 +6,7 @@ use Rattle.session_machine.specs.declared.event.Order.{Order}
 use Rattle.session_machine.specs.declared.event.Order.TheVariants.{Launch as LaunchOrder, Leave as LeaveOrder, Stop}
 use Rattle.session_machine.specs.declared.event.Mode.TheVariants.{Directed}
 use Rattle.session_machine.specs.declared.reply.HistItem.{HistItem}
-use Rattle.session_machine.specs.Machine.{Machine, Blocks, opening, is_quiet}
-use Rattle.session_machine.specs.Engine.{Run}
+use Rattle.session_machine.specs.Machine.{Machine, Blocks, opening, is_quiet, Run}
 use Rattle.spec_parser.specs.Trees.{EntryTree, SpecTree}
 use Rattle.permutation_plans.specs.Launches.{due_in}
 

@@ -3,8 +3,8 @@ use Rattle.std.proofs.Common.{◌≡◌, ℕ, length, List, [], Option, Some, No
 use Rattle.std.specs.Prelude.{IfSome}
 use Rattle.session_machine.specs.declared.event.Mode.{Mode}
 use Rattle.session_machine.specs.declared.event.Mode.TheVariants.{Directed}
-use Rattle.session_machine.specs.Machine.{Machine, Blocks, opening}
-use Rattle.session_machine.specs.Engine.{Engine, Run, is_quiet_in, opened}
+use Rattle.session_machine.specs.Machine.{Machine, Blocks, opening, Run}
+use Rattle.session_machine.specs.Engine.{Engine, is_quiet_in, opened}
 use Rattle.session_core.specs.Engines.{IsOf}
 use Rattle.spec_parser.specs.Trees.{EntryTree, SpecTree}
 use Rattle.permutation_plans.specs.Launches.{due_in}

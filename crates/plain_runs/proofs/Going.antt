@@ -12,8 +12,8 @@ use Rattle.session_machine.specs.declared.fault.EngineFault.{EngineFault}
 use Rattle.session_machine.specs.declared.fault.EngineFault.TheVariants.{Busy, NotYourTurn, StillBlocked, Idle, Spent, Memory, NoSession, BlockNotAllowed}
 use Rattle.session_machine.specs.declared.reply.Reply.{Reply}
 use Rattle.session_machine.specs.declared.reply.HistItem.{HistItem}
-use Rattle.session_machine.specs.Machine.{Machine, Blocks, Next, next, opening, turn_in}
-use Rattle.session_machine.specs.Engine.{Engine, EngineAnswered, Run, engine_after, engine_answered, engine_step, fault_of, opened}
+use Rattle.session_machine.specs.Machine.{Machine, Blocks, Next, next, opening, turn_in, Run}
+use Rattle.session_machine.specs.Engine.{Engine, EngineAnswered, engine_after, engine_answered, engine_step, fault_of, opened}
 use Rattle.session_core.specs.Engines.{IsOf}
 use Rattle.session_seats.specs.declared.fault.ThreadFault.TheVariants.{Engine as Engine_fault}
 use Rattle.session_seats.specs.Acts.{Acted}

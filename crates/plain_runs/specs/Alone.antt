@@ -9,8 +9,8 @@ use Rattle.session_machine.specs.declared.event.Mode.TheVariants.{Directed}
 use Rattle.session_machine.specs.declared.fault.Refusal.{Refusal}
 use Rattle.session_machine.specs.declared.fault.EngineFault.{EngineFault}
 use Rattle.session_machine.specs.declared.reply.HistItem.{HistItem}
-use Rattle.session_machine.specs.Machine.{Machine, Blocks, opening, next, turn_in}
-use Rattle.session_machine.specs.Engine.{Run, fault_of}
+use Rattle.session_machine.specs.Machine.{Machine, Blocks, opening, next, turn_in, Run}
+use Rattle.session_machine.specs.Engine.{fault_of}
 use Rattle.session_seats.specs.declared.fault.ThreadFault.TheVariants as thread_faults
 use Rattle.session_seats.specs.Orders.{Orders, OrderedAfter}
 use Rattle.spec_parser.specs.Trees.{EntryTree, SpecTree}

@@ -2,8 +2,8 @@
 use Rattle.std.specs.Prelude.{◌≡◌, Option, Some}
 use Rattle.session_machine.specs.declared.event.Event.{Event}
 use Rattle.session_machine.specs.declared.event.Order.{Order}
-use Rattle.session_machine.specs.Machine.{Machine, opening, turn_in}
-use Rattle.session_machine.specs.Engine.{Engine, Run}
+use Rattle.session_machine.specs.Machine.{Machine, opening, turn_in, Run}
+use Rattle.session_machine.specs.Engine.{Engine}
 use Rattle.plain_runs.specs.Alone.{next_event}
 
 -- the event is next in the engine, by this order; there may be none
