@@ -5,7 +5,6 @@ use Rattle.std.specs.List.{list_all, list_any, position_from}
 use Rattle.std.specs.Option.{option_map_or, option_or}
 use Rattle.sql_trees.specs.Statements.{StmtTree}
 use Rattle.sql_values.specs.declared.value.Value.{Value}
-use Rattle.row_versions.specs.Log.{empty_content}
 use Rattle.session_machine.specs.declared.session.Place.{Place}
 use Rattle.session_machine.specs.declared.session.Transaction.{Transaction}
 use Rattle.session_machine.specs.declared.session.Transaction.TheVariants.{Closed, Open}
@@ -42,7 +41,7 @@ abbrev pub at_rest : Session
 at_rest = record { place = None; transaction = Closed; statement = None }
 
 abbrev pub empty_database : Database
-empty_database = record { content = empty_content; catalog = record { tables = []; drops = [] }; held = [] }
+empty_database = record { content = record { log = []; fates = [] }; catalog = record { tables = []; drops = [] }; held = [] }
 
 -- nothing has happened; beside the control session, which is session 0, there are so many
 abbrev pub opening : ℕ → Machine

@@ -1,6 +1,6 @@
 -- What a statement does with rows: INSERT with those of its VALUES, and UPDATE, DELETE and a locking SELECT with their targets
 -- (PostgreSQL manual, 13.2.1 and 13.3.2, and the pages of the statements).
-use Rattle.std.specs.Prelude.{ℕ, not, List, ◌∷◌, length, map, drop, Option, Some, None, option_map, unwrap_or, slice_get, filter_map, Result, Ok, Err, if◌then◌else◌, []}
+use Rattle.std.specs.Prelude.{ℕ, not, List, ◌∷◌, ◌++◌, length, map, drop, Option, Some, None, option_map, unwrap_or, slice_get, filter_map, Result, Ok, Err, if◌then◌else◌, []}
 use Rattle.std.specs.Option.{option_map_or, option_or}
 use Rattle.std.specs.Result.{result_unwrap_or}
 use Rattle.sql_trees.specs.declared.stmt.Lock.{Lock}
@@ -20,7 +20,6 @@ use Rattle.row_versions.specs.Members.{is_none_of}
 use Rattle.row_versions.specs.Rows.{rows_of}
 use Rattle.row_locks.specs.declared.held.Strength.{Strength}
 use Rattle.row_locks.specs.declared.held.Strength.TheVariants.{Share, Exclusive}
-use Rattle.row_locks.specs.Held.{with_lock}
 use Rattle.row_locks.specs.Cycles.{closes}
 use Rattle.unique_keys.specs.Checks.{is_taken}
 use Rattle.update_recheck.specs.Asked.{Asked}
@@ -61,7 +60,7 @@ written db w row values = record db { content = after_write db.content (record {
 
 -- a new row is written, and its transaction holds it alone
 abbrev pub inserted : Database → Work → List Value → Database
-inserted db w values = record (written db w (new_row db.content) (Some values)) { held = with_lock db.held (record { row = new_row db.content; tx = w.t.tx; strength = Exclusive }) }
+inserted db w values = record (written db w (new_row db.content) (Some values)) { held = db.held ++ record { row = new_row db.content; tx = w.t.tx; strength = Exclusive } ∷ [] }
 
 -- a row with these values is about to be written, in place of a row or as a new one. Where others hold the key the statement waits for them, or fails where
 -- that wait would close a cycle; else it fails where another row of the table has the key
@@ -106,7 +105,7 @@ visit_target w stmt strength filter walk seen =
     let ask : Asked = record { tx = w.t.tx; level = w.t.level; seen = seen; strength = strength; condition = filter; cols = cols_in walk.db w } in
     let held = walk.db.held in
     let waits = waits_in walk.db w.around.sessions in
-    let at = record walk { db = record walk.db { held = if is_target_locked walk.db.content held waits ask then with_lock held (lock_of ask) else held } } in
+    let at = record walk { db = record walk.db { held = if is_target_locked walk.db.content held waits ask then held ++ lock_of ask ∷ [] else held } } in
     elim (target_outcome walk.db.content held waits ask) [
       | Takes version ↦ act_on w stmt at version
       | Skips ↦ passed at at.db []
