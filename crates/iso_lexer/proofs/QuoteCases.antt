@@ -4,7 +4,7 @@ use Rattle.std.specs.Prelude.{◌&&◌, ◌==◌, ◌↔◌}
 use Rattle.std.proofs.lemmas.Bool.{ne_eqb, cases_eq, cases_Bool, eqb-true, false≢true}
 use Rattle.iso_lexer.specs.declared.quoted.Quoted.{Quoted}
 use Rattle.iso_lexer.specs.declared.quoted.Quoted.TheVariants.{Closed, Broken, Unclosed}
-use Rattle.iso_lexer.specs.Quotes.{longer, GoesOn, runs_out, doubled, closes, breaks, goes_on}
+use Rattle.iso_lexer.specs.Quotes.{longer, QuoteGoesOn, runs_out, doubled, closes, breaks, goes_on}
 use Rattle.iso_lexer.specs.Inner.Quotes.{quoted_from}
 use Rattle.iso_lexer.proofs.Quotes.{longer_twice}
 
@@ -44,14 +44,14 @@ module _ (mark : ℕ) (one_line : Bool) where
       let bad : true ≡ false = rw (is, eq-eqb b 10 e) at h in
       false≢true (sym bad)
 
-  pub computed : (text : List ℕ) (end : Quoted) → GoesOn mark one_line text end → quoted_from mark one_line false text ≡ end
+  pub computed : (text : List ℕ) (end : Quoted) → QuoteGoesOn mark one_line text end → quoted_from mark one_line false text ≡ end
   computed text end runs_out = of_nothing
   computed text end (doubled {rest = rest} {more = more} e g is) = ap (quoted_from mark one_line false) e ∙ of_doubled rest ∙ ap (longer 2) (computed rest more g) ∙ sym is
   computed text end (closes {rest = rest} e single is) = ap (quoted_from mark one_line false) e ∙ of_closed rest single ∙ sym is
   computed text end (breaks {rest = rest} e ne one is) = ap (quoted_from mark one_line false) e ∙ of_other 10 rest (λ h. ne (sym h)) ∙ rw one (sym is)
   computed text end (goes_on {rest = rest} {b = b} {more = more} e ne line g is) = ap (quoted_from mark one_line false) e ∙ of_other b rest ne ∙ rw (stays one_line b line, computed rest more g) (sym is)
 
-  other : (b : ℕ) (rest : List ℕ) → b ≢ mark → GoesOn mark one_line rest (quoted_from mark one_line false rest) → GoesOn mark one_line (b ∷ rest) (quoted_from mark one_line false (b ∷ rest))
+  other : (b : ℕ) (rest : List ℕ) → b ≢ mark → QuoteGoesOn mark one_line rest (quoted_from mark one_line false rest) → QuoteGoesOn mark one_line (b ∷ rest) (quoted_from mark one_line false (b ∷ rest))
   other b rest ne g =
       elim (cases_Bool (one_line && b == 10)) [
         | inl line ↦
@@ -60,10 +60,10 @@ module _ (mark : ℕ) (one_line : Bool) where
         | inr letter ↦ goes_on refl ne (remains one_line b letter) g (of_other b rest ne ∙ rw letter refl)
       ]
 
-  quote : (b : ℕ) (rest : List ℕ) → b ≡ mark → ((more : List ℕ) → rest ≢ mark ∷ more) → GoesOn mark one_line (b ∷ rest) (quoted_from mark one_line false (b ∷ rest))
+  quote : (b : ℕ) (rest : List ℕ) → b ≡ mark → ((more : List ℕ) → rest ≢ mark ∷ more) → QuoteGoesOn mark one_line (b ∷ rest) (quoted_from mark one_line false (b ∷ rest))
   quote b rest is single = closes (ap (λ x. x ∷ rest) is) single (ap (λ x. quoted_from mark one_line false (x ∷ rest)) is ∙ of_closed rest single)
 
-  two : (b c : ℕ) (rest : List ℕ) → b ≡ mark → c ≡ mark → GoesOn mark one_line rest (quoted_from mark one_line false rest) → GoesOn mark one_line (b ∷ c ∷ rest) (quoted_from mark one_line false (b ∷ c ∷ rest))
+  two : (b c : ℕ) (rest : List ℕ) → b ≡ mark → c ≡ mark → QuoteGoesOn mark one_line rest (quoted_from mark one_line false rest) → QuoteGoesOn mark one_line (b ∷ c ∷ rest) (quoted_from mark one_line false (b ∷ c ∷ rest))
   two b c rest is also g =
       let same : b ∷ c ∷ rest ≡ mark ∷ mark ∷ rest = (λ i. is i ∷ also i ∷ rest) in
       doubled same g (ap (quoted_from mark one_line false) same ∙ of_doubled rest)
@@ -71,7 +71,7 @@ module _ (mark : ℕ) (one_line : Bool) where
   first_is : (b c : ℕ) (bs cs : List ℕ) → b ∷ bs ≡ c ∷ cs → b ≡ c
   first_is b c bs cs e = cc
 
-  pub goes : (text : List ℕ) → GoesOn mark one_line text (quoted_from mark one_line false text)
+  pub goes : (text : List ℕ) → QuoteGoesOn mark one_line text (quoted_from mark one_line false text)
   goes [] = rw of_nothing runs_out
   goes (b ∷ []) =
       elim (cases_eq b mark) [
@@ -88,5 +88,5 @@ module _ (mark : ℕ) (one_line : Bool) where
         | inr ne ↦ other b (c ∷ bs) ne (goes (c ∷ bs))
       ]
 
-pub quotes_by_cases : (mark : ℕ) (one_line : Bool) (text : List ℕ) (end : Quoted) → GoesOn mark one_line text end ↔ (quoted_from mark one_line false text ≡ end)
-quotes_by_cases mark one_line text end = (computed mark one_line text end, λ e. subst (GoesOn mark one_line text) e (goes mark one_line text))
+pub quotes_by_cases : (mark : ℕ) (one_line : Bool) (text : List ℕ) (end : Quoted) → QuoteGoesOn mark one_line text end ↔ (quoted_from mark one_line false text ≡ end)
+quotes_by_cases mark one_line text end = (computed mark one_line text end, λ e. subst (QuoteGoesOn mark one_line text) e (goes mark one_line text))

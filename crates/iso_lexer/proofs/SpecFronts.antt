@@ -11,13 +11,13 @@ use Rattle.std.proofs.lemmas.Bool.Decides.{nat_tests}
 use Rattle.std.proofs.lemmas.Str.{IsCharBoundary-after_ascii, IsCharBoundary-before_ascii}
 use Rattle.memchr.specs.Find.{IsFirstByte, is_byte}
 use Rattle.iso_lexer.specs.Names.{plain, quoted}
-use Rattle.iso_lexer.specs.SpecTokens.{Token, keyword, name, digits, sign}
+use Rattle.iso_lexer.specs.SpecTokens.{SpecToken, keyword, name, digits, sign}
 use Rattle.iso_lexer.specs.Lexing.{Front, gap, token, fault, of_run}
 use Rattle.iso_lexer.proofs.Closings.{line_front}
 use Rattle.iso_lexer.proofs.Spellings.{spelled_is}
 use Rattle.iso_lexer.specs.Inner.Runs.{run_of, after_run, spelled}
 use Rattle.iso_lexer.specs.declared.runs.Run.TheVariants.{Comment, Word, Digits}
-use Rattle.iso_lexer.specs.SpecText.{spec_keywords, spec_signs, block_of, spec_front}
+use Rattle.iso_lexer.specs.SpecText.{spec_keywords, spec_signs, block_token, spec_front}
 use Rattle.iso_lexer.specs.Inner.SpecFronts.{word_front, ascii_front, block_front}
 use Rattle.iso_lexer.specs.declared.fault.FaultKind.TheVariants.{UnterminatedBlock, UnterminatedName, UnexpectedByte}
 use Rattle.iso_lexer.specs.Bytes.{is_blank, is_name_start, is_name_byte, row_of}
@@ -46,7 +46,7 @@ first_some c bs n h = record {
   is = eqb-true _ c h.1;
 }
 
-block_is : (bs : List ℕ) → option_map_or (λ n. token (block_of (take n bs)) (drop (n + 1) bs)) (position (λ c. c == 125) bs) (fault UnterminatedBlock 0) ≡ block_front bs
+block_is : (bs : List ℕ) → option_map_or (λ n. token (block_token (take n bs)) (drop (n + 1) bs)) (position (λ c. c == 125) bs) (fault UnterminatedBlock 0) ≡ block_front bs
 block_is bs =
     let n = position_or_len (λ c. c == 125) bs in
     let le : n ≤ length bs = prefix_len-le-length _ bs in
@@ -62,7 +62,7 @@ sign_is : (b : ℕ) (bs : List ℕ) → option_map_or (λ s. token (sign s) bs) 
 sign_is b bs = ap (λ s. option_map_or (λ s. token (sign s) bs) s (fault UnexpectedByte 0)) (spelled_is spec_signs (b ∷ []))
 
 -- the front by its first byte, with these for words, quoted names, blocks and signs
-abbrev by_first : ℕ → List ℕ → Front Token → Front Token → Front Token → Front Token → Front Token
+abbrev by_first : ℕ → List ℕ → Front SpecToken → Front SpecToken → Front SpecToken → Front SpecToken → Front SpecToken
 by_first b bs word quote block signs =
     cond (is_name_start b) word
     (cond (is_blank b || b == 10) (gap bs)
@@ -78,7 +78,7 @@ front_is (b ∷ bs) lt = (λ i. by_first b bs (word_is (b ∷ bs) i) (line_front
 pub no_name_small : (b : ℕ) → is_name_start b ≡ false → b < 128
 no_name_small b h = grind (arith, nat_tests)
 
-block_some : (bs : List ℕ) (n : ℕ) → FirstAt 125 bs n → block_front bs ≡ token (block_of (take n bs)) (drop (n + 1) bs)
+block_some : (bs : List ℕ) (n : ℕ) → FirstAt 125 bs n → block_front bs ≡ token (block_token (take n bs)) (drop (n + 1) bs)
 block_some bs n at = rw (at.place, ne_eqb n (length bs) (λ e. absurd (omega (arith, at.lt)))) refl
 
 -- the answers of a search for the brace, of a text seen as bytes
@@ -89,7 +89,7 @@ pub record Brace (bs : List ℕ) (n : ℕ) : Type 0 where
   pub lt : n < length bs
   pub before : IsCharBoundary bs n
   pub behind : IsCharBoundary bs (n + 1)
-  pub front : block_front bs ≡ token (block_of (take n bs)) (drop (n + 1) bs)
+  pub front : block_front bs ≡ token (block_token (take n bs)) (drop (n + 1) bs)
 
 pub brace : (bs xs : List ℕ) (n : ℕ) → IsUtf8 bs → xs ≡ bs → IsFirstByte (is_byte 125) xs (Some n) → Brace bs n
 brace bs xs n utf8 same h =

@@ -4,7 +4,7 @@ use Rattle.std.specs.Prelude.{MatchBool, nat_lt}
 use Rattle.std.proofs.lemmas.Bool.{ltb-false}
 use Rattle.iso_lexer.specs.declared.token.At.{At}
 use Rattle.iso_lexer.specs.declared.fault.Fault.{Fault}
-use Rattle.iso_lexer.specs.SpecTokens.{Token}
+use Rattle.iso_lexer.specs.SpecTokens.{SpecToken}
 use Rattle.iso_lexer.specs.Lexing.{Front, Reads, ends, takes, fails, gap, token}
 use Rattle.iso_lexer.specs.Inner.Rules.{in_front}
 use Rattle.iso_lexer.specs.Lexing.{passes as skips}
@@ -38,12 +38,12 @@ few_read front rules total text answer (skips rest lt e h) = fewer (length rest)
 few_read front rules total text answer (takes t rest {more = more} e h is) = rw is (one_more (length rest) (length text) _ more (shorter_at front rules text (token t rest) (nonempty front text t rest rules.nothing e) (sym e)) (few_read front rules total rest more h))
 few_read front rules total text answer (fails kind n e is) = rw is tt
 
-no_fault : (ts : List (At Token)) (f : Fault) → ◌≡◌ {A = Result (List (At Token)) Fault} (Ok ts) (Err f) → ⊥
+no_fault : (ts : List (At SpecToken)) (f : Fault) → ◌≡◌ {A = Result (List (At SpecToken)) Fault} (Ok ts) (Err f) → ⊥
 no_fault ts f e = cc
 
-few_of : (b : Bool) (text : List ℕ) (ts : List (At Token)) (f : Fault) → nat_lt 1048576 (length text) ≡ b → MatchBool b (◌≡◌ {A = Result (List (At Token)) Fault} (Ok ts) (Err f)) (Reads spec_front (length text) text (Ok ts)) → (length text ≤ 1048576) × (length ts ≤ length text)
+few_of : (b : Bool) (text : List ℕ) (ts : List (At SpecToken)) (f : Fault) → nat_lt 1048576 (length text) ≡ b → MatchBool b (◌≡◌ {A = Result (List (At SpecToken)) Fault} (Ok ts) (Err f)) (Reads spec_front (length text) text (Ok ts)) → (length text ≤ 1048576) × (length ts ≤ length text)
 few_of true text ts f e h = absurd (no_fault ts f h)
 few_of false text ts f e h = (ltb-false 1048576 (length text) e, few_read spec_front spec_rules (length text) text (Ok ts) h)
 
-pub few_tokens : (text : List ℕ) (ts : List (At Token)) → Lexes text (Ok ts) → (length text ≤ 1048576) × (length ts ≤ length text)
+pub few_tokens : (text : List ℕ) (ts : List (At SpecToken)) → Lexes text (Ok ts) → (length text ≤ 1048576) × (length ts ≤ length text)
 few_tokens text ts h = few_of (nat_lt 1048576 (length text)) text ts _ refl h

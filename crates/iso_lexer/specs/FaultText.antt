@@ -16,8 +16,8 @@ kind_text UnterminatedComment = codes "L7 UnterminatedComment"
 kind_text NumberTooLarge = codes "L8 NumberTooLarge"
 
 -- what a fault is, and the byte at which it stands
-abbrev pub placed : List ℕ → ℕ → List ℕ
-placed what at = what ++ codes " at byte " ++ decimal at
+abbrev pub with_place : List ℕ → ℕ → List ℕ
+with_place what at = what ++ codes " at byte " ++ decimal at
 
 abbrev pub fault_text : Fault → List ℕ
-fault_text f = placed (kind_text f.kind) f.at
+fault_text f = with_place (kind_text f.kind) f.at

@@ -25,13 +25,13 @@ longer n Unclosed = Unclosed
 
 -- Behind an opening quote a doubled quote and each other byte go on, and a quote that is not doubled closes, that many bytes on.
 -- What has to stay on its line is broken by a newline.
-pub data GoesOn (mark : ℕ) (one_line : Bool) : List ℕ → Quoted → Type 0 where
-  runs_out : GoesOn mark one_line [] Unclosed
-  doubled : {text rest : List ℕ} {end more : Quoted} → text ≡ mark ∷ mark ∷ rest → GoesOn mark one_line rest more → end ≡ longer 2 more → GoesOn mark one_line text end
-  closes : {text rest : List ℕ} {end : Quoted} → text ≡ mark ∷ rest → ((more : List ℕ) → rest ≢ mark ∷ more) → end ≡ Closed 1 → GoesOn mark one_line text end
-  breaks : {text rest : List ℕ} {end : Quoted} → text ≡ 10 ∷ rest → mark ≢ 10 → one_line ≡ true → end ≡ Broken 0 → GoesOn mark one_line text end
-  goes_on : {text rest : List ℕ} {b : ℕ} {end more : Quoted} → text ≡ b ∷ rest → b ≢ mark → (one_line ≡ true → b ≢ 10) → GoesOn mark one_line rest more → end ≡ longer 1 more
-      → GoesOn mark one_line text end
+pub data QuoteGoesOn (mark : ℕ) (one_line : Bool) : List ℕ → Quoted → Type 0 where
+  runs_out : QuoteGoesOn mark one_line [] Unclosed
+  doubled : {text rest : List ℕ} {end more : Quoted} → text ≡ mark ∷ mark ∷ rest → QuoteGoesOn mark one_line rest more → end ≡ longer 2 more → QuoteGoesOn mark one_line text end
+  closes : {text rest : List ℕ} {end : Quoted} → text ≡ mark ∷ rest → ((more : List ℕ) → rest ≢ mark ∷ more) → end ≡ Closed 1 → QuoteGoesOn mark one_line text end
+  breaks : {text rest : List ℕ} {end : Quoted} → text ≡ 10 ∷ rest → mark ≢ 10 → one_line ≡ true → end ≡ Broken 0 → QuoteGoesOn mark one_line text end
+  goes_on : {text rest : List ℕ} {b : ℕ} {end more : Quoted} → text ≡ b ∷ rest → b ≢ mark → (one_line ≡ true → b ≢ 10) → QuoteGoesOn mark one_line rest more → end ≡ longer 1 more
+      → QuoteGoesOn mark one_line text end
 
 -- where a quoted text is closed, before a newline where it has to stay on its line, or else where that breaks it
 abbrev pub how_quoted : ℕ → Bool → List ℕ → Quoted
@@ -41,4 +41,4 @@ how_quoted mark one_line text =
 
 -- how a quoted text goes on is what is computed
 abbrev pub ComputedQuotes : Type 0
-ComputedQuotes = (mark : ℕ) (one_line : Bool) (text : List ℕ) (end : Quoted) → GoesOn mark one_line text end ↔ (how_quoted mark one_line text ≡ end)
+ComputedQuotes = (mark : ℕ) (one_line : Bool) (text : List ℕ) (end : Quoted) → QuoteGoesOn mark one_line text end ↔ (how_quoted mark one_line text ≡ end)

@@ -16,7 +16,7 @@ use Rattle.iso_lexer.specs.declared.spec_token.SpecTok.{SpecTok}
 use Rattle.iso_lexer.specs.declared.token.At.{At}
 use Rattle.iso_lexer.specs.Bytes.{is_blank, is_name_start, is_name_byte, drop_while, words_of, row_of}
 use Rattle.iso_lexer.specs.Names.{plain, quoted}
-use Rattle.iso_lexer.specs.SpecTokens.{Token, keyword, name, digits, sign, block, at_views}
+use Rattle.iso_lexer.specs.SpecTokens.{SpecToken, keyword, name, digits, sign, block, at_views}
 use Rattle.iso_lexer.specs.Lexing.{Front, gap, token, fault, of_run, Reads, HasToken}
 use Rattle.iso_lexer.specs.Quotes.{quoted_front}
 
@@ -28,20 +28,20 @@ abbrev pub spec_signs : List (List ℕ × Sign)
 spec_signs = zip (words_of (codes "( ) , *")) (Open ∷ Close ∷ Comma ∷ Star ∷ [])
 
 -- the token of a block, by what stands between its braces: so many blanks, and then the text without the blanks at its end
-abbrev pub block_of : List ℕ → Token
-block_of inner = let text = drop_while is_blank inner in block (length (take_while is_blank inner)) (take (length text - suffix_len is_blank text) text)
+abbrev pub block_token : List ℕ → SpecToken
+block_token inner = let text = drop_while is_blank inner in block (length (take_while is_blank inner)) (take (length text - suffix_len is_blank text) text)
 
 -- A rule for each first byte b. A word is a keyword, or else a plain name; a quoted name is closed on its line; the first closing brace ends a block.
-unfoldable pub spec_front : List ℕ → Front Token
+unfoldable pub spec_front : List ℕ → Front SpecToken
 spec_front [] = gap []
 spec_front (b ∷ bs) =
-    let unclosed : Front Token = option_map_or (λ n. fault NewlineInName (n + 1)) (position (λ c. c == 10) bs) (fault UnterminatedName 0) in
+    let unclosed : Front SpecToken = option_map_or (λ n. fault NewlineInName (n + 1)) (position (λ c. c == 10) bs) (fault UnterminatedName 0) in
     if is_name_start b then of_run is_name_byte (λ w. option_map_or keyword (row_of bytes_eq spec_keywords w) (name (plain w))) (b ∷ bs)
     else (if is_blank b || b == 10 then gap bs
     else (if b == 35 then gap (drop_while (λ c. not (c == 10 || c == 13)) (b ∷ bs))
     else (if is_ascii_digit b then of_run is_ascii_digit digits (b ∷ bs)
     else (if b == 34 then quoted_front 34 (λ s. name (quoted s)) (before_first (λ c. c == 10) bs) bs unclosed
-    else (if b == 123 then option_map_or (λ n. token (block_of (take n bs)) (drop (n + 1) bs)) (position (λ c. c == 125) bs) (fault UnterminatedBlock 0)
+    else (if b == 123 then option_map_or (λ n. token (block_token (take n bs)) (drop (n + 1) bs)) (position (λ c. c == 125) bs) (fault UnterminatedBlock 0)
     else option_map_or (λ s. token (sign s) bs) (row_of bytes_eq spec_signs (b ∷ [])) (fault UnexpectedByte 0))))))
 
 -- ---- whole texts
@@ -51,7 +51,7 @@ abbrev pub longest_file : ℕ
 longest_file = 1048576
 
 -- A file that is too long has that fault alone.
-abbrev pub Lexes : List ℕ → Result (List (At Token)) Fault → Type 0
+abbrev pub Lexes : List ℕ → Result (List (At SpecToken)) Fault → Type 0
 Lexes text answer = MatchBool (nat_lt longest_file (length text)) (answer ≡ Err (record { kind = FileTooLong; at = longest_file })) (Reads spec_front (length text) text answer)
 
 -- room is wanted only of a file that isn't too long, and has a token before any fault
@@ -60,7 +60,7 @@ pub record WantsRoom (text : List ℕ) : Type 0 where
   pub token : HasToken spec_front text
 
 -- What was returned is so, unless memory ran out.
-abbrev pub Answers : List ℕ → Result (Vec (At SpecTok)) LexFault → Type 0
-Answers text (Ok ts) = Lexes text (Ok (at_views ts.items))
-Answers text (Err errors.Memory) = WantsRoom text
-Answers text (Err (errors.Fault f)) = Lexes text (Err f)
+abbrev pub LexAnswers : List ℕ → Result (Vec (At SpecTok)) LexFault → Type 0
+LexAnswers text (Ok ts) = Lexes text (Ok (at_views ts.items))
+LexAnswers text (Err errors.Memory) = WantsRoom text
+LexAnswers text (Err (errors.Fault f)) = Lexes text (Err f)

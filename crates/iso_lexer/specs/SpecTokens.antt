@@ -8,23 +8,23 @@ use Rattle.iso_lexer.specs.declared.token.At.{At}
 use Rattle.iso_lexer.specs.Names.{Written, name_view}
 
 -- a token, without where it lies in memory
-pub data Token : Type 0 where
-  keyword : Keyword → Token
-  name : Written → Token
-  digits : List ℕ → Token
-  sign : Sign → Token
+pub data SpecToken : Type 0 where
+  keyword : Keyword → SpecToken
+  name : Written → SpecToken
+  digits : List ℕ → SpecToken
+  sign : Sign → SpecToken
   -- the blanks dropped behind the brace, and the text
-  block : ℕ → List ℕ → Token
+  block : ℕ → List ℕ → SpecToken
 
-abbrev pub token_view : SpecTok → Token
+abbrev pub token_view : SpecTok → SpecToken
 token_view (toks.Keyword k) = keyword k
 token_view (toks.Name n) = name (name_view n)
 token_view (toks.Digits s) = digits s.now
 token_view (toks.Sign s) = sign s
 token_view (toks.Block blanks s) = block blanks s.now
 
-abbrev pub at_view : At SpecTok → At Token
+abbrev pub at_view : At SpecTok → At SpecToken
 at_view t = record { tok = token_view t.tok; span = t.span }
 
-abbrev pub at_views : List (At SpecTok) → List (At Token)
+abbrev pub at_views : List (At SpecTok) → List (At SpecToken)
 at_views ts = map at_view ts

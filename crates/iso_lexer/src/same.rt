@@ -3,14 +3,14 @@
 ghost use Rattle.std.specs.Prelude.{◌≡◌, [], bytes_eq, MatchOption};
 ghost use Rattle.iso_lexer.specs.Names.{name_view};
 ghost use Rattle.iso_lexer.specs.Names.{decoded};
-ghost use Rattle.iso_lexer.specs.Inner.NameParts.{decoded_in, written, FirstIs};
+ghost use Rattle.iso_lexer.specs.Inner.NameParts.{decoded_in, raw_bytes, FirstIs};
 ghost use Rattle.std.proofs.Common.{rules};
 ghost use Rattle.std.specs.Cmp.Rules.{comparing};
 
 use crate::name::Name;
 
 fn written<'a>(name: &Name<'a>) -> &'a [u8]
-    ensures { result.now ≡ written (name_view name.now) }
+    ensures { result.now ≡ raw_bytes (name_view name.now) }
 {
     match *name {
         Name::Plain(text) => text.as_bytes(),

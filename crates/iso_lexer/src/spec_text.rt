@@ -3,8 +3,8 @@
 ghost use Rattle.std.specs.Prelude.{◌≡◌, ◌≤◌, List, ℕ, Result, Ok, length};
 ghost use Rattle.std.specs.List.{AllByRecursion};
 ghost use Rattle.iso_lexer.specs.SpecSpelling.{LiesAt};
-ghost use Rattle.iso_lexer.specs.SpecTokens.{Token};
-ghost use Rattle.iso_lexer.specs.SpecText.{Answers, Lexes, longest_file};
+ghost use Rattle.iso_lexer.specs.SpecTokens.{SpecToken};
+ghost use Rattle.iso_lexer.specs.SpecText.{LexAnswers, Lexes, longest_file};
 ghost use Rattle.iso_lexer.specs.declared.fault.Fault.{Fault};
 ghost use Rattle.iso_lexer.specs.declared.token.At.{At};
 
@@ -18,7 +18,7 @@ use crate::whole::LONGEST_FILE;
 use std::alloc::Global;
 
 impl<'a> Token<'a> for SpecTok<'a> {
-    ghost use Rattle.iso_lexer.specs.SpecTokens.{Token as PlainToken, token_view};
+    ghost use Rattle.iso_lexer.specs.SpecTokens.{SpecToken as PlainToken, token_view};
     ghost use Rattle.iso_lexer.specs.SpecText.{spec_front as rules_of_files};
 
     ghost Plain = { PlainToken };
@@ -34,7 +34,7 @@ impl<'a> Token<'a> for SpecTok<'a> {
 
 /// The tokens of a spec file, or its first fault.
 pub fn spec_tokens<'a>(alloc: Global, text: &'a str) -> Result<Vec<At<SpecTok<'a>>>, LexFault>
-    ensures { Answers text.now result }
+    ensures { LexAnswers text.now result }
 {
     if text.len() > LONGEST_FILE {
         return Err(LexFault::Fault(Fault {
@@ -47,15 +47,15 @@ pub fn spec_tokens<'a>(alloc: Global, text: &'a str) -> Result<Vec<At<SpecTok<'a
 
 /// A file has one list of tokens, or one first fault.
 pub fn one_reading()
-    ensures { (text : List ℕ) (x y : Result (List (At Token)) Fault) → Lexes text x → Lexes text y → x ≡ y }
+    ensures { (text : List ℕ) (x y : Result (List (At SpecToken)) Fault) → Lexes text x → Lexes text y → x ≡ y }
 {}
 
 /// Each token is the slice of the text at its span.
 pub fn tokens_are_slices()
-    ensures { (text : List ℕ) (ts : List (At Token)) → Lexes text (Ok ts) → AllByRecursion (LiesAt text) ts }
+    ensures { (text : List ℕ) (ts : List (At SpecToken)) → Lexes text (Ok ts) → AllByRecursion (LiesAt text) ts }
 {}
 
 /// A file that has tokens is no longer than the longest, and has no more tokens than bytes.
 pub fn tokens_are_few()
-    ensures { (text : List ℕ) (ts : List (At Token)) → Lexes text (Ok ts) → (length text ≤ longest_file) × (length ts ≤ length text) }
+    ensures { (text : List ℕ) (ts : List (At SpecToken)) → Lexes text (Ok ts) → (length text ≤ longest_file) × (length ts ≤ length text) }
 {}

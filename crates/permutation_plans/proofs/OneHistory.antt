@@ -14,7 +14,7 @@ use Rattle.session_machine.specs.declared.reply.HistItem.{HistItem}
 use Rattle.session_machine.specs.declared.fault.Refusal.{Refusal}
 use Rattle.session_machine.specs.declared.fault.Refusal.TheVariants.{Busy, NotYourTurn, StillBlocked, BlockNotAllowed}
 use Rattle.session_machine.specs.Machine.{Machine, Blocks, Next, next, turn_in, is_quiet, Run}
-use Rattle.session_machine.specs.Inner.Steps.{launch_of, leave_of, step_of, step_at, step_stmt, is_turn}
+use Rattle.session_machine.specs.Inner.Steps.{launch_of, leave_of, step_of, step_from_place, step_stmt, is_turn}
 use Rattle.spec_parser.specs.Trees.{EntryTree, SpecTree}
 use Rattle.permutation_plans.specs.Launches.{due_in}
 use Rattle.permutation_plans.specs.Regular.{IsOrdered, FitsAfter, IsRegular}
@@ -83,7 +83,7 @@ stmt_turn : (m : Machine) (session : ℕ) (s : Session) (place : Place) (count :
 stmt_turn m session s place count None n h = absurd (no_answer h)
 stmt_turn m session s place count (Some stmt) n h = is_it (turn_in m) session (step_tests (is_turn (turn_in m) session) _ _ n h)
 
-place_turn : (blocks : Blocks) (m : Machine) (session : ℕ) (s : Session) (o : Option Place) (n : Next) → step_at blocks Directed m session s o ≡ answer_of n → turn_in m ≡ Some session
+place_turn : (blocks : Blocks) (m : Machine) (session : ℕ) (s : Session) (o : Option Place) (n : Next) → step_from_place blocks Directed m session s o ≡ answer_of n → turn_in m ≡ Some session
 place_turn blocks m session s None n h = absurd (no_answer h)
 place_turn blocks m session s (Some place) n h = stmt_turn m session s place _ _ n h
 

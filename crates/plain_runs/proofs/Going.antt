@@ -18,7 +18,7 @@ use Rattle.session_core.specs.Engines.{IsOf}
 use Rattle.session_seats.specs.declared.fault.ThreadFault.TheVariants.{Engine as Engine_fault}
 use Rattle.session_seats.specs.Acts.{Acted}
 use Rattle.session_seats.specs.Orders.{Orders, IsOrder}
-use Rattle.session_crews.specs.Inner.Shared.{IsOrderly}
+use Rattle.session_crews.specs.Inner.Shared.{RunsInOrder}
 use Rattle.session_seats.specs.Seats.{SeatOf, with_item}
 use Rattle.session_crews.proofs.Ordering as threads
 use Rattle.spec_parser.specs.Trees.{EntryTree, SpecTree}
@@ -26,7 +26,7 @@ use Rattle.report_lines.specs.Due.{Launches}
 use Rattle.permutation_plans.specs.Launches.{launches, due_after, due_in}
 use Rattle.plain_runs.specs.Alone.{next_event, IsOfAlone, RefusesNext}
 use Rattle.spec_files.specs.Faults.{thread_fault}
-use Rattle.plain_runs.specs.Inner.Next.{IsNext}
+use Rattle.plain_runs.specs.Inner.Next.{IsNextEvent}
 use Rattle.spec_files.specs.Plans.{Planning, order_after, IsFollowing}
 use Rattle.spec_files.specs.Following.{follows_longer}
 
@@ -35,7 +35,7 @@ pub record IsUnderWay (first plan : Planning) (opened e : Engine) : Type 0 where
   pub launches : plan.launches ≡ first.launches
   pub entries : plan.entries ≡ first.entries
   pub follows : IsFollowing plan e.history
-  pub orderly : IsOrderly (order_after first) e.history None false
+  pub orderly : RunsInOrder (order_after first) e.history None false
   pub same : IsOf e opened.blocks opened.count opened.mode
 
 -- plans of the same launches and entries order the same
@@ -73,7 +73,7 @@ is_order_in None (LaunchOrder session block) event is = let same : event ≡ Lau
 is_order_in None (LeaveOrder session) event is = let same : event ≡ Leave session = cc in subst (λ (e : Event). IsOrder e (LeaveOrder session)) (sym same) refl
 is_order_in None Stop event is = absurd cc
 
-pub is_order : (e : Engine) (order : Order) (event : Event) → IsNext e order (Some event) → IsOrder event order
+pub is_order : (e : Engine) (order : Order) (event : Event) → IsNextEvent e order (Some event) → IsOrder event order
 is_order e order event next = is_order_in (turn_in next.state) order event next.is
 
 refused_in : (e : Engine) (event : Event) (n : Result Next Refusal) (fault : EngineFault) → (engine_answered e event n).answer ≡ Err fault
@@ -83,7 +83,7 @@ refused_in e event (Ok n) fault is = absurd cc
 
 -- what is next was refused
 pub refuses_next : (first plan : Planning) (opened e after : Engine) (event : Event) (fault : EngineFault)
-    → IsUnderWay first plan opened e → IsNext e (order_after plan e.history) (Some event)
+    → IsUnderWay first plan opened e → IsNextEvent e (order_after plan e.history) (Some event)
     → engine_after e event ≡ record { engine = after; answer = Err fault } → RefusesNext (order_after first) opened.blocks opened.count opened.mode fault
 refuses_next first plan opened e after event fault so is_next is =
     let answer = ap (λ (m : Option Machine). (engine_step e event m).answer) (sym is_next.live) ∙ ap (λ (a : EngineAnswered). a.answer) is in

@@ -11,7 +11,7 @@ ghost use Rattle.permutation_plans.specs.Regular.{IsRegular};
 ghost use Rattle.spec_files.specs.Inner.Resting.{IsAtRest};
 ghost use Rattle.spec_files.specs.Plans.{order_after, IsFollowing};
 ghost use Rattle.plain_runs.specs.Alone.{IsOfAlone, RefusesNext};
-ghost use Rattle.plain_runs.specs.Inner.Next.{IsNext};
+ghost use Rattle.plain_runs.specs.Inner.Next.{IsNextEvent};
 
 use permutations::{PermutationDriver, RunFault};
 use row_versions::ListStore;
@@ -31,7 +31,7 @@ fn next_event<'a, 't>(
     engine: &EngineState<'a, 't, ListStore>,
 ) -> Result<Option<Event>, AllocError>
     requires follows { IsFollowing plan.old engine.now.history }
-    ensures next { IfOk result (IsNext engine.now (order_after plan.old engine.now.history)) }
+    ensures next { IfOk result (IsNextEvent engine.now (order_after plan.old engine.now.history)) }
     ensures follows { OnOk result (IsFollowing plan.new engine.now.history) }
     ensures same { (plan.new.launches ≡ plan.old.launches) × (plan.new.entries ≡ plan.old.entries) }
 {

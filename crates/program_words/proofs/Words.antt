@@ -4,10 +4,10 @@ use Rattle.std.specs.Str.Parse.{IsNumeral, digits_value, without_leading_plus, P
 use Rattle.clap.specs.Words.{Text, ReadsOne, one_of, rows_of, found_of, one_text, matches_of}
 use Rattle.clap.specs.declared.parser.matches.ArgMatches.{ArgMatches}
 use Rattle.clap.proofs.WalkLemmas.{one_text-rows}
-use Rattle.program_words.specs.Options.{program, found}
+use Rattle.program_words.specs.Options.{program, option_found}
 
 -- what a getter reads is what the words say
-pub reads : (m : ArgMatches) (words : List Text) (name : Text) → rows_of (found_of m) ≡ matches_of program words → one_text (found_of m) name ≡ found name words
+pub reads : (m : ArgMatches) (words : List Text) (name : Text) → rows_of (found_of m) ≡ matches_of program words → one_text (found_of m) name ≡ option_found name words
 reads m words name rows = one_text-rows (found_of m) name ∙ subst (λ r. one_of name (rows_of (found_of m)) ≡ one_of name r) rows refl
 
 -- a number that was read in 32 bits

@@ -18,8 +18,8 @@ abbrev pub line_from : List ℕ → ℕ → List ℕ
 line_from file at = before_first is_newline (drop at file)
 
 -- a control character, a tab among them, is shown as a blank
-abbrev pub shown : ℕ → ℕ
-shown b = if nat_lt b 32 || b == 127 then 32 else b
+abbrev pub shown_byte : ℕ → ℕ
+shown_byte b = if nat_lt b 32 || b == 127 then 32 else b
 
 -- the first byte of a character in UTF-8
 abbrev pub begins_character : ℕ → Bool
@@ -34,19 +34,19 @@ label number = codes "LINE " ++ decimal number ++ codes ": "
 
 -- a line with its label before it, and below it a mark under the byte that ends the line's first part
 abbrev pub marked : List ℕ → List ℕ → List ℕ → List ℕ
-marked label before after = label ++ map shown before ++ map shown after ++ codes "\n" ++ replicate (length label + columns before) 32 ++ codes "^\n"
+marked label before after = label ++ map shown_byte before ++ map shown_byte after ++ codes "\n" ++ replicate (length label + columns before) 32 ++ codes "^\n"
 
 -- a line of more than 200 bytes isn't quoted
-abbrev pub quoted : List ℕ → ℕ → List ℕ
-quoted file at = if nat_lt 200 (length (line_before file at) + length (line_from file at)) then [] else
+abbrev pub quoted_line : List ℕ → ℕ → List ℕ
+quoted_line file at = if nat_lt 200 (length (line_before file at) + length (line_from file at)) then [] else
     marked (label (line_number file at)) (line_before file at) (line_from file at)
 
 -- what lines are quoted so, by examples
 abbrev pub WorkedQuotes : Type 0
 WorkedQuotes =
-    (quoted (codes "session s\nstep a { SELCT 1; }\n") 19 ≡ codes "LINE 2: step a { SELCT 1; }\n                 ^\n")
-    × (quoted (codes "\tstep a {") 8 ≡ codes "LINE 1:  step a {\n                ^\n")
-    × (quoted (codes "session s\n") 10 ≡ codes "LINE 2: \n        ^\n")
-    × (quoted (codes "a\nb") 1 ≡ codes "LINE 1: a\n         ^\n")
-    × (quoted (195 ∷ 169 ∷ codes " x") 3 ≡ codes "LINE 1: " ++ 195 ∷ 169 ∷ codes " x\n          ^\n")
-    × (quoted (replicate 201 120) 0 ≡ [])
+    (quoted_line (codes "session s\nstep a { SELCT 1; }\n") 19 ≡ codes "LINE 2: step a { SELCT 1; }\n                 ^\n")
+    × (quoted_line (codes "\tstep a {") 8 ≡ codes "LINE 1:  step a {\n                ^\n")
+    × (quoted_line (codes "session s\n") 10 ≡ codes "LINE 2: \n        ^\n")
+    × (quoted_line (codes "a\nb") 1 ≡ codes "LINE 1: a\n         ^\n")
+    × (quoted_line (195 ∷ 169 ∷ codes " x") 3 ≡ codes "LINE 1: " ++ 195 ∷ 169 ∷ codes " x\n          ^\n")
+    × (quoted_line (replicate 201 120) 0 ≡ [])

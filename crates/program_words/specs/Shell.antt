@@ -19,7 +19,7 @@ use Rattle.report_text.specs.Said.{Said}
 use Rattle.spec_files.specs.declared.fault.RunFault.{RunFault}
 use Rattle.spec_files.specs.declared.fault.RunFault.TheVariants as faults
 use Rattle.program_words.specs.declared.options.Options.{Options}
-use Rattle.program_words.specs.Options.{Gives, program, status_of}
+use Rattle.program_words.specs.Options.{GivesOptions, program, option_status}
 
 -- ---- words that are refused
 
@@ -41,10 +41,10 @@ abbrev pub TookText : Bool → Option (List ℕ) → Option (List ℕ) → Type 
 TookText failed old new = (text : List ℕ) × Took failed old new text
 
 -- what was asked for goes to the output alone, or the errors tell of want of memory; a mistake is told to the errors alone
-abbrev pub IsShown : Bool → Bool → Option (List ℕ) → Option (List ℕ) → Bool → Option (List ℕ) → Option (List ℕ) → Type 0
-IsShown true out_failed out_old out_new err_failed err_old err_new =
+abbrev pub IsPutOut : Bool → Bool → Option (List ℕ) → Option (List ℕ) → Bool → Option (List ℕ) → Option (List ℕ) → Type 0
+IsPutOut true out_failed out_old out_new err_failed err_old err_new =
     (TookText out_failed out_old out_new × (err_new ≡ err_old)) ⊎ ((out_new ≡ out_old) × Took err_failed err_old err_new memory_line)
-IsShown false out_failed out_old out_new err_failed err_old err_new = (out_new ≡ out_old) × TookText err_failed err_old err_new
+IsPutOut false out_failed out_old out_new err_failed err_old err_new = (out_new ≡ out_old) × TookText err_failed err_old err_new
 
 -- help or the version was asked for
 abbrev pub is_request : ErrorKind → Bool
@@ -56,13 +56,13 @@ is_request _ = false
 pub record IsRefused (words : List Text) (out_failed : Bool) (out_old out_new : Option (List ℕ)) (err_failed : Bool) (err_old err_new : Option (List ℕ)) (status : ℕ) : Type 0 where
   pub kind : ErrorKind
   pub may : MayRefuse words kind
-  pub ends : status ≡ status_of kind
-  pub shown : IsShown (is_request kind) out_failed out_old out_new err_failed err_old err_new
+  pub ends : status ≡ option_status kind
+  pub shown : IsPutOut (is_request kind) out_failed out_old out_new err_failed err_old err_new
 
 -- ---- words that give options
 
 -- the permutations were listed: their lines go to the output, wherever that ends a front of them, and nothing to the errors
-pub record Listed (left : Option (List ℕ)) (limit : ℕ) (old new notes_old notes_new : Option (List ℕ)) (answer : Result (Unit {0}) RunFault) : Type 0 where
+pub record ListsTold (left : Option (List ℕ)) (limit : ℕ) (old new notes_old notes_new : Option (List ℕ)) (answer : Result (Unit {0}) RunFault) : Type 0 where
   pub lists : IfFile left (λ file. IsTrue (has_ended answer) → (said : Said) × FileLists file limit (Ok said) × IsListed old new answer said)
   pub refused : IfFile left (λ file. IfErr answer (λ e. is_refusal e ≡ true → FileLists file limit (Err e)))
   pub kinds : IfErr answer (λ e. is_of_listing e ≡ true)
@@ -78,7 +78,7 @@ pub record Ran (left : Option (List ℕ)) (limit : ℕ) (out_old out_new notes_o
   pub broken : IfFile left (λ file. IsTrue (has_broken answer) → FileBroken file limit out_old out_new notes_old notes_new)
 
 -- the file ran freely: the text of a free run that it may have goes to the output, and its notes to the errors; where it is refused, or its threads come to no end, nothing is written
-pub record RanFreely (left : Option (List ℕ)) (out_old out_new notes_old notes_new : Option (List ℕ)) (answer : Result (Unit {0}) RunFault) : Type 0 where
+pub record FileRanFreely (left : Option (List ℕ)) (out_old out_new notes_old notes_new : Option (List ℕ)) (answer : Result (Unit {0}) RunFault) : Type 0 where
   pub told : IfFile left (λ file. IsTrue (has_ended answer) → FileFreeTold file out_old out_new notes_old notes_new answer)
   pub refused : IfFile left (λ file. IfErr answer (λ e. is_refusal e ≡ true → FileIs file (Err e)))
   pub untouched : IfErr answer (λ e. is_refusal e ≡ true → (out_new ≡ out_old) × (notes_new ≡ notes_old))
@@ -88,8 +88,8 @@ pub record RanFreely (left : Option (List ℕ)) (out_old out_new notes_old notes
 -- `--list` is looked at before all else, then `--free`, with which the limit counts for nothing
 abbrev pub Runs : Options → Option (List ℕ) → Option (List ℕ) → Option (List ℕ) → Option (List ℕ) → Option (List ℕ) → Result (Unit {0}) RunFault → Type 0
 Runs o left out_old out_new notes_old notes_new answer =
-    (o.list ≡ true → Listed left o.limit out_old out_new notes_old notes_new answer)
-    × (o.list ≡ false → o.free ≡ true → RanFreely left out_old out_new notes_old notes_new answer)
+    (o.list ≡ true → ListsTold left o.limit out_old out_new notes_old notes_new answer)
+    × (o.list ≡ false → o.free ≡ true → FileRanFreely left out_old out_new notes_old notes_new answer)
     × (o.list ≡ false → o.free ≡ false → Ran left o.limit out_old out_new notes_old notes_new answer)
 
 -- the fault's line goes to the errors; where memory for it is refused the line says so
@@ -110,8 +110,8 @@ exit_status (Err e) = fault_status e
 -- the words are refused, or give options, which run over the bytes that are left to read: first their text and notes go out, and then the line of their fault
 pub data IsServed (words : List Text) (left : Option (List ℕ)) (out_failed : Bool) (out_old out_new : Option (List ℕ))
     (err_failed : Bool) (err_old err_new : Option (List ℕ)) (status : ℕ) : Type 0 where
-  refuses : (kind : ErrorKind) → MayRefuse words kind → status ≡ status_of kind → IsShown (is_request kind) out_failed out_old out_new err_failed err_old err_new
+  refuses : (kind : ErrorKind) → MayRefuse words kind → status ≡ option_status kind → IsPutOut (is_request kind) out_failed out_old out_new err_failed err_old err_new
       → IsServed words left out_failed out_old out_new err_failed err_old err_new status
-  serves : (options : Options) → fault_of program words ≡ [] → Gives words options → (answer : Result (Unit {0}) RunFault) → (noted : Option (List ℕ))
+  serves : (options : Options) → fault_of program words ≡ [] → GivesOptions words options → (answer : Result (Unit {0}) RunFault) → (noted : Option (List ℕ))
       → Runs options left out_old out_new err_old noted answer → TellsFault answer err_failed noted err_new → status ≡ exit_status answer
       → IsServed words left out_failed out_old out_new err_failed err_old err_new status

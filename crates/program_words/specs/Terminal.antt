@@ -6,15 +6,15 @@ use Rattle.clap.specs.Words.{Text, fault_of}
 use Rattle.clap.specs.declared.error.kind.ErrorKind.{ErrorKind}
 use Rattle.spec_parser.specs.declared.fault.SpecFault.{SpecFault}
 use Rattle.spec_parser.specs.declared.fault.SpecFault.TheVariants as spec_faults
-use Rattle.sql_trees.specs.Faults.{place}
+use Rattle.sql_trees.specs.Faults.{fault_place}
 use Rattle.spec_files.specs.FaultText.{shift_of}
 use Rattle.spec_files.specs.Promises.{IfFile}
 use Rattle.spec_files.specs.declared.fault.RunFault.{RunFault}
 use Rattle.spec_files.specs.declared.fault.RunFault.TheVariants as faults
 use Rattle.program_words.specs.declared.options.Options.{Options}
-use Rattle.program_words.specs.Options.{Gives, program, status_of}
-use Rattle.program_words.specs.Quote.{quoted}
-use Rattle.program_words.specs.Shell.{IsShown, MayRefuse, Runs, TellsFault, Took, TookLine, exit_status, is_request}
+use Rattle.program_words.specs.Options.{GivesOptions, program, option_status}
+use Rattle.program_words.specs.Quote.{quoted_line}
+use Rattle.program_words.specs.Shell.{IsPutOut, MayRefuse, Runs, TellsFault, Took, TookLine, exit_status, is_request}
 
 -- ---- before the file is read
 
@@ -52,24 +52,24 @@ spec_place (spec_faults.NoticesLeftOut at) = Some at
 spec_place (spec_faults.Limit at) = Some at
 
 -- the byte of the file that a fault names
-abbrev pub place_of : RunFault → Option ℕ
-place_of (faults.Lex f) = Some f.at
-place_of (faults.Spec f) = spec_place f
-place_of (faults.Sql f) = Some (shift_of f + place f.fault)
-place_of (faults.NotUtf8 at) = Some at
-place_of _ = None
+abbrev pub place_in_file : RunFault → Option ℕ
+place_in_file (faults.Lex f) = Some f.at
+place_in_file (faults.Spec f) = spec_place f
+place_in_file (faults.Sql f) = Some (shift_of f + fault_place f.fault)
+place_in_file (faults.NotUtf8 at) = Some at
+place_in_file _ = None
 
 -- the line of the file in which a fault stands that names a byte
 abbrev pub quoted_at : List ℕ → Option ℕ → List ℕ
 quoted_at file None = []
-quoted_at file (Some at) = quoted file at
+quoted_at file (Some at) = quoted_line file at
 
 -- the fault's line goes to the errors, which may fail there already, and behind it the line of the file, unless memory for it is refused
 abbrev pub TellsQuoted : List ℕ → Result (Unit {0}) RunFault → Bool → Option (List ℕ) → Option (List ℕ) → Type 0
 TellsQuoted file (Ok x) failed noted new = new ≡ noted
 TellsQuoted file (Err e) failed noted new =
     (told : Option (List ℕ)) × (failed_there : Bool) × TookLine e failed_there noted told × (failed_there ≡ true → failed ≡ true)
-    × (Took failed told new (quoted_at file (place_of e)) ⊎ (new ≡ told))
+    × (Took failed told new (quoted_at file (place_in_file e)) ⊎ (new ≡ told))
 
 -- ---- all of it
 
@@ -94,7 +94,7 @@ pub data ReadsAndRuns (options : Options) (left : Option (List ℕ)) (in_failed 
 -- the words are refused, or give options that run
 pub data IsServedThere (words : List Text) (left : Option (List ℕ)) (in_failed typed : Bool) (out_failed : Bool) (out_old out_new : Option (List ℕ))
     (err_failed : Bool) (err_old err_new : Option (List ℕ)) (status : ℕ) : Type 0 where
-  refuses : (kind : ErrorKind) → MayRefuse words kind → status ≡ status_of kind → IsShown (is_request kind) out_failed out_old out_new err_failed err_old err_new
+  refuses : (kind : ErrorKind) → MayRefuse words kind → status ≡ option_status kind → IsPutOut (is_request kind) out_failed out_old out_new err_failed err_old err_new
       → IsServedThere words left in_failed typed out_failed out_old out_new err_failed err_old err_new status
-  serves : (options : Options) → fault_of program words ≡ [] → Gives words options → ReadsAndRuns options left in_failed typed out_old out_new err_failed err_old err_new status
+  serves : (options : Options) → fault_of program words ≡ [] → GivesOptions words options → ReadsAndRuns options left in_failed typed out_old out_new err_failed err_old err_new status
       → IsServedThere words left in_failed typed out_failed out_old out_new err_failed err_old err_new status

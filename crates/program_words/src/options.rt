@@ -2,7 +2,7 @@
 
 ghost use Rattle.std.specs.Prelude.{◌≡◌, map, IfOk, string_bytes, unwrap_or};
 ghost use Rattle.clap.specs.Words.{FailsBy, app_of, fault_of, kind_of};
-ghost use Rattle.program_words.specs.Options.{program, Gives, status_of};
+ghost use Rattle.program_words.specs.Options.{program, GivesOptions, option_status};
 
 use clap::error::ErrorKind;
 use clap::{Arg, ArgAction, Command, Error, value_parser};
@@ -86,7 +86,7 @@ fn command_of<'a>(alloc: Global) -> Result<Command<'a>, AllocError>
 /// The options among the words of a command line, of which the first is the program's name. Want of memory may stand in the
 /// place of any answer.
 pub fn options_of(alloc: Global, words: &[String]) -> Result<Options, Error>
-    ensures gives { IfOk result (λ options. Gives (map string_bytes words.now) options) }
+    ensures gives { IfOk result (λ options. GivesOptions (map string_bytes words.now) options) }
     ensures refused { FailsBy (fault_of program (map string_bytes words.now)) result }
 {
     let matches = command_of(alloc)?.try_get_matches_from(words)?;
@@ -99,7 +99,7 @@ pub fn options_of(alloc: Global, words: &[String]) -> Result<Options, Error>
 
 /// The exit status where the words give no options: 0 after help was asked for, 3 where memory was refused, else 2.
 pub fn status_of(error: &Error) -> u8
-    ensures { result ≡ status_of (kind_of error.now) }
+    ensures { result ≡ option_status (kind_of error.now) }
 {
     match error.kind() {
         ErrorKind::DisplayHelp | ErrorKind::DisplayVersion => 0,

@@ -2,8 +2,8 @@
 
 ghost use Rattle.std.specs.Prelude.{◌≡◌, [], IfErr, IfOk, OnOk, map, string_bytes, true};
 ghost use Rattle.clap.specs.Words.{fault_of, kind_of};
-ghost use Rattle.program_words.specs.Options.{program, Gives};
-ghost use Rattle.program_words.specs.Shell.{IsRefused, IsShown, Took, TookLine, TellsFault, exit_status, is_request};
+ghost use Rattle.program_words.specs.Options.{program, GivesOptions};
+ghost use Rattle.program_words.specs.Shell.{IsRefused, IsPutOut, Took, TookLine, TellsFault, exit_status, is_request};
 
 use crate::options::{Options, options_of, status_of};
 use iso_lexer::Sink;
@@ -30,7 +30,7 @@ pub(crate) fn put_fault<N: Sink>(alloc: Global, err: &mut N, fault: &RunFault)
 
 /// Puts what clap says of words that give no options: help goes to the output, a mistake to the errors.
 fn put_error<W: Sink, N: Sink>(alloc: Global, out: &mut W, err: &mut N, error: &clap::Error)
-    ensures { IsShown (is_request (kind_of error.now)) (W.failed out.new) (W.put_so_far out.old) (W.put_so_far out.new)
+    ensures { IsPutOut (is_request (kind_of error.now)) (W.failed out.new) (W.put_so_far out.old) (W.put_so_far out.new)
         (N.failed err.new) (N.put_so_far err.old) (N.put_so_far err.new) }
 {
     match format!(in alloc; "{error}") {
@@ -62,7 +62,7 @@ pub fn take_words<W: Sink, N: Sink>(
     out: &mut W,
     err: &mut N,
 ) -> Result<Options, u8>
-    ensures gives { IfOk result (λ options. (fault_of program (map string_bytes words.now) ≡ []) × Gives (map string_bytes words.now) options) }
+    ensures gives { IfOk result (λ options. (fault_of program (map string_bytes words.now) ≡ []) × GivesOptions (map string_bytes words.now) options) }
     ensures untouched { OnOk result ((out.new ≡ out.old) × (err.new ≡ err.old)) }
     ensures refused { IfErr result (IsRefused (map string_bytes words.now) (W.failed out.new) (W.put_so_far out.old) (W.put_so_far out.new)
         (N.failed err.new) (N.put_so_far err.old) (N.put_so_far err.new)) }

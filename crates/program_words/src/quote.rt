@@ -2,7 +2,7 @@
 
 ghost use Rattle.std.specs.Prelude.{◌≡◌, ◌+◌, ◌++◌, IfOk, OnOk, map, not, count_by};
 ghost use Rattle.std.specs.List.{prefix_len, suffix_len, after_last, before_first};
-ghost use Rattle.program_words.specs.Quote.{begins_character, columns, is_newline, marked, quoted, shown};
+ghost use Rattle.program_words.specs.Quote.{begins_character, columns, is_newline, marked, quoted_line, shown_byte};
 
 use std::alloc::{AllocError, Global};
 
@@ -10,7 +10,7 @@ use std::alloc::{AllocError, Global};
 const LONGEST_LINE: usize = 200;
 
 fn shown(b: u8) -> u8
-    ensures { result ≡ shown b }
+    ensures { result ≡ shown_byte b }
 {
     if b < 32 || b == 127 { b' ' } else { b }
 }
@@ -60,7 +60,7 @@ fn first_line(text: &[u8]) -> &[u8]
 }
 
 fn push_shown(text: &mut Vec<u8>, line: &[u8]) -> Result<(), AllocError>
-    ensures { OnOk result (text.new.items ≡ text.old.items ++ map shown line.now) }
+    ensures { OnOk result (text.new.items ≡ text.old.items ++ map shown_byte line.now) }
 {
     for b in line {
         text.push(shown(*b))?;
@@ -85,7 +85,7 @@ fn marked(alloc: Global, label: &str, before: &[u8], after: &[u8]) -> Result<Vec
 /// The line of the file in which the byte stands, with its number, and a mark under the byte; nothing of a line of more
 /// than 200 bytes.
 pub fn quoted(alloc: Global, file: &[u8], at: usize) -> Result<Vec<u8>, AllocError>
-    ensures { IfOk result (λ text. text.items ≡ quoted file.now at) }
+    ensures { IfOk result (λ text. text.items ≡ quoted_line file.now at) }
 {
     let (above, below) = file.split_at(at.min(file.len()));
     let before = last_line(above);

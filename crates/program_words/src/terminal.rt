@@ -3,7 +3,7 @@
 ghost use Rattle.std.specs.Prelude.{◌≡◌, ◌⊎◌, IfErr, IfOk, OnOk, OnErr, true};
 ghost use Rattle.iso_lexer.specs.Devices.{PutsFront};
 ghost use Rattle.program_words.specs.Shell.{Took, exit_status};
-ghost use Rattle.program_words.specs.Terminal.{Hints, IsUnread, TellsQuoted, hint, place_of, quoted_at, spec_place};
+ghost use Rattle.program_words.specs.Terminal.{Hints, IsUnread, TellsQuoted, hint, place_in_file, quoted_at, spec_place};
 ghost use Rattle.spec_files.specs.Promises.{IfFile};
 
 use crate::program::{end, put_fault, put_text};
@@ -66,7 +66,7 @@ fn spec_place(fault: &SpecFault) -> Option<usize>
 
 /// The byte of the file that a fault names.
 fn place_of(fault: &RunFault) -> Option<usize>
-    ensures { result ≡ place_of fault.now }
+    ensures { result ≡ place_in_file fault.now }
 {
     match fault {
         RunFault::Lex(fault) => Some(fault.at),

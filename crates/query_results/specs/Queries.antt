@@ -9,7 +9,7 @@ use Rattle.sql_trees.specs.declared.expr.AggKind.TheVariants as agg_kind
 use Rattle.sql_trees.specs.Trees.{Tree, Trees, AggTree}
 use Rattle.sql_trees.specs.Trees as tree
 use Rattle.sql_trees.specs.declared.kind.Dir.{Dir}
-use Rattle.sql_trees.specs.Statements.{ColumnTree, ItemTree, OrderTree, SelectTree}
+use Rattle.sql_trees.specs.Statements.{ColumnTree, ItemTree, SelectTree}
 use Rattle.sql_trees.specs.Statements as stmt
 use Rattle.sql_values.specs.declared.value.Value.{Value}
 use Rattle.sql_values.specs.declared.value.Value.TheVariants.{Null}

@@ -13,17 +13,17 @@ abbrev pub is_free : Waiting → Bool
 is_free w = is_none_of w.blockers
 
 -- it is the transaction's wait
-abbrev pub is_of : TxId → Waiting → Bool
-is_of tx w = same_tx w.tx tx
+abbrev pub is_wait_of : TxId → Waiting → Bool
+is_wait_of tx w = same_tx w.tx tx
 
 -- all waits but the transaction's
-abbrev pub without : TxId → List Waiting → List Waiting
-without tx waits = filter (λ w. not (is_of tx w)) waits
+abbrev pub waits_without : TxId → List Waiting → List Waiting
+waits_without tx waits = filter (λ w. not (is_wait_of tx w)) waits
 
-abbrev pub set_at : List Waiting → Waiting → Option ℕ → List Waiting
-set_at waits w None = waits
-set_at waits w (Some place) = slice_set waits place w
+abbrev pub set_wait : List Waiting → Waiting → Option ℕ → List Waiting
+set_wait waits w None = waits
+set_wait waits w (Some place) = slice_set waits place w
 
 -- the transaction waits for these now, and its wait keeps its place
 abbrev pub with_blockers : TxId → List TxId → List Waiting → List Waiting
-with_blockers tx blockers waits = set_at waits (record { tx = tx; blockers = blockers }) (position (is_of tx) waits)
+with_blockers tx blockers waits = set_wait waits (record { tx = tx; blockers = blockers }) (position (is_wait_of tx) waits)

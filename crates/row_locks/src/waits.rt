@@ -2,7 +2,7 @@
 ghost use Rattle.std.specs.Prelude.{◌≡◌, ◌↔◌, ℕ, IsTrue, true, List, [], ◌∷◌, ◌++◌, OnOk, OnErr, IfOk, filter, map, not, ◌==◌, ◌<◌, length, position, find, option_map};
 ghost use Rattle.std.specs.Option.{option_copied};
 ghost use Rattle.row_versions.specs.Members.{has};
-ghost use Rattle.row_locks.specs.Waiting.{Waiting, is_free, is_of, without, with_blockers};
+ghost use Rattle.row_locks.specs.Waiting.{Waiting, is_free, is_wait_of, waits_without, with_blockers};
 ghost use Rattle.row_locks.specs.Inner.Searching.{is_reached, blockers_at};
 ghost use Rattle.row_locks.specs.Cycles.{Closes, blocks};
 
@@ -58,7 +58,7 @@ impl Waits {
 
     /// The transaction waits no more. It takes no memory.
     pub fn remove(&mut self, tx: TxId)
-        ensures { self.new ≡ without tx self.old }
+        ensures { self.new ≡ waits_without tx self.old }
     {
         self.list.retain(|wait| wait.tx.0 != tx.0);
     }
@@ -94,7 +94,7 @@ impl Waits {
 
 /// Where the transaction waits.
 fn place_of(list: &[Wait], tx: TxId) -> Option<usize>
-    ensures { result ≡ position (is_of tx) list.now }
+    ensures { result ≡ position (is_wait_of tx) list.now }
 {
     list.iter().position(|wait| is_of(wait, tx))
 }
@@ -109,7 +109,7 @@ fn renew(wait: &mut Wait, tx: TxId, blockers: SmallVec<TxId, 4>)
 
 /// Whether it is the transaction's wait.
 fn is_of(wait: &Wait, tx: TxId) -> bool
-    ensures { result ≡ is_of tx wait.now }
+    ensures { result ≡ is_wait_of tx wait.now }
 {
     wait.tx.0 == tx.0
 }

@@ -10,7 +10,7 @@ use Rattle.session_machine.specs.declared.reply.HistItem.{HistItem}
 use Rattle.session_machine.specs.declared.fault.Refusal.{Refusal}
 use Rattle.session_machine.specs.Machine.{Machine, Blocks, Next, next, opening, visible, visible_for, visible_to, Run}
 use Rattle.session_machine.specs.Engine.{Engine, Goes, IsDue, IsLegal}
-use Rattle.session_core.specs.Inner.Answers.{answered}
+use Rattle.session_core.specs.Inner.Answers.{engine_answer}
 use Rattle.session_machine.specs.Sound.{IsSoundMachine, StaysSound}
 use Rattle.session_core.proofs.Replaying.{answered_ok, answered_err, goes_on}
 
@@ -19,20 +19,20 @@ abbrev pub Keeps : Blocks → ℕ → Mode → List HistItem → Machine → Typ
 Keeps blocks count mode items m = IsSoundMachine m × (m.events ≡ length items) × Run blocks mode (opening count) items m
 
 -- what the machine answers, where that is known
-as_known : (m after : Machine) (r : Result Next Refusal) (answer known : Result Reply Refusal) → answered m r ≡ record { machine = after; answer = answer } → answer ≡ known
-    → answered m r ≡ record { machine = after; answer = known }
-as_known m after r answer known h is = subst (λ (a : Result Reply Refusal). answered m r ≡ record { machine = after; answer = a }) is h
+as_known : (m after : Machine) (r : Result Next Refusal) (answer known : Result Reply Refusal) → engine_answer m r ≡ record { machine = after; answer = answer } → answer ≡ known
+    → engine_answer m r ≡ record { machine = after; answer = known }
+as_known m after r answer known h is = subst (λ (a : Result Reply Refusal). engine_answer m r ≡ record { machine = after; answer = a }) is h
 
 -- an event with a reply goes
 pub goes : (blocks : Blocks) (mode : Mode) (m after : Machine) (event : Event) (answer : Result Reply Refusal) (reply : Reply)
-    → answered m (next blocks mode m event) ≡ record { machine = after; answer = answer } → answer ≡ Ok reply → Goes blocks mode m event
+    → engine_answer m (next blocks mode m event) ≡ record { machine = after; answer = answer } → answer ≡ Ok reply → Goes blocks mode m event
 goes blocks mode m after event answer reply h is =
     let r = next blocks mode m event in
     (record { machine = after; reply = reply }, answered_ok m after r reply (as_known m after r answer (Ok reply) h is))
 
 -- with the reply in the history the history and the state go on by one event
 pub noted : StaysSound → (blocks : Blocks) (count : ℕ) (mode : Mode) (m new : Machine) (items after : List HistItem) (event : Event) (answer : Result Reply Refusal) (reply : Reply) (spent : Bool)
-    → Keeps blocks count mode items m → answered m (next blocks mode m event) ≡ record { machine = new; answer = answer } → answer ≡ Ok reply
+    → Keeps blocks count mode items m → engine_answer m (next blocks mode m event) ≡ record { machine = new; answer = answer } → answer ≡ Ok reply
     → after ≡ items ++ record { event = event; reply = reply } ∷ [] → IsLegal blocks count mode after × (spent ≡ false → Keeps blocks count mode after new)
 noted law blocks count mode m new items after event answer reply spent keeps h is e =
     let known = as_known m new (next blocks mode m event) answer (Ok reply) h is in
@@ -41,7 +41,7 @@ noted law blocks count mode m new items after event answer reply spent keeps h i
 
 -- a refusal leaves the state
 pub left : (blocks : Blocks) (count : ℕ) (mode : Mode) (m new : Machine) (items : List HistItem) (event : Event) (answer : Result Reply Refusal) (refusal : Refusal) (spent : Bool)
-    → IsLegal blocks count mode items × (spent ≡ false → Keeps blocks count mode items m) → answered m (next blocks mode m event) ≡ record { machine = new; answer = answer }
+    → IsLegal blocks count mode items × (spent ≡ false → Keeps blocks count mode items m) → engine_answer m (next blocks mode m event) ≡ record { machine = new; answer = answer }
     → answer ≡ Err refusal → IsLegal blocks count mode items × (spent ≡ false → Keeps blocks count mode items new)
 left blocks count mode m new items event answer refusal spent keeps h is =
     let r = next blocks mode m event in

@@ -9,7 +9,7 @@ use Rattle.session_machine.specs.declared.fault.Refusal.{Refusal}
 use Rattle.session_machine.specs.Machine.{Machine, Blocks, Next, next, Run}
 use Rattle.session_machine.specs.Engine.{Follows}
 use Rattle.session_laws.proofs.Replaying.{run_more, one_follows}
-use Rattle.session_core.specs.Inner.Answers.{Answered, answered}
+use Rattle.session_core.specs.Inner.Answers.{Answered, engine_answer}
 use Rattle.session_machine.specs.Sound.{IsSoundMachine, StaysSound}
 
 abbrev ok_reply : Reply → Result Reply Refusal
@@ -19,7 +19,7 @@ abbrev err_reply : Refusal → Result Reply Refusal
 err_reply r = Err r
 
 -- an answer that is no refusal is the machine's next reply
-pub answered_ok : (m after : Machine) (r : Result Next Refusal) (reply : Reply) → answered m r ≡ record { machine = after; answer = Ok reply }
+pub answered_ok : (m after : Machine) (r : Result Next Refusal) (reply : Reply) → engine_answer m r ≡ record { machine = after; answer = Ok reply }
     → r ≡ Ok (record { machine = after; reply = reply })
 answered_ok m after (Ok n) reply h =
     let e : n.machine ≡ after = ap (λ (a : Answered). a.machine) h in
@@ -29,7 +29,7 @@ answered_ok m after (Ok n) reply h =
 answered_ok m after (Err f) reply h = let e : err_reply f ≡ ok_reply reply = ap (λ (a : Answered). a.answer) h in cc
 
 -- and one that is leaves the machine as it was
-pub answered_err : (m after : Machine) (r : Result Next Refusal) (refusal : Refusal) → answered m r ≡ record { machine = after; answer = Err refusal }
+pub answered_err : (m after : Machine) (r : Result Next Refusal) (refusal : Refusal) → engine_answer m r ≡ record { machine = after; answer = Err refusal }
     → (r ≡ Err refusal) × (after ≡ m)
 answered_err m after (Ok n) refusal h = let e : ok_reply n.reply ≡ err_reply refusal = ap (λ (a : Answered). a.answer) h in cc
 answered_err m after (Err f) refusal h =
@@ -40,7 +40,7 @@ answered_err m after (Err f) refusal h =
 -- what holds of an engine's machine and history goes on by one event
 pub goes_on : StaysSound → (blocks : Blocks) (mode : Mode) (start old new : Machine) (history after : List HistItem) (event : Event) (reply : Reply)
     → IsSoundMachine old → old.events ≡ length history → Run blocks mode start history old
-    → answered old (next blocks mode old event) ≡ record { machine = new; answer = Ok reply } → after ≡ history ++ record { event = event; reply = reply } ∷ []
+    → engine_answer old (next blocks mode old event) ≡ record { machine = new; answer = Ok reply } → after ≡ history ++ record { event = event; reply = reply } ∷ []
     → IsSoundMachine new × (new.events ≡ length after) × Run blocks mode start after new
 goes_on law blocks mode start old new history after event reply sound count run h e =
     let n : Next = record { machine = new; reply = reply } in

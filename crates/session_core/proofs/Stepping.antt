@@ -21,7 +21,7 @@ use Rattle.session_machine.specs.Statements.{Effect}
 use Rattle.session_machine.specs.Running.{run_stmt}
 use Rattle.session_machine.specs.Machine.{Machine, Blocks, Next, after_stmt, closed_at_end, is_failed, next, stmts_of, with_session}
 use Rattle.session_machine.specs.Waits.{is_still_blocked}
-use Rattle.session_machine.specs.Inner.Steps.{step_of, step_at, step_stmt, finished, waits_there, around}
+use Rattle.session_machine.specs.Inner.Steps.{step_of, step_from_place, step_stmt, finished, waits_there, around}
 use Rattle.session_machine.specs.Sound.{IsSoundMachine, StaysSound, tx_in, tx_of, command_in, command_of, progress_of}
 
 -- an open transaction of a session is open, and has had at most as many commands as there were events
@@ -89,7 +89,7 @@ runs_there : (blocks : Blocks) (m : Machine) (i : ℕ) (s : Session) (place : Pl
     ≡ Ok (after_stmt m i place (length (stmts_of blocks place.block)) (run_stmt m.db s.transaction s.statement (around m i s) stmt))
 runs_there blocks m i s place stmt at stands free is =
     ap (step_of blocks Free m i) at
-    ∙ (ap (step_at blocks Free m i s) stands
+    ∙ (ap (step_from_place blocks Free m i s) stands
     ∙ (ap (step_stmt Free m i s place (length (stmts_of blocks place.block))) is
     ∙ ap (λ b. ok_or_blocked b (after_stmt m i place (length (stmts_of blocks place.block)) (run_stmt m.db s.transaction s.statement (around m i s) stmt))) free))
 

@@ -6,7 +6,7 @@ ghost use Rattle.sql_blocks.specs.Blocks.{blocks_of};
 ghost use Rattle.session_machine.specs.Running.{is_definition};
 ghost use Rattle.session_machine.specs.Machine.{may_launch, next, stmts_of, with_session};
 ghost use Rattle.session_machine.specs.Inner.Steps.{first_place};
-ghost use Rattle.session_core.specs.Inner.Answers.{answered};
+ghost use Rattle.session_core.specs.Inner.Answers.{engine_answer};
 
 use crate::block_stmts::block_stmts;
 use crate::live::Live;
@@ -125,7 +125,7 @@ impl<'a, 't, V: Versions> Live<'a, 't, V> {
         block: u32,
     ) -> Result<Reply<'t>, Refusal>
         requires room { self.old.events + 1 < 2 ^ 64 }
-        ensures { answered self.old (next (blocks_of blocks.now) mode self.old (Event.Launch session block)) ≡ record { machine = self.new; answer = result } }
+        ensures { engine_answer self.old (next (blocks_of blocks.now) mode self.old (Event.Launch session block)) ≡ record { machine = self.new; answer = result } }
     {
         match self.place_at_launch(blocks, mode, session, block) {
             Ok(after) => {

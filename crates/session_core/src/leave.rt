@@ -4,7 +4,7 @@ ghost use Rattle.row_versions.specs.Log.{IsOpen};
 ghost use Rattle.session_machine.specs.declared.session.OpenTransaction.{OpenTransaction};
 ghost use Rattle.session_machine.specs.Machine.{at_rest, with_session};
 ghost use Rattle.session_machine.specs.Inner.Steps.{leave_of, left_behind};
-ghost use Rattle.session_core.specs.Inner.Answers.{answered};
+ghost use Rattle.session_core.specs.Inner.Answers.{engine_answer};
 ghost use Rattle.session_machine.specs.Sound.{IsSoundMachine};
 
 use crate::live::Live;
@@ -46,7 +46,7 @@ impl<'a, 't, V: Versions> Live<'a, 't, V> {
     pub fn leave(&mut self, mode: Mode, session: u32) -> Result<Reply<'t>, Refusal>
         requires sound { IsSoundMachine self.old }
         requires room { self.old.events + 1 < 2 ^ 64 }
-        ensures { answered self.old (leave_of mode self.old session (slice_get self.old.sessions session)) ≡ record { machine = self.new; answer = result } }
+        ensures { engine_answer self.old (leave_of mode self.old session (slice_get self.old.sessions session)) ≡ record { machine = self.new; answer = result } }
     {
         match self.leaving(mode, session) {
             Ok(transaction) => {

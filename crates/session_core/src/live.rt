@@ -6,7 +6,7 @@ ghost use Rattle.sql_values.specs.declared.value.Value.{Value as SqlValue};
 ghost use Rattle.row_versions.specs.Log.{empty_content};
 ghost use Rattle.session_machine.specs.Sound.{IsSoundMachine};
 ghost use Rattle.session_machine.specs.Machine.{next, opening, visible, with_session};
-ghost use Rattle.session_core.specs.Inner.Answers.{answered};
+ghost use Rattle.session_core.specs.Inner.Answers.{engine_answer};
 ghost use Rattle.session_machine.specs.Engine.{Goes};
 
 use iso_lexer::Name;
@@ -71,7 +71,7 @@ impl<'a, 't, V: Versions> Live<'a, 't, V> {
     ) -> Result<Result<Reply<'t>, Refusal>, AllocError>
         requires sound { IsSoundMachine self.old }
         requires room { self.old.events + 1 < 2 ^ 64 }
-        ensures answer { IfOk result (λ answer. answered self.old (next (blocks_of blocks.now) mode self.old event) ≡ record { machine = self.new; answer = answer }) }
+        ensures answer { IfOk result (λ answer. engine_answer self.old (next (blocks_of blocks.now) mode self.old event) ≡ record { machine = self.new; answer = answer }) }
         ensures due { OnErr result (Goes (blocks_of blocks.now) mode self.old event) }
     {
         match event {

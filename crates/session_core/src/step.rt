@@ -7,9 +7,9 @@ ghost use Rattle.session_machine.specs.declared.session.OpenTransaction.{OpenTra
 ghost use Rattle.session_machine.specs.declared.session.Session.{Session as SessionFacts};
 ghost use Rattle.session_machine.specs.Running.{run_stmt};
 ghost use Rattle.session_machine.specs.Sound.{IsSoundMachine};
-ghost use Rattle.session_core.specs.Inner.Answers.{answered};
+ghost use Rattle.session_core.specs.Inner.Answers.{engine_answer};
 ghost use Rattle.session_machine.specs.Machine.{Machine, after_stmt, closed_at_end, is_failed, next, with_session};
-ghost use Rattle.session_machine.specs.Inner.Steps.{after_end, finished, around};
+ghost use Rattle.session_machine.specs.Inner.Steps.{after_block_end, finished, around};
 ghost use Rattle.session_machine.specs.Waits.{is_still_blocked};
 ghost use Rattle.session_machine.specs.Engine.{Goes};
 
@@ -74,7 +74,7 @@ fn after_end<'a, 't, V: Versions>(
     requires within { place.next < count }
     requires fits { count < 2 ^ 64 }
     ensures { (m : Machine) (session : ℕ) →
-        after_end m session place count (record { db = db.old; transaction = transaction; statement = None; outcome = outcome.now })
+        after_block_end m session place count (record { db = db.old; transaction = transaction; statement = None; outcome = outcome.now })
         ≡ finished m session (record { db = db.new; transaction = result.transaction; statement = None; outcome = outcome.now }) result.place }
 {
     if has_failed(outcome) {
@@ -218,7 +218,7 @@ impl<'a, 't, V: Versions> Live<'a, 't, V> {
     ) -> Result<Result<Reply<'t>, Refusal>, AllocError>
         requires sound { IsSoundMachine self.old }
         requires room { self.old.events + 1 < 2 ^ 64 }
-        ensures answer { IfOk result (λ answer. answered self.old (next (blocks_of blocks.now) mode self.old (Event.Step session)) ≡ record { machine = self.new; answer = answer }) }
+        ensures answer { IfOk result (λ answer. engine_answer self.old (next (blocks_of blocks.now) mode self.old (Event.Step session)) ≡ record { machine = self.new; answer = answer }) }
         ensures due { OnErr result (Goes (blocks_of blocks.now) mode self.old (Event.Step session)) }
     {
         match self.due(blocks, mode, session) {

@@ -11,10 +11,10 @@ use Rattle.session_machine.specs.Machine.{Machine, Next, next}
 use Rattle.session_machine.specs.Engine.{Engine, EngineAnswered, engine_after, engine_step, engine_answered}
 use Rattle.session_seats.specs.declared.fault.ThreadFault.{ThreadFault}
 use Rattle.session_seats.specs.declared.fault.ThreadFault.TheVariants as thread_faults
-use Rattle.session_seats.specs.Acts.{Acted, NotActed, Refuses}
+use Rattle.session_seats.specs.Acts.{Acted, NotActed, RefusesEvent}
 use Rattle.session_seats.specs.Seats.{SeatOf}
 use Rattle.session_seats.specs.Orders.{Orders, IsOrder, OrderedAfter}
-use Rattle.session_crews.specs.Inner.Shared.{IsOrderly, IsLed}
+use Rattle.session_crews.specs.Inner.Shared.{RunsInOrder, IsLed}
 
 -- the items go on by one that is ordered
 ordered_on : (orders : Orders) (before items : List HistItem) (item : HistItem) → OrderedAfter orders before items → IsOrder item.event (orders (before ++ items)) → OrderedAfter orders before (items ++ item ∷ [])
@@ -50,7 +50,7 @@ refused_as : (event : Event) (before after : Engine) (f : EngineFault) → engin
 refused_as event before after f is =
     sym (ap (λ (x : EngineAnswered). x.engine.history) is) ∙ step_same before event before.machine f (ap (λ (x : EngineAnswered). x.answer) is)
 
-refused_history : (event : Event) (before after : Engine) (f : EngineFault) → Refuses event before f after → after.history ≡ before.history
+refused_history : (event : Event) (before after : Engine) (f : EngineFault) → RefusesEvent event before f after → after.history ≡ before.history
 refused_history event before after engine_faults.Memory refused = ap (λ (e : Engine). e.history) refused.0
 refused_history event before after engine_faults.Busy refused = refused_as event before after engine_faults.Busy refused
 refused_history event before after engine_faults.NotYourTurn refused = refused_as event before after engine_faults.NotYourTurn refused
@@ -70,8 +70,8 @@ not_acted_history event before after thread_faults.OtherRun not_done = absurd no
 
 -- an event that was ordered was done
 pub goes_on : (orders : Orders) (event : Event) (before after : Engine) (seat kept : SeatOf) (order : Option Event) (stop : Bool)
-    → IsOrderly orders before.history order stop → IsOrder event (orders before.history) → Acted event before after seat kept → (stop ≡ true → ⊥)
-    → IsOrderly orders after.history None stop
+    → RunsInOrder orders before.history order stop → IsOrder event (orders before.history) → Acted event before after seat kept → (stop ≡ true → ⊥)
+    → RunsInOrder orders after.history None stop
 goes_on orders event before after seat kept order stop orderly ordered a running =
     let is = acted_history event before after seat kept a in
     record {
@@ -82,8 +82,8 @@ goes_on orders event before after seat kept order stop orderly ordered a running
 
 -- an event was not done
 pub stays : (orders : Orders) (event : Event) (before after : Engine) (f : ThreadFault) (order : Option Event) (stop : Bool)
-    → IsOrderly orders before.history order stop → NotActed event before f after → IsOrderly orders after.history order stop
-stays orders event before after f order stop orderly not_done = subst (λ (w : List HistItem). IsOrderly orders w order stop) (sym (not_acted_history event before after f not_done)) orderly
+    → RunsInOrder orders before.history order stop → NotActed event before f after → RunsInOrder orders after.history order stop
+stays orders event before after f order stop orderly not_done = subst (λ (w : List HistItem). RunsInOrder orders w order stop) (sym (not_acted_history event before after f not_done)) orderly
 
 -- what a driver keeps fits a history that goes on, and one that stays
 pub led_on : (orders driven : Orders) (follows : List HistItem → Type 0) (event : Event) (before after : Engine) (seat kept : SeatOf) (fault : Option ThreadFault)

@@ -28,7 +28,7 @@ pub struct Shared<E: Engine, O: Ordering, D: Drives<E>> {
 }
 
 impl<E: Engine, O: Ordering, D: Drives<E>> Model for Shared<E, O, D> {
-    ghost use Rattle.session_crews.specs.Inner.Shared.{SharedOf, IsOrderly, IsLed};
+    ghost use Rattle.session_crews.specs.Inner.Shared.{SharedOf, RunsInOrder, IsLed};
     ghost use Rattle.session_machine.specs.Inner.TreeCodes.{tree_code};
     ghost use Rattle.std.specs.Coded.{codes};
 
@@ -38,7 +38,7 @@ impl<E: Engine, O: Ordering, D: Drives<E>> Model for Shared<E, O, D> {
 
     ghost view = { λ s. record { engine = E.engine s.engine; order = s.order; stop = s.stop; fault = s.fault } };
 
-    ghost invariant = { λ s. IsOrderly O.orders (E.engine s.engine).history s.order s.stop
+    ghost invariant = { λ s. RunsInOrder O.orders (E.engine s.engine).history s.order s.stop
         × IsLed O.orders (D.order_after s.driver) (D.follows s.driver) (E.engine s.engine).history s.fault };
 }
 

@@ -32,7 +32,7 @@ use Rattle.session_machine.specs.Rows.{Work, columns_in}
 use Rattle.session_machine.specs.Running.{run_stmt}
 use Rattle.session_machine.specs.Inner.Statements.{run_piecewise, run_aborted, is_end, walked_from, insert_one, update_one, delete_one, lock_one, beginning, pauses, comes_to, after_walk, done, assigned_to, insert_from, insert, update_from, update, delete_from, delete, lock_from, answered, select_rows, unless_wrong, select, run_open, run_closed, run_on, begun, is_level, begin_in, walked, create}
 use Rattle.session_machine.specs.Targets.{passing_targets, taken_targets}
-use Rattle.session_machine.specs.Inner.Pieces.{drop_ended, insert_fitting, insert_to, update_fitting, update_to, delete_fitting, select_at, lock_again, columns_at, with_table, with_drop, DroppedUpTo, dropped_at, dropped}
+use Rattle.session_machine.specs.Inner.Pieces.{drop_ended, insert_fitting, insert_to, update_fitting, update_to, delete_fitting, select_found, lock_again, table_columns, with_table, with_drop, DroppedUpTo, dropped_at, dropped}
 use Rattle.session_machine.proofs.Piecewise.{drops_by}
 use Rattle.session_machine.proofs.ByKind.{runs_by_kind}
 use Rattle.session_machine.specs.Sound.{RowsFit, RowsStay}
@@ -175,7 +175,7 @@ module _ (may : Bool) (db : Database) (t : OpenTransaction) (around : Surroundin
 
   inserts : (i : InsertTree) (o : Option ℕ) → find_table db (Some t.tx) i.table ≡ o → M (insert db t around i o)
   inserts i None e = failed_here (NoTable i.table)
-  inserts i (Some k) e = let at = find_table_within db (Some t.tx) i.table k e in inserts_to k at.0 at.1 i (columns_assigned (columns_at db.catalog k) i.columns)
+  inserts i (Some k) e = let at = find_table_within db (Some t.tx) i.table k e in inserts_to k at.0 at.1 i (columns_assigned (table_columns db.catalog k) i.columns)
 
   -- UPDATE
   updates_fitting : (k : ℕ) (table : Table) → At k table → (u : UpdateTree) (o : Option (List ℕ)) → M (update_fitting db (beginning db t around k) u o)
@@ -188,7 +188,7 @@ module _ (may : Bool) (db : Database) (t : OpenTransaction) (around : Surroundin
 
   updates : (u : UpdateTree) (o : Option ℕ) → find_table db (Some t.tx) u.table ≡ o → M (update db t around u o)
   updates u None e = failed_here (NoTable u.table)
-  updates u (Some k) e = let at = find_table_within db (Some t.tx) u.table k e in updates_to k at.0 at.1 u (columns_set (columns_at db.catalog k) u.sets)
+  updates u (Some k) e = let at = find_table_within db (Some t.tx) u.table k e in updates_to k at.0 at.1 u (columns_set (table_columns db.catalog k) u.sets)
 
   -- DELETE
   deletes_fitting : (k : ℕ) (table : Table) → At k table → (d : DeleteTree) (o : Option (List ℕ)) → M (delete_fitting db (beginning db t around k) d o)
@@ -198,7 +198,7 @@ module _ (may : Bool) (db : Database) (t : OpenTransaction) (around : Surroundin
   deletes : (d : DeleteTree) (o : Option ℕ) → find_table db (Some t.tx) d.table ≡ o → M (delete db t around d o)
   deletes d None e = failed_here (NoTable d.table)
   deletes d (Some k) e =
-      let at = find_table_within db (Some t.tx) d.table k e in deletes_fitting k at.0 at.1 d (undefined_among (cols_of (columns_at db.catalog k)) (option_to_list d.filter))
+      let at = find_table_within db (Some t.tx) d.table k e in deletes_fitting k at.0 at.1 d (undefined_among (cols_of (table_columns db.catalog k)) (option_to_list d.filter))
 
   -- SELECT
   answers_set : (r : Result Results ValueFault) → M (answered db t r)
@@ -214,7 +214,7 @@ module _ (may : Bool) (db : Database) (t : OpenTransaction) (around : Surroundin
   selects_rows k table at s None = answers_set (result_of s (columns_in db (beginning db t around k)) (rows_shown db.content (view_of db.content t) k))
   selects_rows k table at s (Some l) = locks_from k (view_of db.content t) table at s l 0 []
 
-  selects_at : (s : SelectTree) (name : List ℕ) (o : Option ℕ) → find_table db (Some t.tx) name ≡ o → M (select_at db t around s name o)
+  selects_at : (s : SelectTree) (name : List ℕ) (o : Option ℕ) → find_table db (Some t.tx) name ≡ o → M (select_found db t around s name o)
   selects_at s name None e = failed_here (NoTable name)
   selects_at s name (Some k) e =
       let at = find_table_within db (Some t.tx) name k e in

@@ -11,13 +11,13 @@ use Rattle.session_machine.specs.declared.event.Mode.{Mode}
 use Rattle.session_machine.specs.declared.fault.Refusal.TheVariants.{Busy, NotYourTurn, BlockNotAllowed}
 use Rattle.session_machine.specs.Statements.{Effect}
 use Rattle.session_machine.specs.Machine.{Machine, Blocks, Next, next, stmts_of, is_failed, may_launch, is_directed, is_quiet, after_stmt, closed_at_end, session_of}
-use Rattle.session_machine.specs.Inner.Steps.{launched, launch_of, step_of, step_at, step_stmt, leave_of, after_end, waits_there, finished, first_place}
+use Rattle.session_machine.specs.Inner.Steps.{after_launch, launch_of, step_of, step_from_place, step_stmt, leave_of, after_block_end, waits_there, finished, first_place}
 use Rattle.session_laws.proofs.Sound.{if_ok, ok_launch, ok_step, ok_leave, ran, left_by}
 
 -- a session that is launched is in no block
 idle_launch : (blocks : Blocks) (mode : Mode) (m : Machine) (i block : ℕ) (s : Session) (n : Next) → launch_of blocks mode m i block (Some s) ≡ Ok n → s.place ≡ None
 idle_launch blocks mode m i block s n h = at_place s.place (if_ok (not (may_launch blocks i block)) BlockNotAllowed _ n h) where
-  at_place : (o : Option Place) → (if is_some o then Err Busy else if is_directed mode && not (is_quiet m) then Err NotYourTurn else Ok (launched m i s (first_place block (stmts_of blocks block)))) ≡ Ok n
+  at_place : (o : Option Place) → (if is_some o then Err Busy else if is_directed mode && not (is_quiet m) then Err NotYourTurn else Ok (after_launch m i s (first_place block (stmts_of blocks block)))) ≡ Ok n
       → o ≡ None
   at_place (Some place) e = cc
   at_place None e = refl
@@ -28,7 +28,7 @@ due_at blocks s place stmt = (s.place ≡ Some place) × (slice_get (stmts_of bl
 
 -- a session is launched, does its statement, or leaves
 pub event_cases : (blocks : Blocks) (mode : Mode) (m : Machine) (event : Event) (n : Next) (G : Next → Type 0) → next blocks mode m event ≡ Ok n
-    → ((s : Session) (place : Option Place) → slice_get m.sessions (session_of event) ≡ Some s → s.place ≡ None → G (launched m (session_of event) s place))
+    → ((s : Session) (place : Option Place) → slice_get m.sessions (session_of event) ≡ Some s → s.place ≡ None → G (after_launch m (session_of event) s place))
     → ((s : Session) (place : Place) (count : ℕ) (stmt : StmtTree) → slice_get m.sessions (session_of event) ≡ Some s → due_at blocks s place stmt
     → G (after_stmt m (session_of event) place count (ran m (session_of event) s stmt)))
     → ((s : Session) → slice_get m.sessions (session_of event) ≡ Some s → G (left_by m (session_of event) s)) → G n
@@ -42,7 +42,7 @@ event_cases blocks mode m (Step i) n G h launches steps leaves = at_step (slice_
   at_stmt s place count None e f g h = cc
   at_stmt s place count (Some stmt) e f g h = subst G (ok_step mode m i s place count stmt n h) (steps s place count stmt e (f, g))
 
-  at_place : (s : Session) (o : Option Place) → slice_get m.sessions i ≡ Some s → s.place ≡ o → step_at blocks mode m i s o ≡ Ok n → G n
+  at_place : (s : Session) (o : Option Place) → slice_get m.sessions i ≡ Some s → s.place ≡ o → step_from_place blocks mode m i s o ≡ Ok n → G n
   at_place s None e f h = cc
   at_place s (Some place) e f h = at_stmt s place (length (stmts_of blocks place.block)) (slice_get (stmts_of blocks place.block) place.next) e f refl h
 
@@ -58,7 +58,7 @@ event_cases blocks mode m (Leave i) n G h launches steps leaves = at_leave (slic
 pub after_cases : (m : Machine) (i : ℕ) (place : Place) (count : ℕ) (d : Effect) (G : Next → Type 0) → G (waits_there m i place d) → ((place : Option Place) → G (finished m i d place))
     → G (finished m i (closed_at_end d d.transaction) None) → G (after_stmt m i place count d)
 after_cases m i place count d G waits ends closes =
-    either (is_some d.statement) (waits_there m i place d) (after_end m i place count d) waits
+    either (is_some d.statement) (waits_there m i place d) (after_block_end m i place count d) waits
     (either (is_failed d.outcome) (finished m i d None) _ (ends None)
     (either (nat_lt (place.next + 1) count) (finished m i d (Some (record { block = place.block; next = place.next + 1 }))) (finished m i (closed_at_end d d.transaction) None)
     (ends (Some (record { block = place.block; next = place.next + 1 }))) closes)) where
@@ -74,7 +74,7 @@ after_over m i place count d G waits ends closes = at_statement d.statement refl
   either true x y h k = h
   either false x y h k = k
 
-  at_statement : (o : Option Progress) → d.statement ≡ o → G (if is_some o then waits_there m i place d else after_end m i place count d)
+  at_statement : (o : Option Progress) → d.statement ≡ o → G (if is_some o then waits_there m i place d else after_block_end m i place count d)
   at_statement (Some p) e = waits
   at_statement None e =
       either (is_failed d.outcome) (finished m i d None) _ (ends e None)

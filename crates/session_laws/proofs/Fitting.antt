@@ -10,7 +10,7 @@ use Rattle.row_versions.specs.declared.write.Write.{Write}
 use Rattle.row_versions.specs.Log.{Content, values_at, after_write}
 use Rattle.row_versions.proofs.Gets.{get-append_left, get-append_last}
 use Rattle.session_machine.specs.Tables.{Database, Catalog, Table, Dropped, is_meant, find_table}
-use Rattle.session_machine.specs.Inner.Pieces.{columns_at, with_table, find_from}
+use Rattle.session_machine.specs.Inner.Pieces.{table_columns, with_table, find_from}
 use Rattle.session_machine.proofs.Piecewise.{finds_by}
 use Rattle.session_machine.specs.Sound.{RowsFit, RowsStay}
 use Rattle.session_laws.proofs.Lists.{slice_get-append_left}
@@ -86,5 +86,5 @@ fit_tables c catalog made by fit place w values there its =
     (f.0, slice_get-append_left catalog.tables _ w.table.0 f.0 f.1, f.2)
 
 -- the columns of the table at a place
-pub columns_are : (catalog : Catalog) (k : ℕ) (t : Table) → slice_get catalog.tables k ≡ Some t → columns_at catalog k ≡ t.made.columns
+pub columns_are : (catalog : Catalog) (k : ℕ) (t : Table) → slice_get catalog.tables k ≡ Some t → table_columns catalog k ≡ t.made.columns
 columns_are catalog k t at = ap (λ (o : Option Table). unwrap_or (option_map (λ (x : Table). x.made.columns) o) []) at

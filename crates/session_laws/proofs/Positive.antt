@@ -35,7 +35,7 @@ use Rattle.session_machine.specs.Statements.{Surroundings, Effect, turns}
 use Rattle.session_machine.specs.Inner.Statements.{is_level}
 use Rattle.session_machine.specs.Running.{run_stmt}
 use Rattle.session_machine.specs.Machine.{Machine, Blocks, Next, next, stmts_of, after_stmt}
-use Rattle.session_machine.specs.Inner.Steps.{step_of, step_at, step_stmt, finished, around}
+use Rattle.session_machine.specs.Inner.Steps.{step_of, step_from_place, step_stmt, finished, around}
 use Rattle.session_machine.specs.Sound.{tx_in}
 use Rattle.session_laws.specs.Laws.{CommitsCount, CommitsAreSeen, OwnWritesAreSeen, IsLastOf, due_stmt, sees_all_committed}
 use Rattle.session_laws.proofs.Sound.{ok_step, sound_open, ran}
@@ -61,7 +61,7 @@ begins_due blocks mode m i s stmt n at due h = at_place s.place due (sym (ap (st
         leads = sym (ap (λ (y : StmtTree). after_stmt m i place count (ran m i s y)) (same_Some x stmt e)) ∙ ok_step mode m i s place count x n h;
       }
 
-  at_place : (o : Option Place) → option_and_then (λ (p : Place). slice_get (stmts_of blocks p.block) p.next) o ≡ Some stmt → step_at blocks mode m i s o ≡ Ok n → Began m i s stmt n
+  at_place : (o : Option Place) → option_and_then (λ (p : Place). slice_get (stmts_of blocks p.block) p.next) o ≡ Some stmt → step_from_place blocks mode m i s o ≡ Ok n → Began m i s stmt n
   at_place None e h = cc
   at_place (Some place) e h = at_stmt place (length (stmts_of blocks place.block)) (slice_get (stmts_of blocks place.block) place.next) e h
 

@@ -35,7 +35,7 @@ use Rattle.session_machine.specs.declared.session.Session.{Session}
 use Rattle.session_machine.specs.Statements.{Surroundings, Effect}
 use Rattle.session_machine.specs.Running.{run_stmt}
 use Rattle.session_machine.specs.Inner.Statements.{answered, run_piecewise, begun}
-use Rattle.session_machine.specs.Inner.Pieces.{select_at, is_dropped, columns_at, find_from}
+use Rattle.session_machine.specs.Inner.Pieces.{select_found, is_dropped, table_columns, find_from}
 use Rattle.session_machine.proofs.Piecewise.{finds_by}
 use Rattle.session_machine.proofs.ByKind.{runs_by_kind}
 use Rattle.session_machine.specs.Machine.{Next, next, visible_to, visible_for}
@@ -111,10 +111,10 @@ all_shown name columns rows =
     ∙ ap (λ (r : Result (List (List Value)) ValueFault). if_ok r f) (each_all (cols_of columns) rows))
 
 shown_in : (db : Database) (t : OpenTransaction) (a : Surroundings) (name : List ℕ) (o : Option ℕ)
-    → shown_by (select_at db t a (all_of name) name o).outcome ≡ Some (option_map (rows_shown db.content (view_of db.content t)) o)
+    → shown_by (select_found db t a (all_of name) name o).outcome ≡ Some (option_map (rows_shown db.content (view_of db.content t)) o)
 shown_in db t a name None = refl
 shown_in db t a name (Some k) =
-    ap (λ (r : Result Results ValueFault). shown_by (answered db t r).outcome) (all_shown name (columns_at db.catalog k) (rows_shown db.content (view_of db.content t) k))
+    ap (λ (r : Result Results ValueFault). shown_by (answered db t r).outcome) (all_shown name (table_columns db.catalog k) (rows_shown db.content (view_of db.content t) k))
 
 -- a transaction that begins makes no table known, and hides none
 counts_same : (c : Content) (tx : TxId) → tx.0 < length c.fates → counts (after_begin c) (Some (next_tx c)) tx ≡ counts c None tx

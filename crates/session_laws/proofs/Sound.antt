@@ -26,7 +26,7 @@ use Rattle.session_machine.specs.Statements.{Effect}
 use Rattle.session_machine.specs.Running.{run_stmt}
 use Rattle.session_machine.specs.Machine.{Machine, Blocks, Next, next, with_session, at_rest, opening, stmts_of, may_launch, is_directed, is_quiet, turn_in, is_failed, after_stmt, closed_at_end}
 use Rattle.session_machine.specs.Waits.{is_still_blocked}
-use Rattle.session_machine.specs.Inner.Steps.{launched, launch_of, step_of, step_at, step_stmt, leave_of, after_end, waits_there, finished, around, is_turn, left_behind, first_place, is_busy}
+use Rattle.session_machine.specs.Inner.Steps.{after_launch, launch_of, step_of, step_from_place, step_stmt, leave_of, after_block_end, waits_there, finished, around, is_turn, left_behind, first_place, is_busy}
 use Rattle.session_machine.specs.Sound.{IsSound, IsSoundMachine, StaysSound, tx_in, tx_of, command_in, command_of, progress_of}
 use Rattle.session_laws.proofs.Lists.{slice_get-set_same, slice_get-set_other}
 use Rattle.session_laws.proofs.Effects.{IsFirm}
@@ -192,7 +192,7 @@ sound_waits m i s place d sound at left = (
 )
 
 sound_end : (m : Machine) (i : ℕ) (s : Session) (place : Place) (count : ℕ) (d : Effect) → IsSoundMachine m → slice_get m.sessions i ≡ Some s
-    → Leaving m.db s.transaction m.events d → SoundNext m (after_end m i place count d)
+    → Leaving m.db s.transaction m.events d → SoundNext m (after_block_end m i place count d)
 sound_end m i s place count d sound at left =
     sound_if m (is_failed d.outcome) (finished m i d None) _
     (sound_finished m i s d None sound at left)
@@ -203,7 +203,7 @@ sound_end m i s place count d sound at left =
 sound_after : (m : Machine) (i : ℕ) (s : Session) (place : Place) (count : ℕ) (d : Effect) → IsSoundMachine m → slice_get m.sessions i ≡ Some s
     → Leaving m.db s.transaction m.events d → SoundNext m (after_stmt m i place count d)
 sound_after m i s place count d sound at left =
-    sound_if m (is_some d.statement) (waits_there m i place d) (after_end m i place count d) (sound_waits m i s place d sound at left) (sound_end m i s place count d sound at left)
+    sound_if m (is_some d.statement) (waits_there m i place d) (after_block_end m i place count d) (sound_waits m i s place d sound at left) (sound_end m i s place count d sound at left)
 
 leaves_left : (db : Database) (t : Transaction) → Leaves db.content t (left_behind db t).content Closed
 leaves_left db Closed = leaves _ _ _ _ (kept-none db.content Closed Closed refl refl)
@@ -222,9 +222,9 @@ longer_left db (Open t) = le_refl _
 
 -- what an event that isn't refused leads to
 pub ok_launch : (blocks : Blocks) (mode : Mode) (m : Machine) (i block : ℕ) (s : Session) (n : Next) → launch_of blocks mode m i block (Some s) ≡ Ok n
-    → launched m i s (first_place block (stmts_of blocks block)) ≡ n
+    → after_launch m i s (first_place block (stmts_of blocks block)) ≡ n
 ok_launch blocks mode m i block s n h =
-    ok_at (if_ok (is_directed mode && not (is_quiet m)) NotYourTurn (ok_next (launched m i s (first_place block (stmts_of blocks block)))) n
+    ok_at (if_ok (is_directed mode && not (is_quiet m)) NotYourTurn (ok_next (after_launch m i s (first_place block (stmts_of blocks block)))) n
     (if_ok (is_busy s) Busy _ n (if_ok (not (may_launch blocks i block)) BlockNotAllowed _ n h)))
 
 -- what the session's next statement, which begins or goes on, does
@@ -267,7 +267,7 @@ sound_next blocks mode m (Step i) n sound h = at_step (slice_get m.sessions i) r
   at_stmt s place count (Some stmt) e h =
       subst (SoundNext m) (ok_step mode m i s place count stmt n h) (sound_after m i s place count (ran m i s stmt) sound e (sound_ran m i s stmt sound e))
 
-  at_place : (s : Session) (o : Option Place) → slice_get m.sessions i ≡ Some s → step_at blocks mode m i s o ≡ Ok n → SoundNext m n
+  at_place : (s : Session) (o : Option Place) → slice_get m.sessions i ≡ Some s → step_from_place blocks mode m i s o ≡ Ok n → SoundNext m n
   at_place s None e h = cc
   at_place s (Some place) e h = at_stmt s place (length (stmts_of blocks place.block)) (slice_get (stmts_of blocks place.block) place.next) e h
 

@@ -22,7 +22,7 @@ use Rattle.session_machine.specs.Views.{rows_shown}
 use Rattle.session_machine.specs.declared.session.Progress.{Progress}
 use Rattle.session_machine.specs.Statements.{Effect}
 use Rattle.session_machine.specs.Machine.{Machine, Blocks, Next, next, opening, is_failed, after_stmt, closed_at_end, session_of}
-use Rattle.session_machine.specs.Inner.Steps.{waits_there, after_end, finished, around}
+use Rattle.session_machine.specs.Inner.Steps.{waits_there, after_block_end, finished, around}
 use Rattle.session_machine.specs.Sound.{IsSoundMachine, tx_in}
 use Rattle.session_laws.specs.Laws.{SnapshotsStay, FailuresAreUnseen}
 use Rattle.session_laws.proofs.Sound.{sound_live, sound_firm, sound_within, ran}
@@ -84,7 +84,7 @@ end_outcome d (Open t) = at_explicit t.explicit where
 pub after_outcome : (m : Machine) (i : ℕ) (place : Place) (count : ℕ) (d : Effect) → (after_stmt m i place count d).reply.outcome ≡ d.outcome
 after_outcome m i place count d = after_cases m i place count d (λ n. n.reply.outcome ≡ d.outcome) refl (λ p. refl) (end_outcome d d.transaction)
 
-failed_is : (m : Machine) (i : ℕ) (place : Place) (count : ℕ) (d : Effect) → is_failed d.outcome ≡ true → after_end m i place count d ≡ finished m i d None
+failed_is : (m : Machine) (i : ℕ) (place : Place) (count : ℕ) (d : Effect) → is_failed d.outcome ≡ true → after_block_end m i place count d ≡ finished m i d None
 failed_is m i place count d h =
     ap (λ (b : Bool). let n : Next = if b then finished m i d None else
     if nat_lt (place.next + 1) count then finished m i d (Some (record { block = place.block; next = place.next + 1 })) else finished m i (closed_at_end d d.transaction) None in n) h
@@ -92,7 +92,7 @@ failed_is m i place count d h =
 -- where a statement failed, what it left is the database
 failed_db : (m : Machine) (i : ℕ) (place : Place) (count : ℕ) (d : Effect) → is_failed d.outcome ≡ true → (after_stmt m i place count d).machine.db ≡ d.db
 failed_db m i place count d h = at_test (is_some d.statement) where
-  at_test : (b : Bool) → (let n : Next = if b then waits_there m i place d else after_end m i place count d in n.machine.db ≡ d.db)
+  at_test : (b : Bool) → (let n : Next = if b then waits_there m i place d else after_block_end m i place count d in n.machine.db ≡ d.db)
   at_test true = refl
   at_test false = ap (λ (n : Next). n.machine.db) (failed_is m i place count d h)
 

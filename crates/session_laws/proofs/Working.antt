@@ -20,7 +20,7 @@ use Rattle.session_machine.specs.declared.reply.HistItem.{HistItem}
 use Rattle.session_machine.specs.Tables.{Table}
 use Rattle.session_machine.specs.Machine.{Machine, at_rest, opening, visible}
 use Rattle.session_machine.specs.Engine.{Follows}
-use Rattle.session_laws.specs.Worked.{worked_blocks, worked_items, WorkedHistory, WorkedStates, Waited, Apart, Kept, Given, third, led_to, t, x, item, shown, one, two}
+use Rattle.session_laws.specs.Worked.{worked_blocks, worked_items, WorkedHistory, WorkedStates, Waited, Apart, Kept, Given, third, led_to, t, x, item, rows_reply, one_value, two}
 use Rattle.session_laws.proofs.Replaying.{one_run}
 
 abbrev made : Table
@@ -58,10 +58,10 @@ abbrev making : Transaction
 making = Open (record { tx = record { 0 = 0 }; explicit = false; level = ReadCommitted; snapshot = Some 0; command = 1 })
 
 abbrev first : List Write
-first = wrote 0 1 0 one ∷ []
+first = wrote 0 1 0 one_value ∷ []
 
 abbrev both : List Write
-both = wrote 0 1 0 one ∷ wrote 2 0 1 two ∷ []
+both = wrote 0 1 0 one_value ∷ wrote 2 0 1 two ∷ []
 
 abbrev before_leave : List Fate
 before_leave = Committed 0 ∷ OpenFate ∷ Committed 1 ∷ Committed 2 ∷ []
@@ -121,7 +121,7 @@ abbrev writing : Option ℕ → ℕ → Transaction
 writing snapshot command = Open (record { tx = record { 0 = 5 }; explicit = true; level = ReadCommitted; snapshot = snapshot; command = command })
 
 abbrev all_three : List Write
-all_three = wrote 0 1 0 one ∷ wrote 2 0 1 two ∷ third ∷ []
+all_three = wrote 0 1 0 one_value ∷ wrote 2 0 1 two ∷ third ∷ []
 
 abbrev while_open : List Fate
 while_open = Committed 0 ∷ RolledBack ∷ Committed 1 ∷ Committed 2 ∷ Committed 3 ∷ OpenFate ∷ []
@@ -159,7 +159,7 @@ step4 = refl
 step5 : To m4 (item (Step 1) Done false) m5
 step5 = refl
 
-step6 : To m5 (item (Step 1) (shown (one ∷ [])) true) m6
+step6 : To m5 (item (Step 1) (rows_reply (one_value ∷ [])) true) m6
 step6 = refl
 
 step7 : To m6 (item (Launch 2 2) Launched false) m7
@@ -171,13 +171,13 @@ step8 = refl
 step9 : To m8 (item (Launch 1 3) Launched false) m9
 step9 = refl
 
-step10 : To m9 (item (Step 1) (shown (one ∷ [])) true) m10
+step10 : To m9 (item (Step 1) (rows_reply (one_value ∷ [])) true) m10
 step10 = refl
 
 step11 : To m10 (item (Launch 2 3) Launched false) m11
 step11 = refl
 
-step12 : To m11 (item (Step 2) (shown (one ∷ two ∷ [])) true) m12
+step12 : To m11 (item (Step 2) (rows_reply (one_value ∷ two ∷ [])) true) m12
 step12 = refl
 
 step13 : To m12 (item (Leave 1) Left true) m13
@@ -186,7 +186,7 @@ step13 = refl
 step14 : To m13 (item (Launch 1 3) Launched false) m14
 step14 = refl
 
-step15 : To m14 (item (Step 1) (shown (one ∷ two ∷ [])) true) m15
+step15 : To m14 (item (Step 1) (rows_reply (one_value ∷ two ∷ [])) true) m15
 step15 = refl
 
 step16 : To m15 (item (Launch 2 4) Launched false) m16
@@ -230,7 +230,7 @@ pub worked_states : WorkedStates
 worked_states = record {
   waited = λ m h. subst Waited (states_are 9 m9 m (m1, step1, (m2, step2, (m3, step3, (m4, step4, (m5, step5, (m6, step6, (m7, step7, (m8, step8, (m9, step9, refl))))))))) h) waited;
   apart = λ m h. subst Apart (states_are 12 m12 m (m1, step1, (m2, step2, (m3, step3, (m4, step4, (m5, step5, (m6, step6, (m7, step7, (m8, step8, (m9, step9, (m10, step10, (m11, step11, (m12, step12, refl)))))))))))) h) are_apart;
-  left = λ m h. subst (λ (n : Machine). visible n 1 t ≡ Ok (Some (one ∷ two ∷ []))) (states_are 13 m13 m (m1, step1, (m2, step2, (m3, step3, (m4, step4, (m5, step5, (m6, step6, (m7, step7, (m8, step8, (m9, step9, (m10, step10, (m11, step11, (m12, step12, (m13, step13, refl))))))))))))) h) refl;
+  left = λ m h. subst (λ (n : Machine). visible n 1 t ≡ Ok (Some (one_value ∷ two ∷ []))) (states_are 13 m13 m (m1, step1, (m2, step2, (m3, step3, (m4, step4, (m5, step5, (m6, step6, (m7, step7, (m8, step8, (m9, step9, (m10, step10, (m11, step11, (m12, step12, (m13, step13, refl))))))))))))) h) refl;
   kept = λ m h. subst Kept (states_are 18 m18 m (m1, step1, (m2, step2, (m3, step3, (m4, step4, (m5, step5, (m6, step6, (m7, step7, (m8, step8, (m9, step9, (m10, step10, (m11, step11, (m12, step12, (m13, step13, (m14, step14, (m15, step15, (m16, step16, (m17, step17, (m18, step18, refl)))))))))))))))))) h) is_kept;
   given = λ m h. subst Given (states_are 20 m20 m (m1, step1, (m2, step2, (m3, step3, (m4, step4, (m5, step5, (m6, step6, (m7, step7, (m8, step8, (m9, step9, (m10, step10, (m11, step11, (m12, step12, (m13, step13, (m14, step14, (m15, step15, (m16, step16, (m17, step17, (m18, step18, (m19, step19, (m20, step20, refl)))))))))))))))))))) h) is_given;
 }

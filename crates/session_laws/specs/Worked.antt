@@ -48,11 +48,11 @@ worked_blocks =
 abbrev pub item : Event → Outcome → Bool → HistItem
 item event outcome ended = record { event = event; reply = record { outcome = outcome; ended = ended } }
 
-abbrev pub shown : List (List Value) → Outcome
-shown rows = Rows (record { titles = Named x ∷ []; rows = rows })
+abbrev pub rows_reply : List (List Value) → Outcome
+rows_reply rows = Rows (record { titles = Named x ∷ []; rows = rows })
 
-abbrev pub one : List Value
-one = Int (pos 1) ∷ []
+abbrev pub one_value : List Value
+one_value = Int (pos 1) ∷ []
 
 abbrev pub two : List Value
 two = Int (pos 2) ∷ []
@@ -67,16 +67,16 @@ worked_items =
     ∷ item (Step 0) Done true
     ∷ item (Launch 1 1) Launched false
     ∷ item (Step 1) Done false
-    ∷ item (Step 1) (shown (one ∷ [])) true
+    ∷ item (Step 1) (rows_reply (one_value ∷ [])) true
     ∷ item (Launch 2 2) Launched false
     ∷ item (Step 2) Done true
     ∷ item (Launch 1 3) Launched false
-    ∷ item (Step 1) (shown (one ∷ [])) true
+    ∷ item (Step 1) (rows_reply (one_value ∷ [])) true
     ∷ item (Launch 2 3) Launched false
-    ∷ item (Step 2) (shown (one ∷ two ∷ [])) true
+    ∷ item (Step 2) (rows_reply (one_value ∷ two ∷ [])) true
     ∷ item (Leave 1) Left true
     ∷ item (Launch 1 3) Launched false
-    ∷ item (Step 1) (shown (one ∷ two ∷ [])) true
+    ∷ item (Step 1) (rows_reply (one_value ∷ two ∷ [])) true
     ∷ item (Launch 2 4) Launched false
     ∷ item (Step 2) Done false
     ∷ item (Step 2) Done true
@@ -100,8 +100,8 @@ pub record Apart (m : Machine) : Type 0 where
   pub no_session : next worked_blocks Directed m (Launch 3 3) ≡ Err NoSession
   pub definition : next worked_blocks Directed m (Launch 1 0) ≡ Err BlockNotAllowed
   pub no_block : next worked_blocks Directed m (Launch 1 9) ≡ Err BlockNotAllowed
-  pub snapshot : visible m 1 t ≡ Ok (Some (one ∷ []))
-  pub committed : visible m 2 t ≡ Ok (Some (one ∷ two ∷ []))
+  pub snapshot : visible m 1 t ≡ Ok (Some (one_value ∷ []))
+  pub committed : visible m 2 t ≡ Ok (Some (one_value ∷ two ∷ []))
   pub no_table : visible m 2 (117 ∷ []) ≡ Ok None
 
 -- the write of session 2's transaction, which nobody follows
@@ -112,15 +112,15 @@ third = record { tx = record { 0 = 5 }; command = 0; table = record { 0 = 0 }; r
 pub record Kept (m : Machine) : Type 0 where
   pub last : IsLastOf m.db.content 2 third three
   pub not_yet : has_committed m.db.content third.tx ≡ false
-  pub its_own : visible m 2 t ≡ Ok (Some (one ∷ two ∷ three ∷ []))
-  pub others : visible m 1 t ≡ Ok (Some (one ∷ two ∷ []))
+  pub its_own : visible m 2 t ≡ Ok (Some (one_value ∷ two ∷ three ∷ []))
+  pub others : visible m 1 t ≡ Ok (Some (one_value ∷ two ∷ []))
 
 -- after the commit each session sees it
 pub record Given (m : Machine) : Type 0 where
   pub last : IsLastOf m.db.content 2 third three
   pub committed : has_committed m.db.content third.tx ≡ true
-  pub its_own : visible m 2 t ≡ Ok (Some (one ∷ two ∷ three ∷ []))
-  pub others : visible m 1 t ≡ Ok (Some (one ∷ two ∷ three ∷ []))
+  pub its_own : visible m 2 t ≡ Ok (Some (one_value ∷ two ∷ three ∷ []))
+  pub others : visible m 1 t ≡ Ok (Some (one_value ∷ two ∷ three ∷ []))
 
 abbrev pub led_to : ℕ → Machine → Type 0
 led_to count m = Run worked_blocks Directed (opening 2) (take count worked_items) m
@@ -129,6 +129,6 @@ led_to count m = Run worked_blocks Directed (opening 2) (take count worked_items
 pub record WorkedStates : Type 0 where
   pub waited : (m : Machine) → led_to 9 m → Waited m
   pub apart : (m : Machine) → led_to 12 m → Apart m
-  pub left : (m : Machine) → led_to 13 m → visible m 1 t ≡ Ok (Some (one ∷ two ∷ []))
+  pub left : (m : Machine) → led_to 13 m → visible m 1 t ≡ Ok (Some (one_value ∷ two ∷ []))
   pub kept : (m : Machine) → led_to 18 m → Kept m
   pub given : (m : Machine) → led_to 20 m → Given m

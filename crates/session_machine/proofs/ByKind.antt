@@ -40,7 +40,7 @@ use Rattle.session_machine.specs.Running.{leads_to, at_once, begin_at, fault_in,
 use Rattle.session_machine.specs.Inner.Statements.{keys_in, stop_at_keys, checked, with_values, insert_one, ask, settled, at_outcome, update_with, update_one, delete_with, delete_one, lock_with, lock_one, walked_from, Visit, stops, goes_on, walked, begun}
 use Rattle.session_machine.specs.Inner.Statements.{create, beginning, after_walk, done, assigned_to, unless_undefined, unless_wrong, run_aborted, insert_from, insert, update_from, update, delete, lock_from, answered, select_rows, select, run_open, run_closed, run_on, run_piecewise}
 use Rattle.session_machine.specs.Targets.{seen_by, at_places, going_on}
-use Rattle.session_machine.specs.Inner.Pieces.{with_table, unless_stopped, insert_to, update_to, select_at}
+use Rattle.session_machine.specs.Inner.Pieces.{with_table, unless_stopped, insert_to, update_to, select_found}
 
 -- ---- at a row
 
@@ -347,7 +347,7 @@ module _ (db : Database) (t : OpenTransaction) (around : Surroundings) where
   rows_so w s None = answers_so db w.t (result_of s (columns_in db w) (rows_shown db.content w.view w.table))
   rows_so w s (Some l) = locks_from db w s l 0 [] (taken s (columns_in db w) (rows_shown db.content w.view w.table))
 
-  select_begins : (s : SelectTree) (name : List ℕ) (o : Option ℕ) → at_found db t around name (Selects s) o ≡ select_at db t around s name o
+  select_begins : (s : SelectTree) (name : List ℕ) (o : Option ℕ) → at_found db t around name (Selects s) o ≡ select_found db t around s name o
   select_begins s name None = refl
   select_begins s name (Some k) =
       let w = beginning db t around k in

@@ -8,7 +8,7 @@ use Rattle.query_results.specs.Queries.{cols_of}
 
 pub known_columns : (cs : List Column) → cols_of (map column_of cs) ≡ values.columns_of cs
 known_columns [] = refl
-known_columns (c ∷ cs) = ap (λ ks. values.column_of c ∷ ks) (known_columns cs)
+known_columns (c ∷ cs) = ap (λ ks. values.known_column c ∷ ks) (known_columns cs)
 
 pub as_many_columns : (cs : List Column) → length (values.columns_of cs) ≡ length cs
-as_many_columns cs = length-map cs values.column_of
+as_many_columns cs = length-map cs values.known_column

@@ -6,7 +6,7 @@ ghost use Rattle.sql_values.specs.Values.{Answers, each};
 ghost use Rattle.sql_values.specs.Aggregates.{aggregate};
 ghost use Rattle.query_results.specs.Queries.{cols_of, result_of, row_values, select_exprs, titles_of, undefined_among};
 ghost use Rattle.session_queries.specs.Fronts.{AnswersList};
-ghost use Rattle.session_queries.specs.Inner.Answers.{agg_results, answered, has_none, item_row, row_results, selected, counted};
+ghost use Rattle.session_queries.specs.Inner.Answers.{agg_results, items_answered, has_none, item_row, row_results, selected, counted};
 ghost use Rattle.session_queries.specs.Inner.Fronts.{in_front};
 
 use crate::known::known;
@@ -181,7 +181,7 @@ fn answered<'a>(
     taken: &[&Row],
 ) -> Result<ResultSet<'a>, ValueFault<'a>>
     requires { All (λ row. length row.now ≡ length columns.now) taken.now }
-    ensures { Answers result (answered (map column_of columns.now) (map item_of items.now) (map (λ row. row.now) taken.now)) }
+    ensures { Answers result (items_answered (map column_of columns.now) (map item_of items.now) (map (λ row. row.now) taken.now)) }
 {
     if is_counted(items) {
         agg_results(alloc, items, columns, taken)

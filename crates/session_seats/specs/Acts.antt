@@ -16,12 +16,12 @@ pub record Acted (event : Event) (before after : Engine) (held kept : SeatOf) : 
   pub seat : kept ≡ with_item held event reply
 
 -- the engine refused the event: as the machine does, or for want of memory, after which it is spent
-abbrev pub Refuses : Event → Engine → EngineFault → Engine → Type 0
-Refuses event before engine_faults.Memory after = (after ≡ spent_engine before) × IsDue before event
-Refuses event before fault after = engine_after before event ≡ record { engine = after; answer = Err fault }
+abbrev pub RefusesEvent : Event → Engine → EngineFault → Engine → Type 0
+RefusesEvent event before engine_faults.Memory after = (after ≡ spent_engine before) × IsDue before event
+RefusesEvent event before fault after = engine_after before event ≡ record { engine = after; answer = Err fault }
 
 -- the event was not done: the engine refused it, or memory was refused before the engine was asked
 abbrev pub NotActed : Event → Engine → ThreadFault → Engine → Type 0
-NotActed event before (EngineRefused fault) after = Refuses event before fault after
+NotActed event before (EngineRefused fault) after = RefusesEvent event before fault after
 NotActed event before Memory after = after ≡ before
 NotActed event before _ after = ⊥

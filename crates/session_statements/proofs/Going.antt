@@ -13,7 +13,7 @@ use Rattle.session_machine.specs.Tables.{Database}
 use Rattle.session_machine.specs.Statements.{Effect, Surroundings, fails}
 use Rattle.session_machine.specs.Rows.{Work, cols_in}
 use Rattle.session_machine.specs.Inner.Statements.{walked_from, beginning, unless_undefined, unless_wrong, update, delete, delete_from, Visit, walked}
-use Rattle.session_machine.specs.Inner.Pieces.{update_fitting, update_to, columns_at}
+use Rattle.session_machine.specs.Inner.Pieces.{update_fitting, update_to, table_columns}
 
 -- targets that were found are gone over from the place on
 pub found_targets : (at : Database → Seen → Visit) (db : Database) (place : ℕ) (rows : List (List Value)) (r : Result (List Seen) ValueFault) (targets got : List Seen)
@@ -26,20 +26,20 @@ not_wrong db t undefined position due a b = ap (λ (x : Option (List ℕ)). unle
 
 -- an UPDATE that assigns to a column that isn't there fails
 pub no_such_column : (db : Database) (t : OpenTransaction) (around : Surroundings) (u : UpdateTree) (found : Option ℕ) (k : ℕ) (column : List ℕ) → found ≡ Some k
-    → columns_set (columns_at db.catalog k) u.sets ≡ Err column → update db t around u found ≡ fails db t (NoColumnOf column u.table)
+    → columns_set (table_columns db.catalog k) u.sets ≡ Err column → update db t around u found ≡ fails db t (NoColumnOf column u.table)
 no_such_column db t around u found k column a b = ap (update db t around u) a ∙ ap (update_to db (beginning db t around k) u) b
 
 -- one whose columns are all there goes on with them
 pub such_columns : (db : Database) (t : OpenTransaction) (around : Surroundings) (u : UpdateTree) (found : Option ℕ) (k : ℕ) (to : List AssignedColumn) → found ≡ Some k
-    → columns_set (columns_at db.catalog k) u.sets ≡ Ok to → update db t around u found ≡ update_fitting db (beginning db t around k) u (undefined_among (cols_in db (beginning db t around k)) (update_exprs u))
+    → columns_set (table_columns db.catalog k) u.sets ≡ Ok to → update db t around u found ≡ update_fitting db (beginning db t around k) u (undefined_among (cols_in db (beginning db t around k)) (update_exprs u))
 such_columns db t around u found k to a b = ap (update db t around u) a ∙ ap (update_to db (beginning db t around k) u) b
 
 -- a DELETE that names no column that isn't there goes on
 pub deletes_there : (db : Database) (t : OpenTransaction) (around : Surroundings) (d : DeleteTree) (found : Option ℕ) (k : ℕ) (columns : List ColumnTree) (undefined : Option (List ℕ)) (w : Work) (rows : List (List Value))
-    → found ≡ Some k → columns ≡ columns_at db.catalog k → undefined ≡ undefined_among (cols_of columns) (option_to_list d.filter) → undefined ≡ None → w ≡ beginning db t around k → rows ≡ []
+    → found ≡ Some k → columns ≡ table_columns db.catalog k → undefined ≡ undefined_among (cols_of columns) (option_to_list d.filter) → undefined ≡ None → w ≡ beginning db t around k → rows ≡ []
     → delete db t around d found ≡ delete_from db w d 0 rows
 deletes_there db t around d found k columns undefined w rows a same is none at empty =
     let due = delete_from db (beginning db t around k) d 0 [] in
-    let lacks : undefined_among (cols_of (columns_at db.catalog k)) (option_to_list d.filter) ≡ None =
+    let lacks : undefined_among (cols_of (table_columns db.catalog k)) (option_to_list d.filter) ≡ None =
     sym (ap (λ cs. undefined_among (cols_of cs) (option_to_list d.filter)) same) ∙ sym is ∙ none in
     ap (delete db t around d) a ∙ ap (λ (x : Option (List ℕ)). unless_undefined db t x due) lacks ∙ λ i. delete_from db (sym at i) d 0 (sym empty i)

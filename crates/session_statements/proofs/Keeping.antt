@@ -18,14 +18,14 @@ use Rattle.row_versions.specs.Laws.{IsShown, IsNewest}
 use Rattle.row_versions.proofs.Shown.{shown_from_rows}
 use Rattle.row_versions.proofs.Last.{newest_is_the_last}
 use Rattle.session_machine.specs.Tables.{Database, Catalog, Table}
-use Rattle.session_machine.specs.Inner.Pieces.{columns_at}
+use Rattle.session_machine.specs.Inner.Pieces.{table_columns}
 use Rattle.session_machine.specs.Sound.{RowsFit, RowsStay}
 use Rattle.session_machine.specs.Rows.{cols_in}
 use Rattle.session_machine.specs.Rows.{Work, columns_in}
 use Rattle.session_statements.specs.Inner.Keeping.{RowIn, RowsIn, IsOrderly}
 
 -- the columns of the table at a place
-pub columns_are : (catalog : Catalog) (k : ℕ) (t : Table) → slice_get catalog.tables k ≡ Some t → length (columns_at catalog k) ≡ length t.made.columns
+pub columns_are : (catalog : Catalog) (k : ℕ) (t : Table) → slice_get catalog.tables k ≡ Some t → length (table_columns catalog k) ≡ length t.made.columns
 columns_are catalog k t at = ap (λ (o : Option Table). length (unwrap_or (option_map (λ (x : Table). x.made.columns) o) [])) at
 
 -- a write of a row of the table is one of the table
@@ -37,7 +37,7 @@ in_table c k row place w stay its there is =
 
 -- values of a write of the row are as many as the columns
 pub as_many : (c : Content) (catalog : Catalog) (k : ℕ) (place : ℕ) (w : Write) (values : List Value) → RowsFit c catalog → slice_get c.log place ≡ Some w → w.values ≡ Some values → w.table.0 ≡ k
-    → length values ≡ length (columns_at catalog k)
+    → length values ≡ length (table_columns catalog k)
 as_many c catalog k place w values fit there its is =
     let f = fit place w values there its in
     f.2 ∙ sym (columns_are catalog k f.0 (ap (slice_get catalog.tables) (sym is) ∙ f.1))

@@ -8,7 +8,7 @@ use Rattle.row_versions.specs.declared.write.View.{View}
 use Rattle.row_versions.specs.Log.{Content}
 use Rattle.session_machine.specs.Tables.{Catalog, Table}
 use Rattle.session_machine.specs.Views.{rows_shown}
-use Rattle.session_machine.specs.Inner.Pieces.{columns_at}
+use Rattle.session_machine.specs.Inner.Pieces.{table_columns}
 use Rattle.session_machine.specs.Sound.{RowsFit}
 use Rattle.row_versions.specs.declared.names.TableId.{TableId}
 use Rattle.row_versions.specs.declared.write.Write.{Write}
@@ -64,10 +64,10 @@ table_at tables k within (inr w) = let past : length tables ≤ k = w.0 in absur
 
 pub lent_fit : {R : Type 0} (row_of : R → List Value) (rows : List R) (c : Content) (catalog : Catalog) (view : View) (k : ℕ)
     → RowsFit c catalog → k < length catalog.tables → map row_of rows ≡ rows_shown c view k
-    → All (λ r. length (row_of r) ≡ length (columns_at catalog k)) rows
+    → All (λ r. length (row_of r) ≡ length (table_columns catalog k)) rows
 lent_fit row_of rows c catalog view k fit within same =
     let t = table_at catalog.tables k within (slice_get_cases catalog.tables k).1 in
-    let long : length t.0.made.columns ≡ length (columns_at catalog k) =
+    let long : length t.0.made.columns ≡ length (table_columns catalog k) =
     ap (λ (o : Option Table). length (unwrap_or (option_map (λ (x : Table). x.made.columns) o) [])) (sym t.1) in
     let shown : All (λ (row : List Value). length row ≡ length t.0.made.columns) (map row_of rows) =
     subst (λ (xs : List (List Value)). All (λ (row : List Value). length row ≡ length t.0.made.columns) xs) (sym same)

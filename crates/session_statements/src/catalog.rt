@@ -4,7 +4,7 @@ ghost use Rattle.std.specs.Prelude.{◌≡◌, ◌<◌, [], length, map, IfSome,
 ghost use Rattle.sql_trees.specs.Statements.{create_of, column_of, key_of, name_of};
 ghost use Rattle.row_versions.specs.Log.{Content};
 ghost use Rattle.session_machine.specs.Tables.{counts, is_meant};
-ghost use Rattle.session_machine.specs.Inner.Pieces.{is_own, is_dropped, columns_at, keys_at, with_table, with_drop, find_from};
+ghost use Rattle.session_machine.specs.Inner.Pieces.{is_own, is_dropped, table_columns, table_keys, with_table, with_drop, find_from};
 
 use crate::table::{Dropped, Table};
 use iso_lexer::{Name, same_name};
@@ -111,7 +111,7 @@ impl<'a, 't> Catalog<'a, 't> {
     /// The columns of the table at the place.
     pub fn columns(&self, place: usize) -> &'a [Column<'t>]
         requires { place < length self.now.tables }
-        ensures { map column_of result.now ≡ columns_at self.now place }
+        ensures { map column_of result.now ≡ table_columns self.now place }
     {
         self.tables[place].columns()
     }
@@ -119,7 +119,7 @@ impl<'a, 't> Catalog<'a, 't> {
     /// The keys of the table at the place in declared order: the primary key first.
     pub fn keys(&self, place: usize) -> &'a [Key]
         requires { place < length self.now.tables }
-        ensures { map key_of result.now ≡ keys_at self.now place }
+        ensures { map key_of result.now ≡ table_keys self.now place }
     {
         self.tables[place].keys()
     }

@@ -11,7 +11,7 @@ ghost use Rattle.session_machine.specs.Waits.{is_blocked};
 ghost use Rattle.session_machine.specs.Transactions.{committed, rolled_back, fresh, view_of, started, own_of, view_now};
 ghost use Rattle.row_versions.specs.declared.write.Seen.{Seen as SeenFacts};
 ghost use Rattle.row_versions.specs.Rows.{rows_of};
-ghost use Rattle.session_machine.specs.Inner.Pieces.{columns_at, with_table, with_drop};
+ghost use Rattle.session_machine.specs.Inner.Pieces.{table_columns, with_table, with_drop};
 ghost use Rattle.session_machine.specs.declared.session.OpenTransaction.{OpenTransaction as OpenFacts};
 ghost use Rattle.session_machine.specs.Rows.{columns_in, inserted, values_of, written};
 ghost use Rattle.session_machine.specs.Inner.Statements.{beginning, keys_in, begun, first_commits, commits_seen, moved_on};
@@ -123,7 +123,7 @@ impl<'a, 't, V: Versions> Database<'a, 't, V> {
     /// The columns of the table at the place.
     pub(crate) fn columns(&self, place: usize) -> &'a [Column<'t>]
         requires { place < length self.now.catalog.tables }
-        ensures { map column_of result.now ≡ columns_at self.now.catalog place }
+        ensures { map column_of result.now ≡ table_columns self.now.catalog place }
     {
         self.catalog.columns(place)
     }

@@ -10,7 +10,7 @@ ghost use Rattle.query_results.specs.Queries.{columns_assigned, undefined_among}
 ghost use Rattle.session_machine.specs.Tables.{find_table};
 ghost use Rattle.session_machine.specs.Inner.Statements.{insert_one, assigned_to, done, after_walk, insert, insert_from, walked};
 ghost use Rattle.session_machine.specs.Inner.Pieces.{insert_made, insert_fitting};
-ghost use Rattle.session_statements.specs.Inner.Acting.{halted, stop_of};
+ghost use Rattle.session_statements.specs.Inner.Acting.{halted_walk, stop_of};
 ghost use Rattle.session_statements.specs.Inner.Left.{left};
 
 use crate::act::{Halt, Stop};
@@ -108,7 +108,7 @@ impl<'a, 't, V: Versions> Database<'a, 't, V> {
         requires within { work.now.table < length self.old.catalog.tables }
         ensures walk { (before : Content) (rows : List (List SqlValue)) → IfOk result (λ halt.
             after_walk before work.now done (walked (insert_one work.now (name_of stmt.now.table) to.now) self.old place rows (drop place (map exprs_of stmt.now.rows.items)))
-            ≡ halted before work.now done self.new rows halt) }
+            ≡ halted_walk before work.now done self.new rows halt) }
         ensures fates { OnOk result (self.new.content.fates ≡ self.old.content.fates) }
     {
         for at in place..stmt.rows.len() {

@@ -13,7 +13,7 @@ ghost use Rattle.session_machine.specs.Targets.{asked_key, names_at};
 ghost use Rattle.session_machine.specs.Inner.Pieces.{held_by_others};
 ghost use Rattle.session_machine.specs.Waits.{blockers, is_blocked, waits_in};
 ghost use Rattle.session_statements.specs.Inner.Acting.{stop_of};
-ghost use Rattle.session_statements.specs.Inner.Keys.{name_at};
+ghost use Rattle.session_statements.specs.Inner.Keys.{column_name_at};
 
 use crate::act::Stop;
 use crate::database::Database;
@@ -35,7 +35,7 @@ fn push_column(
     columns: &[Column<'_>],
     place: u32,
 ) -> Result<Vec<u8>, AllocError>
-    ensures { IfOk result (λ v. v.items ≡ text.items ++ 95 ∷ name_at (map column_of columns.now) place) }
+    ensures { IfOk result (λ v. v.items ≡ text.items ++ 95 ∷ column_name_at (map column_of columns.now) place) }
 {
     text.push(b'_')?;
     match columns.get(place as usize) {

@@ -11,7 +11,7 @@ ghost use Rattle.query_results.specs.Queries.{result_of, select_exprs, undefined
 ghost use Rattle.session_machine.specs.Views.{rows_shown};
 ghost use Rattle.session_machine.specs.Rows.{columns_in};
 ghost use Rattle.session_machine.specs.Inner.Statements.{answered, select, select_rows, unless_wrong};
-ghost use Rattle.session_machine.specs.Inner.Pieces.{select_at, select_in};
+ghost use Rattle.session_machine.specs.Inner.Pieces.{select_found, select_in};
 ghost use Rattle.session_machine.specs.Sound.{RowsFit};
 ghost use Rattle.session_statements.specs.Inner.Keeping.{IsOrderly};
 ghost use Rattle.session_statements.specs.Inner.Left.{left};
@@ -121,7 +121,7 @@ impl<'a, 't, V: Versions> Database<'a, 't, V> {
         requires room { by.now.command + 1 < 2 ^ 64 }
         requires orderly { IsOrderly self.old }
         ensures did { IfOk result (λ did.
-            select_at self.old by.now around.now (select_of stmt.now) (name_of name.entry) (find_table self.old (Some by.now.tx) (name_of name.entry)) ≡ left self.new did) }
+            select_found self.old by.now around.now (select_of stmt.now) (name_of name.entry) (find_table self.old (Some by.now.tx) (name_of name.entry)) ≡ left self.new did) }
         ensures memory { OnErr result (IsSome (find_table self.old (Some by.now.tx) (name_of name.entry))) }
     {
         let Some(place) = self.find_table(Some(by.tx), &name) else {

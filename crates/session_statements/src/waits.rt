@@ -6,7 +6,7 @@ ghost use Rattle.row_locks.specs.Laws.{SamePairs};
 ghost use Rattle.row_locks.specs.Cycles.{blocks};
 ghost use Rattle.session_machine.specs.Waits.{blockers, waiting_in, waits_in};
 ghost use Rattle.row_versions.specs.Members.{has, same_tx};
-ghost use Rattle.session_statements.specs.Inner.Waits.{blocks_in};
+ghost use Rattle.session_statements.specs.Inner.Waits.{stands_in_way_of};
 
 use crate::database::Database;
 use crate::effect::Surroundings;
@@ -34,7 +34,7 @@ impl<'a, 't, V: Versions> Database<'a, 't, V> {
 
     /// The session's wait, if it waits, is one more.
     fn add_wait(&self, waits: &mut Waits, session: &Session) -> Result<(), AllocError>
-        ensures { (a b : TxFacts) → OnOk result (blocks waits.new a b ≡ (blocks waits.old a b || blocks_in (waiting_in self.now session.now) a b)) }
+        ensures { (a b : TxFacts) → OnOk result (blocks waits.new a b ≡ (blocks waits.old a b || stands_in_way_of (waiting_in self.now session.now) a b)) }
     {
         match (&session.transaction, &session.statement) {
             (Transaction::Open(by), Some(progress)) => {

@@ -10,7 +10,7 @@ ghost use Rattle.session_machine.specs.Walks.{Blocked};
 ghost use Rattle.session_machine.specs.Tables.{Database as DatabaseFacts};
 ghost use Rattle.session_machine.specs.Inner.Statements.{walked_from, done, after_walk, pauses, walked};
 ghost use Rattle.session_machine.specs.Targets.{passing_targets};
-ghost use Rattle.session_statements.specs.Inner.Acting.{halted, visit_at};
+ghost use Rattle.session_statements.specs.Inner.Acting.{halted_walk, visit_at};
 ghost use Rattle.session_statements.specs.Inner.Keeping.{IsKept, IsOrderly, RowsIn};
 ghost use Rattle.session_statements.specs.Inner.Left.{left};
 
@@ -41,7 +41,7 @@ impl<'a, 't, V: Versions> Database<'a, 't, V> {
         requires its { RowsIn self.old.content work.now.table targets.now }
         ensures walk { (before : Content) (outcome : List (List SqlValue) → OutcomeFacts) → IfOk result (λ halt.
             after_walk before work.now outcome (walked (visit_at work.now act.now) self.old place rows.old.items (drop place targets.now))
-            ≡ halted before work.now outcome self.new rows.new.items halt) }
+            ≡ halted_walk before work.now outcome self.new rows.new.items halt) }
         ensures kept { OnOk result (IsKept self.old self.new) }
     {
         for at in place..targets.len() {
@@ -92,7 +92,7 @@ impl<'a, 't, V: Versions> Database<'a, 't, V> {
     ) -> Effect<'t>
         requires opened { IsOpen self.old.content work.now.t.tx }
         ensures { (before : Content) (outcome : List (List SqlValue) → OutcomeFacts) → begun ≡ started before work.now.t →
-            halted before work.now outcome self.old rows.items (Some halt.entry) ≡ left self.new result }
+            halted_walk before work.now outcome self.old rows.items (Some halt.entry) ≡ left self.new result }
     {
         let Halt { place, stop } = halt;
         match stop {

@@ -9,7 +9,7 @@ use Rattle.spec_parser.specs.declared.fault.SpecFault.{SpecFault}
 use Rattle.spec_parser.specs.declared.fault.SpecFault.TheVariants as faults
 use Rattle.spec_parser.specs.Trees.{PartTree, SpecTree}
 use Rattle.spec_parser.specs.Stands.{PartLies, LiesIn, parts_of, session_parts}
-use Rattle.spec_parser.specs.SpecText.{Answers, SpecReads}
+use Rattle.spec_parser.specs.SpecText.{SpecAnswers, SpecReads}
 use Rattle.spec_files.specs.declared.fault.RunFault.{RunFault}
 use Rattle.spec_files.specs.declared.fault.RunFault.TheVariants as told
 use Rattle.spec_files.specs.Faults.{spec_fault}
@@ -20,7 +20,7 @@ use Rattle.spec_files.specs.Blocks.{BlockWithRole, block_as, blocks_in, BlocksRe
 use Rattle.spec_files.specs.BlockAnswers.{SayAll, HasShortText}
 use Rattle.spec_files.specs.Files.{FileIs, no_spec, no_sql, is_spec}
 
-refused : (bytes : List ℕ) (f : SpecFault) → length bytes ≤ 1048576 → IsUtf8 bytes → Answers bytes (Err f) → spec_fault f ≢ told.Memory → FileIs bytes (Err (spec_fault f))
+refused : (bytes : List ℕ) (f : SpecFault) → length bytes ≤ 1048576 → IsUtf8 bytes → SpecAnswers bytes (Err f) → spec_fault f ≢ told.Memory → FileIs bytes (Err (spec_fault f))
 refused bytes faults.Memory short utf8 a differs = absurd (differs refl)
 refused bytes (faults.Lex f) short utf8 a differs = no_spec (faults.Lex f) short utf8 a
 refused bytes (faults.Expected w at) short utf8 a differs = no_spec (faults.Expected w at) short utf8 a
@@ -31,9 +31,9 @@ refused bytes (faults.NoticesLeftOut at) short utf8 a differs = no_spec (faults.
 refused bytes (faults.Limit at) short utf8 a differs = no_spec (faults.Limit at) short utf8 a
 
 -- the text is that of the bytes
-pub spec_refused : (bytes text : List ℕ) (f : SpecFault) (e : RunFault) → text ≡ bytes → length bytes ≤ 1048576 → IsUtf8 bytes → Answers text (Err f) → e ≡ spec_fault f → e ≢ told.Memory → FileIs bytes (Err e)
+pub spec_refused : (bytes text : List ℕ) (f : SpecFault) (e : RunFault) → text ≡ bytes → length bytes ≤ 1048576 → IsUtf8 bytes → SpecAnswers text (Err f) → e ≡ spec_fault f → e ≢ told.Memory → FileIs bytes (Err e)
 spec_refused bytes text f e same short utf8 a is differs =
-    subst (λ (d : RunFault). FileIs bytes (Err d)) (sym is) (refused bytes f short utf8 (subst (λ t. Answers t (Err f)) same a) (subst (λ (d : RunFault). d ≢ told.Memory) is differs))
+    subst (λ (d : RunFault). FileIs bytes (Err d)) (sym is) (refused bytes f short utf8 (subst (λ t. SpecAnswers t (Err f)) same a) (subst (λ (d : RunFault). d ≢ told.Memory) is differs))
 
 -- ---- a file that is a spec
 

@@ -1,8 +1,8 @@
 -- What is printed of a fault.
 use Rattle.std.specs.Prelude.{ℕ, ◌-◌, nat_le, if◌then◌else◌, List, ◌++◌, codes, string_bytes}
-use Rattle.iso_lexer.specs.FaultText.{placed, fault_text as token_fault_text}
+use Rattle.iso_lexer.specs.FaultText.{with_place, fault_text as token_fault_text}
 use Rattle.spec_parser.specs.FaultText.{spec_fault_text}
-use Rattle.sql_trees.specs.Faults.{place, moved}
+use Rattle.sql_trees.specs.Faults.{fault_place, moved}
 use Rattle.sql_trees.specs.FaultText.{sql_fault_text}
 use Rattle.spec_files.specs.declared.fault.BlockFault.{BlockFault}
 use Rattle.spec_files.specs.declared.fault.RunFault.{RunFault}
@@ -10,7 +10,7 @@ use Rattle.spec_files.specs.declared.fault.RunFault.TheVariants as faults
 
 -- the byte at which the block begins, of a block in a file
 abbrev pub shift_of : BlockFault → ℕ
-shift_of f = if nat_le (place f.fault) (18446744073709551615 - f.block) then f.block else 0
+shift_of f = if nat_le (fault_place f.fault) (18446744073709551615 - f.block) then f.block else 0
 
 -- the fault with its byte in the file
 abbrev pub block_fault_text : BlockFault → List ℕ
@@ -27,7 +27,7 @@ fault_text faults.SetupWaits = codes "R7 SetupWaits"
 fault_text faults.ScheduleBroken = codes "R8 ScheduleBroken"
 fault_text faults.TooManyPermutations = codes "R9 TooManyPermutations"
 fault_text (faults.Threads f) = codes "R10 Threads"
-fault_text (faults.NotUtf8 at) = placed (codes "R11 NotUtf8") at
+fault_text (faults.NotUtf8 at) = with_place (codes "R11 NotUtf8") at
 fault_text faults.Memory = codes "Memory"
 
 -- the line that the program prints of it

@@ -1,7 +1,7 @@
 //! Why a file was not run to its end.
 
 ghost use Rattle.std.specs.Prelude.{◌≡◌, ◌+◌, ◌<◌, ◌^◌, Some};
-ghost use Rattle.sql_trees.specs.Faults.{place};
+ghost use Rattle.sql_trees.specs.Faults.{fault_place};
 ghost use Rattle.spec_files.specs.declared.fault.RunFault.TheVariants.{Write, Memory};
 ghost use Rattle.spec_files.specs.Faults.{read_fault, spec_fault, report_fault, thread_fault};
 ghost use Rattle.spec_files.specs.FaultText.{shift_of, block_fault_text, fault_text};
@@ -24,7 +24,7 @@ pub struct BlockFault {
 }
 
 fn place_of(fault: SqlFault) -> usize
-    ensures { result ≡ place fault }
+    ensures { result ≡ fault_place fault }
 {
     match fault {
         SqlFault::Memory => 0,
@@ -41,7 +41,7 @@ fn place_of(fault: SqlFault) -> usize
 /// How far a fault is moved that is told with its byte in the file.
 fn shift_of(told: &BlockFault) -> usize
     ensures shift { result ≡ shift_of told.now }
-    ensures fits { place told.now.fault + result < 2 ^ 64 }
+    ensures fits { fault_place told.now.fault + result < 2 ^ 64 }
 {
     let at = place_of(told.fault);
     if at <= usize::MAX - told.block {
@@ -54,7 +54,7 @@ fn shift_of(told: &BlockFault) -> usize
 impl BlockFault {
     /// The byte of the file at which the fault stands; that of the block where the file's has no number.
     pub fn place(&self) -> usize
-        ensures { result ≡ shift_of self.now + place self.now.fault }
+        ensures { result ≡ shift_of self.now + fault_place self.now.fault }
     {
         shift_of(self) + place_of(self.fault)
     }

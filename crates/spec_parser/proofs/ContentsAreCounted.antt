@@ -14,8 +14,8 @@ use Rattle.iso_lexer.specs.declared.spec_token.Sign.TheVariants.{Open, Close, Co
 use Rattle.iso_lexer.specs.declared.runs.Run.TheVariants.{Blanks}
 use Rattle.iso_lexer.specs.Bytes.{is_blank}
 use Rattle.iso_lexer.specs.Inner.Runs.{passes as passes_run, run_of, trimmed}
-use Rattle.iso_lexer.specs.SpecTokens.{Token, keyword, name, digits, sign, block}
-use Rattle.iso_lexer.specs.SpecText.{block_of}
+use Rattle.iso_lexer.specs.SpecTokens.{SpecToken, keyword, name, digits, sign, block}
+use Rattle.iso_lexer.specs.SpecText.{block_token}
 use Rattle.iso_lexer.specs.SpecSpelling.{NameSpells, Spells, LiesAt}
 use Rattle.spec_parser.specs.Trees.{PartTree, StepTree, NameAt, StepOf, SessionOf, star, named, FileTree}
 use Rattle.spec_parser.specs.Counts.{Counts, past, past_token}
@@ -65,7 +65,7 @@ abbrev numbers : List PartTree → List ℕ
 numbers ps = map (λ (p : PartTree). p.block) ps
 
 -- these tokens have this, behind what is counted, and then the other is
-pub record Holds (c d : Counts) (ts : List (At Token)) (g : Contents) : Type 0 where
+pub record Holds (c d : Counts) (ts : List (At SpecToken)) (g : Contents) : Type 0 where
   pub blocks : d.blocks ≡ c.blocks + length g.parts
   pub sessions : d.sessions ≡ c.sessions + g.sessions
   pub steps : d.steps ≡ c.steps + g.steps
@@ -73,7 +73,7 @@ pub record Holds (c d : Counts) (ts : List (At Token)) (g : Contents) : Type 0 w
   pub parts_lie : (text : List ℕ) → AllByRecursion (LiesAt text) ts → AllByRecursion (PartLies text) g.parts
   pub names_lie : (text : List ℕ) → AllByRecursion (LiesAt text) ts → AllByRecursion (NameLies text) g.names
 
-moves_then : (c d e : Counts) (ts xs ys : List (At Token)) (g h : Contents) → ts ≡ xs ++ ys → Holds c d xs g → Holds d e ys h → Holds c e ts (joined g h)
+moves_then : (c d e : Counts) (ts xs ys : List (At SpecToken)) (g h : Contents) → ts ≡ xs ++ ys → Holds c d xs g → Holds d e ys h → Holds c e ts (joined g h)
 moves_then c d e ts xs ys g h split m n = record {
   blocks = omega (arith, m.blocks, n.blocks, length-append g.parts h.parts);
   sessions = omega (arith, m.sessions, n.sessions);
@@ -85,20 +85,20 @@ moves_then c d e ts xs ys g h split m n = record {
   names_lie = λ text all. let both = split_all (LiesAt text) xs ys (subst (AllByRecursion (LiesAt text)) split all) in join_all (NameLies text) g.names h.names (m.names_lie text both.0) (n.names_lie text both.1);
 }
 
-pub then_has : (c : Counts) (ts xs ys : List (At Token)) (g h : Contents) → ts ≡ xs ++ ys → Holds c (past c xs) xs g → Holds (past c xs) (past (past c xs) ys) ys h → Holds c (past c ts) ts (joined g h)
+pub then_has : (c : Counts) (ts xs ys : List (At SpecToken)) (g h : Contents) → ts ≡ xs ++ ys → Holds c (past c xs) xs g → Holds (past c xs) (past (past c xs) ys) ys h → Holds c (past c ts) ts (joined g h)
 then_has c ts xs ys g h e m n =
     subst (λ d. Holds c d ts (joined g h)) (sym (past_twice c xs ys) ∙ ap (past c) (sym e)) (moves_then c (past c xs) (past (past c xs) ys) ts xs ys g h e m n)
 
 -- the same contents, in other words
-pub like : (c d : Counts) (ts : List (At Token)) (g : Contents) (ps : List PartTree) (ns : List NameAt) (k j : ℕ) → Holds c d ts g → g.parts ≡ ps → g.names ≡ ns → g.sessions ≡ k → g.steps ≡ j → Holds c d ts (record { parts = ps; names = ns; sessions = k; steps = j })
+pub like : (c d : Counts) (ts : List (At SpecToken)) (g : Contents) (ps : List PartTree) (ns : List NameAt) (k j : ℕ) → Holds c d ts g → g.parts ≡ ps → g.names ≡ ns → g.sessions ≡ k → g.steps ≡ j → Holds c d ts (record { parts = ps; names = ns; sessions = k; steps = j })
 like c d ts g ps ns k j m p n s t = subst (Holds c d ts) (λ i. record { parts = p i; names = n i; sessions = s i; steps = t i }) m
 
-pub quiet : (c : Counts) (ts : List (At Token)) → Holds c c ts nothing
+pub quiet : (c : Counts) (ts : List (At SpecToken)) → Holds c c ts nothing
 quiet c ts = record { blocks = omega arith; sessions = omega arith; steps = omega arith; numbered = refl; parts_lie = λ text all. tt; names_lie = λ text all. tt }
 
 -- ---- one token
 
-word_has : (k : Keyword) (c : Counts) (ts : List (At Token)) (u : Unit {0}) (g : Contents) → one (a_word k) c ts u → Holds c (past_token (keyword k) c) ts g → Holds c (past c ts) ts g
+word_has : (k : Keyword) (c : Counts) (ts : List (At SpecToken)) (u : Unit {0}) (g : Contents) → one (a_word k) c ts u → Holds c (past_token (keyword k) c) ts g → Holds c (past c ts) ts g
 word_has k c ts u g h m = subst (λ d. Holds c d ts g) (sym (word_past k c ts u h)) m
 
 abbrev pub a_session : Contents
@@ -107,24 +107,24 @@ a_session = record { parts = []; names = []; sessions = 1; steps = 0 }
 abbrev pub a_step : Contents
 a_step = record { parts = []; names = []; sessions = 0; steps = 1 }
 
-pub session_word : (c : Counts) (ts : List (At Token)) (u : Unit {0}) → one (a_word Session) c ts u → Holds c (past c ts) ts a_session
+pub session_word : (c : Counts) (ts : List (At SpecToken)) (u : Unit {0}) → one (a_word Session) c ts u → Holds c (past c ts) ts a_session
 session_word c ts u h = word_has Session c ts u a_session h (record { blocks = omega arith; sessions = omega arith; steps = omega arith; numbered = refl; parts_lie = λ text all. tt; names_lie = λ text all. tt })
 
-pub step_word : (c : Counts) (ts : List (At Token)) (u : Unit {0}) → one (a_word Step) c ts u → Holds c (past c ts) ts a_step
+pub step_word : (c : Counts) (ts : List (At SpecToken)) (u : Unit {0}) → one (a_word Step) c ts u → Holds c (past c ts) ts a_step
 step_word c ts u h = word_has Step c ts u a_step h (record { blocks = omega arith; sessions = omega arith; steps = omega arith; numbered = refl; parts_lie = λ text all. tt; names_lie = λ text all. tt })
 
 -- a name, where it is that of a session or step
 abbrev only_name : NameAt → Contents
 only_name n = record { parts = []; names = n ∷ []; sessions = 0; steps = 0 }
 
-named_is : (text : List ℕ) (c : Counts) (tok : Token) (span : Span) (n : NameAt) → a_name c (record { tok = tok; span = span }) ≡ Some n → Spells tok (slice_range text span.start span.end) → NameSpells n.name (slice_range text n.at span.end)
+named_is : (text : List ℕ) (c : Counts) (tok : SpecToken) (span : Span) (n : NameAt) → a_name c (record { tok = tok; span = span }) ≡ Some n → Spells tok (slice_range text span.start span.end) → NameSpells n.name (slice_range text n.at span.end)
 named_is text c (name m) span n e h = subst (λ (k : NameAt). NameSpells k.name (slice_range text k.at span.end)) (same_Some _ _ e) h
 named_is text c (keyword k) span n e h = absurd cc
 named_is text c (digits d) span n e h = absurd cc
 named_is text c (sign g) span n e h = absurd cc
 named_is text c (block k b) span n e h = absurd cc
 
-name_has : (c : Counts) (ts : List (At Token)) (n : NameAt) → one a_name c ts n → Holds c (past c ts) ts (only_name n)
+name_has : (c : Counts) (ts : List (At SpecToken)) (n : NameAt) → one a_name c ts n → Holds c (past c ts) ts (only_name n)
 name_has c ts n (t, e, is) =
     subst (λ d. Holds c d ts (only_name n)) (sym (name_past c ts n (t, e, is))) (record {
       blocks = omega arith;
@@ -159,7 +159,7 @@ opened text inner start end e =
     let rest = drop (end - start) (drop start text) in
     sym (take-append-drop (end - start) (drop start text)) ∙ ap (λ s. s ++ rest) e ∙ ap (λ s. 123 ∷ s) (append_assoc inner (125 ∷ []) rest)
 
-block_lies : (text inner b : List ℕ) (start end n k : ℕ) → slice_range text start end ≡ 123 ∷ (inner ++ 125 ∷ []) → block n b ≡ block_of inner → PartLies text (record { sql = b; at = start + 1 + n; block = k })
+block_lies : (text inner b : List ℕ) (start end n k : ℕ) → slice_range text start end ≡ 123 ∷ (inner ++ 125 ∷ []) → block n b ≡ block_token inner → PartLies text (record { sql = b; at = start + 1 + n; block = k })
 block_lies text inner b start end n k e is =
     let same_n : n ≡ length (run_of Blanks inner) = cc in
     let same_b : b ≡ trimmed inner = cc in
@@ -173,7 +173,7 @@ block_lies text inner b start end n k e is =
       slice = cut_inside text inner rest b start n open_at le cut;
     }
 
-block_is : (c : Counts) (tok : Token) (span : Span) (p : PartTree) → a_block c (record { tok = tok; span = span }) ≡ Some p → (n : ℕ) × (b : List ℕ) × (tok ≡ block n b) × (p ≡ record { sql = b; at = span.start + 1 + n; block = c.blocks })
+block_is : (c : Counts) (tok : SpecToken) (span : Span) (p : PartTree) → a_block c (record { tok = tok; span = span }) ≡ Some p → (n : ℕ) × (b : List ℕ) × (tok ≡ block n b) × (p ≡ record { sql = b; at = span.start + 1 + n; block = c.blocks })
 block_is c (block n b) span p e = (n, b, refl, sym (same_Some _ _ e))
 block_is c (keyword k) span p e = absurd cc
 block_is c (name m) span p e = absurd cc
@@ -186,7 +186,7 @@ token_lies text _ b start end n k (inner, e, is) = block_lies text inner b start
 abbrev pub only_parts : List PartTree → Contents
 only_parts ps = record { parts = ps; names = []; sessions = 0; steps = 0 }
 
-block_has : (c : Counts) (ts : List (At Token)) (p : PartTree) → one a_block c ts p → Holds c (past c ts) ts (only_parts (p ∷ []))
+block_has : (c : Counts) (ts : List (At SpecToken)) (p : PartTree) → one a_block c ts p → Holds c (past c ts) ts (only_parts (p ∷ []))
 block_has c ts p (t, e, is) =
     let k = block_is c t.tok t.span p is in
     subst (λ d. Holds c d ts (only_parts (p ∷ []))) (sym (past_one c ts t (block k.0 k.1) e k.2)) (record {
@@ -202,7 +202,7 @@ block_has c ts p (t, e, is) =
 
 -- ---- several
 
-nil_has : (c : Counts) (ts : List (At Token)) → ts ≡ [] → Holds c (past c ts) ts nothing
+nil_has : (c : Counts) (ts : List (At SpecToken)) → ts ≡ [] → Holds c (past c ts) ts nothing
 nil_has c ts e = subst (λ us. Holds c (past c us) us nothing) (sym e) (quiet c [])
 
 abbrev pub all_contents : {A : Type 0} → (A → Contents) → List A → Contents
@@ -210,9 +210,9 @@ all_contents g [] = nothing
 all_contents g (x ∷ xs) = joined (g x) (all_contents g xs)
 
 abbrev pub Has : {A : Type 0} → Grammar A → (A → Contents) → Type 0
-Has {A} G g = (c : Counts) (ts : List (At Token)) (x : A) → G c ts x → Holds c (past c ts) ts (g x)
+Has {A} G g = (c : Counts) (ts : List (At SpecToken)) (x : A) → G c ts x → Holds c (past c ts) ts (g x)
 
-many_has : {A : Type 0} (G : Grammar A) (g : A → Contents) → Has G g → (c : Counts) (ts : List (At Token)) (xs : List A) → Many G c ts xs → Holds c (past c ts) ts (all_contents g xs)
+many_has : {A : Type 0} (G : Grammar A) (g : A → Contents) → Has G g → (c : Counts) (ts : List (At SpecToken)) (xs : List A) → Many G c ts xs → Holds c (past c ts) ts (all_contents g xs)
 many_has G g has c ts all none = quiet c []
 many_has G g has c ts all (more {x = x} {others = os} xs ys e m others) = then_has c ts xs ys (g x) (all_contents g os) e (has c xs x m) (many_has G g has (past c xs) ys os others)
 
@@ -256,7 +256,7 @@ steps_count (s ∷ ss) = omega (arith, steps_count ss)
 abbrev steps_contents : List (StepOf NameAt) → Contents
 steps_contents ss = record { parts = map (λ (x : StepTree). x.part) (map step_tree ss); names = map (λ (x : StepOf NameAt). x.name) ss; sessions = 0; steps = length ss }
 
-steps_have : (c : Counts) (ts : List (At Token)) (ss : List (StepOf NameAt)) → Many step c ts ss → Holds c (past c ts) ts (steps_contents ss)
+steps_have : (c : Counts) (ts : List (At SpecToken)) (ss : List (StepOf NameAt)) → Many step c ts ss → Holds c (past c ts) ts (steps_contents ss)
 steps_have c ts ss m = like c (past c ts) ts (all_contents step_contents ss) _ _ _ _ (many_has step step_contents step_has c ts ss m) (steps_parts ss) (steps_names ss) (steps_none ss) (steps_count ss)
 
 abbrev pub session_contents : SessionOf NameAt → Contents
@@ -303,7 +303,7 @@ sessions_steps k (s ∷ ss) = omega (arith, steps_len k 0 s.steps, sessions_step
 abbrev sessions_contents : List (SessionOf NameAt) → Contents
 sessions_contents ss = record { parts = flat_map session_parts (map session_tree ss); names = flat_map session_names ss; sessions = length ss; steps = length (sessions_from 1 ss) }
 
-sessions_have : (c : Counts) (ts : List (At Token)) (ss : List (SessionOf NameAt)) → Many session c ts ss → Holds c (past c ts) ts (sessions_contents ss)
+sessions_have : (c : Counts) (ts : List (At SpecToken)) (ss : List (SessionOf NameAt)) → Many session c ts ss → Holds c (past c ts) ts (sessions_contents ss)
 sessions_have c ts ss m = like c (past c ts) ts (all_contents session_contents ss) _ _ _ _ (many_has session session_contents session_has c ts ss m) (sessions_parts ss) (sessions_names ss) (sessions_count ss) (sessions_steps 1 ss)
 
 setups_parts : (ps : List PartTree) → (all_contents (λ p. only_parts (p ∷ [])) ps).parts ≡ ps
@@ -322,13 +322,13 @@ setups_steps : (ps : List PartTree) → (all_contents (λ p. only_parts (p ∷ [
 setups_steps [] = refl
 setups_steps (p ∷ ps) = omega (arith, setups_steps ps)
 
-pub setups_have : (c : Counts) (ts : List (At Token)) (ps : List PartTree) → Many (block_behind Setup) c ts ps → Holds c (past c ts) ts (only_parts ps)
+pub setups_have : (c : Counts) (ts : List (At SpecToken)) (ps : List PartTree) → Many (block_behind Setup) c ts ps → Holds c (past c ts) ts (only_parts ps)
 setups_have c ts ps m = like c (past c ts) ts (all_contents (λ p. only_parts (p ∷ [])) ps) ps [] 0 0 (many_has (block_behind Setup) (λ p. only_parts (p ∷ [])) setup_has c ts ps m) (setups_parts ps) (setups_names ps) (setups_sessions ps) (setups_steps ps)
 
 -- ---- permutations count nothing
 
 abbrev pub Quiet : {A : Type 0} → Grammar A → Type 0
-Quiet {A} G = (c : Counts) (ts : List (At Token)) (x : A) → G c ts x → past c ts ≡ c
+Quiet {A} G = (c : Counts) (ts : List (At SpecToken)) (x : A) → G c ts x → past c ts ≡ c
 
 seq_quiet : {A B : Type 0} (G : Grammar A) (H : A → Grammar B) → Quiet G → ((x : A) → Quiet (H x)) → Quiet (G ▸ H)
 seq_quiet G H g h c ts z (x, xs, ys, e, m, n) = ap (past c) e ∙ past_twice c xs ys ∙ h x (past c xs) ys z n ∙ g c xs x m

@@ -5,7 +5,7 @@ use Rattle.std.proofs.lemmas.Option.{same_Some}
 use Rattle.iso_lexer.specs.declared.token.At.{At}
 use Rattle.iso_lexer.specs.declared.fault.Fault.{Fault}
 use Rattle.iso_lexer.specs.declared.spec_token.Keyword.TheVariants.{Notices}
-use Rattle.iso_lexer.specs.SpecTokens.{Token}
+use Rattle.iso_lexer.specs.SpecTokens.{SpecToken}
 use Rattle.iso_lexer.specs.SpecText.{Lexes}
 use Rattle.spec_parser.specs.declared.fault.Stop.{Stop}
 use Rattle.spec_parser.specs.declared.fault.Stop.TheVariants.{Expected, NoticesLeftOut, OverLimit}
@@ -20,7 +20,7 @@ use Rattle.spec_parser.specs.Inner.Pieces.{starts_word}
 use Rattle.spec_parser.specs.Grammar.{file}
 use Rattle.iso_lexer.specs.Results.{if_ok}
 use Rattle.spec_parser.specs.Names.{StepAt, steps_of, session_tree}
-use Rattle.spec_parser.specs.Inner.Known.{first_repeat, resolved, known_perms}
+use Rattle.spec_parser.specs.Inner.Known.{first_repeat, known_spec, known_perms}
 use Rattle.spec_parser.proofs.Placing.{seen, seen_in, fault_is, file_same, reads_as}
 use Rattle.spec_parser.proofs.Passing.{Rest as Ahead, Whole, file_passes}
 use Rattle.spec_parser.specs.SpecText.{SpecReads, no_tokens, tokens}
@@ -40,14 +40,14 @@ use Rattle.spec_parser.proofs.NamesAreFound.{names_differ, no_repeat, repeats_fi
 no_stop : (f : FileTree) (s : Stop) → ◌≡◌ {A = Result FileTree Stop} (Ok f) (Err s) → ⊥
 no_stop f s e = cc
 
-rest_case : (ts : List (At Token)) (f : FileTree) (rest : Rest) → file_at (start, ts) ≡ (Ok f, rest) → Again LongFile f (past start ts, []) (file_at (start, ts)) → rest ≡ (past start ts, [])
+rest_case : (ts : List (At SpecToken)) (f : FileTree) (rest : Rest) → file_at (start, ts) ≡ (Ok f, rest) → Again LongFile f (past start ts, []) (file_at (start, ts)) → rest ≡ (past start ts, [])
 rest_case ts f rest e (whole d) = sym (ap (λ (q : Read FileTree). q.1) e) ∙ ap (λ (q : Read FileTree). q.1) d
 rest_case ts f rest e (over d o) = absurd (no_stop f OverLimit (sym (ap (λ (q : Read FileTree). q.0) e) ∙ d))
 
-pub rest_is : (ts : List (At Token)) (f : FileTree) (rest : Rest) → file_at (start, ts) ≡ (Ok f, rest) → rest ≡ (past start ts, [])
+pub rest_is : (ts : List (At SpecToken)) (f : FileTree) (rest : Rest) → file_at (start, ts) ≡ (Ok f, rest) → rest ≡ (past start ts, [])
 rest_is ts f rest e = rest_case ts f rest e (read_or_over ts f (reads_are_files ts f rest e))
 
-pub limits_of : (ts : List (At Token)) (f : FileTree) (rest : Rest) → file_at (start, ts) ≡ (Ok f, rest) → WithinLimits f
+pub limits_of : (ts : List (At SpecToken)) (f : FileTree) (rest : Rest) → file_at (start, ts) ≡ (Ok f, rest) → WithinLimits f
 limits_of ts f rest e = within ts f rest (ap (λ (r : Rest). r.0) (rest_is ts f rest e)) e
 
 -- an answer that comes only where the file was read whole
@@ -63,19 +63,19 @@ IsPast (Err (faults.UndefinedStep at)) = Unit {0}
 IsPast (Err (faults.UndefinedMarker at)) = Unit {0}
 
 pub record WasResolved (text : List ℕ) (x : Result SpecTree SpecFault) : Type 0 where
-  pub tokens : List (At Token)
+  pub tokens : List (At SpecToken)
   pub lexes : Lexes text (Ok tokens)
   pub file_is : FileTree
   pub rest : Rest
   pub read : file_at (start, tokens) ≡ (Ok file_is, rest)
-  pub is : x ≡ resolved file_is
+  pub is : x ≡ known_spec file_is
 
 past_stop : (s : Stop) (p : ℕ) → IsPast (Err (stopped s p)) → ⊥
 past_stop (Expected w) p h = h
 past_stop NoticesLeftOut p h = h
 past_stop OverLimit p h = h
 
-from_read : (text : List ℕ) (ts : List (At Token)) (x : Result SpecTree SpecFault) (q : Read FileTree) → file_at (start, ts) ≡ q → Lexes text (Ok ts) → x ≡ finished (length text) q → IsPast x → WasResolved text x
+from_read : (text : List ℕ) (ts : List (At SpecToken)) (x : Result SpecTree SpecFault) (q : Read FileTree) → file_at (start, ts) ≡ q → Lexes text (Ok ts) → x ≡ finished (length text) q → IsPast x → WasResolved text x
 from_read text ts x (Ok f, rest) e lexes is h = record { tokens = ts; lexes = lexes; file_is = f; rest = rest; read = e; is = is }
 from_read text ts x (Err s, rest) e lexes is h = absurd (past_stop s (place (length text) rest.1) (subst IsPast is h))
 
@@ -84,7 +84,7 @@ was_resolved text x h (no_tokens f lexes) = absurd h
 was_resolved text x h (tokens ts lexes is) = from_read text ts x (file_at (start, ts)) refl lexes (is ∙ reads_as (length text) ts) h
 
 -- what was resolved is read
-pub reads_so : (text : List ℕ) (ts : List (At Token)) (f : FileTree) (x : Result SpecTree SpecFault) → Lexes text (Ok ts) → file start ts f → WithinLimits f → x ≡ resolved f → SpecReads text x
+pub reads_so : (text : List ℕ) (ts : List (At SpecToken)) (f : FileTree) (x : Result SpecTree SpecFault) → Lexes text (Ok ts) → file start ts f → WithinLimits f → x ≡ known_spec f → SpecReads text x
 reads_so text ts f x lexes grammar limits is = tokens ts lexes (is ∙ sym (reads_as (length text) ts ∙ ap (finished (length text)) (is_read_whole ts f grammar limits)))
 
 -- ---- the names looked up
@@ -171,7 +171,7 @@ pub specs_are_read : (text : List ℕ) (s : SpecTree) → IsSpec text s → Spec
 specs_are_read text s h =
     let f = h.file in
     let known = steps_of f in
-    let is : resolved f ≡ Ok (made f s.perms) = (λ i. out_of f (no_repeat known h.differ i) (perms_ok known h.differ f.perms s.perms h.perms i)) in
+    let is : known_spec f ≡ Ok (made f s.perms) = (λ i. out_of f (no_repeat known h.differ i) (perms_ok known h.differ f.perms s.perms h.perms i)) in
     let same : s ≡ made f s.perms = (λ i. record { setups = h.setups i; teardown = h.teardown i; sessions = h.sessions i; perms = s.perms }) in
     reads_so text h.tokens f (Ok s) h.lexes h.grammar h.limits (ap Ok same ∙ sym is)
 
@@ -179,7 +179,7 @@ pub repeats_are_read : (text : List ℕ) (at : ℕ) → HasRepeat text at → Sp
 repeats_are_read text at h =
     let f = h.file in
     let known = steps_of f in
-    let is : resolved f ≡ Err (faults.DuplicateStep at) = ap (λ o. out_of f o (known_perms known f.perms)) (first_repeats known at h.first) in
+    let is : known_spec f ≡ Err (faults.DuplicateStep at) = ap (λ o. out_of f o (known_perms known f.perms)) (first_repeats known at h.first) in
     reads_so text h.tokens f (Err (faults.DuplicateStep at)) h.lexes h.grammar h.limits (sym is)
 
 repeat_from : (text : List ℕ) (at : ℕ) → WasResolved text (Err (faults.DuplicateStep at)) → HasRepeat text at
@@ -196,7 +196,7 @@ pub undefined_are_read : (text : List ℕ) (x : SpecFault) → HasUndefined text
 undefined_are_read text x h =
     let f = h.file in
     let known = steps_of f in
-    let is : resolved f ≡ Err x = (λ i. out_of f (no_repeat known h.differ i) (first_undefined known f.perms x h.first i)) in
+    let is : known_spec f ≡ Err x = (λ i. out_of f (no_repeat known h.differ i) (first_undefined known f.perms x h.first i)) in
     reads_so text h.tokens f (Err x) h.lexes h.grammar h.limits (sym is)
 
 undefined_from : (text : List ℕ) (x : SpecFault) → IsUndefined x → WasResolved text (Err x) → HasUndefined text x
@@ -230,7 +230,7 @@ limit_stopped at p OverLimit e = (refl, limit_at at p e)
 limit_stopped at p (Expected w) e = absurd cc
 limit_stopped at p NoticesLeftOut e = absurd cc
 
-limit_from : (text : List ℕ) (ts : List (At Token)) (at : ℕ) (q : Read FileTree) → file_at (start, ts) ≡ q → Lexes text (Ok ts) → Err (faults.Limit at) ≡ finished (length text) q → HasLimit text at
+limit_from : (text : List ℕ) (ts : List (At SpecToken)) (at : ℕ) (q : Read FileTree) → file_at (start, ts) ≡ q → Lexes text (Ok ts) → Err (faults.Limit at) ≡ finished (length text) q → HasLimit text at
 limit_from text ts at (Ok f, rest) e lexes is = absurd (no_limit f at (first_repeat [] (steps_of f)) (known_perms (steps_of f) f.perms) (λ x d. is_undefined (steps_of f) (mentions f.perms) x (undefined_first (steps_of f) f.perms x d)) is)
 limit_from text ts at (Err s, rest) e lexes is =
     let k = limit_stopped at (place (length text) rest.1) s (err_same (faults.Limit at) (stopped s (place (length text) rest.1)) is) in
@@ -249,14 +249,14 @@ limits_are_names text at h = limit_by text at (Err (faults.Limit at)) refl h
 
 -- ---- files of the grammar
 
-over_by : (ts : List (At Token)) (f : FileTree) → ((file_at (start, ts) ≡ (Ok f, (past start ts, []))) ⊎ ((file_at (start, ts)).0 ≡ Err OverLimit)) → (WithinLimits f → ⊥) → (file_at (start, ts)).0 ≡ Err OverLimit
+over_by : (ts : List (At SpecToken)) (f : FileTree) → ((file_at (start, ts) ≡ (Ok f, (past start ts, []))) ⊎ ((file_at (start, ts)).0 ≡ Err OverLimit)) → (WithinLimits f → ⊥) → (file_at (start, ts)).0 ≡ Err OverLimit
 over_by ts f (inl e) outside = absurd (outside (limits_of ts f (past start ts, []) e))
 over_by ts f (inr e) outside = e
 
-pub files_within : (ts : List (At Token)) (f : FileTree) → file start ts f → (WithinLimits f → file_at (start, ts) ≡ (Ok f, (past start ts, []))) × ((WithinLimits f → ⊥) → (file_at (start, ts)).0 ≡ Err OverLimit)
+pub files_within : (ts : List (At SpecToken)) (f : FileTree) → file start ts f → (WithinLimits f → file_at (start, ts) ≡ (Ok f, (past start ts, []))) × ((WithinLimits f → ⊥) → (file_at (start, ts)).0 ≡ Err OverLimit)
 files_within ts f grammar = (λ limits. is_read_whole ts f grammar limits, λ outside. over_by ts f (files_are_read ts f grammar) outside)
 
-pub reads_within : (ts : List (At Token)) (f : FileTree) (rest : Rest) → file_at (start, ts) ≡ (Ok f, rest) → file start ts f × WithinLimits f
+pub reads_within : (ts : List (At SpecToken)) (f : FileTree) (rest : Rest) → file_at (start, ts) ≡ (Ok f, rest) → file start ts f × WithinLimits f
 reads_within ts f rest e = (reads_are_files ts f rest e, limits_of ts f rest e)
 
 -- ---- stops
@@ -321,11 +321,11 @@ same_stop : (s t : Stop) (at p : ℕ) → stopped s at ≡ stopped t p → (t �
 same_stop s t at p e =
     (same_Some t s (sym (of_stop t p).0 ∙ sym (ap stop_in e) ∙ (of_stop s at).0), sym (of_stop s at).1 ∙ ap place_in e ∙ (of_stop t p).1)
 
-notices_first : (c : Counts) (ts : List (At Token)) → starts_word Notices (c, ts) ≡ true → (token : At Token) × (head ts ≡ Some token) × IsWord Notices token
+notices_first : (c : Counts) (ts : List (At SpecToken)) → starts_word Notices (c, ts) ≡ true → (token : At SpecToken) × (head ts ≡ Some token) × IsWord Notices token
 notices_first c [] e = absurd cc
 notices_first c (t ∷ ts) e = (t, refl, e)
 
-stop_from : (text : List ℕ) (ts : List (At Token)) (s : Stop) (at : ℕ) (q : Read FileTree) → file_at (start, ts) ≡ q → Lexes text (Ok ts) → Err (stopped s at) ≡ finished (length text) q → HasStop text s at
+stop_from : (text : List ℕ) (ts : List (At SpecToken)) (s : Stop) (at : ℕ) (q : Read FileTree) → file_at (start, ts) ≡ q → Lexes text (Ok ts) → Err (stopped s at) ≡ finished (length text) q → HasStop text s at
 stop_from text ts s at (Ok f, rest) e lexes is = absurd (no_stop_in f (stopped s at) (first_repeat [] (steps_of f)) (known_perms (steps_of f) f.perms) (stop_is s at) (λ x d. is_undefined (steps_of f) (mentions f.perms) x (undefined_first (steps_of f) f.perms x d)) is)
 stop_from text ts s at (Err t, rest) e lexes is =
     let k = same_stop s t at (place (length text) rest.1) (err_same (stopped s at) (stopped t (place (length text) rest.1)) is) in
@@ -354,14 +354,14 @@ value_from : (last : ℕ) (q : Read FileTree) (f : FileTree) (rest : Rest) → t
 value_from last (Ok g, m) f rest e = ap (λ (p : FileTree × Rest). (Ok p.0, p.1)) (value_told (g, m) (f, rest) e)
 value_from last (Err s, m) f rest e = absurd (not_told f rest (stopped s (place last m.1)) (sym e))
 
-first_from : (last : ℕ) (ts : List (At Token)) (x : SpecFault) (q : Read FileTree) → file_at (start, ts) ≡ q → told last q ≡ Err x → FaultIsFirst last ts x
+first_from : (last : ℕ) (ts : List (At SpecToken)) (x : SpecFault) (q : Read FileTree) → file_at (start, ts) ≡ q → told last q ≡ Err x → FaultIsFirst last ts x
 first_from last ts x (Ok f, rest) is e = absurd (not_told f rest x e)
 first_from last ts x (Err s, rest) is e = record { stop = s; rest = rest.1; is = sym (fault_told (stopped s (place last rest.1)) x e); first = stops_first ts s rest is }
 
-pub faults_first : (last : ℕ) (ts : List (At Token)) (x : SpecFault) → new.file_at last ([], ts) ≡ Err x → FaultIsFirst last ts x
+pub faults_first : (last : ℕ) (ts : List (At SpecToken)) (x : SpecFault) → new.file_at last ([], ts) ≡ Err x → FaultIsFirst last ts x
 faults_first last ts x e = first_from last ts x (file_at (start, ts)) refl (sym (file_same last ([], ts)) ∙ ap seen_in e)
 
-pub reads_in : (last : ℕ) (ts : List (At Token)) (f : FileTree) (rest : Ahead) → new.file_at last ([], ts) ≡ Ok (f, rest) → file start ts f × WithinLimits f
+pub reads_in : (last : ℕ) (ts : List (At SpecToken)) (f : FileTree) (rest : Ahead) → new.file_at last ([], ts) ≡ Ok (f, rest) → file start ts f × WithinLimits f
 reads_in last ts f rest e = reads_within ts f (seen rest) (value_from last (file_at (start, ts)) f (seen rest) (sym (file_same last ([], ts)) ∙ ap seen_in e))
 
 limit_told : (last : ℕ) (q : Read FileTree) → q.0 ≡ Err OverLimit → told last q ≡ Err (faults.Limit (place last q.1.1))
@@ -369,30 +369,30 @@ limit_told last (Ok f, rest) e = let wrong : ◌≡◌ {A = Result FileTree Stop
 limit_told last (Err s, rest) e = let same : ◌≡◌ {A = Stop} s OverLimit = cc in ap (λ t. Err (stopped t (place last rest.1))) same
 
 -- where nothing is left, all stands before
-whole_by : (ts b us : List (At Token)) (f g : FileTree) → g ≡ f → us ≡ [] → b ++ us ≡ ts → ◌≡◌ {A = Result (FileTree × Ahead) SpecFault} (Ok (g, (b, us))) (Ok (f, (ts, [])))
+whole_by : (ts b us : List (At SpecToken)) (f g : FileTree) → g ≡ f → us ≡ [] → b ++ us ≡ ts → ◌≡◌ {A = Result (FileTree × Ahead) SpecFault} (Ok (g, (b, us))) (Ok (f, (ts, [])))
 whole_by ts b us f g same nothing split =
     let all : b ≡ ts = sym (append-nil b) ∙ ap (λ vs. b ++ vs) (sym nothing) ∙ split in
     (λ i. Ok (same i, (all i, nothing i)))
 
-whole_is : (ts : List (At Token)) (c : Counts) (f : FileTree) (p : Result (FileTree × Ahead) SpecFault) → seen_in p ≡ Ok (f, (c, [])) → Whole ts p → p ≡ Ok (f, (ts, []))
+whole_is : (ts : List (At SpecToken)) (c : Counts) (f : FileTree) (p : Result (FileTree × Ahead) SpecFault) → seen_in p ≡ Ok (f, (c, [])) → Whole ts p → p ≡ Ok (f, (ts, []))
 whole_is ts c f (Ok (g, (b, us))) e split =
     let same = value_told (g, seen (b, us)) (f, (c, [])) e in
     whole_by ts b us f g (ap (λ (p : FileTree × Rest). p.0) same) (ap (λ (p : FileTree × Rest). p.1.1) same) split
 whole_is ts c f (Err x) e split = absurd (not_told f (c, []) x (sym e))
 
-pub files_in : (last : ℕ) (ts : List (At Token)) (f : FileTree) → file start ts f → (WithinLimits f → new.file_at last ([], ts) ≡ Ok (f, (ts, []))) × ((WithinLimits f → ⊥) → (at : ℕ) × (new.file_at last ([], ts) ≡ Err (faults.Limit at)))
+pub files_in : (last : ℕ) (ts : List (At SpecToken)) (f : FileTree) → file start ts f → (WithinLimits f → new.file_at last ([], ts) ≡ Ok (f, (ts, []))) × ((WithinLimits f → ⊥) → (at : ℕ) × (new.file_at last ([], ts) ≡ Err (faults.Limit at)))
 files_in last ts f grammar =
     let both = files_within ts f grammar in (
       λ limits. whole_is ts (past start ts) f (new.file_at last ([], ts)) (file_same last ([], ts) ∙ ap (told last) (both.0 limits)) (file_passes last ([], ts)),
       λ outside. let at = place last (file_at (start, ts)).1.1 in (at, fault_is (new.file_at last ([], ts)) (faults.Limit at) (file_same last ([], ts) ∙ limit_told last (file_at (start, ts)) (both.1 outside))),
     )
 
-limits_from : (last : ℕ) (ts : List (At Token)) (at : ℕ) (q : Read FileTree) → file_at (start, ts) ≡ q → told last q ≡ Err (faults.Limit at) → (rest : List (At Token)) × (stop : LimitStop ts rest) × (at ≡ stop.name.span.start)
+limits_from : (last : ℕ) (ts : List (At SpecToken)) (at : ℕ) (q : Read FileTree) → file_at (start, ts) ≡ q → told last q ≡ Err (faults.Limit at) → (rest : List (At SpecToken)) × (stop : LimitStop ts rest) × (at ≡ stop.name.span.start)
 limits_from last ts at (Ok f, rest) is e = absurd (not_told f rest (faults.Limit at) e)
 limits_from last ts at (Err s, rest) is e =
     let k = limit_stopped at (place last rest.1) s (sym (fault_told (stopped s (place last rest.1)) (faults.Limit at) e)) in
     let stop = limit_stop ts rest (is ∙ (λ i. (Err (k.0 i), rest))) in
     (rest.1, stop, k.1 ∙ ap (place last) stop.rest_is)
 
-pub limits_first : (last : ℕ) (ts : List (At Token)) (at : ℕ) → new.file_at last ([], ts) ≡ Err (faults.Limit at) → (rest : List (At Token)) × (stop : LimitStop ts rest) × (at ≡ stop.name.span.start)
+pub limits_first : (last : ℕ) (ts : List (At SpecToken)) (at : ℕ) → new.file_at last ([], ts) ≡ Err (faults.Limit at) → (rest : List (At SpecToken)) × (stop : LimitStop ts rest) × (at ≡ stop.name.span.start)
 limits_first last ts at e = limits_from last ts at (file_at (start, ts)) refl (sym (file_same last ([], ts)) ∙ ap seen_in e)

@@ -5,14 +5,14 @@ use Rattle.std.specs.List.{AllByRecursion}
 use Rattle.std.proofs.lemmas.Bool.{ltb-true}
 use Rattle.iso_lexer.specs.declared.token.At.{At}
 use Rattle.iso_lexer.specs.declared.spec_token.Keyword.TheVariants.{Permutation, Session, Setup, Step, Teardown}
-use Rattle.iso_lexer.specs.SpecTokens.{Token}
+use Rattle.iso_lexer.specs.SpecTokens.{SpecToken}
 use Rattle.spec_parser.specs.declared.fault.What.{What}
 use Rattle.spec_parser.specs.declared.fault.What.TheVariants as what
 use Rattle.spec_parser.specs.declared.fault.Stop.{Stop}
 use Rattle.spec_parser.specs.declared.fault.Stop.TheVariants.{Expected, OverLimit}
 use Rattle.spec_parser.specs.Trees.{PartTree, NameAt, StepOf, SessionOf, NamedEntry, FileTree}
 use Rattle.spec_parser.specs.Counts.{Counts, start, past}
-use Rattle.spec_parser.specs.Inner.Stopping.{Rest, Read, many_at, all_at, some_at, name_at, end_at, name_within, step_at, session_at, entry_at, perm_at, file_at}
+use Rattle.spec_parser.specs.Inner.Stopping.{Rest, Read, many_at, all_at, some_at, name_next, end_at, name_within, step_at, session_at, entry_at, perm_at, file_at}
 use Rattle.spec_parser.specs.Grammar.{a_name, Grammar, one, a_word, Maybe, Many, block_behind, perm, file}
 use Rattle.spec_parser.specs.Inner.Pieces.{starts_word, starts_name, word_at, setup_at, teardown_at, setups_at, steps_at, sessions_at, perms_at}
 use Rattle.spec_parser.specs.Grammar.{step as step_grammar}
@@ -40,12 +40,12 @@ all_to P (x ∷ xs) h = (h 0 x (omega arith), all_to P xs (λ k d lt. h (suc k) 
 pub value_is : {A : Type 0} (x y : A) → ◌≡◌ {A = Result A Stop} (Ok x) (Ok y) → x ≡ y
 value_is x y e = cc
 
-pub ok_means : {A : Type 0} (G : Grammar A) (out : Result A Stop) (c : Counts) (front : List (At Token)) (x : A) → out ≡ Ok x → Means G out c front → G c front x
+pub ok_means : {A : Type 0} (G : Grammar A) (out : Result A Stop) (c : Counts) (front : List (At SpecToken)) (x : A) → out ≡ Ok x → Means G out c front → G c front x
 ok_means G (Ok y) c front x e m = subst (G c front) (value_is y x e) m
 ok_means G (Err s) c front x e m = absurd (no_value s x e)
 
 -- the tokens that were read are in the grammar
-pub was_in : {A : Type 0} (G : Grammar A) (p : Rest → Read A) → LocalRead G p → (r after : Rest) (x : A) → p r ≡ (Ok x, after) → (front : List (At Token)) × (after.0 ≡ past r.0 front) × G r.0 front x
+pub was_in : {A : Type 0} (G : Grammar A) (p : Rest → Read A) → LocalRead G p → (r after : Rest) (x : A) → p r ≡ (Ok x, after) → (front : List (At SpecToken)) × (after.0 ≡ past r.0 front) × G r.0 front x
 was_in {A} G p local r after x e =
     let l = local r after x e in
     let same = sym (is_read G p r.0 r.1 l) ∙ e in
@@ -65,7 +65,7 @@ keeps_then : {A B : Type 0} (p : Rest → Read A) (f : A × Rest → Read B) →
 keeps_then p f first next r after z e few = let t = in_two (p r) f z after e in next t.0 t.1 after z t.3 (first r t.1 t.0 t.2 few)
 
 -- a piece that counts neither
-quiet_keeps : {A : Type 0} (G : Grammar A) (p : Rest → Read A) → AreLocal G p → ((c : Counts) (ts : List (At Token)) (x : A) → G c ts x → ((past c ts).sessions ≡ c.sessions) × ((past c ts).steps ≡ c.steps)) → Keeps p
+quiet_keeps : {A : Type 0} (G : Grammar A) (p : Rest → Read A) → AreLocal G p → ((c : Counts) (ts : List (At SpecToken)) (x : A) → G c ts x → ((past c ts).sessions ≡ c.sessions) × ((past c ts).steps ≡ c.steps)) → Keeps p
 quiet_keeps G p local quiet r after x e few =
     let w = was_in G p (local_read local) r after x e in
     let same = quiet r.0 w.0 x w.2 in
@@ -73,7 +73,7 @@ quiet_keeps G p local quiet r after x e few =
     let j = ap (λ (c : Counts). c.steps) w.1 in
     record { sessions = omega (arith, k, same.0, few.sessions); steps = omega (arith, j, same.1, few.steps) }
 
-parts_count : (c d : Counts) (ts : List (At Token)) (ps : List PartTree) → Holds c d ts (only_parts ps) → (d.sessions ≡ c.sessions) × (d.steps ≡ c.steps)
+parts_count : (c d : Counts) (ts : List (At SpecToken)) (ps : List PartTree) → Holds c d ts (only_parts ps) → (d.sessions ≡ c.sessions) × (d.steps ≡ c.steps)
 parts_count c d ts ps m = (omega (arith, m.sessions), omega (arith, m.steps))
 
 pub setups_keep : Keeps setups_at
@@ -85,7 +85,7 @@ setup_keeps = quiet_keeps (Maybe (block_behind Setup)) setup_at setup_local (λ 
 pub teardown_keeps : Keeps teardown_at
 teardown_keeps = quiet_keeps (Maybe (block_behind Teardown)) teardown_at teardown_local (λ c ts o h. parts_count c (past c ts) ts (option_to_list o) (maybe_has (block_behind Teardown) teardown_has c ts o h))
 
-within_by : (b d : Bool) (before most : ℕ) (r after : Rest) (n : NameAt) → nat_lt before most ≡ b → cond b (name_at what.Name r) (cond d (Err OverLimit, r) (Err (Expected what.Name), r)) ≡ (Ok n, after) → before < most
+within_by : (b d : Bool) (before most : ℕ) (r after : Rest) (n : NameAt) → nat_lt before most ≡ b → cond b (name_next what.Name r) (cond d (Err OverLimit, r) (Err (Expected what.Name), r)) ≡ (Ok n, after) → before < most
 within_by true d before most r after n lt e = ltb-true before most lt
 within_by false true before most r after n lt e = absurd (no_value OverLimit n (ap (λ (q : Read NameAt). q.0) e))
 within_by false false before most r after n lt e = absurd (no_value (Expected what.Name) n (ap (λ (q : Read NameAt). q.0) e))
@@ -94,7 +94,7 @@ pub within_is : (before most : ℕ) (r after : Rest) (n : NameAt) → name_withi
 unfolding name_within
 within_is before most r after n e = within_by (nat_lt before most) (starts_name r) before most r after n refl e
 
-word_keeps_steps : (c d : Counts) (ts : List (At Token)) (u : Unit {0}) → one (a_word Session) c ts u → d ≡ past c ts → d.steps ≡ c.steps
+word_keeps_steps : (c d : Counts) (ts : List (At SpecToken)) (u : Unit {0}) → one (a_word Session) c ts u → d ≡ past c ts → d.steps ≡ c.steps
 word_keeps_steps c d ts u h e = omega (arith, ap (λ (d : Counts). d.steps) e, (session_word c ts u h).steps)
 
 -- one more than before, where there were fewer
@@ -223,7 +223,7 @@ perms_keep = quiet_keeps (Many perm) perms_at perms_local (λ c ts ps h. (ap (λ
 
 -- ---- the file
 
-end_by : (c : Counts) (ts : List (At Token)) (u : Unit {0}) (after : Rest) → end_at (c, ts) ≡ (Ok u, after) → (c, ts) ≡ after
+end_by : (c : Counts) (ts : List (At SpecToken)) (u : Unit {0}) (after : Rest) → end_at (c, ts) ≡ (Ok u, after) → (c, ts) ≡ after
 unfolding end_at
 end_by c [] u after e = ap (λ (q : Read (Unit {0})). q.1) e
 end_by c (t ∷ ts) u after e = absurd (no_value (Expected what.Item) u (ap (λ (q : Read (Unit {0})). q.0) e))
@@ -255,7 +255,7 @@ file_short r after f e =
     subst (λ (g : FileTree). AllByRecursion IsShort g.perms) is (perms_short (length ss.1.1) 0 ss.1 perms.1 perms.0 perms.2)
 
 -- what is read whole is within the limits
-pub within : (ts : List (At Token)) (f : FileTree) (after : Rest) → after.0 ≡ past start ts → file_at (start, ts) ≡ (Ok f, after) → WithinLimits f
+pub within : (ts : List (At SpecToken)) (f : FileTree) (after : Rest) → after.0 ≡ past start ts → file_at (start, ts) ≡ (Ok f, after) → WithinLimits f
 within ts f after place e =
     let few = file_keeps (start, ts) after f e (record { sessions = omega arith; steps = omega arith }) in
     let m = file_has start ts f (reads_are_files ts f after e) in
@@ -270,23 +270,23 @@ not_long [] h long_one = long_one
 not_long (es ∷ ps) (short, h) (inl lt) = omega (arith, short, lt)
 not_long (es ∷ ps) (short, h) (inr later) = not_long ps h later
 
-pub not_over : (ts : List (At Token)) (f : FileTree) → file start ts f → WithinLimits f → IsOver LongFile (past start ts) f → ⊥
+pub not_over : (ts : List (At SpecToken)) (f : FileTree) → file start ts f → WithinLimits f → IsOver LongFile (past start ts) f → ⊥
 not_over ts f g limits (many_sessions lt) = let m = file_has start ts f g in omega (arith, lt, limits.sessions, m.sessions)
 not_over ts f g limits (many_steps lt) = let m = file_has start ts f g in omega (arith, lt, limits.steps, m.steps)
 not_over ts f g limits (long h) = not_long f.perms (all_to IsShort f.perms limits.entries) h
 
-read_case : (ts : List (At Token)) (f : FileTree) → file start ts f → WithinLimits f → Again LongFile f (past start ts, []) (file_at (start, ts)) → file_at (start, ts) ≡ (Ok f, (past start ts, []))
+read_case : (ts : List (At SpecToken)) (f : FileTree) → file start ts f → WithinLimits f → Again LongFile f (past start ts, []) (file_at (start, ts)) → file_at (start, ts) ≡ (Ok f, (past start ts, []))
 read_case ts f g limits (whole e) = e
 read_case ts f g limits (over e o) = absurd (not_over ts f g limits o)
 
 -- a file of the grammar within the limits is read whole
-pub is_read_whole : (ts : List (At Token)) (f : FileTree) → file start ts f → WithinLimits f → file_at (start, ts) ≡ (Ok f, (past start ts, []))
+pub is_read_whole : (ts : List (At SpecToken)) (f : FileTree) → file start ts f → WithinLimits f → file_at (start, ts) ≡ (Ok f, (past start ts, []))
 is_read_whole ts f g limits = read_case ts f g limits (read_or_over ts f g)
 
-over_case : (ts : List (At Token)) (f : FileTree) (s : Stop) (rest : Rest) → file start ts f → file_at (start, ts) ≡ (Err s, rest) → Again LongFile f (past start ts, []) (file_at (start, ts)) → WithinLimits f → ⊥
+over_case : (ts : List (At SpecToken)) (f : FileTree) (s : Stop) (rest : Rest) → file start ts f → file_at (start, ts) ≡ (Err s, rest) → Again LongFile f (past start ts, []) (file_at (start, ts)) → WithinLimits f → ⊥
 over_case ts f s rest g e (whole d) limits = no_value s f (sym (ap (λ (q : Read FileTree). q.0) e) ∙ ap (λ (q : Read FileTree). q.0) d)
 over_case ts f s rest g e (over d o) limits = not_over ts f g limits o
 
 -- a file of the grammar that isn't read is over a limit
-pub is_over_limits : (ts : List (At Token)) (f : FileTree) (s : Stop) (rest : Rest) → file start ts f → file_at (start, ts) ≡ (Err s, rest) → WithinLimits f → ⊥
+pub is_over_limits : (ts : List (At SpecToken)) (f : FileTree) (s : Stop) (rest : Rest) → file start ts f → file_at (start, ts) ≡ (Err s, rest) → WithinLimits f → ⊥
 is_over_limits ts f s rest g e = over_case ts f s rest g e (read_or_over ts f g)

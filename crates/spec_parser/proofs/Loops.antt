@@ -8,7 +8,7 @@ use Rattle.spec_parser.specs.declared.fault.Stop.{Stop}
 use Rattle.spec_parser.specs.declared.fault.Halt.{Halt}
 use Rattle.spec_parser.specs.declared.fault.Halt.TheVariants as halts
 use Rattle.spec_parser.specs.Inner.Stopping.{Rest, Read, many_at, all_at}
-use Rattle.iso_lexer.specs.SpecTokens.{Token}
+use Rattle.iso_lexer.specs.SpecTokens.{SpecToken}
 use Rattle.spec_parser.specs.Inner.Readers.{FailsAs, behind, rest_of}
 use Rattle.spec_parser.proofs.Local.{first_is, ◌>>=◌, stops_at, goes_on, goes}
 
@@ -76,7 +76,7 @@ behind_nothing (Err s, rest) = refl
 pub views_push : {X Y : Type 0} (view : X → Y) (xs ys : List X) (x : X) → ys ≡ xs ++ x ∷ [] → map view ys ≡ map view xs ++ view x ∷ []
 views_push view xs ys x e = ap (map view) e ∙ map-append view xs (x ∷ [])
 
-pub starts_nonempty : (p : Token → Bool) (r : Rest) → first_is p r.1 ≡ true → 0 < length r.1
+pub starts_nonempty : (p : SpecToken → Bool) (r : Rest) → first_is p r.1 ≡ true → 0 < length r.1
 starts_nonempty p (c, []) e = absurd cc
 starts_nonempty p (c, t ∷ ts) e = omega arith
 

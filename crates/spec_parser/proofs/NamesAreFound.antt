@@ -16,7 +16,7 @@ use Rattle.spec_parser.specs.Trees.{EntryTree, NameAt, MarkerTree, star, named, 
 use Rattle.iso_lexer.specs.Results.{if_ok, each}
 use Rattle.spec_parser.specs.Names.{StepAt, is_named, known_marker, known_entry}
 use Rattle.spec_parser.specs.Inner.Known.{first_repeat, known_perms}
-use Rattle.spec_parser.specs.IsSpec.{SameName, HasOtherName, NamesDiffer, Names, MarkerIs, EntryIs, PermIs}
+use Rattle.spec_parser.specs.IsSpec.{SameName, HasOtherName, NamesDiffer, NamesStep, MarkerIs, EntryIs, PermIs}
 use Rattle.spec_parser.specs.NameFaults.{IsFirstRepeat, Mention, by_entry, by_marker, mentioned, of_marker, of_entry, mentions, IsDefined, undefined_at, IsFirstUndefined}
 
 none_some : {A : Type 0} (x : A) → ◌≡◌ {A = Option A} None (Some x) → ⊥
@@ -192,7 +192,7 @@ marker_of n o = ok_or (option_map (λ s. markers.Step s.session s.step) o) (Unde
 abbrev step_of : NameAt → Option StepAt → Result StepAt SpecFault
 step_of n o = ok_or o (UndefinedStep n.at)
 
-names_found : (known : List StepAt) (n : NameAt) (s : StepAt) → find (is_named n.name) known ≡ Some s → Names known n s.session s.step
+names_found : (known : List StepAt) (n : NameAt) (s : StepAt) → find (is_named n.name) known ≡ Some s → NamesStep known n s.session s.step
 names_found known n s e = let h = found (is_named n.name) known s e in record { step = s; listed = h.0; same = named_is n s h.1; session_is = refl; step_is = refl }
 
 marker_by : (known : List StepAt) (n : NameAt) (o : Option StepAt) (m : Marker) → find (is_named n.name) known ≡ o → marker_of n o ≡ Ok m → MarkerIs known (named n) m

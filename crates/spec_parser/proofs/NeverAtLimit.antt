@@ -5,14 +5,14 @@ use Rattle.iso_lexer.specs.declared.spec_token.Keyword.{Keyword}
 use Rattle.iso_lexer.specs.declared.spec_token.Keyword.TheVariants.{Setup, Teardown, Notices}
 use Rattle.iso_lexer.specs.declared.spec_token.Sign.{Sign}
 use Rattle.iso_lexer.specs.declared.spec_token.Sign.TheVariants.{Open, Close, Comma, Star}
-use Rattle.iso_lexer.specs.SpecTokens.{Token}
+use Rattle.iso_lexer.specs.SpecTokens.{SpecToken}
 use Rattle.spec_parser.specs.declared.fault.What.{What}
 use Rattle.spec_parser.specs.declared.fault.What.TheVariants as what
 use Rattle.spec_parser.specs.declared.fault.Stop.{Stop}
 use Rattle.spec_parser.specs.declared.fault.Stop.TheVariants.{Expected, NoticesLeftOut, OverLimit}
 use Rattle.spec_parser.specs.Trees.{NameAt, MarkerTree, star, named}
 use Rattle.spec_parser.specs.Counts.{Counts}
-use Rattle.spec_parser.specs.Inner.Stopping.{Rest, Read, next, many_at, all_at, maybe_at, name_at, block_at, end_at, block_after, maybe_block, no_notices, marker_at, markers_at, token_at}
+use Rattle.spec_parser.specs.Inner.Stopping.{Rest, Read, next_token, many_at, all_at, maybe_at, name_next, block_next, end_at, block_after, maybe_block, no_notices, marker_at, markers_at, token_at}
 use Rattle.spec_parser.specs.Grammar.{a_name, a_block, a_word, a_sign}
 use Rattle.spec_parser.specs.Inner.Pieces.{starts_word, starts_sign, word_at, sign_at, setup_at, teardown_at, setups_at, next_marker_at, next_markers_at, some_markers_at}
 use Rattle.spec_parser.proofs.Local.{◌>>=◌, taken, no_value, stops_at, goes, goes_on}
@@ -28,31 +28,31 @@ not_expected {A} w rest after e = let same : ◌≡◌ {A = Result A Stop} (Err 
 pub not_value : {A : Type 0} (x : A) (rest after : Rest) → ◌≡◌ {A = Read A} (Ok x, rest) (Err OverLimit, after) → ⊥
 not_value {A} x rest after e = no_value OverLimit x (sym (ap (λ (q : Read A). q.0) e))
 
-taken_never : {A : Type 0} (o : Option A) (w : What) (c : Counts) (t : At Token) (ts : List (At Token)) (after : Rest) → taken o w c t ts ≡ (Err OverLimit, after) → ⊥
+taken_never : {A : Type 0} (o : Option A) (w : What) (c : Counts) (t : At SpecToken) (ts : List (At SpecToken)) (after : Rest) → taken o w c t ts ≡ (Err OverLimit, after) → ⊥
 taken_never (Some x) w c t ts after e = not_value x _ after e
 taken_never {A} None w c t ts after e = not_expected {A = A} w _ after e
 
-token_never : {A : Type 0} (f : Counts → At Token → Option A) (w : What) (c : Counts) (ts : List (At Token)) (after : Rest) → token_at f w (c, ts) ≡ (Err OverLimit, after) → ⊥
+token_never : {A : Type 0} (f : Counts → At SpecToken → Option A) (w : What) (c : Counts) (ts : List (At SpecToken)) (after : Rest) → token_at f w (c, ts) ≡ (Err OverLimit, after) → ⊥
 token_never {A} f w c [] after e = not_expected {A = A} w _ after e
 token_never f w c (t ∷ ts) after e = taken_never (f c t) w c t ts after e
 
 pub word_never : (k : Keyword) (w : What) → Never (word_at k w)
-unfolding next
+unfolding next_token
 word_never k w r after e = token_never (a_word k) w r.0 r.1 after e
 
 sign_never : (g : Sign) (w : What) → Never (sign_at g w)
-unfolding next
+unfolding next_token
 sign_never g w r after e = token_never (a_sign g) w r.0 r.1 after e
 
-pub name_never : (w : What) → Never (name_at w)
-unfolding name_at
+pub name_never : (w : What) → Never (name_next w)
+unfolding name_next
 name_never w r after e = token_never a_name w r.0 r.1 after e
 
-pub block_never : Never block_at
-unfolding block_at
+pub block_never : Never block_next
+unfolding block_next
 block_never r after e = token_never a_block what.Block r.0 r.1 after e
 
-end_by : (c : Counts) (ts : List (At Token)) (after : Rest) → end_at (c, ts) ≡ (Err OverLimit, after) → ⊥
+end_by : (c : Counts) (ts : List (At SpecToken)) (after : Rest) → end_at (c, ts) ≡ (Err OverLimit, after) → ⊥
 unfolding end_at
 end_by c [] after e = not_value {A = Unit {0}} tt _ after e
 end_by c (t ∷ ts) after e = not_expected {A = Unit {0}} what.Item _ after e
@@ -70,11 +70,11 @@ err_two {A} {B} (Err t, rest) f s after e =
     inl (λ i. (Err (is i), (e i).1))
 
 never_case : {A B : Type 0} (q : Read A) (f : A × Rest → Read B) (after : Rest) → (q ≡ (Err OverLimit, after) → ⊥) → ((x : A) (mid : Rest) → f (x, mid) ≡ (Err OverLimit, after) → ⊥) → (q ≡ (Err OverLimit, after)) ⊎ ((x : A) × (mid : Rest) × (q ≡ (Ok x, mid)) × (f (x, mid) ≡ (Err OverLimit, after))) → ⊥
-never_case q f after first next (inl e) = first e
-never_case q f after first next (inr (x, mid, is, e)) = next x mid e
+never_case q f after first next_token (inl e) = first e
+never_case q f after first next_token (inr (x, mid, is, e)) = next_token x mid e
 
 pub never_then : {A B : Type 0} (p : Rest → Read A) (f : A × Rest → Read B) → Never p → ((x : A) → Never (λ r. f (x, r))) → Never (λ r. p r >>= f)
-never_then p f first next r after e = never_case (p r) f after (first r after) (λ x mid h. next x mid after h) (err_two (p r) f OverLimit after e)
+never_then p f first next_token r after e = never_case (p r) f after (first r after) (λ x mid h. next_token x mid after h) (err_two (p r) f OverLimit after e)
 
 never_choice : {A : Type 0} (b : Bool) (p q : Read A) (after : Rest) → (p ≡ (Err OverLimit, after) → ⊥) → (q ≡ (Err OverLimit, after) → ⊥) → cond b p q ≡ (Err OverLimit, after) → ⊥
 never_choice true p q after first second e = first e
@@ -124,7 +124,7 @@ many_never starts item never (suc n) k r after e = many_case starts item n k r a
 
 block_after_never : (k : Keyword) → Never (block_after k)
 unfolding block_after
-block_after_never k = never_then (word_at k what.Item) (λ key. block_at key.1) (word_never k what.Item) (λ _. block_never)
+block_after_never k = never_then (word_at k what.Item) (λ key. block_next key.1) (word_never k what.Item) (λ _. block_never)
 
 pub setup_never : Never setup_at
 unfolding maybe_block
@@ -148,9 +148,9 @@ no_notices_never n r after e = notices_by (starts_word Notices r) n r after e
 
 marker_never : Never marker_at
 unfolding marker_at
-marker_never r after e = never_choice (starts_sign Star r) (sign_at Star what.Marker r >>= λ key. (Ok star, key.1)) (name_at what.Marker r >>= λ n. no_notices n.0 n.1) after
+marker_never r after e = never_choice (starts_sign Star r) (sign_at Star what.Marker r >>= λ key. (Ok star, key.1)) (name_next what.Marker r >>= λ n. no_notices n.0 n.1) after
     (never_then (sign_at Star what.Marker) (λ key. (Ok star, key.1)) (sign_never Star what.Marker) (λ _. gives_never star) r after)
-    (never_then (name_at what.Marker) (λ n. no_notices n.0 n.1) (name_never what.Marker) no_notices_never r after) e
+    (never_then (name_next what.Marker) (λ n. no_notices n.0 n.1) (name_never what.Marker) no_notices_never r after) e
 
 next_marker_never : Never next_marker_at
 next_marker_never = never_then (sign_at Comma what.CommaOrClose) (λ comma. marker_at comma.1) (sign_never Comma what.CommaOrClose) (λ _. marker_never)

@@ -6,14 +6,14 @@ use Rattle.iso_lexer.specs.declared.spec_token.Keyword.{Keyword}
 use Rattle.iso_lexer.specs.declared.spec_token.Keyword.TheVariants.{Permutation, Session, Setup, Step, Teardown, Notices}
 use Rattle.iso_lexer.specs.declared.spec_token.Sign.{Sign}
 use Rattle.iso_lexer.specs.declared.spec_token.Sign.TheVariants.{Open, Close, Comma, Star}
-use Rattle.iso_lexer.specs.SpecTokens.{Token}
+use Rattle.iso_lexer.specs.SpecTokens.{SpecToken}
 use Rattle.spec_parser.specs.declared.fault.What.{What}
 use Rattle.spec_parser.specs.declared.fault.What.TheVariants as what
 use Rattle.spec_parser.specs.declared.fault.Stop.{Stop}
 use Rattle.spec_parser.specs.declared.fault.Stop.TheVariants.{Expected, NoticesLeftOut, OverLimit}
 use Rattle.spec_parser.specs.Trees.{PartTree, NameAt, StepOf, SessionOf, MarkerTree, star, named, NamedEntry, FileTree}
 use Rattle.spec_parser.specs.Counts.{Counts}
-use Rattle.spec_parser.specs.Inner.Stopping.{Rest, Read, next, many_at, all_at, some_at, maybe_at, name_at, block_at, end_at, name_within, block_after, maybe_block, step_at, session_at, no_notices, marker_at, markers_at, entry_at, perm_at, file_at, token_at}
+use Rattle.spec_parser.specs.Inner.Stopping.{Rest, Read, next_token, many_at, all_at, some_at, maybe_at, name_next, block_next, end_at, name_within, block_after, maybe_block, step_at, session_at, no_notices, marker_at, markers_at, entry_at, perm_at, file_at, token_at}
 use Rattle.spec_parser.specs.Grammar.{a_name, a_block, a_word, a_sign}
 use Rattle.spec_parser.specs.Inner.Pieces.{starts_word, starts_sign, starts_name, word_at, sign_at, setup_at, teardown_at, setups_at, steps_at, sessions_at, next_marker_at, next_markers_at, some_markers_at, entries_at, perms_at}
 use Rattle.spec_parser.proofs.Local.{◌>>=◌, taken, no_value}
@@ -36,31 +36,31 @@ not_value {A} x rest after e = no_value NoticesLeftOut x (sym (ap (λ (q : Read 
 
 -- ---- one token
 
-taken_ends : {A : Type 0} (o : Option A) (w : What) (c : Counts) (t : At Token) (ts : List (At Token)) (after : Rest) → taken o w c t ts ≡ (Err NoticesLeftOut, after) → ⊥
+taken_ends : {A : Type 0} (o : Option A) (w : What) (c : Counts) (t : At SpecToken) (ts : List (At SpecToken)) (after : Rest) → taken o w c t ts ≡ (Err NoticesLeftOut, after) → ⊥
 taken_ends (Some x) w c t ts after e = not_value x _ after e
 taken_ends {A} None w c t ts after e = not_expected {A = A} w _ after e
 
-token_ends : {A : Type 0} (f : Counts → At Token → Option A) (w : What) (c : Counts) (ts : List (At Token)) (after : Rest) → token_at f w (c, ts) ≡ (Err NoticesLeftOut, after) → ⊥
+token_ends : {A : Type 0} (f : Counts → At SpecToken → Option A) (w : What) (c : Counts) (ts : List (At SpecToken)) (after : Rest) → token_at f w (c, ts) ≡ (Err NoticesLeftOut, after) → ⊥
 token_ends {A} f w c [] after e = not_expected {A = A} w _ after e
 token_ends f w c (t ∷ ts) after e = taken_ends (f c t) w c t ts after e
 
 word_ends : (k : Keyword) (w : What) → Ends (word_at k w)
-unfolding next
+unfolding next_token
 word_ends k w r after e = absurd (token_ends (a_word k) w r.0 r.1 after e)
 
 sign_ends : (g : Sign) (w : What) → Ends (sign_at g w)
-unfolding next
+unfolding next_token
 sign_ends g w r after e = absurd (token_ends (a_sign g) w r.0 r.1 after e)
 
-name_ends : (w : What) → Ends (name_at w)
-unfolding name_at
+name_ends : (w : What) → Ends (name_next w)
+unfolding name_next
 name_ends w r after e = absurd (token_ends a_name w r.0 r.1 after e)
 
-block_ends : Ends block_at
-unfolding block_at
+block_ends : Ends block_next
+unfolding block_next
 block_ends r after e = absurd (token_ends a_block what.Block r.0 r.1 after e)
 
-end_by : (c : Counts) (ts : List (At Token)) (after : Rest) → end_at (c, ts) ≡ (Err NoticesLeftOut, after) → ⊥
+end_by : (c : Counts) (ts : List (At SpecToken)) (after : Rest) → end_at (c, ts) ≡ (Err NoticesLeftOut, after) → ⊥
 unfolding end_at
 end_by c [] after e = not_value {A = Unit {0}} tt _ after e
 end_by c (t ∷ ts) after e = not_expected {A = Unit {0}} what.Item _ after e
@@ -69,7 +69,7 @@ end_ends : Ends end_at
 unfolding end_at
 end_ends r after e = absurd (end_by r.0 r.1 after e)
 
-name_by : (b d : Bool) (r after : Rest) → ◌≡◌ {A = Read NameAt} (cond b (name_at what.Name r) (cond d (Err OverLimit, r) (Err (Expected what.Name), r))) (Err NoticesLeftOut, after) → AtNotices after
+name_by : (b d : Bool) (r after : Rest) → ◌≡◌ {A = Read NameAt} (cond b (name_next what.Name r) (cond d (Err OverLimit, r) (Err (Expected what.Name), r))) (Err NoticesLeftOut, after) → AtNotices after
 name_by true d r after e = name_ends what.Name r after e
 name_by false true r after e = absurd (not_limit {A = NameAt} r after e)
 name_by false false r after e = absurd (not_expected {A = NameAt} what.Name r after e)
@@ -82,11 +82,11 @@ name_within_ends before most r after e = name_by (nat_lt before most) (starts_na
 
 ends_case : {A B : Type 0} (q : Read A) (f : A × Rest → Read B) (after : Rest) → (q ≡ (Err NoticesLeftOut, after) → AtNotices after) → ((x : A) (mid : Rest) → f (x, mid) ≡ (Err NoticesLeftOut, after) → AtNotices after)
     → (q ≡ (Err NoticesLeftOut, after)) ⊎ ((x : A) × (mid : Rest) × (q ≡ (Ok x, mid)) × (f (x, mid) ≡ (Err NoticesLeftOut, after))) → AtNotices after
-ends_case q f after first next (inl e) = first e
-ends_case q f after first next (inr (x, mid, is, e)) = next x mid e
+ends_case q f after first next_token (inl e) = first e
+ends_case q f after first next_token (inr (x, mid, is, e)) = next_token x mid e
 
 ends_then : {A B : Type 0} (p : Rest → Read A) (f : A × Rest → Read B) → Ends p → ((x : A) → Ends (λ r. f (x, r))) → Ends (λ r. p r >>= f)
-ends_then p f first next r after e = ends_case (p r) f after (first r after) (λ x mid h. next x mid after h) (err_two (p r) f NoticesLeftOut after e)
+ends_then p f first next_token r after e = ends_case (p r) f after (first r after) (λ x mid h. next_token x mid after h) (err_two (p r) f NoticesLeftOut after e)
 
 ends_choice : {A : Type 0} (b : Bool) (p q : Read A) (after : Rest) → (p ≡ (Err NoticesLeftOut, after) → AtNotices after) → (q ≡ (Err NoticesLeftOut, after) → AtNotices after) → cond b p q ≡ (Err NoticesLeftOut, after) → AtNotices after
 ends_choice true p q after first second e = first e
@@ -116,7 +116,7 @@ some_ends {A} w starts item ends r after e = ends_choice (starts r) (many_at sta
 
 block_after_ends : (k : Keyword) → Ends (block_after k)
 unfolding block_after
-block_after_ends k = ends_then (word_at k what.Item) (λ key. block_at key.1) (word_ends k what.Item) (λ _. block_ends)
+block_after_ends k = ends_then (word_at k what.Item) (λ key. block_next key.1) (word_ends k what.Item) (λ _. block_ends)
 
 setup_ends : Ends setup_at
 unfolding maybe_block
@@ -135,9 +135,9 @@ step_of n b = record { name = n; part = b }
 
 step_ends : Ends step_at
 unfolding step_at
-step_ends r after e = ends_then (word_at Step what.Item) (λ key. name_within r.0.steps 1000 key.1 >>= λ n. block_at n.1 >>= λ b. (Ok (step_of n.0 b.0), b.1)) (word_ends Step what.Item)
-    (λ _. ends_then (name_within r.0.steps 1000) (λ n. block_at n.1 >>= λ b. (Ok (step_of n.0 b.0), b.1)) (name_within_ends r.0.steps 1000)
-    (λ n. ends_then block_at (λ b. (Ok (step_of n b.0), b.1)) block_ends (λ b. gives_ends (step_of n b)))) r after e
+step_ends r after e = ends_then (word_at Step what.Item) (λ key. name_within r.0.steps 1000 key.1 >>= λ n. block_next n.1 >>= λ b. (Ok (step_of n.0 b.0), b.1)) (word_ends Step what.Item)
+    (λ _. ends_then (name_within r.0.steps 1000) (λ n. block_next n.1 >>= λ b. (Ok (step_of n.0 b.0), b.1)) (name_within_ends r.0.steps 1000)
+    (λ n. ends_then block_next (λ b. (Ok (step_of n b.0), b.1)) block_ends (λ b. gives_ends (step_of n b)))) r after e
 
 steps_end : Ends steps_at
 steps_end = some_ends what.Step (starts_word Step) (λ k. step_at) (λ k. step_ends)
@@ -167,9 +167,9 @@ no_notices_ends n r after e = notices_by (starts_word Notices r) n r after refl 
 
 marker_ends : Ends marker_at
 unfolding marker_at
-marker_ends r after e = ends_choice (starts_sign Star r) (sign_at Star what.Marker r >>= λ key. (Ok star, key.1)) (name_at what.Marker r >>= λ n. no_notices n.0 n.1) after
+marker_ends r after e = ends_choice (starts_sign Star r) (sign_at Star what.Marker r >>= λ key. (Ok star, key.1)) (name_next what.Marker r >>= λ n. no_notices n.0 n.1) after
     (ends_then (sign_at Star what.Marker) (λ key. (Ok star, key.1)) (sign_ends Star what.Marker) (λ _. gives_ends star) r after)
-    (ends_then (name_at what.Marker) (λ n. no_notices n.0 n.1) (name_ends what.Marker) no_notices_ends r after) e
+    (ends_then (name_next what.Marker) (λ n. no_notices n.0 n.1) (name_ends what.Marker) no_notices_ends r after) e
 
 next_marker_ends : Ends next_marker_at
 next_marker_ends = ends_then (sign_at Comma what.CommaOrClose) (λ comma. marker_at comma.1) (sign_ends Comma what.CommaOrClose) (λ _. marker_ends)

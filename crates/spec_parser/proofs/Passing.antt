@@ -6,7 +6,7 @@ use Rattle.iso_lexer.specs.declared.token.At.{At}
 use Rattle.iso_lexer.specs.declared.spec_token.Keyword.{Keyword}
 use Rattle.iso_lexer.specs.declared.spec_token.Keyword.TheVariants.{Permutation, Session, Setup, Step, Teardown, Notices}
 use Rattle.iso_lexer.specs.declared.spec_token.Sign.TheVariants.{Open, Close, Comma, Star}
-use Rattle.iso_lexer.specs.SpecTokens.{Token}
+use Rattle.iso_lexer.specs.SpecTokens.{SpecToken}
 use Rattle.iso_lexer.specs.Results.{if_ok}
 use Rattle.iso_lexer.specs.Readers.{◌>>=◌, gives}
 use Rattle.spec_parser.specs.declared.fault.What.{What}
@@ -14,40 +14,40 @@ use Rattle.spec_parser.specs.declared.fault.What.TheVariants as what
 use Rattle.spec_parser.specs.declared.fault.SpecFault.{SpecFault}
 use Rattle.spec_parser.specs.declared.fault.SpecFault.TheVariants as faults
 use Rattle.spec_parser.specs.Trees.{PartTree, NameAt, StepOf, SessionOf, MarkerTree, star, named, NamedEntry, FileTree}
-use Rattle.spec_parser.specs.Reading.{SpecReader, Kind, the_word, the_sign, the_name, the_block, count, if_next, many_from, many_of, at_most, expected, one_token, spec_block, maybe_block, step_at, session_at, marker_at, markers_at, entry_at, file_at}
+use Rattle.spec_parser.specs.Reading.{SpecReader, TokenKind, the_word, the_sign, the_name, the_block, count, if_next, many_from, many_of, at_most, expected, one_token, spec_block, maybe_block, step_at, session_at, marker_at, markers_at, entry_at, file_at}
 
 -- the tokens before, and those from here on
 abbrev pub Rest : Type 0
-Rest = List (At Token) × List (At Token)
+Rest = List (At SpecToken) × List (At SpecToken)
 
 -- both are these tokens
-abbrev pub Whole : {A : Type 0} → List (At Token) → Result (A × Rest) SpecFault → Type 0
+abbrev pub Whole : {A : Type 0} → List (At SpecToken) → Result (A × Rest) SpecFault → Type 0
 Whole ts (Ok x) = x.1.0 ++ x.1.1 ≡ ts
 Whole ts (Err e) = Unit {0}
 
 abbrev Passes : {A : Type 0} → SpecReader A → Type 0
 Passes p = (r : Rest) → Whole (r.0 ++ r.1) (p r)
 
-seq : {A B : Type 0} (ts : List (At Token)) (o : Result (A × Rest) SpecFault) (g : A → SpecReader B) → Whole ts o → ((x : A) → Passes (g x)) → Whole ts (if_ok o (λ x. g x.0 x.1))
+seq : {A B : Type 0} (ts : List (At SpecToken)) (o : Result (A × Rest) SpecFault) (g : A → SpecReader B) → Whole ts o → ((x : A) → Passes (g x)) → Whole ts (if_ok o (λ x. g x.0 x.1))
 seq ts (Ok x) g h passes = subst (λ us. Whole us (g x.0 x.1)) h (passes x.0 x.1)
 seq ts (Err e) g h passes = tt
 
 then : {A B : Type 0} (p : SpecReader A) (g : A → SpecReader B) → Passes p → ((x : A) → Passes (g x)) → Passes (p >>= g)
 then p g first passes r = seq (r.0 ++ r.1) (p r) g (first r) passes
 
-next_by : {A B : Type 0} (o : Option A) (behind : A → SpecReader B) (others : SpecReader B) (b : List (At Token)) (t : At Token) (ts : List (At Token)) → ((x : A) → Passes (behind x)) → Passes others
+next_by : {A B : Type 0} (o : Option A) (behind : A → SpecReader B) (others : SpecReader B) (b : List (At SpecToken)) (t : At SpecToken) (ts : List (At SpecToken)) → ((x : A) → Passes (behind x)) → Passes others
     → Whole (b ++ t ∷ ts) (option_map_or (λ x. behind x (b ++ t ∷ [], ts)) o (others (b, t ∷ ts)))
 next_by (Some x) behind others b t ts passes other = subst (λ us. Whole us (behind x (b ++ t ∷ [], ts))) (append_assoc b (t ∷ []) ts) (passes x (b ++ t ∷ [], ts))
 next_by None behind others b t ts passes other = other (b, t ∷ ts)
 
-next_passes : {A B : Type 0} (kind : Kind A) (behind : A → SpecReader B) (others : SpecReader B) → ((x : A) → Passes (behind x)) → Passes others → Passes (if_next kind behind others)
+next_passes : {A B : Type 0} (kind : TokenKind A) (behind : A → SpecReader B) (others : SpecReader B) → ((x : A) → Passes (behind x)) → Passes others → Passes (if_next kind behind others)
 next_passes kind behind others passes other (b, []) = other (b, [])
 next_passes kind behind others passes other (b, t ∷ ts) = next_by (kind t) behind others b t ts passes other
 
 gives_passes : {A : Type 0} (x : A) → Passes (gives x)
 gives_passes x r = refl
 
-many_passes : {A B : Type 0} (kind : Kind A) (item : ℕ → A → SpecReader B) → ((k : ℕ) (x : A) → Passes (item k x)) → (k n : ℕ) (none : SpecReader (List B)) → Passes none → Passes (many_from kind item k n none)
+many_passes : {A B : Type 0} (kind : TokenKind A) (item : ℕ → A → SpecReader B) → ((k : ℕ) (x : A) → Passes (item k x)) → (k n : ℕ) (none : SpecReader (List B)) → Passes none → Passes (many_from kind item k n none)
 unfolding many_from
 many_passes kind item each k zero none h = h
 many_passes {A} {B} kind item each k (suc n) none h =
@@ -55,7 +55,7 @@ many_passes {A} {B} kind item each k (suc n) none h =
     next_passes kind (λ x. item k x >>= others) none
     (λ x. then (item k x) others (each k x) (λ y. then (many_from kind item (k + 1) n (gives [])) (λ ys. gives (y ∷ ys)) (many_passes kind item each (k + 1) n (gives []) (λ r. refl)) (λ ys. gives_passes (y ∷ ys)))) h
 
-all_pass : {A B : Type 0} (kind : Kind A) (item : ℕ → A → SpecReader B) → ((k : ℕ) (x : A) → Passes (item k x)) → (none : SpecReader (List B)) → Passes none → Passes (many_of kind item none)
+all_pass : {A B : Type 0} (kind : TokenKind A) (item : ℕ → A → SpecReader B) → ((k : ℕ) (x : A) → Passes (item k x)) → (none : SpecReader (List B)) → Passes none → Passes (many_of kind item none)
 all_pass kind item each none h r = many_passes kind item each 1 (length r.1) none h r
 
 most_by : (b : Bool) (n : NameAt) (r : Rest) → Whole (r.0 ++ r.1) (cond {A = Result (NameAt × Rest) SpecFault} b (Ok (n, r)) (Err (faults.Limit n.at)))
@@ -65,7 +65,7 @@ most_by false n r = tt
 most_passes : (most number : ℕ) (n : NameAt) → Passes (at_most most number n)
 most_passes most number n r = most_by (nat_le number most) n r
 
-one_passes : {A : Type 0} (last : ℕ) (kind : Kind A) (w : What) → Passes (one_token last kind w)
+one_passes : {A : Type 0} (last : ℕ) (kind : TokenKind A) (w : What) → Passes (one_token last kind w)
 one_passes last kind w = next_passes kind gives (expected last w) (λ x. gives_passes x) (λ r. tt)
 
 block_passes : (last : ℕ) → Passes (spec_block last)

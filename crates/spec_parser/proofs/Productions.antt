@@ -11,14 +11,14 @@ use Rattle.iso_lexer.specs.declared.spec_token.Sign.{Sign}
 use Rattle.iso_lexer.specs.declared.spec_token.Sign.TheVariants.{Open, Close, Comma, Star}
 use Rattle.iso_lexer.specs.contracts.spec_token.Sign.{the_type as signs}
 use Rattle.iso_lexer.specs.Names.{plain}
-use Rattle.iso_lexer.specs.SpecTokens.{Token, keyword, name, sign, block}
+use Rattle.iso_lexer.specs.SpecTokens.{SpecToken, keyword, name, sign, block}
 use Rattle.spec_parser.specs.declared.fault.What.{What}
 use Rattle.spec_parser.specs.declared.fault.What.TheVariants as what
 use Rattle.spec_parser.specs.declared.fault.Stop.TheVariants.{Expected, NoticesLeftOut, OverLimit}
 use Rattle.spec_parser.specs.Trees.{PartTree, NameAt, StepOf, SessionOf, MarkerTree, star, named, NamedEntry, FileTree}
 use Rattle.spec_parser.specs.Counts.{Counts}
-use Rattle.spec_parser.specs.Inner.Stopping.{Rest, next, name_at, block_at, end_at, name_within, block_after, maybe_block, step_at, session_at, no_notices, marker_at, markers_at, entry_at, perm_at, file_at}
-use Rattle.spec_parser.specs.Grammar.{a_name, a_block, is_word, is_sign, is_name, Grammar, gives, one, a_word, a_sign, Maybe, Many, none, some, first, second, block_behind, step, session, marker, markers, entry, perm, file}
+use Rattle.spec_parser.specs.Inner.Stopping.{Rest, next_token, name_next, block_next, end_at, name_within, block_after, maybe_block, step_at, session_at, no_notices, marker_at, markers_at, entry_at, perm_at, file_at}
+use Rattle.spec_parser.specs.Grammar.{a_name, a_block, is_keyword, is_mark, is_name, Grammar, gives, one, a_word, a_sign, Maybe, Many, none, some, first, second, block_behind, step, session, marker, markers, entry, perm, file}
 use Rattle.spec_parser.specs.Inner.Pieces.{starts_word, starts_sign, starts_name, word_at, sign_at, setup_at, teardown_at, setups_at, steps_at, sessions_at, next_marker_at, next_markers_at, some_markers_at, entries_at, perms_at}
 use Rattle.spec_parser.specs.Grammar.{◌>>=◌ as ◌▸◌}
 use Rattle.spec_parser.specs.Laws.{head, names_token}
@@ -26,13 +26,13 @@ use Rattle.spec_parser.proofs.Local.{◌>>=◌, AreLocal, LocalFrom, LocalRead, 
 
 -- ---- one token
 
-made : Token → At Token
+made : SpecToken → At SpecToken
 made t = record { tok = t; span = record { start = 0; end = 0 } }
 
-same_itself : (k : Keyword) → is_word k (keyword k) ≡ true
+same_itself : (k : Keyword) → is_keyword k (keyword k) ≡ true
 same_itself k = true_same words k k refl
 
-same_sign_itself : (g : Sign) → is_sign g (sign g) ≡ true
+same_sign_itself : (g : Sign) → is_mark g (sign g) ≡ true
 same_sign_itself g = true_same signs g g refl
 
 word_begins : (w : What) (k : Keyword) → names_token w (keyword k) ≡ true → Begins w (one (a_word k))
@@ -59,32 +59,32 @@ block_inhabited = inhabited what.Block (one a_block) block_begins
 
 -- the word with which a part begins, where it stands
 word_local : (k : Keyword) (w : What) → LocalFrom (starts_word k) (one (a_word k)) (word_at k w)
-unfolding next
-word_local k w = there_local (is_word k) w
+unfolding next_token
+word_local k w = there_local (is_keyword k) w
 
 pub word_read : (k : Keyword) (w : What) → LocalRead (one (a_word k)) (word_at k w)
-unfolding next
-word_read k w r after u e = word_local k w r.0 r.1 (was_there (is_word k) w r after u e)
+unfolding next_token
+word_read k w r after u e = word_local k w r.0 r.1 (was_there (is_keyword k) w r after u e)
 
 sign_local : (g : Sign) (w : What) → LocalFrom (starts_sign g) (one (a_sign g)) (sign_at g w)
-unfolding next
-sign_local g w = there_local (is_sign g) w
+unfolding next_token
+sign_local g w = there_local (is_mark g) w
 
 close_local : AreLocal (one (a_sign Close)) (sign_at Close what.CommaOrClose)
-unfolding next
+unfolding next_token
 close_local = token_local (a_sign Close) what.CommaOrClose (sign_begins what.CommaOrClose Close refl)
 
-name_local : (w : What) → names_token w (name (plain [])) ≡ true → AreLocal (one a_name) (name_at w)
-unfolding name_at
+name_local : (w : What) → names_token w (name (plain [])) ≡ true → AreLocal (one a_name) (name_next w)
+unfolding name_next
 name_local w e = token_local a_name w (name_begins w e)
 
-block_local : AreLocal (one a_block) block_at
-unfolding block_at
+block_local : AreLocal (one a_block) block_next
+unfolding block_next
 block_local = token_local a_block what.Block block_begins
 
 pub name_within_local : (before most : ℕ) → AreLocal (one a_name) (name_within before most)
 unfolding name_within
-name_within_local before most = choice (λ r. nat_lt before most) (name_at what.Name) _ (λ c d xs ys h. refl) (λ c ts e. name_local what.Name refl c ts)
+name_within_local before most = choice (λ r. nat_lt before most) (name_next what.Name) _ (λ c d xs ys h. refl) (λ c ts e. name_local what.Name refl c ts)
     (choice starts_name (λ r. (Err OverLimit, r)) (λ r. (Err (Expected what.Name), r)) (by_head is_name)
     (λ c ts e. let a = name_inhabited c in at_once (one a_name) (Err OverLimit) c ts (a.0, a.1, a.2, tt))
     (λ c ts. at_once (one a_name) (Err (Expected what.Name)) c ts (name_begins what.Name refl c)))
@@ -93,22 +93,22 @@ name_within_local before most = choice (λ r. nat_lt before most) (name_at what.
 
 block_after_local : (k : Keyword) → LocalFrom (starts_word k) (block_behind k) (block_after k)
 unfolding block_after
-block_after_local k = start_then {G = one (a_word k)} {H = λ _. one a_block} (starts_word k) (word_at k what.Item) (λ key. block_at key.1) (word_local k what.Item) (λ _. block_inhabited) (λ _. block_local)
+block_after_local k = start_then {G = one (a_word k)} {H = λ _. one a_block} (starts_word k) (word_at k what.Item) (λ key. block_next key.1) (word_local k what.Item) (λ _. block_inhabited) (λ _. block_local)
 
 block_after_read : (k : Keyword) → LocalRead (block_behind k) (block_after k)
-unfolding block_after next
-block_after_read k r after b e = block_after_local k r.0 r.1 (was_first (is_word k) what.Item _ r after b e)
+unfolding block_after next_token
+block_after_read k r after b e = block_after_local k r.0 r.1 (was_first (is_keyword k) what.Item _ r after b e)
 
 pub setup_local : AreLocal (Maybe (block_behind Setup)) setup_at
 unfolding maybe_block
-setup_local = maybe_local (block_behind Setup) (starts_word Setup) (block_after Setup) (by_head (is_word Setup)) (block_after_local Setup)
+setup_local = maybe_local (block_behind Setup) (starts_word Setup) (block_after Setup) (by_head (is_keyword Setup)) (block_after_local Setup)
 
 pub teardown_local : AreLocal (Maybe (block_behind Teardown)) teardown_at
 unfolding maybe_block
-teardown_local = maybe_local (block_behind Teardown) (starts_word Teardown) (block_after Teardown) (by_head (is_word Teardown)) (block_after_local Teardown)
+teardown_local = maybe_local (block_behind Teardown) (starts_word Teardown) (block_after Teardown) (by_head (is_keyword Teardown)) (block_after_local Teardown)
 
 pub setups_local : AreLocal (Many (block_behind Setup)) setups_at
-setups_local = many_local (block_behind Setup) (starts_word Setup) (λ k. block_after Setup) (by_head (is_word Setup)) (λ c. refl) (first_takes (a_word Setup) (λ _. one a_block)) (λ k. block_after_local Setup)
+setups_local = many_local (block_behind Setup) (starts_word Setup) (λ k. block_after Setup) (by_head (is_keyword Setup)) (λ c. refl) (first_takes (a_word Setup) (λ _. one a_block)) (λ k. block_after_local Setup)
 
 -- ---- steps
 
@@ -124,21 +124,21 @@ after_step_inhabited = seq_inhabited (one a_name) (λ n. one a_block ▸ λ b. g
 step_begins : Begins what.Step step
 step_begins = seq_begins what.Step (one (a_word Step)) (λ _. one a_name ▸ λ n. one a_block ▸ λ b. gives (step_of n b)) (word_begins what.Step Step refl) (λ _. after_step_inhabited)
 
-step_end_local : (n : NameAt) → AreLocal (one a_block ▸ λ b. gives (step_of n b)) (λ r. block_at r >>= λ b. (Ok (step_of n b.0), b.1))
-step_end_local n = then {G = one a_block} {H = λ b. gives (step_of n b)} block_at (λ b. (Ok (step_of n b.0), b.1)) block_local (λ b. gives_inhabited (step_of n b)) (λ b. gives_local (step_of n b))
+step_end_local : (n : NameAt) → AreLocal (one a_block ▸ λ b. gives (step_of n b)) (λ r. block_next r >>= λ b. (Ok (step_of n b.0), b.1))
+step_end_local n = then {G = one a_block} {H = λ b. gives (step_of n b)} block_next (λ b. (Ok (step_of n b.0), b.1)) block_local (λ b. gives_inhabited (step_of n b)) (λ b. gives_local (step_of n b))
 
 step_local : LocalFrom (starts_word Step) step step_at
 unfolding step_at
 step_local = then_from {G = one (a_word Step)} {H = λ _. one a_name ▸ λ n. one a_block ▸ λ b. gives (step_of n b)} (starts_word Step) (word_at Step what.Item)
-    (λ d key. name_within d.steps 1000 key.1 >>= λ n. block_at n.1 >>= λ b. (Ok (step_of n.0 b.0), b.1)) (word_local Step what.Item) (λ _. after_step_inhabited)
-    (λ d _. then {G = one a_name} {H = λ n. one a_block ▸ λ b. gives (step_of n b)} (name_within d.steps 1000) (λ n. block_at n.1 >>= λ b. (Ok (step_of n.0 b.0), b.1)) (name_within_local d.steps 1000) step_end_inhabited step_end_local)
+    (λ d key. name_within d.steps 1000 key.1 >>= λ n. block_next n.1 >>= λ b. (Ok (step_of n.0 b.0), b.1)) (word_local Step what.Item) (λ _. after_step_inhabited)
+    (λ d _. then {G = one a_name} {H = λ n. one a_block ▸ λ b. gives (step_of n b)} (name_within d.steps 1000) (λ n. block_next n.1 >>= λ b. (Ok (step_of n.0 b.0), b.1)) (name_within_local d.steps 1000) step_end_inhabited step_end_local)
 
 pub step_read : LocalRead step step_at
-unfolding step_at next
-step_read r after s e = step_local r.0 r.1 (was_first (is_word Step) what.Item _ r after s e)
+unfolding step_at next_token
+step_read r after s e = step_local r.0 r.1 (was_first (is_keyword Step) what.Item _ r after s e)
 
 pub steps_local : AreLocal (some step) steps_at
-steps_local = some_local step what.Step (starts_word Step) (λ k. step_at) step_begins (by_head (is_word Step)) (λ c. refl) (first_takes (a_word Step) (λ _. one a_name ▸ λ n. one a_block ▸ λ b. gives (step_of n b))) (λ k. step_local)
+steps_local = some_local step what.Step (starts_word Step) (λ k. step_at) step_begins (by_head (is_keyword Step)) (λ c. refl) (first_takes (a_word Step) (λ _. one a_name ▸ λ n. one a_block ▸ λ b. gives (step_of n b))) (λ k. step_local)
 
 -- ---- sessions
 
@@ -185,17 +185,17 @@ session_local = then_from {G = one (a_word Session)} {H = λ _. one a_name ▸ S
     (λ d _. then {G = one a_name} {H = SetUp} (name_within d.sessions 64) (λ n. setup_at n.1 >>= λ setup. steps_at setup.1 >>= λ steps. teardown_at steps.1 >>= λ teardown. (Ok (session_of n.0 setup.0 steps.0 teardown.0), teardown.1)) (name_within_local d.sessions 64) set_up_inhabited set_up_local)
 
 pub session_read : LocalRead session session_at
-unfolding session_at next
-session_read r after s e = session_local r.0 r.1 (was_first (is_word Session) what.Item _ r after s e)
+unfolding session_at next_token
+session_read r after s e = session_local r.0 r.1 (was_first (is_keyword Session) what.Item _ r after s e)
 
 pub sessions_local : AreLocal (some session) sessions_at
-sessions_local = some_local session what.Session (starts_word Session) (λ k. session_at) session_begins (by_head (is_word Session)) (λ c. refl) (first_takes (a_word Session) (λ _. one a_name ▸ SetUp)) (λ k. session_local)
+sessions_local = some_local session what.Session (starts_word Session) (λ k. session_at) session_begins (by_head (is_keyword Session)) (λ c. refl) (first_takes (a_word Session) (λ _. one a_name ▸ SetUp)) (λ k. session_local)
 
 -- ---- markers
 
 no_notices_local : (n : NameAt) → AreLocal (gives (named n)) (no_notices n)
 unfolding no_notices
-no_notices_local n = choice (starts_word Notices) (λ r. (Err NoticesLeftOut, r)) (λ r. (Ok (named n), r)) (by_head (is_word Notices))
+no_notices_local n = choice (starts_word Notices) (λ r. (Err NoticesLeftOut, r)) (λ r. (Ok (named n), r)) (by_head (is_keyword Notices))
     (λ c ts e. at_once (gives (named n)) (Err NoticesLeftOut) c ts ([], named n, (refl, refl), tt))
     (gives_local (named n))
 
@@ -216,9 +216,9 @@ marker_inhabited c = let a = seq_inhabited (one a_name) (λ n. gives (named n)) 
 
 pub marker_local : AreLocal marker marker_at
 unfolding marker_at
-marker_local = choice (starts_sign Star) (λ r. sign_at Star what.Marker r >>= λ key. (Ok star, key.1)) (λ r. name_at what.Marker r >>= λ n. no_notices n.0 n.1) (by_head (is_sign Star))
+marker_local = choice (starts_sign Star) (λ r. sign_at Star what.Marker r >>= λ key. (Ok star, key.1)) (λ r. name_next what.Marker r >>= λ n. no_notices n.0 n.1) (by_head (is_mark Star))
     (start_wider {G = AStar} {K = marker} (starts_sign Star) (λ r. sign_at Star what.Marker r >>= λ key. (Ok star, key.1)) star_is (start_then {G = one (a_sign Star)} {H = λ _. gives star} (starts_sign Star) (sign_at Star what.Marker) (λ key. (Ok star, key.1)) (sign_local Star what.Marker) (λ _. gives_inhabited star) (λ _. gives_local star)))
-    (wider {G = AName} {K = marker} (λ r. name_at what.Marker r >>= λ n. no_notices n.0 n.1) name_is (then {G = one a_name} {H = λ n. gives (named n)} (name_at what.Marker) (λ n. no_notices n.0 n.1) (name_local what.Marker refl) (λ n. gives_inhabited (named n)) no_notices_local))
+    (wider {G = AName} {K = marker} (λ r. name_next what.Marker r >>= λ n. no_notices n.0 n.1) name_is (then {G = one a_name} {H = λ n. gives (named n)} (name_next what.Marker) (λ n. no_notices n.0 n.1) (name_local what.Marker refl) (λ n. gives_inhabited (named n)) no_notices_local))
 
 abbrev NextMarker : Grammar MarkerTree
 NextMarker = one (a_sign Comma) ▸ λ _. marker
@@ -227,11 +227,11 @@ next_marker_local : LocalFrom (starts_sign Comma) NextMarker next_marker_at
 next_marker_local = start_then {G = one (a_sign Comma)} {H = λ _. marker} (starts_sign Comma) (sign_at Comma what.CommaOrClose) (λ comma. marker_at comma.1) (sign_local Comma what.CommaOrClose) (λ _. marker_inhabited) (λ _. marker_local)
 
 next_marker_read : LocalRead NextMarker next_marker_at
-unfolding next
-next_marker_read r after m e = next_marker_local r.0 r.1 (was_first (is_sign Comma) what.CommaOrClose _ r after m e)
+unfolding next_token
+next_marker_read r after m e = next_marker_local r.0 r.1 (was_first (is_mark Comma) what.CommaOrClose _ r after m e)
 
 pub next_markers_local : AreLocal (Many NextMarker) next_markers_at
-next_markers_local = many_local NextMarker (starts_sign Comma) (λ k. next_marker_at) (by_head (is_sign Comma)) (λ c. refl) (first_takes (a_sign Comma) (λ _. marker)) (λ k. next_marker_local)
+next_markers_local = many_local NextMarker (starts_sign Comma) (λ k. next_marker_at) (by_head (is_mark Comma)) (λ c. refl) (first_takes (a_sign Comma) (λ _. marker)) (λ k. next_marker_local)
 
 abbrev Closed : MarkerTree → List MarkerTree → Grammar (List MarkerTree)
 Closed m others = one (a_sign Close) ▸ λ _. gives (m ∷ others)
@@ -261,7 +261,7 @@ markers_local = start_then {G = one (a_sign Open)} {H = λ _. marker ▸ Marked}
     (λ _. then {G = marker} {H = Marked} marker_at (λ m. next_markers_at m.1 >>= λ others. sign_at Close what.CommaOrClose others.1 >>= λ closed. (Ok (m.0 ∷ others.0), closed.1)) marker_local marked_inhabited marked_local)
 
 pub some_markers_local : AreLocal (Maybe markers) some_markers_at
-some_markers_local = maybe_local markers (starts_sign Open) markers_at (by_head (is_sign Open)) markers_local
+some_markers_local = maybe_local markers (starts_sign Open) markers_at (by_head (is_mark Open)) markers_local
 
 -- ---- permutations
 
@@ -293,26 +293,26 @@ unfolding perm_at
 perm_local = start_then {G = one (a_word Permutation)} {H = λ _. some entry} (starts_word Permutation) (word_at Permutation what.Item) (λ key. entries_at key.1) (word_local Permutation what.Item) (λ _. entries_inhabited) (λ _. entries_local)
 
 pub perm_read : LocalRead perm perm_at
-unfolding perm_at next
-perm_read r after es e = perm_local r.0 r.1 (was_first (is_word Permutation) what.Item _ r after es e)
+unfolding perm_at next_token
+perm_read r after es e = perm_local r.0 r.1 (was_first (is_keyword Permutation) what.Item _ r after es e)
 
 pub perms_local : AreLocal (Many perm) perms_at
-perms_local = many_local perm (starts_word Permutation) (λ k. perm_at) (by_head (is_word Permutation)) (λ c. refl) (first_takes (a_word Permutation) (λ _. some entry)) (λ k. perm_local)
+perms_local = many_local perm (starts_word Permutation) (λ k. perm_at) (by_head (is_keyword Permutation)) (λ c. refl) (first_takes (a_word Permutation) (λ _. some entry)) (λ k. perm_local)
 
 -- ---- the file
 
-no_head : (t : At Token) → ◌≡◌ {A = Option (At Token)} (Some t) None → ⊥
+no_head : (t : At SpecToken) → ◌≡◌ {A = Option (At SpecToken)} (Some t) None → ⊥
 no_head t e = cc
 
-not_none : (t : At Token) → ◌≡◌ {A = Option (At Token)} None (Some t) → ⊥
+not_none : (t : At SpecToken) → ◌≡◌ {A = Option (At SpecToken)} None (Some t) → ⊥
 not_none t e = cc
 
-nothing_there : (c : Counts) (others : List (At Token)) → head others ≡ None → end_at (c, others) ≡ (Ok tt, (c, others))
+nothing_there : (c : Counts) (others : List (At SpecToken)) → head others ≡ None → end_at (c, others) ≡ (Ok tt, (c, others))
 unfolding end_at
 nothing_there c [] h = refl
 nothing_there c (t ∷ others) h = absurd (no_head t h)
 
-something_there : (c : Counts) (t : At Token) (others : List (At Token)) → head others ≡ Some t → end_at (c, others) ≡ (Err (Expected what.Item), (c, others))
+something_there : (c : Counts) (t : At SpecToken) (others : List (At SpecToken)) → head others ≡ Some t → end_at (c, others) ≡ (Err (Expected what.Item), (c, others))
 unfolding end_at
 something_there c t [] h = absurd (not_none t h)
 something_there c t (s ∷ others) h = refl
@@ -335,7 +335,7 @@ GoesOn setups teardown sessions perms = Many perm ▸ λ others. gives (file_of 
 
 goes_on_is : (setups : List PartTree) (teardown : Option PartTree) (sessions : List (SessionOf NameAt)) → Within (Many perm ▸ GoesOn setups teardown sessions) (Permuted setups teardown sessions)
 goes_on_is setups teardown sessions c ts f (perms, xs, ys, e, h, (others, us, vs, d, k, (nothing, is))) =
-    (perms ++ others, xs ++ us, [], e ∙ ap (λ (r : List (At Token)). xs ++ r) (d ∙ ap (λ (r : List (At Token)). us ++ r) nothing) ∙ sym (append_assoc xs us []), many_twice perm c xs us perms others h k, (refl, is))
+    (perms ++ others, xs ++ us, [], e ∙ ap (λ (r : List (At SpecToken)). xs ++ r) (d ∙ ap (λ (r : List (At SpecToken)). us ++ r) nothing) ∙ sym (append_assoc xs us []), many_twice perm c xs us perms others h k, (refl, is))
 
 goes_on_begins : (setups : List PartTree) (teardown : Option PartTree) (sessions : List (SessionOf NameAt)) (perms : List (List NamedEntry)) → Begins what.Item (GoesOn setups teardown sessions perms)
 goes_on_begins setups teardown sessions perms = seq_begins what.Item (Many perm) (λ others. gives (file_of setups teardown sessions (perms ++ others))) (many_begins what.Item perm perm_begins) (λ others. gives_inhabited (file_of setups teardown sessions (perms ++ others)))

@@ -5,7 +5,7 @@ use Rattle.std.specs.List.{AllByRecursion, AllZip, range_with_len}
 use Rattle.std.proofs.lemmas.List.{length-map}
 use Rattle.std.proofs.lemmas.List.Elements.{Contains-append_cases}
 use Rattle.iso_lexer.specs.declared.token.At.{At}
-use Rattle.iso_lexer.specs.SpecTokens.{Token}
+use Rattle.iso_lexer.specs.SpecTokens.{SpecToken}
 use Rattle.iso_lexer.specs.SpecSpelling.{LiesAt}
 use Rattle.spec_parser.specs.declared.tree.Marker.{Marker}
 use Rattle.spec_parser.specs.declared.tree.Marker.TheVariants as markers
@@ -15,8 +15,8 @@ use Rattle.spec_parser.specs.Grammar.{Grammar, Many, none, more, perm, file}
 use Rattle.spec_parser.specs.Grammar.{session as session_grammar}
 use Rattle.spec_parser.specs.Names.{StepAt, session_tree}
 use Rattle.spec_parser.specs.Inner.Known.{step_tree, steps_from, sessions_from}
-use Rattle.spec_parser.specs.IsSpec.{IsShort, Names, MarkerIs, EntryIs, PermIs, IsSpec}
-use Rattle.spec_parser.specs.Stands.{StepStands, MarkerStands, EntryStands, PermStands, session_parts, parts_of, names_of, PartLies, NameLies, Stands, LiesIn}
+use Rattle.spec_parser.specs.IsSpec.{IsShort, NamesStep, MarkerIs, EntryIs, PermIs, IsSpec}
+use Rattle.spec_parser.specs.Stands.{StepStands, MarkerStands, EntryStands, PermStands, session_parts, parts_of, all_names, PartLies, NameLies, Stands, LiesIn}
 use Rattle.spec_parser.proofs.ContentsAreCounted.{file_has, steps_len}
 use Rattle.spec_parser.proofs.Limits.{all_from, all_to}
 
@@ -61,7 +61,7 @@ session_numbers k [] s h = absurd (nothing_in s h)
 session_numbers k (x ∷ fs) s h = session_case k x fs s (session_numbers (k + 1) fs s) (Contains-append_cases (steps_from k 0 x.steps) (sessions_from (k + 1) fs) s h)
 
 -- what a name stands for is there
-named_stands : (fs : List (SessionOf NameAt)) (n : NameAt) (k j : ℕ) → Names (sessions_from 1 fs) n k j → StepStands (map session_tree fs) k j
+named_stands : (fs : List (SessionOf NameAt)) (n : NameAt) (k j : ℕ) → NamesStep (sessions_from 1 fs) n k j → StepStands (map session_tree fs) k j
 named_stands fs n k j h =
     let m = session_numbers 1 fs h.step h.listed in
     let place : k - 1 ≡ m.place = omega (arith, h.session_is, m.session_is) in
@@ -112,17 +112,17 @@ perms_stand fs (p ∷ ps) (x ∷ xs) (s, short) (l, lt) (r, h) = (perm_stands fs
 
 -- ---- what the grammar says of counts
 
-many_all : {A : Type 0} (G : Grammar A) (P : A → Type 0) → ((c : Counts) (ts : List (At Token)) (x : A) → G c ts x → P x) → (c : Counts) (ts : List (At Token)) (xs : List A) → Many G c ts xs → AllByRecursion P xs
+many_all : {A : Type 0} (G : Grammar A) (P : A → Type 0) → ((c : Counts) (ts : List (At SpecToken)) (x : A) → G c ts x → P x) → (c : Counts) (ts : List (At SpecToken)) (xs : List A) → Many G c ts xs → AllByRecursion P xs
 many_all G P each c ts all none = tt
 many_all G P each c ts all (more {x = x} {others = os} xs ys e m others) = (each c xs x m, many_all G P each _ ys os others)
 
 abbrev HasSteps : SessionOf NameAt → Type 0
 HasSteps s = 0 < length s.steps
 
-session_some : (c : Counts) (ts : List (At Token)) (z : SessionOf NameAt) → session_grammar c ts z → HasSteps z
+session_some : (c : Counts) (ts : List (At SpecToken)) (z : SessionOf NameAt) → session_grammar c ts z → HasSteps z
 session_some c ts z (u, xs, ys, e, w, (n, us, vs, d, nm, (o, ws, zs, f, mo, (ss, ps, qs, g, st, (t, rs, os, h, mt, (nil, is)))))) = subst HasSteps (sym is) st.1
 
-perm_some : (c : Counts) (ts : List (At Token)) (es : List NamedEntry) → perm c ts es → 0 < length es
+perm_some : (c : Counts) (ts : List (At SpecToken)) (es : List NamedEntry) → perm c ts es → 0 < length es
 perm_some c ts es (u, xs, ys, e, w, h) = h.1
 
 record FileCounts (f : FileTree) : Type 0 where
@@ -130,7 +130,7 @@ record FileCounts (f : FileTree) : Type 0 where
   steps : AllByRecursion HasSteps f.sessions
   entries : AllByRecursion (λ (es : List NamedEntry). 0 < length es) f.perms
 
-file_counts : (c : Counts) (ts : List (At Token)) (z : FileTree) → file c ts z → FileCounts z
+file_counts : (c : Counts) (ts : List (At SpecToken)) (z : FileTree) → file c ts z → FileCounts z
 file_counts c ts z (ps, xs, ys, e, m, (t, us, vs, d, mt, (ss, ws, zs, f, ms, (es, qs, rs, g, mp, (nil, is))))) =
     subst FileCounts (sym is) (record { sessions = ms.1; steps = many_all session_grammar HasSteps session_some _ ws ss ms.0; entries = many_all perm (λ (es : List NamedEntry). 0 < length es) perm_some _ qs es mp })
 
@@ -173,5 +173,5 @@ specs_lie text s h lies =
     record {
       spec = h;
       parts = all_from (PartLies text) (parts_of s) (subst (AllByRecursion (PartLies text)) (sym (parts_are text s h)) (m.parts_lie text lies));
-      names = all_from (NameLies text) (names_of h.file) (m.names_lie text lies);
+      names = all_from (NameLies text) (all_names h.file) (m.names_lie text lies);
     }

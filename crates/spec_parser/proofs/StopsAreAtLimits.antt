@@ -6,14 +6,14 @@ use Rattle.std.proofs.lemmas.Bool.{ltb-false}
 use Rattle.iso_lexer.specs.declared.token.At.{At}
 use Rattle.iso_lexer.specs.declared.spec_token.Keyword.{Keyword}
 use Rattle.iso_lexer.specs.declared.spec_token.Keyword.TheVariants.{Permutation, Session, Setup, Step, Teardown}
-use Rattle.iso_lexer.specs.SpecTokens.{Token}
+use Rattle.iso_lexer.specs.SpecTokens.{SpecToken}
 use Rattle.spec_parser.specs.declared.fault.What.{What}
 use Rattle.spec_parser.specs.declared.fault.What.TheVariants as what
 use Rattle.spec_parser.specs.declared.fault.Stop.TheVariants.{Expected, OverLimit}
 use Rattle.spec_parser.specs.Trees.{PartTree, NameAt, StepOf, SessionOf, MarkerTree, NamedEntry, FileTree}
 use Rattle.spec_parser.specs.Counts.{Counts, start, past}
-use Rattle.spec_parser.specs.Inner.Stopping.{Rest, Read, many_at, all_at, some_at, name_at, block_at, end_at, name_within, step_at, session_at, entry_at, perm_at, file_at}
-use Rattle.spec_parser.specs.Grammar.{a_name, is_name, is_word, Grammar, one, a_word, Maybe, Many, none, more, some, block_behind, entry, perm}
+use Rattle.spec_parser.specs.Inner.Stopping.{Rest, Read, many_at, all_at, some_at, name_next, block_next, end_at, name_within, step_at, session_at, entry_at, perm_at, file_at}
+use Rattle.spec_parser.specs.Grammar.{a_name, is_name, is_keyword, Grammar, one, a_word, Maybe, Many, none, more, some, block_behind, entry, perm}
 use Rattle.spec_parser.specs.Inner.Pieces.{starts_word, starts_name, word_at, setup_at, teardown_at, setups_at, steps_at, sessions_at, some_markers_at, perms_at}
 use Rattle.spec_parser.specs.Grammar.{step as step_grammar, session as session_grammar}
 use Rattle.spec_parser.specs.IsSpec.{IsShort}
@@ -28,14 +28,14 @@ use Rattle.spec_parser.proofs.NeverAtLimit.{Never, not_expected, err_two, never_
 -- ---- what is over, from here on
 
 pub data LimitHere (r after : Rest) : Type 0 where
-  here_session : (t : At Token) → r.1 ≡ t ∷ after.1 → IsWord Session t → 64 ≤ r.0.sessions → LimitHere r after
-  here_step : (t : At Token) → r.1 ≡ t ∷ after.1 → IsWord Step t → 1000 ≤ r.0.steps → LimitHere r after
-  here_entry : (ps : List (At Token)) (t : At Token) (es : List (At Token)) (perms : List (List NamedEntry)) (entries : List NamedEntry) → r.1 ≡ ps ++ t ∷ (es ++ after.1) → Many perm r.0 ps perms → AllByRecursion IsShort perms
+  here_session : (t : At SpecToken) → r.1 ≡ t ∷ after.1 → IsWord Session t → 64 ≤ r.0.sessions → LimitHere r after
+  here_step : (t : At SpecToken) → r.1 ≡ t ∷ after.1 → IsWord Step t → 1000 ≤ r.0.steps → LimitHere r after
+  here_entry : (ps : List (At SpecToken)) (t : At SpecToken) (es : List (At SpecToken)) (perms : List (List NamedEntry)) (entries : List NamedEntry) → r.1 ≡ ps ++ t ∷ (es ++ after.1) → Many perm r.0 ps perms → AllByRecursion IsShort perms
       → IsWord Permutation t → Many entry (past r.0 (ps ++ t ∷ [])) es entries → length entries ≡ 1000 → LimitHere r after
 
 -- these tokens, and then what is over
 pub record LimitLater (r after : Rest) : Type 0 where
-  pub fs : List (At Token)
+  pub fs : List (At SpecToken)
   pub mid : Rest
   pub split : r.1 ≡ fs ++ mid.1
   pub place : mid.0 ≡ past r.0 fs
@@ -47,17 +47,17 @@ abbrev Stops : {A : Type 0} → (Rest → Read A) → Type 0
 Stops {A} p = (r after : Rest) → Few r.0 → p r ≡ (Err OverLimit, after) → LimitLater r after
 
 -- what was read, and the tokens that it took
-was_front : {A : Type 0} (G : Grammar A) (p : Rest → Read A) → LocalRead G p → (r after : Rest) (x : A) → p r ≡ (Ok x, after) → (front : List (At Token)) × (r.1 ≡ front ++ after.1) × (after.0 ≡ past r.0 front) × G r.0 front x
+was_front : {A : Type 0} (G : Grammar A) (p : Rest → Read A) → LocalRead G p → (r after : Rest) (x : A) → p r ≡ (Ok x, after) → (front : List (At SpecToken)) × (r.1 ≡ front ++ after.1) × (after.0 ≡ past r.0 front) × G r.0 front x
 was_front {A} G p local r after x e =
     let l = local r after x e in
     let same = sym (is_read G p r.0 r.1 l) ∙ e in
-    (l.front, l.split ∙ ap (λ (us : List (At Token)). l.front ++ us) (ap (λ (q : Read A). q.1.1) same), sym (ap (λ (q : Read A). q.1.0) same), ok_means G l.out r.0 l.front x (ap (λ (q : Read A). q.0) same) l.means)
+    (l.front, l.split ∙ ap (λ (us : List (At SpecToken)). l.front ++ us) (ap (λ (q : Read A). q.1.1) same), sym (ap (λ (q : Read A). q.1.0) same), ok_means G l.out r.0 l.front x (ap (λ (q : Read A). q.0) same) l.means)
 
-behind : (r mid after : Rest) (front : List (At Token)) → r.1 ≡ front ++ mid.1 → mid.0 ≡ past r.0 front → LimitLater mid after → LimitLater r after
+behind : (r mid after : Rest) (front : List (At SpecToken)) → r.1 ≡ front ++ mid.1 → mid.0 ≡ past r.0 front → LimitLater mid after → LimitLater r after
 behind r mid after front e place o = record {
   fs = front ++ o.fs;
   mid = o.mid;
-  split = e ∙ ap (λ (us : List (At Token)). front ++ us) o.split ∙ sym (append_assoc front o.fs o.mid.1);
+  split = e ∙ ap (λ (us : List (At SpecToken)). front ++ us) o.split ∙ sym (append_assoc front o.fs o.mid.1);
   place = o.place ∙ ap (λ (c : Counts). past c o.fs) place ∙ sym (past_twice r.0 front o.fs);
   few = o.few;
   is_named = o.is_named;
@@ -105,7 +105,7 @@ some_stop G w starts item local keeps stops r after few e = many_stop G starts i
 abbrev NameOver : ℕ → ℕ → Rest → Rest → Type 0
 NameOver before most r after = (most ≤ before) × (starts_name r ≡ true) × (r ≡ after)
 
-name_by : (b d : Bool) (before most : ℕ) (r after : Rest) → nat_lt before most ≡ b → starts_name r ≡ d → ◌≡◌ {A = Read NameAt} (cond b (name_at what.Name r) (cond d (Err OverLimit, r) (Err (Expected what.Name), r))) (Err OverLimit, after) → NameOver before most r after
+name_by : (b d : Bool) (before most : ℕ) (r after : Rest) → nat_lt before most ≡ b → starts_name r ≡ d → ◌≡◌ {A = Read NameAt} (cond b (name_next what.Name r) (cond d (Err OverLimit, r) (Err (Expected what.Name), r))) (Err OverLimit, after) → NameOver before most r after
 name_by true d before most r after lt s e = absurd (name_never what.Name r after e)
 name_by false true before most r after lt s e = (ltb-false before most lt, s, ap (λ (q : Read NameAt). q.1) e)
 name_by false false before most r after lt s e = absurd (not_expected {A = NameAt} what.Name r after e)
@@ -114,11 +114,11 @@ name_over : (before most : ℕ) (r after : Rest) → name_within before most r �
 unfolding name_within
 name_over before most r after e = name_by (nat_lt before most) (starts_name r) before most r after refl refl e
 
-word_token : (k : Keyword) (w : What) (r mid : Rest) (u : Unit {0}) → word_at k w r ≡ (Ok u, mid) → (t : At Token) × (r.1 ≡ t ∷ mid.1) × IsWord k t × (mid.0 ≡ past r.0 (t ∷ []))
+word_token : (k : Keyword) (w : What) (r mid : Rest) (u : Unit {0}) → word_at k w r ≡ (Ok u, mid) → (t : At SpecToken) × (r.1 ≡ t ∷ mid.1) × IsWord k t × (mid.0 ≡ past r.0 (t ∷ []))
 word_token k w r mid u e =
     let f = was_front (one (a_word k)) (word_at k w) (word_read k w) r mid u e in
     let t = f.3.0 in
-    (t, f.1 ∙ ap (λ (us : List (At Token)). us ++ mid.1) f.3.1, test_true (is_word k t.tok) u f.3.2, f.2 ∙ ap (past r.0) f.3.1)
+    (t, f.1 ∙ ap (λ (us : List (At SpecToken)). us ++ mid.1) f.3.1, test_true (is_keyword k t.tok) u f.3.2, f.2 ∙ ap (past r.0) f.3.1)
 
 -- the word was read, and then the name is over, or what is behind it is
 step_name : (r mid after : Rest) (u : Unit {0}) (f : NameAt × Rest → Read (StepOf NameAt)) → Few r.0 → word_at Step what.Item r ≡ (Ok u, mid) → ((n : NameAt) → Never (λ m. f (n, m)))
@@ -140,9 +140,9 @@ step_of n b = record { name = n; part = b }
 step_stops : Stops step_at
 unfolding step_at
 step_stops r after few e =
-    step_case r after (λ key. name_within r.0.steps 1000 key.1 >>= λ n. block_at n.1 >>= λ b. (Ok (step_of n.0 b.0), b.1)) (λ n. block_at n.1 >>= λ b. (Ok (step_of n.0 b.0), b.1)) few (λ u m. refl)
-    (λ n. never_then block_at (λ b. (Ok (step_of n b.0), b.1)) block_never (λ b. gives_never (step_of n b)))
-    (err_two (word_at Step what.Item r) (λ key. name_within r.0.steps 1000 key.1 >>= λ n. block_at n.1 >>= λ b. (Ok (step_of n.0 b.0), b.1)) OverLimit after e)
+    step_case r after (λ key. name_within r.0.steps 1000 key.1 >>= λ n. block_next n.1 >>= λ b. (Ok (step_of n.0 b.0), b.1)) (λ n. block_next n.1 >>= λ b. (Ok (step_of n.0 b.0), b.1)) few (λ u m. refl)
+    (λ n. never_then block_next (λ b. (Ok (step_of n b.0), b.1)) block_never (λ b. gives_never (step_of n b)))
+    (err_two (word_at Step what.Item r) (λ key. name_within r.0.steps 1000 key.1 >>= λ n. block_next n.1 >>= λ b. (Ok (step_of n.0 b.0), b.1)) OverLimit after e)
 
 steps_stop : Stops steps_at
 steps_stop = some_stop step_grammar what.Step (starts_word Step) (λ k. step_at) (λ k. step_read) step_keeps (λ k. step_stops)
@@ -200,7 +200,7 @@ unfolding entry_at
 entry_over k r after e = entry_case k r after (err_two (name_within k 1000 r) (λ n. some_markers_at n.1 >>= λ ms. (Ok (entry_of n.0 ms.0), ms.1)) OverLimit after e)
 
 record EntriesOver (k : ℕ) (r after : Rest) : Type 0 where
-  es : List (At Token)
+  es : List (At SpecToken)
   entries : List NamedEntry
   split : r.1 ≡ es ++ after.1
   many : Many entry r.0 es entries
@@ -218,7 +218,7 @@ entries_case n k r after le later (inr (x, mid, is, e)) =
     record {
       es = w.0 ++ o.es;
       entries = x ∷ o.entries;
-      split = w.1 ∙ ap (λ (us : List (At Token)). w.0 ++ us) o.split ∙ sym (append_assoc w.0 o.es after.1);
+      split = w.1 ∙ ap (λ (us : List (At SpecToken)). w.0 ++ us) o.split ∙ sym (append_assoc w.0 o.es after.1);
       many = more w.0 o.es refl w.3 (subst (λ (c : Counts). Many entry c o.es o.entries) w.2 o.many);
       count = omega (arith, o.count);
       is_named = o.is_named;
@@ -229,15 +229,15 @@ entries_over zero k r after le e = absurd (many_zero starts_name entry_at k Over
 entries_over (suc n) k r after le e = entries_case n k r after le (λ m l h. entries_over n (k + 1) m after l h) (stopped starts_name entry_at n k r after OverLimit e)
 
 record PermsOver (r after : Rest) : Type 0 where
-  ps : List (At Token)
-  word : At Token
-  es : List (At Token)
+  ps : List (At SpecToken)
+  word : At SpecToken
+  es : List (At SpecToken)
   perms : List (List NamedEntry)
   entries : List NamedEntry
   split : r.1 ≡ ps ++ word ∷ (es ++ after.1)
   many : Many perm r.0 ps perms
   short : AllByRecursion IsShort perms
-  is_word : IsWord Permutation word
+  is_keyword : IsWord Permutation word
   among : Many entry (past r.0 (ps ++ word ∷ [])) es entries
   count : length entries ≡ 1000
   is_named : starts_name after ≡ true
@@ -254,10 +254,10 @@ perm_case r after (inr (u, mid, word, e)) =
       es = o.es;
       perms = [];
       entries = o.entries;
-      split = t.1 ∙ ap (λ (us : List (At Token)). t.0 ∷ us) o.split;
+      split = t.1 ∙ ap (λ (us : List (At SpecToken)). t.0 ∷ us) o.split;
       many = none;
       short = tt;
-      is_word = t.2;
+      is_keyword = t.2;
       among = subst (λ (c : Counts). Many entry c o.es o.entries) t.3 o.many;
       count = omega (arith, o.count);
       is_named = o.is_named;
@@ -278,10 +278,10 @@ perms_case n k r after later (inr (x, mid, is, e)) =
       es = o.es;
       perms = x ∷ o.perms;
       entries = o.entries;
-      split = w.1 ∙ ap (λ (us : List (At Token)). w.0 ++ us) o.split ∙ sym (append_assoc w.0 o.ps (o.word ∷ (o.es ++ after.1)));
+      split = w.1 ∙ ap (λ (us : List (At SpecToken)). w.0 ++ us) o.split ∙ sym (append_assoc w.0 o.ps (o.word ∷ (o.es ++ after.1)));
       many = more w.0 o.ps refl w.3 (subst (λ (c : Counts). Many perm c o.ps o.perms) w.2 o.many);
       short = (perm_short r mid x is, o.short);
-      is_word = o.is_word;
+      is_keyword = o.is_word;
       among = subst (λ (c : Counts). Many entry c o.es o.entries) (ap (λ (c : Counts). past c (o.ps ++ o.word ∷ [])) w.2 ∙ sym (past_twice r.0 w.0 (o.ps ++ o.word ∷ [])) ∙ ap (past r.0) (sym (append_assoc w.0 o.ps (o.word ∷ [])))) o.among;
       count = o.count;
       is_named = o.is_named;
@@ -310,33 +310,33 @@ file_stops = stops_then (Many (block_behind Setup)) setups_at (λ setups. teardo
     (λ ss. stops_then (Many perm) perms_at (λ perms. end_at perms.1 >>= λ ended. (Ok (file_of setups teardown ss perms.0), ended.1)) perms_local perms_keep perms_stop
     (λ perms. never_stops (λ r. end_at r >>= λ ended. (Ok (file_of setups teardown ss perms), ended.1)) (never_then end_at (λ ended. (Ok (file_of setups teardown ss perms), ended.1)) end_never (λ u. gives_never (file_of setups teardown ss perms)))))))
 
-begins_named : (ts : List (At Token)) → first_is is_name ts ≡ true → (t : At Token) × (back : List (At Token)) × (ts ≡ t ∷ back) × (is_name t.tok ≡ true)
+begins_named : (ts : List (At SpecToken)) → first_is is_name ts ≡ true → (t : At SpecToken) × (back : List (At SpecToken)) × (ts ≡ t ∷ back) × (is_name t.tok ≡ true)
 begins_named [] e = absurd cc
 begins_named (t ∷ ts) e = (t, ts, refl, e)
 
-stop_at : (ts front : List (At Token)) (rest : List (At Token)) → ts ≡ front ++ rest → first_is is_name rest ≡ true → IsOverAt front → LimitStop ts rest
+stop_at : (ts front : List (At SpecToken)) (rest : List (At SpecToken)) → ts ≡ front ++ rest → first_is is_name rest ≡ true → IsOverAt front → LimitStop ts rest
 stop_at ts front rest split named over = let b = begins_named rest named in record { front = front; name = b.0; back = b.1; rest_is = b.2; split = split; is_name = b.3; over = over }
 
-limit_case : (ts : List (At Token)) (rest : Rest) (o : LimitLater (start, ts) rest) → LimitHere o.mid rest → LimitStop ts rest.1
+limit_case : (ts : List (At SpecToken)) (rest : Rest) (o : LimitLater (start, ts) rest) → LimitHere o.mid rest → LimitStop ts rest.1
 limit_case ts rest o (here_session t e word le) =
     let many = ap (λ (c : Counts). c.sessions) o.place in
     let steps = ap (λ (c : Counts). c.steps) o.place in
-    stop_at ts (o.fs ++ t ∷ []) rest.1 (o.split ∙ ap (λ (us : List (At Token)). o.fs ++ us) e ∙ sym (append_assoc o.fs (t ∷ []) rest.1)) o.is_named
+    stop_at ts (o.fs ++ t ∷ []) rest.1 (o.split ∙ ap (λ (us : List (At SpecToken)). o.fs ++ us) e ∙ sym (append_assoc o.fs (t ∷ []) rest.1)) o.is_named
     (at_session o.fs t refl word (omega (arith, many, le, o.few.sessions)) (omega (arith, steps, o.few.steps)))
 limit_case ts rest o (here_step t e word le) =
     let many = ap (λ (c : Counts). c.sessions) o.place in
     let steps = ap (λ (c : Counts). c.steps) o.place in
-    stop_at ts (o.fs ++ t ∷ []) rest.1 (o.split ∙ ap (λ (us : List (At Token)). o.fs ++ us) e ∙ sym (append_assoc o.fs (t ∷ []) rest.1)) o.is_named
+    stop_at ts (o.fs ++ t ∷ []) rest.1 (o.split ∙ ap (λ (us : List (At SpecToken)). o.fs ++ us) e ∙ sym (append_assoc o.fs (t ∷ []) rest.1)) o.is_named
     (at_step o.fs t refl word (omega (arith, many, o.few.sessions)) (omega (arith, steps, le, o.few.steps)))
 limit_case ts rest o (here_entry ps t es perms entries e many short word among count) =
     let sessions = ap (λ (c : Counts). c.sessions) o.place in
     let steps = ap (λ (c : Counts). c.steps) o.place in
     let inner : ps ++ t ∷ (es ++ rest.1) ≡ (ps ++ t ∷ es) ++ rest.1 = sym (append_assoc ps (t ∷ es) rest.1) in
-    stop_at ts (o.fs ++ (ps ++ t ∷ es)) rest.1 (o.split ∙ ap (λ (us : List (At Token)). o.fs ++ us) (e ∙ inner) ∙ sym (append_assoc o.fs (ps ++ t ∷ es) rest.1)) o.is_named
+    stop_at ts (o.fs ++ (ps ++ t ∷ es)) rest.1 (o.split ∙ ap (λ (us : List (At SpecToken)). o.fs ++ us) (e ∙ inner) ∙ sym (append_assoc o.fs (ps ++ t ∷ es) rest.1)) o.is_named
     (at_entry o.fs ps t es perms entries refl (omega (arith, sessions, o.few.sessions)) (omega (arith, steps, o.few.steps)) (subst (λ (c : Counts). Many perm c ps perms) o.place many) (all_from IsShort perms short) word
     (subst (λ (c : Counts). Many entry c es entries) (ap (λ (c : Counts). past c (ps ++ t ∷ [])) o.place ∙ sym (past_twice start o.fs (ps ++ t ∷ []))) among) count)
 
-pub limit_stop : (ts : List (At Token)) (rest : Rest) → file_at (start, ts) ≡ (Err OverLimit, rest) → LimitStop ts rest.1
+pub limit_stop : (ts : List (At SpecToken)) (rest : Rest) → file_at (start, ts) ≡ (Err OverLimit, rest) → LimitStop ts rest.1
 limit_stop ts rest e =
     let o = file_stops (start, ts) rest (record { sessions = omega arith; steps = omega arith }) e in
     limit_case ts rest o o.here

@@ -9,8 +9,8 @@ use Rattle.iso_lexer.specs.declared.token.At.{At}
 use Rattle.iso_lexer.specs.declared.spec_token.SpecTok.{SpecTok}
 use Rattle.iso_lexer.specs.Inner.Runs.{run_of}
 use Rattle.iso_lexer.specs.declared.runs.Run.TheVariants.{Blanks}
-use Rattle.iso_lexer.specs.SpecTokens.{Token, keyword, name, digits, sign, block, at_view, at_views}
-use Rattle.iso_lexer.specs.SpecText.{block_of}
+use Rattle.iso_lexer.specs.SpecTokens.{SpecToken, keyword, name, digits, sign, block, at_view, at_views}
+use Rattle.iso_lexer.specs.SpecText.{block_token}
 use Rattle.iso_lexer.specs.SpecSpelling.{LiesAt, Spells}
 use Rattle.spec_parser.specs.Inner.Places.{text_start_of, FitsAll}
 
@@ -19,12 +19,12 @@ few_views n ts few le = omega (arith, few, le, length-map ts at_view)
 
 -- ---- where the text of a block begins
 
-blanks_in : (n : ℕ) (b inner : List ℕ) → block n b ≡ block_of inner → n ≤ length inner
+blanks_in : (n : ℕ) (b inner : List ℕ) → block n b ≡ block_token inner → n ≤ length inner
 blanks_in n b inner e =
     let same : n ≡ length (run_of Blanks inner) = cc in
     omega (arith, same, length-take (prefix_len (passes_run Blanks) inner) inner)
 
-start_in : (text : List ℕ) (t : Token) (start end : ℕ) → end ≤ length text → length text ≤ 1048576 → Spells t (slice_range text start end) → text_start_of t start < 2 ^ 64
+start_in : (text : List ℕ) (t : SpecToken) (start end : ℕ) → end ≤ length text → length text ≤ 1048576 → Spells t (slice_range text start end) → text_start_of t start < 2 ^ 64
 start_in text (block n b) start end le few (inner, s, is) =
     let size = ap (λ (bs : List ℕ). length bs) s in
     omega (arith, le, few, size, blanks_in n b inner is, length-append inner (125 ∷ []), length-take (end - start) (drop start text), length-drop start text)

@@ -1,6 +1,6 @@
 -- What is printed of a fault.
 use Rattle.std.specs.Prelude.{ℕ, List, ◌++◌, codes}
-use Rattle.iso_lexer.specs.FaultText.{placed, fault_text}
+use Rattle.iso_lexer.specs.FaultText.{with_place, fault_text}
 use Rattle.spec_parser.specs.declared.fault.What.{What}
 use Rattle.spec_parser.specs.declared.fault.What.TheVariants.{Session, Step, Name, Block, Marker, CommaOrClose, Item}
 use Rattle.spec_parser.specs.declared.fault.SpecFault.{SpecFault}
@@ -18,9 +18,9 @@ what_text Item = codes "Item"
 abbrev pub spec_fault_text : SpecFault → List ℕ
 spec_fault_text faults.Memory = codes "Memory"
 spec_fault_text (faults.Lex fault) = fault_text fault
-spec_fault_text (faults.Expected what at) = placed (codes "S1 Expected " ++ what_text what) at
-spec_fault_text (faults.DuplicateStep at) = placed (codes "S2 DuplicateStep") at
-spec_fault_text (faults.UndefinedStep at) = placed (codes "S3 UndefinedStep") at
-spec_fault_text (faults.UndefinedMarker at) = placed (codes "S4 UndefinedMarker") at
-spec_fault_text (faults.NoticesLeftOut at) = placed (codes "S5 NoticesLeftOut") at
-spec_fault_text (faults.Limit at) = placed (codes "S6 Limit") at
+spec_fault_text (faults.Expected what at) = with_place (codes "S1 Expected " ++ what_text what) at
+spec_fault_text (faults.DuplicateStep at) = with_place (codes "S2 DuplicateStep") at
+spec_fault_text (faults.UndefinedStep at) = with_place (codes "S3 UndefinedStep") at
+spec_fault_text (faults.UndefinedMarker at) = with_place (codes "S4 UndefinedMarker") at
+spec_fault_text (faults.NoticesLeftOut at) = with_place (codes "S5 NoticesLeftOut") at
+spec_fault_text (faults.Limit at) = with_place (codes "S6 Limit") at

@@ -8,75 +8,75 @@ use Rattle.iso_lexer.specs.contracts.spec_token.Keyword.{the_type as words}
 use Rattle.iso_lexer.specs.declared.spec_token.Sign.{Sign}
 use Rattle.iso_lexer.specs.declared.spec_token.Sign.TheVariants.{Open, Close, Comma, Star}
 use Rattle.iso_lexer.specs.contracts.spec_token.Sign.{the_type as signs}
-use Rattle.iso_lexer.specs.SpecTokens.{Token, keyword, name, sign, block}
+use Rattle.iso_lexer.specs.SpecTokens.{SpecToken, keyword, name, sign, block}
 use Rattle.spec_parser.specs.Trees.{PartTree, NameAt, StepOf, SessionOf, MarkerTree, star, named, NamedEntry, FileTree}
 use Rattle.spec_parser.specs.Counts.{Counts, past}
 use Rattle.spec_parser.specs.Reading.{the_name, the_block}
 
 -- which kind a token is of
-abbrev pub is_word : Keyword → Token → Bool
-is_word k (keyword j) = sameb words j k
-is_word k _ = false
+abbrev pub is_keyword : Keyword → SpecToken → Bool
+is_keyword k (keyword j) = sameb words j k
+is_keyword k _ = false
 
-abbrev pub is_sign : Sign → Token → Bool
-is_sign g (sign h) = sameb signs h g
-is_sign g _ = false
+abbrev pub is_mark : Sign → SpecToken → Bool
+is_mark g (sign h) = sameb signs h g
+is_mark g _ = false
 
-abbrev pub is_name : Token → Bool
+abbrev pub is_name : SpecToken → Bool
 is_name (name n) = true
 is_name _ = false
 
-abbrev pub is_block : Token → Bool
+abbrev pub is_block : SpecToken → Bool
 is_block (block blanks sql) = true
 is_block _ = false
 
 -- that these tokens, behind what is counted, say this
 abbrev pub Grammar : Type 0 → Type 1
-Grammar A = Counts → List (At Token) → A → Type 0
+Grammar A = Counts → List (At SpecToken) → A → Type 0
 
 -- one thing and then another, which may depend on what the first says
 infixl 10 ◌>>=◌
 abbrev pub ◌>>=◌ : {A B : Type 0} → Grammar A → (A → Grammar B) → Grammar B
-◌>>=◌ {A} {B} G H c ts z = (x : A) × (xs : List (At Token)) × (ys : List (At Token)) × (ts ≡ xs ++ ys) × G c xs x × H x (past c xs) ys z
+◌>>=◌ {A} {B} G H c ts z = (x : A) × (xs : List (At SpecToken)) × (ys : List (At SpecToken)) × (ts ≡ xs ++ ys) × G c xs x × H x (past c xs) ys z
 
 -- no token
 abbrev pub gives : {A : Type 0} → A → Grammar A
 gives v c ts x = (ts ≡ []) × (x ≡ v)
 
 -- one token, which says this
-abbrev pub one : {A : Type 0} → (Counts → At Token → Option A) → Grammar A
-one f c ts x = (t : At Token) × (ts ≡ t ∷ []) × (f c t ≡ Some x)
+abbrev pub one : {A : Type 0} → (Counts → At SpecToken → Option A) → Grammar A
+one f c ts x = (t : At SpecToken) × (ts ≡ t ∷ []) × (f c t ≡ Some x)
 
 -- nothing but that the token is this word, or this sign
-abbrev pub a_word : Keyword → Counts → At Token → Option (Unit {0})
-a_word k c t = if is_word k t.tok then Some tt else None
+abbrev pub a_word : Keyword → Counts → At SpecToken → Option (Unit {0})
+a_word k c t = if is_keyword k t.tok then Some tt else None
 
-abbrev pub a_sign : Sign → Counts → At Token → Option (Unit {0})
-a_sign g c t = if is_sign g t.tok then Some tt else None
+abbrev pub a_sign : Sign → Counts → At SpecToken → Option (Unit {0})
+a_sign g c t = if is_mark g t.tok then Some tt else None
 
 -- a name; and a block, whose number is how many stand before it
-abbrev pub a_name : Counts → At Token → Option NameAt
+abbrev pub a_name : Counts → At SpecToken → Option NameAt
 a_name c = the_name
 
-abbrev pub a_block : Counts → At Token → Option PartTree
+abbrev pub a_block : Counts → At SpecToken → Option PartTree
 a_block c = the_block c.blocks
 
 -- it, or no token
-pub data Maybe {A : Type 0} (G : Grammar A) (c : Counts) : List (At Token) → Option A → Type 0 where
+pub data Maybe {A : Type 0} (G : Grammar A) (c : Counts) : List (At SpecToken) → Option A → Type 0 where
   left_out : Maybe G c [] None
-  given : {ts : List (At Token)} {x : A} → G c ts x → Maybe G c ts (Some x)
+  given : {ts : List (At SpecToken)} {x : A} → G c ts x → Maybe G c ts (Some x)
 
 -- so many, one after another
-pub data Many {A : Type 0} (G : Grammar A) : Counts → List (At Token) → List A → Type 0 where
+pub data Many {A : Type 0} (G : Grammar A) : Counts → List (At SpecToken) → List A → Type 0 where
   none : {c : Counts} → Many G c [] []
-  more : {c : Counts} {ts : List (At Token)} {x : A} {others : List A} (xs ys : List (At Token)) → ts ≡ xs ++ ys → G c xs x → Many G (past c xs) ys others → Many G c ts (x ∷ others)
+  more : {c : Counts} {ts : List (At SpecToken)} {x : A} {others : List A} (xs ys : List (At SpecToken)) → ts ≡ xs ++ ys → G c xs x → Many G (past c xs) ys others → Many G c ts (x ∷ others)
 
 -- one at least
 abbrev pub some : {A : Type 0} → Grammar A → Grammar (List A)
 some G c ts xs = Many G c ts xs × (0 < length xs)
 
 -- one or the other
-pub data Either {A : Type 0} (G H : Grammar A) (c : Counts) (ts : List (At Token)) (x : A) : Type 0 where
+pub data Either {A : Type 0} (G H : Grammar A) (c : Counts) (ts : List (At SpecToken)) (x : A) : Type 0 where
   first : G c ts x → Either G H c ts x
   second : H c ts x → Either G H c ts x
 

@@ -3,7 +3,7 @@ use Rattle.std.specs.Prelude.{◌≡◌, ◌≢◌, ◌≤◌, ℕ, List, length
 use Rattle.std.specs.List.{AllZip}
 use Rattle.iso_lexer.specs.declared.token.At.{At}
 use Rattle.iso_lexer.specs.Names.{decoded}
-use Rattle.iso_lexer.specs.SpecTokens.{Token}
+use Rattle.iso_lexer.specs.SpecTokens.{SpecToken}
 use Rattle.iso_lexer.specs.SpecText.{Lexes}
 use Rattle.spec_parser.specs.declared.tree.Marker.{Marker}
 use Rattle.spec_parser.specs.declared.tree.Marker.TheVariants as markers
@@ -38,7 +38,7 @@ abbrev pub NamesDiffer : List StepAt → Type 0
 NamesDiffer steps = AllPairs HasOtherName steps
 
 -- the name is that of step j of session k
-pub record Names (steps : List StepAt) (n : NameAt) (k j : ℕ) : Type 0 where
+pub record NamesStep (steps : List StepAt) (n : NameAt) (k j : ℕ) : Type 0 where
   pub step : StepAt
   pub listed : Contains steps step
   pub same : SameName step.name n
@@ -48,13 +48,13 @@ pub record Names (steps : List StepAt) (n : NameAt) (k j : ℕ) : Type 0 where
 -- what a marker stands for
 abbrev pub MarkerIs : List StepAt → MarkerTree → Marker → Type 0
 MarkerIs steps star markers.Star = Unit {0}
-MarkerIs steps (named n) (markers.Step k j) = Names steps n k j
+MarkerIs steps (named n) (markers.Step k j) = NamesStep steps n k j
 MarkerIs steps star (markers.Step k j) = ⊥
 MarkerIs steps (named n) markers.Star = ⊥
 
 -- what an entry stands for: its step, and what its markers stand for, in order
 pub record EntryIs (steps : List StepAt) (e : NamedEntry) (x : EntryTree) : Type 0 where
-  pub step : Names steps e.name x.session x.step
+  pub step : NamesStep steps e.name x.session x.step
   pub markers : AllZip (MarkerIs steps) e.markers x.markers
 
 -- entry by entry
@@ -65,7 +65,7 @@ PermIs steps es xs = AllZip (EntryIs steps) es xs
 
 -- the text is a spec file, and says this
 pub record IsSpec (text : List ℕ) (s : SpecTree) : Type 0 where
-  pub tokens : List (At Token)
+  pub tokens : List (At SpecToken)
   pub lexes : Lexes text (Ok tokens)
   pub file : FileTree
   pub grammar : in_grammar start tokens file

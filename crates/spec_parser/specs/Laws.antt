@@ -1,7 +1,7 @@
 -- What is so of every list of tokens, and of every text.
 use Rattle.std.specs.Prelude.{◌≡◌, ℕ, Bool, true, ◌||◌, List, [], ◌∷◌, ◌++◌, length, Option, Some, None, Result, Ok, Err}
 use Rattle.iso_lexer.specs.declared.token.At.{At}
-use Rattle.iso_lexer.specs.SpecTokens.{Token}
+use Rattle.iso_lexer.specs.SpecTokens.{SpecToken}
 use Rattle.spec_parser.specs.declared.fault.What.{What}
 use Rattle.spec_parser.specs.declared.fault.What.TheVariants as what
 use Rattle.spec_parser.specs.declared.fault.Stop.{Stop}
@@ -15,7 +15,7 @@ use Rattle.iso_lexer.specs.Readers.{place_of}
 use Rattle.spec_parser.specs.Reading.{file_at}
 use Rattle.spec_parser.specs.Faults.{stopped}
 use Rattle.iso_lexer.specs.SpecText.{Lexes}
-use Rattle.spec_parser.specs.Grammar.{is_word, is_sign, is_name, is_block, file}
+use Rattle.spec_parser.specs.Grammar.{is_keyword, is_mark, is_name, is_block, file}
 use Rattle.spec_parser.specs.declared.fault.SpecFault.TheVariants as faults
 use Rattle.spec_parser.specs.SpecText.{SpecReads}
 use Rattle.spec_parser.specs.IsSpec.{WithinLimits, IsSpec}
@@ -23,53 +23,53 @@ use Rattle.spec_parser.specs.LimitFaults.{IsWord, LimitStop, HasLimit}
 use Rattle.spec_parser.specs.NameFaults.{HasRepeat, HasUndefined}
 use Rattle.spec_parser.specs.Stands.{Stands, LiesIn}
 
-abbrev pub head : List (At Token) → Option (At Token)
+abbrev pub head : List (At SpecToken) → Option (At SpecToken)
 head [] = None
 head (t ∷ ts) = Some t
 
 -- the token is of the kind that is told as expected; an item of the file begins with one of four words
-abbrev pub names_token : What → Token → Bool
-names_token what.Session t = is_word Session t
-names_token what.Step t = is_word Step t
+abbrev pub names_token : What → SpecToken → Bool
+names_token what.Session t = is_keyword Session t
+names_token what.Step t = is_keyword Step t
 names_token what.Name t = is_name t
 names_token what.Block t = is_block t
-names_token what.Marker t = is_sign Star t || is_name t
-names_token what.CommaOrClose t = is_sign Comma t || is_sign Close t
-names_token what.Item t = is_word Setup t || is_word Teardown t || is_word Session t || is_word Permutation t
+names_token what.Marker t = is_mark Star t || is_name t
+names_token what.CommaOrClose t = is_mark Comma t || is_mark Close t
+names_token what.Item t = is_keyword Setup t || is_keyword Teardown t || is_keyword Session t || is_keyword Permutation t
 
 -- The tokens before a stop begin a file of the grammar; where something is told as expected, such a token can follow there. A list
 -- that has the same tokens up to there and the same next token is none, whatever follows, but where the stop is at a limit; and
 -- reading it stops there too.
-pub record StopsFirst (ts : List (At Token)) (stop : Stop) (rest : List (At Token)) : Type 0 where
-  pub front : List (At Token)
+pub record StopsFirst (ts : List (At SpecToken)) (stop : Stop) (rest : List (At SpecToken)) : Type 0 where
+  pub front : List (At SpecToken)
   pub split : ts ≡ front ++ rest
-  pub begins : (more : List (At Token)) × (f : FileTree) × file start (front ++ more) f
-  pub expects : (w : What) → stop ≡ Expected w → (token : At Token) × (more : List (At Token)) × (f : FileTree) × (names_token w token.tok ≡ true) × file start (front ++ token ∷ more) f
-  pub stays : (last : ℕ) (others : List (At Token)) → head others ≡ head rest → file_at last ([], front ++ others) ≡ Err (stopped stop (place_of last others))
-  pub stuck : (others : List (At Token)) (f : FileTree) → head others ≡ head rest → file start (front ++ others) f → stop ≡ OverLimit
+  pub begins : (more : List (At SpecToken)) × (f : FileTree) × file start (front ++ more) f
+  pub expects : (w : What) → stop ≡ Expected w → (token : At SpecToken) × (more : List (At SpecToken)) × (f : FileTree) × (names_token w token.tok ≡ true) × file start (front ++ token ∷ more) f
+  pub stays : (last : ℕ) (others : List (At SpecToken)) → head others ≡ head rest → file_at last ([], front ++ others) ≡ Err (stopped stop (place_of last others))
+  pub stuck : (others : List (At SpecToken)) (f : FileTree) → head others ≡ head rest → file start (front ++ others) f → stop ≡ OverLimit
 
 -- the fault is such a stop, at the place of the rest
-pub record FaultIsFirst (last : ℕ) (ts : List (At Token)) (fault : SpecFault) : Type 0 where
+pub record FaultIsFirst (last : ℕ) (ts : List (At SpecToken)) (fault : SpecFault) : Type 0 where
   pub stop : Stop
-  pub rest : List (At Token)
+  pub rest : List (At SpecToken)
   pub is : fault ≡ stopped stop (place_of last rest)
   pub first : StopsFirst ts stop rest
 
 abbrev pub FaultsAreFirst : Type 0
-FaultsAreFirst = (last : ℕ) (ts : List (At Token)) (fault : SpecFault) → file_at last ([], ts) ≡ Err fault → FaultIsFirst last ts fault
+FaultsAreFirst = (last : ℕ) (ts : List (At SpecToken)) (fault : SpecFault) → file_at last ([], ts) ≡ Err fault → FaultIsFirst last ts fault
 
 -- What is read whole is a file of the grammar, within the limits.
 abbrev pub ReadsAreFiles : Type 0
-ReadsAreFiles = (last : ℕ) (ts : List (At Token)) (f : FileTree) (rest : List (At Token) × List (At Token)) → file_at last ([], ts) ≡ Ok (f, rest) → file start ts f × WithinLimits f
+ReadsAreFiles = (last : ℕ) (ts : List (At SpecToken)) (f : FileTree) (rest : List (At SpecToken) × List (At SpecToken)) → file_at last ([], ts) ≡ Ok (f, rest) → file start ts f × WithinLimits f
 
 -- A file of the grammar is read whole where it is within the limits, and else reading stops at a limit.
 abbrev pub FilesAreRead : Type 0
-FilesAreRead = (last : ℕ) (ts : List (At Token)) (f : FileTree) → file start ts f
+FilesAreRead = (last : ℕ) (ts : List (At SpecToken)) (f : FileTree) → file start ts f
     → (WithinLimits f → file_at last ([], ts) ≡ Ok (f, (ts, []))) × ((WithinLimits f → ⊥) → (at : ℕ) × (file_at last ([], ts) ≡ Err (faults.Limit at)))
 
 -- Reading stops at a limit before the name that is over it.
 abbrev pub LimitsAreFirst : Type 0
-LimitsAreFirst = (last : ℕ) (ts : List (At Token)) (at : ℕ) → file_at last ([], ts) ≡ Err (faults.Limit at) → (rest : List (At Token)) × (stop : LimitStop ts rest) × (at ≡ stop.name.span.start)
+LimitsAreFirst = (last : ℕ) (ts : List (At SpecToken)) (at : ℕ) → file_at last ([], ts) ≡ Err (faults.Limit at) → (rest : List (At SpecToken)) × (stop : LimitStop ts rest) × (at ≡ stop.name.span.start)
 
 -- ---- texts
 
@@ -79,12 +79,12 @@ OneAnswer = (text : List ℕ) (x y : Result SpecTree SpecFault) → SpecReads te
 
 -- a text whose tokens begin a file up to this byte, and with the next token begin none; what is left out is the word `notices`
 pub record HasStop (text : List ℕ) (stop : Stop) (at : ℕ) : Type 0 where
-  pub tokens : List (At Token)
+  pub tokens : List (At SpecToken)
   pub lexes : Lexes text (Ok tokens)
-  pub rest : List (At Token)
+  pub rest : List (At SpecToken)
   pub first : StopsFirst tokens stop rest
   pub place : at ≡ place_of (length text) rest
-  pub notices : stop ≡ NoticesLeftOut → (token : At Token) × (head rest ≡ Some token) × IsWord Notices token
+  pub notices : stop ≡ NoticesLeftOut → (token : At SpecToken) × (head rest ≡ Some token) × IsWord Notices token
 
 -- A text is refused as Expected, NoticesLeftOut or Limit only at such a byte.
 abbrev pub StopsAreFirst : Type 0

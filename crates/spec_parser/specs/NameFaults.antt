@@ -1,7 +1,7 @@
 -- Which name of a file is at fault: the first step name that an earlier step has, and the first name of a permutation that no step has.
 use Rattle.std.specs.Prelude.{◌≡◌, ℕ, List, [], ◌∷◌, ◌++◌, All, Contains, flat_map, Ok}
 use Rattle.iso_lexer.specs.declared.token.At.{At}
-use Rattle.iso_lexer.specs.SpecTokens.{Token}
+use Rattle.iso_lexer.specs.SpecTokens.{SpecToken}
 use Rattle.iso_lexer.specs.SpecText.{Lexes}
 use Rattle.spec_parser.specs.declared.fault.SpecFault.{SpecFault}
 use Rattle.spec_parser.specs.declared.fault.SpecFault.TheVariants.{UndefinedStep, UndefinedMarker}
@@ -71,7 +71,7 @@ pub record IsFirstUndefined (steps : List StepAt) (ms : List Mention) (f : SpecF
 
 -- a file within the limits, in which a step name stands again at this byte
 pub record HasRepeat (text : List ℕ) (at : ℕ) : Type 0 where
-  pub tokens : List (At Token)
+  pub tokens : List (At SpecToken)
   pub lexes : Lexes text (Ok tokens)
   pub file : FileTree
   pub grammar : in_grammar start tokens file
@@ -80,7 +80,7 @@ pub record HasRepeat (text : List ℕ) (at : ℕ) : Type 0 where
 
 -- a file within the limits whose step names differ, and whose permutations have this undefined name
 pub record HasUndefined (text : List ℕ) (f : SpecFault) : Type 0 where
-  pub tokens : List (At Token)
+  pub tokens : List (At SpecToken)
   pub lexes : Lexes text (Ok tokens)
   pub file : FileTree
   pub grammar : in_grammar start tokens file

@@ -9,7 +9,7 @@ use Rattle.iso_lexer.specs.contracts.spec_token.Keyword.{the_type as words}
 use Rattle.iso_lexer.specs.declared.spec_token.Sign.{Sign}
 use Rattle.iso_lexer.specs.declared.spec_token.Sign.TheVariants.{Open, Close, Comma, Star}
 use Rattle.iso_lexer.specs.contracts.spec_token.Sign.{the_type as signs}
-use Rattle.iso_lexer.specs.SpecTokens.{Token, keyword, name, sign, block}
+use Rattle.iso_lexer.specs.SpecTokens.{SpecToken, keyword, name, sign, block}
 use Rattle.iso_lexer.specs.Readers.{ReaderOf, ◌>>=◌, gives, place_of}
 use Rattle.spec_parser.specs.declared.fault.What.{What}
 use Rattle.spec_parser.specs.declared.fault.What.TheVariants as what
@@ -19,46 +19,46 @@ use Rattle.spec_parser.specs.Trees.{PartTree, NameAt, StepOf, SessionOf, MarkerT
 
 -- what reads a part of a file: of the tokens before it, and those from here on
 abbrev pub SpecReader : Type 0 → Type 0
-SpecReader A = ReaderOf (List (At Token) × List (At Token)) SpecFault A
+SpecReader A = ReaderOf (List (At SpecToken) × List (At SpecToken)) SpecFault A
 
 -- ---- one token
 
 -- a kind of tokens, by what each of them says
-abbrev pub Kind : Type 0 → Type 0
-Kind A = At Token → Option A
+abbrev pub TokenKind : Type 0 → Type 0
+TokenKind A = At SpecToken → Option A
 
 -- this word, by where it stands, and this sign
-abbrev pub the_word : Keyword → Kind ℕ
+abbrev pub the_word : Keyword → TokenKind ℕ
 the_word k t = elim t.tok [ keyword j ↦ if sameb words j k then Some t.span.start else None | _ ↦ None ]
 
-abbrev pub the_sign : Sign → Kind ℕ
+abbrev pub the_sign : Sign → TokenKind ℕ
 the_sign g t = elim t.tok [ sign h ↦ if sameb signs h g then Some t.span.start else None | _ ↦ None ]
 
-abbrev pub the_name : Kind NameAt
+abbrev pub the_name : TokenKind NameAt
 the_name t = elim t.tok [ name n ↦ Some (record { name = n; at = t.span.start }) | _ ↦ None ]
 
 -- the block of this number; its text begins behind its brace and blanks
-abbrev pub the_block : ℕ → Kind PartTree
+abbrev pub the_block : ℕ → TokenKind PartTree
 the_block number t = elim t.tok [ block blanks sql ↦ Some (record { sql = sql; at = t.span.start + 1 + blanks; block = number }) | _ ↦ None ]
 
 -- how many of these tokens are of the kind
-abbrev pub count : {A : Type 0} → Kind A → List (At Token) → ℕ
+abbrev pub count : {A : Type 0} → TokenKind A → List (At SpecToken) → ℕ
 count kind ts = count_by (λ t. is_some (kind t)) ts
 
 -- where a token of this kind stands next, what that lets be read behind it, else what others read
-abbrev pub if_next : {A B : Type 0} → Kind A → (A → SpecReader B) → SpecReader B → SpecReader B
+abbrev pub if_next : {A B : Type 0} → TokenKind A → (A → SpecReader B) → SpecReader B → SpecReader B
 if_next kind behind others (before, []) = others (before, [])
 if_next kind behind others (before, t ∷ ts) = option_map_or (λ x. behind x (before ++ t ∷ [], ts)) (kind t) (others (before, t ∷ ts))
 
 -- ---- several things
 
 -- items one after another, as long as a token of this kind stands next: item k is read behind it, there are n at most, and `none` is read where the first isn't there
-unfoldable pub many_from : {A B : Type 0} → Kind A → (ℕ → A → SpecReader B) → ℕ → ℕ → SpecReader (List B) → SpecReader (List B)
+unfoldable pub many_from : {A B : Type 0} → TokenKind A → (ℕ → A → SpecReader B) → ℕ → ℕ → SpecReader (List B) → SpecReader (List B)
 many_from kind item k zero none = none
 many_from kind item k (suc n) none = if_next kind (λ x. item k x >>= λ y. many_from kind item (k + 1) n (gives []) >>= λ ys. gives (y ∷ ys)) none
 
 -- the items from number 1 on, each of a token at least
-abbrev pub many_of : {A B : Type 0} → Kind A → (ℕ → A → SpecReader B) → SpecReader (List B) → SpecReader (List B)
+abbrev pub many_of : {A B : Type 0} → TokenKind A → (ℕ → A → SpecReader B) → SpecReader (List B) → SpecReader (List B)
 many_of kind item none r = many_from kind item 1 (length r.1) none r
 
 -- the name of a thing of this number, of which there may be so many at most
@@ -72,7 +72,7 @@ module _ (last : ℕ) where
   abbrev pub expected : {A : Type 0} → What → SpecReader A
   expected w r = Err (Expected w (place_of last r.1))
 
-  abbrev pub one_token : {A : Type 0} → Kind A → What → SpecReader A
+  abbrev pub one_token : {A : Type 0} → TokenKind A → What → SpecReader A
   one_token kind w = if_next kind gives (expected w)
 
   -- a block; its number is how many stand before it

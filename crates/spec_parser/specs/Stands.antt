@@ -42,8 +42,8 @@ abbrev pub session_names : SessionOf NameAt → List NameAt
 session_names s = s.name ∷ map (λ (x : StepOf NameAt). x.name) s.steps
 
 -- the names of all sessions and steps with their places, in file order
-abbrev pub names_of : FileTree → List NameAt
-names_of f = flat_map session_names f.sessions
+abbrev pub all_names : FileTree → List NameAt
+all_names f = flat_map session_names f.sessions
 
 -- a block's text is the slice of the text at its place
 pub record PartLies (text : List ℕ) (p : PartTree) : Type 0 where
@@ -71,4 +71,4 @@ pub record Stands (s : SpecTree) : Type 0 where
 pub record LiesIn (text : List ℕ) (s : SpecTree) : Type 0 where
   pub spec : IsSpec text s
   pub parts : All (PartLies text) (parts_of s)
-  pub names : All (NameLies text) (names_of spec.file)
+  pub names : All (NameLies text) (all_names spec.file)

@@ -1,6 +1,6 @@
 //! Spec files, whole.
 
-ghost use Rattle.spec_parser.specs.SpecText.{Answers};
+ghost use Rattle.spec_parser.specs.SpecText.{SpecAnswers};
 
 use crate::fault::SpecFault;
 use crate::known::{first_repeat, known_steps};
@@ -13,7 +13,7 @@ use std::alloc::Global;
 /// What a spec file says. Of several faults that of the tokens comes first, then the first that reading the tokens meets,
 /// then the first step name that stands earlier, then the first undefined name of a permutation.
 pub fn parse_spec<'a>(alloc: Global, text: &'a str) -> Result<Spec<'a>, SpecFault>
-    ensures { Answers text.now result }
+    ensures { SpecAnswers text.now result }
 {
     let tokens = spec_tokens(alloc, text)?;
     tokens_are_few();

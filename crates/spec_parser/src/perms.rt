@@ -62,7 +62,7 @@ impl<'t, 'a> Reader<'t, 'a> {
         Ok(items)
     }
 
-    #[tactic(auto, unfolding(crate::specs::Inner::Stopping::markers_at, crate::specs::Inner::Stopping::all_at, crate::specs::Inner::Stopping::many_at, crate::specs::Inner::Stopping::next))]
+    #[tactic(auto, unfolding(crate::specs::Inner::Stopping::markers_at, crate::specs::Inner::Stopping::all_at, crate::specs::Inner::Stopping::many_at, crate::specs::Inner::Stopping::next_token))]
     fn markers(&mut self, alloc: Global) -> Result<Vec<MarkerName<'a>>, Halt>
         ensures same { Same self.old self.new }
         ensures reads { Gives (end_of self.old) (λ x. (map marker_view x.items, rest_of self.new)) result (markers_at (rest_of self.old)) }

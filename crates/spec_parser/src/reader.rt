@@ -30,7 +30,7 @@ impl<'t, 'a> Reader<'t, 'a> {
     ghost use Rattle.iso_lexer.specs.SpecTokens.{at_view, at_views, name, block};
     ghost use Rattle.spec_parser.specs.Trees.{part_view, placed_view};
     ghost use Rattle.spec_parser.specs.Counts.{start};
-    ghost use Rattle.spec_parser.specs.Inner.Stopping.{place, name_at, block_at, end_at};
+    ghost use Rattle.spec_parser.specs.Inner.Stopping.{place, name_next, block_next, end_at};
     ghost use Rattle.spec_parser.specs.Inner.Pieces.{starts_word, starts_sign, starts_name, word_at, sign_at};
     ghost use Rattle.spec_parser.specs.Inner.Readers.{end_of, rest_of, IsNext, Same, Gives, StopsAt};
 
@@ -137,7 +137,7 @@ impl<'t, 'a> Reader<'t, 'a> {
         }
     }
 
-    #[tactic(auto, unfolding(crate::specs::Inner::Stopping::next))]
+    #[tactic(auto, unfolding(crate::specs::Inner::Stopping::next_token))]
     pub fn word(&mut self, word: Keyword, what: What) -> Result<(), Halt>
         ensures same { Same self.old self.new }
         ensures reads { Gives (end_of self.old) (λ x. (x, rest_of self.new)) result (word_at word what (rest_of self.old)) }
@@ -160,7 +160,7 @@ impl<'t, 'a> Reader<'t, 'a> {
         }
     }
 
-    #[tactic(auto, unfolding(crate::specs::Inner::Stopping::next))]
+    #[tactic(auto, unfolding(crate::specs::Inner::Stopping::next_token))]
     pub fn sign(&mut self, sign: Sign, what: What) -> Result<(), Halt>
         ensures same { Same self.old self.new }
         ensures reads { Gives (end_of self.old) (λ x. (x, rest_of self.new)) result (sign_at sign what (rest_of self.old)) }
@@ -178,10 +178,10 @@ impl<'t, 'a> Reader<'t, 'a> {
         }
     }
 
-    #[tactic(auto, unfolding(crate::specs::Inner::Stopping::name_at))]
+    #[tactic(auto, unfolding(crate::specs::Inner::Stopping::name_next))]
     pub fn name(&mut self, what: What) -> Result<PlacedName<'a>, Halt>
         ensures same { Same self.old self.new }
-        ensures reads { Gives (end_of self.old) (λ x. (placed_view x, rest_of self.new)) result (name_at what (rest_of self.old)) }
+        ensures reads { Gives (end_of self.old) (λ x. (placed_view x, rest_of self.new)) result (name_next what (rest_of self.old)) }
         ensures calm { result ≢ Err Halt.Memory }
     {
         match self.peek() {
@@ -199,10 +199,10 @@ impl<'t, 'a> Reader<'t, 'a> {
         }
     }
 
-    #[tactic(auto, unfolding(crate::specs::Inner::Stopping::block_at))]
+    #[tactic(auto, unfolding(crate::specs::Inner::Stopping::block_next))]
     pub fn block(&mut self) -> Result<Part<'a>, Halt>
         ensures same { Same self.old self.new }
-        ensures reads { Gives (end_of self.old) (λ x. (part_view x, rest_of self.new)) result (block_at (rest_of self.old)) }
+        ensures reads { Gives (end_of self.old) (λ x. (part_view x, rest_of self.new)) result (block_next (rest_of self.old)) }
         ensures calm { result ≢ Err Halt.Memory }
     {
         match self.peek() {

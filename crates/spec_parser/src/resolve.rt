@@ -4,7 +4,7 @@ ghost use Rattle.std.specs.Prelude.{◌≡◌, ◌<◌, length, map, IfOk, IsErr
 ghost use Rattle.spec_parser.specs.Trees.{step_view, session_view, entry_view, perm_view, draft_view, session_draft_view, marker_view, entry_name_view, perm_names_view};
 ghost use Rattle.iso_lexer.specs.Results.{each};
 ghost use Rattle.spec_parser.specs.Names.{known_marker, known_entry, session_tree};
-ghost use Rattle.spec_parser.specs.Inner.Known.{step_tree, known_perms, known_view, IsAs, WantsRoom};
+ghost use Rattle.spec_parser.specs.Inner.Known.{step_tree, known_perms, known_view, IsAs, EntryWantsRoom};
 
 use crate::draft::{EntryName, MarkerName, SessionDraft, StepDraft};
 use crate::fault::SpecFault;
@@ -49,7 +49,7 @@ fn known_entry(
     entry: &EntryName<'_>,
 ) -> Result<Entry, SpecFault>
     ensures is { IsAs entry_view result (known_entry (map known_view known.now) (entry_name_view entry.now)) }
-    ensures room { IsErrOf result SpecFault.Memory → WantsRoom (map known_view known.now) (entry_name_view entry.now) }
+    ensures room { IsErrOf result SpecFault.Memory → EntryWantsRoom (map known_view known.now) (entry_name_view entry.now) }
 {
     let Some(step) = find_step(known, &entry.name.name) else {
         return Err(SpecFault::UndefinedStep { at: entry.name.at });

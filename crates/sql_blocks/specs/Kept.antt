@@ -51,8 +51,8 @@ places_differ [] = true
 places_differ (k ∷ ks) = not (list_any (λ m. k == m) ks) && places_differ ks
 
 -- the columns at these places
-abbrev pub names_at : List (List ℕ) → List ℕ → List (List ℕ)
-names_at columns ks = map (λ k. get_or columns k []) ks
+abbrev pub names_among : List (List ℕ) → List ℕ → List (List ℕ)
+names_among columns ks = map (λ k. get_or columns k []) ks
 
 -- ---- statements
 
@@ -61,7 +61,7 @@ abbrev pub key_fits : ℕ → KeyTree → Bool
 key_fits n k = list_all (λ c. nat_lt c n) k.columns && places_differ k.columns
 
 abbrev pub tree_name : List ℕ → List (List ℕ) → KeyTree → List ℕ
-tree_name table columns k = key_name table k.primary (names_at columns k.columns)
+tree_name table columns k = key_name table k.primary (names_among columns k.columns)
 
 -- columns and keys are fewer than 2 ^ 32, and the columns and the names that the keys are given all differ
 abbrev pub table_kept : CreateTree → Bool

@@ -14,9 +14,9 @@ use Rattle.sql_trees.specs.Trees.{Tree, Trees, Column, Plus, Not, Binary, Is, In
 use Rattle.sql_expressions.specs.Build.{negated, push}
 use Rattle.sql_expressions.specs.Readers.{is_sign, after}
 use Rattle.sql_expressions.specs.Reading.{comparison_op, truth_of, expr_at}
-use Rattle.sql_expressions.specs.Inner.Pieces.{Found, name_at, Found_op, Found_list, Reader, leaf, deeper, join, next_op, found_op, is_and, is_not, is_is, column_at, parens_at, prim_of, prim_at, sign_at, una_of, una_at, mul_at, add_at, cat_at, in_at, between_at, not_in_of, not_in_at, inn_of, inn_more, inn_at, cmp_more, cmp_at, is_node, is_of, is_tail, is_more, is_at, negation_at, not_at, and_at, or_at, at_level, inside, list_at, list_more, chain_more}
+use Rattle.sql_expressions.specs.Inner.Pieces.{Found, name_at, Found_list, Reader, deeper, next_op, is_not, is_is, column_at, parens_at, prim_of, prim_at, sign_at, una_of, una_at, mul_at, add_at, cat_at, in_at, between_at, inn_of, inn_more, inn_at, cmp_at, is_more, is_at, negation_at, not_at, and_at, or_at, inside, list_at, list_more, chain_more}
 use Rattle.sql_expressions.specs.Inner.Pieces as reading
-use Rattle.sql_expressions.specs.Grammar.{IsWord, Ends, goes_on, Level, OR, AND, NOT, IS, CMP, INN, CAT, ADD, MUL, UNA, PRIM, tighter, binary, Spells, SpellsIn, only, chain, negation, is, comparison, contained, between, minus, plus, parens, literal, Items, one, next, IsLeaf, number, text, column, yes, no, null, IsIn, IsBetween, IsIs}
+use Rattle.sql_expressions.specs.Grammar.{IsWord, Ends, may_go_on, Level, OR, AND, NOT, IS, CMP, INN, CAT, ADD, MUL, UNA, PRIM, tighter, operator_at, Spells, SpellsIn, only, chain, negation, is, comparison, contained, between, minus, plus, parens, literal, Items, one, next, IsLeaf, number, text, column, yes, no, null, IsIn, IsBetween, IsIs}
 use Rattle.sql_expressions.proofs.Same.{expr_same, is_part}
 
 -- the words and signs that a level goes on with
@@ -28,7 +28,7 @@ own INN (tok.word words.Between s) = true
 own INN (tok.word words.Not s) = true
 own INN _ = false
 own PRIM t = is_sign signs.Open t
-own l t = is_some (binary l t)
+own l t = is_some (operator_at l t)
 
 abbrev pub continues : Level → Token → Bool
 continues PRIM t = own PRIM t
@@ -74,7 +74,7 @@ none_of None e = refl
 none_of (Some x) e = absurd cc
 
 -- an operator of a level is nothing that a tighter level goes on with
-pub op_stops : (l : Level) (t : Token) (o : Operator) → binary l t ≡ Some o → continues (tighter l) t ≡ false
+pub op_stops : (l : Level) (t : Token) (o : Operator) → operator_at l t ≡ Some o → continues (tighter l) t ≡ false
 op_stops OR (tok.word words.Or s) o e = refl
 op_stops OR _ o e = absurd cc
 op_stops AND (tok.word words.And s) o e = refl
@@ -103,7 +103,7 @@ IsChain ADD = Unit {0}
 IsChain MUL = Unit {0}
 IsChain _ = ⊥
 
-own_stops : (l : Level) (t : Token) → IsChain l → continues l t ≡ false → is_some (binary l t) ≡ false
+own_stops : (l : Level) (t : Token) → IsChain l → continues l t ≡ false → is_some (operator_at l t) ≡ false
 own_stops OR t c e = (or_false (own OR t) _ e).0
 own_stops AND t c e = (or_false (own AND t) _ e).0
 own_stops CAT t c e = (or_false (own CAT t) _ e).0
@@ -111,9 +111,9 @@ own_stops ADD t c e = (or_false (own ADD t) _ e).0
 own_stops MUL t c e = (or_false (own MUL t) _ e).0
 own_stops _ t c e = elim c [ ]
 
-pub chain_ends : (l : Level) (rest : Tokens) → IsChain l → Stops l rest → next_op (binary l) rest ≡ None
+pub chain_ends : (l : Level) (rest : Tokens) → IsChain l → Stops l rest → next_op (operator_at l) rest ≡ None
 chain_ends l [] c s = refl
-chain_ends l (t ∷ ts) c s = rw (none_of (binary l t.tok) (own_stops l t.tok c s)) refl
+chain_ends l (t ∷ ts) c s = rw (none_of (operator_at l t.tok) (own_stops l t.tok c s)) refl
 
 deeper_at : (p d : ℕ) → d < 64 → deeper p d ≡ Ok (d + 1)
 deeper_at p d h = let e : nat_lt d 64 ≡ true = search rules in rw e refl
@@ -240,7 +240,7 @@ module _ (last : ℕ) where
   Reads n l ts e d = (rest : Tokens) → Stops l rest → read_of n l (ts ++ rest) ≡ Ok (made e d rest)
 
   abbrev Chains : ℕ → Level → Tokens → Tree → ℕ → Type 0
-  Chains n l ts e d = (rest : Tokens) → Stops (tighter l) rest → Comes (read_of n (tighter l)) (binary l) (ts ++ rest) (made e d rest)
+  Chains n l ts e d = (rest : Tokens) → Stops (tighter l) rest → Comes (read_of n (tighter l)) (operator_at l) (ts ++ rest) (made e d rest)
 
   abbrev Claim : ℕ → Level → Tokens → Tree → ℕ → Type 0
   Claim n OR ts e d = Chains n OR ts e d
@@ -250,7 +250,7 @@ module _ (last : ℕ) where
   Claim n MUL ts e d = Chains n MUL ts e d
   Claim n l ts e d = Reads n l ts e d
 
-  chain_read : (n : ℕ) (l : Level) (ts : Tokens) (e : Tree) (d : ℕ) → IsChain l → Chains n l ts e d → (rest : Tokens) → Stops l rest → reading.chain (read_of n (tighter l)) (binary l) (ts ++ rest) ≡ Ok (made e d rest)
+  chain_read : (n : ℕ) (l : Level) (ts : Tokens) (e : Tree) (d : ℕ) → IsChain l → Chains n l ts e d → (rest : Tokens) → Stops l rest → reading.chain (read_of n (tighter l)) (operator_at l) (ts ++ rest) ≡ Ok (made e d rest)
   chain_read n l ts e d c k rest s = comes_end _ _ _ _ (k rest (stops_below l rest s)) (chain_ends l rest c s)
 
   reads : (n : ℕ) (l : Level) (ts : Tokens) (e : Tree) (d : ℕ) → Claim n l ts e d → Reads n l ts e d
@@ -314,12 +314,12 @@ module _ (last : ℕ) where
   claim_only n UNA ts e d r k = λ rest s. ap (λ us. una_at last (inside last n) (us ++ rest)) k.2 ∙ una_first n k.0 (k.1 ++ rest) k.3 ∙ ap (λ us. prim_at last (inside last n) (us ++ rest)) (sym k.2) ∙ r rest s
   claim_only n PRIM ts e d r k = r
 
-  chain_claim : (n : ℕ) (l : Level) (fs bs : Tokens) (t : At Token) (o : Operator) (a b : Tree) (c d : ℕ) → Chains n l fs a c → binary l t.tok ≡ Some o → Reads n (tighter l) bs b d → max c d < 64 → Chains n l (fs ++ t ∷ bs) (Binary o a b) (max c d + 1)
+  chain_claim : (n : ℕ) (l : Level) (fs bs : Tokens) (t : At Token) (o : Operator) (a b : Tree) (c d : ℕ) → Chains n l fs a c → operator_at l t.tok ≡ Some o → Reads n (tighter l) bs b d → max c d < 64 → Chains n l (fs ++ t ∷ bs) (Binary o a b) (max c d + 1)
   chain_claim n l fs bs t o a b c d k h q lt = λ rest s.
-      subst (λ r. Comes (read_of n (tighter l)) (binary l) r (made (Binary o a b) (max c d + 1) rest)) (sym (append_assoc fs (t ∷ bs) rest))
-      (comes_on (read_of n (tighter l)) (binary l) (fs ++ (t ∷ (bs ++ rest))) (bs ++ rest) rest t o a b c d (k (t ∷ (bs ++ rest)) (op_stops l t.tok o h)) h (q rest s) lt)
+      subst (λ r. Comes (read_of n (tighter l)) (operator_at l) r (made (Binary o a b) (max c d + 1) rest)) (sym (append_assoc fs (t ∷ bs) rest))
+      (comes_on (read_of n (tighter l)) (operator_at l) (fs ++ (t ∷ (bs ++ rest))) (bs ++ rest) rest t o a b c d (k (t ∷ (bs ++ rest)) (op_stops l t.tok o h)) h (q rest s) lt)
 
-  claim_chain : (n : ℕ) (l : Level) (fs bs : Tokens) (t : At Token) (o : Operator) (a b : Tree) (c d : ℕ) → Claim n l fs a c → binary l t.tok ≡ Some o → Reads n (tighter l) bs b d → max c d < 64 → Claim n l (fs ++ t ∷ bs) (Binary o a b) (max c d + 1)
+  claim_chain : (n : ℕ) (l : Level) (fs bs : Tokens) (t : At Token) (o : Operator) (a b : Tree) (c d : ℕ) → Claim n l fs a c → operator_at l t.tok ≡ Some o → Reads n (tighter l) bs b d → max c d < 64 → Claim n l (fs ++ t ∷ bs) (Binary o a b) (max c d + 1)
   claim_chain n OR fs bs t o a b c d k h q lt = chain_claim n OR fs bs t o a b c d k h q lt
   claim_chain n AND fs bs t o a b c d k h q lt = chain_claim n AND fs bs t o a b c d k h q lt
   claim_chain n CAT fs bs t o a b c d k h q lt = chain_claim n CAT fs bs t o a b c d k h q lt
@@ -482,7 +482,7 @@ module _ (last : ℕ) where
   ends_stops [] e = tt
   ends_stops (t ∷ ts) e = of_tok t.tok e
     where
-      of_tok : (x : Token) → goes_on x ≡ false → continues OR x ≡ false
+      of_tok : (x : Token) → may_go_on x ≡ false → continues OR x ≡ false
       of_tok (tok.word words.And s) h = absurd cc
       of_tok (tok.word words.Between s) h = absurd cc
       of_tok (tok.word words.In s) h = absurd cc

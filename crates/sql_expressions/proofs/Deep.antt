@@ -12,14 +12,14 @@ use Rattle.sql_trees.specs.declared.expr.Operator.{Operator}
 use Rattle.sql_trees.specs.declared.expr.Truth.{Truth}
 use Rattle.sql_trees.specs.Tokens.{Token, Tokens, named}
 use Rattle.sql_trees.specs.Tokens as tok
-use Rattle.sql_trees.specs.Trees.{Tree, Trees, more, none, Plus}
+use Rattle.sql_trees.specs.Trees.{Tree, Plus}
 use Rattle.sql_trees.specs.Trees as tree
 use Rattle.sql_expressions.specs.Build.{negated}
 use Rattle.sql_expressions.specs.Results.{◌>>=◌}
 use Rattle.sql_expressions.specs.Readers.{expect, misplaced, left_out, is_sign, place_of, after}
 use Rattle.sql_expressions.specs.Reading.{comparison_op, is_call, truth_of, expr_at}
 use Rattle.sql_expressions.specs.Inner.Pieces.{Found, Found_op, Found_list, or_op, and_op, concat_op, sum_op, product_op, Reader, leaf, deeper, join, next_op, found_op, is_and, is_not, is_is, column_at, name_at, parens_at, prim_of, prim_at, sign_at, una_of, una_at, mul_at, add_at, cat_at, in_at, between_at, not_in_of, not_in_at, inn_of, inn_more, inn_at, cmp_more, cmp_at, is_node, is_of, is_tail, is_from, is_more, is_at, negation_at, not_at, and_at, or_at, at_level, inside, list_at, list_more, list_turn, chain, chain_more, chain_end, chain_turn}
-use Rattle.sql_expressions.specs.Grammar.{OR, AND, NOT, ADD, MUL, UNA, Spells, goes_on}
+use Rattle.sql_expressions.specs.Grammar.{OR, AND, NOT, ADD, MUL, UNA, Spells, may_go_on}
 use Rattle.sql_expressions.specs.Laws.{Makes}
 use Rattle.sql_expressions.proofs.Same.{seen, expr_same}
 use Rattle.sql_expressions.proofs.Steps.{expect_ok, is_open_true, after_comma_ok}
@@ -51,7 +51,7 @@ tested M place d m q h = of_test (nat_lt d 64) h
 behind : (q : ℕ) (fs ts : Tokens) → Makes q ts → Makes q (fs ++ ts)
 behind q fs ts (before, after, t, split, g, e) = (fs ++ before, after, t, ap (λ (r : Tokens). fs ++ r) split ∙ sym (append_assoc fs before (t ∷ after)), g, e)
 
-here : (t : At Token) (ts : Tokens) → goes_on t.tok ≡ true → Makes t.span.start (t ∷ ts)
+here : (t : At Token) (ts : Tokens) → may_go_on t.tok ≡ true → Makes t.span.start (t ∷ ts)
 here t ts g = ([], ts, t, refl, g, refl)
 
 -- the tokens end in these
@@ -67,30 +67,30 @@ later ts us rest (fs, e) (gs, g) = (fs ++ gs, e ∙ ap (λ (r : Tokens). fs ++ r
 took_end : (P : Tokens → Tree → ℕ → Type 0) (ts : Tokens) (f : Found) → Took P ts f → Ends_in ts f.rest
 took_end P ts f k = (k.front, k.whole)
 
-or_goes : (t : Token) (o : Operator) → or_op t ≡ Some o → goes_on t ≡ true
+or_goes : (t : Token) (o : Operator) → or_op t ≡ Some o → may_go_on t ≡ true
 or_goes (tok.word words.Or s) o e = refl
 or_goes _ o e = absurd cc
 
-and_goes : (t : Token) (o : Operator) → and_op t ≡ Some o → goes_on t ≡ true
+and_goes : (t : Token) (o : Operator) → and_op t ≡ Some o → may_go_on t ≡ true
 and_goes (tok.word words.And s) o e = refl
 and_goes _ o e = absurd cc
 
-concat_goes : (t : Token) (o : Operator) → concat_op t ≡ Some o → goes_on t ≡ true
+concat_goes : (t : Token) (o : Operator) → concat_op t ≡ Some o → may_go_on t ≡ true
 concat_goes (tok.sign signs.Concat) o e = refl
 concat_goes _ o e = absurd cc
 
-sum_goes : (t : Token) (o : Operator) → sum_op t ≡ Some o → goes_on t ≡ true
+sum_goes : (t : Token) (o : Operator) → sum_op t ≡ Some o → may_go_on t ≡ true
 sum_goes (tok.sign signs.Plus) o e = refl
 sum_goes (tok.sign signs.Minus) o e = refl
 sum_goes _ o e = absurd cc
 
-product_goes : (t : Token) (o : Operator) → product_op t ≡ Some o → goes_on t ≡ true
+product_goes : (t : Token) (o : Operator) → product_op t ≡ Some o → may_go_on t ≡ true
 product_goes (tok.sign signs.Star) o e = refl
 product_goes (tok.sign signs.Slash) o e = refl
 product_goes (tok.sign signs.Percent) o e = refl
 product_goes _ o e = absurd cc
 
-comparison_goes : (t : Token) (o : Operator) → comparison_op t ≡ Some o → goes_on t ≡ true
+comparison_goes : (t : Token) (o : Operator) → comparison_op t ≡ Some o → may_go_on t ≡ true
 comparison_goes (tok.sign signs.Equal) o e = refl
 comparison_goes (tok.sign signs.NotEqual) o e = refl
 comparison_goes (tok.sign signs.Less) o e = refl
@@ -100,7 +100,7 @@ comparison_goes (tok.sign signs.AtLeast) o e = refl
 comparison_goes _ o e = absurd cc
 
 -- the operator that stands next
-next_is : (op_of : Token → Option Operator) → ((t : Token) (o : Operator) → op_of t ≡ Some o → goes_on t ≡ true) → (ts : Tokens) (o : Found_op) → next_op op_of ts ≡ Some o → Makes o.place ts × Ends_in ts o.rest
+next_is : (op_of : Token → Option Operator) → ((t : Token) (o : Operator) → op_of t ≡ Some o → may_go_on t ≡ true) → (ts : Tokens) (o : Found_op) → next_op op_of ts ≡ Some o → Makes o.place ts × Ends_in ts o.rest
 next_is op_of goes [] o e = absurd cc
 next_is op_of goes (t ∷ ts) o e = of_op (op_of t.tok) refl e
   where
@@ -114,7 +114,7 @@ next_is op_of goes (t ∷ ts) o e = of_op (op_of t.tok) refl e
 abbrev pub Tells : Reader → Type 0
 Tells p = (ts : Tokens) → Deep (λ q. Makes q ts) (p ts)
 
-module _ (operand : Reader) (op_of : Token → Option Operator) (goes : (t : Token) (o : Operator) → op_of t ≡ Some o → goes_on t ≡ true) (P : Tokens → Tree → ℕ → Type 0) (sound : Sound P operand) (tells : Tells operand) where
+module _ (operand : Reader) (op_of : Token → Option Operator) (goes : (t : Token) (o : Operator) → op_of t ≡ Some o → may_go_on t ≡ true) (P : Tokens → Tree → ℕ → Type 0) (sound : Sound P operand) (tells : Tells operand) where
   chain_tells_end : (ts : Tokens) (a : Found) → Ends_in ts a.rest → (m : Option Found_op) → next_op op_of a.rest ≡ m → Deep (λ q. Makes q ts) (chain_end m a)
   chain_tells_end ts a s None h = given _ a
   chain_tells_end ts a s (Some o) h = λ q e. let same : o.place ≡ q = cc in subst (λ x. Makes x ts) same (from o.place ts a.rest s (next_is op_of goes a.rest o h).0)
@@ -151,7 +151,7 @@ module _ (operand : Reader) (op_of : Token → Option Operator) (goes : (t : Tok
 
 module _ (last n : ℕ) (inside' : Opened → ℕ → Reader) (opens : Opens last n inside') (deep : (level : Opened) (place : ℕ) (ts : Tokens) → Deep (λ q. (q ≡ place) ⊎ Makes q ts) (inside' level place ts)) where
   -- the token before these, or one of them
-  first_or : (t : At Token) (ts : Tokens) → goes_on t.tok ≡ true → (q : ℕ) → (q ≡ t.span.start) ⊎ Makes q ts → Makes q (t ∷ ts)
+  first_or : (t : At Token) (ts : Tokens) → may_go_on t.tok ≡ true → (q : ℕ) → (q ≡ t.span.start) ⊎ Makes q ts → Makes q (t ∷ ts)
   first_or t ts g q (inl e) = subst (λ x. Makes x (t ∷ ts)) (sym e) (here t ts g)
   first_or t ts g q (inr m) = behind q (t ∷ []) ts m
 
@@ -184,7 +184,7 @@ module _ (last n : ℕ) (inside' : Opened → ℕ → Reader) (opens : Opens las
   name_tells M None t ts = refused M (t ∷ ts)
   name_tells M (Some name) t ts = column_tells M t name ts
 
-  parens_tells : (t : At Token) (ts : Tokens) → goes_on t.tok ≡ true → Deep (λ q. Makes q (t ∷ ts)) (parens_at last inside' t.span.start ts)
+  parens_tells : (t : At Token) (ts : Tokens) → may_go_on t.tok ≡ true → Deep (λ q. Makes q (t ∷ ts)) (parens_at last inside' t.span.start ts)
   unfolding parens_at
   parens_tells t ts g =
       next_in _ (inside' Whole t.span.start ts) _ (up _ _ (inside' Whole t.span.start ts) (first_or t ts g) (deep Whole t.span.start ts)) (λ e is.
@@ -197,22 +197,22 @@ module _ (last n : ℕ) (inside' : Opened → ℕ → Reader) (opens : Opens las
   prim_of_tells (tok.word words.True s) t ts h = given _ _
   prim_of_tells (tok.word words.False s) t ts h = given _ _
   prim_of_tells (tok.word words.Null s) t ts h = given _ _
-  prim_of_tells (tok.sign signs.Open) t ts h = parens_tells t ts (ap goes_on h)
+  prim_of_tells (tok.sign signs.Open) t ts h = parens_tells t ts (ap may_go_on h)
   prim_of_tells x t ts h = name_tells _ (named x) t ts
 
   prim_tells : Tells (prim_at last inside')
   prim_tells [] = refused _ []
   prim_tells (t ∷ ts) = prim_of_tells t.tok t ts refl
 
-  sign_tells : (make : Tree → Tree) (t : At Token) (ts : Tokens) → goes_on t.tok ≡ true → Deep (λ q. Makes q (t ∷ ts)) (sign_at last inside' make t.span.start ts)
+  sign_tells : (make : Tree → Tree) (t : At Token) (ts : Tokens) → may_go_on t.tok ≡ true → Deep (λ q. Makes q (t ∷ ts)) (sign_at last inside' make t.span.start ts)
   unfolding sign_at
   sign_tells make t ts g =
       next_in _ (inside' Unary t.span.start ts) _ (up _ _ (inside' Unary t.span.start ts) (first_or t ts g) (deep Unary t.span.start ts)) (λ e is.
       next_in _ (deeper t.span.start e.depth) _ (tested _ t.span.start e.depth (here t ts g)) (λ d is'. given _ _))
 
   una_of_tells : (x : Token) (t : At Token) (ts : Tokens) → t.tok ≡ x → Deep (λ q. Makes q (t ∷ ts)) (una_of last inside' x t ts)
-  una_of_tells (tok.sign signs.Minus) t ts h = sign_tells negated t ts (ap goes_on h)
-  una_of_tells (tok.sign signs.Plus) t ts h = sign_tells Plus t ts (ap goes_on h)
+  una_of_tells (tok.sign signs.Minus) t ts h = sign_tells negated t ts (ap may_go_on h)
+  una_of_tells (tok.sign signs.Plus) t ts h = sign_tells Plus t ts (ap may_go_on h)
   una_of_tells x t ts h = prim_tells (t ∷ ts)
 
   una_tells : Tells (una_at last inside')
@@ -260,7 +260,7 @@ module _ (last n : ℕ) (inside' : Opened → ℕ → Reader) (opens : Opens las
   in_open_tells : (neg : Bool) (place : ℕ) (left : Tree) (d : ℕ) (t : At Token) (ts : Tokens) → t.tok ≡ tok.sign signs.Open → Deep {A = Found} (At_or place (t ∷ ts)) (list_at (inside' Whole t.span.start) ts >>= λ items. deeper place (max d items.depth) >>= λ x. expect last (is_sign signs.Close) items.rest >>= λ rest. Ok (record { tree = tree.In left neg items.trees; depth = x; rest = rest }))
   in_open_tells neg place left d t ts g =
       next_in _ (list_at (inside' Whole t.span.start) ts) _ (list_tells (inside' Whole t.span.start) (λ us e c. (m : ℕ) × (n ≡ suc m) × Spells m OR us e c) (λ us f is. let k = opens Whole t.span.start us f is in record { front = k.2.front; whole = k.2.whole; some = k.2.some; spells = (k.0, k.1, k.2.spells) }) ts _
-      (λ us s. up _ _ (inside' Whole t.span.start us) (λ q m. inr (first_or t ts (ap goes_on g) q (lifted us s q m))) (deep Whole t.span.start us)) ts ([], refl)) (λ items is.
+      (λ us s. up _ _ (inside' Whole t.span.start us) (λ q m. inr (first_or t ts (ap may_go_on g) q (lifted us s q m))) (deep Whole t.span.start us)) ts ([], refl)) (λ items is.
       next_in _ (deeper place (max d items.depth)) _ (tested _ place (max d items.depth) (inl refl)) (λ x is'.
       next_in _ (expect last (is_sign signs.Close) items.rest) _ (expected _ (is_sign signs.Close) items.rest) (λ rest is''. given _ _)))
     where
@@ -304,11 +304,11 @@ module _ (last n : ℕ) (inside' : Opened → ℕ → Reader) (opens : Opens las
   not_in_at_tells place a (t ∷ ts) = not_in_of_tells t.tok place a t ts
 
   inn_of_tells : (x : Token) (t : At Token) (a : Found) (ts : Tokens) → t.tok ≡ x → Deep (λ q. Makes q (t ∷ ts)) (inn_of last inside' x t.span.start a ts)
-  inn_of_tells (tok.word words.In s) t a ts h = up _ _ (in_at last inside' false t.span.start a.tree a.depth ts) (first_or t ts (ap goes_on h)) (in_tells false t.span.start a.tree a.depth ts)
-  inn_of_tells (tok.word words.Between s) t a ts h = up _ _ (between_at last inside' false t.span.start a.tree a.depth ts) (first_or t ts (ap goes_on h)) (between_tells false t.span.start a.tree a.depth ts)
+  inn_of_tells (tok.word words.In s) t a ts h = up _ _ (in_at last inside' false t.span.start a.tree a.depth ts) (first_or t ts (ap may_go_on h)) (in_tells false t.span.start a.tree a.depth ts)
+  inn_of_tells (tok.word words.Between s) t a ts h = up _ _ (between_at last inside' false t.span.start a.tree a.depth ts) (first_or t ts (ap may_go_on h)) (between_tells false t.span.start a.tree a.depth ts)
   inn_of_tells (tok.word words.Not s) t a ts h =
-      next_in _ (deeper t.span.start a.depth) _ (tested _ t.span.start a.depth (here t ts (ap goes_on h))) (λ x is.
-      up _ _ (not_in_at last inside' t.span.start a ts) (first_or t ts (ap goes_on h)) (not_in_at_tells t.span.start a ts))
+      next_in _ (deeper t.span.start a.depth) _ (tested _ t.span.start a.depth (here t ts (ap may_go_on h))) (λ x is.
+      up _ _ (not_in_at last inside' t.span.start a ts) (first_or t ts (ap may_go_on h)) (not_in_at_tells t.span.start a ts))
   inn_of_tells x t a ts h = given _ a
 
   inn_more_tells : (a : Found) (ts : Tokens) → Deep (λ q. Makes q ts) (inn_more last inside' a ts)
@@ -348,7 +348,7 @@ module _ (last n : ℕ) (inside' : Opened → ℕ → Reader) (opens : Opens las
       of_test true = is_of_tells M true e d ts
       of_test false = is_of_tells M false e d (t ∷ ts)
 
-  is_goes : (t : Token) → is_is t ≡ true → goes_on t ≡ true
+  is_goes : (t : Token) → is_is t ≡ true → may_go_on t ≡ true
   is_goes (tok.word words.Is s) e = refl
   is_goes _ e = absurd cc
 
@@ -364,7 +364,7 @@ module _ (last n : ℕ) (inside' : Opened → ℕ → Reader) (opens : Opens las
   unfolding is_at
   is_tells ts = next_in _ (cmp_at last inside' ts) _ (cmp_tells ts) (λ a is. up _ _ (is_more last a a.rest) (λ q m. from q ts a.rest (took_end _ ts a (cmp_sound last n inside' opens ts a is)) m) (is_more_tells a a.rest))
 
-  not_goes : (t : Token) → is_not t ≡ true → goes_on t ≡ true
+  not_goes : (t : Token) → is_not t ≡ true → may_go_on t ≡ true
   not_goes (tok.word words.Not s) e = refl
   not_goes _ e = absurd cc
 

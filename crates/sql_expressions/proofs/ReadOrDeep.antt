@@ -16,9 +16,9 @@ use Rattle.sql_expressions.specs.Build.{negated, push}
 use Rattle.sql_expressions.specs.Results.{◌>>=◌}
 use Rattle.sql_expressions.specs.Readers.{expect, is_sign}
 use Rattle.sql_expressions.specs.Reading.{Part, comparison_op, truth_of, expr_at}
-use Rattle.sql_expressions.specs.Inner.Pieces.{Found, Found_list, Reader, deeper, join, next_op, is_and, parens_at, prim_at, sign_at, una_at, mul_at, add_at, cat_at, in_at, between_at, inn_more, inn_at, cmp_more, cmp_at, is_more, is_at, negation_at, not_at, and_at, or_at, inside, list_at, list_more, chain_more}
+use Rattle.sql_expressions.specs.Inner.Pieces.{Found, Reader, deeper, join, next_op, parens_at, prim_at, sign_at, una_at, mul_at, add_at, cat_at, in_at, between_at, inn_at, cmp_at, is_at, negation_at, not_at, and_at, or_at, inside, list_at, list_more, chain_more}
 use Rattle.sql_expressions.specs.Inner.Pieces as reading
-use Rattle.sql_expressions.specs.Grammar.{IsWord, Ends, Level, OR, AND, NOT, IS, CMP, INN, CAT, ADD, MUL, UNA, PRIM, tighter, binary, SpellsIn, ItemsIn, only, chain, negation, is, comparison, contained, between, minus, plus, parens, literal, one, next, IsLeaf, IsIn, IsBetween, IsIs}
+use Rattle.sql_expressions.specs.Grammar.{IsWord, Ends, Level, OR, AND, NOT, IS, CMP, INN, CAT, ADD, MUL, UNA, PRIM, tighter, operator_at, SpellsIn, ItemsIn, only, chain, negation, is, comparison, contained, between, minus, plus, parens, literal, one, next, IsLeaf, IsIn, IsBetween, IsIs}
 use Rattle.sql_expressions.specs.Laws.{Spelled}
 use Rattle.sql_expressions.proofs.Same.{seen as seen_as, expr_same, is_part, is_fault}
 use Rattle.sql_expressions.proofs.Tails.{seen, listed}
@@ -104,7 +104,7 @@ module _ (last : ℕ) where
   Reads l ts = (n : ℕ) (rest : Tokens) → Stops l rest → Fits rest (read_of last n l (ts ++ rest))
 
   abbrev Chains : Level → Tokens → Type 0
-  Chains l ts = (n : ℕ) (rest : Tokens) → Stops (tighter l) rest → Comes (read_of last n (tighter l)) (binary l) (ts ++ rest) rest
+  Chains l ts = (n : ℕ) (rest : Tokens) → Stops (tighter l) rest → Comes (read_of last n (tighter l)) (operator_at l) (ts ++ rest) rest
 
   abbrev Claim : Level → Tokens → Type 0
   Claim OR ts = Chains OR ts
@@ -114,7 +114,7 @@ module _ (last : ℕ) where
   Claim MUL ts = Chains MUL ts
   Claim l ts = Reads l ts
 
-  chain_read : (l : Level) (ts : Tokens) → IsChain l → Chains l ts → (n : ℕ) (rest : Tokens) → Stops l rest → Fits rest (reading.chain (read_of last n (tighter l)) (binary l) (ts ++ rest))
+  chain_read : (l : Level) (ts : Tokens) → IsChain l → Chains l ts → (n : ℕ) (rest : Tokens) → Stops l rest → Fits rest (reading.chain (read_of last n (tighter l)) (operator_at l) (ts ++ rest))
   chain_read l ts c k n rest s = comes_end _ _ _ _ (k n rest (stops_below l rest s)) (chain_ends l rest c s)
 
   reads : (l : Level) (ts : Tokens) → Claim l ts → Reads l ts
@@ -145,12 +145,12 @@ module _ (last : ℕ) where
   claim_only UNA ts r k = λ n rest s. subst (Fits rest) (sym (ap (λ us. una_at last (inside last n) (us ++ rest)) k.2 ∙ una_first last n k.0 (k.1 ++ rest) k.3 ∙ ap (λ us. prim_at last (inside last n) (us ++ rest)) (sym k.2))) (r n rest s)
   claim_only PRIM ts r k = r
 
-  chain_claim : (l : Level) (fs bs : Tokens) (t : At Token) (o : Operator) → Chains l fs → binary l t.tok ≡ Some o → Reads (tighter l) bs → Chains l (fs ++ t ∷ bs)
+  chain_claim : (l : Level) (fs bs : Tokens) (t : At Token) (o : Operator) → Chains l fs → operator_at l t.tok ≡ Some o → Reads (tighter l) bs → Chains l (fs ++ t ∷ bs)
   chain_claim l fs bs t o k h q = λ n rest s.
-      subst (λ r. Comes (read_of last n (tighter l)) (binary l) r rest) (sym (append_assoc fs (t ∷ bs) rest))
-      (comes_on (read_of last n (tighter l)) (binary l) (fs ++ (t ∷ (bs ++ rest))) (bs ++ rest) rest t o h (k n (t ∷ (bs ++ rest)) (op_stops l t.tok o h)) (q n rest s))
+      subst (λ r. Comes (read_of last n (tighter l)) (operator_at l) r rest) (sym (append_assoc fs (t ∷ bs) rest))
+      (comes_on (read_of last n (tighter l)) (operator_at l) (fs ++ (t ∷ (bs ++ rest))) (bs ++ rest) rest t o h (k n (t ∷ (bs ++ rest)) (op_stops l t.tok o h)) (q n rest s))
 
-  claim_chain : (l : Level) (fs bs : Tokens) (t : At Token) (o : Operator) → Claim l fs → binary l t.tok ≡ Some o → Reads (tighter l) bs → Claim l (fs ++ t ∷ bs)
+  claim_chain : (l : Level) (fs bs : Tokens) (t : At Token) (o : Operator) → Claim l fs → operator_at l t.tok ≡ Some o → Reads (tighter l) bs → Claim l (fs ++ t ∷ bs)
   claim_chain OR fs bs t o k h q = chain_claim OR fs bs t o k h q
   claim_chain AND fs bs t o k h q = chain_claim AND fs bs t o k h q
   claim_chain CAT fs bs t o k h q = chain_claim CAT fs bs t o k h q

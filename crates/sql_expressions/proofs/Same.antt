@@ -21,7 +21,7 @@ use Rattle.sql_expressions.specs.declared.level.Opened.TheVariants.{Whole, Negat
 use Rattle.sql_expressions.specs.Build.{negated, push}
 use Rattle.sql_expressions.specs.Results.{◌>>=◌, Gives}
 use Rattle.sql_expressions.specs.Readers.{Reader, made, is_word, is_sign, either, by_first, one_at, gives, added, more_at, items_at, place_of, misplaced, expect, keyword, closed}
-use Rattle.sql_expressions.specs.Reading.{Part, trees_in, shallow, node, literal_of, truth_of, agg_kind, operators, comparison_op, opened, expr_at}
+use Rattle.sql_expressions.specs.Reading.{Part, trees_in, shallow, node, literal_of, truth_of, agg_kind, operators, comparison_op, within_opening, expr_at}
 use Rattle.sql_expressions.specs.Reading as reading
 use Rattle.sql_expressions.specs.Inner.Pieces.{Found, Found_list, leaf, is_and, is_not, is_is, deeper, join, found_op, next_op, chain_end, chain_turn, chain_more, chain, list_turn, list_more, list_at, column_at, name_at, is_node, is_of, is_tail, is_more, parens_at, prim_of, prim_at, sign_at, una_of, una_at, mul_at, add_at, cat_at, in_at, between_at, not_in_of, not_in_at, not_in_from, inn_of, inn_more, inn_at, cmp_more, cmp_at, is_at, negation_at, not_at, and_at, or_at, inside}
 
@@ -287,11 +287,11 @@ module _ (last : ℕ) where
       (pass_then (expect last (is_sign signs.Close) ts) (λ rest. Ok (part e (d + 1), rest)) (λ rest. Ok (record { tree = e; depth = d + 1; rest = rest })) (λ us. refl))
 
   module _ (within : Opened → ℕ → Reader Part) (inside' : Opened → ℕ → Tokens → Result Found SqlFault) (same : (level : Opened) (place : ℕ) (ts : Tokens) → Same (within level place ts) (inside' level place ts)) where
-    opened_same : (level : Opened) (make : Tree → Tree) (place : ℕ) (ts : Tokens) → Same (opened last within level make place ts) (inside' level place ts >>= λ e. deeper place e.depth >>= λ d. Ok (record { tree = make e.tree; depth = d; rest = e.rest }))
+    opened_same : (level : Opened) (make : Tree → Tree) (place : ℕ) (ts : Tokens) → Same (within_opening last within level make place ts) (inside' level place ts >>= λ e. deeper place e.depth >>= λ d. Ok (record { tree = make e.tree; depth = d; rest = e.rest }))
     opened_same level make place ts =
         then_same (within level place ts) (inside' level place ts) (λ x. node place x.0.depth (make x.0.tree) x.1) (λ e. deeper place e.depth >>= λ d. Ok (record { tree = make e.tree; depth = d; rest = e.rest })) (same level place ts) (λ x. node_same place x.0.depth (make x.0.tree) x.1)
 
-    parens_same : (place : ℕ) (ts : Tokens) → Same (closed last (λ e. e) (opened last within Whole (λ e. e) place) ts) (parens_at last inside' place ts)
+    parens_same : (place : ℕ) (ts : Tokens) → Same (closed last (λ e. e) (within_opening last within Whole (λ e. e) place) ts) (parens_at last inside' place ts)
     unfolding parens_at
     parens_same place ts =
         ap seen (bind_assoc (within Whole place ts) (λ x. node place x.0.depth x.0.tree x.1) shut)
@@ -299,13 +299,13 @@ module _ (last : ℕ) where
 
     -- an operand with no sign before it
     abbrev unsigned_at : Reader Part
-    unsigned_at ts = either (is_sign signs.Open) (closed last (λ e. e) (opened last within Whole (λ e. e) (place_of last ts))) (made (λ e. part e 0) (by_first literal_of gives (reading.column_at last))) ts
+    unsigned_at ts = either (is_sign signs.Open) (closed last (λ e. e) (within_opening last within Whole (λ e. e) (place_of last ts))) (made (λ e. part e 0) (by_first literal_of gives (reading.column_at last))) ts
 
     prim_same : (ts : Tokens) → Same (unsigned_at ts) (prim_at last inside' ts)
     prim_same [] = refl
     prim_same (t ∷ ts) = of_tok t.tok (column_same t ts)
       where
-        of_tok : (x : Token) → Same (as_leaf (reading.column_at last (t ∷ ts))) (name_at last (named x) t ts) → Same (option_map_or (closed last (λ e. e) (opened last within Whole (λ e. e) t.span.start)) (if is_sign signs.Open x then Some ts else None) (as_leaf (option_map_or (λ e. Ok (e, ts)) (literal_of x) (reading.column_at last (t ∷ ts))))) (prim_of last inside' x t ts)
+        of_tok : (x : Token) → Same (as_leaf (reading.column_at last (t ∷ ts))) (name_at last (named x) t ts) → Same (option_map_or (closed last (λ e. e) (within_opening last within Whole (λ e. e) t.span.start)) (if is_sign signs.Open x then Some ts else None) (as_leaf (option_map_or (λ e. Ok (e, ts)) (literal_of x) (reading.column_at last (t ∷ ts))))) (prim_of last inside' x t ts)
         of_tok (tok.number n) c = refl
         of_tok (tok.string s) c = refl
         of_tok (tok.word words.True s) c = refl
@@ -319,7 +319,7 @@ module _ (last : ℕ) where
     una_same [] = prim_same []
     una_same (t ∷ ts) = of_tok t.tok
       where
-        of_tok : (x : Token) → Same (option_map_or (λ make. opened last within Unary make t.span.start ts) (row_of is_sign ((signs.Minus, negated) ∷ (signs.Plus, Plus) ∷ []) x) (unsigned_at (t ∷ ts))) (una_of last inside' x t ts)
+        of_tok : (x : Token) → Same (option_map_or (λ make. within_opening last within Unary make t.span.start ts) (row_of is_sign ((signs.Minus, negated) ∷ (signs.Plus, Plus) ∷ []) x) (unsigned_at (t ∷ ts))) (una_of last inside' x t ts)
         of_tok (tok.sign signs.Minus) = opened_same Unary negated t.span.start ts
         of_tok (tok.sign signs.Plus) = opened_same Unary Plus t.span.start ts
         of_tok _ = prim_same (t ∷ ts)
@@ -409,7 +409,7 @@ module _ (last : ℕ) where
     not_same : (ts : Tokens) → Same (reading.not_at last within ts) (not_at last inside' ts)
     unfolding negation_at
     not_same [] = is_same []
-    not_same (t ∷ ts) = either_same (is_word words.Not) (is_not t.tok) t ts (opened last within Negation Not t.span.start) (reading.is_at last within) _ _ (is_not_word t.tok) (opened_same Negation Not t.span.start ts) (is_same (t ∷ ts))
+    not_same (t ∷ ts) = either_same (is_word words.Not) (is_not t.tok) t ts (within_opening last within Negation Not t.span.start) (reading.is_at last within) _ _ (is_not_word t.tok) (opened_same Negation Not t.span.start ts) (is_same (t ∷ ts))
 
     and_same : (ts : Tokens) → Same (reading.chain last (reading.not_at last within) levels.And ts) (and_at last inside' ts)
     unfolding and_at

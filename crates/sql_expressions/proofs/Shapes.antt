@@ -11,7 +11,7 @@ use Rattle.sql_trees.specs.Tokens as tok
 use Rattle.sql_trees.specs.Trees.{Tree, Trees, more, none, Number, Plus, Not, Binary, Is, In, Between}
 use Rattle.sql_expressions.specs.Build.{negated, push}
 use Rattle.sql_expressions.specs.Reading.{comparison_op, truth_of}
-use Rattle.sql_expressions.specs.Grammar.{IsWord, Level, OR, AND, NOT, IS, CMP, INN, CAT, ADD, MUL, UNA, PRIM, tighter, binary, SpellsIn, ItemsIn, only, chain, negation, is, comparison, contained, between, minus, plus, parens, literal, one, next, IsLeaf, number, IsIn, IsBetween, IsIs}
+use Rattle.sql_expressions.specs.Grammar.{IsWord, Level, OR, AND, NOT, IS, CMP, INN, CAT, ADD, MUL, UNA, PRIM, tighter, operator_at, SpellsIn, ItemsIn, only, chain, negation, is, comparison, contained, between, minus, plus, parens, literal, one, next, IsLeaf, number, IsIn, IsBetween, IsIs}
 use Rattle.sql_expressions.specs.Laws.{Spelled}
 
 -- what is spelled within a limit is within a larger one
@@ -45,7 +45,7 @@ Listed ts = (limit room : ℕ) × (es : Trees) × (d : ℕ) × ItemsIn limit roo
 pub only_spelled : (l : Level) (ts : Tokens) → Spelled (tighter l) ts → Spelled l ts
 only_spelled l ts (m, n, e, d, p) = (m, n, e, d, only l ts e d p)
 
-pub chain_spelled : (l : Level) (fs bs : Tokens) (t : At Token) (o : Operator) → Spelled l fs → binary l t.tok ≡ Some o → Spelled (tighter l) bs → Spelled l (fs ++ t ∷ bs)
+pub chain_spelled : (l : Level) (fs bs : Tokens) (t : At Token) (o : Operator) → Spelled l fs → operator_at l t.tok ≡ Some o → Spelled (tighter l) bs → Spelled l (fs ++ t ∷ bs)
 chain_spelled l fs bs t o (m, n, a, c, p) h (k, r, b, d, q) =
     (m + k + c + d + 1, n + r, Binary o a b, max c d + 1, chain l fs bs t o a b c d (raise (m + k + c + d + 1) (n + r) (omega arith) (omega arith) p) h (raise (m + k + c + d + 1) (n + r) (omega arith) (omega arith) q) (omega arith))
 

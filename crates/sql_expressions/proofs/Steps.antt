@@ -6,7 +6,7 @@ use Rattle.sql_trees.specs.declared.fault.SqlFault.TheVariants.{TooDeep}
 use Rattle.iso_lexer.specs.declared.token.At.{At}
 use Rattle.sql_trees.specs.declared.word.Word.TheVariants as words
 use Rattle.iso_lexer.specs.declared.sql_token.SqlSign.TheVariants as signs
-use Rattle.sql_trees.specs.Tokens.{Token, Tokens, tok_views}
+use Rattle.sql_trees.specs.Tokens.{Token, Tokens}
 use Rattle.sql_trees.specs.Tokens as tok
 use Rattle.sql_trees.specs.declared.expr.Operator.{Operator}
 use Rattle.sql_expressions.specs.Grammar.{IsWord}

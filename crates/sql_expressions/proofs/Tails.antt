@@ -7,15 +7,15 @@ use Rattle.sql_trees.specs.declared.fault.SqlFault.TheVariants.{TooDeep}
 use Rattle.iso_lexer.specs.declared.token.At.{At}
 use Rattle.iso_lexer.specs.declared.sql_token.SqlSign.TheVariants as signs
 use Rattle.sql_trees.specs.declared.expr.Operator.{Operator}
-use Rattle.sql_trees.specs.Tokens.{Token, Tokens, named}
+use Rattle.sql_trees.specs.Tokens.{Token, Tokens}
 use Rattle.sql_trees.specs.Tokens as tok
 use Rattle.sql_trees.specs.Trees.{Tree, Trees, more, none, Binary}
 use Rattle.sql_expressions.specs.Build.{push}
 use Rattle.sql_expressions.specs.Results.{◌>>=◌}
 use Rattle.sql_expressions.specs.Readers.{is_sign}
-use Rattle.sql_expressions.specs.Inner.Pieces.{Found, Found_op, Found_list, Reader, leaf, deeper, join, next_op, is_and, is_not, is_is, column_at, name_at, parens_at, prim_of, prim_at, sign_at, una_of, una_at, mul_at, add_at, cat_at, in_at, between_at, not_in_of, not_in_at, inn_of, inn_more, inn_at, cmp_more, cmp_at, is_node, is_of, is_tail, is_more, is_at, negation_at, not_at, and_at, or_at, at_level, inside, list_at, list_more, list_turn, chain_more, chain_end, chain_turn}
+use Rattle.sql_expressions.specs.Inner.Pieces.{Found, Found_list, Reader, deeper, join, list_at, list_more, chain_more}
 use Rattle.sql_expressions.specs.Inner.Pieces as reading
-use Rattle.sql_expressions.specs.Grammar.{Level, OR, tighter, binary}
+use Rattle.sql_expressions.specs.Grammar.{Level, OR, tighter, operator_at}
 use Rattle.sql_expressions.specs.Laws.{Spelled}
 use Rattle.sql_expressions.proofs.Steps.{is_comma_true}
 use Rattle.sql_expressions.proofs.Shapes.{Listed, only_spelled, chain_spelled, one_listed, next_listed, a_number}
@@ -48,55 +48,55 @@ module _ (last : ℕ) where
   after_op operand op_of n o place v vs b = join (record { op = o; place = place; rest = vs }) (seen v vs) b >>= λ c. chain_more operand op_of n c
 
   module _ (l : Level) (operand : Reader) (read : Reads (tighter l) operand) (one : Spelled (tighter l) a_number) where
-    chain_none : (n : ℕ) (v : Tree × ℕ) (t : At Token) (vs : Tokens) → binary l t.tok ≡ None → chain_more operand (binary l) n (seen v (t ∷ vs)) ≡ Ok (seen v (t ∷ vs))
+    chain_none : (n : ℕ) (v : Tree × ℕ) (t : At Token) (vs : Tokens) → operator_at l t.tok ≡ None → chain_more operand (operator_at l) n (seen v (t ∷ vs)) ≡ Ok (seen v (t ∷ vs))
     unfolding chain_more
     chain_none zero v t vs h = rw h refl
     chain_none (suc n) v t vs h = rw h refl
 
-    chain_nothing : (n : ℕ) (v : Tree × ℕ) → chain_more operand (binary l) n (seen v []) ≡ Ok (seen v [])
+    chain_nothing : (n : ℕ) (v : Tree × ℕ) → chain_more operand (operator_at l) n (seen v []) ≡ Ok (seen v [])
     unfolding chain_more
     chain_nothing zero v = refl
     chain_nothing (suc n) v = refl
 
-    chain_full : (v : Tree × ℕ) (t : At Token) (vs : Tokens) (o : Operator) → binary l t.tok ≡ Some o → chain_more operand (binary l) zero (seen v (t ∷ vs)) ≡ Err (TooDeep t.span.start)
+    chain_full : (v : Tree × ℕ) (t : At Token) (vs : Tokens) (o : Operator) → operator_at l t.tok ≡ Some o → chain_more operand (operator_at l) zero (seen v (t ∷ vs)) ≡ Err (TooDeep t.span.start)
     unfolding chain_more
     chain_full v t vs o h = rw h refl
 
-    chain_some : (n : ℕ) (v : Tree × ℕ) (t : At Token) (vs : Tokens) (o : Operator) → binary l t.tok ≡ Some o → chain_more operand (binary l) (suc n) (seen v (t ∷ vs)) ≡ (deeper t.span.start v.1 >>= λ here. operand vs >>= after_op operand (binary l) n o t.span.start v vs)
+    chain_some : (n : ℕ) (v : Tree × ℕ) (t : At Token) (vs : Tokens) (o : Operator) → operator_at l t.tok ≡ Some o → chain_more operand (operator_at l) (suc n) (seen v (t ∷ vs)) ≡ (deeper t.span.start v.1 >>= λ here. operand vs >>= after_op operand (operator_at l) n o t.span.start v vs)
     unfolding chain_more
     chain_some n v t vs o h = rw h refl
 
-    chain_join : (t : At Token) (o : Operator) → binary l t.tok ≡ Some o → (xs ys : Tokens) → Spelled (tighter l) xs → Tail l l ys → Tail l l (t ∷ (xs ++ ys))
+    chain_join : (t : At Token) (o : Operator) → operator_at l t.tok ≡ Some o → (xs ys : Tokens) → Spelled (tighter l) xs → Tail l l ys → Tail l l (t ∷ (xs ++ ys))
     chain_join t o h xs ys s m = λ fs p. subst (Spelled l) (append_assoc fs (t ∷ xs) ys) (m (fs ++ t ∷ xs) (chain_spelled l fs xs t o p h s))
 
     -- what stands behind an operator, where so many turns are left
-    chain_next : (n : ℕ) (ih : (v : Tree × ℕ) (ts : Tokens) → Local last seen (Tail l l) (λ r. chain_more operand (binary l) n (seen v r)) ts) (o : Operator) (place : ℕ) (v w : Tree × ℕ) (ts : Tokens) →
-        Local last seen (Tail l l) (λ r. join (record { op = o; place = place; rest = [] }) (seen v []) (seen w r) >>= λ c. chain_more operand (binary l) n c) ts
-    chain_next n ih o place v w ts = deeper_then last seen (Tail l l) place (max v.1 w.1) (λ x r. chain_more operand (binary l) n (seen (Binary o v.0 w.0, x) r)) _ ts (λ others. joins (deeper place (max v.1 w.1)) others) (ih (Binary o v.0 w.0, max v.1 w.1 + 1) ts)
+    chain_next : (n : ℕ) (ih : (v : Tree × ℕ) (ts : Tokens) → Local last seen (Tail l l) (λ r. chain_more operand (operator_at l) n (seen v r)) ts) (o : Operator) (place : ℕ) (v w : Tree × ℕ) (ts : Tokens) →
+        Local last seen (Tail l l) (λ r. join (record { op = o; place = place; rest = [] }) (seen v []) (seen w r) >>= λ c. chain_more operand (operator_at l) n c) ts
+    chain_next n ih o place v w ts = deeper_then last seen (Tail l l) place (max v.1 w.1) (λ x r. chain_more operand (operator_at l) n (seen (Binary o v.0 w.0, x) r)) _ ts (λ others. joins (deeper place (max v.1 w.1)) others) (ih (Binary o v.0 w.0, max v.1 w.1 + 1) ts)
       where
-        joins : (d : Result ℕ SqlFault) (others : Tokens) → ((d >>= λ x. Ok (seen (Binary o v.0 w.0, x) others)) >>= λ c. chain_more operand (binary l) n c) ≡ (d >>= λ x. chain_more operand (binary l) n (seen (Binary o v.0 w.0, x) others))
+        joins : (d : Result ℕ SqlFault) (others : Tokens) → ((d >>= λ x. Ok (seen (Binary o v.0 w.0, x) others)) >>= λ c. chain_more operand (operator_at l) n c) ≡ (d >>= λ x. chain_more operand (operator_at l) n (seen (Binary o v.0 w.0, x) others))
         joins (Ok x) others = refl
         joins (Err e) others = refl
 
-    chain_token : (n : ℕ) (ih : (v : Tree × ℕ) (ts : Tokens) → Local last seen (Tail l l) (λ r. chain_more operand (binary l) n (seen v r)) ts) (v : Tree × ℕ) (t : At Token) (us : Tokens) (m : Option Operator) → binary l t.tok ≡ m → Local last seen (Tail l l) (λ r. chain_more operand (binary l) (suc n) (seen v r)) (t ∷ us)
-    chain_token n ih v t us None h = at_token last seen (Tail l l) (λ r. chain_more operand (binary l) (suc n) (seen v r)) (Ok v) t us (λ vs. chain_none (suc n) v t vs h) (same_tail l)
+    chain_token : (n : ℕ) (ih : (v : Tree × ℕ) (ts : Tokens) → Local last seen (Tail l l) (λ r. chain_more operand (operator_at l) n (seen v r)) ts) (v : Tree × ℕ) (t : At Token) (us : Tokens) (m : Option Operator) → operator_at l t.tok ≡ m → Local last seen (Tail l l) (λ r. chain_more operand (operator_at l) (suc n) (seen v r)) (t ∷ us)
+    chain_token n ih v t us None h = at_token last seen (Tail l l) (λ r. chain_more operand (operator_at l) (suc n) (seen v r)) (Ok v) t us (λ vs. chain_none (suc n) v t vs h) (same_tail l)
     chain_token n ih v t us (Some o) h =
-        behind last (λ ys. Tail l l (t ∷ ys)) (Tail l l) (λ vs. deeper t.span.start v.1 >>= λ here. operand vs >>= λ b. join (record { op = o; place = t.span.start; rest = [] }) (seen v []) b >>= λ c. chain_more operand (binary l) n c) (λ r. chain_more operand (binary l) (suc n) (seen v r)) t us (λ xs g. g) (λ vs. chain_some n v t vs o h)
-        (deeper_then last seen (λ ys. Tail l l (t ∷ ys)) t.span.start v.1 (λ x vs. operand vs >>= λ b. join (record { op = o; place = t.span.start; rest = [] }) (seen v []) b >>= λ c. chain_more operand (binary l) n c) _ us (λ others. refl)
-        (in_turn last (Spelled (tighter l)) (Tail l l) (λ ys. Tail l l (t ∷ ys)) operand (λ b. join (record { op = o; place = t.span.start; rest = [] }) (seen v []) b >>= λ c. chain_more operand (binary l) n c) us ([], same_tail l) (chain_join t o h) (read us) (λ w is. chain_next n ih o t.span.start v w _)))
+        behind last (λ ys. Tail l l (t ∷ ys)) (Tail l l) (λ vs. deeper t.span.start v.1 >>= λ here. operand vs >>= λ b. join (record { op = o; place = t.span.start; rest = [] }) (seen v []) b >>= λ c. chain_more operand (operator_at l) n c) (λ r. chain_more operand (operator_at l) (suc n) (seen v r)) t us (λ xs g. g) (λ vs. chain_some n v t vs o h)
+        (deeper_then last seen (λ ys. Tail l l (t ∷ ys)) t.span.start v.1 (λ x vs. operand vs >>= λ b. join (record { op = o; place = t.span.start; rest = [] }) (seen v []) b >>= λ c. chain_more operand (operator_at l) n c) _ us (λ others. refl)
+        (in_turn last (Spelled (tighter l)) (Tail l l) (λ ys. Tail l l (t ∷ ys)) operand (λ b. join (record { op = o; place = t.span.start; rest = [] }) (seen v []) b >>= λ c. chain_more operand (operator_at l) n c) us ([], same_tail l) (chain_join t o h) (read us) (λ w is. chain_next n ih o t.span.start v w _)))
 
-    chain_end_token : (v : Tree × ℕ) (t : At Token) (us : Tokens) (m : Option Operator) → binary l t.tok ≡ m → Local last seen (Tail l l) (λ r. chain_more operand (binary l) zero (seen v r)) (t ∷ us)
-    chain_end_token v t us None h = at_token last seen (Tail l l) (λ r. chain_more operand (binary l) zero (seen v r)) (Ok v) t us (λ vs. chain_none zero v t vs h) (same_tail l)
-    chain_end_token v t us (Some o) h = deep_at last seen (Tail l l) (λ r. chain_more operand (binary l) zero (seen v r)) t.span.start t us ([], same_tail l) (λ vs. chain_full v t vs o h)
+    chain_end_token : (v : Tree × ℕ) (t : At Token) (us : Tokens) (m : Option Operator) → operator_at l t.tok ≡ m → Local last seen (Tail l l) (λ r. chain_more operand (operator_at l) zero (seen v r)) (t ∷ us)
+    chain_end_token v t us None h = at_token last seen (Tail l l) (λ r. chain_more operand (operator_at l) zero (seen v r)) (Ok v) t us (λ vs. chain_none zero v t vs h) (same_tail l)
+    chain_end_token v t us (Some o) h = deep_at last seen (Tail l l) (λ r. chain_more operand (operator_at l) zero (seen v r)) t.span.start t us ([], same_tail l) (λ vs. chain_full v t vs o h)
 
-    chain_tail : (n : ℕ) (v : Tree × ℕ) (ts : Tokens) → Local last seen (Tail l l) (λ r. chain_more operand (binary l) n (seen v r)) ts
-    chain_tail n v [] = at_end last seen (Tail l l) (λ r. chain_more operand (binary l) n (seen v r)) (Ok v) (chain_nothing n v) (same_tail l)
-    chain_tail zero v (t ∷ us) = chain_end_token v t us (binary l t.tok) refl
-    chain_tail (suc n) v (t ∷ us) = chain_token n (λ w ts. chain_tail n w ts) v t us (binary l t.tok) refl
+    chain_tail : (n : ℕ) (v : Tree × ℕ) (ts : Tokens) → Local last seen (Tail l l) (λ r. chain_more operand (operator_at l) n (seen v r)) ts
+    chain_tail n v [] = at_end last seen (Tail l l) (λ r. chain_more operand (operator_at l) n (seen v r)) (Ok v) (chain_nothing n v) (same_tail l)
+    chain_tail zero v (t ∷ us) = chain_end_token v t us (operator_at l t.tok) refl
+    chain_tail (suc n) v (t ∷ us) = chain_token n (λ w ts. chain_tail n w ts) v t us (operator_at l t.tok) refl
 
-    pub chain_local : Reads l (reading.chain operand (binary l))
+    pub chain_local : Reads l (reading.chain operand (operator_at l))
     unfolding reading.chain
-    chain_local ts = in_turn last (Spelled (tighter l)) (Tail l l) (Spelled l) operand (λ a. chain_more operand (binary l) 64 a) ts ([], same_tail l) (λ xs ys s m. m xs (only_spelled l xs s)) (read ts) (λ v is. chain_tail 64 v _)
+    chain_local ts = in_turn last (Spelled (tighter l)) (Tail l l) (Spelled l) operand (λ a. chain_more operand (operator_at l) 64 a) ts ([], same_tail l) (λ xs ys s m. m xs (only_spelled l xs s)) (read ts) (λ v is. chain_tail 64 v _)
 
   -- ---- lists
 

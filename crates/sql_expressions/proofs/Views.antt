@@ -4,7 +4,7 @@ use Rattle.std.specs.Prelude.{Vec}
 use mathlib.Core.Former.{Count}
 use Rattle.sql_trees.specs.declared.expr.Expr.{Expr, Row_of-Expr, end_of-Expr, more_of-Expr, items-the_row-Expr, items_hidden-the_row-Expr-0}
 use Rattle.sql_trees.specs.declared.expr.Expr.TheVariants.{In, In'}
-use Rattle.sql_trees.specs.Trees.{Tree, more, tree_of, trees_of, trees}
+use Rattle.sql_trees.specs.Trees.{more, tree_of, trees_of, trees}
 use Rattle.sql_trees.specs.Trees as tree
 
 abbrev row_of : Expr → (n : Count) × Row_of-Expr n

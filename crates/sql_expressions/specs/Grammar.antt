@@ -53,13 +53,13 @@ tighter UNA = PRIM
 tighter PRIM = PRIM
 
 -- the operators whose chains group to the left
-abbrev pub binary : Level → Token → Option Operator
-binary OR = operators levels.Or
-binary AND = operators levels.And
-binary CAT = operators levels.Concat
-binary ADD = operators levels.Sum
-binary MUL = operators levels.Product
-binary _ = λ t. None
+abbrev pub operator_at : Level → Token → Option Operator
+operator_at OR = operators levels.Or
+operator_at AND = operators levels.And
+operator_at CAT = operators levels.Concat
+operator_at ADD = operators levels.Sum
+operator_at MUL = operators levels.Product
+operator_at _ = λ t. None
 
 -- the tokens are this keyword alone
 abbrev pub OneWord : Word → Tokens → Type 0
@@ -102,7 +102,7 @@ mutual
         SpellsIn limit room level tokens tree depth
     -- left operator right: OR and AND (9.1), || (9.4), + - * / % (9.3); they group to the left
     chain : {room : ℕ} (level : Level) (before behind : Tokens) (sign : At Token) (operator : Operator) (left right : Tree) (c d : ℕ) →
-        SpellsIn limit room level before left c → binary level sign.tok ≡ Some operator → SpellsIn limit room (tighter level) behind right d → max c d < limit →
+        SpellsIn limit room level before left c → operator_at level sign.tok ≡ Some operator → SpellsIn limit room (tighter level) behind right d → max c d < limit →
         SpellsIn limit room level (before ++ sign ∷ behind) (Binary operator left right) (max c d + 1)
     -- NOT condition (9.1)
     negation : {room : ℕ} (tokens : Tokens) (not_word : At Token) (condition : Tree) (d : ℕ) →
@@ -161,22 +161,22 @@ pub record Begins (ts : Tokens) (f : Part × Tokens) : Type 0 where
   pub spells : Spells 64 OR front f.0.tree f.0.depth
 
 -- a token that an expression goes on with
-abbrev pub goes_on : Token → Bool
-goes_on (tok.word words.And s) = true
-goes_on (tok.word words.Between s) = true
-goes_on (tok.word words.In s) = true
-goes_on (tok.word words.Is s) = true
-goes_on (tok.word words.Not s) = true
-goes_on (tok.word words.Or s) = true
-goes_on (tok.sign signs.Close) = false
-goes_on (tok.sign signs.Comma) = false
-goes_on (tok.sign signs.Semicolon) = false
-goes_on (tok.sign signs.Dot) = false
-goes_on (tok.sign signs.Cast) = false
-goes_on (tok.sign s) = true
-goes_on _ = false
+abbrev pub may_go_on : Token → Bool
+may_go_on (tok.word words.And s) = true
+may_go_on (tok.word words.Between s) = true
+may_go_on (tok.word words.In s) = true
+may_go_on (tok.word words.Is s) = true
+may_go_on (tok.word words.Not s) = true
+may_go_on (tok.word words.Or s) = true
+may_go_on (tok.sign signs.Close) = false
+may_go_on (tok.sign signs.Comma) = false
+may_go_on (tok.sign signs.Semicolon) = false
+may_go_on (tok.sign signs.Dot) = false
+may_go_on (tok.sign signs.Cast) = false
+may_go_on (tok.sign s) = true
+may_go_on _ = false
 
 -- an expression before these tokens does not go on with them
 abbrev pub Ends : Tokens → Type 0
 Ends [] = Unit {0}
-Ends (t ∷ ts) = goes_on t.tok ≡ false
+Ends (t ∷ ts) = may_go_on t.tok ≡ false

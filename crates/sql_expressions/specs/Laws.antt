@@ -9,7 +9,7 @@ use Rattle.sql_trees.specs.Tokens as tok
 use Rattle.sql_trees.specs.Trees.{Tree}
 use Rattle.sql_expressions.specs.Readers.{left_out}
 use Rattle.sql_expressions.specs.Reading.{Part, is_call, expr_at}
-use Rattle.sql_expressions.specs.Grammar.{Level, OR, SpellsIn, Spells, Ends, goes_on}
+use Rattle.sql_expressions.specs.Grammar.{Level, OR, SpellsIn, Spells, Ends, may_go_on}
 
 abbrev pub head : Tokens → Option (At Token)
 head [] = None
@@ -51,7 +51,7 @@ FaultsAreFirst = (last : ℕ) (ts : Tokens) (fault : SqlFault) → IsRefusal fau
 
 -- a token of these makes a node, and stands at this place
 abbrev pub Makes : ℕ → Tokens → Type 0
-Makes place ts = (before behind : Tokens) × (t : At Token) × (ts ≡ before ++ t ∷ behind) × (goes_on t.tok ≡ true) × (place ≡ t.span.start)
+Makes place ts = (before behind : Tokens) × (t : At Token) × (ts ≡ before ++ t ∷ behind) × (may_go_on t.tok ≡ true) × (place ≡ t.span.start)
 
 abbrev pub first : Tokens → Tokens
 first [] = []

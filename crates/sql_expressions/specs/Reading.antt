@@ -11,7 +11,7 @@ use Rattle.sql_trees.specs.declared.expr.AggKind.TheVariants as aggs
 use Rattle.sql_trees.specs.declared.expr.Truth.{Truth}
 use Rattle.sql_trees.specs.declared.expr.Truth.TheVariants as truth
 use Rattle.iso_lexer.specs.Bytes.{row_of}
-use Rattle.sql_trees.specs.Tokens.{Token, Tokens, tok_views}
+use Rattle.sql_trees.specs.Tokens.{Token, Tokens}
 use Rattle.sql_trees.specs.Tokens as tok
 use Rattle.sql_trees.specs.Trees.{Tree, Trees, none, more, Null, Flag, Number, Text, Column, Plus, Not, Binary, Is, In, Between, undoubled, tree_of}
 use Rattle.sql_expressions.specs.declared.level.Chain.{Chain}
@@ -99,13 +99,13 @@ module _ (last : ℕ) where
   -- inside is what is read behind an opening at a place
   module _ (inside : Opened → ℕ → Reader Part) where
     -- what stands behind an opening at this place, and the node that is made of it
-    abbrev pub opened : Opened → (Tree → Tree) → ℕ → Reader Part
-    opened level make place = inside level place >>= λ e. node place e.depth (make e.tree)
+    abbrev pub within_opening : Opened → (Tree → Tree) → ℕ → Reader Part
+    within_opening level make place = inside level place >>= λ e. node place e.depth (make e.tree)
 
     -- an operand: one more behind a sign, an expression in parentheses, a literal, or a column
     abbrev pub una_at : Reader Part
-    una_at ts = by_first (row_of is_sign ((signs.Minus, negated) ∷ (signs.Plus, Plus) ∷ [])) (λ make. opened Unary make (place_of last ts))
-        (either (is_sign signs.Open) (closed last (λ e. e) (opened Whole (λ e. e) (place_of last ts)))
+    una_at ts = by_first (row_of is_sign ((signs.Minus, negated) ∷ (signs.Plus, Plus) ∷ [])) (λ make. within_opening Unary make (place_of last ts))
+        (either (is_sign signs.Open) (closed last (λ e. e) (within_opening Whole (λ e. e) (place_of last ts)))
         (made (λ e. record { tree = e; depth = 0 }) (by_first literal_of gives column_at))) ts
 
     -- operands with what binds tighter than BETWEEN, IN and comparisons: * / %, then + -, then ||
@@ -142,7 +142,7 @@ module _ (last : ℕ) where
 
     -- the same, or NOT and what stands behind it
     abbrev pub not_at : Reader Part
-    not_at ts = either (is_word words.Not) (opened Negation Not (place_of last ts)) is_at ts
+    not_at ts = either (is_word words.Not) (within_opening Negation Not (place_of last ts)) is_at ts
 
     -- the same with AND, then OR
     unfoldable pub or_at : Reader Part

@@ -9,7 +9,7 @@ use Rattle.sql_trees.specs.declared.fault.SqlFault.TheVariants.{DdlInSession, Ba
 use Rattle.sql_trees.specs.declared.word.Word.{Word}
 use Rattle.sql_trees.specs.declared.word.Word.TheVariants as words
 use Rattle.sql_trees.specs.Statements.{StmtTree, Commit, Rollback}
-use Rattle.sql_trees.specs.Tokens.{Token, Tokens, named}
+use Rattle.sql_trees.specs.Tokens.{Token, Tokens}
 use Rattle.sql_trees.specs.Tokens as tok
 use Rattle.sql_trees.specs.Trees.{Tree}
 use Rattle.sql_expressions.specs.Results.{◌>>=◌}

@@ -22,7 +22,7 @@ use Rattle.sql_parser.specs.Transactions.{is_work}
 use Rattle.sql_parser.specs.Grammar.{is_scope, is_to, is_setting, is_ddl}
 use Rattle.sql_parser.specs.Inner.Transactions.{level_at, begin_at, start_at, parameter_at, set_at}
 use Rattle.sql_parser.specs.Inner.Tables.{after_if}
-use Rattle.sql_parser.specs.Tables.{drop_of, drop_at}
+use Rattle.sql_parser.specs.Tables.{dropped_at, drop_at}
 use Rattle.sql_parser.specs.Inner.Blocks.{simple_of, begun_of, stmt_at, at_end, whole_at, piece_at, stmts_at, block_at}
 use Rattle.sql_parser.specs.Inner.Pieces.{simple_at, begun_at}
 use Rattle.sql_parser.proofs.Keeping.{Fine, FineOrNot, insert_fine, update_fine, delete_fine, select_fine}
@@ -68,7 +68,7 @@ module _ (last : ℕ) where
           subst (λ (y : StmtTree × Tokens). Fine false y.0) (ok_same (SetTransaction b.0.0, b.0.1) x b.2) (record { kept = refl; made = refl })
       of_transaction None h = parameter_fine (past is_scope ts) x h
 
-  drop_of_fine : (if_exists : Bool) (ts : Tokens) (x : StmtTree × Tokens) → drop_of last if_exists ts ≡ Ok x → Fine true x.0
+  drop_of_fine : (if_exists : Bool) (ts : Tokens) (x : StmtTree × Tokens) → dropped_at last if_exists ts ≡ Ok x → Fine true x.0
   drop_of_fine if_exists ts x e =
       let a = bind_ok (items_at (added (name_at last)) [] ts) (λ y. Ok (DropTables (record { if_exists = if_exists; names = y.0 }), y.1)) x e in
       subst (λ (y : StmtTree × Tokens). Fine true y.0) (ok_same (DropTables (record { if_exists = if_exists; names = a.0.0 }), a.0.1) x a.2) (record { kept = refl; made = refl })
@@ -76,10 +76,10 @@ module _ (last : ℕ) where
   drop_fine : (ts : Tokens) (x : StmtTree × Tokens) → drop_at last ts ≡ Ok x → Fine true x.0
   unfolding drop_at
   drop_fine ts x e =
-      let a = bind_ok (keyword last words.Table ts) (λ us. option_map_or (drop_of last true) (after_if us) (drop_of last false us)) x e in
+      let a = bind_ok (keyword last words.Table ts) (λ us. option_map_or (dropped_at last true) (after_if us) (dropped_at last false us)) x e in
       of_if a.0 (after_if a.0) a.2
     where
-      of_if : (us : Tokens) (o : Option Tokens) → option_map_or (drop_of last true) o (drop_of last false us) ≡ Ok x → Fine true x.0
+      of_if : (us : Tokens) (o : Option Tokens) → option_map_or (dropped_at last true) o (dropped_at last false us) ≡ Ok x → Fine true x.0
       of_if us None h = drop_of_fine false us x h
       of_if us (Some vs) h = drop_of_fine true vs x h
 

@@ -14,7 +14,7 @@ use Rattle.sql_expressions.specs.Readers.{place_of, expect, is_word, is_sign, ke
 use Rattle.sql_expressions.specs.Laws.{head}
 use Rattle.sql_blocks.specs.Parts.{fits, set_columns}
 use Rattle.sql_parser.specs.Readers.{tree_at}
-use Rattle.sql_parser.specs.Tables.{is_among}
+use Rattle.sql_parser.specs.Tables.{has_name}
 use Rattle.sql_parser.specs.Grammar.{Rows, Key, Names, Commas, AddsName, adds_name, AddsValue, adds_value, RowIs, is_row, with_row, no_rows, AddsRow, adds_row, ColumnsAre, unlisted, listed_columns, AddsSet, adds_set, WhereIs, unfiltered, filtered, Spells, insert, update, delete}
 use Rattle.sql_parser.specs.Inner.Changes.{distinct_add, row_add, columns_at, insert_at, set_value, set_add, update_at}
 use Rattle.sql_parser.specs.Changes.{filter_at, delete_at}
@@ -90,7 +90,7 @@ module _ (last : ℕ) (E : Tokens → Tree → Type 0) (W Any : Type 0) (an_expr
   -- ---- INSERT
 
   distinct_add_local : (ns : List (List ℕ)) (ts : Tokens) → Local last E W Any (AddsName ns) (distinct_add last ns) ts
-  distinct_add_local ns ts = distinct_local last E W Any (AddsName ns) (λ n. is_among n ns) (λ n p r. Ok (ns ++ n ∷ [], r)) ts (adds_some_name ns) (λ t n us h. gives last E W Any (λ xs w. AddsName ns (t ∷ xs) w) (ns ++ n ∷ []) us (adds_name ns t n h))
+  distinct_add_local ns ts = distinct_local last E W Any (AddsName ns) (λ n. has_name n ns) (λ n p r. Ok (ns ++ n ∷ [], r)) ts (adds_some_name ns) (λ t n us h. gives last E W Any (λ xs w. AddsName ns (t ∷ xs) w) (ns ++ n ∷ []) us (adds_name ns t n h))
 
   columns_local : (ts : Tokens) → Local last E W Any ColumnsAre (columns_at last) ts
   unfolding columns_at
@@ -145,7 +145,7 @@ module _ (last : ℕ) (E : Tokens → Tree → Type 0) (W Any : Type 0) (an_expr
 
   set_add_local : (ss : List SetTree) (ts : Tokens) → Local last E W Any (AddsSet E ss) (set_add last ss) ts
   unfolding set_add
-  set_add_local ss ts = distinct_local last E W Any (AddsSet E ss) (λ n. is_among n (set_columns ss)) (λ n p. set_value last n ss) ts (adds_some_set ss) (λ t n us ht.
+  set_add_local ss ts = distinct_local last E W Any (AddsSet E ss) (λ n. has_name n (set_columns ss)) (λ n p. set_value last n ss) ts (adds_some_set ss) (λ t n us ht.
       token_then last E W Any (λ xs w. AddsSet E ss (t ∷ xs) w) (is_sign signs.Equal) (λ vs. tree_at last vs >>= λ e. Ok (ss ++ one_set n e.0 ∷ [], e.1)) us
       (a_sign signs.Equal ∷ an_expr.0, ss ++ one_set n an_expr.1 ∷ [], adds_set ss t (a_sign signs.Equal) n an_expr.0 an_expr.1 ht refl an_expr.2) (λ q vs hq.
       mapped last E W Any E (λ xs w. AddsSet E ss (t ∷ q ∷ xs) w) (tree_at last) (λ e. ss ++ one_set n e ∷ []) vs (λ xs e k. adds_set ss t q n xs e ht hq k) (exprs vs)))

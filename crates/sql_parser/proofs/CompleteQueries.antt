@@ -18,11 +18,11 @@ use Rattle.sql_trees.specs.Trees.{Tree, AggTree}
 use Rattle.sql_expressions.specs.Readers.{misplaced, is_word, is_sign, after, added}
 use Rattle.sql_expressions.specs.Reading.{Part, agg_kind, expr_at}
 use Rattle.sql_expressions.specs.Inner.Pieces.{chain, or_at, and_at, is_at, cmp_at, inn_at, cat_at, add_at, mul_at}
-use Rattle.sql_expressions.specs.Grammar.{Ends, goes_on}
+use Rattle.sql_expressions.specs.Grammar.{Ends, may_go_on}
 use Rattle.sql_expressions.proofs.Complete.{expr_complete}
 use Rattle.sql_expressions.proofs.Same.{is_fault, expr_same}
 use Rattle.sql_blocks.specs.Parts.{is_allowed}
-use Rattle.sql_parser.specs.Inner.Queries.{call_at, rows_of, maybe_name, direction_at, agg_at, item_at, from_at, nulls_at, order_add, order_at, lock_at, select_at}
+use Rattle.sql_parser.specs.Inner.Queries.{call_at, counts_rows, maybe_name, direction_at, agg_at, item_at, from_at, nulls_at, order_add, order_at, lock_at, select_at}
 use Rattle.sql_parser.specs.Queries.{alias_at}
 use Rattle.sql_parser.specs.Grammar.{Is, Commas, AliasIs, no_alias, as_alias, bare_alias, AggIs, all_rows, of_values, AddsItem, a_star, a_value, an_aggregate, FromIs, no_table, from_table, DirectionIs, as_ever, ascending, descending, NullsAre, unsaid, nulls_first, nulls_last, AddsKey, adds_key, OrderIs, unordered, ordered, LockIs, no_lock, for_update, for_share, WhereIs, unfiltered, filtered, Shallow}
 use Rattle.sql_parser.proofs.StmtLocals.{word_is}
@@ -89,7 +89,7 @@ module _ (last : ℕ) where
       of_test false g = g
       of_test true g = let k = word_is words.As x g in absurd (let e : named (tok.word words.As k.0) ≡ Some n = sym (ap named k.1) ∙ h in cc)
 
-  name_goes_on : (x : Token) (n : List ℕ) → named x ≡ Some n → goes_on x ≡ false
+  name_goes_on : (x : Token) (n : List ℕ) → named x ≡ Some n → may_go_on x ≡ false
   unfolding is_reserved
   name_goes_on (tok.word words.And s) n e = absurd cc
   name_goes_on (tok.word words.Between s) n e = absurd cc
@@ -122,7 +122,7 @@ module _ (last : ℕ) where
   agg_no_star (tok.word w s) k e = refl
   agg_no_star _ k e = absurd cc
 
-  no_rows_star : (k : AggKind) (ts : Tokens) → after (is_sign signs.Star) ts ≡ None → rows_of k ts ≡ None
+  no_rows_star : (k : AggKind) (ts : Tokens) → after (is_sign signs.Star) ts ≡ None → counts_rows k ts ≡ None
   no_rows_star aggs.Count ts h = h
   no_rows_star aggs.Sum ts h = refl
   no_rows_star aggs.Min ts h = refl

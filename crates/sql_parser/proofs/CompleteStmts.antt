@@ -12,7 +12,7 @@ use Rattle.sql_trees.specs.declared.word.Word.{Word}
 use Rattle.sql_trees.specs.declared.word.Word.TheVariants as words
 use Rattle.sql_trees.specs.declared.stmt.Level.{Level}
 use Rattle.sql_trees.specs.Statements.{SetTree, Begin, SetTransaction, SetDeadlockTimeout, DropTables, Inserts, Updates, Deletes}
-use Rattle.sql_trees.specs.Tokens.{Token, Tokens, named}
+use Rattle.sql_trees.specs.Tokens.{Token, Tokens}
 use Rattle.sql_trees.specs.Tokens as tok
 use Rattle.sql_trees.specs.Trees.{Tree}
 use Rattle.sql_expressions.specs.Readers.{is_word, is_sign, after, items_at, name_at, added}
@@ -24,7 +24,7 @@ use Rattle.sql_parser.specs.Readers.{tree_at}
 use Rattle.sql_parser.specs.Transactions.{is_work}
 use Rattle.sql_parser.specs.Grammar.{is_scope, is_to, is_setting, Rows, Is, Key, Names, Perhaps, nothing, one_is, Commas, last_item, next_item, AddsName, adds_name, IsolationIs, uncommitted, committed, repeatable, MaybeLevel, no_level, a_level, AddsValue, adds_value, RowIs, is_row, with_row, no_rows, AddsRow, adds_row, ColumnsAre, unlisted, listed_columns, AddsSet, adds_set, WhereIs, unfiltered, filtered, Shallow}
 use Rattle.sql_parser.specs.Inner.Transactions.{level_at, begin_at, start_at, parameter_at, set_at}
-use Rattle.sql_parser.specs.Tables.{is_among, drop_at}
+use Rattle.sql_parser.specs.Tables.{has_name, drop_at}
 use Rattle.sql_parser.specs.Inner.Tables.{after_if}
 use Rattle.sql_parser.specs.Inner.Changes.{distinct_add, row_add, columns_at, insert_at, set_add, update_at}
 use Rattle.sql_parser.specs.Changes.{filter_at, delete_at}
@@ -146,7 +146,7 @@ both_true true y h k = k
 both_true false y h k = absurd cc
 
 -- a name is none of those before it
-pub differ_pop : (ns : List (List ℕ)) (n : List ℕ) → all_differ (ns ++ n ∷ []) ≡ true → (all_differ ns ≡ true) × (is_among n ns ≡ false)
+pub differ_pop : (ns : List (List ℕ)) (n : List ℕ) → all_differ (ns ++ n ∷ []) ≡ true → (all_differ ns ≡ true) × (has_name n ns ≡ false)
 differ_pop [] n h = (refl, refl)
 differ_pop (m ∷ ms) n h =
     let p = and_parts (not (list_any (bytes_eq m) (ms ++ n ∷ []))) (all_differ (ms ++ n ∷ [])) h in
@@ -154,7 +154,7 @@ differ_pop (m ∷ ms) n h =
     let q = or_parts (list_any (bytes_eq m) ms) (list_any (bytes_eq m) (n ∷ [])) none in
     let r = or_parts (bytes_eq m n) false q.1 in
     let s = differ_pop ms n p.1 in
-    (both_true (not (list_any (bytes_eq m) ms)) (all_differ ms) (ap not q.0) s.0, both_false (bytes_eq m n) (is_among n ms) r.0 s.1)
+    (both_true (not (list_any (bytes_eq m) ms)) (all_differ ms) (ap not q.0) s.0, both_false (bytes_eq m n) (has_name n ms) r.0 s.1)
 
 -- ---- rows
 
@@ -241,7 +241,7 @@ module _ (last : ℕ) where
   abbrev SetsDiffer : List SetTree → Type 0
   SetsDiffer ss = all_differ (set_columns ss) ≡ true
 
-  set_pop : (ss : List SetTree) (s : SetTree) → SetsDiffer (ss ++ s ∷ []) → SetsDiffer ss × (is_among s.column (set_columns ss) ≡ false)
+  set_pop : (ss : List SetTree) (s : SetTree) → SetsDiffer (ss ++ s ∷ []) → SetsDiffer ss × (has_name s.column (set_columns ss) ≡ false)
   set_pop ss s f = differ_pop (set_columns ss) s.column (ap all_differ (sym (map-append (λ (x : SetTree). x.column) ss (s ∷ []))) ∙ f)
 
   sets_come : (s t : List SetTree) (ts : Tokens) → AddsSet Shallow s ts t → SetsDiffer t → SetsDiffer s

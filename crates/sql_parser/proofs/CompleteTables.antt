@@ -20,11 +20,11 @@ use Rattle.sql_trees.specs.Tokens as tok
 use Rattle.sql_expressions.specs.Readers.{is_word, is_sign}
 use Rattle.sql_blocks.specs.Parts.{column_names}
 use Rattle.sql_blocks.specs.Kept.{all_differ, places_differ, key_fits, tree_name, table_kept}
-use Rattle.sql_parser.specs.Tables.{Placed, KeyRead, TableRead, is_among, placed_names, with_key, completed, created, resolved}
+use Rattle.sql_parser.specs.Tables.{Placed, KeyRead, TableRead, has_name, placed_names, with_key, completed, created, resolved}
 use Rattle.sql_parser.specs.Grammar.{Constraints, empty_table, with_column, kind_of, Is, Key, Names, Commas, placed, AddsColumn, adds_column, Says, no_more, not_null, primary_key, unique_key, AddsPart, a_column, a_primary, a_unique, Shallow}
-use Rattle.sql_parser.specs.Inner.Tables.{key_add, key_at, constraints_at, column_at, table_add, made_name, first_lacking, text_fault, keys_fault, place_among, declared, finished, create_at}
+use Rattle.sql_parser.specs.Inner.Tables.{key_add, key_at, constraints_at, column_read, table_add, made_name, first_lacking, text_fault, keys_fault, place_among, declared, finished, create_at}
 use Rattle.sql_parser.specs.Inner.OneConstraint.{is_constraint}
-use Rattle.sql_parser.specs.Inner.Pieces.{is_kept, resolved_keys}
+use Rattle.sql_parser.specs.Inner.Pieces.{is_kept_key, resolved_keys}
 use Rattle.sql_parser.proofs.Keeping.{or_none}
 use Rattle.sql_parser.proofs.KeysKept.{key_among, places_in, names_kept, made, names_stay}
 use Rattle.sql_parser.proofs.TablesKept.{key_differs}
@@ -41,19 +41,19 @@ below m n h = search rules
 one_less : (m n : ℕ) → nat_lt (1 + m) (suc n) ≡ true → nat_lt m n ≡ true
 one_less m n h = lt-ltb m n (omega (arith, below (1 + m) (suc n) h))
 
-within_among : (columns : List (List ℕ)) (n : List ℕ) → nat_lt (place_among columns n) (length columns) ≡ true → is_among n columns ≡ true
+within_among : (columns : List (List ℕ)) (n : List ℕ) → nat_lt (place_among columns n) (length columns) ≡ true → has_name n columns ≡ true
 within_among [] n e = absurd cc
 within_among (m ∷ ms) n e = of_test (bytes_eq m n) refl (within_among ms n) e
   where
-    of_test : (b : Bool) → bytes_eq m n ≡ b → (nat_lt (place_among ms n) (length ms) ≡ true → is_among n ms ≡ true) → nat_lt (if not b then 1 + place_among ms n else 0) (suc (length ms)) ≡ true → (b || is_among n ms) ≡ true
+    of_test : (b : Bool) → bytes_eq m n ≡ b → (nat_lt (place_among ms n) (length ms) ≡ true → has_name n ms ≡ true) → nat_lt (if not b then 1 + place_among ms n else 0) (suc (length ms)) ≡ true → (b || has_name n ms) ≡ true
     of_test true h go k = refl
     of_test false h go k = go (one_less (place_among ms n) (length ms) k)
 
-names_among : (columns : List (List ℕ)) (ns : List Placed) → list_all (λ c. nat_lt c (length columns)) (places_in columns ns) ≡ true → list_all (λ n. is_among n columns) (placed_names ns) ≡ true
+names_among : (columns : List (List ℕ)) (ns : List Placed) → list_all (λ c. nat_lt c (length columns)) (places_in columns ns) ≡ true → list_all (λ n. has_name n columns) (placed_names ns) ≡ true
 names_among columns [] e = refl
 names_among columns (n ∷ ns) e =
     let p = and_parts (nat_lt (place_among columns n.name) (length columns)) (list_all (λ c. nat_lt c (length columns)) (places_in columns ns)) e in
-    and_from (is_among n.name columns) (list_all (λ m. is_among m columns) (placed_names ns)) (within_among columns n.name p.0) (names_among columns ns p.1)
+    and_from (has_name n.name columns) (list_all (λ m. has_name m columns) (placed_names ns)) (within_among columns n.name p.0) (names_among columns ns p.1)
 
 -- names at places that differ differ
 name_apart : (columns : List (List ℕ)) (m n : List ℕ) → (place_among columns m == place_among columns n) ≡ false → bytes_eq m n ≡ false
@@ -82,13 +82,13 @@ places_names columns (n ∷ ns) e =
 -- ---- from the keys in their declared order to those in the order of the text
 
 module _ (f : KeyRead → KeyTree) (p : KeyTree → Bool) where
-  from_parts : (ks : List KeyRead) → list_all p (map f (filter (is_kept true) ks)) ≡ true → list_all p (map f (filter (is_kept false) ks)) ≡ true → list_all (λ k. p (f k)) ks ≡ true
+  from_parts : (ks : List KeyRead) → list_all p (map f (filter (is_kept_key true) ks)) ≡ true → list_all p (map f (filter (is_kept_key false) ks)) ≡ true → list_all (λ k. p (f k)) ks ≡ true
   from_parts [] g h = refl
   from_parts (k ∷ ks) g h = of_test k.primary (from_parts ks) g h
     where
-      of_test : (b : Bool) → (list_all p (map f (filter (is_kept true) ks)) ≡ true → list_all p (map f (filter (is_kept false) ks)) ≡ true → list_all (λ k. p (f k)) ks ≡ true) → list_all p (map f (if b then k ∷ filter (is_kept true) ks else filter (is_kept true) ks)) ≡ true → list_all p (map f (if not b then k ∷ filter (is_kept false) ks else filter (is_kept false) ks)) ≡ true → (p (f k) && list_all (λ k. p (f k)) ks) ≡ true
-      of_test true go a b = let q = and_parts (p (f k)) (list_all p (map f (filter (is_kept true) ks))) a in and_from (p (f k)) (list_all (λ k. p (f k)) ks) q.0 (go q.1 b)
-      of_test false go a b = let q = and_parts (p (f k)) (list_all p (map f (filter (is_kept false) ks))) b in and_from (p (f k)) (list_all (λ k. p (f k)) ks) q.0 (go a q.1)
+      of_test : (b : Bool) → (list_all p (map f (filter (is_kept_key true) ks)) ≡ true → list_all p (map f (filter (is_kept_key false) ks)) ≡ true → list_all (λ k. p (f k)) ks ≡ true) → list_all p (map f (if b then k ∷ filter (is_kept_key true) ks else filter (is_kept_key true) ks)) ≡ true → list_all p (map f (if not b then k ∷ filter (is_kept_key false) ks else filter (is_kept_key false) ks)) ≡ true → (p (f k) && list_all (λ k. p (f k)) ks) ≡ true
+      of_test true go a b = let q = and_parts (p (f k)) (list_all p (map f (filter (is_kept_key true) ks))) a in and_from (p (f k)) (list_all (λ k. p (f k)) ks) q.0 (go q.1 b)
+      of_test false go a b = let q = and_parts (p (f k)) (list_all p (map f (filter (is_kept_key false) ks))) b in and_from (p (f k)) (list_all (λ k. p (f k)) ks) q.0 (go a q.1)
 
 absent_parts : (n : List ℕ) (xs ys : List (List ℕ)) → list_any (bytes_eq n) (xs ++ ys) ≡ false → (list_any (bytes_eq n) xs ≡ false) × (list_any (bytes_eq n) ys ≡ false)
 absent_parts n xs ys h = or_parts (list_any (bytes_eq n) xs) (list_any (bytes_eq n) ys) (sym (list_any-append (bytes_eq n) xs ys) ∙ h)
@@ -129,7 +129,7 @@ module _ (table : List ℕ) where
   absent_all n [] g h = refl
   absent_all n (k ∷ ks) g h = of_test k.primary (absent_all n ks) g h
     where
-      of_test : (b : Bool) → (list_any (bytes_eq n) (names_of true ks) ≡ false → list_any (bytes_eq n) (names_of false ks) ≡ false → list_any (bytes_eq n) (map (made_name table) ks) ≡ false) → list_any (bytes_eq n) (map (made_name table) (if b then k ∷ filter (is_kept true) ks else filter (is_kept true) ks)) ≡ false → list_any (bytes_eq n) (map (made_name table) (if not b then k ∷ filter (is_kept false) ks else filter (is_kept false) ks)) ≡ false → (bytes_eq n (made_name table k) || list_any (bytes_eq n) (map (made_name table) ks)) ≡ false
+      of_test : (b : Bool) → (list_any (bytes_eq n) (names_of true ks) ≡ false → list_any (bytes_eq n) (names_of false ks) ≡ false → list_any (bytes_eq n) (map (made_name table) ks) ≡ false) → list_any (bytes_eq n) (map (made_name table) (if b then k ∷ filter (is_kept_key true) ks else filter (is_kept_key true) ks)) ≡ false → list_any (bytes_eq n) (map (made_name table) (if not b then k ∷ filter (is_kept_key false) ks else filter (is_kept_key false) ks)) ≡ false → (bytes_eq n (made_name table k) || list_any (bytes_eq n) (map (made_name table) ks)) ≡ false
       of_test true go a b = let q = or_parts (bytes_eq n (made_name table k)) (list_any (bytes_eq n) (names_of true ks)) a in or_none (bytes_eq n (made_name table k)) (list_any (bytes_eq n) (map (made_name table) ks)) q.0 (go q.1 b)
       of_test false go a b = let q = or_parts (bytes_eq n (made_name table k)) (list_any (bytes_eq n) (names_of false ks)) b in or_none (bytes_eq n (made_name table k)) (list_any (bytes_eq n) (map (made_name table) ks)) q.0 (go a q.1)
 
@@ -146,26 +146,26 @@ module _ (table : List ℕ) where
           let q = absent_parts (made_name table k) (names_of true ks) (names_of false ks) (not-true (list_any (bytes_eq (made_name table k)) (names_of true ks ++ names_of false ks)) p.0) in
           record { differ = p.1; before = q.0; behind = q.1 }
 
-      of_test : (b : Bool) → (all_differ (names_of true ks ++ names_of false ks) ≡ true → all_differ (map (made_name table) ks) ≡ true) → all_differ (map (made_name table) (if b then k ∷ filter (is_kept true) ks else filter (is_kept true) ks) ++ map (made_name table) (if not b then k ∷ filter (is_kept false) ks else filter (is_kept false) ks)) ≡ true → (not (list_any (bytes_eq (made_name table k)) (map (made_name table) ks)) && all_differ (map (made_name table) ks)) ≡ true
+      of_test : (b : Bool) → (all_differ (names_of true ks ++ names_of false ks) ≡ true → all_differ (map (made_name table) ks) ≡ true) → all_differ (map (made_name table) (if b then k ∷ filter (is_kept_key true) ks else filter (is_kept_key true) ks) ++ map (made_name table) (if not b then k ∷ filter (is_kept_key false) ks else filter (is_kept_key false) ks)) ≡ true → (not (list_any (bytes_eq (made_name table k)) (map (made_name table) ks)) && all_differ (map (made_name table) ks)) ≡ true
       of_test true go e = whole (names_of true ks) (names_of false ks) (first e) go (absent_all (made_name table k) ks)
       of_test false go e = whole (names_of true ks) (names_of false ks) (differ_remove (names_of true ks) (names_of false ks) (made_name table k) e) go (absent_all (made_name table k) ks)
 
 -- ---- no fault of keys
 
-none_lacking : (columns : List (List ℕ)) (ns : List Placed) → list_all (λ n. is_among n columns) (placed_names ns) ≡ true → first_lacking columns ns ≡ None
+none_lacking : (columns : List (List ℕ)) (ns : List Placed) → list_all (λ n. has_name n columns) (placed_names ns) ≡ true → first_lacking columns ns ≡ None
 none_lacking columns [] e = refl
 none_lacking columns (n ∷ ns) e =
-    let p = and_parts (is_among n.name columns) (list_all (λ m. is_among m columns) (placed_names ns)) e in
+    let p = and_parts (has_name n.name columns) (list_all (λ m. has_name m columns) (placed_names ns)) e in
     rw p.0 (none_lacking columns ns p.1)
 
 -- a name that differs from all before it is none of them
-among_not : (n : List ℕ) (ns : List (List ℕ)) (ms : List (List ℕ)) → all_differ (ns ++ n ∷ ms) ≡ true → is_among n ns ≡ false
+among_not : (n : List ℕ) (ns : List (List ℕ)) (ms : List (List ℕ)) → all_differ (ns ++ n ∷ ms) ≡ true → has_name n ns ≡ false
 among_not n [] ms e = refl
 among_not n (m ∷ ns) ms e =
     let p = and_parts (not (list_any (bytes_eq m) (ns ++ n ∷ ms))) (all_differ (ns ++ n ∷ ms)) e in
     let a = absent_parts m ns (n ∷ ms) (not-true (list_any (bytes_eq m) (ns ++ n ∷ ms)) p.0) in
     let b = or_parts (bytes_eq m n) (list_any (bytes_eq m) ms) a.1 in
-    or_none (bytes_eq m n) (is_among n ns) b.0 (among_not n ns ms p.1)
+    or_none (bytes_eq m n) (has_name n ns) b.0 (among_not n ns ms p.1)
 
 keys_right : (table : List ℕ) (columns earlier : List (List ℕ)) (ks : List KeyRead) → list_all (key_among columns) ks ≡ true → all_differ (earlier ++ map (made_name table) ks) ≡ true → keys_fault table columns earlier ks ≡ None
 unfolding keys_fault text_fault
@@ -265,7 +265,7 @@ module _ (last : ℕ) where
   abbrev PlacesDiffer : List Placed → Type 0
   PlacesDiffer ns = all_differ (placed_names ns) ≡ true
 
-  placed_pop : (ns : List Placed) (n : Placed) → PlacesDiffer (ns ++ n ∷ []) → PlacesDiffer ns × (is_among n.name (placed_names ns) ≡ false)
+  placed_pop : (ns : List Placed) (n : Placed) → PlacesDiffer (ns ++ n ∷ []) → PlacesDiffer ns × (has_name n.name (placed_names ns) ≡ false)
   placed_pop ns n f = differ_pop (placed_names ns) n.name (ap all_differ (sym (map-append (λ (x : Placed). x.name) ns (n ∷ []))) ∙ f)
 
   columns_come : (s t : List Placed) (ts : Tokens) → AddsColumn s ts t → PlacesDiffer t → PlacesDiffer s
@@ -280,11 +280,11 @@ module _ (last : ℕ) where
       let columns = list_reads (key_add last) AddsColumn (λ s. Unit {0}) PlacesDiffer (λ rest. Unit {0}) (λ s t ts b a. tt) columns_come column_add (λ c us h. tt) k tt d (c ∷ rest) tt (no_comma_at_close c rest hc) in
       rw (ho, append_assoc ts (c ∷ []) rest, columns, hc) refl
 
-  column_pop : (cs : List ColumnTree) (c : ColumnTree) → all_differ (column_names (cs ++ c ∷ [])) ≡ true → (all_differ (column_names cs) ≡ true) × (is_among c.name (column_names cs) ≡ false)
+  column_pop : (cs : List ColumnTree) (c : ColumnTree) → all_differ (column_names (cs ++ c ∷ [])) ≡ true → (all_differ (column_names cs) ≡ true) × (has_name c.name (column_names cs) ≡ false)
   column_pop cs c f = differ_pop (column_names cs) c.name (ap all_differ (sym (map-append (λ (x : ColumnTree). x.name) cs (c ∷ []))) ∙ f)
 
-  column_reads : (t : TableRead) (n k : At Token) (name : List ℕ) (kind : Kind) (ts rest : Tokens) (s : Constraints) → Names name n → kind_of k.tok ≡ Some kind → Says (placed name n) (record { not_null = false; keys = t.keys }) ts s → is_among name (column_names t.columns) ≡ false → Unconstrained rest → column_at last t (n ∷ k ∷ (ts ++ rest)) ≡ Ok (with_column (placed name n) kind s t, rest)
-  unfolding column_at
+  column_reads : (t : TableRead) (n k : At Token) (name : List ℕ) (kind : Kind) (ts rest : Tokens) (s : Constraints) → Names name n → kind_of k.tok ≡ Some kind → Says (placed name n) (record { not_null = false; keys = t.keys }) ts s → has_name name (column_names t.columns) ≡ false → Unconstrained rest → column_read last t (n ∷ k ∷ (ts ++ rest)) ≡ Ok (with_column (placed name n) kind s t, rest)
+  unfolding column_read
   column_reads t n k name kind ts rest s hn hk says none free = rw (hn, none) (kind_turn last Shallow (Unit {0}) ⊥ (placed name n) t k (ts ++ rest) kind hk ∙ rw (says_reads (placed name n) says rest free) refl)
 
   parts_come : (s t : TableRead) (ts : Tokens) → AddsPart s ts t → Apart t → Apart s

@@ -11,7 +11,7 @@ use Rattle.sql_trees.specs.Tokens as tok
 use Rattle.sql_trees.specs.Trees.{Tree}
 use Rattle.sql_expressions.specs.Results.{◌>>=◌}
 use Rattle.sql_expressions.specs.Readers.{expect, is_word, is_sign, after, more_at, items_at, Reader}
-use Rattle.sql_expressions.specs.Grammar.{Ends, goes_on}
+use Rattle.sql_expressions.specs.Grammar.{Ends, may_go_on}
 use Rattle.sql_expressions.proofs.Complete.{expr_complete}
 use Rattle.sql_parser.specs.Inner.Parts.{past}
 use Rattle.sql_parser.specs.Readers.{tree_at}
@@ -49,7 +49,7 @@ abbrev pub Parted : Tokens → Type 0
 Parted [] = Unit {0}
 Parted (t ∷ ts) = ends_part t.tok ≡ true
 
-part_goes_on : (x : Token) → ends_part x ≡ true → goes_on x ≡ false
+part_goes_on : (x : Token) → ends_part x ≡ true → may_go_on x ≡ false
 part_goes_on (tok.sign signs.Comma) e = refl
 part_goes_on (tok.word words.From s) e = refl
 part_goes_on (tok.word words.Where s) e = refl
@@ -93,14 +93,14 @@ comma_parts _ e = absurd cc
 pub comma_is_parted : (c : At Token) (us : Tokens) → Is (is_sign signs.Comma) c → Parted (c ∷ us)
 comma_is_parted c us h = comma_parts c.tok h
 
-comma_goes_on : (x : Token) → is_sign signs.Comma x ≡ true → goes_on x ≡ false
+comma_goes_on : (x : Token) → is_sign signs.Comma x ≡ true → may_go_on x ≡ false
 comma_goes_on (tok.sign signs.Comma) e = refl
 comma_goes_on _ e = absurd cc
 
 pub comma_ends : (c : At Token) (us : Tokens) → Is (is_sign signs.Comma) c → Ends (c ∷ us)
 comma_ends c us h = comma_goes_on c.tok h
 
-close_goes_on : (x : Token) → is_sign signs.Close x ≡ true → goes_on x ≡ false
+close_goes_on : (x : Token) → is_sign signs.Close x ≡ true → may_go_on x ≡ false
 close_goes_on (tok.sign signs.Close) e = refl
 close_goes_on _ e = absurd cc
 

@@ -16,8 +16,8 @@ use Rattle.sql_expressions.specs.Results.{◌>>=◌}
 use Rattle.sql_expressions.specs.Readers.{after, is_sign, expect, is_word, place_of, items_at, keyword, more_at, name_at}
 use Rattle.sql_blocks.specs.Parts.{column_names}
 use Rattle.sql_parser.proofs.Steps.{bind_ok, ok_same}
-use Rattle.sql_parser.specs.Tables.{Placed, KeyRead, TableRead, is_among, with_key}
-use Rattle.sql_parser.specs.Inner.Tables.{column_at, column_behind, key_add, key_at, limits_at, table_add}
+use Rattle.sql_parser.specs.Tables.{Placed, KeyRead, TableRead, has_name, with_key}
+use Rattle.sql_parser.specs.Inner.Tables.{column_read, column_behind, key_add, key_at, limits_at, table_add}
 use Rattle.sql_parser.specs.Grammar.{empty_table, with_column}
 
 abbrev OneMore : TableRead → TableRead × Tokens → Type 0
@@ -41,11 +41,11 @@ module _ (last : ℕ) where
   abbrev named_column : TableRead → Tokens → List ℕ × Tokens → Bool → Result (TableRead × Tokens) SqlFault
   named_column t ts n b = if b then Err (BadColumns (place_of last ts)) else column_behind last (record { name = n.0; place = place_of last ts }) t n.1
 
-  column_counts : (t : TableRead) (ts : Tokens) (x : TableRead × Tokens) → column_at last t ts ≡ Ok x → OneMore t x
-  unfolding column_at
+  column_counts : (t : TableRead) (ts : Tokens) (x : TableRead × Tokens) → column_read last t ts ≡ Ok x → OneMore t x
+  unfolding column_read
   column_counts t ts x e =
-      let a = bind_ok (name_at last ts) (λ n. named_column t ts n (is_among n.0 (column_names t.columns))) x e in
-      of_test a.0 (is_among a.0.0 (column_names t.columns)) a.2
+      let a = bind_ok (name_at last ts) (λ n. named_column t ts n (has_name n.0 (column_names t.columns))) x e in
+      of_test a.0 (has_name a.0.0 (column_names t.columns)) a.2
     where
       of_test : (n : List ℕ × Tokens) (b : Bool) → named_column t ts n b ≡ Ok x → OneMore t x
       of_test n true h = absurd cc
@@ -55,11 +55,11 @@ module _ (last : ℕ) where
   unfolding table_add
   add_counts t ts x e = of_primary (after (is_word words.Primary) ts) e
     where
-      of_unique : (o : Option Tokens) → option_map_or (key_at last false t) o (column_at last t ts) ≡ Ok x → OneMore t x
+      of_unique : (o : Option Tokens) → option_map_or (key_at last false t) o (column_read last t ts) ≡ Ok x → OneMore t x
       of_unique (Some us) h = key_counts false t us x h
       of_unique None h = column_counts t ts x h
 
-      of_primary : (o : Option Tokens) → option_map_or (λ us. keyword last words.Key us >>= key_at last true t) o (option_map_or (key_at last false t) (after (is_word words.Unique) ts) (column_at last t ts)) ≡ Ok x → OneMore t x
+      of_primary : (o : Option Tokens) → option_map_or (λ us. keyword last words.Key us >>= key_at last true t) o (option_map_or (key_at last false t) (after (is_word words.Unique) ts) (column_read last t ts)) ≡ Ok x → OneMore t x
       of_primary (Some us) h =
           let a = bind_ok (keyword last words.Key us) (key_at last true t) x h in
           key_counts true t a.0 x a.2

@@ -7,7 +7,7 @@ use Rattle.std.specs.Prelude.{not, ◌||◌, find, option_map, slice_index, if�
 use Rattle.sql_trees.specs.Statements.{KeyTree, Create}
 use Rattle.sql_trees.specs.Tokens.{Tokens}
 use Rattle.sql_blocks.specs.Parts.{column_names}
-use Rattle.sql_parser.specs.Tables.{is_among, Placed, KeyRead, TableRead, completed, created, keys_fault, resolved}
+use Rattle.sql_parser.specs.Tables.{has_name, Placed, KeyRead, TableRead, completed, created, keys_fault, resolved}
 use Rattle.sql_parser.specs.Grammar.{Constraints, Commas, last_item, next_item, placed, AddsColumn, adds_column, Says, no_more, not_null, primary_key, unique_key, AddsPart, a_column, a_primary, a_unique}
 use Rattle.sql_parser.specs.Inner.Tables.{table_of, made_name, first_lacking, text_fault}
 use Rattle.sql_parser.specs.Inner.Tables as inner
@@ -29,7 +29,7 @@ some_column (n ∷ ns) = true
 abbrev pub are_full : List KeyRead → Bool
 are_full ks = list_all (λ k. some_column k.columns) ks
 
-first_wrong : (b : Bool) (columns : List (List ℕ)) (ns : List Placed) → some_column ns ≡ true → option_map (λ n. n.place) (find (λ n. b || not (is_among n.name columns)) ns) ≡ (if b then Some (slice_index (map (λ n. n.place) ns) 0) else first_lacking columns ns)
+first_wrong : (b : Bool) (columns : List (List ℕ)) (ns : List Placed) → some_column ns ≡ true → option_map (λ n. n.place) (find (λ n. b || not (has_name n.name columns)) ns) ≡ (if b then Some (slice_index (map (λ n. n.place) ns) 0) else first_lacking columns ns)
 first_wrong b columns [] h = absurd cc
 first_wrong true columns (n ∷ ns) h = refl
 first_wrong false columns (n ∷ ns) h = refl
@@ -39,7 +39,7 @@ unfolding keys_fault inner.keys_fault text_fault
 fault_is table columns earlier [] h = refl
 fault_is table columns earlier (k ∷ ks) h =
     let p = and_parts (some_column k.columns) (are_full ks) h in
-    rw (first_wrong (is_among (made_name table k) earlier) columns k.columns p.0, fault_is table columns (earlier ++ made_name table k ∷ []) ks p.1) refl
+    rw (first_wrong (has_name (made_name table k) earlier) columns k.columns p.0, fault_is table columns (earlier ++ made_name table k ∷ []) ks p.1) refl
 
 some_pushed : (ns : List Placed) (n : Placed) → some_column (ns ++ n ∷ []) ≡ true
 some_pushed [] n = refl

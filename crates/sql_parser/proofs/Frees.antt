@@ -22,9 +22,9 @@ use Rattle.sql_trees.specs.Tokens as tok
 use Rattle.sql_trees.specs.Trees.{Tree, Trees, AggTree}
 use Rattle.sql_expressions.specs.Readers.{is_word, is_sign}
 use Rattle.sql_expressions.specs.Reading.{comparison_op, truth_of, agg_kind}
-use Rattle.sql_expressions.specs.Grammar.{IsWord, Level, OR, AND, CAT, ADD, MUL, binary, SpellsIn, ItemsIn, only, chain, negation, is, comparison, contained, between, minus, plus, parens, literal, one, next, IsLeaf, number, text, column, yes, no, null, IsIn, IsBetween, IsIs}
+use Rattle.sql_expressions.specs.Grammar.{IsWord, Level, OR, AND, CAT, ADD, MUL, operator_at, SpellsIn, ItemsIn, only, chain, negation, is, comparison, contained, between, minus, plus, parens, literal, one, next, IsLeaf, number, text, column, yes, no, null, IsIn, IsBetween, IsIs}
 use Rattle.sql_parser.specs.Transactions.{is_work}
-use Rattle.sql_parser.specs.Grammar.{is_scope, is_to, is_setting, Constraints, kind_of, Rows, Is, Key, Names, Perhaps, nothing, one_is, Commas, last_item, next_item, AddsName, adds_name, IsolationIs, uncommitted, committed, repeatable, MaybeLevel, no_level, a_level, AddsColumn, adds_column, Says, no_more, not_null, primary_key, unique_key, AddsPart, a_column, a_primary, a_unique, AddsValue, adds_value, RowIs, is_row, AddsRow, adds_row, ColumnsAre, unlisted, listed_columns, AddsSet, adds_set, WhereIs, unfiltered, filtered, AliasIs, no_alias, as_alias, bare_alias, AggIs, all_rows, of_values, AddsItem, a_star, a_value, an_aggregate, FromIs, no_table, from_table, DirectionIs, as_ever, ascending, descending, NullsAre, unsaid, nulls_first, nulls_last, AddsKey, adds_key, OrderIs, unordered, ordered, LockIs, no_lock, for_update, for_share, Spells, begin, start, commit, end, rollback, abort, set_transaction, set_timeout, create, drop, drop_if, insert, update, delete, select, Shallow}
+use Rattle.sql_parser.specs.Grammar.{is_scope, is_to, is_setting, Constraints, kind_of, Rows, Is, Key, Perhaps, nothing, one_is, Commas, last_item, next_item, AddsName, adds_name, IsolationIs, uncommitted, committed, repeatable, MaybeLevel, no_level, a_level, AddsColumn, adds_column, Says, no_more, not_null, primary_key, unique_key, AddsPart, a_column, a_primary, a_unique, AddsValue, adds_value, RowIs, is_row, AddsRow, adds_row, ColumnsAre, unlisted, listed_columns, AddsSet, adds_set, WhereIs, unfiltered, filtered, AliasIs, no_alias, as_alias, bare_alias, AggIs, all_rows, of_values, AddsItem, a_star, a_value, an_aggregate, FromIs, no_table, from_table, DirectionIs, as_ever, ascending, descending, NullsAre, unsaid, nulls_first, nulls_last, AddsKey, adds_key, OrderIs, unordered, ordered, LockIs, no_lock, for_update, for_share, Spells, begin, start, commit, end, rollback, abort, set_transaction, set_timeout, create, drop, drop_if, insert, update, delete, select, Shallow}
 use Rattle.sql_parser.specs.Tables.{Placed, TableRead}
 use Rattle.sql_parser.specs.Grammar as grammar
 
@@ -104,7 +104,7 @@ agg_free _ k e = absurd cc
 sign_free : (t : At Token) (s : SqlSign) → t.tok ≡ tok.sign s → not (is_sign signs.Semicolon (tok.sign s)) ≡ true → is_free t ≡ true
 sign_free t s h e = ap (λ x. not (is_sign signs.Semicolon x)) h ∙ e
 
-binary_free : (l : Level) (x : Token) (o : Operator) → binary l x ≡ Some o → not (is_sign signs.Semicolon x) ≡ true
+binary_free : (l : Level) (x : Token) (o : Operator) → operator_at l x ≡ Some o → not (is_sign signs.Semicolon x) ≡ true
 binary_free OR (tok.word w s) o e = refl
 binary_free OR _ o e = absurd cc
 binary_free AND (tok.word w s) o e = refl

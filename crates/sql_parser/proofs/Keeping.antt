@@ -19,11 +19,11 @@ use Rattle.sql_expressions.specs.Readers.{after, expect, is_sign, is_word, place
 use Rattle.sql_blocks.specs.Parts.{fits, set_columns, is_allowed}
 use Rattle.sql_blocks.specs.Kept.{is_shallow, maybe_shallow, item_shallow, all_differ, columns_differ, rows_fit, is_kept, makes_or_drops}
 use Rattle.sql_parser.specs.Readers.{tree_at}
-use Rattle.sql_parser.specs.Tables.{is_among}
+use Rattle.sql_parser.specs.Tables.{has_name}
 use Rattle.sql_parser.specs.Grammar.{Rows}
 use Rattle.sql_parser.specs.Inner.Changes.{distinct_add, row_add, columns_at, insert_at, set_value, set_add, update_at}
 use Rattle.sql_parser.specs.Changes.{filter_at, delete_at}
-use Rattle.sql_parser.specs.Inner.Queries.{call_at, rows_of, direction_at, nulls_at, agg_at, item_of, item_at, from_at, order_add, order_at, lock_at, query_of, select_at}
+use Rattle.sql_parser.specs.Inner.Queries.{call_at, counts_rows, direction_at, nulls_at, agg_at, item_of, item_at, from_at, order_add, order_at, lock_at, query_of, select_at}
 use Rattle.sql_parser.specs.Queries.{alias_at}
 use Rattle.sql_parser.proofs.Depths.{read_shallow}
 use Rattle.sql_parser.proofs.Steps.{bind_ok, ok_same, unless_ok, when_ok, items_hold, push_all}
@@ -39,7 +39,7 @@ pub or_none : (x y : Bool) → x ≡ false → y ≡ false → (x || y) ≡ fals
 or_none true y h k = absurd cc
 or_none false y h k = k
 
-pub differ_push : (ns : List (List ℕ)) (n : List ℕ) → all_differ ns ≡ true → is_among n ns ≡ false → all_differ (ns ++ n ∷ []) ≡ true
+pub differ_push : (ns : List (List ℕ)) (n : List ℕ) → all_differ ns ≡ true → has_name n ns ≡ false → all_differ (ns ++ n ∷ []) ≡ true
 differ_push [] n h k = refl
 differ_push (m ∷ ms) n h k =
     let p = and_parts (not (list_any (bytes_eq m) ms)) (all_differ ms) h in
@@ -84,8 +84,8 @@ module _ (last : ℕ) where
 
   distinct_keeps : (ns : List (List ℕ)) (ts : Tokens) (x : List (List ℕ) × Tokens) → all_differ ns ≡ true → distinct_add last ns ts ≡ Ok x → all_differ x.0 ≡ true
   distinct_keeps ns ts x h e =
-      let a = bind_ok (name_at last ts) (λ y. if is_among y.0 ns then Err (BadColumns (place_of last ts)) else Ok (ns ++ y.0 ∷ [], y.1)) x e in
-      let b = unless_ok (is_among a.0.0 ns) (BadColumns (place_of last ts)) (Ok (ns ++ a.0.0 ∷ [], a.0.1)) x a.2 in
+      let a = bind_ok (name_at last ts) (λ y. if has_name y.0 ns then Err (BadColumns (place_of last ts)) else Ok (ns ++ y.0 ∷ [], y.1)) x e in
+      let b = unless_ok (has_name a.0.0 ns) (BadColumns (place_of last ts)) (Ok (ns ++ a.0.0 ∷ [], a.0.1)) x a.2 in
       subst (λ (y : List (List ℕ) × Tokens). all_differ y.0 ≡ true) (ok_same (ns ++ a.0.0 ∷ [], a.0.1) x b.1) (differ_push ns a.0.0 h b.0)
 
   abbrev row_end : Rows → Tokens → List Tree → Tokens → Result (Rows × Tokens) SqlFault
@@ -153,8 +153,8 @@ module _ (last : ℕ) where
   set_keeps : (ss : List SetTree) (ts : Tokens) (x : List SetTree × Tokens) → SetsKept ss → set_add last ss ts ≡ Ok x → SetsKept x.0
   unfolding set_add
   set_keeps ss ts x k e =
-      let a = bind_ok (name_at last ts) (λ y. if is_among y.0 (set_columns ss) then Err (BadColumns (place_of last ts)) else set_value last y.0 ss y.1) x e in
-      let b = unless_ok (is_among a.0.0 (set_columns ss)) (BadColumns (place_of last ts)) (set_value last a.0.0 ss a.0.1) x a.2 in
+      let a = bind_ok (name_at last ts) (λ y. if has_name y.0 (set_columns ss) then Err (BadColumns (place_of last ts)) else set_value last y.0 ss y.1) x e in
+      let b = unless_ok (has_name a.0.0 (set_columns ss)) (BadColumns (place_of last ts)) (set_value last a.0.0 ss a.0.1) x a.2 in
       let c = bind_ok (expect last (is_sign signs.Equal) a.0.1) (λ us. tree_at last us >>= λ v. Ok (ss ++ OneSet a.0.0 v.0 ∷ [], v.1)) x b.1 in
       let v = bind_ok (tree_at last c.0) (λ v. Ok (ss ++ OneSet a.0.0 v.0 ∷ [], v.1)) x c.2 in
       subst (λ (y : List SetTree × Tokens). SetsKept y.0) (ok_same (ss ++ OneSet a.0.0 v.0.0 ∷ [], v.0.1) x v.2) (record {
@@ -191,7 +191,7 @@ module _ (last : ℕ) where
 
   agg_keeps : (k : AggKind) (ts : Tokens) (x : AggTree × Tokens) → agg_at last k ts ≡ Ok x → agg_shallow x.0 ≡ true
   unfolding agg_at
-  agg_keeps k ts x e = of_rows (rows_of k ts) e
+  agg_keeps k ts x e = of_rows (counts_rows k ts) e
     where
       of_rows : (o : Option Tokens) → option_map_or (λ us. expect last (is_sign signs.Close) us >>= λ rest. Ok (CountRows, rest)) o (closed last (Of k) (tree_at last) ts) ≡ Ok x → agg_shallow x.0 ≡ true
       of_rows (Some us) h =

@@ -16,11 +16,11 @@ use Rattle.sql_trees.specs.Tokens.{Tokens}
 use Rattle.sql_expressions.specs.Results.{◌>>=◌}
 use Rattle.sql_expressions.specs.Readers.{expect, is_sign, is_word, items_at, keyword, name_at}
 use Rattle.sql_blocks.specs.Parts.{column_names}
-use Rattle.sql_blocks.specs.Kept.{all_differ, places_differ, names_at, key_fits, tree_name, table_kept}
-use Rattle.sql_parser.specs.Tables.{Placed, KeyRead, TableRead, is_among, placed_names, completed, created, resolved}
+use Rattle.sql_blocks.specs.Kept.{all_differ, places_differ, names_among, key_fits, tree_name, table_kept}
+use Rattle.sql_parser.specs.Tables.{Placed, KeyRead, TableRead, has_name, placed_names, completed, created, resolved}
 use Rattle.sql_parser.specs.Grammar.{empty_table}
 use Rattle.sql_parser.specs.Inner.Tables.{made_name, first_lacking, text_fault, keys_fault, place_among, declared, finished, table_add, create_at}
-use Rattle.sql_parser.specs.Inner.Pieces.{is_kept, resolved_keys}
+use Rattle.sql_parser.specs.Inner.Pieces.{is_kept_key, resolved_keys}
 use Rattle.sql_trees.specs.declared.fault.SqlFault.TheVariants.{BadColumns}
 use Rattle.sql_parser.proofs.Created.{created_is}
 use Rattle.sql_parser.proofs.Keeping.{FineOrNot, differ_push, or_none}
@@ -29,7 +29,7 @@ use Rattle.sql_parser.proofs.TablesKept.{TableWithin, key_differs, table_within,
 
 -- the columns of a key are columns of the table
 abbrev pub key_among : List (List ℕ) → KeyRead → Bool
-key_among columns k = list_all (λ n. is_among n columns) (placed_names k.columns)
+key_among columns k = list_all (λ n. has_name n columns) (placed_names k.columns)
 
 -- ---- without a fault
 
@@ -41,12 +41,12 @@ both_none : (a b : Option ℕ) → option_or a b ≡ None → (a ≡ None) × (b
 both_none (Some n) b e = absurd cc
 both_none None b e = (refl, e)
 
-none_lacks : (columns : List (List ℕ)) (ns : List Placed) → first_lacking columns ns ≡ None → list_all (λ n. is_among n columns) (placed_names ns) ≡ true
+none_lacks : (columns : List (List ℕ)) (ns : List Placed) → first_lacking columns ns ≡ None → list_all (λ n. has_name n columns) (placed_names ns) ≡ true
 none_lacks columns [] e = refl
-none_lacks columns (n ∷ ns) e = of_test (is_among n.name columns) refl (none_lacks columns ns) e
+none_lacks columns (n ∷ ns) e = of_test (has_name n.name columns) refl (none_lacks columns ns) e
   where
-    of_test : (b : Bool) → is_among n.name columns ≡ b → (first_lacking columns ns ≡ None → list_all (λ m. is_among m columns) (placed_names ns) ≡ true) → option_map (λ (m : Placed). m.place) (if not b then Some n else find (λ m. not (is_among m.name columns)) ns) ≡ None → list_all (λ m. is_among m columns) (n.name ∷ placed_names ns) ≡ true
-    of_test true h go k = and_from (is_among n.name columns) (list_all (λ m. is_among m columns) (placed_names ns)) h (go k)
+    of_test : (b : Bool) → has_name n.name columns ≡ b → (first_lacking columns ns ≡ None → list_all (λ m. has_name m columns) (placed_names ns) ≡ true) → option_map (λ (m : Placed). m.place) (if not b then Some n else find (λ m. not (has_name m.name columns)) ns) ≡ None → list_all (λ m. has_name m columns) (n.name ∷ placed_names ns) ≡ true
+    of_test true h go k = and_from (has_name n.name columns) (list_all (λ m. has_name m columns) (placed_names ns)) h (go k)
     of_test false h go k = absurd cc
 
 no_fault : (table : List ℕ) (columns earlier : List (List ℕ)) (ks : List KeyRead) → keys_fault table columns earlier ks ≡ None → all_differ earlier ≡ true → (all_differ (earlier ++ map (made_name table) ks) ≡ true) × (list_all (key_among columns) ks ≡ true)
@@ -54,7 +54,7 @@ unfolding keys_fault text_fault
 no_fault table columns earlier [] e h = (ap all_differ (append-nil earlier) ∙ h, refl)
 no_fault table columns earlier (k ∷ ks) e h =
     let p = both_none (text_fault (made_name table k) columns earlier k) (keys_fault table columns (earlier ++ made_name table k ∷ []) ks) e in
-    let q = text_none (is_among (made_name table k) earlier) (slice_index (map (λ (n : Placed). n.place) k.columns) 0) (first_lacking columns k.columns) p.0 in
+    let q = text_none (has_name (made_name table k) earlier) (slice_index (map (λ (n : Placed). n.place) k.columns) 0) (first_lacking columns k.columns) p.0 in
     let r = no_fault table columns (earlier ++ made_name table k ∷ []) ks p.1 (differ_push earlier (made_name table k) h q.0) in
     (ap all_differ (sym (append_assoc earlier (made_name table k ∷ []) (map (made_name table) ks))) ∙ r.0, and_from (key_among columns k) (list_all (key_among columns) ks) (none_lacks columns k.columns q.1) r.1)
 
@@ -64,11 +64,11 @@ pub record PlaceOk (columns : List (List ℕ)) (n : List ℕ) (place : ℕ) : Ty
   within : place < length columns
   back : get_or columns place [] ≡ n
 
-place_ok : (columns : List (List ℕ)) (n : List ℕ) → is_among n columns ≡ true → PlaceOk columns n (place_among columns n)
+place_ok : (columns : List (List ℕ)) (n : List ℕ) → has_name n columns ≡ true → PlaceOk columns n (place_among columns n)
 place_ok [] n e = absurd cc
 place_ok (m ∷ ms) n e = of_test (bytes_eq m n) refl (place_ok ms n) e
   where
-    of_test : (b : Bool) → bytes_eq m n ≡ b → (is_among n ms ≡ true → PlaceOk ms n (place_among ms n)) → (b || is_among n ms) ≡ true → PlaceOk (m ∷ ms) n (if not b then 1 + place_among ms n else 0)
+    of_test : (b : Bool) → bytes_eq m n ≡ b → (has_name n ms ≡ true → PlaceOk ms n (place_among ms n)) → (b || has_name n ms) ≡ true → PlaceOk (m ∷ ms) n (if not b then 1 + place_among ms n else 0)
     of_test true h go k = record { within = omega arith; back = (bytes_eq-Decides m n).0 h }
     of_test false h go k =
         let p = go k in
@@ -79,21 +79,21 @@ place_ok (m ∷ ms) n e = of_test (bytes_eq m n) refl (place_ok ms n) e
 abbrev pub places_in : List (List ℕ) → List Placed → List ℕ
 places_in columns ns = map (λ n. place_among columns n.name) ns
 
-names_back : (columns : List (List ℕ)) (ns : List Placed) → list_all (λ n. is_among n columns) (placed_names ns) ≡ true → names_at columns (places_in columns ns) ≡ placed_names ns
+names_back : (columns : List (List ℕ)) (ns : List Placed) → list_all (λ n. has_name n columns) (placed_names ns) ≡ true → names_among columns (places_in columns ns) ≡ placed_names ns
 names_back columns [] e = refl
 names_back columns (n ∷ ns) e =
-    let p = and_parts (is_among n.name columns) (list_all (λ m. is_among m columns) (placed_names ns)) e in
+    let p = and_parts (has_name n.name columns) (list_all (λ m. has_name m columns) (placed_names ns)) e in
     let here : get_or columns (place_among columns n.name) [] ≡ n.name = (place_ok columns n.name p.0).back in
-    let more : names_at columns (places_in columns ns) ≡ placed_names ns = names_back columns ns p.1 in
-    ap (λ m. m ∷ names_at columns (places_in columns ns)) here ∙ ap (λ ms. n.name ∷ ms) more
+    let more : names_among columns (places_in columns ns) ≡ placed_names ns = names_back columns ns p.1 in
+    ap (λ m. m ∷ names_among columns (places_in columns ns)) here ∙ ap (λ ms. n.name ∷ ms) more
 
-places_within : (columns : List (List ℕ)) (ns : List Placed) → list_all (λ n. is_among n columns) (placed_names ns) ≡ true → list_all (λ k. nat_lt k (length columns)) (places_in columns ns) ≡ true
+places_within : (columns : List (List ℕ)) (ns : List Placed) → list_all (λ n. has_name n columns) (placed_names ns) ≡ true → list_all (λ k. nat_lt k (length columns)) (places_in columns ns) ≡ true
 places_within columns [] e = refl
 places_within columns (n ∷ ns) e =
-    let p = and_parts (is_among n.name columns) (list_all (λ m. is_among m columns) (placed_names ns)) e in
+    let p = and_parts (has_name n.name columns) (list_all (λ m. has_name m columns) (placed_names ns)) e in
     and_from (nat_lt (place_among columns n.name) (length columns)) (list_all (λ k. nat_lt k (length columns)) (places_in columns ns)) (lt-ltb (place_among columns n.name) (length columns) (place_ok columns n.name p.0).within) (places_within columns ns p.1)
 
-place_apart : (columns : List (List ℕ)) (m n : List ℕ) → is_among m columns ≡ true → is_among n columns ≡ true → bytes_eq m n ≡ false → (place_among columns m == place_among columns n) ≡ false
+place_apart : (columns : List (List ℕ)) (m n : List ℕ) → has_name m columns ≡ true → has_name n columns ≡ true → bytes_eq m n ≡ false → (place_among columns m == place_among columns n) ≡ false
 place_apart columns m n hm hn e = false_from_ne_true (place_among columns m == place_among columns n) (λ h. differ h)
   where
     differ : (place_among columns m == place_among columns n) ≡ true → ⊥
@@ -103,17 +103,17 @@ place_apart columns m n hm hn e = false_from_ne_true (place_among columns m == p
         let yes : bytes_eq m n ≡ true = (bytes_eq-Decides m n).1 one in
         cc
 
-places_apart : (columns : List (List ℕ)) (m : List ℕ) (ns : List Placed) → is_among m columns ≡ true → list_all (λ n. is_among n columns) (placed_names ns) ≡ true → list_any (bytes_eq m) (placed_names ns) ≡ false → list_any (λ k. place_among columns m == k) (places_in columns ns) ≡ false
+places_apart : (columns : List (List ℕ)) (m : List ℕ) (ns : List Placed) → has_name m columns ≡ true → list_all (λ n. has_name n columns) (placed_names ns) ≡ true → list_any (bytes_eq m) (placed_names ns) ≡ false → list_any (λ k. place_among columns m == k) (places_in columns ns) ≡ false
 places_apart columns m [] hm hn e = refl
 places_apart columns m (n ∷ ns) hm hn e =
-    let p = and_parts (is_among n.name columns) (list_all (λ o. is_among o columns) (placed_names ns)) hn in
+    let p = and_parts (has_name n.name columns) (list_all (λ o. has_name o columns) (placed_names ns)) hn in
     let q = or_parts (bytes_eq m n.name) (list_any (bytes_eq m) (placed_names ns)) e in
     or_none (place_among columns m == place_among columns n.name) (list_any (λ k. place_among columns m == k) (places_in columns ns)) (place_apart columns m n.name hm p.0 q.0) (places_apart columns m ns hm p.1 q.1)
 
-differ_places : (columns : List (List ℕ)) (ns : List Placed) → list_all (λ n. is_among n columns) (placed_names ns) ≡ true → all_differ (placed_names ns) ≡ true → places_differ (places_in columns ns) ≡ true
+differ_places : (columns : List (List ℕ)) (ns : List Placed) → list_all (λ n. has_name n columns) (placed_names ns) ≡ true → all_differ (placed_names ns) ≡ true → places_differ (places_in columns ns) ≡ true
 differ_places columns [] h e = refl
 differ_places columns (n ∷ ns) h e =
-    let p = and_parts (is_among n.name columns) (list_all (λ m. is_among m columns) (placed_names ns)) h in
+    let p = and_parts (has_name n.name columns) (list_all (λ m. has_name m columns) (placed_names ns)) h in
     let q = and_parts (not (list_any (bytes_eq n.name) (placed_names ns))) (all_differ (placed_names ns)) e in
     and_from (not (list_any (λ k. place_among columns n.name == k) (places_in columns ns))) (places_differ (places_in columns ns))
     (not_from_false (list_any (λ k. place_among columns n.name == k) (places_in columns ns)) (places_apart columns n.name ns p.0 p.1 (not-true (list_any (bytes_eq n.name) (placed_names ns)) q.0)))
@@ -123,11 +123,11 @@ differ_places columns (n ∷ ns) h e =
 
 module _ (table : List ℕ) (columns : List (List ℕ)) (primary : Bool) where
   abbrev kept_of : List KeyRead → List KeyRead
-  kept_of ks = filter (is_kept primary) ks
+  kept_of ks = filter (is_kept_key primary) ks
 
   pub names_kept : (ks : List KeyRead) → list_all (key_among columns) ks ≡ true → map (tree_name table columns) (map (resolved columns) (kept_of ks)) ≡ map (made_name table) (kept_of ks)
   names_kept [] e = refl
-  names_kept (k ∷ ks) e = of_test (is_kept primary k) (names_kept ks p.1)
+  names_kept (k ∷ ks) e = of_test (is_kept_key primary k) (names_kept ks p.1)
     where
       p : (key_among columns k ≡ true) × (list_all (key_among columns) ks ≡ true)
       p = and_parts (key_among columns k) (list_all (key_among columns) ks) e
@@ -140,7 +140,7 @@ module _ (table : List ℕ) (columns : List (List ℕ)) (primary : Bool) where
 
   fit_kept : (ks : List KeyRead) → list_all (key_among columns) ks ≡ true → list_all key_differs ks ≡ true → list_all (key_fits (length columns)) (map (resolved columns) (kept_of ks)) ≡ true
   fit_kept [] e d = refl
-  fit_kept (k ∷ ks) e d = of_test (is_kept primary k) (fit_kept ks p.1 q.1)
+  fit_kept (k ∷ ks) e d = of_test (is_kept_key primary k) (fit_kept ks p.1 q.1)
     where
       p : (key_among columns k ≡ true) × (list_all (key_among columns) ks ≡ true)
       p = and_parts (key_among columns k) (list_all (key_among columns) ks) e
@@ -156,7 +156,7 @@ module _ (table : List ℕ) (columns : List (List ℕ)) (primary : Bool) where
 
   absent : (n : List ℕ) (ks : List KeyRead) → list_any (bytes_eq n) (map (made_name table) ks) ≡ false → list_any (bytes_eq n) (map (made_name table) (kept_of ks)) ≡ false
   absent n [] e = refl
-  absent n (k ∷ ks) e = of_test (is_kept primary k) (absent n ks q.1)
+  absent n (k ∷ ks) e = of_test (is_kept_key primary k) (absent n ks q.1)
     where
       q : (bytes_eq n (made_name table k) ≡ false) × (list_any (bytes_eq n) (map (made_name table) ks) ≡ false)
       q = or_parts (bytes_eq n (made_name table k)) (list_any (bytes_eq n) (map (made_name table) ks)) e
@@ -188,7 +188,7 @@ differ_insert (x ∷ xs) ys n h k l =
 
 module _ (table : List ℕ) where
   abbrev pub made : Bool → List KeyRead → List (List ℕ)
-  made primary ks = map (made_name table) (filter (is_kept primary) ks)
+  made primary ks = map (made_name table) (filter (is_kept_key primary) ks)
 
   differ_parts : (ks : List KeyRead) → all_differ (map (made_name table) ks) ≡ true → all_differ (made true ks ++ made false ks) ≡ true
   differ_parts [] e = refl
@@ -206,15 +206,15 @@ module _ (table : List ℕ) where
       others : list_any (bytes_eq (made_name table k)) (made false ks) ≡ false
       others = absent table [] false (made_name table k) ks none
 
-      of_test : (b : Bool) → all_differ (made true ks ++ made false ks) ≡ true → all_differ (map (made_name table) (if b then k ∷ filter (is_kept true) ks else filter (is_kept true) ks) ++ map (made_name table) (if not b then k ∷ filter (is_kept false) ks else filter (is_kept false) ks)) ≡ true
+      of_test : (b : Bool) → all_differ (made true ks ++ made false ks) ≡ true → all_differ (map (made_name table) (if b then k ∷ filter (is_kept_key true) ks else filter (is_kept_key true) ks) ++ map (made_name table) (if not b then k ∷ filter (is_kept_key false) ks else filter (is_kept_key false) ks)) ≡ true
       of_test true h = differ_insert [] (made true ks ++ made false ks) (made_name table k) h refl (absent_both (made_name table k) (made true ks) (made false ks) first others)
       of_test false h = differ_insert (made true ks) (made false ks) (made_name table k) h first others
 
-parts_length : (ks : List KeyRead) → length (filter (is_kept true) ks) + length (filter (is_kept false) ks) ≤ length ks
+parts_length : (ks : List KeyRead) → length (filter (is_kept_key true) ks) + length (filter (is_kept_key false) ks) ≤ length ks
 parts_length [] = omega arith
 parts_length (k ∷ ks) = of_test k.primary (parts_length ks)
   where
-    of_test : (b : Bool) → length (filter (is_kept true) ks) + length (filter (is_kept false) ks) ≤ length ks → length (if b then k ∷ filter (is_kept true) ks else filter (is_kept true) ks) + length (if not b then k ∷ filter (is_kept false) ks else filter (is_kept false) ks) ≤ length (k ∷ ks)
+    of_test : (b : Bool) → length (filter (is_kept_key true) ks) + length (filter (is_kept_key false) ks) ≤ length ks → length (if b then k ∷ filter (is_kept_key true) ks else filter (is_kept_key true) ks) + length (if not b then k ∷ filter (is_kept_key false) ks else filter (is_kept_key false) ks) ≤ length (k ∷ ks)
     of_test true h = omega arith
     of_test false h = omega arith
 
@@ -257,7 +257,7 @@ finished_fine name bound t ts w less = of_fault (keys_fault name (column_names t
           kept = parts_kept name cols (map (completed t.keys) t.columns) (declared cols t.keys) (record {
             same = names_stay t.keys t.columns;
             few_columns = omega (arith, w.columns, less, length-map t.columns (λ (c : ColumnTree). c.name));
-            few_keys = omega (arith, w.keys, less, parts_length t.keys, length-append (resolved_keys true cols t.keys) (resolved_keys false cols t.keys), length-map (filter (is_kept true) t.keys) (resolved cols), length-map (filter (is_kept false) t.keys) (resolved cols));
+            few_keys = omega (arith, w.keys, less, parts_length t.keys, length-append (resolved_keys true cols t.keys) (resolved_keys false cols t.keys), length-map (filter (is_kept_key true) t.keys) (resolved cols), length-map (filter (is_kept_key false) t.keys) (resolved cols));
             differ = w.names;
             fit = list_all-append (key_fits (length cols)) (resolved_keys true cols t.keys) (resolved_keys false cols t.keys) ∙ and_from (list_all (key_fits (length cols)) (resolved_keys true cols t.keys)) (list_all (key_fits (length cols)) (resolved_keys false cols t.keys)) (fit_kept name cols true t.keys n.1 w.differ) (fit_kept name cols false t.keys n.1 w.differ);
             named = ap all_differ named ∙ differ_parts name t.keys n.0;

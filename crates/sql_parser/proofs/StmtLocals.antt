@@ -25,7 +25,7 @@ use Rattle.sql_parser.specs.Inner.Parts.{past, misplaced_word}
 use Rattle.sql_parser.specs.Transactions.{is_work}
 use Rattle.sql_parser.specs.Inner.Transactions.{level_at, begin_at, start_at, parameter_at, set_at}
 use Rattle.sql_parser.specs.Inner.Tables.{after_if}
-use Rattle.sql_parser.specs.Tables.{drop_of, drop_at}
+use Rattle.sql_parser.specs.Tables.{dropped_at, drop_at}
 use Rattle.sql_parser.specs.Stops.{Refuses, at_next, at_word}
 use Rattle.sql_parser.proofs.Locals.{Inhabited, Begins, Local, gives, stuck_at, stuck_end, behind, same_at, switch_at, switch_end, mapped, token_then, token_last, name_then, either, list_local, some_list, Tail, left_of, tail_local, joined, items_is, chosen}
 
@@ -144,10 +144,10 @@ module _ (last : ℕ) (E : Tokens → Tree → Type 0) (W Any : Type 0) where
   abbrev dropped : Bool → List (List ℕ) → StmtTree
   dropped b ns = DropTables (record { if_exists = b; names = ns })
 
-  drop_if_local : (d t i e : At Token) → Key words.Drop d → Key words.Table t → Key words.If i → Key words.Exists e → (ts : Tokens) → Local last E W Any (λ xs w. Spells E (d ∷ t ∷ i ∷ e ∷ xs) w) (drop_of last true) ts
+  drop_if_local : (d t i e : At Token) → Key words.Drop d → Key words.Table t → Key words.If i → Key words.Exists e → (ts : Tokens) → Local last E W Any (λ xs w. Spells E (d ∷ t ∷ i ∷ e ∷ xs) w) (dropped_at last true) ts
   drop_if_local d t i e hd ht hi he ts = mapped last E W Any (Commas AddsName []) (λ xs w. Spells E (d ∷ t ∷ i ∷ e ∷ xs) w) (items_at (added (name_at last)) []) (dropped true) ts (λ xs ns q. drop_if d t i e xs ns hd ht hi he q) (list_local last E W Any (added (name_at last)) AddsName adds_some_name name_add_local [] ts)
 
-  drop_plain_local : (d t : At Token) → Key words.Drop d → Key words.Table t → (ts : Tokens) → Local last E W Any (λ xs w. Spells E (d ∷ t ∷ xs) w) (drop_of last false) ts
+  drop_plain_local : (d t : At Token) → Key words.Drop d → Key words.Table t → (ts : Tokens) → Local last E W Any (λ xs w. Spells E (d ∷ t ∷ xs) w) (dropped_at last false) ts
   drop_plain_local d t hd ht ts = mapped last E W Any (Commas AddsName []) (λ xs w. Spells E (d ∷ t ∷ xs) w) (items_at (added (name_at last)) []) (dropped false) ts (λ xs ns q. drop d t xs ns hd ht q) (list_local last E W Any (added (name_at last)) AddsName adds_some_name name_add_local [] ts)
 
   -- IF may be a name, where no EXISTS follows
@@ -155,31 +155,31 @@ module _ (last : ℕ) (E : Tokens → Tree → Type 0) (W Any : Type 0) where
   unfolding is_reserved
   if_named i h = let w = word_is words.If i.tok h in (names.decoded (names.folded w.0), ap named w.1)
 
-  drop_named_local : (d t i : At Token) (n : List ℕ) → Key words.Drop d → Key words.Table t → Names n i → (ts : Tokens) → Local last E W Any (λ xs w. Spells E (d ∷ t ∷ i ∷ xs) w) (λ vs. drop_of last false (i ∷ vs)) ts
+  drop_named_local : (d t i : At Token) (n : List ℕ) → Key words.Drop d → Key words.Table t → Names n i → (ts : Tokens) → Local last E W Any (λ xs w. Spells E (d ∷ t ∷ i ∷ xs) w) (λ vs. dropped_at last false (i ∷ vs)) ts
   drop_named_local d t i n hd ht hi ts =
       let behind_it : Reader StmtTree = λ vs. left_of last E W Any (added (name_at last)) AddsName adds_some_name name_add_local (n ∷ []) vs >>= λ x. Ok (dropped false x.0, x.1) in
-      let same : (vs : Tokens) → drop_of last false (i ∷ vs) ≡ behind_it vs = λ vs. ap (λ r. r >>= λ x. Ok (dropped false x.0, x.1)) (items_is last E W Any (added (name_at last)) AddsName adds_some_name name_add_local [] (i ∷ vs)) ∙ rw hi refl in
-      same_at last E W Any (λ xs w. Spells E (d ∷ t ∷ i ∷ xs) w) (λ xs w. Spells E (d ∷ t ∷ i ∷ xs) w) behind_it (λ vs. drop_of last false (i ∷ vs)) ts (λ xs w k. k) (λ us h. same us)
+      let same : (vs : Tokens) → dropped_at last false (i ∷ vs) ≡ behind_it vs = λ vs. ap (λ r. r >>= λ x. Ok (dropped false x.0, x.1)) (items_is last E W Any (added (name_at last)) AddsName adds_some_name name_add_local [] (i ∷ vs)) ∙ rw hi refl in
+      same_at last E W Any (λ xs w. Spells E (d ∷ t ∷ i ∷ xs) w) (λ xs w. Spells E (d ∷ t ∷ i ∷ xs) w) behind_it (λ vs. dropped_at last false (i ∷ vs)) ts (λ xs w k. k) (λ us h. same us)
       (mapped last E W Any (Tail last E W Any (added (name_at last)) AddsName adds_some_name name_add_local (n ∷ [])) (λ xs w. Spells E (d ∷ t ∷ i ∷ xs) w) (left_of last E W Any (added (name_at last)) AddsName adds_some_name name_add_local (n ∷ [])) (dropped false) ts
       (λ xs ns q. drop d t (i ∷ xs) ns hd ht (joined last E W Any (added (name_at last)) AddsName adds_some_name name_add_local [] (n ∷ []) ns (i ∷ []) xs (adds_name [] i n hi) q))
       (tail_local last E W Any (added (name_at last)) AddsName adds_some_name name_add_local (length ts) (n ∷ []) ts (omega arith)))
 
-  drop_names_token : (d t i : At Token) (us : Tokens) (b : Bool) → Key words.Drop d → Key words.Table t → is_word words.If i.tok ≡ b → Local last E W Any (λ xs w. Spells E (d ∷ t ∷ xs) w) (λ vs. option_map_or (drop_of last true) (after_if vs) (drop_of last false vs)) (i ∷ us)
-  drop_names_token d t i us false hd ht h = switch_at last E W Any (λ xs w. Spells E (d ∷ t ∷ xs) w) (drop_of last false) (λ vs. option_map_or (drop_of last true) (after_if vs) (drop_of last false vs)) i us (λ vs. rw h refl) (drop_plain_local d t hd ht (i ∷ us))
+  drop_names_token : (d t i : At Token) (us : Tokens) (b : Bool) → Key words.Drop d → Key words.Table t → is_word words.If i.tok ≡ b → Local last E W Any (λ xs w. Spells E (d ∷ t ∷ xs) w) (λ vs. option_map_or (dropped_at last true) (after_if vs) (dropped_at last false vs)) (i ∷ us)
+  drop_names_token d t i us false hd ht h = switch_at last E W Any (λ xs w. Spells E (d ∷ t ∷ xs) w) (dropped_at last false) (λ vs. option_map_or (dropped_at last true) (after_if vs) (dropped_at last false vs)) i us (λ vs. rw h refl) (drop_plain_local d t hd ht (i ∷ us))
   drop_names_token d t i us true hd ht h =
       let n = if_named i h in
-      behind last E W Any (λ xs w. Spells E (d ∷ t ∷ xs) w) (λ vs. option_map_or (drop_of last true) (after (is_word words.Exists) vs) (drop_of last false (i ∷ vs))) (λ vs. option_map_or (drop_of last true) (after_if vs) (drop_of last false vs)) i us (λ vs. rw h refl)
-      (either last E W Any (λ xs w. Spells E (d ∷ t ∷ i ∷ xs) w) (is_word words.Exists) (drop_of last true) (λ vs. drop_of last false (i ∷ vs)) (λ vs. option_map_or (drop_of last true) (after (is_word words.Exists) vs) (drop_of last false (i ∷ vs))) us
+      behind last E W Any (λ xs w. Spells E (d ∷ t ∷ xs) w) (λ vs. option_map_or (dropped_at last true) (after (is_word words.Exists) vs) (dropped_at last false (i ∷ vs))) (λ vs. option_map_or (dropped_at last true) (after_if vs) (dropped_at last false vs)) i us (λ vs. rw h refl)
+      (either last E W Any (λ xs w. Spells E (d ∷ t ∷ i ∷ xs) w) (is_word words.Exists) (dropped_at last true) (λ vs. dropped_at last false (i ∷ vs)) (λ vs. option_map_or (dropped_at last true) (after (is_word words.Exists) vs) (dropped_at last false (i ∷ vs))) us
       (λ e vs g. rw g refl) (λ e vs g. rw g refl) refl
       (λ e vs he. drop_if_local d t i e hd ht h he vs)
       (drop_named_local d t i n.0 hd ht n.1 us))
 
-  drop_names_local : (d t : At Token) (ts : Tokens) → Key words.Drop d → Key words.Table t → Local last E W Any (λ xs w. Spells E (d ∷ t ∷ xs) w) (λ vs. option_map_or (drop_of last true) (after_if vs) (drop_of last false vs)) ts
-  drop_names_local d t [] hd ht = switch_end last E W Any (λ xs w. Spells E (d ∷ t ∷ xs) w) (drop_of last false) (λ vs. option_map_or (drop_of last true) (after_if vs) (drop_of last false vs)) refl (drop_plain_local d t hd ht [])
+  drop_names_local : (d t : At Token) (ts : Tokens) → Key words.Drop d → Key words.Table t → Local last E W Any (λ xs w. Spells E (d ∷ t ∷ xs) w) (λ vs. option_map_or (dropped_at last true) (after_if vs) (dropped_at last false vs)) ts
+  drop_names_local d t [] hd ht = switch_end last E W Any (λ xs w. Spells E (d ∷ t ∷ xs) w) (dropped_at last false) (λ vs. option_map_or (dropped_at last true) (after_if vs) (dropped_at last false vs)) refl (drop_plain_local d t hd ht [])
   drop_names_local d t (i ∷ us) hd ht = drop_names_token d t i us (is_word words.If i.tok) hd ht refl
 
   pub drop_local : (d : At Token) → Key words.Drop d → (ts : Tokens) → Local last E W Any (λ xs w. Spells E (d ∷ xs) w) (drop_at last) ts
   unfolding drop_at
-  drop_local d hd ts = token_then last E W Any (λ xs w. Spells E (d ∷ xs) w) (is_word words.Table) (λ vs. option_map_or (drop_of last true) (after_if vs) (drop_of last false vs)) ts
+  drop_local d hd ts = token_then last E W Any (λ xs w. Spells E (d ∷ xs) w) (is_word words.Table) (λ vs. option_map_or (dropped_at last true) (after_if vs) (dropped_at last false vs)) ts
       (let a = some_list last E W Any (added (name_at last)) AddsName adds_some_name name_add_local [] in (a_word words.Table ∷ a.0, dropped false a.1, drop d (a_word words.Table) a.0 a.1 hd (key_is words.Table []) a.2))
       (λ t us ht. drop_names_local d t us hd ht)

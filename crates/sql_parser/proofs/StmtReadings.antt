@@ -17,7 +17,7 @@ use Rattle.sql_expressions.specs.Readers.{Reader, after, expect, is_sign, keywor
 use Rattle.sql_blocks.specs.Parts.{fits, set_columns}
 use Rattle.sql_parser.specs.Grammar.{Rows}
 use Rattle.sql_parser.specs.Readers.{maybe, list_of, tree_at}
-use Rattle.sql_parser.specs.Tables.{is_among, Placed, placed_names, new_name, names_at}
+use Rattle.sql_parser.specs.Tables.{has_name, Placed, placed_names, new_name, names_at}
 use Rattle.sql_parser.specs.Changes.{row_at, one_set, filter_at, insert_at, update_at}
 use Rattle.sql_parser.specs.Inner.Tables as tables
 use Rattle.sql_parser.specs.Inner.Changes as changes
@@ -38,8 +38,8 @@ module _ (last : ℕ) where
     of_test true n us = refl
     of_test false n us = refl
 
-    of_name : (r : Result (List ℕ × Tokens) SqlFault) → (r >>= λ x. if is_among x.0 names then Err (BadColumns (place_of last ts)) else goes (named x.0 x.1)) ≡ ((r >>= λ x. if is_among x.0 names then Err (BadColumns (place_of last ts)) else Ok (named x.0 x.1)) >>= goes)
-    of_name (Ok x) = of_test (is_among x.0 names) x.0 x.1
+    of_name : (r : Result (List ℕ × Tokens) SqlFault) → (r >>= λ x. if has_name x.0 names then Err (BadColumns (place_of last ts)) else goes (named x.0 x.1)) ≡ ((r >>= λ x. if has_name x.0 names then Err (BadColumns (place_of last ts)) else Ok (named x.0 x.1)) >>= goes)
+    of_name (Ok x) = of_test (has_name x.0 names) x.0 x.1
     of_name (Err e) = refl
 
     pub name_then : tables.new_name last names next ts ≡ (new_name last names ts >>= goes)

@@ -17,9 +17,9 @@ use Rattle.sql_expressions.specs.Results.{◌>>=◌}
 use Rattle.sql_expressions.specs.Readers.{place_of, expect, is_word, is_sign, after, keyword, name_at, items_at, Reader}
 use Rattle.sql_blocks.specs.Parts.{column_names}
 use Rattle.sql_parser.specs.Inner.Parts.{misplaced_word}
-use Rattle.sql_parser.specs.Tables.{Placed, KeyRead, TableRead, is_among, placed_names, with_key}
+use Rattle.sql_parser.specs.Tables.{Placed, KeyRead, TableRead, has_name, placed_names, with_key}
 use Rattle.sql_parser.specs.Grammar.{Constraints, empty_table, with_column, key_limit, kind_of, Is, Key, Names, Commas, placed, AddsColumn, adds_column, Says, no_more, not_null, primary_key, unique_key, AddsPart, a_column, a_primary, a_unique}
-use Rattle.sql_parser.specs.Inner.Tables.{kind_at, key_add, key_at, constraints_at, limits_at, column_behind, column_at, table_add}
+use Rattle.sql_parser.specs.Inner.Tables.{kind_at, key_add, key_at, constraints_at, limits_at, column_behind, column_read, table_add}
 use Rattle.sql_parser.specs.Inner.OneConstraint.{is_constraint, constraint_of, constraint_at}
 use Rattle.sql_parser.specs.Stops.{at_name}
 use Rattle.sql_parser.proofs.Locals.{Inhabited, Local, gives, gives_at, gives_end, stuck_at, goes_on, no_rule_at, no_rule_end, behind, same_at, switch_at, switch_end, in_turn, mapped, token_in, token_then, token_last, list_local, some_list, chosen}
@@ -48,7 +48,7 @@ module _ (last : ℕ) (E : Tokens → Tree → Type 0) (W Any : Type 0) where
       of_name (Some n) h = of_test n h (test n) refl
 
   column_add_local : (ns : List Placed) (ts : Tokens) → Local last E W Any (AddsColumn ns) (key_add last ns) ts
-  column_add_local ns ts = distinct_local (AddsColumn ns) (λ n. is_among n (placed_names ns)) (λ n p r. Ok (ns ++ (record { name = n; place = p }) ∷ [], r)) ts (adds_some_column ns) (λ t n us h. gives last E W Any (λ xs w. AddsColumn ns (t ∷ xs) w) (ns ++ placed n t ∷ []) us (adds_column ns t n h))
+  column_add_local ns ts = distinct_local (AddsColumn ns) (λ n. has_name n (placed_names ns)) (λ n p r. Ok (ns ++ (record { name = n; place = p }) ∷ [], r)) ts (adds_some_column ns) (λ t n us h. gives last E W Any (λ xs w. AddsColumn ns (t ∷ xs) w) (ns ++ placed n t ∷ []) us (adds_column ns t n h))
 
   some_columns : Inhabited (Commas AddsColumn [])
   some_columns = some_list last E W Any (key_add last) AddsColumn adds_some_column column_add_local []
@@ -203,17 +203,17 @@ module _ (last : ℕ) (E : Tokens → Tree → Type 0) (W Any : Type 0) where
       of_kind (Some kind) h = behind last E W Any (λ xs w. AddsPart t (n ∷ xs) w) (λ vs. says_at (placed name n) (nothing_said t.keys) vs >>= with_said (placed name n) kind t) (column_behind last (placed name n) t) k us (λ vs. kind_turn (placed name n) t k vs kind h)
           (mapped last E W Any (Says (placed name n) (nothing_said t.keys)) (λ xs w. AddsPart t (n ∷ k ∷ xs) w) (says_at (placed name n) (nothing_said t.keys)) (λ s. with_column (placed name n) kind s t) us (λ xs s q. a_column t n k name kind xs s hn h q) (says_local (placed name n) (nothing_said t.keys) us))
 
-  column_local : W → (t : TableRead) (ts : Tokens) → Local last E W Any (AddsPart t) (column_at last t) ts
-  unfolding column_at
-  column_local w t ts = distinct_local (AddsPart t) (λ n. is_among n (column_names t.columns)) (λ n p. column_behind last (record { name = n; place = p }) t) ts (some_part t) (λ n name us hn. behind_local w t n name hn us)
+  column_local : W → (t : TableRead) (ts : Tokens) → Local last E W Any (AddsPart t) (column_read last t) ts
+  unfolding column_read
+  column_local w t ts = distinct_local (AddsPart t) (λ n. has_name n (column_names t.columns)) (λ n p. column_behind last (record { name = n; place = p }) t) ts (some_part t) (λ n name us hn. behind_local w t n name hn us)
 
   part_local : W → (t : TableRead) (ts : Tokens) → Local last E W Any (AddsPart t) (table_add last t) ts
   unfolding table_add
-  part_local w t ts = chosen last E W Any (AddsPart t) (is_word words.Primary) (λ us. keyword last words.Key us >>= key_at last true t) (λ us. option_map_or (key_at last false t) (after (is_word words.Unique) us) (column_at last t us)) ts
+  part_local w t ts = chosen last E W Any (AddsPart t) (is_word words.Primary) (λ us. keyword last words.Key us >>= key_at last true t) (λ us. option_map_or (key_at last false t) (after (is_word words.Unique) us) (column_read last t us)) ts
       (λ p us hp. let s = some_columns in token_then last E W Any (λ xs w. AddsPart t (p ∷ xs) w) (is_word words.Key) (key_at last true t) us
       (a_word words.Key ∷ a_sign signs.Open ∷ (s.0 ++ a_sign signs.Close ∷ []), with_key true s.1 t, a_primary t p (a_word words.Key) (a_sign signs.Open) (a_sign signs.Close) s.0 s.1 hp (key_is words.Key []) refl s.2 refl)
       (λ k vs hk. key_local (λ xs w. AddsPart t (p ∷ k ∷ xs) w) true t vs (λ o c xs ns ho q hc. a_primary t p k o c xs ns hp hk ho q hc)))
-      (chosen last E W Any (AddsPart t) (is_word words.Unique) (key_at last false t) (column_at last t) ts
+      (chosen last E W Any (AddsPart t) (is_word words.Unique) (key_at last false t) (column_read last t) ts
       (λ u us hu. key_local (λ xs w. AddsPart t (u ∷ xs) w) false t us (λ o c xs ns ho q hc. a_unique t u o c xs ns hu ho q hc))
       (column_local w t ts))
 

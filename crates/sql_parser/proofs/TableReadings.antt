@@ -16,7 +16,7 @@ use Rattle.sql_expressions.specs.Readers.{after, expect, is_sign, is_word, keywo
 use Rattle.sql_blocks.specs.Parts.{column_names}
 use Rattle.sql_parser.specs.Grammar.{Constraints, empty_table, with_column, key_limit, Commas, AddsPart, Shallow}
 use Rattle.sql_parser.specs.Readers.{known_of, list_of, whole}
-use Rattle.sql_parser.specs.Tables.{Placed, TableRead, placed_names, with_key, new_name, names_at, constraints_at, column_at, table_add, keys_fault, created, create_at}
+use Rattle.sql_parser.specs.Tables.{Placed, TableRead, placed_names, with_key, new_name, names_at, constraints_at, column_read, table_add, keys_fault, created, create_at}
 use Rattle.sql_parser.specs.Inner.Tables as tables
 use Rattle.sql_parser.specs.Inner.Blocks.{at_end}
 use Rattle.sql_parser.proofs.Created.{are_full, fault_is, parts_full}
@@ -112,8 +112,8 @@ module _ (last : ℕ) where
       of_kind (Ok k) = said_same name k.0 t (length k.1) (record { not_null = false; keys = t.keys }) k.1 ∙ of_said k.0 (tables.constraints_at last name (length k.1) (record { not_null = false; keys = t.keys }) k.1)
       of_kind (Err e) = refl
 
-  column_same : (t : TableRead) (ts : Tokens) → column_at last t ts ≡ tables.column_at last t ts
-  unfolding column_at tables.column_at
+  column_same : (t : TableRead) (ts : Tokens) → column_read last t ts ≡ tables.column_read last t ts
+  unfolding column_read tables.column_read
   column_same t ts =
       bind_on (new_name last (column_names t.columns) ts) _ _ (λ x. limits_same t x.0 x.1)
       ∙ sym (name_then last (column_names t.columns) (λ c. tables.column_behind last c t) ts)

@@ -17,9 +17,9 @@ use Rattle.sql_expressions.specs.Readers.{after, is_sign, expect, misplaced, is_
 use Rattle.sql_blocks.specs.Parts.{column_names}
 use Rattle.sql_blocks.specs.Kept.{all_differ}
 use Rattle.sql_parser.specs.Inner.Parts.{misplaced_word}
-use Rattle.sql_parser.specs.Tables.{Placed, KeyRead, TableRead, is_among, placed_names, with_key}
+use Rattle.sql_parser.specs.Tables.{Placed, KeyRead, TableRead, has_name, placed_names, with_key}
 use Rattle.sql_parser.specs.Grammar.{Constraints, empty_table, with_column, key_limit, kind_of}
-use Rattle.sql_parser.specs.Inner.Tables.{kind_at, key_add, key_at, constraints_at, limits_at, column_behind, column_at, table_add}
+use Rattle.sql_parser.specs.Inner.Tables.{kind_at, key_add, key_at, constraints_at, limits_at, column_behind, column_read, table_add}
 use Rattle.sql_parser.specs.Inner.OneConstraint.{constraint_of, constraint_at, constrained}
 use Rattle.sql_parser.proofs.Keeping.{differ_push}
 use Rattle.sql_parser.proofs.Going.{turn_is}
@@ -79,8 +79,8 @@ module _ (last : ℕ) where
 
   key_add_keeps : (bound : ℕ) (ns : List Placed) (ts : Tokens) (x : List Placed × Tokens) → ColumnsWithin bound ns ts → key_add last ns ts ≡ Ok x → ColumnsWithin bound x.0 x.1
   key_add_keeps bound ns ts x k e =
-      let a = bind_ok (name_at last ts) (λ y. if is_among y.0 (placed_names ns) then Err (BadColumns (place_of last ts)) else Ok (ns ++ one_placed y.0 ts ∷ [], y.1)) x e in
-      let b = unless_ok (is_among a.0.0 (placed_names ns)) (BadColumns (place_of last ts)) (Ok (ns ++ one_placed a.0.0 ts ∷ [], a.0.1)) x a.2 in
+      let a = bind_ok (name_at last ts) (λ y. if has_name y.0 (placed_names ns) then Err (BadColumns (place_of last ts)) else Ok (ns ++ one_placed y.0 ts ∷ [], y.1)) x e in
+      let b = unless_ok (has_name a.0.0 (placed_names ns)) (BadColumns (place_of last ts)) (Ok (ns ++ one_placed a.0.0 ts ∷ [], a.0.1)) x a.2 in
       subst (λ (y : List Placed × Tokens). ColumnsWithin bound y.0 y.1) (ok_same (ns ++ one_placed a.0.0 ts ∷ [], a.0.1) x b.1) (record {
         left = omega (arith, k.left, name_shorter ts a.0 a.1);
         differ = ap all_differ (map-append (λ (n : Placed). n.name) ns (one_placed a.0.0 ts ∷ [])) ∙ differ_push (placed_names ns) a.0.0 k.differ b.0;
@@ -145,7 +145,7 @@ module _ (last : ℕ) where
           let a = bind_ok (constraint_at last c s ts) (λ y. constraints_at last c n y.0 y.1) x h in
           go a.0.0 a.0.1 x (constraint_keeps bound left c s ts a.0 k a.1) a.2
 
-  behind_keeps : (bound : ℕ) (c : Placed) (t : TableRead) (ts : Tokens) (x : TableRead × Tokens) → length t.columns + suc (length ts) ≤ bound → length t.keys + length ts ≤ bound → all_differ (column_names t.columns) ≡ true → list_all key_differs t.keys ≡ true → is_among c.name (column_names t.columns) ≡ false → column_behind last c t ts ≡ Ok x → TableWithin bound x.0 x.1
+  behind_keeps : (bound : ℕ) (c : Placed) (t : TableRead) (ts : Tokens) (x : TableRead × Tokens) → length t.columns + suc (length ts) ≤ bound → length t.keys + length ts ≤ bound → all_differ (column_names t.columns) ≡ true → list_all key_differs t.keys ≡ true → has_name c.name (column_names t.columns) ≡ false → column_behind last c t ts ≡ Ok x → TableWithin bound x.0 x.1
   unfolding column_behind limits_at
   behind_keeps bound c t ts x hc hk hn hd new e =
       let a = bind_ok (limits_at last c t.keys ts) (λ y. Ok (with_column c y.0.0 y.0.1 t, y.1)) x e in
@@ -161,13 +161,13 @@ module _ (last : ℕ) where
       }))
 
   abbrev named_column : TableRead → Tokens → List ℕ × Tokens → Result (TableRead × Tokens) SqlFault
-  named_column t ts n = if is_among n.0 (column_names t.columns) then Err (BadColumns (place_of last ts)) else column_behind last (one_placed n.0 ts) t n.1
+  named_column t ts n = if has_name n.0 (column_names t.columns) then Err (BadColumns (place_of last ts)) else column_behind last (one_placed n.0 ts) t n.1
 
-  column_keeps : (bound : ℕ) (t : TableRead) (ts : Tokens) (x : TableRead × Tokens) → TableWithin bound t ts → column_at last t ts ≡ Ok x → TableWithin bound x.0 x.1
-  unfolding column_at
+  column_keeps : (bound : ℕ) (t : TableRead) (ts : Tokens) (x : TableRead × Tokens) → TableWithin bound t ts → column_read last t ts ≡ Ok x → TableWithin bound x.0 x.1
+  unfolding column_read
   column_keeps bound t ts x k e =
       let a = bind_ok (name_at last ts) (λ n. named_column t ts n) x e in
-      let b = unless_ok (is_among a.0.0 (column_names t.columns)) (BadColumns (place_of last ts)) (column_behind last (one_placed a.0.0 ts) t a.0.1) x a.2 in
+      let b = unless_ok (has_name a.0.0 (column_names t.columns)) (BadColumns (place_of last ts)) (column_behind last (one_placed a.0.0 ts) t a.0.1) x a.2 in
       behind_keeps bound (one_placed a.0.0 ts) t a.0.1 x (omega (arith, k.columns, name_shorter ts a.0 a.1)) (omega (arith, k.keys, name_shorter ts a.0 a.1)) k.names k.differ b.0 b.1
 
   fewer_tokens : (bound : ℕ) (t : TableRead) (ts us : Tokens) → TableWithin bound t ts → length us ≤ length ts → TableWithin bound t us
@@ -188,11 +188,11 @@ module _ (last : ℕ) where
   unfolding table_add
   add_keeps bound t ts x k e = of_primary (after (is_word words.Primary) ts) refl e
     where
-      of_unique : (o : Option Tokens) → after (is_word words.Unique) ts ≡ o → option_map_or (key_at last false t) o (column_at last t ts) ≡ Ok x → TableWithin bound x.0 x.1
+      of_unique : (o : Option Tokens) → after (is_word words.Unique) ts ≡ o → option_map_or (key_at last false t) o (column_read last t ts) ≡ Ok x → TableWithin bound x.0 x.1
       of_unique (Some us) hu h = key_keeps bound false t us x (fewer_tokens bound t ts us k (after_shorter (is_word words.Unique) ts us hu)) h
       of_unique None hu h = column_keeps bound t ts x k h
 
-      of_primary : (o : Option Tokens) → after (is_word words.Primary) ts ≡ o → option_map_or (λ us. keyword last words.Key us >>= key_at last true t) o (option_map_or (key_at last false t) (after (is_word words.Unique) ts) (column_at last t ts)) ≡ Ok x → TableWithin bound x.0 x.1
+      of_primary : (o : Option Tokens) → after (is_word words.Primary) ts ≡ o → option_map_or (λ us. keyword last words.Key us >>= key_at last true t) o (option_map_or (key_at last false t) (after (is_word words.Unique) ts) (column_read last t ts)) ≡ Ok x → TableWithin bound x.0 x.1
       of_primary (Some us) hp h =
           let a = bind_ok (keyword last words.Key us) (λ vs. key_at last true t vs) x h in
           key_keeps bound true t a.0 x (fewer_tokens bound t ts a.0 k (omega (arith, after_shorter (is_word words.Primary) ts us hp, expect_shorter (is_word words.Key) us a.0 a.1))) a.2

@@ -5,7 +5,7 @@ use Rattle.std.specs.Prelude.{Result, Ok, Err}
 use Rattle.std.specs.Result.{result_map_both}
 use Rattle.iso_lexer.specs.declared.fault.Fault.{Fault}
 use Rattle.iso_lexer.specs.declared.token.At.{At}
-use Rattle.iso_lexer.specs.Lexing.{Front, gap, token, fault, Reads}
+use Rattle.iso_lexer.specs.Lexing.{gap, token, Reads}
 use Rattle.iso_lexer.specs.Lexing as lexing
 use Rattle.iso_lexer.specs.SqlText.{sql_front_of, sql_front, SqlLexes}
 use Rattle.iso_lexer.specs.declared.sql_token.SqlTok.{SqlTok}

@@ -14,8 +14,8 @@ use Rattle.sql_blocks.specs.Parts.{column_names}
 use Rattle.sql_parser.specs.Readers.{list_of, known_of, whole}
 
 -- the name is one of these
-abbrev pub is_among : List ℕ → List (List ℕ) → Bool
-is_among n ns = list_any (λ m. bytes_eq m n) ns
+abbrev pub has_name : List ℕ → List (List ℕ) → Bool
+has_name n ns = list_any (λ m. bytes_eq m n) ns
 
 -- ---- what is read
 
@@ -44,7 +44,7 @@ module _ (last : ℕ) where
   -- a name that is none of these
   abbrev pub new_name : List (List ℕ) → Reader Placed
   new_name names ts =
-      if_ok (name_at last ts) (λ x. if is_among x.0 names then Err (BadColumns (place_of last ts)) else Ok (record { name = x.0; place = place_of last ts }, x.1))
+      if_ok (name_at last ts) (λ x. if has_name x.0 names then Err (BadColumns (place_of last ts)) else Ok (record { name = x.0; place = place_of last ts }, x.1))
 
   -- names that all differ, behind an open parenthesis
   unfoldable pub names_at : Reader (List Placed)
@@ -61,15 +61,15 @@ module _ (last : ℕ) where
       (key_or (λ primary. constraints_at name n c (with_key primary (name ∷ []) t)) (gives (record t { columns = t.columns ++ c ∷ [] })))
 
   -- one more column, whose name may not stand there twice
-  unfoldable pub column_at : TableRead → Reader TableRead
-  column_at t = do
+  unfoldable pub column_read : TableRead → Reader TableRead
+  column_read t = do
     name ← new_name (column_names t.columns)
     kind ← known_of last ((words.Integer, kinds.Int) ∷ (words.Bigint, kinds.Big) ∷ (words.Text, kinds.Text) ∷ (words.Boolean, kinds.Bool) ∷ [])
     λ ts. constraints_at name (length ts) (record { name = name.name; kind = kind; not_null = false }) t ts
 
   -- one more column or key
   unfoldable pub table_add : TableRead → Reader TableRead
-  table_add t = key_or (λ primary. expect last (is_sign signs.Open) >> made (λ ns. with_key primary ns t) names_at) (column_at t)
+  table_add t = key_or (λ primary. expect last (is_sign signs.Open) >> made (λ ns. with_key primary ns t) names_at) (column_read t)
 
 -- ---- what has to hold of the whole
 
@@ -78,12 +78,12 @@ unfoldable pub keys_fault : List ℕ → List (List ℕ) → List (List ℕ) →
 keys_fault table columns earlier [] = None
 keys_fault table columns earlier (k ∷ ks) =
     let name = key_name table k.primary (placed_names k.columns) in
-    let wrong = find (λ n. is_among name earlier || not (is_among n.name columns)) k.columns in
+    let wrong = find (λ n. has_name name earlier || not (has_name n.name columns)) k.columns in
     option_or (option_map (λ n. n.place) wrong) (keys_fault table columns (earlier ++ name ∷ []) ks)
 
 -- a column of a primary key is NOT NULL
 abbrev pub completed : List KeyRead → ColumnTree → ColumnTree
-completed ks c = record c { not_null = c.not_null || list_any (λ k. k.primary && is_among c.name (placed_names k.columns)) ks }
+completed ks c = record c { not_null = c.not_null || list_any (λ k. k.primary && has_name c.name (placed_names k.columns)) ks }
 
 -- a key with its columns' places in the table, counted from 0
 abbrev pub resolved : List (List ℕ) → KeyRead → KeyTree
@@ -109,9 +109,9 @@ module _ (last : ℕ) where
     gives (created name table)
 
   -- the tables that a DROP names
-  abbrev pub drop_of : Bool → Reader StmtTree
-  drop_of if_exists = made (λ ns. DropTables (record { if_exists = if_exists; names = ns })) (list_of (λ ns. name_at last))
+  abbrev pub dropped_at : Bool → Reader StmtTree
+  dropped_at if_exists = made (λ ns. DropTables (record { if_exists = if_exists; names = ns })) (list_of (λ ns. name_at last))
 
   -- what stands behind DROP: IF is a name where no EXISTS follows
   unfoldable pub drop_at : Reader StmtTree
-  drop_at = keyword last words.Table >> λ ts. option_map_or (drop_of true) (either (is_word words.If) (after (is_word words.Exists)) (λ us. None) ts) (drop_of false ts)
+  drop_at = keyword last words.Table >> λ ts. option_map_or (dropped_at true) (either (is_word words.If) (after (is_word words.Exists)) (λ us. None) ts) (dropped_at false ts)

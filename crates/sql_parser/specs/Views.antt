@@ -8,8 +8,8 @@ use Rattle.sql_parser.specs.declared.table.TableText.{TableText}
 use Rattle.sql_parser.specs.Grammar.{Rows}
 use Rattle.sql_parser.specs.Tables.{Placed, KeyRead, TableRead}
 
-abbrev pub rows_of : RowList → Rows
-rows_of r = record { rows = map exprs_of r.rows.items; width = r.width }
+abbrev pub rows_view : RowList → Rows
+rows_view r = record { rows = map exprs_of r.rows.items; width = r.width }
 
 abbrev pub placed_of : PlacedName → Placed
 placed_of n = record { name = name_of n.name; place = n.place }

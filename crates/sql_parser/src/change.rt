@@ -8,7 +8,7 @@ ghost use Rattle.sql_trees.specs.Trees.{tree_of};
 ghost use Rattle.sql_expressions.specs.Results.{Gives};
 ghost use Rattle.sql_expressions.specs.Readers.{is_sign, expect, items_at};
 ghost use Rattle.sql_blocks.specs.Parts.{set_columns};
-ghost use Rattle.sql_parser.specs.Tables.{is_among};
+ghost use Rattle.sql_parser.specs.Tables.{has_name};
 ghost use Rattle.sql_parser.specs.Inner.Changes.{set_value, set_add, columns_at, insert_at, update_at};
 ghost use Rattle.sql_parser.specs.Changes.{filter_at, delete_at};
 
@@ -27,7 +27,7 @@ pub struct SetList<'a> {
 }
 
 fn is_set(name: &Name, mut sets: &[(Name, Expr)]) -> bool
-    ensures { result ≡ is_among (name_of name.now) (set_columns (map set_of sets.entry.now)) }
+    ensures { result ≡ has_name (name_of name.now) (set_columns (map set_of sets.entry.now)) }
 {
     while let [set, rest @ ..] = sets {
         if same_name(&set.0, name) {

@@ -7,7 +7,7 @@ ghost use Rattle.sql_expressions.specs.Results.{Gives};
 ghost use Rattle.sql_expressions.specs.Readers.{items_at, name_at, added};
 ghost use Rattle.sql_parser.specs.Readers.{tree_at};
 ghost use Rattle.sql_parser.specs.Inner.Changes.{distinct_add, row_add};
-ghost use Rattle.sql_parser.specs.Views.{rows_of};
+ghost use Rattle.sql_parser.specs.Views.{rows_view};
 
 use crate::list::{List, items};
 use crate::part::{close, expr, is_among, name, open};
@@ -86,7 +86,7 @@ pub struct RowList<'a> {
 }
 
 impl<'a> List<'a> for RowList<'a> {
-    ghost adds = { λ last s ts r. Gives (λ x. (rows_of x.0, x.1)) r (row_add last (rows_of s) ts) };
+    ghost adds = { λ last s ts r. Gives (λ x. (rows_view x.0, x.1)) r (row_add last (rows_view s) ts) };
 
     #[tactic(auto, unfolding(crate::specs::Inner::Changes::row_add))]
     fn add<'t>(
@@ -157,7 +157,7 @@ pub fn rows<'t, 'a>(
     width: Option<usize>,
     tokens: Tokens<'t, 'a>,
 ) -> Result<(RowList<'a>, Tokens<'t, 'a>), SqlFault>
-    ensures exact { Gives (λ x. (rows_of x.0, tok_views x.1.now)) result (items_at (row_add parser.text_len) (record { rows = []; width = width }) (tok_views tokens.now)) }
+    ensures exact { Gives (λ x. (rows_view x.0, tok_views x.1.now)) result (items_at (row_add parser.text_len) (record { rows = []; width = width }) (tok_views tokens.now)) }
     ensures shorter { IfOk result (λ x. length x.1.now ≤ length tokens.now) }
 {
     let list = RowList {

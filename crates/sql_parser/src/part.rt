@@ -7,7 +7,7 @@ ghost use Rattle.sql_trees.specs.Trees.{tree_of};
 ghost use Rattle.sql_trees.specs.Statements.{name_of};
 ghost use Rattle.sql_expressions.specs.Results.{Gives};
 ghost use Rattle.sql_expressions.specs.Readers.{expect, is_sign, after, is_word, keyword, name_at};
-ghost use Rattle.sql_parser.specs.Tables.{is_among};
+ghost use Rattle.sql_parser.specs.Tables.{has_name};
 ghost use Rattle.sql_parser.specs.Inner.Parts.{misplaced_word};
 ghost use Rattle.sql_parser.specs.Readers.{tree_at};
 
@@ -95,7 +95,7 @@ pub fn expr<'t, 'a>(
 
 /// Whether one of the names is this one.
 pub fn is_among(name: &Name, mut names: &[Name]) -> bool
-    ensures { result ≡ is_among (name_of name.now) (map name_of names.entry.now) }
+    ensures { result ≡ has_name (name_of name.now) (map name_of names.entry.now) }
 {
     while let [other, rest @ ..] = names {
         if same_name(other, name) {

@@ -12,7 +12,7 @@ ghost use Rattle.sql_blocks.specs.Parts.{is_aggregate, is_allowed};
 ghost use Rattle.sql_blocks.specs.Inner.Parts.{is_all, is_sorted};
 ghost use Rattle.sql_parser.specs.Inner.Calls.{seen};
 ghost use Rattle.sql_parser.specs.Inner.Pieces.{agg_item_at};
-ghost use Rattle.sql_parser.specs.Inner.Queries.{call_at, rows_of, maybe_name, direction_at, item_at, from_at, nulls_at, order_add, order_at, lock_at, select_at};
+ghost use Rattle.sql_parser.specs.Inner.Queries.{call_at, counts_rows, maybe_name, direction_at, item_at, from_at, nulls_at, order_add, order_at, lock_at, select_at};
 ghost use Rattle.sql_parser.specs.Queries.{alias_at};
 
 use crate::change::{filter, unboxed};
@@ -78,7 +78,7 @@ fn call<'t, 'a>(tokens: Tokens<'t, 'a>) -> Option<(AggKind, Tokens<'t, 'a>)>
 
 // The tokens behind the star of `count(*)`.
 fn after_rows<'t, 'a>(kind: AggKind, tokens: Tokens<'t, 'a>) -> Option<Tokens<'t, 'a>>
-    ensures exact { option_map (λ rest. tok_views rest.now) result ≡ rows_of kind (tok_views tokens.now) }
+    ensures exact { option_map (λ rest. tok_views rest.now) result ≡ counts_rows kind (tok_views tokens.now) }
     ensures shorter { IfSome result (λ rest. length rest.now < length tokens.now) }
 {
     match kind {

@@ -6,9 +6,9 @@ ghost use Rattle.sql_trees.specs.Tokens.{tok_view, tok_views};
 ghost use Rattle.sql_expressions.specs.Results.{Gives};
 ghost use Rattle.sql_expressions.specs.Readers.{items_at};
 ghost use Rattle.sql_blocks.specs.Parts.{column_names};
-ghost use Rattle.sql_parser.specs.Tables.{is_among, placed_names, drop_at};
+ghost use Rattle.sql_parser.specs.Tables.{has_name, placed_names, drop_at};
 ghost use Rattle.sql_parser.specs.Grammar.{empty_table, kind_of};
-ghost use Rattle.sql_parser.specs.Inner.Tables.{kind_at, key_add, key_at, limits_at, column_behind, column_at, table_add, after_if};
+ghost use Rattle.sql_parser.specs.Inner.Tables.{kind_at, key_add, key_at, limits_at, column_behind, column_read, table_add, after_if};
 ghost use Rattle.sql_parser.specs.Inner.OneConstraint.{is_constraint, constraint_at, constrained};
 ghost use Rattle.sql_parser.specs.Views.{placed_of, key_text_of, table_text_of};
 
@@ -50,7 +50,7 @@ pub struct KeyColumns<'a> {
 
 /// Whether one of the names is this one.
 pub fn is_placed(name: &Name, mut names: &[PlacedName]) -> bool
-    ensures { result ≡ is_among (name_of name.now) (placed_names (map placed_of names.entry.now)) }
+    ensures { result ≡ has_name (name_of name.now) (placed_names (map placed_of names.entry.now)) }
 {
     while let [other, rest @ ..] = names {
         if same_name(&other.name, name) {
@@ -63,7 +63,7 @@ pub fn is_placed(name: &Name, mut names: &[PlacedName]) -> bool
 
 /// Whether one of the columns has this name.
 pub fn is_column(name: &Name, mut columns: &[Column]) -> bool
-    ensures { result ≡ is_among (name_of name.now) (column_names (map column_of columns.entry.now)) }
+    ensures { result ≡ has_name (name_of name.now) (column_names (map column_of columns.entry.now)) }
 {
     while let [other, rest @ ..] = columns {
         if same_name(&other.name, name) {
@@ -254,13 +254,13 @@ impl<'a> TableText<'a> {
     }
 
     // Adds the column that stands next.
-    #[tactic(auto, unfolding(crate::specs::Inner::Tables::column_at))]
+    #[tactic(auto, unfolding(crate::specs::Inner::Tables::column_read))]
     fn add_column<'t>(
         &mut self,
         parser: Parser,
         tokens: Tokens<'t, 'a>,
     ) -> Result<Tokens<'t, 'a>, SqlFault>
-        ensures exact { Gives (λ rest. (table_text_of self.new, tok_views rest.now)) result (column_at parser.text_len (table_text_of self.old) (tok_views tokens.now)) }
+        ensures exact { Gives (λ rest. (table_text_of self.new, tok_views rest.now)) result (column_read parser.text_len (table_text_of self.old) (tok_views tokens.now)) }
         ensures shorter { IfOk result (λ rest. length rest.now ≤ length tokens.now) }
     {
         let place = parser.place_of(tokens);

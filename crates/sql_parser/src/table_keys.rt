@@ -8,8 +8,8 @@ ghost use Rattle.sql_trees.specs.Tokens.{tok_views};
 ghost use Rattle.sql_expressions.specs.Results.{Gives};
 ghost use Rattle.sql_blocks.specs.Parts.{column_names};
 ghost use Rattle.sql_parser.specs.Inner.Calls.{seen};
-ghost use Rattle.sql_parser.specs.Inner.Pieces.{is_kept, resolved_keys};
-ghost use Rattle.sql_parser.specs.Tables.{is_among, completed, placed_names, resolved};
+ghost use Rattle.sql_parser.specs.Inner.Pieces.{is_kept_key, resolved_keys};
+ghost use Rattle.sql_parser.specs.Tables.{has_name, completed, placed_names, resolved};
 ghost use Rattle.sql_parser.specs.Inner.Tables.{made_name, first_lacking, text_fault, keys_fault, place_among, finished, create_at};
 ghost use Rattle.sql_parser.specs.Views.{placed_of, key_text_of, table_text_of};
 
@@ -53,7 +53,7 @@ fn made_name(alloc: Global, table: &Name, key: &KeyText) -> Result<Vec<u8>, Allo
 
 // Whether one of the texts is this one.
 fn is_text(text: &[u8], mut texts: &[Vec<u8>]) -> bool
-    ensures { result ≡ is_among text.now (map (λ v. v.items) texts.entry.now) }
+    ensures { result ≡ has_name text.now (map (λ v. v.items) texts.entry.now) }
 {
     while let [other, rest @ ..] = texts {
         if other.as_slice() == text {
@@ -121,7 +121,7 @@ fn keys_fault(
 }
 
 fn in_primary(mut keys: &[KeyText], name: &Name) -> bool
-    ensures { result ≡ list_any (λ k. k.primary && is_among (name_of name.now) (placed_names k.columns)) (map key_text_of keys.entry.now) }
+    ensures { result ≡ list_any (λ k. k.primary && has_name (name_of name.now) (placed_names k.columns)) (map key_text_of keys.entry.now) }
 {
     while let [key, rest @ ..] = keys {
         if key.primary && is_placed(name, &key.columns) {
@@ -196,8 +196,8 @@ fn resolved(alloc: Global, columns: &[Column], key: &KeyText) -> Result<Key, All
     })
 }
 
-fn is_kept(key: &KeyText, primary: bool) -> bool
-    ensures { result ≡ is_kept primary (key_text_of key.now) }
+fn is_kept_key(key: &KeyText, primary: bool) -> bool
+    ensures { result ≡ is_kept_key primary (key_text_of key.now) }
 {
     if primary { key.primary } else { !key.primary }
 }
@@ -214,7 +214,7 @@ fn push_keys(
     ensures { IfOk result (λ v. map key_of v.items ≡ map key_of all.items ++ resolved_keys primary (column_names (map column_of columns.now)) (map key_text_of keys.entry.now)) }
 {
     while let [key, rest @ ..] = keys {
-        if is_kept(key, primary) {
+        if is_kept_key(key, primary) {
             all.push(resolved(alloc, columns, key)?)?;
         }
         keys = rest;

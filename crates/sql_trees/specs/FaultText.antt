@@ -1,6 +1,6 @@
 -- What is printed of a fault of SQL.
 use Rattle.std.specs.Prelude.{ℕ, List, codes}
-use Rattle.iso_lexer.specs.FaultText.{placed, fault_text}
+use Rattle.iso_lexer.specs.FaultText.{with_place, fault_text}
 use Rattle.sql_trees.specs.declared.fault.SqlFault.{SqlFault}
 use Rattle.sql_trees.specs.declared.fault.SqlFault.TheVariants.{Memory, Lex, Syntax, LeftOut, TooDeep, TooMany, DdlInSession, BadColumns}
 
@@ -8,9 +8,9 @@ use Rattle.sql_trees.specs.declared.fault.SqlFault.TheVariants.{Memory, Lex, Syn
 abbrev pub sql_fault_text : SqlFault → List ℕ
 sql_fault_text Memory = codes "Memory"
 sql_fault_text (Lex f) = fault_text f
-sql_fault_text (Syntax n) = placed (codes "Q1 Syntax") n
-sql_fault_text (LeftOut n) = placed (codes "Q2 LeftOut") n
-sql_fault_text (TooDeep n) = placed (codes "Q3 TooDeep") n
-sql_fault_text (TooMany n) = placed (codes "Q4 TooMany") n
-sql_fault_text (DdlInSession n) = placed (codes "Q5 DdlInSession") n
-sql_fault_text (BadColumns n) = placed (codes "Q6 BadColumns") n
+sql_fault_text (Syntax n) = with_place (codes "Q1 Syntax") n
+sql_fault_text (LeftOut n) = with_place (codes "Q2 LeftOut") n
+sql_fault_text (TooDeep n) = with_place (codes "Q3 TooDeep") n
+sql_fault_text (TooMany n) = with_place (codes "Q4 TooMany") n
+sql_fault_text (DdlInSession n) = with_place (codes "Q5 DdlInSession") n
+sql_fault_text (BadColumns n) = with_place (codes "Q6 BadColumns") n

@@ -4,15 +4,15 @@ use Rattle.sql_trees.specs.declared.fault.SqlFault.{SqlFault}
 use Rattle.sql_trees.specs.declared.fault.SqlFault.TheVariants.{Memory, Lex, Syntax, LeftOut, TooDeep, TooMany, DdlInSession, BadColumns}
 
 -- the byte at which a fault stands
-abbrev pub place : SqlFault → ℕ
-place Memory = 0
-place (Lex f) = f.at
-place (Syntax n) = n
-place (LeftOut n) = n
-place (TooDeep n) = n
-place (TooMany n) = n
-place (DdlInSession n) = n
-place (BadColumns n) = n
+abbrev pub fault_place : SqlFault → ℕ
+fault_place Memory = 0
+fault_place (Lex f) = f.at
+fault_place (Syntax n) = n
+fault_place (LeftOut n) = n
+fault_place (TooDeep n) = n
+fault_place (TooMany n) = n
+fault_place (DdlInSession n) = n
+fault_place (BadColumns n) = n
 
 -- the same fault behind so many more bytes
 abbrev pub moved : ℕ → SqlFault → SqlFault

@@ -8,8 +8,8 @@ use Rattle.sql_trees.specs.declared.word.Word.TheVariants.{Insert, Into, Values,
 use Rattle.sql_trees.specs.declared.word.Word.TheVariants.{And, Or, Not, Is, In, Between, Null, True, False, Unknown, Count, Sum, Min, Max, Excluded, LeftOut}
 
 -- each word of a line, as this one
-abbrev pub each : Word → List ℕ → List (List ℕ × Word)
-each w line = map (λ text. (text, w)) (words_of line)
+abbrev pub words_as : Word → List ℕ → List (List ℕ × Word)
+words_as w line = map (λ text. (text, w)) (words_of line)
 
 unfoldable pub keywords : List (List ℕ × Word)
 keywords =
@@ -28,10 +28,10 @@ keywords =
     ++ zip (words_of (codes "and or not is in between null true false unknown count sum min max"))
     (And ∷ Or ∷ Not ∷ Is ∷ In ∷ Between ∷ Null ∷ True ∷ False ∷ Unknown ∷ Count ∷ Sum ∷ Min ∷ Max ∷ [])
     -- no names: they stand for a part that is left out
-    ++ each Excluded (codes "all any case cast check collate constraint cross default distinct else except fetch foreign full group having ilike inner intersect")
-    ++ each Excluded (codes "isnull join left like limit natural notnull offset on outer references returning right similar then union using when window with")
+    ++ words_as Excluded (codes "all any case cast check collate constraint cross default distinct else except fetch foreign full group having ilike inner intersect")
+    ++ words_as Excluded (codes "isnull join left like limit natural notnull offset on outer references returning right similar then union using when window with")
     -- names: where none can stand, they stand for a part that is left out
-    ++ each LeftOut (codes "alter copy deferrable execute explain index lock no nowait only prepare release savepoint sequence serializable skip truncate vacuum view")
+    ++ words_as LeftOut (codes "alter copy deferrable execute explain index lock no nowait only prepare release savepoint sequence serializable skip truncate vacuum view")
 
 -- the words that are no name, unless they stand in quotes (PostgreSQL manual, appendix C)
 unfoldable pub reserved_words : List (List ℕ)

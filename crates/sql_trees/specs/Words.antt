@@ -32,5 +32,5 @@ abbrev pub spellings : (Word → Bool) → List (List ℕ)
 spellings class = map (λ k. k.0) (filter (λ k. class k.1) keywords)
 
 -- the name of an aggregate
-abbrev pub is_aggregate : Word → Bool
-is_aggregate w = list_any (same_word w) (Count ∷ Sum ∷ Min ∷ Max ∷ [])
+abbrev pub names_aggregate : Word → Bool
+names_aggregate w = list_any (same_word w) (Count ∷ Sum ∷ Min ∷ Max ∷ [])

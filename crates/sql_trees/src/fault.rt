@@ -2,7 +2,7 @@
 
 ghost use Rattle.std.specs.Prelude.{◌≡◌, ◌+◌, ◌<◌, ◌^◌, Some};
 ghost use Rattle.sql_trees.specs.declared.fault.SqlFault.TheVariants.{Memory};
-ghost use Rattle.sql_trees.specs.Faults.{place, moved};
+ghost use Rattle.sql_trees.specs.Faults.{fault_place, moved};
 ghost use Rattle.sql_trees.specs.FaultText.{sql_fault_text};
 
 use iso_lexer::Fault;
@@ -69,7 +69,7 @@ impl<T: Drop> From<AllocFailed<T>> for SqlFault {
 impl SqlFault {
     /// The same fault in a text in front of which so many bytes stand.
     pub fn moved(self, by: usize) -> SqlFault
-        requires { place self + by < 2 ^ 64 }
+        requires { fault_place self + by < 2 ^ 64 }
         ensures { result ≡ moved by self }
     {
         match self {

@@ -4,7 +4,7 @@ ghost use Rattle.std.specs.Prelude.{◌≡◌, ◌↔◌, IsTrue, map};
 ghost use Rattle.std.specs.Str.{str_eq_ignore_ascii_case};
 ghost use Rattle.sql_trees.specs.Keywords.{reserved_words, left_out_words};
 ghost use Rattle.sql_trees.specs.Inner.Spellings.{first_spelled};
-ghost use Rattle.sql_trees.specs.Words.{word_of, same_word, spellings, is_reserved, is_left_out, is_aggregate};
+ghost use Rattle.sql_trees.specs.Words.{word_of, same_word, spellings, is_reserved, is_left_out, names_aggregate};
 
 /// What a word is to the grammar. Synonyms are one.
 #[derive(Clone, Copy, PartialEq, Eq)]
@@ -289,7 +289,7 @@ impl Word {
 
     /// Whether the word is an aggregate's name.
     pub fn is_aggregate(self) -> bool
-        ensures { result ≡ is_aggregate self }
+        ensures { result ≡ names_aggregate self }
     {
         matches!(self, Word::Count | Word::Sum | Word::Min | Word::Max)
     }

@@ -5,8 +5,8 @@ use Rattle.sql_trees.specs.declared.kind.Kind.{Kind}
 use Rattle.sql_trees.specs.declared.stmt.Column.{Column}
 
 -- a column by the bytes that its name stands for, and its kind
-abbrev pub column_of : Column → List ℕ × Kind
-column_of c = (decoded (name_view c.name), c.kind)
+abbrev pub known_column : Column → List ℕ × Kind
+known_column c = (decoded (name_view c.name), c.kind)
 
 abbrev pub columns_of : List Column → List (List ℕ × Kind)
-columns_of cs = map column_of cs
+columns_of cs = map known_column cs

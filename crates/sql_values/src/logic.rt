@@ -5,7 +5,7 @@ ghost use Rattle.std.specs.Option.{option_map_or};
 ghost use Rattle.sql_values.specs.declared.value.Value.TheVariants.{Null as SqlNull, Bool as SqlBool};
 ghost use Rattle.sql_values.specs.Values.{is_null};
 ghost use Rattle.sql_values.specs.Logic.{truth, is_test, condition, decided_by};
-ghost use Rattle.sql_values.specs.Inner.Asked.{asks};
+ghost use Rattle.sql_values.specs.Inner.Asked.{truth_asked};
 
 use crate::fault::ValueFault;
 use crate::value::Value;
@@ -76,7 +76,7 @@ pub fn condition<'a>(
 
 /// Whether `IS` finds in a condition what it asks for.
 fn asks(truth: Truth, known: Option<bool>) -> bool
-    ensures { result ≡ asks truth known }
+    ensures { result ≡ truth_asked truth known }
 {
     match (truth, known) {
         (Truth::Null | Truth::Unknown, known) => known.is_none(),

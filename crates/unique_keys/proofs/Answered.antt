@@ -12,7 +12,7 @@ use Rattle.unique_keys.specs.declared.key_index.Found.{Found}
 use Rattle.unique_keys.specs.declared.key_index.Found.TheVariants as found
 use Rattle.unique_keys.specs.Members.{EachOnce}
 use Rattle.row_versions.specs.Members.{is_none_of}
-use Rattle.unique_keys.specs.Keys.{Keys, columns_at}
+use Rattle.unique_keys.specs.Keys.{Keys, columns_of_key}
 use Rattle.unique_keys.specs.Writes.{IsUpToDate}
 use Rattle.unique_keys.specs.Inner.Finding.{is_in_way, blockers_among, is_taken_among}
 use Rattle.unique_keys.specs.Checks.{KeyIsHeld, FindsKey, NamesBlockers, key_blockers, is_taken, found_by, found_of, key_found}
@@ -79,19 +79,19 @@ as_asked by taken columns found.Taken h = h
 as_asked by taken columns (found.Held who) h = h
 
 -- the blockers of a key of the table, with the table's own parts in place of those that were lent
-pub blockers_lent : (c : Content) (tx : TxId) (t : Keys) (asked lent : List Value) (table : TableId) (columns : List ℕ) (key : ℕ) → table ≡ t.table → lent ≡ asked → columns ≡ columns_at t key
-    → key_blockers c table tx lent columns ≡ key_blockers c t.table tx asked (columns_at t key)
+pub blockers_lent : (c : Content) (tx : TxId) (t : Keys) (asked lent : List Value) (table : TableId) (columns : List ℕ) (key : ℕ) → table ≡ t.table → lent ≡ asked → columns ≡ columns_of_key t key
+    → key_blockers c table tx lent columns ≡ key_blockers c t.table tx asked (columns_of_key t key)
 blockers_lent c tx t asked lent table columns key e1 e2 e3 =
     ap (λ v. key_blockers c v tx lent columns) e1 ∙ ap (λ v. key_blockers c t.table tx v columns) e2 ∙ ap (λ v. key_blockers c t.table tx asked v) e3
 
 -- what is found of it, likewise
 pub finds_here : (c : Content) (tx : TxId) (except : Option RowId) (t : Keys) (asked lent : List Value) (table : TableId) (columns : List ℕ) (f : Found) (key : ℕ)
-    → table ≡ t.table → lent ≡ asked → columns ≡ columns_at t key
+    → table ≡ t.table → lent ≡ asked → columns ≡ columns_of_key t key
     → key_found c table tx except lent columns ≡ found_of f → NamesBlockers (key_blockers c table tx lent columns) f
-    → FindsKey (key_blockers c t.table tx asked) (is_taken c t.table tx except asked) (columns_at t key) f
+    → FindsKey (key_blockers c t.table tx asked) (is_taken c t.table tx except asked) (columns_of_key t key) f
 finds_here c tx except t asked lent table columns f key e1 e2 e3 found names =
-    as_asked (key_blockers c t.table tx asked) (is_taken c t.table tx except asked) (columns_at t key) f
-    (finds_key (key_blockers c t.table tx asked (columns_at t key)) (is_taken c t.table tx except asked (columns_at t key)) f
+    as_asked (key_blockers c t.table tx asked) (is_taken c t.table tx except asked) (columns_of_key t key) f
+    (finds_key (key_blockers c t.table tx asked (columns_of_key t key)) (is_taken c t.table tx except asked (columns_of_key t key)) f
     (sym (ap (λ v. key_found c v tx except lent columns) e1 ∙ ap (λ v. key_found c t.table tx except v columns) e2 ∙ ap (λ v. key_found c t.table tx except asked v) e3) ∙ found)
     (subst (λ v. NamesBlockers v f) (blockers_lent c tx t asked lent table columns key e1 e2 e3) names))
 

@@ -13,7 +13,7 @@ use Rattle.row_versions.specs.Log.{Content, IsOpen, fate_of, commit_count, is_op
 use Rattle.row_versions.specs.Inner.Searching.{is_committed}
 use Rattle.unique_keys.specs.declared.noted.Noted.{Noted}
 use Rattle.row_versions.specs.Members.{same_tx}
-use Rattle.unique_keys.specs.Writes.{noted_of, writes, stands, without, IsUpToDate}
+use Rattle.unique_keys.specs.Writes.{noted_of, writes, stands, notes_without, IsUpToDate}
 use Rattle.unique_keys.specs.Laws.{StaysUpToDate}
 use Rattle.unique_keys.proofs.Filtered.{filter-filter}
 
@@ -78,7 +78,7 @@ keeps_up index c up = record {
       ∙ ap (λ b. filter (stands c.fates) (writes c) ++ cond b (noted_of w ∷ []) []) (sym (own_stands c.fates w.tx is_open (noted_of w) (same w.tx)))
       ∙ sym (ap (λ v. filter (stands c.fates) v) (map-append noted_of c.log (w ∷ [])) ∙ filter-append (stands c.fates) (writes c) (noted_of w ∷ []));
   commits = λ tx is_open. up ∙ sym (filter_agree (stands (set c.fates tx.0 (Committed (commit_count c)))) (stands c.fates) (committed_same c.fates tx (commit_count c) is_open) (writes c));
-  rolls_back = λ tx is_open. ap (without tx) up
+  rolls_back = λ tx is_open. ap (notes_without tx) up
       ∙ filter-filter (stands c.fates) (λ w. not (same_tx w.tx tx)) (stands (set c.fates tx.0 RolledBack)) (left_same tx is_open) (left_stands tx is_open) (writes c);
 } where
   same : (tx : TxId) → same_tx tx tx ≡ true

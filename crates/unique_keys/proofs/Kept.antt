@@ -9,8 +9,8 @@ use Rattle.row_versions.specs.declared.write.Fate.TheVariants.{Open, RolledBack,
 use Rattle.row_versions.specs.Log.{Content, IsOpen, fate_of, commit_count, empty_content, after_begin, after_commit, after_roll_back, after_write}
 use Rattle.unique_keys.specs.declared.noted.Noted.{Noted}
 use Rattle.row_versions.specs.Members.{same_tx}
-use Rattle.unique_keys.specs.Writes.{noted_of, without}
-use Rattle.unique_keys.specs.Laws.{KeepsUp, GoesOn}
+use Rattle.unique_keys.specs.Writes.{noted_of, notes_without}
+use Rattle.unique_keys.specs.Laws.{KeepsUp, GoesOnUpToDate}
 use Rattle.unique_keys.proofs.Keeping.{keeps_up}
 
 and_left : (a b : Bool) → (a && b) ≡ true → a ≡ true
@@ -78,24 +78,24 @@ kept_commit index c tx k is_open = record {
   begun = still_begun c.fates (set c.fates tx.0 (Committed (commit_count c))) (λ i. begun-set c.fates tx.0 i (Committed (commit_count c))) c.log k.begun;
 }
 
-pub kept_roll_back : (index : List Noted) (c : Content) (tx : TxId) → KeepsUp index c → IsOpen c tx → KeepsUp (without tx index) (after_roll_back c tx)
+pub kept_roll_back : (index : List Noted) (c : Content) (tx : TxId) → KeepsUp index c → IsOpen c tx → KeepsUp (notes_without tx index) (after_roll_back c tx)
 kept_roll_back index c tx k is_open = record {
   up_to_date = (keeps_up index c k.up_to_date).rolls_back tx is_open;
   begun = still_begun c.fates (set c.fates tx.0 RolledBack) (λ i. begun-set c.fates tx.0 i RolledBack) c.log k.begun;
 }
 
 -- a last write of the transaction itself leaves nothing either
-without_last : (index : List Noted) (w : Noted) → without w.tx (index ++ w ∷ []) ≡ without w.tx index
+without_last : (index : List Noted) (w : Noted) → notes_without w.tx (index ++ w ∷ []) ≡ notes_without w.tx index
 without_last [] w = ap (λ b. cond (not b) (w ∷ []) []) (eq-eqb w.tx.0 w.tx.0 refl)
 without_last (v ∷ index) w = ap (λ vs. cond (not (same_tx v.tx w.tx)) (v ∷ vs) vs) (without_last index w)
 
 -- a write that wasn't noted, and was then rolled back
-pub kept_take_back : (index : List Noted) (c : Content) (w : Write) → KeepsUp index c → IsOpen c w.tx → KeepsUp (without w.tx index) (after_roll_back (after_write c w) w.tx)
+pub kept_take_back : (index : List Noted) (c : Content) (w : Write) → KeepsUp index c → IsOpen c w.tx → KeepsUp (notes_without w.tx index) (after_roll_back (after_write c w) w.tx)
 kept_take_back index c w k is_open =
     subst (λ left. KeepsUp left (after_roll_back (after_write c w) w.tx)) (without_last index (noted_of w))
     (kept_roll_back (index ++ noted_of w ∷ []) (after_write c w) w.tx (kept_write index c w k is_open) is_open)
 
-pub goes_on : (index : List Noted) (c : Content) → KeepsUp index c → GoesOn index c
+pub goes_on : (index : List Noted) (c : Content) → KeepsUp index c → GoesOnUpToDate index c
 goes_on index c k = record {
   begins = kept_begin index c k;
   writes = λ w is_open. kept_write index c w k is_open;

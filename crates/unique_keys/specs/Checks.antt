@@ -16,7 +16,7 @@ use Rattle.unique_keys.specs.declared.keys.Check.TheVariants.{Free, Taken, Held}
 use Rattle.unique_keys.specs.declared.key_index.Found.{Found}
 use Rattle.unique_keys.specs.declared.key_index.Found.TheVariants as found
 use Rattle.unique_keys.specs.Members.{EachOnce}
-use Rattle.unique_keys.specs.Keys.{Keys, columns_at, has_key}
+use Rattle.unique_keys.specs.Keys.{Keys, columns_of_key, has_key}
 
 -- what the row's newest committed version gave it
 abbrev pub committed_values : Content → RowId → Option (List Value)
@@ -66,7 +66,7 @@ IsFree by taken columns = (by columns ≡ []) × (taken columns ≡ false)
 
 -- all keys before that number are free
 abbrev pub FreeBefore : (List ℕ → List TxId) → (List ℕ → Bool) → Keys → ℕ → Type 0
-FreeBefore by taken t n = (key : ℕ) → key < n → IsFree by taken (columns_at t key)
+FreeBefore by taken t n = (key : ℕ) → key < n → IsFree by taken (columns_of_key t key)
 
 -- what is found of one key: it is held where it has blockers, and else taken where another row has it
 abbrev pub FindsKey : (List ℕ → List TxId) → (List ℕ → Bool) → List ℕ → Found → Type 0
@@ -77,8 +77,8 @@ FindsKey by taken columns (found.Held who) = (by columns ≢ []) × EachOnce (by
 -- what is found of the keys: the first one in declared order that isn't free decides
 abbrev pub Finds : (List ℕ → List TxId) → (List ℕ → Bool) → Keys → Check → Type 0
 Finds by taken t Free = FreeBefore by taken t (length t.keys)
-Finds by taken t (Taken key) = (key < length t.keys) × FreeBefore by taken t key × FindsKey by taken (columns_at t key) found.Taken
-Finds by taken t (Held key who) = (key < length t.keys) × FreeBefore by taken t key × FindsKey by taken (columns_at t key) (found.Held who)
+Finds by taken t (Taken key) = (key < length t.keys) × FreeBefore by taken t key × FindsKey by taken (columns_of_key t key) found.Taken
+Finds by taken t (Held key who) = (key < length t.keys) × FreeBefore by taken t key × FindsKey by taken (columns_of_key t key) (found.Held who)
 
 -- what is found of the keys of a row that the transaction is about to write, in place of the row that is left aside or as a new one
 abbrev pub FindsKeys : Content → Keys → List Value → TxId → Option RowId → Check → Type 0

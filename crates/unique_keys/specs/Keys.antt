@@ -14,8 +14,8 @@ pub record Keys : Type 0 where
   pub keys : List (List ℕ)
 
 -- the columns of the key of that number
-abbrev pub columns_at : Keys → ℕ → List ℕ
-columns_at t key = slice_index_or t.keys key []
+abbrev pub columns_of_key : Keys → ℕ → List ℕ
+columns_of_key t key = slice_index_or t.keys key []
 
 -- a version has the asked row's key: it is not gone, and equal in all columns of the key, as `=` has it: NULL is equal to nothing, also not to NULL
 abbrev pub has_key : List ℕ → List Value → Option (List Value) → Bool

@@ -10,7 +10,7 @@ use Rattle.row_versions.specs.declared.names.TableId.{TableId}
 use Rattle.row_versions.specs.declared.write.Write.{Write}
 use Rattle.row_versions.specs.Log.{Content, IsOpen, fate_of, empty_content, after_begin, after_commit, after_roll_back, after_write}
 use Rattle.unique_keys.specs.declared.noted.Noted.{Noted}
-use Rattle.unique_keys.specs.Writes.{noted_of, without, IsUpToDate}
+use Rattle.unique_keys.specs.Writes.{noted_of, notes_without, IsUpToDate}
 use Rattle.unique_keys.specs.Checks.{key_blockers, is_taken, IsFree}
 
 -- the row has NULL in some column of the key
@@ -31,7 +31,7 @@ pub record StaysUpToDate (index : List Noted) (c : Content) : Type 0 where
   pub begins : have_begun c ≡ true → IsUpToDate index (after_begin c)
   pub writes : (w : Write) → IsOpen c w.tx → IsUpToDate (index ++ noted_of w ∷ []) (after_write c w)
   pub commits : (tx : TxId) → IsOpen c tx → IsUpToDate index (after_commit c tx)
-  pub rolls_back : (tx : TxId) → IsOpen c tx → IsUpToDate (without tx index) (after_roll_back c tx)
+  pub rolls_back : (tx : TxId) → IsOpen c tx → IsUpToDate (notes_without tx index) (after_roll_back c tx)
 
 abbrev pub IndexKeepsUp : Type 0
 IndexKeepsUp = IsUpToDate [] empty_content × ((index : List Noted) (c : Content) → IsUpToDate index c → StaysUpToDate index c)
@@ -42,12 +42,12 @@ pub record KeepsUp (index : List Noted) (c : Content) : Type 0 where
   pub begun : have_begun c ≡ true
 
 -- an index that keeps up goes on to do so, also where a write can't be noted and its transaction is rolled back for that
-pub record GoesOn (index : List Noted) (c : Content) : Type 0 where
+pub record GoesOnUpToDate (index : List Noted) (c : Content) : Type 0 where
   pub begins : KeepsUp index (after_begin c)
   pub writes : (w : Write) → IsOpen c w.tx → KeepsUp (index ++ noted_of w ∷ []) (after_write c w)
   pub commits : (tx : TxId) → IsOpen c tx → KeepsUp index (after_commit c tx)
-  pub rolls_back : (tx : TxId) → IsOpen c tx → KeepsUp (without tx index) (after_roll_back c tx)
-  pub takes_back : (w : Write) → IsOpen c w.tx → KeepsUp (without w.tx index) (after_roll_back (after_write c w) w.tx)
+  pub rolls_back : (tx : TxId) → IsOpen c tx → KeepsUp (notes_without tx index) (after_roll_back c tx)
+  pub takes_back : (w : Write) → IsOpen c w.tx → KeepsUp (notes_without w.tx index) (after_roll_back (after_write c w) w.tx)
 
 abbrev pub IndexGoesOn : Type 0
-IndexGoesOn = KeepsUp [] empty_content × ((index : List Noted) (c : Content) → KeepsUp index c → GoesOn index c)
+IndexGoesOn = KeepsUp [] empty_content × ((index : List Noted) (c : Content) → KeepsUp index c → GoesOnUpToDate index c)

@@ -25,5 +25,5 @@ abbrev pub IsUpToDate : List Noted → Content → Type 0
 IsUpToDate index c = index ≡ filter (stands c.fates) (writes c)
 
 -- what is left without the transaction's writes
-abbrev pub without : TxId → List Noted → List Noted
-without tx index = filter (λ w. not (same_tx w.tx tx)) index
+abbrev pub notes_without : TxId → List Noted → List Noted
+notes_without tx index = filter (λ w. not (same_tx w.tx tx)) index

@@ -4,8 +4,8 @@ ghost use Rattle.std.specs.Option.{option_copied};
 ghost use Rattle.row_versions.specs.Log.{Content, IsOpen};
 ghost use Rattle.unique_keys.specs.Members.{EachOnce};
 ghost use Rattle.row_versions.specs.Members.{is_none_of};
-ghost use Rattle.unique_keys.specs.Keys.{columns_at};
-ghost use Rattle.unique_keys.specs.Writes.{IsUpToDate, without};
+ghost use Rattle.unique_keys.specs.Keys.{columns_of_key};
+ghost use Rattle.unique_keys.specs.Writes.{IsUpToDate, notes_without};
 ghost use Rattle.unique_keys.specs.Checks.{FindsKeys, NamesBlockers, key_blockers, found_of, key_found};
 
 use crate::blocking::{blockers, is_blocked};
@@ -92,7 +92,7 @@ impl KeyIndex {
 
     /// A transaction that was rolled back leaves the index, as if it had never written. It takes no memory.
     pub fn forget(&mut self, tx: TxId)
-        ensures { self.new ≡ without tx self.old }
+        ensures { self.new ≡ notes_without tx self.old }
     {
         self.noted.retain(|note| note.tx.0 != tx.0);
     }
@@ -200,7 +200,7 @@ impl KeyIndex {
         tx: TxId,
     ) -> Result<SmallVec<TxId, 4>, AllocError>
         ensures { IfOk result (λ by. IsUpToDate self.now (V.content store.now) → IsOpen (V.content store.now) tx
-            → EachOnce (key_blockers (V.content store.now) keys.now.table tx values.now (columns_at keys.now key)) by.items) }
+            → EachOnce (key_blockers (V.content store.now) keys.now.table tx values.now (columns_of_key keys.now key)) by.items) }
     {
         let columns = columns_at(keys, key as usize);
         self.blockers(store, keys.table, columns, values.values(), tx)
@@ -209,7 +209,7 @@ impl KeyIndex {
 
 /// The columns of the key of that number.
 fn columns_at(keys: &TableKeys, key: usize) -> &[u32]
-    ensures { result.now ≡ columns_at keys.now key }
+    ensures { result.now ≡ columns_of_key keys.now key }
 {
     match keys.keys.get(key) {
         Some(columns) => columns.as_slice(),

@@ -16,21 +16,21 @@ use Rattle.update_recheck.specs.Asked.{Asked}
 use Rattle.update_recheck.specs.Outcome.{Version, Outcome, row_blockers, stop, version_at, newest_version, target_outcome, is_target_locked}
 use Rattle.update_recheck.specs.Outcome as by_stop
 use Rattle.update_recheck.specs.Outcome.Version.{Same, Gone, Newer}
-use Rattle.update_recheck.specs.Outcome.Outcome.{Takes, Skips, Waits, Deadlocks, Serializes, Faults}
+use Rattle.update_recheck.specs.Outcome.Outcome.{Takes, Waits, Deadlocks}
 use Rattle.update_recheck.specs.Inner.Cases.{Holders, outcome, is_locked, holders}
 use Rattle.update_recheck.specs.Inner.Cases.Holders.{Nobody, Others, OthersInACycle}
-use Rattle.update_recheck.specs.Inner.Stopping.{stop_of, version_of}
+use Rattle.update_recheck.specs.Inner.Stopping.{holders_stop, version_of}
 
-stop_by : (nobody closing : Bool) → (let due : Option Outcome = if nobody then None else Some (if closing then Deadlocks else Waits) in due) ≡ stop_of (if nobody then Nobody else if closing then OthersInACycle else Others)
+stop_by : (nobody closing : Bool) → (let due : Option Outcome = if nobody then None else Some (if closing then Deadlocks else Waits) in due) ≡ holders_stop (if nobody then Nobody else if closing then OthersInACycle else Others)
 stop_by true closing = refl
 stop_by false true = refl
 stop_by false false = refl
 
 -- what stops a target, by who holds it
-stop_is : (held : List Held) (waits : List Waiting) (ask : Asked) → stop held waits ask ≡ stop_of (holders held waits ask)
+stop_is : (held : List Held) (waits : List Waiting) (ask : Asked) → stop held waits ask ≡ holders_stop (holders held waits ask)
 stop_is held waits ask = stop_by (is_none_of (row_blockers held ask)) (closes waits ask.tx (row_blockers held ask))
 
-by_case : (level : Level) (found : Seen) (h : Holders) (v : Version) → by_stop.outcome level found (stop_of h) v ≡ outcome level found h v
+by_case : (level : Level) (found : Seen) (h : Holders) (v : Version) → by_stop.outcome level found (holders_stop h) v ≡ outcome level found h v
 by_case ReadCommitted found OthersInACycle Same = refl
 by_case ReadCommitted found OthersInACycle Gone = refl
 by_case ReadCommitted found OthersInACycle (Newer m (Ok true)) = refl

@@ -17,7 +17,7 @@ use Rattle.update_recheck.proofs.Cases.{outcome_is, locked_is}
 use Rattle.update_recheck.specs.Laws.{OutcomesByWhatIsHeld}
 use Rattle.update_recheck.specs.Outcome.Outcome.{Waits, Deadlocks}
 use Rattle.update_recheck.specs.Settling.{SameMembers}
-use Rattle.update_recheck.specs.Inner.Stopping.{stop_of, holders_of}
+use Rattle.update_recheck.specs.Inner.Stopping.{holders_stop, holders_of}
 
 -- lists with the same members are empty together
 pub none_same : (xs ys : List TxId) → SameMembers xs ys → is_none_of xs ≡ is_none_of ys
@@ -26,16 +26,16 @@ none_same [] (y ∷ ys) each = let h = or_left (same_tx y y) (has ys y) (is_same
 none_same (x ∷ xs) [] each = let h = or_left (same_tx x x) (has xs x) (is_same x) in let e = each x in cc
 none_same (x ∷ xs) (y ∷ ys) each = refl
 
-pub stops_never : (others : List TxId) (b closing : Bool) → b ≡ is_none_of others → b ≡ true → None ≡ stop_of (holders_of others closing)
+pub stops_never : (others : List TxId) (b closing : Bool) → b ≡ is_none_of others → b ≡ true → None ≡ holders_stop (holders_of others closing)
 stops_never [] b closing e h = refl
 stops_never (x ∷ others) b closing e h = cc
 
-pub stops_so : (others : List TxId) (b closing fails : Bool) → b ≡ is_none_of others → b ≡ false → fails ≡ closing → fails ≡ true → Some Deadlocks ≡ stop_of (holders_of others closing)
+pub stops_so : (others : List TxId) (b closing fails : Bool) → b ≡ is_none_of others → b ≡ false → fails ≡ closing → fails ≡ true → Some Deadlocks ≡ holders_stop (holders_of others closing)
 stops_so [] b closing fails e h k m = cc
 stops_so (x ∷ others) b true fails e h k m = refl
 stops_so (x ∷ others) b false fails e h k m = cc
 
-pub stops_by_waiting : (others : List TxId) (b closing fails : Bool) → b ≡ is_none_of others → b ≡ false → fails ≡ closing → fails ≡ false → Some Waits ≡ stop_of (holders_of others closing)
+pub stops_by_waiting : (others : List TxId) (b closing fails : Bool) → b ≡ is_none_of others → b ≡ false → fails ≡ closing → fails ≡ false → Some Waits ≡ holders_stop (holders_of others closing)
 stops_by_waiting [] b closing fails e h k m = cc
 stops_by_waiting (x ∷ others) b false fails e h k m = refl
 stops_by_waiting (x ∷ others) b true fails e h k m = cc

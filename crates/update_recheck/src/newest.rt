@@ -2,7 +2,7 @@
 ghost use Rattle.std.specs.Prelude.{◌≡◌};
 ghost use Rattle.update_recheck.specs.Asked.{Fits, asked};
 ghost use Rattle.update_recheck.specs.Outcome.{newest_version as version_now};
-ghost use Rattle.update_recheck.specs.Inner.Found.{told, IsWhole};
+ghost use Rattle.update_recheck.specs.Inner.Found.{told, NewestIsWhole};
 
 use crate::ask::Ask;
 use row_versions::{Seen, Versions};
@@ -20,7 +20,7 @@ pub enum Newest<'s> {
 pub fn newest_version<'s, V: Versions>(store: &'s V, ask: &Ask<'_, '_>) -> Newest<'s>
     requires { Fits (V.content store.now) (asked ask.now) }
     ensures version { told (asked ask.now) result ≡ version_now (V.content store.now) (asked ask.now) }
-    ensures whole { IsWhole (asked ask.now) result }
+    ensures whole { NewestIsWhole (asked ask.now) result }
 {
     let Some(newest) = store.newest(ask.seen.row, ask.tx) else {
         return Newest::Gone;

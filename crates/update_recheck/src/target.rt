@@ -9,8 +9,8 @@ ghost use Rattle.update_recheck.specs.Asked.{Fits, asked};
 ghost use Rattle.update_recheck.specs.Outcome.{row_blockers, is_target_locked, target_outcome};
 ghost use Rattle.update_recheck.specs.Inner.Cases.{holders, is_locked, outcome, rechecked};
 ghost use Rattle.update_recheck.specs.Settling.{LocksAfter, locks_after, SameMembers, WaitsFor, lock_of, outcome_of};
-ghost use Rattle.update_recheck.specs.Inner.Stopping.{stop_of};
-ghost use Rattle.update_recheck.specs.Inner.Found.{told, IsWhole};
+ghost use Rattle.update_recheck.specs.Inner.Stopping.{holders_stop};
+ghost use Rattle.update_recheck.specs.Inner.Found.{told, NewestIsWhole};
 
 use crate::ask::{Ask, Settled};
 use crate::newest::{Newest, newest_version};
@@ -53,7 +53,7 @@ fn settle_read_committed<'t>(
     ask: &Ask<'_, 't>,
     newest: Newest<'_>,
 ) -> Result<Settled<'t>, AllocError>
-    requires { IsWhole (asked ask.now) newest }
+    requires { NewestIsWhole (asked ask.now) newest }
     ensures outcome { IfOk result (λ s. outcome_of s ≡ outcome Level.ReadCommitted (asked ask.now).seen (holders locks.old waits.now (asked ask.now)) (told (asked ask.now) newest.entry)) }
     ensures blockers { IfOk result (λ s. WaitsFor (row_blockers locks.old (asked ask.now)) s) }
     ensures locks { OnOk result (LocksAfter (is_locked Level.ReadCommitted (holders locks.old waits.now (asked ask.now)) (told (asked ask.now) newest.entry)) locks.old (lock_of (asked ask.now)) locks.new) }
@@ -102,7 +102,7 @@ fn stopped<'t>(
     waits: &Waits,
     ask: &Ask<'_, 't>,
 ) -> Result<Option<Settled<'t>>, AllocError>
-    ensures stop { IfOk result (λ stop. option_map outcome_of stop ≡ stop_of (holders locks.now waits.now (asked ask.now))) }
+    ensures stop { IfOk result (λ stop. option_map outcome_of stop ≡ holders_stop (holders locks.now waits.now (asked ask.now))) }
     ensures blockers { IfOk result (λ stop. IfSome stop (λ s. WaitsFor (row_blockers locks.now (asked ask.now)) s)) }
 {
     let found = locks.against(ask.seen.row, ask.tx, ask.strength)?;

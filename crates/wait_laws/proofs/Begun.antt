@@ -27,7 +27,7 @@ use Rattle.session_machine.specs.declared.fault.Refusal.TheVariants.{Busy, NotYo
 use Rattle.session_machine.specs.Tables.{Database, Table}
 use Rattle.session_machine.specs.Transactions.{view_of}
 use Rattle.session_machine.specs.Inner.Statements.{begun, commits_seen}
-use Rattle.session_machine.specs.Inner.Pieces.{columns_at}
+use Rattle.session_machine.specs.Inner.Pieces.{table_columns}
 use Rattle.session_machine.specs.Targets.{at_places}
 use Rattle.session_machine.specs.Running.{run_stmt}
 use Rattle.session_machine.specs.Machine.{Machine, Blocks, Next, next, opening, stmts_of, at_rest, with_session, session_of}
@@ -321,7 +321,7 @@ finds db e p same = record {
       let seen = same.stays.rows p.table in
       let rows = shown_stays p.view db.content e.content p.table.0 same.stays in
       let found : slice_get e.catalog.tables p.table.0 ≡ slice_get db.catalog.tables p.table.0 = same.tables p.table.0 made there ∙ sym there in
-      let columns : columns_at e.catalog p.table.0 ≡ columns_at db.catalog p.table.0 =
+      let columns : table_columns e.catalog p.table.0 ≡ table_columns db.catalog p.table.0 =
       ap (λ (o : Option Table). unwrap_or (option_map (λ (y : Table). y.made.columns) o) []) found in
       record {
         passing = λ filter. λ i. at_places (seen i) (passing (cols_of (columns i)) filter (rows i));

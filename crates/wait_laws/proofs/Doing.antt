@@ -58,7 +58,7 @@ use Rattle.session_machine.specs.Rows.{Work, columns_in, cols_in, stop_at_key, i
 use Rattle.session_machine.specs.Running.{run_stmt}
 use Rattle.session_machine.specs.Inner.Statements.{run_piecewise, is_end, walked_from, keys_in, stop_at_keys, insert_one, ask, at_outcome, at_target, update_with, update_one, delete_with, delete_one, lock_with, lock_one, beginning, comes_to, after_walk, done, insert_from, insert, assigned_to, update_from, update, delete_from, delete, lock_from, answered, select_rows, unless_wrong, select, run_open, run_closed, run_on, begun, Visit, goes_on, walked, create}
 use Rattle.session_machine.specs.Targets.{asked_key, passing_targets, taken_targets, going_on}
-use Rattle.session_machine.specs.Inner.Pieces.{drop_ended, unless_stopped, unless_stopped_by, unless_null, insert_made, update_made, lock_made, insert_fitting, insert_to, update_fitting, update_to, delete_fitting, select_in, select_at, run_first, with_table, with_drop, DroppedUpTo, dropped, dropped_at, stop_by}
+use Rattle.session_machine.specs.Inner.Pieces.{drop_ended, unless_stopped, unless_stopped_by, unless_null, insert_made, update_made, lock_made, insert_fitting, insert_to, update_fitting, update_to, delete_fitting, select_in, select_found, run_first, with_table, with_drop, DroppedUpTo, dropped, dropped_at, stop_by}
 use Rattle.session_machine.proofs.Piecewise.{stops_by, drops_by}
 use Rattle.session_machine.proofs.ByKind.{runs_by_kind}
 use Rattle.wait_laws.proofs.ByKind.{AtOnce, FromStart, FromPlace, by_kind, on_kind}
@@ -468,7 +468,7 @@ ran_select : (P Q : Database → Type 0) (V : View → Type 0) (db : Database) (
     → Keeps t.tx t.command P Q → V (view_of db.content t) → P db → Ran t.tx t.command P Q V around.sessions (select db t around s o)
 ran_select P Q V db t around s None keeps view p = ran_unless_wrong P Q V around.sessions db t _ _ _ keeps p (ran_answered P Q V around.sessions db t _ keeps p)
 ran_select P Q V db t around s (Some name) keeps view p = at (find_table db (Some t.tx) name) where
-  at : (k : Option ℕ) → Ran t.tx t.command P Q V around.sessions (select_at db t around s name k)
+  at : (k : Option ℕ) → Ran t.tx t.command P Q V around.sessions (select_found db t around s name k)
   at None = ran_fails P Q V around.sessions db t _ keeps p
   at (Some k) = ran_select_in P Q V db (beginning db t around k) s keeps view p
 

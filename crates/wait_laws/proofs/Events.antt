@@ -22,7 +22,7 @@ use Rattle.session_machine.specs.Statements.{Effect}
 use Rattle.session_machine.specs.Running.{run_stmt}
 use Rattle.session_machine.specs.Machine.{Machine, Blocks, Next, next, stmts_of, is_failed, with_session, closed_at_end, after_stmt, at_rest, session_of, Run}
 use Rattle.session_machine.specs.Waits.{is_still_blocked}
-use Rattle.session_machine.specs.Inner.Steps.{launch_of, step_stmt, step_at, step_of, leave_of, finished, waits_there, after_end, around, left_behind, first_place}
+use Rattle.session_machine.specs.Inner.Steps.{launch_of, step_stmt, step_from_place, step_of, leave_of, finished, waits_there, after_block_end, around, left_behind, first_place}
 use Rattle.session_machine.specs.Sound.{command_in}
 use Rattle.wait_laws.proofs.Doing.{Keeps, Refused, Ran, Idles, doer, start, Allows, does_stmt}
 
@@ -70,7 +70,7 @@ stepped blocks mode m i s n h = at_place s.place refl h where
       let b = ok_else StillBlocked _ _ n a.1 in
       record { place = p; stmt = stmt; there = e; found = f; free = b.0; is = ok_is _ n b.1 }
 
-  at_place : (o : Option Place) → s.place ≡ o → step_at blocks mode m i s o ≡ Ok n → Stepped blocks m i s n
+  at_place : (o : Option Place) → s.place ≡ o → step_from_place blocks mode m i s o ≡ Ok n → Stepped blocks m i s n
   at_place None e k = absurd (err_not Idle n k)
   at_place (Some p) e k = at_stmt p e (slice_get (stmts_of blocks p.block) p.next) refl k
 
@@ -166,7 +166,7 @@ after m i place count d = at (is_some d.statement) where
   fails true = record { e = d.db; u = record { place = None; transaction = d.transaction; statement = None }; is = refl; how = inl (refl, refl, inr refl); stays = λ q h. absurd (no_statement q h) }
   fails false = goes (nat_lt (place.next + 1) count)
 
-  at : (b : Bool) → (let y : Next = if b then waits_there m i place d else after_end m i place count d in After m i place d y)
+  at : (b : Bool) → (let y : Next = if b then waits_there m i place d else after_block_end m i place count d in After m i place d y)
   at true = record { e = d.db; u = record { place = Some place; transaction = d.transaction; statement = d.statement }; is = refl; how = inl (refl, refl, inl refl); stays = λ q h. refl }
   at false = fails (is_failed d.outcome)
 

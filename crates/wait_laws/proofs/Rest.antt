@@ -38,7 +38,7 @@ use Rattle.session_machine.specs.Statements.{Effect}
 use Rattle.session_machine.specs.Inner.Pieces.{with_table, with_drop}
 use Rattle.session_machine.specs.Running.{run_stmt}
 use Rattle.session_machine.specs.Machine.{Machine, Blocks, Next, next, stmts_of, is_failed, closed_at_end, after_stmt, session_of, Run}
-use Rattle.session_machine.specs.Inner.Steps.{step_of, is_stopped, finished, waits_there, after_end, around, is_busy}
+use Rattle.session_machine.specs.Inner.Steps.{step_of, is_stopped, finished, waits_there, after_block_end, around, is_busy}
 use Rattle.session_machine.specs.Sound.{command_in, tx_in, tx_of}
 use Rattle.wait_laws.specs.Laws.{left_from, left_of, statements_left, can_step, able, IsNearerRest, AreSteps, RestIsReached}
 use Rattle.wait_laws.proofs.Counting.{sum_set, count_set, count_most}
@@ -123,7 +123,7 @@ record Ends (given : Blocks) (m : Machine) (i : ℕ) (left : ℕ) (n : Next) : T
   pub fewer : left_of given u < left
 
 ends : (given : Blocks) (m : Machine) (i : ℕ) (place : Place) (d : Effect) → place.next < length (stmts_of given place.block)
-    → Ends given m i (length (stmts_of given place.block) - place.next) (after_end m i place (length (stmts_of given place.block)) d)
+    → Ends given m i (length (stmts_of given place.block) - place.next) (after_block_end m i place (length (stmts_of given place.block)) d)
 ends given m i place d within = failed (is_failed d.outcome) where
   none : (e : Effect) → Ends given m i (length (stmts_of given place.block) - place.next) (finished m i e None)
   none e = record { u = record { place = None; transaction = e.transaction; statement = None }; is = refl; fewer = omega arith }
@@ -201,18 +201,18 @@ nearer given mode m i n old h =
               )
         ]
 
-        over : IsNearerRest given m (after_end m i k.place count d).machine
+        over : IsNearerRest given m (after_block_end m i k.place count d).machine
         over =
             let e = ends given m i k.place d within in
             let sums = sum_set (left_of given) m.sessions i s e.u at in
             let less = e.fewer in
             let l = left in
-            let same : statements_left given (after_end m i k.place count d).machine ≡ sum_by (left_of given) (set m.sessions i e.u) = ap (λ (ss : List Session). sum_by (left_of given) ss) e.is in
+            let same : statements_left given (after_block_end m i k.place count d).machine ≡ sum_by (left_of given) (set m.sessions i e.u) = ap (λ (ss : List Session). sum_by (left_of given) ss) e.is in
             inl (omega arith)
 
         on : (o : Option Progress) → d.statement ≡ o → IsNearerRest given m (after_stmt m i k.place count d).machine
-        on None is = subst (λ (o : Option Progress). IsNearerRest given m (let y : Next = if is_some o then waits_there m i k.place d else after_end m i k.place count d in y).machine) (sym is) over
-        on (Some p) is = subst (λ (o : Option Progress). IsNearerRest given m (let y : Next = if is_some o then waits_there m i k.place d else after_end m i k.place count d in y).machine) (sym is) (waited p is)
+        on None is = subst (λ (o : Option Progress). IsNearerRest given m (let y : Next = if is_some o then waits_there m i k.place d else after_block_end m i k.place count d in y).machine) (sym is) over
+        on (Some p) is = subst (λ (o : Option Progress). IsNearerRest given m (let y : Next = if is_some o then waits_there m i k.place d else after_block_end m i k.place count d in y).machine) (sym is) (waited p is)
 
 -- no session comes or goes
 same_sessions : (given : Blocks) (mode : Mode) (m : Machine) (event : Event) (n : Next) → next given mode m event ≡ Ok n → length n.machine.sessions ≡ length m.sessions

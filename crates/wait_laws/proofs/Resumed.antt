@@ -28,7 +28,7 @@ use Rattle.session_machine.specs.Statements.{Surroundings, Effect, level_set}
 use Rattle.session_machine.specs.Rows.{Work, columns_in, cols_in}
 use Rattle.session_machine.specs.Running.{run_stmt}
 use Rattle.session_machine.specs.Inner.Statements.{answered, beginning, run_on, select, select_rows, unless_wrong, create}
-use Rattle.session_machine.specs.Inner.Pieces.{drop_ended, lock_again, select_at, dropped}
+use Rattle.session_machine.specs.Inner.Pieces.{drop_ended, lock_again, select_found, dropped}
 use Rattle.session_machine.proofs.Piecewise.{drops_by}
 use Rattle.session_machine.proofs.ByKind.{runs_by_kind}
 use Rattle.session_machine.specs.Machine.{Machine, Blocks, Next, next, stmts_of, at_rest, session_of}
@@ -78,7 +78,7 @@ over_rows db w s (Some l) h = cc
 
 over_select : (db : Database) (t : OpenTransaction) (around : Surroundings) (s : SelectTree) → s.lock ≡ None → (select db t around s s.table).statement ≡ None
 over_select db t around s h = from s.table where
-  at : (name : List ℕ) (o : Option ℕ) → (select_at db t around s name o).statement ≡ None
+  at : (name : List ℕ) (o : Option ℕ) → (select_found db t around s name o).statement ≡ None
   at name None = refl
   at name (Some k) =
       let w = beginning db t around k in

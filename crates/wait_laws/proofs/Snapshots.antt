@@ -27,7 +27,7 @@ use Rattle.session_machine.specs.Rows.{Work, columns_in}
 use Rattle.session_machine.specs.Running.{run_stmt}
 use Rattle.session_machine.specs.Inner.Statements.{run_piecewise, is_end, walked_from, insert_one, update_one, delete_one, lock_one, beginning, comes_to, after_walk, done, insert_from, update_from, delete_from, lock_from, assigned_to, insert, update, delete, answered, select_rows, unless_wrong, select, run_open, run_closed, run_on, begun, moved_on, walked, create}
 use Rattle.session_machine.specs.Targets.{passing_targets, taken_targets, going_on}
-use Rattle.session_machine.specs.Inner.Pieces.{drop_ended, insert_fitting, insert_to, update_fitting, update_to, delete_fitting, select_at, run_first, dropped}
+use Rattle.session_machine.specs.Inner.Pieces.{drop_ended, insert_fitting, insert_to, update_fitting, update_to, delete_fitting, select_found, run_first, dropped}
 use Rattle.session_machine.proofs.Piecewise.{drops_by}
 use Rattle.session_machine.proofs.ByKind.{runs_by_kind}
 use Rattle.wait_laws.proofs.ByKind.{AtOnce, FromStart, FromPlace, by_kind, on_kind}
@@ -136,7 +136,7 @@ shot_select : (count : ℕ) (db : Database) (t : OpenTransaction) (around : Surr
     → Shot count (select db t around s o)
 shot_select count db t around s None has same = shot_unless_wrong count db t _ _ _ (shot_answered count db t _ has same)
 shot_select count db t around s (Some name) has same = by (find_table db (Some t.tx) name) where
-  by : (k : Option ℕ) → Shot count (select_at db t around s name k)
+  by : (k : Option ℕ) → Shot count (select_found db t around s name k)
   by None = shot_fails count db t _
   by (Some k) = shot_unless_wrong count db t _ _ _ (shot_rows count db (beginning db t around k) s s.lock has same)
 

@@ -24,7 +24,7 @@ use Rattle.session_machine.specs.Waits.{wait_of, is_still_blocked}
 use Rattle.session_machine.specs.Statements.{Effect}
 use Rattle.session_machine.specs.Running.{run_stmt}
 use Rattle.session_machine.specs.Machine.{Machine, Blocks, Next, next, opening, at_rest, stmts_of, free_wait, is_first_free, turn_in, is_directed, is_failed, closed_at_end, after_stmt, session_of}
-use Rattle.session_machine.specs.Inner.Steps.{launch_of, step_stmt, step_at, step_of, leave_of, is_stopped, finished, waits_there, after_end, is_ready, is_turn, around, first_place, is_busy}
+use Rattle.session_machine.specs.Inner.Steps.{launch_of, step_stmt, step_from_place, step_of, leave_of, is_stopped, finished, waits_there, after_block_end, is_ready, is_turn, around, first_place, is_busy}
 use Rattle.wait_laws.specs.Laws.{Reaches}
 use Rattle.session_laws.proofs.Lists.{slice_get-set_same, slice_get-set_other}
 use Rattle.wait_laws.proofs.Events.{session_there, ok_is, ok_else, stepped, always}
@@ -80,7 +80,7 @@ becomes_after given m i place d within = by (is_some d.statement) where
   failed true = none d
   failed false = goes (nat_lt (place.next + 1) (length (stmts_of given place.block))) refl
 
-  by : (b : Bool) → (let y : Next = if b then waits_there m i place d else after_end m i place (length (stmts_of given place.block)) d in Becomes given m i y)
+  by : (b : Bool) → (let y : Next = if b then waits_there m i place d else after_block_end m i place (length (stmts_of given place.block)) d in Becomes given m i y)
   by true = record {
     u = record { place = Some place; transaction = d.transaction; statement = d.statement };
     is = refl;
@@ -234,4 +234,4 @@ in_turn given mode count m reached k turn =
           let n = after_stmt m k place many (run_stmt m.db s.transaction s.statement (around m k s) found.0) in
           let taken : step_stmt mode m k s place many (Some found.0) ≡ Ok n =
           ok_taken (is_directed mode && not (is_turn (turn_in m) k)) (is_still_blocked m.db s) n (its_turn mode (turn_in m) k turn) go.free in
-          (n, ap (λ o. step_of given mode m k o) at ∙ (ap (λ o. step_at given mode m k s o) e ∙ (ap (λ o. step_stmt mode m k s place many o) found.1 ∙ taken)))
+          (n, ap (λ o. step_of given mode m k o) at ∙ (ap (λ o. step_from_place given mode m k s o) e ∙ (ap (λ o. step_stmt mode m k s place many o) found.1 ∙ taken)))

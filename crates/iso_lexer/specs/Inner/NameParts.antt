@@ -9,10 +9,10 @@ decoded_in (plain s) bs = bs
 decoded_in (quoted s) bs = unquoted bs
 decoded_in (folded s) bs = map to_ascii_lowercase bs
 
-abbrev pub written : Written → List ℕ
-written (plain s) = s
-written (quoted s) = s
-written (folded s) = s
+abbrev pub raw_bytes : Written → List ℕ
+raw_bytes (plain s) = s
+raw_bytes (quoted s) = s
+raw_bytes (folded s) = s
 
 -- a byte of the name, and the part behind it
 abbrev pub FirstIs : Written → List ℕ → ℕ → List ℕ → Type 0

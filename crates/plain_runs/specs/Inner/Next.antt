@@ -7,7 +7,7 @@ use Rattle.session_machine.specs.Engine.{Engine}
 use Rattle.plain_runs.specs.Alone.{next_event}
 
 -- the event is next in the engine, by this order; there may be none
-pub record IsNext (e : Engine) (order : Order) (event : Option Event) : Type 0 where
+pub record IsNextEvent (e : Engine) (order : Order) (event : Option Event) : Type 0 where
   pub state : Machine
   pub live : e.machine ≡ Some state
   pub run : Run e.blocks e.mode (opening e.count) e.history state

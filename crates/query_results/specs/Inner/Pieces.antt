@@ -3,7 +3,7 @@ use Rattle.std.specs.Prelude.{ℤ, List, [], ◌∷◌, flat_map, Option, Some, 
 use Rattle.sql_trees.specs.declared.expr.AggKind.TheVariants as agg_kind
 use Rattle.sql_trees.specs.Trees.{Tree, AggTree}
 use Rattle.sql_trees.specs.Trees as tree
-use Rattle.sql_trees.specs.Statements.{ColumnTree, ItemTree, OrderTree}
+use Rattle.sql_trees.specs.Statements.{ItemTree, OrderTree}
 use Rattle.sql_trees.specs.Statements as stmt
 use Rattle.sql_values.specs.declared.value.Value.{Value}
 use Rattle.sql_values.specs.declared.fault.ValueFault.{ValueFault}

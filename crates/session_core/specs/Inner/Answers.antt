@@ -9,6 +9,6 @@ pub record Answered : Type 0 where
   pub machine : Machine
   pub answer : Result Reply Refusal
 
-abbrev pub answered : Machine → Result Next Refusal → Answered
-answered m (Ok n) = record { machine = n.machine; answer = Ok n.reply }
-answered m (Err refusal) = record { machine = m; answer = Err refusal }
+abbrev pub engine_answer : Machine → Result Next Refusal → Answered
+engine_answer m (Ok n) = record { machine = n.machine; answer = Ok n.reply }
+engine_answer m (Err refusal) = record { machine = m; answer = Err refusal }

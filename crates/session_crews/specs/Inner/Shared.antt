@@ -21,7 +21,7 @@ IsGiven None order = Unit {0}
 IsGiven (Some event) order = IsOrder event order
 
 -- what was done so far was ordered, and so are the order that was given and the Stop
-pub record IsOrderly (orders : Orders) (items : List HistItem) (order : Option Event) (stop : Bool) : Type 0 where
+pub record RunsInOrder (orders : Orders) (items : List HistItem) (order : Option Event) (stop : Bool) : Type 0 where
   pub ordered : OrderedAfter orders [] items
   pub given : IsGiven order (orders items)
   pub stopped : stop ≡ true → orders items ≡ Stop

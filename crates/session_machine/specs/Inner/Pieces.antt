@@ -33,11 +33,11 @@ use Rattle.session_machine.specs.Targets.{asked_key, going_on, names_at}
 
 -- ---- parts of the catalog
 
-abbrev pub columns_at : Catalog → ℕ → List ColumnTree
-columns_at catalog k = unwrap_or (option_map (λ (t : Table). t.made.columns) (slice_get catalog.tables k)) []
+abbrev pub table_columns : Catalog → ℕ → List ColumnTree
+table_columns catalog k = unwrap_or (option_map (λ (t : Table). t.made.columns) (slice_get catalog.tables k)) []
 
-abbrev pub keys_at : Catalog → ℕ → List KeyTree
-keys_at catalog k = unwrap_or (option_map (λ (t : Table). t.made.keys) (slice_get catalog.tables k)) []
+abbrev pub table_keys : Catalog → ℕ → List KeyTree
+table_keys catalog k = unwrap_or (option_map (λ (t : Table). t.made.keys) (slice_get catalog.tables k)) []
 
 -- what a CREATE and a DROP make of it
 abbrev pub with_table : Catalog → CreateTree → TxId → Catalog
@@ -119,8 +119,8 @@ delete_fitting db w d undefined = unless_undefined db w.t undefined (delete_from
 abbrev pub select_in : Database → Work → SelectTree → Effect
 select_in db w s = unless_wrong db w.t (undefined_among (cols_in db w) (select_exprs s)) (wrong_position (columns_in db w) s) (select_rows db w s s.lock)
 
-abbrev pub select_at : Database → OpenTransaction → Surroundings → SelectTree → List ℕ → Option ℕ → Effect
-select_at db t around s name found = at_table db t around name found (λ w. select_in db w s)
+abbrev pub select_found : Database → OpenTransaction → Surroundings → SelectTree → List ℕ → Option ℕ → Effect
+select_found db t around s name found = at_table db t around name found (λ w. select_in db w s)
 
 -- tables are dropped one after the other, up to the first that isn't there
 pub record DroppedUpTo : Type 0 where

@@ -67,14 +67,14 @@ finished m session effect place = leaves m session effect None place
 abbrev pub waits_there : Machine → ℕ → Place → Effect → Next
 waits_there m session place effect = leaves m session effect effect.statement (Some place)
 
-abbrev pub after_end : Machine → ℕ → Place → ℕ → Effect → Next
-after_end m session place count effect =
+abbrev pub after_block_end : Machine → ℕ → Place → ℕ → Effect → Next
+after_block_end m session place count effect =
     if is_failed effect.outcome then finished m session effect None
     else if nat_lt (place.next + 1) count then finished m session effect (Some (record { block = place.block; next = place.next + 1 }))
     else finished m session (closed_at_end effect effect.transaction) None
 
-abbrev pub launched : Machine → ℕ → Session → Option Place → Next
-launched m session s place = comes_out m m.db session (record { place = place; transaction = s.transaction; statement = None }) Launched
+abbrev pub after_launch : Machine → ℕ → Session → Option Place → Next
+after_launch m session s place = comes_out m m.db session (record { place = place; transaction = s.transaction; statement = None }) Launched
 
 -- an event of the session that is found
 abbrev pub launch_of : Blocks → Mode → Machine → ℕ → ℕ → Option Session → Result Next Refusal
@@ -87,8 +87,8 @@ abbrev pub leave_of : Mode → Machine → ℕ → Option Session → Result Nex
 leave_of mode m session found = option_map_or (λ s. next_for [] mode m s (Leave session)) found (Err NoSession)
 
 -- a step from the place, and with the statement, if there is one
-abbrev pub step_at : Blocks → Mode → Machine → ℕ → Session → Option Place → Result Next Refusal
-step_at blocks mode m session s place = option_map_or (step_from blocks mode m session s) place (Err Idle)
+abbrev pub step_from_place : Blocks → Mode → Machine → ℕ → Session → Option Place → Result Next Refusal
+step_from_place blocks mode m session s place = option_map_or (step_from blocks mode m session s) place (Err Idle)
 
 abbrev pub step_stmt : Mode → Machine → ℕ → Session → Place → ℕ → Option StmtTree → Result Next Refusal
 step_stmt mode m session s place count stmt = option_map_or (step_with mode m session s place count) stmt (Err Idle)

@@ -52,10 +52,10 @@ truth_number truth.True = 1
 truth_number truth.False = 2
 truth_number truth.Unknown = 3
 
-abbrev pub truth_at : ℕ → Truth
-truth_at n = get_or (truth.Null ∷ truth.True ∷ truth.False ∷ truth.Unknown ∷ []) n truth.Null
+abbrev pub coded_truth : ℕ → Truth
+coded_truth n = get_or (truth.Null ∷ truth.True ∷ truth.False ∷ truth.Unknown ∷ []) n truth.Null
 
-pub truth_back : (t : Truth) → truth_at (truth_number t) ≡ t
+pub truth_back : (t : Truth) → coded_truth (truth_number t) ≡ t
 truth_back truth.Null = refl
 truth_back truth.True = refl
 truth_back truth.False = refl
@@ -94,13 +94,13 @@ kind_number ABetween = 11
 kind_number NoItems = 12
 kind_number OneItem = 13
 
-abbrev pub kind_at : ℕ → PartKind
-kind_at n =
+abbrev pub coded_kind : ℕ → PartKind
+coded_kind n =
     get_or
     (ANull ∷ AFlag ∷ ANumber ∷ AText ∷ AColumn ∷ APlus ∷ AMinus ∷ ANot ∷ ABinary ∷ AIs ∷ AIn ∷ ABetween ∷ NoItems ∷ OneItem ∷ [])
     n ANull
 
-pub kind_back : (k : PartKind) → kind_at (kind_number k) ≡ k
+pub kind_back : (k : PartKind) → coded_kind (kind_number k) ≡ k
 kind_back ANull = refl
 kind_back AFlag = refl
 kind_back ANumber = refl
@@ -117,18 +117,18 @@ kind_back NoItems = refl
 kind_back OneItem = refl
 
 abbrev pub kind_code : Coded PartKind
-kind_code = code_by ℕ coded_ℕ kind_number kind_at kind_back
+kind_code = code_by ℕ coded_ℕ kind_number coded_kind kind_back
 
 -- a part: its kind, and what it holds
-abbrev pub Part : Type 0
-Part = PartKind × (Bool × (ℕ × List ℕ))
+abbrev pub CodePart : Type 0
+CodePart = PartKind × (Bool × (ℕ × List ℕ))
 
-abbrev pub part : PartKind → Bool → ℕ → List ℕ → List Part
+abbrev pub part : PartKind → Bool → ℕ → List ℕ → List CodePart
 part kind flag number bytes = (kind, (flag, (number, bytes))) ∷ []
 
 abbrev mutual
   -- each tree's parts stand behind those of its own trees
-  pub parts : Tree → List Part
+  pub parts : Tree → List CodePart
   parts Null = part ANull false 0 []
   parts (Flag b) = part AFlag b 0 []
   parts (Number b n) = part ANumber b n []
@@ -142,7 +142,7 @@ abbrev mutual
   parts (In a b items) = parts a ++ (parts_in items ++ part AIn b 0 [])
   parts (Between a b low high) = parts a ++ (parts low ++ (parts high ++ part ABetween b 0 []))
 
-  pub parts_in : Trees → List Part
+  pub parts_in : Trees → List CodePart
   parts_in none = part NoItems false 0 []
   parts_in (more e rest) = parts e ++ (parts_in rest ++ part OneItem false 0 [])
 
@@ -176,22 +176,22 @@ put APlus b n s st = (Plus (top st.0) ∷ below st.0, st.1)
 put AMinus b n s st = (Minus (top st.0) ∷ below st.0, st.1)
 put ANot b n s st = (Not (top st.0) ∷ below st.0, st.1)
 put ABinary b n s st = (Binary (op_at n) (top (below st.0)) (top st.0) ∷ below (below st.0), st.1)
-put AIs b n s st = (Is (top st.0) b (truth_at n) ∷ below st.0, st.1)
+put AIs b n s st = (Is (top st.0) b (coded_truth n) ∷ below st.0, st.1)
 put AIn b n s st = (In (top st.0) b (top_in st.1) ∷ below st.0, below_in st.1)
 put ABetween b n s st = (Between (top (below (below st.0))) b (top (below st.0)) (top st.0) ∷ below (below (below st.0)), st.1)
 put NoItems b n s st = (st.0, none ∷ st.1)
 put OneItem b n s st = (below st.0, more (top st.0) (top_in st.1) ∷ below_in st.1)
 
-abbrev pub put_all : List Part → Stack → Stack
+abbrev pub put_all : List CodePart → Stack → Stack
 put_all [] st = st
 put_all (p ∷ ps) st = put_all ps (put p.0 p.1.0 p.1.1.0 p.1.1.1 st)
 
 -- a tree's parts put, and then what follows
-then_all : (xs ys zs : List Part) (st : Stack) → put_all ((xs ++ ys) ++ zs) st ≡ put_all (xs ++ (ys ++ zs)) st
+then_all : (xs ys zs : List CodePart) (st : Stack) → put_all ((xs ++ ys) ++ zs) st ≡ put_all (xs ++ (ys ++ zs)) st
 then_all xs ys zs st = ap (λ ps. put_all ps st) (append_assoc xs ys zs)
 
 mutual
-  put_parts : (t : Tree) (ks : List Part) (st : Stack) → put_all (parts t ++ ks) st ≡ put_all ks (t ∷ st.0, st.1)
+  put_parts : (t : Tree) (ks : List CodePart) (st : Stack) → put_all (parts t ++ ks) st ≡ put_all ks (t ∷ st.0, st.1)
   put_parts Null ks st = refl
   put_parts (Flag b) ks st = refl
   put_parts (Number b n) ks st = refl
@@ -231,7 +231,7 @@ mutual
       ∙ (then_all (parts high) p ks sl
       ∙ put_parts high (p ++ ks) sl))))
 
-  put_parts_in : (l : Trees) (ks : List Part) (st : Stack) → put_all (parts_in l ++ ks) st ≡ put_all ks (st.0, l ∷ st.1)
+  put_parts_in : (l : Trees) (ks : List CodePart) (st : Stack) → put_all (parts_in l ++ ks) st ≡ put_all ks (st.0, l ∷ st.1)
   put_parts_in none ks st = refl
   put_parts_in (more e rest) ks st =
       let p = part OneItem false 0 [] in
@@ -241,11 +241,11 @@ mutual
       ∙ (then_all (parts_in rest) p ks se
       ∙ put_parts_in rest (p ++ ks) se))
 
-abbrev pub tree_at : List Part → Tree
-tree_at ps = top (put_all ps ([], [])).0
+abbrev pub coded_tree : List CodePart → Tree
+coded_tree ps = top (put_all ps ([], [])).0
 
-pub tree_back : (t : Tree) → tree_at (parts t) ≡ t
-tree_back t = ap tree_at (sym (append-nil (parts t))) ∙ ap (λ (st : Stack). top st.0) (put_parts t [] ([], []))
+pub tree_back : (t : Tree) → coded_tree (parts t) ≡ t
+tree_back t = ap coded_tree (sym (append-nil (parts t))) ∙ ap (λ (st : Stack). top st.0) (put_parts t [] ([], []))
 
 abbrev pub tree_code : Coded Tree
-tree_code = code_by (List Part) (coded_list (coded× kind_code (coded× coded_bool (coded× coded_ℕ (coded_list coded_ℕ))))) parts tree_at tree_back
+tree_code = code_by (List CodePart) (coded_list (coded× kind_code (coded× coded_bool (coded× coded_ℕ (coded_list coded_ℕ))))) parts coded_tree tree_back

@@ -46,12 +46,12 @@ abbrev pub counted : List ItemTree → List (AggTree × Title)
 counted is = filter_map aggregate_in is
 
 -- the items at each of the rows, or the aggregates over all of them, under their titles
-abbrev pub answered : List ColumnTree → List ItemTree → List (List Value) → Result Results ValueFault
-answered columns is = results_by columns is (counted is)
+abbrev pub items_answered : List ColumnTree → List ItemTree → List (List Value) → Result Results ValueFault
+items_answered columns is = results_by columns is (counted is)
 
 -- the same of the rows that pass WHERE, as ORDER BY sorts them
 abbrev pub selected : SelectTree → List ColumnTree → List (List Value) → Result Results ValueFault
-selected s columns rows = if_ok (taken s columns rows) (λ places. answered columns s.items (rows_at rows places))
+selected s columns rows = if_ok (taken s columns rows) (λ places. items_answered columns s.items (rows_at rows places))
 
 -- the list is empty
 abbrev pub has_none : {A : Type 0} → List A → Bool

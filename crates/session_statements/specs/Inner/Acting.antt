@@ -55,7 +55,7 @@ visit_of db (Shows row) = goes_on db (row ∷ [])
 visit_of db (Stops stop) = stops db (stop_of stop)
 
 -- what a statement comes to that went over all its targets, or halted at one
-abbrev pub halted : Content → Work → (List (List Value) → Outcome) → Database → List (List Value) → Option Halt → Effect
-halted before w outcome db rows None = answers before db w.t (outcome rows)
-halted before w outcome db rows (Some h) =
+abbrev pub halted_walk : Content → Work → (List (List Value) → Outcome) → Database → List (List Value) → Option Halt → Effect
+halted_walk before w outcome db rows None = answers before db w.t (outcome rows)
+halted_walk before w outcome db rows (Some h) =
     comes_to before w outcome (record { db = db; place = h.place; rows = rows; stop = Some (stop_of h.stop) }) (Some (stop_of h.stop))

@@ -26,8 +26,8 @@ first_repeat before [] = None
 first_repeat before (s ∷ ss) = if is_some (find (is_named s.name.name) before) then Some s.name.at else first_repeat (before ++ s ∷ []) ss
 
 -- a file with its names looked up, as the code does it
-abbrev pub resolved : FileTree → Result SpecTree SpecFault
-resolved f = option_map_or (λ at. Err (faults.DuplicateStep at)) (first_repeat [] (steps_of f))
+abbrev pub known_spec : FileTree → Result SpecTree SpecFault
+known_spec f = option_map_or (λ at. Err (faults.DuplicateStep at)) (first_repeat [] (steps_of f))
     (if_ok (each (each (known_entry (steps_of f))) f.perms) (λ perms. Ok (record { setups = f.setups; teardown = f.teardown; sessions = map session_tree f.sessions; perms = perms })))
 
 -- the steps of session k, from number j on
@@ -42,22 +42,22 @@ sessions_from k ss = flat_map steps_in (enumerate_from k ss)
 abbrev pub known_perms : List StepAt → List (List NamedEntry) → Result (List (List EntryTree)) SpecFault
 known_perms known = each (each (known_entry known))
 
-abbrev pub FailsWith : {Y : Type 0} → SpecFault → Result Y SpecFault → Type 0
-FailsWith faults.Memory wanted = Unit {0}
-FailsWith (faults.Lex f) wanted = wanted ≡ Err (faults.Lex f)
-FailsWith (faults.Expected w at) wanted = wanted ≡ Err (faults.Expected w at)
-FailsWith (faults.DuplicateStep at) wanted = wanted ≡ Err (faults.DuplicateStep at)
-FailsWith (faults.UndefinedStep at) wanted = wanted ≡ Err (faults.UndefinedStep at)
-FailsWith (faults.UndefinedMarker at) wanted = wanted ≡ Err (faults.UndefinedMarker at)
-FailsWith (faults.NoticesLeftOut at) wanted = wanted ≡ Err (faults.NoticesLeftOut at)
-FailsWith (faults.Limit at) wanted = wanted ≡ Err (faults.Limit at)
+abbrev pub IsFaultOf : {Y : Type 0} → SpecFault → Result Y SpecFault → Type 0
+IsFaultOf faults.Memory wanted = Unit {0}
+IsFaultOf (faults.Lex f) wanted = wanted ≡ Err (faults.Lex f)
+IsFaultOf (faults.Expected w at) wanted = wanted ≡ Err (faults.Expected w at)
+IsFaultOf (faults.DuplicateStep at) wanted = wanted ≡ Err (faults.DuplicateStep at)
+IsFaultOf (faults.UndefinedStep at) wanted = wanted ≡ Err (faults.UndefinedStep at)
+IsFaultOf (faults.UndefinedMarker at) wanted = wanted ≡ Err (faults.UndefinedMarker at)
+IsFaultOf (faults.NoticesLeftOut at) wanted = wanted ≡ Err (faults.NoticesLeftOut at)
+IsFaultOf (faults.Limit at) wanted = wanted ≡ Err (faults.Limit at)
 
 -- what was returned, seen so, is this; or memory ran out
 abbrev pub IsAs : {X Y : Type 0} → (X → Y) → Result X SpecFault → Result Y SpecFault → Type 0
 IsAs view (Ok x) wanted = wanted ≡ Ok (view x)
-IsAs view (Err e) wanted = FailsWith e wanted
+IsAs view (Err e) wanted = IsFaultOf e wanted
 
 -- an entry whose step is there, and which has markers
-pub record WantsRoom (known : List StepAt) (e : NamedEntry) : Type 0 where
+pub record EntryWantsRoom (known : List StepAt) (e : NamedEntry) : Type 0 where
   pub step : IsSome (find (is_named e.name.name) known)
   pub markers : 0 < length e.markers

@@ -2,14 +2,14 @@
 use Rattle.std.specs.Prelude.{ℕ, ◌+◌, ◌<◌, ◌^◌, List, length, slice_index_or}
 use Rattle.iso_lexer.specs.declared.token.At.{At}
 use Rattle.iso_lexer.specs.declared.spec_token.SpecTok.{SpecTok}
-use Rattle.iso_lexer.specs.SpecTokens.{Token, block, at_view}
+use Rattle.iso_lexer.specs.SpecTokens.{SpecToken, block, at_view}
 
-abbrev pub text_start_of : Token → ℕ → ℕ
+abbrev pub text_start_of : SpecToken → ℕ → ℕ
 text_start_of (block blanks sql) at = at + 1 + blanks
 text_start_of _ at = 0
 
 -- the byte at which a block's text begins, behind the brace and its blanks
-abbrev pub text_start : At Token → ℕ
+abbrev pub text_start : At SpecToken → ℕ
 text_start t = text_start_of t.tok t.span.start
 
 -- each of these places is a number of 64 bits

@@ -1,7 +1,7 @@
 -- What a reader has before it.
 use Rattle.std.specs.Prelude.{◌≡◌, ℕ, ◌+◌, ◌<◌, ◌^◌, List, ◌∷◌, ◌++◌, length, drop, Result, Ok, Err}
 use Rattle.iso_lexer.specs.declared.token.At.{At}
-use Rattle.iso_lexer.specs.SpecTokens.{Token, at_views}
+use Rattle.iso_lexer.specs.SpecTokens.{SpecToken, at_views}
 use Rattle.spec_parser.specs.declared.fault.Stop.{Stop}
 use Rattle.spec_parser.specs.declared.fault.Halt.{Halt}
 use Rattle.spec_parser.specs.declared.fault.Halt.TheVariants as halts
@@ -17,7 +17,7 @@ abbrev pub end_of : Reader → ℕ
 end_of r = r.end
 
 -- the reader stands before this token
-pub record IsNext (t : At Token) (r : Reader) : Type 0 where
+pub record IsNext (t : At SpecToken) (r : Reader) : Type 0 where
   pub within : r.at < length r.tokens.now
   pub next : at_views (drop r.at r.tokens.now) ≡ t ∷ at_views (drop (r.at + 1) r.tokens.now)
   pub fits : text_start t < 2 ^ 64
@@ -27,7 +27,7 @@ pub record Same (old new : Reader) : Type 0 where
   pub tokens : new.tokens.now ≡ old.tokens.now
   pub end : new.end ≡ old.end
 
-abbrev pub StopsAt : ℕ → Stop → List (At Token) → Halt → Type 0
+abbrev pub StopsAt : ℕ → Stop → List (At SpecToken) → Halt → Type 0
 StopsAt end stop ts h = h ≡ halts.At stop (place end ts)
 
 abbrev pub FailsAs : {Y : Type 0} → ℕ → Halt → Read Y → Type 0

@@ -1,10 +1,9 @@
 -- Parts of readings as the code reads them.
-use Rattle.std.specs.Prelude.{ℕ, Bool, List, [], ◌∷◌, ◌++◌, Ok, unwrap_or}
+use Rattle.std.specs.Prelude.{ℕ, Bool, ◌∷◌, ◌++◌, unwrap_or}
 use Rattle.sql_trees.specs.declared.fault.SqlFault.{SqlFault}
 use Rattle.sql_trees.specs.declared.fault.SqlFault.TheVariants.{LeftOut}
 use Rattle.sql_trees.specs.Tokens.{Token, Tokens}
-use Rattle.sql_expressions.specs.Results.{◌>>=◌ as and_then}
-use Rattle.sql_expressions.specs.Readers.{Reader, after, either, place_of, misplaced}
+use Rattle.sql_expressions.specs.Readers.{after, either, place_of, misplaced}
 use Rattle.sql_parser.specs.Grammar.{is_unquoted}
 
 -- the tokens without the first, if it is of this kind

@@ -26,12 +26,12 @@ module _ (last : ℕ) where
   begun_at (t ∷ ts) = begun_of last t.tok t ts
 
 -- the primary keys, or the others
-abbrev pub is_kept : Bool → KeyRead → Bool
-is_kept true k = k.primary
-is_kept false k = not k.primary
+abbrev pub is_kept_key : Bool → KeyRead → Bool
+is_kept_key true k = k.primary
+is_kept_key false k = not k.primary
 
 abbrev pub resolved_keys : Bool → List (List ℕ) → List KeyRead → List KeyTree
-resolved_keys primary columns ks = map (resolved columns) (filter (λ k. is_kept primary k) ks)
+resolved_keys primary columns ks = map (resolved columns) (filter (λ k. is_kept_key primary k) ks)
 
 -- the statements of a block, behind these
 abbrev pub block_from : ℕ → Role → List StmtTree → Tokens → Result (List StmtTree) SqlFault

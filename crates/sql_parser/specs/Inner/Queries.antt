@@ -24,9 +24,9 @@ abbrev pub call_at : Tokens → Option (AggKind × Tokens)
 call_at = by_first agg_kind (λ k ts. option_map (λ us. (k, us)) (after (is_sign signs.Open) ts)) (λ ts. None)
 
 -- the star of count(*)
-abbrev pub rows_of : AggKind → Tokens → Option Tokens
-rows_of aggs.Count ts = after (is_sign signs.Star) ts
-rows_of _ ts = None
+abbrev pub counts_rows : AggKind → Tokens → Option Tokens
+counts_rows aggs.Count ts = after (is_sign signs.Star) ts
+counts_rows _ ts = None
 
 -- the name that stands next, if one does
 abbrev pub maybe_name : Reader (Option (List ℕ))
@@ -39,7 +39,7 @@ direction_at = either (is_word words.Asc) (gives false) (either (is_word words.D
 module _ (last : ℕ) where
   -- an aggregate behind its open parenthesis
   unfoldable pub agg_at : AggKind → Reader AggTree
-  agg_at k ts = option_map_or (expect last (is_sign signs.Close) >> gives CountRows) (rows_of k ts) (closed last (Of k) (tree_at last) ts)
+  agg_at k ts = option_map_or (expect last (is_sign signs.Close) >> gives CountRows) (counts_rows k ts) (closed last (Of k) (tree_at last) ts)
 
   -- an aggregate or an expression, and the name given to it
   abbrev pub item_of : Option (AggKind × Tokens) → Reader ItemTree

@@ -14,7 +14,7 @@ use Rattle.sql_expressions.specs.Results.{◌>>=◌ as and_then}
 use Rattle.sql_expressions.specs.Readers.{after, place_of, expect, is_sign, is_word, Reader, gives, made, either, one_at, keyword, closed, name_at, items_at, ◌>>=◌, ◌>>◌}
 use Rattle.sql_blocks.specs.Parts.{column_names}
 use Rattle.sql_parser.specs.Grammar.{Constraints, empty_table, with_column, key_limit, kind_of}
-use Rattle.sql_parser.specs.Tables.{is_among, Placed, KeyRead, TableRead, placed_names, with_key, completed, resolved, created}
+use Rattle.sql_parser.specs.Tables.{has_name, Placed, KeyRead, TableRead, placed_names, with_key, completed, resolved, created}
 use Rattle.sql_parser.specs.Inner.Parts.{misplaced_word}
 
 -- the tokens behind IF EXISTS
@@ -25,7 +25,7 @@ module _ (last : ℕ) where
   -- a name that is none of these, and what is read behind it
   abbrev pub new_name : {X : Type 0} → List (List ℕ) → (Placed → Reader X) → Reader X
   new_name names next ts =
-      and_then (name_at last ts) (λ x. if is_among x.0 names then Err (BadColumns (place_of last ts)) else next (record { name = x.0; place = place_of last ts }) x.1)
+      and_then (name_at last ts) (λ x. if has_name x.0 names then Err (BadColumns (place_of last ts)) else next (record { name = x.0; place = place_of last ts }) x.1)
 
   abbrev pub kind_at : Reader Kind
   kind_at = one_at (misplaced_word last) kind_of
@@ -57,12 +57,12 @@ module _ (last : ℕ) where
   column_behind c t = made (λ x. with_column c x.0 x.1 t) (limits_at c t.keys)
 
   -- a column, whose name may not stand there twice
-  unfoldable pub column_at : TableRead → Reader TableRead
-  column_at t = new_name (column_names t.columns) (λ c. column_behind c t)
+  unfoldable pub column_read : TableRead → Reader TableRead
+  column_read t = new_name (column_names t.columns) (λ c. column_behind c t)
 
   -- one more column or key
   unfoldable pub table_add : TableRead → Reader TableRead
-  table_add t = either (is_word words.Primary) (keyword last words.Key >> key_at true t) (either (is_word words.Unique) (key_at false t) (column_at t))
+  table_add t = either (is_word words.Primary) (keyword last words.Key >> key_at true t) (either (is_word words.Unique) (key_at false t) (column_read t))
 
 -- ---- what has to hold of the whole
 
@@ -71,11 +71,11 @@ made_name table k = key_name table k.primary (placed_names k.columns)
 
 -- where the first column stands that is none of these
 abbrev pub first_lacking : List (List ℕ) → List Placed → Option ℕ
-first_lacking columns ns = option_map (λ n. n.place) (find (λ n. not (is_among n.name columns)) ns)
+first_lacking columns ns = option_map (λ n. n.place) (find (λ n. not (has_name n.name columns)) ns)
 
 -- the place of the fault of a key with this name: of its first column, if the name was made before, else of the first column that the table lacks
 unfoldable pub text_fault : List ℕ → List (List ℕ) → List (List ℕ) → KeyRead → Option ℕ
-text_fault name columns earlier k = if is_among name earlier then Some (slice_index (map (λ n. n.place) k.columns) 0) else first_lacking columns k.columns
+text_fault name columns earlier k = if has_name name earlier then Some (slice_index (map (λ n. n.place) k.columns) 0) else first_lacking columns k.columns
 
 -- the place of the first fault of the keys, in the order of the text; earlier are the names made before
 unfoldable pub keys_fault : List ℕ → List (List ℕ) → List (List ℕ) → List KeyRead → Option ℕ

@@ -5,7 +5,7 @@ use Rattle.sql_trees.specs.declared.expr.Truth.{Truth}
 use Rattle.sql_trees.specs.declared.expr.Truth.TheVariants as asked
 
 -- whether IS finds what it asks for
-abbrev pub asks : Truth → Option Bool → Bool
-asks asked.True k = unwrap_or k false
-asks asked.False k = option_map_or not k false
-asks t k = is_none k
+abbrev pub truth_asked : Truth → Option Bool → Bool
+truth_asked asked.True k = unwrap_or k false
+truth_asked asked.False k = option_map_or not k false
+truth_asked t k = is_none k

@@ -14,7 +14,7 @@ told ask found.Gone = Gone
 told ask (found.Newer seen row) = Newer seen (passes ask.condition ask.cols row.now)
 
 -- its values are as many as the columns
-abbrev pub IsWhole : Asked → Newest → Type 0
-IsWhole ask found.Same = Unit {0}
-IsWhole ask found.Gone = Unit {0}
-IsWhole ask (found.Newer seen row) = length row.now ≡ length ask.cols
+abbrev pub NewestIsWhole : Asked → Newest → Type 0
+NewestIsWhole ask found.Same = Unit {0}
+NewestIsWhole ask found.Gone = Unit {0}
+NewestIsWhole ask (found.Newer seen row) = length row.now ≡ length ask.cols

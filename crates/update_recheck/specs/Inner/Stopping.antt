@@ -17,10 +17,10 @@ abbrev pub holders_of : List TxId → Bool → Holders
 holders_of by closing = if is_none_of by then Nobody else if closing then OthersInACycle else Others
 
 -- what stops a target before its version is looked at
-abbrev pub stop_of : Holders → Option Outcome
-stop_of Nobody = None
-stop_of Others = Some Waits
-stop_of OthersInACycle = Some Deadlocks
+abbrev pub holders_stop : Holders → Option Outcome
+holders_stop Nobody = None
+holders_stop Others = Some Waits
+holders_stop OthersInACycle = Some Deadlocks
 
 -- the row's newest version for the transaction, if there is one
 abbrev pub version_of : Content → Asked → Option Seen → Version

@@ -1,9 +1,9 @@
 use Rattle.std.proofs.Common.{◌≡◌, refl}
 use Rattle.iso_lexer.specs.Names.{Written, plain, quoted, folded, name_view, decoded}
-use Rattle.iso_lexer.specs.Inner.NameParts.{decoded_in, written}
+use Rattle.iso_lexer.specs.Inner.NameParts.{decoded_in, raw_bytes}
 use Rattle.iso_lexer.proofs.same.same_name.Goals as goal
 
-decoded_is : (n : Written) → decoded_in n (written n) ≡ decoded n
+decoded_is : (n : Written) → decoded_in n (raw_bytes n) ≡ decoded n
 decoded_is (plain s) = refl
 decoded_is (quoted s) = refl
 decoded_is (folded s) = refl

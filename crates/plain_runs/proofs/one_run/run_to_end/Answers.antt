@@ -2,7 +2,7 @@ use Rattle.std.proofs.Common.{◌≢◌, Some, rules}
 use Rattle.session_machine.specs.declared.fault.EngineFault.TheVariants.{Memory}
 use Rattle.session_seats.specs.Orders.{IsOrder}
 use Rattle.spec_files.specs.Plans.{order_after}
-use Rattle.plain_runs.specs.Inner.Next.{IsNext}
+use Rattle.plain_runs.specs.Inner.Next.{IsNextEvent}
 use Rattle.plain_runs.specs.Alone.{RefusesNext}
 use Rattle.plain_runs.proofs.Going.{goes_on, is_order, refuses_next}
 use Rattle.plain_runs.proofs.one_run.run_to_end.Goals as goal
@@ -16,7 +16,7 @@ loop-preserved g c =
 
 pub returns-in_err-perform-clause-refused : goal.returns-in_err-perform-clause-refused
 returns-in_err-perform-clause-refused g c =
-    let next : IsNext c.loop.engine (order_after c.loop.plan c.loop.engine.history) (Some c.in-Some-next.event) = search rules in
+    let next : IsNextEvent c.loop.engine (order_after c.loop.plan c.loop.engine.history) (Some c.in-Some-next.event) = search rules in
     let fault = c.in_err-perform.field-0.0 in
     let refused : fault ≢ Memory → RefusesNext (order_after c.args.plan.now) c.args.engine.now.blocks c.args.engine.now.count c.args.engine.now.mode fault =
     λ other. refuses_next c.args.plan.now c.loop.plan c.args.engine.now c.loop.engine c.perform.new.self c.in-Some-next.event fault

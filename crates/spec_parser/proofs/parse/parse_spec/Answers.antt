@@ -5,7 +5,7 @@ use Rattle.spec_parser.specs.Trees.{file_view, perm_view, session_draft_view, pe
 use Rattle.spec_parser.specs.Counts.{start}
 use Rattle.spec_parser.specs.Inner.Stopping.{file_at}
 use Rattle.spec_parser.specs.Names.{session_tree}
-use Rattle.spec_parser.specs.Inner.Known.{first_repeat, known_perms, known_view, sessions_from, FailsWith}
+use Rattle.spec_parser.specs.Inner.Known.{first_repeat, known_perms, known_view, sessions_from, IsFaultOf}
 use Rattle.spec_parser.specs.Inner.Readers.{rest_of, FailsAs}
 use Rattle.spec_parser.proofs.TokenCount.{few_views, all_fit}
 use Rattle.spec_parser.proofs.Whole.{WasRead, on_lexer_fault, on_halt, on_repeat, on_undefined, on_spec}
@@ -55,7 +55,7 @@ returns-in_err-perms c =
       known_is = c.in_ok-known.ensures.all ∙ ap (λ ss. sessions_from 1 (map session_draft_view ss)) c.deref-2.ensures.value;
     } in
     rw (p.1, p.2) (on_undefined c.args.text.now (at_views c.in_ok-tokens.tokens.items) (file_view c.in_ok-file.file) (map known_view c.in_ok-known.known.items) c.in_err-perms.field-0.0 was (c.in_default.ensures.found ∙ ap (λ ks. first_repeat [] (map known_view ks)) c.deref-3.ensures.value)
-    (subst (λ ps. FailsWith c.in_err-perms.field-0.0 (known_perms (map known_view c.in_ok-known.known.items) (map perm_names_view ps))) c.deref-5.ensures.value (subst (λ ks. FailsWith c.in_err-perms.field-0.0 (known_perms (map known_view ks) (map perm_names_view c.deref-5.result.now))) c.deref-4.ensures.value c.in_err-perms.ensures)))
+    (subst (λ ps. IsFaultOf c.in_err-perms.field-0.0 (known_perms (map known_view c.in_ok-known.known.items) (map perm_names_view ps))) c.deref-5.ensures.value (subst (λ ks. IsFaultOf c.in_err-perms.field-0.0 (known_perms (map known_view ks) (map perm_names_view c.deref-5.result.now))) c.deref-4.ensures.value c.in_err-perms.ensures)))
 
 pub returns : goal.returns
 returns c =

@@ -1,10 +1,10 @@
 use Rattle.std.proofs.Common.{◌≡◌, length, map}
-use Rattle.sql_parser.specs.Tables.{is_among}
+use Rattle.sql_parser.specs.Tables.{has_name}
 use Rattle.sql_trees.specs.Statements.{name_of}
 use Rattle.sql_parser.proofs.part.is_among.Given as goal
 
 abbrev pub invariant-loop-names : goal.invariant-loop-names
-invariant-loop-names l = is_among (name_of l.name) (map name_of l.names) ≡ is_among (name_of l.name) (map name_of l.fn.names)
+invariant-loop-names l = has_name (name_of l.name) (map name_of l.names) ≡ has_name (name_of l.name) (map name_of l.fn.names)
 
 abbrev pub decreases-loop-names : goal.decreases-loop-names
 decreases-loop-names l = length l.names

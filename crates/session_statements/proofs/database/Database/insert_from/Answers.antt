@@ -3,7 +3,7 @@ use Rattle.sql_trees.specs.Statements.{insert_of}
 use Rattle.query_results.specs.Queries.{AssignedColumn, columns_assigned}
 use Rattle.session_machine.specs.Rows.{columns_in}
 use Rattle.session_machine.specs.Inner.Statements.{insert_one, assigned_to, done, after_walk, walked}
-use Rattle.session_statements.specs.Inner.Acting.{halted}
+use Rattle.session_statements.specs.Inner.Acting.{halted_walk}
 use Rattle.session_statements.proofs.database.Database.insert_from.Goals as goal
 
 pub returns : goal.returns
@@ -15,5 +15,5 @@ returns g c =
     let same : to ≡ c.in_ok-to.to = search rules in
     ap (λ (ts : List AssignedColumn). after_walk db.content w done (walked (insert_one w i.table ts) db c.args.place c.args.rows.items (drop c.args.place i.rows))) same
     ∙ c.in_ok-insert_rows.ensures.walk db.content c.args.rows.items
-    ∙ ap (halted db.content w done c.insert_rows.new.self c.args.rows.items) c.in-Some.is
+    ∙ ap (halted_walk db.content w done c.insert_rows.new.self c.args.rows.items) c.in-Some.is
     ∙ c.halt.ensures db.content done (search rules)

@@ -5,7 +5,7 @@ use Rattle.query_results.specs.Queries.{titles_of}
 use Rattle.session_machine.specs.declared.reply.Outcome.{Outcome}
 use Rattle.session_machine.specs.declared.reply.Outcome.TheVariants.{Rows}
 use Rattle.session_machine.specs.Rows.{columns_in}
-use Rattle.session_statements.specs.Inner.Acting.{halted}
+use Rattle.session_statements.specs.Inner.Acting.{halted_walk}
 use Rattle.session_statements.proofs.database.Database.lock_over.Goals as goal
 
 pub returns : goal.returns
@@ -14,5 +14,5 @@ returns g c =
     let titles = titles_of (columns_in c.args.self.now c.args.work.now) (map item_of c.args.stmt.now.items.items) in
     let outcome : List (List Value) → Outcome = λ shown. Rows (record { titles = titles; rows = shown }) in
     c.in_ok-walk.ensures.walk before outcome
-    ∙ ap (halted before c.args.work.now outcome c.walk.new.self c.walk.new.rows.items) c.in-Some.is
+    ∙ ap (halted_walk before c.args.work.now outcome c.walk.new.self c.walk.new.rows.items) c.in-Some.is
     ∙ c.halt.ensures before outcome (search rules)

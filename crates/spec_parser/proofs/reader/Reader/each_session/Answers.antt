@@ -3,7 +3,7 @@ use Rattle.std.proofs.lemmas.Result.{err_from_is_err_and}
 use Rattle.std.proofs.ResultArms.{chosen}
 use Rattle.iso_lexer.specs.declared.spec_token.Keyword.TheVariants.{Session}
 use Rattle.spec_parser.specs.Trees.{session_draft_view}
-use Rattle.spec_parser.specs.Grammar.{is_word}
+use Rattle.spec_parser.specs.Grammar.{is_keyword}
 use Rattle.spec_parser.specs.Inner.Stopping.{session_at, all_at}
 use Rattle.spec_parser.specs.Inner.Pieces.{starts_word}
 use Rattle.spec_parser.specs.Inner.Readers.{FailsAs, rest_of}
@@ -15,7 +15,7 @@ pub returns-in_err-item-clause-reads : goal.returns-in_err-item-clause-reads
 returns-in_err-item-clause-reads c =
     let p = err_from_is_err_and c.from_residual.result c.from_residual.ensures.1 in
     let inv = c.loop-alloc.invariant in
-    rw (p.1, p.2) (subst (FailsAs c.args.self.now.end c.in_err-item.field-0.0) (behind_nothing (all_at (starts_word Session) (λ k. session_at) (rest_of c.args.self.now))) (on_stop (starts_word Session) (λ k. session_at) [] (rest_of c.args.self.now) (map session_draft_view c.loop-alloc.items.items) (rest_of c.loop-alloc.self) c.args.self.now.end c.in_err-item.field-0.0 (sym c.loop-alloc-test.ensures) (starts_nonempty (is_word Session) (rest_of c.loop-alloc.self) (sym c.loop-alloc-test.ensures)) (subst (λ e. FailsAs e c.in_err-item.field-0.0 (session_at (rest_of c.loop-alloc.self))) inv.same.end c.in_err-item.ensures.reads) inv.so_far))
+    rw (p.1, p.2) (subst (FailsAs c.args.self.now.end c.in_err-item.field-0.0) (behind_nothing (all_at (starts_word Session) (λ k. session_at) (rest_of c.args.self.now))) (on_stop (starts_word Session) (λ k. session_at) [] (rest_of c.args.self.now) (map session_draft_view c.loop-alloc.items.items) (rest_of c.loop-alloc.self) c.args.self.now.end c.in_err-item.field-0.0 (sym c.loop-alloc-test.ensures) (starts_nonempty (is_keyword Session) (rest_of c.loop-alloc.self) (sym c.loop-alloc-test.ensures)) (subst (λ e. FailsAs e c.in_err-item.field-0.0 (session_at (rest_of c.loop-alloc.self))) inv.same.end c.in_err-item.ensures.reads) inv.so_far))
 
 pub returns-clause-few : goal.returns-clause-few
 returns-clause-few c = let inv = c.loop-alloc.invariant in omega (arith, inv.so_far.room, rest_len c.args.self.now, views_len session_draft_view c.loop-alloc.items.items, c.loop-alloc.items.ok.0)

@@ -3,7 +3,7 @@ use Rattle.std.proofs.lemmas.Result.{err_from_is_err_and}
 use Rattle.std.proofs.ResultArms.{chosen}
 use Rattle.iso_lexer.specs.declared.spec_token.Sign.TheVariants.{Comma}
 use Rattle.spec_parser.specs.Trees.{marker_view}
-use Rattle.spec_parser.specs.Grammar.{is_sign}
+use Rattle.spec_parser.specs.Grammar.{is_mark}
 use Rattle.spec_parser.specs.Inner.Pieces.{starts_sign, next_marker_at}
 use Rattle.spec_parser.specs.Inner.Readers.{FailsAs, rest_of}
 use Rattle.spec_parser.proofs.Loops.{SoFar, on_end, on_item, on_stop, views_push, starts_nonempty}
@@ -14,7 +14,7 @@ pub returns-in_err-item-clause-reads : goal.returns-in_err-item-clause-reads
 returns-in_err-item-clause-reads c =
     let p = err_from_is_err_and c.from_residual.result c.from_residual.ensures.1 in
     let inv = c.loop-self.invariant in
-    rw (p.1, p.2) ((on_stop (starts_sign Comma) (λ k. next_marker_at) (map marker_view c.args.items.items) (rest_of c.args.self.now) (map marker_view c.loop-self.items.items) (rest_of c.loop-self.self) c.args.self.now.end c.in_err-item.field-0.0 (sym c.loop-self-test.ensures) (starts_nonempty (is_sign Comma) (rest_of c.loop-self.self) (sym c.loop-self-test.ensures)) (subst (λ e. FailsAs e c.in_err-item.field-0.0 (next_marker_at (rest_of c.loop-self.self))) inv.same.end c.in_err-item.ensures.reads) inv.so_far))
+    rw (p.1, p.2) ((on_stop (starts_sign Comma) (λ k. next_marker_at) (map marker_view c.args.items.items) (rest_of c.args.self.now) (map marker_view c.loop-self.items.items) (rest_of c.loop-self.self) c.args.self.now.end c.in_err-item.field-0.0 (sym c.loop-self-test.ensures) (starts_nonempty (is_mark Comma) (rest_of c.loop-self.self) (sym c.loop-self-test.ensures)) (subst (λ e. FailsAs e c.in_err-item.field-0.0 (next_marker_at (rest_of c.loop-self.self))) inv.same.end c.in_err-item.ensures.reads) inv.so_far))
 
 pub loop-self-smaller : goal.loop-self-smaller
 loop-self-smaller c = next_marker_shorter (rest_of c.loop-self.self) (rest_of c.next_marker.new.self) _ c.in_ok-item.ensures.reads

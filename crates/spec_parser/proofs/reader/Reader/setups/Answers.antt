@@ -3,7 +3,7 @@ use Rattle.std.proofs.lemmas.Result.{err_from_is_err_and}
 use Rattle.std.proofs.ResultArms.{chosen}
 use Rattle.iso_lexer.specs.declared.spec_token.Keyword.TheVariants.{Setup}
 use Rattle.spec_parser.specs.Trees.{part_view}
-use Rattle.spec_parser.specs.Grammar.{is_word}
+use Rattle.spec_parser.specs.Grammar.{is_keyword}
 use Rattle.spec_parser.specs.Inner.Stopping.{block_after}
 use Rattle.spec_parser.specs.Inner.Pieces.{starts_word, setups_at}
 use Rattle.spec_parser.specs.Inner.Readers.{FailsAs, rest_of}
@@ -15,7 +15,7 @@ pub returns-in_err-item-clause-reads : goal.returns-in_err-item-clause-reads
 returns-in_err-item-clause-reads c =
     let p = err_from_is_err_and c.from_residual.result c.from_residual.ensures.1 in
     let inv = c.loop-self.invariant in
-    rw (p.1, p.2) (subst (FailsAs c.args.self.now.end c.in_err-item.field-0.0) (behind_nothing (setups_at (rest_of c.args.self.now))) (on_stop (starts_word Setup) (λ k. block_after Setup) [] (rest_of c.args.self.now) (map part_view c.loop-self.items.items) (rest_of c.loop-self.self) c.args.self.now.end c.in_err-item.field-0.0 (sym c.loop-self-test.ensures) (starts_nonempty (is_word Setup) (rest_of c.loop-self.self) (sym c.loop-self-test.ensures)) (subst (λ e. FailsAs e c.in_err-item.field-0.0 (block_after Setup (rest_of c.loop-self.self))) inv.same.end c.in_err-item.ensures.reads) inv.so_far))
+    rw (p.1, p.2) (subst (FailsAs c.args.self.now.end c.in_err-item.field-0.0) (behind_nothing (setups_at (rest_of c.args.self.now))) (on_stop (starts_word Setup) (λ k. block_after Setup) [] (rest_of c.args.self.now) (map part_view c.loop-self.items.items) (rest_of c.loop-self.self) c.args.self.now.end c.in_err-item.field-0.0 (sym c.loop-self-test.ensures) (starts_nonempty (is_keyword Setup) (rest_of c.loop-self.self) (sym c.loop-self-test.ensures)) (subst (λ e. FailsAs e c.in_err-item.field-0.0 (block_after Setup (rest_of c.loop-self.self))) inv.same.end c.in_err-item.ensures.reads) inv.so_far))
 
 pub loop-self-smaller : goal.loop-self-smaller
 loop-self-smaller c = block_shorter Setup (rest_of c.loop-self.self) (rest_of c.block_after.new.self) _ c.in_ok-item.ensures.reads
