@@ -22,6 +22,4 @@ unquoted bs = bs
 
 -- the bytes that a name stands for
 abbrev pub decoded : Written → List ℕ
-decoded (plain s) = s
-decoded (quoted s) = unquoted s
-decoded (folded s) = map to_ascii_lowercase s
+decoded name = elim name [ plain s ↦ s | quoted s ↦ unquoted s | folded s ↦ map to_ascii_lowercase s ]

@@ -6,7 +6,8 @@ use Rattle.result_tables.specs.declared.column.ColumnLayout.{ColumnLayout}
 use Rattle.query_results.specs.declared.title.Title.{Title}
 use Rattle.result_tables.specs.Printed.{printed}
 use Rattle.result_tables.specs.Titles.{title_text}
-use Rattle.result_tables.specs.TableText.{layout_of, layouts_of}
+use Rattle.result_tables.specs.TableText.{layout_of}
+use Rattle.result_tables.specs.Inner.Lines.{layouts_of}
 use Rattle.result_tables.specs.Inner.Columns.{cells}
 use Rattle.query_results.specs.Results.{Results}
 

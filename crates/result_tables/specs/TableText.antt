@@ -11,10 +11,6 @@ use Rattle.result_tables.specs.Titles.{title_text}
 abbrev pub layout_of : List ℕ → List (List ℕ) → ColumnLayout
 layout_of title values = record { width = fold max 0 (map length (title ∷ values)); left = list_any (λ text. nat_lt 0 (length text) && not (is_numeric text)) values }
 
--- a column for each title, with what the rows have at its place
-abbrev pub layouts_of : List (List ℕ) → List (List (List ℕ)) → List ColumnLayout
-layouts_of titles rows = map (λ k. layout_of (slice_index_or titles k []) (map (λ row. slice_index_or row k []) rows)) (range_with_len 0 (length titles))
-
 -- a cell, filled up with blanks to the column's width
 abbrev pub padded : ColumnLayout → List ℕ → List ℕ
 padded c text = let blanks = replicate (c.width - length text) 32 in if c.left then text ++ blanks else blanks ++ text
@@ -36,5 +32,5 @@ abbrev pub table_text : Results → List ℕ
 table_text set =
     let titles = map title_text set.titles in
     let rows = map (map printed) set.rows in
-    let columns = layouts_of titles rows in
+    let columns = map (λ k. layout_of (slice_index_or titles k []) (map (λ row. slice_index_or row k []) rows)) (range_with_len 0 (length titles)) in
     table_line columns titles ++ rule_line columns ++ flat_map (table_line columns) rows ++ foot (length rows)

@@ -3,7 +3,8 @@
 ghost use Rattle.std.specs.Prelude.{◌≡◌, ◌<◌, ◌||◌, length, map, max, All, IfOk};
 ghost use Rattle.result_tables.specs.Printed.{printed};
 ghost use Rattle.result_tables.specs.Titles.{title_text};
-ghost use Rattle.result_tables.specs.TableText.{layout_of, layouts_of};
+ghost use Rattle.result_tables.specs.TableText.{layout_of};
+ghost use Rattle.result_tables.specs.Inner.Lines.{layouts_of};
 ghost use Rattle.result_tables.specs.Inner.Columns.{is_textual, cells};
 
 use crate::shown::{Shown, shows_word};

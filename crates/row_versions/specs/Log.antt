@@ -27,8 +27,7 @@ IsOpen c tx = fate_of c.fates tx ≡ Some Open
 
 -- it is the fate of a transaction that has begun and has not ended
 abbrev pub is_open_fate : Option Fate → Bool
-is_open_fate (Some Open) = true
-is_open_fate fate = false
+is_open_fate fate = elim fate [ Some Open ↦ true | other ↦ false ]
 
 -- the transaction has begun and has not ended, as a test
 abbrev pub is_open : List Fate → TxId → Bool
@@ -36,8 +35,7 @@ is_open fates tx = is_open_fate (fate_of fates tx)
 
 -- it is the fate of a transaction that has committed
 abbrev pub is_commit : Fate → Bool
-is_commit (Committed k) = true
-is_commit fate = false
+is_commit fate = elim fate [ Committed k ↦ true | other ↦ false ]
 
 -- the transaction has committed
 abbrev pub has_committed : Content → TxId → Bool

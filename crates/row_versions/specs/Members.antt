@@ -13,8 +13,7 @@ has list tx = list_any (λ other. same_tx other tx) list
 
 -- nobody is in the list
 abbrev pub is_none_of : List TxId → Bool
-is_none_of [] = true
-is_none_of (tx ∷ rest) = false
+is_none_of txs = elim txs [ [] ↦ true | tx ∷ rest ↦ false ]
 
 -- none is in the list twice
 abbrev pub is_distinct : List TxId → Type 0

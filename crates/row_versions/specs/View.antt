@@ -11,8 +11,7 @@ use Rattle.row_versions.specs.Log.{fate_of}
 
 -- the transaction's commit is one of the first so many
 abbrev pub committed_before : ℕ → Option Fate → Bool
-committed_before commits (Some (Committed k)) = nat_lt k commits
-committed_before commits fate = false
+committed_before commits fate = elim fate [ Some (Committed k) ↦ nat_lt k commits | other ↦ false ]
 
 -- the view sees the write: it is committed before the view, or the view's own of an earlier command
 abbrev pub sees : List Fate → View → Write → Bool

@@ -70,8 +70,7 @@ abbrev pub is_quiet : Machine → Bool
 is_quiet m = is_none (turn_in m)
 
 abbrev pub is_directed : Mode → Bool
-is_directed Directed = true
-is_directed Free = false
+is_directed mode = elim mode [ Directed ↦ true | Free ↦ false ]
 
 pub record Next : Type 0 where
   pub machine : Machine
@@ -85,8 +84,7 @@ abbrev pub comes_out : Machine → Database → ℕ → Session → Outcome → 
 comes_out m db session s outcome = record { machine = with_session m db session s; reply = record { outcome = outcome; ended = is_none s.place } }
 
 abbrev pub is_failed : Outcome → Bool
-is_failed (Failed fault) = true
-is_failed outcome = false
+is_failed outcome = elim outcome [ Failed fault ↦ true | other ↦ false ]
 
 -- an implicit transaction is committed with the block's last statement
 abbrev pub closed_at_end : Effect → Transaction → Effect
@@ -130,9 +128,7 @@ next_for blocks mode m s (Leave session) =
 
 -- the session that does an event
 abbrev pub session_of : Event → ℕ
-session_of (Launch session block) = session
-session_of (Step session) = session
-session_of (Leave session) = session
+session_of event = elim event [ Launch session block ↦ session | Step session ↦ session | Leave session ↦ session ]
 
 -- what an event makes of the machine, with the reply to it, or why it is refused
 abbrev pub next : Blocks → Mode → Machine → Event → Result Next Refusal

@@ -25,7 +25,6 @@ use Rattle.unique_keys.specs.Checks.{is_taken}
 use Rattle.update_recheck.specs.Asked.{Asked}
 use Rattle.update_recheck.specs.Outcome.{target_outcome, is_target_locked}
 use Rattle.update_recheck.specs.Outcome.Outcome.{Takes, Skips, Waits, Deadlocks, Serializes, Faults}
-use Rattle.update_recheck.specs.Settling.{lock_of}
 use Rattle.session_machine.specs.declared.session.OpenTransaction.{OpenTransaction}
 use Rattle.session_machine.specs.declared.session.Request.TheVariants.{Row, Key}
 use Rattle.session_machine.specs.declared.fault.StmtFault.TheVariants.{Value as OfValue, NullValue, KeyTaken, NotSerializable, Deadlock}
@@ -105,7 +104,7 @@ visit_target w stmt strength filter walk seen =
     let ask : Asked = record { tx = w.t.tx; level = w.t.level; seen = seen; strength = strength; condition = filter; cols = cols_in walk.db w } in
     let held = walk.db.held in
     let waits = waits_in walk.db w.around.sessions in
-    let at = record walk { db = record walk.db { held = if is_target_locked walk.db.content held waits ask then held ++ lock_of ask ∷ [] else held } } in
+    let at = record walk { db = record walk.db { held = if is_target_locked walk.db.content held waits ask then held ++ record { row = seen.row; tx = w.t.tx; strength = strength } ∷ [] else held } } in
     elim (target_outcome walk.db.content held waits ask) [
       | Takes version ↦ act_on w stmt at version
       | Skips ↦ passed at at.db []
@@ -117,8 +116,7 @@ visit_target w stmt strength filter walk seen =
 
 -- FOR SHARE shares the row; FOR UPDATE holds it alone
 abbrev pub strength_of : Lock → Strength
-strength_of lock.Share = Share
-strength_of lock.Update = Exclusive
+strength_of l = elim l [ lock.Share ↦ Share | lock.Update ↦ Exclusive ]
 
 -- a statement goes over its targets, which are versions that its view shows, at these places; where they couldn't be found, it fails
 abbrev pub over_targets : Work → StmtTree → Strength → Option Tree → Walk → Result (List ℕ) ValueFault → Walk

@@ -98,6 +98,4 @@ run_stmt db Closed statement around stmt = run_in (record db { content = after_b
 run_stmt db AbortedOne statement around stmt = record { db = db; transaction = AbortedOne; statement = None; outcome = Failed Aborted }
 
 abbrev pub is_definition : StmtTree → Bool
-is_definition (Create c) = true
-is_definition (DropTables d) = true
-is_definition stmt = false
+is_definition stmt = elim stmt [ Create c ↦ true | DropTables d ↦ true | other ↦ false ]

@@ -7,8 +7,7 @@ use Rattle.sql_blocks.specs.declared.block.Role.{Role}
 use Rattle.sql_blocks.specs.declared.block.Role.TheVariants as roles
 
 abbrev pub is_session : Role → Bool
-is_session roles.Session = true
-is_session roles.Main = false
+is_session role = elim role [ roles.Session ↦ true | roles.Main ↦ false ]
 
 abbrev pub column_names : List ColumnTree → List (List ℕ)
 column_names cs = map (λ c. c.name) cs
@@ -22,8 +21,7 @@ set_columns ss = map (λ s. s.column) ss
 -- ---- what has to hold of a whole query
 
 abbrev pub is_aggregate : ItemTree → Bool
-is_aggregate (Aggregate a n) = true
-is_aggregate _ = false
+is_aggregate i = elim i [ Aggregate a n ↦ true | other ↦ false ]
 
 -- aggregates stand alone and go with no ORDER BY and no lock; a star and a lock go with a table
 abbrev pub is_allowed : SelectTree → Bool

@@ -4,8 +4,7 @@ use Rattle.sql_trees.specs.Trees.{Tree, Trees, none, more, Number, Minus}
 
 -- a minus before a literal makes one literal
 abbrev pub negated : Tree → Tree
-negated (Number b n) = Number (not b) n
-negated t = Minus t
+negated t = elim t [ Number b n ↦ Number (not b) n | other ↦ Minus other ]
 
 -- one more tree at the end
 abbrev pub push : Trees → Tree → Trees

@@ -32,18 +32,15 @@ made make reader ts = if_ok (reader ts) (λ x. Ok (make x.0, x.1))
 
 -- the token is this keyword, in whatever letters
 abbrev pub is_word : Word → Token → Bool
-is_word w (tok.word v s) = same_word v w
-is_word w _ = false
+is_word w t = elim t [ tok.word v s ↦ same_word v w | other ↦ false ]
 
 -- the token is this sign
 abbrev pub is_sign : SqlSign → Token → Bool
-is_sign s (tok.sign r) = sameb the_type r s
-is_sign s _ = false
+is_sign s t = elim t [ tok.sign r ↦ sameb the_type r s | other ↦ false ]
 
 -- a token that stands for a part that is left out
 abbrev pub left_out : Token → Bool
-left_out (tok.word w s) = is_left_out w
-left_out t = is_sign signs.Dot t || is_sign signs.Cast t
+left_out t = elim t [ tok.word w s ↦ is_left_out w | other ↦ is_sign signs.Dot other || is_sign signs.Cast other ]
 
 -- the tokens behind the next, if it is of this kind
 abbrev pub after : (Token → Bool) → Tokens → Option Tokens

@@ -16,9 +16,7 @@ Known = Result (Option Bool) ValueFault
 
 -- a condition is a boolean or NULL
 abbrev pub truth : Value → Known
-truth Null = Ok None
-truth (Boolean b) = Ok (Some b)
-truth v = Err TypeMismatch
+truth v = elim v [ Null ↦ Ok None | Boolean b ↦ Ok (Some b) | other ↦ Err TypeMismatch ]
 
 -- a condition as a value, with NOT before it or as it is; the negation of NULL is NULL
 abbrev pub condition : Bool → Known → Answer

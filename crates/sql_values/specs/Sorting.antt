@@ -12,10 +12,7 @@ use Rattle.sql_values.specs.Values.{is_null, compare}
 
 -- kinds that don't compare stand in this order; nothing shows it, since sorting and aggregates refuse to mix them
 abbrev pub kind_rank : Value → ℕ
-kind_rank Null = 0
-kind_rank (Text s) = 2
-kind_rank (Boolean b) = 3
-kind_rank number = 1
+kind_rank v = elim v [ Null ↦ 0 | Text s ↦ 2 | Boolean b ↦ 3 | number ↦ 1 ]
 
 -- the order of two values, for all of them
 abbrev pub full_order : Value → Value → Ordering

@@ -35,14 +35,11 @@ abbrev pub bigint : ℤ → Answer
 bigint z = if is_within (2 ^ 63) z then Ok (Big z) else Err BigintRange
 
 abbrev pub is_null : Value → Bool
-is_null Null = true
-is_null v = false
+is_null v = elim v [ Null ↦ true | other ↦ false ]
 
 -- the number that a value is
 abbrev pub number_of : Value → Option ℤ
-number_of (Int z) = Some z
-number_of (Big z) = Some z
-number_of v = None
+number_of v = elim v [ Int z ↦ Some z | Big z ↦ Some z | other ↦ None ]
 
 -- numbers compare by size, texts by their bytes, false stands before true; NULL and values of other kinds don't compare (9.2)
 abbrev pub compare : Value → Value → Option Ordering

@@ -1,7 +1,7 @@
 use Rattle.std.proofs.Common.{◌≡◌, map, take}
 use Rattle.result_tables.specs.Printed.{printed}
 use Rattle.result_tables.specs.Titles.{title_text}
-use Rattle.result_tables.specs.TableText.{layouts_of}
+use Rattle.result_tables.specs.Inner.Lines.{layouts_of}
 use Rattle.result_tables.proofs.column.measured_columns.Given as goal
 
 abbrev pub invariant-loop-k : goal.invariant-loop-k
