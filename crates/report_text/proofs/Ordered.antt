@@ -95,7 +95,7 @@ turn_is : (items : List HistItem) (k : ℕ) (t : PlannedLaunch) → setup_says i
 turn_is items k t =
     ap (λ (e : Ending). if went_well items k t.session then says (rows_text (last_outcome (segment items k))) else only_ends e) (ending_is (last_outcome (segment items k)))
 
-abbrev session_in : PlannedLaunch → ℕ
+abbrev pub session_in : PlannedLaunch → ℕ
 session_in t = t.session
 
 -- what the setups say that are there
@@ -188,11 +188,11 @@ map_append : {A B : Type 0} (f : A → B) (xs ys : List A) → map f (xs ++ ys) 
 map_append f [] ys = refl
 map_append f (x ∷ xs) ys = ap (λ zs. f x ∷ zs) (map_append f xs ys)
 
-parts_launch : (ps : List PartTree) → map (launch_in 0) ps ≡ map launch (map (planned_in 0) ps)
+pub parts_launch : (ps : List PartTree) → map (launch_in 0) ps ≡ map launch (map (planned_in 0) ps)
 parts_launch [] = refl
 parts_launch (p ∷ ps) = ap (λ os. launch_in 0 p ∷ os) (parts_launch ps)
 
-own_launch : (part : SessionTree → Option PartTree) (a : ℕ) (sessions : List SessionTree)
+pub own_launch : (part : SessionTree → Option PartTree) (a : ℕ) (sessions : List SessionTree)
     → filter_map (λ (p : ℕ × SessionTree). option_map (launch_in p.0) (part p.1)) (enumerate_from a sessions) ≡ map launch (own_planned part a sessions)
 own_launch part a [] = refl
 own_launch part a (s ∷ ss) = elim (part s) as (λ o. cons_option (option_map (launch_in a) o) (filter_map (λ (p : ℕ × SessionTree). option_map (launch_in p.0) (part p.1)) (enumerate_from (a + 1) ss))
@@ -213,7 +213,7 @@ part_numbers : (ps : List PartTree) → replicate (length ps) 0 ≡ map session_
 part_numbers [] = refl
 part_numbers (p ∷ ps) = ap (λ ns. 0 ∷ ns) (part_numbers ps)
 
-setups_number : (spec : SpecTree) → setup_numbers spec ≡ map session_in (setups_planned spec)
+pub setups_number : (spec : SpecTree) → setup_numbers spec ≡ map session_in (setups_planned spec)
 setups_number spec =
     ap₂ (λ (xs ys : List ℕ). xs ++ ys) (part_numbers spec.setups) (own_numbers (λ s. s.setup) 1 spec.sessions)
     ∙ sym (map_append session_in (map (planned_in 0) spec.setups) (own_planned (λ s. s.setup) 1 spec.sessions))
