@@ -42,8 +42,8 @@ use Rattle.permutation_plans.specs.Launches.{launches, run_of, due_in}
 use Rattle.permutation_plans.specs.Launches as old
 use Rattle.permutation_plans.specs.Fits.{IsOrdered, FitsAfter}
 use Rattle.permutation_plans.specs.Regular.{next_order, IsRegular}
-use Rattle.permutation_plans.specs.Whole.{order_at}
-use Rattle.permutation_plans.proofs.Whole.{else_same, at_append, length_launches, beyond, past, launch_at, IsStateAt, state_at, length_tasks}
+use Rattle.permutation_plans.specs.Whole.{order_at, NextIsDue}
+use Rattle.permutation_plans.proofs.Whole.{else_same, at_append, length_launches, beyond, past, launch_at, IsStateAt, state_at, length_tasks, next_is_due}
 
 -- ---- setups
 
@@ -445,3 +445,6 @@ regular_of spec blocks entries items state run quiet fits =
 
 pub regular_fits : (spec : SpecTree) (blocks : Blocks) (entries : List EntryTree) (items : List HistItem) → IsRegular spec blocks entries items → FitsAfter (next_order spec entries) [] items
 regular_fits spec blocks entries items regular = fits_from (next_order spec entries) items [] items regular.ordered regular.over refl
+
+pub next_goes_well : NextIsDue
+next_goes_well spec entries items well = next_is spec entries items ∙ next_is_due spec entries items well

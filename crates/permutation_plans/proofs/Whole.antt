@@ -17,8 +17,9 @@ use Rattle.report_lines.specs.Report.{Report, moment_of, active}
 use Rattle.report_lines.specs.Walk.{poll, has_unreported, made_way, launched, report_from, report}
 use Rattle.report_lines.specs.Due.{Launches, Planned, orders, went_well, is_over, launch, due_setup, teardowns_so_far, due_entry, due}
 use Rattle.report_lines.specs.Inner.Due.{due_last}
-use Rattle.permutation_plans.specs.Launches.{launch_of_entry}
-use Rattle.permutation_plans.specs.Whole.{planned, leaves, order_at, AreWell, AreOver, GoesWell, NextIsDue}
+use Rattle.permutation_plans.specs.Launches.{launches, launch_of_entry, due_in}
+use Rattle.report_lines.proofs.Same.{report_is}
+use Rattle.permutation_plans.specs.Whole.{planned, leaves, order_at, AreWell, AreOver, GoesWell, whole_orders}
 
 first : {A : Type 0} (b w : Bool) (a x c : A) → b ≡ true → (if b then a else (if w then x else c)) ≡ a
 first true w a x c h = refl
@@ -236,7 +237,7 @@ whole_due p same well =
     ∙ else_same (slice_get (map launch l.setups) count) (due_entry l items count state) (order_at rest (count - length (map launch l.setups)))
     (λ none.
     let many = beyond l.setups count none in
-    entry_due l items count (length l.setups) state refl many (subst (IsStateAt state (count - length l.setups)) (sym same) (state_at p.run (count - length l.setups) well.entries)) well.teardowns well.last
+    entry_due l items count (length l.setups) state refl many (subst (IsStateAt state (count - length l.setups)) (sym same) (state_at p.run (count - length l.setups) (λ e. well.entries (ap (λ (r : Report). r.state) (report_is p.run (count - length l.setups)) ∙ e)))) well.teardowns well.last
     ∙ ap (order_at rest) place)
     ∙ sym (at_append (map launch l.setups) rest count)
 
@@ -244,5 +245,6 @@ pub length_tasks : (spec : SpecTree) (entries : List EntryTree) → length (map 
 length_tasks spec [] = refl
 length_tasks spec (e ∷ es) = ap suc (length_tasks spec es)
 
-pub next_is_due : NextIsDue
+pub next_is_due : (spec : SpecTree) (entries : List EntryTree) (items : List HistItem) → GoesWell (planned spec entries items)
+    → due_in spec entries items ≡ order_at (whole_orders (launches spec entries)) (orders items)
 next_is_due spec entries items well = whole_due (planned spec entries items) (length_tasks spec entries) well
