@@ -3,14 +3,13 @@ use Rattle.std.proofs.Common.{◌≡◌, ◌≢◌, ℕ, zero, suc, ◌+◌, ◌
 use Rattle.std.specs.Prelude.{nat_le, Option, Some, None, unwrap_or, slice_get, option_to_list, flat_map, IfSome, IsTrue, if◌then◌else◌}
 use Rattle.std.proofs.Math.Path.{fun_ext}
 use Rattle.std.specs.List.{range_with_len}
-use Rattle.std.specs.Option.{option_map_or}
-use Rattle.std.proofs.lemmas.Bool.{cases_lt, lt-ltb, le-ltb}
+use Rattle.std.proofs.lemmas.Bool.{cases_lt}
 use Rattle.std.proofs.lemmas.List.{length-map}
 use Rattle.session_machine.specs.declared.event.Event.{Event}
 use Rattle.session_machine.specs.declared.event.Event.TheVariants as events
 use Rattle.session_machine.specs.declared.event.Mode.TheVariants.{Directed}
 use Rattle.session_machine.specs.declared.event.Order.{Order}
-use Rattle.session_machine.specs.declared.event.Order.TheVariants.{Launch, Leave, Stop}
+use Rattle.session_machine.specs.declared.event.Order.TheVariants.{Leave, Stop}
 use Rattle.session_machine.specs.Machine.{Machine, Blocks, opening, is_quiet}
 use Rattle.session_machine.specs.Engine.{Run}
 use Rattle.session_machine.specs.declared.reply.HistItem.{HistItem}
@@ -27,17 +26,15 @@ use Rattle.report_lines.specs.Walk.{report}
 use Rattle.report_lines.specs.Starts.{order_of}
 use Rattle.report_lines.specs.Due.{Launches, segment, went_well, is_over, orders, launch, due_setup, teardowns_so_far, due_entry, due}
 use Rattle.report_lines.specs.Inner.Due.{due_last}
-use Rattle.report_lines.specs.Orders.{launch_in, own_launches, setups_of, launch_of_entry, closing_of, with_leaves, orders_of}
+use Rattle.report_lines.specs.Orders.{launch_in, own_launches, launch_of_entry, closing_of, with_leaves, orders_of}
 use Rattle.report_lines.proofs.Reports.{report_none, report_some}
 use Rattle.report_lines.proofs.Same.{report_is}
 use Rattle.report_text.specs.Replies.{last_outcome}
-use Rattle.report_text.specs.Steps.{starting_text}
 use Rattle.report_text.specs.LineText.{line_text}
 use Rattle.report_text.specs.Said.{Ending, whole, invalid, setup_failed, setup_waits, too_many, Said, says, only_ends, ◌>>◌}
-use Rattle.report_text.specs.Permutation.{permutation_says}
 use Rattle.report_text.specs.Turns.{is_whole, in_turn, setup_numbers, teardown_numbers, setup_ending, setup_turn, teardown_turn, state_says, permutation_in_turn}
 use Rattle.report_text.proofs.Saying.{after_whole, at_end, permutation_run}
-use Rattle.report_text.proofs.Ordered.{session_in, setups_planned, setups_launch, setups_number, own_launch, own_planned, parts_launch, planned_in, permutation_turn}
+use Rattle.report_text.proofs.Ordered.{session_in, setups_launch, setups_number, own_launch, parts_launch, permutation_turn}
 use Rattle.permutation_plans.specs.Launches.{launches, run_of, due_in}
 use Rattle.permutation_plans.specs.Launches as old
 use Rattle.permutation_plans.specs.Fits.{IsOrdered, FitsAfter}
@@ -366,9 +363,12 @@ said_ending spec entries items x =
     let same : state ≡ (report (run_of l entries items) (n - length l.setups)).state =
     ap (λ j. (told (permutation_run entries items j) (n - j)).state) many ∙ ap (λ (r : Report). r.state) (report_is (run_of l entries items) (n - length l.setups)) in
     let teardowns = in_turn n (k + length entries) (map (teardown_turn spec.sessions items) (teardown_numbers spec)) in
-    let lines = flat_map (line_text spec (permutation_run entries items k)) (told (permutation_run entries items k) (n - k)).lines in
-    (lines, teardowns, teardowns_whole spec.sessions items n (k + length entries) (teardown_numbers spec),
-    ap₂ (λ (ns : List ℕ) (s : RunState). order_by (said_so (in_turn n 0 (map (setup_turn items) ns)) s lines teardowns).ending x) (setups_number spec) same)
+    let lines = flat_map (line_text spec (permutation_run entries items k)) (told (permutation_run entries items k) (n - k)).lines in (
+      lines,
+      teardowns,
+      teardowns_whole spec.sessions items n (k + length entries) (teardown_numbers spec),
+      ap₂ (λ (ns : List ℕ) (s : RunState). order_by (said_so (in_turn n 0 (map (setup_turn items) ns)) s lines teardowns).ending x) (setups_number spec) same,
+    )
 
 pub next_is : (spec : SpecTree) (entries : List EntryTree) (items : List HistItem) → next_order spec entries items ≡ due_in spec entries items
 next_is spec entries items =

@@ -1,6 +1,6 @@
 -- What is said of the orders of a permutation is what is said of its setups and teardowns in turn.
 use Rattle.std.proofs.Common.{◌≡◌, ℕ, zero, suc, ◌+◌, ◌-◌, ◌<◌, ◌≤◌, ◌⊎◌, inl, inr, List, [], ◌∷◌, ◌++◌, Bool, true, false, cond, length, take, drop, refl, sym, ap, ap₂, ◌∙◌, arith, append_assoc, append-nil, length-append}
-use Rattle.std.specs.Prelude.{nat_le, map, filter_map, flat_map, replicate, codes, Option, Some, None, is_some, option_map, option_to_list, if◌then◌else◌}
+use Rattle.std.specs.Prelude.{nat_le, map, filter_map, flat_map, replicate, Option, Some, None, is_some, option_map, option_to_list, if◌then◌else◌}
 use Rattle.std.specs.List.{enumerate_from, range_with_len, filter, fold, cons_option}
 use Rattle.std.proofs.lemmas.Bool.{cases_lt}
 use Rattle.std.proofs.lemmas.List.{length-map}
@@ -14,7 +14,6 @@ use Rattle.spec_parser.specs.Trees.{PartTree, EntryTree, SessionTree, SpecTree}
 use Rattle.report_lines.specs.declared.history.PlannedLaunch.{PlannedLaunch}
 use Rattle.report_lines.specs.declared.history.RunState.{RunState}
 use Rattle.report_lines.specs.declared.history.RunState.TheVariants.{Due, Whole, Invalid}
-use Rattle.report_lines.specs.History.{PermutationRun}
 use Rattle.report_lines.specs.Report.{report}
 use Rattle.report_lines.specs.Due.{segment, is_over, went_well, orders, launch}
 use Rattle.report_lines.specs.Orders.{launch_in, own_launches, setups_of, launch_of_entry, closing_of, with_leaves, orders_of}
@@ -25,7 +24,7 @@ use Rattle.report_text.specs.Said.{Ending, whole, invalid, setup_failed, setup_w
 use Rattle.report_text.specs.Setups.{setup_says}
 use Rattle.report_text.specs.Teardowns.{teardown_says}
 use Rattle.report_text.specs.Permutation.{permutation_says}
-use Rattle.report_text.specs.Turns.{in_turn, session_numbers, setup_numbers, teardown_numbers, setup_ending, setup_turn, teardown_turn, state_says, permutation_in_turn}
+use Rattle.report_text.specs.Turns.{in_turn, setup_numbers, teardown_numbers, setup_ending, setup_turn, teardown_turn, state_says, permutation_in_turn}
 use Rattle.report_text.proofs.Saying.{permutation_run}
 
 -- ---- one thing after another

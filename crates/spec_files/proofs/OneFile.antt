@@ -5,7 +5,6 @@ use Rattle.iso_lexer.specs.declared.token.At.{At}
 use Rattle.iso_lexer.specs.SqlTokens.{SqlToken}
 use Rattle.iso_lexer.specs.SqlText.{SqlLexes}
 use Rattle.sql_trees.specs.declared.fault.SqlFault.{SqlFault}
-use Rattle.sql_trees.specs.declared.fault.SqlFault.TheVariants.{Memory}
 use Rattle.sql_trees.specs.Statements.{StmtTree}
 use Rattle.sql_blocks.specs.declared.block.Role.{Role}
 use Rattle.sql_parser.specs.Texts.{ReadsAs}

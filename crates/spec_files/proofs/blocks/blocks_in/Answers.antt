@@ -1,10 +1,10 @@
-use Rattle.std.proofs.Common.{◌≡◌, ◌++◌, ◌∙◌, List, map, flat_map, option_map, option_to_list, ap, sym}
+use Rattle.std.proofs.Common.{◌++◌, ◌∙◌, List, map, flat_map, option_map, option_to_list, ap, sym}
 use Rattle.std.proofs.lemmas.List.{map-append}
 use Rattle.spec_parser.specs.Trees.{part_view, session_view, spec_view}
 use Rattle.spec_parser.specs.Stands.{session_parts}
 use Rattle.sql_blocks.specs.declared.block.Role.TheVariants.{Main, Session}
 use Rattle.spec_files.specs.Blocks.{BlockWithRole}
-use Rattle.spec_files.specs.BlockAnswers.{block_as, placed_view}
+use Rattle.spec_files.specs.BlockAnswers.{block_as}
 use Rattle.spec_files.proofs.blocks.blocks_in.Goals as goal
 
 pub returns : goal.returns
