@@ -8,8 +8,7 @@ use Rattle.session_machine.specs.Engine.{Engine, Run, is_quiet_in, opened}
 use Rattle.session_core.specs.Engines.{IsOf}
 use Rattle.spec_parser.specs.Trees.{EntryTree, SpecTree}
 use Rattle.permutation_plans.specs.Launches.{due_in}
-use Rattle.permutation_plans.specs.Regular.{IsRegular}
-use Rattle.permutation_plans.specs.Fits.{FitsAfter}
+use Rattle.permutation_plans.specs.Regular.{FitsAfter, IsRegular}
 use Rattle.spec_files.specs.Inner.Resting.{IsAtRest}
 
 rests_in : (e : Engine) (machine : Option Machine) → is_quiet_in machine ≡ true → IfSome machine (λ m. Run e.blocks e.mode (opening e.count) e.history m) → IsAtRest e
