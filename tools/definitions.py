@@ -50,7 +50,8 @@ def read(lines):
             if not names:
                 whole[alias or module.rpartition(".")[2]] = module
         else:
-            start = STARTS.match(line)
+            # (what closes the cases of a definition begins none)
+            start = STARTS.match(line) if line[0] != "]" else None
             # (a row of an operator begins with what stands at its left)
             is_row = name and name.startswith("◌") and f" {name.strip('◌')} " in line.partition(" = ")[0]
             name = start[1] if start and not is_row else name

@@ -2,3 +2,4 @@ pub mod OneHistory
 pub mod Working
 pub mod Following
 pub mod Whole
+pub mod Next

@@ -16,8 +16,9 @@ use Rattle.session_machine.specs.declared.fault.Refusal.TheVariants.{Busy, NotYo
 use Rattle.session_machine.specs.Machine.{Machine, Blocks, Next, next, turn_in, is_quiet, Run}
 use Rattle.session_machine.specs.Inner.Steps.{launch_of, leave_of, step_of, step_from_place, step_stmt, is_turn}
 use Rattle.spec_parser.specs.Trees.{EntryTree, SpecTree}
-use Rattle.permutation_plans.specs.Launches.{due_in}
-use Rattle.permutation_plans.specs.Regular.{IsOrdered, FitsAfter, IsRegular}
+use Rattle.permutation_plans.specs.Regular.{next_order, IsRegular}
+use Rattle.permutation_plans.proofs.Next.{regular_fits}
+use Rattle.permutation_plans.specs.Fits.{IsOrdered, FitsAfter}
 
 -- what can come next: where no session has the turn the order, else that session's step
 abbrev coming : Option ℕ → Order → Option Event
@@ -136,4 +137,4 @@ one_after due blocks before m a b (i ∷ items) (o ∷ others) run quiet fits ru
 pub one_regular : (spec : SpecTree) (entries : List EntryTree) (blocks : Blocks) (items others : List HistItem)
     → IsRegular spec blocks entries items → IsRegular spec blocks entries others → items ≡ others
 one_regular spec entries blocks items others h k =
-    one_after (due_in spec entries) blocks [] _ h.state k.state items others h.run h.quiet h.fits k.run k.quiet k.fits
+    one_after (next_order spec entries) blocks [] _ h.state k.state items others h.run h.quiet (regular_fits spec blocks entries items h) k.run k.quiet (regular_fits spec blocks entries others k)

@@ -17,8 +17,9 @@ use Rattle.report_lines.specs.Report.{Report, moment_of, active}
 use Rattle.report_lines.specs.Walk.{poll, has_unreported, made_way, launched, report_from, report}
 use Rattle.report_lines.specs.Due.{Launches, Planned, orders, went_well, is_over, launch, due_setup, teardowns_so_far, due_entry, due}
 use Rattle.report_lines.specs.Inner.Due.{due_last}
-use Rattle.permutation_plans.specs.Launches.{launch_of_entry}
-use Rattle.permutation_plans.specs.Whole.{planned, leaves, order_at, AreWell, AreOver, GoesWell, NextIsDue}
+use Rattle.permutation_plans.specs.Launches.{launches, launch_of_entry, due_in}
+use Rattle.report_lines.proofs.Same.{report_is}
+use Rattle.permutation_plans.specs.Whole.{planned, leaves, order_at, AreWell, AreOver, GoesWell, whole_orders}
 
 first : {A : Type 0} (b w : Bool) (a x c : A) → b ≡ true → (if b then a else (if w then x else c)) ≡ a
 first true w a x c h = refl
@@ -31,32 +32,32 @@ second false false a x c h k = cc
 
 -- ---- one list of orders behind another
 
-else_same : (o : Option Order) (x y : Order) → (o ≡ None → x ≡ y) → unwrap_or o x ≡ unwrap_or o y
+pub else_same : (o : Option Order) (x y : Order) → (o ≡ None → x ≡ y) → unwrap_or o x ≡ unwrap_or o y
 else_same None x y h = h refl
 else_same (Some o) x y h = refl
 
-at_append : (xs ys : List Order) (j : ℕ) → order_at (xs ++ ys) j ≡ unwrap_or (slice_get xs j) (order_at ys (j - length xs))
+pub at_append : (xs ys : List Order) (j : ℕ) → order_at (xs ++ ys) j ≡ unwrap_or (slice_get xs j) (order_at ys (j - length xs))
 at_append [] ys j = let e : j ≡ j - 0 = omega arith in ap (order_at ys) e
 at_append (x ∷ xs) ys zero = refl
 at_append (x ∷ xs) ys (suc j) =
     let e : j - length xs ≡ suc j - suc (length xs) = omega arith in
     at_append xs ys j ∙ ap (λ n. unwrap_or (slice_get xs j) (order_at ys n)) e
 
-length_launches : (ts : List PlannedLaunch) → length (map launch ts) ≡ length ts
+pub length_launches : (ts : List PlannedLaunch) → length (map launch ts) ≡ length ts
 length_launches [] = refl
 length_launches (t ∷ ts) = ap suc (length_launches ts)
 
-beyond : (ts : List PlannedLaunch) (j : ℕ) → slice_get (map launch ts) j ≡ None → length ts ≤ j
+pub beyond : (ts : List PlannedLaunch) (j : ℕ) → slice_get (map launch ts) j ≡ None → length ts ≤ j
 beyond [] j h = omega arith
 beyond (t ∷ ts) zero h = cc
 beyond (t ∷ ts) (suc j) h = let less = beyond ts j h in omega arith
 
-past : (ts : List PlannedLaunch) (j : ℕ) → length ts ≤ j → slice_get (map launch ts) j ≡ None
+pub past : (ts : List PlannedLaunch) (j : ℕ) → length ts ≤ j → slice_get (map launch ts) j ≡ None
 past [] j h = refl
 past (t ∷ ts) zero h = absurd (omega arith)
 past (t ∷ ts) (suc j) h = past ts j (omega arith)
 
-launch_at : (ts : List PlannedLaunch) (j : ℕ) (more : Order) → j < length ts → option_map_or launch (slice_get ts j) Stop ≡ unwrap_or (slice_get (map launch ts) j) more
+pub launch_at : (ts : List PlannedLaunch) (j : ℕ) (more : Order) → j < length ts → option_map_or launch (slice_get ts j) Stop ≡ unwrap_or (slice_get (map launch ts) j) more
 launch_at [] j more h = absurd (omega arith)
 launch_at (t ∷ ts) zero more h = refl
 launch_at (t ∷ ts) (suc j) more h = launch_at ts j more (omega arith)
@@ -169,7 +170,7 @@ behind_case l items count k le over last =
 
 -- ---- where the report stands
 
-abbrev IsStateAt : RunState → ℕ → ℕ → Type 0
+abbrev pub IsStateAt : RunState → ℕ → ℕ → Type 0
 IsStateAt state count n = ((count < n) × (state ≡ Due count)) ⊎ ((n ≤ count) × (state ≡ Whole))
 
 end_state : (b : Bool) → (if b then Whole else Invalid) ≢ Invalid → (if b then Whole else Invalid) ≡ Whole
@@ -198,7 +199,7 @@ state_from c count n (suc rest) e lines le all h =
     entry_state e count n (has_unreported c way e) (nat_lt e count) way (report_from c (e + 1) rest count (launched c way e)) le less (ltb-true e count) (ltb-false e count)
     (λ lt valid. state_from c count n rest (e + 1) (launched c way e) (omega arith) (omega arith) valid) h
 
-state_at : (c : PermutationRun) (count : ℕ) → (report c count).state ≢ Invalid → IsStateAt (report c count).state count (length c.entries)
+pub state_at : (c : PermutationRun) (count : ℕ) → (report c count).state ≢ Invalid → IsStateAt (report c count).state count (length c.entries)
 state_at c count h = state_from c count (length c.entries) (length c.entries) 0 [] (omega arith) (omega arith) h
 
 -- ---- the entries, and what comes behind them
@@ -236,13 +237,14 @@ whole_due p same well =
     ∙ else_same (slice_get (map launch l.setups) count) (due_entry l items count state) (order_at rest (count - length (map launch l.setups)))
     (λ none.
     let many = beyond l.setups count none in
-    entry_due l items count (length l.setups) state refl many (subst (IsStateAt state (count - length l.setups)) (sym same) (state_at p.run (count - length l.setups) well.entries)) well.teardowns well.last
+    entry_due l items count (length l.setups) state refl many (subst (IsStateAt state (count - length l.setups)) (sym same) (state_at p.run (count - length l.setups) (λ e. well.entries (ap (λ (r : Report). r.state) (report_is p.run (count - length l.setups)) ∙ e)))) well.teardowns well.last
     ∙ ap (order_at rest) place)
     ∙ sym (at_append (map launch l.setups) rest count)
 
-length_tasks : (spec : SpecTree) (entries : List EntryTree) → length (map (launch_of_entry spec) entries) ≡ length entries
+pub length_tasks : (spec : SpecTree) (entries : List EntryTree) → length (map (launch_of_entry spec) entries) ≡ length entries
 length_tasks spec [] = refl
 length_tasks spec (e ∷ es) = ap suc (length_tasks spec es)
 
-pub next_is_due : NextIsDue
+pub next_is_due : (spec : SpecTree) (entries : List EntryTree) (items : List HistItem) → GoesWell (planned spec entries items)
+    → due_in spec entries items ≡ order_at (whole_orders (launches spec entries)) (orders items)
 next_is_due spec entries items well = whole_due (planned spec entries items) (length_tasks spec entries) well

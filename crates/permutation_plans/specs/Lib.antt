@@ -1,4 +1,5 @@
 pub mod Launches
+pub mod Fits
 pub mod Regular
 pub mod Worked
 pub mod Whole

@@ -1,32 +1,31 @@
 -- The histories that a permutation may have, and that there is at most one.
-use Rattle.std.specs.Prelude.{◌≡◌, List, [], ◌∷◌, ◌++◌, length, IsTrue}
-use Rattle.session_machine.specs.declared.event.Event.{Event}
-use Rattle.session_machine.specs.declared.event.Event.TheVariants.{Launch, Step, Leave}
+use Rattle.std.specs.Prelude.{◌≡◌, List, ◌∷◌, ◌++◌, length, unwrap_or, slice_get, IsTrue, IfSome}
 use Rattle.session_machine.specs.declared.event.Order.{Order}
-use Rattle.session_machine.specs.declared.event.Order.TheVariants.{Launch as LaunchOrder, Leave as LeaveOrder, Stop}
+use Rattle.session_machine.specs.declared.event.Order.TheVariants.{Stop}
 use Rattle.session_machine.specs.declared.event.Mode.TheVariants.{Directed}
 use Rattle.session_machine.specs.declared.reply.HistItem.{HistItem}
 use Rattle.session_machine.specs.Machine.{Machine, Blocks, opening, is_quiet, Run}
 use Rattle.spec_parser.specs.Trees.{EntryTree, SpecTree}
-use Rattle.permutation_plans.specs.Launches.{due_in}
+use Rattle.report_lines.specs.Starts.{order_of}
+use Rattle.report_lines.specs.Due.{orders}
+use Rattle.report_lines.specs.Orders.{orders_of}
+use Rattle.report_text.specs.Said.{whole}
+use Rattle.report_text.specs.Permutation.{permutation_says}
 
--- a Launch or a Leave is the order; a Step needs none
-abbrev pub IsOrdered : Event → Order → Type 0
-IsOrdered (Launch session block) order = order ≡ LaunchOrder session block
-IsOrdered (Step session) order = Unit {0}
-IsOrdered (Leave session) order = order ≡ LeaveOrder session
+-- the next order after these items: of the permutation's orders the first that isn't there yet; a Stop behind the last one, and where a setup failed or waits or the permutation is
+-- invalid, so that its report has ended
+abbrev pub next_order : SpecTree → List EntryTree → List HistItem → Order
+next_order spec entries items =
+    elim (permutation_says spec entries items).ending [ whole ↦ unwrap_or (slice_get (orders_of spec entries items) (orders items)) Stop | _ ↦ Stop ]
 
--- each Launch and Leave of the items is the order that is due after what came before it, and at the end that is a Stop
-abbrev pub FitsAfter : (List HistItem → Order) → List HistItem → List HistItem → Type 0
-FitsAfter due before [] = due before ≡ Stop
-FitsAfter due before (item ∷ items) = IsOrdered item.event (due before) × FitsAfter due (before ++ item ∷ []) items
-
--- a history of the permutation: a run of the machine that leads to a quiet state and launches what the permutation launches, all of it and in its order
+-- a history of the permutation: a run of the machine that leads to a quiet state; each Launch and Leave in it is the next order after what comes before it, and behind all of it that is
+-- a Stop
 pub record IsRegular (spec : SpecTree) (blocks : Blocks) (entries : List EntryTree) (items : List HistItem) : Type 0 where
   pub state : Machine
   pub run : Run blocks Directed (opening (length spec.sessions)) items state
   pub quiet : IsTrue (is_quiet state)
-  pub fits : FitsAfter (due_in spec entries) [] items
+  pub ordered : (before behind : List HistItem) (item : HistItem) → items ≡ before ++ item ∷ behind → IfSome (order_of item.event) (λ order. next_order spec entries before ≡ order)
+  pub over : next_order spec entries items ≡ Stop
 
 -- a permutation has at most one regular history, whatever its blocks are
 abbrev pub HasOneHistory : SpecTree → List EntryTree → Type 0

@@ -6,9 +6,10 @@ use Rattle.session_machine.specs.declared.reply.HistItem.{HistItem}
 use Rattle.spec_parser.specs.Trees.{EntryTree, SpecTree}
 use Rattle.report_lines.specs.declared.history.PlannedLaunch.{PlannedLaunch}
 use Rattle.report_lines.specs.declared.history.RunState.TheVariants.{Invalid}
-use Rattle.report_lines.specs.Walk.{report}
+use Rattle.report_lines.specs.Report.{report}
 use Rattle.report_lines.specs.Due.{Launches, Planned, orders, went_well, is_over, launch}
-use Rattle.permutation_plans.specs.Launches.{launches, run_of, due_in}
+use Rattle.permutation_plans.specs.Launches.{launches, run_of}
+use Rattle.permutation_plans.specs.Regular.{next_order}
 use Rattle.permutation_plans.specs.Worked.{worked_spec, worked_entries, worked_items}
 
 -- so many sessions leave, from this one on
@@ -45,10 +46,10 @@ pub record GoesWell (p : Planned) : Type 0 where
 abbrev pub planned : SpecTree → List EntryTree → List HistItem → Planned
 planned spec entries items = let l = launches spec entries in record { launches = l; run = run_of l entries items }
 
--- as long as all goes well, what is due after a history is the next of those orders
+-- as long as all goes well, the next order after a history is the next of those
 abbrev pub NextIsDue : Type 0
 NextIsDue = (spec : SpecTree) (entries : List EntryTree) (items : List HistItem) → GoesWell (planned spec entries items)
-    → due_in spec entries items ≡ order_at (whole_orders (launches spec entries)) (orders items)
+    → next_order spec entries items ≡ order_at (whole_orders (launches spec entries)) (orders items)
 
 -- in the worked history all goes well
 abbrev pub WorkedGoesWell : Type 0

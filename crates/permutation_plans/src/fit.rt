@@ -4,7 +4,7 @@ ghost use Rattle.spec_parser.specs.Trees.{spec_view, entry_view};
 ghost use Rattle.report_lines.specs.Progress.{KeepsFront};
 ghost use Rattle.report_lines.specs.Starts.{is_order};
 ghost use Rattle.permutation_plans.specs.Launches.{run_of, due_after, due_in};
-ghost use Rattle.permutation_plans.specs.Regular.{IsOrdered, FitsAfter};
+ghost use Rattle.permutation_plans.specs.Fits.{IsOrdered, FitsAfter};
 
 use crate::launches::Launches;
 use report_lines::PlanProgress;

@@ -8,7 +8,9 @@ use Rattle.session_machine.specs.Engine.{Engine, is_quiet_in, opened}
 use Rattle.session_core.specs.Engines.{IsOf}
 use Rattle.spec_parser.specs.Trees.{EntryTree, SpecTree}
 use Rattle.permutation_plans.specs.Launches.{due_in}
-use Rattle.permutation_plans.specs.Regular.{FitsAfter, IsRegular}
+use Rattle.permutation_plans.specs.Regular.{IsRegular}
+use Rattle.permutation_plans.proofs.Next.{regular_of}
+use Rattle.permutation_plans.specs.Fits.{FitsAfter}
 use Rattle.spec_files.specs.Inner.Resting.{IsAtRest}
 
 rests_in : (e : Engine) (machine : Option Machine) → is_quiet_in machine ≡ true → IfSome machine (λ m. Run e.blocks e.mode (opening e.count) e.history m) → IsAtRest e
@@ -26,11 +28,7 @@ regular spec blocks entries count old new is same long r fits =
     let bs : new.blocks ≡ blocks = same.0 ∙ ap (λ (e : Engine). e.blocks) is in
     let mode : new.mode ≡ Directed = same.2 ∙ ap (λ (e : Engine). e.mode) is in
     let n : new.count ≡ length spec.sessions = same.1 ∙ ap (λ (e : Engine). e.count) is ∙ long in
-    record {
-      state = r.state;
-      run = subst (λ (b : Blocks). Run b Directed (opening (length spec.sessions)) new.history r.state) bs
-          (subst (λ (m : Mode). Run new.blocks m (opening (length spec.sessions)) new.history r.state) mode
-          (subst (λ (k : ℕ). Run new.blocks new.mode (opening k) new.history r.state) n r.run));
-      quiet = r.quiet;
-      fits = fits;
-    }
+    let run = subst (λ (b : Blocks). Run b Directed (opening (length spec.sessions)) new.history r.state) bs
+    (subst (λ (m : Mode). Run new.blocks m (opening (length spec.sessions)) new.history r.state) mode
+    (subst (λ (k : ℕ). Run new.blocks new.mode (opening k) new.history r.state) n r.run)) in
+    regular_of spec blocks entries new.history r.state run r.quiet fits

@@ -3,7 +3,7 @@ use Rattle.std.proofs.Common.{◌≡◌, ◌==◌, ℕ, zero, suc, ◌+◌, ◌<
 use Rattle.std.specs.Prelude.{filter_map, unwrap_or}
 use Rattle.std.specs.List.{list_any, filter, fold, range_with_len, cons_option}
 use Rattle.std.specs.Option.{option_map_or}
-use Rattle.std.proofs.lemmas.Bool.{cases_lt, lt-ltb, le-ltb}
+use Rattle.std.proofs.lemmas.Bool.{cases_lt, lt-ltb}
 use Rattle.spec_parser.specs.Trees.{EntryTree}
 use Rattle.spec_parser.specs.declared.tree.Marker.{Marker}
 use Rattle.spec_parser.specs.declared.tree.Marker.TheVariants.{Star, Step as Named}
@@ -11,9 +11,8 @@ use Rattle.report_lines.specs.declared.history.Line.{Line}
 use Rattle.report_lines.specs.declared.history.Line.TheVariants.{AtOnce, Waiting, Completed}
 use Rattle.report_lines.specs.declared.history.Moment.{Moment}
 use Rattle.report_lines.specs.declared.history.RunState.TheVariants.{Due, Whole, Invalid}
-use Rattle.report_lines.specs.Starts.{ends_in}
 use Rattle.report_lines.specs.History.{PermutationRun, entry_at, has_ended}
-use Rattle.report_lines.specs.Report.{Report, reports, active, moment_of, holds, may_report, retry, poll, rivals, made_way, launched, report_from, report}
+use Rattle.report_lines.specs.Report.{Report, active, moment_of, holds, may_report, retry, poll, rivals, made_way, launched, report_from, report}
 use Rattle.report_lines.specs.Walk.{session_of_entry, markers_of, names, is_star, is_awaited, is_of, polls_again, polled, has_unreported}
 use Rattle.report_lines.specs.Walk as walk
 use Rattle.report_lines.specs.Inner.Trying.{instances, is_marked, pass}

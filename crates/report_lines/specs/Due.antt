@@ -1,5 +1,5 @@
 -- The next order of a permutation: setups, entries, teardowns.
-use Rattle.std.specs.Prelude.{ℕ, ◌+◌, ◌-◌, nat_lt, nat_le, Bool, not, ◌&&◌, List, [], ◌∷◌, length, Option, Some, None, unwrap_or, slice_range, slice_get, if◌then◌else◌}
+use Rattle.std.specs.Prelude.{ℕ, ◌+◌, ◌-◌, nat_lt, nat_le, Bool, not, ◌&&◌, List, [], ◌∷◌, length, Option, Some, None, is_some, unwrap_or, slice_range, slice_get, if◌then◌else◌}
 use Rattle.std.specs.List.{list_any, filter}
 use Rattle.std.specs.Option.{option_map_or}
 use Rattle.session_machine.specs.declared.reply.HistItem.{HistItem}
@@ -10,7 +10,7 @@ use Rattle.report_lines.specs.declared.history.PlannedLaunch.{PlannedLaunch}
 use Rattle.report_lines.specs.declared.history.TeardownsSoFar.{TeardownsSoFar}
 use Rattle.report_lines.specs.declared.history.RunState.{RunState}
 use Rattle.report_lines.specs.declared.history.RunState.TheVariants.{Due, Whole, Invalid}
-use Rattle.report_lines.specs.Starts.{segment_start, ends_in, is_order}
+use Rattle.report_lines.specs.Starts.{order_of, segment_start, ends_in}
 use Rattle.report_lines.specs.History.{PermutationRun}
 use Rattle.report_lines.specs.Walk.{report}
 
@@ -36,7 +36,7 @@ went_well items k session = is_over items k session && not (list_any (λ item. i
 
 -- how many orders a history has
 abbrev pub orders : List HistItem → ℕ
-orders items = length (filter (λ item. is_order item.event) items)
+orders items = length (filter (λ item. is_some (order_of item.event)) items)
 
 abbrev pub launch : PlannedLaunch → Order
 launch t = Launch t.session t.block

@@ -13,9 +13,7 @@ use Rattle.report_lines.specs.History.{PermutationRun, entry_at, seen_before, ha
 
 -- the line reports the instance
 abbrev pub reports : ℕ → Line → Bool
-reports i (AtOnce entry seen) = i == entry
-reports i (Waiting entry) = false
-reports i (Completed entry seen) = i == entry
+reports i line = elim line [ AtOnce entry seen ↦ i == entry | Waiting entry ↦ false | Completed entry seen ↦ i == entry ]
 
 -- of so many launched instances those that are not reported
 abbrev pub active : List Line → ℕ → List ℕ

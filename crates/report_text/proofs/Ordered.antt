@@ -1,6 +1,6 @@
 -- What is said of the orders of a permutation is what is said of its setups and teardowns in turn.
 use Rattle.std.proofs.Common.{◌≡◌, ℕ, zero, suc, ◌+◌, ◌-◌, ◌<◌, ◌≤◌, ◌⊎◌, inl, inr, List, [], ◌∷◌, ◌++◌, Bool, true, false, cond, length, take, drop, refl, sym, ap, ap₂, ◌∙◌, arith, append_assoc, append-nil, length-append}
-use Rattle.std.specs.Prelude.{nat_le, map, filter_map, flat_map, replicate, codes, Option, Some, None, is_some, option_map, option_to_list, if◌then◌else◌}
+use Rattle.std.specs.Prelude.{nat_le, map, filter_map, flat_map, replicate, Option, Some, None, is_some, option_map, option_to_list, if◌then◌else◌}
 use Rattle.std.specs.List.{enumerate_from, range_with_len, filter, fold, cons_option}
 use Rattle.std.proofs.lemmas.Bool.{cases_lt}
 use Rattle.std.proofs.lemmas.List.{length-map}
@@ -14,7 +14,6 @@ use Rattle.spec_parser.specs.Trees.{PartTree, EntryTree, SessionTree, SpecTree}
 use Rattle.report_lines.specs.declared.history.PlannedLaunch.{PlannedLaunch}
 use Rattle.report_lines.specs.declared.history.RunState.{RunState}
 use Rattle.report_lines.specs.declared.history.RunState.TheVariants.{Due, Whole, Invalid}
-use Rattle.report_lines.specs.History.{PermutationRun}
 use Rattle.report_lines.specs.Report.{report}
 use Rattle.report_lines.specs.Due.{segment, is_over, went_well, orders, launch}
 use Rattle.report_lines.specs.Orders.{launch_in, own_launches, setups_of, launch_of_entry, closing_of, with_leaves, orders_of}
@@ -25,7 +24,7 @@ use Rattle.report_text.specs.Said.{Ending, whole, invalid, setup_failed, setup_w
 use Rattle.report_text.specs.Setups.{setup_says}
 use Rattle.report_text.specs.Teardowns.{teardown_says}
 use Rattle.report_text.specs.Permutation.{permutation_says}
-use Rattle.report_text.specs.Turns.{in_turn, session_numbers, setup_numbers, teardown_numbers, setup_ending, setup_turn, teardown_turn, state_says, permutation_in_turn}
+use Rattle.report_text.specs.Turns.{in_turn, setup_numbers, teardown_numbers, setup_ending, setup_turn, teardown_turn, state_says, permutation_in_turn}
 use Rattle.report_text.proofs.Saying.{permutation_run}
 
 -- ---- one thing after another
@@ -95,7 +94,7 @@ turn_is : (items : List HistItem) (k : ℕ) (t : PlannedLaunch) → setup_says i
 turn_is items k t =
     ap (λ (e : Ending). if went_well items k t.session then says (rows_text (last_outcome (segment items k))) else only_ends e) (ending_is (last_outcome (segment items k)))
 
-abbrev session_in : PlannedLaunch → ℕ
+abbrev pub session_in : PlannedLaunch → ℕ
 session_in t = t.session
 
 -- what the setups say that are there
@@ -188,11 +187,11 @@ map_append : {A B : Type 0} (f : A → B) (xs ys : List A) → map f (xs ++ ys) 
 map_append f [] ys = refl
 map_append f (x ∷ xs) ys = ap (λ zs. f x ∷ zs) (map_append f xs ys)
 
-parts_launch : (ps : List PartTree) → map (launch_in 0) ps ≡ map launch (map (planned_in 0) ps)
+pub parts_launch : (ps : List PartTree) → map (launch_in 0) ps ≡ map launch (map (planned_in 0) ps)
 parts_launch [] = refl
 parts_launch (p ∷ ps) = ap (λ os. launch_in 0 p ∷ os) (parts_launch ps)
 
-own_launch : (part : SessionTree → Option PartTree) (a : ℕ) (sessions : List SessionTree)
+pub own_launch : (part : SessionTree → Option PartTree) (a : ℕ) (sessions : List SessionTree)
     → filter_map (λ (p : ℕ × SessionTree). option_map (launch_in p.0) (part p.1)) (enumerate_from a sessions) ≡ map launch (own_planned part a sessions)
 own_launch part a [] = refl
 own_launch part a (s ∷ ss) = elim (part s) as (λ o. cons_option (option_map (launch_in a) o) (filter_map (λ (p : ℕ × SessionTree). option_map (launch_in p.0) (part p.1)) (enumerate_from (a + 1) ss))
@@ -213,7 +212,7 @@ part_numbers : (ps : List PartTree) → replicate (length ps) 0 ≡ map session_
 part_numbers [] = refl
 part_numbers (p ∷ ps) = ap (λ ns. 0 ∷ ns) (part_numbers ps)
 
-setups_number : (spec : SpecTree) → setup_numbers spec ≡ map session_in (setups_planned spec)
+pub setups_number : (spec : SpecTree) → setup_numbers spec ≡ map session_in (setups_planned spec)
 setups_number spec =
     ap₂ (λ (xs ys : List ℕ). xs ++ ys) (part_numbers spec.setups) (own_numbers (λ s. s.setup) 1 spec.sessions)
     ∙ sym (map_append session_in (map (planned_in 0) spec.setups) (own_planned (λ s. s.setup) 1 spec.sessions))

@@ -11,13 +11,11 @@ use Rattle.report_text.specs.FaultText.{fault_text}
 
 -- a result set prints its table
 abbrev pub rows_text : Outcome → List ℕ
-rows_text (Rows set) = table_text set
-rows_text _ = []
+rows_text outcome = elim outcome [ Rows set ↦ table_text set | other ↦ [] ]
 
 -- a statement prints the table of its result set, or why it failed
 abbrev pub outcome_text : Outcome → List ℕ
-outcome_text (Failed fault) = codes "ERROR:  " ++ fault_text fault ++ codes "\n"
-outcome_text outcome = rows_text outcome
+outcome_text outcome = elim outcome [ Failed fault ↦ codes "ERROR:  " ++ fault_text fault ++ codes "\n" | other ↦ rows_text other ]
 
 -- what the session's statements print, up to the one with which its block is over; a reply to another session prints nothing
 abbrev pub replies_text : ℕ → List HistItem → List ℕ

@@ -21,15 +21,16 @@ of_session s = codes " of session " ++ decoded s.name
 abbrev pub note : List SessionTree → ℕ → List ℕ → List ℕ
 note sessions session text = codes "isolationtester: teardown" ++ option_map_or of_session (session_numbered sessions session) [] ++ codes " failed: " ++ text ++ codes "\n"
 
-abbrev pub failure_note : List SessionTree → ℕ → Outcome → List ℕ
-failure_note sessions session (Failed fault) = note sessions session (fault_text fault)
-failure_note sessions session _ = []
-
 -- The order of this number is a teardown's, or a Leave, which says nothing. A teardown that is over says the table of its last reply, with a note if that is a failure; of one that
 -- isn't there is a note that it would wait.
 abbrev pub teardown_says : List SessionTree → List HistItem → ℕ → Order → Said
 teardown_says sessions items k (Launch session block) =
     let last = last_outcome (segment items k) in
-    if is_over items k session then record (says (rows_text last)) { notes = failure_note sessions session last }
+    if is_over items k session then record (says (rows_text last)) { notes = elim last [ Failed fault ↦ note sessions session (fault_text fault) | _ ↦ [] ] }
     else record (says []) { notes = note sessions session (codes "would wait") }
 teardown_says sessions items k _ = says []
+
+-- ---- for inner clauses and free runs
+
+abbrev pub failure_note : List SessionTree → ℕ → Outcome → List ℕ
+failure_note sessions session outcome = elim outcome [ Failed fault ↦ note sessions session (fault_text fault) | _ ↦ [] ]

@@ -18,7 +18,8 @@ use Rattle.report_text.specs.Permutation.{permutation_says}
 use Rattle.spec_files.specs.declared.fault.RunFault.{RunFault}
 use Rattle.spec_files.specs.FirstLine.{first_line}
 use Rattle.spec_files.specs.Files.{File, FileIs}
-use Rattle.spec_files.specs.Prints.{GoesOn, Prints, runs}
+use Rattle.spec_files.specs.Inner.GoesOn.{GoesOn}
+use Rattle.spec_files.specs.Prints.{Prints, runs}
 use Rattle.spec_files.specs.FreeRuns.{free_text, IsFreeWritten}
 use Rattle.spec_files.specs.Written.{IsWritten}
 use Rattle.report_text.specs.declared.fault.Ended.{Ended}

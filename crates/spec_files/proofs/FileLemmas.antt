@@ -16,8 +16,8 @@ use Rattle.spec_files.specs.Faults.{spec_fault}
 use Rattle.spec_files.specs.Runs.{is_of_reading}
 use Rattle.sql_blocks.specs.declared.block.Role.{Role}
 use Rattle.sql_blocks.specs.declared.block.Role.TheVariants.{Main, Session}
-use Rattle.spec_files.specs.Blocks.{BlockWithRole, block_as, blocks_in, BlocksRead}
-use Rattle.spec_files.specs.BlockAnswers.{SayAll, HasShortText}
+use Rattle.spec_files.specs.Blocks.{BlockWithRole, blocks_in, BlocksRead}
+use Rattle.spec_files.specs.BlockAnswers.{block_as, SayAll, HasShortText}
 use Rattle.spec_files.specs.Files.{FileIs, no_spec, no_sql, is_spec}
 
 refused : (bytes : List ℕ) (f : SpecFault) → length bytes ≤ 1048576 → IsUtf8 bytes → SpecAnswers bytes (Err f) → spec_fault f ≢ told.Memory → FileIs bytes (Err (spec_fault f))

@@ -13,3 +13,4 @@ pub mod Drafting
 pub mod Joining
 pub mod Turns
 pub mod Sending
+pub mod Behind

@@ -5,7 +5,6 @@ use Rattle.iso_lexer.specs.declared.token.At.{At}
 use Rattle.iso_lexer.specs.SqlTokens.{SqlToken}
 use Rattle.iso_lexer.specs.SqlText.{SqlLexes}
 use Rattle.sql_trees.specs.declared.fault.SqlFault.{SqlFault}
-use Rattle.sql_trees.specs.declared.fault.SqlFault.TheVariants.{Memory}
 use Rattle.sql_trees.specs.Statements.{StmtTree}
 use Rattle.sql_blocks.specs.declared.block.Role.{Role}
 use Rattle.sql_parser.specs.Texts.{ReadsAs}
@@ -19,7 +18,8 @@ use Rattle.spec_files.specs.declared.fault.BlockFault.{BlockFault}
 use Rattle.spec_files.specs.declared.fault.RunFault.{RunFault}
 use Rattle.spec_files.specs.declared.fault.RunFault.TheVariants as faults
 use Rattle.spec_files.specs.Faults.{spec_fault}
-use Rattle.spec_files.specs.Blocks.{BlockWithRole, HasFault, BlocksRead, none, fault, block, behind_block, blocks_in}
+use Rattle.spec_files.specs.Blocks.{BlockWithRole, BlocksRead, none, fault, block, blocks_in}
+use Rattle.spec_files.proofs.Behind.{behind_block}
 use Rattle.permutation_lists.specs.Permutations.{permutations_of}
 use Rattle.report_text.specs.Said.{Said}
 use Rattle.spec_files.specs.Lists.{listed, FileLists, refused, lists}
@@ -35,10 +35,6 @@ OneLexing = (text : List ℕ) (x y : Result (List (At SqlToken)) Fault) → SqlL
 one_block : OneLexing → (text : List ℕ) (role : Role) (x y : Result (List StmtTree) SqlFault) → ReadsAs text role x → ReadsAs text role y → x ≡ y
 one_block one text role x y r s = one_reading text role x y r s
 
-has_fault : (p : BlockWithRole) (f : SqlFault) → HasFault p f → ReadsAs p.part.sql p.role (Err f)
-has_fault p Memory h = absurd h
-has_fault p _ h = h
-
 -- ---- blocks
 
 pub err_ok : {A B : Type 0} (a : A) (b : B) → ◌≡◌ {A = Result B A} (Err a) (Ok b) → ⊥
@@ -52,10 +48,10 @@ sql_fault_is a b e = cc
 
 pub one_blocks : OneLexing → (ps : List BlockWithRole) (x y : Result Blocks BlockFault) → BlocksRead ps x → BlocksRead ps y → x ≡ y
 one_blocks one [] x y (none e) (none f) = e ∙ sym f
-one_blocks one (p ∷ ps) x y (fault f h e) (fault g k is) =
-    e ∙ ap (λ (q : SqlFault). Err (record { block = p.part.at; fault = q })) (sql_fault_is f g (one_block one p.part.sql p.role (Err f) (Err g) (has_fault p f h) (has_fault p g k))) ∙ sym is
-one_blocks one (p ∷ ps) x y (fault f h e) (block bs others k more is) = absurd (err_ok f bs (one_block one p.part.sql p.role (Err f) (Ok bs) (has_fault p f h) k))
-one_blocks one (p ∷ ps) x y (block xs others h more e) (fault g k is) = absurd (err_ok g xs (one_block one p.part.sql p.role (Err g) (Ok xs) (has_fault p g k) h))
+one_blocks one (p ∷ ps) x y (fault f m h e) (fault g n k is) =
+    e ∙ ap (λ (q : SqlFault). Err (record { block = p.part.at; fault = q })) (sql_fault_is f g (one_block one p.part.sql p.role (Err f) (Err g) h k)) ∙ sym is
+one_blocks one (p ∷ ps) x y (fault f m h e) (block bs others k more is) = absurd (err_ok f bs (one_block one p.part.sql p.role (Err f) (Ok bs) h k))
+one_blocks one (p ∷ ps) x y (block xs others h more e) (fault g n k is) = absurd (err_ok g xs (one_block one p.part.sql p.role (Err g) (Ok xs) k h))
 one_blocks one (p ∷ ps) x y (block xs others h more e) (block bs others' k more' is) =
     e ∙ ap (behind_block xs) (one_blocks one ps others others' more more') ∙ ap (λ (zs : List StmtTree). behind_block zs others') (stmts_are xs bs (one_block one p.part.sql p.role (Ok xs) (Ok bs) h k)) ∙ sym is
 

@@ -10,7 +10,8 @@ use Rattle.report_text.specs.Permutation.{permutation_says}
 use Rattle.spec_files.specs.declared.fault.RunFault.{RunFault}
 use Rattle.spec_files.specs.FirstLine.{first_line}
 use Rattle.spec_files.specs.Files.{File}
-use Rattle.spec_files.specs.Prints.{GoesOn, Prints, FileSays, refused, runs}
+use Rattle.spec_files.specs.Inner.GoesOn.{GoesOn}
+use Rattle.spec_files.specs.Prints.{Prints, FileSays, refused, runs}
 use Rattle.spec_files.specs.Laws.{FilesAreOneThing}
 use Rattle.spec_files.proofs.Listing.{behind}
 use Rattle.spec_files.proofs.OneFile.{err_ok, err_is, file_is}

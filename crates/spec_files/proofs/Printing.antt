@@ -10,7 +10,8 @@ use Rattle.report_text.specs.Said.{Said, Ending, only_ends, whole, invalid, setu
 use Rattle.report_text.specs.Permutation.{permutation_says}
 use Rattle.spec_files.specs.declared.fault.RunFault.{RunFault}
 use Rattle.spec_files.specs.declared.fault.RunFault.TheVariants as faults
-use Rattle.spec_files.specs.Prints.{GoesOn, Prints}
+use Rattle.spec_files.specs.Inner.GoesOn.{GoesOn}
+use Rattle.spec_files.specs.Prints.{Prints}
 use Rattle.spec_files.specs.Runs.{AnswersRun, IsTold, IsOneTold}
 use Rattle.spec_files.specs.Broken.{RunBroken}
 use Rattle.spec_files.proofs.Listing.{behind, appends_nothing, appends_more}

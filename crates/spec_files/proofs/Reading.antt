@@ -16,8 +16,9 @@ use Rattle.spec_files.specs.declared.blocks.PlacedPart.{PlacedPart}
 use Rattle.spec_files.specs.declared.fault.BlockFault.{BlockFault}
 use Rattle.spec_files.specs.declared.fault.RunFault.{RunFault}
 use Rattle.spec_files.specs.declared.fault.RunFault.TheVariants as faults
-use Rattle.spec_files.specs.Blocks.{BlockWithRole, HasFault, BlocksRead, none, fault, block, behind_block}
-use Rattle.spec_files.specs.BlockAnswers.{placed_view, block_fault, Says, SayAll, HasShortText}
+use Rattle.spec_files.specs.Blocks.{BlockWithRole, BlocksRead, none, fault, block}
+use Rattle.spec_files.proofs.Behind.{behind_block, has_fault, no_memory}
+use Rattle.spec_files.specs.BlockAnswers.{placed_view, block_fault, HasFault, Says, SayAll, HasShortText}
 
 -- ---- one block
 
@@ -65,7 +66,7 @@ on_block ps bs i p q stmts lt is reads so = record {
 stopped : (ps : List BlockWithRole) (bs : Blocks) (i : ℕ) (p q : BlockWithRole) (f : BlockFault) → i < length ps → get_or ps i q ≡ p → f.block ≡ p.part.at → HasFault p f.fault → SoFar ps bs i → BlocksRead ps (Err f)
 unfolding behind_all
 stopped ps bs i p q f lt is at has so =
-    so.told (Err f) (subst (λ qs. BlocksRead qs (Err f)) (sym (here ps i p q lt is)) (fault f.fault has (ap (λ (n : ℕ). Err (record { block = n; fault = f.fault })) at)))
+    so.told (Err f) (subst (λ qs. BlocksRead qs (Err f)) (sym (here ps i p q lt is)) (fault f.fault (no_memory p f.fault has) (has_fault p f.fault has) (ap (λ (n : ℕ). Err (record { block = n; fault = f.fault })) at)))
 
 on_fault : (ps : List BlockWithRole) (bs : Blocks) (i : ℕ) (p q : BlockWithRole) (e : RunFault) → i < length ps → get_or ps i q ≡ p → Says p (Err e) → SoFar ps bs i → SayAll ps (Err e)
 on_fault ps bs i p q faults.Memory lt is says so = tt

@@ -5,14 +5,18 @@ use Rattle.sql_trees.specs.declared.fault.SqlFault.{SqlFault}
 use Rattle.sql_trees.specs.declared.fault.SqlFault.TheVariants.{Memory}
 use Rattle.sql_parser.specs.Texts.{Parses}
 use Rattle.sql_blocks.specs.declared.block.Block.{Block}
+use Rattle.sql_blocks.specs.declared.block.Role.{Role}
 use Rattle.sql_blocks.specs.Blocks.{block_of, blocks_of}
 use Rattle.spec_parser.specs.Trees.{PartTree, StepTree, part_view, spec_view}
 use Rattle.spec_files.specs.declared.blocks.PlacedPart.{PlacedPart}
 use Rattle.spec_files.specs.declared.fault.RunFault.{RunFault}
 use Rattle.spec_files.specs.declared.fault.RunFault.TheVariants as faults
 use Rattle.spec_files.specs.declared.file.SpecFile.{SpecFile}
-use Rattle.spec_files.specs.Blocks.{BlockWithRole, HasFault, BlocksRead}
+use Rattle.spec_files.specs.Blocks.{BlockWithRole, BlocksRead}
 use Rattle.spec_files.specs.Files.{File}
+
+abbrev pub block_as : Role → PartTree → BlockWithRole
+block_as role part = record { role = role; part = part }
 
 abbrev pub placed_view : PlacedPart → BlockWithRole
 placed_view p = record { role = p.role; part = part_view p.part }
@@ -24,6 +28,11 @@ step_part s = s.part
 abbrev pub block_fault : ℕ → SqlFault → RunFault
 block_fault at Memory = faults.Memory
 block_fault at f = faults.Sql (record { block = at; fault = f })
+
+-- this is the fault of the block's text
+abbrev pub HasFault : BlockWithRole → SqlFault → Type 0
+HasFault p Memory = ⊥
+HasFault p f = Parses p.part.sql p.role (Err f)
 
 -- the block says these statements, or has this fault, unless memory was refused
 abbrev pub Says : BlockWithRole → Result Block RunFault → Type 0

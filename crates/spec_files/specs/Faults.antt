@@ -17,9 +17,7 @@ read_fault read_faults.Device = faults.Read
 
 -- a fault of the tokens is told as such
 abbrev pub spec_fault : SpecFault → RunFault
-spec_fault spec_faults.Memory = faults.Memory
-spec_fault (spec_faults.Lex f) = faults.Lex f
-spec_fault f = faults.Spec f
+spec_fault f = elim f [ spec_faults.Memory ↦ faults.Memory | spec_faults.Lex l ↦ faults.Lex l | other ↦ faults.Spec other ]
 
 abbrev pub report_fault : ReportFault → RunFault
 report_fault report_faults.Write = faults.Write

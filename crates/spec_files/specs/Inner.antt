@@ -2,3 +2,4 @@
 pub mod Drafts
 pub mod Coming
 pub mod Resting
+pub mod GoesOn

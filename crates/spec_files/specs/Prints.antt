@@ -5,26 +5,21 @@ use Rattle.session_machine.specs.Machine.{Blocks}
 use Rattle.spec_parser.specs.Trees.{EntryTree, SpecTree}
 use Rattle.permutation_lists.specs.Permutations.{permutations_of}
 use Rattle.permutation_plans.specs.Regular.{IsRegular}
-use Rattle.report_text.specs.Said.{Said, Ending, only_ends, says, whole, invalid, too_many, ◌>>◌}
+use Rattle.report_text.specs.Said.{Said, only_ends, says, whole, invalid, too_many, ◌>>◌}
 use Rattle.report_text.specs.Permutation.{permutation_says}
 use Rattle.spec_files.specs.declared.fault.RunFault.{RunFault}
 use Rattle.spec_files.specs.FirstLine.{first_line}
 use Rattle.spec_files.specs.Files.{File, FileIs}
 
--- a permutation's report with what is said after it; a setup that failed or waits ends the run
-abbrev pub GoesOn : Ending → (Said → Type 0) → Said → Type 0
-GoesOn whole Others said = Others said
-GoesOn invalid Others said = Others said
-GoesOn ending Others said = said ≡ only_ends ending
-
--- what is said of these permutations, each with its regular history, of which so many run at most
+-- what is said of these permutations, each with its regular history, of which so many run at most: a permutation's report, and then what is said of the others; a setup that failed or
+-- waits ends the run
 unfoldable pub Prints : SpecTree → Blocks → ℕ → List (List EntryTree) → Said → Type 0
 Prints spec blocks limit [] said = said ≡ only_ends whole
 Prints spec blocks zero (p ∷ ps) said = said ≡ only_ends too_many
 Prints spec blocks (suc left) (p ∷ ps) said =
     (items : List HistItem) × (rest : Said)
     × IsRegular spec blocks p items
-    × GoesOn (permutation_says spec p items).ending (Prints spec blocks left ps) rest
+    × (elim (permutation_says spec p items).ending [ whole ↦ Prints spec blocks left ps rest | invalid ↦ Prints spec blocks left ps rest | ending ↦ rest ≡ only_ends ending ])
     × (said ≡ (record (permutation_says spec p items) { ending = whole } >> rest))
 
 -- A file is refused, or prints this, where so many of its permutations run at most.

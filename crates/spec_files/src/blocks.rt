@@ -5,7 +5,8 @@ ghost use Rattle.std.specs.List.{AllByRecursion};
 ghost use Rattle.spec_parser.specs.Trees.{part_view, step_view, session_view, spec_view};
 ghost use Rattle.spec_parser.specs.Stands.{session_parts};
 ghost use Rattle.sql_blocks.specs.declared.block.Role.TheVariants.{Main, Session};
-ghost use Rattle.spec_files.specs.Blocks.{blocks_in, block_as};
+ghost use Rattle.spec_files.specs.Blocks.{blocks_in};
+ghost use Rattle.spec_files.specs.BlockAnswers.{block_as};
 ghost use Rattle.spec_files.specs.BlockAnswers.{placed_view, step_part, block_fault, Says, SayAll, HasShortText};
 
 use crate::fault::{BlockFault, RunFault};

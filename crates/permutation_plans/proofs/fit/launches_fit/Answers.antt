@@ -2,7 +2,7 @@ use Rattle.std.proofs.Common.{◌↔◌, [], map, subst, IsTrue, IfOk}
 use Rattle.spec_parser.specs.Trees.{entry_view}
 use Rattle.report_lines.specs.Due.{Launches as Listed}
 use Rattle.permutation_plans.specs.Launches.{due_after}
-use Rattle.permutation_plans.specs.Regular.{FitsAfter}
+use Rattle.permutation_plans.specs.Fits.{FitsAfter}
 use Rattle.permutation_plans.proofs.fit.launches_fit.Goals as goal
 
 pub returns : goal.returns

@@ -1,4 +1,4 @@
-use Rattle.std.proofs.Common.{◌≡◌, ap, ◌∙◌}
+use Rattle.std.proofs.Common.{ap, ◌∙◌}
 use Rattle.report_lines.specs.Report.{Report}
 use Rattle.report_lines.proofs.Tried.{lines_are_said as law}
 use Rattle.report_lines.proofs.Same.{report_is}

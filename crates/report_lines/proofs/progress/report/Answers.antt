@@ -1,4 +1,4 @@
-use Rattle.std.proofs.Common.{◌+◌, ◌-◌, ◌∙◌, subst}
+use Rattle.std.proofs.Common.{◌-◌, ◌∙◌, subst}
 use Rattle.report_lines.specs.History.{PermutationRun}
 use Rattle.report_lines.specs.Due.{orders}
 use Rattle.report_lines.specs.Inner.Progress.{IsSettled}

@@ -3,7 +3,7 @@ use Rattle.std.specs.Prelude.{map, flat_map}
 use Rattle.spec_parser.specs.Trees.{session_view}
 use Rattle.spec_parser.specs.Stands.{session_parts}
 use Rattle.sql_blocks.specs.declared.block.Role.TheVariants.{Session}
-use Rattle.spec_files.specs.Blocks.{block_as}
+use Rattle.spec_files.specs.BlockAnswers.{block_as}
 use Rattle.spec_files.specs.BlockAnswers.{placed_view}
 use Rattle.spec_files.proofs.blocks.add_sessions.Given as goal
 

@@ -2,7 +2,7 @@ use Rattle.std.proofs.Common.{◌≡◌, ◌++◌, take}
 use Rattle.std.specs.Prelude.{map}
 use Rattle.spec_parser.specs.Trees.{step_view}
 use Rattle.sql_blocks.specs.declared.block.Role.TheVariants.{Session}
-use Rattle.spec_files.specs.Blocks.{block_as}
+use Rattle.spec_files.specs.BlockAnswers.{block_as}
 use Rattle.spec_files.specs.BlockAnswers.{placed_view, step_part}
 use Rattle.spec_files.proofs.blocks.add_steps.Given as goal
 
