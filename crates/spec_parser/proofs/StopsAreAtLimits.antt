@@ -281,7 +281,7 @@ perms_case n k r after later (inr (x, mid, is, e)) =
       split = w.1 ∙ ap (λ (us : List (At SpecToken)). w.0 ++ us) o.split ∙ sym (append_assoc w.0 o.ps (o.word ∷ (o.es ++ after.1)));
       many = more w.0 o.ps refl w.3 (subst (λ (c : Counts). Many perm c o.ps o.perms) w.2 o.many);
       short = (perm_short r mid x is, o.short);
-      is_keyword = o.is_word;
+      is_keyword = o.is_keyword;
       among = subst (λ (c : Counts). Many entry c o.es o.entries) (ap (λ (c : Counts). past c (o.ps ++ o.word ∷ [])) w.2 ∙ sym (past_twice r.0 w.0 (o.ps ++ o.word ∷ [])) ∙ ap (past r.0) (sym (append_assoc w.0 o.ps (o.word ∷ [])))) o.among;
       count = o.count;
       is_named = o.is_named;
@@ -295,7 +295,7 @@ perms_stop : Stops perms_at
 unfolding all_at
 perms_stop r after few e =
     let o = perms_over (length r.1) 0 r after e in
-    record { fs = []; mid = r; split = refl; place = refl; few = few; is_named = o.is_named; here = here_entry o.ps o.word o.es o.perms o.entries o.split o.many o.short o.is_word o.among o.count }
+    record { fs = []; mid = r; split = refl; place = refl; few = few; is_named = o.is_named; here = here_entry o.ps o.word o.es o.perms o.entries o.split o.many o.short o.is_keyword o.among o.count }
 
 -- ---- the file
 
