@@ -56,9 +56,9 @@ These eleven carry the guarantee, from the bytes of a file to the rows of a view
 """
 
 REST = """
-## All of them, in reading order
+## File by file, in reading order
 
-Each file of `specs/` with the number of its lines that `FileSays` needs, and the comment of each definition. A name without a comment speaks for itself.
+Each file of `specs/` with the number of its lines that `FileSays` needs, and what it says of the definitions that other files use; their parts stand beside them there.
 """
 
 OTHERS = """
@@ -140,32 +140,42 @@ def words(text):
     return set(re.findall(r"[^\s(){}\[\],;]+", text)) | set(re.findall(r"[^\s(){}\[\],;.]+", text))
 
 
+def home(at, files, holders):
+    """Returns the definition that this name of a module means, or None."""
+    nothing = ({}, {}, {}, [])
+    # (a file may hand on what it imports)
+    while at[1] not in files.get(at[0], nothing)[2] and at[1] in files.get(at[0], nothing)[0]:
+        at = files[at[0]][0][at[1]]
+    return at if at[1] in files.get(at[0], nothing)[2] else holders.get(at)
+
+
+def named_in(at, files, holders):
+    """Returns the definitions that a definition names."""
+    imported, whole, found, _ = files[at[0]]
+    written = words("\n".join(found[at[1]]))
+    named = set()
+    # (an operator is defined with a mark for each side, and a do block by what stands between its lines)
+    for word in [*written, *(f"◌{it}◌" for it in written), *(["◌>>=◌"] if "do" in written else [])]:
+        front, _, back = word.rpartition(".")
+        if word in found or (at[0], word) in holders and word not in imported and front not in whole:
+            named.add(home((at[0], word), files, holders))
+        elif word in imported:
+            named.add(home(imported[word], files, holders))
+        elif front in whole:
+            named.add(home((whole[front], back), files, holders))
+    return named - {None}
+
+
 def named_from(wanted, files, holders, without=()):
     """Returns what these definitions name, and what that names in turn, but for what is named through the ones without."""
     left = [(module, name) for module, (_, _, found, _) in files.items() for name in found if name in wanted]
-    named, nothing = set(), ({}, {}, {}, [])
+    named = set()
     while left:
         at = left.pop()
-        # (a file may hand on what it imports)
-        while at[1] not in files.get(at[0], nothing)[2] and at[1] in files.get(at[0], nothing)[0]:
-            at = files[at[0]][0][at[1]]
-        at = at if at[1] in files.get(at[0], nothing)[2] else holders.get(at)
-        if not at or at in named or at[1] in without:
+        if at in named or at[1] in without:
             continue
         named.add(at)
-        imported, whole, found, _ = files[at[0]]
-        written = words("\n".join(found[at[1]]))
-        # (an operator is defined with a mark for each side, and a do block by what stands between its lines)
-        for word in [*written, *(f"◌{it}◌" for it in written), *(["◌>>=◌"] if "do" in written else [])]:
-            front, _, back = word.rpartition(".")
-            if word in found:
-                left.append((at[0], word))
-            elif word in imported:
-                left.append(imported[word])
-            elif front in whole:
-                left.append((whole[front], back))
-            elif (at[0], word) in holders:
-                left.append((at[0], word))
+        left += named_in(at, files, holders)
     return named
 
 
@@ -191,6 +201,7 @@ class Believed:
         sizes = {(module, name): len(lines) for module, (_, _, found, _) in self.files.items() for name, lines in found.items()}
         self.all = named_from(wanted, self.files, holders)
         reading = self.all - named_from(wanted, self.files, holders, READING)
+        self.shared = {to for at in self.all for to in named_in(at, self.files, holders) if to[0] != at[0]}
         self.by_file = {}
         for module, name in self.all:
             self.by_file[module] = self.by_file.get(module, 0) + sizes[module, name]
@@ -255,10 +266,10 @@ def laws_of(crate):
 
 
 def told_of(of, module):
-    """Yields a line for each definition of a file that is to be believed: those with a comment, and at last the names of the others."""
+    """Yields a line for each definition of a file that others need: those with a comment, and at last the names of the others."""
     bare = []
     for key, name, comment in of.files[module][3]:
-        if (module, key) not in of.all:
+        if (module, key) not in of.shared:
             continue
         if comment:
             yield f"  - `{name.strip('◌')}`: {comment}"
