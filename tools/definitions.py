@@ -257,12 +257,9 @@ def definition(crate, name):
 
 def laws_of(crate):
     """Yields the public functions of a crate that do nothing, each with its comment."""
-    folder = f"{TOP}/crates/{crate}/src"
-    for at, _, names in sorted(os.walk(folder)):
-        for name in sorted(names):
-            text = text_of(os.path.relpath(f"{at}/{name}", TOP))
-            for said, law in LAW.findall(text):
-                yield law, " ".join(it[3:].strip() for it in said.splitlines())
+    for path in sources_of([crate]):
+        for said, law in LAW.findall(text_of(path)):
+            yield law, " ".join(it[3:].strip() for it in said.splitlines())
 
 
 def told_of(of, module):
@@ -305,16 +302,25 @@ def page():
     return "\n".join([*lines, *OTHERS.rstrip("\n").split("\n"), "", *others, *LAWS.rstrip("\n").split("\n"), "", *laws]) + "\n"
 
 
+def sources_of(crates):
+    """Yields the path of each file of code of these crates."""
+    for crate in crates:
+        for at, _, names in sorted(os.walk(f"{TOP}/crates/{crate}/src")):
+            for name in sorted(names):
+                yield os.path.relpath(f"{at}/{name}", TOP)
+
+
 def examples():
     """Yields the examples in the crates' comments, each with where it stands."""
     for _, crates in families():
-        for crate in crates:
-            folder = f"{TOP}/crates/{crate}/src"
-            for at, _, names in sorted(os.walk(folder)):
-                for name in sorted(names):
-                    path = os.path.relpath(f"{at}/{name}", TOP)
-                    for shown in re.findall(r"^//[/!] ```\n(.*?)^//[/!] ```$", text_of(path), re.M | re.S):
-                        yield path, re.sub(r"^//[/!] ?", "", shown, flags=re.M)
+        for path in sources_of(crates):
+            for shown in re.findall(r"^ *//[/!] ```\n(.*?)^ *//[/!] ```$", text_of(path), re.M | re.S):
+                yield path, re.sub(r"^ *//[/!] ?", "", shown, flags=re.M)
+
+
+def bare(text):
+    """Returns the text without what its lines begin and end with."""
+    return "\n".join(line.strip() for line in text.split("\n"))
 
 
 def places(line, crates, crate=None):
@@ -375,8 +381,8 @@ def lacking():
     wrong += [f"{PAGE}: run tools/definitions.py, which writes it: {line[:100]}" for line in lost[:10]]
     if not lost and there != due:
         wrong.append(f"{PAGE}: run tools/definitions.py, which writes it: its lines stand in another order")
-    tests = "\n".join(text_of(f"crates/{crate}/src/uses.rt") for _, crates in families() for crate in crates if os.path.isfile(f"{TOP}/crates/{crate}/src/uses.rt"))
-    wrong += [f"{path}: no test runs its example: {shown.split(chr(10))[0]}" for path, shown in examples() if shown not in tests]
+    tests = "\n".join(bare(text_of(path)) for path in sources_of(dict(families())["Tests"]))
+    wrong += [f"{path}: no test runs its example: {shown.split(chr(10))[0]}" for path, shown in examples() if bare(shown) not in tests]
     for it in wrong:
         print(it)
     return len(wrong)
