@@ -3,6 +3,7 @@
 
     tools/definitions.py                    writes docs/DEFINITIONS.md, from the comments in specs/ and above the laws
     tools/definitions.py --count [NAME..]   counts the lines from FileSays, or from these definitions: each file's, and their sum
+    tools/definitions.py --mark             has each file of specs/ say in its first line whether it is to be believed
 
 Imports, comments and blank lines aren't counted, nor are the types that the code declares.
 """
@@ -20,6 +21,8 @@ WITHIN = re.compile(rf"^  (?:(?:{KINDS})\s+)+([^\s:(){{}},]+)")
 
 # A public function that answers nothing, and at most calls others of this kind: the comment above it, and its name.
 LAW = re.compile(r"((?:^///.*\n)*)(?:^(?:#\[|//[^/]).*\n)*^pub fn (\w+)\((?:(?!&mut)[^)])*\)\n(?:^    .*\n)*^\{(?:\n(?:^    [\w:]+\(.*\);\n)*)?\}", re.M)
+
+MARK = "-- To be believed. "
 
 # From the bytes of a file to the rows of a view: what is quoted whole, each under a title.
 SITTING = (
@@ -235,7 +238,7 @@ def head_of(lines):
     for line in lines:
         if not line.startswith("--"):
             break
-        said.append(line[2:].strip())
+        said.append(line.removeprefix(MARK).removeprefix("--").strip())
     return sentence(" ".join(said))
 
 
@@ -388,6 +391,41 @@ def lacking():
     return len(wrong)
 
 
+def marks():
+    """Yields the path of each file of specs/ with its text as it stands, and with the first line that it is to have."""
+    of = Believed()
+    for module, lines in of.texts.items():
+        crate, _, name = module.split(".", 2)
+        plain = [lines[0].replace(MARK, "-- "), *lines[1:]]
+        due = [plain[0].replace("-- ", MARK, 1), *plain[1:]] if module in of.by_file else plain
+        yield f"crates/{crate}/specs/{name.replace('.', '/')}.antt", "\n".join(lines), "\n".join(due)
+
+
+def marks_lacking():
+    """Looks whether each file of specs/ says in its first line whether it is to be believed. Returns how many don't; each is printed."""
+    wrong = [path for path, text, due in marks() if text != due]
+    for path in wrong:
+        print(f"{path}: its first line is to say whether the file is to be believed: run tools/definitions.py --mark")
+    return len(wrong)
+
+
+def names_twice(apart=("Inner", "Code")):
+    """Looks whether a public name is defined in two files of one crate's specs/, outside these folders. Returns how many are; each is printed."""
+    found = {}
+    for module, lines in modules():
+        crate, _, name = module.split(".", 2)
+        if name.split(".")[0] in apart:
+            continue
+        public = {it[1] for line in lines for it in [re.match(rf"\s*(?:(?:{KINDS})\s+)*pub (?:(?:data|record)\s+)?([^\s:(){{}},]+)", line)] if it and not line.startswith("    ")}
+        for key, shown, _ in read(lines)[3]:
+            if shown in public and not shown.startswith("◌"):
+                found.setdefault((crate, shown), set()).add(name)
+    wrong = {it: files for it, files in found.items() if len(files) > 1}
+    for (crate, shown), files in sorted(wrong.items()):
+        print(f"crates/{crate}/specs: {shown} is defined in {' and '.join(sorted(files))}")
+    return len(wrong)
+
+
 def count(wanted):
     """Prints how many lines of each file are to be believed, and of all."""
     of = Believed(wanted) if wanted else Believed()
@@ -399,6 +437,11 @@ def count(wanted):
 def main(given):
     if given[:1] == ["--count"]:
         count(given[1:])
+    elif given == ["--mark"]:
+        for path, text, due in marks():
+            if text != due:
+                with open(f"{TOP}/{path}", "w", encoding="utf-8") as it:
+                    it.write(due)
     elif given:
         sys.exit(__doc__)
     else:
