@@ -376,16 +376,6 @@ def rows_lacking(among):
     return len(edits ^ rows)
 
 
-def quotes_lacking():
-    """Looks whether each definition that docs/DEFINITIONS.md quotes stands so in the file that is named with it. Returns how many don't; each is printed."""
-    lacking = 0
-    for crate, file, quoted in re.findall(r"^```antt (\w+)/(\w+)\n(.*?)^```$", rtlib.text_of(f"{TOP}/docs/DEFINITIONS.md") or "", re.M | re.S):
-        if quoted not in (rtlib.text_of(f"{TOP}/crates/{crate}/specs/{file}.antt") or ""):
-            print(f"docs/DEFINITIONS.md: what it quotes of {crate}/{file} doesn't stand there: {quoted.splitlines()[0]}")
-            lacking += 1
-    return lacking
-
-
 def files_below(folder):
     return sorted(f"{at}/{it}" for at, _, names in os.walk(folder) for it in names)
 
