@@ -6,4 +6,5 @@ pub mod Expressions
 pub mod Sorting
 pub mod Aggregates
 pub mod FaultText
+pub mod Growing
 pub mod Inner
