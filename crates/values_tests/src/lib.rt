@@ -7,6 +7,8 @@ mod expressions;
 #[cfg(test)]
 mod keys;
 #[cfg(test)]
+mod sizes;
+#[cfg(test)]
 mod sorting;
 #[cfg(test)]
 mod summing;
