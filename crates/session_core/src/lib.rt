@@ -14,3 +14,4 @@ mod waits;
 
 pub use engine::EngineState;
 pub use replay::replays;
+pub use session_machine::{EngineFault, Event, HistItem, Mode, Outcome, Reply, StmtFault, Turn};
