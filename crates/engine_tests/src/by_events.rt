@@ -1,4 +1,4 @@
-//! The example of `EngineState`'s page, word for word.
+//! The example at the head of `session_core`, word for word.
 
 use crate::trial::{Line, at_last, blocks, holds};
 use row_versions::ListStore;

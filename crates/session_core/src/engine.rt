@@ -20,25 +20,6 @@ use std::marker::Model;
 
 /// Sessions over a store, in a run that is recorded. Contracts see it as what it was opened over, the machine's
 /// state and the history; the state is that to which the history leads from the opening.
-///
-/// An engine is run by events. Here block 0 is `CREATE TABLE t (x int); INSERT INTO t VALUES (7)`, and block 1 is
-/// `SELECT x FROM t`; the test `an_engine_is_run_by_events` of `engine_tests` has the same text:
-///
-/// ```
-/// /// Whether session 1 sees the row that the control session, which is session 0, has made.
-/// fn sees_the_row(alloc: Global, blocks: &[Block<'static>]) -> Result<bool, EngineFault> {
-///     let mut engine = EngineState::new(alloc, blocks, 1, Mode::Directed, ListStore::new(alloc))?;
-///     engine.launch(0, 0)?;
-///     engine.step(0)?;
-///     engine.step(0)?;
-///     engine.launch(1, 1)?;
-///     let reply = engine.step(1)?;
-///     match reply.outcome {
-///         Outcome::Rows(set) => Ok(set.rows().len() == 1 && reply.ended),
-///         _ => Ok(false),
-///     }
-/// }
-/// ```
 #[derive(Drop)]
 pub struct EngineState<'a, 't, V: Versions> {
     blocks: &'a [Block<'t>],
