@@ -1,4 +1,4 @@
--- The histories that a permutation may have, and that there is at most one.
+-- To be believed. The histories that a permutation may have, and that there is at most one.
 use Rattle.std.specs.Prelude.{◌≡◌, List, ◌∷◌, ◌++◌, length, unwrap_or, slice_get, IsTrue, IfSome}
 use Rattle.session_machine.specs.declared.event.Order.{Order}
 use Rattle.session_machine.specs.declared.event.Order.TheVariants.{Stop}
