@@ -6,7 +6,7 @@ use sql_parser::{Block, Role};
 use std::alloc::{AllocError, Global};
 use std::process::Abort;
 
-const SIZES: [usize; 8] = [0, 1, 5, 9, 41, 101, 1_001, 5_001];
+const SIZES: [u32; 8] = [0, 1, 5, 9, 41, 101, 1_001, 5_001];
 
 /// An engine has so many sessions beside the control session.
 const SESSIONS: [u32; 6] = [1, 5, 9, 41, 63, 64];
@@ -19,23 +19,23 @@ fn answered<T: Drop>(answer: Result<T, EngineFault>) -> Result<T, AllocError> {
     }
 }
 
-const NOTHING: [Line; 1] = [(1, "", "")];
+const STATEMENT: [Line; 1] = [(1, "SELECT 1", "")];
 
-/// The session is given a block without statements, or leaves.
-fn one_event(engine: &mut Engine<'_>, is_launch: bool) -> Result<(), AllocError> {
-    if is_launch {
-        let _reply = answered(engine.launch(1, 0))?;
-    } else {
-        let _reply = answered(engine.leave(1))?;
-    }
+/// The session is given its block, runs it, and leaves, in turn.
+fn one_event(engine: &mut Engine<'_>, place: usize) -> Result<(), AllocError> {
+    let _reply = answered(match place % 3 {
+        0 => engine.launch(1, 0),
+        1 => engine.step(1),
+        _ => engine.leave(1),
+    })?;
     Ok(())
 }
 
 fn goes_by_events(rt: &impl Abort, alloc: Global, count: usize) -> Result<(), AllocError> {
-    let blocks = blocks(alloc, &NOTHING)?;
+    let blocks = blocks(alloc, &STATEMENT)?;
     let mut engine = engine_of(alloc, &blocks, 1, Mode::Directed)?;
     for k in 0..count {
-        one_event(&mut engine, k % 2 == 0)?;
+        one_event(&mut engine, k)?;
     }
     holds(rt, engine.history().len() == count, "events");
     holds(rt, is_legal(alloc, &engine, &blocks)?, "a legal history");
@@ -45,7 +45,7 @@ fn goes_by_events(rt: &impl Abort, alloc: Global, count: usize) -> Result<(), Al
 #[test]
 fn any_number_of_events(rt: HostRuntime) {
     for count in SIZES {
-        at_last!(&rt, goes_by_events(&rt, rt.alloc(), count));
+        at_last!(&rt, goes_by_events(&rt, rt.alloc(), count as usize));
     }
 }
 
@@ -98,7 +98,7 @@ fn over_rows(
 
 fn over_any_rows(rt: &impl Abort, alloc: Global, statement: u32) {
     for count in SIZES {
-        at_last!(rt, over_rows(rt, alloc, count, statement));
+        at_last!(rt, over_rows(rt, alloc, count as usize, statement));
     }
 }
 
@@ -149,7 +149,7 @@ fn over_blocks(rt: &impl Abort, alloc: Global, count: u32) -> Result<(), AllocEr
 #[test]
 fn any_number_of_blocks(rt: HostRuntime) {
     for count in SIZES {
-        at_last!(&rt, over_blocks(&rt, rt.alloc(), count as u32));
+        at_last!(&rt, over_blocks(&rt, rt.alloc(), count));
     }
 }
 
@@ -181,8 +181,8 @@ fn with_sessions(rt: &impl Abort, alloc: Global, count: u32) -> Result<(), Alloc
     for session in 1..count + 1 {
         answered(run(&mut engine, session, 1))?;
     }
-    let waiting = waits(&engine);
-    holds(rt, waiting + 1 == count as usize, "all but the first wait");
+    let others = (count as usize).wrapping_sub(1);
+    holds(rt, waits(&engine) == others, "all but the first wait");
     for session in 1..count + 1 {
         answered(run(&mut engine, session, 2))?;
     }
