@@ -45,13 +45,13 @@ HEAD = """# The definitions
 
 What a reader has to believe stands in the `specs/` folders: definitions on plain data (lists of bytes, trees, numbers), which no code runs. The code is proved against them.
 
-The program calls `run_spec`, whose contract is `SpecIsRun`. Its clause `told` says: what was put out is what `FileSays` gives for the bytes that were read. `FileSays`, with all that it
+The program calls `run_spec`, whose contract is `SpecIsRun`. Its field `told` says: what was put out is what `FileSays` gives for the bytes that were read. `FileSays`, with all that it
 names in turn, comes to {lines:,} lines of {count} definitions, without imports, comments and blank lines. Of these, {reading} lines read a file; the other {other} go from its spec and statements
 to the text. (All `specs/` have {there:,} lines. {inner:,} of these stand in a folder `Inner`: only private functions and proofs use them.)
 
 How to read the files: `a ∷ as` is a list with its first element, `++` joins lists, `×` is "and" with a value for each side, `≡` is equality, `x ↦ y` is a case. A **view** (`spec_view`) is the
 plain data behind a value of the code. A **reading function** (`expr_at`) goes through tokens from the left and says what comes first, a value or a fault; the **grammar** beside it (`Spells`) is a
-relation with a case for each production, and a law ties the two. Numbers such as 13.2.1 are sections of PostgreSQL 15's manual.
+relation with a case for each production, and a law ties the two. Numbers such as 13.2.1 are sections of PostgreSQL's manual.
 
 ## One sitting
 
