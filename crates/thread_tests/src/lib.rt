@@ -13,10 +13,16 @@ mod free_texts;
 #[cfg(test)]
 mod gates;
 #[cfg(test)]
+mod giving;
+#[cfg(test)]
 mod meeting;
+#[cfg(test)]
+mod refused;
 #[cfg(test)]
 mod seats;
 #[cfg(test)]
 mod signs;
 #[cfg(test)]
 mod telling;
+#[cfg(test)]
+mod worked;
