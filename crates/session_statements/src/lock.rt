@@ -1,11 +1,10 @@
 //! A locking SELECT (PostgreSQL manual, 13.3.2, and the page of SELECT).
 
-ghost use Rattle.std.specs.Prelude.{◌≡◌, ◌+◌, ◌<◌, ◌^◌, drop, length, map, IfOk};
+ghost use Rattle.std.specs.Prelude.{◌≡◌, ◌<◌, drop, length, map, IfOk};
 ghost use Rattle.std.specs.Bool.{OnTrue};
 ghost use Rattle.sql_trees.specs.Statements.{item_of, select_of};
 ghost use Rattle.query_results.specs.Results.{IsEven};
 ghost use Rattle.query_results.specs.Queries.{titles_of};
-ghost use Rattle.row_versions.specs.Log.{IsOpen};
 ghost use Rattle.session_machine.specs.Rows.{columns_in, strength_of, values_of};
 ghost use Rattle.session_machine.specs.Inner.Statements.{lock_with, after_walk, lock_from, walked};
 ghost use Rattle.session_machine.specs.declared.reply.Outcome.TheVariants.{Rows};
