@@ -1,6 +1,7 @@
 //! The text of a free run, by its history.
 
-ghost use Rattle.std.specs.Prelude.{◌≡◌, ◌++◌, [], map, OnOk, IfOk};
+ghost use Rattle.std.specs.Prelude.{◌≡◌, ◌⊎◌, ◌++◌, [], map, OnOk, IfOk};
+ghost use Rattle.std.specs.Io.KnownBytes.{Appends};
 ghost use Rattle.iso_lexer.specs.Devices.{page_text};
 ghost use Rattle.spec_parser.specs.Trees.{session_view, spec_view};
 ghost use Rattle.report_lines.specs.Due.{orders};
@@ -89,6 +90,7 @@ pub fn write_free<W: Sink, N: Sink>(
     ensures ending { EndsAs (free_says (spec_view spec.now) items.now).ending result }
     ensures text { Puts (W.put_so_far out.old) (W.put_so_far out.new) (free_says (spec_view spec.now) items.now).text result }
     ensures notes { Puts (N.put_so_far notes.old) (N.put_so_far notes.new) (free_says (spec_view spec.now) items.now).notes result }
+    ensures order { (notes.new ≡ notes.old) ⊎ Appends (W.put_so_far out.old) (W.put_so_far out.new) (free_says (spec_view spec.now) items.now).text }
     ensures fails { TellsFailure (W.failed out.old) (W.failed out.new) (N.failed notes.old) (N.failed notes.new) result }
 {
     let ending = setups_ending(alloc, spec, items)?;

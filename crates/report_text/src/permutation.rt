@@ -1,6 +1,7 @@
 //! The report of a permutation with its history.
 
-ghost use Rattle.std.specs.Prelude.{◌≡◌, ◌++◌, ◌+◌, ◌-◌, ◌<◌, ◌^◌, length, map, flat_map, OnOk, IfOk};
+ghost use Rattle.std.specs.Prelude.{◌≡◌, ◌⊎◌, ◌++◌, ◌+◌, ◌-◌, ◌<◌, ◌^◌, length, map, flat_map, OnOk, IfOk};
+ghost use Rattle.std.specs.Io.KnownBytes.{Appends};
 ghost use Rattle.iso_lexer.specs.Devices.{page_text};
 ghost use Rattle.spec_parser.specs.Trees.{entry_view, spec_view};
 ghost use Rattle.report_lines.specs.Due.{orders};
@@ -157,6 +158,7 @@ pub fn put_said<W: Sink, N: Sink>(
     ensures grows_nothing { IsNotMemory result }
     ensures text { Puts (W.put_so_far out.old) (W.put_so_far out.new) (page_text pages.now.text) result }
     ensures notes { Puts (N.put_so_far notes.old) (N.put_so_far notes.new) (page_text pages.now.notes) result }
+    ensures order { (notes.new ≡ notes.old) ⊎ Appends (W.put_so_far out.old) (W.put_so_far out.new) (page_text pages.now.text) }
     ensures fails { TellsFailure (W.failed out.old) (W.failed out.new) (N.failed notes.old) (N.failed notes.new) result }
 {
     out.put(pages.text.bytes())?;
@@ -179,6 +181,8 @@ pub fn write_permutation<W: Sink, N: Sink>(
         (permutation_says (spec_view spec.now) (map entry_view entries.now) items.now).text result }
     ensures notes { Puts (N.put_so_far notes.old) (N.put_so_far notes.new)
         (permutation_says (spec_view spec.now) (map entry_view entries.now) items.now).notes result }
+    ensures order { (notes.new ≡ notes.old) ⊎ Appends (W.put_so_far out.old) (W.put_so_far out.new)
+        (permutation_says (spec_view spec.now) (map entry_view entries.now) items.now).text }
     // Write is answered exactly where a sink has failed in the call.
     ensures fails { TellsFailure (W.failed out.old) (W.failed out.new) (N.failed notes.old) (N.failed notes.new) result }
 {

@@ -7,6 +7,8 @@ mod asking;
 #[cfg(test)]
 mod free_gates;
 #[cfg(test)]
+mod free_order;
+#[cfg(test)]
 mod free_runs;
 #[cfg(test)]
 mod free_texts;
@@ -14,6 +16,10 @@ mod free_texts;
 mod gates;
 #[cfg(test)]
 mod meeting;
+#[cfg(test)]
+mod run_faults;
+#[cfg(test)]
+mod run_limits;
 #[cfg(test)]
 mod seats;
 #[cfg(test)]
