@@ -1,5 +1,5 @@
 -- A closed run whose launches fit has a history of the spec's free run; what is told of it.
-use Rattle.std.proofs.Common.{◌≡◌, ℕ, length, Result, Ok, Err, IfErr, true, false, refl, sym, ap, subst, ◌∙◌, true≢false}
+use Rattle.std.proofs.Common.{◌≡◌, ◌⊎◌, inl, inr, ℕ, length, Result, Ok, Err, IfErr, true, false, refl, sym, ap, subst, ◌∙◌, true≢false}
 use Rattle.std.specs.Prelude.{IfOk, IsTrue}
 use Rattle.iso_lexer.specs.declared.device.Sink.{Ghosts as Sink}
 use Rattle.session_machine.specs.declared.event.Mode.{Mode}
@@ -28,6 +28,12 @@ free_regular spec blocks e of legal fits = record {
       (subst (λ (m : Mode). IsLegal e.blocks e.count m e.history) of.2 legal));
   fits = fits;
 }
+
+-- what is answered of a closed run's history is a fault of a run
+pub regular_kind : {A : Type 0} (r : Result A RunFault) → IfErr r (λ e. (e ≡ faults.ScheduleBroken) ⊎ (e ≡ faults.Memory)) → IfErr r (λ e. is_of_run e ≡ true)
+regular_kind (Ok a) is = tt
+regular_kind (Err e) (inl is) = subst (λ (f : RunFault). is_of_run f ≡ true) (sym is) refl
+regular_kind (Err e) (inr is) = subst (λ (f : RunFault). is_of_run f ≡ true) (sym is) refl
 
 module _ {W N : Type 0} (sink : Sink W) (noted : Sink N) (spec : SpecTree) (blocks : Blocks) (wo wn : W) (eo en : N) where
   -- a run that came to no end was told as its fault

@@ -88,9 +88,9 @@ module _ (fo fn go gn : Bool) (wo wn eo en : Option (List ℕ)) where
   pub free_begun : (spec : SpecTree) (blocks : Blocks) (items : List HistItem) (result : Result (Unit {0}) RunFault)
       → IsFreeRegular spec blocks items → IsFreeWritten spec items wo wn eo en fo fn go gn result → Begun (FreeSays spec blocks) wo wn eo en
   free_begun spec blocks items result regular w =
-      let noted = puts_front w.told eo en (free_says spec items).notes w.notes in
-      fronts _ _ (free items regular) (puts_front w.told wo wn (free_text spec items) w.text) noted
-      (notes_behind (FreeSays spec blocks) wo wn eo en (free_text spec items) (free_says spec items).notes (free items regular) noted w.order)
+      let notes = puts_front w.told eo en (free_says spec items).notes w.notes in
+      fronts _ _ (free items regular) (puts_front w.told wo wn (free_text spec items) w.text) notes
+      (notes_behind (FreeSays spec blocks) wo wn eo en (free_text spec items) (free_says spec items).notes (free items regular) notes w.order)
 
 pub freely_begun : (bytes : List ℕ) (f : File) (wo wn eo en : Option (List ℕ)) → FileIs bytes (Ok f)
     → Begun (FreeSays f.spec f.blocks) wo wn eo en → Begun (FileSaysFreely bytes) wo wn eo en
