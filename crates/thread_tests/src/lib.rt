@@ -7,6 +7,8 @@ mod asking;
 #[cfg(test)]
 mod free_gates;
 #[cfg(test)]
+mod free_order;
+#[cfg(test)]
 mod free_runs;
 #[cfg(test)]
 mod free_texts;
@@ -18,6 +20,10 @@ mod giving;
 mod meeting;
 #[cfg(test)]
 mod refused;
+#[cfg(test)]
+mod run_faults;
+#[cfg(test)]
+mod run_limits;
 #[cfg(test)]
 mod seats;
 #[cfg(test)]

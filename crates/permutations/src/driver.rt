@@ -17,13 +17,13 @@ use std::marker::Model;
 
 /// What a permutation launches, by its entries and what the engine has answered so far.
 #[derive(Drop)]
-pub struct PermutationDriver<'s> {
+pub struct Plan<'s> {
     launches: Launches,
     entries: &'s [Entry],
     progress: PlanProgress,
 }
 
-impl<'s> Model for PermutationDriver<'s> {
+impl<'s> Model for Plan<'s> {
     ghost use Rattle.std.specs.Prelude.{map};
     ghost use Rattle.spec_parser.specs.Trees.{entry_view};
     ghost use Rattle.spec_files.specs.Plans.{Planning};
@@ -33,24 +33,20 @@ impl<'s> Model for PermutationDriver<'s> {
     ghost view = { λ p. record { launches = p.launches; entries = map entry_view p.entries.now; progress = p.progress } };
 }
 
-impl<'s> PermutationDriver<'s> {
+impl<'s> Plan<'s> {
     ghost use Rattle.std.specs.Prelude.{List};
     ghost use Rattle.session_machine.specs.declared.reply.HistItem.{HistItem};
     ghost use Rattle.spec_files.specs.Plans.{order_after, IsFollowing};
 
     /// The plan of the spec's permutation that has these entries.
-    pub fn new(
-        alloc: Global,
-        spec: &Spec<'_>,
-        entries: &'s [Entry],
-    ) -> Result<PermutationDriver<'s>, AllocError>
+    pub fn new(alloc: Global, spec: &Spec<'_>, entries: &'s [Entry]) -> Result<Plan<'s>, AllocError>
         requires { length spec.now.sessions.items < 2 ^ 32 }
         ensures plan { IfOk result (λ p. (p.launches ≡ launches (spec_view spec.now) (map entry_view entries.now)) × (p.entries ≡ map entry_view entries.now)) }
         ensures follows { IfOk result (λ p. (items : List HistItem) → IsFollowing p items) }
     {
         let launches = Launches::of(alloc, spec, entries)?;
         let progress = launches.begin(alloc, entries)?;
-        Ok(PermutationDriver {
+        Ok(Plan {
             launches,
             entries,
             progress,
@@ -69,7 +65,7 @@ impl<'s> PermutationDriver<'s> {
     }
 }
 
-impl<'s, V: Versions> Driver<V> for PermutationDriver<'s> {
+impl<'s, V: Versions> Driver<V> for Plan<'s> {
     ghost order_after = { order_after };
 
     ghost follows = { IsFollowing };
