@@ -1,12 +1,13 @@
 //! Runs that the engine or a driver ends while the other threads sleep, and what gates are asked and told.
 
 use crate::asking::holds;
+use crate::free_runs::blocks;
 use crate::giving::{Behind, Counting, Starved, Twice};
 use crate::signs::session_of;
 use row_versions::ListStore;
 use session_machine::{EngineFault, Order};
 use session_threads::{Closed, FreePlan, Gate, OpenGate, ThreadFault, run_directed, run_free};
-use sql_parser::{Block, Role, parse_block};
+use sql_parser::Block;
 use std::alloc::Global;
 use std::sync::Wait;
 use std::test::Fail;
@@ -22,14 +23,6 @@ const TEXTS: [&str; 4] = [
 
 /// A block that isn't there.
 const NO_BLOCK: u32 = 99;
-
-fn blocks<'t>(alloc: Global) -> Result<Vec<Block<'t>>, Fail> {
-    let mut blocks = Vec::new(alloc);
-    for text in TEXTS {
-        blocks.push(parse_block(alloc, text, Role::Main).map_err(|_| "a block")?)?;
-    }
-    Ok(blocks)
-}
 
 /// The fault in which a directed run of two sessions ends, in which this is ordered first and that then.
 fn directed<G: Gate, R: Threads + Wait + Sync>(
@@ -63,7 +56,7 @@ const QUERY: Order = Order::Launch {
 #[test]
 fn a_directed_run_ends_where_the_engine_refuses(rt: HostRuntime) -> Result<(), Fail> {
     let alloc = rt.alloc();
-    let blocks = blocks(alloc)?;
+    let blocks = blocks(alloc, 4, &TEXTS)?;
     let gate = Counting::new();
     let no_block = Order::Launch {
         session: 2,
@@ -84,7 +77,7 @@ fn a_directed_run_ends_where_the_engine_refuses(rt: HostRuntime) -> Result<(), F
 #[test]
 fn a_directed_run_ends_where_an_order_is_nobodys(rt: HostRuntime) -> Result<(), Fail> {
     let alloc = rt.alloc();
-    let blocks = blocks(alloc)?;
+    let blocks = blocks(alloc, 4, &TEXTS)?;
     let gate = Counting::new();
     let nobodys = Order::Leave { session: 3 };
     let fault = directed(&rt, alloc, &blocks, QUERY, nobodys, &gate);
@@ -97,7 +90,7 @@ fn a_directed_run_ends_where_an_order_is_nobodys(rt: HostRuntime) -> Result<(), 
 #[test]
 fn a_directed_run_ends_where_its_driver_is_refused_memory(rt: HostRuntime) -> Result<(), Fail> {
     let alloc = rt.alloc();
-    let blocks = blocks(alloc)?;
+    let blocks = blocks(alloc, 4, &TEXTS)?;
     let fault = starved(&rt, alloc, &blocks, QUERY);
     holds(&rt, fault == Some(ThreadFault::Memory), "memory");
     Ok(())
@@ -106,7 +99,7 @@ fn a_directed_run_ends_where_its_driver_is_refused_memory(rt: HostRuntime) -> Re
 #[test]
 fn a_directed_run_asks_and_tells_each_event_once(rt: HostRuntime) -> Result<(), Fail> {
     let alloc = rt.alloc();
-    let blocks = blocks(alloc)?;
+    let blocks = blocks(alloc, 4, &TEXTS)?;
     let gate = Counting::new();
     let fault = directed(&rt, alloc, &blocks, QUERY, Order::Stop, &gate);
     holds(&rt, fault.is_none(), "the run ends well");
@@ -146,7 +139,7 @@ fn free<'a, 't, G: Gate, R: Threads + Wait + Sync>(
 #[test]
 fn a_free_run_ends_where_the_engine_refuses(rt: HostRuntime) -> Result<(), Fail> {
     let alloc = rt.alloc();
-    let blocks = blocks(alloc)?;
+    let blocks = blocks(alloc, 4, &TEXTS)?;
     let plan = plan_of(alloc, &[1, NO_BLOCK], &[2])?;
     let gate = Behind::new();
     let fault = free(&rt, alloc, &blocks, &plan, &gate).err();
@@ -183,7 +176,7 @@ fn asks_and_tells<R: Threads + Wait + Sync>(
 #[test]
 fn a_free_run_asks_and_tells_each_event_of_a_session_once(rt: HostRuntime) -> Result<(), Fail> {
     let alloc = rt.alloc();
-    let blocks = blocks(alloc)?;
+    let blocks = blocks(alloc, 4, &TEXTS)?;
     let plan = plan_of(alloc, &[3, 3], &[3])?;
     holds(
         &rt,

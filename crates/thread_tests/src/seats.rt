@@ -1,4 +1,6 @@
 //! Seats beside the history of an engine.
+ghost use Rattle.std.specs.Prelude.{◌≡◌};
+ghost use Rattle.session_machine.specs.Machine.{session_of};
 
 use crate::asking::holds;
 use row_versions::ListStore;
@@ -48,17 +50,23 @@ const EVENTS: [(usize, Given); 13] = [
     (1, Given::Leave),
 ];
 
+/// The event that gives that to the session.
+fn event_of(session: u32, given: Given) -> Event
+    ensures { session_of result ≡ session }
+{
+    match given {
+        Given::Launch(block) => Event::Launch { session, block },
+        Given::Step => Event::Step { session },
+        Given::Leave => Event::Leave { session },
+    }
+}
+
 fn do_one<'t>(
     engine: &mut EngineState<'_, 't, ListStore>,
     seat: &mut Seat<'t>,
     given: Given,
 ) -> Result<(), Fail> {
-    let session = seat.session();
-    let event = match given {
-        Given::Launch(block) => Event::Launch { session, block },
-        Given::Step => Event::Step { session },
-        Given::Leave => Event::Leave { session },
-    };
+    let event = event_of(seat.session(), given);
     Ok(act(engine, seat, event).map_err(|_| "an event")?)
 }
 

@@ -1,10 +1,11 @@
 //! What a session sees on the way of a run.
 
 use crate::asking::holds;
+use crate::free_runs::blocks;
 use row_versions::ListStore;
 use session_core::EngineState;
 use session_machine::{Event, Mode};
-use sql_parser::{Block, Role, parse_block};
+use sql_parser::Block;
 use sql_values::{Row, Value};
 use std::alloc::Global;
 use std::test::Fail;
@@ -21,14 +22,6 @@ const TEXTS: [&str; 6] = [
 
 /// Each session and the block that it is given, and how many steps follow.
 const GIVEN: [(u32, u32, usize); 5] = [(0, 0, 2), (1, 1, 1), (1, 2, 1), (2, 4, 1), (1, 3, 1)];
-
-fn blocks<'t>(alloc: Global) -> Result<Vec<Block<'t>>, Fail> {
-    let mut blocks = Vec::new(alloc);
-    for text in TEXTS {
-        blocks.push(parse_block(alloc, text, Role::Main).map_err(|_| "a block")?)?;
-    }
-    Ok(blocks)
-}
 
 fn perform(engine: &mut EngineState<'_, '_, ListStore>, event: Event) -> Result<(), Fail> {
     Ok(engine.perform(event).map_err(|_| "a refused event")?)
@@ -76,7 +69,7 @@ fn sees_both(alloc: Global, blocks: &[Block<'_>]) -> Result<bool, Fail> {
 #[test]
 fn a_delete_that_waited_leaves_both_rows(rt: HostRuntime) -> Result<(), Fail> {
     let alloc = rt.alloc();
-    let blocks = blocks(alloc)?;
+    let blocks = blocks(alloc, 6, &TEXTS)?;
     holds(&rt, sees_both(alloc, &blocks)?, "10 and 11");
     Ok(())
 }
