@@ -1,6 +1,6 @@
 //! The free run of a spec, with a thread for each session.
 
-ghost use Rattle.std.specs.Prelude.{◌≡◌, true, length, IfOk, IfErr, IsErrOf};
+ghost use Rattle.std.specs.Prelude.{◌≡◌, ◌⊎◌, true, length, IfOk, IfErr, IsErrOf};
 ghost use Rattle.sql_blocks.specs.Blocks.{blocks_of};
 ghost use Rattle.session_core.specs.Engines.{IsOf};
 ghost use Rattle.session_machine.specs.declared.event.Mode.TheVariants.{Free};
@@ -20,7 +20,7 @@ use std::sync::Wait;
 use std::thread::Threads;
 
 /// The same closed run, or `ScheduleBroken` exactly where its history is none of a free run of the spec.
-fn regular_run<'a, 't>(
+pub fn regular_run<'a, 't>(
     alloc: Global,
     spec: &Spec<'_>,
     blocks: &[Block<'_>],
@@ -30,7 +30,7 @@ fn regular_run<'a, 't>(
     requires of { IsOf closed.state (blocks_of blocks.now) (length (spec_view spec.now).sessions) Free }
     ensures ok { IfOk result (λ c. (c ≡ closed.entry) × IsFreeRegular (spec_view spec.now) (blocks_of blocks.now) c.state.history) }
     ensures broken { IsErrOf result RunFault.ScheduleBroken → ¬ (IsFreeRegular (spec_view spec.now) (blocks_of blocks.now) closed.entry.state.history) }
-    ensures faults { IfErr result (λ e. is_of_run e ≡ true) }
+    ensures faults { IfErr result (λ e. (e ≡ RunFault.ScheduleBroken) ⊎ (e ≡ RunFault.Memory)) }
 {
     let engine = closed.state();
     let refused = match free_fits(alloc, spec, engine.history()) {
@@ -42,7 +42,8 @@ fn regular_run<'a, 't>(
     Err(refused)
 }
 
-/// The closed free run of a spec, or `ScheduleBroken` where its history is none of a free run of the spec.
+/// The closed free run of a spec: a new engine, with a thread for each session. `ScheduleBroken` where its history is none of
+/// a free run of the spec, as `regular_run` says.
 pub fn free_run_of<'a, 't, G: Gate, R: Threads + Wait + Sync>(
     rt: &R,
     alloc: Global,
@@ -51,6 +52,7 @@ pub fn free_run_of<'a, 't, G: Gate, R: Threads + Wait + Sync>(
     gate: &G,
 ) -> Result<Closed<'a, 't, ListStore>, RunFault>
     requires { Stands (spec_view spec.now) }
+    ensures of { IfOk result (λ c. IsOf c.state (blocks_of blocks.now) (length (spec_view spec.now).sessions) Free) }
     ensures regular { IfOk result (λ c. IsFreeRegular (spec_view spec.now) (blocks_of blocks.now) c.state.history) }
     ensures faults { IfErr result (λ e. is_of_run e ≡ true) }
 {

@@ -1,20 +1,60 @@
 //! Runs a spec file freely: each session's steps in their order, with no order between sessions.
 
+ghost use Rattle.std.specs.Prelude.{◌≡◌, true, IfOk, IfErr};
 ghost use Rattle.sql_blocks.specs.Blocks.{blocks_of};
 ghost use Rattle.spec_parser.specs.Trees.{spec_view};
 ghost use Rattle.spec_parser.specs.Stands.{Stands};
+ghost use Rattle.permutation_plans.specs.FreeRegular.{IsFreeRegular};
+ghost use Rattle.spec_files.specs.FreeRuns.{IsFreeWritten};
 ghost use Rattle.spec_files.specs.Promises.{SpecIsRunFreely};
 ghost use Rattle.spec_files.specs.Runners.{RanFreely};
+ghost use Rattle.spec_files.specs.Runs.{is_of_run};
+ghost use Rattle.permutations.specs.Telling.{TellsOne};
 
 use crate::free_run::free_run_of;
 use iso_lexer::{Sink, Source};
-use session_threads::Gate;
+use row_versions::ListStore;
+use session_threads::{Closed, Gate};
 use spec_files::{RunFault, SpecFile, free_spec_by, write_free};
 use spec_parser::Spec;
 use sql_blocks::Block;
 use std::alloc::Global;
 use std::sync::Wait;
 use std::thread::Threads;
+
+/// Writes the text of a closed free run that it is lent, and its notes behind it.
+pub fn write_closed<W: Sink, N: Sink>(
+    alloc: Global,
+    spec: &Spec<'_>,
+    closed: &Closed<'_, '_, ListStore>,
+    out: &mut W,
+    notes: &mut N,
+) -> Result<(), RunFault>
+    ensures { IsFreeWritten (spec_view spec.now) closed.now.state.history
+        (W.put_so_far out.old) (W.put_so_far out.new) (N.put_so_far notes.old) (N.put_so_far notes.new)
+        (W.failed out.old) (W.failed out.new) (N.failed notes.old) (N.failed notes.new) result }
+{
+    let engine = closed.state();
+    write_free(alloc, spec, engine.history(), out, notes)
+}
+
+/// Has a spec run, once, and writes the text of that run and of no other; a fault of the run is answered as it is, and
+/// nothing is written then.
+pub fn tell_run<
+    'a,
+    't: 'a,
+    W: Sink,
+    N: Sink,
+    F: FnOnce() -> Result<Closed<'a, 't, ListStore>, RunFault>,
+>(alloc: Global, spec: &Spec<'_>, run: F, out: &mut W, notes: &mut N) -> Result<(), RunFault>
+    requires { F.pre run }
+    ensures { TellsOne W.Sink N.Sink (spec_view spec.now) (F.post run) out.old out.new notes.old notes.new result }
+{
+    let closed = run()?;
+    let written = write_closed(alloc, spec, &closed, out, notes);
+    closed.end();
+    written
+}
 
 /// Runs a spec freely on a new engine, and writes the text of its history once the run is closed.
 pub fn run_freely<W: Sink, N: Sink, G: Gate, R: Threads + Wait + Sync>(
@@ -29,11 +69,12 @@ pub fn run_freely<W: Sink, N: Sink, G: Gate, R: Threads + Wait + Sync>(
     requires { Stands (spec_view spec.now) }
     ensures { RanFreely W.Sink N.Sink (spec_view spec.now) (blocks_of blocks.now) out.old out.new notes.old notes.new result }
 {
-    let closed = free_run_of(rt, alloc, spec, blocks, gate)?;
-    let engine = closed.state();
-    let written = write_free(alloc, spec, engine.history(), out, notes);
-    closed.end();
-    written
+    let run = || -> Result<Closed<'_, '_, ListStore>, RunFault>
+        requires { Stands (spec_view spec.now) }
+        ensures regular { IfOk result (λ c. IsFreeRegular (spec_view spec.entry.now) (blocks_of blocks.entry.now) c.state.history) }
+        ensures faults { IfErr result (λ e. is_of_run e ≡ true) }
+    { free_run_of(rt, alloc, spec, blocks, gate) };
+    tell_run(alloc, spec, run, out, notes)
 }
 
 /// Reads a spec file and runs it freely: the setups one after the other in the calling thread, then each session's steps and

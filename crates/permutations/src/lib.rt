@@ -2,17 +2,18 @@
 #![tactic(auto)]
 
 mod draft;
+mod driver;
 mod free_run;
 mod freely;
-mod plan;
 mod program;
 mod run;
 mod terminal;
 mod thread_run;
 
-pub use freely::free_spec;
+pub use driver::Plan;
+pub use free_run::{free_run_of, regular_run};
+pub use freely::{free_spec, run_freely, tell_run, write_closed};
 pub use permutation_plans::launches_fit;
-pub use plan::PermutationDriver;
 pub use program::serve;
 pub use run::run_spec;
 pub use spec_files::{

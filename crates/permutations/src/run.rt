@@ -23,6 +23,15 @@ use std::thread::Threads;
 /// is written: for its length, as no UTF-8, for its tokens, as no spec, and for its blocks in the order of the file, in this
 /// order. After `limit` permutations, with one more there, the run ends; so it does after a setup that fails or waits. A
 /// permutation whose threads come to no end writes nothing, and the run ends in `Threads`; none ends in `ScheduleBroken`.
+///
+/// ```
+/// let mut text = Vec::new(alloc);
+/// let mut notes = Vec::new(alloc);
+/// let mut input = FromStd::new(spec.as_bytes());
+/// let mut out = FromStd::new(&mut text);
+/// let mut told = FromStd::new(&mut notes);
+/// run_spec(rt, alloc, &mut input, &mut out, &mut told, 1_000, &OpenGate)?;
+/// ```
 pub fn run_spec<S: Source, W: Sink, N: Sink, G: Gate, R: Threads + Wait + Sync>(
     rt: &R,
     alloc: Global,

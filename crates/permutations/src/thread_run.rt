@@ -11,7 +11,7 @@ ghost use Rattle.spec_files.specs.Inner.Resting.{IsAtRest};
 ghost use Rattle.spec_files.specs.Runs.{is_of_one, is_of_run, has_broken, has_ended, IsOneTold};
 ghost use Rattle.spec_files.specs.Written.{IsWritten};
 
-use crate::plan::PermutationDriver;
+use crate::driver::Plan;
 use iso_lexer::Sink;
 use row_versions::ListStore;
 use session_threads::{Closed, Gate, run_directed};
@@ -46,7 +46,7 @@ pub fn run_of<'a, 't, G: Gate, R: Threads + Wait + Sync>(
     ensures faults { IfErr result (λ e. is_of_run e ≡ true) }
 {
     let sessions = spec.sessions.len() as u32;
-    let plan = PermutationDriver::new(alloc, spec, entries)?;
+    let plan = Plan::new(alloc, spec, entries)?;
     let store = ListStore::new(alloc);
     let closed = run_directed(rt, alloc, blocks, sessions, store, plan, gate)?;
     rests(&closed);

@@ -13,7 +13,7 @@ ghost use Rattle.spec_files.specs.Plans.{order_after, IsFollowing};
 ghost use Rattle.plain_runs.specs.Alone.{IsOfAlone, RefusesNext};
 ghost use Rattle.plain_runs.specs.Inner.Next.{IsNextEvent};
 
-use permutations::{PermutationDriver, RunFault};
+use permutations::{Plan, RunFault};
 use row_versions::ListStore;
 use session_core::EngineState;
 use session_machine::{EngineFault, Event, Mode, Turn};
@@ -27,7 +27,7 @@ use std::sync::Wait;
 /// more. An engine is spent where memory was refused.
 fn next_event<'a, 't>(
     alloc: Global,
-    plan: &mut PermutationDriver<'_>,
+    plan: &mut Plan<'_>,
     engine: &EngineState<'a, 't, ListStore>,
 ) -> Result<Option<Event>, AllocError>
     requires follows { IsFollowing plan.old engine.now.history }
@@ -52,7 +52,7 @@ fn next_event<'a, 't>(
 fn run_to_end<'a, 't, R: Wait>(
     rt: &R,
     alloc: Global,
-    plan: &mut PermutationDriver<'_>,
+    plan: &mut Plan<'_>,
     engine: &mut EngineState<'a, 't, ListStore>,
 ) -> Result<(), EngineFault>
     requires follows { IsFollowing plan.old engine.old.history }
@@ -91,7 +91,7 @@ pub fn run_alone<'a, 't, R: Wait>(
     let sessions = spec.sessions.len() as u32;
     let store = ListStore::new(alloc);
     let mut engine = EngineState::new(alloc, blocks, sessions, Mode::Directed, store)?;
-    let mut plan = PermutationDriver::new(alloc, spec, entries)?;
+    let mut plan = Plan::new(alloc, spec, entries)?;
     if let Err(fault) = run_to_end(rt, alloc, &mut plan, &mut engine) {
         return Err(ThreadFault::Engine(fault).into());
     }

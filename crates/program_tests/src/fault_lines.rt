@@ -29,7 +29,7 @@ fn faults_of_a_run(rt: HostRuntime) -> Result<(), AllocError> {
         (RunFault::ScheduleBroken, "R8 ScheduleBroken"),
         (RunFault::TooManyPermutations, "R9 TooManyPermutations"),
         (RunFault::Threads(ThreadFault::Gate), "R10 Threads"),
-        (RunFault::NotUtf8(17), "R11 NotUtf8 at byte 17"),
+        (RunFault::NotUtf8 { at: 17 }, "R11 NotUtf8 at byte 17"),
         (RunFault::Memory, "Memory"),
     ] {
         is_told(&rt, rt.alloc(), &fault, line)?;

@@ -13,6 +13,8 @@ mod fault_lines;
 #[cfg(test)]
 mod files;
 #[cfg(test)]
+mod main_call;
+#[cfg(test)]
 mod plans;
 #[cfg(test)]
 mod terminal;

@@ -4,7 +4,7 @@ ghost use Rattle.std.specs.Prelude.{[]};
 ghost use Rattle.spec_files.specs.Plans.{IsFollowing};
 
 use crate::asking::holds;
-use permutations::PermutationDriver;
+use permutations::Plan;
 use row_versions::{ListStore, Versions};
 use session_core::EngineState;
 use session_machine::Mode;
@@ -24,7 +24,7 @@ fn asked<V: Versions, D: Driver<V>>(
 }
 
 /// What a plan orders in an engine in which nothing has happened.
-fn order_at_first(alloc: Global, plan: &mut PermutationDriver<'_>) -> Result<Order, AllocError>
+fn order_at_first(alloc: Global, plan: &mut Plan<'_>) -> Result<Order, AllocError>
     requires { IsFollowing plan.old [] }
 {
     let engine = EngineState::new(alloc, &[], 1, Mode::Directed, ListStore::new(alloc))?;
@@ -39,7 +39,7 @@ fn first_order(alloc: Global, spec: &Spec<'_>) -> Result<Option<Order>, AllocErr
     if spec.sessions.len() > 64 {
         return Ok(None);
     }
-    let mut plan = PermutationDriver::new(alloc, spec, entries)?;
+    let mut plan = Plan::new(alloc, spec, entries)?;
     Ok(Some(order_at_first(alloc, &mut plan)?))
 }
 

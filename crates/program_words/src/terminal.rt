@@ -72,7 +72,7 @@ fn place_of(fault: &RunFault) -> Option<usize>
         RunFault::Lex(fault) => Some(fault.at),
         RunFault::Spec(fault) => spec_place(fault),
         RunFault::Sql(fault) => Some(fault.place()),
-        RunFault::NotUtf8(at) => Some(*at),
+        RunFault::NotUtf8 { at } => Some(*at),
         RunFault::Read
         | RunFault::Write
         | RunFault::SetupFailed { .. }

@@ -2,7 +2,6 @@
 
 ghost use Rattle.std.specs.Prelude.{◌≡◌, ◌<◌, [], length, map, IfSome, OnOk};
 ghost use Rattle.sql_trees.specs.Statements.{create_of, column_of, key_of, name_of};
-ghost use Rattle.row_versions.specs.Log.{Content};
 ghost use Rattle.session_machine.specs.Tables.{counts, is_meant};
 ghost use Rattle.session_machine.specs.Inner.Pieces.{is_own, is_dropped, table_columns, table_keys, with_table, with_drop, find_from};
 

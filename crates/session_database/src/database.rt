@@ -1,6 +1,6 @@
 //! What all sessions share.
 
-ghost use Rattle.std.specs.Prelude.{◌≡◌, [], ◌+◌, ◌<◌, ◌^◌, length, List, map, option_map, unwrap_or, IfOk, IfSome, OnOk};
+ghost use Rattle.std.specs.Prelude.{◌≡◌, [], ◌+◌, ◌<◌, ◌^◌, length, List, map, option_map, unwrap_or, Some, IfOk, IfSome, OnOk, OnErr};
 ghost use Rattle.std.specs.Global.{Vec};
 ghost use Rattle.std.specs.Option.{option_copied};
 ghost use Rattle.sql_trees.specs.Statements.{create_of, column_of, key_of, name_of};
@@ -354,14 +354,15 @@ impl<'a, 't, V: Versions> Database<'a, 't, V> {
         Ok(rows)
     }
 
-    /// The rows that a SELECT of the session which begins now would show of the table, or `None` where there is no such table.
+    /// The rows that a SELECT of the session which begins now would show of the table, or `None` where there is no such table: that takes no memory.
     pub fn visible(
         &self,
         session: &Session,
         name: &Name<'_>,
     ) -> Result<Option<Vec<Row>>, AllocError>
         requires room { (t : OpenFacts) → session.now.transaction ≡ Transaction.Open t → t.command + 1 < 2 ^ 64 }
-        ensures { IfOk result (λ rows. option_map (λ (v : Vec (List Value)). v.items) rows ≡ visible_to self.now session.now (name_of name.now)) }
+        ensures rows { IfOk result (λ rows. option_map (λ (v : Vec (List Value)). v.items) rows ≡ visible_to self.now session.now (name_of name.now)) }
+        ensures memory { OnErr result ((rows : List (List Value)) × (visible_to self.now session.now (name_of name.now) ≡ Some rows)) }
     {
         let Some(place) = self.find_table(own_of(&session.transaction), name) else {
             return Ok(None);

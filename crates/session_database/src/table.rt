@@ -1,6 +1,6 @@
 //! A table, and what has become of it.
 
-ghost use Rattle.std.specs.Prelude.{◌≡◌, length, ◌<◌, map};
+ghost use Rattle.std.specs.Prelude.{◌≡◌, map};
 ghost use Rattle.sql_trees.specs.Statements.{create_of, column_of, key_of};
 
 use row_versions::TxId;

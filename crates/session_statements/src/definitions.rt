@@ -1,12 +1,13 @@
 //! CREATE TABLE and DROP TABLE (PostgreSQL manual, the pages of both).
 
-ghost use Rattle.std.specs.Prelude.{◌≡◌, ◌+◌, ◌<◌, ◌^◌, Some, None, map, IfOk, OnErr};
-ghost use Rattle.sql_trees.specs.Statements.{create_of, drop_of, name_of};
+ghost use Rattle.std.specs.Prelude.{◌≡◌, ◌+◌, ◌<◌, ◌^◌, Some, None, true, map, IfOk, OnErr};
+ghost use Rattle.sql_trees.specs.Statements.{create_of, drop_of, name_of, Create};
 ghost use Rattle.row_versions.specs.Log.{IsOpen};
 ghost use Rattle.session_machine.specs.Tables.{find_table};
+ghost use Rattle.session_statements.specs.Inner.Going.{drop_reaches};
 ghost use Rattle.session_statements.specs.Inner.Left.{left};
-ghost use Rattle.session_machine.specs.Statements.{drop_tables};
-ghost use Rattle.session_machine.specs.Inner.Statements.{create};
+ghost use Rattle.session_machine.specs.Statements.{drop_tables, Surroundings as SurroundingsFacts};
+ghost use Rattle.session_machine.specs.Running.{run_in};
 ghost use Rattle.session_machine.specs.Inner.Pieces.{dropped};
 
 use crate::effect::Effect;
@@ -26,9 +27,7 @@ pub(crate) fn create<'a, 't, V: Versions>(
 ) -> Result<Effect<'t>, AllocError>
     requires opened { IsOpen db.old.content by.now.tx }
     requires room { by.now.command + 1 < 2 ^ 64 }
-    ensures did { IfOk result (λ did.
-        create db.old by.now (create_of made.now) (find_table db.old (Some by.now.tx) (name_of made.now.name))
-        ≡ left db.new did) }
+    ensures did { (around : SurroundingsFacts) → IfOk result (λ did. run_in db.old by.now around (Create (create_of made.now)) ≡ left db.new did) }
     ensures memory { OnErr result (find_table db.old (Some by.now.tx) (name_of made.now.name) ≡ None) }
 {
     if db.find_table(Some(by.tx), &made.name).is_some() {
@@ -48,6 +47,7 @@ fn drop_all<'a, 't, V: Versions>(
 ) -> Result<Option<Ident<'t>>, AllocError>
     ensures dropped { IfOk result (λ missing. dropped db.old by.now if_exists (map name_of names.now) ≡ record { db = db.new; missing = missing }) }
     ensures content { IfOk result (λ missing. db.new.content ≡ db.old.content) }
+    ensures memory { OnErr result (drop_reaches db.old by.now if_exists (map name_of names.now) ≡ true) }
 {
     for name in names {
         match db.find_table(Some(by.tx), name) {
@@ -62,7 +62,7 @@ fn drop_all<'a, 't, V: Versions>(
     Ok(None)
 }
 
-/// DROP TABLE: the tables are gone for their own transaction at once.
+/// DROP TABLE: the tables are gone for their own transaction at once. Where it comes to none it takes no memory.
 pub(crate) fn drop_tables<'a, 't, V: Versions>(
     db: &mut Database<'a, 't, V>,
     by: &OpenTransaction,
@@ -70,7 +70,8 @@ pub(crate) fn drop_tables<'a, 't, V: Versions>(
 ) -> Result<Effect<'t>, AllocError>
     requires opened { IsOpen db.old.content by.now.tx }
     requires room { by.now.command + 1 < 2 ^ 64 }
-    ensures { IfOk result (λ did. drop_tables db.old by.now (drop_of stmt.now).if_exists (drop_of stmt.now).names ≡ left db.new did) }
+    ensures did { IfOk result (λ did. drop_tables db.old by.now (drop_of stmt.now).if_exists (drop_of stmt.now).names ≡ left db.new did) }
+    ensures memory { OnErr result (drop_reaches db.old by.now (drop_of stmt.now).if_exists (drop_of stmt.now).names ≡ true) }
 {
     let after = db.after_query(by);
     match drop_all(db, by, stmt.if_exists, stmt.names.as_slice())? {

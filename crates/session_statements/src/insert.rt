@@ -1,32 +1,30 @@
 //! INSERT (PostgreSQL manual, its page).
 
-ghost use Rattle.std.specs.Prelude.{◌≡◌, ◌≢◌, ◌+◌, ◌<◌, ◌^◌, [], List, Some, None, Ok, drop, flat_map, length, map, option_map, IfOk, OnOk, OnErr, IsSome};
+ghost use Rattle.std.specs.Prelude.{◌≡◌, ◌≢◌, ◌<◌, [], List, Ok, drop, length, map, option_map, IfOk, OnOk, OnErr};
 ghost use Rattle.sql_trees.specs.Trees.{tree_of};
-ghost use Rattle.sql_trees.specs.Statements.{column_of, exprs_of, insert_of, name_of, names_of};
+ghost use Rattle.sql_trees.specs.Statements.{column_of, exprs_of, insert_of, name_of, names_of, Inserts};
 ghost use Rattle.sql_values.specs.declared.fault.ValueFault.TheVariants.{Memory};
 ghost use Rattle.sql_values.specs.declared.value.Value.{Value as SqlValue};
 ghost use Rattle.row_versions.specs.Log.{Content, IsOpen};
-ghost use Rattle.query_results.specs.Queries.{columns_assigned, undefined_among};
-ghost use Rattle.session_machine.specs.Tables.{find_table};
-ghost use Rattle.session_machine.specs.Inner.Statements.{insert_one, assigned_to, done, after_walk, insert, insert_from, walked};
-ghost use Rattle.session_machine.specs.Inner.Pieces.{insert_made, insert_fitting};
+ghost use Rattle.query_results.specs.Queries.{columns_assigned};
+ghost use Rattle.session_machine.specs.Inner.Statements.{insert_one, assigned_to, done, after_walk, walked};
+ghost use Rattle.session_machine.specs.Inner.Pieces.{insert_made};
 ghost use Rattle.session_database.specs.Stops.{stop_of};
 ghost use Rattle.session_statements.specs.Inner.Acting.{halted_walk};
+ghost use Rattle.session_statements.specs.Inner.Going.{go_from};
+ghost use Rattle.session_statements.specs.Inner.Keeping.{IsAtWork};
 ghost use Rattle.session_statements.specs.Inner.Left.{left};
 
 use crate::act::Halt;
 use crate::checks::stop_before_write;
 use crate::effect::Effect;
 use crate::targets::all_or_none;
-use crate::transactions::{fail, fail_column};
 use crate::walk::halt;
-use iso_lexer::{Ident, Name};
+use iso_lexer::Name;
 use row_versions::Versions;
-use session_database::{Database, Stop, Surroundings, Work};
-use session_machine::{OpenTransaction, StmtFault, Transaction};
-use session_queries::{
-    AssignedColumns, columns_assigned, new_values, some_too_long, undefined_in_rows,
-};
+use session_database::{Database, Stop, Work};
+use session_machine::{StmtFault, Transaction};
+use session_queries::{AssignedColumns, columns_assigned, new_values};
 use sql_trees::{Column, Expr, Insert};
 use sql_values::{Row, ValueFault};
 use std::alloc::{AllocError, Global};
@@ -130,10 +128,8 @@ pub(crate) fn insert_from<'a, 't, V: Versions>(
     place: usize,
     rows: Vec<Row>,
 ) -> Result<Effect<'t>, AllocError>
-    requires opened { IsOpen db.old.content work.now.t.tx }
-    requires room { work.now.t.command + 1 < 2 ^ 64 }
-    requires within { work.now.table < length db.old.catalog.tables }
-    ensures { IfOk result (λ did. insert_from db.old work.now (insert_of stmt.now) place rows.items ≡ left db.new did) }
+    requires work { IsAtWork db.old work.now }
+    ensures { IfOk result (λ did. go_from db.old work.now (Inserts (insert_of stmt.now)) place rows.items ≡ left db.new did) }
 {
     let begun = db.started(&work.by);
     let after = db.after_query(&work.by);
@@ -141,55 +137,5 @@ pub(crate) fn insert_from<'a, 't, V: Versions>(
     match insert_rows(db, work, stmt, &to, place)? {
         None => Ok(Effect::turned(Transaction::Open(after))),
         Some(at) => Ok(halt(db, work, begun, at, rows)),
-    }
-}
-
-/// The INSERT whose columns are known: its VALUES name no column, and there are not too many of them.
-fn insert_to<'a, 't, V: Versions>(
-    db: &mut Database<'a, 't, V>,
-    work: &Work<'_>,
-    stmt: &'a Insert<'t>,
-    to: &AssignedColumns,
-) -> Result<Effect<'t>, AllocError>
-    requires opened { IsOpen db.old.content work.now.t.tx }
-    requires room { work.now.t.command + 1 < 2 ^ 64 }
-    requires within { work.now.table < length db.old.catalog.tables }
-    ensures { IfOk result (λ did.
-        insert_fitting db.old work.now (insert_of stmt.now) to.now (undefined_among [] (flat_map (λ row. row) (map exprs_of stmt.now.rows.items))) ≡ left db.new did) }
-{
-    if let Some(name) = undefined_in_rows(stmt.rows.as_slice()) {
-        return Ok(fail_column(db, &work.by, name));
-    }
-    if some_too_long(to.len(), stmt.rows.as_slice()) {
-        return Ok(fail(db, &work.by, StmtFault::TooManyValues));
-    }
-    insert_from(db, work, stmt, 0, Vec::new(db.alloc()))
-}
-
-/// INSERT: all of its rows are written, or none counts.
-pub(crate) fn insert<'a, 't, V: Versions>(
-    db: &mut Database<'a, 't, V>,
-    by: &OpenTransaction,
-    around: &Surroundings<'_>,
-    stmt: &'a Insert<'t>,
-) -> Result<Effect<'t>, AllocError>
-    requires opened { IsOpen db.old.content by.now.tx }
-    requires room { by.now.command + 1 < 2 ^ 64 }
-    ensures did { IfOk result (λ did.
-        insert db.old by.now around.now (insert_of stmt.now) (find_table db.old (Some by.now.tx) (name_of stmt.now.table)) ≡ left db.new did) }
-    ensures memory { OnErr result (IsSome (find_table db.old (Some by.now.tx) (name_of stmt.now.table))) }
-{
-    let Some(place) = db.find_table(Some(by.tx), &stmt.table) else {
-        return Ok(fail(db, by, StmtFault::NoTable(Ident::new(stmt.table))));
-    };
-    match columns_assigned(db.alloc(), db.columns(place), stmt.columns.as_ref())? {
-        Ok(to) => {
-            let work = db.work(by, place, around);
-            insert_to(db, &work, stmt, &to)
-        }
-        Err(column) => {
-            let table = Ident::new(stmt.table);
-            Ok(fail(db, by, StmtFault::NoColumnOf { column, table }))
-        }
     }
 }

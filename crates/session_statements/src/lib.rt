@@ -2,10 +2,12 @@
 #![tactic(auto)]
 
 mod act;
+mod begin;
 mod checks;
 mod definitions;
 mod delete;
 mod effect;
+mod faults;
 mod insert;
 mod lock;
 mod run;

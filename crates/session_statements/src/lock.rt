@@ -1,16 +1,15 @@
 //! A locking SELECT (PostgreSQL manual, 13.3.2, and the page of SELECT).
 
-ghost use Rattle.std.specs.Prelude.{◌≡◌, ◌+◌, ◌<◌, ◌^◌, drop, length, map, IfOk};
+ghost use Rattle.std.specs.Prelude.{◌≡◌, ◌<◌, drop, length, map, IfOk};
 ghost use Rattle.std.specs.Bool.{OnTrue};
 ghost use Rattle.sql_trees.specs.Statements.{item_of, select_of};
 ghost use Rattle.query_results.specs.Results.{IsEven};
 ghost use Rattle.query_results.specs.Queries.{titles_of};
-ghost use Rattle.row_versions.specs.Log.{IsOpen};
 ghost use Rattle.session_machine.specs.Rows.{columns_in, strength_of, values_of};
 ghost use Rattle.session_machine.specs.Inner.Statements.{lock_with, after_walk, lock_from, walked};
 ghost use Rattle.session_machine.specs.declared.reply.Outcome.TheVariants.{Rows};
 ghost use Rattle.session_statements.specs.Inner.Acting.{visit_at, visit_of};
-ghost use Rattle.session_statements.specs.Inner.Keeping.{IsOrderly, RowsIn};
+ghost use Rattle.session_statements.specs.Inner.Keeping.{IsAtWork, RowsIn};
 ghost use Rattle.session_statements.specs.Inner.Left.{left};
 
 use crate::act::{Act, Visited};
@@ -91,10 +90,7 @@ fn lock_over<'a, 't, V: Versions>(
     place: usize,
     rows: Vec<Row>,
 ) -> Result<Effect<'t>, AllocError>
-    requires opened { IsOpen db.old.content work.now.t.tx }
-    requires room { work.now.t.command + 1 < 2 ^ 64 }
-    requires within { work.now.table < length db.old.catalog.tables }
-    requires orderly { IsOrderly db.old }
+    requires work { IsAtWork db.old work.now }
     requires its { RowsIn db.old.content work.now.table targets.now }
     ensures { IfOk result (λ did.
         after_walk db.old.content work.now (λ shown. Rows (record { titles = titles_of (columns_in db.old work.now) (map item_of stmt.now.items.items); rows = shown }))
@@ -122,10 +118,7 @@ pub(crate) fn lock_from<'a, 't, V: Versions>(
     place: usize,
     rows: Vec<Row>,
 ) -> Result<Effect<'t>, AllocError>
-    requires opened { IsOpen db.old.content work.now.t.tx }
-    requires room { work.now.t.command + 1 < 2 ^ 64 }
-    requires within { work.now.table < length db.old.catalog.tables }
-    requires orderly { IsOrderly db.old }
+    requires work { IsAtWork db.old work.now }
     ensures { IfOk result (λ did. lock_from db.old work.now (select_of stmt.now) lock place rows.items ≡ left db.new did) }
 {
     match taken_targets(db, work, stmt) {

@@ -1,28 +1,24 @@
 //! A statement, by what its session's transaction is.
 
-ghost use Rattle.std.specs.Prelude.{◌≡◌, ◌+◌, ◌<◌, ◌^◌, Some, length, true, IfOk, OnErr};
+ghost use Rattle.std.specs.Prelude.{◌≡◌, ◌+◌, ◌<◌, ◌^◌, Option, Some, length, true, false, IfOk, OnErr};
 ghost use Rattle.sql_trees.specs.Statements.{stmt_of};
 ghost use Rattle.row_versions.specs.Log.{IsOpen};
 ghost use Rattle.session_machine.specs.declared.session.OpenTransaction.{OpenTransaction as OpenFacts};
 ghost use Rattle.session_machine.specs.Transactions.{fresh};
 ghost use Rattle.session_machine.specs.declared.session.Progress.{Progress as ProgressFacts};
 ghost use Rattle.session_machine.specs.Statements.{turns};
-ghost use Rattle.session_machine.specs.Running.{run_stmt};
-ghost use Rattle.session_machine.specs.Inner.Statements.{run_open, run_closed, run_on, begun};
-ghost use Rattle.session_machine.specs.Inner.Pieces.{run_first};
+ghost use Rattle.session_machine.specs.Running.{run_in, run_stmt};
+ghost use Rattle.session_machine.specs.Inner.Statements.{begun};
 ghost use Rattle.session_machine.specs.Sound.{RowsFit, RowsStay};
 ghost use Rattle.session_statements.specs.Inner.Keeping.{IsOrderly};
 ghost use Rattle.session_statements.specs.Inner.Left.{left};
 ghost use Rattle.session_statements.specs.Growing.{begins, is_query, may_grow};
 
+use crate::begin::{begin_at, go_on, has_targets};
 use crate::definitions::{create, drop_tables};
-use crate::delete::{delete, delete_from};
 use crate::effect::Effect;
-use crate::insert::{insert, insert_from};
-use crate::lock::lock_from;
-use crate::select::select;
+use crate::select::select_constant;
 use crate::transactions::{begin_again, run_aborted, set_level};
-use crate::update::{update, update_from};
 use row_versions::Versions;
 use session_database::{Database, Surroundings, Work};
 use session_machine::{OpenTransaction, Progress, Transaction};
@@ -48,7 +44,7 @@ fn run_open<'a, 't, V: Versions>(
     requires room { by.now.command + 1 < 2 ^ 64 }
     requires orderly { IsOrderly db.old }
     ensures did { IfOk result (λ did.
-        run_open db.old by.now around.now (stmt_of stmt.now)
+        run_in db.old by.now around.now (stmt_of stmt.now)
         ≡ left db.new did) }
     ensures memory { OnErr result (is_query (stmt_of stmt.now) ≡ true) }
 {
@@ -66,10 +62,13 @@ fn run_open<'a, 't, V: Versions>(
         Stmt::CreateTable(made) => create(db, by, made),
         Stmt::DropTable(drop) => drop_tables(db, by, drop),
         Stmt::SetDeadlockTimeout => Ok(Effect::turned(Transaction::Open(*by))),
-        Stmt::Insert(stmt) => insert(db, by, around, stmt),
-        Stmt::Update(stmt) => update(db, by, around, stmt),
-        Stmt::Delete(stmt) => delete(db, by, around, stmt),
-        Stmt::Select(stmt) => select(db, by, around, stmt),
+        Stmt::Insert(insert) => begin_at(db, by, around, insert.table, stmt),
+        Stmt::Update(update) => begin_at(db, by, around, update.table, stmt),
+        Stmt::Delete(delete) => begin_at(db, by, around, delete.table, stmt),
+        Stmt::Select(select) => match select.table {
+            Some(name) => begin_at(db, by, around, name, stmt),
+            None => select_constant(db, by, select),
+        },
     }
 }
 
@@ -81,7 +80,7 @@ fn run_first<'a, 't, V: Versions>(
 ) -> Result<Effect<'t>, AllocError>
     requires orderly { IsOrderly db.old }
     ensures { IfOk result (λ did.
-        run_first db.old around.now (stmt_of stmt.now)
+        run_in (begun db.old) (fresh db.old.content Level.ReadCommitted false) around.now (stmt_of stmt.now)
         ≡ left db.new did) }
 {
     let open = db.begin(Level::ReadCommitted, false)?;
@@ -109,8 +108,8 @@ fn run_closed<'a, 't, V: Versions>(
     stmt: &'a Stmt<'t>,
 ) -> Result<Effect<'t>, AllocError>
     requires orderly { IsOrderly db.old }
-    ensures did { IfOk result (λ did.
-        run_closed db.old around.now (stmt_of stmt.now)
+    ensures did { (statement : Option ProgressFacts) → IfOk result (λ did.
+        run_stmt db.old Transaction.Closed statement around.now (stmt_of stmt.now)
         ≡ left db.new did) }
     ensures memory { OnErr result (begins (stmt_of stmt.now) ≡ true) }
 {
@@ -136,7 +135,7 @@ fn run_on<'a, 't, V: Versions>(
     requires room { by.now.command + 1 < 2 ^ 64 }
     requires orderly { IsOrderly db.old }
     requires within { progress.table.0 < length db.old.catalog.tables }
-    ensures did { IfOk result (λ did. run_on db.old by.now around.now progress (stmt_of stmt.now) ≡ left db.new did) }
+    ensures did { IfOk result (λ did. run_stmt db.old (Transaction.Open by.now) (Some progress) around.now (stmt_of stmt.now) ≡ left db.new did) }
     ensures memory { OnErr result (is_query (stmt_of stmt.now) ≡ true) }
 {
     let place = progress.place;
@@ -146,17 +145,10 @@ fn run_on<'a, 't, V: Versions>(
         view: progress.view,
         around,
     };
-    let rows = rows_so_far(progress);
-    match stmt {
-        Stmt::Insert(insert) => insert_from(db, &work, insert, place, rows),
-        Stmt::Update(update) => update_from(db, &work, update, place, rows),
-        Stmt::Delete(delete) => delete_from(db, &work, delete, place, rows),
-        Stmt::Select(select) => match select.lock {
-            Some(lock) => lock_from(db, &work, select, lock, place, rows),
-            None => run_open(db, by, around, stmt),
-        },
-        _ => run_open(db, by, around, stmt),
+    if !has_targets(stmt) {
+        return run_open(db, by, around, stmt);
     }
+    go_on(db, &work, stmt, place, rows_so_far(progress))
 }
 
 /// Runs a statement of a session whose transaction is the given one, or goes on with it where it waits, and

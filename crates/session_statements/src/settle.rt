@@ -4,9 +4,9 @@ ghost use Rattle.std.specs.Prelude.{◌≡◌, ◌<◌, length, map, IfOk, OnOk}
 ghost use Rattle.sql_trees.specs.Statements.{column_of};
 ghost use Rattle.query_results.specs.Queries.{cols_of};
 ghost use Rattle.row_versions.specs.Log.{IsOpen};
-ghost use Rattle.update_recheck.specs.Asked.{Fits, asked};
-ghost use Rattle.update_recheck.specs.Outcome.{is_target_locked, target_outcome};
-ghost use Rattle.update_recheck.specs.Settling.{lock_of, locks_after, outcome_of};
+ghost use Rattle.update_recheck.specs.Asked.{Fits};
+ghost use Rattle.update_recheck.specs.Outcome.{target_outcome};
+ghost use Rattle.update_recheck.specs.Settling.{outcome_of};
 ghost use Rattle.session_machine.specs.Waits.{waits_in};
 ghost use Rattle.session_machine.specs.Rows.{columns_in, values_of};
 ghost use Rattle.session_machine.specs.Inner.Statements.{at_outcome, settled};

@@ -1,12 +1,14 @@
 //! How a statement ends its transaction, or goes on in it.
 
-ghost use Rattle.std.specs.Prelude.{◌≡◌, ◌≢◌, is_some, IfOk, OnOk, OnErr};
+ghost use Rattle.std.specs.Prelude.{◌≡◌, ◌≢◌, Option, is_some, IfOk, OnOk, OnErr};
 ghost use Rattle.sql_trees.specs.Statements.{stmt_of};
 ghost use Rattle.row_versions.specs.Log.{IsOpen};
 ghost use Rattle.session_machine.specs.Tables.{Database as DatabaseFacts};
 ghost use Rattle.session_statements.specs.Inner.Left.{left};
-ghost use Rattle.session_machine.specs.Statements.{fails, level_set};
-ghost use Rattle.session_machine.specs.Inner.Statements.{is_end, run_aborted, after_failure, is_level, begin_in};
+ghost use Rattle.session_machine.specs.declared.session.Progress.{Progress as ProgressFacts};
+ghost use Rattle.session_machine.specs.Statements.{fails, level_set, Surroundings as SurroundingsFacts};
+ghost use Rattle.session_machine.specs.Running.{run_stmt};
+ghost use Rattle.session_machine.specs.Inner.Statements.{after_failure, is_level, begin_in};
 
 use crate::effect::Effect;
 use crate::insert::fault_of;
@@ -57,18 +59,6 @@ pub(crate) fn fail<'a, 't, V: Versions>(
 {
     db.roll_back(by.tx);
     Effect::of(after_failure(by), Outcome::Failed(fault))
-}
-
-/// The statement names a column that isn't there.
-pub(crate) fn fail_column<'a, 't, V: Versions>(
-    db: &mut Database<'a, 't, V>,
-    by: &OpenTransaction,
-    name: Ident<'t>,
-) -> Effect<'t>
-    requires { IsOpen db.old.content by.now.tx }
-    ensures { fails db.old by.now (StmtFault.Value (ValueFault.NoColumn name.entry)) ≡ left db.new result }
-{
-    fail(db, by, StmtFault::Value(ValueFault::NoColumn(name)))
 }
 
 /// The statement fails by the fault of a value, unless that is want of memory.
@@ -126,7 +116,7 @@ pub(crate) fn begin_again<'a, 't, V: Versions>(
 
 /// A statement in an aborted transaction, which changes nothing of the database.
 pub(crate) fn run_aborted<'t>(stmt: &Stmt<'_>) -> Effect<'t>
-    ensures { (db : DatabaseFacts) → run_aborted db (stmt_of stmt.now) ≡ left db result }
+    ensures { (db : DatabaseFacts) (statement : Option ProgressFacts) (around : SurroundingsFacts) → run_stmt db Transaction.Aborted statement around (stmt_of stmt.now) ≡ left db result }
 {
     match stmt {
         Stmt::Commit | Stmt::Rollback => Effect::turned(Transaction::Closed),

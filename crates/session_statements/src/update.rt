@@ -1,17 +1,16 @@
 //! UPDATE (PostgreSQL manual, its page).
 
-ghost use Rattle.std.specs.Prelude.{◌≡◌, ◌+◌, ◌<◌, ◌^◌, Some, None, Ok, length, map, IfOk, OnErr, IsSome};
-ghost use Rattle.sql_trees.specs.Statements.{column_of, name_of, set_of, update_of};
+ghost use Rattle.std.specs.Prelude.{◌≡◌, ◌<◌, Ok, length, map, IfOk};
+ghost use Rattle.sql_trees.specs.Statements.{column_of, name_of, set_of, update_of, Updates};
 ghost use Rattle.row_versions.specs.Log.{IsOpen};
-ghost use Rattle.query_results.specs.Updates.{columns_set, update_exprs, updated};
+ghost use Rattle.query_results.specs.Updates.{columns_set, updated};
 ghost use Rattle.sql_values.specs.Values.{Answers};
-ghost use Rattle.query_results.specs.Queries.{cols_of, undefined_among};
-ghost use Rattle.session_machine.specs.Tables.{find_table};
 ghost use Rattle.session_machine.specs.Rows.{cols_in, columns_in, values_of};
-ghost use Rattle.session_machine.specs.Inner.Statements.{update_with, assigned_to, update, update_from};
-ghost use Rattle.session_machine.specs.Inner.Pieces.{update_made, update_fitting};
+ghost use Rattle.session_machine.specs.Inner.Statements.{update_with, assigned_to};
+ghost use Rattle.session_machine.specs.Inner.Pieces.{update_made};
 ghost use Rattle.session_statements.specs.Inner.Acting.{visit_of};
-ghost use Rattle.session_statements.specs.Inner.Keeping.{IsOrderly};
+ghost use Rattle.session_statements.specs.Inner.Going.{go_from};
+ghost use Rattle.session_statements.specs.Inner.Keeping.{IsAtWork};
 ghost use Rattle.session_statements.specs.Inner.Left.{left};
 
 use crate::act::{Act, Visited};
@@ -19,13 +18,11 @@ use crate::checks::stop_before_write;
 use crate::effect::Effect;
 use crate::insert::fault_of;
 use crate::targets::all_or_none;
-use crate::transactions::{fail, fail_column};
 use crate::walk::go_over_passing;
-use iso_lexer::{Ident, Name};
+use iso_lexer::Name;
 use row_versions::{Seen, Versions};
-use session_database::{Database, Stop, Surroundings, Work};
-use session_machine::{OpenTransaction, StmtFault};
-use session_queries::{AssignedColumns, columns_set, undefined_in_update, updated_values};
+use session_database::{Database, Stop, Work};
+use session_queries::{AssignedColumns, columns_set, updated_values};
 use sql_trees::{Column, Expr, Update};
 use sql_values::{Row, ValueFault};
 use std::alloc::{AllocError, Global};
@@ -107,56 +104,9 @@ pub(crate) fn update_from<'a, 't, V: Versions>(
     place: usize,
     rows: Vec<Row>,
 ) -> Result<Effect<'t>, AllocError>
-    requires opened { IsOpen db.old.content work.now.t.tx }
-    requires room { work.now.t.command + 1 < 2 ^ 64 }
-    requires within { work.now.table < length db.old.catalog.tables }
-    requires orderly { IsOrderly db.old }
-    ensures { IfOk result (λ did. update_from db.old work.now (update_of stmt.now) place rows.items ≡ left db.new did) }
+    requires work { IsAtWork db.old work.now }
+    ensures { IfOk result (λ did. go_from db.old work.now (Updates (update_of stmt.now)) place rows.items ≡ left db.new did) }
 {
     let to = assigned_to(db.alloc(), db.columns_in(work), &stmt.sets)?;
     go_over_passing(db, work, &Act::Update(stmt, &to), &stmt.filter, place, rows)
-}
-
-/// The UPDATE whose assigned columns are there: it names no other that isn't.
-fn update_fitting<'a, 't, V: Versions>(
-    db: &mut Database<'a, 't, V>,
-    work: &Work<'_>,
-    stmt: &'a Update<'t>,
-) -> Result<Effect<'t>, AllocError>
-    requires opened { IsOpen db.old.content work.now.t.tx }
-    requires room { work.now.t.command + 1 < 2 ^ 64 }
-    requires within { work.now.table < length db.old.catalog.tables }
-    requires orderly { IsOrderly db.old }
-    ensures { IfOk result (λ did.
-        update_fitting db.old work.now (update_of stmt.now) (undefined_among (cols_of (columns_in db.old work.now)) (update_exprs (update_of stmt.now))) ≡ left db.new did) }
-{
-    if let Some(name) = undefined_in_update(db.columns_in(work), stmt) {
-        return Ok(fail_column(db, &work.by, name));
-    }
-    update_from(db, work, stmt, 0, Vec::new(db.alloc()))
-}
-
-/// UPDATE: what its WHERE matches has new values.
-pub(crate) fn update<'a, 't, V: Versions>(
-    db: &mut Database<'a, 't, V>,
-    by: &OpenTransaction,
-    around: &Surroundings<'_>,
-    stmt: &'a Update<'t>,
-) -> Result<Effect<'t>, AllocError>
-    requires opened { IsOpen db.old.content by.now.tx }
-    requires room { by.now.command + 1 < 2 ^ 64 }
-    requires orderly { IsOrderly db.old }
-    ensures did { IfOk result (λ did.
-        update db.old by.now around.now (update_of stmt.now) (find_table db.old (Some by.now.tx) (name_of stmt.now.table)) ≡ left db.new did) }
-    ensures memory { OnErr result (IsSome (find_table db.old (Some by.now.tx) (name_of stmt.now.table))) }
-{
-    let Some(place) = db.find_table(Some(by.tx), &stmt.table) else {
-        return Ok(fail(db, by, StmtFault::NoTable(Ident::new(stmt.table))));
-    };
-    if let Err(column) = columns_set(db.alloc(), db.columns(place), &stmt.sets)? {
-        let table = Ident::new(stmt.table);
-        return Ok(fail(db, by, StmtFault::NoColumnOf { column, table }));
-    }
-    let work = db.work(by, place, around);
-    update_fitting(db, &work, stmt)
 }

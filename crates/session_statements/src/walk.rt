@@ -1,6 +1,6 @@
 //! How a statement goes from one of its targets to the next, up to the one at which it stops.
 
-ghost use Rattle.std.specs.Prelude.{◌≡◌, ◌+◌, ◌<◌, ◌^◌, List, Some, length, drop, option_map, IfOk, OnOk};
+ghost use Rattle.std.specs.Prelude.{◌≡◌, List, Some, drop, option_map, IfOk, OnOk};
 ghost use Rattle.sql_trees.specs.Trees.{tree_of};
 ghost use Rattle.sql_values.specs.declared.value.Value.{Value as SqlValue};
 ghost use Rattle.row_versions.specs.Log.{Content, IsOpen};
@@ -11,7 +11,7 @@ ghost use Rattle.session_machine.specs.Tables.{Database as DatabaseFacts};
 ghost use Rattle.session_machine.specs.Inner.Statements.{walked_from, done, after_walk, pauses, walked};
 ghost use Rattle.session_machine.specs.Targets.{passing_targets};
 ghost use Rattle.session_statements.specs.Inner.Acting.{halted_walk, visit_at};
-ghost use Rattle.session_statements.specs.Inner.Keeping.{IsKept, IsOrderly, RowsIn};
+ghost use Rattle.session_statements.specs.Inner.Keeping.{IsAtWork, IsKept, RowsIn};
 ghost use Rattle.session_statements.specs.Inner.Left.{left};
 
 use crate::act::{Act, Halt, Visited};
@@ -37,9 +37,7 @@ pub(crate) fn walk<'a, 't, V: Versions>(
     place: usize,
     rows: &mut Vec<Row>,
 ) -> Result<Option<Halt<'t>>, AllocError>
-    requires opened { IsOpen db.old.content work.now.t.tx }
-    requires within { work.now.table < length db.old.catalog.tables }
-    requires orderly { IsOrderly db.old }
+    requires work { IsAtWork db.old work.now }
     requires its { RowsIn db.old.content work.now.table targets.now }
     ensures walk { (before : Content) (outcome : List (List SqlValue) → OutcomeFacts) → IfOk result (λ halt.
         after_walk before work.now outcome (walked (visit_at work.now act.now) db.old place rows.old.items (drop place targets.now))
@@ -112,10 +110,7 @@ fn go_over<'a, 't, V: Versions>(
     place: usize,
     rows: Vec<Row>,
 ) -> Result<Effect<'t>, AllocError>
-    requires opened { IsOpen db.old.content work.now.t.tx }
-    requires room { work.now.t.command + 1 < 2 ^ 64 }
-    requires within { work.now.table < length db.old.catalog.tables }
-    requires orderly { IsOrderly db.old }
+    requires work { IsAtWork db.old work.now }
     requires its { RowsIn db.old.content work.now.table targets.now }
     ensures { IfOk result (λ did.
         after_walk db.old.content work.now done (walked (visit_at work.now act.now) db.old place rows.items (drop place targets.now)) ≡ left db.new did) }
@@ -138,10 +133,7 @@ pub(crate) fn go_over_passing<'a, 't, V: Versions>(
     place: usize,
     rows: Vec<Row>,
 ) -> Result<Effect<'t>, AllocError>
-    requires opened { IsOpen db.old.content work.now.t.tx }
-    requires room { work.now.t.command + 1 < 2 ^ 64 }
-    requires within { work.now.table < length db.old.catalog.tables }
-    requires orderly { IsOrderly db.old }
+    requires work { IsAtWork db.old work.now }
     ensures { IfOk result (λ did.
         after_walk db.old.content work.now done (walked_from (visit_at work.now act.now) db.old place rows.items (passing_targets db.old work.now (option_map tree_of filter.now)))
         ≡ left db.new did) }

@@ -1,5 +1,6 @@
 -- The drafts of permutations that were taken together.
-use Rattle.std.proofs.Common.{◌≡◌, ◌≢◌, ◌<◌, Bool, true, false, ◌+◌, List, [], ◌∷◌, ◌++◌, length, map, refl, sym, ap, ◌∙◌, arith}
+use Rattle.std.proofs.Common.{◌≡◌, ◌≢◌, ℕ, ◌<◌, ◌≤◌, Bool, true, false, ◌+◌, List, [], ◌∷◌, ◌++◌, length, map, refl, sym, ap, ◌∙◌, arith}
+use Rattle.std.proofs.lemmas.List.{length-map}
 use Rattle.std.specs.Prelude.{Option, Some, None, IfSome, IfNone, IsSome, ◌↔◌}
 use Rattle.std.specs.Option.{option_to_list}
 use Rattle.std.specs.Bool.{OnFalse}
@@ -13,6 +14,12 @@ use Rattle.spec_files.specs.Inner.Drafts.{listed, lists_of, to_come}
 pub same_lists : (drafts : List Draft) → map entries_of drafts ≡ lists_of (map listed drafts)
 same_lists [] = refl
 same_lists (d ∷ ds) = ap (λ (rest : List (List EntryTree)). entries_of d ∷ rest) (same_lists ds)
+
+-- no more drafts than were taken, and no more taken than may run
+pub few_drafts : (drafts : List Draft) (taken : List (Vec Entry)) (most left : ℕ) → map listed drafts ≡ taken → length taken ≤ most → most ≤ left → length drafts ≤ left
+few_drafts drafts taken most left same few within =
+    let long : length (map listed drafts) ≡ length taken = ap length same in
+    omega (arith, length-map drafts listed, long, few, within)
 
 -- no draft is left, and these run next
 pub filled : (old drafts : List Draft) (before behind : List (List EntryTree)) (taken : List (Vec Entry)) → length old ≡ 0 → before ≡ lists_of taken ++ behind

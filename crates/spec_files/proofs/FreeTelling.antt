@@ -1,5 +1,5 @@
 -- A free run's text behind its first line, and the answer to writing it as the answer to its run.
-use Rattle.std.proofs.Common.{◌≡◌, ℕ, List, ◌++◌, Bool, true, false, ◌||◌, Option, Result, Ok, Err, IfErr, refl, sym, ap, subst, ◌∙◌}
+use Rattle.std.proofs.Common.{◌≡◌, ◌⊎◌, inl, inr, ℕ, List, ◌++◌, Bool, true, false, ◌||◌, Option, Result, Ok, Err, IfErr, refl, sym, ap, subst, ◌∙◌}
 use Rattle.std.specs.Prelude.{IsTrue, IsErrOf}
 use Rattle.std.specs.Io.KnownBytes.{Appends}
 use Rattle.iso_lexer.specs.Devices.{FailsWith, PutsFront}
@@ -30,6 +30,10 @@ puts_behind (Err writes.SetupWaits) a b c line text put p = appends_more a b c l
 puts_behind (Err writes.Write) a b c line text put p = front_behind a b c line text put p
 puts_behind (Err writes.Memory) a b c line text put p = front_behind a b c line text put p
 
+order_behind : (a b c eo en : Option (List ℕ)) (line text : List ℕ) → Appends a b line → (en ≡ eo) ⊎ Appends b c text → (en ≡ eo) ⊎ Appends a c (line ++ text)
+order_behind a b c eo en line text put (inl same) = inl same
+order_behind a b c eo en line text put (inr all) = inr (appends_more a b c line text put all)
+
 -- a sink that takes bytes had not failed
 still : (old new : Bool) (r : Result (Unit {0}) DeviceFault) → r ≡ Ok tt → FailsWith old new r → new ≡ old
 still true new r is f = f.stays refl
@@ -48,6 +52,7 @@ no_memory spec items wo eo fo go = record {
   ending = tt;
   text = nothing_put wo (free_text spec items);
   notes = nothing_put eo (free_says spec items).notes;
+  order = inl refl;
   fails = (refl, refl);
 }
 
@@ -58,19 +63,21 @@ no_line spec items wo wn eo fo fn go e line same put f = record {
   ending = tt;
   text = front_of_piece wo wn (first_line spec) (free_says spec items).text (subst (PutsFront wo wn) same put);
   notes = nothing_put eo (free_says spec items).notes;
+  order = inl refl;
   fails = subst (λ (b : Bool). (b || go) ≡ true) (sym f.tells) refl;
 }
 
 pub behind_line : (spec : SpecTree) (items : List HistItem) (wo wm wn eo en : Option (List ℕ)) (fo fm fn go gn : Bool) (line : List ℕ) (x : Unit {0}) (told : Result Ended ReportFault) (result : Result (Unit {0}) RunFault)
     → line ≡ first_line spec → Appends wo wm line → FailsWith {E = DeviceFault} fo fm (Ok x)
-    → result ≡ free_told told → EndsAs (free_says spec items).ending told → Puts wm wn (free_says spec items).text told → Puts eo en (free_says spec items).notes told → TellsFailure fm fn go gn told
-    → IsFreeWritten spec items wo wn eo en fo fn go gn result
-behind_line spec items wo wm wn eo en fo fm fn go gn line x told result same put f is ending text notes fails = record {
+    → result ≡ free_told told → EndsAs (free_says spec items).ending told → Puts wm wn (free_says spec items).text told → Puts eo en (free_says spec items).notes told
+    → (en ≡ eo) ⊎ Appends wm wn (free_says spec items).text → TellsFailure fm fn go gn told → IsFreeWritten spec items wo wn eo en fo fn go gn result
+behind_line spec items wo wm wn eo en fo fm fn go gn line x told result same put f is ending text notes order fails = record {
   told = told;
   is = is;
   ending = ending;
   text = puts_behind told wo wm wn (first_line spec) (free_says spec items).text (subst (Appends wo wm) same put) text;
   notes = notes;
+  order = order_behind wo wm wn eo en (first_line spec) (free_says spec items).text (subst (Appends wo wm) same put) order;
   fails = tells_behind told fo fm fn go gn (still fo fm (Ok x) refl f) fails;
 }
 

@@ -3,8 +3,6 @@ use Rattle.std.proofs.Common.{◌≡◌, refl, ℕ, take, drop, zero, suc, List,
 use Rattle.std.proofs.lemmas.List.{map-append, take-append-drop}
 use Rattle.std.proofs.lemmas.List.Elements.{All-append}
 use Rattle.std.specs.List.{All}
-use Rattle.std.specs.Prelude.{Result, Ok, Err, IfOk}
-use Rattle.core.specs.declared.alloc.AllocError.{AllocError}
 use Rattle.std.specs.Global.{Vec}
 use Rattle.spec_parser.specs.declared.tree.Entry.{Entry}
 use Rattle.spec_files.specs.declared.draft.Draft.{Draft}
@@ -51,12 +49,11 @@ ran_are_drafts pre post of_lent taken drafts runs ran =
     record { given = all_given pre post of_lent taken drafts.items runs ran; entries = all_listed pre post of_lent taken drafts.items runs ran }
 
 -- so are those that a thread ran, which was told what was lent and taken
-pub kept : {L : Type 0} (gives : L → Draft → Type 0) (pre : Vec Entry → Type 0) (post : Vec Entry → Draft → Type 0) (lent lent_told : L) (taken taken_told : Vec (Vec Entry)) (ran : Result (Vec Draft) AllocError)
-    → lent_told ≡ lent → taken_told ≡ taken → RunsAny pre post (gives lent) → IfOk ran (λ drafts. RanEach post taken.items drafts.items) → IfOk ran (AreDrafts (gives lent_told) taken_told.items)
-kept {L = L} gives pre post lent lent_told taken taken_told (Ok drafts) its own runs each =
+pub kept : {L : Type 0} (gives : L → Draft → Type 0) (pre : Vec Entry → Type 0) (post : Vec Entry → Draft → Type 0) (lent lent_told : L) (taken taken_told : Vec (Vec Entry)) (drafts : Vec Draft)
+    → lent_told ≡ lent → taken_told ≡ taken → RunsAny pre post (gives lent) → RanEach post taken.items drafts.items → AreDrafts (gives lent_told) taken_told.items drafts
+kept {L = L} gives pre post lent lent_told taken taken_told drafts its own runs each =
     subst (λ (l : L). AreDrafts (gives l) taken_told.items drafts) (sym its)
     (subst (λ (v : Vec (Vec Entry)). AreDrafts (gives lent) v.items drafts) (sym own) (ran_are_drafts pre post (gives lent) taken.items drafts runs each))
-kept gives pre post lent lent_told taken taken_told (Err e) its own runs each = tt
 
 -- those that were begun, and those that are still to begin
 pub record BegunSoFar {L : Type 0} (gives : L → Draft → Type 0) (lent : L) (begun : List (Coming L)) (behind taken : List (Vec Entry)) : Type 0 where

@@ -40,6 +40,13 @@ starts spec blocks out notes limit all = record {
   told = λ extra rest h. let e : extra ≡ 0 + extra = omega arith in subst (λ (n : ℕ). Prints spec blocks n all rest) e h;
 }
 
+-- the same, said of the same permutations in another way
+pub still : (spec : SpecTree) (blocks : Blocks) (wo wn eo en : Option (List ℕ)) (limit : ℕ) (all : List (List EntryTree)) (left : ℕ) (more : List (List EntryTree)) (left_now : ℕ) (more_now : List (List EntryTree))
+    → left_now ≡ left → more_now ≡ more → SoFar spec blocks wo wn eo en limit all left more → SoFar spec blocks wo wn eo en limit all left_now more_now
+still spec blocks wo wn eo en limit all left more left_now more_now same_left same so =
+    subst (λ (n : ℕ). SoFar spec blocks wo wn eo en limit all n more_now) (sym same_left)
+    (subst (λ (ms : List (List EntryTree)). SoFar spec blocks wo wn eo en limit all left ms) (sym same) so)
+
 behind_behind : (a b c d : List ℕ) (said : Said) → behind a c (behind b d said) ≡ behind (a ++ b) (c ++ d) said
 behind_behind a b c d said =
     ap (λ (t : List ℕ). record { text = t; notes = c ++ (d ++ said.notes); ending = said.ending }) (sym (append_assoc a b said.text))

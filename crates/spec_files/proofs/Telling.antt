@@ -3,6 +3,9 @@ use Rattle.std.proofs.Common.{◌≡◌, ap, ℕ, List, Bool, true, ◌||◌, Op
 use Rattle.std.specs.Prelude.{string_bytes, IsTrue}
 use Rattle.session_machine.specs.declared.reply.HistItem.{HistItem}
 use Rattle.session_machine.specs.Machine.{Blocks}
+use Rattle.session_machine.specs.declared.fault.EngineFault.TheVariants as engines
+use Rattle.session_seats.specs.declared.fault.ThreadFault.{ThreadFault}
+use Rattle.session_seats.specs.declared.fault.ThreadFault.TheVariants as threads
 use Rattle.spec_parser.specs.Trees.{EntryTree, SpecTree}
 use Rattle.permutation_plans.specs.Regular.{IsRegular}
 use Rattle.report_text.specs.declared.fault.ReportFault.{ReportFault}
@@ -14,8 +17,8 @@ use Rattle.report_text.specs.Answers.{EndsAs, Puts, TellsFailure}
 use Rattle.report_text.specs.Permutation.{permutation_says}
 use Rattle.spec_files.specs.declared.fault.RunFault.{RunFault}
 use Rattle.spec_files.specs.declared.fault.RunFault.TheVariants as faults
-use Rattle.spec_files.specs.Faults.{report_fault}
-use Rattle.spec_files.specs.Runs.{AnswersRun, IsOneTold, is_early_end, is_of_one, is_broken}
+use Rattle.spec_files.specs.Faults.{report_fault, thread_fault}
+use Rattle.spec_files.specs.Runs.{AnswersRun, IsOneTold, is_early_end, is_of_one, is_of_run, is_of_reading, is_broken, tells_memory}
 use Rattle.spec_files.specs.Written.{told_as, IsWritten}
 
 pub answers_ok : (ending : Ending) (e : Ended) → EndsAs ending (Ok e) → AnswersRun ending (Ok tt)
@@ -103,3 +106,87 @@ module _ (spec : SpecTree) (blocks : Blocks) (entries : List EntryTree) (items :
 
   pub told_write : (e : RunFault) → IsWritten spec entries items wo wn eo en fo fn go gn (Err e) → e ≡ faults.Write → (fn || gn) ≡ true
   told_write e w write = err_write fo fn go gn e w.told w.is w.fails write
+
+-- ---- which fault becomes which
+
+-- want of memory is told as such, wherever a thread met it
+pub thread_kind : (f : ThreadFault) → is_of_run (thread_fault f) ≡ true
+thread_kind threads.ThreadRefused = refl
+thread_kind (threads.SeatMismatch s) = refl
+thread_kind threads.Gate = refl
+thread_kind threads.OtherRun = refl
+thread_kind threads.Memory = refl
+thread_kind (threads.Engine engines.Busy) = refl
+thread_kind (threads.Engine engines.NotYourTurn) = refl
+thread_kind (threads.Engine engines.StillBlocked) = refl
+thread_kind (threads.Engine engines.Idle) = refl
+thread_kind (threads.Engine engines.Spent) = refl
+thread_kind (threads.Engine engines.Memory) = refl
+thread_kind (threads.Engine engines.NoSession) = refl
+thread_kind (threads.Engine engines.BlockNotAllowed) = refl
+
+-- a fault of a run is one of a permutation
+pub run_is_one : (e : RunFault) → is_of_run e ≡ true → is_of_one e ≡ true
+run_is_one faults.Read is = absurd cc
+run_is_one faults.Write is = refl
+run_is_one (faults.Lex f) is = absurd cc
+run_is_one (faults.Spec f) is = absurd cc
+run_is_one (faults.Sql f) is = absurd cc
+run_is_one (faults.SetupFailed text) is = refl
+run_is_one faults.SetupWaits is = refl
+run_is_one faults.ScheduleBroken is = refl
+run_is_one faults.TooManyPermutations is = absurd cc
+run_is_one (faults.Threads f) is = is
+run_is_one (faults.NotUtf8 at) is = absurd cc
+run_is_one faults.Memory is = refl
+
+-- and no early end
+pub run_is_unended : (e : RunFault) → is_of_run e ≡ true → IsTrue (is_early_end e) → ⊥
+run_is_unended faults.Read is ended = cc
+run_is_unended faults.Write is ended = cc
+run_is_unended (faults.Lex f) is ended = cc
+run_is_unended (faults.Spec f) is ended = cc
+run_is_unended (faults.Sql f) is ended = cc
+run_is_unended (faults.SetupFailed text) is ended = cc
+run_is_unended faults.SetupWaits is ended = cc
+run_is_unended faults.ScheduleBroken is ended = cc
+run_is_unended faults.TooManyPermutations is ended = cc
+run_is_unended (faults.Threads f) is ended = cc
+run_is_unended (faults.NotUtf8 at) is ended = cc
+run_is_unended faults.Memory is ended = cc
+
+-- and no failed device
+pub run_is_unwritten : (e : RunFault) → is_of_run e ≡ true → e ≡ faults.Write → ⊥
+run_is_unwritten e is write = no (subst (λ (f : RunFault). is_of_run f ≡ true) write is)
+  where
+    no : is_of_run faults.Write ≡ true → ⊥
+    no h = cc
+
+-- a fault of a permutation tells want of memory as such
+pub one_tells : (e : RunFault) → is_of_one e ≡ true → tells_memory e ≡ true
+one_tells faults.Read is = refl
+one_tells faults.Write is = refl
+one_tells (faults.Lex f) is = refl
+one_tells (faults.Spec f) is = refl
+one_tells (faults.Sql f) is = refl
+one_tells (faults.SetupFailed text) is = refl
+one_tells faults.SetupWaits is = refl
+one_tells faults.ScheduleBroken is = refl
+one_tells faults.TooManyPermutations is = refl
+one_tells (faults.Threads f) is = is
+one_tells (faults.NotUtf8 at) is = refl
+one_tells faults.Memory is = refl
+
+pub reading_tells : (e : RunFault) → is_of_reading e ≡ true → tells_memory e ≡ true
+reading_tells faults.Read is = refl
+reading_tells faults.Write is = refl
+reading_tells (faults.Lex f) is = refl
+reading_tells (faults.Spec f) is = refl
+reading_tells (faults.Sql f) is = refl
+reading_tells (faults.SetupFailed text) is = refl
+reading_tells faults.SetupWaits is = refl
+reading_tells faults.ScheduleBroken is = refl
+reading_tells faults.TooManyPermutations is = refl
+reading_tells (faults.Threads f) is = absurd cc
+reading_tells (faults.NotUtf8 at) is = refl
+reading_tells faults.Memory is = refl

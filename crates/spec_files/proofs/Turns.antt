@@ -6,10 +6,12 @@ use Rattle.std.specs.Io.KnownBytes.{Appends}
 use Rattle.iso_lexer.specs.Devices.{page_text, PutsFront}
 use Rattle.session_machine.specs.Machine.{Blocks}
 use Rattle.spec_parser.specs.Trees.{EntryTree, SpecTree}
+use Rattle.report_text.specs.Permutation.{permutation_says}
 use Rattle.spec_files.specs.declared.draft.Draft.{Draft}
 use Rattle.spec_files.specs.declared.fault.RunFault.{RunFault}
 use Rattle.spec_files.specs.declared.fault.RunFault.TheVariants as faults
 use Rattle.spec_files.specs.Begun.{Begun, none, fronts, OneSays, report}
+use Rattle.spec_files.proofs.Beginning.{notes_behind}
 use Rattle.spec_files.specs.Drafts.{IsDraft, entries_of}
 use Rattle.spec_files.specs.Inner.Drafts.{to_come}
 use Rattle.spec_files.specs.Runs.{has_ended, has_broken, is_of_one, IsOneTold}
@@ -38,17 +40,20 @@ draft_told spec blocks draft wo wn eo en result is answer ended put noted =
 
 begun_of : (spec : SpecTree) (blocks : Blocks) (draft : Draft) (wo wn eo en : Option (List ℕ)) (ended : Bool) → has_ended draft.result ≡ ended → IsDraft spec blocks draft
     → (IsTrue (has_ended draft.result) → PutsFront wo wn (page_text draft.text) × PutsFront eo en (page_text draft.notes))
-    → (has_ended draft.result ≡ false → (wn ≡ wo) × (en ≡ eo)) → Begun (OneSays spec blocks (entries_of draft)) wo wn eo en
-begun_of spec blocks draft wo wn eo en false at is front nothing = let same = nothing at in none same.0 same.1
-begun_of spec blocks draft wo wn eo en true at is front nothing =
+    → (has_ended draft.result ≡ false → (wn ≡ wo) × (en ≡ eo)) → (en ≡ eo) ⊎ Appends wo wn (page_text draft.text) → Begun (OneSays spec blocks (entries_of draft)) wo wn eo en
+begun_of spec blocks draft wo wn eo en false at is front nothing order = let same = nothing at in none same.0 same.1
+begun_of spec blocks draft wo wn eo en true at is front nothing order =
     let one = is.told at in
     let put = front at in
-    fronts _ _ (report one.items one.regular) (subst (PutsFront wo wn) one.text put.0) (subst (PutsFront eo en) one.notes put.1)
+    let says = permutation_says spec (entries_of draft) one.items in
+    let noted = subst (PutsFront eo en) one.notes put.1 in
+    fronts _ _ (report one.items one.regular) (subst (PutsFront wo wn) one.text put.0) noted
+    (notes_behind (OneSays spec blocks (entries_of draft)) wo wn eo en says.text says.notes (report one.items one.regular) noted (subst (λ (t : List ℕ). (en ≡ eo) ⊎ Appends wo wn t) one.text order))
 
 pub draft_begun : (spec : SpecTree) (blocks : Blocks) (draft : Draft) (wo wn eo en : Option (List ℕ)) → IsDraft spec blocks draft
     → (IsTrue (has_ended draft.result) → PutsFront wo wn (page_text draft.text) × PutsFront eo en (page_text draft.notes))
-    → (has_ended draft.result ≡ false → (wn ≡ wo) × (en ≡ eo)) → Begun (OneSays spec blocks (entries_of draft)) wo wn eo en
-draft_begun spec blocks draft wo wn eo en is front nothing = begun_of spec blocks draft wo wn eo en (has_ended draft.result) refl is front nothing
+    → (has_ended draft.result ≡ false → (wn ≡ wo) × (en ≡ eo)) → (en ≡ eo) ⊎ Appends wo wn (page_text draft.text) → Begun (OneSays spec blocks (entries_of draft)) wo wn eo en
+draft_begun spec blocks draft wo wn eo en is front nothing order = begun_of spec blocks draft wo wn eo en (has_ended draft.result) refl is front nothing order
 
 -- a run that came to no end has not ended
 unended : (result : Result (Unit {0}) RunFault) → IsTrue (has_broken result) → has_ended result ≡ false
@@ -94,3 +99,8 @@ pub record IsFirst (more : List (List EntryTree)) : Type 0 where
 pub first_of : (more : List (List EntryTree)) → more ≢ [] → IsFirst more
 first_of [] some = absurd (some refl)
 first_of (p ∷ ps) some = record { first = p; rest = ps; is = refl }
+
+-- where some are left and none came, no more may run
+pub none_left : (before now : ℕ) (more rest : List (List EntryTree)) → now ≡ before → rest ≡ more → rest ≢ [] → (before ≡ 0) ⊎ (more ≡ []) → now ≡ 0
+none_left before now more rest same_left same some (inl none) = same_left ∙ none
+none_left before now more rest same_left same some (inr none) = absurd (some (same ∙ none))

@@ -1,5 +1,6 @@
 -- What has gone out wherever a call ends, also where memory is refused or a device fails.
-use Rattle.std.specs.Prelude.{◌≡◌, ℕ, ◌≤◌, List, Option, Ok}
+use Rattle.std.specs.Prelude.{◌≡◌, ℕ, ◌≤◌, List, ◌++◌, Option, Ok}
+use Rattle.std.specs.Io.KnownBytes.{Appends}
 use Rattle.iso_lexer.specs.Devices.{PutsFront}
 use Rattle.session_machine.specs.declared.reply.HistItem.{HistItem}
 use Rattle.session_machine.specs.Machine.{Blocks}
@@ -23,10 +24,21 @@ pub data ListBegun (bytes : List ℕ) (limit : ℕ) (old new : Option (List ℕ)
   nothing : new ≡ old → ListBegun bytes limit old new
   begun : (said : Said) → FileLists bytes limit (Ok said) → PutsFront old new said.text → ListBegun bytes limit old new
 
--- nothing went out, or a front of a text that may be said, and of its notes
+-- this text went out whole, and maybe more behind it
+pub record PutsWhole (old new : Option (List ℕ)) (text : List ℕ) : Type 0 where
+  pub more : List ℕ
+  pub went_out : Appends old new (text ++ more)
+
+-- notes come behind their text: nothing was noted, or a front of the notes on a text that went out whole
+pub data NotesBehind (MaySay : List ℕ → List ℕ → Type 0) (out_old out_new notes_old notes_new : Option (List ℕ)) : Type 0 where
+  unnoted : notes_new ≡ notes_old → NotesBehind MaySay out_old out_new notes_old notes_new
+  noted : (text notes : List ℕ) → MaySay text notes → PutsWhole out_old out_new text → PutsFront notes_old notes_new notes → NotesBehind MaySay out_old out_new notes_old notes_new
+
+-- nothing went out, or a front of a text that may be said, and of its notes, which come behind their text
 pub data Begun (MaySay : List ℕ → List ℕ → Type 0) (out_old out_new notes_old notes_new : Option (List ℕ)) : Type 0 where
   none : out_new ≡ out_old → notes_new ≡ notes_old → Begun MaySay out_old out_new notes_old notes_new
-  fronts : (text notes : List ℕ) → MaySay text notes → PutsFront out_old out_new text → PutsFront notes_old notes_new notes → Begun MaySay out_old out_new notes_old notes_new
+  fronts : (text notes : List ℕ) → MaySay text notes → PutsFront out_old out_new text → PutsFront notes_old notes_new notes
+      → NotesBehind MaySay out_old out_new notes_old notes_new → Begun MaySay out_old out_new notes_old notes_new
 
 -- ---- what may be said
 

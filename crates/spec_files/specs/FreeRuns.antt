@@ -1,5 +1,5 @@
 -- What a free run of a file prints, and what is answered of it.
-use Rattle.std.specs.Prelude.{◌≡◌, ℕ, Bool, List, ◌++◌, Option, Result, Ok, Err}
+use Rattle.std.specs.Prelude.{◌≡◌, ◌⊎◌, ℕ, Bool, List, ◌++◌, Option, Result, Ok, Err}
 use Rattle.std.specs.Io.KnownBytes.{Appends}
 use Rattle.session_machine.specs.declared.reply.HistItem.{HistItem}
 use Rattle.session_machine.specs.Machine.{Blocks}
@@ -29,7 +29,7 @@ abbrev pub free_told : Result Ended ReportFault → Result (Unit {0}) RunFault
 free_told (Ok ended) = Ok tt
 free_told (Err f) = Err (report_fault f)
 
--- the text and notes of the free run with this history went out, or fronts of them, where a sink failed or memory was refused; the answer is how its setups ended
+-- the text and behind it the notes of the free run with this history went out, or fronts of them, where a sink failed or memory was refused; the answer is how its setups ended
 pub record IsFreeWritten (spec : SpecTree) (items : List HistItem) (out_old out_new notes_old notes_new : Option (List ℕ))
     (failed_old failed_new noted_old noted_new : Bool) (result : Result (Unit {0}) RunFault) : Type 0 where
   pub told : Result Ended ReportFault
@@ -37,6 +37,7 @@ pub record IsFreeWritten (spec : SpecTree) (items : List HistItem) (out_old out_
   pub ending : EndsAs (free_says spec items).ending told
   pub text : Puts out_old out_new (free_text spec items) told
   pub notes : Puts notes_old notes_new (free_says spec items).notes told
+  pub order : (notes_new ≡ notes_old) ⊎ Appends out_old out_new (free_text spec items)
   pub fails : TellsFailure failed_old failed_new noted_old noted_new told
 
 -- the spec has a free run whose text and notes went out, and the answer is how its setups ended

@@ -11,7 +11,7 @@ use Rattle.spec_files.specs.Broken.{FileBroken}
 use Rattle.spec_files.specs.Files.{FileIs}
 use Rattle.spec_files.specs.FreeRuns.{FileFreeTold}
 use Rattle.spec_files.specs.Prints.{FileSays}
-use Rattle.spec_files.specs.Runs.{is_refusal, has_broken, has_ended, has_read, IsTold}
+use Rattle.spec_files.specs.Runs.{is_refusal, has_broken, has_ended, has_read, tells_memory, IsTold}
 use Rattle.report_text.specs.Said.{Said}
 
 -- it holds of the file that is left to read, where the source tells its bytes: no more is read than one byte over the longest file
@@ -24,7 +24,7 @@ module _ {S W N : Type 0} (source : Source S) (sink : Sink W) (noted : Sink N) (
     -- where the run comes to an end, be it an early one, what the file says was put, and nothing else, and the answer is that end
     pub told : IfFile (source.left input_old) (λ file. IsTrue (has_ended result) → (said : Said) × FileSays file limit (Ok said)
         × IsTold (sink.put_so_far out_old) (sink.put_so_far out_new) (noted.put_so_far notes_old) (noted.put_so_far notes_new) result said)
-    -- however it ends, a front of what the file may say went out, and of its notes, or nothing
+    -- however it ends, a front of what the file may say went out, and of its notes behind their text, or nothing
     pub begun : IfFile (source.left input_old) (λ file. Begun (FileMaySay file limit)
         (sink.put_so_far out_old) (sink.put_so_far out_new) (noted.put_so_far notes_old) (noted.put_so_far notes_new))
     -- where the threads of a permutation come to no end, the permutations before it were put
@@ -38,6 +38,8 @@ module _ {S W N : Type 0} (source : Source S) (sink : Sink W) (noted : Sink N) (
     pub read : IsErrOf result faults.Read ↔ (source.failed input_new ≡ true)
     -- nothing is put of a file that can't be read
     pub unread : IsErrOf result faults.Read → Untouched out_old out_new notes_old notes_new
+    -- want of memory is told as such, and as no thread's fault
+    pub memory : IfErr result (λ e. tells_memory e ≡ true)
     -- no run ends in ScheduleBroken
     pub unbroken : result ≢ Err faults.ScheduleBroken
     -- Write is answered only where a sink has failed
@@ -54,9 +56,11 @@ module _ {S W N : Type 0} (source : Source S) (sink : Sink W) (noted : Sink N) (
     pub refused : IfFile (source.left input_old) (λ file. IfErr result (λ e. is_refusal e ≡ true → FileIs file (Err e)))
     -- a file is refused before anything is put
     pub untouched : IfErr result (λ e. is_refusal e ≡ true → Untouched out_old out_new notes_old notes_new)
-    -- however it ends, a front of such a text went out, and of its notes, or nothing
+    -- however it ends, a front of such a text went out, and of its notes behind their text, or nothing
     pub begun : IfFile (source.left input_old) (λ file. Begun (FileSaysFreely file)
         (sink.put_so_far out_old) (sink.put_so_far out_new) (noted.put_so_far notes_old) (noted.put_so_far notes_new))
+    -- want of memory is told as such, and as no thread's fault
+    pub memory : IfErr result (λ e. tells_memory e ≡ true)
     -- nothing is put of threads that come to no end, nor of a schedule that broke
     pub broken : IsTrue (has_broken result) → Untouched out_old out_new notes_old notes_new
     -- Read is answered exactly where the source has failed

@@ -4,7 +4,10 @@ use Rattle.std.specs.String.{string_bytes}
 use Rattle.std.specs.Io.KnownBytes.{Appends}
 use Rattle.spec_files.specs.declared.fault.RunFault.{RunFault}
 use Rattle.spec_files.specs.declared.fault.RunFault.TheVariants as faults
+use Rattle.session_machine.specs.declared.fault.EngineFault.TheVariants as engine_faults
 use Rattle.session_machine.specs.declared.reply.HistItem.{HistItem}
+use Rattle.session_seats.specs.declared.fault.ThreadFault.{ThreadFault}
+use Rattle.session_seats.specs.declared.fault.ThreadFault.TheVariants as thread_faults
 use Rattle.session_machine.specs.Machine.{Blocks}
 use Rattle.spec_parser.specs.Trees.{EntryTree, SpecTree}
 use Rattle.permutation_plans.specs.Regular.{IsRegular}
@@ -26,10 +29,21 @@ is_early_end faults.SetupWaits = true
 is_early_end faults.TooManyPermutations = true
 is_early_end _ = false
 
+-- a thread's fault that is no want of memory, which is told by its own name
+abbrev pub is_no_memory : ThreadFault → Bool
+is_no_memory thread_faults.Memory = false
+is_no_memory (thread_faults.Engine engine_faults.Memory) = false
+is_no_memory _ = true
+
+-- want of memory is told as such, and as no thread's fault
+abbrev pub tells_memory : RunFault → Bool
+tells_memory (faults.Threads f) = is_no_memory f
+tells_memory _ = true
+
 -- a fault that the run of one permutation may answer before anything of it is written
 abbrev pub is_of_run : RunFault → Bool
 is_of_run faults.ScheduleBroken = true
-is_of_run (faults.Threads f) = true
+is_of_run (faults.Threads f) = is_no_memory f
 is_of_run faults.Memory = true
 is_of_run _ = false
 
@@ -39,7 +53,7 @@ is_of_one faults.Write = true
 is_of_one (faults.SetupFailed text) = true
 is_of_one faults.SetupWaits = true
 is_of_one faults.ScheduleBroken = true
-is_of_one (faults.Threads f) = true
+is_of_one (faults.Threads f) = is_no_memory f
 is_of_one faults.Memory = true
 is_of_one _ = false
 

@@ -1,6 +1,6 @@
 //! The permutations of a spec, run ahead of their turn, several side by side.
 
-ghost use Rattle.std.specs.Prelude.{◌≡◌, ◌<◌, ◌≤◌, ◌≢◌, [], ◌∷◌, ◌++◌, All, map, OnOk, IfOk, IfSome, IfNone};
+ghost use Rattle.std.specs.Prelude.{◌≡◌, ◌+◌, ◌<◌, ◌≤◌, ◌≢◌, ◌⊎◌, [], ◌∷◌, ◌++◌, All, length, map, OnOk, IfOk, IfSome, IfNone};
 ghost use Rattle.std.specs.Bool.{OnTrue, OnFalse};
 ghost use Rattle.sql_blocks.specs.Blocks.{blocks_of};
 ghost use Rattle.spec_parser.specs.Trees.{entry_view, spec_view};
@@ -38,7 +38,7 @@ fn at_a_time(sessions: usize) -> usize
 }
 
 /// How many permutations of so many sessions run ahead of their turn, at most.
-pub fn most_ahead(sessions: usize) -> u64
+fn most_ahead(sessions: usize) -> u64
     ensures { 0 < result }
 {
     at_a_time(sessions) as u64 * MOST_IN_TURN
@@ -51,11 +51,12 @@ fn in_turn(permutations: usize, sessions: usize) -> usize
     permutations.div_ceil(at_a_time(sessions)).max(1)
 }
 
-/// The drafts of the permutations whose turn comes next, and the permutations behind them.
+/// The drafts of the permutations whose turn comes next, the permutations behind them, and how many of all these may run.
 #[derive(Drop)]
 pub struct Ahead<'s> {
     pub drafts: VecDeque<Draft>,
     pub behind: Permutations<'s>,
+    pub left: u64,
 }
 
 fn copy_entry(alloc: Global, entry: &Entry) -> Result<Entry, AllocError>
@@ -87,6 +88,7 @@ fn take_next(
     requires { 0 < most }
     ensures next { IfOk result (λ taken. permutations.old.more ≡ lists_of taken.items ++ permutations.new.more) }
     ensures over { IfOk result (λ taken. taken.items ≡ [] → permutations.new.more ≡ []) }
+    ensures few { IfOk result (λ taken. length taken.items ≤ most) }
 {
     let mut taken = Vec::new(alloc);
     while (taken.len() as u64) < most && permutations.advance(alloc)? {
@@ -127,65 +129,82 @@ fn drafts_of<F: Fn(&SpecFile<'_>, Vec<Entry>) -> Draft + Sync, R: Threads + Wait
 }
 
 impl<'s> Ahead<'s> {
-    /// The permutations of the spec, of which none has run.
-    pub fn of(alloc: Global, spec: &'s Spec<'_>) -> Result<Ahead<'s>, AllocError>
+    /// The permutations of the spec, of which none has run and so many may.
+    pub fn of(alloc: Global, spec: &'s Spec<'_>, limit: u64) -> Result<Ahead<'s>, AllocError>
         requires { Stands (spec_view spec.now) }
         ensures drafts { IfOk result (λ ahead. ahead.drafts.items ≡ []) }
         ensures behind { IfOk result (λ ahead. ahead.behind.more ≡ permutations_of (spec_view spec.now)) }
+        ensures left { IfOk result (λ ahead. ahead.left ≡ limit) }
     {
         Ok(Ahead {
             drafts: VecDeque::new(alloc),
             behind: Permutations::of(alloc, spec)?,
+            left: limit,
         })
     }
 
-    /// Runs the next permutations, of at most so many, where no draft is left.
+    /// Runs the next permutations, no more than may run, where no draft is left.
     fn fill<F: Fn(&SpecFile<'_>, Vec<Entry>) -> Draft + Sync, R: Threads + Wait>(
         &mut self,
         rt: &R,
         alloc: Global,
         file: &SpecFile<'_>,
         run: &F,
-        most: u64,
     ) -> Result<(), AllocError>
         requires runs { RunsEach (F.pre run.now) (F.post run.now) }
         requires stands { Stands (spec_view file.now.spec) }
-        requires some { 0 < most }
+        requires some { 0 < self.old.left }
+        requires few { length self.old.drafts.items ≤ self.old.left }
         requires drafts { All (IsDraft (spec_view file.now.spec) (blocks_of file.now.blocks.items)) self.old.drafts.items }
         ensures drafts { OnOk result (All (IsDraft (spec_view file.now.spec) (blocks_of file.now.blocks.items)) self.new.drafts.items) }
+        ensures few { OnOk result (length self.new.drafts.items ≤ self.old.left) }
+        ensures left { OnOk result (self.new.left ≡ self.old.left) }
         ensures same { OnOk result (to_come self.old.drafts.items self.old.behind.more ≡ to_come self.new.drafts.items self.new.behind.more) }
         ensures over { OnOk result (self.new.drafts.items ≡ [] → self.new.behind.more ≡ []) }
     {
         if !self.drafts.is_empty() {
             return Ok(());
         }
+        let sessions = file.spec.sessions.len();
+        let most = self.left.min(most_ahead(sessions));
         let taken = take_next(alloc, &mut self.behind, most)?;
-        let in_turn = in_turn(taken.len(), file.spec.sessions.len());
+        let in_turn = in_turn(taken.len(), sessions);
         self.drafts = drafts_of(rt, alloc, file, run, taken, in_turn)?.into();
         Ok(())
     }
 
-    /// Takes the draft of the permutation whose turn it is. Where none was run ahead, the next ones run, of at most so many.
+    /// Takes the draft of the permutation whose turn it is, where one is left and may run. Where none was run ahead, the next
+    /// ones run: there are never more drafts than permutations that may still run.
     pub fn next<F: Fn(&SpecFile<'_>, Vec<Entry>) -> Draft + Sync, R: Threads + Wait>(
         &mut self,
         rt: &R,
         alloc: Global,
         file: &SpecFile<'_>,
         run: &F,
-        most: u64,
     ) -> Result<Option<Draft>, AllocError>
         requires runs { RunsEach (F.pre run.now) (F.post run.now) }
         requires stands { Stands (spec_view file.now.spec) }
-        requires some { 0 < most }
+        requires few { length self.old.drafts.items ≤ self.old.left }
         requires drafts { All (IsDraft (spec_view file.now.spec) (blocks_of file.now.blocks.items)) self.old.drafts.items }
         ensures drafts { OnOk result (All (IsDraft (spec_view file.now.spec) (blocks_of file.now.blocks.items)) self.new.drafts.items) }
+        ensures few { OnOk result (length self.new.drafts.items ≤ self.new.left) }
         ensures is { IfOk result (λ next. IfSome next (IsDraft (spec_view file.now.spec) (blocks_of file.now.blocks.items))) }
         ensures next { IfOk result (λ next. IfSome next (λ draft.
             to_come self.old.drafts.items self.old.behind.more ≡ entries_of draft ∷ to_come self.new.drafts.items self.new.behind.more)) }
-        ensures over { IfOk result (λ next. IfNone next (to_come self.old.drafts.items self.old.behind.more ≡ [])) }
+        ensures left { IfOk result (λ next. IfSome next (λ _. self.old.left ≡ self.new.left + 1)) }
+        ensures over { IfOk result (λ next. IfNone next ((self.old.left ≡ 0) ⊎ (to_come self.old.drafts.items self.old.behind.more ≡ []))) }
+        ensures same { IfOk result (λ next. IfNone next ((self.new.left ≡ self.old.left)
+            × (to_come self.new.drafts.items self.new.behind.more ≡ to_come self.old.drafts.items self.old.behind.more))) }
     {
-        self.fill(rt, alloc, file, run, most)?;
-        Ok(self.drafts.pop_front())
+        if self.left == 0 {
+            return Ok(None);
+        }
+        self.fill(rt, alloc, file, run)?;
+        let Some(draft) = self.drafts.pop_front() else {
+            return Ok(None);
+        };
+        self.left -= 1;
+        Ok(Some(draft))
     }
 
     /// Whether no permutation is left.

@@ -32,12 +32,13 @@ fn has_ended(answer: &Result<(), RunFault>) -> bool
 }
 
 impl Draft {
-    /// Writes the report of a run that came to an end, nothing of another, and answers as the run did.
+    /// Writes the report of a run that came to an end, and behind it the notes; nothing of another. Answers as the run did.
     pub fn put<W: Sink, N: Sink>(self, out: &mut W, notes: &mut N) -> Result<(), RunFault>
         ensures whole { IsTrue (has_ended result) → Appends (W.put_so_far out.old) (W.put_so_far out.new) (page_text self.text)
             × Appends (N.put_so_far notes.old) (N.put_so_far notes.new) (page_text self.notes) }
         ensures front { IsTrue (has_ended self.result) → PutsFront (W.put_so_far out.old) (W.put_so_far out.new) (page_text self.text)
             × PutsFront (N.put_so_far notes.old) (N.put_so_far notes.new) (page_text self.notes) }
+        ensures order { (notes.new ≡ notes.old) ⊎ Appends (W.put_so_far out.old) (W.put_so_far out.new) (page_text self.text) }
         ensures nothing { has_ended self.result ≡ false → (out.new ≡ out.old) × (notes.new ≡ notes.old) × (result ≡ self.result) }
         ensures answer { (result ≡ self.result) ⊎ (result ≡ Err RunFault.Write) }
         ensures write { IsErrOf result RunFault.Write → self.result ≢ Err RunFault.Write → (W.failed out.new || N.failed notes.new) ≡ true }

@@ -14,6 +14,7 @@ use session_seats::ThreadFault;
 use spec_parser::SpecFault;
 use sql_trees::SqlFault;
 use std::alloc::{AllocError, AllocFailed};
+use std::error::Error;
 use std::fmt;
 
 /// The fault of a block, with its byte in the block, and the byte of the file at which the block begins.
@@ -71,6 +72,8 @@ impl fmt::Display for BlockFault {
     }
 }
 
+impl Error for BlockFault {}
+
 /// Why a file was not run to its end.
 #[derive(Debug, Drop)]
 pub enum RunFault {
@@ -95,7 +98,7 @@ pub enum RunFault {
     /// The threads of a run came to no end.
     Threads(ThreadFault),
     /// The file is no UTF-8 from this byte on.
-    NotUtf8(usize),
+    NotUtf8 { at: usize },
     /// Memory was refused.
     Memory,
 }
@@ -116,11 +119,13 @@ impl fmt::Display for RunFault {
             RunFault::ScheduleBroken => write!(f, "R8 ScheduleBroken"),
             RunFault::TooManyPermutations => write!(f, "R9 TooManyPermutations"),
             RunFault::Threads(_) => write!(f, "R10 Threads"),
-            RunFault::NotUtf8(at) => write!(f, "R11 NotUtf8 at byte {at}"),
+            RunFault::NotUtf8 { at } => write!(f, "R11 NotUtf8 at byte {at}"),
             RunFault::Memory => write!(f, "Memory"),
         }
     }
 }
+
+impl Error for RunFault {}
 
 impl From<AllocError> for RunFault {
     ghost from_gives = { λ _ e. e ≡ Memory };
@@ -211,7 +216,7 @@ impl RunFault {
             | RunFault::SetupFailed { .. }
             | RunFault::SetupWaits
             | RunFault::TooManyPermutations
-            | RunFault::NotUtf8(_) => 1,
+            | RunFault::NotUtf8 { .. } => 1,
         }
     }
 }

@@ -1,6 +1,6 @@
 //! A file as a spec with the statements of its blocks.
 
-ghost use Rattle.std.specs.Prelude.{◌≡◌, ◌≢◌, ◌≤◌, length, true, Ok, Err, IsUtf8, IfOk, IfErr};
+ghost use Rattle.std.specs.Prelude.{◌≡◌, ◌≢◌, ◌≤◌, length, true, Ok, Err, IsUtf8, IfOk, IfErr, IsErrOf};
 ghost use Rattle.iso_lexer.specs.SpecText.{longest_file};
 ghost use Rattle.spec_parser.specs.Trees.{spec_view};
 ghost use Rattle.spec_parser.specs.Stands.{Stands};
@@ -37,7 +37,9 @@ fn text_of(bytes: &[u8]) -> Result<&str, RunFault>
     }
     match std::str::from_utf8(bytes) {
         Ok(text) => Ok(text),
-        Err(fault) => Err(RunFault::NotUtf8(fault.valid_up_to())),
+        Err(fault) => Err(RunFault::NotUtf8 {
+            at: fault.valid_up_to(),
+        }),
     }
 }
 
@@ -47,6 +49,8 @@ pub fn read_file(alloc: Global, bytes: &[u8]) -> Result<SpecFile<'_>, RunFault>
     ensures stands { IfOk result (λ file. Stands (spec_view file.spec)) }
     ensures err { IfErr result (λ e. e ≢ RunFault.Memory → FileIs bytes.now (Err e)) }
     ensures kinds { IfErr result (λ e. is_of_reading e ≡ true) }
+    // What is too long or no UTF-8 is refused before anything grows.
+    ensures room { IsErrOf result RunFault.Memory → (length bytes.now ≤ longest_file) × IsUtf8 bytes.now }
 {
     specs_stand();
     specs_are_slices();

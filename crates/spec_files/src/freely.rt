@@ -1,12 +1,13 @@
 //! Runs a spec file freely, by what runs a spec: each session's steps in their order, with no order between sessions.
 
-ghost use Rattle.std.specs.Prelude.{◌≡◌, ◌≢◌, ◌||◌, Err, true, IsTrue, IfErr, IsErrOf};
+ghost use Rattle.std.specs.Prelude.{◌≡◌, ◌≢◌, ◌≤◌, ◌||◌, length, Err, true, IsTrue, IsUtf8, IfErr, IsErrOf};
+ghost use Rattle.iso_lexer.specs.SpecText.{longest_file};
 ghost use Rattle.spec_files.specs.Begun.{Begun, FileSaysFreely};
 ghost use Rattle.spec_files.specs.Files.{FileIs};
 ghost use Rattle.spec_files.specs.FreeRuns.{FileFreeTold};
 ghost use Rattle.spec_files.specs.Promises.{SpecIsRunFreely};
 ghost use Rattle.spec_files.specs.Runners.{RunsFreely};
-ghost use Rattle.spec_files.specs.Runs.{is_refusal, has_broken, has_ended};
+ghost use Rattle.spec_files.specs.Runs.{is_refusal, has_broken, has_ended, tells_memory};
 
 use crate::fault::RunFault;
 use crate::file::{SpecFile, read_file};
@@ -27,6 +28,8 @@ fn run_file_freely<
     ensures begun { Begun (FileSaysFreely bytes.now)
         (W.put_so_far out.old) (W.put_so_far out.new) (N.put_so_far notes.old) (N.put_so_far notes.new) }
     ensures broken { IsTrue (has_broken result) → (out.new ≡ out.old) × (notes.new ≡ notes.old) }
+    ensures memory { IfErr result (λ e. tells_memory e ≡ true) }
+    ensures room { IsErrOf result RunFault.Memory → (length bytes.now ≤ longest_file) × IsUtf8 bytes.now }
     ensures write { IsErrOf result RunFault.Write → (W.failed out.new || N.failed notes.new) ≡ true }
     ensures read { result ≢ Err RunFault.Read }
 {

@@ -1,6 +1,7 @@
 //! Runs the permutations of a spec file, by what runs one of them.
 
-ghost use Rattle.std.specs.Prelude.{◌≡◌, ◌≢◌, ◌||◌, Ok, Err, true, false, IsTrue, IfErr, IsErrOf};
+ghost use Rattle.std.specs.Prelude.{◌≡◌, ◌≢◌, ◌≤◌, ◌||◌, length, Ok, Err, true, false, IsTrue, IsUtf8, IfErr, IsErrOf};
+ghost use Rattle.iso_lexer.specs.SpecText.{longest_file};
 ghost use Rattle.sql_blocks.specs.Blocks.{blocks_of};
 ghost use Rattle.spec_parser.specs.Trees.{spec_view};
 ghost use Rattle.spec_parser.specs.Stands.{Stands};
@@ -10,10 +11,10 @@ ghost use Rattle.spec_files.specs.Runners.{RunsEach};
 ghost use Rattle.spec_files.specs.Broken.{RunBroken, FileBroken};
 ghost use Rattle.spec_files.specs.Prints.{Prints, FileSays};
 ghost use Rattle.spec_files.specs.Promises.{SpecIsRun};
-ghost use Rattle.spec_files.specs.Runs.{is_refusal, has_broken, has_ended, IsTold};
+ghost use Rattle.spec_files.specs.Runs.{is_refusal, has_broken, has_ended, tells_memory, IsTold};
 ghost use Rattle.report_text.specs.Said.{Said};
 
-use crate::ahead::{Ahead, most_ahead};
+use crate::ahead::Ahead;
 use crate::draft::Draft;
 use crate::fault::RunFault;
 use crate::file::{SpecFile, read_file};
@@ -52,16 +53,11 @@ fn run_permutations<
     ensures unbroken { result ≢ Err RunFault.ScheduleBroken }
     ensures write { IsErrOf result RunFault.Write → (W.failed out.new || N.failed notes.new) ≡ true }
     ensures kinds { IfErr result (λ e. is_refusal e ≡ false) }
+    ensures memory { IfErr result (λ e. tells_memory e ≡ true) }
     ensures read { result ≢ Err RunFault.Read }
 {
-    let most = most_ahead(file.spec.sessions.len());
-    let mut ahead = Ahead::of(alloc, &file.spec)?;
-    let mut left = limit;
-    while left > 0 {
-        let Some(draft) = ahead.next(rt, alloc, file, run, left.min(most))? else {
-            return Ok(());
-        };
-        left -= 1;
+    let mut ahead = Ahead::of(alloc, &file.spec, limit)?;
+    while let Some(draft) = ahead.next(rt, alloc, file, run)? {
         draft.put(out, notes)?;
     }
     if ahead.is_over(alloc)? {
@@ -91,6 +87,8 @@ fn run_file<W: Sink, N: Sink, F: Fn(&SpecFile<'_>, Vec<Entry>) -> Draft + Sync, 
         (W.put_so_far out.old) (W.put_so_far out.new) (N.put_so_far notes.old) (N.put_so_far notes.new) }
     ensures refused { IfErr result (λ e. is_refusal e ≡ true → FileSays bytes.now limit (Err e)) }
     ensures untouched { IfErr result (λ e. is_refusal e ≡ true → (out.new ≡ out.old) × (notes.new ≡ notes.old)) }
+    ensures memory { IfErr result (λ e. tells_memory e ≡ true) }
+    ensures room { IsErrOf result RunFault.Memory → (length bytes.now ≤ longest_file) × IsUtf8 bytes.now }
     ensures unbroken { result ≢ Err RunFault.ScheduleBroken }
     ensures write { IsErrOf result RunFault.Write → (W.failed out.new || N.failed notes.new) ≡ true }
     ensures read { result ≢ Err RunFault.Read }

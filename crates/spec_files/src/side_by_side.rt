@@ -3,7 +3,7 @@
 ghost use Rattle.std.specs.Prelude.{◌≡◌, ◌<◌, All, IfOk};
 ghost use Rattle.std.specs.Global.{Vec as VecFacts};
 ghost use Rattle.spec_parser.specs.declared.tree.Entry.{Entry as EntryFacts};
-ghost use Rattle.spec_files.specs.Inner.Coming.{all_entries, coming_entries, AreDrafts, IsComing, RanEach, RunsAny};
+ghost use Rattle.spec_files.specs.Inner.Coming.{all_entries, coming_entries, AreDrafts, HasRoomFor, IsComing, RanEach, RunsAny};
 
 use crate::draft::Draft;
 use core::thread::Stack;
@@ -30,73 +30,74 @@ pub struct DraftsOf<L> {
     pub taken: Snapshot<Vec<Vec<Entry>>>,
 }
 
-impl<L: Lent> Promise<Result<Vec<Draft>, AllocError>> for DraftsOf<L> {
-    ghost use Rattle.std.specs.Prelude.{IfOk};
+impl<L: Lent> Promise<Vec<Draft>> for DraftsOf<L> {
     ghost use Rattle.spec_files.specs.Inner.Coming.{AreDrafts};
 
-    ghost kept_by = { λ promise result. IfOk result (AreDrafts (L.gives promise.lent.value) promise.taken.value.items) };
+    ghost kept_by = { λ promise drafts. AreDrafts (L.gives promise.lent.value) promise.taken.value.items drafts };
 }
 
 /// The drafts of permutations that have run, or the thread that runs them.
 #[derive(Drop)]
 pub enum Coming<L: Lent> {
     There(Vec<Draft>),
-    Running(PromisedHandle<Result<Vec<Draft>, AllocError>, DraftsOf<L>>),
+    Running(PromisedHandle<Vec<Draft>, DraftsOf<L>>),
 }
 
 impl<L: Lent> Coming<L> {
     /// The drafts, once they are there.
-    fn drafts<R: Threads>(self, rt: &R) -> Result<Vec<Draft>, AllocError>
-        ensures { (lent : L) → IsComing L.gives lent self → IfOk result (AreDrafts (L.gives lent) (coming_entries self)) }
+    fn drafts<R: Threads>(self, rt: &R) -> Vec<Draft>
+        ensures { (lent : L) → IsComing L.gives lent self → AreDrafts (L.gives lent) (coming_entries self) result }
     {
         match self {
-            Coming::There(drafts) => Ok(drafts),
+            Coming::There(drafts) => drafts,
             Coming::Running(thread) => thread.join(rt),
         }
     }
 }
 
-/// Runs these permutations, one after the other.
+/// Runs these permutations, one after the other, where there is room for their drafts: that no memory is refused.
 fn run_in_turn<F: Fn(Vec<Entry>) -> Draft>(
-    alloc: Global,
     run: &F,
     taken: Vec<Vec<Entry>>,
-) -> Result<Vec<Draft>, AllocError>
-    requires { (entries : VecFacts EntryFacts) → F.pre run.now entries }
-    ensures { IfOk result (λ drafts. RanEach (F.post run.now) taken.items drafts.items) }
+    mut drafts: Vec<Draft>,
+) -> Vec<Draft>
+    requires runs { (entries : VecFacts EntryFacts) → F.pre run.now entries }
+    requires room { HasRoomFor drafts taken.items }
+    ensures { RanEach (F.post run.now) taken.items result.items }
 {
-    let mut drafts = Vec::with_capacity(alloc, taken.len())?;
     for entries in taken {
-        drafts.push(run(entries))?;
+        drafts.push(run(entries)).unwrap();
     }
-    Ok(drafts)
+    drafts
 }
 
-/// Runs permutations in a thread, one after the other; where none can be started, in the calling one. It does what is the
-/// control session's, so its stack is as a session's thread has it.
+/// Runs permutations in a thread, one after the other; where none can be started, in the calling one, so that no refused
+/// thread ends a run. It does what is the control session's, so its stack is as a session's thread has it.
 fn begin<'s, 'e: 's, L: Lent + 's, F: Fn(Vec<Entry>) -> Draft + Sync + 's>(
     scope: &Scope<'s, &'e ()>,
-    alloc: Global,
     lent: &'s L,
     run: &'s F,
     taken: Vec<Vec<Entry>>,
-) -> Result<Coming<L>, AllocError>
+    drafts: Vec<Draft>,
+) -> Coming<L>
     requires runs { RunsAny (F.pre run.now) (F.post run.now) (L.gives lent.now) }
-    ensures { IfOk result (λ coming. IsComing L.gives lent.now coming × (coming_entries coming ≡ taken.items)) }
+    requires room { HasRoomFor drafts taken.items }
+    ensures { IsComing L.gives lent.now result × (coming_entries result ≡ taken.items) }
 {
     let promise = DraftsOf {
         lent: Snapshot::of(lent),
         taken: Snapshot::of(&taken),
     };
-    let call = move || -> Result<Vec<Draft>, AllocError>
-        requires { (entries : VecFacts EntryFacts) → F.pre run.now entries }
-        ensures { IfOk result (λ drafts. RanEach (F.post run.entry.now) taken.items drafts.items) }
-    { run_in_turn(alloc, run, taken) };
+    let call = move || -> Vec<Draft>
+        requires runs { (entries : VecFacts EntryFacts) → F.pre run.now entries }
+        requires room { HasRoomFor drafts taken.items }
+        ensures { RanEach (F.post run.entry.now) taken.items result.items }
+    { run_in_turn(run, taken, drafts) };
     let stack = Stack::new().stack_size(THREAD_STACK);
-    Ok(match stack.spawn_scoped_with(scope, promise, call) {
+    match stack.spawn_scoped_with(scope, promise, call) {
         Ok(thread) => Coming::Running(thread),
-        Err(refused) => Coming::There((refused.value)()?),
-    })
+        Err(refused) => Coming::There((refused.value)()),
+    }
 }
 
 /// Runs these permutations, so many in turn in each thread, the last ones in the calling thread.
@@ -116,10 +117,12 @@ fn begin_each<'s, 'e: 's, L: Lent + 's, F: Fn(Vec<Entry>) -> Draft + Sync + 's>(
     let mut coming = Vec::new(alloc);
     while taken.len() > in_turn {
         let behind = taken.split_off(in_turn)?;
-        coming.push(begin(scope, alloc, lent, run, taken)?)?;
+        let room = Vec::with_capacity(alloc, taken.len())?;
+        coming.push(begin(scope, lent, run, taken, room))?;
         taken = behind;
     }
-    coming.push(Coming::There(run_in_turn(alloc, run, taken)?))?;
+    let room = Vec::with_capacity(alloc, taken.len())?;
+    coming.push(Coming::There(run_in_turn(run, taken, room)))?;
     Ok(coming)
 }
 
@@ -133,7 +136,7 @@ fn drafts_of_each<L: Lent, R: Threads>(
 {
     let mut drafts = Vec::new(alloc);
     for coming in all {
-        let mut more = coming.drafts(rt)?;
+        let mut more = coming.drafts(rt);
         drafts.append(&mut more)?;
     }
     Ok(drafts)

@@ -5,6 +5,7 @@ use sql_expressions::{Parsed, parse_expr};
 use sql_parser::Role;
 use sql_trees::{Expr, Stmt};
 use std::alloc::{AllocError, Global};
+use std::process::Abort;
 
 const SIZES: [usize; 7] = [0, 1, 5, 9, 41, 101, 1001];
 
@@ -143,8 +144,8 @@ fn count_in(listed: Listed, stmt: &Stmt<'_>) -> usize {
     }
 }
 
-/// Whether this is a block whose first statement lists so many.
-fn is_listed(alloc: Global, listed: Listed, parts: Parts, size: usize, count: usize) -> bool {
+/// Whether this is a block whose first statement lists the numbered parts and so many more.
+fn is_listed(alloc: Global, listed: Listed, parts: Parts, size: usize, more: usize) -> bool {
     let Ok(text) = text_of(alloc, parts, size) else {
         return false;
     };
@@ -152,7 +153,7 @@ fn is_listed(alloc: Global, listed: Listed, parts: Parts, size: usize, count: us
         return false;
     };
     match block.stmts().first() {
-        Some(stmt) => count_in(listed, stmt) == count,
+        Some(stmt) => count_in(listed, stmt) == size.saturating_add(more),
         None => false,
     }
 }
@@ -218,14 +219,19 @@ const LISTS: [(Listed, usize, Parts); 13] = [
     ),
 ];
 
+/// At each size so much is listed.
+fn are_listed(rt: &impl Abort, alloc: Global, listed: Listed, parts: Parts, more: usize) {
+    for size in SIZES {
+        let told = is_listed(alloc, listed, parts, size, more)
+            || is_listed(alloc, listed, parts, size, more);
+        holds(rt, told, parts[0]);
+    }
+}
+
 #[test]
 fn statements_of_each_size(rt: HostRuntime) {
     for (listed, more, parts) in LISTS {
-        for size in SIZES {
-            let told = is_listed(rt.alloc(), listed, parts, size, size + more)
-                || is_listed(rt.alloc(), listed, parts, size, size + more);
-            holds(&rt, told, parts[0]);
-        }
+        are_listed(&rt, rt.alloc(), listed, parts, more);
     }
 }
 
@@ -292,7 +298,7 @@ fn lists_twice(alloc: Global, parts: Parts, more: Parts, size: usize) -> bool {
         return false;
     };
     match block.stmts().first() {
-        Some(stmt) => key_columns(stmt).max(insert_columns(stmt)) == size + 1,
+        Some(stmt) => key_columns(stmt).max(insert_columns(stmt)) == size.saturating_add(1),
         None => false,
     }
 }

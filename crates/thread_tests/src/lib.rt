@@ -7,16 +7,28 @@ mod asking;
 #[cfg(test)]
 mod free_gates;
 #[cfg(test)]
+mod free_order;
+#[cfg(test)]
 mod free_runs;
 #[cfg(test)]
 mod free_texts;
 #[cfg(test)]
 mod gates;
 #[cfg(test)]
+mod giving;
+#[cfg(test)]
 mod meeting;
+#[cfg(test)]
+mod refused;
+#[cfg(test)]
+mod run_faults;
+#[cfg(test)]
+mod run_limits;
 #[cfg(test)]
 mod seats;
 #[cfg(test)]
 mod signs;
 #[cfg(test)]
 mod telling;
+#[cfg(test)]
+mod worked;

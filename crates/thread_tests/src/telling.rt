@@ -6,7 +6,7 @@ ghost use Rattle.spec_files.specs.Plans.{IsFollowing};
 use crate::asking::holds;
 use crate::gates::Telling;
 use crate::signs::sign_of_all;
-use permutations::PermutationDriver;
+use permutations::Plan;
 use row_versions::ListStore;
 use session_threads::{Seat, ThreadFault, run_directed};
 use spec_parser::{Spec, parse_spec};
@@ -50,7 +50,7 @@ fn tells<R: Threads + Wait + Sync>(
     rt: &R,
     alloc: Global,
     blocks: &[Block<'_>],
-    plan: PermutationDriver<'_>,
+    plan: Plan<'_>,
 ) -> Result<bool, ThreadFault>
     requires follows { IsFollowing plan [] }
 {
@@ -73,7 +73,7 @@ fn tells_the_seats<R: Threads + Wait + Sync>(
     if spec.sessions.len() > 64 {
         return Ok(false);
     }
-    let plan = PermutationDriver::new(alloc, spec, entries)?;
+    let plan = Plan::new(alloc, spec, entries)?;
     Ok(tells(rt, alloc, &blocks, plan).map_err(|_| "no closed run")?)
 }
 

@@ -140,7 +140,10 @@ fn falling(alloc: Global, size: u32) -> Result<Vec<Row>, AllocError> {
     let mut rows = Vec::new(alloc);
     for n in 0..size {
         let left = size.saturating_sub(n).saturating_sub(1);
-        rows.push(one(alloc, left as i32)?)?;
+        match i32::try_from(left) {
+            Ok(left) => rows.push(one(alloc, left)?)?,
+            Err(_) => return Err(AllocError),
+        }
     }
     Ok(rows)
 }

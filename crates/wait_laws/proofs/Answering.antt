@@ -114,6 +114,12 @@ same_name a b h = cc
 same_place : (a b : ℕ) → Some a ≡ Some b → a ≡ b
 same_place a b h = cc
 
+launch_not : (i block session : ℕ) → Launch i block ≡ Step session → ⊥
+launch_not i block session h = cc
+
+leave_not : (i session : ℕ) → Leave i ≡ Step session → ⊥
+leave_not i session h = cc
+
 -- a session's reply is that of its statement
 outcome_after : (m : Machine) (i : ℕ) (place : Place) (count : ℕ) (d : Effect) → (after_stmt m i place count d).reply.outcome ≡ d.outcome
 outcome_after m i place count d = at (is_some d.statement) where
@@ -385,11 +391,11 @@ module _ (S : Option Stop → Type 0) (C : TxId → List Session → Database �
       let a = ok_else BlockNotAllowed _ _ n (subst (λ o. launch_of given mode m i block o ≡ Ok n) there.1 h) in
       let b = ok_else Busy _ _ n a.1 in
       let c = ok_else NotYourTurn _ _ n b.1 in
-      neither (λ r. shows.launched (subst (λ (y : Next). R y.reply.outcome) (ok_is _ n c.1) r)) (λ k. let e = k.0.its in cc)
+      neither (λ r. shows.launched (subst (λ (y : Next). R y.reply.outcome) (ok_is _ n c.1) r)) (λ k. launch_not i block k.0.session k.0.its)
   events given mode m (Leave i) n h =
       let there = session_there given mode m (Leave i) n h in
       let c = ok_else NotYourTurn _ _ n (subst (λ o. leave_of mode m i o ≡ Ok n) there.1 h) in
-      neither (λ r. shows.left (subst (λ (y : Next). R y.reply.outcome) (ok_is _ n c.1) r)) (λ k. let e = k.0.its in cc)
+      neither (λ r. shows.left (subst (λ (y : Next). R y.reply.outcome) (ok_is _ n c.1) r)) (λ k. leave_not i k.0.session k.0.its)
   events given mode m (Step i) n h =
       let there = session_there given mode m (Step i) n h in
       let s = there.0 in

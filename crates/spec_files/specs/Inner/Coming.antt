@@ -1,5 +1,5 @@
 -- The drafts of permutations that have run, or the thread that runs them.
-use Rattle.std.specs.Prelude.{◌≡◌, ◌++◌, ◌∷◌, [], All, List, map}
+use Rattle.std.specs.Prelude.{◌≡◌, ◌≤◌, ◌++◌, ◌∷◌, [], All, List, length, map, vec_len, vec_capacity}
 use Rattle.std.specs.Global.{Vec}
 use Rattle.spec_parser.specs.declared.tree.Entry.{Entry}
 use Rattle.spec_files.specs.declared.draft.Draft.{Draft}
@@ -26,6 +26,12 @@ IsComing gives lent (Running thread) = thread.promise.lent.value ≡ lent
 pub record AreDrafts (of_lent : Draft → Type 0) (taken : List (Vec Entry)) (drafts : Vec Draft) : Type 0 where
   pub given : All of_lent drafts.items
   pub entries : map listed drafts.items ≡ taken
+
+-- the list is empty, with room for a draft of each of these
+pub record HasRoomFor (drafts : Vec Draft) (taken : List (Vec Entry)) : Type 0 where
+  pub empty : drafts.items ≡ []
+  pub long : vec_len drafts ≡ 0
+  pub room : length taken ≤ vec_capacity drafts
 
 -- a run may be called with any entries, and answers a draft of what is lent, with these entries
 pub record RunsAny (pre : Vec Entry → Type 0) (post : Vec Entry → Draft → Type 0) (of_lent : Draft → Type 0) : Type 0 where

@@ -1,10 +1,12 @@
 use Rattle.std.proofs.Common.{[], map, refl, arith}
 use Rattle.std.proofs.lemmas.List.{length-map}
+use Rattle.std.proofs.lemmas.Result.{err_from_is_err_and}
 use Rattle.session_machine.specs.declared.event.Mode.TheVariants.{Directed}
 use Rattle.session_machine.specs.Engine.{opened}
 use Rattle.sql_blocks.specs.Blocks.{blocks_of}
 use Rattle.spec_parser.specs.Trees.{entry_view, session_view, spec_view}
 use Rattle.spec_files.proofs.Driven.{plan_fits}
+use Rattle.spec_files.proofs.Telling.{thread_kind}
 use Rattle.permutations.proofs.Running.{regular}
 use Rattle.permutations.proofs.thread_run.run_of.Goals as goal
 
@@ -20,3 +22,8 @@ returns-clause-regular g c =
 
 pub run_directed-requires-clause-follows : goal.run_directed-requires-clause-follows
 run_directed-requires-clause-follows g c κs within = c.in_ok-plan.ensures.follows []
+
+pub returns-in_err-closed-clause-faults : goal.returns-in_err-closed-clause-faults
+returns-in_err-closed-clause-faults g c =
+    let p = err_from_is_err_and c.from_residual-in_err-closed.result c.from_residual-in_err-closed.ensures.1 in
+    rw (p.1, p.2) (thread_kind c.in_err-closed.field-0.0)

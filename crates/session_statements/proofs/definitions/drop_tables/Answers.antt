@@ -5,15 +5,15 @@ use Rattle.session_machine.proofs.Piecewise.{drops_by}
 use Rattle.session_statements.specs.Inner.Left.{left}
 use Rattle.session_statements.proofs.definitions.drop_tables.Goals as goal
 
-pub returns-in-Some : goal.returns-in-Some
-returns-in-Some g c =
+pub returns-in-Some-clause-did : goal.returns-in-Some-clause-did
+returns-in-Some-clause-did g c =
     let names = map name_of c.args.stmt.now.names.items in
     let e : DroppedUpTo = dropped c.args.db.now c.args.by.now c.args.stmt.now.if_exists names in
     let ends : drop_ended c.args.db.now.content c.args.by.now e.db e.missing ≡ left c.fail.new.db c.fail.result = search rules in
     drops_by c.args.db.now c.args.by.now c.args.stmt.now.if_exists names ∙ ends
 
-pub returns-in-None : goal.returns-in-None
-returns-in-None g c =
+pub returns-in-None-clause-did : goal.returns-in-None-clause-did
+returns-in-None-clause-did g c =
     let names = map name_of c.args.stmt.now.names.items in
     let e : DroppedUpTo = dropped c.args.db.now c.args.by.now c.args.stmt.now.if_exists names in
     let ends : drop_ended c.args.db.now.content c.args.by.now e.db e.missing ≡ left c.drop_all.new.db c.turned.result = search rules in

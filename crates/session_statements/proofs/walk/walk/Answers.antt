@@ -7,7 +7,7 @@ use Rattle.session_statements.proofs.walk.walk.Goals as goal
 
 pub returns-in-Stops-clause-kept : goal.returns-in-Stops-clause-kept
 returns-in-Stops-clause-kept g c =
-    kept_step c.args.db.now c.loop-at.db c.visit.new.db c.args.work.now c.args.act.now c.args.targets.now c.loop-at.at _ _ c.requires.within c.requires.its
+    kept_step c.args.db.now c.loop-at.db c.visit.new.db c.args.work.now c.args.act.now c.args.targets.now c.loop-at.at _ _ c.requires.work.within c.requires.its
     c.loop-at.invariant.kept (search rules) c.in_ok-visit.ensures
 
 pub loop-at-preserved : goal.loop-at-preserved
@@ -18,6 +18,6 @@ loop-at-preserved g c = record {
     | in-Shows+in_ok-push-in-Shows w ↦ walk_shows c.args.work.now c.args.act.now c.loop-at.db c.visit.new.db c.args.targets.now c.loop-at.at _ c.loop-at.rows.items c.match-branch-2.rows.items _ _
         (search rules) c.in_ok-visit.ensures w.in-Shows.is (ap (λ (v : Vec Row Global). v.items) w.rows-is ∙ w.in_ok-push-in-Shows.ensures.items)
   ]) ∙ c.loop-at.invariant.rest;
-  kept = kept_step c.args.db.now c.loop-at.db c.visit.new.db c.args.work.now c.args.act.now c.args.targets.now c.loop-at.at _ _ c.requires.within c.requires.its
+  kept = kept_step c.args.db.now c.loop-at.db c.visit.new.db c.args.work.now c.args.act.now c.args.targets.now c.loop-at.at _ _ c.requires.work.within c.requires.its
       c.loop-at.invariant.kept (search rules) c.in_ok-visit.ensures;
 }

@@ -3,6 +3,7 @@ use Rattle.std.proofs.Common.{Ok, Err, refl, ◌∙◌}
 use Rattle.spec_parser.specs.Trees.{spec_view}
 use Rattle.spec_files.specs.Faults.{report_fault}
 use Rattle.spec_files.proofs.FreeTelling.{no_memory, no_line, behind_line}
+use Rattle.spec_files.proofs.Beginning.{at_sink}
 use Rattle.spec_files.proofs.free_text.write_free.Goals as goal
 
 pub returns-in_err-line : goal.returns-in_err-line
@@ -26,7 +27,7 @@ returns-in_err-write_free g c =
     (g.W.Sink.put_so_far c.args.out.now) (g.W.Sink.put_so_far c.put.new.self) (g.W.Sink.put_so_far c.write_free.new.out) (g.N.Sink.put_so_far c.args.notes.now) (g.N.Sink.put_so_far c.write_free.new.notes)
     (g.W.Sink.failed c.args.out.now) (g.W.Sink.failed c.put.new.self) (g.W.Sink.failed c.write_free.new.out) (g.N.Sink.failed c.args.notes.now) (g.N.Sink.failed c.write_free.new.notes)
     c.as_slice.result.now _ (Err fault) (Err (report_fault fault)) line c.in_ok-put.ensures.bytes c.in_ok-put.ensures.fails
-    refl c.in_err-write_free.ensures.ending c.in_err-write_free.ensures.text c.in_err-write_free.ensures.notes c.in_err-write_free.ensures.fails)
+    refl c.in_err-write_free.ensures.ending c.in_err-write_free.ensures.text c.in_err-write_free.ensures.notes (at_sink g.N.Sink.put_so_far c.args.notes.now c.write_free.new.notes _ c.in_err-write_free.ensures.order) c.in_err-write_free.ensures.fails)
 
 pub returns : goal.returns
 returns g c =
@@ -35,4 +36,4 @@ returns g c =
     (g.W.Sink.put_so_far c.args.out.now) (g.W.Sink.put_so_far c.put.new.self) (g.W.Sink.put_so_far c.write_free.new.out) (g.N.Sink.put_so_far c.args.notes.now) (g.N.Sink.put_so_far c.write_free.new.notes)
     (g.W.Sink.failed c.args.out.now) (g.W.Sink.failed c.put.new.self) (g.W.Sink.failed c.write_free.new.out) (g.N.Sink.failed c.args.notes.now) (g.N.Sink.failed c.write_free.new.notes)
     c.as_slice.result.now _ (Ok c.in_ok-write_free.field-0) (Ok tt) line c.in_ok-put.ensures.bytes c.in_ok-put.ensures.fails
-    refl c.in_ok-write_free.ensures.ending c.in_ok-write_free.ensures.text c.in_ok-write_free.ensures.notes c.in_ok-write_free.ensures.fails
+    refl c.in_ok-write_free.ensures.ending c.in_ok-write_free.ensures.text c.in_ok-write_free.ensures.notes (at_sink g.N.Sink.put_so_far c.args.notes.now c.write_free.new.notes _ c.in_ok-write_free.ensures.order) c.in_ok-write_free.ensures.fails

@@ -4,7 +4,7 @@ use Rattle.spec_files.proofs.side_by_side.drafts_of_each.Goals as goal
 
 pub loop-coming-preserved : goal.loop-coming-preserved
 loop-coming-preserved g c lent all =
-    joined_more g.L.Lent.gives lent _ _ _ _ _ _ _ (c.loop-coming.invariant lent all) c.in-Some.ensures.steps.0 c.in_ok-append.ensures.items (c.in_ok-more.ensures lent)
+    joined_more g.L.Lent.gives lent _ _ _ _ _ _ _ (c.loop-coming.invariant lent all) c.in-Some.ensures.steps.0 c.in_ok-append.ensures.items (c.drafts-more.ensures lent)
 
 pub returns : goal.returns
 returns g c lent all =

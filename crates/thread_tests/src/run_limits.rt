@@ -1,0 +1,60 @@
+//! How many permutations of a file run, by what a gate sees.
+
+use crate::asking::holds;
+use iso_lexer::FromStd;
+use permutations::run_spec;
+use session_machine::{Event, Reply};
+use session_threads::Gate;
+use std::alloc::Global;
+use std::sync::Wait;
+use std::sync::atomic::{AtomicU64, Ordering};
+use std::test::Fail;
+use std::thread::Threads;
+
+/// Admits everything, and counts the launches.
+#[derive(Drop)]
+struct Counting {
+    launches: AtomicU64,
+}
+
+impl Gate for Counting {
+    fn tries(&self) -> u64 {
+        1
+    }
+
+    fn admits(&self, _event: Event) -> bool {
+        true
+    }
+
+    fn answered(&self, event: Event, _reply: &Reply<'_>) {
+        if let Event::Launch { .. } = event {
+            self.launches.fetch_add(1, Ordering::SeqCst);
+        }
+    }
+}
+
+/// Two sessions of two steps each: six permutations, each of which launches four blocks.
+const SIX: &str = "session s step a1 { } step a2 { } session t step b1 { } step b2 { }";
+
+/// How many launches a run makes that stops after so many permutations.
+fn launches_of<R: Threads + Wait + Sync>(rt: &R, alloc: Global, spec: &str, limit: u64) -> u64 {
+    let gate = Counting {
+        launches: AtomicU64::new(0),
+    };
+    let mut text = Vec::new(alloc);
+    let mut notes = Vec::new(alloc);
+    let mut input = FromStd::new(spec.as_bytes());
+    let mut out = FromStd::new(&mut text);
+    let mut told = FromStd::new(&mut notes);
+    let _ = run_spec(rt, alloc, &mut input, &mut out, &mut told, limit, &gate);
+    gate.launches.load(Ordering::SeqCst)
+}
+
+#[test]
+fn no_more_permutations_run_than_the_limit(rt: HostRuntime) -> Result<(), Fail> {
+    for (limit, launches) in [(0, 0), (1, 4), (2, 8), (5, 20), (6, 24), (7, 24)] {
+        let seen = launches_of(&rt, rt.alloc(), SIX, limit);
+        holds(&rt, seen == launches, "as many as the limit leaves");
+    }
+    Ok(())
+}
