@@ -9,13 +9,14 @@ ghost use Rattle.session_statements.specs.Inner.Going.{go_from, has_targets, rea
 ghost use Rattle.session_statements.specs.Inner.Keeping.{IsAtWork, IsOrderly};
 ghost use Rattle.session_statements.specs.Inner.Left.{left};
 
-use crate::delete::delete_from;
+use crate::act::Act;
 use crate::effect::Effect;
 use crate::faults::fault_in;
 use crate::insert::insert_from;
 use crate::select::select_from;
 use crate::transactions::fail;
 use crate::update::update_from;
+use crate::walk::go_over_passing;
 use iso_lexer::{Ident, Name};
 use row_versions::Versions;
 use session_database::{Database, Surroundings, Work};
@@ -49,7 +50,10 @@ pub(crate) fn go_on<'a, 't, V: Versions>(
     match stmt {
         Stmt::Insert(insert) => insert_from(db, work, insert, place, rows),
         Stmt::Update(update) => update_from(db, work, update, place, rows),
-        Stmt::Delete(delete) => delete_from(db, work, delete, place, rows),
+        Stmt::Delete(delete) => {
+            let act = Act::Delete(delete);
+            go_over_passing(db, work, &act, &delete.filter, place, rows)
+        }
         Stmt::Select(select) => select_from(db, work, select, place, rows),
         _ => Ok(Effect::turned(Transaction::Open(db.after_query(&work.by)))),
     }

@@ -5,7 +5,6 @@ mod act;
 mod begin;
 mod checks;
 mod definitions;
-mod delete;
 mod effect;
 mod faults;
 mod insert;

@@ -9,12 +9,11 @@ ghost use Rattle.update_recheck.specs.Outcome.{target_outcome};
 ghost use Rattle.update_recheck.specs.Settling.{outcome_of};
 ghost use Rattle.session_machine.specs.Waits.{waits_in};
 ghost use Rattle.session_machine.specs.Rows.{columns_in, values_of};
-ghost use Rattle.session_machine.specs.Inner.Statements.{at_outcome, settled};
+ghost use Rattle.session_machine.specs.Inner.Statements.{at_outcome, delete_with, settled};
 ghost use Rattle.session_statements.specs.Inner.Acting.{act_with, asks, visit_at, visit_of};
 ghost use Rattle.session_statements.specs.Inner.Keeping.{CanTake, IsOrderly, RowIn};
 
 use crate::act::{Act, Visited};
-use crate::delete::delete_with;
 use crate::lock::lock_with;
 use crate::update::update_with;
 use row_locks::Waits;
@@ -104,6 +103,19 @@ pub(crate) fn visit<'a, 't, V: Versions>(
 {
     let settled = settle_target(db, work, act, seen)?;
     at_outcome(db, work, act, seen, settled)
+}
+
+/// DELETE (PostgreSQL manual, its page): the row is gone from here on.
+fn delete_with<'a, 't, V: Versions>(
+    db: &mut Database<'a, 't, V>,
+    work: &Work<'_>,
+    version: &Seen,
+) -> Result<Visited<'t>, AllocError>
+    requires opened { IsOpen db.old.content work.now.t.tx }
+    ensures { IfOk result (λ v. delete_with work.now db.old version.now ≡ visit_of db.new v) }
+{
+    db.write_row(work, version.row, None)?;
+    Ok(Visited::Passes)
 }
 
 /// What the statement does with the version that a target takes.
