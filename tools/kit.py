@@ -170,16 +170,105 @@ def pairs_of(edit):
     return pairs
 
 
+def opener_of(line):
+    """Returns what a line opens that stands in the paths of functions: of an impl the type and the trait, as the prover joins them, of a trait or module its name."""
+    found = re.match(r"(?:pub(?:\([^)]*\))? )?(?:unsafe )?(trait|mod|impl)\b(.*)", line)
+    if not found:
+        return None
+    rest = found[2].strip()
+    while rest.startswith("<"):
+        depth = 0
+        for at, it in enumerate(rest):
+            depth += (it == "<") - (it == ">" and rest[at - 1] != "-")
+            if not depth:
+                break
+        rest = rest[at + 1 :].strip()
+    names = [re.match(r"&?(?:\w+::)*(\w*)", it.strip())[1] for it in rest.partition("{")[0].partition(" where ")[0].split(" for ")]
+    return names[1] + names[0] if found[1] == "impl" and len(names) == 2 else names[0]
+
+
 def function_at(text, at):
-    """Returns the name of the function that stands at this place, or nothing where none does."""
-    before = [it for it in re.finditer(r"^( *)(?:pub(?:\([^)]*\))? )?(?:const )?fn (\w+)", text[:at], re.M)]
+    """Returns the function that stands at this place, with the impl, trait or module that it stands in, or nothing where none does."""
+    before = [it for it in re.finditer(r"^( *)(?:pub(?:\([^)]*\))? )?(?:const )?(?:unsafe )?fn (\w+)", text[:at], re.M)]
     if not before or re.search(rf"^{before[-1][1]}}}$", text[before[-1].end() : at], re.M):
         return None
-    return before[-1][2]
+    path, indent = [before[-1][2]], len(before[-1][1])
+    for line in reversed(text[: before[-1].start()].split("\n")):
+        depth = len(line) - len(line.lstrip())
+        if line.strip() and depth < indent and (name := opener_of(line.strip())):
+            path, indent = [name, *path], depth
+    return "::".join(path)
+
+
+def name_of(crate, file, function):
+    """Returns the name by which the prover knows a function of a file of the crate, as far as the file tells it: a method is named after its type's module, which is left out."""
+    if "::" in function:
+        return f"{crate.name}::..::{function}"
+    parts = [it for it in file.removeprefix("src/").removesuffix(".rt").split("/") if it not in ("lib", "main", "mod")]
+    return "::".join([crate.name, *parts, function])
+
+
+def is_of(path, name):
+    """Returns whether what the prover names by this path is the function of this name, or a closure in it."""
+    plain = path.partition("+")[0].replace("::fn::", "::")
+    first, is_method, rest = name.partition("::..::")
+    if is_method:
+        return plain.startswith(f"{first}::") and f"::{rest}::" in f"{plain}::"
+    return f"{plain}::".startswith(f"{name}::")
+
+
+# A declaration of a proof file that fails, and a function that isn't proved for a reason of its own (one that only calls another such says so).
+STALE = re.compile(r"^(?:note: )?(?:\./)?(proofs/\S+?\.antt):\d+:\d+: error: (?:`([^`]+)`)?", re.M)
+UNPROVED = re.compile(r"^fn (\S+): (?:not proved|no proof: (?!it calls))(.*)", re.M)
+# How often declarations that fail are taken out, and the check made again.
+ROUNDS = 4
+
+
+def without(text, name):
+    """Returns the text of a proof file without the declaration of this name."""
+    left, within = [], False
+    for line in text.split("\n"):
+        if re.match(rf"(?:abbrev |opaque )*(?:pub )?{re.escape(name)} :", line):
+            within = True
+        elif within and line.strip() and line[0] not in " \t}" and not line.startswith(f"{name} "):
+            within = False
+        if not within:
+            left.append(line)
+    return "\n".join(left)
+
+
+def with_what_fails_taken_out(crate, texts, said):
+    """Returns the texts with the declarations taken out of proof files that the check failed at: they fit the right body and say nothing of this one. Nothing where there is none."""
+    texts, taken = dict(texts), False
+    for path, name in {(it[1], it[2]) for it in STALE.finditer(said)}:
+        text = texts.get(path) or rtlib.text_of(f"{crate.folder}/{path}") or ""
+        less = without(text, name) if name else text
+        taken = taken or less != text
+        texts[path] = less
+    return texts if taken else None
+
+
+def checked(crate, texts, kept):
+    """Checks the crate with these texts, and again without the declarations of proof files that fail at them, until none does: a body counts as refused where the
+    check fails still. Returns the last run, its texts, and whether declarations were taken out."""
+    ran, taken = rt.checked(crate, texts, ["--jobs", "1"], kept), False
+    for _ in range(ROUNDS):
+        less = with_what_fails_taken_out(crate, texts, ran.stdout) if ran.returncode == 1 else None
+        if less is None:
+            break
+        texts, taken = less, True
+        ran = rt.checked(crate, texts, ["--jobs", "1"], kept)
+    return ran, texts, taken
+
+
+def is_refusal(ran, texts):
+    """Returns whether the prover read these texts and doesn't prove them."""
+    lines = ran.stdout.rstrip("\n").split("\n")
+    return ran.returncode == 1 and lines[-1].startswith("logic=not-proved") and not any(rt.unread(it, texts) for it in lines) and not rtlib.STALE.search(ran.stdout)
 
 
 class Batch:
-    """Edits of functions whose names differ, to be tried in one check: a function is proved from the contracts of others, whatever their bodies are."""
+    """Edits of different functions, to be tried in one check: a function is proved from the contracts of others, whatever their bodies are."""
 
     def __init__(self):
         self.texts, self.names, self.edits = {}, {}, []
@@ -190,25 +279,34 @@ class Batch:
         for path, old, new in pairs_of(edit):
             text = texts.get(path) or rtlib.text_of(f"{crate.folder}/{path}") or ""
             name = function_at(text, text.find(old))
-            if text.count(old) != 1 or not name or name in self.names:
+            if text.count(old) != 1 or not name or name_of(crate, path, name) in self.names:
                 return False
             texts[path] = text.replace(old, new)
-            names.add(name)
+            names.add(name_of(crate, path, name))
         self.texts = texts
-        self.names.update({name: edit for name in names})
+        self.names.update({it: edit for it in names})
         self.edits.append(edit)
         return True
 
     def refused(self, crate, kept):
-        """Returns the edits of which a function isn't proved, none where the check doesn't come that far."""
-        ran = rt.checked(crate, self.texts, ["--jobs", "1"], kept)
-        lines = ran.stdout.rstrip("\n").split("\n")
-        if ran.returncode != 1 or not lines[-1].startswith("logic=not-proved") or any(rt.unread(it, self.texts) for it in lines):
+        """Returns the edits of which a function isn't proved, none where the check doesn't come that far. Functions that are proved as one say nothing of each."""
+        ran, texts, _ = checked(crate, self.texts, kept)
+        if not is_refusal(ran, texts):
             return set()
-        # (a function that only calls one that isn't proved says so)
-        failed = re.findall(r"^fn (\S+): (?:not proved|no proof: (?!it calls))", ran.stdout, re.M)
-        parts = {part for it in failed for part in re.split(r"::|\+", it)}
-        return {edit for name, edit in self.names.items() if name in parts}
+        failed = [(it[1], it[2]) for it in UNPROVED.finditer(ran.stdout) if "/+" not in it[2]]
+        return {edit for name, edit in self.names.items() if any(is_of(path, name) for path, _ in failed)}
+
+
+def tried_alone(crate, edit, kept):
+    """Tries one edit. Returns whether it is refused, and what to say."""
+    texts, why = rt.read_edit(edit, crate.folder)
+    if not why:
+        ran, texts, taken = checked(crate, texts, kept)
+        if ran.returncode == 0 and taken:
+            return False, f"{os.path.basename(edit)[:-5]}: NOT REFUSED: only declarations of proof files that fit the right body fail at it"
+        if is_refusal(ran, texts) and UNPROVED.search(ran.stdout):
+            return True, "refused"
+    return judged(rt.must_fail(crate, edit, ["--jobs", "1"], kept))
 
 
 def tried(crate, edits):
@@ -221,7 +319,7 @@ def tried(crate, edits):
     with tempfile.TemporaryDirectory(prefix="rt-edits-") as room:
         kept = shutil.copytree(f"{crate.folder}/{rtlib.KEPT[1]}", f"{room}/kept")
         refused = {edit for it in batches if len(it.edits) > 1 for edit in it.refused(crate, kept)}
-        return [(True, "refused") if it in refused else judged(rt.must_fail(crate, it, ["--jobs", "1"], kept)) for it in edits]
+        return [(True, "refused") if it in refused else tried_alone(crate, it, kept) for it in edits]
 
 
 def judged(came_to):
@@ -229,6 +327,12 @@ def judged(came_to):
     kind, text = came_to
     # (a kit says whether the edit was refused, or in which way)
     return kind in (getattr(rt, "REFUSED", True), getattr(rt, "AT_LIMIT", True)), text
+
+
+def teller_of(edit):
+    """Returns the crate whose tests tell the edit: the one that its line 'by:' names, else that of threads."""
+    found = re.search(r"^by: (\w+)$", rtlib.text_of(edit) or "", re.M)
+    return found[1] if found else TELLS
 
 
 def told_by_tests(crate, edit):
@@ -243,7 +347,7 @@ def told_by_tests(crate, edit):
             with open(at, "w", encoding="utf-8") as it:
                 it.write(text.replace(old, new))
         try:
-            ran = subprocess.run(["rt", "try", "--test"], cwd=f"{room}/crates/{TELLS}", capture_output=True, text=True, timeout=PATIENCE)
+            ran = subprocess.run(["rt", "try", "--test"], cwd=f"{room}/crates/{teller_of(edit)}", capture_output=True, text=True, timeout=PATIENCE)
         except subprocess.TimeoutExpired:
             return True, "no end"
         failed = re.findall(r"^test (\S+) \.\.\. (?!ok)", ran.stdout, re.M)
@@ -270,16 +374,6 @@ def rows_lacking(among):
     for crate, name in sorted(rows - edits):
         print(f"docs/WRONG_BODIES.md: the crate {crate} has no edit {name}")
     return len(edits ^ rows)
-
-
-def quotes_lacking():
-    """Looks whether each definition that docs/DEFINITIONS.md quotes stands so in the file that is named with it. Returns how many don't; each is printed."""
-    lacking = 0
-    for crate, file, quoted in re.findall(r"^```antt (\w+)/(\w+)\n(.*?)^```$", rtlib.text_of(f"{TOP}/docs/DEFINITIONS.md") or "", re.M | re.S):
-        if quoted not in (rtlib.text_of(f"{TOP}/crates/{crate}/specs/{file}.antt") or ""):
-            print(f"docs/DEFINITIONS.md: what it quotes of {crate}/{file} doesn't stand there: {quoted.splitlines()[0]}")
-            lacking += 1
-    return lacking
 
 
 def files_below(folder):
@@ -315,13 +409,30 @@ def line_of(crate):
     return f"{crate.name}: {len(edits_in(crate, 'wrong_bodies'))} refused, state {state_of(crate)}"
 
 
+def line_of_told(crate):
+    """Returns the line that says that all wrong bodies of the crate which only tests tell are told: a sum of them, of the crate's code, and of the tests that tell them."""
+    edits = edits_in(crate, "wrong_bodies/by_tests")
+    tellers = sorted({teller_of(it) for it in edits})
+    state = hashlib.sha256()
+    for file in [*edits, *files_below(f"{crate.folder}/src"), *(it for name in tellers for it in files_below(f"{TOP}/crates/{name}/src"))]:
+        state.update(repr((os.path.relpath(file, TOP), said_in(file))).encode())
+    return f"{crate.name} by tests: {len(edits)} told, state {state.hexdigest()[:16]}"
+
+
 def lines_tried():
-    """Returns the lines of wrong_bodies.txt, by crate: of crates that are there."""
-    lines = {it.partition(":")[0]: it for it in (rtlib.text_of(TRIED) or "").splitlines()}
-    return {name: it for name, it in lines.items() if os.path.isdir(f"{TOP}/crates/{name}/wrong_bodies")}
+    """Returns the lines of wrong_bodies.txt, by what stands before the colon: of crates that have such wrong bodies."""
+    lines = {it.partition(":")[0]: it for it in (rtlib.text_of(TRIED) or "").splitlines() if not it.startswith("#")}
+    rooms = {name: f"{TOP}/crates/{name.removesuffix(' by tests')}/wrong_bodies" + "/by_tests" * name.endswith(" by tests") for name in lines}
+    return {name: it for name, it in lines.items() if os.path.isdir(rooms[name])}
 
 
 def untried(among):
     """Returns the crates whose wrong bodies were not all tried and refused on the text as it stands."""
     tried = lines_tried()
     return [it for it in among if edits_in(it, "wrong_bodies") and tried.get(it.name) != line_of(it)]
+
+
+def untold(among):
+    """Returns the crates of whose wrong bodies those that only tests tell were not all tried and told on the text as it stands."""
+    tried = lines_tried()
+    return [it for it in among if edits_in(it, "wrong_bodies/by_tests") and tried.get(f"{it.name} by tests") != line_of_told(it)]

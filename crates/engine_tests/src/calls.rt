@@ -89,6 +89,29 @@ const FREE: Run<'static> = Run {
     tries: &[Try::IsOf(&RESPELT)],
 };
 
+/// The one step of the example `free_run_statements`.
+const STATEMENTS: [Line; 1] = [(1, "SELECT 1; SELECT 2;", "")];
+
+const FREE_CALLS: [Call; 5] = [
+    (Leave(0), "answered and ended"),
+    (Launch(1, 0), "answered"),
+    (Step(1), "answered ? | 1"),
+    (Step(1), "answered ? | 2 and ended"),
+    (Leave(1), "answered and ended"),
+];
+
+const FREE_RUN: Run<'static> = Run {
+    lines: &STATEMENTS,
+    sessions: 1,
+    mode: Mode::Free,
+    tries: &[Try::Calls(&FREE_CALLS), Try::Rests(5), Try::ReplaysFreely],
+};
+
+#[test]
+fn a_free_run_replays(rt: HostRuntime) {
+    goes(&rt, rt.alloc(), &FREE_RUN);
+}
+
 #[test]
 fn two_sessions_by_calls(rt: HostRuntime) {
     goes(&rt, rt.alloc(), &DIRECTED);

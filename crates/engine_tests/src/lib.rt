@@ -4,6 +4,8 @@
 #[cfg(test)]
 mod at_rows;
 #[cfg(test)]
+mod by_events;
+#[cfg(test)]
 mod calls;
 #[cfg(test)]
 mod changes;
@@ -25,6 +27,8 @@ mod refusals;
 mod selects;
 #[cfg(test)]
 mod sessions;
+#[cfg(test)]
+mod sizes;
 #[cfg(test)]
 mod tables;
 #[cfg(test)]

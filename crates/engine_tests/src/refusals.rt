@@ -2,7 +2,7 @@
 //! the engine that was refused is then spent, its history is the one before that event, and the run is made again.
 
 use crate::tables::Given::{Launch, Step};
-use crate::tables::{Call, Run, Try, goes};
+use crate::tables::{Call, Run, Sight, Try, goes};
 use crate::trial::Line;
 use crate::waits::{ACCT, SHARE};
 use session_machine::Mode;
@@ -34,6 +34,13 @@ const DELETE_CALLS: [Call; 13] = [
     (Step(2), "answered and ended"),
     (Launch(2, 4), "answered"),
     (Step(2), "answered hits | 10 | 11 and ended"),
+];
+
+/// What was updated is there, and what matched only afterwards as well: the DELETE didn't look again for rows.
+const DELETE_SIGHTS: [Sight; 3] = [
+    (0, "website", " | 10 | 11"),
+    (1, "website", " | 10 | 11"),
+    (2, "website", " | 10 | 11"),
 ];
 
 /// Sessions 1, 2 and 4 share the row for which session 3 waits, and session 4 asks for the row that session 3 holds.
@@ -108,7 +115,11 @@ const DELETES: Run<'static> = Run {
     lines: &DELETE,
     sessions: 4,
     mode: Mode::Directed,
-    tries: &[Try::Calls(&DELETE_CALLS), Try::Rests(13)],
+    tries: &[
+        Try::Calls(&DELETE_CALLS),
+        Try::Sights(&DELETE_SIGHTS),
+        Try::Rests(13),
+    ],
 };
 
 #[test]

@@ -159,15 +159,16 @@ fn rests(engine: &Engine<'_>, events: usize) -> bool {
     matches!(engine.turn(), Turn::Driver) && engine.quiet() && engine.history().len() == events
 }
 
-/// The history with the end of its sixth event told otherwise.
+/// The history with the end of the event at that place told otherwise.
 fn with_other_end(
     alloc: Global,
     history: &[HistItem<'static>],
+    place: usize,
 ) -> Result<Vec<HistItem<'static>>, AllocError> {
     let mut items = Vec::new(alloc);
     for item in history {
         let mut copy = item.copied(alloc)?;
-        copy.reply.ended = copy.reply.ended != (items.len() == 5);
+        copy.reply.ended = copy.reply.ended != (items.len() == place);
         items.push(copy)?;
     }
     Ok(items)
@@ -178,8 +179,23 @@ fn is_changed_legal(
     blocks: &[Block<'static>],
     history: &[HistItem<'static>],
 ) -> Result<bool, AllocError> {
-    let changed = with_other_end(alloc, history)?;
+    let changed = with_other_end(alloc, history, 5)?;
     replays(alloc, blocks, 2, Mode::Directed, &changed)
+}
+
+/// Whether the history of a free run of one session replays, and doesn't with the end of any one event told otherwise.
+fn replays_freely(
+    alloc: Global,
+    blocks: &[Block<'static>],
+    history: &[HistItem<'static>],
+) -> Result<bool, AllocError> {
+    for place in 0..history.len() {
+        let changed = with_other_end(alloc, history, place)?;
+        if replays(alloc, blocks, 1, Mode::Free, &changed)? {
+            return Ok(false);
+        }
+    }
+    replays(alloc, blocks, 1, Mode::Free, history)
 }
 
 /// Whether the history replays over these blocks and in either mode, and neither with another session count nor with a reply changed.
@@ -233,6 +249,8 @@ pub enum Try {
     /// Nothing goes on, after so many events.
     Rests(usize),
     Replays,
+    /// The history replays in a free run of one session, and with none of its replies changed.
+    ReplaysFreely,
     /// It is of its blocks, also in this spelling.
     IsOf(&'static [Line]),
 }
@@ -260,6 +278,7 @@ fn is_tried(
         Try::Sights(sights) => return all_see(rt, engine, sights),
         Try::Rests(events) => rests(engine, events),
         Try::Replays => replays_alone(alloc, blocks, engine.history())?,
+        Try::ReplaysFreely => replays_freely(alloc, blocks, engine.history())?,
         Try::IsOf(respelt) => is_of_its_blocks(alloc, engine, blocks, respelt)?,
     };
     holds(rt, so, "what is tried with the engine");

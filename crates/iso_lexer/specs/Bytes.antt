@@ -1,4 +1,4 @@
--- Classes of bytes, the fronts that they make, and rows of spellings.
+-- To be believed. Classes of bytes, the fronts that they make, and rows of spellings.
 use Rattle.std.specs.Prelude.{ℕ, Bool, ◌||◌, ◌==◌, nat_le, List, drop, Option, option_map, find}
 use Rattle.std.specs.List.{prefix_len, slice_split}
 use Rattle.std.specs.Char.{is_ascii_digit, is_ascii_alphabetic}

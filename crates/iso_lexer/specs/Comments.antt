@@ -1,4 +1,4 @@
--- Where a comment of SQL text ends.
+-- To be believed. Where a comment of SQL text ends.
 use Rattle.std.specs.Prelude.{◌≡◌, ◌≢◌, ◌↔◌, ℕ, suc, ◌-◌, ◌<◌, ◌≤◌, ◌&&◌, ◌==◌, List, ◌∷◌, Option, Some, None, if◌then◌else◌, length, drop, slice_index}
 
 -- Behind a comment's opening: its end, a comment in it and what goes on behind that, or another byte. The rest follows the end.

@@ -1,4 +1,4 @@
--- How a text splits into tokens, by rules for what stands at its front.
+-- To be believed. How a text splits into tokens, by rules for what stands at its front.
 use Rattle.std.specs.Prelude.{◌≡◌, ℕ, ◌+◌, ◌-◌, ◌<◌, ◌≤◌, Bool, List, [], ◌∷◌, length, map, take_while, Result, Ok, Err, slice_range}
 use Rattle.std.specs.Result.{result_map_both}
 use Rattle.std.specs.Global.{Vec}

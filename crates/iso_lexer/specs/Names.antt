@@ -1,4 +1,4 @@
--- Names as they are written, and the bytes that they stand for.
+-- To be believed. Names as they are written, and the bytes that they stand for.
 use Rattle.std.specs.Prelude.{ℕ, List, ◌∷◌, map, if◌then◌else◌, ◌==◌}
 use Rattle.std.specs.Char.{to_ascii_lowercase}
 use Rattle.iso_lexer.specs.declared.name.Name.{Name}

@@ -1,4 +1,4 @@
--- Reading from left to right, up to the first fault: words of reading, for spec files and for SQL.
+-- To be believed. Reading from left to right, up to the first fault: words of reading, for spec files and for SQL.
 use Rattle.std.specs.Prelude.{ℕ, List, [], ◌∷◌, Result, Ok}
 use Rattle.iso_lexer.specs.declared.token.At.{At}
 use Rattle.iso_lexer.specs.Results.{if_ok}

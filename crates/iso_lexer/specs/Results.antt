@@ -1,4 +1,4 @@
--- What is made of a value, unless there is a fault.
+-- To be believed. What is made of a value, unless there is a fault.
 use Rattle.std.specs.Prelude.{List, [], ◌∷◌, Result, Ok, Err}
 
 -- what is made of the value; a fault stays

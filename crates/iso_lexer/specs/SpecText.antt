@@ -1,4 +1,4 @@
--- The tokens of a spec file, or the first fault of one.
+-- To be believed. The tokens of a spec file, or the first fault of one.
 use Rattle.std.specs.Prelude.{◌≡◌, ◌≤◌, ℕ, ◌+◌, ◌-◌, not, ◌||◌, ◌==◌, List, [], ◌∷◌, length, take, take_while, drop, zip, position, bytes_eq, Result, Ok, Err, if◌then◌else◌, codes, nat_lt, MatchBool}
 use Rattle.std.specs.Global.{Vec}
 use Rattle.std.specs.List.{before_first, suffix_len}

@@ -1,4 +1,4 @@
--- The tokens of a spec file.
+-- To be believed. The tokens of a spec file.
 use Rattle.std.specs.Prelude.{ℕ, List, map}
 use Rattle.iso_lexer.specs.declared.spec_token.Keyword.{Keyword}
 use Rattle.iso_lexer.specs.declared.spec_token.Sign.{Sign}

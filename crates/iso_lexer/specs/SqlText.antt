@@ -1,4 +1,4 @@
--- The tokens of SQL text, or its first fault. Words, quoted names, strings, numbers, signs and comments are those of
+-- To be believed. The tokens of SQL text, or its first fault. Words, quoted names, strings, numbers, signs and comments are those of
 -- PostgreSQL's manual, section "Lexical Structure".
 use Rattle.std.specs.Prelude.{ℕ, not, ◌||◌, ◌&&◌, ◌==◌, List, [], ◌∷◌, ◌++◌, length, take_while, drop, zip, bytes_eq, Result, if◌then◌else◌, codes, nat_lt, slice_index}
 use Rattle.std.specs.Global.{Vec}

@@ -1,4 +1,4 @@
--- The tokens of SQL text.
+-- To be believed. The tokens of SQL text.
 use Rattle.std.specs.Prelude.{ℕ, List, map}
 use Rattle.iso_lexer.specs.declared.sql_token.SqlSign.{SqlSign}
 use Rattle.iso_lexer.specs.declared.sql_token.SqlTok.{SqlTok}

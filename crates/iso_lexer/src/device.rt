@@ -1,12 +1,25 @@
 //! Where bytes come from and go to.
 
-ghost use Rattle.std.specs.Prelude.{◌≡◌, ◌≤◌, List, ℕ, Option, Bool, length, IfOk, OnOk};
+ghost use Rattle.std.specs.Prelude.{◌≡◌, ◌≤◌, List, ℕ, Option, Some, Bool, codes, length, IfOk, OnOk};
 ghost use Rattle.std.specs.Io.KnownBytes.{ReadConsumes, Appends};
 ghost use Rattle.iso_lexer.specs.Devices.{FailsWith, PutsFront};
+
+use std::error::Error;
+use std::fmt;
 
 /// The device failed, and each later call of it fails.
 #[derive(Clone, Copy, Debug, PartialEq, Eq)]
 pub struct DeviceFault;
+
+impl fmt::Display for DeviceFault {
+    ghost output = { λ _. Some (codes "Device") };
+
+    fn fmt<W: fmt::Write>(&self, f: &mut fmt::Formatter<W>) -> fmt::Result {
+        f.write_str("Device")
+    }
+}
+
+impl Error for DeviceFault {}
 
 /// Bytes that come in.
 pub trait Source {

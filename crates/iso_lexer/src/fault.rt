@@ -1,10 +1,11 @@
 //! Why a text has no tokens.
 
-ghost use Rattle.std.specs.Prelude.{◌≡◌, Some};
-ghost use Rattle.iso_lexer.specs.declared.fault.LexFault.TheVariants.{Memory};
+ghost use Rattle.std.specs.Prelude.{◌≡◌, ℕ, List, Option, Some, codes};
+ghost use Rattle.iso_lexer.specs.declared.fault.LexFault.TheVariants.{Memory, Fault as OfText};
 ghost use Rattle.iso_lexer.specs.FaultText.{kind_text, fault_text};
 
 use std::alloc::{AllocError, AllocFailed};
+use std::error::Error;
 use std::fmt;
 
 /// What is wrong with a text.
@@ -53,6 +54,8 @@ impl fmt::Display for FaultKind {
     }
 }
 
+impl Error for FaultKind {}
+
 impl fmt::Display for Fault {
     ghost output = { λ fault. Some (fault_text fault) };
 
@@ -61,11 +64,27 @@ impl fmt::Display for Fault {
     }
 }
 
+impl Error for Fault {}
+
+/// Why a text was not read into tokens.
 #[derive(Debug, Drop)]
 pub enum LexFault {
     Memory,
     Fault(Fault),
 }
+
+impl fmt::Display for LexFault {
+    ghost output = { λ why. elim why as (λ _. Option (List ℕ)) [ Memory ↦ Some (codes "Memory") | OfText fault ↦ Some (fault_text fault) ] };
+
+    fn fmt<W: fmt::Write>(&self, f: &mut fmt::Formatter<W>) -> fmt::Result {
+        match self {
+            LexFault::Memory => f.write_str("Memory"),
+            LexFault::Fault(fault) => fault.fmt(f),
+        }
+    }
+}
+
+impl Error for LexFault {}
 
 impl From<AllocError> for LexFault {
     ghost from_gives = { λ _ e. e ≡ Memory };

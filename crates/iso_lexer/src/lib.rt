@@ -1,4 +1,15 @@
 //! Tokens of spec files and of SQL text, names, and the devices that bytes come from and go to.
+//!
+//! ```
+//! /// The byte at which the last token of a spec file begins.
+//! fn last_token(alloc: Global, file: &str) -> anyhow::Result<usize> {
+//!     let tokens = spec_tokens(alloc, file)?;
+//!     let Some(last) = tokens.last() else {
+//!         bail!("no tokens");
+//!     };
+//!     Ok(last.span.start)
+//! }
+//! ```
 #![tactic(auto)]
 
 mod comment;

@@ -1,11 +1,13 @@
 //! Reading all of a source.
 
-ghost use Rattle.std.specs.Prelude.{◌≡◌, ◌<◌, true, IfOk, OnErr, IsErrOf};
+ghost use Rattle.std.specs.Prelude.{◌≡◌, ◌<◌, true, ℕ, List, Option, Some, codes, IfOk, OnErr, IsErrOf};
 ghost use Rattle.iso_lexer.specs.declared.whole.ReadFault.TheVariants.{Memory, Device};
 ghost use Rattle.iso_lexer.specs.Devices.{IsFront, TakesFew};
 
 use crate::device::{DeviceFault, Source};
 use std::alloc::{AllocError, Global};
+use std::error::Error;
+use std::fmt;
 
 /// The most bytes that a spec file has.
 pub const LONGEST_FILE: usize = 1_048_576;
@@ -16,6 +18,19 @@ pub enum ReadFault {
     Memory,
     Device,
 }
+
+impl fmt::Display for ReadFault {
+    ghost output = { λ fault. elim fault as (λ _. Option (List ℕ)) [ Memory ↦ Some (codes "Memory") | Device ↦ Some (codes "Device") ] };
+
+    fn fmt<W: fmt::Write>(&self, f: &mut fmt::Formatter<W>) -> fmt::Result {
+        f.write_str(match self {
+            Self::Memory => "Memory",
+            Self::Device => "Device",
+        })
+    }
+}
+
+impl Error for ReadFault {}
 
 impl From<DeviceFault> for ReadFault {
     ghost from_gives = { λ _ e. e ≡ Device };

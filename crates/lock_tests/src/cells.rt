@@ -270,3 +270,33 @@ fn each_cell_is_settled_as_defined(rt: HostRuntime) -> Result<(), Fail> {
     are_settled(&rt, rt.alloc(), Level::ReadCommitted, &AT_READ_COMMITTED)?;
     are_settled(&rt, rt.alloc(), Level::RepeatableRead, &AT_REPEATABLE_READ)
 }
+
+/// For how many the asker waits, where the row is as it was found.
+pub fn waited_for<V: Versions>(
+    alloc: Global,
+    store: &V,
+    locks: &mut LockTable,
+) -> Result<Option<usize>, AllocError> {
+    let cols = Columns::of(&COLUMNS);
+    let ask = Ask {
+        tx: ASKER,
+        level: Level::ReadCommitted,
+        view: View {
+            tx: Some(ASKER),
+            commits: 1,
+            command: 0,
+        },
+        seen: Seen { row: ROW, place: 0 },
+        strength: Exclusive,
+        filter: None,
+        cols: &cols,
+    };
+    if !fits(store, &ask) {
+        return Ok(None);
+    }
+    match settle(alloc, store, locks, &Waits::new(alloc), &ask)? {
+        Settled::Take(_) => Ok(Some(0)),
+        Settled::Wait(found) => Ok(Some(found.len())),
+        _ => Ok(None),
+    }
+}

@@ -10,4 +10,6 @@ mod locks_and_waits;
 #[cfg(test)]
 mod memory;
 #[cfg(test)]
+mod sizes;
+#[cfg(test)]
 mod stores;

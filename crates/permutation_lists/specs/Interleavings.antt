@@ -1,4 +1,4 @@
--- The interleavings of sessions: all orders of their steps that keep each session's own steps in order, as lists of session numbers.
+-- To be believed. The interleavings of sessions: all orders of their steps that keep each session's own steps in order, as lists of session numbers.
 -- The isolation README: with no permutation lines "all possible interleavings of the steps from each session" run, "running the steps of any one session in order".
 use Rattle.std.specs.Prelude.{◌≡◌, ℕ, zero, suc, ◌-◌, ◌<◌, ◌==◌, List, [], ◌∷◌, length, map, flat_map, sum, count_by, slice_index, slice_set, if◌then◌else◌}
 use Rattle.std.specs.List.{enumerate_from}

@@ -1,4 +1,4 @@
--- The permutations of a spec: its permutation lines, or all interleavings of its sessions' steps.
+-- To be believed. The permutations of a spec: its permutation lines, or all interleavings of its sessions' steps.
 -- The isolation README: a permutation line "specifies a list of steps that are run in that order"; with no permutation lines "all possible interleavings" run.
 use Rattle.std.specs.Prelude.{ℕ, ◌==◌, List, [], length, map, take, count_by, if◌then◌else◌}
 use Rattle.std.specs.List.{enumerate_from}

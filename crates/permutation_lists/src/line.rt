@@ -1,6 +1,6 @@
 //! The line that lists a permutation.
 
-ghost use Rattle.std.specs.Prelude.{◌≡◌, ◌++◌, ◌∷◌, [], OnOk, IfOk, map, flat_map, option_map};
+ghost use Rattle.std.specs.Prelude.{◌≡◌, ◌≢◌, ◌++◌, ◌∷◌, [], OnOk, OnErr, IfOk, map, flat_map, option_map};
 ghost use Rattle.iso_lexer.specs.Devices.{page_text};
 ghost use Rattle.iso_lexer.specs.Names.{name_view};
 ghost use Rattle.spec_parser.specs.Trees.{entry_view, step_view, spec_view};
@@ -11,7 +11,8 @@ use spec_parser::{Entry, Marker, Spec, StepPart};
 use std::alloc::{AllocError, Global};
 
 fn push_doubled(page: &mut Page, bytes: &[u8]) -> Result<(), AllocError>
-    ensures { OnOk result (page_text page.new ≡ page_text page.old ++ flat_map doubled bytes.now) }
+    ensures text { OnOk result (page_text page.new ≡ page_text page.old ++ flat_map doubled bytes.now) }
+    ensures memory { OnErr result (bytes.now ≢ []) }
 {
     for byte in bytes {
         if *byte == b'"' {
@@ -35,7 +36,8 @@ fn push_quoted(page: &mut Page, name: &Name<'_>) -> Result<(), AllocError>
 }
 
 fn push_step(page: &mut Page, step: Option<&StepPart<'_>>) -> Result<(), AllocError>
-    ensures { OnOk result (page_text page.new ≡ page_text page.old ++ quoted_step (option_map (λ x. step_view x.now) step.entry)) }
+    ensures text { OnOk result (page_text page.new ≡ page_text page.old ++ quoted_step (option_map (λ x. step_view x.now) step.entry)) }
+    ensures memory { OnErr result (quoted_step (option_map (λ x. step_view x.now) step.entry) ≢ []) }
 {
     match step {
         Some(step) => push_quoted(page, &step.name),
@@ -53,7 +55,8 @@ fn push_marker(page: &mut Page, spec: &Spec<'_>, marker: Marker) -> Result<(), A
 }
 
 fn push_more(page: &mut Page, spec: &Spec<'_>, markers: &[Marker]) -> Result<(), AllocError>
-    ensures { OnOk result (page_text page.new ≡ page_text page.old ++ flat_map (more_marker (spec_view spec.now)) markers.now) }
+    ensures text { OnOk result (page_text page.new ≡ page_text page.old ++ flat_map (more_marker (spec_view spec.now)) markers.now) }
+    ensures memory { OnErr result (markers.now ≢ []) }
 {
     for marker in markers {
         page.push(b", ")?;
@@ -63,7 +66,8 @@ fn push_more(page: &mut Page, spec: &Spec<'_>, markers: &[Marker]) -> Result<(),
 }
 
 fn push_markers(page: &mut Page, spec: &Spec<'_>, markers: &[Marker]) -> Result<(), AllocError>
-    ensures { OnOk result (page_text page.new ≡ page_text page.old ++ markers_text (spec_view spec.now) markers.now) }
+    ensures text { OnOk result (page_text page.new ≡ page_text page.old ++ markers_text (spec_view spec.now) markers.now) }
+    ensures memory { OnErr result (markers_text (spec_view spec.now) markers.now ≢ []) }
 {
     let Some((first, rest)) = markers.split_first() else {
         return Ok(());
@@ -83,7 +87,8 @@ fn push_entry(page: &mut Page, spec: &Spec<'_>, entry: &Entry) -> Result<(), All
 }
 
 fn push_entries(page: &mut Page, spec: &Spec<'_>, entries: &[Entry]) -> Result<(), AllocError>
-    ensures { OnOk result (page_text page.new ≡ page_text page.old ++ flat_map (entry_text (spec_view spec.now)) (map entry_view entries.now)) }
+    ensures text { OnOk result (page_text page.new ≡ page_text page.old ++ flat_map (entry_text (spec_view spec.now)) (map entry_view entries.now)) }
+    ensures memory { OnErr result (entries.now ≢ []) }
 {
     for entry in entries {
         push_entry(page, spec, entry)?;

@@ -43,7 +43,9 @@ impl<'s> Permutations<'s> {
     /// The permutations of the spec, before the first.
     pub fn of(alloc: Global, spec: &'s Spec<'_>) -> Result<Permutations<'s>, AllocError>
         requires { Stands (spec_view spec.now) }
-        ensures { IfOk result (λ p. p ≡ record { here = []; more = permutations_of (spec_view spec.now) }) }
+        ensures permutations { IfOk result (λ p. p ≡ record { here = []; more = permutations_of (spec_view spec.now) }) }
+        // The lines of a spec are lent, and want none.
+        ensures memory { OnErr result ((spec_view spec.now).perms ≡ []) }
     {
         let lines = spec.perms.as_slice();
         if lines.is_empty() {

@@ -1,6 +1,6 @@
 //! The entries of turns.
 
-ghost use Rattle.std.specs.Prelude.{◌≡◌, ◌≤◌, ◌<◌, ◌^◌, ◌==◌, [], length, map, flat_map, count_by, IfOk};
+ghost use Rattle.std.specs.Prelude.{◌≡◌, ◌≢◌, ◌≤◌, ◌<◌, ◌^◌, ◌==◌, [], length, map, flat_map, count_by, IfOk, OnErr};
 ghost use Rattle.spec_parser.specs.Trees.{entry_view, session_view};
 ghost use Rattle.permutation_lists.specs.Permutations.{entries_of};
 
@@ -23,7 +23,8 @@ fn entry_after(alloc: Global, before: &[u32], session: u32) -> Entry
 /// The entries of turns.
 pub fn entries_of(alloc: Global, turns: &[u32]) -> Result<Vec<Entry>, AllocError>
     requires { length turns.now < 2 ^ 32 }
-    ensures { IfOk result (λ entries. map entry_view entries.items ≡ entries_of turns.now) }
+    ensures entries { IfOk result (λ entries. map entry_view entries.items ≡ entries_of turns.now) }
+    ensures memory { OnErr result (turns.now ≢ []) }
 {
     let mut entries = Vec::with_capacity(alloc, turns.len())?;
     for (place, session) in turns.iter().enumerate() {
@@ -35,7 +36,8 @@ pub fn entries_of(alloc: Global, turns: &[u32]) -> Result<Vec<Entry>, AllocError
 /// How many steps each session has.
 pub fn step_counts(alloc: Global, sessions: &[SessionPart<'_>]) -> Result<Vec<u32>, AllocError>
     requires { length (flat_map (λ s. s.steps) (map session_view sessions.now)) < 2 ^ 32 }
-    ensures { IfOk result (λ counts. counts.items ≡ map (λ s. length s.steps) (map session_view sessions.now)) }
+    ensures counts { IfOk result (λ counts. counts.items ≡ map (λ s. length s.steps) (map session_view sessions.now)) }
+    ensures memory { OnErr result (sessions.now ≢ []) }
 {
     let mut counts = Vec::with_capacity(alloc, sessions.len())?;
     for session in sessions {

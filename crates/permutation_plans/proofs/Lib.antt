@@ -1,5 +1,6 @@
 pub mod OneHistory
 pub mod Working
+pub mod Waiting
 pub mod Following
 pub mod Whole
 pub mod Next

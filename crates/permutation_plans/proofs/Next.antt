@@ -1,5 +1,5 @@
 -- The next order is the one that is due.
-use Rattle.std.proofs.Common.{◌≡◌, ◌≢◌, ℕ, zero, suc, ◌+◌, ◌-◌, ◌<◌, ◌≤◌, ◌⊎◌, inl, inr, Bool, true, false, nat_lt, List, [], ◌∷◌, ◌++◌, length, map, refl, sym, ap, ap₂, subst, ◌∙◌, arith, append_assoc, append-nil, length-append}
+use Rattle.std.proofs.Common.{◌≡◌, ◌≢◌, ◌↔◌, ℕ, zero, suc, ◌+◌, ◌-◌, ◌<◌, ◌≤◌, ◌⊎◌, inl, inr, Bool, true, false, nat_lt, List, [], ◌∷◌, ◌++◌, length, map, refl, sym, ap, ap₂, subst, ◌∙◌, arith, append_assoc, append-nil, length-append}
 use Rattle.std.specs.Prelude.{nat_le, Option, Some, None, unwrap_or, slice_get, option_to_list, flat_map, IfSome, IsTrue, if◌then◌else◌}
 use Rattle.std.proofs.Math.Path.{fun_ext}
 use Rattle.std.specs.List.{range_with_len}
@@ -36,8 +36,8 @@ use Rattle.report_text.proofs.Saying.{after_whole, at_end, permutation_run}
 use Rattle.report_text.proofs.Ordered.{session_in, setups_launch, setups_number, own_launch, parts_launch, permutation_turn}
 use Rattle.permutation_plans.specs.Launches.{launches, run_of, due_in}
 use Rattle.permutation_plans.specs.Launches as old
-use Rattle.permutation_plans.specs.Fits.{IsOrdered, FitsAfter}
-use Rattle.permutation_plans.specs.Regular.{next_order, IsRegular}
+use Rattle.permutation_plans.specs.Fits.{IsOrdered, FitsAfter, DueIsNextOrder}
+use Rattle.permutation_plans.specs.Regular.{next_order, LaunchesFit, IsRegular}
 use Rattle.permutation_plans.specs.Whole.{order_at, NextIsDue}
 use Rattle.permutation_plans.proofs.Whole.{else_same, at_append, length_launches, beyond, past, launch_at, IsStateAt, state_at, length_tasks, next_is_due}
 
@@ -429,21 +429,28 @@ fits_from due all front (i ∷ items) ordered over is =
 due_same : (spec : SpecTree) (entries : List EntryTree) → next_order spec entries ≡ due_in spec entries
 due_same spec entries = fun_ext (λ items. next_is spec entries items)
 
+pub due_is_next : DueIsNextOrder
+due_is_next spec entries items = sym (next_is spec entries items)
+
+-- a history fits, as the code goes through it, exactly where it launches what the permutation launches
+pub fits_so : (spec : SpecTree) (entries : List EntryTree) (items : List HistItem) → FitsAfter (due_in spec entries) [] items ↔ LaunchesFit spec entries items
+fits_so spec entries items = (
+  λ fits.
+      let so = subst (λ (due : List HistItem → Order). FitsAfter due [] items) (sym (due_same spec entries)) fits in
+      record {
+        ordered = λ before behind item is. ordered_from (next_order spec entries) [] items before behind item so is;
+        over = over_from (next_order spec entries) [] items so;
+      },
+  λ launched. subst (λ (due : List HistItem → Order). FitsAfter due [] items) (due_same spec entries) (fits_from (next_order spec entries) items [] items launched.ordered launched.over refl),
+)
+
 -- what a run of the permutation comes to is a regular history, if it launches what is due
 pub regular_of : (spec : SpecTree) (blocks : Blocks) (entries : List EntryTree) (items : List HistItem) (state : Machine)
     → Run blocks Directed (opening (length spec.sessions)) items state → IsTrue (is_quiet state) → FitsAfter (due_in spec entries) [] items → IsRegular spec blocks entries items
-regular_of spec blocks entries items state run quiet fits =
-    let so = subst (λ (due : List HistItem → Order). FitsAfter due [] items) (sym (due_same spec entries)) fits in
-    record {
-      state = state;
-      run = run;
-      quiet = quiet;
-      ordered = λ before behind item is. ordered_from (next_order spec entries) [] items before behind item so is;
-      over = over_from (next_order spec entries) [] items so;
-    }
+regular_of spec blocks entries items state run quiet fits = record { state = state; run = run; quiet = quiet; launched = (fits_so spec entries items).0 fits }
 
 pub regular_fits : (spec : SpecTree) (blocks : Blocks) (entries : List EntryTree) (items : List HistItem) → IsRegular spec blocks entries items → FitsAfter (next_order spec entries) [] items
-regular_fits spec blocks entries items regular = fits_from (next_order spec entries) items [] items regular.ordered regular.over refl
+regular_fits spec blocks entries items regular = fits_from (next_order spec entries) items [] items regular.launched.ordered regular.launched.over refl
 
 pub next_goes_well : NextIsDue
 next_goes_well spec entries items well = next_is spec entries items ∙ next_is_due spec entries items well

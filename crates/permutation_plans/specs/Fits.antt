@@ -5,6 +5,9 @@ use Rattle.session_machine.specs.declared.event.Event.TheVariants.{Launch, Step,
 use Rattle.session_machine.specs.declared.event.Order.{Order}
 use Rattle.session_machine.specs.declared.event.Order.TheVariants.{Launch as LaunchOrder, Leave as LeaveOrder, Stop}
 use Rattle.session_machine.specs.declared.reply.HistItem.{HistItem}
+use Rattle.spec_parser.specs.Trees.{EntryTree, SpecTree}
+use Rattle.permutation_plans.specs.Launches.{due_in}
+use Rattle.permutation_plans.specs.Regular.{next_order}
 
 -- a Launch or a Leave is the order; a Step needs none
 abbrev pub IsOrdered : Event → Order → Type 0
@@ -16,3 +19,7 @@ IsOrdered (Leave session) order = order ≡ LeaveOrder session
 abbrev pub FitsAfter : (List HistItem → Order) → List HistItem → List HistItem → Type 0
 FitsAfter due before [] = due before ≡ Stop
 FitsAfter due before (item ∷ items) = IsOrdered item.event (due before) × FitsAfter due (before ++ item ∷ []) items
+
+-- what the code finds to be due is the permutation's next order
+abbrev pub DueIsNextOrder : Type 0
+DueIsNextOrder = (spec : SpecTree) (entries : List EntryTree) (items : List HistItem) → due_in spec entries items ≡ next_order spec entries items

@@ -3,8 +3,9 @@ ghost use Rattle.std.specs.Prelude.{◌≡◌, ◌↔◌, ◌<◌, ◌^◌, [], 
 ghost use Rattle.spec_parser.specs.Trees.{spec_view, entry_view};
 ghost use Rattle.report_lines.specs.Progress.{KeepsFront};
 ghost use Rattle.report_lines.specs.Starts.{is_order};
-ghost use Rattle.permutation_plans.specs.Launches.{run_of, due_after, due_in};
+ghost use Rattle.permutation_plans.specs.Launches.{run_of, due_after};
 ghost use Rattle.permutation_plans.specs.Fits.{IsOrdered, FitsAfter};
+ghost use Rattle.permutation_plans.specs.Regular.{LaunchesFit};
 
 use crate::launches::Launches;
 use report_lines::PlanProgress;
@@ -89,7 +90,7 @@ pub fn launches_fit(
     items: &[HistItem<'_>],
 ) -> Result<bool, AllocError>
     requires { length spec.now.sessions.items < 2 ^ 32 }
-    ensures { IfOk result (λ fit. IsTrue fit ↔ FitsAfter (due_in (spec_view spec.now) (map entry_view entries.now)) [] items.now) }
+    ensures { IfOk result (λ fit. IsTrue fit ↔ LaunchesFit (spec_view spec.now) (map entry_view entries.now) items.now) }
 {
     let launches = Launches::of(alloc, spec, entries)?;
     fits(alloc, &launches, entries, items)

@@ -1,5 +1,5 @@
 //! Whether a history launched what the free run of its spec launches.
-ghost use Rattle.std.specs.Prelude.{◌≡◌, ◌↔◌, ◌+◌, ◌-◌, ◌<◌, ◌^◌, ◌++◌, [], length, map, drop, slice_get, Some, IsTrue, true, false, IfOk, OnOk, MatchOption};
+ghost use Rattle.std.specs.Prelude.{◌≡◌, ◌≢◌, ◌↔◌, ◌+◌, ◌-◌, ◌<◌, ◌^◌, ◌++◌, [], length, map, drop, slice_get, Some, IsTrue, true, false, IfOk, OnOk, OnErr, MatchOption};
 ghost use Rattle.std.specs.Option.{option_map_or};
 ghost use Rattle.spec_parser.specs.Trees.{spec_view};
 ghost use Rattle.permutation_plans.specs.FreeLaunches.{FreeLaunches as Listed, blocks_in, free_launches};
@@ -14,7 +14,8 @@ use std::alloc::{AllocError, Global};
 
 /// The Launches and Leaves of the items, in order.
 fn given(alloc: Global, items: &[HistItem<'_>]) -> Result<Vec<Event>, AllocError>
-    ensures { IfOk result (λ events. events.items ≡ given items.now) }
+    ensures given { IfOk result (λ events. events.items ≡ given items.now) }
+    ensures memory { OnErr result (items.now ≢ []) }
 {
     let mut events = Vec::new(alloc);
     for item in items {
@@ -46,7 +47,8 @@ fn are_events_of(events: &[Event], session: u32, wanted: &[Event]) -> bool
 
 /// A Launch of each block in the session.
 fn push_launches(events: &mut Vec<Event>, session: u32, blocks: &[u32]) -> Result<(), AllocError>
-    ensures { OnOk result (events.new.items ≡ events.old.items ++ launches_in session blocks.now) }
+    ensures events { OnOk result (events.new.items ≡ events.old.items ++ launches_in session blocks.now) }
+    ensures memory { OnErr result (blocks.now ≢ []) }
 {
     for block in blocks {
         events.push(Event::Launch {
@@ -83,7 +85,8 @@ fn is_given(
 /// Whether each session is given its script.
 fn are_given(alloc: Global, events: &[Event], scripts: &[Vec<u32>]) -> Result<bool, AllocError>
     requires { length scripts.now < 2 ^ 32 }
-    ensures { IfOk result (λ fit. IsTrue fit ↔ AreGiven events.now 1 (map blocks_in scripts.now)) }
+    ensures given { IfOk result (λ fit. IsTrue fit ↔ AreGiven events.now 1 (map blocks_in scripts.now)) }
+    ensures memory { OnErr result (scripts.now ≢ []) }
 {
     for (place, blocks) in scripts.iter().enumerate() {
         if !is_given(alloc, events, place as u32 + 1, blocks)? {

@@ -1,5 +1,5 @@
 //! What a free run of a spec launches.
-ghost use Rattle.std.specs.Prelude.{◌≡◌, ◌<◌, ◌^◌, ◌++◌, length, map, option_map, option_to_list, IfOk, OnOk};
+ghost use Rattle.std.specs.Prelude.{◌≡◌, ◌≢◌, ◌<◌, ◌^◌, ◌++◌, [], length, map, option_map, option_to_list, IfOk, OnOk, OnErr};
 ghost use Rattle.spec_parser.specs.Trees.{part_view, step_view, session_view, spec_view};
 ghost use Rattle.permutation_plans.specs.FreeLaunches.{block, step_block, script, free_launches, scripts_of};
 
@@ -26,7 +26,8 @@ impl Model for FreeLaunches {
 }
 
 fn push_steps(blocks: &mut Vec<u32>, steps: &[StepPart<'_>]) -> Result<(), AllocError>
-    ensures { OnOk result (blocks.new.items ≡ blocks.old.items ++ map step_block (map step_view steps.now)) }
+    ensures blocks { OnOk result (blocks.new.items ≡ blocks.old.items ++ map step_block (map step_view steps.now)) }
+    ensures memory { OnErr result (steps.now ≢ []) }
 {
     for step in steps {
         blocks.push(step.part.block)?;
@@ -36,7 +37,8 @@ fn push_steps(blocks: &mut Vec<u32>, steps: &[StepPart<'_>]) -> Result<(), Alloc
 
 /// Adds the part, if it is there.
 fn push_part(blocks: &mut Vec<u32>, part: Option<Part<'_>>) -> Result<(), AllocError>
-    ensures { OnOk result (blocks.new.items ≡ blocks.old.items ++ map block (option_to_list (option_map part_view part.entry))) }
+    ensures blocks { OnOk result (blocks.new.items ≡ blocks.old.items ++ map block (option_to_list (option_map part_view part.entry))) }
+    ensures memory { OnErr result (option_to_list (option_map part_view part.entry) ≢ []) }
 {
     if let Some(part) = part {
         blocks.push(part.block)?;

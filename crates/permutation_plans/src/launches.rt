@@ -1,10 +1,10 @@
 //! What a permutation launches, in its order.
-ghost use Rattle.std.specs.Prelude.{◌≡◌, ◌+◌, ◌<◌, ◌^◌, ◌++◌, length, map, option_map, option_to_list, IfOk, OnOk};
+ghost use Rattle.std.specs.Prelude.{◌≡◌, ◌≢◌, ◌+◌, ◌<◌, ◌^◌, ◌++◌, [], length, map, option_map, option_to_list, IfOk, OnOk, OnErr};
 ghost use Rattle.std.specs.Option.{option_map_or};
 ghost use Rattle.spec_parser.specs.Trees.{StepTree, part_view, session_view, spec_view, entry_view};
 ghost use Rattle.spec_parser.specs.Numbered.{step_of_entry};
 ghost use Rattle.permutation_plans.specs.Launches.{launch_in, own_launches, launch_of_entry, launches, run_of, due_after};
-ghost use Rattle.report_lines.specs.Progress.{KeepsFront};
+ghost use Rattle.report_lines.specs.Progress.{KeepsFront, IsSettled};
 
 use report_lines::{Plan, PlanProgress, PlannedLaunch, Schedule};
 use session_machine::{HistItem, Order};
@@ -36,7 +36,8 @@ fn push_part(
     session: u32,
     part: Option<Part<'_>>,
 ) -> Result<(), AllocError>
-    ensures { OnOk result (launches.new.items ≡ launches.old.items ++ map (launch_in session) (option_to_list (option_map part_view part.entry))) }
+    ensures launches { OnOk result (launches.new.items ≡ launches.old.items ++ map (launch_in session) (option_to_list (option_map part_view part.entry))) }
+    ensures memory { OnErr result (option_to_list (option_map part_view part.entry) ≢ []) }
 {
     if let Some(part) = part {
         launches.push(PlannedLaunch {
@@ -104,7 +105,8 @@ fn steps(
     spec: &Spec<'_>,
     entries: &[Entry],
 ) -> Result<Vec<PlannedLaunch>, AllocError>
-    ensures { IfOk result (λ steps. steps.items ≡ map (launch_of_entry (spec_view spec.now)) (map entry_view entries.now)) }
+    ensures steps { IfOk result (λ steps. steps.items ≡ map (launch_of_entry (spec_view spec.now)) (map entry_view entries.now)) }
+    ensures memory { OnErr result (entries.now ≢ []) }
 {
     let mut steps = Vec::new(alloc);
     for entry in entries {
@@ -119,7 +121,7 @@ fn steps(
 impl Launches {
     ghost use Rattle.std.specs.Prelude.{List};
     ghost use Rattle.session_machine.specs.declared.reply.HistItem.{HistItem};
-    ghost use Rattle.report_lines.specs.Progress.{KeepsFront};
+    ghost use Rattle.report_lines.specs.Progress.{KeepsFront, IsSettled};
     ghost use Rattle.permutation_plans.specs.Launches.{launches, run_of, due_after};
 
     /// What a permutation of the spec launches.
@@ -158,6 +160,9 @@ impl Launches {
         requires follows { KeepsFront (run_of self.now (map entry_view entries.now) items.now) progress.old }
         ensures order { IfOk result (λ order. order ≡ due_after self.now (map entry_view entries.now) items.now) }
         ensures follows { OnOk result (KeepsFront (run_of self.now (map entry_view entries.now) items.now) progress.new) }
+        ensures settled { OnOk result (IsSettled (run_of self.now (map entry_view entries.now) items.now) progress.new) }
+        // Asked again after the same items it wants no memory.
+        ensures memory { OnErr result (IsSettled (run_of self.now (map entry_view entries.now) items.now) progress.old → ⊥) }
     {
         order_on(self, alloc, entries, items, progress)
     }
@@ -174,6 +179,8 @@ fn order_on<'a>(
     requires follows { KeepsFront (run_of launches.now (map entry_view entries.now) items.now) progress.old }
     ensures order { IfOk result (λ order. order ≡ due_after launches.now (map entry_view entries.now) items.now) }
     ensures follows { OnOk result (KeepsFront (run_of launches.now (map entry_view entries.now) items.now) progress.new) }
+    ensures settled { OnOk result (IsSettled (run_of launches.now (map entry_view entries.now) items.now) progress.new) }
+    ensures memory { OnErr result (IsSettled (run_of launches.now (map entry_view entries.now) items.now) progress.old → ⊥) }
 {
     let schedule = Schedule {
         setups: &launches.setups,

@@ -1,4 +1,4 @@
--- How rows are sorted by their keys, as a function (PostgreSQL manual, 7.5).
+-- To be believed. How rows are sorted by their keys, as a function (PostgreSQL manual, 7.5).
 use Rattle.std.specs.Prelude.{ℕ, List, [], length, map, fold, slice_index_or}
 use Rattle.std.specs.List.{range_with_len}
 use Rattle.std.specs.BTreeSet.{insert_key}

@@ -1,4 +1,4 @@
--- The result of a query, as contracts see it.
+-- To be believed. The result of a query, as contracts see it.
 use Rattle.std.specs.Prelude.{◌≡◌, List, length, All}
 use Rattle.sql_values.specs.declared.value.Value.{Value}
 use Rattle.query_results.specs.declared.title.Title.{Title}

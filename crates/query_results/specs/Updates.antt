@@ -1,4 +1,4 @@
--- What an UPDATE makes of a row (PostgreSQL manual, UPDATE).
+-- To be believed. What an UPDATE makes of a row (PostgreSQL manual, UPDATE).
 use Rattle.std.specs.Prelude.{ℕ, List, ◌++◌, map, Some, option_to_list, Result}
 use Rattle.sql_trees.specs.Trees.{Tree}
 use Rattle.sql_trees.specs.Statements.{ColumnTree, SetTree, UpdateTree}

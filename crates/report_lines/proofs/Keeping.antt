@@ -1,6 +1,6 @@
 -- What is kept of a permutation, as its history goes on.
 use Rattle.std.proofs.Common.{◌≡◌, ◌≢◌, ◌==◌, ◌&&◌, append-nil, ℕ, zero, suc, ◌+◌, ◌-◌, ◌<◌, ◌≤◌, ◌⊎◌, inl, inr, List, [], ◌∷◌, ◌++◌, length, length-append, length-take, take, take-take, get_or, refl, ap, sym, ◌∙◌, subst, arith, true, false, Bool, cond, if◌then◌else◌, nat_lt, Some, slice_get, slice_set}
-use Rattle.std.specs.Prelude.{IfOk, Result, Ok, Err}
+use Rattle.std.specs.Prelude.{IfOk, OnErr, Result, Ok, Err}
 use Rattle.std.specs.List.{filter}
 use Rattle.std.proofs.lemmas.List.Elements.{filter-append}
 use Rattle.std.proofs.lemmas.List.{get_or-set_same, get_or-set_other, length-set, take_more}
@@ -18,8 +18,8 @@ use Rattle.report_lines.specs.Walk.{report, report_from, launched}
 use Rattle.report_lines.specs.SoFar.{LinesSoFar, IsAt, IsReportSoFar}
 use Rattle.report_lines.specs.Places.{starts_from, last_end, IsTimed, IsSeen}
 use Rattle.report_lines.specs.Inner.Places.{ended_behind, ends_after, starts_after}
-use Rattle.report_lines.specs.Progress.{Keeps, KeepsFront, first_items}
-use Rattle.report_lines.specs.Inner.Progress.{Lags, IsSettled, IsNoted}
+use Rattle.report_lines.specs.Progress.{Keeps, KeepsFront, IsSettled, first_items}
+use Rattle.report_lines.specs.Inner.Progress.{Lags, IsNoted}
 use Rattle.report_lines.specs.Fronts.{with_more}
 use Rattle.report_lines.proofs.Reports.{first_same, report_next, report_over, whole_due, invalid_due}
 use Rattle.report_lines.proofs.Fronts.{front_stays, past_stays}
@@ -327,3 +327,8 @@ follows_whole c k p follows =
       few = omega arith;
       kept = subst (λ (w : List HistItem). Keeps (record { entries = c.entries; items = w; setups = c.setups }) p) (take-take p.seen k c.items within) follows.kept;
     }
+
+-- what holds anyway holds where memory is refused
+pub on_err : {T E P : Type 0} (r : Result T E) → P → OnErr r P
+on_err (Ok x) p = tt
+on_err (Err e) p = p

@@ -1,4 +1,4 @@
--- The next order of a permutation: setups, entries, teardowns.
+-- To be believed. The next order of a permutation: setups, entries, teardowns.
 use Rattle.std.specs.Prelude.{ℕ, ◌+◌, ◌-◌, nat_lt, nat_le, Bool, not, ◌&&◌, List, [], ◌∷◌, length, Option, Some, None, is_some, unwrap_or, slice_range, slice_get, if◌then◌else◌}
 use Rattle.std.specs.List.{list_any, filter}
 use Rattle.std.specs.Option.{option_map_or}

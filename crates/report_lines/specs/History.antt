@@ -1,4 +1,4 @@
--- Segments of a history, and what they show of a step.
+-- To be believed. Segments of a history, and what they show of a step.
 use Rattle.std.specs.Prelude.{ℕ, ◌+◌, Bool, List, [], unwrap_or, slice_get, slice_range}
 use Rattle.std.specs.List.{list_any}
 use Rattle.report_lines.specs.Starts.{segment_start, ends_in}

@@ -1,4 +1,4 @@
--- The orders of a permutation, in their turn.
+-- To be believed. The orders of a permutation, in their turn.
 use Rattle.std.specs.Prelude.{ℕ, ◌+◌, List, [], ◌∷◌, ◌++◌, length, map, filter_map, Option, option_map, option_to_list, if◌then◌else◌}
 use Rattle.std.specs.List.{enumerate_from, range_with_len}
 use Rattle.std.specs.Option.{option_map_or}

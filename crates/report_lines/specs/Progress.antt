@@ -29,3 +29,8 @@ first_items c n = record { entries = c.entries; items = take n c.items; setups =
 pub record KeepsFront (c : PermutationRun) (p : PlanProgress) : Type 0 where
   pub few : p.seen ≤ length c.items
   pub kept : Keeps (first_items c p.seen) p
+
+-- what is kept is what all these items lead to, and the lines of no segment are missing
+pub record IsSettled (c : PermutationRun) (p : PlanProgress) : Type 0 where
+  pub kept : Keeps c p
+  pub all : p.segments_done ≡ orders c.items - c.setups

@@ -1,4 +1,4 @@
--- What is said of the entries: at each moment the tries in their order, each step at the first try at which it can be reported. An instance is an entry by its number from 0.
+-- To be believed. What is said of the entries: at each moment the tries in their order, each step at the first try at which it can be reported. An instance is an entry by its number from 0.
 use Rattle.std.specs.Prelude.{ℕ, zero, suc, ◌+◌, ◌==◌, nat_lt, Bool, true, false, not, ◌&&◌, List, [], ◌∷◌, ◌++◌, length, filter_map, slice_get, if◌then◌else◌}
 use Rattle.std.specs.List.{list_any, filter, fold, range_with_len}
 use Rattle.spec_parser.specs.Trees.{EntryTree}

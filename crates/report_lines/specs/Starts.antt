@@ -1,4 +1,4 @@
--- The places of orders in a history.
+-- To be believed. The places of orders in a history.
 use Rattle.std.specs.Prelude.{ℕ, zero, suc, ◌+◌, ◌==◌, Bool, ◌&&◌, List, [], ◌∷◌, Option, Some, None, is_some, if◌then◌else◌}
 use Rattle.session_machine.specs.declared.event.Event.{Event}
 use Rattle.session_machine.specs.declared.event.Event.TheVariants.{Launch, Step, Leave}

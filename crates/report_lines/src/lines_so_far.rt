@@ -1,6 +1,6 @@
 //! The lines of the entries, made in order with a list of the steps that wait.
-ghost use Rattle.std.specs.Prelude.{◌≡◌, ◌+◌, ◌-◌, ◌<◌, ◌≤◌, ◌^◌, ◌==◌, ◌&&◌, ℕ, not, nat_lt, [], ◌∷◌, ◌++◌, length, slice_get, vec_len, vec_capacity};
-ghost use Rattle.std.specs.Prelude.{OnOk, IfOk, OnSome, Some, None, if◌then◌else◌};
+ghost use Rattle.std.specs.Prelude.{◌≡◌, ◌≢◌, ◌+◌, ◌-◌, ◌<◌, ◌≤◌, ◌^◌, ◌==◌, ◌&&◌, ℕ, not, nat_lt, [], ◌∷◌, ◌++◌, length, slice_get, vec_len, vec_capacity};
+ghost use Rattle.std.specs.Prelude.{OnOk, OnErr, IfOk, OnSome, Some, None, true, if◌then◌else◌};
 ghost use Rattle.std.specs.List.{list_any, filter, fold};
 ghost use Rattle.report_lines.specs.SoFar.{LinesSoFar, IsAt, IsReportSoFar};
 ghost use Rattle.report_lines.specs.Inner.Waiting.{IsKept};
@@ -330,7 +330,8 @@ impl LinesSoFar {
         requires next { entry ≡ self.old.launched }
         requires entries { entry ≤ length run.now.entries }
         requires now { orders run.now.items ≤ run.now.setups + entry }
-        ensures { OnOk result (self.new ≡ record self.old { lines = made_way run.now self.old.lines entry }) }
+        ensures lines { OnOk result (self.new ≡ record self.old { lines = made_way run.now self.old.lines entry }) }
+        ensures memory { OnErr result (has_unreported run.now self.old.lines entry ≡ true) }
     {
         if !self.is_busy(run, entry) {
             return Ok(());
@@ -395,7 +396,9 @@ impl LinesSoFar {
     ) -> Result<RunState, AllocError>
         requires orders { orders run.now.items ≡ run.now.setups + count + 1 }
         requires report { IsReportSoFar run.now count self.old state }
-        ensures { IfOk result (λ next. IsReportSoFar run.now (count + 1) self.new next) }
+        ensures report { IfOk result (λ next. IsReportSoFar run.now (count + 1) self.new next) }
+        // Where the entries have come to their end, nothing is added.
+        ensures memory { OnErr result ((state ≢ RunState.Whole) × (state ≢ RunState.Invalid)) }
     {
         match state {
             RunState::Due(_) => {

@@ -1,5 +1,5 @@
 //! The run of a permutation: its entries with a history of theirs.
-ghost use Rattle.std.specs.Prelude.{◌≡◌, ◌+◌, ◌<◌, ◌≤◌, ◌^◌, length, map, IfOk};
+ghost use Rattle.std.specs.Prelude.{◌≡◌, ◌≢◌, ◌+◌, ◌<◌, ◌≤◌, ◌^◌, [], length, map, IfOk, OnErr};
 ghost use Rattle.spec_parser.specs.Trees.{entry_view};
 
 use crate::entries;
@@ -44,7 +44,8 @@ impl<'a> PermutationRun<'a> {
         setups: usize,
     ) -> Result<PermutationRun<'a>, AllocError>
         requires { setups + length entries.now + 1 < 2 ^ 64 }
-        ensures { IfOk result (λ run. run ≡ record { entries = map entry_view entries.now; items = items.now; setups = setups }) }
+        ensures run { IfOk result (λ run. run ≡ record { entries = map entry_view entries.now; items = items.now; setups = setups }) }
+        ensures memory { OnErr result (items.now ≢ []) }
     {
         let starts = starts(alloc, items)?;
         Ok(PermutationRun {

@@ -1,11 +1,10 @@
 //! The next order of a permutation, from its history alone.
-ghost use Rattle.std.specs.Prelude.{◌≡◌, ◌+◌, ◌-◌, ◌<◌, ◌≤◌, ◌^◌, ℕ, not, ◌&&◌, length, map, slice_get, unwrap_or, IfOk, OnOk, drop, Option, Some, None};
+ghost use Rattle.std.specs.Prelude.{◌≡◌, ◌+◌, ◌-◌, ◌<◌, ◌≤◌, ◌^◌, ℕ, not, ◌&&◌, length, map, slice_get, unwrap_or, IfOk, OnOk, OnErr, drop, Option, Some, None};
 ghost use Rattle.std.specs.Option.{option_map_or};
 ghost use Rattle.spec_parser.specs.Trees.{entry_view};
 ghost use Rattle.report_lines.specs.Due.{is_over, went_well, orders, launch, due_setup, teardowns_so_far, due_entry, due};
 ghost use Rattle.report_lines.specs.Inner.Due.{due_last};
-ghost use Rattle.report_lines.specs.Progress.{KeepsFront};
-ghost use Rattle.report_lines.specs.Inner.Progress.{IsSettled};
+ghost use Rattle.report_lines.specs.Progress.{KeepsFront, IsSettled};
 
 use crate::history::{PlannedLaunch, RunState, TeardownsSoFar};
 use crate::progress::PlanProgress;
@@ -195,6 +194,9 @@ impl<'a> Plan<'a> {
         requires follows { KeepsFront self.now.run progress.old }
         ensures order { IfOk result (λ order. order ≡ due self.now.launches self.now.run (orders self.now.run.items)) }
         ensures follows { OnOk result (KeepsFront self.now.run progress.new) }
+        ensures settled { OnOk result (IsSettled self.now.run progress.new) }
+        // Asked again after the same items it wants no memory.
+        ensures memory { OnErr result (IsSettled self.now.run progress.old → ⊥) }
     {
         progress.reach(alloc, self.entries, self.setups.len(), self.items)?;
         Ok(due_by(self, progress))

@@ -1,12 +1,12 @@
 //! What is kept of a permutation between two of its orders, so that its plan goes on from where it stood.
-ghost use Rattle.std.specs.Prelude.{◌≡◌, ◌+◌, ◌-◌, ◌<◌, ◌^◌, ◌++◌, ◌⊎◌, [], ◌∷◌, length, IfOk, OnOk, IsTrue, true};
+ghost use Rattle.std.specs.Prelude.{◌≡◌, ◌+◌, ◌-◌, ◌<◌, ◌≤◌, ◌^◌, ◌++◌, ◌⊎◌, [], ◌∷◌, length, IfOk, OnOk, OnErr, IsTrue, true};
 ghost use Rattle.report_lines.specs.Starts.{is_order};
 ghost use Rattle.report_lines.specs.Due.{orders};
 ghost use Rattle.report_lines.specs.Report.{report};
 ghost use Rattle.report_lines.specs.Places.{starts_from};
 ghost use Rattle.report_lines.specs.Inner.Places.{starts_after, ended_behind, ends_after, IsZeros};
-ghost use Rattle.report_lines.specs.Progress.{Keeps, KeepsFront, permutation_run};
-ghost use Rattle.report_lines.specs.Inner.Progress.{Lags, IsSettled, IsNext, IsNoted};
+ghost use Rattle.report_lines.specs.Progress.{Keeps, KeepsFront, IsSettled, permutation_run};
+ghost use Rattle.report_lines.specs.Inner.Progress.{Lags, IsNext, IsNoted};
 
 use crate::entries::{is_order, session_of};
 use crate::history::RunState;
@@ -62,7 +62,8 @@ fn note_end(last: &mut Vec<usize>, item: &HistItem<'_>, place: usize)
 
 /// Where the item is an order, it stands at this place.
 fn note_start(starts: &mut Vec<usize>, item: &HistItem<'_>, place: usize) -> Result<(), AllocError>
-    ensures { OnOk result (starts.new.items ≡ starts_after item.now place starts.old.items) }
+    ensures starts { OnOk result (starts.new.items ≡ starts_after item.now place starts.old.items) }
+    ensures memory { OnErr result (is_order item.now.event ≡ true) }
 {
     if is_order(&item.event) {
         starts.push(place)?;
@@ -101,7 +102,8 @@ impl PlanProgress {
         items: &[HistItem<'_>],
     ) -> Result<(), AllocError>
         requires { Keeps (permutation_run entries.now items.now setups) self.old }
-        ensures { OnOk result (IsSettled (permutation_run entries.now items.now setups) self.new) }
+        ensures settled { OnOk result (IsSettled (permutation_run entries.now items.now setups) self.new) }
+        ensures memory { OnErr result (IsSettled (permutation_run entries.now items.now setups) self.old → ⊥) }
     {
         if self.starts.len().saturating_sub(setups) == self.segments_done {
             return Ok(());
@@ -115,7 +117,8 @@ impl PlanProgress {
     /// The next item has come.
     fn note(&mut self, item: &HistItem<'_>) -> Result<(), AllocError>
         requires { self.old.seen + 1 < 2 ^ 64 }
-        ensures { OnOk result (IsNoted item.now self.old self.new) }
+        ensures noted { OnOk result (IsNoted item.now self.old self.new) }
+        ensures memory { OnErr result (is_order item.now.event ≡ true) }
     {
         note_start(&mut self.starts, item, self.seen)?;
         note_end(&mut self.last, item, self.seen + 1);
@@ -136,6 +139,7 @@ impl PlanProgress {
         requires room { length front.now + 1 < 2 ^ 64 }
         ensures kept { OnOk result (Keeps (permutation_run entries.now (front.now ++ item.now ∷ []) setups) self.new) }
         ensures lags { OnOk result (Lags (permutation_run entries.now (front.now ++ item.now ∷ []) setups) self.new) }
+        ensures memory { OnErr result (is_order item.now.event ≡ true) }
     {
         if is_order(&item.event) {
             self.settle(entries, setups, front)?;
@@ -154,7 +158,9 @@ impl PlanProgress {
     ) -> Result<(), AllocError>
         requires follows { KeepsFront (permutation_run entries.now items.now setups) self.old }
         requires next { IsNext (permutation_run entries.now items.now setups) self.old }
-        ensures { OnOk result (Keeps (permutation_run entries.now items.now setups) self.new) }
+        ensures kept { OnOk result (Keeps (permutation_run entries.now items.now setups) self.new) }
+        ensures same { length items.now ≤ self.old.seen → self.new ≡ self.old }
+        ensures memory { OnErr result (self.old.seen < length items.now) }
     {
         for place in self.seen..items.len() {
             self.see(entries, setups, &items[..place], &items[place])?;
@@ -165,7 +171,8 @@ impl PlanProgress {
     /// Whether the item behind those that have come is an order, or belongs to a segment whose lines are missing.
     fn goes_on(&self, entries: &[Entry], setups: usize, items: &[HistItem<'_>]) -> bool
         requires follows { KeepsFront (permutation_run entries.now items.now setups) self.now }
-        ensures { IsTrue result → IsNext (permutation_run entries.now items.now setups) self.now }
+        ensures next { IsTrue result → IsNext (permutation_run entries.now items.now setups) self.now }
+        ensures all { length items.now ≤ self.now.seen → result ≡ true }
     {
         if self.starts.len().saturating_sub(setups + 1) == self.segments_done {
             return true;
@@ -174,6 +181,28 @@ impl PlanProgress {
             None => true,
             Some(item) => is_order(&item.event),
         }
+    }
+
+    /// Where a segment has grown since its lines were added, nothing is kept any more.
+    fn forget_if_grown(
+        &mut self,
+        alloc: Global,
+        entries: &[Entry],
+        setups: usize,
+        items: &[HistItem<'_>],
+    ) -> Result<(), AllocError>
+        requires room { setups + length entries.now + 1 < 2 ^ 64 }
+        requires follows { KeepsFront (permutation_run entries.now items.now setups) self.old }
+        ensures follows { OnOk result (KeepsFront (permutation_run entries.now items.now setups) self.new) }
+        ensures next { OnOk result (IsNext (permutation_run entries.now items.now setups) self.new) }
+        ensures same { length items.now ≤ self.old.seen → self.new ≡ self.old }
+        ensures memory { OnErr result (self.old.seen < length items.now) }
+    {
+        if self.goes_on(entries, setups, items) {
+            return Ok(());
+        }
+        *self = PlanProgress::new(alloc, entries, setups)?;
+        Ok(())
     }
 
     /// Goes on to the end of these items. Where a segment has grown since its lines were added, all are made anew, from the first item on.
@@ -186,11 +215,10 @@ impl PlanProgress {
     ) -> Result<(), AllocError>
         requires room { setups + length entries.now + 1 < 2 ^ 64 }
         requires follows { KeepsFront (permutation_run entries.now items.now setups) self.old }
-        ensures { OnOk result (IsSettled (permutation_run entries.now items.now setups) self.new) }
+        ensures settled { OnOk result (IsSettled (permutation_run entries.now items.now setups) self.new) }
+        ensures memory { OnErr result (IsSettled (permutation_run entries.now items.now setups) self.old → ⊥) }
     {
-        if !self.goes_on(entries, setups, items) {
-            *self = PlanProgress::new(alloc, entries, setups)?;
-        }
+        self.forget_if_grown(alloc, entries, setups, items)?;
         self.see_all(entries, setups, items)?;
         self.settle(entries, setups, items)
     }

@@ -1,5 +1,5 @@
 //! A history with the places of its orders.
-ghost use Rattle.std.specs.Prelude.{◌≡◌, ◌+◌, ◌<◌, ◌≤◌, ◌^◌, ◌++◌, length, IfOk, slice_range};
+ghost use Rattle.std.specs.Prelude.{◌≡◌, ◌≢◌, ◌+◌, ◌<◌, ◌≤◌, ◌^◌, ◌++◌, [], length, IfOk, OnErr, slice_range};
 ghost use Rattle.std.specs.List.{list_any};
 ghost use Rattle.report_lines.specs.Starts.{segment_start, ends_in};
 ghost use Rattle.session_machine.specs.Machine.{is_failed};
@@ -137,7 +137,8 @@ fn is_failed(outcome: &Outcome<'_>) -> bool
 
 /// The places of the orders of a history. Fails only where memory is refused.
 pub(crate) fn starts(alloc: Global, items: &[HistItem<'_>]) -> Result<Vec<usize>, AllocError>
-    ensures { IfOk result (λ starts. starts.items ≡ starts_from 0 items.now) }
+    ensures starts { IfOk result (λ starts. starts.items ≡ starts_from 0 items.now) }
+    ensures memory { OnErr result (items.now ≢ []) }
 {
     let mut starts = Vec::with_capacity(alloc, items.len())?;
     for (place, item) in items.iter().enumerate() {

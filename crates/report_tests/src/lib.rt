@@ -12,4 +12,6 @@ mod lists;
 #[cfg(test)]
 mod plans;
 #[cfg(test)]
+mod sizes;
+#[cfg(test)]
 mod texts;

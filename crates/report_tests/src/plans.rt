@@ -1,8 +1,8 @@
 //! Which histories fit a permutation, and which order comes next.
 
-use crate::histories::{done, holds, launch, leave};
+use crate::histories::{done, holds, item, launch, leave, waits};
 use permutation_plans::{Launches, launches_fit};
-use session_machine::{HistItem, Order};
+use session_machine::{Event, HistItem, Order, Outcome};
 use spec_parser::parse_spec;
 use std::alloc::{AllocError, Global};
 use std::process::Abort;
@@ -97,6 +97,65 @@ fn histories_fit(rt: HostRuntime) -> Result<(), Fail> {
         (&WHOLE[..7], false),
     ];
     all_fit(&rt, rt.alloc(), SETUPS_AND_TEARDOWNS, &cases)
+}
+
+/// The example of this name. Block 0 is the main setup, 1 the main teardown, 2 the setup of session 1, 3 to 6 the steps.
+const DELETE_WAITS_AND_DOES_NOT_RESCAN: &str =
+    "setup { CREATE TABLE website (hits int); INSERT INTO website VALUES (9), (10); }
+teardown { DROP TABLE website; }
+session s1
+setup { BEGIN; }
+step u { UPDATE website SET hits = hits + 1; }
+step c { COMMIT; }
+session s2
+step d { DELETE FROM website WHERE hits = 10; }
+step r { SELECT hits FROM website ORDER BY hits; }
+permutation u d c r";
+
+/// Its history: the DELETE waits, and goes on behind the COMMIT.
+fn delete_waits<'t>() -> [HistItem<'t>; 18] {
+    [
+        launch(0, 0),
+        item(Event::Step { session: 0 }, Outcome::Done, false),
+        done(0),
+        launch(1, 2),
+        done(1),
+        launch(1, 3),
+        done(1),
+        launch(2, 5),
+        waits(2),
+        launch(1, 4),
+        done(1),
+        done(2),
+        launch(2, 6),
+        done(2),
+        leave(1),
+        leave(2),
+        launch(0, 1),
+        done(0),
+    ]
+}
+
+/// Whether so many items of that history fit. None where memory was refused.
+fn front_fits(alloc: Global, count: usize) -> Option<bool> {
+    let spec = parse_spec(alloc, DELETE_WAITS_AND_DOES_NOT_RESCAN).ok()?;
+    let items = delete_waits();
+    let entries = spec.perms.first()?;
+    if spec.sessions.len() > 64 {
+        return None;
+    }
+    let front = items.get(..count)?;
+    launches_fit(alloc, &spec, entries, front).ok()
+}
+
+/// What ends a segment before the last one is no end of the run.
+#[test]
+fn no_history_fits_without_its_last_segment(rt: HostRuntime) -> Result<(), Fail> {
+    for count in [0, 3, 5, 7, 9, 12, 14, 15, 16] {
+        holds(&rt, !front_fits(rt.alloc(), count).ok_or("out of memory")?);
+    }
+    holds(&rt, front_fits(rt.alloc(), 18).ok_or("out of memory")?);
+    Ok(())
 }
 
 /// The order after the two setups. None where memory was refused.

@@ -93,7 +93,7 @@ fn says(
     Ok(())
 }
 
-fn is_even(titles: &[Title<'_>], rows: &[Row]) -> bool
+pub(crate) fn is_even(titles: &[Title<'_>], rows: &[Row]) -> bool
     ensures { OnTrue result (IsEven titles.now rows.now) }
 {
     let width = titles.len();

@@ -5,3 +5,4 @@ pub mod Blocks
 pub mod Counting
 pub mod FreeSaying
 pub mod Ordered
+pub mod Nonempty

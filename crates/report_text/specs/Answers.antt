@@ -1,5 +1,5 @@
 -- What writing a permutation answers.
-use Rattle.std.specs.Prelude.{◌≡◌, ℕ, Bool, true, ◌||◌, List, Option, Result, Ok, Err, string_bytes}
+use Rattle.std.specs.Prelude.{◌≡◌, ℕ, Bool, true, ◌||◌, List, ◌++◌, codes, Option, Result, Ok, Err, string_bytes}
 use Rattle.std.specs.Io.KnownBytes.{Appends}
 use Rattle.iso_lexer.specs.Devices.{PutsFront}
 use Rattle.report_text.specs.declared.fault.ReportFault.{ReportFault}
@@ -60,3 +60,10 @@ TellsFailure old new notes_old notes_new (Err (faults.SetupFailed why)) = (new �
 TellsFailure old new notes_old notes_new (Err faults.SetupWaits) = (new ≡ old) × (notes_new ≡ notes_old)
 TellsFailure old new notes_old notes_new (Err faults.Write) = (new || notes_new) ≡ true
 TellsFailure old new notes_old notes_new (Err faults.Memory) = (new ≡ old) × (notes_new ≡ notes_old)
+
+-- what is printed of why a permutation was not reported to its end
+abbrev pub report_fault_text : ReportFault → List ℕ
+report_fault_text faults.Write = codes "R2 Write"
+report_fault_text faults.Memory = codes "Memory"
+report_fault_text (faults.SetupFailed text) = codes "R6 SetupFailed: " ++ string_bytes text
+report_fault_text faults.SetupWaits = codes "R7 SetupWaits"

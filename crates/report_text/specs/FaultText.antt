@@ -1,4 +1,4 @@
--- What a statement that fails prints, as PostgreSQL does.
+-- To be believed. What a statement that fails prints, as PostgreSQL does.
 use Rattle.std.specs.Prelude.{ℕ, List, ◌++◌, codes}
 use Rattle.std.specs.Fmt.{signed_decimal}
 use Rattle.sql_values.specs.declared.fault.ValueFault.TheVariants as values

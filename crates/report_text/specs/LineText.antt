@@ -1,4 +1,4 @@
--- The lines that are said of a permutation's steps, as bytes.
+-- To be believed. The lines that are said of a permutation's steps, as bytes.
 use Rattle.std.specs.Prelude.{ℕ, List, [], ◌++◌, codes, Option, option_and_then, slice_get, slice_range}
 use Rattle.std.specs.Option.{option_map_or}
 use Rattle.iso_lexer.specs.Names.{decoded}

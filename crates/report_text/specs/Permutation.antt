@@ -1,4 +1,4 @@
--- The report of a permutation with its history.
+-- To be believed. The report of a permutation with its history.
 use Rattle.std.specs.Prelude.{◌+◌, ◌-◌, List, [], ◌∷◌, ◌++◌, length, map, flat_map, take, drop, codes}
 use Rattle.std.specs.List.{enumerate_from, fold}
 use Rattle.spec_parser.specs.Trees.{EntryTree, SpecTree}

@@ -1,4 +1,4 @@
--- What replies print.
+-- To be believed. What replies print.
 use Rattle.std.specs.Prelude.{ℕ, ◌-◌, ◌==◌, List, [], ◌∷◌, ◌++◌, length, codes, slice_get, if◌then◌else◌}
 use Rattle.std.specs.Option.{option_map_or}
 use Rattle.result_tables.specs.TableText.{table_text}

@@ -1,4 +1,4 @@
--- What a permutation's report says, piece by piece, and the run of a file's permutations.
+-- To be believed. What a permutation's report says, piece by piece, and the run of a file's permutations.
 use Rattle.std.specs.Prelude.{ℕ, List, [], ◌++◌}
 
 -- how a report or a run ends: after all that it has to say; where the permutation is found invalid; at a setup that fails, with its text; at one that waits; where one more

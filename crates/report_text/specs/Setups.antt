@@ -1,4 +1,4 @@
--- What setups say.
+-- To be believed. What setups say.
 use Rattle.std.specs.Prelude.{ℕ, List, [], if◌then◌else◌}
 use Rattle.std.specs.Str.Lossy.{utf8_lossy}
 use Rattle.session_machine.specs.declared.event.Order.{Order}

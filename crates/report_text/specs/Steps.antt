@@ -1,4 +1,4 @@
--- The line with which a permutation starts.
+-- To be believed. The line with which a permutation starts.
 use Rattle.std.specs.Prelude.{ℕ, List, ◌++◌, flat_map, filter_map, codes}
 use Rattle.iso_lexer.specs.Names.{decoded}
 use Rattle.spec_parser.specs.Trees.{StepTree, EntryTree, SpecTree}

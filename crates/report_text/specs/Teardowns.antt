@@ -1,4 +1,4 @@
--- What teardowns say.
+-- To be believed. What teardowns say.
 use Rattle.std.specs.Prelude.{ℕ, List, [], ◌++◌, codes, if◌then◌else◌}
 use Rattle.std.specs.Option.{option_map_or}
 use Rattle.iso_lexer.specs.Names.{decoded}

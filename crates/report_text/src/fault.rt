@@ -1,11 +1,13 @@
 //! How the report of a permutation ends.
 
-ghost use Rattle.std.specs.Prelude.{◌≡◌};
+ghost use Rattle.std.specs.Prelude.{◌≡◌, Some};
 ghost use Rattle.report_text.specs.declared.fault.ReportFault.TheVariants.{Memory, Write};
-ghost use Rattle.report_text.specs.Answers.{answer_of};
+ghost use Rattle.report_text.specs.Answers.{answer_of, report_fault_text};
 
 use iso_lexer::DeviceFault;
 use std::alloc::AllocError;
+use std::error::Error;
+use std::fmt;
 
 /// How a permutation ended.
 #[derive(Clone, Copy, PartialEq, Eq)]
@@ -26,6 +28,22 @@ pub enum ReportFault {
     SetupFailed { text: String },
     SetupWaits,
 }
+
+/// Prints the name, behind its number where it has one, as the program does.
+impl fmt::Display for ReportFault {
+    ghost output = { λ fault. Some (report_fault_text fault) };
+
+    fn fmt<W: fmt::Write>(&self, f: &mut fmt::Formatter<W>) -> fmt::Result {
+        match self {
+            ReportFault::Write => write!(f, "R2 Write"),
+            ReportFault::Memory => write!(f, "Memory"),
+            ReportFault::SetupFailed { text } => write!(f, "R6 SetupFailed: {text}"),
+            ReportFault::SetupWaits => write!(f, "R7 SetupWaits"),
+        }
+    }
+}
+
+impl Error for ReportFault {}
 
 impl From<AllocError> for ReportFault {
     ghost from_gives = { λ _ e. e ≡ Memory };

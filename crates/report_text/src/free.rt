@@ -1,6 +1,6 @@
 //! The text of a free run, by its history.
 
-ghost use Rattle.std.specs.Prelude.{◌≡◌, ◌⊎◌, ◌++◌, [], map, OnOk, IfOk};
+ghost use Rattle.std.specs.Prelude.{◌≡◌, ◌≢◌, ◌++◌, ◌⊎◌, [], map, OnOk, OnErr, IfOk, IsErrOf};
 ghost use Rattle.std.specs.Io.KnownBytes.{Appends};
 ghost use Rattle.iso_lexer.specs.Devices.{page_text};
 ghost use Rattle.spec_parser.specs.Trees.{session_view, spec_view};
@@ -32,6 +32,7 @@ fn push_said(
 ) -> Result<(), AllocError>
     ensures text { OnOk result (page_text pages.new.text ≡ page_text pages.old.text ++ item_text (spec_view spec.now).sessions at item.now) }
     ensures notes { OnOk result (page_text pages.new.notes ≡ page_text pages.old.notes ++ item_note (spec_view spec.now) at item.now) }
+    ensures memory { OnErr result ((item_text (spec_view spec.now).sessions at item.now ≢ []) ⊎ (item_note (spec_view spec.now) at item.now ≢ [])) }
 {
     push_item(&mut pages.text, &spec.sessions, at, item)?;
     push_note(&mut pages.notes, spec, at, item)
@@ -90,7 +91,10 @@ pub fn write_free<W: Sink, N: Sink>(
     ensures ending { EndsAs (free_says (spec_view spec.now) items.now).ending result }
     ensures text { Puts (W.put_so_far out.old) (W.put_so_far out.new) (free_says (spec_view spec.now) items.now).text result }
     ensures notes { Puts (N.put_so_far notes.old) (N.put_so_far notes.new) (free_says (spec_view spec.now) items.now).notes result }
+    // The notes are as they were, or the text went out whole before them.
     ensures order { (notes.new ≡ notes.old) ⊎ Appends (W.put_so_far out.old) (W.put_so_far out.new) (free_says (spec_view spec.now) items.now).text }
+    // Memory comes before anything is put.
+    ensures memory { IsErrOf result ReportFault.Memory → (out.new ≡ out.old) × (notes.new ≡ notes.old) }
     ensures fails { TellsFailure (W.failed out.old) (W.failed out.new) (N.failed notes.old) (N.failed notes.new) result }
 {
     let ending = setups_ending(alloc, spec, items)?;

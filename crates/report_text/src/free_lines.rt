@@ -1,6 +1,6 @@
 //! What the items of a free run print and note.
 
-ghost use Rattle.std.specs.Prelude.{◌≡◌, ◌++◌, [], false, map, decimal, codes, option_map, OnOk};
+ghost use Rattle.std.specs.Prelude.{◌≡◌, ◌≢◌, ◌++◌, [], false, map, decimal, codes, option_map, OnOk, OnErr};
 ghost use Rattle.std.specs.Option.{option_map_or};
 ghost use Rattle.iso_lexer.specs.Devices.{page_text};
 ghost use Rattle.spec_parser.specs.Trees.{part_view, step_view, session_view, spec_view};
@@ -93,7 +93,8 @@ fn push_step(
     at: Standing,
     outcome: &Outcome<'_>,
 ) -> Result<(), AllocError>
-    ensures { OnOk result (page_text page.new ≡ page_text page.old ++ step_text (session_view session.now) outcome.now at) }
+    ensures text { OnOk result (page_text page.new ≡ page_text page.old ++ step_text (session_view session.now) outcome.now at) }
+    ensures memory { OnErr result (step_text (session_view session.now) outcome.now at ≢ []) }
 {
     match step_with(session, at.block) {
         Some(step) => push_statement(page, &step, at.statement, outcome),
@@ -107,7 +108,8 @@ fn push_event(
     at: Option<Standing>,
     item: &HistItem<'_>,
 ) -> Result<(), AllocError>
-    ensures { OnOk result (page_text page.new ≡ page_text page.old ++ event_text item.now.event item.now.reply.outcome at (session_view session.now)) }
+    ensures text { OnOk result (page_text page.new ≡ page_text page.old ++ event_text item.now.event item.now.reply.outcome at (session_view session.now)) }
+    ensures memory { OnErr result (event_text item.now.event item.now.reply.outcome at (session_view session.now) ≢ []) }
 {
     match item.event {
         Event::Launch { block, .. } => match step_with(session, block) {
@@ -129,7 +131,8 @@ pub fn push_item(
     at: Option<Standing>,
     item: &HistItem<'_>,
 ) -> Result<(), AllocError>
-    ensures { OnOk result (page_text page.new ≡ page_text page.old ++ item_text (map session_view sessions.now) at item.now) }
+    ensures text { OnOk result (page_text page.new ≡ page_text page.old ++ item_text (map session_view sessions.now) at item.now) }
+    ensures memory { OnErr result (item_text (map session_view sessions.now) at item.now ≢ []) }
 {
     match session_numbered(sessions, session_of(&item.event) as usize) {
         Some(session) => push_event(page, session, at, item),
@@ -176,7 +179,8 @@ pub fn push_note(
     at: Option<Standing>,
     item: &HistItem<'_>,
 ) -> Result<(), AllocError>
-    ensures { OnOk result (page_text page.new ≡ page_text page.old ++ item_note (spec_view spec.now) at item.now) }
+    ensures text { OnOk result (page_text page.new ≡ page_text page.old ++ item_note (spec_view spec.now) at item.now) }
+    ensures memory { OnErr result (item_note (spec_view spec.now) at item.now ≢ []) }
 {
     let session = session_of(&item.event);
     if is_in_teardown(spec, session, at) {

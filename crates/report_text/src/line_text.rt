@@ -1,6 +1,6 @@
 //! The lines that are said of a permutation's steps.
 
-ghost use Rattle.std.specs.Prelude.{◌≡◌, ◌++◌, ◌<◌, ◌≤◌, length, codes, option_map, option_and_then, slice_get, slice_range, OnOk, OnSome};
+ghost use Rattle.std.specs.Prelude.{◌≡◌, ◌≢◌, ◌++◌, ◌<◌, ◌≤◌, [], length, codes, option_map, option_and_then, slice_get, slice_range, OnOk, OnErr, OnSome};
 ghost use Rattle.iso_lexer.specs.Devices.{page_text};
 ghost use Rattle.spec_parser.specs.Trees.{step_view, spec_view};
 ghost use Rattle.spec_parser.specs.Numbered.{step_of_entry};
@@ -32,7 +32,8 @@ fn push_entry_replies(
     seen: usize,
 ) -> Result<(), AllocError>
     requires { entry < length run.now.entries }
-    ensures { OnOk result (page_text page.new ≡ page_text page.old ++ entry_replies run.now entry seen) }
+    ensures text { OnOk result (page_text page.new ≡ page_text page.old ++ entry_replies run.now entry seen) }
+    ensures memory { OnErr result (entry_replies run.now entry seen ≢ []) }
 {
     let items = run.items();
     let replies = between(items, run.seen_before(entry), seen);
@@ -110,7 +111,8 @@ pub fn push_line(
     run: &PermutationRun<'_>,
     line: Line,
 ) -> Result<(), AllocError>
-    ensures { OnOk result (page_text page.new ≡ page_text page.old ++ line_text (spec_view spec.now) run.now line) }
+    ensures text { OnOk result (page_text page.new ≡ page_text page.old ++ line_text (spec_view spec.now) run.now line) }
+    ensures memory { OnErr result (line_text (spec_view spec.now) run.now line ≢ []) }
 {
     match line {
         Line::AtOnce { entry, seen } => match step_at(spec, run, entry) {

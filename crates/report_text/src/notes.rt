@@ -1,6 +1,6 @@
 //! Notes on teardowns.
 
-ghost use Rattle.std.specs.Prelude.{◌≡◌, ◌++◌, [], map, codes, OnOk};
+ghost use Rattle.std.specs.Prelude.{◌≡◌, ◌≢◌, ◌++◌, [], map, codes, OnOk, OnErr};
 ghost use Rattle.std.specs.Option.{option_map_or};
 ghost use Rattle.iso_lexer.specs.Devices.{page_text};
 ghost use Rattle.spec_parser.specs.Trees.{session_view};
@@ -22,7 +22,8 @@ fn push_whose(
     sessions: &[SessionPart<'_>],
     session: usize,
 ) -> Result<(), AllocError>
-    ensures { OnOk result (page_text page.new ≡ page_text page.old ++ option_map_or of_session (session_numbered (map session_view sessions.now) session) []) }
+    ensures text { OnOk result (page_text page.new ≡ page_text page.old ++ option_map_or of_session (session_numbered (map session_view sessions.now) session) []) }
+    ensures memory { OnErr result (option_map_or of_session (session_numbered (map session_view sessions.now) session) [] ≢ []) }
 {
     match session_numbered(sessions, session) {
         Some(session) => {
@@ -77,7 +78,8 @@ pub fn push_outcome_note(
     session: usize,
     outcome: &Outcome<'_>,
 ) -> Result<(), AllocError>
-    ensures { OnOk result (page_text page.new ≡ page_text page.old ++ failure_note (map session_view sessions.now) session outcome.now) }
+    ensures text { OnOk result (page_text page.new ≡ page_text page.old ++ failure_note (map session_view sessions.now) session outcome.now) }
+    ensures memory { OnErr result (failure_note (map session_view sessions.now) session outcome.now ≢ []) }
 {
     match outcome {
         Outcome::Failed(fault) => push_failure(page, sessions, session, fault),
@@ -92,7 +94,8 @@ pub fn push_last_note(
     session: usize,
     segment: &[HistItem<'_>],
 ) -> Result<(), AllocError>
-    ensures { OnOk result (page_text page.new ≡ page_text page.old ++ failure_note (map session_view sessions.now) session (last_outcome segment.now)) }
+    ensures text { OnOk result (page_text page.new ≡ page_text page.old ++ failure_note (map session_view sessions.now) session (last_outcome segment.now)) }
+    ensures memory { OnErr result (failure_note (map session_view sessions.now) session (last_outcome segment.now) ≢ []) }
 {
     match segment.last() {
         Some(item) => push_outcome_note(page, sessions, session, &item.reply.outcome),

@@ -1,6 +1,6 @@
 //! The sessions whose blocks stand around the steps, by their numbers: from 1, and 0 for the whole file.
 
-ghost use Rattle.std.specs.Prelude.{◌≡◌, ◌++◌, ◌∷◌, [], map, OnOk, IfOk, if◌then◌else◌};
+ghost use Rattle.std.specs.Prelude.{◌≡◌, ◌≢◌, ◌++◌, ◌∷◌, [], map, OnOk, OnErr, IfOk, if◌then◌else◌};
 ghost use Rattle.spec_parser.specs.Trees.{session_view, spec_view};
 ghost use Rattle.report_text.specs.Turns.{session_numbers, setup_numbers};
 
@@ -8,7 +8,8 @@ use spec_parser::{SessionPart, Spec};
 use std::alloc::{AllocError, Global};
 
 fn add_if(numbers: &mut Vec<usize>, has: bool, number: usize) -> Result<(), AllocError>
-    ensures { OnOk result (numbers.new.items ≡ numbers.old.items ++ (if has then number ∷ [] else [])) }
+    ensures numbers { OnOk result (numbers.new.items ≡ numbers.old.items ++ (if has then number ∷ [] else [])) }
+    ensures memory { OnErr result ((if has then number ∷ [] else []) ≢ []) }
 {
     if has {
         numbers.push(number)?;

@@ -1,6 +1,6 @@
 //! The report of a permutation with its history.
 
-ghost use Rattle.std.specs.Prelude.{◌≡◌, ◌⊎◌, ◌++◌, ◌+◌, ◌-◌, ◌<◌, ◌^◌, length, map, flat_map, OnOk, IfOk};
+ghost use Rattle.std.specs.Prelude.{◌≡◌, ◌≢◌, ◌++◌, ◌+◌, ◌-◌, ◌<◌, ◌^◌, ◌⊎◌, [], length, map, flat_map, OnOk, OnErr, IfOk, IsErrOf};
 ghost use Rattle.std.specs.Io.KnownBytes.{Appends};
 ghost use Rattle.iso_lexer.specs.Devices.{page_text};
 ghost use Rattle.spec_parser.specs.Trees.{entry_view, spec_view};
@@ -47,7 +47,8 @@ fn push_lines(
     run: &PermutationRun<'_>,
     lines: &[Line],
 ) -> Result<(), AllocError>
-    ensures { OnOk result (page_text page.new ≡ page_text page.old ++ flat_map (line_text (spec_view spec.now) run.now) lines.now) }
+    ensures text { OnOk result (page_text page.new ≡ page_text page.old ++ flat_map (line_text (spec_view spec.now) run.now) lines.now) }
+    ensures memory { OnErr result (flat_map (line_text (spec_view spec.now) run.now) lines.now ≢ []) }
 {
     for line in lines {
         push_line(page, spec, run, *line)?;
@@ -59,6 +60,7 @@ fn push_lines(
 fn push_state(page: &mut Page, state: RunState) -> Result<Ending, AllocError>
     ensures text { OnOk result (page_text page.new ≡ page_text page.old ++ (state_says state).text) }
     ensures ending { IfOk result (λ ending. ending_of ending ≡ (state_says state).ending) }
+    ensures memory { OnErr result ((state_says state).text ≢ []) }
 {
     match state {
         RunState::Due(_) | RunState::Whole => Ok(Ending::Whole),
@@ -181,8 +183,11 @@ pub fn write_permutation<W: Sink, N: Sink>(
         (permutation_says (spec_view spec.now) (map entry_view entries.now) items.now).text result }
     ensures notes { Puts (N.put_so_far notes.old) (N.put_so_far notes.new)
         (permutation_says (spec_view spec.now) (map entry_view entries.now) items.now).notes result }
-    ensures order { (notes.new ≡ notes.old) ⊎ Appends (W.put_so_far out.old) (W.put_so_far out.new)
-        (permutation_says (spec_view spec.now) (map entry_view entries.now) items.now).text }
+    // The notes are as they were, or the text went out whole before them.
+    ensures order { (notes.new ≡ notes.old)
+        ⊎ Appends (W.put_so_far out.old) (W.put_so_far out.new) (permutation_says (spec_view spec.now) (map entry_view entries.now) items.now).text }
+    // Memory comes before anything is put.
+    ensures memory { IsErrOf result ReportFault.Memory → (out.new ≡ out.old) × (notes.new ≡ notes.old) }
     // Write is answered exactly where a sink has failed in the call.
     ensures fails { TellsFailure (W.failed out.old) (W.failed out.new) (N.failed notes.old) (N.failed notes.new) result }
 {

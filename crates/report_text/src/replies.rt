@@ -1,6 +1,6 @@
 //! What replies print.
 
-ghost use Rattle.std.specs.Prelude.{◌≡◌, ◌++◌, ◌==◌, [], codes, OnOk, if◌then◌else◌};
+ghost use Rattle.std.specs.Prelude.{◌≡◌, ◌≢◌, ◌++◌, ◌==◌, [], codes, OnOk, OnErr, if◌then◌else◌};
 ghost use Rattle.session_machine.specs.Machine.{session_of};
 ghost use Rattle.report_text.specs.FaultText.{fault_text};
 ghost use Rattle.iso_lexer.specs.Devices.{page_text};
@@ -31,7 +31,8 @@ fn push_error(page: &mut Page, fault: &StmtFault<'_>) -> Result<(), AllocError>
 
 /// Pushes the table of a result set, and of another outcome nothing.
 fn push_rows(page: &mut Page, outcome: &Outcome<'_>) -> Result<(), AllocError>
-    ensures { OnOk result (page_text page.new ≡ page_text page.old ++ rows_text outcome.now) }
+    ensures text { OnOk result (page_text page.new ≡ page_text page.old ++ rows_text outcome.now) }
+    ensures memory { OnErr result (rows_text outcome.now ≢ []) }
 {
     match outcome {
         Outcome::Rows(set) => push_table(page, set),
@@ -41,7 +42,8 @@ fn push_rows(page: &mut Page, outcome: &Outcome<'_>) -> Result<(), AllocError>
 
 /// Pushes the table of a result set, or the line of a failure.
 pub fn push_outcome(page: &mut Page, outcome: &Outcome<'_>) -> Result<(), AllocError>
-    ensures { OnOk result (page_text page.new ≡ page_text page.old ++ outcome_text outcome.now) }
+    ensures text { OnOk result (page_text page.new ≡ page_text page.old ++ outcome_text outcome.now) }
+    ensures memory { OnErr result (outcome_text outcome.now ≢ []) }
 {
     match outcome {
         Outcome::Rows(set) => push_table(page, set),
@@ -51,7 +53,8 @@ pub fn push_outcome(page: &mut Page, outcome: &Outcome<'_>) -> Result<(), AllocE
 }
 
 fn push_reply(page: &mut Page, session: u32, item: &HistItem<'_>) -> Result<(), AllocError>
-    ensures { OnOk result (page_text page.new ≡ page_text page.old ++ (if session_of item.now.event == session then outcome_text item.now.reply.outcome else [])) }
+    ensures text { OnOk result (page_text page.new ≡ page_text page.old ++ (if session_of item.now.event == session then outcome_text item.now.reply.outcome else [])) }
+    ensures memory { OnErr result ((if session_of item.now.event == session then outcome_text item.now.reply.outcome else []) ≢ []) }
 {
     if session_of(&item.event) == session {
         push_outcome(page, &item.reply.outcome)
@@ -62,7 +65,8 @@ fn push_reply(page: &mut Page, session: u32, item: &HistItem<'_>) -> Result<(), 
 
 /// Pushes what the session's statements print, up to the one with which its block is over.
 pub fn push_replies(page: &mut Page, session: u32, items: &[HistItem<'_>]) -> Result<(), AllocError>
-    ensures { OnOk result (page_text page.new ≡ page_text page.old ++ replies_text session items.now) }
+    ensures text { OnOk result (page_text page.new ≡ page_text page.old ++ replies_text session items.now) }
+    ensures memory { OnErr result (replies_text session items.now ≢ []) }
 {
     for item in items {
         push_reply(page, session, item)?;
@@ -75,7 +79,8 @@ pub fn push_replies(page: &mut Page, session: u32, items: &[HistItem<'_>]) -> Re
 
 /// Pushes the table of what came last, if it is a result set.
 pub fn push_last_rows(page: &mut Page, items: &[HistItem<'_>]) -> Result<(), AllocError>
-    ensures { OnOk result (page_text page.new ≡ page_text page.old ++ rows_text (last_outcome items.now)) }
+    ensures text { OnOk result (page_text page.new ≡ page_text page.old ++ rows_text (last_outcome items.now)) }
+    ensures memory { OnErr result (rows_text (last_outcome items.now) ≢ []) }
 {
     match items.last() {
         Some(item) => push_rows(page, &item.reply.outcome),

@@ -1,8 +1,9 @@
 //! What setups say.
 
-ghost use Rattle.std.specs.Prelude.{◌≡◌, ◌++◌, OnOk, IfOk, string_bytes};
+ghost use Rattle.std.specs.Prelude.{◌≡◌, ◌++◌, OnOk, OnErr, IfOk, string_bytes, true};
 ghost use Rattle.std.specs.Str.Lossy.{utf8_lossy};
 ghost use Rattle.iso_lexer.specs.Devices.{page_text};
+ghost use Rattle.session_machine.specs.Machine.{is_failed};
 ghost use Rattle.report_text.specs.FaultText.{fault_text};
 ghost use Rattle.report_lines.specs.Due.{orders};
 ghost use Rattle.report_text.specs.Replies.{last_outcome};
@@ -28,7 +29,8 @@ fn text_of(alloc: Global, fault: &StmtFault<'_>) -> Result<String, AllocError>
 }
 
 fn setup_ending(alloc: Global, outcome: &Outcome<'_>) -> Result<Ending, AllocError>
-    ensures { IfOk result (λ ending. ending_of ending ≡ setup_ending outcome.now) }
+    ensures ending { IfOk result (λ ending. ending_of ending ≡ setup_ending outcome.now) }
+    ensures memory { OnErr result (is_failed outcome.now ≡ true) }
 {
     match outcome {
         Outcome::Failed(fault) => Ok(Ending::SetupFailed(text_of(alloc, fault)?)),
@@ -38,7 +40,8 @@ fn setup_ending(alloc: Global, outcome: &Outcome<'_>) -> Result<Ending, AllocErr
 
 /// Why a setup did not go well, by what came last of it.
 fn last_ending(alloc: Global, segment: &[HistItem<'_>]) -> Result<Ending, AllocError>
-    ensures { IfOk result (λ ending. ending_of ending ≡ setup_ending (last_outcome segment.now)) }
+    ensures ending { IfOk result (λ ending. ending_of ending ≡ setup_ending (last_outcome segment.now)) }
+    ensures memory { OnErr result (is_failed (last_outcome segment.now) ≡ true) }
 {
     match segment.last() {
         Some(item) => setup_ending(alloc, &item.reply.outcome),

@@ -1,6 +1,6 @@
 //! What teardowns say.
 
-ghost use Rattle.std.specs.Prelude.{◌≡◌, ◌++◌, ◌+◌, ◌<◌, ◌^◌, [], map, codes, OnOk, IfOk};
+ghost use Rattle.std.specs.Prelude.{◌≡◌, ◌≢◌, ◌++◌, ◌+◌, ◌<◌, ◌^◌, ◌⊎◌, [], map, codes, OnOk, OnErr, IfOk};
 ghost use Rattle.iso_lexer.specs.Devices.{page_text};
 ghost use Rattle.spec_parser.specs.Trees.{session_view, spec_view};
 ghost use Rattle.report_text.specs.Replies.{rows_text, last_outcome};
@@ -45,6 +45,7 @@ fn push_over(
 ) -> Result<(), AllocError>
     ensures text { OnOk result (page_text pages.new.text ≡ page_text pages.old.text ++ rows_text (last_outcome segment.now)) }
     ensures notes { OnOk result (page_text pages.new.notes ≡ page_text pages.old.notes ++ failure_note (map session_view sessions.now) session (last_outcome segment.now)) }
+    ensures memory { OnErr result ((rows_text (last_outcome segment.now) ≢ []) ⊎ (failure_note (map session_view sessions.now) session (last_outcome segment.now) ≢ [])) }
 {
     push_last_rows(&mut pages.text, segment)?;
     push_last_note(&mut pages.notes, sessions, session, segment)
@@ -98,6 +99,7 @@ fn push_teardowns_from(
     ensures text { OnOk result (page_text pages.new.text ≡ page_text pages.old.text ++ (teardowns_from (map session_view sessions.now) segments.now count first teardowns.now).text) }
     ensures notes { OnOk result (page_text pages.new.notes ≡ page_text pages.old.notes ++ (teardowns_from (map session_view sessions.now) segments.now count first teardowns.now).notes) }
     ensures next { IfOk result (λ next. next ≡ (teardowns_from (map session_view sessions.now) segments.now count first teardowns.now).next) }
+    ensures memory { OnErr result (teardowns.now ≢ []) }
 {
     let mut number = first;
     for session in teardowns {
@@ -122,6 +124,7 @@ fn push_last(
         ++ (teardowns_from (spec_view spec.now).sessions segments.now count number (last_teardown_of (spec_view spec.now))).text) }
     ensures notes { OnOk result (page_text pages.new.notes ≡ page_text pages.old.notes
         ++ (teardowns_from (spec_view spec.now).sessions segments.now count number (last_teardown_of (spec_view spec.now))).notes) }
+    ensures memory { OnErr result (last_teardown_of (spec_view spec.now) ≢ []) }
 {
     if spec.teardown.is_some() {
         push_teardowns_from(pages, &spec.sessions, segments, count, number, &[0])?;

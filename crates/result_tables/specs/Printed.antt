@@ -1,4 +1,4 @@
--- What values print.
+-- To be believed. What values print.
 use Rattle.std.specs.Prelude.{ℕ, List, [], codes, if◌then◌else◌}
 use Rattle.std.specs.Fmt.{signed_decimal}
 use Rattle.sql_values.specs.declared.value.Value.{Value}

@@ -1,4 +1,4 @@
--- The text of a table, in the manner of libpq's PQprint with the separator `|`.
+-- To be believed. The text of a table, in the manner of libpq's PQprint with the separator `|`.
 use Rattle.std.specs.Prelude.{ℕ, ◌-◌, ◌==◌, ◌&&◌, not, List, [], ◌∷◌, ◌++◌, length, map, fold, max, replicate, decimal, codes, flat_map, nat_lt, if◌then◌else◌}
 use Rattle.std.specs.List.{list_any, zip, range_with_len, slice_index_or, join_with_byte}
 use Rattle.query_results.specs.Results.{Results}

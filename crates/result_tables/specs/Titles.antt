@@ -1,4 +1,4 @@
--- What titles print.
+-- To be believed. What titles print.
 use Rattle.std.specs.Prelude.{ℕ, List, codes}
 use Rattle.query_results.specs.declared.title.Title.{Title}
 use Rattle.query_results.specs.declared.title.Title.TheVariants.{Column, Unnamed, Count, Sum, Min, Max}

@@ -1,6 +1,6 @@
 //! How wide a column is, and how it is aligned.
 
-ghost use Rattle.std.specs.Prelude.{◌≡◌, ◌<◌, ◌||◌, length, map, max, All, IfOk};
+ghost use Rattle.std.specs.Prelude.{◌≡◌, ◌≢◌, ◌<◌, ◌||◌, [], length, map, max, All, IfOk, OnErr};
 ghost use Rattle.result_tables.specs.Printed.{printed};
 ghost use Rattle.result_tables.specs.Titles.{title_text};
 ghost use Rattle.result_tables.specs.TableText.{layout_of};
@@ -48,7 +48,8 @@ fn measured(title: &Title<'_>, rows: &[Row], k: usize) -> ColumnLayout
 
 /// The columns of a result's table.
 pub fn measured_columns(alloc: Global, set: &ResultSet<'_>) -> Result<Vec<ColumnLayout>, AllocError>
-    ensures { IfOk result (λ columns. columns.items ≡ layouts_of (map title_text set.now.titles) (map (map printed) set.now.rows)) }
+    ensures columns { IfOk result (λ columns. columns.items ≡ layouts_of (map title_text set.now.titles) (map (map printed) set.now.rows)) }
+    ensures memory { OnErr result (set.now.titles ≢ []) }
 {
     let titles = set.titles();
     let rows = set.rows();

@@ -1,6 +1,6 @@
 //! The lines of a table.
 
-ghost use Rattle.std.specs.Prelude.{◌≡◌, ◌++◌, length, map, replicate, OnOk};
+ghost use Rattle.std.specs.Prelude.{◌≡◌, ◌≢◌, ◌++◌, [], length, map, replicate, OnOk, OnErr};
 ghost use Rattle.result_tables.specs.Inner.Lines.{separator};
 ghost use Rattle.result_tables.specs.TableText.{padded, table_line, rule_line, foot};
 
@@ -20,7 +20,8 @@ fn append_run(line: &mut Vec<u8>, byte: u8, count: usize) -> Result<(), AllocErr
 
 /// Appends what stands between cells, in front of each cell but the first.
 fn append_separator(line: &mut Vec<u8>, byte: u8, place: usize) -> Result<(), AllocError>
-    ensures { OnOk result (line.new.items ≡ line.old.items ++ separator byte place) }
+    ensures text { OnOk result (line.new.items ≡ line.old.items ++ separator byte place) }
+    ensures memory { OnErr result (separator byte place ≢ []) }
 {
     match place {
         0 => Ok(()),

@@ -1,4 +1,4 @@
--- Closing a cycle of waits: what PostgreSQL calls a deadlock (13.3.4).
+-- To be believed. Closing a cycle of waits: what PostgreSQL calls a deadlock (13.3.4).
 use Rattle.std.specs.Prelude.{◌≡◌, Bool, true, false, ◌&&◌, ◌||◌, List, [], ◌∷◌}
 use Rattle.std.specs.List.{list_any}
 use Rattle.row_versions.specs.declared.names.TxId.{TxId}

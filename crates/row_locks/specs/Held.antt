@@ -1,4 +1,4 @@
--- Held locks, and who stands against a request (PostgreSQL manual, 13.3.2).
+-- To be believed. Held locks, and who stands against a request (PostgreSQL manual, 13.3.2).
 use Rattle.std.specs.Prelude.{◌≡◌, ◌==◌, Bool, true, false, not, ◌&&◌, ◌||◌, List, [], ◌∷◌, ◌++◌, map, filter}
 use Rattle.std.specs.List.{list_any}
 use Rattle.row_versions.specs.declared.names.TxId.{TxId}

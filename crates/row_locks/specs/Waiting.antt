@@ -1,4 +1,4 @@
--- The transactions that wait, in the order in which their waits began.
+-- To be believed. The transactions that wait, in the order in which their waits began.
 use Rattle.std.specs.Prelude.{ℕ, Bool, not, List, filter, slice_set, position, Option, Some, None}
 use Rattle.row_versions.specs.declared.names.TxId.{TxId}
 use Rattle.row_versions.specs.Members.{same_tx, is_none_of}

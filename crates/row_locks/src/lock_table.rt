@@ -1,5 +1,5 @@
 //! The locks that are held.
-ghost use Rattle.std.specs.Prelude.{◌≡◌, List, [], ◌∷◌, ◌++◌, not, ◌&&◌, OnOk, OnErr, IfOk};
+ghost use Rattle.std.specs.Prelude.{◌≡◌, List, [], ◌∷◌, ◌++◌, false, not, ◌&&◌, OnOk, OnErr, IfOk};
 ghost use Rattle.std.specs.List.{list_any};
 ghost use Rattle.row_versions.specs.Members.{has, is_distinct, is_none_of};
 ghost use Rattle.row_locks.specs.declared.held.Held.{Held};
@@ -54,6 +54,8 @@ impl LockTable {
     ) -> Result<SmallVec<TxId, 4>, AllocError>
         ensures each { IfOk result (λ found. (u : TxId) → has found.items u ≡ has (holders_against self.now row tx strength) u) }
         ensures once { IfOk result (λ found. is_distinct found.items) }
+        // Where nobody is found there is nothing to keep.
+        ensures memory { OnErr result (is_none_of (holders_against self.now row tx strength) ≡ false) }
     {
         let mut found: SmallVec<TxId, 4> = SmallVec::new(*self.held.allocator());
         for held in &self.held {

@@ -1,4 +1,4 @@
--- The log of all writes, and the fates of transactions.
+-- To be believed. The log of all writes, and the fates of transactions.
 use Rattle.std.specs.Prelude.{◌≡◌, ℕ, Bool, true, false, List, [], ◌∷◌, ◌++◌, length, Option, Some, slice_get, slice_set, count_by, option_and_then}
 use Rattle.std.specs.Option.{option_map_or}
 use Rattle.sql_values.specs.declared.value.Value.{Value}

@@ -1,4 +1,4 @@
--- Transactions, and lists of them.
+-- To be believed. Transactions, and lists of them.
 use Rattle.std.specs.Prelude.{◌≡◌, ◌==◌, Bool, true, false, List, [], ◌∷◌}
 use Rattle.std.specs.List.{list_any}
 use Rattle.row_versions.specs.declared.names.TxId.{TxId}

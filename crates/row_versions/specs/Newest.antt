@@ -1,4 +1,4 @@
--- The newest version of a row for a transaction.
+-- To be believed. The newest version of a row for a transaction.
 use Rattle.std.specs.Prelude.{ℕ, ◌==◌, ◌&&◌, ◌||◌, Option, find, option_map, reverse}
 use Rattle.std.specs.List.{enumerate_from}
 use Rattle.row_versions.specs.declared.names.TxId.{TxId}

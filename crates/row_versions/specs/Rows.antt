@@ -1,4 +1,4 @@
--- The rows of a table in a view.
+-- To be believed. The rows of a table in a view.
 use Rattle.std.specs.Prelude.{ℕ, ◌+◌, ◌==◌, Bool, not, ◌&&◌, List, map, filter, drop, is_some}
 use Rattle.std.specs.List.{list_any, enumerate_from}
 use Rattle.row_versions.specs.declared.names.TableId.{TableId}

@@ -1,4 +1,4 @@
--- What a view sees: PostgreSQL's manual, "Transaction Isolation", on what was committed when a statement or a
+-- To be believed. What a view sees: PostgreSQL's manual, "Transaction Isolation", on what was committed when a statement or a
 -- transaction began, and on the earlier updates of one's own transaction.
 use Rattle.std.specs.Prelude.{ℕ, nat_lt, Bool, false, ◌&&◌, ◌||◌, List, Option, Some}
 use Rattle.std.specs.Option.{option_map_or}

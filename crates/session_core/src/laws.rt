@@ -1,13 +1,15 @@
-//! The laws of waits, at the state that an engine is in: each function's contract is one of them, and its body does nothing.
+//! The laws of waits, at the state that an engine is in and in its history: each function's contract is one of them, and its body does nothing.
 
-ghost use Rattle.std.specs.Prelude.{◌≡◌, ℕ, Some, Ok, slice_get};
+ghost use Rattle.std.specs.Prelude.{◌≡◌, ℕ, List, ◌∷◌, ◌++◌, Some, Ok, slice_get};
 ghost use Rattle.row_versions.specs.declared.write.Write.{Write};
 ghost use Rattle.row_versions.specs.Log.{IsOpen};
 ghost use Rattle.row_locks.specs.Cycles.{blocks, NoCycle, AllEnd};
 ghost use Rattle.session_machine.specs.declared.event.Event.TheVariants.{Step};
-ghost use Rattle.session_machine.specs.Machine.{Machine, Next, next, turn_in};
+ghost use Rattle.session_machine.specs.declared.reply.HistItem.{HistItem};
+ghost use Rattle.session_machine.specs.Machine.{Machine, Next, Run, next, opening, turn_in};
 ghost use Rattle.session_machine.specs.Waits.{waits_in};
 ghost use Rattle.wait_laws.specs.Laws.{IsHeldAlone, IsNearerRest};
+ghost use Rattle.wait_laws.specs.Replies.{IsAnsweredSo};
 
 use crate::engine::EngineState;
 use row_versions::Versions;
@@ -19,6 +21,16 @@ impl<'a, 't, V: Versions> EngineState<'a, 't, V> {
         ensures { (m : Machine) → self.now.machine ≡ Some m → NoCycle (blocks (waits_in m.db m.sessions)) × AllEnd (blocks (waits_in m.db m.sessions)) }
     {
         laws::no_cycle_of_waits();
+        let _told = self.history();
+    }
+
+    /// Each of its replies says `deadlock detected` exactly where the statement asked for something of which a wait would have closed a cycle, in the
+    /// state of that moment, and that the session waits exactly where others held what it asked for and a wait closed none.
+    pub fn deadlock_is_answered(&self)
+        ensures { (before : List HistItem) (item : HistItem) (later : List HistItem) → self.now.history ≡ before ++ item ∷ later
+            → (m : Machine) × Run self.now.blocks self.now.mode (opening self.now.count) before m × IsAnsweredSo self.now.blocks m item.event item.reply.outcome }
+    {
+        laws::deadlock_is_answered();
         let _told = self.history();
     }
 

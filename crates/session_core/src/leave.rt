@@ -9,8 +9,8 @@ ghost use Rattle.session_machine.specs.Sound.{IsSoundMachine};
 
 use crate::live::Live;
 use row_versions::Versions;
+use session_database::Database;
 use session_machine::{Mode, Outcome, Refusal, Reply, Session, Transaction};
-use session_statements::Database;
 
 /// Rolls an open transaction back, which lets go of its locks.
 fn undo<'a, 't, V: Versions>(db: &mut Database<'a, 't, V>, transaction: Transaction)

@@ -11,8 +11,8 @@ ghost use Rattle.session_machine.specs.Engine.{Goes};
 
 use iso_lexer::Name;
 use row_versions::Versions;
+use session_database::Database;
 use session_machine::{Event, Mode, Refusal, Reply, Session};
-use session_statements::Database;
 use sql_blocks::Block;
 use sql_values::Row;
 use std::alloc::{AllocError, Global};

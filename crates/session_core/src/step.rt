@@ -17,9 +17,10 @@ use crate::block_stmts::{StmtAt, stmt_at};
 use crate::live::Live;
 use crate::waits::is_still_blocked;
 use row_versions::Versions;
+use session_database::{Database, Surroundings};
 use session_laws::laws::stays_sound;
 use session_machine::{Event, Mode, Outcome, Place, Refusal, Reply, Session, Transaction};
-use session_statements::{Database, Effect, Surroundings};
+use session_statements::{Effect, run_statement};
 use sql_blocks::Block;
 use std::alloc::AllocError;
 
@@ -203,9 +204,7 @@ impl<'a, 't, V: Versions> Live<'a, 't, V> {
             sessions: &self.sessions,
             number: self.events,
         };
-        let did = self
-            .db
-            .run_statement(&transaction, statement, &around, due.at.stmt)?;
+        let did = run_statement(&mut self.db, &transaction, statement, &around, due.at.stmt)?;
         Ok(self.go_on(session, due.place, due.at.count, did))
     }
 

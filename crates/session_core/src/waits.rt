@@ -5,8 +5,8 @@ ghost use Rattle.session_core.specs.Inner.Freed.{FreeWait, earliest_free, sooner
 ghost use Rattle.session_machine.specs.Waits.{is_still_blocked};
 
 use row_versions::Versions;
+use session_database::Database;
 use session_machine::{Session, Transaction};
-use session_statements::Database;
 use std::marker::Model;
 
 /// A wait that nothing blocks any more: its number, and its session.

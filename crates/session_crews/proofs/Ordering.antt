@@ -60,7 +60,7 @@ refused_history event before after engine_faults.Spent refused = refused_as even
 refused_history event before after engine_faults.NoSession refused = refused_as event before after engine_faults.NoSession refused
 refused_history event before after engine_faults.BlockNotAllowed refused = refused_as event before after engine_faults.BlockNotAllowed refused
 
-not_acted_history : (event : Event) (before after : Engine) (f : ThreadFault) → NotActed event before f after → after.history ≡ before.history
+pub not_acted_history : (event : Event) (before after : Engine) (f : ThreadFault) → NotActed event before f after → after.history ≡ before.history
 not_acted_history event before after (thread_faults.Engine f) not_done = refused_history event before after f not_done
 not_acted_history event before after thread_faults.Memory not_done = ap (λ (e : Engine). e.history) not_done
 not_acted_history event before after thread_faults.ThreadRefused not_done = absurd not_done

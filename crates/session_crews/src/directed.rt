@@ -1,5 +1,5 @@
 //! A run with a thread for each session, in which a driver says what is given to whom.
-ghost use Rattle.std.specs.Prelude.{◌≡◌, ◌≤◌, [], true, false, None, Some, IfOk, IfSome};
+ghost use Rattle.std.specs.Prelude.{◌≡◌, ◌≤◌, ◌⊎◌, ◌&&◌, [], true, None, Some, IfOk, IfErr, IfSome, if◌then◌else◌};
 ghost use Rattle.session_machine.specs.Engine.{is_quiet_in};
 ghost use Rattle.session_seats.specs.Orders.{IsDriven};
 
@@ -31,7 +31,9 @@ fn start<
     gate: &'s G,
     seats: &'s mut [S],
     crew: &mut Vec<JoinHandle<()>>,
-) -> Result<(), ThreadFault> {
+) -> Result<(), ThreadFault>
+    ensures { IfErr result (λ fault. (fault ≡ ThreadFault.Memory) ⊎ (fault ≡ ThreadFault.ThreadRefused)) }
+{
     let each = seats.iter_mut();
     for seat in each {
         let post = Post { bells, seat };
@@ -99,24 +101,30 @@ fn serve<
     seats
 }
 
-/// What is left of what stood behind the lock, and the seats. A fault that was met comes first.
+/// What is left of what stood behind the lock, and the seats. A run that the driver didn't stop, or in which something still
+/// goes on, hasn't come to its end.
 fn joined_of<E: Engine, S: Drop, O: Ordering, D: Drives<E> + Drop>(
     shared: Shared<E, O, D>,
     seats: Vec<S>,
 ) -> Joined<E, S>
     ensures same { E.engine result.engine ≡ shared.engine }
-    ensures fault { IfSome shared.fault (λ fault. result.met ≡ Some fault) }
-    ensures driven { result.met ≡ None → IsDriven O.orders (E.engine result.engine).history }
-    ensures quiet { result.met ≡ None → is_quiet_in (E.engine result.engine).machine ≡ true }
-    ensures busy { shared.fault ≡ None → is_quiet_in shared.engine.machine ≡ false → result.met ≡ Some (ThreadFault.Engine EngineFault.NotYourTurn) }
+    ensures met { result.met ≡ shared.fault }
+    ensures driven { result.late ≡ None → IsDriven O.orders (E.engine result.engine).history }
+    ensures quiet { result.late ≡ None → is_quiet_in (E.engine result.engine).machine ≡ true }
+    ensures late { result.late ≡ (if shared.stop && is_quiet_in shared.engine.machine then None else Some (ThreadFault.Engine EngineFault.NotYourTurn)) }
 {
     let (engine, stop, fault) = shared.into_parts();
-    let met = match fault {
-        Some(_) => fault,
-        None if stop && engine.quiet() => None,
-        None => Some(ThreadFault::Engine(EngineFault::NotYourTurn)),
+    let late = if stop && engine.quiet() {
+        None
+    } else {
+        Some(ThreadFault::Engine(EngineFault::NotYourTurn))
     };
-    Joined { engine, seats, met }
+    Joined {
+        engine,
+        seats,
+        met: fault,
+        late,
+    }
 }
 
 /// Runs on an engine in which nothing has happened what the driver orders, each event in its session's own thread; the
@@ -141,8 +149,10 @@ pub fn run_ordered<
     requires new { (E.engine engine).history ≡ [] }
     requires orders { D.order_after driver ≡ O.orders }
     requires follows { D.follows driver [] }
-    ensures quiet { IfOk result (λ run. run.met ≡ None → is_quiet_in (E.engine run.engine).machine ≡ true) }
-    ensures driven { IfOk result (λ run. run.met ≡ None → IsDriven O.orders (E.engine run.engine).history) }
+    ensures quiet { IfOk result (λ run. run.late ≡ None → is_quiet_in (E.engine run.engine).machine ≡ true) }
+    ensures driven { IfOk result (λ run. run.late ≡ None → IsDriven O.orders (E.engine run.engine).history) }
+    ensures late { IfOk result (λ run. IfSome run.late (λ fault. fault ≡ ThreadFault.Engine EngineFault.NotYourTurn)) }
+    ensures err { IfErr result (λ fault. fault ≡ ThreadFault.Memory) }
 {
     let bells = Bells::new(alloc, engine.sessions())?;
     let mut shared: Shared<E, O, D> = Shared::new(alloc, engine, driver);

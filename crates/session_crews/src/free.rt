@@ -1,184 +1,180 @@
 //! A run in which each session's thread runs the session's script, with no order between sessions.
+ghost use Rattle.std.specs.Prelude.{◌≡◌, ◌≤◌, ◌⊎◌, [], true, false, None, is_some, length, vec_len, IfErr, IfOk};
+ghost use Rattle.session_seats.specs.Acts.{IsRunOf};
+ghost use Rattle.session_seats.specs.Free.{scripts_in};
+ghost use Rattle.session_seats.specs.FreeRuns.{FitsPlan, IsCutShort};
+ghost use Rattle.session_crews.specs.Inner.FreeRuns.{AllDone, AreAtStart, DidLast, IsSetUp, Left};
 
-use crate::free_shared::{FreeShared, free_event, stop};
+use crate::free_run::{FreeRun, run_block};
+use crate::free_shared::{FreeShared, run_script, stop};
 use crate::joined::Joined;
+use crate::progress::Progress;
 use session_machine::{Engine, EngineFault, Event};
 use session_seats::{
-    BlockState, FreePlan, Gate, OpenGate, Runner, SeatAt, ThreadFault, block_state, script_of,
-    start_thread,
+    BlockState, FreePlan, Gate, Runner, Scripting, SeatAt, ThreadFault, start_thread,
 };
 use std::alloc::Global;
+use std::marker::Brand;
 use std::sync::{Condvar, Mutex, Wait};
 use std::thread;
 use std::thread::{JoinHandle, Scope, Threads};
 
-/// Launches a block in a session, and steps until it has ended, or waits where it may not. Says how far it has come; `None`
-/// where the run is over.
-fn run_block<E: Engine, S: SeatAt<E>, G: Gate, R: Wait>(
-    rt: &R,
-    shared: &Mutex<FreeShared<E>>,
-    bell: &Condvar,
-    gate: &G,
-    seat: &mut S,
-    block: u32,
-    may_wait: bool,
-) -> Option<BlockState> {
-    let session = seat.session();
-    let launch = Event::Launch { session, block };
-    if !free_event(rt, shared, bell, gate, seat, launch) {
-        return None;
-    }
-    for _ in rt.forever() {
-        match block_state(seat.last()) {
-            BlockState::GoesOn { waits } if may_wait || !waits => {}
-            state => return Some(state),
-        }
-        let step = Event::Step {
-            session: seat.session(),
-        };
-        if !free_event(rt, shared, bell, gate, seat, step) {
-            return None;
-        }
-    }
-    None
-}
+/// A block of a session that isn't there, or whose seat isn't.
+const NO_SESSION: ThreadFault = ThreadFault::Engine(EngineFault::NoSession);
 
-/// Runs the session's blocks, and leaves.
-fn run_script<E: Engine, S: SeatAt<E>, G: Gate, R: Wait>(
-    rt: &R,
-    shared: &Mutex<FreeShared<E>>,
-    bell: &Condvar,
-    gate: &G,
-    runner: Runner<'_, S>,
-) {
-    let Runner { seat, script } = runner;
-    for block in script {
-        if run_block(rt, shared, bell, gate, seat, *block, true).is_none() {
-            return;
-        }
-    }
-    let leave = Event::Leave {
-        session: seat.session(),
-    };
-    free_event(rt, shared, bell, gate, seat, leave);
-}
-
-/// Runs a block while there are no threads, until it has ended or waits. Says whether it went well.
-fn run_setup<E: Engine, S: SeatAt<E>, R: Wait>(
-    rt: &R,
-    shared: &Mutex<FreeShared<E>>,
-    bell: &Condvar,
-    seat: &mut S,
-    block: u32,
-) -> bool {
-    let state = run_block(rt, shared, bell, &OpenGate, seat, block, false);
-    matches!(state, Some(BlockState::Ended { failed: false }))
-}
-
-/// Runs the blocks that come before the threads, up to one that fails or waits. Says whether all went well.
+/// Runs the blocks that come before the threads, one after the other, up to one that fails or waits. Says whether all went
+/// well.
 fn run_before<E: Engine, S: SeatAt<E>, R: Wait>(
     rt: &R,
-    shared: &Mutex<FreeShared<E>>,
-    bell: &Condvar,
+    run: &mut FreeRun<E>,
     seats: &mut [S],
-    before: &[(u32, u32)],
-) -> bool {
-    for (session, block) in before {
-        let Some(seat) = seats.get_mut(*session as usize) else {
-            stop(
-                rt,
-                shared,
-                bell,
-                ThreadFault::Engine(EngineFault::NoSession),
-            );
+    plan: &FreePlan,
+) -> bool
+    requires new { (E.engine run.old.engine).history ≡ [] }
+    requires well { run.old.fault ≡ None }
+    ensures of { IsRunOf (E.engine run.old.engine) (E.engine run.new.engine) }
+    ensures well { result ≡ true → IsSetUp plan.now.before.items (E.engine run.old.engine) (E.engine run.new.engine) × (run.new.fault ≡ None) }
+    ensures cut { result ≡ false → run.new.fault ≡ None → IsCutShort plan.now (E.engine run.new.engine).history × (is_some (E.engine run.old.engine).machine ≡ true → is_some (E.engine run.new.engine).machine ≡ true) }
+{
+    for setup in &plan.before {
+        let (session, block) = *setup;
+        let Some(seat) = seats.get_mut(session as usize) else {
+            run.note(NO_SESSION);
             return false;
         };
-        if !run_setup(rt, shared, bell, seat, *block) {
+        if seat.session() != session {
+            run.note(NO_SESSION);
             return false;
+        }
+        match run_block(rt, run, seat, block) {
+            Some(BlockState::Ended) => {}
+            Some(BlockState::GoesOn) => {
+                run.note(ThreadFault::Engine(EngineFault::Busy));
+                return false;
+            }
+            Some(BlockState::Stopped { ended: _ended }) => return false,
+            None => return false,
         }
     }
     true
 }
 
 /// The control session leaves, so that nobody waits for it. Says whether it did.
-fn leave_control<E: Engine, S: SeatAt<E>, R: Wait>(
-    rt: &R,
-    shared: &Mutex<FreeShared<E>>,
-    bell: &Condvar,
-    seats: &mut [S],
-) -> bool {
-    let Some(seat) = seats.first_mut() else {
-        return false;
-    };
-    let leave = Event::Leave {
-        session: seat.session(),
-    };
-    free_event(rt, shared, bell, &OpenGate, seat, leave)
-}
-
-/// Runs the control session's blocks behind the threads.
-fn run_after<E: Engine, S: SeatAt<E>, R: Wait>(
-    rt: &R,
-    shared: &Mutex<FreeShared<E>>,
-    bell: &Condvar,
-    seats: &mut [S],
-    after: &[u32],
-) {
-    let Some(seat) = seats.first_mut() else {
-        return;
-    };
-    for block in after {
-        run_setup(rt, shared, bell, seat, *block);
+fn leave_control<E: Engine, S: SeatAt<E>>(run: &mut FreeRun<E>, seats: &mut [S]) -> bool
+    requires { run.old.fault ≡ None }
+    ensures of { IsRunOf (E.engine run.old.engine) (E.engine run.new.engine) }
+    ensures left { result ≡ true → Left (E.engine run.old.engine) (E.engine run.new.engine) × (run.new.fault ≡ None) }
+    ensures over { result ≡ false → is_some run.new.fault ≡ true }
+{
+    match seats.first_mut() {
+        Some(seat) if seat.session() == 0 => {
+            run.perform(seat, Event::Leave { session: 0 }).is_some()
+        }
+        _ => {
+            run.note(NO_SESSION);
+            false
+        }
     }
 }
 
-/// Starts a thread for each script.
+/// Runs the control session's last blocks. One that waits has nobody left to wait for.
+fn run_after<E: Engine, S: SeatAt<E>, R: Wait>(
+    rt: &R,
+    run: &mut FreeRun<E>,
+    seats: &mut [S],
+    after: &[u32],
+)
+    requires { run.old.fault ≡ None }
+    ensures of { IsRunOf (E.engine run.old.engine) (E.engine run.new.engine) }
+    ensures done { run.new.fault ≡ None → DidLast after.now (E.engine run.old.engine) (E.engine run.new.engine) }
+{
+    let Some(seat) = seats.first_mut() else {
+        run.note(NO_SESSION);
+        return;
+    };
+    if seat.session() != 0 {
+        run.note(NO_SESSION);
+        return;
+    }
+    for block in after {
+        match run_block(rt, run, seat, *block) {
+            Some(state) if state.is_over() => {}
+            Some(_) => {
+                run.note(ThreadFault::Engine(EngineFault::StillBlocked));
+                return;
+            }
+            None => return,
+        }
+    }
+}
+
+/// Each session at the beginning of its script.
+fn at_start(alloc: Global, scripts: &[Vec<u32>]) -> Result<Vec<Progress<'_>>, ThreadFault>
+    requires { length scripts.now ≤ 64 }
+    ensures ok { IfOk result (λ progress. AreAtStart (scripts_in scripts.now) progress.items) }
+    ensures err { IfErr result (λ fault. fault ≡ ThreadFault.Memory) }
+{
+    let mut progress = Vec::new(alloc);
+    for (place, script) in scripts.iter().enumerate() {
+        let own = Progress::new(place as u32 + 1, script);
+        if progress.push(own).is_err() {
+            return Err(ThreadFault::Memory);
+        }
+    }
+    Ok(progress)
+}
+
+/// Starts a thread for each session but the control session.
 fn start_scripts<
     's,
     'e: 's,
+    'p: 's,
     E: Engine + Send + 's,
     S: SeatAt<E> + Send + 's,
+    P: Scripting + Send + 's,
     G: Gate + 's,
     R: Wait + Sync + 's,
 >(
     scope: &'s Scope<'s, &'e ()>,
     rt: &'s R,
-    shared: &'s Mutex<FreeShared<E>>,
+    shared: &'s Mutex<FreeShared<'p, E, P>>,
     bell: &'s Condvar,
     gate: &'s G,
     seats: &'s mut [S],
-    scripts: &'s [Vec<u32>],
     crew: &mut Vec<JoinHandle<()>>,
-) -> Result<(), ThreadFault> {
+) -> Result<(), ThreadFault>
+    ensures { IfErr result (λ fault. (fault ≡ ThreadFault.Memory) ⊎ (fault ≡ ThreadFault.ThreadRefused)) }
+{
     let each = seats.iter_mut();
     for seat in each {
-        let Some(script) = script_of(scripts, seat.session()) else {
+        if seat.session() == 0 {
             continue;
-        };
-        let runner = Runner { seat, script };
-        start_thread(
-            scope,
-            crew,
-            move || run_script(rt, shared, bell, gate, runner),
-        )?;
+        }
+        let runner = Runner { bell, seat };
+        start_thread(scope, crew, move || run_script(rt, shared, gate, runner))?;
     }
     Ok(())
 }
 
-/// Starts the sessions' threads, joins them, and gives the seats back.
-fn serve_scripts<E: Engine + Send, S: SeatAt<E> + Send, G: Gate, R: Threads + Wait + Sync>(
+/// Serves the seats in a scope, and gives them back.
+fn serve<
+    E: Engine + Send,
+    S: SeatAt<E> + Send,
+    P: Scripting + Send,
+    G: Gate,
+    R: Threads + Wait + Sync,
+>(
     rt: &R,
     alloc: Global,
-    shared: &Mutex<FreeShared<E>>,
+    shared: &Mutex<FreeShared<'_, E, P>>,
     bell: &Condvar,
     gate: &G,
     mut seats: Vec<S>,
-    scripts: &[Vec<u32>],
 ) -> Vec<S> {
     let lent = &mut *seats;
     thread::scope(thread::scope_env(), rt, move |scope| {
         let mut crew = Vec::new(alloc);
-        if let Err(fault) = start_scripts(scope, rt, shared, bell, gate, lent, scripts, &mut crew) {
+        if let Err(fault) = start_scripts(scope, rt, shared, bell, gate, lent, &mut crew) {
             stop(rt, shared, bell, fault);
         }
         for thread in crew {
@@ -188,30 +184,121 @@ fn serve_scripts<E: Engine + Send, S: SeatAt<E> + Send, G: Gate, R: Threads + Wa
     seats
 }
 
-/// The sessions' part: the control session leaves, each session's thread runs its script, and the control session's last
-/// blocks run. After a fault nothing is done any more.
+/// The sessions' part, where the type says at which engine and with which scripts they begin.
+fn run_scripting<
+    E: Engine + Send,
+    S: SeatAt<E> + Send,
+    P: Scripting + Send,
+    G: Gate,
+    R: Threads + Wait + Sync,
+>(rt: &R, alloc: Global, engine: E, seats: Vec<S>, scripts: &[Vec<u32>], gate: &G) -> Joined<E, S>
+    requires few { length scripts.now ≤ 64 }
+    requires start { E.engine engine ≡ P.start }
+    requires unspent { is_some (E.engine engine).machine ≡ true }
+    requires scripts { scripts_in scripts.now ≡ P.scripts }
+    ensures of { IsRunOf P.start (E.engine result.engine) }
+    ensures done { result.met ≡ None → result.late ≡ None → AllDone P.start P.scripts (E.engine result.engine) }
+{
+    let progress = match at_start(alloc, scripts) {
+        Ok(progress) => progress,
+        Err(fault) => return ended(engine, seats, Some(fault)),
+    };
+    let shared: FreeShared<'_, E, P> = FreeShared::new(engine, progress);
+    let lock = Mutex::new(shared);
+    let bell = Condvar::new();
+    let seats = serve(rt, alloc, &lock, &bell, gate, seats);
+    joined_of(lock.into_inner(), seats)
+}
+
+/// A run that is over before its threads have started.
+fn ended<E: Engine, S: Drop>(engine: E, seats: Vec<S>, met: Option<ThreadFault>) -> Joined<E, S>
+    ensures { (E.engine result.engine ≡ E.engine engine) × (result.met ≡ met) × (result.late ≡ None) }
+{
+    Joined {
+        engine,
+        seats,
+        met,
+        late: None,
+    }
+}
+
+/// What is left of what stood behind the lock, and the seats. Where some session hasn't done its script, it isn't the control
+/// session's turn.
+fn joined_of<E: Engine, S: Drop, P: Scripting>(
+    shared: FreeShared<'_, E, P>,
+    seats: Vec<S>,
+) -> Joined<E, S>
+    ensures of { IsRunOf P.start (E.engine result.engine) }
+    ensures met { result.met ≡ shared.entry.fault }
+    ensures done { result.met ≡ None → result.late ≡ None → AllDone P.start P.scripts (E.engine result.engine) }
+{
+    let (run, done) = shared.into_parts();
+    let late = if done {
+        None
+    } else {
+        Some(ThreadFault::Engine(EngineFault::NotYourTurn))
+    };
+    Joined {
+        engine: run.engine,
+        seats,
+        met: run.fault,
+        late,
+    }
+}
+
+/// The sessions' part: each session's thread runs its script.
 fn run_sessions<E: Engine + Send, S: SeatAt<E> + Send, G: Gate, R: Threads + Wait + Sync>(
     rt: &R,
     alloc: Global,
-    shared: &Mutex<FreeShared<E>>,
-    bell: &Condvar,
+    engine: E,
+    seats: Vec<S>,
+    scripts: &[Vec<u32>],
     gate: &G,
-    mut seats: Vec<S>,
-    plan: &FreePlan,
-) -> Vec<S> {
-    if !leave_control(rt, shared, bell, &mut seats) {
-        return seats;
+) -> Joined<E, S>
+    requires few { length scripts.now ≤ 64 }
+    requires unspent { is_some (E.engine engine).machine ≡ true }
+    ensures of { IsRunOf (E.engine engine) (E.engine result.engine) }
+    ensures done { result.met ≡ None → result.late ≡ None → AllDone (E.engine engine) (scripts_in scripts.now) (E.engine result.engine) }
+{
+    run_scripting::<E, S, Brand, G, R>(rt, alloc, engine, seats, scripts, gate)
+}
+
+/// Behind the sessions' part the control session's last blocks, unless something is against it.
+fn run_last<E: Engine, S: SeatAt<E>, R: Wait>(
+    rt: &R,
+    joined: Joined<E, S>,
+    after: &[u32],
+) -> Joined<E, S>
+    ensures of { IsRunOf (E.engine joined.engine) (E.engine result.engine) }
+    ensures met { result.met ≡ joined.met }
+    ensures done { result.met ≡ None → result.late ≡ None → DidLast after.now (E.engine joined.engine) (E.engine result.engine) × (joined.late ≡ None) }
+{
+    let Joined {
+        engine,
+        mut seats,
+        met,
+        late,
+    } = joined;
+    let mut run = FreeRun {
+        engine,
+        fault: late,
+    };
+    if met.is_none() && run.fault.is_none() {
+        run_after(rt, &mut run, &mut seats, after);
     }
-    let mut served = serve_scripts(rt, alloc, shared, bell, gate, seats, &plan.scripts);
-    run_after(rt, shared, bell, &mut served, &plan.after);
-    served
+    Joined {
+        engine: run.engine,
+        seats,
+        met,
+        late: run.fault,
+    }
 }
 
 /// Runs the blocks that come before, one after the other in the calling thread; after one that fails or waits the run is
 /// over. Else the control session leaves, and the thread of each session runs its script and leaves, with no order between
 /// sessions. After the joins the calling thread runs the control session's last blocks. The sessions' threads ask the gate;
-/// one whose event waits for others sleeps until something was released. The first seat is the control session's, and each
-/// event is put in its session's seat.
+/// one whose event waits for others sleeps until something was released. The seats are in the order of their sessions, from
+/// the control session's on, and each event is put in its session's seat.
 pub fn run_scripts<E: Engine + Send, S: SeatAt<E> + Send, G: Gate, R: Threads + Wait + Sync>(
     rt: &R,
     alloc: Global,
@@ -219,12 +306,21 @@ pub fn run_scripts<E: Engine + Send, S: SeatAt<E> + Send, G: Gate, R: Threads + 
     mut seats: Vec<S>,
     plan: &FreePlan,
     gate: &G,
-) -> Joined<E, S> {
-    let lock = Mutex::new(FreeShared::new(engine));
-    let bell = Condvar::new();
-    if run_before(rt, &lock, &bell, &mut seats, &plan.before) {
-        seats = run_sessions(rt, alloc, &lock, &bell, gate, seats, plan);
+) -> Joined<E, S>
+    requires few { vec_len plan.now.scripts ≤ 64 }
+    requires new { (E.engine engine).history ≡ [] }
+    requires unspent { is_some (E.engine engine).machine ≡ true }
+    ensures of { IsRunOf (E.engine engine) (E.engine result.engine) }
+    ensures fits { result.met ≡ None → result.late ≡ None → FitsPlan plan.now (E.engine result.engine).history }
+    ensures unspent { result.met ≡ None → result.late ≡ None → is_some (E.engine result.engine).machine ≡ true }
+{
+    let mut run = FreeRun {
+        engine,
+        fault: None,
+    };
+    if !run_before(rt, &mut run, &mut seats, plan) || !leave_control(&mut run, &mut seats) {
+        return ended(run.engine, seats, run.fault);
     }
-    let (engine, met) = lock.into_inner().into_parts();
-    Joined { engine, seats, met }
+    let joined = run_sessions(rt, alloc, run.engine, seats, &plan.scripts, gate);
+    run_last(rt, joined, &plan.after)
 }

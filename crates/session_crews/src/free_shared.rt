@@ -1,73 +1,166 @@
 //! What stands behind the lock of a free run, and how an event is done there.
-ghost use Rattle.std.specs.Prelude.{◌≡◌};
+ghost use Rattle.std.specs.Prelude.{◌≡◌, true, None, Some, is_some, length, IfSome};
+ghost use Rattle.std.specs.Option.{option_or};
 ghost use Rattle.session_machine.specs.Machine.{session_of};
+ghost use Rattle.session_seats.specs.Acts.{IsRunOf};
+ghost use Rattle.session_crews.specs.Inner.FreeRuns.{AllDone, AreAtStart, HaveDone, IsNextOf};
 
+use crate::free_run::FreeRun;
+use crate::progress::Progress;
 use session_machine::{Engine, EngineFault, Event};
-use session_seats::{Gate, SeatAt, ThreadFault, Tried, admitted, may_release, tell};
+use session_seats::{
+    Gate, Runner, Scripting, SeatAt, ThreadFault, Tried, admitted, block_state, may_release, tell,
+};
+use std::marker::{Model, PhantomData};
 use std::sync::{Condvar, Mutex, Wait};
 
-/// The engine, and a fault that was met.
+/// The engine, how far each session has come with its script, and a fault that was met. The history goes on from where the
+/// threads began by what the sessions have done of their scripts.
 #[derive(Drop)]
-pub struct FreeShared<E: Engine> {
+pub struct FreeShared<'p, E: Engine, P: Scripting> {
     engine: E,
+    progress: Vec<Progress<'p>>,
     fault: Option<ThreadFault>,
+    scripting: PhantomData<P>,
 }
 
-impl<E: Engine> FreeShared<E> {
-    pub fn new(engine: E) -> Self {
+impl<'p, E: Engine, P: Scripting> Model for FreeShared<'p, E, P> {
+    ghost use Rattle.session_seats.specs.Acts.{IsRunOf};
+    ghost use Rattle.session_crews.specs.Inner.FreeRuns.{FreeSharedOf, RunsScripts};
+    ghost use Rattle.session_machine.specs.Inner.TreeCodes.{tree_code};
+    ghost use Rattle.std.specs.Coded.{codes};
+
+    ghost Value = { FreeSharedOf };
+
+    ghost coded = { Prim.hlevel (codes, tree_code) };
+
+    ghost view = { λ s. record { engine = E.engine s.engine; progress = s.progress.items; fault = s.fault } };
+
+    ghost invariant = { λ s. RunsScripts P.start P.scripts (E.engine s.engine) s.progress.items s.fault };
+}
+
+impl<'p, E: Engine, P: Scripting> FreeShared<'p, E, P> {
+    /// Of an engine at which the sessions begin with their scripts.
+    pub fn new(engine: E, progress: Vec<Progress<'p>>) -> Self
+        requires start { E.engine engine ≡ P.start }
+        requires unspent { is_some (E.engine engine).machine ≡ true }
+        requires scripts { AreAtStart P.scripts progress.items }
+        ensures { result ≡ record { engine = E.engine engine; progress = progress.entry.items; fault = None } }
+    {
         FreeShared {
             engine,
+            progress,
             fault: None,
+            scripting: PhantomData,
         }
     }
 
     /// No event is to begin any more.
-    pub fn over(&self) -> bool {
+    pub fn over(&self) -> bool
+        ensures { result ≡ is_some self.now.fault }
+    {
         self.fault.is_some()
     }
 
     /// How many events there were.
-    fn events(&self) -> usize {
+    fn events(&self) -> usize
+        ensures { result ≡ length self.now.engine.history }
+    {
         self.engine.events()
     }
 
     /// Keeps a fault, where none was met before.
-    pub fn note(&mut self, fault: ThreadFault) {
+    pub fn note(&mut self, fault: ThreadFault)
+        ensures { self.new ≡ record { engine = self.old.engine; progress = self.old.progress; fault = option_or self.old.fault (Some fault) } }
+    {
         if self.fault.is_none() {
             self.fault = Some(fault);
         }
     }
 
-    /// Does the event, unless the run is over or something stands in its way.
+    /// What the session does next; `None` where it has done its script.
+    pub fn due(&self, session: u32) -> Option<Event>
+        ensures own { IfSome result (λ event. session_of event ≡ session) }
+        ensures next { IfSome result (λ event. IsNextOf self.now.progress session event) }
+    {
+        match session {
+            0 => None,
+            number => match self.progress.get(number as usize - 1) {
+                Some(progress) => progress.next(),
+                None => None,
+            },
+        }
+    }
+
+    /// Whether the event is what the session does next.
+    fn is_due(&self, session: u32, event: Event) -> bool
+        ensures { result ≡ true → IsNextOf self.now.progress session event }
+    {
+        self.due(session) == Some(event)
+    }
+
+    /// Does the event, unless the run is over, the event isn't the session's next one, or something stands in its way.
     fn perform<S: SeatAt<E>>(&mut self, seat: &mut S, event: Event) -> Tried
         requires { session_of event ≡ (S.seat seat.old).session }
-        ensures { (S.seat seat.new).session ≡ (S.seat seat.old).session }
+        ensures session { (S.seat seat.new).session ≡ (S.seat seat.old).session }
+        ensures over { result ≡ Tried.Over → is_some self.new.fault ≡ true }
+        ensures first { IfSome self.old.fault (λ fault. self.new.fault ≡ Some fault) }
     {
         if self.over() {
             return Tried::Over;
         }
+        let session = seat.session();
+        if !self.is_due(session, event) {
+            self.note(ThreadFault::Engine(EngineFault::NotYourTurn));
+            return Tried::Over;
+        }
+        let place = session as usize - 1;
         match seat.act(&mut self.engine, event) {
-            Ok(()) => Tried::Done,
+            Ok(()) => {
+                self.progress[place].advance(block_state(seat.last()).is_over());
+                Tried::Done
+            }
             Err(ThreadFault::Engine(EngineFault::StillBlocked)) => Tried::Blocked {
                 events: self.events(),
             },
             Err(fault) => {
-                self.note(fault);
+                self.fault = Some(fault);
                 Tried::Over
             }
         }
     }
 
-    /// The engine, and the fault that was met.
-    pub fn into_parts(self) -> (E, Option<ThreadFault>) {
-        (self.engine, self.fault)
+    /// The engine with the fault that was met, and whether all sessions have done their scripts.
+    pub fn into_parts(self) -> (FreeRun<E>, bool)
+        ensures same { (E.engine result.0.engine ≡ self.entry.engine) × (result.0.fault ≡ self.entry.fault) }
+        ensures of { IsRunOf P.start self.entry.engine }
+        ensures done { result.1 ≡ true → self.entry.fault ≡ None → AllDone P.start P.scripts self.entry.engine }
+    {
+        let done = all_done(&self.progress);
+        let run = FreeRun {
+            engine: self.engine,
+            fault: self.fault,
+        };
+        (run, done)
     }
 }
 
+/// Whether each session has done its script.
+fn all_done(progress: &[Progress<'_>]) -> bool
+    ensures { result ≡ true → HaveDone progress.now }
+{
+    for each in progress {
+        if !each.is_done() {
+            return false;
+        }
+    }
+    true
+}
+
 /// Keeps a fault, and wakes everyone.
-pub fn stop<E: Engine, R: Wait>(
+pub fn stop<E: Engine, P: Scripting, R: Wait>(
     rt: &R,
-    shared: &Mutex<FreeShared<E>>,
+    shared: &Mutex<FreeShared<'_, E, P>>,
     bell: &Condvar,
     fault: ThreadFault,
 ) {
@@ -76,9 +169,9 @@ pub fn stop<E: Engine, R: Wait>(
 }
 
 /// Tries an event under the lock. Wakes those who sleep where something may have been released, or the run is over.
-fn try_event<E: Engine, S: SeatAt<E>, R: Wait>(
+fn try_event<E: Engine, S: SeatAt<E>, P: Scripting, R: Wait>(
     rt: &R,
-    shared: &Mutex<FreeShared<E>>,
+    shared: &Mutex<FreeShared<'_, E, P>>,
     bell: &Condvar,
     seat: &mut S,
     event: Event,
@@ -101,16 +194,21 @@ fn try_event<E: Engine, S: SeatAt<E>, R: Wait>(
 }
 
 /// Sleeps until there were more events than so many, or the run is over.
-fn sleep<E: Engine, R: Wait>(rt: &R, shared: &Mutex<FreeShared<E>>, bell: &Condvar, events: usize) {
+fn sleep<E: Engine, P: Scripting, R: Wait>(
+    rt: &R,
+    shared: &Mutex<FreeShared<'_, E, P>>,
+    bell: &Condvar,
+    events: usize,
+) {
     let guard = bell.wait_while(rt, shared.lock(rt), |s| !s.over() && s.events() == events);
     drop(guard);
 }
 
 /// Does one event as soon as nothing stands in its way: asks the gate, does the event under the lock, and tells the gate.
 /// Says whether it was done; it wasn't where the run is over.
-pub fn free_event<E: Engine, S: SeatAt<E>, G: Gate, R: Wait>(
+pub fn free_event<E: Engine, S: SeatAt<E>, P: Scripting, G: Gate, R: Wait>(
     rt: &R,
-    shared: &Mutex<FreeShared<E>>,
+    shared: &Mutex<FreeShared<'_, E, P>>,
     bell: &Condvar,
     gate: &G,
     seat: &mut S,
@@ -134,4 +232,21 @@ pub fn free_event<E: Engine, S: SeatAt<E>, G: Gate, R: Wait>(
         }
     }
     false
+}
+
+/// Does what is the session's, one event after the other, until it has done its script or the run is over.
+pub fn run_script<E: Engine, S: SeatAt<E>, P: Scripting, G: Gate, R: Wait>(
+    rt: &R,
+    shared: &Mutex<FreeShared<'_, E, P>>,
+    gate: &G,
+    runner: Runner<'_, S>,
+) {
+    let Runner { bell, seat } = runner;
+    for _ in rt.forever() {
+        let due = shared.lock(rt).due(seat.session());
+        match due {
+            Some(event) if free_event(rt, shared, bell, gate, seat, event) => {}
+            _ => return,
+        }
+    }
 }

@@ -5,8 +5,10 @@
 mod directed;
 mod driven;
 mod free;
+mod free_run;
 mod free_shared;
 mod joined;
+mod progress;
 mod shared;
 
 pub use directed::run_ordered;

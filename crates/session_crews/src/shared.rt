@@ -1,5 +1,6 @@
 //! What stands behind the lock of a directed run, and what a session's thread does with it.
-ghost use Rattle.std.specs.Prelude.{◌≡◌, ◌||◌, true, false, [], None, Some, IfSome, is_some};
+ghost use Rattle.std.specs.Prelude.{◌≡◌, ◌||◌, ◌⊎◌, ◌<◌, ◌≤◌, true, false, [], None, Some, IfSome, is_some};
+ghost use Rattle.std.specs.Option.{option_or};
 ghost use Rattle.session_machine.specs.Machine.{session_of};
 ghost use Rattle.session_crews.specs.Inner.Seats.{IsFor};
 ghost use Rattle.session_seats.specs.Orders.{IsDriven, IsOrder};
@@ -88,7 +89,7 @@ impl<E: Engine, O: Ordering, D: Drives<E>> Shared<E, O, D> {
 
     /// Keeps a fault, where none was met before.
     pub fn note(&mut self, fault: ThreadFault)
-        ensures { (self.new.engine ≡ self.old.engine) × (self.new.stop ≡ self.old.stop) }
+        ensures { self.new ≡ record { engine = self.old.engine; order = self.old.order; stop = self.old.stop; fault = option_or self.old.fault (Some fault) } }
     {
         if self.fault.is_none() {
             self.fault = Some(fault);
@@ -98,6 +99,8 @@ impl<E: Engine, O: Ordering, D: Drives<E>> Shared<E, O, D> {
     /// Takes an order. One of a session that isn't there could not be done by anyone.
     fn give(&mut self, session: u32, event: Event)
         requires { IsOrder event (O.orders self.old.engine.history) }
+        ensures there { session ≤ self.old.engine.count → self.new.fault ≡ self.old.fault }
+        ensures not_there { self.old.engine.count < session → self.new.fault ≡ option_or self.old.fault (Some (ThreadFault.Engine EngineFault.NoSession)) }
     {
         if session > self.engine.sessions() {
             self.note(ThreadFault::Engine(EngineFault::NoSession));
@@ -107,7 +110,10 @@ impl<E: Engine, O: Ordering, D: Drives<E>> Shared<E, O, D> {
     }
 
     /// Takes the driver's next order, where the run goes on and there is nothing else to do.
-    pub fn ask(&mut self) {
+    pub fn ask(&mut self)
+        ensures first { IfSome self.old.fault (λ fault. self.new.fault ≡ Some fault) }
+        ensures fault { IfSome self.new.fault (λ fault. (self.old.fault ≡ Some fault) ⊎ ((fault ≡ ThreadFault.Memory) ⊎ (fault ≡ ThreadFault.Engine EngineFault.NoSession))) }
+    {
         if self.over() || self.order.is_some() || !self.engine.quiet() {
             return;
         }
@@ -134,7 +140,9 @@ impl<E: Engine, O: Ordering, D: Drives<E>> Shared<E, O, D> {
     /// Does the event, unless the run is over. Says whether it was done.
     fn perform<S: SeatAt<E>>(&mut self, seat: &mut S, event: Event) -> bool
         requires { session_of event ≡ (S.seat seat.old).session }
-        ensures { (S.seat seat.new).session ≡ (S.seat seat.old).session }
+        ensures session { (S.seat seat.new).session ≡ (S.seat seat.old).session }
+        ensures first { IfSome self.old.fault (λ fault. self.new.fault ≡ Some fault) }
+        ensures over { result ≡ false → (self.new.stop || is_some self.new.fault) ≡ true }
     {
         if self.over() {
             return false;

@@ -1,4 +1,4 @@
--- Keys that statements ask for.
+-- To be believed. Keys that statements ask for.
 use Rattle.std.specs.Prelude.{ℕ, List}
 use Rattle.sql_values.specs.declared.value.Value.{Value}
 use Rattle.row_versions.specs.declared.names.TableId.{TableId}

@@ -10,5 +10,6 @@ pub mod Targets
 pub mod Running
 pub mod Machine
 pub mod Engine
+pub mod FaultText
 pub mod Sound
 pub mod Inner

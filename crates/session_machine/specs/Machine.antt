@@ -1,4 +1,4 @@
--- The machine of all sessions: what an event makes of it and answers, or why it is refused.
+-- To be believed. The machine of all sessions: what an event makes of it and answers, or why it is refused.
 use Rattle.std.specs.Prelude.{◌≡◌, ℕ, ◌+◌, ◌==◌, nat_le, nat_lt, Bool, true, false, not, ◌&&◌, ◌||◌, List, [], ◌∷◌, length, replicate}
 use Rattle.std.specs.Prelude.{Option, Some, None, option_map, is_some, is_none, unwrap_or, slice_get, slice_set, if◌then◌else◌, Result, Ok, Err}
 use Rattle.std.specs.List.{list_all, list_any, position_from}

@@ -1,4 +1,4 @@
--- What a statement does with rows: INSERT with those of its VALUES, and UPDATE, DELETE and a locking SELECT with their targets
+-- To be believed. What a statement does with rows: INSERT with those of its VALUES, and UPDATE, DELETE and a locking SELECT with their targets
 -- (PostgreSQL manual, 13.2.1 and 13.3.2, and the pages of the statements).
 use Rattle.std.specs.Prelude.{ℕ, not, List, ◌∷◌, ◌++◌, length, map, drop, Option, Some, None, option_map, unwrap_or, slice_get, filter_map, Result, Ok, Err, if◌then◌else◌, []}
 use Rattle.std.specs.Option.{option_map_or, option_or}

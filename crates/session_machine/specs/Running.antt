@@ -1,4 +1,4 @@
--- A statement is run: it begins, or goes on where it waits, by what its session's transaction is (PostgreSQL manual, the pages of the statements, and 13.2).
+-- To be believed. A statement is run: it begins, or goes on where it waits, by what its session's transaction is (PostgreSQL manual, the pages of the statements, and 13.2).
 use Rattle.std.specs.Prelude.{ℕ, ◌++◌, Bool, true, false, List, ◌∷◌, length, flat_map, nat_lt, Option, Some, None, option_map, option_to_list, unwrap_or, Ok, Err, if◌then◌else◌, []}
 use Rattle.std.specs.List.{list_any}
 use Rattle.std.specs.Option.{option_map_or, option_or}

@@ -1,4 +1,4 @@
--- What a statement leaves and answers that is no query of rows: how transactions begin and end, how tables are made and dropped
+-- To be believed. What a statement leaves and answers that is no query of rows: how transactions begin and end, how tables are made and dropped
 -- (PostgreSQL manual, the pages of the statements, and 13.2).
 use Rattle.std.specs.Prelude.{ℕ, ◌+◌, Bool, not, ◌&&◌, List, ◌∷◌, ◌++◌, Option, Some, None, is_some, if◌then◌else◌, []}
 use Rattle.std.specs.Option.{option_map_or}

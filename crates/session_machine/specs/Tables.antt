@@ -1,4 +1,4 @@
--- Tables, and which of them a name means: what was made or dropped counts once committed, and for its own transaction at once (PostgreSQL manual, 13.2).
+-- To be believed. Tables, and which of them a name means: what was made or dropped counts once committed, and for its own transaction at once (PostgreSQL manual, 13.2).
 use Rattle.std.specs.Prelude.{ℕ, ◌==◌, Bool, false, not, ◌&&◌, ◌||◌, List, Option, option_map, find, bytes_eq}
 use Rattle.std.specs.List.{enumerate_from, list_any}
 use Rattle.std.specs.Option.{option_map_or}

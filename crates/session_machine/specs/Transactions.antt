@@ -1,4 +1,4 @@
--- Transactions of sessions: how they begin, what their statements see, and how they end (PostgreSQL manual, 13.2).
+-- To be believed. Transactions of sessions: how they begin, what their statements see, and how they end (PostgreSQL manual, 13.2).
 use Rattle.std.specs.Prelude.{◌+◌, Bool, Option, Some, None, unwrap_or}
 use Rattle.sql_trees.specs.declared.stmt.Level.{Level}
 use Rattle.sql_trees.specs.declared.stmt.Level.TheVariants.{ReadCommitted, RepeatableRead}

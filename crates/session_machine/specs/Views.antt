@@ -1,4 +1,4 @@
--- The rows of a table as a view shows them (PostgreSQL manual, 13.2).
+-- To be believed. The rows of a table as a view shows them (PostgreSQL manual, 13.2).
 use Rattle.std.specs.Prelude.{ℕ, List, [], map, unwrap_or}
 use Rattle.sql_values.specs.declared.value.Value.{Value}
 use Rattle.row_versions.specs.declared.write.View.{View}

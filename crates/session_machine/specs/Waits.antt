@@ -1,4 +1,4 @@
--- Who waits for whom, in the present state (PostgreSQL manual, 13.3.2, and 5.5.3 of keys).
+-- To be believed. Who waits for whom, in the present state (PostgreSQL manual, 13.3.2, and 5.5.3 of keys).
 use Rattle.std.specs.Prelude.{Bool, false, not, List, Option, None, option_map, filter_map}
 use Rattle.std.specs.Option.{option_map_or}
 use Rattle.row_versions.specs.declared.names.TxId.{TxId}

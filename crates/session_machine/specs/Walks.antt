@@ -1,4 +1,4 @@
--- How a statement goes from one of its targets to the next, up to the one at which it stops.
+-- To be believed. How a statement goes from one of its targets to the next, up to the one at which it stops.
 use Rattle.std.specs.Prelude.{is_some, if◌then◌else◌, ℕ, ◌+◌, List, ◌++◌, Option, Some, None}
 use Rattle.std.specs.List.{fold}
 use Rattle.sql_values.specs.declared.value.Value.{Value}

@@ -1,10 +1,14 @@
 //! Why an event is refused, and why a statement fails.
 
-ghost use Rattle.std.specs.Prelude.{◌≡◌, ◌↔◌, IfOk, IsTrue};
+ghost use Rattle.std.specs.Prelude.{◌≡◌, ◌↔◌, IfOk, IsTrue, Some};
+ghost use Rattle.session_machine.specs.declared.fault.EngineFault.TheVariants.{Memory};
+ghost use Rattle.session_machine.specs.FaultText.{engine_fault_text};
 
 use iso_lexer::Ident;
 use sql_values::ValueFault;
 use std::alloc::{AllocError, Global};
+use std::error::Error;
+use std::fmt;
 use std::marker::Model;
 
 /// Why the machine refuses an event.
@@ -35,6 +39,34 @@ pub enum EngineFault {
     NoSession,
     /// No such block, or one that the session may not run.
     BlockNotAllowed,
+}
+
+/// Prints the number and the name.
+impl fmt::Display for EngineFault {
+    ghost output = { λ fault. Some (engine_fault_text fault) };
+
+    fn fmt<W: fmt::Write>(&self, f: &mut fmt::Formatter<W>) -> fmt::Result {
+        f.write_str(match self {
+            EngineFault::Busy => "E1 Busy",
+            EngineFault::NotYourTurn => "E2 NotYourTurn",
+            EngineFault::StillBlocked => "E3 StillBlocked",
+            EngineFault::Idle => "E4 Idle",
+            EngineFault::Spent => "E5 Spent",
+            EngineFault::Memory => "E6 Memory",
+            EngineFault::NoSession => "E7 NoSession",
+            EngineFault::BlockNotAllowed => "E8 BlockNotAllowed",
+        })
+    }
+}
+
+impl Error for EngineFault {}
+
+impl From<AllocError> for EngineFault {
+    ghost from_gives = { λ _ e. e ≡ Memory };
+
+    fn from(_e: AllocError) -> EngineFault {
+        EngineFault::Memory
+    }
 }
 
 /// The name that a key is given: `t_pkey`, or `t_a_b_key` of the columns `a` and `b` of `t`. Contracts see its bytes.

@@ -1,9 +1,9 @@
 //! Where the values of an INSERT or UPDATE go.
 
-ghost use Rattle.std.specs.Prelude.{◌≡◌, ℕ, List, [], IfOk, length, map, option_map};
+ghost use Rattle.std.specs.Prelude.{◌≡◌, ℕ, List, [], IfOk, OnErr, is_ok, length, map, option_map, true};
 ghost use Rattle.sql_trees.specs.Statements.{SetTree, column_of, name_of, names_of, set_of};
 ghost use Rattle.query_results.specs.Queries.{columns_assigned};
-ghost use Rattle.session_queries.specs.Inner.Assigned.{assigned_each, assigned_from, assigned_in_order};
+ghost use Rattle.session_queries.specs.Inner.Assigned.{assigned_each, assigned_from, assigned_in_order, missing_name};
 ghost use Rattle.query_results.specs.Updates.{columns_set};
 
 use iso_lexer::{Ident, Name, same_name};
@@ -111,6 +111,30 @@ fn assigned_named(columns: &[Column<'_>], name: &Name<'_>) -> Option<AssignedCol
     None
 }
 
+/// The first of the names that no column has.
+fn missing_name<'a>(columns: &[Column<'_>], names: &[Name<'a>]) -> Option<Ident<'a>>
+    ensures { result ≡ missing_name (map column_of columns.now) (map name_of names.now) }
+{
+    for name in names {
+        if assigned_named(columns, name).is_none() {
+            return Some(Ident::new(*name));
+        }
+    }
+    None
+}
+
+/// The first name that is assigned to and that no column has.
+fn missing_set<'a>(columns: &[Column<'_>], sets: &[(Name<'a>, Expr<'a>)]) -> Option<Ident<'a>>
+    ensures { result ≡ missing_name (map column_of columns.now) (map (λ (s : SetTree). s.column) (map set_of sets.now)) }
+{
+    for (name, _) in sets {
+        if assigned_named(columns, name).is_none() {
+            return Some(Ident::new(*name));
+        }
+    }
+    None
+}
+
 fn assigned_by_name<'a>(
     alloc: Global,
     columns: &[Column<'_>],
@@ -129,17 +153,22 @@ fn assigned_by_name<'a>(
 }
 
 /// The columns that an INSERT with this list of names gives values to, or the first name that no column has. Without a list the values go to the first columns.
-#[tactic(auto, using(crate::proofs::Assigning::all_in_order, crate::proofs::Assigning::each_by_name))]
+#[tactic(auto, using(crate::proofs::Assigning::all_in_order, crate::proofs::Assigning::each_by_name, crate::proofs::Assigning::missing_told, crate::proofs::Assigning::none_missing))]
 pub fn columns_assigned<'a>(
     alloc: Global,
     columns: &[Column<'_>],
     names: Option<&Vec<Name<'a>>>,
 ) -> Result<Result<AssignedColumns, Ident<'a>>, AllocError>
-    ensures { IfOk result (λ found. found ≡ columns_assigned (map column_of columns.now) (option_map (λ ns. names_of ns.now) names.entry)) }
+    ensures found { IfOk result (λ found. found ≡ columns_assigned (map column_of columns.now) (option_map (λ ns. names_of ns.now) names.entry)) }
+    // A name that is missing is told also where memory is short.
+    ensures memory { OnErr result (is_ok (columns_assigned (map column_of columns.now) (option_map (λ ns. names_of ns.now) names.entry)) ≡ true) }
 {
-    match names {
-        None => Ok(Ok(assigned_in_order(alloc, columns)?)),
-        Some(names) => assigned_by_name(alloc, columns, names),
+    let Some(names) = names else {
+        return Ok(Ok(assigned_in_order(alloc, columns)?));
+    };
+    match missing_name(columns, names) {
+        Some(name) => Ok(Err(name)),
+        None => assigned_by_name(alloc, columns, names),
     }
 }
 
@@ -157,14 +186,19 @@ fn assigned_names<'a>(
 }
 
 /// The columns that an UPDATE assigns to, or the first name that no column has.
-#[tactic(auto, using(crate::proofs::Assigning::each_by_name))]
+#[tactic(auto, using(crate::proofs::Assigning::each_by_name, crate::proofs::Assigning::missing_told, crate::proofs::Assigning::none_missing))]
 pub fn columns_set<'a>(
     alloc: Global,
     columns: &[Column<'_>],
     sets: &[(Name<'a>, Expr<'a>)],
 ) -> Result<Result<AssignedColumns, Ident<'a>>, AllocError>
-    ensures { IfOk result (λ found. found ≡ columns_set (map column_of columns.now) (map set_of sets.now)) }
+    ensures found { IfOk result (λ found. found ≡ columns_set (map column_of columns.now) (map set_of sets.now)) }
+    // A name that is missing is told also where memory is short.
+    ensures memory { OnErr result (is_ok (columns_set (map column_of columns.now) (map set_of sets.now)) ≡ true) }
 {
+    if let Some(name) = missing_set(columns, sets) {
+        return Ok(Err(name));
+    }
     let names = assigned_names(alloc, sets)?;
     assigned_by_name(alloc, columns, &names)
 }

@@ -1,8 +1,9 @@
 //! The rows that a SELECT takes, in the order in which it shows them.
 
-ghost use Rattle.std.specs.Prelude.{◌≡◌, ◌<◌, All, IfOk, length, map, slice_index_or};
+ghost use Rattle.std.specs.Prelude.{◌≡◌, ◌<◌, All, IfOk, IsErrOf, length, map, slice_index_or, true};
 ghost use Rattle.sql_trees.specs.Statements.{column_of, item_of, order_of, select_of};
 ghost use Rattle.sql_trees.specs.Statements.{OrderTree};
+ghost use Rattle.sql_values.specs.Sorting.{can_sort};
 ghost use Rattle.session_queries.specs.Fronts.{AnswersList};
 ghost use Rattle.query_results.specs.Ordering.{rows_at};
 ghost use Rattle.query_results.specs.Queries.{by_keys, cols_of, taken};
@@ -47,7 +48,8 @@ fn by_keys<'a>(
 ) -> Result<Vec<usize>, ValueFault<'a>>
     requires width { All (λ row. length row ≡ length by.now) keys.now }
     requires long { length keys.now ≡ length places.now }
-    ensures { AnswersList result (by_keys by.now places.now keys.now) }
+    ensures places { AnswersList result (by_keys by.now places.now keys.now) }
+    ensures memory { IsErrOf result ValueFault.Memory → can_sort by.now keys.now ≡ true }
 {
     let sorted = order(alloc, keys, by)?;
     one_order_by_insertion();

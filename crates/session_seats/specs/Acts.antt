@@ -9,6 +9,10 @@ use Rattle.session_seats.specs.declared.fault.ThreadFault.{ThreadFault}
 use Rattle.session_seats.specs.declared.fault.ThreadFault.TheVariants.{Engine as EngineRefused, Memory}
 use Rattle.session_seats.specs.Seats.{SeatOf, with_item}
 
+-- the engine is still over what it was opened over
+abbrev pub IsRunOf : Engine → Engine → Type 0
+IsRunOf before after = (after.blocks ≡ before.blocks) × (after.count ≡ before.count) × (after.mode ≡ before.mode)
+
 -- the engine answered the event as the machine does, and the seat has it
 pub record Acted (event : Event) (before after : Engine) (held kept : SeatOf) : Type 0 where
   pub reply : Reply

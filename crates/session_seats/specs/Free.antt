@@ -3,30 +3,39 @@ use Rattle.std.specs.Prelude.{ℕ, ◌-◌, ◌==◌, Bool, true, false, List, O
 use Rattle.std.specs.Option.{option_map_or}
 use Rattle.std.specs.Global.{Vec}
 use Rattle.session_machine.specs.declared.reply.Outcome.{Outcome}
-use Rattle.session_machine.specs.declared.reply.Outcome.TheVariants.{Launched, Waits}
+use Rattle.session_machine.specs.declared.reply.Outcome.TheVariants.{Launched, Done, Rows, Waits, Failed, Left}
 use Rattle.session_machine.specs.declared.reply.Reply.{Reply}
 use Rattle.session_machine.specs.declared.reply.HistItem.{HistItem}
-use Rattle.session_machine.specs.Machine.{is_failed}
 use Rattle.session_seats.specs.declared.free.BlockState.{BlockState}
-use Rattle.session_seats.specs.declared.free.BlockState.TheVariants.{GoesOn, Ended}
+use Rattle.session_seats.specs.declared.free.BlockState.TheVariants.{GoesOn, Ended, Stopped}
 use Rattle.session_seats.specs.Seats.{SeatOf}
 
 -- what came last in the seat, if anything did
 abbrev pub last_item : SeatOf → Option HistItem
 last_item seat = slice_get seat.items (length seat.items - 1)
 
--- the statement waits
-abbrev pub is_wait : Outcome → Bool
-is_wait Waits = true
-is_wait _ = false
+-- the statement failed or waits
+abbrev pub stops : Outcome → Bool
+stops Launched = false
+stops Done = false
+stops (Rows set) = false
+stops Waits = true
+stops (Failed fault) = true
+stops Left = false
 
--- how far the block has come with this reply: it has ended, and failed or not, or it goes on, and waits or not
+-- how far the block has come with this reply: a statement failed or waits, or it has ended, or it goes on
 abbrev pub state_at : Reply → BlockState
-state_at reply = if reply.ended then Ended (is_failed reply.outcome) else GoesOn (is_wait reply.outcome)
+state_at reply = if stops reply.outcome then Stopped reply.ended else if reply.ended then Ended else GoesOn
 
 -- how far the block has come that a session was given last, by what came last in its seat; where nothing was done yet there is none, and it has ended
 abbrev pub block_state : Option HistItem → BlockState
-block_state last = option_map_or (λ (item : HistItem). state_at item.reply) last (Ended false)
+block_state last = option_map_or (λ (item : HistItem). state_at item.reply) last Ended
+
+-- no statement of the block is left
+abbrev pub is_over : BlockState → Bool
+is_over GoesOn = false
+is_over Ended = true
+is_over (Stopped ended) = ended
 
 -- something may have been released with this outcome: any but that of a Launch or a wait
 abbrev pub releases : Outcome → Bool

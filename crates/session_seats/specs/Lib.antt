@@ -1,5 +1,7 @@
 pub mod Seats
 pub mod Acts
 pub mod Free
+pub mod FreeRuns
 pub mod Orders
+pub mod FaultText
 pub mod Inner

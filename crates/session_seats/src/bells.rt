@@ -1,5 +1,5 @@
 //! Who is woken.
-ghost use Rattle.std.specs.Prelude.{◌≤◌};
+ghost use Rattle.std.specs.Prelude.{◌≡◌, ◌≤◌, IfErr};
 
 use crate::fault::ThreadFault;
 use std::alloc::Global;
@@ -16,6 +16,7 @@ impl Bells {
     /// For the control session and so many sessions beside it.
     pub fn new(alloc: Global, sessions: u32) -> Result<Bells, ThreadFault>
         requires { sessions ≤ 64 }
+        ensures { IfErr result (λ fault. fault ≡ ThreadFault.Memory) }
     {
         let mut others = Vec::new(alloc);
         for _ in 0..sessions {

@@ -1,4 +1,6 @@
 //! The threads of a run, each of which is joined.
+ghost use Rattle.std.specs.Prelude.{◌≡◌, ◌⊎◌, IfErr};
+
 use crate::fault::ThreadFault;
 use std::thread::{Builder, JoinHandle, Scope};
 
@@ -13,6 +15,7 @@ pub fn start_thread<'s, 'e: 's, F: FnOnce() -> () + Send + Drop + 's>(
     work: F,
 ) -> Result<(), ThreadFault>
     requires { F.pre work }
+    ensures { IfErr result (λ fault. (fault ≡ ThreadFault.Memory) ⊎ (fault ≡ ThreadFault.ThreadRefused)) }
 {
     if crew.try_reserve(1).is_err() {
         return Err(ThreadFault::Memory);

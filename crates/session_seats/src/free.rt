@@ -1,9 +1,10 @@
 //! What the sessions of a free run are given, and how far they have come with it.
 ghost use Rattle.std.specs.Prelude.{◌≡◌};
 ghost use Rattle.std.specs.Option.{option_copied};
-ghost use Rattle.session_seats.specs.Free.{block_state, may_release, scripts_in, script_of};
+ghost use Rattle.session_seats.specs.Free.{block_state, is_over, may_release, scripts_in, script_of, state_at, stops};
 
-use session_machine::{HistItem, Outcome};
+use session_machine::{HistItem, Outcome, Reply};
+use std::sync::Condvar;
 
 /// The blocks of a free run, by their numbers.
 #[derive(Drop)]
@@ -19,35 +20,61 @@ pub struct FreePlan {
 /// How far the block has come that a session was given last.
 #[derive(Clone, Copy)]
 pub enum BlockState {
-    /// It has statements left, or waits.
-    GoesOn { waits: bool },
-    /// Its last statement is over, or it failed.
-    Ended { failed: bool },
+    /// It has statements left, and its last one neither failed nor waits.
+    GoesOn,
+    /// Its last statement is over, and went well.
+    Ended,
+    /// A statement failed or waits; whether the block is over with it.
+    Stopped { ended: bool },
+}
+
+fn stops(outcome: &Outcome<'_>) -> bool
+    ensures { result ≡ stops outcome.now }
+{
+    matches!(outcome, Outcome::Waits | Outcome::Failed(_))
+}
+
+/// How far the block has come with this reply.
+fn state_at(reply: &Reply<'_>) -> BlockState
+    ensures { result ≡ state_at reply.now }
+{
+    if stops(&reply.outcome) {
+        BlockState::Stopped { ended: reply.ended }
+    } else if reply.ended {
+        BlockState::Ended
+    } else {
+        BlockState::GoesOn
+    }
 }
 
 /// How far the block has come that a session was given last, by what came last in its seat; it has ended where there was none.
 pub fn block_state(last: Option<&HistItem<'_>>) -> BlockState
     ensures { result ≡ block_state (option_copied last.entry) }
 {
-    let Some(item) = last else {
-        return BlockState::Ended { failed: false };
-    };
-    if item.reply.ended {
-        BlockState::Ended {
-            failed: matches!(item.reply.outcome, Outcome::Failed(_)),
-        }
-    } else {
-        BlockState::GoesOn {
-            waits: matches!(item.reply.outcome, Outcome::Waits),
+    match last {
+        Some(item) => state_at(&item.reply),
+        None => BlockState::Ended,
+    }
+}
+
+impl BlockState {
+    /// Whether no statement of the block is left.
+    pub fn is_over(self) -> bool
+        ensures { result ≡ is_over self }
+    {
+        match self {
+            BlockState::GoesOn => false,
+            BlockState::Ended => true,
+            BlockState::Stopped { ended } => ended,
         }
     }
 }
 
-/// A session's seat, and the blocks that its thread runs.
+/// What the thread of a session in a free run has: the session's seat, and the bell that all of them sleep at.
 #[derive(Drop)]
 pub struct Runner<'s, S> {
+    pub bell: &'s Condvar,
     pub seat: &'s mut S,
-    pub script: &'s [u32],
 }
 
 /// The script of a session; the control session has none.

@@ -19,7 +19,7 @@ pub use fault::ThreadFault;
 pub use fitting::{first_misfit, number_of};
 pub use free::{BlockState, FreePlan, Runner, Tried, block_state, may_release, script_of};
 pub use gate::{Gate, OpenGate, admitted, tell};
-pub use ordering::Ordering;
+pub use ordering::{Ordering, Scripting};
 pub use post::{Instruction, Post};
 pub use seat::{Seat, empty_seats, leave_seats};
 pub use seat_at::SeatAt;

@@ -1,45 +1,106 @@
--- A statement goes over the targets that were found, or over what it selects.
-use Rattle.std.proofs.Common.{◌≡◌, ◌∙◌, sym, ap, ℕ, ℤ, List, [], drop}
-use Rattle.std.specs.Prelude.{Option, Some, None, option_to_list, Result, Ok, Err}
-use Rattle.sql_trees.specs.Statements.{ColumnTree, UpdateTree, DeleteTree}
+-- A statement begins at its table, and goes over the targets that were found.
+use Rattle.std.proofs.Common.{◌≡◌, ◌∙◌, refl, sym, ap, ℕ, List, [], drop}
+use Rattle.std.specs.Prelude.{Option, Some, None, option_map, Result, Ok, Err}
+use Rattle.std.specs.Option.{option_map_or}
+use Rattle.std.proofs.lemmas.Option.{same_Some}
+use Rattle.sql_trees.specs.declared.stmt.Lock.{Lock}
+use Rattle.sql_trees.specs.Statements.{ColumnTree, StmtTree, InsertTree, UpdateTree, DeleteTree, SelectTree, Inserts, Updates, Deletes, Selects}
 use Rattle.sql_values.specs.declared.value.Value.{Value}
 use Rattle.sql_values.specs.declared.fault.ValueFault.{ValueFault}
 use Rattle.row_versions.specs.declared.write.Seen.{Seen}
-use Rattle.query_results.specs.Queries.{AssignedColumn, cols_of, undefined_among}
-use Rattle.query_results.specs.Updates.{columns_set, update_exprs}
+use Rattle.row_locks.specs.declared.held.Strength.TheVariants.{Share}
+use Rattle.query_results.specs.Results.{Results}
+use Rattle.query_results.specs.Queries.{result_of, taken}
 use Rattle.session_machine.specs.declared.session.OpenTransaction.{OpenTransaction}
-use Rattle.session_machine.specs.declared.fault.StmtFault.TheVariants.{NoColumnOf}
-use Rattle.session_machine.specs.Tables.{Database}
-use Rattle.session_machine.specs.Statements.{Effect, Surroundings, fails}
-use Rattle.session_machine.specs.Rows.{Work, cols_in}
-use Rattle.session_machine.specs.Inner.Statements.{walked_from, beginning, unless_undefined, unless_wrong, update, delete, delete_from, Visit, walked}
-use Rattle.session_machine.specs.Inner.Pieces.{update_fitting, update_to, table_columns}
+use Rattle.session_machine.specs.declared.session.Transaction.TheVariants.{Open}
+use Rattle.session_machine.specs.declared.session.Progress.{Progress}
+use Rattle.session_machine.specs.declared.session.Request.TheVariants.{Row}
+use Rattle.session_machine.specs.declared.fault.StmtFault.{StmtFault}
+use Rattle.session_machine.specs.declared.reply.Outcome.TheVariants.{Rows}
+use Rattle.session_machine.specs.declared.fault.StmtFault.TheVariants.{NoTable, Value as OfValue}
+use Rattle.session_machine.specs.Tables.{Database, find_table}
+use Rattle.session_machine.specs.Views.{rows_shown}
+use Rattle.session_machine.specs.Walks.{Walk}
+use Rattle.session_machine.specs.Statements.{Effect, Surroundings, answers, fails}
+use Rattle.session_machine.specs.Rows.{Work, columns_in, strength_of, over_targets}
+use Rattle.session_machine.specs.Running.{at_once, begin_at, fault_in, leads_to, run_in}
+use Rattle.session_machine.specs.Inner.Statements.{walked_from, beginning, answered, insert_from, update_from, delete_from, lock_from, select, Visit, walked}
+use Rattle.session_machine.specs.Inner.Pieces.{table_columns}
+use Rattle.session_machine.proofs.ByKind.{runs_by_kind}
+use Rattle.session_statements.specs.Inner.Going.{go_from}
 
 -- targets that were found are gone over from the place on
 pub found_targets : (at : Database → Seen → Visit) (db : Database) (place : ℕ) (rows : List (List Value)) (r : Result (List Seen) ValueFault) (targets got : List Seen)
     → r ≡ Ok targets → got ≡ targets → walked_from at db place rows r ≡ walked at db place rows (drop place got)
 found_targets at db place rows r targets got is same = ap (walked_from at db place rows) is ∙ ap (λ (xs : List Seen). walked at db place rows (drop place xs)) (sym same)
 
--- a SELECT that names nothing wrong comes to what is due
-pub not_wrong : (db : Database) (t : OpenTransaction) (undefined : Option (List ℕ)) (position : Option ℤ) (due : Effect) → undefined ≡ None → position ≡ None → unless_wrong db t undefined position due ≡ due
-not_wrong db t undefined position due a b = ap (λ (x : Option (List ℕ)). unless_wrong db t x position due) a ∙ ap (λ (y : Option ℤ). unless_wrong db t None y due) b
+-- ---- a statement that begins
 
--- an UPDATE that assigns to a column that isn't there fails
-pub no_such_column : (db : Database) (t : OpenTransaction) (around : Surroundings) (u : UpdateTree) (found : Option ℕ) (k : ℕ) (column : List ℕ) → found ≡ Some k
-    → columns_set (table_columns db.catalog k) u.sets ≡ Err column → update db t around u found ≡ fails db t (NoColumnOf column u.table)
-no_such_column db t around u found k column a b = ap (update db t around u) a ∙ ap (update_to db (beginning db t around k) u) b
+-- at the table of that place, or at none
+abbrev at_found : Database → OpenTransaction → Surroundings → List ℕ → StmtTree → Option ℕ → Effect
+at_found db t around name stmt None = fails db t (NoTable name)
+at_found db t around name stmt (Some k) =
+    let w = beginning db t around k in
+    option_map_or (fails db t) (fault_in (columns_in db w) stmt) (go_from db w stmt 0 [])
 
--- one whose columns are all there goes on with them
-pub such_columns : (db : Database) (t : OpenTransaction) (around : Surroundings) (u : UpdateTree) (found : Option ℕ) (k : ℕ) (to : List AssignedColumn) → found ≡ Some k
-    → columns_set (table_columns db.catalog k) u.sets ≡ Ok to → update db t around u found ≡ update_fitting db (beginning db t around k) u (undefined_among (cols_in db (beginning db t around k)) (update_exprs u))
-such_columns db t around u found k to a b = ap (update db t around u) a ∙ ap (update_to db (beginning db t around k) u) b
+module _ (db : Database) (t : OpenTransaction) (around : Surroundings) (name : List ℕ) (stmt : StmtTree) where
+  pub begins_nowhere : find_table db (Some t.tx) name ≡ None → begin_at db t around name stmt ≡ fails db t (NoTable name)
+  begins_nowhere none = ap (at_found db t around name stmt) none
 
--- a DELETE that names no column that isn't there goes on
-pub deletes_there : (db : Database) (t : OpenTransaction) (around : Surroundings) (d : DeleteTree) (found : Option ℕ) (k : ℕ) (columns : List ColumnTree) (undefined : Option (List ℕ)) (w : Work) (rows : List (List Value))
-    → found ≡ Some k → columns ≡ table_columns db.catalog k → undefined ≡ undefined_among (cols_of columns) (option_to_list d.filter) → undefined ≡ None → w ≡ beginning db t around k → rows ≡ []
-    → delete db t around d found ≡ delete_from db w d 0 rows
-deletes_there db t around d found k columns undefined w rows a same is none at empty =
-    let due = delete_from db (beginning db t around k) d 0 [] in
-    let lacks : undefined_among (cols_of (table_columns db.catalog k)) (option_to_list d.filter) ≡ None =
-    sym (ap (λ cs. undefined_among (cols_of cs) (option_to_list d.filter)) same) ∙ sym is ∙ none in
-    ap (delete db t around d) a ∙ ap (λ (x : Option (List ℕ)). unless_undefined db t x due) lacks ∙ λ i. delete_from db (sym at i) d 0 (sym empty i)
+  pub begins_wrong : (k : ℕ) (fault : StmtFault) → find_table db (Some t.tx) name ≡ Some k → fault_in (table_columns db.catalog k) stmt ≡ Some fault → begin_at db t around name stmt ≡ fails db t fault
+  begins_wrong k fault at wrong =
+      let w = beginning db t around k in
+      let due = go_from db w stmt 0 [] in
+      ap (at_found db t around name stmt) at ∙ ap (λ (o : Option StmtFault). option_map_or (fails db t) o due) wrong
+
+  pub begins_there : (k : ℕ) → find_table db (Some t.tx) name ≡ Some k → fault_in (table_columns db.catalog k) stmt ≡ None
+      → (let w = beginning db t around k in begin_at db t around name stmt ≡ go_from db w stmt 0 [])
+  begins_there k at right =
+      let w = beginning db t around k in
+      let due = go_from db w stmt 0 [] in
+      ap (at_found db t around name stmt) at ∙ ap (λ (o : Option StmtFault). option_map_or (fails db t) o due) right
+
+-- ---- one that goes on, kind by kind
+
+-- where it stands
+abbrev stands : Work → ℕ → List (List Value) → Progress
+stands w place rows = record { table = record { 0 = w.table }; view = w.view; place = place; rows = rows; wait = record { number = 0; request = Row (record { 0 = 0 }) Share } }
+
+-- the walk of a locking SELECT
+abbrev locked : Database → Work → ℕ → List (List Value) → SelectTree → Lock → Walk
+locked db w place rows s l =
+    over_targets w (Selects s) (strength_of l) s.filter (record { db = db; place = place; rows = rows; stop = None })
+    (taken s (columns_in db w) (rows_shown db.content w.view w.table))
+
+module _ (db : Database) (w : Work) (place : ℕ) (rows : List (List Value)) where
+  pub inserts_on : (i : InsertTree) → go_from db w (Inserts i) place rows ≡ insert_from db w i place rows
+  inserts_on i = runs_by_kind db (Open w.t) (Some (stands w place rows)) w.around (Inserts i)
+
+  pub updates_on : (u : UpdateTree) → go_from db w (Updates u) place rows ≡ update_from db w u place rows
+  updates_on u = runs_by_kind db (Open w.t) (Some (stands w place rows)) w.around (Updates u)
+
+  pub deletes_on : (d : DeleteTree) → go_from db w (Deletes d) place rows ≡ delete_from db w d place rows
+  deletes_on d = runs_by_kind db (Open w.t) (Some (stands w place rows)) w.around (Deletes d)
+
+  pub locks_on : (s : SelectTree) (l : Lock) → s.lock ≡ Some l → go_from db w (Selects s) place rows ≡ lock_from db w s l place rows
+  locks_on s l is = by s.lock (runs_by_kind db (Open w.t) (Some (stands w place rows)) w.around (Selects s)) is where
+    due : Effect
+    due = at_once db w.t (columns_in db w) (rows_shown db.content w.view w.table) (Selects s)
+
+    by : (o : Option Lock)
+        → option_map_or (leads_to db w (Selects s)) (option_map (locked db w place rows s) o) (run_in db w.t w.around (Selects s)) ≡ option_map_or (λ m. lock_from db w s m place rows) o (select db w.t w.around s s.table)
+        → o ≡ Some l → option_map_or (leads_to db w (Selects s)) (option_map (locked db w place rows s) o) due ≡ lock_from db w s l place rows
+    by None runs h = cc
+    by (Some m) runs h = runs ∙ ap (λ (x : Lock). lock_from db w s x place rows) (same_Some m l h)
+
+  pub locks_none : (s : SelectTree) → s.lock ≡ None → go_from db w (Selects s) place rows ≡ at_once db w.t (columns_in db w) (rows_shown db.content w.view w.table) (Selects s)
+  locks_none s none =
+      let due = at_once db w.t (columns_in db w) (rows_shown db.content w.view w.table) (Selects s) in
+      ap (λ (o : Option Lock). option_map_or (leads_to db w (Selects s)) (option_map (locked db w place rows s) o) due) none
+
+-- a SELECT that answers at once has its result, or its fault
+pub answers_at_once : (db : Database) (t : OpenTransaction) (columns : List ColumnTree) (rows : List (List Value)) (s : SelectTree) → at_once db t columns rows (Selects s) ≡ answered db t (result_of s columns rows)
+answers_at_once db t columns rows s = by (result_of s columns rows) where
+  by : (r : Result Results ValueFault) → (elim r [ Ok set ↦ answers db.content db t (Rows set) | Err fault ↦ fails db t (OfValue fault) ]) ≡ answered db t r
+  by (Ok set) = refl
+  by (Err fault) = refl

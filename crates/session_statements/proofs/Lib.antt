@@ -1,4 +1,5 @@
 pub mod Going
+pub mod Dropping
 pub mod Lists
 pub mod Lent
 pub mod Keeping

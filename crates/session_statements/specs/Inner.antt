@@ -1,6 +1,5 @@
 -- Definitions that only the inner functions' clauses and the proofs need: no clause of a public function has them.
 pub mod Left
-pub mod Waits
 pub mod Acting
+pub mod Going
 pub mod Keeping
-pub mod Keys

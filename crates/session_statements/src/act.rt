@@ -5,7 +5,7 @@ ghost use Rattle.sql_trees.specs.Trees.{tree_of};
 ghost use Rattle.session_statements.specs.Inner.Acting.{filter_in, strength_in};
 
 use row_locks::Strength;
-use session_machine::{Request, StmtFault};
+use session_database::Stop;
 use session_queries::AssignedColumns;
 use sql_trees::{Delete, Expr, Select, Update};
 use sql_values::Row;
@@ -18,13 +18,6 @@ pub(crate) enum Act<'s, 'a, 't> {
     Delete(&'a Delete<'t>),
     /// It is locked this strongly and shown.
     Lock(&'a Select<'t>, Strength),
-}
-
-/// What stops a statement: it has to wait for this, or fails.
-#[derive(Drop)]
-pub(crate) enum Stop<'t> {
-    Blocked(Request),
-    Fails(StmtFault<'t>),
 }
 
 /// What came of one target.

@@ -1,25 +1,22 @@
-//! Statements: the tables and rows that all sessions share, and what a statement of a session makes of them.
+//! Statements: what a statement of a session makes of the tables and rows that all sessions share.
 #![tactic(auto)]
 
 mod act;
-mod catalog;
+mod begin;
 mod checks;
-mod database;
 mod definitions;
 mod delete;
 mod effect;
+mod faults;
 mod insert;
-mod keys;
 mod lock;
 mod run;
 mod select;
 mod settle;
-mod table;
 mod targets;
 mod transactions;
 mod update;
-mod waits;
 mod walk;
 
-pub use database::Database;
-pub use effect::{Effect, Surroundings};
+pub use effect::Effect;
+pub use run::run_statement;

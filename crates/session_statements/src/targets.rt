@@ -10,10 +10,9 @@ ghost use Rattle.session_machine.specs.Targets.{at_places, passing_targets, take
 ghost use Rattle.session_queries.specs.Fronts.{AnswersList};
 ghost use Rattle.session_statements.specs.Inner.Keeping.{IsOrderly, RowsIn};
 
-use crate::database::Database;
-use crate::effect::Work;
 use iso_lexer::Ident;
 use row_versions::{Seen, Versions};
+use session_database::{Database, Work};
 use session_queries::{AssignedColumns, passing_places, taken_places};
 use sql_trees::{Expr, Select};
 use sql_values::ValueFault;
@@ -66,38 +65,36 @@ fn at_places<'t>(
     Ok(picked(alloc, seen, &places)?)
 }
 
-impl<'a, 't, V: Versions> Database<'a, 't, V> {
-    /// The targets of an UPDATE or DELETE with this WHERE.
-    pub(crate) fn passing_targets(
-        &self,
-        work: &Work<'_>,
-        filter: &Option<Expr<'t>>,
-    ) -> Result<Vec<Seen>, ValueFault<'t>>
-        requires within { work.now.table < length self.now.catalog.tables }
-        requires orderly { IsOrderly self.now }
-        ensures targets { AnswersList result (passing_targets self.now work.now (option_map tree_of filter.now)) }
-        ensures its { IfOk result (λ targets. RowsIn self.now.content work.now.table targets.items) }
-    {
-        let seen = self.seen_by(work)?;
-        let rows = self.values_of(&seen)?;
-        let places = passing_places(self.alloc, filter, self.columns_in(work), &rows);
-        at_places(self.alloc, &seen, places)
-    }
+/// The targets of an UPDATE or DELETE with this WHERE.
+pub(crate) fn passing_targets<'a, 't, V: Versions>(
+    db: &Database<'a, 't, V>,
+    work: &Work<'_>,
+    filter: &Option<Expr<'t>>,
+) -> Result<Vec<Seen>, ValueFault<'t>>
+    requires within { work.now.table < length db.now.catalog.tables }
+    requires orderly { IsOrderly db.now }
+    ensures targets { AnswersList result (passing_targets db.now work.now (option_map tree_of filter.now)) }
+    ensures its { IfOk result (λ targets. RowsIn db.now.content work.now.table targets.items) }
+{
+    let seen = db.seen_by(work)?;
+    let rows = db.values_of(&seen)?;
+    let places = passing_places(db.alloc(), filter, db.columns_in(work), &rows);
+    at_places(db.alloc(), &seen, places)
+}
 
-    /// The targets of a locking SELECT, as ORDER BY sorts them.
-    pub(crate) fn taken_targets(
-        &self,
-        work: &Work<'_>,
-        stmt: &Select<'t>,
-    ) -> Result<Vec<Seen>, ValueFault<'t>>
-        requires within { work.now.table < length self.now.catalog.tables }
-        requires orderly { IsOrderly self.now }
-        ensures targets { AnswersList result (taken_targets self.now work.now (select_of stmt.now)) }
-        ensures its { IfOk result (λ targets. RowsIn self.now.content work.now.table targets.items) }
-    {
-        let seen = self.seen_by(work)?;
-        let rows = self.values_of(&seen)?;
-        let places = taken_places(self.alloc, stmt, self.columns_in(work), &rows);
-        at_places(self.alloc, &seen, places)
-    }
+/// The targets of a locking SELECT, as ORDER BY sorts them.
+pub(crate) fn taken_targets<'a, 't, V: Versions>(
+    db: &Database<'a, 't, V>,
+    work: &Work<'_>,
+    stmt: &Select<'t>,
+) -> Result<Vec<Seen>, ValueFault<'t>>
+    requires within { work.now.table < length db.now.catalog.tables }
+    requires orderly { IsOrderly db.now }
+    ensures targets { AnswersList result (taken_targets db.now work.now (select_of stmt.now)) }
+    ensures its { IfOk result (λ targets. RowsIn db.now.content work.now.table targets.items) }
+{
+    let seen = db.seen_by(work)?;
+    let rows = db.values_of(&seen)?;
+    let places = taken_places(db.alloc(), stmt, db.columns_in(work), &rows);
+    at_places(db.alloc(), &seen, places)
 }

@@ -1,6 +1,6 @@
 //! How a statement goes from one of its targets to the next, up to the one at which it stops.
 
-ghost use Rattle.std.specs.Prelude.{◌≡◌, ◌+◌, ◌<◌, ◌^◌, List, Some, length, drop, option_map, IfOk, OnOk};
+ghost use Rattle.std.specs.Prelude.{◌≡◌, List, Some, drop, option_map, IfOk, OnOk};
 ghost use Rattle.sql_trees.specs.Trees.{tree_of};
 ghost use Rattle.sql_values.specs.declared.value.Value.{Value as SqlValue};
 ghost use Rattle.row_versions.specs.Log.{Content, IsOpen};
@@ -11,13 +11,16 @@ ghost use Rattle.session_machine.specs.Tables.{Database as DatabaseFacts};
 ghost use Rattle.session_machine.specs.Inner.Statements.{walked_from, done, after_walk, pauses, walked};
 ghost use Rattle.session_machine.specs.Targets.{passing_targets};
 ghost use Rattle.session_statements.specs.Inner.Acting.{halted_walk, visit_at};
-ghost use Rattle.session_statements.specs.Inner.Keeping.{IsKept, IsOrderly, RowsIn};
+ghost use Rattle.session_statements.specs.Inner.Keeping.{IsAtWork, IsKept, RowsIn};
 ghost use Rattle.session_statements.specs.Inner.Left.{left};
 
-use crate::act::{Act, Halt, Stop, Visited};
-use crate::database::Database;
-use crate::effect::{Effect, Work};
+use crate::act::{Act, Halt, Visited};
+use crate::effect::Effect;
+use crate::settle::visit;
+use crate::targets::passing_targets;
+use crate::transactions::{fail, fail_value};
 use row_versions::{Seen, TableId, Versions};
+use session_database::{Database, Stop, Work};
 use session_machine::{
     Gathered, OpenTransaction, Outcome, Progress, Request, Transaction, Waiting,
 };
@@ -25,130 +28,118 @@ use sql_trees::Expr;
 use sql_values::Row;
 use std::alloc::AllocError;
 
-impl<'a, 't, V: Versions> Database<'a, 't, V> {
-    /// Visits one target after the other, from this place on, and appends what is answered for them.
-    pub(crate) fn walk(
-        &mut self,
-        work: &Work<'_>,
-        act: &Act<'_, 'a, 't>,
-        targets: &[Seen],
-        place: usize,
-        rows: &mut Vec<Row>,
-    ) -> Result<Option<Halt<'t>>, AllocError>
-        requires opened { IsOpen self.old.content work.now.t.tx }
-        requires within { work.now.table < length self.old.catalog.tables }
-        requires orderly { IsOrderly self.old }
-        requires its { RowsIn self.old.content work.now.table targets.now }
-        ensures walk { (before : Content) (outcome : List (List SqlValue) → OutcomeFacts) → IfOk result (λ halt.
-            after_walk before work.now outcome (walked (visit_at work.now act.now) self.old place rows.old.items (drop place targets.now))
-            ≡ halted_walk before work.now outcome self.new rows.new.items halt) }
-        ensures kept { OnOk result (IsKept self.old self.new) }
-    {
-        for at in place..targets.len() {
-            match self.visit(work, act, &targets[at])? {
-                Visited::Passes => {}
-                Visited::Shows(row) => rows.push(row)?,
-                Visited::Stops(stop) => return Ok(Some(Halt { place: at, stop })),
-            }
-        }
-        Ok(None)
-    }
-
-    /// The statement waits at a target.
-    fn pause(
-        work: &Work<'_>,
-        begun: OpenTransaction,
-        place: usize,
-        request: Request,
-        rows: Vec<Row>,
-    ) -> Effect<'t>
-        ensures { (before : Content) (db : DatabaseFacts) → begun ≡ started before work.now.t →
-            pauses before work.now (record { db = db; place = place; rows = rows.items; stop = Some (Blocked request) }) request ≡ left db result }
-    {
-        let around = work.around;
-        Effect {
-            transaction: Transaction::Open(begun),
-            statement: Some(Progress {
-                table: TableId(work.place as u64),
-                view: work.view,
-                place,
-                rows: Gathered::of(rows),
-                wait: Waiting {
-                    number: around.number,
-                    request,
-                },
-            }),
-            outcome: Outcome::Waits,
+/// Visits one target after the other, from this place on, and appends what is answered for them.
+pub(crate) fn walk<'a, 't, V: Versions>(
+    db: &mut Database<'a, 't, V>,
+    work: &Work<'_>,
+    act: &Act<'_, 'a, 't>,
+    targets: &[Seen],
+    place: usize,
+    rows: &mut Vec<Row>,
+) -> Result<Option<Halt<'t>>, AllocError>
+    requires work { IsAtWork db.old work.now }
+    requires its { RowsIn db.old.content work.now.table targets.now }
+    ensures walk { (before : Content) (outcome : List (List SqlValue) → OutcomeFacts) → IfOk result (λ halt.
+        after_walk before work.now outcome (walked (visit_at work.now act.now) db.old place rows.old.items (drop place targets.now))
+        ≡ halted_walk before work.now outcome db.new rows.new.items halt) }
+    ensures kept { OnOk result (IsKept db.old db.new) }
+{
+    for at in place..targets.len() {
+        match visit(db, work, act, &targets[at])? {
+            Visited::Passes => {}
+            Visited::Shows(row) => rows.push(row)?,
+            Visited::Stops(stop) => return Ok(Some(Halt { place: at, stop })),
         }
     }
+    Ok(None)
+}
 
-    /// The statement waits where it halted, or fails.
-    pub(crate) fn halt(
-        &mut self,
-        work: &Work<'_>,
-        begun: OpenTransaction,
-        halt: Halt<'t>,
-        rows: Vec<Row>,
-    ) -> Effect<'t>
-        requires opened { IsOpen self.old.content work.now.t.tx }
-        ensures { (before : Content) (outcome : List (List SqlValue) → OutcomeFacts) → begun ≡ started before work.now.t →
-            halted_walk before work.now outcome self.old rows.items (Some halt.entry) ≡ left self.new result }
-    {
-        let Halt { place, stop } = halt;
-        match stop {
-            Stop::Blocked(request) => {
-                Database::<'a, 't, V>::pause(work, begun, place, request, rows)
-            }
-            Stop::Fails(fault) => self.fail(&work.by, fault),
-        }
+/// The statement waits at a target.
+fn pause<'t>(
+    work: &Work<'_>,
+    begun: OpenTransaction,
+    place: usize,
+    request: Request,
+    rows: Vec<Row>,
+) -> Effect<'t>
+    ensures { (before : Content) (db : DatabaseFacts) → begun ≡ started before work.now.t →
+        pauses before work.now (record { db = db; place = place; rows = rows.items; stop = Some (Blocked request) }) request ≡ left db result }
+{
+    let around = work.around;
+    Effect {
+        transaction: Transaction::Open(begun),
+        statement: Some(Progress {
+            table: TableId(work.place as u64),
+            view: work.view,
+            place,
+            rows: Gathered::of(rows),
+            wait: Waiting {
+                number: around.number,
+                request,
+            },
+        }),
+        outcome: Outcome::Waits,
     }
+}
 
-    /// A statement without a result goes over these targets, from this place on.
-    fn go_over(
-        &mut self,
-        work: &Work<'_>,
-        act: &Act<'_, 'a, 't>,
-        targets: &[Seen],
-        place: usize,
-        rows: Vec<Row>,
-    ) -> Result<Effect<'t>, AllocError>
-        requires opened { IsOpen self.old.content work.now.t.tx }
-        requires room { work.now.t.command + 1 < 2 ^ 64 }
-        requires within { work.now.table < length self.old.catalog.tables }
-        requires orderly { IsOrderly self.old }
-        requires its { RowsIn self.old.content work.now.table targets.now }
-        ensures { IfOk result (λ did.
-            after_walk self.old.content work.now done (walked (visit_at work.now act.now) self.old place rows.items (drop place targets.now)) ≡ left self.new did) }
-    {
-        let mut answered = rows;
-        let begun = self.started(&work.by);
-        let after = self.after_query(&work.by);
-        match self.walk(work, act, targets, place, &mut answered)? {
-            None => Ok(Effect::turned(Transaction::Open(after))),
-            Some(halt) => Ok(self.halt(work, begun, halt, answered)),
-        }
+/// The statement waits where it halted, or fails.
+pub(crate) fn halt<'a, 't, V: Versions>(
+    db: &mut Database<'a, 't, V>,
+    work: &Work<'_>,
+    begun: OpenTransaction,
+    halt: Halt<'t>,
+    rows: Vec<Row>,
+) -> Effect<'t>
+    requires opened { IsOpen db.old.content work.now.t.tx }
+    ensures { (before : Content) (outcome : List (List SqlValue) → OutcomeFacts) → begun ≡ started before work.now.t →
+        halted_walk before work.now outcome db.old rows.items (Some halt.entry) ≡ left db.new result }
+{
+    let Halt { place, stop } = halt;
+    match stop {
+        Stop::Blocked(request) => { pause(work, begun, place, request, rows) }
+        Stop::Fails(fault) => fail(db, &work.by, fault),
     }
+}
 
-    /// A statement without a result goes over the targets that pass its WHERE, from this place on.
-    pub(crate) fn go_over_passing(
-        &mut self,
-        work: &Work<'_>,
-        act: &Act<'_, 'a, 't>,
-        filter: &Option<Expr<'t>>,
-        place: usize,
-        rows: Vec<Row>,
-    ) -> Result<Effect<'t>, AllocError>
-        requires opened { IsOpen self.old.content work.now.t.tx }
-        requires room { work.now.t.command + 1 < 2 ^ 64 }
-        requires within { work.now.table < length self.old.catalog.tables }
-        requires orderly { IsOrderly self.old }
-        ensures { IfOk result (λ did.
-            after_walk self.old.content work.now done (walked_from (visit_at work.now act.now) self.old place rows.items (passing_targets self.old work.now (option_map tree_of filter.now)))
-            ≡ left self.new did) }
-    {
-        match self.passing_targets(work, filter) {
-            Ok(targets) => self.go_over(work, act, &targets, place, rows),
-            Err(fault) => self.fail_value(&work.by, fault),
-        }
+/// A statement without a result goes over these targets, from this place on.
+fn go_over<'a, 't, V: Versions>(
+    db: &mut Database<'a, 't, V>,
+    work: &Work<'_>,
+    act: &Act<'_, 'a, 't>,
+    targets: &[Seen],
+    place: usize,
+    rows: Vec<Row>,
+) -> Result<Effect<'t>, AllocError>
+    requires work { IsAtWork db.old work.now }
+    requires its { RowsIn db.old.content work.now.table targets.now }
+    ensures { IfOk result (λ did.
+        after_walk db.old.content work.now done (walked (visit_at work.now act.now) db.old place rows.items (drop place targets.now)) ≡ left db.new did) }
+{
+    let mut answered = rows;
+    let begun = db.started(&work.by);
+    let after = db.after_query(&work.by);
+    match walk(db, work, act, targets, place, &mut answered)? {
+        None => Ok(Effect::turned(Transaction::Open(after))),
+        Some(at) => Ok(halt(db, work, begun, at, answered)),
+    }
+}
+
+/// A statement without a result goes over the targets that pass its WHERE, from this place on.
+pub(crate) fn go_over_passing<'a, 't, V: Versions>(
+    db: &mut Database<'a, 't, V>,
+    work: &Work<'_>,
+    act: &Act<'_, 'a, 't>,
+    filter: &Option<Expr<'t>>,
+    place: usize,
+    rows: Vec<Row>,
+) -> Result<Effect<'t>, AllocError>
+    requires work { IsAtWork db.old work.now }
+    ensures { IfOk result (λ did.
+        after_walk db.old.content work.now done (walked_from (visit_at work.now act.now) db.old place rows.items (passing_targets db.old work.now (option_map tree_of filter.now)))
+        ≡ left db.new did) }
+{
+    match passing_targets(db, work, filter) {
+        Ok(targets) => go_over(db, work, act, &targets, place, rows),
+        Err(fault) => fail_value(db, &work.by, fault),
     }
 }

@@ -1,14 +1,19 @@
 //! The end of a run: the engine's state beside the seats.
-ghost use Rattle.std.specs.Prelude.{◌≡◌, ℕ, Err, None, Some, IfOk, IfErr, IfNone, IfSome};
+ghost use Rattle.std.specs.Prelude.{◌≡◌, ◌≤◌, ℕ, Err, None, Some, IfOk, IfErr, IfNone, IfSome};
+ghost use Rattle.row_versions.specs.Log.{empty_content};
 ghost use Rattle.sql_blocks.specs.Blocks.{blocks_of};
+ghost use Rattle.session_machine.specs.Engine.{opened};
+ghost use Rattle.session_seats.specs.Seats.{empty_seats};
 ghost use Rattle.session_core.specs.Engines.{IsOf};
 ghost use Rattle.session_threads.specs.Seats.{AllFit, IsMisfit};
 
 use row_versions::Versions;
 use session_core::EngineState;
+use session_crews::Joined;
 use session_machine::Mode;
-use session_seats::{Seat, ThreadFault, first_misfit, leave_seats};
+use session_seats::{Seat, ThreadFault, empty_seats, first_misfit, leave_seats};
 use sql_blocks::Block;
+use std::alloc::Global;
 use std::marker::Model;
 
 /// A run that is over: the engine's state, and a seat for each session, whose items are the history's items of that
@@ -106,23 +111,28 @@ fn seat_fault<V: Versions>(
 }
 
 /// The end of a run: the seats beside an engine that was opened over these blocks and sessions and in this mode. A fault that
-/// was met comes first, then another run, then the seats.
+/// was met comes first, then another run, then what was seen after the joins, then the seats.
 pub fn end_of<'a, 't, V: Versions>(
-    engine: EngineState<'a, 't, V>,
+    run: Joined<EngineState<'a, 't, V>, Seat<'t>>,
     blocks: &[Block<'_>],
     sessions: u32,
     mode: Mode,
-    met: Option<ThreadFault>,
-    seats: Vec<Seat<'t>>,
 ) -> Result<Closed<'a, 't, V>, ThreadFault>
-    ensures met { IfSome met (λ fault. result ≡ Err fault) }
-    ensures other_run { met ≡ None → ¬ (IsOf engine.entry (blocks_of blocks.now) sessions mode) → result ≡ Err ThreadFault.OtherRun }
-    ensures seats { met ≡ None → IsOf engine.entry (blocks_of blocks.now) sessions mode
-        → IfErr result (λ e. (s : ℕ) × (e ≡ ThreadFault.SeatMismatch s) × IsMisfit engine.entry seats.entry.items s) }
-    ensures ok { IfOk result (λ c. IsOf engine.entry (blocks_of blocks.now) sessions mode × (met ≡ None)
-        × (c ≡ record { state = engine.entry; seats = seats.entry.items })) }
+    ensures met { IfSome run.entry.met (λ fault. result ≡ Err fault) }
+    ensures other_run { run.entry.met ≡ None → ¬ (IsOf run.entry.engine (blocks_of blocks.now) sessions mode) → result ≡ Err ThreadFault.OtherRun }
+    ensures late { run.entry.met ≡ None → IsOf run.entry.engine (blocks_of blocks.now) sessions mode → IfSome run.entry.late (λ fault. result ≡ Err fault) }
+    ensures seats { run.entry.met ≡ None → IsOf run.entry.engine (blocks_of blocks.now) sessions mode → run.entry.late ≡ None
+        → IfErr result (λ e. (s : ℕ) × (e ≡ ThreadFault.SeatMismatch s) × IsMisfit run.entry.engine run.entry.seats.items s) }
+    ensures ok { IfOk result (λ c. IsOf run.entry.engine (blocks_of blocks.now) sessions mode × (run.entry.met ≡ None) × (run.entry.late ≡ None)
+        × (c ≡ record { state = run.entry.engine; seats = run.entry.seats.items })) }
 {
-    let refused = end_fault(&engine, blocks, sessions, mode, met, &seats);
+    let Joined {
+        engine,
+        seats,
+        met,
+        late,
+    } = run;
+    let refused = end_fault(&engine, blocks, sessions, mode, met, late, &seats);
     closed_unless(refused, engine, seats)
 }
 
@@ -133,17 +143,43 @@ fn end_fault<V: Versions>(
     sessions: u32,
     mode: Mode,
     met: Option<ThreadFault>,
+    late: Option<ThreadFault>,
     seats: &[Seat<'_>],
 ) -> Option<ThreadFault>
     ensures met { IfSome met (λ fault. result ≡ Some fault) }
     ensures other_run { met ≡ None → ¬ (IsOf engine.now (blocks_of blocks.now) sessions mode) → result ≡ Some ThreadFault.OtherRun }
-    ensures seats { met ≡ None → IsOf engine.now (blocks_of blocks.now) sessions mode
+    ensures late { met ≡ None → IsOf engine.now (blocks_of blocks.now) sessions mode → IfSome late (λ fault. result ≡ Some fault) }
+    ensures seats { met ≡ None → IsOf engine.now (blocks_of blocks.now) sessions mode → late ≡ None
         → IfSome result (λ e. (s : ℕ) × (e ≡ ThreadFault.SeatMismatch s) × IsMisfit engine.now seats.now s) }
-    ensures fit { IfNone result (IsOf engine.now (blocks_of blocks.now) sessions mode × (met ≡ None) × AllFit engine.now seats.now) }
+    ensures fit { IfNone result (IsOf engine.now (blocks_of blocks.now) sessions mode × (met ≡ None) × (late ≡ None) × AllFit engine.now seats.now) }
 {
-    match met {
-        Some(fault) => Some(fault),
-        None if engine.is_of(blocks, sessions, mode) => seat_fault(engine, seats),
-        None => Some(ThreadFault::OtherRun),
+    match (met, late) {
+        (Some(fault), _) => Some(fault),
+        _ if !engine.is_of(blocks, sessions, mode) => Some(ThreadFault::OtherRun),
+        (None, Some(fault)) => Some(fault),
+        (None, None) => seat_fault(engine, seats),
+    }
+}
+
+/// An engine in which nothing has happened, and an empty seat for each session.
+pub fn opened_with_seats<'a, 't, V: Versions>(
+    alloc: Global,
+    blocks: &'a [Block<'t>],
+    sessions: u32,
+    mode: Mode,
+    store: V,
+) -> Result<(EngineState<'a, 't, V>, Vec<Seat<'t>>), ThreadFault>
+    requires few { sessions ≤ 64 }
+    requires empty { V.content store ≡ empty_content }
+    ensures ok { IfOk result (λ run. (run.0 ≡ opened (blocks_of blocks.now) sessions mode) × (run.1.items ≡ empty_seats sessions)) }
+    ensures err { IfErr result (λ fault. fault ≡ ThreadFault.Memory) }
+{
+    let seats = empty_seats(alloc, sessions)?;
+    match EngineState::new(alloc, blocks, sessions, mode, store) {
+        Ok(engine) => Ok((engine, seats)),
+        Err(_) => {
+            leave_seats(seats);
+            Err(ThreadFault::Memory)
+        }
     }
 }

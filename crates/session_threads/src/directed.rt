@@ -6,12 +6,11 @@ ghost use Rattle.session_machine.specs.Engine.{is_quiet_in};
 ghost use Rattle.session_core.specs.Engines.{IsOf};
 ghost use Rattle.session_seats.specs.Orders.{IsDriven};
 
-use crate::closing::{Closed, end_of};
+use crate::closing::{Closed, end_of, opened_with_seats};
 use crate::driver::{ByDriver, Driver};
 use row_versions::Versions;
-use session_core::EngineState;
 use session_machine::Mode;
-use session_seats::{Gate, Ordering, ThreadFault, empty_seats, leave_seats};
+use session_seats::{Gate, Ordering, ThreadFault};
 use sql_blocks::Block;
 use std::alloc::Global;
 use std::marker::Brand;
@@ -44,23 +43,12 @@ fn run_ordered<
     ensures quiet { IfOk result (λ c. is_quiet_in c.state.machine ≡ true) }
     ensures driven { IfOk result (λ c. IsDriven O.orders c.state.history) }
 {
-    let seats = empty_seats(alloc, sessions)?;
-    let Ok(engine) = EngineState::new(alloc, blocks, sessions, Mode::Directed, store) else {
-        leave_seats(seats);
-        return Err(ThreadFault::Memory);
-    };
+    let (engine, seats) = opened_with_seats(alloc, blocks, sessions, Mode::Directed, store)?;
     let asked = ByDriver::new(driver);
     let run = session_crews::run_ordered::<_, _, O, _, G, R>(
         rt, alloc, engine, seats, asked, gate,
     )?;
-    end_of(
-        run.engine,
-        blocks,
-        sessions,
-        Mode::Directed,
-        run.met,
-        run.seats,
-    )
+    end_of(run, blocks, sessions, Mode::Directed)
 }
 
 /// Runs what the driver orders, each event in its session's own thread; the calling thread is the control session's. The

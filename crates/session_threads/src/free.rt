@@ -1,15 +1,15 @@
 //! A run in which each session's thread runs the session's script, with no order between sessions.
-ghost use Rattle.std.specs.Prelude.{◌≡◌, ◌≤◌, IfOk, vec_len};
+ghost use Rattle.std.specs.Prelude.{◌≡◌, ◌≤◌, true, is_some, IfOk, vec_len};
 ghost use Rattle.row_versions.specs.Log.{empty_content};
 ghost use Rattle.sql_blocks.specs.Blocks.{blocks_of};
+ghost use Rattle.session_seats.specs.FreeRuns.{FitsPlan};
 ghost use Rattle.session_core.specs.Engines.{IsOf};
 
-use crate::closing::{Closed, end_of};
+use crate::closing::{Closed, end_of, opened_with_seats};
 use row_versions::Versions;
-use session_core::EngineState;
 use session_crews::run_scripts;
 use session_machine::Mode;
-use session_seats::{FreePlan, Gate, ThreadFault, empty_seats, leave_seats};
+use session_seats::{FreePlan, Gate, ThreadFault};
 use sql_blocks::Block;
 use std::alloc::Global;
 use std::sync::Wait;
@@ -29,14 +29,12 @@ pub fn run_free<'a, 't, V: Versions + Send, G: Gate, R: Threads + Wait + Sync>(
 ) -> Result<Closed<'a, 't, V>, ThreadFault>
     requires few { vec_len plan.now.scripts ≤ 64 }
     requires empty { V.content store ≡ empty_content }
-    ensures { IfOk result (λ c. IsOf c.state (blocks_of blocks.now) (vec_len plan.now.scripts) Mode.Free) }
+    ensures of { IfOk result (λ c. IsOf c.state (blocks_of blocks.now) (vec_len plan.now.scripts) Mode.Free) }
+    ensures fits { IfOk result (λ c. FitsPlan plan.now c.state.history) }
+    ensures unspent { IfOk result (λ c. is_some c.state.machine ≡ true) }
 {
     let sessions = plan.scripts.len() as u32;
-    let seats = empty_seats(alloc, sessions)?;
-    let Ok(engine) = EngineState::new(alloc, blocks, sessions, Mode::Free, store) else {
-        leave_seats(seats);
-        return Err(ThreadFault::Memory);
-    };
+    let (engine, seats) = opened_with_seats(alloc, blocks, sessions, Mode::Free, store)?;
     let run = run_scripts(rt, alloc, engine, seats, plan, gate);
-    end_of(run.engine, blocks, sessions, Mode::Free, run.met, run.seats)
+    end_of(run, blocks, sessions, Mode::Free)
 }

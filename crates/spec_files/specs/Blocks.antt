@@ -1,4 +1,4 @@
--- The blocks of a file, and the statements that they are.
+-- To be believed. The blocks of a file, and the statements that they are.
 use Rattle.std.specs.Prelude.{◌≡◌, ◌≢◌, List, [], ◌∷◌, ◌++◌, map, flat_map, option_to_list, Result, Ok, Err}
 use Rattle.std.specs.Result.{result_map_both}
 use Rattle.sql_trees.specs.declared.fault.SqlFault.{SqlFault}

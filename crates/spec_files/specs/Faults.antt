@@ -1,4 +1,4 @@
--- How faults of the parts are told.
+-- To be believed. How faults of the parts are told.
 use Rattle.iso_lexer.specs.declared.whole.ReadFault.{ReadFault}
 use Rattle.iso_lexer.specs.declared.whole.ReadFault.TheVariants as read_faults
 use Rattle.spec_parser.specs.declared.fault.SpecFault.{SpecFault}

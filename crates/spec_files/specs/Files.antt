@@ -1,4 +1,4 @@
--- What the bytes of a file are: a spec with the statements of its blocks, or why the file is refused.
+-- To be believed. What the bytes of a file are: a spec with the statements of its blocks, or why the file is refused.
 use Rattle.std.specs.Prelude.{ℕ, ◌<◌, ◌≤◌, List, length, IsUtf8, Result, Ok, Err}
 use Rattle.std.specs.Str.Lossy.{utf8_valid_len}
 use Rattle.iso_lexer.specs.declared.fault.FaultKind.TheVariants.{FileTooLong}

@@ -1,4 +1,4 @@
--- The first line that a run prints.
+-- To be believed. The first line that a run prints.
 use Rattle.std.specs.Prelude.{ℕ, List, ◌++◌, length, decimal, codes}
 use Rattle.spec_parser.specs.Trees.{SpecTree}
 

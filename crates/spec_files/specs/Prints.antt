@@ -1,4 +1,4 @@
--- What running a file's permutations says.
+-- To be believed. What running a file's permutations says.
 use Rattle.std.specs.Prelude.{◌≡◌, ℕ, zero, suc, List, [], ◌∷◌, Result, Ok, Err}
 use Rattle.session_machine.specs.declared.reply.HistItem.{HistItem}
 use Rattle.session_machine.specs.Machine.{Blocks}

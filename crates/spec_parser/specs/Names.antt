@@ -1,4 +1,4 @@
--- The steps that a file's names stand for.
+-- To be believed. The steps that a file's names stand for.
 use Rattle.std.specs.Prelude.{ℕ, Bool, List, take, find, is_some, map, flat_map, Option, ok_or, option_map, Result, Ok, Err, bytes_eq}
 use Rattle.std.specs.List.{enumerate_from}
 use Rattle.std.specs.Option.{option_map_or}

@@ -1,4 +1,4 @@
--- The sessions and steps that numbers name.
+-- To be believed. The sessions and steps that numbers name.
 use Rattle.std.specs.Prelude.{ℕ, ◌-◌, ◌==◌, List, Option, None, option_and_then, slice_get, if◌then◌else◌}
 use Rattle.spec_parser.specs.Trees.{StepTree, SessionTree, EntryTree, SpecTree}
 

@@ -1,4 +1,4 @@
--- Reading tokens from left to right, up to the first one that may not stand there: words of reading, and the parts of a file.
+-- To be believed. Reading tokens from left to right, up to the first one that may not stand there: words of reading, and the parts of a file.
 use Rattle.std.specs.Prelude.{ℕ, zero, suc, ◌+◌, nat_le, List, [], ◌∷◌, ◌++◌, length, count_by, is_some, Option, Some, None, Ok, Err, if◌then◌else◌}
 use Rattle.std.specs.Option.{option_map_or}
 use denote.Enum.Bare.{sameb}

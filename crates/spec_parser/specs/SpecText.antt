@@ -1,4 +1,4 @@
--- Spec files: their text, and what it says.
+-- To be believed. Spec files: their text, and what it says.
 use Rattle.std.specs.Prelude.{◌≡◌, ℕ, List, [], length, Result, Ok, Err}
 use Rattle.iso_lexer.specs.declared.token.At.{At}
 use Rattle.iso_lexer.specs.declared.fault.Fault.{Fault}

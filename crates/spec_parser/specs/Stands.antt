@@ -1,4 +1,4 @@
--- What holds of every spec: numbers, counts and places.
+-- To be believed. What holds of every spec: numbers, counts and places.
 use Rattle.std.specs.Prelude.{◌≡◌, ◌≤◌, ◌<◌, ◌+◌, ◌-◌, ℕ, List, ◌∷◌, ◌++◌, length, map, All, slice_index_or, flat_map, option_to_list, slice_range}
 use Rattle.std.specs.List.{range_with_len}
 use Rattle.iso_lexer.specs.SpecSpelling.{NameSpells}

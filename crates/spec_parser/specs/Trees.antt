@@ -1,4 +1,4 @@
--- What a spec file says, without where it lies in memory.
+-- To be believed. What a spec file says, without where it lies in memory.
 use Rattle.std.specs.Prelude.{ℕ, List, map, Option, option_map}
 use Rattle.std.specs.Global.{Vec}
 use Rattle.iso_lexer.specs.Names.{Written, name_view}

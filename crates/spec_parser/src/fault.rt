@@ -8,6 +8,7 @@ ghost use Rattle.spec_parser.specs.declared.fault.SpecFault.TheVariants.{Memory 
 
 use iso_lexer::{Fault, LexFault};
 use std::alloc::{AllocError, AllocFailed};
+use std::error::Error;
 use std::fmt;
 
 /// What would have gone on with the file.
@@ -71,6 +72,8 @@ impl fmt::Display for SpecFault {
         write!(f, "{name} at byte {at}")
     }
 }
+
+impl Error for SpecFault {}
 
 /// Why reading stops before a token.
 #[derive(Clone, Copy)]

@@ -1,5 +1,19 @@
 //! Spec files: sessions, their steps, and the orders in which the steps are run, in the format of PostgreSQL's
 //! isolation tester (README of `src/test/isolation`).
+//!
+//! ```
+//! /// The SQL of a spec file's first step.
+//! fn first_step(alloc: Global, file: &str) -> anyhow::Result<&str> {
+//!     let spec = parse_spec(alloc, file)?;
+//!     let Some(session) = spec.sessions.first() else {
+//!         bail!("no session");
+//!     };
+//!     let Some(step) = session.steps.first() else {
+//!         bail!("no step");
+//!     };
+//!     Ok(step.part.sql)
+//! }
+//! ```
 #![tactic(auto)]
 
 mod draft;

@@ -1,4 +1,4 @@
--- What the conditions of a block on its statements are said by; reading goes by the same.
+-- To be believed. What the conditions of a block on its statements are said by; reading goes by the same.
 use Rattle.std.specs.Prelude.{ℕ, Bool, true, false, not, ◌||◌, ◌&&◌, ◌==◌, List, [], map, Option, is_some}
 use Rattle.std.specs.List.{list_any, list_all}
 use Rattle.std.specs.Option.{option_map_or}

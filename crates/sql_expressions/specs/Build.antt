@@ -1,4 +1,4 @@
--- Trees made of trees.
+-- To be believed. Trees made of trees.
 use Rattle.std.specs.Prelude.{not}
 use Rattle.sql_trees.specs.Trees.{Tree, Trees, none, more, Number, Minus}
 

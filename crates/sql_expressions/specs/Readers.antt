@@ -1,4 +1,4 @@
--- Reading from left to right with the first fault that is met: words of reading, for expressions and for statements.
+-- To be believed. Reading from left to right with the first fault that is met: words of reading, for expressions and for statements.
 use Rattle.std.specs.Prelude.{ℕ, zero, suc, Bool, false, ◌||◌, List, [], ◌∷◌, ◌++◌, length, Option, Some, None, Result, Ok, Err, ok_or, if◌then◌else◌}
 use Rattle.std.specs.Option.{option_map_or}
 use denote.Enum.Bare.{sameb}

@@ -1,4 +1,4 @@
--- Reading an expression from left to right, with the first fault that is met.
+-- To be believed. Reading an expression from left to right, with the first fault that is met.
 use Rattle.std.specs.Prelude.{ℕ, zero, suc, ◌+◌, max, Bool, true, false, List, [], ◌∷◌, fold, Option, Some, Result, Ok, Err, is_some, nat_lt, if◌then◌else◌}
 use Rattle.iso_lexer.specs.declared.sql_token.SqlSign.TheVariants as signs
 use Rattle.sql_trees.specs.declared.fault.SqlFault.{SqlFault}

@@ -1,4 +1,14 @@
 //! Expressions of SQL, read from tokens.
+//!
+//! ```
+//! /// How deep the expression is that a text is.
+//! fn depth_of(alloc: Global, text: &str) -> anyhow::Result<usize> {
+//!     let tokens = classified(alloc, &sql_tokens(alloc, text)?)?;
+//!     let (parsed, rest) = parse_expr(alloc, text.len(), &tokens)?;
+//!     ensure!(rest.is_empty(), "more than an expression");
+//!     Ok(parsed.depth)
+//! }
+//! ```
 #![tactic(auto)]
 
 mod cursor;

@@ -1,4 +1,4 @@
--- Statements and blocks.
+-- To be believed. Statements and blocks.
 use Rattle.std.specs.Prelude.{ℕ, zero, suc, ◌&&◌, ◌||◌, List, [], ◌∷◌, ◌++◌, map, filter, None, Result, Ok, Err}
 use Rattle.std.specs.List.{slice_split, zip}
 use Rattle.iso_lexer.specs.declared.sql_token.SqlSign.TheVariants as signs

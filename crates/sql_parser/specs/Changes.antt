@@ -1,4 +1,4 @@
--- INSERT, UPDATE and DELETE (PostgreSQL manual: INSERT, UPDATE, DELETE).
+-- To be believed. INSERT, UPDATE and DELETE (PostgreSQL manual: INSERT, UPDATE, DELETE).
 use Rattle.std.specs.Prelude.{ℕ, true, ◌==◌, List, length, map, Option, option_map, Err, if◌then◌else◌}
 use Rattle.std.specs.List.{slice_get}
 use Rattle.std.specs.Option.{option_or, option_map_or}

@@ -1,4 +1,4 @@
--- SELECT (PostgreSQL manual: SELECT).
+-- To be believed. SELECT (PostgreSQL manual: SELECT).
 use Rattle.std.specs.Prelude.{ℕ, true, false, List, [], ◌∷◌, Option, Some, None, if◌then◌else◌}
 use Rattle.iso_lexer.specs.declared.sql_token.SqlSign.TheVariants as signs
 use Rattle.sql_trees.specs.declared.fault.SqlFault.TheVariants.{LeftOut}

@@ -1,4 +1,4 @@
--- CREATE TABLE and DROP TABLE (PostgreSQL manual: CREATE TABLE, DROP TABLE).
+-- To be believed. CREATE TABLE and DROP TABLE (PostgreSQL manual: CREATE TABLE, DROP TABLE).
 use Rattle.std.specs.Prelude.{ℕ, zero, suc, Bool, true, false, not, ◌||◌, ◌&&◌, List, [], ◌∷◌, ◌++◌, length, map, filter, find, bytes_eq}
 use Rattle.std.specs.Prelude.{Option, None, option_map, Ok, Err, if◌then◌else◌}
 use Rattle.std.specs.List.{list_any, position_or_len}

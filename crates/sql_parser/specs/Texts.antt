@@ -1,4 +1,4 @@
--- SQL text as statements.
+-- To be believed. SQL text as statements.
 use Rattle.std.specs.Prelude.{◌≡◌, ℕ, List, length, Result, Err}
 use Rattle.std.specs.Result.{result_map_both}
 use Rattle.iso_lexer.specs.declared.fault.Fault.{Fault}

@@ -1,4 +1,4 @@
--- Statements on transactions (PostgreSQL manual: BEGIN, START TRANSACTION, COMMIT, ROLLBACK, SET TRANSACTION, SET).
+-- To be believed. Statements on transactions (PostgreSQL manual: BEGIN, START TRANSACTION, COMMIT, ROLLBACK, SET TRANSACTION, SET).
 use Rattle.std.specs.Prelude.{ℕ, Bool, true, false, ◌||◌, [], ◌∷◌}
 use Rattle.iso_lexer.specs.declared.sql_token.SqlSign.TheVariants as signs
 use Rattle.sql_trees.specs.declared.word.Word.TheVariants as words

@@ -1,4 +1,13 @@
 //! Statements and blocks of SQL text, read into trees.
+//!
+//! ```
+//! /// How many statements a step's SQL has.
+//! fn count_statements(alloc: Global, text: &str) -> anyhow::Result<usize> {
+//!     ensure!(text.len() <= 4096, "a long text");
+//!     let block = parse_block(alloc, text, Role::Session)?;
+//!     Ok(block.stmts().len())
+//! }
+//! ```
 #![tactic(auto)]
 
 mod block;

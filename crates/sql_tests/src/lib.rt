@@ -14,6 +14,10 @@ mod memory;
 #[cfg(test)]
 mod refused;
 #[cfg(test)]
+mod sizes;
+#[cfg(test)]
 mod trees;
+#[cfg(test)]
+mod uses;
 #[cfg(test)]
 mod words;

@@ -1,4 +1,4 @@
--- The words of SQL, in lower case, each with what it is to the grammar; synonyms are one.
+-- To be believed. The words of SQL, in lower case, each with what it is to the grammar; synonyms are one.
 use Rattle.std.specs.Prelude.{ℕ, List, [], ◌∷◌, ◌++◌, map, zip, codes}
 use Rattle.iso_lexer.specs.Bytes.{words_of}
 use Rattle.sql_trees.specs.declared.word.Word.{Word}

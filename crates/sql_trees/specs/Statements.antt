@@ -1,4 +1,4 @@
--- Trees of statements, without where they lie in memory: names stand decoded.
+-- To be believed. Trees of statements, without where they lie in memory: names stand decoded.
 use Rattle.std.specs.Prelude.{ℕ, Bool, List, ◌∷◌, ◌++◌, codes, map, Option, option_map, if◌then◌else◌}
 use Rattle.std.specs.List.{concat}
 use Rattle.std.specs.Global.{Vec}

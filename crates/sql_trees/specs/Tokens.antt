@@ -1,4 +1,4 @@
--- Tokens of SQL text, each word with its keyword.
+-- To be believed. Tokens of SQL text, each word with its keyword.
 use Rattle.std.specs.Prelude.{ℕ, List, ◌∷◌, map, Option, Some, None, if◌then◌else◌}
 use Rattle.iso_lexer.specs.declared.token.At.{At}
 pub use Rattle.iso_lexer.specs.SqlTokens.{word, quoted, string, number, sign}

@@ -1,4 +1,4 @@
--- Trees of expressions, without where they lie in memory: names and strings stand decoded.
+-- To be believed. Trees of expressions, without where they lie in memory: names and strings stand decoded.
 use Rattle.std.specs.Prelude.{ℕ, Bool, List, [], ◌∷◌, if◌then◌else◌, ◌==◌, ◌&&◌}
 use Rattle.iso_lexer.specs.Names.{name_view, decoded}
 use Rattle.sql_trees.specs.declared.expr.Operator.{Operator}

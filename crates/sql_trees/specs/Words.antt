@@ -1,4 +1,4 @@
--- Keywords, and what they are to the grammar.
+-- To be believed. Keywords, and what they are to the grammar.
 use Rattle.std.specs.Prelude.{ℕ, Bool, List, [], ◌∷◌, map, filter, unwrap_or}
 use Rattle.std.specs.List.{list_any}
 use denote.Enum.Bare.{sameb}

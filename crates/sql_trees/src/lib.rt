@@ -1,4 +1,15 @@
 //! Trees of SQL text, over slices of the text.
+//!
+//! ```
+//! /// Whether a text of SQL begins with SELECT.
+//! fn begins_with_select(alloc: Global, text: &str) -> anyhow::Result<bool> {
+//!     let words = classified(alloc, &sql_tokens(alloc, text)?)?;
+//!     let Some(first) = words.first() else {
+//!         bail!("no tokens");
+//!     };
+//!     Ok(matches!(first.tok, Tok::Word(Word::Select, _)))
+//! }
+//! ```
 #![tactic(auto)]
 
 mod expr;

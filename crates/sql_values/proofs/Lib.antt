@@ -11,3 +11,4 @@ pub mod Places
 pub mod Sortable
 pub mod Utf8
 pub mod Unique
+pub mod Growing

@@ -1,4 +1,4 @@
--- Aggregates over the rows of a table (PostgreSQL manual, 9.21).
+-- To be believed. Aggregates over the rows of a table (PostgreSQL manual, 9.21).
 use Rattle.std.specs.Prelude.{ℤ, pos, ◌+ℤ◌, Bool, ◌||◌, not, List, [], ◌∷◌, length, filter, find, is_some, unwrap_or, Result, Ok, Err, if◌then◌else◌}
 use Rattle.std.specs.List.{list_all, list_any}
 use Rattle.std.specs.Ordering.{is_lt, is_gt}

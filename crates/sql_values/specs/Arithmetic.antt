@@ -1,4 +1,4 @@
--- Arithmetic on whole numbers (PostgreSQL manual, 9.3) and the literals (4.1.2).
+-- To be believed. Arithmetic on whole numbers (PostgreSQL manual, 9.3) and the literals (4.1.2).
 use Rattle.std.specs.Prelude.{ℕ, ℤ, pos, neg_ℤ, Bool, ok_or, Result, if◌then◌else◌}
 use Rattle.std.specs.Option.{option_zip}
 use Rattle.sql_values.specs.declared.value.Value.{Value}

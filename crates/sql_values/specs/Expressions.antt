@@ -1,4 +1,4 @@
--- The value of an expression at a row, or why it has none.
+-- To be believed. The value of an expression at a row, or why it has none.
 use Rattle.std.specs.Prelude.{ℕ, ◌^◌, pos, ◌+ℤ◌, ◌-ℤ◌, ◌*ℤ◌, int_div, int_rem, Bool, true, false, ◌||◌, List, ◌++◌}
 use Rattle.std.specs.Prelude.{Option, Some, option_map, option_and_then, unwrap_or, ok_or, is_some, slice_get, position, bytes_eq}
 use Rattle.std.specs.Prelude.{Result, Ok, Err, if◌then◌else◌}

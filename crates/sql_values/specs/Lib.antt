@@ -5,4 +5,6 @@ pub mod Logic
 pub mod Expressions
 pub mod Sorting
 pub mod Aggregates
+pub mod FaultText
+pub mod Growing
 pub mod Inner

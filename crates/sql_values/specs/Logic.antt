@@ -1,4 +1,4 @@
--- Three-valued logic (PostgreSQL manual, 9.1, and 9.2 on IS).
+-- To be believed. Three-valued logic (PostgreSQL manual, 9.1, and 9.2 on IS).
 use Rattle.std.specs.Prelude.{Bool, false, not, Option, Some, None, is_none, unwrap_or, Result, Ok, Err, if◌then◌else◌}
 use Rattle.std.specs.Bool.{beq}
 use Rattle.std.specs.Option.{option_map_or}

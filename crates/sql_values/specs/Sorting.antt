@@ -1,4 +1,4 @@
--- The order in which rows are sorted (PostgreSQL manual, 7.5).
+-- To be believed. The order in which rows are sorted (PostgreSQL manual, 7.5).
 use Rattle.std.specs.Prelude.{ℕ, ◌+◌, ◌≤◌, ⊤, Bool, ◌||◌, List, [], ◌∷◌, length, is_some, unwrap_or, slice_get, slice_index_or, if◌then◌else◌}
 use Rattle.std.specs.List.{list_all, range_with_len, AllAdjacentBelow}
 use Rattle.std.specs.List.Sorted.{IsPermutation}

@@ -1,6 +1,6 @@
 //! Arithmetic on whole numbers.
 
-ghost use Rattle.std.specs.Prelude.{◌≡◌, ◌||◌, pos, is_some, Ok, Err, if◌then◌else◌};
+ghost use Rattle.std.specs.Prelude.{◌≡◌, ◌≢◌, ◌||◌, pos, is_some, Ok, Err, if◌then◌else◌};
 ghost use Rattle.sql_trees.specs.declared.expr.Operator.TheVariants.{Subtract};
 ghost use Rattle.sql_values.specs.declared.value.Value.TheVariants.{Int as SqlInt};
 ghost use Rattle.sql_values.specs.Values.{integer, bigint, is_null, number_of};
@@ -14,7 +14,8 @@ use sql_trees::Operator;
 
 /// The number as an integer, where it has 32 bits.
 fn integer<'a>(z: i128) -> Result<Value, ValueFault<'a>>
-    ensures { result ≡ integer z }
+    ensures value { result ≡ integer z }
+    ensures never { result ≢ Err ValueFault.Memory }
 {
     match i32::try_from(z) {
         Ok(n) => Ok(Value::Int(n)),
@@ -24,7 +25,8 @@ fn integer<'a>(z: i128) -> Result<Value, ValueFault<'a>>
 
 /// The number as a bigint, where it has 64 bits.
 pub fn bigint<'a>(z: i128) -> Result<Value, ValueFault<'a>>
-    ensures { result ≡ bigint z }
+    ensures value { result ≡ bigint z }
+    ensures never { result ≢ Err ValueFault.Memory }
 {
     match i64::try_from(z) {
         Ok(n) => Ok(Value::Big(n)),
@@ -34,7 +36,8 @@ pub fn bigint<'a>(z: i128) -> Result<Value, ValueFault<'a>>
 
 /// The exact result.
 fn calculate<'a>(operator: Operator, a: i64, b: i64) -> Result<i128, ValueFault<'a>>
-    ensures { result ≡ calculate operator a b }
+    ensures value { result ≡ calculate operator a b }
+    ensures never { result ≢ Err ValueFault.Memory }
 {
     let (a, b) = (a as i128, b as i128);
     match operator {
@@ -51,7 +54,8 @@ fn calculate<'a>(operator: Operator, a: i64, b: i64) -> Result<i128, ValueFault<
 
 /// An arithmetic operator on two values: of two integers an integer, with a bigint a bigint.
 pub fn arithmetic<'a>(operator: Operator, a: &Value, b: &Value) -> Result<Value, ValueFault<'a>>
-    ensures { result ≡ arithmetic operator a.now b.now }
+    ensures value { result ≡ arithmetic operator a.now b.now }
+    ensures never { result ≢ Err ValueFault.Memory }
 {
     match (a, b) {
         (Value::Int(a), Value::Int(b)) => integer(calculate(operator, *a as i64, *b as i64)?),
@@ -64,7 +68,8 @@ pub fn arithmetic<'a>(operator: Operator, a: &Value, b: &Value) -> Result<Value,
 
 /// The value behind a plus sign.
 pub fn plus<'a>(value: Value) -> Result<Value, ValueFault<'a>>
-    ensures { result ≡ (if is_null value || is_some (number_of value) then Ok value else Err ValueFault.TypeMismatch) }
+    ensures value { result ≡ (if is_null value || is_some (number_of value) then Ok value else Err ValueFault.TypeMismatch) }
+    ensures never { result ≢ Err ValueFault.Memory }
 {
     match value {
         Value::Null => Ok(Value::Null),
@@ -77,7 +82,8 @@ pub fn plus<'a>(value: Value) -> Result<Value, ValueFault<'a>>
 /// The value behind a minus sign.
 #[tactic(auto, using(crate::proofs::Negation::from_zero))]
 pub fn minus<'a>(value: Value) -> Result<Value, ValueFault<'a>>
-    ensures { result ≡ operate Subtract (SqlInt (pos 0)) value }
+    ensures value { result ≡ operate Subtract (SqlInt (pos 0)) value }
+    ensures never { result ≢ Err ValueFault.Memory }
 {
     match value {
         Value::Null => Ok(Value::Null),
@@ -89,7 +95,8 @@ pub fn minus<'a>(value: Value) -> Result<Value, ValueFault<'a>>
 
 /// A literal, by its sign and its size.
 pub fn number<'a>(negative: bool, digits: u64) -> Result<Value, ValueFault<'a>>
-    ensures { result ≡ number (signed negative digits) }
+    ensures value { result ≡ number (signed negative digits) }
+    ensures never { result ≢ Err ValueFault.Memory }
 {
     let size = digits as i128;
     let z = if negative { -size } else { size };

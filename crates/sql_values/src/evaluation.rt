@@ -1,12 +1,13 @@
 //! The value of an expression at a row.
 
-ghost use Rattle.std.specs.Prelude.{◌≡◌, ◌≢◌, length, option_map, true, false, Ok, None};
+ghost use Rattle.std.specs.Prelude.{◌≡◌, ◌≢◌, length, option_map, true, false, Ok, None, IfSome, IsErrOf};
 ghost use Rattle.iso_lexer.specs.Names.{name_view, decoded};
-ghost use Rattle.sql_trees.specs.Trees.{tree_of, trees, Column as NamedColumn};
-ghost use Rattle.sql_trees.specs.declared.expr.Operator.TheVariants.{AtMost};
+ghost use Rattle.sql_trees.specs.Trees.{Tree, tree_of, trees, Binary, Column as NamedColumn};
+ghost use Rattle.sql_trees.specs.declared.expr.Operator.TheVariants.{AtMost, Concat};
 ghost use Rattle.sql_values.specs.Values.{Answers, if_ok};
 ghost use Rattle.sql_values.specs.Logic.{decided_by};
 ghost use Rattle.sql_values.specs.Expressions.{value, compares, is_among, passes};
+ghost use Rattle.sql_values.specs.Growing.{may_grow, some_may_grow};
 ghost use Rattle.sql_values.specs.Inner.Connectives.{binary};
 
 use crate::arithmetic::{minus, number, plus};
@@ -39,6 +40,7 @@ fn column<'a>(
 
 /// The value of the expression at the row, which has the columns.
 #[cycle(eval)]
+#[tactic(auto, using(crate::proofs::Growing::or_left, crate::proofs::Growing::or_right))]
 pub fn eval<'a>(
     alloc: Global,
     expr: &Expr<'a>,
@@ -46,7 +48,8 @@ pub fn eval<'a>(
     row: &Row,
 ) -> Result<Value, ValueFault<'a>>
     requires { length row.now ≡ length cols.now }
-    ensures { Answers result (value (tree_of expr.now) cols.now row.now) }
+    ensures value { Answers result (value (tree_of expr.now) cols.now row.now) }
+    ensures memory { IsErrOf result ValueFault.Memory → may_grow (tree_of expr.now) ≡ true }
 {
     match expr {
         Expr::Null => Ok(Value::Null),
@@ -86,7 +89,8 @@ fn binary<'a>(
     row: &Row,
 ) -> Result<Value, ValueFault<'a>>
     requires { length row.now ≡ length cols.now }
-    ensures { Answers result (binary operator (Ok left.now) (value (tree_of right.now) cols.now row.now)) }
+    ensures value { Answers result (binary operator (Ok left.now) (value (tree_of right.now) cols.now row.now)) }
+    ensures memory { IsErrOf result ValueFault.Memory → (left : Tree) → may_grow (Binary operator left (tree_of right.now)) ≡ true }
 {
     match operator {
         Operator::Or => {
@@ -123,7 +127,8 @@ fn compares<'a>(
     row: &Row,
 ) -> Result<Option<bool>, ValueFault<'a>>
     requires { length row.now ≡ length cols.now }
-    ensures { Answers result (compares operator left.now (value (tree_of right.now) cols.now row.now)) }
+    ensures known { Answers result (compares operator left.now (value (tree_of right.now) cols.now row.now)) }
+    ensures memory { IsErrOf result ValueFault.Memory → operator ≢ Concat → may_grow (tree_of right.now) ≡ true }
 {
     let right = eval(alloc, right, cols, row)?;
     truth(&operate(alloc, operator, left, &right)?)
@@ -140,7 +145,8 @@ fn is_at_most_too<'a>(
     row: &Row,
 ) -> Result<Option<bool>, ValueFault<'a>>
     requires { length row.now ≡ length cols.now }
-    ensures { Answers result (decided_by false (Ok above) (compares AtMost left.now (value (tree_of high.now) cols.now row.now))) }
+    ensures known { Answers result (decided_by false (Ok above) (compares AtMost left.now (value (tree_of high.now) cols.now row.now))) }
+    ensures memory { IsErrOf result ValueFault.Memory → may_grow (tree_of high.now) ≡ true }
 {
     if let Some(false) = above {
         return Ok(Some(false));
@@ -153,6 +159,7 @@ fn is_at_most_too<'a>(
 
 /// Whether the value is equal to that of one of the expressions: it goes from the left, and stops at an equal one.
 #[cycle(eval)]
+#[tactic(auto, using(crate::proofs::Growing::some_at))]
 fn is_among<'a>(
     alloc: Global,
     left: &Value,
@@ -161,7 +168,8 @@ fn is_among<'a>(
     row: &Row,
 ) -> Result<Option<bool>, ValueFault<'a>>
     requires { length row.now ≡ length cols.now }
-    ensures { Answers result (is_among (trees items.now) left.now cols.now row.now) }
+    ensures known { Answers result (is_among (trees items.now) left.now cols.now row.now) }
+    ensures memory { IsErrOf result ValueFault.Memory → some_may_grow (trees items.now) ≡ true }
 {
     let mut unknown = false;
     for item in items {
@@ -185,6 +193,7 @@ pub fn passes<'a>(
     ensures exact { Answers result (passes (option_map (λ expr. tree_of expr.now) filter.entry) cols.now row.now) }
     // Without a condition there is nothing to grow.
     ensures unasked { filter.entry ≡ None → result ≡ Ok true }
+    ensures memory { IsErrOf result ValueFault.Memory → IfSome filter.entry (λ expr. may_grow (tree_of expr.now) ≡ true) }
 {
     let Some(filter) = filter else {
         return Ok(true);

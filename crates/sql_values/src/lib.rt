@@ -1,4 +1,16 @@
 //! Values of the SQL subset, rows of them, and what expressions make of them.
+//! `'a' || 'b'` is evaluated so:
+//!
+//! ```
+//! fn joined(alloc: Global) -> Result<Value, ValueFault<'static>> {
+//!     let a = Box::new(alloc, Expr::Text("a"))?;
+//!     let b = Box::new(alloc, Expr::Text("b"))?;
+//!     let expr = Expr::Binary(Operator::Concat, a, b);
+//!     let columns = Columns::of(&[]);
+//!     let row = Row::from_vec(Vec::new(alloc));
+//!     eval(alloc, &expr, &columns, &row)
+//! }
+//! ```
 #![tactic(auto)]
 
 mod aggregation;

@@ -1,6 +1,6 @@
 //! Three-valued logic: what is known of a condition is true, false, or nothing.
 
-ghost use Rattle.std.specs.Prelude.{◌≡◌, ◌≢◌, Ok, Some, true, false, not, option_map, if◌then◌else◌};
+ghost use Rattle.std.specs.Prelude.{◌≡◌, ◌≢◌, Ok, Err, IsErrOf, Some, true, false, not, option_map, if◌then◌else◌};
 ghost use Rattle.std.specs.Option.{option_map_or};
 ghost use Rattle.sql_values.specs.declared.value.Value.TheVariants.{Null as SqlNull, Bool as SqlBool};
 ghost use Rattle.sql_values.specs.Values.{is_null};
@@ -13,7 +13,8 @@ use sql_trees::Truth;
 
 /// A value as a condition: a boolean, or NULL.
 pub fn truth<'a>(value: &Value) -> Result<Option<bool>, ValueFault<'a>>
-    ensures { result ≡ truth value.now }
+    ensures known { result ≡ truth value.now }
+    ensures never { result ≢ Err ValueFault.Memory }
 {
     match value {
         Value::Null => Ok(None),
@@ -66,7 +67,8 @@ pub fn condition<'a>(
     negated: bool,
     known: Result<Option<bool>, ValueFault<'a>>,
 ) -> Result<Value, ValueFault<'a>>
-    ensures { result ≡ condition negated known.entry }
+    ensures value { result ≡ condition negated known.entry }
+    ensures memory { IsErrOf result ValueFault.Memory → known.entry ≡ Err ValueFault.Memory }
 {
     match known {
         Ok(known) => Ok(boolean(not_if(negated, known))),
@@ -88,7 +90,8 @@ fn asks(truth: Truth, known: Option<bool>) -> bool
 
 /// What `IS` answers of a value: `IS NULL` of any, the others of a condition.
 pub fn is_test<'a>(asked: Truth, value: &Value) -> Result<Option<bool>, ValueFault<'a>>
-    ensures { result ≡ is_test asked value.now }
+    ensures known { result ≡ is_test asked value.now }
+    ensures never { result ≢ Err ValueFault.Memory }
 {
     match asked {
         Truth::Null => Ok(Some(matches!(value, Value::Null))),

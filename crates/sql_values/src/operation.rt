@@ -1,6 +1,6 @@
 //! Operators on two values.
 
-ghost use Rattle.std.specs.Prelude.{◌≡◌, ◌++◌, IfOk, ◌↔◌, IsTrue};
+ghost use Rattle.std.specs.Prelude.{◌≡◌, ◌≢◌, ◌++◌, Err, IfOk, IsErrOf, ◌↔◌, IsTrue};
 ghost use Rattle.sql_trees.specs.declared.expr.Operator.TheVariants.{Concat};
 ghost use Rattle.sql_values.specs.Values.{Answers, is_null};
 ghost use Rattle.sql_values.specs.Expressions.{operate};
@@ -57,7 +57,8 @@ fn holds(operator: Operator, order: Ordering) -> bool
 }
 
 fn comparison<'a>(operator: Operator, a: &Value, b: &Value) -> Result<Value, ValueFault<'a>>
-    ensures { result ≡ comparison operator a.now b.now }
+    ensures value { result ≡ comparison operator a.now b.now }
+    ensures never { result ≢ Err ValueFault.Memory }
 {
     match compare(a, b) {
         Some(order) => Ok(Value::Bool(holds(operator, order))),
@@ -71,7 +72,8 @@ fn operation<'a>(
     a: &Value,
     b: &Value,
 ) -> Result<Value, ValueFault<'a>>
-    ensures { Answers result (operation operator a.now b.now) }
+    ensures value { Answers result (operation operator a.now b.now) }
+    ensures memory { IsErrOf result ValueFault.Memory → operator ≡ Concat }
 {
     match operator {
         Operator::Equal
@@ -92,7 +94,8 @@ pub fn operate<'a>(
     a: &Value,
     b: &Value,
 ) -> Result<Value, ValueFault<'a>>
-    ensures { Answers result (operate operator a.now b.now) }
+    ensures value { Answers result (operate operator a.now b.now) }
+    ensures memory { IsErrOf result ValueFault.Memory → operator ≡ Concat }
 {
     if is_null(a) || is_null(b) {
         return Ok(Value::Null);

@@ -43,7 +43,7 @@ fn block<'t>(alloc: Global, text: &'t str, role: Role) -> Result<Block<'t>, Fail
 }
 
 /// The blocks with these texts; the first so many are the control session's.
-fn blocks<'t>(alloc: Global, mains: usize, texts: &[&'t str]) -> Result<Vec<Block<'t>>, Fail> {
+pub fn blocks<'t>(alloc: Global, mains: usize, texts: &[&'t str]) -> Result<Vec<Block<'t>>, Fail> {
     let mut blocks = Vec::new(alloc);
     for (place, text) in texts.iter().enumerate() {
         let role = if place < mains {

@@ -15,7 +15,11 @@ mod free_texts;
 #[cfg(test)]
 mod gates;
 #[cfg(test)]
+mod giving;
+#[cfg(test)]
 mod meeting;
+#[cfg(test)]
+mod refused;
 #[cfg(test)]
 mod run_faults;
 #[cfg(test)]
@@ -26,3 +30,5 @@ mod seats;
 mod signs;
 #[cfg(test)]
 mod telling;
+#[cfg(test)]
+mod worked;

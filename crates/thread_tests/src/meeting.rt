@@ -57,3 +57,26 @@ fn a_gate_that_admits_nothing_ends_in_gate(rt: HostRuntime) -> Result<(), AllocE
     holds(&rt, written == 33, "the first line alone");
     Ok(())
 }
+
+/// One session updates two rows, the other deletes one of them and waits.
+const ROWS: &str = "setup { CREATE TABLE website (hits int); INSERT INTO website VALUES (9), (10); }
+teardown { DROP TABLE website; }
+session s1 setup { BEGIN; } step u { UPDATE website SET hits = hits + 1; } step c { COMMIT; }
+session s2 step d { DELETE FROM website WHERE hits = 10; } step r { SELECT hits FROM website ORDER BY hits; }
+permutation u d c r";
+
+#[test]
+fn the_first_event_of_a_file_is_asked_for_three_times(rt: HostRuntime) -> Result<(), AllocError> {
+    let gate = Shut {
+        asked: AtomicU64::new(0),
+    };
+    let (answer, written) = run(&rt, rt.alloc(), ROWS, &gate);
+    holds(
+        &rt,
+        matches!(answer, Err(RunFault::Threads(ThreadFault::Gate))),
+        "the run ends in Gate",
+    );
+    holds(&rt, gate.asked.load(Ordering::SeqCst) == 3, "three tries");
+    holds(&rt, written == 33, "the first line alone");
+    Ok(())
+}

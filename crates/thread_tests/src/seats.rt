@@ -1,4 +1,6 @@
 //! Seats beside the history of an engine.
+ghost use Rattle.std.specs.Prelude.{◌≡◌};
+ghost use Rattle.session_machine.specs.Machine.{session_of};
 
 use crate::asking::holds;
 use row_versions::ListStore;
@@ -15,48 +17,73 @@ fn blocks<'t>(alloc: Global) -> Result<Vec<Block<'t>>, Fail> {
         "CREATE TABLE t (x int); INSERT INTO t VALUES (1);",
         "BEGIN ISOLATION LEVEL REPEATABLE READ; SELECT * FROM t;",
         "INSERT INTO t VALUES (2);",
+        "SELECT * FROM t;",
     ] {
         blocks.push(parse_block(alloc, text, Role::Main).map_err(|_| "a block")?)?;
     }
     Ok(blocks)
 }
 
-/// The seat's session does so many steps of the block with its number.
-fn do_block<'t>(
+/// What a session is given.
+#[derive(Clone, Copy)]
+enum Given {
+    Launch(u32),
+    Step,
+    Leave,
+}
+
+/// A history of two sessions: the control session makes the table, session 1 reads in Repeatable Read, session 2 writes, both
+/// read, and session 1 leaves.
+const EVENTS: [(usize, Given); 13] = [
+    (0, Given::Launch(0)),
+    (0, Given::Step),
+    (0, Given::Step),
+    (1, Given::Launch(1)),
+    (1, Given::Step),
+    (1, Given::Step),
+    (2, Given::Launch(2)),
+    (2, Given::Step),
+    (1, Given::Launch(3)),
+    (1, Given::Step),
+    (2, Given::Launch(3)),
+    (2, Given::Step),
+    (1, Given::Leave),
+];
+
+/// The event that gives that to the session.
+fn event_of(session: u32, given: Given) -> Event
+    ensures { session_of result ≡ session }
+{
+    match given {
+        Given::Launch(block) => Event::Launch { session, block },
+        Given::Step => Event::Step { session },
+        Given::Leave => Event::Leave { session },
+    }
+}
+
+fn do_one<'t>(
     engine: &mut EngineState<'_, 't, ListStore>,
     seat: &mut Seat<'t>,
-    steps: usize,
+    given: Given,
 ) -> Result<(), Fail> {
-    let session = seat.session();
-    let block = session;
-    act(engine, seat, Event::Launch { session, block }).map_err(|_| "a launch")?;
-    for _ in 0..steps {
-        let session = seat.session();
-        act(engine, seat, Event::Step { session }).map_err(|_| "a step")?;
-    }
-    Ok(())
+    let event = event_of(seat.session(), given);
+    Ok(act(engine, seat, event).map_err(|_| "an event")?)
 }
 
-/// The seat of a session behind so many steps of its block.
-fn seat_behind<'t>(
-    alloc: Global,
-    engine: &mut EngineState<'_, 't, ListStore>,
-    session: u32,
-    steps: usize,
-) -> Result<Seat<'t>, Fail> {
-    let mut seat = Seat::new(alloc, session);
-    do_block(engine, &mut seat, steps)?;
-    Ok(seat)
-}
-
-/// The seats behind a run in which session 2 has a step left.
+/// The seats behind that history.
 fn seats_of<'t>(
     alloc: Global,
     engine: &mut EngineState<'_, 't, ListStore>,
 ) -> Result<Vec<Seat<'t>>, Fail> {
     let mut seats = Vec::new(alloc);
-    for (session, steps) in [(0, 2), (1, 2), (2, 1)] {
-        seats.push(seat_behind(alloc, engine, session, steps)?)?;
+    for session in 0..3 {
+        seats.push(Seat::new(alloc, session))?;
+    }
+    for (session, given) in EVENTS {
+        let Some(seat) = seats.get_mut(session) else {
+            return Err("a session without a seat".into());
+        };
+        do_one(engine, seat, given)?;
     }
     Ok(seats)
 }

@@ -19,15 +19,38 @@ fn event_sign(event: Event) -> u64 {
     }
 }
 
-/// The first value of the first row, where that is an int.
-fn first_value(rows: &[Row]) -> u64 {
-    let Some(row) = rows.first() else {
-        return 0;
-    };
-    match row.values().first() {
-        Some(Value::Int(int)) => u64::from(int.unsigned_abs()),
-        _ => 0,
+/// The number of what stood before and of this.
+fn with(before: u64, next: u64) -> u64 {
+    before.wrapping_mul(1_000_003).wrapping_add(next)
+}
+
+fn with_text(before: u64, text: &[u8]) -> u64 {
+    let mut sign = with(before, text.len() as u64);
+    for byte in text {
+        sign = with(sign, u64::from(*byte));
     }
+    sign
+}
+
+fn with_value(before: u64, value: &Value) -> u64 {
+    match value {
+        Value::Null => with(before, 1),
+        Value::Int(int) => with(with(before, 2), u64::from(int.unsigned_abs())),
+        Value::Big(int) => with(with(before, 3), int.unsigned_abs()),
+        Value::Text(text) => with_text(with(before, 4), text.as_str().as_bytes()),
+        Value::Bool(is) => with(with(before, 5), u64::from(*is)),
+    }
+}
+
+/// Each value of each row, in order.
+fn with_rows(before: u64, rows: &[Row]) -> u64 {
+    let mut sign = with(before, rows.len() as u64);
+    for row in rows {
+        for value in row.values() {
+            sign = with_value(sign, value);
+        }
+    }
+    sign
 }
 
 fn reply_sign(reply: &Reply<'_>) -> u64 {
@@ -37,18 +60,14 @@ fn reply_sign(reply: &Reply<'_>) -> u64 {
         Outcome::Waits => 3,
         Outcome::Failed(_) => 4,
         Outcome::Left => 5,
-        Outcome::Rows(set) => first_value(set.rows()).wrapping_add(6),
+        Outcome::Rows(set) => with_rows(with(6, set.titles().len() as u64), set.rows()),
     };
-    outcome.wrapping_mul(2).wrapping_add(u64::from(reply.ended))
+    with(outcome, u64::from(reply.ended))
 }
 
 /// The number of what happened before and of this event with its reply.
 pub fn sign_of(before: u64, event: Event, reply: &Reply<'_>) -> u64 {
-    before
-        .wrapping_mul(1_000_003)
-        .wrapping_add(event_sign(event))
-        .wrapping_mul(1_000_003)
-        .wrapping_add(reply_sign(reply))
+    with(with(before, event_sign(event)), reply_sign(reply))
 }
 
 /// The number of these events with their replies.

@@ -1,4 +1,4 @@
--- Keys of rows: PostgreSQL's manual, 5.5.3, "Unique Constraints".
+-- To be believed. Keys of rows: PostgreSQL's manual, 5.5.3, "Unique Constraints".
 use Rattle.std.specs.Prelude.{ℕ, Bool, false, List, [], Option}
 use Rattle.std.specs.Option.{option_map_or}
 use Rattle.std.specs.Ordering.{is_eq, is_some_and}

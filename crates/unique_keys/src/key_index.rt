@@ -1,12 +1,12 @@
 //! The index of unique keys.
-ghost use Rattle.std.specs.Prelude.{◌≡◌, ◌<◌, ◌^◌, List, [], ◌∷◌, ◌++◌, not, length, OnOk, OnErr, IfOk};
+ghost use Rattle.std.specs.Prelude.{◌≡◌, ◌<◌, ◌^◌, ℕ, List, [], ◌∷◌, ◌++◌, not, length, OnOk, OnErr, IfOk};
 ghost use Rattle.std.specs.Option.{option_copied};
 ghost use Rattle.row_versions.specs.Log.{Content, IsOpen};
 ghost use Rattle.unique_keys.specs.Members.{EachOnce};
 ghost use Rattle.row_versions.specs.Members.{is_none_of};
 ghost use Rattle.unique_keys.specs.Keys.{columns_of_key};
 ghost use Rattle.unique_keys.specs.Writes.{IsUpToDate, notes_without};
-ghost use Rattle.unique_keys.specs.Checks.{FindsKeys, NamesBlockers, key_blockers, found_of, key_found};
+ghost use Rattle.unique_keys.specs.Checks.{FindsKeys, FreeBefore, KeyIsHeld, NamesBlockers, key_blockers, is_taken, found_of, key_found};
 
 use crate::blocking::{blockers, is_blocked};
 use crate::keys::{Check, TableKeys};
@@ -148,6 +148,7 @@ impl KeyIndex {
         ensures found { IfOk result (λ f. IsUpToDate self.now (V.content store.now) → IsOpen (V.content store.now) tx
             → key_found (V.content store.now) table tx except asked.now columns.now ≡ found_of f) }
         ensures named { IfOk result (λ f. IsUpToDate self.now (V.content store.now) → NamesBlockers (key_blockers (V.content store.now) table tx asked.now columns.now) f) }
+        ensures memory { OnErr result (IsUpToDate self.now (V.content store.now) → key_found (V.content store.now) table tx except asked.now columns.now ≡ KeyIsHeld) }
     {
         if self.is_held(store, table, columns, asked, tx) {
             let by = self.blockers(store, table, columns, asked, tx)?;
@@ -161,6 +162,8 @@ impl KeyIndex {
     }
 
     /// What is found of a row's keys, where the transaction is about to write these values in place of that row, or as a new one.
+    /// The transaction is open: one that was rolled back still has its writes in the log, and none in the index.
+    /// It takes memory only where the first key that isn't free is held.
     pub fn check<V: Versions>(
         &self,
         store: &V,
@@ -170,8 +173,12 @@ impl KeyIndex {
         except: Option<RowId>,
     ) -> Result<Check, AllocError>
         requires { length keys.now.keys < 2 ^ 32 }
-        ensures { IfOk result (λ check. IsUpToDate self.now (V.content store.now) → IsOpen (V.content store.now) tx
+        ensures found { IfOk result (λ check. IsUpToDate self.now (V.content store.now) → IsOpen (V.content store.now) tx
             → FindsKeys (V.content store.now) keys.now values.now tx except check) }
+        ensures memory { OnErr result (IsUpToDate self.now (V.content store.now) → IsOpen (V.content store.now) tx
+            → (key : ℕ) × (key < length keys.now.keys)
+            × FreeBefore (key_blockers (V.content store.now) keys.now.table tx values.now) (is_taken (V.content store.now) keys.now.table tx except values.now) keys.now key
+            × (key_found (V.content store.now) keys.now.table tx except values.now (columns_of_key keys.now key) ≡ KeyIsHeld)) }
     {
         let all = keys.keys.as_slice();
         for key in 0..all.len() {
@@ -190,7 +197,7 @@ impl KeyIndex {
         Ok(Check::Free)
     }
 
-    /// The transactions that the key of that number waits for, each once.
+    /// The transactions that the key of that number waits for, each once: also for one that isn't open.
     pub fn holders<V: Versions>(
         &self,
         store: &V,
@@ -199,7 +206,7 @@ impl KeyIndex {
         values: &Row,
         tx: TxId,
     ) -> Result<SmallVec<TxId, 4>, AllocError>
-        ensures { IfOk result (λ by. IsUpToDate self.now (V.content store.now) → IsOpen (V.content store.now) tx
+        ensures { IfOk result (λ by. IsUpToDate self.now (V.content store.now)
             → EachOnce (key_blockers (V.content store.now) keys.now.table tx values.now (columns_of_key keys.now key)) by.items) }
     {
         let columns = columns_at(keys, key as usize);

@@ -17,7 +17,8 @@ use Rattle.update_recheck.specs.Outcome.{Version, Outcome, row_blockers, stop, v
 use Rattle.update_recheck.specs.Outcome as by_stop
 use Rattle.update_recheck.specs.Outcome.Version.{Same, Gone, Newer}
 use Rattle.update_recheck.specs.Outcome.Outcome.{Takes, Waits, Deadlocks}
-use Rattle.update_recheck.specs.Inner.Cases.{Holders, outcome, is_locked, holders}
+use Rattle.update_recheck.specs.Settling.{asks_for_memory}
+use Rattle.update_recheck.specs.Inner.Cases.{Holders, outcome, is_locked, is_looked_at, holders}
 use Rattle.update_recheck.specs.Inner.Cases.Holders.{Nobody, Others, OthersInACycle}
 use Rattle.update_recheck.specs.Inner.Stopping.{holders_stop, version_of}
 
@@ -114,3 +115,33 @@ locked_is c held waits ask =
     ap takes (outcome_is c held waits (bare ask))
     ∙ ap (λ v. takes (outcome ask.level ask.seen (holders held waits ask) v)) (passed_of c ask (newest_of c ask.seen.row ask.tx))
     ∙ locked_by ask.level ask.seen (holders held waits ask) (newest_version c ask)
+
+abbrev asks : Outcome → Bool
+asks o = elim o [ Takes seen ↦ true | Waits ↦ true | Deadlocks ↦ true | other ↦ false ]
+
+asked_by : (level : Level) (found : Seen) (h : Holders) (v : Version) → asks (outcome level found h (passed v)) ≡ is_looked_at level h v
+asked_by ReadCommitted found OthersInACycle Same = refl
+asked_by ReadCommitted found OthersInACycle Gone = refl
+asked_by ReadCommitted found OthersInACycle (Newer m r) = refl
+asked_by ReadCommitted found Others Same = refl
+asked_by ReadCommitted found Others Gone = refl
+asked_by ReadCommitted found Others (Newer m r) = refl
+asked_by ReadCommitted found Nobody Same = refl
+asked_by ReadCommitted found Nobody Gone = refl
+asked_by ReadCommitted found Nobody (Newer m r) = refl
+asked_by RepeatableRead found Nobody Same = refl
+asked_by RepeatableRead found Others Same = refl
+asked_by RepeatableRead found OthersInACycle Same = refl
+asked_by RepeatableRead found Nobody Gone = refl
+asked_by RepeatableRead found Others Gone = refl
+asked_by RepeatableRead found OthersInACycle Gone = refl
+asked_by RepeatableRead found Nobody (Newer m r) = refl
+asked_by RepeatableRead found Others (Newer m r) = refl
+asked_by RepeatableRead found OthersInACycle (Newer m r) = refl
+
+-- where memory is asked for, by who holds the target and by its newest version
+pub memory_is : (c : Content) (held : List Held) (waits : List Waiting) (ask : Asked) → asks_for_memory c held waits ask ≡ is_looked_at ask.level (holders held waits ask) (newest_version c ask)
+memory_is c held waits ask =
+    ap asks (outcome_is c held waits (bare ask))
+    ∙ ap (λ v. asks (outcome ask.level ask.seen (holders held waits ask) v)) (passed_of c ask (newest_of c ask.seen.row ask.tx))
+    ∙ asked_by ask.level ask.seen (holders held waits ask) (newest_version c ask)

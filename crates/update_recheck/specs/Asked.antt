@@ -1,4 +1,4 @@
--- What is asked of one target row.
+-- To be believed. What is asked of one target row.
 use Rattle.std.specs.Prelude.{◌≡◌, List, Option, Some, length, option_map}
 use Rattle.sql_trees.specs.declared.stmt.Level.{Level}
 use Rattle.sql_trees.specs.Trees.{Tree, tree_of}

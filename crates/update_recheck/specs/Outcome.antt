@@ -1,4 +1,4 @@
--- What becomes of one target row, at each level (PostgreSQL manual, 13.2.1 and 13.2.2).
+-- To be believed. What becomes of one target row, at each level (PostgreSQL manual, 13.2.1 and 13.2.2).
 use Rattle.std.specs.Prelude.{◌==◌, Bool, true, false, List, Option, Some, None, unwrap_or, Result, Ok, Err, if◌then◌else◌}
 use Rattle.std.specs.Option.{option_map_or}
 use Rattle.sql_trees.specs.declared.stmt.Level.{Level}

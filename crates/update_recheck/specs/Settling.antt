@@ -1,13 +1,15 @@
 -- What `settle` answers, and the locks after it.
-use Rattle.std.specs.Prelude.{◌≡◌, Bool, true, false, List, if◌then◌else◌}
+use Rattle.std.specs.Prelude.{◌≡◌, Bool, true, false, List, None, if◌then◌else◌}
 use Rattle.row_versions.specs.declared.names.TxId.{TxId}
+use Rattle.row_versions.specs.Log.{Content}
 use Rattle.row_locks.specs.declared.held.Held.{Held}
 use Rattle.row_versions.specs.Members.{has, is_distinct}
 use Rattle.row_locks.specs.Held.{IsTaken, with_lock}
+use Rattle.row_locks.specs.Waiting.{Waiting}
 use Rattle.update_recheck.specs.declared.ask.Settled.{Settled}
 use Rattle.update_recheck.specs.declared.ask.Settled.TheVariants.{Take, Skip, Wait, Deadlock, Serialize, Fault}
 use Rattle.update_recheck.specs.Asked.{Asked}
-use Rattle.update_recheck.specs.Outcome.{Outcome}
+use Rattle.update_recheck.specs.Outcome.{Outcome, target_outcome}
 use Rattle.update_recheck.specs.Outcome.Outcome.{Takes, Skips, Waits, Deadlocks, Serializes, Faults}
 
 -- the outcome that an answer names
@@ -44,3 +46,7 @@ LocksAfter false old lock new = new ≡ old
 -- the same as a list: the lock stands last
 abbrev pub locks_after : Bool → List Held → Held → List Held
 locks_after taken held lock = if taken then with_lock held lock else held
+
+-- memory is asked for to find who holds the row and to lock it: not where a row that is gone is passed over, nor where it can't be serialized
+abbrev pub asks_for_memory : Content → List Held → List Waiting → Asked → Bool
+asks_for_memory c held waits ask = elim (target_outcome c held waits (record ask { condition = None })) [ Takes seen ↦ true | Waits ↦ true | Deadlocks ↦ true | other ↦ false ]

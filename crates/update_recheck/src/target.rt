@@ -1,5 +1,5 @@
 //! Settling one target row.
-ghost use Rattle.std.specs.Prelude.{◌≡◌, List, length, IfOk, IfSome, OnOk, OnErr, option_map};
+ghost use Rattle.std.specs.Prelude.{◌≡◌, ◌≢◌, List, length, true, Err, IfOk, IfSome, OnOk, OnErr, option_map};
 ghost use Rattle.sql_values.specs.Expressions.{passes};
 ghost use Rattle.row_versions.specs.declared.names.TxId.{TxId};
 ghost use Rattle.row_locks.specs.Held.{IsTaken, with_lock};
@@ -7,8 +7,8 @@ ghost use Rattle.row_versions.specs.Members.{is_none_of};
 ghost use Rattle.row_locks.specs.Cycles.{closes};
 ghost use Rattle.update_recheck.specs.Asked.{Fits, asked};
 ghost use Rattle.update_recheck.specs.Outcome.{row_blockers, is_target_locked, target_outcome};
-ghost use Rattle.update_recheck.specs.Inner.Cases.{holders, is_locked, outcome, rechecked};
-ghost use Rattle.update_recheck.specs.Settling.{LocksAfter, locks_after, SameMembers, WaitsFor, lock_of, outcome_of};
+ghost use Rattle.update_recheck.specs.Inner.Cases.{holders, is_held, is_locked, is_looked_at, outcome, rechecked};
+ghost use Rattle.update_recheck.specs.Settling.{LocksAfter, locks_after, SameMembers, WaitsFor, asks_for_memory, lock_of, outcome_of};
 ghost use Rattle.update_recheck.specs.Inner.Stopping.{holders_stop};
 ghost use Rattle.update_recheck.specs.Inner.Found.{told, NewestIsWhole};
 
@@ -23,7 +23,7 @@ use std::alloc::{AllocError, Global};
 
 /// Settles one target. Where the row is locked, that lock is taken and no other; the condition is evaluated before, so
 /// that want of memory leaves the locks as they were. A fault of the condition leaves the row locked.
-#[tactic(auto, using(crate::proofs::Cases::outcome_is, crate::proofs::Cases::locked_is))]
+#[tactic(auto, using(crate::proofs::Cases::outcome_is, crate::proofs::Cases::locked_is, crate::proofs::Cases::memory_is))]
 pub fn settle<'t, V: Versions>(
     alloc: Global,
     store: &V,
@@ -37,6 +37,7 @@ pub fn settle<'t, V: Versions>(
     ensures locks { OnOk result (LocksAfter (is_target_locked (V.content store.now) locks.old waits.now (asked ask.now)) locks.old (lock_of (asked ask.now)) locks.new) }
     ensures last { OnOk result (locks.new ≡ locks_after (is_target_locked (V.content store.now) locks.old waits.now (asked ask.now)) locks.old (lock_of (asked ask.now))) }
     ensures err { OnErr result (locks.new ≡ locks.old) }
+    ensures memory { OnErr result (asks_for_memory (V.content store.now) locks.old waits.now (asked ask.now) ≡ true) }
 {
     let newest = newest_version(store, ask);
     match ask.level {
@@ -59,6 +60,7 @@ fn settle_read_committed<'t>(
     ensures locks { OnOk result (LocksAfter (is_locked Level.ReadCommitted (holders locks.old waits.now (asked ask.now)) (told (asked ask.now) newest.entry)) locks.old (lock_of (asked ask.now)) locks.new) }
     ensures last { OnOk result (locks.new ≡ locks_after (is_locked Level.ReadCommitted (holders locks.old waits.now (asked ask.now)) (told (asked ask.now) newest.entry)) locks.old (lock_of (asked ask.now))) }
     ensures err { OnErr result (locks.new ≡ locks.old) }
+    ensures memory { OnErr result (is_looked_at Level.ReadCommitted (holders locks.old waits.now (asked ask.now)) (told (asked ask.now) newest.entry) ≡ true) }
 {
     if let Some(stop) = stopped(locks, waits, ask)? {
         return Ok(stop);
@@ -85,6 +87,7 @@ fn settle_repeatable_read<'t>(
     ensures locks { OnOk result (LocksAfter (is_locked Level.RepeatableRead (holders locks.old waits.now (asked ask.now)) (told (asked ask.now) newest.entry)) locks.old (lock_of (asked ask.now)) locks.new) }
     ensures last { OnOk result (locks.new ≡ locks_after (is_locked Level.RepeatableRead (holders locks.old waits.now (asked ask.now)) (told (asked ask.now) newest.entry)) locks.old (lock_of (asked ask.now))) }
     ensures err { OnErr result (locks.new ≡ locks.old) }
+    ensures memory { OnErr result (is_looked_at Level.RepeatableRead (holders locks.old waits.now (asked ask.now)) (told (asked ask.now) newest.entry) ≡ true) }
 {
     match newest {
         Newest::Same => {}
@@ -104,6 +107,7 @@ fn stopped<'t>(
 ) -> Result<Option<Settled<'t>>, AllocError>
     ensures stop { IfOk result (λ stop. option_map outcome_of stop ≡ holders_stop (holders locks.now waits.now (asked ask.now))) }
     ensures blockers { IfOk result (λ stop. IfSome stop (λ s. WaitsFor (row_blockers locks.now (asked ask.now)) s)) }
+    ensures memory { OnErr result (is_held (holders locks.now waits.now (asked ask.now)) ≡ true) }
 {
     let found = locks.against(ask.seen.row, ask.tx, ask.strength)?;
     if is_nobody(&found) {
@@ -130,6 +134,24 @@ fn is_deadlock(waits: &Waits, tx: TxId, found: &SmallVec<TxId, 4>) -> Result<boo
     Ok(fails)
 }
 
+/// What comes of a newer version by what WHERE says of it. Want of memory is told exactly where evaluating it was refused memory.
+fn rechecked<'t>(
+    newer: Seen,
+    passed: Result<bool, ValueFault<'t>>,
+) -> Result<Settled<'t>, AllocError>
+    ensures outcome { IfOk result (λ s. outcome_of s ≡ rechecked newer passed.entry) }
+    ensures blockers { IfOk result (λ s. (others : List TxId) → WaitsFor others s) }
+    ensures fault { IfOk result (λ s. passed.entry ≢ Err ValueFault.Memory) }
+    ensures memory { OnErr result (passed.entry ≡ Err ValueFault.Memory) }
+{
+    match passed {
+        Ok(true) => Ok(Settled::Take(newer)),
+        Ok(false) => Ok(Settled::Skip),
+        Err(ValueFault::Memory) => Err(AllocError),
+        Err(fault) => Ok(Settled::Fault(fault)),
+    }
+}
+
 /// What comes of a newer version: WHERE is evaluated again.
 fn recheck<'t>(
     alloc: Global,
@@ -141,12 +163,7 @@ fn recheck<'t>(
     ensures outcome { IfOk result (λ s. outcome_of s ≡ rechecked newer (passes (asked ask.now).condition (asked ask.now).cols row.now)) }
     ensures blockers { IfOk result (λ s. (others : List TxId) → WaitsFor others s) }
 {
-    match passes(alloc, ask.filter, ask.cols, row) {
-        Ok(true) => Ok(Settled::Take(newer)),
-        Ok(false) => Ok(Settled::Skip),
-        Err(ValueFault::Memory) => Err(AllocError),
-        Err(fault) => Ok(Settled::Fault(fault)),
-    }
+    rechecked(newer, passes(alloc, ask.filter, ask.cols, row))
 }
 
 /// Locks the row, and answers this.

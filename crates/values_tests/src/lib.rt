@@ -3,9 +3,13 @@
 #![tactic(auto)]
 
 #[cfg(test)]
+mod example;
+#[cfg(test)]
 mod expressions;
 #[cfg(test)]
 mod keys;
+#[cfg(test)]
+mod sizes;
 #[cfg(test)]
 mod sorting;
 #[cfg(test)]

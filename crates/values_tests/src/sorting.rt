@@ -12,7 +12,12 @@ fn are_as_long(rows: &[Row], long: usize) -> bool
     rows.iter().all(|row| row.values().len() == long)
 }
 
-fn is_order(alloc: Global, keys: &[Row], by: &[Dir], wanted: &[usize]) -> Result<bool, AllocError> {
+pub(crate) fn is_order(
+    alloc: Global,
+    keys: &[Row],
+    by: &[Dir],
+    wanted: &[usize],
+) -> Result<bool, AllocError> {
     if !are_as_long(keys, by.len()) {
         return Ok(false);
     }
@@ -24,7 +29,7 @@ fn is_order(alloc: Global, keys: &[Row], by: &[Dir], wanted: &[usize]) -> Result
     }
 }
 
-const ASCENDING: Dir = Dir {
+pub(crate) const ASCENDING: Dir = Dir {
     desc: false,
     nulls_first: false,
 };

@@ -37,7 +37,12 @@ fn gives(alloc: Global, agg: &Agg<'_>, rows: &[&Row], words: &str) -> Result<boo
     is_answer(aggregate(alloc, agg, &cols, rows), words)
 }
 
-fn gives_of(alloc: Global, agg: &Agg<'_>, rows: &[Row], words: &str) -> Result<bool, AllocError> {
+pub(crate) fn gives_of(
+    alloc: Global,
+    agg: &Agg<'_>,
+    rows: &[Row],
+    words: &str,
+) -> Result<bool, AllocError> {
     let lent = lent(alloc, rows)?;
     gives(alloc, agg, &lent, words)
 }

@@ -295,7 +295,7 @@ begun_next blocks mode m event n old h =
 no_session : (s : Session) → None ≡ Some s → ⊥
 no_session s h = cc
 
-rest_is : (count i : ℕ) (s : Session) → slice_get (replicate count at_rest) i ≡ Some s → s ≡ at_rest
+pub rest_is : (count i : ℕ) (s : Session) → slice_get (replicate count at_rest) i ≡ Some s → s ≡ at_rest
 rest_is zero i s h = absurd (no_session s h)
 rest_is (suc count) zero s h = sym (same_session at_rest s h)
 rest_is (suc count) (suc i) s h = rest_is count i s h

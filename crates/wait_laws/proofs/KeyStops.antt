@@ -1,7 +1,9 @@
 -- When a key stops a statement, and how.
 use Rattle.std.proofs.Common.{◌≡◌, ◌≢◌, ◌↔◌, refl, sym, ◌∙◌, subst, Bool, true, false, ℕ, List, [], ◌∷◌}
 use Rattle.std.specs.Prelude.{Option, Some, None, if◌then◌else◌}
-use Rattle.sql_trees.specs.Statements.{key_name}
+use Rattle.sql_trees.specs.Statements.{KeyTree, key_name}
+use Rattle.sql_values.specs.declared.value.Value.{Value}
+use Rattle.row_versions.specs.declared.names.RowId.{RowId}
 use Rattle.row_versions.specs.declared.names.TxId.{TxId}
 use Rattle.row_versions.specs.Members.{has}
 use Rattle.row_locks.specs.Cycles.{blocks, Closes, closes}
@@ -12,7 +14,8 @@ use Rattle.session_machine.specs.declared.session.Request.TheVariants.{Key}
 use Rattle.session_machine.specs.declared.fault.StmtFault.TheVariants.{Deadlock, KeyTaken}
 use Rattle.session_machine.specs.Waits.{waits_in}
 use Rattle.session_machine.specs.Walks.{Stop, Blocked, Fails}
-use Rattle.session_machine.specs.Rows.{columns_in}
+use Rattle.session_machine.specs.Tables.{Database}
+use Rattle.session_machine.specs.Rows.{Work, columns_in, stop_at_key}
 use Rattle.session_machine.specs.Targets.{asked_key, names_at}
 use Rattle.session_machine.specs.Inner.Pieces.{stop_by}
 use Rattle.session_machine.proofs.Piecewise.{stops_by}
@@ -58,6 +61,33 @@ some_close edge tx bs h e = never (subst (λ ys. has ys h.0 ≡ true) e h.1) whe
   never : false ≡ true → ⊥
   never k = cc
 
+-- what stops a statement at a key, by who holds it and whether another row has it
+stops_so : (db : Database) (w : Work) (name : List ℕ) (values : List Value) (except : Option RowId) (key : KeyTree)
+    → stop_at_key db w name values except key
+    ≡ stop_found (Key (asked_key w values key)) (key_name name key.primary (names_at (columns_in db w) key.columns))
+    (closes (waits_in db w.around.sessions) w.t.tx (key_holders db w values key)) (found_by (key_holders db w values key) (has_another db w values except key))
+stops_so db w name values except key = stops_by db w name values except key ∙ by (found_by (key_holders db w values key) (has_another db w values except key)) where
+  by : (found : KeyFound)
+      → stop_by db w name values key found
+      ≡ stop_found (Key (asked_key w values key)) (key_name name key.primary (names_at (columns_in db w) key.columns))
+      (closes (waits_in db w.around.sessions) w.t.tx (key_holders db w values key)) found
+  by KeyIsFree = refl
+  by KeyIsTaken = refl
+  by KeyIsHeld = refl
+
+-- who waits at a key waits for that key
+pub waits_for_it : (db : Database) (w : Work) (name : List ℕ) (values : List Value) (except : Option RowId) (key : KeyTree) (r : Request)
+    → stop_at_key db w name values except key ≡ Some (Blocked r) → Key (asked_key w values key) ≡ r
+waits_for_it db w name values except key r h = by _ _ _ (sym (stops_so db w name values except key) ∙ h) where
+  asked : Request
+  asked = Key (asked_key w values key)
+
+  by : (fault : List ℕ) (closing : Bool) (found : KeyFound) → stop_found asked fault closing found ≡ Some (Blocked r) → asked ≡ r
+  by fault closing KeyIsFree k = cc
+  by fault closing KeyIsTaken k = cc
+  by fault true KeyIsHeld k = cc
+  by fault false KeyIsHeld k = cc
+
 pub key_is_exact : KeyIsExact
 key_is_exact db w name values except key =
     let bs = key_holders db w values key in
@@ -67,7 +97,7 @@ key_is_exact db w name values except key =
     let r : Request = Key (asked_key w values key) in
     let fault = key_name name key.primary (names_at (columns_in db w) key.columns) in
     let says = closes_says list w.t.tx bs in
-    let same = stops_by db w name values except key ∙ by (found_by bs taken) in
+    let same = stops_so db w name values except key in
     let d = by_deadlock r fault bs closing taken in
     let k = by_wait r fault bs closing taken in
     let t = by_taken r fault bs closing taken in
@@ -80,11 +110,4 @@ key_is_exact db w name values except key =
       );
       taken = (λ h. t.0 (sym same ∙ h), λ h. same ∙ t.1 h);
       free = (λ h. f.0 (sym same ∙ h), λ h. same ∙ f.1 h);
-    } where
-      by : (found : KeyFound)
-          → stop_by db w name values key found
-          ≡ stop_found (Key (asked_key w values key)) (key_name name key.primary (names_at (columns_in db w) key.columns))
-          (closes (waits_in db w.around.sessions) w.t.tx (key_holders db w values key)) found
-      by KeyIsFree = refl
-      by KeyIsTaken = refl
-      by KeyIsHeld = refl
+    }

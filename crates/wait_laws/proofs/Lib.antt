@@ -16,4 +16,8 @@ pub mod Begun
 pub mod Turns
 pub mod Again
 pub mod KeyStops
+pub mod Beginning
 pub mod Resumed
+pub mod Stops
+pub mod Answering
+pub mod Told

@@ -1,5 +1,5 @@
 -- A statement that waits is the one that was begun, and what it finds stays, whatever it wrote itself.
-use Rattle.std.proofs.Common.{◌≡◌, refl, sym, ◌∙◌, ap, subst, inl, inr, ⊎_elim, Bool, true, false, ℕ, ◌≤◌, List, [], ◌∷◌, length, set, arith}
+use Rattle.std.proofs.Common.{◌≡◌, refl, sym, ◌∙◌, ap, subst, inl, inr, ⊎_elim, Bool, true, false, ℕ, ◌+◌, ◌≤◌, List, [], ◌∷◌, ◌++◌, append_assoc, append-nil, length, set, arith}
 use Rattle.std.specs.Prelude.{ℤ, Option, Some, None, slice_get, unwrap_or, Result, Ok, Err, if◌then◌else◌}
 use Rattle.std.proofs.lemmas.Bool.{cases_eq}
 use Rattle.std.proofs.lemmas.Option.{slice_get_within}
@@ -9,6 +9,7 @@ use Rattle.sql_trees.specs.Statements.{StmtTree, CreateTree, SelectTree, Inserts
 use Rattle.sql_values.specs.declared.fault.ValueFault.{ValueFault}
 use Rattle.query_results.specs.Results.{Results}
 use Rattle.query_results.specs.Queries.{result_of, select_exprs, undefined_among, wrong_position}
+use Rattle.row_versions.specs.declared.names.TableId.{TableId}
 use Rattle.row_versions.specs.declared.names.TxId.{TxId}
 use Rattle.row_versions.specs.declared.write.View.{View}
 use Rattle.row_versions.specs.Log.{Content}
@@ -22,7 +23,8 @@ use Rattle.session_machine.specs.declared.event.Event.TheVariants.{Launch, Step,
 use Rattle.session_machine.specs.declared.event.Mode.{Mode}
 use Rattle.session_machine.specs.declared.reply.HistItem.{HistItem}
 use Rattle.session_machine.specs.declared.fault.Refusal.TheVariants.{Busy, NotYourTurn, BlockNotAllowed}
-use Rattle.session_machine.specs.Tables.{Database, find_table}
+use Rattle.session_machine.specs.Tables.{Database, Table, find_table}
+use Rattle.session_machine.specs.Engine.{Follows}
 use Rattle.session_machine.specs.Transactions.{view_of}
 use Rattle.session_machine.specs.Statements.{Surroundings, Effect, level_set}
 use Rattle.session_machine.specs.Rows.{Work, columns_in, cols_in}
@@ -31,16 +33,17 @@ use Rattle.session_machine.specs.Inner.Statements.{answered, beginning, run_on, 
 use Rattle.session_machine.specs.Inner.Pieces.{drop_ended, lock_again, select_found, dropped}
 use Rattle.session_machine.proofs.Piecewise.{drops_by}
 use Rattle.session_machine.proofs.ByKind.{runs_by_kind}
-use Rattle.session_machine.specs.Machine.{Machine, Blocks, Next, next, stmts_of, at_rest, session_of}
+use Rattle.session_machine.specs.Machine.{Machine, Blocks, Next, next, opening, stmts_of, at_rest, session_of, Run}
 use Rattle.session_machine.specs.Inner.Steps.{launch_of, step_of, leave_of, around, first_place}
 use Rattle.session_machine.specs.Sound.{command_in}
-use Rattle.wait_laws.specs.Laws.{GoesOnInItsView, IsAtWork, IsInViewOf, RunAtWork, StatementsStayAsBegun, transaction_at, view_at}
+use Rattle.wait_laws.specs.Laws.{BeganAt, GoesOnInItsView, IsAsBegun, IsAtWork, IsInViewOf, Reaches, RunAtWork, StatementsStayAsBegun, stmt_at, table_at, transaction_at, view_at}
 use Rattle.wait_laws.proofs.ByKind.{on_kind}
 use Rattle.wait_laws.proofs.Doing.{Keeps, doer, Allows, does_stmt}
-use Rattle.wait_laws.proofs.Events.{ok_is, ok_else, stepped, after}
+use Rattle.wait_laws.proofs.Beginning.{begins_there, is_there}
+use Rattle.wait_laws.proofs.Events.{ok_is, ok_else, session_there, stepped, after}
 use Rattle.session_laws.proofs.Staying.{stays_here, stays_on, count-begin}
 use Rattle.wait_laws.proofs.Again.{statements_go_on_in_their_view}
-use Rattle.wait_laws.proofs.Begun.{IsBegun, IsOwn, IsSame, begun_next, begun_there, did_next, finds, others_stay, same_next, same_to_others}
+use Rattle.wait_laws.proofs.Begun.{IsBegun, IsOwn, IsSame, begun_next, begun_there, did_next, finds, others_stay, rest_is, same_next, same_to_others}
 use Rattle.session_laws.proofs.Lists.{slice_get-set_same}
 
 none_not : (p : Progress) → None ≡ Some p → ⊥
@@ -171,10 +174,11 @@ waits_at db tr (Some g) around q stmt is_open h =
     }
 
 -- a session that is in the middle of a statement after an event of its own has made a step of it
-record StepsOn (m : Machine) (s u : Session) (q : Progress) : Type 0 where
+record StepsOn (given : Blocks) (m : Machine) (s u : Session) (q : Progress) : Type 0 where
   place : u.place ≡ s.place
   around : Surroundings
   stmt : StmtTree
+  tree : stmt_at given s.place ≡ Some stmt
   is : (run_stmt m.db s.transaction s.statement around stmt).statement ≡ Some q
 
 -- the one session that changed
@@ -182,7 +186,7 @@ changed : (ss : List Session) (i : ℕ) (s u v : Session) → slice_get ss i ≡
 changed ss i s u v at h = same_session v u (sym h ∙ slice_get-set_same ss i u (slice_get_within ss i s at))
 
 steps_on : (blocks : Blocks) (mode : Mode) (m : Machine) (event : Event) (s : Session) (n : Next) → slice_get m.sessions (session_of event) ≡ Some s → next blocks mode m event ≡ Ok n
-    → (u : Session) (q : Progress) → slice_get n.machine.sessions (session_of event) ≡ Some u → u.statement ≡ Some q → StepsOn m s u q
+    → (u : Session) (q : Progress) → slice_get n.machine.sessions (session_of event) ≡ Some u → u.statement ≡ Some q → StepsOn blocks m s u q
 steps_on blocks mode m (Launch i block) s n at h u q there is =
     let a = ok_else BlockNotAllowed _ _ n (subst (λ o. launch_of blocks mode m i block o ≡ Ok n) at h) in
     let b = ok_else Busy _ _ n a.1 in
@@ -206,21 +210,31 @@ steps_on blocks mode m (Step i) s n at h u q there is =
       place = ap (λ (y : Session). y.place) same ∙ (a.stays q waits ∙ sym k.there);
       around = around m i s;
       stmt = k.stmt;
+      tree = ap (stmt_at blocks) k.there ∙ k.found;
       is = elim a.how [
         | inl w ↦ elim w.2 [ inl g ↦ sym g ∙ waits | inr g ↦ absurd (none_not q (sym g ∙ waits)) ]
         | inr w ↦ absurd (none_not q (sym w.4 ∙ waits))
       ];
     }
 
+-- a statement that begins: its tree, and the table that its name means, which is there
+record Begins (given : Blocks) (m : Machine) (s : Session) (q : Progress) : Type 0 where
+  stmt : StmtTree
+  tree : stmt_at given s.place ≡ Some stmt
+  table : table_at m.db s.transaction None stmt ≡ Some q.table.0
+  made : Table
+  there : slice_get m.db.catalog.tables q.table.0 ≡ Some made
+
 -- what became of a session's statement since a state
-record Goes (m e : Machine) (s u : Session) (q : Progress) : Type 0 where
+record Goes (given : Blocks) (m e : Machine) (s u : Session) (q : Progress) : Type 0 where
   place : u.place ≡ s.place
   waits : Waits m.db.content s.transaction s.statement q
   same : IsSame q.view m.db e.db
+  begins : s.statement ≡ None → Begins given m s q
 
 -- where nothing was done
-stays_there : (m e : Machine) (s u : Session) (q : Progress) → u ≡ s → u.statement ≡ Some q → IsSame q.view m.db e.db → Goes m e s u q
-stays_there m e s u q is at same =
+stays_there : (given : Blocks) (m e : Machine) (s u : Session) (q : Progress) → u ≡ s → u.statement ≡ Some q → IsSame q.view m.db e.db → Goes given m e s u q
+stays_there given m e s u q is at same =
     let here : s.statement ≡ Some q = ap (λ (y : Session). y.statement) (sym is) ∙ at in
     record {
       place = ap (λ (y : Session). y.place) is;
@@ -229,18 +243,19 @@ stays_there m e s u q is at same =
         goes_on = λ p f. let one : q ≡ p = same_progress q p (sym here ∙ f) in subst (λ (y : Progress). (q.table ≡ y.table) × (y.place ≤ q.place)) one (refl, omega arith);
       };
       same = same;
+      begins = λ idle. absurd (none_not q (sym idle ∙ here));
     }
 
 goes_next : (blocks : Blocks) (mode : Mode) (m : Machine) (k : ℕ) (s : Session) (event : Event) (n : Next) (u : Session) (q : Progress) → IsBegun m → slice_get m.sessions k ≡ Some s
-    → next blocks mode m event ≡ Ok n → IsAtWork n.machine k u q → Goes m n.machine s u q
+    → next blocks mode m event ≡ Ok n → IsAtWork n.machine k u q → Goes blocks m n.machine s u q
 goes_next blocks mode m k s event n u q old at h work = ⊎_elim its others (cases_eq (session_of event) k) where
-  others : (session_of event ≡ k → ⊥) → Goes m n.machine s u q
+  others : (session_of event ≡ k → ⊥) → Goes blocks m n.machine s u q
   others ne =
       let is : u ≡ s = same_session u s (sym work.0 ∙ (others_stay blocks mode m k event n old h ne ∙ at)) in
-      stays_there m n.machine s u q is work.1
+      stays_there blocks m n.machine s u q is work.1
       (same_to_others blocks mode m k s q event n old at (ap (λ (y : Session). y.statement) (sym is) ∙ work.1) h ne)
 
-  its : session_of event ≡ k → Goes m n.machine s u q
+  its : session_of event ≡ k → Goes blocks m n.machine s u q
   its e =
       let there : slice_get m.sessions (session_of event) ≡ Some s = ap (slice_get m.sessions) e ∙ at in
       let now : slice_get n.machine.sessions (session_of event) ≡ Some u = ap (slice_get n.machine.sessions) e ∙ work.0 in
@@ -256,11 +271,16 @@ goes_next blocks mode m k s event n u q old at h work = ⊎_elim its others (cas
         place = step.place;
         waits = waits_at m.db s.transaction s.statement step.around q step.stmt (λ p f. let v = old.views k s p at f in (v.0, v.1)) step.is;
         same = same_next q.view blocks mode m event s n old there (record { unseen = inr own.2; before = own.1 }) h;
+        begins = λ idle.
+            let table = begins_there m.db s.transaction step.around step.stmt q
+            (subst (λ (o : Option Progress). (run_stmt m.db s.transaction o step.around step.stmt).statement ≡ Some q) idle step.is) in
+            let found = is_there m.db s.transaction step.stmt q.table.0 table in
+            record { stmt = step.stmt; tree = step.tree; table = table; made = found.0; there = found.1 };
       }
 
 -- from one state to the next, and on
-goes_on : (m mid e : Machine) (s v u : Session) (p q : Progress) → v.statement ≡ Some p → Goes m mid s v p → Goes mid e v u q → Goes m e s u q
-goes_on m mid e s v u p q at first rest =
+goes_on : (given : Blocks) (m mid e : Machine) (s v u : Session) (p q : Progress) → v.statement ≡ Some p → Goes given m mid s v p → Goes given mid e v u q → Goes given m e s u q
+goes_on given m mid e s v u p q at first rest =
     let view : q.view ≡ p.view = rest.waits.view ∙ ap (view_at mid.db.content v.transaction) at in
     let on = rest.waits.goes_on p at in
     let before = subst (λ (y : View). IsSame y m.db mid.db) (sym view) first.same in
@@ -274,20 +294,141 @@ goes_on m mid e s v u p q at first rest =
         stays = stays_on q.view m.db.content mid.db.content e.db.content before.stays rest.same.stays;
         tables = λ k made there. rest.same.tables k made (before.tables k made there);
       };
+      begins = λ idle.
+          let b = first.begins idle in
+          let one : p.table.0 ≡ q.table.0 = ap (λ (k : TableId). k.0) (sym on.0) in
+          record { stmt = b.stmt; tree = b.tree; table = b.table ∙ ap Some one; made = b.made; there = ap (slice_get m.db.catalog.tables) (sym one) ∙ b.there };
     }
 
 goes_all : (blocks : Blocks) (mode : Mode) (k : ℕ) (items : List HistItem) (m e : Machine) (s u : Session) (q : Progress) → IsBegun m → slice_get m.sessions k ≡ Some s
-    → RunAtWork blocks mode k m items e → IsAtWork e k u q → Goes m e s u q
+    → RunAtWork blocks mode k m items e → IsAtWork e k u q → Goes blocks m e s u q
 goes_all blocks mode k [] m e s u q old at run work =
     let is : u ≡ s = same_session u s (sym work.0 ∙ (ap (λ (y : Machine). slice_get y.sessions k) run ∙ at)) in
-    subst (λ (y : Machine). Goes m y s u q) (sym run) (stays_there m m s u q is work.1 (record { stays = stays_here q.view m.db.content; tables = λ j made there. there }))
+    subst (λ (y : Machine). Goes blocks m y s u q) (sym run) (stays_there blocks m m s u q is work.1 (record { stays = stays_here q.view m.db.content; tables = λ j made there. there }))
 goes_all blocks mode k (item ∷ items) m e s u q old at run work =
     let mid = run.0 in
     let first = goes_next blocks mode m k s item.event _ run.1 run.2 old at run.3 run.4 in
-    goes_on m mid e s run.1 u run.2 q run.4.1 first
+    goes_on blocks m mid e s run.1 u run.2 q run.4.1 first
     (goes_all blocks mode k items mid e run.1 u q (begun_next blocks mode m item.event _ old run.3) run.4.0 run.5 work)
 
+-- ---- the moment at which a statement began
+
+run_on_by : (given : Blocks) (mode : Mode) (items : List HistItem) (m mid after : Machine) (item : HistItem) → Run given mode m items mid → Follows given mode mid item after
+    → Run given mode m (items ++ item ∷ []) after
+run_on_by given mode [] m mid after item run last = (after, subst (λ (y : Machine). Follows given mode y item after) run last, refl)
+run_on_by given mode (first ∷ items) m mid after item run last = (run.0, run.1, run_on_by given mode items run.0 mid after item run.2 last)
+
+work_on : (given : Blocks) (mode : Mode) (k : ℕ) (items : List HistItem) (m mid after : Machine) (item : HistItem) (u : Session) (q : Progress) → RunAtWork given mode k m items mid
+    → Follows given mode mid item after → IsAtWork after k u q → RunAtWork given mode k m (items ++ item ∷ []) after
+work_on given mode k [] m mid after item u q run last work = (after, u, q, subst (λ (y : Machine). Follows given mode y item after) run last, work, refl)
+work_on given mode k (first ∷ items) m mid after item u q run last work =
+    (run.0, run.1, run.2, run.3, run.4, work_on given mode k items run.0 mid after item u q run.5 last work)
+
+-- of each session that is at work there is such a moment
+abbrev Began : Blocks → Mode → ℕ → List HistItem → Machine → Type 0
+Began given mode count items m = (k : ℕ) (u : Session) (q : Progress) → IsAtWork m k u q → BeganAt given mode count k items m
+
+began_next : (given : Blocks) (mode : Mode) (count : ℕ) (items : List HistItem) (m after : Machine) (item : HistItem) → Run given mode (opening count) items m
+    → Began given mode count items m → Follows given mode m item after → Began given mode count (items ++ item ∷ []) after
+began_next given mode count items m after item run old last k u q work = ⊎_elim its others (cases_eq (session_of item.event) k) where
+  n : Next
+  n = record { machine = after; reply = item.reply }
+
+  begun : IsBegun m
+  begun = begun_there given mode count m (items, run)
+
+  further : BeganAt given mode count k items m → BeganAt given mode count k (items ++ item ∷ []) after
+  further b = record {
+    before = b.before;
+    since = b.since ++ item ∷ [];
+    parts = ap (λ (xs : List HistItem). xs ++ item ∷ []) b.parts ∙ append_assoc b.before b.since (item ∷ []);
+    m = b.m;
+    reached = b.reached;
+    s = b.s;
+    there = b.there;
+    idle = b.idle;
+    at_work = work_on given mode k b.since b.m m after item u q b.at_work last work;
+  }
+
+  others : (session_of item.event ≡ k → ⊥) → BeganAt given mode count k (items ++ item ∷ []) after
+  others ne = further (old k u q (sym (others_stay given mode m k item.event n begun last ne) ∙ work.0, work.1))
+
+  its : session_of item.event ≡ k → BeganAt given mode count k (items ++ item ∷ []) after
+  its e = by there.0.statement refl where
+    there : (s : Session) × (slice_get m.sessions (session_of item.event) ≡ Some s)
+    there = session_there given mode m item.event n last
+
+    at : slice_get m.sessions k ≡ Some there.0
+    at = ap (slice_get m.sessions) (sym e) ∙ there.1
+
+    by : (o : Option Progress) → there.0.statement ≡ o → BeganAt given mode count k (items ++ item ∷ []) after
+    by (Some p) f = further (old k there.0 p (at, f))
+    by None f = record {
+      before = items;
+      since = item ∷ [];
+      parts = refl;
+      m = m;
+      reached = run;
+      s = there.0;
+      there = at;
+      idle = f;
+      at_work = (after, u, q, last, work, refl);
+    }
+
+began_all : (given : Blocks) (mode : Mode) (count : ℕ) (items before : List HistItem) (m after : Machine) → Run given mode (opening count) before m
+    → Began given mode count before m → Run given mode m items after → Began given mode count (before ++ items) after
+began_all given mode count [] before m after run old rest =
+    subst (λ (xs : List HistItem). Began given mode count xs after) (sym (append-nil before)) (subst (Began given mode count before) (sym rest) old)
+began_all given mode count (item ∷ items) before m after run old rest =
+    subst (λ (xs : List HistItem). Began given mode count xs after) (append_assoc before (item ∷ []) items)
+    (began_all given mode count items (before ++ item ∷ []) rest.0 after (run_on_by given mode before (opening count) m rest.0 item run rest.1)
+    (began_next given mode count before m rest.0 item run old rest.1) rest.2)
+
+began_opening : (given : Blocks) (mode : Mode) (count : ℕ) → Began given mode count [] (opening count)
+began_opening given mode count k u q work = absurd (none_not q (ap (λ (y : Session). y.statement) (sym (rest_is (count + 1) k u work.0)) ∙ work.1))
+
+pub began : (given : Blocks) (mode : Mode) (count : ℕ) (items : List HistItem) (after : Machine) → Run given mode (opening count) items after → Began given mode count items after
+began given mode count items after run = began_all given mode count items [] (opening count) after refl (began_opening given mode count) run
+
+as_begun : (given : Blocks) (mode : Mode) (count : ℕ) (m : Machine) → Reaches given mode count m → (k : ℕ) (s : Session) → slice_get m.sessions k ≡ Some s
+    → (items : List HistItem) (after : Machine) → RunAtWork given mode k m items after → (u : Session) (q : Progress) → IsAtWork after k u q → IsAsBegun given m after s u q
+as_begun given mode count m reached k s at items after run u q work = by s.statement refl where
+  g : Goes given m after s u q
+  g = goes_all given mode k items m after s u q (begun_there given mode count m reached) at run work
+
+  onward : (p : Progress) → s.statement ≡ Some p → p.place ≤ q.place
+  onward p e = (g.waits.goes_on p e).1
+
+  by : (o : Option Progress) → s.statement ≡ o → IsAsBegun given m after s u q
+  by None e =
+      let b = g.begins e in
+      record {
+        place = g.place;
+        stmt = b.stmt;
+        tree = b.tree;
+        table = ap (λ (o : Option Progress). table_at m.db s.transaction o b.stmt) e ∙ b.table;
+        made = b.made;
+        there = b.there;
+        view = g.waits.view;
+        onward = onward;
+        finds = finds m.db after.db q g.same;
+      }
+  by (Some p) e =
+      let f = began given mode count reached.0 m reached.1 k s p (at, e) in
+      let h = goes_all given mode k f.since f.m m f.s s p (begun_there given mode count f.m (f.before, f.reached)) f.there f.at_work (at, e) in
+      let b = h.begins f.idle in
+      let one : p.table.0 ≡ q.table.0 = ap (λ (k : TableId). k.0) (sym (g.waits.goes_on p e).0) in
+      record {
+        place = g.place;
+        stmt = b.stmt;
+        tree = ap (stmt_at given) h.place ∙ b.tree;
+        table = ap (λ (o : Option Progress). table_at m.db s.transaction o b.stmt) e ∙ ap Some one;
+        made = b.made;
+        there = ap (slice_get m.db.catalog.tables) (sym one) ∙ h.same.tables p.table.0 b.made b.there;
+        view = g.waits.view;
+        onward = onward;
+        finds = finds m.db after.db q g.same;
+      }
+
 pub statements_stay_as_begun : StatementsStayAsBegun
-statements_stay_as_begun given mode count m reached k s at items after run u q work =
-    let g = goes_all given mode k items m after s u q (begun_there given mode count m reached) at run work in
-    record { place = g.place; view = g.waits.view; goes_on = g.waits.goes_on; finds = finds m.db after.db q g.same }
+statements_stay_as_begun = record { began = began; since = as_begun }

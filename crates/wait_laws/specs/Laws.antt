@@ -1,16 +1,16 @@
 -- What holds of waits in every state that the machine comes to (PostgreSQL manual, 13.3.2 and 13.3.4). Each law stands on the contract of a function of `laws`.
-use Rattle.std.specs.Prelude.{◌≡◌, ◌≢◌, ◌↔◌, ◌⊎◌, ℕ, ◌+◌, ◌-◌, ◌*◌, ◌<◌, ◌≤◌, Bool, true, false, not, ◌&&◌, List, [], ◌∷◌, length, count_by, sum_by, Option, Some, None, is_some, slice_get, Ok, IsTrue}
+use Rattle.std.specs.Prelude.{◌≡◌, ◌≢◌, ◌↔◌, ◌⊎◌, ℕ, ◌+◌, ◌-◌, ◌*◌, ◌<◌, ◌≤◌, Bool, true, false, not, ◌&&◌, List, [], ◌∷◌, ◌++◌, length, count_by, sum_by, Option, Some, None, option_and_then, is_some, slice_get, Ok, IsTrue}
 use Rattle.sql_trees.specs.declared.stmt.Level.{Level}
 use Rattle.sql_trees.specs.declared.stmt.Level.TheVariants.{ReadCommitted, RepeatableRead}
 use Rattle.sql_trees.specs.declared.stmt.Lock.{Lock}
 use Rattle.sql_trees.specs.Trees.{Tree}
-use Rattle.sql_trees.specs.Statements.{DeleteTree, InsertTree, KeyTree, SelectTree, UpdateTree, Deletes, Inserts, Selects, Updates, key_name}
+use Rattle.sql_trees.specs.Statements.{DeleteTree, InsertTree, KeyTree, SelectTree, StmtTree, UpdateTree, Deletes, Inserts, Selects, Updates, key_name}
 use Rattle.sql_values.specs.declared.value.Value.{Value}
 use Rattle.row_versions.specs.declared.names.TxId.{TxId}
 use Rattle.row_versions.specs.declared.names.RowId.{RowId}
 use Rattle.row_versions.specs.declared.write.Write.{Write}
 use Rattle.row_versions.specs.declared.write.View.{View}
-use Rattle.row_versions.specs.Log.{Content, IsOpen}
+use Rattle.row_versions.specs.Log.{Content, IsOpen, after_begin}
 use Rattle.row_versions.specs.Rows.{rows_of}
 use Rattle.row_locks.specs.declared.held.Strength.{Strength}
 use Rattle.row_locks.specs.declared.held.Held.{Held}
@@ -35,7 +35,7 @@ use Rattle.session_machine.specs.declared.event.Event.{Event}
 use Rattle.session_machine.specs.declared.event.Event.TheVariants.{Step}
 use Rattle.session_machine.specs.declared.event.Mode.{Mode}
 use Rattle.session_machine.specs.declared.reply.HistItem.{HistItem}
-use Rattle.session_machine.specs.Tables.{Database, Table}
+use Rattle.session_machine.specs.Tables.{Database, Table, find_table}
 use Rattle.session_machine.specs.Views.{rows_shown}
 use Rattle.session_machine.specs.Transactions.{fresh, view_of}
 use Rattle.session_machine.specs.Waits.{blockers, is_blocked, waits_in, is_still_blocked}
@@ -167,27 +167,69 @@ abbrev pub transaction_at : Content → Transaction → OpenTransaction
 transaction_at c (Open t) = t
 transaction_at c transaction = fresh c ReadCommitted false
 
+-- and the database then
+abbrev pub database_at : Database → Transaction → Database
+database_at db (Open t) = db
+database_at db transaction = record db { content = after_begin db.content }
+
+-- the statement at a place
+abbrev pub stmt_at : Blocks → Option Place → Option StmtTree
+stmt_at given None = None
+stmt_at given (Some place) = slice_get (stmts_of given place.block) place.next
+
+-- the table that a statement names whose rows it goes over, or to which it adds rows
+abbrev pub table_named : StmtTree → Option (List ℕ)
+table_named (Inserts i) = Some i.table
+table_named (Updates u) = Some u.table
+table_named (Deletes d) = Some d.table
+table_named (Selects s) = s.table
+table_named stmt = None
+
+-- the table of a statement that begins here, which is the one that its name means, or that is in the middle of its targets
+abbrev pub table_at : Database → Transaction → Option Progress → StmtTree → Option ℕ
+table_at db transaction None stmt = option_and_then (find_table (database_at db transaction) (Some (transaction_at db.content transaction).tx)) (table_named stmt)
+table_at db transaction (Some p) stmt = Some p.table.0
+
 -- the view of a statement that begins here, or is in the middle of its targets
 abbrev pub view_at : Content → Transaction → Option Progress → View
 view_at c transaction None = view_of c (transaction_at c transaction)
 view_at c transaction (Some p) = p.view
 
--- the session is at the same statement of its block, in the view that was taken when that began, at the same table and at no earlier target;
--- and what it finds is what it found there
-pub record IsAsBegun (m after : Machine) (s u : Session) (q : Progress) : Type 0 where
+-- the session is at the same statement of its block, which is the same tree; with the table that was found and in the view that was taken when
+-- that began, and at no earlier target; the table was there, and what the statement finds is what it found there: so its targets are the same
+pub record IsAsBegun (given : Blocks) (m after : Machine) (s u : Session) (q : Progress) : Type 0 where
   pub place : u.place ≡ s.place
+  pub stmt : StmtTree
+  pub tree : stmt_at given s.place ≡ Some stmt
+  pub table : table_at m.db s.transaction s.statement stmt ≡ Some q.table.0
+  pub made : Table
+  pub there : slice_get m.db.catalog.tables q.table.0 ≡ Some made
   pub view : q.view ≡ view_at m.db.content s.transaction s.statement
-  pub goes_on : (p : Progress) → s.statement ≡ Some p → (q.table ≡ p.table) × (p.place ≤ q.place)
+  pub onward : (p : Progress) → s.statement ≡ Some p → p.place ≤ q.place
   pub finds : FindsTheSame m.db after.db q
 
--- from the state in which a statement begins, and from each in which it waits, a run leads to the same statement, as long as that
--- isn't over: its targets are those at its beginning, whatever others commit meanwhile, and whatever the statement itself has
--- written at its targets before (13.2.1, 13.2.2)
-abbrev pub StatementsStayAsBegun : Type 0
-StatementsStayAsBegun = (given : Blocks) (mode : Mode) (count : ℕ) (m : Machine) → Reaches given mode count m
-    → (k : ℕ) (s : Session) → slice_get m.sessions k ≡ Some s
-    → (items : List HistItem) (after : Machine) → RunAtWork given mode k m items after
-    → (u : Session) (q : Progress) → IsAtWork after k u q → IsAsBegun m after s u q
+-- a moment of a run at which a session stands before a statement that it hasn't begun, and in which it has been since
+pub record BeganAt (given : Blocks) (mode : Mode) (count : ℕ) (k : ℕ) (items : List HistItem) (after : Machine) : Type 0 where
+  pub before : List HistItem
+  pub since : List HistItem
+  pub parts : items ≡ before ++ since
+  pub m : Machine
+  pub reached : Run given mode (opening count) before m
+  pub s : Session
+  pub there : slice_get m.sessions k ≡ Some s
+  pub idle : s.statement ≡ None
+  pub at_work : RunAtWork given mode k m since after
+
+-- a statement that waits was begun at some moment of the run, and has gone on since. And from the state in which it begins, and from each in which it waits,
+-- a run leads to the same statement, as long as that isn't over: its table, its view and its targets are those at its beginning, whatever others commit
+-- meanwhile, and whatever the statement itself has written at its targets before (13.2.1, 13.2.2)
+pub record StatementsStayAsBegun : Type 0 where
+  pub began : (given : Blocks) (mode : Mode) (count : ℕ) (items : List HistItem) (after : Machine) → Run given mode (opening count) items after
+      → (k : ℕ) (u : Session) (q : Progress) → IsAtWork after k u q → BeganAt given mode count k items after
+  pub since : (given : Blocks) (mode : Mode) (count : ℕ) (m : Machine) → Reaches given mode count m
+      → (k : ℕ) (s : Session) → slice_get m.sessions k ≡ Some s
+      → (items : List HistItem) (after : Machine) → RunAtWork given mode k m items after
+      → (u : Session) (q : Progress) → IsAtWork after k u q → IsAsBegun given m after s u q
 
 -- how many statements of its block are before a session, the one that it is at among them
 abbrev pub left_from : Blocks → Option Place → ℕ

@@ -1,5 +1,6 @@
 //! Laws of waits: each function's contract is one of them, and its body does nothing.
 ghost use Rattle.wait_laws.specs.Laws.{NoCycleOfWaits, DeadlockIsExact, KeyIsExact, WritesAreHeld, WaitsGoOnAsBegun, StatementsGoOnInTheirView, StatementsStayAsBegun, RestIsReached};
+ghost use Rattle.wait_laws.specs.Replies.{DeadlockIsAnswered};
 
 /// In no state do transactions wait in a cycle, and from each its blockers lead to one that waits for nobody.
 pub fn no_cycle_of_waits()
@@ -17,6 +18,11 @@ pub fn key_is_exact()
     ensures { KeyIsExact }
 {}
 
+/// A reply is `deadlock detected` exactly where the statement asks for something of which a wait would close a cycle, and a wait exactly where others hold what it asks for and a wait closes none.
+pub fn deadlock_is_answered()
+    ensures { DeadlockIsAnswered }
+{}
+
 /// A row that an open transaction wrote is held by it alone.
 pub fn writes_are_held()
     ensures { WritesAreHeld }
@@ -32,7 +38,7 @@ pub fn statements_go_on_in_their_view()
     ensures { StatementsGoOnInTheirView }
 {}
 
-/// A statement that waits is the one that was begun, and its targets are those at its beginning, whatever others do and whatever it wrote itself.
+/// A statement that waits was begun at some moment of the run, and is that one since: its table, its view and its targets are those at its beginning, whatever others do and whatever it wrote itself.
 pub fn statements_stay_as_begun()
     ensures { StatementsStayAsBegun }
 {}

@@ -5,17 +5,12 @@ use Rattle.session_machine.specs.declared.reply.HistItem.{HistItem}
 use Rattle.report_lines.specs.Starts.{is_order}
 use Rattle.report_lines.specs.History.{PermutationRun}
 use Rattle.report_lines.specs.Due.{orders}
-use Rattle.report_lines.specs.Progress.{Keeps, first_items}
+use Rattle.report_lines.specs.Progress.{first_items}
 use Rattle.report_lines.specs.Inner.Places.{starts_after, ends_after}
 
 -- the lines of the last segment, if it is an entry's, are missing
 abbrev pub Lags : PermutationRun → PlanProgress → Type 0
 Lags c p = p.segments_done ≡ orders c.items - (c.setups + 1)
-
--- the lines of no segment are missing
-pub record IsSettled (c : PermutationRun) (p : PlanProgress) : Type 0 where
-  pub kept : Keeps c p
-  pub all : p.segments_done ≡ orders c.items - c.setups
 
 -- the item behind that front, if there is one, is an order, or belongs to a segment whose lines are missing
 abbrev pub IsNext : PermutationRun → PlanProgress → Type 0

@@ -22,3 +22,12 @@ assigned_or name (Some t) (Ok ts) = Ok (t ∷ ts)
 abbrev pub assigned_each : List ColumnTree → List (List ℕ) → Result (List AssignedColumn) (List ℕ)
 assigned_each columns [] = Ok []
 assigned_each columns (name ∷ names) = assigned_or name (assigned_from 0 columns name) (assigned_each columns names)
+
+abbrev pub missing_or : List ℕ → Option AssignedColumn → Option (List ℕ) → Option (List ℕ)
+missing_or name None rest = Some name
+missing_or name (Some t) rest = rest
+
+-- the first of these names that is none
+abbrev pub missing_name : List ColumnTree → List (List ℕ) → Option (List ℕ)
+missing_name columns [] = None
+missing_name columns (name ∷ names) = missing_or name (assigned_from 0 columns name) (missing_name columns names)

@@ -11,13 +11,11 @@ use Rattle.update_recheck.specs.Asked.{Asked}
 use Rattle.session_machine.specs.declared.reply.Outcome.{Outcome}
 use Rattle.session_machine.specs.Tables.{Database}
 use Rattle.session_machine.specs.Statements.{Effect, answers}
-use Rattle.session_machine.specs.Walks as walk
 use Rattle.session_machine.specs.Rows.{Work}
 use Rattle.session_machine.specs.Inner.Statements.{ask, at_target, update_with, delete_with, lock_with, comes_to, Visit, stops, goes_on}
 use Rattle.session_statements.specs.declared.act.Act.{Act}
 use Rattle.session_statements.specs.declared.act.Act.TheVariants.{Update, Delete, Lock}
-use Rattle.session_statements.specs.declared.act.Stop.{Stop}
-use Rattle.session_statements.specs.declared.act.Stop.TheVariants.{Blocked, Fails}
+use Rattle.session_database.specs.Stops.{stop_of}
 use Rattle.session_statements.specs.declared.act.Visited.{Visited}
 use Rattle.session_statements.specs.declared.act.Visited.TheVariants.{Passes, Shows, Stops}
 use Rattle.session_statements.specs.declared.act.Halt.{Halt}
@@ -44,10 +42,6 @@ asks db w act seen = ask db w (strength_in act) (filter_in act) seen
 
 abbrev pub visit_at : Work → Act → Database → Seen → Visit
 visit_at w act db seen = at_target (act_with w act) db w (asks db w act seen)
-
-abbrev pub stop_of : Stop → walk.Stop
-stop_of (Blocked request) = walk.Blocked request
-stop_of (Fails fault) = walk.Fails fault
 
 abbrev pub visit_of : Database → Visited → Visit
 visit_of db Passes = goes_on db []

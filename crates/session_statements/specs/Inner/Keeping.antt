@@ -1,12 +1,12 @@
 -- What a statement keeps true of the database from one target to the next.
-use Rattle.std.specs.Prelude.{◌≡◌, ℕ, List, length, All, Some, slice_get}
+use Rattle.std.specs.Prelude.{◌≡◌, ℕ, ◌<◌, ◌+◌, ◌^◌, List, length, All, Some, slice_get}
 use Rattle.update_recheck.specs.Outcome.{Outcome}
 use Rattle.update_recheck.specs.Outcome.Outcome.{Takes}
 use Rattle.session_machine.specs.Rows.{Work, columns_in, values_of}
 use Rattle.row_versions.specs.declared.names.RowId.{RowId}
 use Rattle.row_versions.specs.declared.write.Write.{Write}
 use Rattle.row_versions.specs.declared.write.Seen.{Seen}
-use Rattle.row_versions.specs.Log.{Content}
+use Rattle.row_versions.specs.Log.{Content, IsOpen}
 use Rattle.session_machine.specs.Tables.{Database}
 use Rattle.session_machine.specs.Sound.{RowsFit, RowsStay}
 
@@ -32,3 +32,10 @@ pub record IsKept (before after : Database) : Type 0 where
 abbrev pub CanTake : Database → Work → Outcome → Type 0
 CanTake db w (Takes seen) = length (values_of db seen) ≡ length (columns_in db w)
 CanTake db w outcome = Unit {0}
+
+-- a statement is at work: its transaction is open, its table is there, rows are where they belong, and one more command can be counted
+pub record IsAtWork (db : Database) (w : Work) : Type 0 where
+  pub opened : IsOpen db.content w.t.tx
+  pub room : w.t.command + 1 < 2 ^ 64
+  pub within : w.table < length db.catalog.tables
+  pub orderly : IsOrderly db

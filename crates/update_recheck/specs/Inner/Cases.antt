@@ -44,6 +44,18 @@ is_locked level Nobody Same = true
 is_locked ReadCommitted Nobody (Newer newer condition) = true
 is_locked level holders version = false
 
+-- somebody holds the target
+abbrev pub is_held : Holders → Bool
+is_held Nobody = false
+is_held holders = true
+
+-- the target is held, or is to be locked: at Repeatable Read only where it is as it was found
+abbrev pub is_looked_at : Level → Holders → Version → Bool
+is_looked_at level holders Same = true
+is_looked_at ReadCommitted Nobody Gone = false
+is_looked_at ReadCommitted holders version = true
+is_looked_at RepeatableRead holders version = false
+
 -- who holds the target, by the locks that are held and the waits that stand
 abbrev pub holders : List Held → List Waiting → Asked → Holders
 holders held waits ask = let by = row_blockers held ask in if is_none_of by then Nobody else if closes waits ask.tx by then OthersInACycle else Others

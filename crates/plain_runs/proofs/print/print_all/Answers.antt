@@ -18,7 +18,7 @@ loop-permutations-init g c =
     let out = g.W.Sink.put_so_far c.args.out.now in
     let notes = g.N.Sink.put_so_far c.args.notes.now in
     subst (λ (coming : Coming). SoFar spec blocks out out notes notes c.args.limit (permutations_of spec) c.args.limit coming.more × ((p : List EntryTree) → Contains coming.more p → Contains (permutations_of spec) p))
-    (sym c.in_ok-permutations.ensures) (starts spec blocks out notes c.args.limit (permutations_of spec), λ p is. is)
+    (sym c.in_ok-permutations.ensures.permutations) (starts spec blocks out notes c.args.limit (permutations_of spec), λ p is. is)
 
 pub loop-permutations-preserved : goal.loop-permutations-preserved
 loop-permutations-preserved g c =

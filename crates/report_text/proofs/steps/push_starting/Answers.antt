@@ -26,4 +26,4 @@ pub returns : goal.returns
 unfolding starting_text
 returns c =
     let names = names_are (spec_view c.args.spec.now) (map entry_view c.args.entries.now) in
-    pushed3 _ _ _ _ _ _ _ _ c.in_ok-push.ensures.bytes (c.in_ok-push_entry_names.ensures ∙ ap (λ l. page_text c.push.new.self ++ l) names) c.push-2.ensures.bytes
+    pushed3 _ _ _ _ _ _ _ _ c.in_ok-push.ensures.bytes (c.in_ok-push_entry_names.ensures.text ∙ ap (λ l. page_text c.push.new.self ++ l) names) c.push-2.ensures.bytes

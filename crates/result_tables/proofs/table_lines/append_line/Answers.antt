@@ -15,7 +15,7 @@ loop-k-preserved g c =
     let long : length (padded_cells columns (map shown cells)) ≡ length columns = length-padded_cells columns (map shown cells) (length-map cells shown ∙ c.requires) in
     let here = padded_cells_at shown columns cells k column c.index-cells-k.result c.requires c.loop-k-test.true
     (get_or_default columns k none column c.loop-k-test.true) c.index-cells-k.is in
-    joined_more 124 _ (padded_cells columns (map shown cells)) k _ _ _ _ (omega arith) here c.loop-k.invariant c.in_ok-append_separator.ensures c.in_ok-append_cell.ensures
+    joined_more 124 _ (padded_cells columns (map shown cells)) k _ _ _ _ (omega arith) here c.loop-k.invariant c.in_ok-append_separator.ensures.text c.in_ok-append_cell.ensures
 
 pub returns : goal.returns
 returns g c =

@@ -11,4 +11,4 @@ loop-k-preserved c =
     let dashes : ColumnLayout → List ℕ = λ x. replicate x.width 45 in
     let none : ColumnLayout = record { width = 0; left = false } in
     let within : k < length (map dashes columns) = omega (arith, length-map columns dashes) in
-    joined_more 43 _ (map dashes columns) k _ _ _ _ within (get_or-map dashes columns k none [] c.loop-k-test.true) c.loop-k.invariant c.in_ok-append_separator.ensures c.in_ok-append_run.ensures
+    joined_more 43 _ (map dashes columns) k _ _ _ _ within (get_or-map dashes columns k none [] c.loop-k-test.true) c.loop-k.invariant c.in_ok-append_separator.ensures.text c.in_ok-append_run.ensures

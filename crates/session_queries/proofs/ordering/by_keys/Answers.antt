@@ -7,8 +7,8 @@ pub picked-requires : goal.picked-requires
 picked-requires c =
     rw c.deref.ensures.value (order_within c.args.by.now c.args.keys.now c.in_ok-sorted.sorted.items (length c.args.places.now) c.in_ok-sorted.ensures.sorted c.requires.long)
 
-pub returns : goal.returns
-returns c =
+pub returns-clause-places : goal.returns-clause-places
+returns-clause-places c =
     let sorted = c.in_ok-sorted.sorted.items in
     let same : c.deref.result.now ≡ sorted = c.deref.ensures.value in
     let order = c.one_order_by_insertion.ensures c.args.by.now c.args.keys.now sorted c.in_ok-sorted.ensures.sorted in

@@ -19,7 +19,7 @@ returns-clause-places c =
     let evaluated : each (keys_of c.args.columns.now is order) (rows_at rows c.args.places.items) ≡ Ok keys = search rules in
     let same : by ≡ map (λ (k : OrderTree). k.dir) order = search rules in
     ordered_answer c.args.columns.now is order rows c.args.places.items keys by c.by_keys.result evaluated same
-    (subst (λ places. AnswersList c.by_keys.result (by_keys by places keys)) c.deref-6.ensures.value c.by_keys.ensures)
+    (subst (λ places. AnswersList c.by_keys.result (by_keys by places keys)) c.deref-6.ensures.value c.by_keys.ensures.places)
 
 pub returns-clause-within : goal.returns-clause-within
 returns-clause-within c =
@@ -27,4 +27,4 @@ returns-clause-within c =
     let places = c.deref-6.result.now in
     let same : places ≡ c.args.places.items = c.deref-6.ensures.value in
     let as_many : length keys ≡ length places = cc (c.deref-7.ensures.value, c.deref-4.ensures.value, c.in_ok-keys.ensures.long) in
-    sorted_within (length c.args.rows.now) c.deref-5.result.now places keys c.by_keys.result as_many (rw same c.requires.within) c.by_keys.ensures
+    sorted_within (length c.args.rows.now) c.deref-5.result.now places keys c.by_keys.result as_many (rw same c.requires.within) c.by_keys.ensures.places

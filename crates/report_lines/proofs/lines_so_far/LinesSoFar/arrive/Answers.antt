@@ -10,7 +10,7 @@ returns-then-is_busy-clause-report c =
     let e = c.args.entry in
     let way = c.make_way.new.self.lines in
     let less : e < length run.entries = grind arith in
-    let is : way ≡ made_way run c.args.self.now.lines e = ap (λ (t : LinesSoFar). t.lines) c.in_ok-make_way.ensures in
+    let is : way ≡ made_way run c.args.self.now.lines e = ap (λ (t : LinesSoFar). t.lines) c.in_ok-make_way.ensures.lines in
     let busy : has_unreported run way e ≡ true = sym c.is_busy.ensures ∙ c.if-is_busy.true in
     report_stuck run (length run.entries) e c.args.self.now.lines way less is busy
 
@@ -20,6 +20,6 @@ returns-else-is_busy-clause-report c =
     let e = c.args.entry in
     let way = c.make_way.new.self.lines in
     let less : e < length run.entries = grind arith in
-    let is : way ≡ made_way run c.args.self.now.lines e = ap (λ (t : LinesSoFar). t.lines) c.in_ok-make_way.ensures in
+    let is : way ≡ made_way run c.args.self.now.lines e = ap (λ (t : LinesSoFar). t.lines) c.in_ok-make_way.ensures.lines in
     let free : has_unreported run way e ≡ false = sym c.is_busy.ensures ∙ c.if-is_busy.false in
     report_due run (length run.entries) e c.args.self.now.lines way less is free

@@ -5,8 +5,8 @@ use Rattle.report_lines.specs.Walk.{report_from}
 use Rattle.report_lines.proofs.Keeping.{both, tells_next, tells_over}
 use Rattle.report_lines.proofs.lines_so_far.LinesSoFar.go_on.Goals as goal
 
-pub returns-in_ok-launch-in-Due : goal.returns-in_ok-launch-in-Due
-returns-in_ok-launch-in-Due c =
+pub returns-in_ok-launch-in-Due-clause-report : goal.returns-in_ok-launch-in-Due-clause-report
+returns-in_ok-launch-in-Due-clause-report c =
     let run = c.args.run.now in
     let l = c.arrive.inside.launched in
     let mid = c.launch.new.self in
@@ -18,5 +18,5 @@ returns-in_ok-launch-in-Due c =
     (λ s reported at. tells_next run c.args.count c.in-Due.field-0 l c.args.self.now mid new c.args.state s c.requires.report c.in-Due.is c.in_ok-launch-in-Due.ensures (ap (λ (t : LinesSoFar). t.launched) c.arrive.view_is) reported at)
     c.arrive-in-Due.ensures.report c.arrive-in-Due.ensures.at
 
-pub returns-in-Whole : goal.returns-in-Whole
-returns-in-Whole c = tells_over c.args.run.now c.args.count c.args.self.now c.args.state c.requires.report c.in-Whole.is
+pub returns-in-Whole-clause-report : goal.returns-in-Whole-clause-report
+returns-in-Whole-clause-report c = tells_over c.args.run.now c.args.count c.args.self.now c.args.state c.requires.report c.in-Whole.is

@@ -5,18 +5,18 @@ use Rattle.report_lines.specs.Starts.{is_order}
 use Rattle.report_lines.proofs.Keeping.{lags_so, order_next, none_next}
 use Rattle.report_lines.proofs.progress.PlanProgress.goes_on.Goals as goal
 
-pub returns-then-saturating_sub-self : goal.returns-then-saturating_sub-self
-returns-then-saturating_sub-self c = λ yes item h.
+pub returns-then-saturating_sub-self-clause-next : goal.returns-then-saturating_sub-self-clause-next
+returns-then-saturating_sub-self-clause-next c = λ yes item h.
     inr (lags_so (record { entries = map entry_view c.args.entries.now; items = c.args.items.now; setups = c.args.setups }) c.args.self.now c.requires.follows
     (let long = c.len.ensures in let left = c.saturating_sub.ensures in let test = c.if-saturating_sub-self.true in omega arith))
 
-pub returns-in-None : goal.returns-in-None
-returns-in-None c = λ yes item h.
+pub returns-in-None-clause-next : goal.returns-in-None-clause-next
+returns-in-None-clause-next c = λ yes item h.
     let past = c.in-None.ensures.lookup in
     let over : length c.args.items.now ≤ c.args.self.now.seen = grind arith in
     absurd (none_next (record { entries = map entry_view c.args.entries.now; items = c.args.items.now; setups = c.args.setups }) c.args.self.now item over h)
 
-pub returns-in-Some : goal.returns-in-Some
-returns-in-Some c = λ yes item h.
+pub returns-in-Some-clause-next : goal.returns-in-Some-clause-next
+returns-in-Some-clause-next c = λ yes item h.
     inl (ap (λ (x : HistItem). is_order x.event) (sym (order_next c.args.items.now c.args.self.now.seen c.in-Some.item.now item c.in-Some.ensures.lookup.0 c.in-Some.ensures.lookup.1 h))
     ∙ sym c.is_order.ensures ∙ yes)

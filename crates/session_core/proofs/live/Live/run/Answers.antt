@@ -59,7 +59,7 @@ go_on-requires-clause-opened g c t h =
     let inside : Machine = record { db = c.self.inside.db; sessions = c.self.inside.sessions.items; events = c.self.inside.events } in
     let is : inside ≡ taken_out m c.args.session s = c.self.view_is ∙ c.take_session-taken.ensures.taken in
     let stmt = stmt_of c.args.due.at.stmt.now in
-    let d : Effect = record { db = c.run_statement.new.self; transaction = c.in_ok-did.did.transaction; statement = c.in_ok-did.did.statement; outcome = c.in_ok-did.did.outcome } in
+    let d : Effect = record { db = c.run_statement.new.db; transaction = c.in_ok-did.did.transaction; statement = c.in_ok-did.did.statement; outcome = c.in_ok-did.did.outcome } in
     let run = ran_over m inside c.args.session s stmt c.deref.result.now d is c.deref.ensures.value c.in_ok-did.ensures.did in
     let stands = stands_at m c.args.session c.args.due.place s at c.requires.current in
     left_open c.stays_sound.ensures m c.args.session s c.args.due.place stmt d t c.requires.sound at stands.0 stands.1 run h
@@ -72,7 +72,7 @@ returns g c =
     let inside : Machine = record { db = c.self.inside.db; sessions = c.self.inside.sessions.items; events = c.self.inside.events } in
     let is : inside ≡ taken_out m c.args.session s = c.self.view_is ∙ c.take_session-taken.ensures.taken in
     let stmt = stmt_of c.args.due.at.stmt.now in
-    let d : Effect = record { db = c.run_statement.new.self; transaction = c.in_ok-did.did.transaction; statement = c.in_ok-did.did.statement; outcome = c.in_ok-did.did.outcome } in
+    let d : Effect = record { db = c.run_statement.new.db; transaction = c.in_ok-did.did.transaction; statement = c.in_ok-did.did.statement; outcome = c.in_ok-did.did.outcome } in
     let run = ran_over m inside c.args.session s stmt c.deref.result.now d is c.deref.ensures.value c.in_ok-did.ensures.did in
     let mid : Machine → Machine = λ x. record { db = d.db; sessions = x.sessions; events = x.events } in
     ran m (mid inside) c.go_on.new.self c.args.session s (record s { statement = None }) c.args.due.place c.args.due.at.count stmt d c.go_on.result at (ap mid is) run c.go_on.ensures

@@ -4,8 +4,8 @@ use Rattle.unique_keys.specs.declared.key_index.Found.TheVariants as found
 use Rattle.unique_keys.proofs.Answered.{finds_here}
 use Rattle.unique_keys.proofs.key_index.KeyIndex.check.Goals as goal
 
-pub returns-in-Held : goal.returns-in-Held
-returns-in-Held g c = λ up is_open.
+pub returns-in-Held-clause-found : goal.returns-in-Held-clause-found
+returns-in-Held-clause-found g c = λ up is_open.
     let long : length c.as_slice-all.result.now ≡ length c.args.keys.now.keys = ap length c.as_slice-all.ensures.value ∙ sym (length-map c.keys.inside.keys.items (λ k. k.items)) ∙ ap (λ t. length t.keys) c.keys.view_is in (
       omega (arith, long, c.loop-key-test.true),
       c.loop-key.invariant up is_open,

@@ -1,0 +1,187 @@
+//! Runs that the engine or a driver ends while the other threads sleep, and what gates are asked and told.
+
+use crate::asking::holds;
+use crate::free_runs::blocks;
+use crate::giving::{Behind, Counting, Starved, Twice};
+use crate::signs::session_of;
+use row_versions::ListStore;
+use session_machine::{EngineFault, Order};
+use session_threads::{Closed, FreePlan, Gate, OpenGate, ThreadFault, run_directed, run_free};
+use sql_parser::Block;
+use std::alloc::Global;
+use std::sync::Wait;
+use std::test::Fail;
+use std::thread::Threads;
+
+/// The blocks of the tests: a table, a transaction that holds its row, an update that waits for it, a query.
+const TEXTS: [&str; 4] = [
+    "CREATE TABLE t (x int); INSERT INTO t VALUES (1);",
+    "BEGIN; UPDATE t SET x = 2;",
+    "UPDATE t SET x = 3;",
+    "SELECT 1;",
+];
+
+/// A block that isn't there.
+const NO_BLOCK: u32 = 99;
+
+/// The fault in which a directed run of two sessions ends, in which this is ordered first and that then.
+fn directed<G: Gate, R: Threads + Wait + Sync>(
+    rt: &R,
+    alloc: Global,
+    blocks: &[Block<'_>],
+    first: Order,
+    then: Order,
+    gate: &G,
+) -> Option<ThreadFault> {
+    let store = ListStore::new(alloc);
+    run_directed(rt, alloc, blocks, 2, store, Twice { first, then }, gate).err()
+}
+
+/// The fault in which a directed run ends whose driver is refused memory behind its first order.
+fn starved<R: Threads + Wait + Sync>(
+    rt: &R,
+    alloc: Global,
+    blocks: &[Block<'_>],
+    first: Order,
+) -> Option<ThreadFault> {
+    let store = ListStore::new(alloc);
+    run_directed(rt, alloc, blocks, 2, store, Starved { first }, &OpenGate).err()
+}
+
+const QUERY: Order = Order::Launch {
+    session: 1,
+    block: 3,
+};
+
+#[test]
+fn a_directed_run_ends_where_the_engine_refuses(rt: HostRuntime) -> Result<(), Fail> {
+    let alloc = rt.alloc();
+    let blocks = blocks(alloc, 4, &TEXTS)?;
+    let gate = Counting::new();
+    let no_block = Order::Launch {
+        session: 2,
+        block: NO_BLOCK,
+    };
+    let fault = directed(&rt, alloc, &blocks, QUERY, no_block, &gate);
+    let expected = ThreadFault::Engine(EngineFault::BlockNotAllowed);
+    holds(&rt, fault == Some(expected), "a block that isn't there");
+    holds(
+        &rt,
+        gate.asked() == 3,
+        "the gate is asked for the refused event",
+    );
+    holds(&rt, gate.told() == 2, "and isn't told of it");
+    Ok(())
+}
+
+#[test]
+fn a_directed_run_ends_where_an_order_is_nobodys(rt: HostRuntime) -> Result<(), Fail> {
+    let alloc = rt.alloc();
+    let blocks = blocks(alloc, 4, &TEXTS)?;
+    let gate = Counting::new();
+    let nobodys = Order::Leave { session: 3 };
+    let fault = directed(&rt, alloc, &blocks, QUERY, nobodys, &gate);
+    let expected = ThreadFault::Engine(EngineFault::NoSession);
+    holds(&rt, fault == Some(expected), "a session that isn't there");
+    holds(&rt, gate.asked() == 2, "asked for what was done");
+    Ok(())
+}
+
+#[test]
+fn a_directed_run_ends_where_its_driver_is_refused_memory(rt: HostRuntime) -> Result<(), Fail> {
+    let alloc = rt.alloc();
+    let blocks = blocks(alloc, 4, &TEXTS)?;
+    let fault = starved(&rt, alloc, &blocks, QUERY);
+    holds(&rt, fault == Some(ThreadFault::Memory), "memory");
+    Ok(())
+}
+
+#[test]
+fn a_directed_run_asks_and_tells_each_event_once(rt: HostRuntime) -> Result<(), Fail> {
+    let alloc = rt.alloc();
+    let blocks = blocks(alloc, 4, &TEXTS)?;
+    let gate = Counting::new();
+    let fault = directed(&rt, alloc, &blocks, QUERY, Order::Stop, &gate);
+    holds(&rt, fault.is_none(), "the run ends well");
+    holds(&rt, gate.asked() == 2, "a launch and a step are asked for");
+    holds(&rt, gate.told() == 2, "and told");
+    Ok(())
+}
+
+/// Session 1 runs these blocks, and session 2 those.
+fn plan_of(alloc: Global, first: &[u32], second: &[u32]) -> Result<FreePlan, Fail> {
+    let mut scripts = Vec::new(alloc);
+    for blocks in [first, second] {
+        let mut script = Vec::new(alloc);
+        script.extend_from_slice(blocks)?;
+        scripts.push(script)?;
+    }
+    Ok(FreePlan {
+        before: vec![in alloc; (0u32, 0u32)]?,
+        scripts,
+        after: vec![in alloc; 3u32]?,
+    })
+}
+
+fn free<'a, 't, G: Gate, R: Threads + Wait + Sync>(
+    rt: &R,
+    alloc: Global,
+    blocks: &'a [Block<'t>],
+    plan: &FreePlan,
+    gate: &G,
+) -> Result<Closed<'a, 't, ListStore>, ThreadFault> {
+    if plan.scripts.len() > 64 {
+        return Err(ThreadFault::Engine(EngineFault::NoSession));
+    }
+    run_free(rt, alloc, blocks, plan, ListStore::new(alloc), gate)
+}
+
+#[test]
+fn a_free_run_ends_where_the_engine_refuses(rt: HostRuntime) -> Result<(), Fail> {
+    let alloc = rt.alloc();
+    let blocks = blocks(alloc, 4, &TEXTS)?;
+    let plan = plan_of(alloc, &[1, NO_BLOCK], &[2])?;
+    let gate = Behind::new();
+    let fault = free(&rt, alloc, &blocks, &plan, &gate).err();
+    let expected = ThreadFault::Engine(EngineFault::BlockNotAllowed);
+    holds(&rt, fault == Some(expected), "a block that isn't there");
+    holds(&rt, gate.told() == 5, "told of what was done");
+    Ok(())
+}
+
+/// How many events of a run are the sessions' own.
+fn own_events(closed: &Closed<'_, '_, ListStore>) -> u64 {
+    let mut count = 0u64;
+    for item in closed.state().history() {
+        if session_of(item.event) != 0 {
+            count = count.wrapping_add(1);
+        }
+    }
+    count
+}
+
+/// Whether a free run in which nobody waits asks for each of the sessions' events and tells it, once.
+fn asks_and_tells<R: Threads + Wait + Sync>(
+    rt: &R,
+    alloc: Global,
+    blocks: &[Block<'_>],
+    plan: &FreePlan,
+) -> Result<bool, Fail> {
+    let gate = Counting::new();
+    let closed = free(rt, alloc, blocks, plan, &gate).map_err(|_| "no closed run")?;
+    let events = own_events(&closed);
+    Ok(events == 8 && gate.asked() == events && gate.told() == events)
+}
+
+#[test]
+fn a_free_run_asks_and_tells_each_event_of_a_session_once(rt: HostRuntime) -> Result<(), Fail> {
+    let alloc = rt.alloc();
+    let blocks = blocks(alloc, 4, &TEXTS)?;
+    let plan = plan_of(alloc, &[3, 3], &[3])?;
+    holds(
+        &rt,
+        asks_and_tells(&rt, alloc, &blocks, &plan)?,
+        "asked and told",
+    );
+    Ok(())
+}

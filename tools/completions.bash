@@ -1,0 +1,16 @@
+# Completions of isolationtester and timeline for bash.
+_isolationtester() {
+  local word=${COMP_WORDS[COMP_CWORD]}
+  if [[ ${COMP_WORDS[COMP_CWORD - 1]} == --limit ]]; then return; fi
+  mapfile -t COMPREPLY < <(compgen -W "--list --free --limit --help" -- "$word")
+}
+_timeline() {
+  local word=${COMP_WORDS[COMP_CWORD]}
+  if [[ $word == -* ]]; then
+    mapfile -t COMPREPLY < <(compgen -W "--svg" -- "$word")
+  else
+    mapfile -t COMPREPLY < <(compgen -f -X '!*.spec' -- "$word"; compgen -d -- "$word")
+  fi
+}
+complete -F _isolationtester isolationtester
+complete -o filenames -F _timeline timeline
