@@ -96,7 +96,7 @@ pub freely_begun : (bytes : List ℕ) (f : File) (wo wn eo en : Option (List ℕ
     → Begun (FreeSays f.spec f.blocks) wo wn eo en → Begun (FileSaysFreely bytes) wo wn eo en
 freely_begun bytes f wo wn eo en is (none t n) = none t n
 freely_begun bytes f wo wn eo en is (fronts text notes so t n (unnoted same)) = fronts text notes (freely f is so) t n (unnoted same)
-freely_begun bytes f wo wn eo en is (fronts text notes so t n (noted told said its whole put)) = fronts text notes (freely f is so) t n (noted told said (freely f is its) whole put)
+freely_begun bytes f wo wn eo en is (fronts text notes so t n (noted told said its all_out put)) = fronts text notes (freely f is so) t n (noted told said (freely f is its) all_out put)
 
 -- ---- the permutations of a spec
 
@@ -168,10 +168,10 @@ module _ (spec : SpecTree) (blocks : Blocks) (limit : ℕ) (all : List (List Ent
           → NotesBehind (RunSays spec blocks limit all) wo wn eo en
       next_behind wo wm wn eo em en left more p ps so is lt text t (unnoted same) =
           noted _ _ (so_far_says wo wm eo em left more so) (whole_nil wo wn so.text (whole_then wo wm wn so.text t.front so.out t.went_out)) (put_still eo em en so.notes so.noted same)
-      next_behind wo wm wn eo em en left more p ps so is lt text t (noted _ _ (of_one items regular) whole put) =
+      next_behind wo wm wn eo em en left more p ps so is lt text t (noted _ _ (of_one items regular) all_out put) =
           let one = permutation_says spec p items in
           noted _ _ (one_more_says wo wm eo em left more p ps items so is lt regular)
-          (whole_behind wo wm wn so.text (one.text ++ []) so.out (whole_nil wm wn one.text whole)) (front_behind eo em en so.notes (one.notes ++ []) so.noted (front_of_piece em en one.notes [] put))
+          (whole_behind wo wm wn so.text (one.text ++ []) so.out (whole_nil wm wn one.text all_out)) (front_behind eo em en so.notes (one.notes ++ []) so.noted (front_of_piece em en one.notes [] put))
 
 -- ---- a file
 
@@ -189,8 +189,8 @@ no_line_begun bytes limit f wo wn eo line is same put = line_begun bytes limit f
 file_behind : (bytes : List ℕ) (limit : ℕ) (f : File) (wo wm wn eo en : Option (List ℕ)) → FileIs bytes (Ok f) → Appends wo wm (first_line f.spec)
     → NotesBehind (RunSays f.spec f.blocks limit (permutations_of f.spec)) wm wn eo en → NotesBehind (FileMaySay bytes limit) wo wn eo en
 file_behind bytes limit f wo wm wn eo en is put (unnoted same) = unnoted same
-file_behind bytes limit f wo wm wn eo en is put (noted _ _ (run done said within prints) whole front) =
-    noted _ _ (of_file done (behind (first_line f.spec) [] said) within (runs f said is prints)) (whole_behind wo wm wn (first_line f.spec) said.text put whole) front
+file_behind bytes limit f wo wm wn eo en is put (noted _ _ (run done said within prints) all_out front) =
+    noted _ _ (of_file done (behind (first_line f.spec) [] said) within (runs f said is prints)) (whole_behind wo wm wn (first_line f.spec) said.text put all_out) front
 
 -- its first line went out, and what was begun of its permutations
 pub file_begun : (bytes : List ℕ) (limit : ℕ) (f : File) (wo wm wn eo en : Option (List ℕ)) (line : List ℕ)

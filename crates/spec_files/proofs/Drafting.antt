@@ -1,8 +1,9 @@
 -- The drafts of permutations that were taken together.
-use Rattle.std.proofs.Common.{◌≡◌, ◌≢◌, ℕ, ◌<◌, ◌≤◌, Bool, true, false, ◌+◌, List, [], ◌∷◌, ◌++◌, length, map, refl, sym, ap, ◌∙◌, arith}
+use Rattle.std.proofs.Common.{◌≡◌, ◌≢◌, ℕ, ◌<◌, ◌≤◌, Bool, true, false, ◌+◌, List, [], ◌∷◌, ◌++◌, length, map, suc, refl, sym, ap, subst, ◌∙◌, arith}
 use Rattle.std.proofs.lemmas.List.{length-map}
 use Rattle.std.specs.Prelude.{Option, Some, None, IfSome, IfNone, IsSome, ◌↔◌}
 use Rattle.std.specs.Option.{option_to_list}
+use Rattle.std.specs.List.{All}
 use Rattle.std.specs.Bool.{OnFalse}
 use Rattle.std.specs.Global.{Vec}
 use Rattle.spec_parser.specs.declared.tree.Entry.{Entry}
@@ -47,3 +48,8 @@ draft_left (d ∷ ds) behind some = λ same. cc
 pub on_false : (b : Bool) (P : Type 0) → P → OnFalse b P
 on_false true P p = tt
 on_false false P p = p
+
+-- what is so of all drafts is so of those behind the next
+pub all_behind : (P : Draft → Type 0) (drafts rest : List Draft) (next : Option Draft) → drafts ≡ option_to_list next ++ rest → All P drafts → All P rest
+all_behind P drafts rest None is all = subst (All P) is all
+all_behind P drafts rest (Some d) is all = let more = subst (All P) is all in λ k e lt. more (suc k) e (omega (arith, lt))

@@ -102,5 +102,5 @@ first_of (p ∷ ps) some = record { first = p; rest = ps; is = refl }
 
 -- where some are left and none came, no more may run
 pub none_left : (before now : ℕ) (more rest : List (List EntryTree)) → now ≡ before → rest ≡ more → rest ≢ [] → (before ≡ 0) ⊎ (more ≡ []) → now ≡ 0
-none_left before now more rest same_left same some (inl none) = same_left ∙ none
-none_left before now more rest same_left same some (inr none) = absurd (some (same ∙ none))
+none_left before now more rest same_left same some (inl zero_left) = same_left ∙ zero_left
+none_left before now more rest same_left same some (inr over) = absurd (some (same ∙ over))

@@ -1,5 +1,7 @@
 -- The run of a whole file.
-use Rattle.std.proofs.Common.{◌≡◌, ◌≢◌, ℕ, true, List, [], Option, Result, Ok, Err, subst}
+use Rattle.std.proofs.Common.{◌≡◌, ◌≢◌, ◌≤◌, ℕ, true, List, [], length, Option, Result, Ok, Err, subst}
+use Rattle.std.specs.Prelude.{IsUtf8}
+use Rattle.iso_lexer.specs.SpecText.{longest_file}
 use Rattle.std.specs.Io.KnownBytes.{Appends}
 use Rattle.permutation_lists.specs.Permutations.{permutations_of}
 use Rattle.spec_files.specs.declared.fault.RunFault.{RunFault}
@@ -7,7 +9,7 @@ use Rattle.spec_files.specs.declared.fault.RunFault.TheVariants as faults
 use Rattle.report_text.specs.Said.{Said}
 use Rattle.spec_files.proofs.Listing.{behind}
 use Rattle.spec_files.specs.FirstLine.{first_line}
-use Rattle.spec_files.specs.Files.{File, FileIs}
+use Rattle.spec_files.specs.Files.{File, FileIs, is_spec}
 use Rattle.spec_files.specs.Prints.{Prints, FileSays, refused, runs}
 use Rattle.spec_files.specs.Runs.{is_refusal, IsTold}
 use Rattle.spec_files.specs.Broken.{RunBroken, FileBroken}
@@ -47,3 +49,7 @@ broke bytes limit file wo wm wn eo en line is same put b = record {
   text = appends_more wo wm wn (first_line file.spec) b.said.text (subst (Appends wo wm) same put) b.text;
   notes = b.notes;
 }
+
+-- a spec is no longer than a file may be, and in UTF-8
+pub room_of : (bytes : List ℕ) (f : File) → FileIs bytes (Ok f) → (length bytes ≤ longest_file) × IsUtf8 bytes
+room_of bytes f (is_spec spec blocks few utf8 reads says) = (few, utf8)

@@ -20,6 +20,7 @@ returns g c =
       refused = search rules;
       untouched = c.run_file_freely.ensures.untouched;
       begun = of_file (λ file. Begun (FileSaysFreely file) wo wn eo en) c.run_file_freely.ensures.begun;
+      memory = c.run_file_freely.ensures.memory;
       broken = c.run_file_freely.ensures.broken;
       read = search rules;
       unread = search rules;

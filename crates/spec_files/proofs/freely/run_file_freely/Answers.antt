@@ -2,6 +2,7 @@ use Rattle.std.proofs.lemmas.Result.{err_from_is_err_and}
 use Rattle.spec_files.specs.BlockAnswers.{file_view}
 use Rattle.spec_files.proofs.Listing.{differs}
 use Rattle.spec_files.proofs.Beginning.{freely_begun}
+use Rattle.spec_files.proofs.Whole.{room_of}
 use Rattle.spec_files.proofs.freely.run_file_freely.Goals as goal
 
 pub returns-in_err-file-clause-refused : goal.returns-in_err-file-clause-refused
@@ -19,3 +20,6 @@ returns-clause-told g c ended = record {
 pub returns-clause-begun : goal.returns-clause-begun
 returns-clause-begun g c =
     freely_begun c.args.bytes.now (file_view c.in_ok-file.file) _ _ _ _ c.in_ok-file.ensures.ok (c.requires.runs _ _ _ _ _ _ c.run.ensures).begun
+
+pub returns-clause-room : goal.returns-clause-room
+returns-clause-room g c = λ _. room_of c.args.bytes.now (file_view c.in_ok-file.file) c.in_ok-file.ensures.ok

@@ -10,8 +10,8 @@ use Rattle.spec_files.proofs.Beginning.{at_sink, whole_begun, next_begun}
 use Rattle.spec_files.proofs.Turns.{draft_told, draft_begun, draft_broken, no_drafts, all_come, first_of, none_left}
 use Rattle.spec_files.proofs.run.run_permutations.Goals as goal
 
-pub loop-draft-init : goal.loop-draft-init
-loop-draft-init g c =
+pub loop-ahead-init : goal.loop-ahead-init
+loop-ahead-init g c =
     let spec = spec_view c.args.file.now.spec in
     let blocks = blocks_of c.args.file.now.blocks.items in
     let ahead = c.in_ok-ahead.ahead in
@@ -26,20 +26,20 @@ loop-draft-init g c =
       few,
     )
 
-pub loop-draft-preserved : goal.loop-draft-preserved
-loop-draft-preserved g c =
+pub loop-ahead-preserved : goal.loop-ahead-preserved
+loop-ahead-preserved g c =
     let spec = spec_view c.args.file.now.spec in
     let blocks = blocks_of c.args.file.now.blocks.items in
     let all = permutations_of spec in
-    let old = c.loop-draft.ahead in
+    let old = c.loop-ahead.ahead in
     let new = c.next.new.self in
     let more = to_come old.drafts.items old.behind.more in
     let rest = to_come new.drafts.items new.behind.more in
-    let so = c.loop-draft.invariant.0 in
+    let so = c.loop-ahead.invariant.0 in
     let wo = g.W.Sink.put_so_far c.args.out.now in
-    let wm = g.W.Sink.put_so_far c.loop-draft.out in
+    let wm = g.W.Sink.put_so_far c.loop-ahead.out in
     let eo = g.N.Sink.put_so_far c.args.notes.now in
-    let em = g.N.Sink.put_so_far c.loop-draft.notes in
+    let em = g.N.Sink.put_so_far c.loop-ahead.notes in
     let wn = g.W.Sink.put_so_far c.put.new.out in
     let en = g.N.Sink.put_so_far c.put.new.notes in
     let left : old.left ≡ new.left + 1 = search rules in
@@ -60,15 +60,15 @@ returns-in_err-put-clause-told g c =
     let spec = spec_view c.args.file.now.spec in
     let blocks = blocks_of c.args.file.now.blocks.items in
     let all = permutations_of spec in
-    let old = c.loop-draft.ahead in
+    let old = c.loop-ahead.ahead in
     let new = c.next.new.self in
     let more = to_come old.drafts.items old.behind.more in
     let rest = to_come new.drafts.items new.behind.more in
-    let so = c.loop-draft.invariant.0 in
+    let so = c.loop-ahead.invariant.0 in
     let wo = g.W.Sink.put_so_far c.args.out.now in
-    let wm = g.W.Sink.put_so_far c.loop-draft.out in
+    let wm = g.W.Sink.put_so_far c.loop-ahead.out in
     let eo = g.N.Sink.put_so_far c.args.notes.now in
-    let em = g.N.Sink.put_so_far c.loop-draft.notes in
+    let em = g.N.Sink.put_so_far c.loop-ahead.notes in
     let wn = g.W.Sink.put_so_far c.put.new.out in
     let en = g.N.Sink.put_so_far c.put.new.notes in
     let left : old.left ≡ new.left + 1 = search rules in
@@ -87,15 +87,15 @@ returns-in_err-put-clause-broken g c =
     let spec = spec_view c.args.file.now.spec in
     let blocks = blocks_of c.args.file.now.blocks.items in
     let all = permutations_of spec in
-    let old = c.loop-draft.ahead in
+    let old = c.loop-ahead.ahead in
     let new = c.next.new.self in
     let more = to_come old.drafts.items old.behind.more in
     let rest = to_come new.drafts.items new.behind.more in
-    let so = c.loop-draft.invariant.0 in
+    let so = c.loop-ahead.invariant.0 in
     let wo = g.W.Sink.put_so_far c.args.out.now in
-    let wm = g.W.Sink.put_so_far c.loop-draft.out in
+    let wm = g.W.Sink.put_so_far c.loop-ahead.out in
     let eo = g.N.Sink.put_so_far c.args.notes.now in
-    let em = g.N.Sink.put_so_far c.loop-draft.notes in
+    let em = g.N.Sink.put_so_far c.loop-ahead.notes in
     let left : old.left ≡ new.left + 1 = search rules in
     let some : 0 < old.left = omega (arith, left) in
     let next : more ≡ entries_of c.in-Some.draft ∷ rest = search rules in
@@ -109,15 +109,15 @@ returns-in_err-put-clause-begun g c =
     let spec = spec_view c.args.file.now.spec in
     let blocks = blocks_of c.args.file.now.blocks.items in
     let all = permutations_of spec in
-    let old = c.loop-draft.ahead in
+    let old = c.loop-ahead.ahead in
     let new = c.next.new.self in
     let more = to_come old.drafts.items old.behind.more in
     let rest = to_come new.drafts.items new.behind.more in
-    let so = c.loop-draft.invariant.0 in
+    let so = c.loop-ahead.invariant.0 in
     let wo = g.W.Sink.put_so_far c.args.out.now in
-    let wm = g.W.Sink.put_so_far c.loop-draft.out in
+    let wm = g.W.Sink.put_so_far c.loop-ahead.out in
     let eo = g.N.Sink.put_so_far c.args.notes.now in
-    let em = g.N.Sink.put_so_far c.loop-draft.notes in
+    let em = g.N.Sink.put_so_far c.loop-ahead.notes in
     let wn = g.W.Sink.put_so_far c.put.new.out in
     let en = g.N.Sink.put_so_far c.put.new.notes in
     let left : old.left ≡ new.left + 1 = search rules in
@@ -126,7 +126,7 @@ returns-in_err-put-clause-begun g c =
     let next : more ≡ entries_of c.in-Some.draft ∷ rest = search rules in
     let begun = draft_begun spec blocks c.in-Some.draft wm wn em en is c.put.ensures.front
     (λ off. let same = c.put.ensures.nothing off in (ap g.W.Sink.put_so_far same.0, ap g.N.Sink.put_so_far same.1))
-    (at_sink g.N.Sink.put_so_far c.loop-draft.notes c.put.new.notes _ c.put.ensures.order) in
+    (at_sink g.N.Sink.put_so_far c.loop-ahead.notes c.put.new.notes _ c.put.ensures.order) in
     next_begun spec blocks c.args.limit all wo wm wn eo em en old.left more (entries_of c.in-Some.draft) rest so next some begun
 
 pub returns-then-branch-clause-told : goal.returns-then-branch-clause-told
@@ -134,15 +134,15 @@ returns-then-branch-clause-told g c =
     let spec = spec_view c.args.file.now.spec in
     let blocks = blocks_of c.args.file.now.blocks.items in
     let all = permutations_of spec in
-    let old = c.loop-draft.ahead in
+    let old = c.loop-ahead.ahead in
     let new = c.next.new.self in
     let more = to_come old.drafts.items old.behind.more in
     let rest = to_come new.drafts.items new.behind.more in
-    let so = c.loop-draft.invariant.0 in
+    let so = c.loop-ahead.invariant.0 in
     let wo = g.W.Sink.put_so_far c.args.out.now in
-    let wm = g.W.Sink.put_so_far c.loop-draft.out in
+    let wm = g.W.Sink.put_so_far c.loop-ahead.out in
     let eo = g.N.Sink.put_so_far c.args.notes.now in
-    let em = g.N.Sink.put_so_far c.loop-draft.notes in
+    let em = g.N.Sink.put_so_far c.loop-ahead.notes in
     let left : new.left ≡ old.left = search rules in
     let same : rest ≡ more = search rules in
     let end_so = still spec blocks wo wm eo em c.args.limit all old.left more new.left rest left same so in
@@ -155,15 +155,15 @@ returns-clause-told g c =
     let spec = spec_view c.args.file.now.spec in
     let blocks = blocks_of c.args.file.now.blocks.items in
     let all = permutations_of spec in
-    let old = c.loop-draft.ahead in
+    let old = c.loop-ahead.ahead in
     let new = c.next.new.self in
     let more = to_come old.drafts.items old.behind.more in
     let rest = to_come new.drafts.items new.behind.more in
-    let so = c.loop-draft.invariant.0 in
+    let so = c.loop-ahead.invariant.0 in
     let wo = g.W.Sink.put_so_far c.args.out.now in
-    let wm = g.W.Sink.put_so_far c.loop-draft.out in
+    let wm = g.W.Sink.put_so_far c.loop-ahead.out in
     let eo = g.N.Sink.put_so_far c.args.notes.now in
-    let em = g.N.Sink.put_so_far c.loop-draft.notes in
+    let em = g.N.Sink.put_so_far c.loop-ahead.notes in
     let left : new.left ≡ old.left = search rules in
     let same : rest ≡ more = search rules in
     let end_so = still spec blocks wo wm eo em c.args.limit all old.left more new.left rest left same so in
@@ -187,37 +187,37 @@ returns-in_err-next-clause-begun g c =
     let spec = spec_view c.args.file.now.spec in
     let blocks = blocks_of c.args.file.now.blocks.items in
     let wo = g.W.Sink.put_so_far c.args.out.now in
-    let wm = g.W.Sink.put_so_far c.loop-draft.out in
+    let wm = g.W.Sink.put_so_far c.loop-ahead.out in
     let eo = g.N.Sink.put_so_far c.args.notes.now in
-    let em = g.N.Sink.put_so_far c.loop-draft.notes in
-    whole_begun spec blocks c.args.limit (permutations_of spec) wo wm eo em c.loop-draft.ahead.left (to_come c.loop-draft.ahead.drafts.items c.loop-draft.ahead.behind.more) c.loop-draft.invariant.0
+    let em = g.N.Sink.put_so_far c.loop-ahead.notes in
+    whole_begun spec blocks c.args.limit (permutations_of spec) wo wm eo em c.loop-ahead.ahead.left (to_come c.loop-ahead.ahead.drafts.items c.loop-ahead.ahead.behind.more) c.loop-ahead.invariant.0
 
 pub returns-in_err-is_over-clause-begun : goal.returns-in_err-is_over-clause-begun
 returns-in_err-is_over-clause-begun g c =
     let spec = spec_view c.args.file.now.spec in
     let blocks = blocks_of c.args.file.now.blocks.items in
     let wo = g.W.Sink.put_so_far c.args.out.now in
-    let wm = g.W.Sink.put_so_far c.loop-draft.out in
+    let wm = g.W.Sink.put_so_far c.loop-ahead.out in
     let eo = g.N.Sink.put_so_far c.args.notes.now in
-    let em = g.N.Sink.put_so_far c.loop-draft.notes in
-    whole_begun spec blocks c.args.limit (permutations_of spec) wo wm eo em c.loop-draft.ahead.left (to_come c.loop-draft.ahead.drafts.items c.loop-draft.ahead.behind.more) c.loop-draft.invariant.0
+    let em = g.N.Sink.put_so_far c.loop-ahead.notes in
+    whole_begun spec blocks c.args.limit (permutations_of spec) wo wm eo em c.loop-ahead.ahead.left (to_come c.loop-ahead.ahead.drafts.items c.loop-ahead.ahead.behind.more) c.loop-ahead.invariant.0
 
 pub returns-then-branch-clause-begun : goal.returns-then-branch-clause-begun
 returns-then-branch-clause-begun g c =
     let spec = spec_view c.args.file.now.spec in
     let blocks = blocks_of c.args.file.now.blocks.items in
     let wo = g.W.Sink.put_so_far c.args.out.now in
-    let wm = g.W.Sink.put_so_far c.loop-draft.out in
+    let wm = g.W.Sink.put_so_far c.loop-ahead.out in
     let eo = g.N.Sink.put_so_far c.args.notes.now in
-    let em = g.N.Sink.put_so_far c.loop-draft.notes in
-    whole_begun spec blocks c.args.limit (permutations_of spec) wo wm eo em c.loop-draft.ahead.left (to_come c.loop-draft.ahead.drafts.items c.loop-draft.ahead.behind.more) c.loop-draft.invariant.0
+    let em = g.N.Sink.put_so_far c.loop-ahead.notes in
+    whole_begun spec blocks c.args.limit (permutations_of spec) wo wm eo em c.loop-ahead.ahead.left (to_come c.loop-ahead.ahead.drafts.items c.loop-ahead.ahead.behind.more) c.loop-ahead.invariant.0
 
 pub returns-clause-begun : goal.returns-clause-begun
 returns-clause-begun g c =
     let spec = spec_view c.args.file.now.spec in
     let blocks = blocks_of c.args.file.now.blocks.items in
     let wo = g.W.Sink.put_so_far c.args.out.now in
-    let wm = g.W.Sink.put_so_far c.loop-draft.out in
+    let wm = g.W.Sink.put_so_far c.loop-ahead.out in
     let eo = g.N.Sink.put_so_far c.args.notes.now in
-    let em = g.N.Sink.put_so_far c.loop-draft.notes in
-    whole_begun spec blocks c.args.limit (permutations_of spec) wo wm eo em c.loop-draft.ahead.left (to_come c.loop-draft.ahead.drafts.items c.loop-draft.ahead.behind.more) c.loop-draft.invariant.0
+    let em = g.N.Sink.put_so_far c.loop-ahead.notes in
+    whole_begun spec blocks c.args.limit (permutations_of spec) wo wm eo em c.loop-ahead.ahead.left (to_come c.loop-ahead.ahead.drafts.items c.loop-ahead.ahead.behind.more) c.loop-ahead.invariant.0

@@ -8,12 +8,12 @@ use Rattle.spec_files.specs.Inner.Drafts.{to_come}
 use Rattle.spec_files.proofs.Printing.{SoFar}
 use Rattle.spec_files.proofs.run.run_permutations.Given as goal
 
-abbrev pub invariant-loop-draft : goal.invariant-loop-draft
-invariant-loop-draft g l =
+abbrev pub invariant-loop-ahead : goal.invariant-loop-ahead
+invariant-loop-ahead g l =
     SoFar (spec_view l.file.spec) (blocks_of l.file.blocks.items) (g.W.Sink.put_so_far l.fn.out) (g.W.Sink.put_so_far l.out) (g.N.Sink.put_so_far l.fn.notes) (g.N.Sink.put_so_far l.notes)
     l.limit (permutations_of (spec_view l.file.spec)) l.ahead.left (to_come l.ahead.drafts.items l.ahead.behind.more)
     × All (IsDraft (spec_view l.file.spec) (blocks_of l.file.blocks.items)) l.ahead.drafts.items
     × (length l.ahead.drafts.items ≤ l.ahead.left)
 
-abbrev pub decreases-loop-draft : goal.decreases-loop-draft
-decreases-loop-draft g l = l.ahead.left
+abbrev pub decreases-loop-ahead : goal.decreases-loop-ahead
+decreases-loop-ahead g l = l.ahead.left
