@@ -1,9 +1,10 @@
 //! The rows that pass WHERE.
 
-ghost use Rattle.std.specs.Prelude.{◌≡◌, ◌<◌, All, IfOk, length, map, option_map};
+ghost use Rattle.std.specs.Prelude.{◌≡◌, ◌<◌, ◌⊎◌, All, Any, IfOk, IsErrOf, IsSomeAnd, Ok, length, map, option_map, true};
 ghost use Rattle.sql_trees.specs.Statements.{column_of};
 ghost use Rattle.sql_trees.specs.Trees.{tree_of};
 ghost use Rattle.sql_values.specs.Expressions.{passes};
+ghost use Rattle.sql_values.specs.Growing.{may_grow};
 ghost use Rattle.sql_values.specs.Values.{Answers};
 ghost use Rattle.session_queries.specs.Fronts.{AnswersList};
 ghost use Rattle.query_results.specs.Queries.{cols_of, passing};
@@ -21,7 +22,8 @@ fn is_taken<'a>(
     row: &Row,
 ) -> Result<bool, ValueFault<'a>>
     requires { length row.now ≡ length columns.now }
-    ensures { Answers result (passes (option_map tree_of filter.now) columns.now row.now) }
+    ensures exact { Answers result (passes (option_map tree_of filter.now) columns.now row.now) }
+    ensures memory { IsErrOf result ValueFault.Memory → IsSomeAnd filter.now (λ expr. may_grow (tree_of expr) ≡ true) }
 {
     match filter {
         Some(expr) => passes(alloc, Some(expr), columns, row),
@@ -38,6 +40,8 @@ pub fn passing<'a>(
 ) -> Result<Vec<usize>, ValueFault<'a>>
     requires { All (λ row. length row.now ≡ length columns.now) rows.now }
     ensures places { AnswersList result (passing columns.now (option_map tree_of filter.now) (map (λ row. row.now) rows.now)) }
+    // A condition may grow, and so does the list with each row that passes.
+    ensures memory { IsErrOf result ValueFault.Memory → IsSomeAnd filter.now (λ expr. may_grow (tree_of expr) ≡ true) ⊎ Any (λ row. passes (option_map tree_of filter.now) columns.now row.now ≡ Ok true) rows.now }
     ensures within { IfOk result (λ places. All (λ p. p < length rows.now) places.items) }
 {
     let mut places = Vec::new(alloc);
