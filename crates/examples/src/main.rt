@@ -1,7 +1,7 @@
 //! Runs each example of the repository, and compares what it prints with what is expected. A plain example lies in
 //! `specs` and its text in `expected`. One that has options, is refused, ends early, or has notes lies in `faults`, and one
 //! of which PostgreSQL prints another text in `differences`, beside its words, its text, its lines on standard error and its
-//! status. Where the words are refused, the lines on standard error are clap's own, and not compared.
+//! status.
 #![tactic(auto)]
 
 use anyhow::Result;
@@ -13,9 +13,6 @@ use std::process::ExitCode;
 use std::rt::Runtime;
 use std::sync::Wait;
 use std::thread::Threads;
-
-/// The status where the words of the command line are refused.
-const WORDS_REFUSED: u8 = 2;
 
 /// What a run of the program gives.
 #[derive(Drop)]
@@ -109,8 +106,7 @@ fn ends_so<R: Runtime + AllocGlobal + Threads + Wait + Sync>(
     let err = bytes_or_none(rt, format!(in alloc; "{folder}/{name}.err")?.as_str())?;
     let status = status_or_zero(rt, format!(in alloc; "{folder}/{name}.status")?.as_str())?;
     let outcome = outcome_of(rt, alloc, &words, &spec);
-    let is_told_so = status == WORDS_REFUSED || outcome.err == err;
-    Ok(outcome.out == out && is_told_so && outcome.status == status)
+    Ok(outcome.out == out && outcome.err == err && outcome.status == status)
 }
 
 fn run<R: Runtime + AllocGlobal + Threads + Wait + Sync>(rt: &R) -> Result<bool> {

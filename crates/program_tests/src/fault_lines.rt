@@ -1,17 +1,26 @@
-//! The printed line of each fault.
+//! The printed line of each fault, and what the program puts of it at its end.
 
 use crate::asking::holds;
 use iso_lexer::{Fault, FaultKind};
 use permutations::{BlockFault, RunFault};
+use program_words::end;
 use session_threads::ThreadFault;
 use spec_parser::{SpecFault, What};
 use sql_trees::SqlFault;
 use std::alloc::{AllocError, Global};
 use std::process::Abort;
+use test_devices::Takes;
 
-fn is_told(rt: &impl Abort, alloc: Global, fault: &RunFault, line: &str) -> Result<(), AllocError> {
-    let told = format!(in alloc; "{fault}")?;
-    holds(rt, told.as_str() == line, line);
+/// A fault prints this line, and the program puts the same one behind its name; no memory is wanted for that.
+fn is_told(rt: &impl Abort, alloc: Global, fault: RunFault, line: &str) -> Result<(), AllocError> {
+    let mut err = Takes::new(usize::MAX);
+    let told = format!(in alloc; "{fault}");
+    let status = end(Err(fault), b"", false, &mut err);
+    let text = err.text().strip_prefix(b"isolationtester: ".as_slice());
+    let text = text.and_then(|text| text.strip_suffix(b"\n".as_slice()));
+    holds(rt, text == Some(line.as_bytes()), line);
+    holds(rt, status == 1 || status == 3, line);
+    holds(rt, told?.as_str() == line, line);
     Ok(())
 }
 
@@ -32,7 +41,7 @@ fn faults_of_a_run(rt: HostRuntime) -> Result<(), AllocError> {
         (RunFault::NotUtf8 { at: 17 }, "R11 NotUtf8 at byte 17"),
         (RunFault::Memory, "Memory"),
     ] {
-        is_told(&rt, rt.alloc(), &fault, line)?;
+        is_told(&rt, rt.alloc(), fault, line)?;
     }
     Ok(())
 }
@@ -61,12 +70,8 @@ fn faults_of_tokens(rt: HostRuntime) -> Result<(), AllocError> {
         ),
         (FaultKind::NumberTooLarge, "L8 NumberTooLarge at byte 17"),
     ] {
-        is_told(
-            &rt,
-            rt.alloc(),
-            &RunFault::Lex(Fault { kind, at: 17 }),
-            line,
-        )?;
+        let fault = RunFault::Lex(Fault { kind, at: 17 });
+        is_told(&rt, rt.alloc(), fault, line)?;
     }
     Ok(())
 }
@@ -88,6 +93,34 @@ fn faults_of_a_spec(rt: HostRuntime) -> Result<(), AllocError> {
                 at,
             },
             "S1 Expected Step at byte 1048576",
+        ),
+        (
+            SpecFault::Expected {
+                what: What::Name,
+                at,
+            },
+            "S1 Expected Name at byte 1048576",
+        ),
+        (
+            SpecFault::Expected {
+                what: What::Block,
+                at,
+            },
+            "S1 Expected Block at byte 1048576",
+        ),
+        (
+            SpecFault::Expected {
+                what: What::Marker,
+                at,
+            },
+            "S1 Expected Marker at byte 1048576",
+        ),
+        (
+            SpecFault::Expected {
+                what: What::Item,
+                at,
+            },
+            "S1 Expected Item at byte 1048576",
         ),
         (
             SpecFault::Expected {
@@ -114,7 +147,7 @@ fn faults_of_a_spec(rt: HostRuntime) -> Result<(), AllocError> {
         ),
         (SpecFault::Limit { at }, "S6 Limit at byte 1048576"),
     ] {
-        is_told(&rt, rt.alloc(), &RunFault::Spec(fault), line)?;
+        is_told(&rt, rt.alloc(), RunFault::Spec(fault), line)?;
     }
     Ok(())
 }
@@ -136,7 +169,7 @@ fn faults_of_a_block(rt: HostRuntime) -> Result<(), AllocError> {
         (SqlFault::BadColumns(26), "Q6 BadColumns at byte 1026"),
     ] {
         let told = BlockFault { block: 1000, fault };
-        is_told(&rt, rt.alloc(), &RunFault::Sql(told), line)?;
+        is_told(&rt, rt.alloc(), RunFault::Sql(told), line)?;
     }
     Ok(())
 }

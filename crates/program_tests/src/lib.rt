@@ -1,5 +1,5 @@
 //! The tests of `permutations` and `program_words`, over their public calls alone: the words of a command line, devices that fail,
-//! the longest file, what a terminal shows besides, and the printed line of each fault. What an example file shows has no test.
+//! the longest file, want of memory, what a terminal shows besides, and the printed line of each fault. What an example file shows has no test.
 #![tactic(auto)]
 
 #[cfg(test)]
@@ -14,6 +14,8 @@ mod fault_lines;
 mod files;
 #[cfg(test)]
 mod main_call;
+#[cfg(test)]
+mod memory;
 #[cfg(test)]
 mod plans;
 #[cfg(test)]

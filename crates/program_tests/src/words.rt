@@ -1,6 +1,6 @@
 //! The options that words give, and those that are refused.
 
-use crate::asking::{ENDLESS, holds, served, words_of};
+use crate::asking::{ENDLESS, ends, holds, served, words_of};
 use program_words::options_of;
 use std::alloc::AllocError;
 use std::test::Fail;
@@ -30,26 +30,68 @@ fn words_give_options(rt: HostRuntime) -> Result<(), Fail> {
     Ok(())
 }
 
+const TRY_HELP: &str = "\n\nFor more information, try '--help'.\n";
+
+const USAGE: &str = "\n\nUsage: isolationtester [OPTIONS] < FILE";
+
 #[test]
-fn other_words_are_refused_and_help_is_given(rt: HostRuntime) -> Result<(), AllocError> {
-    for (words, status) in [
-        (["--limit", "x"].as_slice(), 2),
-        (["--limit", "4294967296"].as_slice(), 2),
-        (["--limit", "-1"].as_slice(), 2),
-        (["--limit"].as_slice(), 2),
-        (["--threads"].as_slice(), 2),
-        (["file.spec"].as_slice(), 2),
-        (["--help"].as_slice(), 0),
+fn other_words_are_refused(rt: HostRuntime) -> Result<(), AllocError> {
+    let alloc = rt.alloc();
+    for (words, fault, usage) in [
+        (
+            ["--limit", "x"].as_slice(),
+            "invalid value 'x' for '--limit <N>': invalid digit found in string",
+            "",
+        ),
+        (
+            ["--limit", "4294967296"].as_slice(),
+            "invalid value '4294967296' for '--limit <N>': 4294967296 is not in 0..=4294967295",
+            "",
+        ),
+        (
+            ["--limit"].as_slice(),
+            "a value is required for '--limit <N>' but none was supplied",
+            "",
+        ),
+        (
+            ["--list", "--list"].as_slice(),
+            "the argument '--list' cannot be used multiple times",
+            USAGE,
+        ),
+        (
+            ["--limit", "-1"].as_slice(),
+            "unexpected argument '-1' found",
+            USAGE,
+        ),
+        (
+            ["--threads"].as_slice(),
+            "unexpected argument '--threads' found",
+            USAGE,
+        ),
+        (
+            ["file.spec"].as_slice(),
+            "unexpected argument 'file.spec' found",
+            USAGE,
+        ),
     ] {
+        let text = format!(in alloc; "error: {fault}{usage}{TRY_HELP}")?;
+        let mut input = Gives::new("", 0);
+        let run = served(&rt, alloc, words, &mut input, ENDLESS)?;
+        ends(&rt, &run, 2, "", text.as_str());
+        holds(&rt, !input.failed, "nothing is read");
+    }
+    Ok(())
+}
+
+#[test]
+fn help_goes_to_the_output(rt: HostRuntime) -> Result<(), AllocError> {
+    for words in [["--help"].as_slice(), ["-h"].as_slice()] {
         let mut input = Gives::new("", 0);
         let run = served(&rt, rt.alloc(), words, &mut input, ENDLESS)?;
-        holds(&rt, run.status == status, "the status");
-        holds(&rt, run.out.text().is_empty() == (status != 0), "help");
-        holds(
-            &rt,
-            run.err.text().is_empty() == (status != 2),
-            "the refusal",
-        );
+        holds(&rt, run.status == 0, "the status");
+        let about = b"Runs the permutations of the spec file that comes on standard input\n";
+        holds(&rt, run.out.text().starts_with(about.as_slice()), "help");
+        holds(&rt, run.err.text().is_empty(), "no fault");
     }
     Ok(())
 }

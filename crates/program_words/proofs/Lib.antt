@@ -1,2 +1,4 @@
+pub mod Lines
 pub mod Words
 pub mod Putting
+pub mod Serving

@@ -1,4 +1,6 @@
 pub mod Options
+pub mod Places
 pub mod Quote
+pub mod Served
 pub mod Shell
 pub mod Terminal

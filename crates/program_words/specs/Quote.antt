@@ -29,8 +29,11 @@ begins_character b = nat_lt b 128 || nat_le 192 b
 abbrev pub columns : List ℕ → ℕ
 columns text = count_by begins_character text
 
+abbrev pub label_of : List ℕ → List ℕ
+label_of number = codes "LINE " ++ number ++ codes ": "
+
 abbrev pub label : ℕ → List ℕ
-label number = codes "LINE " ++ decimal number ++ codes ": "
+label number = label_of (decimal number)
 
 -- a line with its label before it, and below it a mark under the byte that ends the line's first part
 abbrev pub marked : List ℕ → List ℕ → List ℕ → List ℕ

@@ -2,12 +2,16 @@
 //! who reads at a terminal.
 #![tactic(auto)]
 
+mod fault_line;
+mod in_memory;
 pub mod laws;
 mod options;
+mod pieces;
 mod program;
 mod quote;
 mod terminal;
 
+pub use in_memory::InMemory;
 pub use options::{DEFAULT_LIMIT, Options, options_of, status_of};
 pub use program::{end, take_words};
-pub use terminal::{end_there, read_there};
+pub use terminal::read_there;

@@ -1,61 +1,75 @@
 //! What the program says beside what it runs: of words that are refused, and of faults.
 
-ghost use Rattle.std.specs.Prelude.{◌≡◌, [], IfErr, IfOk, OnOk, map, string_bytes, true};
-ghost use Rattle.clap.specs.Words.{fault_of, kind_of};
+ghost use Rattle.std.specs.Prelude.{◌≡◌, ◌++◌, ℕ, List, [], IfErr, IfOk, IsErr, OnErr, OnOk, map, string_bytes, true};
+ghost use Rattle.std.specs.Io.KnownBytes.{Appends};
+ghost use Rattle.clap.specs.Words.{HasKind, Kinds, fault_of, kind_of};
+ghost use Rattle.clap.specs.declared.error.kind.ErrorKind.TheVariants.{OutOfMemory};
+ghost use Rattle.iso_lexer.specs.Devices.{PutsFront};
+ghost use Rattle.spec_files.specs.FaultText.{fault_line};
 ghost use Rattle.program_words.specs.Options.{program, GivesOptions};
-ghost use Rattle.program_words.specs.Shell.{IsRefused, IsPutOut, Took, TookLine, TellsFault, exit_status, is_request};
+ghost use Rattle.spec_files.specs.Runs.{status_of};
+ghost use Rattle.program_words.specs.Places.{quoted_at};
+ghost use Rattle.program_words.specs.Shell.{IsPutOut, IsRefused, Took, exit_status, is_request};
+ghost use Rattle.program_words.specs.Terminal.{TellsFault, quote_of};
 
+use crate::fault_line::{place_of, put_fault};
 use crate::options::{Options, options_of, status_of};
-use iso_lexer::Sink;
+use crate::pieces::put_text;
+use crate::quote::put_quote;
+use clap::Error;
+use clap::error::ErrorKind;
+use iso_lexer::{DeviceFault, Sink};
 use spec_files::RunFault;
-use std::alloc::Global;
+use std::alloc::{AllocError, Global};
 
-/// Puts a text; of a sink that fails there is no one to tell.
-pub(crate) fn put_text<N: Sink>(sink: &mut N, text: &[u8])
-    ensures puts { Took (N.failed sink.new) (N.put_so_far sink.old) (N.put_so_far sink.new) text.now }
-    ensures stays { N.failed sink.old ≡ true → N.failed sink.new ≡ true }
+/// What clap says of words that give no options. Clap's own want of memory is a fault here too.
+fn said_of(alloc: Global, error: &Error) -> Result<String, AllocError>
+    ensures { kind_of error.now ≡ OutOfMemory → IsErr result }
 {
-    let _ = sink.put(text);
-}
-
-/// Puts a fault's line. Where memory for it is refused the line says so.
-pub(crate) fn put_fault<N: Sink>(alloc: Global, err: &mut N, fault: &RunFault)
-    ensures { TookLine fault.now (N.failed err.new) (N.put_so_far err.old) (N.put_so_far err.new) }
-{
-    match format!(in alloc; "isolationtester: {fault}\n") {
-        Ok(line) => put_text(err, line.as_bytes()),
-        Err(_) => put_text(err, b"isolationtester: Memory\n"),
+    if error.kind() == ErrorKind::OutOfMemory {
+        return Err(AllocError);
     }
+    format!(in alloc; "{error}")
 }
 
-/// Puts what clap says of words that give no options: help goes to the output, a mistake to the errors.
-fn put_error<W: Sink, N: Sink>(alloc: Global, out: &mut W, err: &mut N, error: &clap::Error)
-    ensures { IsPutOut (is_request (kind_of error.now)) (W.failed out.new) (W.put_so_far out.old) (W.put_so_far out.new)
+/// Puts what clap says: help goes to the output, a mistake to the errors.
+fn put_said<W: Sink, N: Sink>(out: &mut W, err: &mut N, error: &Error, text: &[u8])
+    ensures { IsPutOut (is_request (kind_of error.now)) text.now (W.failed out.new) (W.put_so_far out.old) (W.put_so_far out.new)
         (N.failed err.new) (N.put_so_far err.old) (N.put_so_far err.new) }
 {
-    match format!(in alloc; "{error}") {
-        Ok(text) if error.use_stderr() => put_text(err, text.as_bytes()),
-        Ok(text) => put_text(out, text.as_bytes()),
-        Err(_) => put_text(err, b"isolationtester: Memory\n"),
+    if error.use_stderr() {
+        put_text(err, text);
+    } else {
+        put_text(out, text);
     }
 }
 
-/// The exit status of a run, whose fault is told.
-pub fn end<N: Sink>(alloc: Global, answer: Result<(), RunFault>, err: &mut N) -> u8
-    ensures status { result ≡ exit_status answer }
-    ensures told { TellsFault answer (N.failed err.new) (N.put_so_far err.old) (N.put_so_far err.new) }
+/// Tells a fault, and gives its exit status.
+pub(crate) fn told<N: Sink>(err: &mut N, fault: &RunFault) -> u8
+    ensures told { Took (N.failed err.new) (N.put_so_far err.old) (N.put_so_far err.new) (fault_line fault.now) }
+    ensures status { result ≡ status_of fault.now }
 {
-    match answer {
-        Ok(()) => 0,
-        Err(fault) => {
-            put_fault(alloc, err, &fault);
-            fault.status()
+    let _ = put_fault(err, fault);
+    fault.status()
+}
+
+/// Says why the words give no options, and gives the exit status.
+fn refuse<W: Sink, N: Sink>(alloc: Global, out: &mut W, err: &mut N, error: &Error) -> u8
+    ensures { (kinds : Kinds) → HasKind kinds error.now → IsRefused kinds (W.failed out.new) (W.put_so_far out.old) (W.put_so_far out.new)
+        (N.failed err.new) (N.put_so_far err.old) (N.put_so_far err.new) result }
+{
+    match said_of(alloc, error) {
+        Ok(text) => {
+            put_said(out, err, error, text.as_bytes());
+            status_of(error)
         }
+        Err(_) => told(err, &RunFault::Memory),
     }
 }
 
 /// The options among the words of a command line, of which the first is the program's name. Where they give none, what clap says of
-/// them is put, and the answer is the exit status: 0 after help was asked for, 3 where memory was refused, else 2.
+/// them is put, and the answer is the exit status: 0 after help was asked for, 2 where the words are refused; where memory was refused
+/// that is told, and the status is 3.
 pub fn take_words<W: Sink, N: Sink>(
     alloc: Global,
     words: &[String],
@@ -64,14 +78,52 @@ pub fn take_words<W: Sink, N: Sink>(
 ) -> Result<Options, u8>
     ensures gives { IfOk result (λ options. (fault_of program (map string_bytes words.now) ≡ []) × GivesOptions (map string_bytes words.now) options) }
     ensures untouched { OnOk result ((out.new ≡ out.old) × (err.new ≡ err.old)) }
-    ensures refused { IfErr result (IsRefused (map string_bytes words.now) (W.failed out.new) (W.put_so_far out.old) (W.put_so_far out.new)
+    ensures refused { IfErr result (IsRefused (fault_of program (map string_bytes words.now)) (W.failed out.new) (W.put_so_far out.old) (W.put_so_far out.new)
         (N.failed err.new) (N.put_so_far err.old) (N.put_so_far err.new)) }
 {
     match options_of(alloc, words) {
         Ok(options) => Ok(options),
-        Err(error) => {
-            put_error(alloc, out, err, &error);
-            Err(status_of(&error))
+        Err(error) => Err(refuse(alloc, out, err, &error)),
+    }
+}
+
+/// The byte at which the file is quoted: at a terminal (`there`) the one that the fault names.
+fn place_there(fault: &RunFault, there: bool) -> Option<usize>
+    ensures { (file : List ℕ) → quoted_at file result ≡ quote_of there file fault.now }
+{
+    if there { place_of(fault) } else { None }
+}
+
+/// Puts the line of a fault, and at a terminal (`there`) behind it the line of the file that it names.
+fn tell<N: Sink>(err: &mut N, fault: &RunFault, file: &[u8], there: bool) -> Result<(), DeviceFault>
+    ensures bytes { OnOk result (Appends (N.put_so_far err.old) (N.put_so_far err.new) (fault_line fault.now ++ quote_of there file.now fault.now)) }
+    ensures front { PutsFront (N.put_so_far err.old) (N.put_so_far err.new) (fault_line fault.now ++ quote_of there file.now fault.now) }
+    ensures fails { OnErr result (N.failed err.new ≡ true) }
+    ensures stays { N.failed err.old ≡ true → N.failed err.new ≡ true }
+{
+    put_fault(err, fault)?;
+    put_quote(err, file, place_there(fault, there))
+}
+
+/// Tells a fault, and at a terminal (`there`) the line of the file that it names; of a sink that fails there is no one to tell.
+fn tell_both<N: Sink>(err: &mut N, fault: &RunFault, file: &[u8], there: bool)
+    ensures told { Took (N.failed err.new) (N.put_so_far err.old) (N.put_so_far err.new) (fault_line fault.now ++ quote_of there file.now fault.now) }
+    ensures stays { N.failed err.old ≡ true → N.failed err.new ≡ true }
+{
+    let _ = tell(err, fault, file, there);
+}
+
+/// The exit status of a run of a file. Its fault is told, and at a terminal (`there`) the line of the file that it names.
+pub fn end<N: Sink>(answer: Result<(), RunFault>, file: &[u8], there: bool, err: &mut N) -> u8
+    ensures status { result ≡ exit_status answer }
+    ensures told { TellsFault there file.now answer (N.failed err.new) (N.put_so_far err.old) (N.put_so_far err.new) }
+    ensures stays { N.failed err.old ≡ true → N.failed err.new ≡ true }
+{
+    match answer {
+        Ok(()) => 0,
+        Err(fault) => {
+            tell_both(err, &fault, file, there);
+            fault.status()
         }
     }
 }
