@@ -1,7 +1,7 @@
 use Rattle.std.proofs.lemmas.Result.{err_from_is_err_and}
 use Rattle.std.proofs.Common.{◌∙◌}
 use Rattle.spec_files.specs.BlockAnswers.{file_view}
-use Rattle.spec_files.proofs.Whole.{refused_file, ran, broke}
+use Rattle.spec_files.proofs.Whole.{refused_file, ran, broke, room_of}
 use Rattle.spec_files.proofs.Beginning.{no_line_begun, file_begun}
 use Rattle.spec_files.proofs.run.run_file.Goals as goal
 
@@ -46,3 +46,9 @@ returns-clause-begun g c =
     let eo = g.N.Sink.put_so_far c.args.notes.now in
     let en = g.N.Sink.put_so_far c.run_permutations.new.notes in
     file_begun c.args.bytes.now c.args.limit (file_view c.in_ok-file.file) (g.W.Sink.put_so_far c.args.out.now) wm wn eo en c.as_slice.result.now c.in_ok-file.ensures.ok line c.in_ok-put.ensures.bytes c.run_permutations.ensures.begun
+
+pub returns-in_err-line-clause-room : goal.returns-in_err-line-clause-room
+returns-in_err-line-clause-room g c = λ _. room_of c.args.bytes.now (file_view c.in_ok-file.file) c.in_ok-file.ensures.ok
+
+pub returns-clause-room : goal.returns-clause-room
+returns-clause-room g c = λ _. room_of c.args.bytes.now (file_view c.in_ok-file.file) c.in_ok-file.ensures.ok

@@ -182,8 +182,8 @@ returns-in_err-ahead-clause-begun g c =
     let notes = g.N.Sink.put_so_far c.args.notes.now in
     whole_begun spec blocks c.args.limit all out out notes notes c.args.limit all (starts spec blocks out notes c.args.limit all)
 
-pub returns-in_err-next-clause-begun : goal.returns-in_err-next-clause-begun
-returns-in_err-next-clause-begun g c =
+pub returns-in_err-draft-clause-begun : goal.returns-in_err-draft-clause-begun
+returns-in_err-draft-clause-begun g c =
     let spec = spec_view c.args.file.now.spec in
     let blocks = blocks_of c.args.file.now.blocks.items in
     let wo = g.W.Sink.put_so_far c.args.out.now in

@@ -13,6 +13,6 @@ pub returns-in-Err : goal.returns-in-Err
 returns-in-Err g c =
     let post : Vec Entry → Draft → Type 0 = λ entries draft. g.F.Fn.post c.args.run.now (entries, tt) draft in
     let ran : RanEach post c.args.taken.items c.call.result.items =
-    subst (λ v. RanEach (λ entries draft. g.F.Fn.post v.1.now (entries, tt) draft) v.2.items c.call.result.items) c.in-Err.ensures.err c.call.ensures in
+    subst (λ v. RanEach (λ entries draft. g.F.Fn.post v.0.now (entries, tt) draft) v.1.items c.call.result.items) c.in-Err.ensures.err c.call.ensures in
     let are = ran_are_drafts _ post (g.L.Lent.gives c.args.lent.now) c.args.taken.items c.call.result c.requires.runs ran in
     (are.given, are.entries)
