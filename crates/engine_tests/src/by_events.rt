@@ -2,7 +2,7 @@
 
 use crate::trial::{Line, at_last, blocks, holds};
 use row_versions::ListStore;
-use session_core::{EngineFault, EngineState, Mode, Outcome};
+use session_core::{EngineFault, EngineState, Mode, Outcome, Reply};
 use sql_parser::Block;
 use std::alloc::{AllocError, Global};
 use std::process::Abort;
@@ -14,9 +14,9 @@ fn sees_the_row(alloc: Global, blocks: &[Block<'static>]) -> Result<bool, Engine
     engine.step(0)?;
     engine.step(0)?;
     engine.launch(1, 1)?;
-    let reply = engine.step(1)?;
-    match reply.outcome {
-        Outcome::Rows(set) => Ok(set.rows().len() == 1 && reply.ended),
+    let Reply { outcome, ended } = engine.step(1)?;
+    match outcome {
+        Outcome::Rows(set) => Ok(set.rows().len() == 1 && ended),
         _ => Ok(false),
     }
 }

@@ -11,9 +11,9 @@
 //!     engine.step(0)?;
 //!     engine.step(0)?;
 //!     engine.launch(1, 1)?;
-//!     let reply = engine.step(1)?;
-//!     match reply.outcome {
-//!         Outcome::Rows(set) => Ok(set.rows().len() == 1 && reply.ended),
+//!     let Reply { outcome, ended } = engine.step(1)?;
+//!     match outcome {
+//!         Outcome::Rows(set) => Ok(set.rows().len() == 1 && ended),
 //!         _ => Ok(false),
 //!     }
 //! }
