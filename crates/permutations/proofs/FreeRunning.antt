@@ -1,5 +1,5 @@
 -- A closed run whose launches fit has a history of the spec's free run; what is told of it.
-use Rattle.std.proofs.Common.{◌≡◌, ◌⊎◌, inl, inr, ℕ, length, Result, Ok, Err, IfErr, true, false, refl, sym, ap, subst, ◌∙◌, true≢false}
+use Rattle.std.proofs.Common.{◌≡◌, ◌⊎◌, inl, inr, ℕ, length, Result, Ok, Err, IfErr, true, refl, sym, ap, subst, ◌∙◌, true≢false}
 use Rattle.std.specs.Prelude.{IfOk, IsTrue}
 use Rattle.iso_lexer.specs.declared.device.Sink.{Ghosts as Sink}
 use Rattle.session_machine.specs.declared.event.Mode.{Mode}
@@ -19,7 +19,7 @@ use Rattle.spec_files.specs.Runners.{RanFreely}
 use Rattle.spec_files.proofs.Beginning.{free_begun}
 use Rattle.spec_files.proofs.FreeTelling.{free_is_told, free_kind, free_unbroken, free_fails}
 use Rattle.spec_files.proofs.Telling.{run_is_one, run_is_unended, run_is_unwritten}
-use Rattle.permutations.specs.Telling.{Tells, TellsOne}
+use Rattle.permutations.specs.Telling.{Tells}
 
 pub free_regular : (spec : SpecTree) (blocks : Blocks) (e : Engine) → IsOf e blocks (length spec.sessions) Free → IsLegal e.blocks e.count e.mode e.history → FreeFits (free_launches spec) e.history → IsFreeRegular spec blocks e.history
 free_regular spec blocks e of legal fits = record {
@@ -52,7 +52,7 @@ module _ {W N : Type 0} (sink : Sink W) (noted : Sink N) (spec : SpecTree) (bloc
       err_is a b same = cc
 
   -- a closed run was told by its history
-  run_told : (run : Result ClosedOf RunFault) (result : Result (Unit {0}) RunFault)
+  pub run_told : (run : Result ClosedOf RunFault) (result : Result (Unit {0}) RunFault)
       → IfOk run (λ c. IsFreeRegular spec blocks c.state.history) → IfErr run (λ e. is_of_run e ≡ true) → Tells sink noted spec run wo wn eo en result → RanFreely sink noted spec blocks wo wn eo en result
   run_told (Err e) result regular kind told = fault_told e result kind told
   run_told (Ok closed) result regular kind told =
@@ -72,11 +72,3 @@ module _ {W N : Type 0} (sink : Sink W) (noted : Sink N) (spec : SpecTree) (bloc
         write = free_fails spec items to tn no nn fo fn go gn result told;
         kinds = free_kind spec items to tn no nn fo fn go gn result told;
       }
-
-  -- and so was what one run gave
-  pub one_told : (gives : Result ClosedOf RunFault → Type 0) (result : Result (Unit {0}) RunFault)
-      → ((run : Result ClosedOf RunFault) → gives run → IfOk run (λ c. IsFreeRegular spec blocks c.state.history) × IfErr run (λ e. is_of_run e ≡ true))
-      → TellsOne sink noted spec gives wo wn eo en result → RanFreely sink noted spec blocks wo wn eo en result
-  one_told gives result each one =
-      let of = each one.run one.given in
-      run_told one.run result of.0 of.1 one.told

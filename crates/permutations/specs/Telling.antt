@@ -14,9 +14,3 @@ module _ {W N : Type 0} (sink : Sink W) (noted : Sink N) (spec : SpecTree) where
       IsFreeWritten spec closed.state.history (sink.put_so_far out_old) (sink.put_so_far out_new) (noted.put_so_far notes_old) (noted.put_so_far notes_new)
       (sink.failed out_old) (sink.failed out_new) (noted.failed notes_old) (noted.failed notes_new) result
   Tells (Err e) out_old out_new notes_old notes_new result = (result ≡ Err e) × Untouched out_old out_new notes_old notes_new
-
-  -- a run gave this, and that is told
-  pub record TellsOne (gives : Result ClosedOf RunFault → Type 0) (out_old out_new : W) (notes_old notes_new : N) (result : Result (Unit {0}) RunFault) : Type 0 where
-    pub run : Result ClosedOf RunFault
-    pub given : gives run
-    pub told : Tells run out_old out_new notes_old notes_new result

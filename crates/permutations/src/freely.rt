@@ -1,15 +1,12 @@
 //! Runs a spec file freely: each session's steps in their order, with no order between sessions.
 
-ghost use Rattle.std.specs.Prelude.{◌≡◌, true, IfOk, IfErr};
 ghost use Rattle.sql_blocks.specs.Blocks.{blocks_of};
 ghost use Rattle.spec_parser.specs.Trees.{spec_view};
 ghost use Rattle.spec_parser.specs.Stands.{Stands};
-ghost use Rattle.permutation_plans.specs.FreeRegular.{IsFreeRegular};
 ghost use Rattle.spec_files.specs.FreeRuns.{IsFreeWritten};
 ghost use Rattle.spec_files.specs.Promises.{SpecIsRunFreely};
 ghost use Rattle.spec_files.specs.Runners.{RanFreely};
-ghost use Rattle.spec_files.specs.Runs.{is_of_run};
-ghost use Rattle.permutations.specs.Telling.{TellsOne};
+ghost use Rattle.permutations.specs.Telling.{Tells};
 
 use crate::free_run::free_run_of;
 use iso_lexer::{Sink, Source};
@@ -38,19 +35,18 @@ pub fn write_closed<W: Sink, N: Sink>(
     write_free(alloc, spec, engine.history(), out, notes)
 }
 
-/// Has a spec run, once, and writes the text of that run and of no other; a fault of the run is answered as it is, and
-/// nothing is written then.
-pub fn tell_run<
-    'a,
-    't: 'a,
-    W: Sink,
-    N: Sink,
-    F: FnOnce() -> Result<Closed<'a, 't, ListStore>, RunFault>,
->(alloc: Global, spec: &Spec<'_>, run: F, out: &mut W, notes: &mut N) -> Result<(), RunFault>
-    requires { F.pre run }
-    ensures { TellsOne W.Sink N.Sink (spec_view spec.now) (F.post run) out.old out.new notes.old notes.new result }
+/// Writes the text of the run that it is given, and of no other. Of a run that came to no end the fault is answered as it is,
+/// and nothing is written.
+pub fn tell_run<'a, 't, W: Sink, N: Sink>(
+    alloc: Global,
+    spec: &Spec<'_>,
+    run: Result<Closed<'a, 't, ListStore>, RunFault>,
+    out: &mut W,
+    notes: &mut N,
+) -> Result<(), RunFault>
+    ensures { Tells W.Sink N.Sink (spec_view spec.now) run.entry out.old out.new notes.old notes.new result }
 {
-    let closed = run()?;
+    let closed = run?;
     let written = write_closed(alloc, spec, &closed, out, notes);
     closed.end();
     written
@@ -69,11 +65,7 @@ pub fn run_freely<W: Sink, N: Sink, G: Gate, R: Threads + Wait + Sync>(
     requires { Stands (spec_view spec.now) }
     ensures { RanFreely W.Sink N.Sink (spec_view spec.now) (blocks_of blocks.now) out.old out.new notes.old notes.new result }
 {
-    let run = || -> Result<Closed<'_, '_, ListStore>, RunFault>
-        requires { Stands (spec_view spec.now) }
-        ensures regular { IfOk result (λ c. IsFreeRegular (spec_view spec.entry.now) (blocks_of blocks.entry.now) c.state.history) }
-        ensures faults { IfErr result (λ e. is_of_run e ≡ true) }
-    { free_run_of(rt, alloc, spec, blocks, gate) };
+    let run = free_run_of(rt, alloc, spec, blocks, gate);
     tell_run(alloc, spec, run, out, notes)
 }
 
