@@ -50,11 +50,7 @@ pub struct PermutationReport {
 }
 
 /// Ends the line that `part` holds, and begins the next one.
-fn break_line(
-    alloc: Global,
-    lines: &mut Vec<String>,
-    part: &mut String,
-) -> Result<(), AllocError> {
+fn break_line(alloc: Global, lines: &mut Vec<String>, part: &mut String) -> Result<(), AllocError> {
     lines.push(String::from_str(alloc, part.as_str().trim_end())?)?;
     *part = String::from_str(alloc, "  ")?;
     Ok(())
