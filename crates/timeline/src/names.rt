@@ -1,13 +1,18 @@
 //! The sessions of a spec file, each with its steps.
 
+use crate::levels::level_after;
 use iso_lexer::Name;
 use spec_parser::{SessionPart, Spec};
 use std::alloc::{AllocError, Global};
 
-/// A session: its name, and those of its steps.
+/// Longer names of sessions are cut.
+const LONGEST_NAME: usize = 60;
+
+/// A session: what stands over its column, and the names of its steps.
 #[derive(Drop)]
 pub struct Column {
-    pub name: String,
+    /// Its name, and the level of the transaction that its setup leaves open.
+    pub head: String,
     pub steps: Vec<String>,
 }
 
@@ -29,13 +34,32 @@ fn decoded(alloc: Global, name: &Name<'_>) -> Result<String, AllocError> {
     Ok(out)
 }
 
+fn head_of(alloc: Global, session: &SessionPart<'_>) -> Result<String, AllocError> {
+    let name = decoded(alloc, &session.name)?;
+    let mut head = String::new(alloc);
+    for ch in name.as_str().chars().take(LONGEST_NAME) {
+        head.push(ch)?;
+    }
+    if head.len() < name.len() {
+        head.push_str("..")?;
+    }
+    if let Some(setup) = session.setup {
+        if let Some(level) = level_after(setup.sql) {
+            head.push_str(" (")?;
+            head.push_str(level)?;
+            head.push(')')?;
+        }
+    }
+    Ok(head)
+}
+
 fn column_of(alloc: Global, session: &SessionPart<'_>) -> Result<Column, AllocError> {
     let mut steps = Vec::new(alloc);
     for step in &session.steps {
         steps.push(decoded(alloc, &step.name)?)?;
     }
     Ok(Column {
-        name: decoded(alloc, &session.name)?,
+        head: head_of(alloc, session)?,
         steps,
     })
 }

@@ -16,6 +16,11 @@ const MARGIN: usize = 20;
 /// Ten characters of the type are so wide.
 const TEN_CHARS: usize = 80;
 
+/// The picture of NUL; those of the control characters after it follow.
+const FIRST_CONTROL_PICTURE: u32 = 0x2400;
+
+const UNKNOWN: char = '\u{fffd}';
+
 const STYLE: &str = "<style>
 text { font: 13px monospace; white-space: pre; fill: #222 }
 .title { font: 15px sans-serif; fill: #555 }
@@ -57,12 +62,29 @@ fn lanes_of(
     Ok(lanes)
 }
 
+/// What stands for a character that XML has no place for, or that shows nothing.
+fn shown(ch: char) -> char {
+    let code = u32::from(ch);
+    if ch == '\t' {
+        ' '
+    } else if code < 32 {
+        char::from_u32(FIRST_CONTROL_PICTURE.saturating_add(code)).unwrap_or(UNKNOWN)
+    } else if ch.is_control() || code == 0xfffe || code == 0xffff {
+        UNKNOWN
+    } else {
+        ch
+    }
+}
+
 fn put_escaped(out: &mut String, text: &str) -> Result<(), AllocError> {
     for ch in text.chars() {
         match ch {
             '<' => out.push_str("&lt;")?,
+            '>' => out.push_str("&gt;")?,
             '&' => out.push_str("&amp;")?,
-            _ => out.push(ch)?,
+            '"' => out.push_str("&quot;")?,
+            '\'' => out.push_str("&#39;")?,
+            _ => out.push(shown(ch))?,
         }
     }
     Ok(())
@@ -143,7 +165,7 @@ fn put_heads(
 ) -> Result<(), AllocError> {
     for (column, lane) in columns.iter().zip(lanes.iter()) {
         let middle = lane.left.saturating_add(lane.width / 2);
-        put_text(alloc, out, "head", middle, y, column.name.as_str())?;
+        put_text(alloc, out, "head", middle, y, column.head.as_str())?;
     }
     Ok(())
 }

@@ -6,6 +6,15 @@ use std::alloc::{AllocError, Global};
 /// Longer lines are broken at a blank.
 const WIDEST: usize = 46;
 
+/// Longer words are broken too.
+const LONGEST_WORD: usize = 200;
+
+/// Longer titles are cut.
+const LONGEST_TITLE: usize = 2_000;
+
+/// What the tool's text begins with.
+const FIRST_LINE: &str = "Parsed test spec with ";
+
 /// What the line of a step says of it.
 #[derive(Clone, Copy)]
 pub enum StepStatus {
@@ -32,7 +41,7 @@ impl StepReport {
     }
 }
 
-/// What is printed of a permutation.
+/// What is printed of a permutation, or of a free run.
 #[derive(Drop)]
 pub struct PermutationReport {
     pub title: String,
@@ -40,21 +49,33 @@ pub struct PermutationReport {
     pub is_invalid: bool,
 }
 
-/// Adds the line, broken at blanks where it is too long.
+/// Ends the line that `part` holds, and begins the next one.
+fn break_line(alloc: Global, lines: &mut Vec<String>, part: &mut String) -> Result<(), AllocError> {
+    lines.push(String::from_str(alloc, part.as_str().trim_end())?)?;
+    *part = String::from_str(alloc, "  ")?;
+    Ok(())
+}
+
+/// Adds the line, broken at blanks where it is too long, and within words where one is far too long.
 fn put_broken(alloc: Global, lines: &mut Vec<String>, line: &str) -> Result<(), AllocError> {
     let mut part = String::new(alloc);
     let mut width = 0usize;
     for word in line.split(' ') {
-        let count = word.chars().count();
         let is_first = width == 0;
-        if !is_first && width.saturating_add(count) > WIDEST {
-            lines.push(String::from_str(alloc, part.as_str().trim_end())?)?;
-            part = String::from_str(alloc, "  ")?;
+        if !is_first && width.saturating_add(word.chars().count()) > WIDEST {
+            break_line(alloc, lines, &mut part)?;
             width = 2;
         }
-        part.push_str(word)?;
+        for ch in word.chars() {
+            if width >= LONGEST_WORD {
+                break_line(alloc, lines, &mut part)?;
+                width = 2;
+            }
+            part.push(ch)?;
+            width = width.saturating_add(1);
+        }
         part.push(' ')?;
-        width = width.saturating_add(count).saturating_add(1);
+        width = width.saturating_add(1);
     }
     let whole = String::from_str(alloc, part.as_str().trim_end())?;
     lines.push(whole)?;
@@ -132,7 +153,28 @@ fn put_line(
     Ok(())
 }
 
-/// The permutations that the text tells. Tables of setups are left out.
+/// Whether the line begins a permutation or a free run.
+fn is_start(line: &str) -> bool {
+    line.starts_with("starting permutation:") || line == "starting free run"
+}
+
+fn title_of(alloc: Global, line: &str) -> Result<String, AllocError> {
+    let mut title = String::new(alloc);
+    for ch in line.chars().take(LONGEST_TITLE) {
+        title.push(ch)?;
+    }
+    if title.len() < line.len() {
+        title.push_str("..")?;
+    }
+    Ok(title)
+}
+
+/// Whether the isolation tester printed the text, as far as its first line tells.
+pub fn is_of_the_tool(text: &str) -> bool {
+    text.starts_with(FIRST_LINE)
+}
+
+/// The permutations that the text tells, or its free run. Tables of setups are left out.
 pub fn reports_in(
     alloc: Global,
     columns: &[Column],
@@ -140,9 +182,9 @@ pub fn reports_in(
 ) -> Result<Vec<PermutationReport>, AllocError> {
     let mut reports: Vec<PermutationReport> = Vec::new(alloc);
     for line in text.lines() {
-        if line.starts_with("starting permutation:") {
+        if is_start(line) {
             reports.push(PermutationReport {
-                title: String::from_str(alloc, line)?,
+                title: title_of(alloc, line)?,
                 steps: Vec::new(alloc),
                 is_invalid: false,
             })?;

@@ -15,7 +15,7 @@ pub fn widths_of(
 ) -> Result<Vec<usize>, AllocError> {
     let mut widths = Vec::new(alloc);
     for column in columns {
-        widths.push(column.name.as_str().chars().count())?;
+        widths.push(column.head.as_str().chars().count())?;
     }
     for step in &report.steps {
         if let Some(width) = widths.get_mut(step.column) {
@@ -80,7 +80,7 @@ fn put_heads(
     let mut rule = String::from_str(alloc, "---")?;
     for (column, width) in columns.iter().zip(widths.iter()) {
         heads.push_str(" | ")?;
-        put_padded(&mut heads, column.name.as_str(), *width)?;
+        put_padded(&mut heads, column.head.as_str(), *width)?;
         rule.push_str("-+-")?;
         for _ in 0..*width {
             rule.push('-')?;
