@@ -13,9 +13,10 @@ import threading
 
 TOP = os.path.dirname(os.path.dirname(os.path.realpath(__file__)))
 TRIED = f"{TOP}/wrong_bodies.txt"
-# Wrong bodies that the gate tries each time, those that ./wrong-bodies tries, those that are due to be tried on the text as it stands, and those that are
-# proved as well as the right one, so that only tests tell them.
-ROOMS = ("must-fail", "wrong_bodies", "wrong_bodies/due", "wrong_bodies/by_tests")
+# Wrong bodies that the gate tries each time, those that ./wrong-bodies tries, and those that are proved as well as the right one, so that only tests tell
+# them; of both the latter those that are due to be tried on the text as it stands.
+DUE = ("wrong_bodies/due", "wrong_bodies/by_tests/due")
+ROOMS = ("must-fail", "wrong_bodies", "wrong_bodies/by_tests", *DUE)
 # The crate whose tests tell them, and how many seconds its tests may take on a wrong body.
 TELLS, PATIENCE = "thread_tests", 600
 
