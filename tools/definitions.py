@@ -30,6 +30,7 @@ SITTING = (
     ("spec_files", "FileIs", "What a file is"),
     ("spec_files", "Prints", "What its permutations print"),
     ("permutation_plans", "IsRegular", "A regular history"),
+    ("permutation_plans", "LaunchesFit", "What it launches"),
     ("session_machine", "Run", "A run of the session machine"),
     ("session_machine", "next", "What an event does"),
     ("session_machine", "run_stmt", "A statement"),
@@ -45,7 +46,7 @@ HEAD = """# The definitions
 
 What a reader has to believe stands in the `specs/` folders: definitions on plain data (lists of bytes, trees, numbers), which no code runs. The code is proved against them.
 
-The program calls `run_spec`, whose contract is `SpecIsRun`. Its field `told` says: what was put out is what `FileSays` gives for the bytes that were read. `FileSays`, with all that it
+The program's `serve` reads the input and calls `run_spec` on those bytes, whose contract is `SpecIsRun`. Its field `told` says: what was put out is what `FileSays` gives for the bytes that were read. `FileSays`, with all that it
 names in turn, comes to {lines:,} lines of {count} definitions, without imports, comments and blank lines. Of these, {reading} lines read a file; the other {other} go from its spec and statements
 to the text. (All `specs/` have {there:,} lines. {inner:,} of these stand in a folder `Inner`: only private functions and proofs use them.)
 
@@ -55,7 +56,7 @@ relation with a case for each production, and a law ties the two. Numbers such a
 
 ## One sitting
 
-These eleven carry the guarantee, from the bytes of a file to the rows of a view.
+These twelve carry the guarantee, from the bytes of a file to the rows of a view.
 """
 
 REST = """
